@@ -1,0 +1,4 @@
+//! The meaning of a program: which lists of events are runs of it.
+#![tactic(auto)]
+
+pub mod law;
