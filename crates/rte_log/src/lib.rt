@@ -1,0 +1,4 @@
+//! The lines of a log.
+#![tactic(auto)]
+
+pub use rte_event::{Act, Event};
