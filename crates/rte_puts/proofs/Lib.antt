@@ -1,0 +1,9 @@
+pub mod Places
+pub mod Ticks
+pub mod Standing
+pub mod Moves
+pub mod Turns
+pub mod Runs
+pub mod Declared
+pub mod Ends
+pub mod Keeping

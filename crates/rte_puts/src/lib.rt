@@ -1,0 +1,4 @@
+//! Law: what the image of a program of the first form does is a run of the program.
+#![tactic(auto)]
+
+pub mod law;
