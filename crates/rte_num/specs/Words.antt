@@ -1,5 +1,5 @@
 -- Words, signed numbers of 32 bits, and what an operation makes of them: a word, or the number of the exception that it raises.
-use Rattle.std.specs.Prelude.{◌^◌, ◌&&◌, ℕ, zero, suc, Bool, true, false, not, ℤ, pos, negsuc, ◌+ℤ◌, ◌-ℤ◌, ◌*ℤ◌, neg_ℤ, nat_lt, nat_eq, int_le, int_div, int_rem, if◌then◌else◌}
+use Rattle.std.specs.Prelude.{◌^◌, ◌&&◌, ℕ, zero, suc, Bool, true, false, not, ℤ, pos, negsuc, ◌+ℤ◌, ◌-ℤ◌, ◌*ℤ◌, neg_ℤ, nat_lt, nat_eq, int_le, int_div, int_rem, if◌then◌else◌, ◌≡◌, Result, Ok, Err}
 
 pub data Answer : Type 0 where
   word : ℤ → Answer
@@ -61,3 +61,8 @@ quotient a b = if is_zero b then raised 2 else in_word (int_div a b)
 -- with the sign of the left operand; by 0 it is exception 2
 abbrev pub remainder : ℤ → ℤ → Answer
 remainder a b = if is_zero b then raised 2 else word (int_rem a b)
+
+-- a call's result is this answer: Ok is the word, Err is the exception
+abbrev pub IsAnswer : Answer → Result ℤ ℕ → Type 0
+IsAnswer answer (Ok v) = answer ≡ word v
+IsAnswer answer (Err n) = answer ≡ raised n
