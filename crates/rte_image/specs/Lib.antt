@@ -1,1 +1,6 @@
 pub mod Named
+pub mod Raw
+pub mod Numbers
+pub mod TreeBytes
+pub mod Bytes
+pub mod InRange

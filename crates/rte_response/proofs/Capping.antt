@@ -1,6 +1,5 @@
 -- Capping before a sum or a product changes nothing of the capped result.
-use Rattle.std.proofs.Common.{◌≡◌, ◌≤◌, ◌<◌, ◌+◌, ◌*◌, ◌↔◌, ℕ, zero, suc, List, [], ◌∷◌, length, take, map, min, ap, sym, ◌∙◌, arith, refl, zero-add}
-use Rattle.std.specs.Prelude.{sum_by, slice_index_or}
+use Rattle.std.proofs.Common.{◌≡◌, ◌≤◌, ◌+◌, ◌*◌, ◌↔◌, ℕ, List, [], ◌∷◌, take, map, ap, sym, ◌∙◌, arith, refl, zero-add}
 use Rattle.std.specs.Int.{div_ceil}
 use Rattle.std.proofs.lemmas.List.Sums.{sum_by-append}
 use Rattle.std.proofs.lemmas.List.{take-map}
@@ -8,8 +7,8 @@ use Rattle.std.proofs.Math.ListN.{get_or-map}
 use Rattle.std.proofs.Math.Nat.{mul_comm}
 use Rattle.rte_num.specs.Capped.{cap}
 use Rattle.rte_response.specs.declared.tasks.Task.{Task}
-use Rattle.rte_response.specs.Demand.{activation, asked, exact_demand_of, exact_demand_at, demand_of, demand_at, task_at, capped}
-use Rattle.rte_response.proofs.Caps.{cap-add, cap-mul, cap-first}
+use Rattle.rte_response.specs.Demand.{activation, asked, exact_demand_at, demand_of, demand_at, task_at, capped}
+use Rattle.rte_response.proofs.Caps.{cap-mul}
 
 cap-sum : (a b c d : ℕ) → cap a ≡ cap b → cap c ≡ cap d → cap (a + c) ≡ cap (b + d)
 cap-sum a b c d first second = omega (arith, first, second)

@@ -1,5 +1,5 @@
 -- What a task and those of higher rank ask of the processor, and the recurrence of the response times.
-use Rattle.std.specs.Prelude.{◌≡◌, ◌≤◌, ◌<◌, ◌+◌, ◌*◌, ℕ, List, length, take, sum_by, slice_index_or, All}
+use Rattle.std.specs.Prelude.{◌≤◌, ◌<◌, ◌+◌, ◌*◌, ℕ, List, length, take, sum_by, slice_index_or, All}
 use Rattle.std.specs.Int.{div_ceil}
 use Rattle.std.specs.List.Sorted.{IsNonDecreasingBy}
 use Rattle.rte_num.specs.Capped.{cap}

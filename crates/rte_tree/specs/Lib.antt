@@ -1,2 +1,3 @@
 pub mod Plain
+pub mod Placed
 pub mod formers

@@ -1,0 +1,64 @@
+-- What an image as it stands in a file means: the image that the machine runs, and its names.
+use Rattle.std.specs.Prelude.{map, option_map}
+use Rattle.rte_image.specs.declared.raw.RawMon.{RawMon}
+use Rattle.rte_image.specs.declared.raw.RawRoutine.{RawRoutine}
+use Rattle.rte_image.specs.declared.raw.RawProc.{RawProc}
+use Rattle.rte_image.specs.declared.raw.RawImage.{RawImage}
+use Rattle.rte_image.specs.Named.{NamedImage}
+use Rattle.rte_seg.specs.View.{views}
+use Rattle.rte_target.specs.Image.{Image, Monitor, Routine, Process}
+
+abbrev pub monitor_of : RawMon → Monitor
+monitor_of m = record { base = m.base; words = m.words; ceiling = m.ceiling }
+
+abbrev pub routine_of : RawRoutine → Routine
+routine_of r = record {
+  kind = r.kind;
+  owner = r.owner;
+  params = r.params;
+  locals = r.locals;
+  gives = r.result;
+  start = r.start;
+  run = r.run;
+  susp = r.susp;
+  waits = r.waits;
+  stay = r.stay;
+  tree = views r.tree;
+}
+
+abbrev pub process_of : RawProc → Process
+process_of p = record {
+  kind = p.kind;
+  frame = p.frame;
+  first = p.first;
+  event = p.event;
+  rank = p.rank;
+  run = p.run;
+  susp = p.susp;
+  waits = p.waits;
+  block = p.block;
+  bound = p.bound;
+  words = p.words;
+  stack = p.stack;
+  locals = p.locals;
+  start = p.start;
+  handler = p.handler;
+  numbers = p.numbers;
+  body = views p.body;
+  handler_tree = option_map views p.handler_tree;
+}
+
+-- what the machine runs: there is no release overhead
+abbrev pub image_of : RawImage → Image
+image_of raw = record {
+  over = 0;
+  monitors = map monitor_of raw.monitors;
+  conditions = map (λ c. c.mon) raw.names.conditions;
+  devices = map (λ d. d.out) raw.names.devices;
+  routines = map routine_of raw.routines;
+  processes = map process_of raw.processes;
+  code = raw.code;
+}
+
+abbrev pub named_of : RawImage → NamedImage
+named_of raw = record { program = raw.program; names = raw.names; image = image_of raw }

@@ -1,0 +1,4 @@
+pub mod Outside
+pub mod Kept
+pub mod Calls
+pub mod Memory

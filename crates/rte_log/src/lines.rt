@@ -1,0 +1,219 @@
+//! The line of an event.
+
+ghost use Rattle.std.specs.Prelude.{◌≡◌, ◌≤◌, ◌<◌, ◌+◌, ◌++◌, Some, length, codes, decimal};
+ghost use Rattle.std.specs.Fmt.{signed_decimal};
+ghost use Rattle.arrayvec.specs.ArrayVec.{array_vec_len};
+ghost use Rattle.rte_log.specs.InRange.{ActIsIn, AreIn, AreSound, WokenIsIn};
+ghost use Rattle.rte_log.specs.Line.{act_text, condition_name, device_name, line_of, monitor_name, process_name, qualified, truth_text, woken_name};
+
+use arrayvec::ArrayVec;
+use itoa::Buffer;
+use rte_event::{Act, Event};
+use rte_image::{CondName, ImageNames};
+
+/// The name of a process.
+fn process_of(names: &ImageNames, number: u16) -> &[u8]
+    requires sound { AreSound names.now }
+    requires process { number < length names.now.processes }
+    ensures name { result.now ≡ process_name names.now number }
+    ensures short { length result.now ≤ 63 }
+{
+    names.processes.as_slice()[number as usize].as_bytes()
+}
+
+/// The name of a monitor.
+fn monitor_of(names: &ImageNames, number: u16) -> &[u8]
+    requires sound { AreSound names.now }
+    requires monitor { number < length names.now.monitors }
+    ensures name { result.now ≡ monitor_name names.now number }
+    ensures short { length result.now ≤ 63 }
+{
+    names.monitors.as_slice()[number as usize].as_bytes()
+}
+
+/// The name of a device.
+fn device_of(names: &ImageNames, number: u16) -> &[u8]
+    requires sound { AreSound names.now }
+    requires device { number < length names.now.devices }
+    ensures name { result.now ≡ device_name names.now number }
+    ensures short { length result.now ≤ 63 }
+{
+    names.devices.as_slice()[number as usize].name.as_bytes()
+}
+
+/// A condition, which is told by the name of its monitor and its own.
+fn condition_of(names: &ImageNames, number: u16) -> &CondName
+    requires sound { AreSound names.now }
+    requires condition { number < length names.now.conditions }
+    ensures name { condition_name names.now number ≡ qualified names.now (Some result.now) }
+    ensures placed { result.now.mon < length names.now.monitors }
+    ensures short { length result.now.name ≤ 63 }
+{
+    &names.conditions.as_slice()[number as usize]
+}
+
+/// The name of a woken process, or a dash.
+fn woken_of(names: &ImageNames, woken: Option<u16>) -> &[u8]
+    requires sound { AreSound names.now }
+    requires woken { WokenIsIn names.now woken }
+    ensures name { result.now ≡ woken_name names.now woken }
+    ensures short { length result.now ≤ 63 }
+{
+    match woken {
+        None => b"-",
+        Some(number) => process_of(names, number),
+    }
+}
+
+/// 1 for yes and 0 for no.
+fn truth_of(answer: bool) -> &'static [u8]
+    ensures text { result.now ≡ truth_text answer }
+    ensures short { length result.now ≤ 63 }
+{
+    if answer { b"1" } else { b"0" }
+}
+
+/// Adds bytes that fit.
+fn add(text: &mut ArrayVec<u8, 320>, bytes: &[u8])
+    requires { array_vec_len text.old + length bytes.now ≤ 320 }
+    ensures items { text.new.items ≡ text.old.items ++ bytes.now }
+    ensures len { array_vec_len text.new ≡ array_vec_len text.old + length bytes.now }
+{
+    text.try_extend_from_slice(bytes).unwrap();
+}
+
+/// Adds a tick, which has at most 9 digits.
+fn add_tick(text: &mut ArrayVec<u8, 320>, tick: u64)
+    requires tick { tick < 1000000000 }
+    requires room { array_vec_len text.old ≤ 100 }
+    ensures items { text.new.items ≡ text.old.items ++ decimal tick }
+    ensures len { array_vec_len text.new ≤ array_vec_len text.old + 9 }
+{
+    let mut digits = Buffer::new();
+    add(text, digits.format(tick).as_bytes());
+}
+
+/// Adds what an act does, with the monitor and the name of a condition.
+fn add_condition(text: &mut ArrayVec<u8, 320>, names: &ImageNames, does: &[u8], number: u16)
+    requires sound { AreSound names.now }
+    requires condition { number < length names.now.conditions }
+    requires does { length does.now ≤ 11 }
+    requires room { array_vec_len text.old ≤ 100 }
+    ensures items { text.new.items ≡ text.old.items ++ (does.now ++ condition_name names.now number) }
+    ensures len { array_vec_len text.new ≤ array_vec_len text.old + length does.now + 127 }
+{
+    let condition = condition_of(names, number);
+    add(text, does);
+    add(text, monitor_of(names, condition.mon));
+    add(text, b" ");
+    add(text, condition.name.as_bytes());
+}
+
+/// Adds the last word of a line.
+fn add_last(text: &mut ArrayVec<u8, 320>, word: &[u8])
+    requires { array_vec_len text.old + length word.now ≤ 318 }
+    ensures items { text.new.items ≡ text.old.items ++ (codes " " ++ (word.now ++ codes "\n")) }
+    ensures len { array_vec_len text.new ≡ array_vec_len text.old + length word.now + 2 }
+{
+    add(text, b" ");
+    add(text, word);
+    add(text, b"\n");
+}
+
+/// Adds the last word of a line, a number.
+fn add_number(text: &mut ArrayVec<u8, 320>, number: u16)
+    requires { array_vec_len text.old ≤ 313 }
+    ensures items { text.new.items ≡ text.old.items ++ (codes " " ++ (decimal number ++ codes "\n")) }
+    ensures len { array_vec_len text.new ≤ array_vec_len text.old + 7 }
+{
+    let mut digits = Buffer::new();
+    add_last(text, digits.format(number).as_bytes());
+}
+
+/// Adds what an act does with a device and a value.
+fn add_transfer(text: &mut ArrayVec<u8, 320>, names: &ImageNames, does: &[u8], dev: u16, value: i32)
+    requires sound { AreSound names.now }
+    requires device { dev < length names.now.devices }
+    requires does { length does.now ≤ 11 }
+    requires room { array_vec_len text.old ≤ 100 }
+    ensures items { text.new.items ≡
+        text.old.items ++ (does.now ++ (device_name names.now dev ++ (codes " " ++ (signed_decimal value ++ codes "\n")))) }
+    ensures len { array_vec_len text.new ≤ array_vec_len text.old + 100 }
+{
+    let mut digits = Buffer::new();
+    add(text, does);
+    add(text, device_of(names, dev));
+    add_last(text, digits.format(value).as_bytes());
+}
+
+/// Adds what an act does with a monitor.
+fn add_passage(text: &mut ArrayVec<u8, 320>, names: &ImageNames, does: &[u8], mon: u16)
+    requires sound { AreSound names.now }
+    requires monitor { mon < length names.now.monitors }
+    requires does { length does.now ≤ 11 }
+    requires room { array_vec_len text.old ≤ 100 }
+    ensures items { text.new.items ≡ text.old.items ++ (does.now ++ (monitor_name names.now mon ++ codes "\n")) }
+    ensures len { array_vec_len text.new ≤ array_vec_len text.old + 100 }
+{
+    add(text, does);
+    add(text, monitor_of(names, mon));
+    add(text, b"\n");
+}
+
+/// Adds what a process does, and with what.
+fn add_act(text: &mut ArrayVec<u8, 320>, names: &ImageNames, act: Act)
+    requires sound { AreSound names.now }
+    requires act { ActIsIn names.now act }
+    requires room { array_vec_len text.old ≤ 100 }
+    ensures items { text.new.items ≡ text.old.items ++ act_text names.now act }
+    ensures len { array_vec_len text.new ≤ array_vec_len text.old + 200 }
+{
+    match act {
+        Act::Release => add(text, b" release\n"),
+        Act::TimeOut { cond, number } => {
+            add_condition(text, names, b" timeout ", cond);
+            add_number(text, number);
+        }
+        Act::Get { dev, value } => add_transfer(text, names, b" get ", dev, value),
+        Act::Put { dev, value } => add_transfer(text, names, b" put ", dev, value),
+        Act::Enter { mon } => add_passage(text, names, b" enter ", mon),
+        Act::Leave { mon } => add_passage(text, names, b" leave ", mon),
+        Act::Wait { cond } => {
+            add_condition(text, names, b" wait ", cond);
+            add(text, b"\n");
+        }
+        Act::Signal { cond, woken } => {
+            add_condition(text, names, b" signal ", cond);
+            add_last(text, woken_of(names, woken));
+        }
+        Act::Broadcast { cond, count } => {
+            add_condition(text, names, b" broadcast ", cond);
+            add_number(text, count);
+        }
+        Act::Empty { cond, answer } => {
+            add_condition(text, names, b" empty ", cond);
+            add_last(text, truth_of(answer));
+        }
+        Act::Raise { number } => {
+            add(text, b" raise");
+            add_number(text, number);
+        }
+        Act::End => add(text, b" end\n"),
+    }
+}
+
+/// The line of an event in the log, with its LF: at most 273 bytes. The numbers of the event are in
+/// range of the names, which have at most 63 bytes, and its tick is below 1,000,000,000. It takes no
+/// memory.
+pub fn line(names: &ImageNames, event: &Event) -> ArrayVec<u8, 320>
+    requires { AreIn names.now event.now }
+    ensures text { result.items ≡ line_of names.now event.now }
+    ensures short { array_vec_len result ≤ 273 }
+{
+    let mut text = ArrayVec::new();
+    add_tick(&mut text, event.tick);
+    add(&mut text, b" ");
+    add(&mut text, process_of(names, event.proc));
+    add_act(&mut text, names, event.act);
+    text
+}
