@@ -1,6 +1,6 @@
 -- The demand rises only where some task starts once more.
 use Rattle.std.proofs.Common.{◌≡◌, ◌≤◌, ◌<◌, ◌+◌, ◌*◌, ◌⊎◌, inl, inr, ℕ, suc, List, [], ◌∷◌, length, take, ap, ◌∙◌, arith, refl, zero-add}
-use Rattle.std.specs.Prelude.{sum_by, slice_index_or, All}
+use Rattle.std.specs.Prelude.{sum_by, All}
 use Rattle.std.specs.Int.{div_ceil}
 use Rattle.std.proofs.lemmas.Bool.{cases_lt}
 use Rattle.std.proofs.lemmas.Grind.{div_ceil_times}
@@ -8,7 +8,7 @@ use Rattle.std.proofs.lemmas.List.Sums.{sum_by-append, sum_by_more}
 use Rattle.std.proofs.lemmas.List.Elements.{All-take}
 use Rattle.std.proofs.Math.Nat.{mul-le-mul_right}
 use Rattle.rte_response.specs.declared.tasks.Task.{Task}
-use Rattle.rte_response.specs.Demand.{activation, starts_in, asked, demand_at, IsTask, AreTasks}
+use Rattle.rte_response.specs.Demand.{activation, starts_in, asked, demand_at, IsTask, AreTasks, task_at}
 
 -- rounding up keeps the order
 pub div_ceil_mono : (a b n : ℕ) → 0 < n → a ≤ b → div_ceil a n ≤ div_ceil b n
@@ -69,7 +69,7 @@ rises b r s (t ∷ ts) le all =
 before_tasks : (ts : List Task) (level : ℕ) → AreTasks ts → All IsTask (take level ts)
 before_tasks ts level are = All-take IsTask level ts are.each
 
-rises_at : (ts : List Task) (level r s : ℕ) → AreTasks ts → r ≤ s → Rises (slice_index_or ts level (record { frame = 0; run = 0; susp = 0; waits = 0; block = 0 })).block r s (take level ts)
+rises_at : (ts : List Task) (level r s : ℕ) → AreTasks ts → r ≤ s → Rises (task_at ts level).block r s (take level ts)
 rises_at ts level r s are le = rises _ r s (take level ts) le (before_tasks ts level are)
 
 -- the demand doesn't fall

@@ -1,11 +1,21 @@
-//! Least bounds of response times.
+//! What the analysis makes of the processes: their ranks, the ceilings of the monitors, the blocking of a rank, and the
+//! least bounds of the response times.
 //!
-//! Its definition is the least response within the frame that meets the recurrence. It promises that the bound is this
-//! one, that there is none exactly where none is found, and that it is found in few evaluations of the demand.
+//! Its definitions are those of fixed ranks by frames, of the immediate ceilings, and the least response within the
+//! frame that meets the recurrence. It promises that each call gives exactly that, that there is no bound exactly where
+//! none is found, and that a bound takes few evaluations of the demand.
 #![tactic(auto)]
 
+mod block;
+mod ceiling;
 mod least;
+mod ranking;
 mod uncounted;
+mod uses;
 
+pub use block::blocking;
+pub use ceiling::ceilings;
 pub use least::bound;
+pub use ranking::ranks;
 pub use uncounted::bound_of;
+pub use uses::{Stay, Use};

@@ -1,3 +1,4 @@
 pub mod Chain
+pub mod InRange
 pub mod Mapped
 pub mod Rows

@@ -13,26 +13,29 @@ use Rattle.rte_image.specs.Named.{NamedImage}
 use Rattle.rte_image.specs.Numbers.{u8, u16, u32, flag, name_bytes}
 use Rattle.rte_image.specs.TreeBytes.{tree_bytes}
 
--- the letters RTEU, the version, how many processes, monitors, conditions, devices, events, routines and instructions there are, and
--- the program's name
+-- how many processes, monitors, conditions, devices, events, routines and instructions there are
 abbrev pub counts_bytes : ImageNames → Image → List ℕ
 counts_bytes names image =
     u16 (length image.processes) ++ (u16 (length image.monitors) ++ (u16 (length names.conditions) ++ (u16 (length names.devices)
     ++ (u16 (length names.events) ++ (u16 (length image.routines) ++ u32 (length image.code))))))
 
+-- the letters RTEU, the version, the counts, and the program's name
 abbrev pub head_bytes : NamedImage → List ℕ
 head_bytes named = codes "RTEU" ++ (u16 1 ++ (counts_bytes named.names named.image ++ name_bytes named.program))
 
--- its name, and 1 for an out device
+-- a device: its name, and 1 where it is an out device
 abbrev pub device_bytes : DevName → List ℕ
 device_bytes d = name_bytes d.name ++ flag d.out
 
+-- an event: its name
 abbrev pub event_bytes : EventName → List ℕ
 event_bytes e = name_bytes e.name
 
+-- a condition: its name, and the number of its monitor
 abbrev pub condition_bytes : CondName → List ℕ
 condition_bytes c = name_bytes c.name ++ u16 c.mon
 
+-- a monitor: its name, where its words begin and how many they are, and its ceiling
 abbrev pub monitor_bytes : List ℕ → Monitor → List ℕ
 monitor_bytes name m = name_bytes name ++ (u32 m.base ++ (u32 m.words ++ u16 m.ceiling))
 
@@ -41,14 +44,15 @@ abbrev pub monitors_bytes : List (List ℕ) → List Monitor → List ℕ
 monitors_bytes (n ∷ ns) (m ∷ ms) = monitor_bytes n m ++ monitors_bytes ns ms
 monitors_bytes names monitors = []
 
--- whose it is, its parameters and locals, and whether it has a result
+-- whose a routine is, its parameters and locals, and whether it has a result
 abbrev pub owner_bytes : Routine → List ℕ
 owner_bytes r = u8 r.kind ++ (u16 r.owner ++ (u16 r.params ++ (u32 r.locals ++ flag r.gives)))
 
--- where its code stands, and what it takes of time
+-- where its code stands, what it takes of time, and how long it is inside its monitor
 abbrev pub cost_bytes : Routine → List ℕ
 cost_bytes r = u32 r.start ++ (u32 r.run ++ (u32 r.susp ++ (u32 r.waits ++ u32 r.stay)))
 
+-- a routine, with the tree of its code
 abbrev pub routine_bytes : Routine → List ℕ
 routine_bytes r = owner_bytes r ++ (cost_bytes r ++ tree_bytes r.tree)
 
@@ -56,11 +60,11 @@ routine_bytes r = owner_bytes r ++ (cost_bytes r ++ tree_bytes r.tree)
 abbrev pub release_bytes : Process → List ℕ
 release_bytes p = u8 p.kind ++ (u32 p.frame ++ (u32 p.first ++ (u16 p.event ++ u16 p.rank)))
 
--- what it takes of time
+-- what it takes of time: run, suspension, waits, blocking and bound
 abbrev pub time_bytes : Process → List ℕ
 time_bytes p = u32 p.run ++ (u32 p.susp ++ (u32 p.waits ++ (u32 p.block ++ u32 p.bound)))
 
--- what it takes of memory, and where its code stands
+-- what it takes of memory, and where its body and its handler stand
 abbrev pub room_bytes : Process → List ℕ
 room_bytes p = u32 p.words ++ (u32 p.stack ++ (u32 p.locals ++ (u32 p.start ++ u32 p.handler)))
 
@@ -68,11 +72,12 @@ room_bytes p = u32 p.words ++ (u32 p.stack ++ (u32 p.locals ++ (u32 p.start ++ u
 abbrev pub numbers_bytes : List ℕ → List ℕ
 numbers_bytes numbers = u16 (length numbers) ++ flat_map u16 numbers
 
--- the tree of a handler that takes some numbers
+-- the tree of a handler, which stands only where there are numbers that it takes
 abbrev pub handler_bytes : List ℕ → Option Segs → List ℕ
 handler_bytes (n ∷ ns) (Some tree) = tree_bytes tree
 handler_bytes numbers tree = []
 
+-- a process: its name, its numbers, and the trees of its body and its handler
 abbrev pub process_bytes : List ℕ → Process → List ℕ
 process_bytes name p =
     name_bytes name ++ (release_bytes p ++ (time_bytes p ++ (room_bytes p ++ (numbers_bytes p.numbers ++ (tree_bytes p.body ++ handler_bytes p.numbers p.handler_tree)))))
@@ -82,10 +87,12 @@ abbrev pub processes_bytes : List (List ℕ) → List Process → List ℕ
 processes_bytes (n ∷ ns) (p ∷ ps) = process_bytes n p ++ processes_bytes ns ps
 processes_bytes names processes = []
 
+-- the devices, the events, the monitors and the conditions
 abbrev pub names_bytes : ImageNames → List Monitor → List ℕ
 names_bytes names monitors =
     flat_map device_bytes names.devices ++ (flat_map event_bytes names.events ++ (monitors_bytes names.monitors monitors ++ flat_map condition_bytes names.conditions))
 
+-- the whole image; the directions of devices and the monitors of conditions stand with their names
 unfoldable pub bytes_of : NamedImage → List ℕ
 bytes_of named =
     head_bytes named ++ (names_bytes named.names named.image.monitors ++ (flat_map routine_bytes named.image.routines

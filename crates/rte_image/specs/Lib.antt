@@ -4,3 +4,4 @@ pub mod Numbers
 pub mod TreeBytes
 pub mod Bytes
 pub mod InRange
+pub mod Example

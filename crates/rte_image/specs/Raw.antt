@@ -8,9 +8,11 @@ use Rattle.rte_image.specs.Named.{NamedImage}
 use Rattle.rte_seg.specs.View.{views}
 use Rattle.rte_target.specs.Image.{Image, Monitor, Routine, Process}
 
+-- a monitor, as the machine knows it
 abbrev pub monitor_of : RawMon → Monitor
 monitor_of m = record { base = m.base; words = m.words; ceiling = m.ceiling }
 
+-- a routine, likewise
 abbrev pub routine_of : RawRoutine → Routine
 routine_of r = record {
   kind = r.kind;
@@ -26,6 +28,7 @@ routine_of r = record {
   tree = views r.tree;
 }
 
+-- a process, likewise
 abbrev pub process_of : RawProc → Process
 process_of p = record {
   kind = p.kind;
@@ -60,5 +63,6 @@ image_of raw = record {
   code = raw.code;
 }
 
+-- the image with its names
 abbrev pub named_of : RawImage → NamedImage
 named_of raw = record { program = raw.program; names = raw.names; image = image_of raw }

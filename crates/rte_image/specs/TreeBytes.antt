@@ -8,10 +8,11 @@ abbrev pub row : Segs → ℕ
 row Nil = 0
 row (Cons head rest) = 1 + row rest
 
--- a tree, from the bytes of its segments
+-- the number of segments, before their bytes
 abbrev pub counted : Segs → List ℕ → List ℕ
 counted tree segments = u32 (row tree) ++ segments
 
+-- a segment by its tag, its numbers and its trees; segments side by side
 abbrev mutual
   pub seg_bytes : Seg → List ℕ
   seg_bytes (Line count) = 1 ∷ u32 count
@@ -26,6 +27,7 @@ abbrev mutual
   segs_bytes Nil = []
   segs_bytes (Cons head rest) = seg_bytes head ++ segs_bytes rest
 
+-- a whole tree
 abbrev pub tree_bytes : Segs → List ℕ
 tree_bytes tree = counted tree (segs_bytes tree)
 

@@ -43,6 +43,7 @@ fn put_head(out: &mut Vec<u8>, image: &RawImage) -> Result<(), AllocError>
     Ok(())
 }
 
+/// Puts the devices.
 fn put_devices(out: &mut Vec<u8>, devices: &[DevName]) -> Result<(), AllocError>
     requires { All (λ d. IsShort d.name) devices.now }
     ensures { OnOk result (out.new.items ≡ out.old.items ++ flat_map device_bytes devices.now) }
@@ -53,6 +54,7 @@ fn put_devices(out: &mut Vec<u8>, devices: &[DevName]) -> Result<(), AllocError>
     Ok(())
 }
 
+/// Puts the events.
 fn put_events(out: &mut Vec<u8>, events: &[EventName]) -> Result<(), AllocError>
     requires { All (λ e. IsShort e.name) events.now }
     ensures { OnOk result (out.new.items ≡ out.old.items ++ flat_map event_bytes events.now) }
@@ -63,6 +65,7 @@ fn put_events(out: &mut Vec<u8>, events: &[EventName]) -> Result<(), AllocError>
     Ok(())
 }
 
+/// Puts the conditions.
 fn put_conditions(out: &mut Vec<u8>, conditions: &[CondName]) -> Result<(), AllocError>
     requires { All (λ c. IsShort c.name) conditions.now }
     ensures { OnOk result (out.new.items ≡ out.old.items ++ flat_map condition_bytes conditions.now) }
@@ -85,6 +88,7 @@ fn put_monitors(out: &mut Vec<u8>, names: &[Name], monitors: &[RawMon]) -> Resul
     Ok(())
 }
 
+/// Puts the routines.
 fn put_routines(out: &mut Vec<u8>, routines: &[RawRoutine]) -> Result<(), AllocError>
     requires { All (λ r. IsSmall r.tree) (map routine_of routines.now) }
     ensures { OnOk result (out.new.items ≡ out.old.items ++ flat_map routine_bytes (map routine_of routines.now)) }
@@ -108,6 +112,7 @@ fn put_processes(out: &mut Vec<u8>, names: &[Name], processes: &[RawProc]) -> Re
     Ok(())
 }
 
+/// Puts the instructions.
 fn put_code(out: &mut Vec<u8>, code: &[Instr]) -> Result<(), AllocError>
     ensures { OnOk result (out.new.items ≡ out.old.items ++ flat_map instr_bytes code.now) }
 {
@@ -130,7 +135,9 @@ fn put_named(out: &mut Vec<u8>, image: &RawImage) -> Result<(), AllocError>
     Ok(())
 }
 
-/// The bytes of an image, version 1, as a file holds them. An error says that memory is short.
+/// The bytes of an image, version 1, as a file holds them, all numbers with the highest byte first.
+/// The counts must fit their fields, and each process and monitor have a name. An error says that
+/// memory is short.
 pub fn write_image(alloc: Global, image: &RawImage) -> Result<Vec<u8>, AllocError>
     requires { IsInRange (named_of image.now) }
     ensures { IfOk result (λ bytes. bytes.items ≡ bytes_of (named_of image.now)) }

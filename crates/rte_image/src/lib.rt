@@ -1,8 +1,12 @@
-//! What an image is called by: the names of its processes, monitors, conditions, devices and
-//! events, and the bytes of a whole image.
+//! Images: the names of their parts, their declared numbers and their code, and the bytes that a
+//! file holds of them.
+//!
+//! `specs/Raw.antt` says what an image is to the machine, and `specs/Bytes.antt` which bytes it has.
+//! `write_image` gives exactly these bytes of every image whose counts fit their fields.
 #![tactic(auto)]
 
 mod image;
+mod law;
 mod names;
 mod numbers;
 mod parts;
@@ -10,5 +14,9 @@ mod raw;
 mod trees;
 
 pub use image::write_image;
+pub use law::{a_put, a_tree, an_empty_program};
 pub use names::{CondName, DevName, EventName, ImageNames};
 pub use raw::{RawImage, RawMon, RawProc, RawRoutine};
+
+#[cfg(test)]
+mod tests;

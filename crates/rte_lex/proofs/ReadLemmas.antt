@@ -140,13 +140,15 @@ spot_past_blank text spot next b is below here at line col = by (is_line_feed b)
 
 -- ---- one more piece
 
-cut_append : (text : List ℕ) (from mid to : ℕ) (ps qs : List Piece) → IsCut text from mid ps → IsCut text mid to qs → IsCut text from to (ps ++ qs)
+-- pieces up to a byte, and pieces from there on
+
+pub cut_append : (text : List ℕ) (from mid to : ℕ) (ps qs : List Piece) → IsCut text from mid ps → IsCut text mid to qs → IsCut text from to (ps ++ qs)
 cut_append text from mid to [] qs cut more = subst (λ k. IsCut text k to qs) (sym cut) more
 cut_append text from mid to (blank ∷ ps) qs cut more = (cut.0, cut_append text (from + 1) mid to ps qs cut.1 more)
 cut_append text from mid to (comment n ∷ ps) qs cut more = (cut.0, cut_append text (from + n) mid to ps qs cut.1 more)
 cut_append text from mid to (token t ∷ ps) qs cut more = (cut.0, cut.1, cut_append text (from + t.len) mid to ps qs cut.2 more)
 
-among_append : (ps qs : List Piece) → tokens_among (ps ++ qs) ≡ tokens_among ps ++ tokens_among qs
+pub among_append : (ps qs : List Piece) → tokens_among (ps ++ qs) ≡ tokens_among ps ++ tokens_among qs
 among_append [] qs = refl
 among_append (blank ∷ ps) qs = among_append ps qs
 among_append (comment n ∷ ps) qs = among_append ps qs

@@ -22,7 +22,7 @@ pub record HasSpan (text : List ℕ) (t : Token) : Type 0 where
   pub some : 1 ≤ t.len
   pub within : t.start + t.len ≤ length text
 
--- the first token's span ends before the second's begins, or where it does
+-- the first token's span ends where the second's begins, or before
 abbrev pub IsBefore : Token → Token → Type 0
 IsBefore t u = t.start + t.len ≤ u.start
 
@@ -32,5 +32,6 @@ pub record StandInOrder (text : List ℕ) (toks : List Token) : Type 0 where
   pub spans : All (HasSpan text) toks
   pub order : AllPairs IsBefore toks
 
+-- the tokens of a text stand in it one after another
 abbrev pub TokensStandInOrder : Type 0
 TokensStandInOrder = (text : List ℕ) (toks : List Token) → tokens text toks → StandInOrder text toks

@@ -5,12 +5,15 @@ use Rattle.rte_tree.specs.declared.place.Place.{Place}
 use Rattle.rte_lex.specs.declared.token.Token.{Token}
 use Rattle.rte_lex.specs.Spellings.{Spells, HasKind}
 
+-- LF
 abbrev pub is_line_feed : ℕ → Bool
 is_line_feed b = b == 10
 
+-- any byte but LF
 abbrev pub is_in_line : ℕ → Bool
 is_in_line b = not (is_line_feed b)
 
+-- `%`
 abbrev pub is_percent : ℕ → Bool
 is_percent b = b == 37
 
@@ -53,7 +56,7 @@ pub record IsLongest (bytes : List ℕ) (n : ℕ) : Type 0 where
 abbrev pub bytes_of : List ℕ → Token → List ℕ
 bytes_of text t = take t.len (drop t.start text)
 
--- the token stands in the text
+-- the token is the longest spelling at its place in the text, with its kind, its line and its byte of that line
 pub record StandsIn (text : List ℕ) (t : Token) : Type 0 where
   pub longest : IsLongest (drop t.start text) t.len
   pub kind : HasKind (bytes_of text t) t.kind
@@ -66,7 +69,7 @@ pub data Piece : Type 0 where
   comment : (len : ℕ) → Piece
   token : Token → Piece
 
--- from one byte to another the text is these pieces in turn
+-- from one byte to another the text is these pieces in turn; bytes count from 0
 abbrev pub IsCut : List ℕ → ℕ → ℕ → List Piece → Type 0
 IsCut text from to [] = from ≡ to
 IsCut text from to (blank ∷ pieces) = BeginsWithBlank (drop from text) × IsCut text (from + 1) to pieces
@@ -84,7 +87,7 @@ tokens_among (token t ∷ pieces) = t ∷ tokens_among pieces
 abbrev pub longest_text : ℕ
 longest_text = 1048576
 
--- these are the tokens of the text
+-- the text is not too long, it is pieces in turn, and these are the tokens among them
 pub record tokens (text : List ℕ) (toks : List Token) : Type 0 where
   pub short : length text ≤ longest_text
   pub pieces : List Piece

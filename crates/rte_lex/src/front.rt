@@ -143,7 +143,8 @@ fn literal(bytes: &[u8]) -> Result<Front, Cause>
 fn sign_of(bytes: &[u8], len: usize) -> Option<u8>
     ensures within { IfSome result (λ at. len ≤ length bytes.now) }
     ensures found { IfSome result (λ at. slice_get signs at ≡ Some (take len bytes.now)) }
-    ensures none { IfNone result (len ≤ length bytes.now → ¬ Contains signs (take len bytes.now)) }
+    ensures none { IfNone result (len ≤ length bytes.now →
+        ¬ Contains signs (take len bytes.now)) }
 {
     let front = bytes.get(..len)?;
     sign_at(front)

@@ -92,7 +92,8 @@ fn add(toks: &mut List<Token>, token: Token) -> Result<(), LexFault>
     }
 }
 
-/// Reads one more piece of the text, adds it to the tokens if it is one, and gives the spot past it.
+/// Reads one more piece of the text, adds it to the tokens if it is one, and gives the spot past
+/// it.
 fn step(text: &[u8], spot: Spot, toks: &mut List<Token>) -> Result<Spot, LexFault>
     requires short { length text.now ≤ longest_text }
     requires more { spot.at < length text.now }
@@ -120,20 +121,24 @@ fn step(text: &[u8], spot: Spot, toks: &mut List<Token>) -> Result<Spot, LexFaul
     }
 }
 
-/// The tokens of the text.
+/// The tokens of the text, in one pass over its bytes.
 ///
-/// A text is cut into blanks, comments and tokens, each token by longest match; it has at most one
-/// list of tokens, and where it has one the answer is that list, or `Memory`. Else the answer is the
-/// text's one fault, or `Memory`: `Long` where the text has more than 1,048,576 bytes, and then
-/// always; `Byte`, `Literal` or `Ident`, at its line and byte, where the first piece stands that is
-/// none, whether its byte begins nothing, or its literal is above 2147483647, or its identifier has
-/// more than 63 bytes. The text is read once.
+/// A text is blanks, comments and tokens in turn, each token by longest match, and has at most one
+/// list of tokens. `Ok` holds exactly that list, with the place one past the last byte. A text with
+/// no such list has one fault, which is the answer:
+/// - `Long` where it has more than 1,048,576 bytes, which comes before all others;
+/// - `Byte`, `Literal` or `Ident` where the first piece stands that is none: a byte that begins no
+///   blank, no comment and no token, a literal above 2147483647, an identifier of more than 63
+///   bytes.
+///
+/// `Memory` may stand in place of any answer but `Long`, where there is no room for the tokens.
 pub fn lex(alloc: Global, text: &[u8]) -> Result<Tokens, LexFault>
     ensures list { IfOk result (λ toks. tokens text.now toks.list) }
     ensures end { IfOk result (λ toks. IsEnd text.now toks.end) }
     ensures cause { IfErr result (λ fault. (fault ≡ LexFault.Memory) ⊎ Faulty text.now fault) }
     ensures long { longest_text < length text.now → IsErrOf result LexFault.Long }
-    ensures only { (toks : Listed Token) → tokens text.now toks → IsOkUnless result LexFault.Memory }
+    ensures only { (toks : Listed Token) → tokens text.now toks →
+        IsOkUnless result LexFault.Memory }
     ensures only_fault { (fault : LexFault) → Faulty text.now fault →
         IsErrAnd result (λ given. (given ≡ fault) ⊎ (given ≡ LexFault.Memory)) }
 {

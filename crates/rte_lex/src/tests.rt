@@ -16,9 +16,9 @@ fn has_kinds(rt: &impl Abort, alloc: Global, text: &[u8], kinds: &[TokenKind]) -
 #[test]
 fn keywords_and_signs_in_order(rt: HostRuntime) -> Result<(), Fail> {
     let words = b"program end const device in out event monitor condition entry procedure function \
-        returns return process periodic atEvent frame first activation atTime var int boolean array \
-        of begin handler if then else for do exit when put get wait noLongerThan signal broadcast \
-        empty except assert and or not div mod true false";
+        returns return process periodic atEvent frame first activation atTime var int boolean \
+        array of begin handler if then else for do exit when put get wait noLongerThan signal \
+        broadcast empty except assert and or not div mod true false";
     let toks = lex(rt.alloc(), words)?;
     assert_eq!(rt; toks.len(), 51);
     for (token, at) in toks.as_slice().iter().zip(0..51) {
