@@ -1,182 +1,45 @@
 -- Logs that are no run of their program.
-use Rattle.std.specs.Prelude.{◌≡◌, ℕ, true, false, is_some, List, [], ◌∷◌, Some, None, pos}
+use Rattle.std.specs.Prelude.{◌≡◌, true, false, is_some, [], ◌∷◌, pos}
 use Rattle.std.proofs.Common.{refl, ap}
-use Rattle.rte_event.specs.declared.event.Event.{Event}
-use Rattle.rte_event.specs.declared.event.Act.{Act}
 use Rattle.rte_event.specs.declared.event.Act.TheVariants as act
 use Rattle.rte_source.specs.Ranks.{reached}
 use Rattle.rte_source.specs.Next.{calls_to}
-use Rattle.rte_source.specs.Starts.{Script, due}
+use Rattle.rte_source.specs.Starts.{due}
 use Rattle.rte_source.specs.Source.{IsSourceRun, first_end}
 use Rattle.rte_source.proofs.Replays.{no_run, other_run}
-use Rattle.rte_source.proofs.Rows.{one_put, late_signal, raise_inside}
-use Rattle.rte_source.proofs.Larger.{two_waiters}
-
-abbrev at : ℕ → ℕ → Act → Event
-at t k a = record { tick = t; proc = k; act = a }
-
-abbrev until : ℕ → Script
-until n = record { lines = []; end_tick = n }
-
--- an end in place of the put
-abbrev ends_early_log : List Event
-ends_early_log =
-    at 0 0 act.Release
-    ∷ at 5 0 act.End
-    ∷ []
+use Rattle.rte_source.specs.Example.{at, before_occupant_log, ends_early_log, last_signalled_log, late_signal, one_put, out_of_order_log, overrun_log, raise_inside, release_missing_log, released_twice_log, signal_late_log, time_out_late_log, two_waiters, until}
 
 pub ends_early_is_none : IsSourceRun one_put (until 15) ends_early_log → ⊥
 unfolding due calls_to reached
 ends_early_is_none h = other_run one_put (until 15) ends_early_log (at 0 0 act.Release ∷ at 5 0 (act.Put 0 (pos 7)) ∷ []) refl (λ e. let b : false ≡ true = ap (λ l. is_some (first_end 0 l)) e in absurd cc) h
 
--- a second release in one tick
-abbrev released_twice_log : List Event
-released_twice_log =
-    at 0 0 act.Release
-    ∷ at 0 0 act.Release
-    ∷ at 10 0 (act.Put 0 (pos 7))
-    ∷ at 14 0 act.End
-    ∷ []
-
 pub released_twice_is_none : IsSourceRun one_put (until 15) released_twice_log → ⊥
 unfolding due calls_to reached
 released_twice_is_none h = no_run one_put (until 15) released_twice_log refl h
-
--- the release of tick 15 is missing
-abbrev release_missing_log : List Event
-release_missing_log =
-    at 0 0 act.Release
-    ∷ at 10 0 (act.Put 0 (pos 7))
-    ∷ at 14 0 act.End
-    ∷ []
 
 pub release_missing_is_none : IsSourceRun one_put (until 16) release_missing_log → ⊥
 unfolding due calls_to reached
 release_missing_is_none h = no_run one_put (until 16) release_missing_log refl h
 
--- a release finds its process at work
-abbrev overrun_log : List Event
-overrun_log =
-    at 0 0 act.Release
-    ∷ at 15 0 act.Release
-    ∷ at 15 0 (act.Put 0 (pos 7))
-    ∷ []
-
 pub overrun_is_none : IsSourceRun one_put (until 16) overrun_log → ⊥
 unfolding due calls_to reached
 overrun_is_none h = no_run one_put (until 16) overrun_log refl h
-
--- a time-out that comes one tick late
-abbrev time_out_late_log : List Event
-time_out_late_log =
-    at 0 0 act.Release
-    ∷ at 10 0 (act.Enter 0)
-    ∷ at 16 0 (act.Wait 0)
-    ∷ at 32 1 act.Release
-    ∷ at 42 1 (act.Enter 0)
-    ∷ at 47 1 (act.Signal 0 None)
-    ∷ at 48 0 (act.TimeOut 0 10)
-    ∷ at 50 1 (act.Leave 0)
-    ∷ at 61 0 (act.Put 0 (pos 1))
-    ∷ at 65 0 act.End
-    ∷ at 73 1 act.End
-    ∷ []
 
 pub time_out_late_is_none : IsSourceRun late_signal (until 100) time_out_late_log → ⊥
 unfolding due calls_to reached
 time_out_late_is_none h = no_run late_signal (until 100) time_out_late_log refl h
 
--- a signal to a process whose wait is over
-abbrev signal_late_log : List Event
-signal_late_log =
-    at 0 0 act.Release
-    ∷ at 10 0 (act.Enter 0)
-    ∷ at 16 0 (act.Wait 0)
-    ∷ at 32 1 act.Release
-    ∷ at 42 1 (act.Enter 0)
-    ∷ at 47 1 (act.Signal 0 (Some 0))
-    ∷ at 50 1 (act.Leave 0)
-    ∷ at 54 0 (act.Enter 0)
-    ∷ at 57 0 (act.Leave 0)
-    ∷ at 65 0 act.End
-    ∷ at 73 1 act.End
-    ∷ []
-
 pub signal_late_is_none : IsSourceRun late_signal (until 100) signal_late_log → ⊥
 unfolding due calls_to reached
 signal_late_is_none h = no_run late_signal (until 100) signal_late_log refl h
-
--- a process of the rank of the ceiling acts before the occupant
-abbrev before_occupant_log : List Event
-before_occupant_log =
-    at 0 0 act.Release
-    ∷ at 10 0 (act.Enter 0)
-    ∷ at 16 0 (act.Wait 0)
-    ∷ at 32 1 act.Release
-    ∷ at 42 1 (act.Enter 0)
-    ∷ at 47 0 (act.TimeOut 0 10)
-    ∷ at 58 0 (act.Put 0 (pos 1))
-    ∷ at 62 0 act.End
-    ∷ at 63 1 (act.Signal 0 None)
-    ∷ at 66 1 (act.Leave 0)
-    ∷ at 73 1 act.End
-    ∷ []
 
 pub before_occupant_is_none : IsSourceRun late_signal (until 100) before_occupant_log → ⊥
 unfolding due calls_to reached
 before_occupant_is_none h = no_run late_signal (until 100) before_occupant_log refl h
 
--- a process acts before the first of the ready ones
-abbrev out_of_order_log : List Event
-out_of_order_log =
-    at 0 0 act.Release
-    ∷ at 0 1 act.Release
-    ∷ at 10 0 (act.Enter 0)
-    ∷ at 14 0 (act.Raise 12)
-    ∷ at 15 1 (act.Enter 0)
-    ∷ at 18 0 act.End
-    ∷ at 32 1 (act.Leave 0)
-    ∷ at 40 1 act.End
-    ∷ []
-
 pub out_of_order_is_none : IsSourceRun raise_inside (until 50) out_of_order_log → ⊥
 unfolding due calls_to reached
 out_of_order_is_none h = no_run raise_inside (until 50) out_of_order_log refl h
-
--- a signal to the last of the queue
-abbrev last_signalled_log : List Event
-last_signalled_log =
-    at 0 0 act.Release
-    ∷ at 0 1 act.Release
-    ∷ at 10 0 (act.Enter 0)
-    ∷ at 16 0 (act.Wait 0)
-    ∷ at 20 1 (act.Enter 0)
-    ∷ at 30 1 (act.Wait 0)
-    ∷ at 100 2 act.Release
-    ∷ at 110 2 (act.Put 0 (pos 1))
-    ∷ at 120 2 (act.Enter 0)
-    ∷ at 125 2 (act.Empty 0 false)
-    ∷ at 130 2 (act.Signal 0 (Some 1))
-    ∷ at 135 2 (act.Empty 0 false)
-    ∷ at 140 2 (act.Leave 0)
-    ∷ at 150 1 (act.Enter 0)
-    ∷ at 155 1 (act.Leave 0)
-    ∷ at 160 1 (act.Put 0 (pos 1))
-    ∷ at 165 1 act.End
-    ∷ at 170 2 (act.Put 0 (pos 2))
-    ∷ at 180 2 (act.Enter 0)
-    ∷ at 185 2 (act.Empty 0 false)
-    ∷ at 190 2 (act.Signal 0 (Some 1))
-    ∷ at 195 2 (act.Empty 0 true)
-    ∷ at 200 2 (act.Broadcast 0 0)
-    ∷ at 205 2 (act.Leave 0)
-    ∷ at 210 1 (act.Enter 0)
-    ∷ at 215 1 (act.Leave 0)
-    ∷ at 220 1 (act.Put 0 (pos 2))
-    ∷ at 225 1 act.End
-    ∷ at 230 2 (act.Put 0 (pos 3))
-    ∷ at 240 2 act.End
-    ∷ []
 
 pub last_signalled_is_none : IsSourceRun two_waiters (until 300) last_signalled_log → ⊥
 unfolding due calls_to reached

@@ -9,3 +9,4 @@ pub mod Starts
 pub mod Source
 pub mod Puts
 pub mod Nesting
+pub mod Example
