@@ -1,0 +1,132 @@
+//! The report on a program of the first form.
+
+ghost use Rattle.std.specs.Prelude.{◌≡◌, ◌≤◌, ◌+◌, ◌*◌, ◌++◌, ◌<◌, ◌^◌, length, codes, decimal, IfOk, OnOk, ◌↔◌, IsTrue};
+ghost use Rattle.rte_form.specs.Form.{program_of};
+ghost use Rattle.rte_form.specs.Report.{is_timely, bound_text, verdict_text, times_text, process_text, code_text, report_of};
+ghost use Rattle.rte_form.specs.Target.{cost_of, stack_of};
+ghost use Rattle.rte_form.specs.WellFormed.{IsTimely};
+
+use crate::form::Form;
+use itoa::Buffer;
+use rte_tree::{Name, Text};
+use std::alloc::{AllocError, Global};
+
+/// The ticks of a put, and of the end.
+const PUT_TICKS: u64 = 11;
+
+const END_TICKS: u64 = 4;
+
+impl Form {
+    /// The cost of an activation, in ticks.
+    pub fn cost(&self) -> u64
+        requires { length self.now.puts ≤ 32767 }
+        ensures { result ≡ cost_of (program_of self.now).puts }
+    {
+        PUT_TICKS * self.puts.len() as u64 + END_TICKS
+    }
+
+    /// Whether an activation is done within the frame.
+    pub fn is_timely(&self) -> bool
+        requires { length self.now.puts ≤ 32767 }
+        ensures { result ≡ is_timely (program_of self.now) }
+    {
+        self.cost() <= u64::from(self.frame)
+    }
+
+    /// The words of stack that an activation needs.
+    pub fn stack(&self) -> u64
+        ensures { result ≡ stack_of (program_of self.now).puts }
+    {
+        if self.puts.is_empty() { 0 } else { 1 }
+    }
+}
+
+/// Puts some words and a number at the end of a text.
+fn add_number(text: &mut Text, words: &str, number: u64) -> Result<(), AllocError>
+    ensures { OnOk result (text.new ≡ text.old ++ (words.now ++ decimal number)) }
+{
+    let mut buffer = Buffer::new();
+    text.extend(words.as_bytes())?;
+    text.extend(buffer.format(number).as_bytes())
+}
+
+/// Puts some words and a name at the end of a text.
+fn add_name(text: &mut Text, words: &str, name: &Name) -> Result<(), AllocError>
+    ensures { OnOk result (text.new ≡ text.old ++ (words.now ++ name.now)) }
+{
+    text.extend(words.as_bytes())?;
+    text.extend(name.as_bytes())
+}
+
+/// Puts the bound, if there is one, at the end of a text.
+fn add_bound(text: &mut Text, form: &Form) -> Result<(), AllocError>
+    requires { length form.now.puts ≤ 32767 }
+    ensures { OnOk result (text.new ≡ text.old ++ bound_text (is_timely (program_of form.now)) (cost_of (program_of form.now).puts)) }
+{
+    if form.is_timely() {
+        add_number(text, "", form.cost())
+    } else {
+        text.extend(b"none")
+    }
+}
+
+/// Puts the cost and the bound at the end of a text.
+fn add_times(text: &mut Text, form: &Form) -> Result<(), AllocError>
+    requires { length form.now.puts ≤ 32767 }
+    ensures { OnOk result (text.new ≡ text.old ++ times_text (program_of form.now)) }
+{
+    add_number(text, " rank 1 cost ", form.cost())?;
+    text.extend(b" suspend 0 waits 0 block 0 bound ")?;
+    add_bound(text, form)
+}
+
+/// Puts the line of the process at the end of a text.
+fn add_process(text: &mut Text, form: &Form) -> Result<(), AllocError>
+    requires { length form.now.puts ≤ 32767 }
+    ensures { OnOk result (text.new ≡ text.old ++ process_text (program_of form.now)) }
+{
+    add_name(text, "process ", &form.process)?;
+    add_number(text, " frame ", u64::from(form.frame))?;
+    add_times(text, form)?;
+    add_number(text, " data 0 stack ", form.stack())?;
+    text.extend(b"\n")
+}
+
+/// Puts the number of instructions at the end of a text.
+fn add_code(text: &mut Text, form: &Form) -> Result<(), AllocError>
+    requires { length form.now.puts ≤ 32767 }
+    ensures { OnOk result (text.new ≡ text.old ++ code_text (program_of form.now)) }
+{
+    add_number(text, "code ", 2 * form.puts.len() as u64 + 1)?;
+    text.extend(b"\n")
+}
+
+/// Puts whether the program is timely at the end of a text.
+fn add_verdict(text: &mut Text, form: &Form) -> Result<(), AllocError>
+    requires { length form.now.puts ≤ 32767 }
+    ensures { OnOk result (text.new ≡ text.old ++ verdict_text (is_timely (program_of form.now)) form.now.process) }
+{
+    if form.is_timely() {
+        text.extend(b"timely\n")
+    } else {
+        add_name(text, "untimely ", &form.process)?;
+        text.extend(b"\n")
+    }
+}
+
+/// The report on a program: its name, its process with the frame, the cost, the bound (`none`
+/// where the cost is above the frame) and the words of stack, the number of its instructions, and
+/// whether it is timely. Ticks and words are at most 360,441, so no number is too large to print.
+#[tactic(auto, unfolding(crate::specs::Report::report_of))]
+pub fn report(alloc: Global, form: &Form) -> Result<Text, AllocError>
+    requires { length form.now.puts ≤ 32767 }
+    ensures { IfOk result (λ text. text ≡ report_of (program_of form.now)) }
+{
+    let mut text = Text::new(alloc);
+    add_name(&mut text, "program ", &form.name)?;
+    text.extend(b"\n")?;
+    add_process(&mut text, form)?;
+    add_code(&mut text, form)?;
+    add_verdict(&mut text, form)?;
+    Ok(text)
+}

@@ -1,0 +1,5 @@
+pub mod PutImage
+pub mod Standing
+pub mod Move
+pub mod TreeCode
+pub mod Count
