@@ -1,13 +1,14 @@
 //! The first form of program: one periodic process that puts numbers to devices.
 //!
 //! `specs/WellFormed.antt` says what such a program keeps to, and `specs/Target.antt` what its
-//! image is. `specs/Text.antt` says which texts write such a program, `specs/Reading.antt` which
-//! program a text's words write, by cases, `specs/Script.antt` what a script of the form is, and
+//! image is. `specs/Text.antt` says what the words of a text are, `specs/Reading.antt` which program
+//! they write, by cases, `specs/Script.antt` what a script of the form is, and
 //! `specs/Report.antt` what the report says. `read_form` and `read_end` answer exactly what these
 //! say, and `report` makes exactly that text.
 #![tactic(auto)]
 
 mod form;
+pub mod law;
 mod read;
 mod reports;
 mod script;

@@ -18,7 +18,7 @@ fn reads_a_program(rt: HostRuntime) -> Result<(), Fail> {
     assert_eq!(rt; form.frame, 15);
     assert_eq!(rt; form.devices.len(), 1);
     assert_eq!(rt; form.puts.len(), 1);
-    let put = form.puts.as_slice()[0];
+    let put = form.puts.get(0).ok_or("no put")?;
     assert_eq!(rt; put.dev, 0);
     assert_eq!(rt; put.value, 7);
     Ok(())
@@ -77,7 +77,7 @@ fn reads_numbers_with_leading_zeros(rt: HostRuntime) -> Result<(), Fail> {
         "program a\n device d : out\tprocess p : periodic\r\nframe 0000000000000099 begin put d 02147483647 end p end a\n";
     let form = form_of(rt.alloc(), text)?;
     assert_eq!(rt; form.frame, 99);
-    assert_eq!(rt; form.puts.as_slice()[0].value, 2_147_483_647);
+    assert_eq!(rt; form.puts.get(0).ok_or("no put")?.value, 2_147_483_647);
     Ok(())
 }
 

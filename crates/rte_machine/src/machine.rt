@@ -5,7 +5,7 @@ ghost use Rattle.arrayvec.specs.ArrayVec.{array_vec_len};
 ghost use Rattle.rte_machine.specs.Move.{told};
 ghost use Rattle.rte_io.specs.Outside.{Appends, AppendsFront, Rose};
 ghost use Rattle.rte_log.specs.InRange.{AreIn};
-ghost use Rattle.rte_log.specs.Line.{log_of};
+ghost use Rattle.rte_log.specs.Line.{line_of, log_of};
 ghost use Rattle.rte_machine.specs.Standing.{IsOf, IsSound, log_to, next};
 ghost use Rattle.rte_target.specs.Run.{at_start, events};
 
@@ -64,6 +64,17 @@ fn tell(tick: u64, act: Option<Act>, fired: &mut ArrayVec<Event, MOST>)
     }
 }
 
+/// Puts the line of an event.
+fn put_line<O: Sink>(names: &ImageNames, event: &Event, out: &mut O) -> Result<(), SinkFailed>
+    requires { AreIn names.now event.now }
+    ensures whole { OnOk result (Appends (O.taken out.old) (O.taken out.new) (line_of names.now event.now)) }
+    ensures front { OnErr result (AppendsFront (O.taken out.old) (O.taken out.new) (line_of names.now event.now)) }
+    ensures failed { OnErr result (Rose (O.faults out.old) (O.faults out.new)) }
+    ensures count { O.faults out.old ≤ O.faults out.new }
+{
+    out.put(line(names, event).as_slice())
+}
+
 /// Puts the line of each event, one put a line.
 fn put_all<O: Sink>(names: &ImageNames, events: &[Event], out: &mut O) -> Result<(), SinkFailed>
     requires { All (AreIn names.now) events.now }
@@ -73,7 +84,7 @@ fn put_all<O: Sink>(names: &ImageNames, events: &[Event], out: &mut O) -> Result
     ensures count { O.faults out.old ≤ O.faults out.new }
 {
     for event in events {
-        out.put(line(names, event).as_slice())?;
+        put_line(names, event, out)?;
     }
     Ok(())
 }

@@ -1,5 +1,5 @@
-use Rattle.std.proofs.Common.{◌+◌, List, take, drop, get_or, subst, ◌∙◌, arith, ℕ, Result, Ok, Err, OnErr}
-use Rattle.rte_io.specs.Outside.{Appends, AppendsFront, Appends-nothing, Appends-append, AppendsFront-append, AppendsFront-more}
+use Rattle.std.proofs.Common.{◌+◌, take, drop, get_or, arith, Result, Ok, Err, OnErr}
+use Rattle.rte_io.specs.Outside.{AppendsFront, Appends-nothing, Appends-append, AppendsFront-append, AppendsFront-more}
 use Rattle.rte_event.specs.declared.event.Event.{Event}
 use Rattle.rte_event.specs.declared.event.Act.TheVariants as act
 use Rattle.rte_log.specs.Line.{line_of, log_of}
@@ -12,11 +12,9 @@ loop-event-init g c = record { taken = rw log_of-nil (Appends-nothing (g.O.Sink.
 pub loop-event-preserved : goal.loop-event-preserved
 loop-event-preserved g c =
     let e : Event = record { tick = 0; proc = 0; act = act.Release } in
-    let put : Appends (g.O.Sink.taken c.loop-event.out) (g.O.Sink.taken c.put.new.self) (line_of c.args.names.now (get_or c.args.events.now c.loop-event.event-index e)) =
-    subst (λ (t : List ℕ). Appends (g.O.Sink.taken c.loop-event.out) (g.O.Sink.taken c.put.new.self) t) (c.as_slice.ensures.value ∙ c.line.ensures.text) c.in_ok-put.ensures.whole in
     record {
-      taken = rw (log_of-more c.args.names.now c.args.events.now c.loop-event.event-index e (omega arith)) (Appends-append _ _ _ _ _ c.loop-event.invariant.taken put);
-      count = omega (arith, c.loop-event.invariant.count, c.put.ensures.count);
+      taken = rw (log_of-more c.args.names.now c.args.events.now c.loop-event.event-index e (omega arith)) (Appends-append _ _ _ _ _ c.loop-event.invariant.taken c.in_ok-put_line.ensures.whole);
+      count = omega (arith, c.loop-event.invariant.count, c.put_line.ensures.count);
     }
 
 -- what holds of every result holds where it is an error
@@ -24,12 +22,11 @@ on_err : {A E : Type 0} (r : Result A E) (P : Type 0) → P → OnErr r P
 on_err (Ok x) P p = tt
 on_err (Err e) P p = p
 
-pub returns-in_err-put-clause-front : goal.returns-in_err-put-clause-front
-returns-in_err-put-clause-front g c =
+pub returns-in_err-put_line-clause-front : goal.returns-in_err-put_line-clause-front
+returns-in_err-put_line-clause-front g c =
     let e : Event = record { tick = 0; proc = 0; act = act.Release } in
-    let put : AppendsFront (g.O.Sink.taken c.loop-event.out) (g.O.Sink.taken c.put.new.self) (line_of c.args.names.now (get_or c.args.events.now c.loop-event.event-index e)) =
-    subst (λ (t : List ℕ). AppendsFront (g.O.Sink.taken c.loop-event.out) (g.O.Sink.taken c.put.new.self) t) (c.as_slice.ensures.value ∙ c.line.ensures.text) c.in_err-put.ensures.front in
+    let put : AppendsFront (g.O.Sink.taken c.loop-event.out) (g.O.Sink.taken c.put_line.new.out) (line_of c.args.names.now (get_or c.args.events.now c.loop-event.event-index e)) = c.in_err-put_line.ensures.front in
     on_err c.from_residual.result _
     (rw (log_of-cut c.args.names.now c.args.events.now c.loop-event.event-index e (omega arith))
-    (AppendsFront-append (g.O.Sink.taken c.args.out.now) (g.O.Sink.taken c.loop-event.out) (g.O.Sink.taken c.put.new.self) (log_of c.args.names.now (take c.loop-event.event-index c.args.events.now)) _ c.loop-event.invariant.taken
+    (AppendsFront-append (g.O.Sink.taken c.args.out.now) (g.O.Sink.taken c.loop-event.out) (g.O.Sink.taken c.put_line.new.out) (log_of c.args.names.now (take c.loop-event.event-index c.args.events.now)) _ c.loop-event.invariant.taken
     (AppendsFront-more _ _ (line_of c.args.names.now (get_or c.args.events.now c.loop-event.event-index e)) (log_of c.args.names.now (drop (c.loop-event.event-index + 1) c.args.events.now)) put)))

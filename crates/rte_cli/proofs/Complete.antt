@@ -1,0 +1,28 @@
+-- Completeness follows from what each status says.
+use Rattle.std.proofs.Common.{◌≡◌, ◌≢◌, ◌≤◌, ◌<◌, ◌⊎◌, inl, inr, ℕ, List, Option, Some, None, Bool, true, false, ap, sym, subst, ◌∙◌, refl, arith}
+use Rattle.std.specs.Bool.{OnTrue}
+use Rattle.std.proofs.lemmas.Bool.{cases_lt, cases_eq}
+use Rattle.rte_io.specs.Outside.{Rose}
+use Rattle.rte_cli.specs.Due.{Outcome}
+use Rattle.rte_cli.specs.Answers.{IsWhole, Outside, due_for, Went, Completes}
+use Rattle.rte_cli.specs.Words.{Row}
+
+told : (row : Row) (before now : Outside) (status : ℕ) → Went true row before now status → Completes row before now status
+told row before now status w o due_is all no_program no_script no_store no_put =
+    elim (cases_lt status 6) [
+      | inl below ↦
+          let done : IsWhole (due_for row before) status before.taken now.taken (now.held row.image) = w.whole below in
+          let same : done.outcome ≡ o = cc (sym done.is_due ∙ due_is) in
+          inl (done.status_is ∙ (ap (λ (x : Outcome). x.status) same ∙ all))
+      | inr above ↦ elim (cases_eq status 6) [
+        | inl six ↦ absurd (elim (w.read_fault six) [ inl p ↦ no_program p | inr s ↦ no_script s ])
+        | inr not6 ↦ elim (cases_eq status 7) [
+          | inl seven ↦ absurd (elim (w.write_fault seven) [ inl i ↦ no_store i | inr out ↦ no_put out ])
+          | inr not7 ↦ inr (omega (arith, w.range))
+        ]
+      ]
+    ]
+
+pub completes : (tells : Bool) (row : Row) (before now : Outside) (status : ℕ) → Went tells row before now status → OnTrue tells (Completes row before now status)
+completes true row before now status w = told row before now status w
+completes false row before now status w = tt

@@ -1,0 +1,61 @@
+-- What a call that was cut off says, by what its steps say.
+use Rattle.std.proofs.Common.{◌≡◌, ◌≤◌, ◌<◌, ◌⊎◌, ◌+◌, ◌^◌, ◌-◌, ◌++◌, ℕ, List, [], ◌∷◌, Option, Some, None, Bool, true, false, inl, inr, sym, ap, subst, ◌∙◌, refl, arith, length}
+use Rattle.std.specs.Prelude.{IsSomeAnd, IfSome, nat_le, min, cond}
+use Rattle.std.specs.Bool.{OnTrue}
+use Rattle.std.proofs.lemmas.Bool.{le-leb}
+use Rattle.rte_form.specs.Script.{end_of}
+use Rattle.rte_form.specs.Target.{named_image_of}
+use Rattle.rte_image.specs.Bytes.{bytes_of}
+use Rattle.rte_io.specs.Outside.{Rose, AppendsFront}
+use Rattle.rte_source.specs.Puts.{PutProg}
+use Rattle.rte_cli.specs.Due.{Outcome, done, due_by_end, due_by_script}
+use Rattle.rte_cli.specs.Answers.{IsCut, StoreFailed}
+
+-- a count that rose since a later state rose since an earlier one
+rose_since : (before then now : ℕ) → before ≤ then → Rose then now → Rose before now
+rose_since before then now less rose = omega (arith, less, rose)
+
+-- for a script that says an end, all is due
+pub done_is_due : (f : PutProg) (held : Option (List ℕ)) (end : ℕ) → IsSomeAnd held (λ text. length text ≤ 16777216) → IsSomeAnd held (λ text. Some end ≡ end_of text)
+    → due_by_script f held ≡ Some (done f end)
+done_is_due f None end short read = absurd short
+done_is_due f (Some text) end short read =
+    let fits : nat_le (length text) 16777216 ≡ true = le-leb _ _ short in
+    rw (fits, ← read) refl
+
+cut_of_done : (f : PutProg) (end : ℕ) (wanted : Option Outcome) (taken taken' stored : Option (List ℕ)) (write0 write write' faults faults' : ℕ)
+    → wanted ≡ Some (done f end) → write0 ≤ write → AppendsFront taken taken' (done f end).text
+    → StoreFailed true write write' taken taken' faults faults' stored (bytes_of (named_image_of f)) → IsCut wanted taken taken' stored write0 write' faults faults'
+cut_of_done f end wanted taken taken' stored write0 write write' faults faults' due less front (inl (rose, nothing)) =
+    record { outcome = done f end; is_due = due; put = front; cause = inl (refl, rose_since write0 write write' less rose, nothing) }
+cut_of_done f end wanted taken taken' stored write0 write write' faults faults' due less front (inr (rose, kept)) =
+    record { outcome = done f end; is_due = due; put = front; cause = inr (rose, kept) }
+
+-- storing and telling was cut off
+pub cut_is : (tells : Bool) (f : PutProg) (end : ℕ) (held taken taken' stored : Option (List ℕ)) (write0 write write' faults faults' : ℕ)
+    → OnTrue tells (IsSomeAnd held (λ text. length text ≤ 16777216)) → OnTrue tells (IsSomeAnd held (λ text. Some end ≡ end_of text))
+    → write0 ≤ write → AppendsFront taken taken' (done f end).text
+    → StoreFailed tells write write' taken taken' faults faults' stored (bytes_of (named_image_of f))
+    → OnTrue tells (IsCut (due_by_script f held) taken taken' stored write0 write' faults faults')
+cut_is true f end held taken taken' stored write0 write write' faults faults' short read less front failed =
+    cut_of_done f end (due_by_script f held) taken taken' stored write0 write write' faults faults' (done_is_due f held end short read) less front failed
+cut_is false f end held taken taken' stored write0 write write' faults faults' short read less front failed = tt
+
+pub on_true_implies : (tells : Bool) (P Q : Type 0) → (P → OnTrue tells Q) → OnTrue tells (P → Q)
+on_true_implies true P Q h = h
+on_true_implies false P Q h = tt
+
+-- the same from an earlier state, for what is due there
+pub cut_since : (wanted wanted' : Option Outcome) (taken taken' stored : Option (List ℕ)) (write0 write write' faults faults' : ℕ) → wanted' ≡ wanted → write0 ≤ write
+    → IsCut wanted taken taken' stored write write' faults faults' → IsCut wanted' taken taken' stored write0 write' faults faults'
+cut_since wanted wanted' taken taken' stored write0 write write' faults faults' same less c = record {
+  outcome = c.outcome;
+  is_due = same ∙ c.is_due;
+  put = c.put;
+  cause = since c.cause;
+}
+  where
+    since : ((c.outcome.status ≡ 0) × Rose write write' × (taken' ≡ taken)) ⊎ (Rose faults faults' × IfSome c.outcome.image (λ bytes. stored ≡ Some bytes))
+        → ((c.outcome.status ≡ 0) × Rose write0 write' × (taken' ≡ taken)) ⊎ (Rose faults faults' × IfSome c.outcome.image (λ bytes. stored ≡ Some bytes))
+    since (inl (whole, rose, nothing)) = inl (whole, rose_since write0 write write' less rose, nothing)
+    since (inr (rose, kept)) = inr (rose, kept)

@@ -1,0 +1,5 @@
+pub mod Complete
+pub mod Cuts
+pub mod Four
+pub mod Returns
+pub mod Done

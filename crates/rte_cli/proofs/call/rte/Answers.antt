@@ -1,0 +1,14 @@
+use Rattle.rte_cli.specs.Words.{row_of}
+use Rattle.rte_cli.proofs.Done.{if_done}
+use Rattle.rte_cli.proofs.call.rte.Goals as goal
+
+-- status 0, by what is due and the laws of the image
+pub returns-clause-done : goal.returns-clause-done
+returns-clause-done g c =
+    if_done c.forms_are_well_formed.ensures c.ends_are_written.ensures
+    (λ f end_tick well_formed timely. record {
+      runs = c.events_are_a_source_run.ensures f end_tick well_formed timely;
+      in_time = c.activations_end_within_their_bound.ensures f end_tick well_formed timely;
+      keeps = c.images_keep_their_word.ensures f end_tick well_formed timely;
+    })
+    g.F.Files.tells (row_of c.args.words.now) _ _ _ c.carry_out.ensures.row

@@ -1,0 +1,84 @@
+-- What each status of a call says.
+use Rattle.std.specs.Prelude.{◌≡◌, ◌≢◌, ◌<◌, ◌≤◌, ◌⊎◌, ℕ, Bool, List, Option, Some, IfSome, codes}
+use Rattle.std.specs.Bool.{OnTrue}
+use Rattle.rte_io.specs.Outside.{Rose, AllStay, OthersStay, Appends, AppendsFront}
+use Rattle.rte_cli.specs.Due.{Outcome, due, ReachesScript}
+use Rattle.rte_cli.specs.Words.{Row}
+
+-- the bytes that are due, if any are, are stored
+abbrev pub Stores : Option (List ℕ) → Option (List ℕ) → Type 0
+Stores wanted held = IfSome wanted (λ bytes. held ≡ Some bytes)
+
+-- the status is the one that is due, all that is due was put, and the image that is due is stored
+pub record IsWhole (wanted : Option Outcome) (status : ℕ) (taken taken' stored : Option (List ℕ)) : Type 0 where
+  pub outcome : Outcome
+  pub is_due : wanted ≡ Some outcome
+  pub status_is : status ≡ outcome.status
+  pub put : Appends taken taken' outcome.text
+  pub image : Stores outcome.image stored
+
+-- a front of what is due was put, and this is why no more was: the store was due and failed, and nothing was put; or a put
+-- failed, and the image that is due is stored
+pub record IsCut (wanted : Option Outcome) (taken taken' stored : Option (List ℕ)) (write write' faults faults' : ℕ) : Type 0 where
+  pub outcome : Outcome
+  pub is_due : wanted ≡ Some outcome
+  pub put : AppendsFront taken taken' outcome.text
+  pub cause : ((outcome.status ≡ 0) × Rose write write' × (taken' ≡ taken)) ⊎ (Rose faults faults' × Stores outcome.image stored)
+
+-- why storing and telling was cut off: the write failed, and nothing was put; or a put failed, and the bytes are stored
+abbrev pub StoreFailed : (tells : Bool) → (write write' : ℕ) → (taken taken' : Option (List ℕ)) → (faults faults' : ℕ) → Option (List ℕ) → List ℕ → Type 0
+StoreFailed tells write write' taken taken' faults faults' stored bytes =
+    (Rose write write' × (taken' ≡ taken)) ⊎ (Rose faults faults' × OnTrue tells (stored ≡ Some bytes))
+
+-- nothing is stored where another status is due
+abbrev pub NothingStored : Option Outcome → (held held' : List ℕ → Option (List ℕ)) → Type 0
+NothingStored wanted held held' = IfSome wanted (λ outcome. outcome.status ≢ 0 → AllStay held held')
+
+-- what the outside holds: by name the bytes and the counts of faults of reads and writes, and of the sink the bytes taken
+-- and the count of faults
+pub record Outside : Type 0 where
+  pub held : List ℕ → Option (List ℕ)
+  pub read_faults : List ℕ → ℕ
+  pub write_faults : List ℕ → ℕ
+  pub taken : Option (List ℕ)
+  pub put_faults : ℕ
+
+-- what is due for a row
+abbrev pub due_for : Row → Outside → Option Outcome
+due_for row before = due (before.held row.program) (before.held row.script)
+
+-- What a call of a row did. What is said of bytes is said where the files tell theirs.
+pub record Went (tells : Bool) (row : Row) (before now : Outside) (status : ℕ) : Type 0 where
+  pub in_row : status ≢ 1
+  pub range : status ≤ 8
+  -- 0 to 5: what is due was done whole
+  pub whole : OnTrue tells (status < 6 → IsWhole (due_for row before) status before.taken now.taken (now.held row.image))
+  -- 6: a read of the program or of the script failed, and no status before that read is due
+  pub read_fault : status ≡ 6 → Rose (before.read_faults row.program) (now.read_faults row.program) ⊎ Rose (before.read_faults row.script) (now.read_faults row.script)
+  pub read_order : OnTrue tells (status ≡ 6 → Rose (before.read_faults row.program) (now.read_faults row.program) ⊎ ReachesScript (before.held row.program))
+  -- 7: the store or a put failed, and no status before the store is due, or something was to be put
+  pub write_fault : status ≡ 7 → Rose (before.write_faults row.image) (now.write_faults row.image) ⊎ Rose before.put_faults now.put_faults
+  pub cut : OnTrue tells (status ≡ 7 → IsCut (due_for row before) before.taken now.taken (now.held row.image) (before.write_faults row.image) (now.write_faults row.image) before.put_faults now.put_faults)
+  -- 6 and 8: nothing was put
+  pub nothing : (status ≡ 6) ⊎ (status ≡ 8) → now.taken ≡ before.taken
+  -- no other file than the image's has changed, and that one only where the store was due
+  pub others : OthersStay before.held now.held row.image
+  pub stays : 0 < status → status < 7 → AllStay before.held now.held
+  pub refused : OnTrue tells (NothingStored (due_for row before) before.held now.held)
+
+-- where the row is due whole and no fault is counted, the status is 0, or memory was missing
+abbrev pub Completes : Row → (before now : Outside) → (status : ℕ) → Type 0
+Completes row before now status =
+    (outcome : Outcome) → due_for row before ≡ Some outcome → outcome.status ≡ 0
+    → ¬ Rose (before.read_faults row.program) (now.read_faults row.program)
+    → ¬ Rose (before.read_faults row.script) (now.read_faults row.script)
+    → ¬ Rose (before.write_faults row.image) (now.write_faults row.image)
+    → ¬ Rose before.put_faults now.put_faults
+    → (status ≡ 0) ⊎ (status ≡ 8)
+
+-- words that are no command: the usage is put and no file changes
+pub record IsUsage (before now : Outside) (status : ℕ) : Type 0 where
+  pub answer :
+      ((status ≡ 1) × Appends before.taken now.taken (codes "usage\n"))
+      ⊎ ((status ≡ 7) × Rose before.put_faults now.put_faults × AppendsFront before.taken now.taken (codes "usage\n"))
+  pub stays : AllStay before.held now.held

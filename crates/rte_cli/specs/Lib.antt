@@ -1,0 +1,4 @@
+pub mod Answers
+pub mod Due
+pub mod Words
+pub mod Headline

@@ -1,0 +1,28 @@
+-- Which words are a command, and which files they name.
+use Rattle.std.specs.Prelude.{ℕ, Bool, false, not, ◌==◌, ◌&&◌, List, [], ◌∷◌, Option, Some, None, if◌then◌else◌, String, string_bytes, codes}
+use Rattle.std.specs.Global.{Global}
+use Rattle.std.specs.Str.{bytes_eq}
+
+-- the names of the program text, of the image and of the script
+pub record Row : Type 0 where
+  pub program : List ℕ
+  pub image : List ℕ
+  pub script : List ℕ
+
+abbrev pub is_command : List ℕ → Bool
+is_command word = bytes_eq word (codes "go")
+
+-- not empty, and no dash at its front
+abbrev pub is_file_name : List ℕ → Bool
+is_file_name [] = false
+is_file_name (first ∷ rest) = not (first == 45)
+
+abbrev pub row_in : List ℕ → List ℕ → List ℕ → List ℕ → Option Row
+row_in command program image script =
+    if is_command command && (is_file_name program && (is_file_name image && is_file_name script))
+    then Some (record { program = program; image = image; script = script }) else None
+
+-- `go` and three names
+abbrev pub row_of : List (String Global) → Option Row
+row_of (command ∷ program ∷ image ∷ script ∷ []) = row_in (string_bytes command) (string_bytes program) (string_bytes image) (string_bytes script)
+row_of words = None

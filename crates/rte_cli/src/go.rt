@@ -1,0 +1,172 @@
+//! The call, from its words to its status.
+
+ghost use Rattle.std.specs.Prelude.{◌≡◌, ◌≢◌, ◌≤◌, ◌<◌, ◌⊎◌, ℕ, List, Some, IfSome, IfNone, IsSomeAnd, true, string_bytes};
+ghost use Rattle.std.specs.Bool.{OnTrue};
+ghost use Rattle.rte_io.specs.Outside.{Rose, AllStay, OthersStay, Appends, AppendsFront};
+ghost use Rattle.rte_cli.specs.Due.{due_by_script, due, ReachesScript};
+ghost use Rattle.rte_cli.specs.Answers.{IsWhole, IsCut, NothingStored, Went, Completes, IsUsage};
+ghost use Rattle.rte_cli.specs.Words.{row_of, is_command, is_file_name};
+ghost use Rattle.rte_form.specs.Form.{program_of};
+ghost use Rattle.rte_form.specs.Report.{report_of};
+ghost use Rattle.rte_form.specs.WellFormed.{IsPutProg, IsTimely};
+
+use crate::run::run_program;
+use crate::steps::{put, read_program, read_script};
+use rte_form::{Form, report};
+use rte_io::{Files, ReadFault, Sink};
+use std::alloc::Global;
+
+/// Reads the script, and goes on with it.
+fn with_program<F: Files, O: Sink>(
+    alloc: Global,
+    image: &str,
+    script: &str,
+    form: &Form,
+    files: &mut F,
+    out: &mut O,
+) -> u8
+    requires keeps { IsPutProg (program_of form.now) }
+    requires timely { IsTimely (program_of form.now) }
+    ensures row { result ≢ 1 }
+    ensures range { result ≤ 8 }
+    ensures whole { OnTrue F.tells (result < 6 → IsWhole (due_by_script (program_of form.now) (F.held files.old script.now)) result (O.taken out.old) (O.taken out.new) (F.held files.new image.now)) }
+    ensures cut { OnTrue F.tells (result ≡ 7 → IsCut (due_by_script (program_of form.now) (F.held files.old script.now)) (O.taken out.old) (O.taken out.new) (F.held files.new image.now) (F.write_faults files.old image.now) (F.write_faults files.new image.now) (O.faults out.old) (O.faults out.new)) }
+    ensures read_fault { result ≡ 6 → Rose (F.read_faults files.old script.now) (F.read_faults files.new script.now) }
+    ensures write_fault { result ≡ 7 → Rose (F.write_faults files.old image.now) (F.write_faults files.new image.now) ⊎ Rose (O.faults out.old) (O.faults out.new) }
+    ensures nothing { (result ≡ 6) ⊎ (result ≡ 8) → O.taken out.new ≡ O.taken out.old }
+    ensures others { OthersStay (F.held files.old) (F.held files.new) image.now }
+    ensures stays { 0 < result → result < 7 → AllStay (F.held files.old) (F.held files.new) }
+    ensures refused { OnTrue F.tells (NothingStored (due_by_script (program_of form.now) (F.held files.old script.now)) (F.held files.old) (F.held files.new)) }
+{
+    match read_script(files, script) {
+        Ok(Some(end)) => run_program(alloc, image, form, end, files, out),
+        Ok(None) => put(out, b"S1 1\n", 5),
+        Err(ReadFault::Long) => put(out, b"S6 0\n", 5),
+        Err(ReadFault::Failed) => 6,
+        Err(ReadFault::Memory) => 8,
+    }
+}
+
+/// Puts the report of a program that is not timely.
+fn refuse<O: Sink>(alloc: Global, form: &Form, out: &mut O) -> u8
+    requires { IsPutProg (program_of form.now) }
+    ensures range { (result ≡ 3) ⊎ ((result ≡ 7) ⊎ (result ≡ 8)) }
+    ensures whole { result < 6 → (result ≡ 3) × Appends (O.taken out.old) (O.taken out.new) (report_of (program_of form.now)) }
+    ensures front { result ≡ 7 → AppendsFront (O.taken out.old) (O.taken out.new) (report_of (program_of form.now)) }
+    ensures failed { result ≡ 7 → Rose (O.faults out.old) (O.faults out.new) }
+    ensures nothing { result ≡ 8 → O.taken out.new ≡ O.taken out.old }
+{
+    match report(alloc, form) {
+        Ok(text) => put(out, text.as_bytes(), 3),
+        Err(_) => 8,
+    }
+}
+
+/// Reads the program, and goes on where it is timely.
+fn go<F: Files, O: Sink>(
+    alloc: Global,
+    program: &str,
+    image: &str,
+    script: &str,
+    files: &mut F,
+    out: &mut O,
+) -> u8
+    ensures row { result ≢ 1 }
+    ensures range { result ≤ 8 }
+    ensures whole { OnTrue F.tells (result < 6 → IsWhole (due (F.held files.old program.now) (F.held files.old script.now)) result (O.taken out.old) (O.taken out.new) (F.held files.new image.now)) }
+    ensures cut { OnTrue F.tells (result ≡ 7 → IsCut (due (F.held files.old program.now) (F.held files.old script.now)) (O.taken out.old) (O.taken out.new) (F.held files.new image.now) (F.write_faults files.old image.now) (F.write_faults files.new image.now) (O.faults out.old) (O.faults out.new)) }
+    ensures read_fault { result ≡ 6 → Rose (F.read_faults files.old program.now) (F.read_faults files.new program.now) ⊎ Rose (F.read_faults files.old script.now) (F.read_faults files.new script.now) }
+    ensures read_order { OnTrue F.tells (result ≡ 6 → Rose (F.read_faults files.old program.now) (F.read_faults files.new program.now) ⊎ ReachesScript (F.held files.old program.now)) }
+    ensures write_fault { result ≡ 7 → Rose (F.write_faults files.old image.now) (F.write_faults files.new image.now) ⊎ Rose (O.faults out.old) (O.faults out.new) }
+    ensures nothing { (result ≡ 6) ⊎ (result ≡ 8) → O.taken out.new ≡ O.taken out.old }
+    ensures others { OthersStay (F.held files.old) (F.held files.new) image.now }
+    ensures stays { 0 < result → result < 7 → AllStay (F.held files.old) (F.held files.new) }
+    ensures refused { OnTrue F.tells (NothingStored (due (F.held files.old program.now) (F.held files.old script.now)) (F.held files.old) (F.held files.new)) }
+{
+    match read_program(alloc, files, program) {
+        Ok(Some(form)) => {
+            if form.is_timely() {
+                with_program(alloc, image, script, &form, files, out)
+            } else {
+                refuse(alloc, &form, out)
+            }
+        }
+        Ok(None) => put(out, b"E9 1:1\n", 2),
+        Err(ReadFault::Long) => put(out, b"E4 1:1\n", 2),
+        Err(ReadFault::Failed) => 6,
+        Err(ReadFault::Memory) => 8,
+    }
+}
+
+/// The same of a row, in one word.
+fn go_row<F: Files, O: Sink>(
+    alloc: Global,
+    program: &str,
+    image: &str,
+    script: &str,
+    files: &mut F,
+    out: &mut O,
+) -> u8
+    ensures { Went F.tells (record { program = program.now; image = image.now; script = script.now })
+        (record { held = F.held files.old; read_faults = F.read_faults files.old; write_faults = F.write_faults files.old; taken = O.taken out.old; put_faults = O.faults out.old })
+        (record { held = F.held files.new; read_faults = F.read_faults files.new; write_faults = F.write_faults files.new; taken = O.taken out.new; put_faults = O.faults out.new })
+        result }
+{
+    go(alloc, program, image, script, files, out)
+}
+
+/// The word is the command.
+fn is_go(word: &String) -> bool
+    ensures { result ≡ is_command (string_bytes word.now) }
+{
+    word.as_str() == "go"
+}
+
+/// The word may name a file: it is not empty, and begins with no dash.
+fn names_file(word: &String) -> bool
+    ensures { result ≡ is_file_name (string_bytes word.now) }
+{
+    match word.as_bytes() {
+        [] => false,
+        [first, ..] => *first != b'-',
+    }
+}
+
+/// The same, without what status 0 says of the program.
+pub fn carry_out<F: Files, O: Sink>(
+    alloc: Global,
+    words: &[String],
+    files: &mut F,
+    out: &mut O,
+) -> u8
+    // A call of a row went as is due, by what the files hold.
+    ensures row { IfSome (row_of words.now) (λ row. Went F.tells row
+        (record { held = F.held files.old; read_faults = F.read_faults files.old; write_faults = F.write_faults files.old; taken = O.taken out.old; put_faults = O.faults out.old })
+        (record { held = F.held files.new; read_faults = F.read_faults files.new; write_faults = F.write_faults files.new; taken = O.taken out.new; put_faults = O.faults out.new })
+        result) }
+    // Without a fault, all that is due is done, or memory was missing.
+    ensures complete { IfSome (row_of words.now) (λ row. OnTrue F.tells (Completes row
+        (record { held = F.held files.old; read_faults = F.read_faults files.old; write_faults = F.write_faults files.old; taken = O.taken out.old; put_faults = O.faults out.old })
+        (record { held = F.held files.new; read_faults = F.read_faults files.new; write_faults = F.write_faults files.new; taken = O.taken out.new; put_faults = O.faults out.new })
+        result)) }
+    // All other words are refused.
+    ensures usage { IfNone (row_of words.now) (IsUsage
+        (record { held = F.held files.old; read_faults = F.read_faults files.old; write_faults = F.write_faults files.old; taken = O.taken out.old; put_faults = O.faults out.old })
+        (record { held = F.held files.new; read_faults = F.read_faults files.new; write_faults = F.write_faults files.new; taken = O.taken out.new; put_faults = O.faults out.new })
+        result) }
+{
+    match words {
+        [command, program, image, script]
+            if is_go(command) && names_file(program) && names_file(image) && names_file(script) => {
+            go_row(
+                alloc,
+                program.as_str(),
+                image.as_str(),
+                script.as_str(),
+                files,
+                out,
+            )
+        }
+        _ => put(out, b"usage\n", 1),
+    }
+}
