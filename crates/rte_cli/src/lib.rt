@@ -10,7 +10,5 @@ mod call;
 mod go;
 mod run;
 mod steps;
-#[cfg(test)]
-mod tests;
 
 pub use call::rte;

@@ -1,4 +1,6 @@
-use crate::rte;
+//! Worked examples, and a call with each read, write and put failing in turn.
+
+use rte_cli::rte;
 use rte_io::{MemFiles, MemSink};
 use std::alloc::Global;
 use std::test::Fail;
@@ -111,7 +113,7 @@ fn bytes_of_hex(alloc: Global, text: &str) -> Result<Vec<u8>, Fail> {
             match high {
                 None => high = Some(value as u8),
                 Some(first) => {
-                    bytes.push(first * 16 + value as u8)?;
+                    bytes.push(u8::wrapping_mul(first, 16).wrapping_add(value as u8))?;
                     high = None;
                 }
             }
