@@ -1,8 +1,7 @@
 -- Completeness follows from what each status says.
-use Rattle.std.proofs.Common.{◌≡◌, ◌≢◌, ◌≤◌, ◌<◌, ◌⊎◌, inl, inr, ℕ, List, Option, Some, None, Bool, true, false, ap, sym, subst, ◌∙◌, refl, arith}
+use Rattle.std.proofs.Common.{◌≡◌, inl, inr, ℕ, Bool, true, false, ap, sym, ◌∙◌, arith}
 use Rattle.std.specs.Bool.{OnTrue}
 use Rattle.std.proofs.lemmas.Bool.{cases_lt, cases_eq}
-use Rattle.rte_io.specs.Outside.{Rose}
 use Rattle.rte_cli.specs.Due.{Outcome}
 use Rattle.rte_cli.specs.Answers.{IsWhole, Outside, due_for, Went, Completes}
 use Rattle.rte_cli.specs.Words.{Row}

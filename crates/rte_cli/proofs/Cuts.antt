@@ -1,6 +1,6 @@
 -- What a call that was cut off says, by what its steps say.
-use Rattle.std.proofs.Common.{◌≡◌, ◌≤◌, ◌<◌, ◌⊎◌, ◌+◌, ◌^◌, ◌-◌, ◌++◌, ℕ, List, [], ◌∷◌, Option, Some, None, Bool, true, false, inl, inr, sym, ap, subst, ◌∙◌, refl, arith, length}
-use Rattle.std.specs.Prelude.{IsSomeAnd, IfSome, nat_le, min, cond}
+use Rattle.std.proofs.Common.{◌≡◌, ◌≤◌, ◌⊎◌, ℕ, List, Option, Some, None, Bool, true, false, inl, inr, ◌∙◌, refl, arith, length}
+use Rattle.std.specs.Prelude.{IsSomeAnd, IfSome, nat_le}
 use Rattle.std.specs.Bool.{OnTrue}
 use Rattle.std.proofs.lemmas.Bool.{le-leb}
 use Rattle.rte_form.specs.Script.{end_of}
@@ -8,7 +8,7 @@ use Rattle.rte_form.specs.Target.{named_image_of}
 use Rattle.rte_image.specs.Bytes.{bytes_of}
 use Rattle.rte_io.specs.Outside.{Rose, AppendsFront}
 use Rattle.rte_source.specs.Puts.{PutProg}
-use Rattle.rte_cli.specs.Due.{Outcome, done, due_by_end, due_by_script}
+use Rattle.rte_cli.specs.Due.{Outcome, done, due_by_script}
 use Rattle.rte_cli.specs.Answers.{IsCut, StoreFailed}
 
 -- a count that rose since a later state rose since an earlier one

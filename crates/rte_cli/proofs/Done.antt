@@ -1,21 +1,18 @@
 -- What status 0 says follows from what is due.
-use Rattle.std.proofs.Common.{◌≡◌, ◌≤◌, ◌<◌, ◌++◌, ℕ, List, Option, Some, None, Bool, true, false, ap, sym, subst, ◌∙◌, refl, arith}
+use Rattle.std.proofs.Common.{◌≡◌, ℕ, List, Option, Some, None, Bool, true, false, ap, sym, subst, ◌∙◌, refl, arith}
 use Rattle.std.specs.Prelude.{cond, nat_le, length, IfSome}
 use Rattle.std.specs.Bool.{OnTrue}
-use Rattle.std.proofs.lemmas.Bool.{leb-true, cases_Bool}
+use Rattle.std.proofs.lemmas.Bool.{leb-true}
 use Rattle.rte_form.specs.Reading.{form_of}
-use Rattle.rte_form.specs.Report.{is_timely, report_of}
+use Rattle.rte_form.specs.Report.{is_timely}
 use Rattle.rte_form.specs.Script.{IsEndText, end_of}
-use Rattle.rte_form.specs.Target.{cost_of, image_of, names_of, named_image_of, until}
+use Rattle.rte_form.specs.Target.{cost_of}
 use Rattle.rte_form.specs.WellFormed.{IsPutProg, IsTimely}
-use Rattle.rte_image.specs.Bytes.{bytes_of}
 use Rattle.rte_io.specs.Outside.{Appends}
-use Rattle.rte_log.specs.Line.{log_of}
 use Rattle.rte_source.specs.Puts.{PutProg}
-use Rattle.rte_target.specs.Run.{events}
 use Rattle.rte_cli.specs.Answers.{IsWhole, Outside, due_for, Went, Stores}
-use Rattle.rte_cli.specs.Due.{Outcome, longest_program, longest_script, program_in, end_in, bad_source, late, bad_script, done, due_by_end, due_by_script, due_by_program, due, log_text}
-use Rattle.rte_cli.specs.Headline.{IsFaithful, IsDone, longest_run}
+use Rattle.rte_cli.specs.Due.{Outcome, longest_program, longest_script, program_in, end_in, late, done, due_by_end, due_by_script, due_by_program, due, log_text}
+use Rattle.rte_cli.specs.Headline.{IsFaithful, IsDone}
 use Rattle.rte_cli.specs.Words.{Row}
 
 -- what is due with status 0

@@ -1,13 +1,13 @@
 -- What each way through a call says of what is due.
-use Rattle.std.proofs.Common.{◌≡◌, ◌≢◌, ◌≤◌, ◌<◌, ◌⊎◌, ℕ, List, Option, Some, None, Bool, true, false, inl, inr, sym, ap, subst, ◌∙◌, refl, arith, length, codes}
-use Rattle.std.specs.Prelude.{IsSomeAnd, IfSome, nat_le, cond}
+use Rattle.std.proofs.Common.{◌≡◌, ◌≤◌, ◌<◌, ℕ, List, Option, Some, None, Bool, true, false, inr, sym, subst, ◌∙◌, refl, length, codes}
+use Rattle.std.specs.Prelude.{IsSomeAnd, nat_le}
 use Rattle.std.specs.Bool.{OnTrue}
 use Rattle.std.proofs.lemmas.Bool.{le-leb, lt-leb}
 use Rattle.rte_form.specs.Reading.{form_of}
 use Rattle.rte_form.specs.Report.{is_timely}
 use Rattle.rte_io.specs.Outside.{Rose, AllStay, Appends, AppendsFront}
 use Rattle.rte_source.specs.Puts.{PutProg}
-use Rattle.rte_cli.specs.Due.{Outcome, due, due_by_script, late, bad_source}
+use Rattle.rte_cli.specs.Due.{Outcome, due, due_by_script, late}
 use Rattle.rte_cli.specs.Answers.{IsWhole, IsCut, NothingStored}
 use Rattle.rte_cli.proofs.Cuts.{cut_since}
 

@@ -1,5 +1,5 @@
 -- What a call comes to, as a function of what the files of the program and of the script hold.
-use Rattle.std.specs.Prelude.{◌≡◌, ◌≤◌, ◌++◌, ℕ, Bool, true, false, List, [], ◌∷◌, Option, Some, None, if◌then◌else◌, nat_le, length, codes, IfSome, IsSomeAnd}
+use Rattle.std.specs.Prelude.{◌≡◌, ◌++◌, ℕ, true, List, Option, Some, None, if◌then◌else◌, nat_le, length, codes, IsSomeAnd}
 use Rattle.rte_form.specs.Reading.{form_of}
 use Rattle.rte_form.specs.Report.{is_timely, report_of}
 use Rattle.rte_form.specs.Script.{end_of}

@@ -1,6 +1,6 @@
 -- What status 0 says: of the text and the script that were read, of what was stored and put, and of every run of the
 -- stored image.
-use Rattle.std.specs.Prelude.{◌≡◌, ◌≤◌, ◌++◌, ℕ, List, Option, Some}
+use Rattle.std.specs.Prelude.{◌≡◌, ◌≤◌, ◌++◌, ℕ, List, Some}
 use Rattle.rte_form.specs.Reading.{form_of}
 use Rattle.rte_form.specs.Report.{report_of}
 use Rattle.rte_form.specs.Script.{IsEndText}

@@ -1,11 +1,8 @@
 -- The words of a text, and which of them are names and numbers.
-use Rattle.std.specs.Prelude.{◌≡◌, ℕ, Bool, true, false, not, ◌||◌, ◌&&◌, ◌==◌, List, [], ◌∷◌, filter, slice_index, codes, All, IsTrue}
+use Rattle.std.specs.Prelude.{ℕ, Bool, true, false, not, ◌||◌, ◌&&◌, ◌==◌, List, [], ◌∷◌, filter, slice_index, codes}
 use Rattle.std.specs.Char.{is_ascii_digit, is_ascii_alphabetic}
 use Rattle.std.specs.List.{slice_split, list_all, list_any}
 use Rattle.std.specs.Str.{bytes_eq}
-use Rattle.std.specs.Str.Parse.{digits_value}
-use Rattle.rte_source.specs.Puts.{Put, PutProg}
-use Rattle.rte_form.specs.WellFormed.{IsPutProg}
 
 -- space, tab, CR or LF
 abbrev pub is_blank : ℕ → Bool

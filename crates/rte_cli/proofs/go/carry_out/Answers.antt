@@ -1,8 +1,5 @@
-use Rattle.std.proofs.Common.{◌≡◌, List, [], ◌∷◌, length, arith, true, String, string_bytes, Some, IfSome, subst, sym, ◌∙◌, refl, Bool, ℕ}
-use Rattle.std.specs.Prelude.{cond, ◌&&◌}
-use Rattle.std.specs.Global.{Global}
-use Rattle.rte_cli.specs.Answers.{Went}
-use Rattle.rte_cli.specs.Words.{Row, row_in, is_command, is_file_name}
+use Rattle.std.proofs.Common.{◌≡◌, List, length, arith, true, string_bytes, Some, sym, ◌∙◌, refl, ℕ}
+use Rattle.rte_cli.specs.Words.{row_in, is_command, is_file_name}
 use Rattle.rte_cli.proofs.Complete.{completes}
 use Rattle.rte_cli.proofs.Four.{four_read}
 use Rattle.rte_cli.proofs.go.carry_out.Goals as goal

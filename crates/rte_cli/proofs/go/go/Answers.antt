@@ -1,6 +1,6 @@
-use Rattle.std.proofs.Common.{◌≡◌, ◌≢◌, ◌<◌, ℕ, List, Some, None, Err, sym, ap, ◌∙◌, refl, arith, codes}
+use Rattle.std.proofs.Common.{Err, sym, ap, ◌∙◌, refl, arith, codes}
 use Rattle.rte_form.specs.Form.{program_of}
-use Rattle.rte_cli.specs.Due.{due, due_by_script, late}
+use Rattle.rte_cli.specs.Due.{late}
 use Rattle.rte_cli.proofs.Returns.{timely_due, late_due, bad_due, long_due, source_outcome, whole_put, cut_put, whole_moves, cut_moves, refused_moves}
 use Rattle.rte_cli.proofs.go.go.Goals as goal
 

@@ -1,6 +1,4 @@
 use Rattle.rte_form.specs.Form.{program_of}
-use Rattle.rte_cli.specs.Due.{due_by_script}
-use Rattle.rte_cli.specs.Answers.{IsCut}
 use Rattle.rte_cli.proofs.Cuts.{cut_is, on_true_implies}
 use Rattle.rte_cli.proofs.go.with_program.Goals as goal
 

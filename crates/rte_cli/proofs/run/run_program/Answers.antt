@@ -1,4 +1,4 @@
-use Rattle.std.proofs.Common.{◌≡◌, ◌++◌, ◌∙◌, List, ℕ, sym, ap, refl, subst}
+use Rattle.std.proofs.Common.{◌≡◌, ◌++◌, ◌∙◌, List, ℕ, refl, subst}
 use Rattle.rte_form.specs.Form.{program_of}
 use Rattle.rte_form.specs.Report.{report_of}
 use Rattle.rte_form.specs.Target.{named_image_of, until}
