@@ -143,17 +143,15 @@ with_own m vs = record { own = vs; process = m.process; monitor = m.monitor }
 abbrev pub slot_in : Home → Memory → Name → Option Slot
 slot_in h m x = or_else (slot_named x m.own) (slot_named x (outer h m))
 
--- the value of a name: that of a constant, else what the variable holds
-abbrev pub read_slot : Option Slot → Answer
-read_slot None = word (pos 0)
-read_slot (Some s) = read s.held
-
-abbrev pub name_value : Option (Name × ℤ) → Option Slot → Answer
-name_value (Some k) s = word k.1
-name_value None s = read_slot s
+-- the value of a name: what the variable in reach holds, else that of the constant; a constant is in reach only after its
+-- declaration, so a variable may have the name of a later one
+abbrev pub name_value : Option Slot → Option (Name × ℤ) → Answer
+name_value (Some s) k = read s.held
+name_value None (Some k) = word k.1
+name_value None None = word (pos 0)
 
 abbrev pub value_of : Site → Memory → Name → Answer
-value_of c m x = name_value (named (λ k. k.0) x (constants c.program)) (slot_in c.home m x)
+value_of c m x = name_value (slot_in c.home m x) (named (λ k. k.0) x (constants c.program))
 
 abbrev pub read_element : Option Slot → ℤ → Answer
 read_element None i = word (pos 0)

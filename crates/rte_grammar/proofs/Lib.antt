@@ -1,0 +1,10 @@
+pub mod Basics
+pub mod ExprSound
+pub mod StmtSound
+pub mod Sound
+pub mod Shorter
+pub mod AgainBasics
+pub mod ExprAgain
+pub mod StmtAgain
+pub mod Again
+pub mod TreeWords

@@ -1,0 +1,99 @@
+-- The grammar of declarations and programs.
+use Rattle.std.specs.Prelude.{ℕ, Bool, true, false, List, [], Option, Some, None}
+use Rattle.rte_tree.specs.declared.place.Place.{Place}
+use Rattle.rte_lex.specs.declared.token.Token.{Token}
+use Rattle.rte_tree.specs.Placed.{Constant, Scalar, int, boolean, subrange, Kind, scalar, array, Var, Param, Expr, RoutineKind, procedure, function, Routine, Member, variable_member, condition_member, Monitor, Activation, periodic, at_event, Handler, Process, Decl, constant, device, event, routine, monitor, process, Prog}
+use Rattle.rte_grammar.specs.Words as w
+use Rattle.rte_grammar.specs.Words.{Word, named, Tok, toks_of}
+use Rattle.rte_grammar.specs.ExprGrammar.{at, a, ◌▷◌, nothing, never, Each, Listed, SomeListed, IsConstant, IsExpr}
+use Rattle.rte_grammar.specs.StmtGrammar.{AreStmts}
+
+-- the most levels of nesting
+abbrev pub MOST_LEVELS : ℕ
+MOST_LEVELS = 64
+
+abbrev pub IsScalar : {P : Type 0} → Scalar P → List (Tok P) → List (Tok P) → Type 0
+IsScalar int = a w.INT
+IsScalar boolean = a w.BOOLEAN
+IsScalar (subrange low high) = IsConstant low ▷ a w.RANGE ▷ IsConstant high
+
+abbrev pub IsKind : {P : Type 0} → Kind P → List (Tok P) → List (Tok P) → Type 0
+IsKind (scalar s) = IsScalar s
+IsKind (array low high s) = a w.ARRAY ▷ IsConstant low ▷ a w.RANGE ▷ IsConstant high ▷ a w.OF ▷ IsScalar s
+
+abbrev pub IsVar : {P : Type 0} → Var P → List (Tok P) → List (Tok P) → Type 0
+IsVar v = a w.VAR ▷ at (named v.name) v.place ▷ a w.COLON ▷ IsKind v.kind
+
+abbrev pub IsParam : {P : Type 0} → Param P → List (Tok P) → List (Tok P) → Type 0
+IsParam v = at (named v.name) v.place ▷ a w.COLON ▷ IsScalar v.kind
+
+abbrev pub kind_word : RoutineKind → Word
+kind_word procedure = w.PROCEDURE
+kind_word function = w.FUNCTION
+
+-- a function has a type of its result, a procedure none
+abbrev pub IsResult : {P : Type 0} → RoutineKind → Option (Scalar P) → List (Tok P) → List (Tok P) → Type 0
+IsResult procedure None = nothing
+IsResult procedure (Some s) = never
+IsResult function None = never
+IsResult function (Some s) = a w.RETURNS ▷ IsScalar s
+
+-- a function has an expression of its result, a procedure none
+abbrev pub IsValue : {P : Type 0} → RoutineKind → Option (Expr P) → List (Tok P) → List (Tok P) → Type 0
+IsValue procedure None = nothing
+IsValue procedure (Some e) = never
+IsValue function None = never
+IsValue function (Some e) = a w.RETURN ▷ IsExpr 5 MOST_LEVELS e
+
+abbrev pub IsRoutine : {P : Type 0} → Routine P → List (Tok P) → List (Tok P) → Type 0
+IsRoutine r =
+    a (kind_word r.kind) ▷ at (named r.name) r.place ▷ a w.LEFT_PAREN ▷ SomeListed IsParam r.params ▷ a w.RIGHT_PAREN ▷ IsResult r.kind r.result
+    ▷ Each IsVar r.vars ▷ a w.BEGIN ▷ AreStmts MOST_LEVELS r.body ▷ IsValue r.kind r.value ▷ a w.END ▷ at (named r.close) r.close_place
+
+abbrev pub IsMember : {P : Type 0} → Member P → List (Tok P) → List (Tok P) → Type 0
+IsMember (variable_member v) = IsVar v
+IsMember (condition_member n p) = a w.CONDITION ▷ at (named n) p
+
+abbrev pub IsEntry : {P : Type 0} → Routine P → List (Tok P) → List (Tok P) → Type 0
+IsEntry r = a w.ENTRY ▷ IsRoutine r
+
+abbrev pub IsMonitor : {P : Type 0} → Monitor P → List (Tok P) → List (Tok P) → Type 0
+IsMonitor m =
+    a w.MONITOR ▷ at (named m.name) m.place ▷ Each IsMember m.members ▷ Each IsEntry m.entries ▷ a w.END ▷ at (named m.close) m.close_place
+
+-- the first activation of a process, where it is said
+abbrev pub IsFirst : {P : Type 0} → Option (Constant P) → List (Tok P) → List (Tok P) → Type 0
+IsFirst None = nothing
+IsFirst (Some c) = a w.FIRST ▷ a w.ACTIVATION ▷ a w.AT_TIME ▷ IsConstant c
+
+abbrev pub IsActivation : {P : Type 0} → Activation P → List (Tok P) → List (Tok P) → Type 0
+IsActivation (periodic frame first) = a w.PERIODIC ▷ a w.FRAME ▷ IsConstant frame ▷ IsFirst first
+IsActivation (at_event e p frame) = a w.AT_EVENT ▷ at (named e) p ▷ a w.FRAME ▷ IsConstant frame
+
+abbrev pub IsHandler : {P : Type 0} → Option (Handler P) → List (Tok P) → List (Tok P) → Type 0
+IsHandler None = nothing
+IsHandler (Some h) = a w.HANDLER ▷ a w.LEFT_PAREN ▷ Listed IsConstant h.numbers ▷ a w.RIGHT_PAREN ▷ AreStmts MOST_LEVELS h.body
+
+abbrev pub IsProcess : {P : Type 0} → Process P → List (Tok P) → List (Tok P) → Type 0
+IsProcess p =
+    a w.PROCESS ▷ at (named p.name) p.place ▷ a w.COLON ▷ IsActivation p.activation ▷ Each IsVar p.vars ▷ Each IsRoutine p.routines ▷ a w.BEGIN
+    ▷ AreStmts MOST_LEVELS p.body ▷ IsHandler p.handler ▷ a w.END ▷ at (named p.close) p.close_place
+
+abbrev pub way_word : Bool → Word
+way_word true = w.OUT
+way_word false = w.IN
+
+abbrev pub IsDecl : {P : Type 0} → Decl P → List (Tok P) → List (Tok P) → Type 0
+IsDecl (constant n p c) = a w.CONST ▷ at (named n) p ▷ a w.ASSIGN ▷ IsConstant c
+IsDecl (device n p is_out) = a w.DEVICE ▷ at (named n) p ▷ a w.COLON ▷ a (way_word is_out)
+IsDecl (event n p) = a w.EVENT ▷ at (named n) p
+IsDecl (routine r) = IsRoutine r
+IsDecl (monitor m) = IsMonitor m
+IsDecl (process p) = IsProcess p
+
+abbrev pub IsProg : {P : Type 0} → Prog P → List (Tok P) → List (Tok P) → Type 0
+IsProg g = a w.PROGRAM ▷ at (named g.name) g.place ▷ Each IsDecl g.decls ▷ a w.END ▷ at (named g.close) g.close_place
+
+-- the tokens of the text, all of them, are those of the program
+abbrev pub tree : List ℕ → List Token → Prog Place → Type 0
+tree text toks g = IsProg g (toks_of text toks) []

@@ -1,0 +1,4 @@
+pub mod Loops
+pub mod Rows
+pub mod Stmts
+pub mod Laws

@@ -1,0 +1,66 @@
+use Rattle.std.proofs.Common.{◌≡◌, ◌-◌, arith, subst, sym, ◌∙◌, []}
+use Rattle.std.proofs.lemmas.Grind.{common_steps}
+use Rattle.rte_tree.specs.Placed.{placed_expr}
+use Rattle.rte_grammar.specs.Words.{COMMA}
+use Rattle.rte_grammar.specs.ExprReading as reading
+use Rattle.rte_grammar.specs.ExprReading.{is_at, is_some, op_at, operand_at, behind_comma, level, factor, expr}
+use Rattle.rte_parse.specs.Reads.{Reads, placed_pair}
+use Rattle.rte_parse.proofs.Loops.{loop-stop, loop-last, loop-turn, each-turn}
+use Rattle.rte_parse.proofs.Rows.{factor-inner, level-row, row-view}
+use Rattle.rte_parse.proofs.parser.Parser.+expr.Goals as goal
+
+pub factor-returns : goal.factor-returns
+unfolding reading.factor_in
+factor-returns t c =
+    let e = factor-inner c.args.depth c.args.self.now in
+    grind (arith, common_steps)
+
+pub level-returns : goal.level-returns
+level-returns t c =
+    subst (λ r. Reads placed_expr r c.row.result c.row.new.self) (sym (level-row (factor c.args.depth) c.args.height c.args.self.now (omega arith))) c.row.ensures
+
+pub row-returns : goal.row-returns
+unfolding reading.row_at
+row-returns t c =
+    let some : c.in_ok-rest.rest ≡ [] → ⊥ = λ e. grind (arith, common_steps) in
+    let v = row-view c.in_ok-new.field-0 c.in_ok-rest.rest some in
+    grind (arith, common_steps)
+
+pub more_args-returns-then-not-is_sign : goal.more_args-returns-then-not-is_sign
+more_args-returns-then-not-is_sign t c =
+    sym c.loop-turn.invariant ∙ loop-stop placed_expr (is_at COMMA) (behind_comma (expr c.args.depth)) _ c.loop-turn.args c.loop-turn.self (sym c.is_sign.ensures ∙ c.if-not-is_sign.true)
+
+pub more_args-returns : goal.more_args-returns
+more_args-returns t c =
+    sym c.loop-turn.invariant ∙ loop-last placed_expr (is_at COMMA) (behind_comma (expr c.args.depth)) _ _ c.loop-turn.args c.loop-turn.self c.loop-turn-test.false
+
+pub more_args-returns-in_err-more : goal.more_args-returns-in_err-more
+more_args-returns-in_err-more t c =
+    let e = each-turn (is_at COMMA) (behind_comma (expr c.args.depth)) c.left-turns.result c.loop-turn._turn c.loop-turn.self (sym c.is_sign.ensures ∙ c.if-not-is_sign.false) c.loop-turn-test.true in
+    grind (arith, common_steps)
+
+pub more_args-loop-turn-preserved : goal.more_args-loop-turn-preserved
+more_args-loop-turn-preserved t c =
+    let go = sym c.is_sign.ensures ∙ c.if-not-is_sign.false in
+    let e = loop-turn placed_expr (is_at COMMA) (behind_comma (expr c.args.depth)) c.left-turns.result c.loop-turn._turn c.loop-turn.args c.loop-turn.self c.more_arg.new.self c.in_ok-more.more go c.loop-turn-test.true c.in_ok-more.ensures in
+    grind (arith, common_steps)
+
+pub operands-returns-then-not-has_op : goal.operands-returns-then-not-has_op
+unfolding reading.operands_at
+operands-returns-then-not-has_op t c =
+    sym c.loop-turn.invariant ∙ loop-stop placed_pair (λ us. is_some (op_at c.args.height us)) (operand_at c.args.height (level (factor c.args.depth) (c.args.height - 1))) _ c.loop-turn.rest c.loop-turn.self (sym c.has_op.ensures ∙ c.if-not-has_op.true)
+
+pub operands-returns : goal.operands-returns
+operands-returns t c =
+    sym c.loop-turn.invariant ∙ loop-last placed_pair (λ us. is_some (op_at c.args.height us)) (operand_at c.args.height (level (factor c.args.depth) (c.args.height - 1))) _ _ c.loop-turn.rest c.loop-turn.self c.loop-turn-test.false
+
+pub operands-returns-in_err-operand : goal.operands-returns-in_err-operand
+operands-returns-in_err-operand t c =
+    let e = each-turn (λ us. is_some (op_at c.args.height us)) (operand_at c.args.height (level (factor c.args.depth) (c.args.height - 1))) c.if-height-eq3.turns c.loop-turn._turn c.loop-turn.self (sym c.has_op.ensures ∙ c.if-not-has_op.false) c.loop-turn-test.true in
+    grind (arith, common_steps)
+
+pub operands-loop-turn-preserved : goal.operands-loop-turn-preserved
+operands-loop-turn-preserved t c =
+    let go = sym c.has_op.ensures ∙ c.if-not-has_op.false in
+    let e = loop-turn placed_pair (λ us. is_some (op_at c.args.height us)) (operand_at c.args.height (level (factor c.args.depth) (c.args.height - 1))) c.if-height-eq3.turns c.loop-turn._turn c.loop-turn.rest c.loop-turn.self c.operand.new.self c.in_ok-operand.operand go c.loop-turn-test.true c.in_ok-operand.ensures in
+    grind (arith, common_steps)

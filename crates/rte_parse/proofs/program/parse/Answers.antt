@@ -1,0 +1,37 @@
+use Rattle.std.proofs.Common.{◌≡◌, ap, sym, ◌∙◌, subst, Err}
+use Rattle.rte_tree.specs.Placed.{placed}
+use Rattle.rte_grammar.specs.Words.{toks_of}
+use Rattle.rte_grammar.specs.ExprReading.{syntax, nesting}
+use Rattle.rte_grammar.specs.Reading.{whole}
+use Rattle.rte_grammar.proofs.Sound.{whole_sound}
+use Rattle.rte_grammar.proofs.Again.{one_tree}
+use Rattle.rte_parse.specs.declared.fault.Refusal.TheVariants as refusal
+use Rattle.rte_parse.specs.Reads.{Gives}
+use Rattle.rte_parse.proofs.Laws.{no_tree}
+use Rattle.rte_parse.proofs.program.parse.Goals as goal
+
+pub returns-in-Ok-clause-found : goal.returns-in-Ok-clause-found
+returns-in-Ok-clause-found c =
+    whole_sound (toks_of c.args.text.now c.args.tokens.now.list) (placed c.in-Ok.prog)
+    (ap (λ l. whole (toks_of c.args.text.now l)) (sym c.as_slice.ensures) ∙ c.in-Ok.ensures)
+
+pub returns-in-Ok-clause-only : goal.returns-in-Ok-clause-only
+returns-in-Ok-clause-only c g tree =
+    one_tree (toks_of c.args.text.now c.args.tokens.now.list) (placed c.in-Ok.prog) g
+    (whole_sound (toks_of c.args.text.now c.args.tokens.now.list) (placed c.in-Ok.prog)
+    (ap (λ l. whole (toks_of c.args.text.now l)) (sym c.as_slice.ensures) ∙ c.in-Ok.ensures))
+    tree
+
+pub returns-in-Err-Syntax-clause-only : goal.returns-in-Err-Syntax-clause-only
+returns-in-Err-Syntax-clause-only c g tree =
+    let is : c.in-Err-Syntax.field-0 ≡ refusal.Syntax c.in-Err-Syntax.left = c.in-Err-Syntax.field-0-is in
+    absurd (no_tree (toks_of c.args.text.now c.args.tokens.now.list) (syntax c.in-Err-Syntax.left)
+    (ap (λ l. whole (toks_of c.args.text.now l)) (sym c.as_slice.ensures)
+    ∙ subst (λ r. Gives placed (whole (toks_of c.args.text.now c.as_slice.result.now)) (Err r)) is c.in-Err-Syntax.ensures) g tree)
+
+pub returns-in-Err-Nesting-clause-only : goal.returns-in-Err-Nesting-clause-only
+returns-in-Err-Nesting-clause-only c g tree =
+    let is : c.in-Err-Nesting.field-0 ≡ refusal.Nesting c.in-Err-Nesting.left = c.in-Err-Nesting.field-0-is in
+    absurd (no_tree (toks_of c.args.text.now c.args.tokens.now.list) (nesting c.in-Err-Nesting.left)
+    (ap (λ l. whole (toks_of c.args.text.now l)) (sym c.as_slice.ensures)
+    ∙ subst (λ r. Gives placed (whole (toks_of c.args.text.now c.as_slice.result.now)) (Err r)) is c.in-Err-Nesting.ensures) g tree)

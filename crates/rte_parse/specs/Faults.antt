@@ -1,0 +1,20 @@
+-- Where a fault stands.
+use Rattle.std.specs.Prelude.{◌≡◌, ℕ, Some, slice_get, ◌⊎◌}
+use Rattle.rte_tree.specs.declared.place.Place.{Place}
+use Rattle.rte_lex.specs.declared.token.Token.{Token}
+use Rattle.rte_lex.specs.declared.token.Tokens.{Tokens}
+use Rattle.rte_parse.specs.declared.fault.SynFault.{SynFault}
+use Rattle.rte_parse.specs.declared.fault.SynFault.TheVariants.{Syntax, Nesting, Memory}
+
+-- the place of the token
+abbrev pub place : Token → Place
+place t = record { line = t.line; col = t.col }
+
+-- the place is that of a token, or the end of the text
+abbrev pub IsPlaceIn : Tokens → Place → Type 0
+IsPlaceIn toks p = ((at : ℕ) × (t : Token) × (slice_get toks.list at ≡ Some t) × (p ≡ place t)) ⊎ (p ≡ toks.end)
+
+abbrev pub StandsIn : Tokens → SynFault → Type 0
+StandsIn toks (Syntax p) = IsPlaceIn toks p
+StandsIn toks (Nesting p) = IsPlaceIn toks p
+StandsIn toks Memory = Unit {0}

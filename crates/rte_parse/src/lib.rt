@@ -1,0 +1,21 @@
+//! Trees from tokens.
+//!
+//! `specs/Grammar.antt` of `rte_grammar` says which tree a list of tokens has. `parse` gives exactly
+//! that tree, or the place of a fault where there is none.
+#![tactic(auto)]
+
+mod decl;
+mod expr;
+mod fault;
+mod parser;
+mod process;
+mod program;
+mod routine;
+mod stmt;
+mod types;
+
+pub use fault::SynFault;
+pub use program::parse;
+
+#[cfg(test)]
+mod tests;

@@ -1,0 +1,71 @@
+//! Reading a whole text.
+
+ghost use Rattle.std.specs.Prelude.{◌≡◌, IfOk, IfErr, MatchResult};
+ghost use Rattle.rte_tree.specs.Placed.{placed, Prog as SpecProg};
+ghost use Rattle.rte_tree.specs.declared.place.Place.{Place as SpecPlace};
+ghost use Rattle.rte_grammar.specs.Words.{toks_of};
+ghost use Rattle.rte_grammar.specs.Grammar.{tree};
+ghost use Rattle.rte_grammar.specs.Reading as reading;
+ghost use Rattle.rte_parse.specs.Reads.{Gives};
+ghost use Rattle.rte_parse.specs.Faults.{IsPlaceIn, StandsIn};
+
+use crate::fault::{Refusal, SynFault};
+use crate::parser::Parser;
+use rte_lex::{Token, Tokens};
+use rte_tree::{Place, Prog};
+use std::alloc::Global;
+
+/// The program that all the tokens are.
+#[tactic(auto, unfolding(rte_grammar::specs::Reading::whole))]
+fn read(alloc: Global, text: &[u8], toks: &[Token]) -> Result<Prog, Refusal>
+    ensures { Gives placed (reading.whole (toks_of text.now toks.now)) result }
+{
+    let mut parser = Parser { text, toks };
+    let prog = parser.prog(alloc)?;
+    if parser.left() == 0 {
+        return Ok(prog);
+    }
+    Err(Refusal::Syntax {
+        left: parser.left(),
+    })
+}
+
+/// The place of the token with this many left from it on, or of the text's end.
+fn place_of(tokens: &Tokens, left: usize) -> Place
+    ensures { IsPlaceIn tokens.now result }
+{
+    let all = tokens.as_slice();
+    match all.get(all.len().saturating_sub(left)) {
+        Some(token) => Place {
+            line: token.line,
+            col: token.col,
+        },
+        None => {
+            let (line, col) = tokens.end();
+            Place { line, col }
+        }
+    }
+}
+
+/// The tree of the tokens of a text, by the grammar of programs, with at most 64 levels of nesting.
+///
+/// # Errors
+///
+/// `Syntax` or `Nesting` exactly where the tokens have no tree: `Nesting` at a token that opens
+/// level 65, `Syntax` at the first token with which the tokens read no longer begin a program, or
+/// at the text's end. `Memory` where there is not enough memory for the tree.
+pub fn parse(alloc: Global, text: &[u8], tokens: &Tokens) -> Result<Prog, SynFault>
+    // What is read has these tokens.
+    ensures found { IfOk result (λ g. tree text.now tokens.now.list (placed g)) }
+    // What has these tokens is read, unless memory runs out.
+    ensures only { (g : SpecProg SpecPlace) → tree text.now tokens.now.list g → MatchResult result (λ p. placed p ≡ g) (λ f. f ≡ SynFault.Memory) }
+    // A fault stands at a token or at the end.
+    ensures place { IfErr result (λ f. StandsIn tokens.now f) }
+{
+    match read(alloc, text, tokens.as_slice()) {
+        Ok(prog) => Ok(prog),
+        Err(Refusal::Memory) => Err(SynFault::Memory),
+        Err(Refusal::Syntax { left }) => Err(SynFault::Syntax(place_of(tokens, left))),
+        Err(Refusal::Nesting { left }) => Err(SynFault::Nesting(place_of(tokens, left))),
+    }
+}
