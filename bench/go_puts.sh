@@ -2,7 +2,7 @@
 # Times `go` on the largest program of the first form: 32,767 puts, a frame of 360,441 ticks, a run of 1,000,000 ticks.
 # Run by hand after `rt run` or `rt ci` has built the binary:   bench/go_puts.sh PATH-TO-rte
 set -eu
-rte=${1:?the built program}
+rte=$(realpath "${1:?the built program}")
 work=$(mktemp -d)
 trap 'rm -rf "$work"' EXIT
 {

@@ -9,6 +9,8 @@ use Rattle.rte_form.specs.Script.{IsEndText, end_of}
 use Rattle.rte_form.specs.Target.{cost_of}
 use Rattle.rte_form.specs.WellFormed.{IsPutProg, IsTimely}
 use Rattle.rte_io.specs.Outside.{Appends}
+use Rattle.rte_puts.specs.Recurrence.{tasks_of}
+use Rattle.rte_response.specs.Demand.{IsBound}
 use Rattle.rte_source.specs.Puts.{PutProg}
 use Rattle.rte_cli.specs.Answers.{IsWhole, Outside, due_for, Went, Stores}
 use Rattle.rte_cli.specs.Due.{Outcome, longest_program, longest_script, program_in, end_in, late, done, due_by_end, due_by_script, due_by_program, due, log_text}
@@ -60,10 +62,10 @@ within_limit true o x is = is
 within_limit false o x is = absurd (cc)
 
 pub is_done : ((text : List ℕ) (f : PutProg) → form_of text ≡ Some f → IsPutProg f) → ((text : List ℕ) (end_tick : ℕ) → end_of text ≡ Some end_tick → IsEndText text end_tick)
-    → ((f : PutProg) (end_tick : ℕ) → IsPutProg f → IsTimely f → IsFaithful f end_tick)
+    → ((f : PutProg) (end_tick : ℕ) → IsPutProg f → IsTimely f → IsFaithful f end_tick) → ((f : PutProg) → IsPutProg f → IsTimely f → IsBound (tasks_of f) 0 (cost_of f.puts))
     → (row : Row) (before now : Outside) → Went true row before now 0 → IsDone row before now
 unfolding log_text
-is_done well_formed ends faithful row before now w =
+is_done well_formed ends faithful bound row before now w =
     let whole : IsWhole (due_for row before) 0 before.taken now.taken (now.held row.image) = w.whole (omega arith) in
     let d : DueDone (before.held row.program) (before.held row.script) whole.outcome = due_done (before.held row.program) (before.held row.script) whole.outcome whole.is_due (sym whole.status_is) in
     let written : form_of d.text ≡ Some d.program = within_limit (nat_le (length d.text) longest_program) (form_of d.text) d.program d.written in
@@ -76,6 +78,7 @@ is_done well_formed ends faithful row before now w =
       written = written;
       well_formed = keeps;
       timely = timely;
+      bound = bound d.program keeps timely;
       script = d.script;
       script_held = d.script_held;
       end_tick = d.end_tick;
@@ -86,9 +89,9 @@ is_done well_formed ends faithful row before now w =
     }
 
 pub if_done : ((text : List ℕ) (f : PutProg) → form_of text ≡ Some f → IsPutProg f) → ((text : List ℕ) (end_tick : ℕ) → end_of text ≡ Some end_tick → IsEndText text end_tick)
-    → ((f : PutProg) (end_tick : ℕ) → IsPutProg f → IsTimely f → IsFaithful f end_tick)
+    → ((f : PutProg) (end_tick : ℕ) → IsPutProg f → IsTimely f → IsFaithful f end_tick) → ((f : PutProg) → IsPutProg f → IsTimely f → IsBound (tasks_of f) 0 (cost_of f.puts))
     → (tells : Bool) (row : Option Row) (before now : Outside) (status : ℕ) → IfSome row (λ r. Went tells r before now status)
     → IfSome row (λ r. OnTrue tells (status ≡ 0 → IsDone r before now))
-if_done well_formed ends faithful true (Some row) before now status w = λ zero. is_done well_formed ends faithful row before now (subst (Went true row before now) zero w)
-if_done well_formed ends faithful false (Some row) before now status w = tt
-if_done well_formed ends faithful tells None before now status w = tt
+if_done well_formed ends faithful bound true (Some row) before now status w = λ zero. is_done well_formed ends faithful bound row before now (subst (Went true row before now) zero w)
+if_done well_formed ends faithful bound false (Some row) before now status w = tt
+if_done well_formed ends faithful bound tells None before now status w = tt

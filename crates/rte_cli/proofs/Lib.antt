@@ -3,3 +3,4 @@ pub mod Cuts
 pub mod Four
 pub mod Returns
 pub mod Done
+pub mod Late

@@ -1,6 +1,6 @@
 -- What status 0 says: of the text and the script that were read, of what was stored and put, and of every run of the
 -- stored image.
-use Rattle.std.specs.Prelude.{◌≡◌, ◌≤◌, ◌++◌, ℕ, List, Some}
+use Rattle.std.specs.Prelude.{Option, length, ◌≡◌, ◌≤◌, ◌++◌, ℕ, List, Some}
 use Rattle.rte_form.specs.Reading.{form_of}
 use Rattle.rte_form.specs.Report.{report_of}
 use Rattle.rte_form.specs.Script.{IsEndText}
@@ -10,17 +10,20 @@ use Rattle.rte_image.specs.Bytes.{bytes_of}
 use Rattle.rte_io.specs.Outside.{Appends}
 use Rattle.rte_log.specs.Line.{log_of}
 use Rattle.rte_puts.specs.Keeps.{KeepsItsWord}
+use Rattle.rte_puts.specs.Recurrence.{tasks_of}
+use Rattle.rte_response.specs.Demand.{IsBound, Solves}
 use Rattle.rte_source.specs.Puts.{PutProg, put_prog, put_script}
 use Rattle.rte_source.specs.Source.{EndsWithin, IsSourceRun}
 use Rattle.rte_target.specs.Run.{events}
 use Rattle.rte_cli.specs.Answers.{Outside}
+use Rattle.rte_cli.specs.Due.{longest_program}
 use Rattle.rte_cli.specs.Words.{Row}
 
 -- the greatest end of a script
 abbrev pub longest_run : ℕ
 longest_run = 1000000000
 
--- the log of the image up to an end is a run of the program; each activation ends within the bound, which is the cost; no
+-- the log of the image up to an end is a run of the program; each activation ends within the printed bound, its cost; no
 -- tick is stuck, no release finds its process unfinished, and each process is within its sizes
 pub record IsFaithful (f : PutProg) (end_tick : ℕ) : Type 0 where
   pub runs : IsSourceRun (put_prog f) (put_script end_tick) (events (image_of f) (until end_tick))
@@ -36,6 +39,8 @@ pub record IsDone (row : Row) (before now : Outside) : Type 0 where
   pub written : form_of text ≡ Some program
   pub well_formed : IsPutProg program
   pub timely : IsTimely program
+  -- the printed bound is the least solution of the recurrence within the frame
+  pub bound : IsBound (tasks_of program) 0 (cost_of program.puts)
   pub script : List ℕ
   pub script_held : before.held row.script ≡ Some script
   pub end_tick : ℕ
@@ -45,3 +50,12 @@ pub record IsDone (row : Row) (before now : Outside) : Type 0 where
   pub put : Appends before.taken now.taken (report_of program ++ log_of (names_of program) (events (image_of program) (until end_tick)))
   -- runs, in time and size: for every script, that of the call among them
   pub faithful : (other_end : ℕ) → other_end ≤ longest_run → IsFaithful program other_end
+
+-- the file holds a program text whose recurrence has no solution within the frame
+pub record IsUnsolved (held : Option (List ℕ)) : Type 0 where
+  pub text : List ℕ
+  pub is_held : held ≡ Some text
+  pub short : length text ≤ longest_program
+  pub program : PutProg
+  pub written : form_of text ≡ Some program
+  pub unsolved : (r : ℕ) → ¬ Solves (tasks_of program) 0 r

@@ -1,16 +1,17 @@
 //! The top call.
 
-ghost use Rattle.std.specs.Prelude.{◌≡◌, IfSome, IfNone};
+ghost use Rattle.std.specs.Prelude.{◌≡◌, ◌<◌, ◌↔◌, IfSome, IfNone};
 ghost use Rattle.std.specs.Bool.{OnTrue};
 ghost use Rattle.rte_cli.specs.Answers.{Went, Completes, IsUsage};
-ghost use Rattle.rte_cli.specs.Headline.{IsDone};
+ghost use Rattle.rte_cli.specs.Headline.{IsDone, IsUnsolved};
 ghost use Rattle.rte_cli.specs.Words.{row_of};
 
 use crate::go::carry_out;
 use rte_form::law::{ends_are_written, forms_are_well_formed};
 use rte_io::{Files, Sink};
 use rte_puts::law::{
-    activations_end_within_their_bound, events_are_a_source_run, images_keep_their_word,
+    activations_end_within_their_bound, cost_is_the_least_bound, events_are_a_source_run,
+    images_keep_their_word, solved_programs_are_timely,
 };
 use std::alloc::Global;
 
@@ -45,11 +46,16 @@ pub fn rte<F: Files, O: Sink>(alloc: Global, words: &[String], files: &mut F, ou
     ensures done { IfSome (row_of words.now) (λ row. OnTrue F.tells (result ≡ 0 → IsDone row
         (record { held = F.held files.old; read_faults = F.read_faults files.old; write_faults = F.write_faults files.old; taken = O.taken out.old; put_faults = O.faults out.old })
         (record { held = F.held files.new; read_faults = F.read_faults files.new; write_faults = F.write_faults files.new; taken = O.taken out.new; put_faults = O.faults out.new }))) }
+    // Status 3 comes exactly where the recurrence of the program has no solution within its frame.
+    ensures late { IfSome (row_of words.now) (λ row. OnTrue F.tells (result < 6 →
+        (result ≡ 3) ↔ IsUnsolved (F.held files.old row.program))) }
 {
     forms_are_well_formed();
     ends_are_written();
     events_are_a_source_run();
     activations_end_within_their_bound();
     images_keep_their_word();
+    cost_is_the_least_bound();
+    solved_programs_are_timely();
     carry_out(alloc, words, files, out)
 }

@@ -7,3 +7,4 @@ pub mod Runs
 pub mod Declared
 pub mod Ends
 pub mod Keeping
+pub mod Bound

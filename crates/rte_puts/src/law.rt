@@ -5,6 +5,8 @@ ghost use Rattle.rte_form.specs.Target.{cost_of, image_of, until};
 ghost use Rattle.rte_form.specs.WellFormed.{IsPutProg, IsTimely};
 ghost use Rattle.rte_source.specs.Puts.{PutProg, put_prog, put_script};
 ghost use Rattle.rte_puts.specs.Keeps.{KeepsItsWord};
+ghost use Rattle.rte_puts.specs.Recurrence.{tasks_of};
+ghost use Rattle.rte_response.specs.Demand.{IsBound, Solves};
 ghost use Rattle.rte_source.specs.Source.{EndsWithin, IsSourceRun};
 ghost use Rattle.rte_target.specs.Run.{events};
 
@@ -25,4 +27,14 @@ pub fn activations_end_within_their_bound()
 /// No tick is stuck, no release finds its process unfinished, and each process is within its declared words.
 pub fn images_keep_their_word()
     ensures { (f : PutProg) (end_tick : ℕ) → IsPutProg f → IsTimely f → KeepsItsWord (image_of f) (until end_tick) }
+{}
+
+/// The least bound of the recurrence is the cost, where the program is timely.
+pub fn cost_is_the_least_bound()
+    ensures { (f : PutProg) → IsPutProg f → IsTimely f → IsBound (tasks_of f) 0 (cost_of f.puts) }
+{}
+
+/// A program whose recurrence has a solution within the frame is timely.
+pub fn solved_programs_are_timely()
+    ensures { (f : PutProg) (r : ℕ) → IsPutProg f → Solves (tasks_of f) 0 r → IsTimely f }
 {}

@@ -1,5 +1,6 @@
 use Rattle.rte_cli.specs.Words.{row_of}
 use Rattle.rte_cli.proofs.Done.{if_done}
+use Rattle.rte_cli.proofs.Late.{refused_for_time}
 use Rattle.rte_cli.proofs.call.rte.Goals as goal
 
 -- status 0, by what is due and the laws of the image
@@ -11,4 +12,11 @@ returns-clause-done g c =
       in_time = c.activations_end_within_their_bound.ensures f end_tick well_formed timely;
       keeps = c.images_keep_their_word.ensures f end_tick well_formed timely;
     })
+    c.cost_is_the_least_bound.ensures
+    g.F.Files.tells (row_of c.args.words.now) _ _ _ c.carry_out.ensures.row
+
+-- status 3, by what is due and the laws of the recurrence
+pub returns-clause-late : goal.returns-clause-late
+returns-clause-late g c =
+    refused_for_time c.forms_are_well_formed.ensures c.cost_is_the_least_bound.ensures c.solved_programs_are_timely.ensures
     g.F.Files.tells (row_of c.args.words.now) _ _ _ c.carry_out.ensures.row
