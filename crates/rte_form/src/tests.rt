@@ -102,6 +102,7 @@ fn reads_an_end(rt: HostRuntime) {
 #[test]
 fn reports(rt: HostRuntime) -> Result<(), Fail> {
     let form = form_of(rt.alloc(), VALVE)?;
+    assert!(rt; form.puts.len() <= 32_767);
     let text = report(rt.alloc(), &form)?;
     let timely =
         "program a\nprocess p frame 15 rank 1 cost 15 suspend 0 waits 0 block 0 bound 15 data 0 stack 1\ncode 3\ntimely\n";
@@ -110,6 +111,7 @@ fn reports(rt: HostRuntime) -> Result<(), Fail> {
         rt.alloc(),
         "program a device valve : out process p : periodic frame 14 begin put valve 7 end p end a",
     )?;
+    assert!(rt; late.puts.len() <= 32_767);
     let text = report(rt.alloc(), &late)?;
     let untimely =
         "program a\nprocess p frame 14 rank 1 cost 15 suspend 0 waits 0 block 0 bound none data 0 stack 1\ncode 3\nuntimely p\n";

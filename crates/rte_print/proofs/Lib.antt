@@ -1,0 +1,12 @@
+pub mod Steps
+pub mod Tables
+pub mod Texts
+pub mod Bare
+pub mod Moves
+pub mod Lexed
+pub mod MovedExprs
+pub mod MovedStmts
+pub mod MovedProgs
+pub mod Spelled
+pub mod Lines
+pub mod ReadBackLemmas

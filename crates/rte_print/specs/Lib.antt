@@ -1,0 +1,4 @@
+pub mod Canonical
+pub mod Pages
+pub mod Tables
+pub mod ReadBack
