@@ -1,0 +1,7 @@
+pub mod Scopes
+pub mod Walks
+pub mod Loops
+pub mod Scoping
+pub mod Notes
+pub mod Programs
+pub mod Failing

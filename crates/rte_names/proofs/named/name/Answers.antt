@@ -1,0 +1,25 @@
+use Rattle.std.proofs.Common.{◌≡◌, ◌∙◌, sym}
+use Rattle.rte_tree.specs.Placed.{placed}
+use Rattle.rte_names.specs.Occurrences.{names}
+use Rattle.rte_names.specs.Findings.{Found, noted}
+use Rattle.rte_names.specs.Seen.{nothing}
+use Rattle.rte_names.proofs.Failing.{first-fault, resolved}
+use Rattle.rte_names.proofs.named.name.Goals as goal
+
+pub returns-in-Some-clause-fault : goal.returns-in-Some-clause-fault
+returns-in-Some-clause-fault c =
+    let f : Found = record { first = c.found.inside.first; ties = c.found.inside.ties.entries } in
+    let is : f ≡ noted nothing (names (placed c.args.p)) = c.found.view_is ∙ c.in-Ok.ensures in
+    first-fault (placed c.args.p) f c.in-Some.broken is c.in-Some.is
+
+pub invariant_of-result : goal.invariant_of-result
+invariant_of-result c =
+    let f : Found = record { first = c.found.inside.first; ties = c.found.inside.ties.entries } in
+    let is : f ≡ noted nothing (names (placed c.args.p)) = c.found.view_is ∙ c.in-Ok.ensures in
+    resolved (placed c.args.p) f is c.in-None.is
+
+pub returns-in-None-clause-named : goal.returns-in-None-clause-named
+returns-in-None-clause-named c =
+    let f : Found = record { first = c.found.inside.first; ties = c.found.inside.ties.entries } in
+    let is : f ≡ noted nothing (names (placed c.args.p)) = c.found.view_is ∙ c.in-Ok.ensures in
+    (resolved (placed c.args.p) f is c.in-None.is).named

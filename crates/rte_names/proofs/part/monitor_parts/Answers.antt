@@ -1,0 +1,20 @@
+use Rattle.std.proofs.Common.{◌≡◌, List, [], ◌∷◌, map, ap, ◌∙◌}
+use Rattle.rte_tree.specs.Placed.{placed_member, placed_routine}
+use Rattle.rte_names.specs.Reach.{Site, within}
+use Rattle.rte_names.specs.Occurrences.{Occurrence, closes, members_names, routines_names}
+use Rattle.rte_names.specs.Findings.{noted}
+use Rattle.rte_names.specs.Seen.{meaning, outer_site}
+use Rattle.rte_names.proofs.part.monitor_parts.Goals as goal
+
+pub returns : goal.returns
+returns c more =
+    let m = c.args.monitor.now in
+    let here = outer_site c.args.outer.now in
+    let after_entries = closes m.close m.close_place m.name ∷ more in
+    let after_members = routines_names here (map placed_routine m.entries) after_entries in
+    ap (λ f. noted f more) c.close.ensures
+    ∙ c.in_ok-routines.ensures after_entries
+    ∙ ap (λ l. noted c.members.new.findings (routines_names here (map placed_routine l) after_entries)) c.as_slice-2.ensures
+    ∙ c.in_ok-members.ensures after_members
+    ∙ ap (λ es. noted c.args.findings.now (members_names (record { means = within (meaning es) here.means; members = here.members }) (map placed_member c.as_slice.result.now) after_members)) c.new-none.ensures.empty
+    ∙ ap (λ l. noted c.args.findings.now (members_names here (map placed_member l) after_members)) c.as_slice.ensures

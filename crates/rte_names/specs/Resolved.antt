@@ -1,0 +1,23 @@
+-- A program whose names are resolved: no rule fails, and for the place of each use it is known where the name is declared.
+use Rattle.std.specs.Prelude.{◌≡◌, ℕ, List, Option, Some, None}
+use Rattle.std.specs.Map.{lookup}
+use Rattle.rte_tree.specs.Placed.{Prog}
+use Rattle.rte_tree.specs.declared.place.Place.{Place}
+use Rattle.rte_names.specs.Rules.{Fails, IsFirst, NamesAt, UsedAt}
+use Rattle.rte_names.specs.Findings.{Key, same_key, key_of}
+use Rattle.rte_names.specs.declared.named.NameFault.{NameFault}
+use Rattle.rte_names.specs.declared.named.NameFault.TheVariants as fault_is
+
+-- no rule fails at any place
+abbrev pub IsNamed : Prog Place → Type 0
+IsNamed g = (number : ℕ) (place : Place) → ¬ Fails g number place
+
+pub record IsResolved (g : Prog Place) (ties : List (Key × Place)) : Type 0 where
+  pub named : IsNamed g
+  pub tied : (place declared : Place) → lookup (same_key (key_of place)) ties ≡ Some declared → NamesAt g place declared
+  pub unused : (place : Place) → lookup (same_key (key_of place)) ties ≡ None → ¬ UsedAt g place
+
+-- why the program is refused: the first rule that fails, or want of memory
+abbrev pub IsFault : Prog Place → NameFault → Type 0
+IsFault g (fault_is.Rule number place) = IsFirst g number place
+IsFault g fault_is.Memory = Unit {0}

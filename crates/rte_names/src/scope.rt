@@ -1,0 +1,77 @@
+//! The names of one scope.
+
+ghost use Rattle.std.specs.Prelude.{◌≡◌, OnOk};
+ghost use Rattle.rte_names.specs.Seen.{meaning, add as added, in_loops, entry_meaning, add_entry as entry_added};
+
+use crate::kind::Declared;
+use indexmap::IndexMap;
+use rte_tree::Place;
+use std::alloc::AllocError;
+
+/// Names with where and as what they are declared, in the order of their declarations. Of two
+/// equal names the first counts.
+pub type Scope<'a> = IndexMap<&'a [u8], Declared>;
+
+/// A loop variable.
+#[derive(Clone, Copy)]
+pub struct Local<'a> {
+    pub name: &'a [u8],
+    pub declared: Declared,
+}
+
+/// The entries of all monitors, by the place of the monitor's name.
+pub type Entries<'a> = IndexMap<(u32, u32, &'a [u8]), Declared>;
+
+/// What a name is declared as in a scope.
+pub fn find(scope: &Scope<'_>, name: &[u8]) -> Option<Declared>
+    ensures { result ≡ meaning scope.now.entries name.now }
+{
+    scope.get(name).copied()
+}
+
+/// Declares a name, unless the scope has it.
+pub fn add<'a>(scope: &mut Scope<'a>, name: &'a [u8], declared: Declared) -> Result<(), AllocError>
+    ensures { OnOk result (meaning scope.new.entries ≡ added (meaning scope.old.entries) (name.now, declared)) }
+{
+    if find(scope, name).is_some() {
+        return Ok(());
+    }
+    scope.insert(name, declared)?;
+    Ok(())
+}
+
+/// What a name is in loops around it, and outside of them as given.
+pub fn find_in_loops(loops: &[Local<'_>], name: &[u8], outer: Option<Declared>) -> Option<Declared>
+    ensures { result ≡ in_loops name.now loops.now outer }
+{
+    let mut found = outer;
+    for local in loops {
+        if name == local.name {
+            found = Some(local.declared);
+        }
+    }
+    found
+}
+
+/// What an entry of the monitor at the place is.
+pub fn find_entry(entries: &Entries<'_>, monitor: Place, name: &[u8]) -> Option<Declared>
+    ensures { result ≡ entry_meaning entries.now.entries monitor name.now }
+{
+    entries.get(&(monitor.line, monitor.col, name)).copied()
+}
+
+/// Declares an entry of the monitor at the place, unless it has one of that name.
+pub fn add_entry<'a>(
+    entries: &mut Entries<'a>,
+    monitor: Place,
+    name: &'a [u8],
+    declared: Declared,
+) -> Result<(), AllocError>
+    ensures { OnOk result (entry_meaning entries.new.entries ≡ entry_added (entry_meaning entries.old.entries) monitor (name.now, declared)) }
+{
+    if find_entry(entries, monitor, name).is_some() {
+        return Ok(());
+    }
+    entries.insert((monitor.line, monitor.col, name), declared)?;
+    Ok(())
+}
