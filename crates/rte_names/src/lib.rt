@@ -23,6 +23,3 @@ mod scope;
 mod stmt;
 
 pub use named::{NameFault, Named, name};
-
-#[cfg(test)]
-mod tests;
