@@ -1,0 +1,4 @@
+pub mod Values
+pub mod Things
+pub mod Parts
+pub mod Seen

@@ -1,0 +1,4 @@
+pub mod Types
+pub mod Processes
+pub mod Counts
+pub mod Rules

@@ -1,0 +1,92 @@
+//! Programs that keep to all rules.
+
+ghost use Rattle.std.specs.Prelude.{◌≡◌, IfOk, IfErr, IfSome, IfNone};
+ghost use Rattle.rte_tree.specs.Placed.{placed};
+ghost use Rattle.rte_first.specs.First.{IsFirstOf};
+ghost use Rattle.rte_names.specs.Occurrences.{names, declared_at};
+ghost use Rattle.rte_static.specs.Static.{Fails, IsChecked, IsFault};
+
+use rte_declared::Declarations;
+use rte_first::{Broken, sooner};
+use rte_names::Named;
+use rte_tree::{Place, Prog};
+use std::alloc::{AllocError, Global};
+use std::marker::Model;
+use thiserror::Error;
+
+/// Why a program was refused. A rule prints as its number and its place.
+#[derive(Debug, Drop, Error, PartialEq, Eq)]
+pub enum RuleFault {
+    /// A static rule fails, by its number from 30 to 45.
+    #[error("E{number} {}:{}", .place.line, .place.col)]
+    Rule { number: u8, place: Place },
+    /// There was not enough memory.
+    #[error("out of memory")]
+    Memory,
+}
+
+/// A program that keeps to the rules for names and to all static rules.
+#[derive(Drop)]
+pub struct Checked {
+    named: Named,
+}
+
+impl Model for Checked {
+    ghost use Rattle.std.specs.Coded.{codes};
+    ghost use Rattle.rte_tree.specs.Placed.{placed};
+    ghost use Rattle.rte_tree.specs.declared.decl.Prog.{Prog as Tree};
+    ghost use Rattle.rte_tree.specs.contracts.decl.Prog as tree;
+    ghost use Rattle.rte_static.specs.Static.{IsChecked};
+
+    ghost Value = { Tree };
+
+    ghost coded = { Prim.hlevel (codes, tree.the_row.coded) };
+
+    ghost view = { λ c. c.named };
+
+    ghost invariant = { λ c. IsChecked (placed c.named) };
+}
+
+/// The static rule that fails first, if any does.
+fn first_broken(alloc: Global, named: &Named) -> Result<Option<Broken>, AllocError>
+    ensures { IfOk result (λ first. IsFirstOf (Fails (placed named.now)) first) }
+{
+    let declarations = Declarations::new(alloc, named)?;
+    let statements = rte_statements::first_broken(&declarations);
+    let limits = rte_limits::first_broken(alloc, &declarations)?;
+    let reach = rte_reaching::first_broken(alloc, &declarations)?;
+    Ok(sooner(statements, sooner(limits, reach)))
+}
+
+/// Tries the static rules: `Ok` exactly where none fails at any place, else the rule that fails
+/// first, by place and then by number.
+pub fn check(alloc: Global, named: Named) -> Result<Checked, RuleFault>
+    ensures same { IfOk result (λ c. c ≡ named) }
+    ensures checked { IfOk result (λ c. IsChecked (placed c)) }
+    ensures fault { IfErr result (λ f. IsFault (placed named) f) }
+{
+    match first_broken(alloc, &named) {
+        Ok(None) => Ok(Checked { named }),
+        Ok(Some(broken)) => Err(RuleFault::Rule {
+            number: broken.number,
+            place: broken.place,
+        }),
+        Err(_) => Err(RuleFault::Memory),
+    }
+}
+
+impl Checked {
+    pub fn prog(&self) -> &Prog
+        ensures tree { result.now ≡ self.now }
+        ensures checked { IsChecked (placed self.now) }
+    {
+        self.named.prog()
+    }
+
+    /// Where the name that is used at a place is declared; `None` where no name is used there.
+    pub fn found(&self, at: &Place) -> Option<Place>
+        ensures { result ≡ declared_at (names (placed self.now)) at.now }
+    {
+        self.named.found(at)
+    }
+}

@@ -1,0 +1,11 @@
+//! Static rules: what a program whose names are resolved has to keep to besides.
+//!
+//! `specs/Static.antt` joins the rules, which are stated apart in the crates below: types in
+//! `rte_typing`, what may stand where in `rte_conduct`, bounds and numbers in `rte_limits`, and what
+//! is reached by calls in `rte_reaching`. `check` answers `Ok` exactly where none fails at any
+//! place, else the rule that fails first.
+#![tactic(auto)]
+
+mod check;
+
+pub use check::{Checked, RuleFault, check};
