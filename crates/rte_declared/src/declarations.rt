@@ -1,6 +1,6 @@
 //! What the names of a program are declared as, and what its constants are worth.
 
-ghost use Rattle.std.specs.Prelude.{◌≡◌, IfOk, ◌×◌, ◌≤ℤ◌, pos, negsuc, option_map};
+ghost use Rattle.std.specs.Prelude.{◌≡◌, IfOk, ◌≤ℤ◌, pos, negsuc, option_map};
 ghost use Rattle.rte_tree.specs.Placed.{placed, placed_constant};
 ghost use Rattle.rte_declared.specs.Things.{named_at};
 ghost use Rattle.rte_declared.specs.Values.{value, out_of as out_of_limits};

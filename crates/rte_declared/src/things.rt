@@ -1,6 +1,6 @@
 //! What stands declared at each place.
 
-ghost use Rattle.std.specs.Prelude.{◌≡◌, OnOk, IfOk, List, ◌×◌, ◌∷◌, [], map};
+ghost use Rattle.std.specs.Prelude.{◌≡◌, OnOk, IfOk, List, ◌∷◌, [], map};
 ghost use Rattle.rte_tree.specs.Placed.{placed_var, placed_param, placed_routine, placed_member, placed_decl};
 ghost use Rattle.rte_tree.specs.declared.place.Place.{Place as SpecPlace};
 ghost use Rattle.rte_declared.specs.Things.{Thing as SpecThing, learn, vars_things, params_things, routine_things, routines_things, member_things, members_things, decl_things, decls_things};
