@@ -3,14 +3,14 @@ use Rattle.std.proofs.Common.{◌≡◌, ◌<◌, ◌≤◌, ℕ, List, [], ◌�
 use Rattle.rte_tree.specs.Placed.{Prog}
 use Rattle.rte_tree.specs.declared.place.Place.{Place}
 use Rattle.rte_names.specs.declared.findings.Broken.{Broken}
-use Rattle.rte_names.specs.Reach.{same, suits}
-use Rattle.rte_names.specs.Occurrences.{Occurrence, declares, closes, used, names}
+use Rattle.rte_names.specs.Reach.{same, suits, or_else}
+use Rattle.rte_names.specs.Occurrences.{Occurrence, declares, closes, used, names, declared_at}
 use Rattle.rte_names.specs.Rules.{Among, place_of, undeclared, shadows, misused, misclosed, Fails, Before, IsFirst, Means, IsUse, NamesAt, UsedAt}
 use Rattle.std.specs.Map.{lookup}
 use Rattle.rte_names.specs.Findings.{Found, noted, same_key, key_of}
 use Rattle.rte_names.specs.Seen.{nothing}
 use Rattle.rte_names.specs.Resolved.{IsNamed, IsResolved}
-use Rattle.rte_names.proofs.Notes.{NotBefore, fault_of, Breaks, Clean, Least, first_of_all, ties_of_all}
+use Rattle.rte_names.proofs.Notes.{NotBefore, fault_of, Breaks, Clean, Least, first_of_all, ties_of_all, tied-declared}
 
 among-map : {P Q : Occurrence → Type 0} → ((o : Occurrence) → P o → Q o) → (os : List Occurrence) → Among P os → Among Q os
 among-map f [] a = elim a [ ]
@@ -133,8 +133,12 @@ fine-uses place (o ∷ os) none (inl a) = by (fault_of o) refl
     by None e = inl (a.0, a.1, e)
     by (Some m) e = absurd (none m (place_of o) (inl (e, refl)))
 
+else-none : (x : Option Place) → or_else x None ≡ x
+else-none (Some p) = refl
+else-none None = refl
+
 pub resolved : (g : Prog Place) (f : Found) → f ≡ noted nothing (names g) → f.first ≡ None → IsResolved g f.ties
-resolved g f is e = record { named = named; tied = tied; unused = unused }
+resolved g f is e = record { named = named; tied = tied; unused = unused; declared = declared }
   where
     clean : Clean None (names g)
     clean = first_of_all (names g) nothing None (sym (ap (λ x. x.first) is) ∙ e)
@@ -157,3 +161,6 @@ resolved g f is e = record { named = named; tied = tied; unused = unused }
 
     unused : (place : Place) → lookup (same_key (key_of place)) f.ties ≡ None → ¬ UsedAt g place
     unused place h u = ((ties_of_all (names g) nothing place).none (ap (lookup (same_key (key_of place))) (sym ties-are) ∙ h)).1 (fine-uses place (names g) clean.clean u)
+
+    declared : (place : Place) → lookup (same_key (key_of place)) f.ties ≡ declared_at (names g) place
+    declared place = ap (lookup (same_key (key_of place))) ties-are ∙ tied-declared (names g) nothing place clean.clean ∙ else-none (declared_at (names g) place)

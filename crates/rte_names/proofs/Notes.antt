@@ -10,8 +10,8 @@ use Rattle.rte_tree.specs.declared.place.Place.{Place}
 use Rattle.rte_names.specs.declared.kind.Declared.{Declared}
 use Rattle.rte_names.specs.declared.kind.Want.{Want}
 use Rattle.rte_names.specs.declared.findings.Broken.{Broken}
-use Rattle.rte_names.specs.Reach.{same, suits}
-use Rattle.rte_names.specs.Occurrences.{Occurrence, declares, closes, used}
+use Rattle.rte_names.specs.Reach.{same, same_place, suits, or_else}
+use Rattle.rte_names.specs.Occurrences.{Occurrence, declares, closes, used, declared_at}
 use Rattle.rte_names.specs.Rules.{Among, place_of, undeclared, shadows, misused, misclosed, Means, IsUse}
 use Rattle.rte_names.specs.Findings.{Key, same_key, key_of, Found, comes_before, sooner, blame, tie, note_use, note_declaration, note, noted}
 
@@ -271,3 +271,30 @@ ties-cons o os f p one rest = record { some = λ q h. later q (rest.some q h); n
 pub ties_of_all : (os : List Occurrence) (f : Found) (p : Place) → Ties f os p
 ties_of_all [] f p = record { some = λ q h. inr h; none = λ h. (h, λ a. a) }
 ties_of_all (o ∷ os) f p = ties-cons o os f p (step f o p) (ties_of_all os (note f o) p)
+
+-- ---- looking up in the ties
+
+later-else : (late : Option Place) (b : Bool) (here : Place) (early : Option Place) → or_else late (cond b (Some here) early) ≡ or_else (or_else late (if b then Some here else None)) early
+later-else (Some q) b here early = refl
+later-else None true here early = refl
+later-else None false here early = refl
+
+-- where no name breaks a rule, the ties tell of a place what the names tell, and else what they told before
+pub tied-declared : (os : List Occurrence) (f : Found) (p : Place) → ((m : ℕ) (q : Place) → Among (Breaks m q) os → ⊥) → tied (noted f os) p ≡ or_else (declared_at os p) (tied f p)
+tied-declared [] f p clean = refl
+tied-declared (declares name q true ∷ os) f p clean = absurd (clean 21 q (inl (refl, refl)))
+tied-declared (declares name q false ∷ os) f p clean = tied-declared os f p (λ m r a. clean m r (inr a))
+tied-declared (closes name q opening ∷ os) f p clean = tied-declared os (note f (closes name q opening)) p (λ m r a. clean m r (inr a)) ∙ ap (or_else (declared_at os p)) (by (same name opening))
+  where
+    by : (b : Bool) → tied (if b then f else blame f 23 q) p ≡ tied f p
+    by true = refl
+    by false = refl
+tied-declared (used name q want None ∷ os) f p clean = absurd (clean 20 q (inl (refl, refl)))
+tied-declared (used name q want (Some d) ∷ os) f p clean = by (suits want d.kind) refl (λ g. tied-declared os g p (λ m r a. clean m r (inr a)))
+  where
+    by : (b : Bool) → suits want d.kind ≡ b → ((g : Found) → tied (noted g os) p ≡ or_else (declared_at os p) (tied g p)) → tied (noted (if b then tie f q d.place else blame f 22 q) os) p ≡ or_else (or_else (declared_at os p) (if same_place q p then Some d.place else None)) (tied f p)
+    by true e rest =
+        rest (tie f q d.place)
+        ∙ ap (or_else (declared_at os p)) (lookup-insert f.ties (key_of q) (key_of p) d.place ∙ ap (λ b. cond b (Some d.place) (tied f p)) (key_equiv.symm (key_of p) (key_of q)))
+        ∙ later-else (declared_at os p) (same_place q p) d.place (tied f p)
+    by false e rest = absurd (clean 22 q (inl (ap (λ b. if b then None else Some 22) e, refl)))

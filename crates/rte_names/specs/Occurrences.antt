@@ -9,7 +9,7 @@ use Rattle.rte_names.specs.declared.kind.Kind as kinds
 use Rattle.rte_names.specs.declared.kind.Kind.TheVariants as kind_is
 use Rattle.rte_names.specs.declared.kind.Want.{Want}
 use Rattle.rte_names.specs.declared.kind.Want.TheVariants as want_is
-use Rattle.rte_names.specs.Reach.{Names, Reach, nowhere, first, within, Site, inside, inside_monitor, through, same_place}
+use Rattle.rte_names.specs.Reach.{Names, Reach, nowhere, first, or_else, within, Site, inside, inside_monitor, through, same_place}
 
 -- a name that is declared, and whether the same name is in reach there already; a name that closes, and the name that it has
 -- to repeat; or a name that is used, with what it is used as and what it means there
@@ -17,6 +17,14 @@ pub data Occurrence : Type 0 where
   declares : Name → Place → (taken : Bool) → Occurrence
   closes : Name → Place → (opening : Name) → Occurrence
   used : Name → Place → Want → (means : Option Declared) → Occurrence
+
+-- where a name that is used at the place is declared, as far as these names tell; a later one counts before an earlier one
+abbrev pub declared_at : List Occurrence → Place → Option Place
+declared_at [] p = None
+declared_at (declares name q taken ∷ os) p = declared_at os p
+declared_at (closes name q opening ∷ os) p = declared_at os p
+declared_at (used name q want None ∷ os) p = declared_at os p
+declared_at (used name q want (Some d) ∷ os) p = or_else (declared_at os p) (if same_place q p then Some d.place else None)
 
 -- a name that is used where it stands
 abbrev pub uses : Site → Name → Place → Want → Occurrence

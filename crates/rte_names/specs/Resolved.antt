@@ -3,6 +3,7 @@ use Rattle.std.specs.Prelude.{◌≡◌, ℕ, List, Option, Some, None}
 use Rattle.std.specs.Map.{lookup}
 use Rattle.rte_tree.specs.Placed.{Prog}
 use Rattle.rte_tree.specs.declared.place.Place.{Place}
+use Rattle.rte_names.specs.Occurrences.{names, declared_at}
 use Rattle.rte_names.specs.Rules.{Fails, IsFirst, NamesAt, UsedAt}
 use Rattle.rte_names.specs.Findings.{Key, same_key, key_of}
 use Rattle.rte_names.specs.declared.named.NameFault.{NameFault}
@@ -16,6 +17,7 @@ pub record IsResolved (g : Prog Place) (ties : List (Key × Place)) : Type 0 whe
   pub named : IsNamed g
   pub tied : (place declared : Place) → lookup (same_key (key_of place)) ties ≡ Some declared → NamesAt g place declared
   pub unused : (place : Place) → lookup (same_key (key_of place)) ties ≡ None → ¬ UsedAt g place
+  pub declared : (place : Place) → lookup (same_key (key_of place)) ties ≡ declared_at (names g) place
 
 -- why the program is refused: the first rule that fails, or want of memory
 abbrev pub IsFault : Prog Place → NameFault → Type 0

@@ -2,6 +2,7 @@
 
 ghost use Rattle.std.specs.Prelude.{◌≡◌, IfOk, IfErr, IfSome, IfNone};
 ghost use Rattle.rte_tree.specs.Placed.{placed};
+ghost use Rattle.rte_names.specs.Occurrences.{names as names_of, declared_at};
 ghost use Rattle.rte_names.specs.Rules.{NamesAt, UsedAt};
 ghost use Rattle.rte_names.specs.Resolved.{IsNamed, IsFault};
 
@@ -77,6 +78,7 @@ impl Named {
     pub fn found(&self, at: &Place) -> Option<Place>
         ensures some { IfSome result (λ declared. NamesAt (placed self.now) at.now declared) }
         ensures none { IfNone result (¬ UsedAt (placed self.now) at.now) }
+        ensures declared { result ≡ declared_at (names_of (placed self.now)) at.now }
     {
         self.ties.get(&(at.line, at.col)).copied()
     }

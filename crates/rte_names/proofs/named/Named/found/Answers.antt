@@ -3,6 +3,7 @@ use Rattle.std.specs.Map.{lookup}
 use Rattle.rte_tree.specs.Placed.{Prog as Placed, placed}
 use Rattle.rte_tree.specs.declared.decl.Prog.{Prog}
 use Rattle.rte_tree.specs.declared.place.Place.{Place}
+use Rattle.rte_names.specs.Occurrences.{names, declared_at}
 use Rattle.rte_names.specs.Rules.{NamesAt, UsedAt}
 use Rattle.rte_names.specs.Findings.{same_key, key_of}
 use Rattle.rte_names.specs.Resolved.{IsResolved}
@@ -32,4 +33,10 @@ returns-clause-none c =
     let e : lookup (same_key (key_of at)) ties ≡ c.copied.result = sym (c.copied.ensures ∙ c.get.ensures.value) in
     let P : Prog → Type 0 = λ t. IfNone c.copied.result (¬ UsedAt (placed t) at) in
     let said = none_at (placed c.self.inside.prog) at (lookup (same_key (key_of at)) ties) c.copied.result (λ h. c.self.invariant.unused at h) e in
+    subst P c.self.view_is said
+
+pub returns-clause-declared : goal.returns-clause-declared
+returns-clause-declared c =
+    let P : Prog → Type 0 = λ t. c.copied.result ≡ declared_at (names (placed t)) c.args.at.now in
+    let said = c.copied.ensures ∙ c.get.ensures.value ∙ c.self.invariant.declared c.args.at.now in
     subst P c.self.view_is said
