@@ -55,13 +55,14 @@ routines (process p ∷ ds) = map (λ r. r.place) p.routines ++ routines ds
 abbrev pub one_too_many : ℕ → List Place → Option Place
 one_too_many most places = slice_get places most
 
+-- the place, where there are none
+abbrev pub at_none : {X : Type 0} → Place → List X → Option Place
+at_none place [] = Some place
+at_none place (x ∷ xs) = None
+
 -- there is no process: at the program's name
 abbrev pub no_process : Prog Place → Option Place
-no_process g = by (processes g.decls)
-  where
-    by : List (Process Place) → Option Place
-    by [] = Some g.place
-    by (p ∷ ps) = None
+no_process g = at_none g.place (processes g.decls)
 
 -- ---- words of variables
 
