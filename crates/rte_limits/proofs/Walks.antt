@@ -1,10 +1,11 @@
 -- Steps of loops that go through a list, one item after another.
-use Rattle.std.proofs.Common.{◌≡◌, ◌<◌, ◌≤◌, ◌+◌, ℕ, List, [], ◌∷◌, Option, None, length, drop, get_or, suc, refl, sym, ap, subst, ◌∙◌, add-one, arith, drop-cons}
+use Rattle.std.proofs.Common.{◌≡◌, ◌<◌, ◌≤◌, ◌+◌, ℕ, List, [], ◌∷◌, Option, None, length, drop, get_or, sym, ap, subst, ◌∙◌, add-one, drop-cons}
 use Rattle.std.proofs.lemmas.List.{drop_all}
+use Rattle.rte_tree.specs.declared.place.Place.{Place}
 use Rattle.rte_first.specs.declared.broken.Broken.{Broken}
-use Rattle.rte_first.specs.First.{IsFirstOf}
-use Rattle.rte_first.specs.Parts.{Rule, FailsAmong, noted}
-use Rattle.rte_first.proofs.Soonest.{noted-is-first}
+use Rattle.rte_first.specs.First.{IsFirstOf, Either, sooner}
+use Rattle.rte_first.specs.Parts.{Rule, FailsAmong, blame, noted}
+use Rattle.rte_first.proofs.Soonest.{both, noted-is-first}
 
 pub drop-item : {X : Type 0} (xs : List X) (i : ℕ) (x : X) → i < length xs → x ≡ get_or xs i x → drop i xs ≡ x ∷ drop (i + 1) xs
 drop-item xs i x below item =
@@ -37,3 +38,11 @@ module _ {X B : Type 0} (rules : List (Rule B)) (parts : List X → List B → L
 -- What the pass finds is the first failure.
 pub first-noted : {X : Type 0} (rules : List (Rule X)) (parts : List X) (first : Option Broken) → first ≡ noted rules None parts → IsFirstOf (FailsAmong rules parts) first
 first-noted rules parts first e = subst (IsFirstOf (FailsAmong rules parts)) (sym e) (noted-is-first rules parts)
+
+-- The sooner of two first failures is the first of both.
+pub first-sooner : (f g : ℕ → Place → Type 0) (x y first : Option Broken) → first ≡ sooner x y → IsFirstOf f x → IsFirstOf g y → IsFirstOf (Either f g) first
+first-sooner f g x y first e h k = subst (IsFirstOf (Either f g)) (sym e) (both f g x y h k)
+
+-- What is known before one more rule is tried, and what the rule says, may be replaced by what they are.
+pub then : (number : ℕ) (x y first : Option Broken) (p q : Option Place) → first ≡ blame x number p → x ≡ y → p ≡ q → first ≡ blame y number q
+then number x y first p q e is says = e ∙ (λ i. blame (is i) number (says i))

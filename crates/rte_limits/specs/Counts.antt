@@ -1,10 +1,10 @@
 -- The rules for how much a program may have.
-use Rattle.std.specs.Prelude.{ℕ, zero, suc, ◌+◌, Bool, true, false, List, [], ◌∷◌, ◌++◌, map, Option, Some, None, ℤ, ◌-ℤ◌, slice_get, nat_lt, if◌then◌else◌}
-use Rattle.rte_tree.specs.Placed.{Constant, Kind, scalar, array, Var, Routine, Member, variable_member, condition_member, Monitor, Process, Decl, constant, device, event, routine, monitor, process, Prog}
+use Rattle.std.specs.Prelude.{ℕ, ◌+◌, List, [], ◌∷◌, ◌++◌, map, Option, Some, None, ◌-ℤ◌, slice_get, nat_lt, if◌then◌else◌}
+use Rattle.rte_tree.specs.Placed.{Kind, scalar, array, Var, Member, variable_member, condition_member, Monitor, Decl, constant, device, event, routine, monitor, process, Prog}
 use Rattle.rte_tree.specs.declared.place.Place.{Place}
 use Rattle.rte_source.specs.Store.{up_to}
 use Rattle.rte_declared.specs.Values.{Worth}
-use Rattle.rte_limits.specs.Processes.{processes, events}
+use Rattle.rte_limits.specs.Processes.{processes}
 
 -- the places of the names of the processes, monitors and devices
 abbrev pub process_places : List (Decl Place) → List Place

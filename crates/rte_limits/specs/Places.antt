@@ -1,5 +1,5 @@
 -- The places of the names of a program's things, by kind.
-use Rattle.std.specs.Prelude.{List, [], ◌++◌}
+use Rattle.std.specs.Prelude.{List, ◌++◌}
 use Rattle.rte_tree.specs.Placed.{Decl, Prog}
 use Rattle.rte_tree.specs.declared.place.Place.{Place}
 use Rattle.rte_limits.specs.Processes as of_processes

@@ -33,7 +33,8 @@ fn bad_start(declarations: &Declarations<'_>, activation: &Activation) -> Option
 {
     match activation {
         Activation::Periodic {
-            first: Some(start), ..
+            first: Some(start),
+            ..
         } => declarations.out_of(0, MOST_TICKS, start),
         Activation::Periodic { first: None, .. } | Activation::AtEvent { .. } => None,
     }

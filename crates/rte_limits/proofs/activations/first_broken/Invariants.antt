@@ -1,4 +1,4 @@
-use Rattle.std.proofs.Common.{◌≡◌, List, map, drop, None}
+use Rattle.std.proofs.Common.{◌≡◌, map, drop, None}
 use Rattle.rte_tree.specs.Placed.{placed, placed_decl}
 use Rattle.rte_first.specs.Parts.{noted}
 use Rattle.rte_limits.specs.Processes.{processes}

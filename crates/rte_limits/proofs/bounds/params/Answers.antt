@@ -1,4 +1,4 @@
-use Rattle.std.proofs.Common.{List, map, refl, arith}
+use Rattle.std.proofs.Common.{map, refl, arith}
 use Rattle.rte_tree.specs.Placed.{placed, placed_param, placed_scalar}
 use Rattle.rte_limits.specs.Types.{scalar_bounds, params_bounds}
 use Rattle.rte_limits.specs.Rules.{bounds_rules}

@@ -1,4 +1,4 @@
-use Rattle.std.proofs.Common.{List, map, drop}
+use Rattle.std.proofs.Common.{map, drop}
 use Rattle.rte_tree.specs.Placed.{placed, placed_routine}
 use Rattle.rte_limits.specs.Types.{routines_bounds}
 use Rattle.rte_limits.specs.Rules.{bounds_rules}
