@@ -1,10 +1,10 @@
 -- The rules for how much a program may have.
-use Rattle.std.specs.Prelude.{ℕ, zero, suc, ◌+◌, Bool, true, false, List, [], ◌∷◌, ◌++◌, map, Option, Some, None, ℤ, ◌-ℤ◌, slice_get, nat_lt, if◌then◌else◌}
-use Rattle.rte_tree.specs.Placed.{Constant, Kind, scalar, array, Var, Routine, Member, variable_member, condition_member, Monitor, Process, Decl, constant, device, event, routine, monitor, process, Prog}
+use Rattle.std.specs.Prelude.{ℕ, ◌+◌, List, [], ◌∷◌, ◌++◌, map, Option, Some, None, ◌-ℤ◌, slice_get, nat_lt, if◌then◌else◌}
+use Rattle.rte_tree.specs.Placed.{Kind, scalar, array, Var, Member, variable_member, condition_member, Monitor, Decl, constant, device, event, routine, monitor, process, Prog}
 use Rattle.rte_tree.specs.declared.place.Place.{Place}
 use Rattle.rte_source.specs.Store.{up_to}
 use Rattle.rte_declared.specs.Values.{Worth}
-use Rattle.rte_limits.specs.Processes.{processes, events}
+use Rattle.rte_limits.specs.Processes.{processes}
 
 -- the places of the names of the processes, monitors and devices
 abbrev pub process_places : List (Decl Place) → List Place
@@ -55,13 +55,14 @@ routines (process p ∷ ds) = map (λ r. r.place) p.routines ++ routines ds
 abbrev pub one_too_many : ℕ → List Place → Option Place
 one_too_many most places = slice_get places most
 
+-- the place, where there are none
+abbrev pub at_none : {X : Type 0} → Place → List X → Option Place
+at_none place [] = Some place
+at_none place (x ∷ xs) = None
+
 -- there is no process: at the program's name
 abbrev pub no_process : Prog Place → Option Place
-no_process g = by (processes g.decls)
-  where
-    by : List (Process Place) → Option Place
-    by [] = Some g.place
-    by (p ∷ ps) = None
+no_process g = at_none g.place (processes g.decls)
 
 -- ---- words of variables
 

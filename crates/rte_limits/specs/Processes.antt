@@ -1,7 +1,7 @@
 -- The rules for frames, events and the numbers of handlers.
-use Rattle.std.specs.Prelude.{ℕ, suc, zero, Bool, true, false, not, ◌||◌, List, [], ◌∷◌, ◌++◌, map, Option, Some, None, ℤ, nat_eq, if◌then◌else◌}
+use Rattle.std.specs.Prelude.{ℕ, suc, Bool, false, ◌||◌, List, [], ◌∷◌, ◌++◌, Option, Some, None, ℤ, nat_eq, if◌then◌else◌}
 use Rattle.rte_num.specs.Words.{same}
-use Rattle.rte_tree.specs.Placed.{Constant, Activation, periodic, at_event, Handler, Process, Decl, constant, device, event, routine, monitor, process, Prog}
+use Rattle.rte_tree.specs.Placed.{Constant, Activation, periodic, at_event, Handler, Process, Decl, constant, device, event, routine, monitor, process}
 use Rattle.rte_tree.specs.declared.place.Place.{Place}
 use Rattle.rte_names.specs.Reach.{same_place}
 use Rattle.rte_declared.specs.Values.{Worth, constant_place, is_within, out_of}

@@ -1,6 +1,6 @@
 -- The rules for the bounds of types.
-use Rattle.std.specs.Prelude.{Bool, true, false, List, [], ◌∷◌, Option, Some, None, ℤ, pos, ◌+ℤ◌, int_le, int_lt, if◌then◌else◌}
-use Rattle.rte_tree.specs.Placed.{Constant, Scalar, int, boolean, subrange, Kind, scalar, array, Var, Param, Routine, Member, variable_member, condition_member, Monitor, Process, Decl, constant, device, event, routine, monitor, process, Prog}
+use Rattle.std.specs.Prelude.{Bool, true, false, List, [], ◌∷◌, Option, Some, None, pos, ◌+ℤ◌, int_le, int_lt, if◌then◌else◌}
+use Rattle.rte_tree.specs.Placed.{Constant, Scalar, int, boolean, subrange, Kind, scalar, array, Var, Param, Routine, Member, variable_member, condition_member, Decl, constant, device, event, routine, monitor, process}
 use Rattle.rte_tree.specs.declared.place.Place.{Place}
 use Rattle.rte_declared.specs.Values.{Worth, constant_place}
 
@@ -40,10 +40,13 @@ abbrev pub routines_bounds : List (Routine Place) → List Bounds → List Bound
 routines_bounds [] more = more
 routines_bounds (r ∷ rs) more = routine_bounds r (routines_bounds rs more)
 
+abbrev pub member_bounds : Member Place → List Bounds → List Bounds
+member_bounds (variable_member v) more = kind_bounds v.kind more
+member_bounds (condition_member name p) more = more
+
 abbrev pub members_bounds : List (Member Place) → List Bounds → List Bounds
 members_bounds [] more = more
-members_bounds (variable_member v ∷ ms) more = kind_bounds v.kind (members_bounds ms more)
-members_bounds (condition_member name p ∷ ms) more = members_bounds ms more
+members_bounds (m ∷ ms) more = member_bounds m (members_bounds ms more)
 
 abbrev pub decl_bounds : Decl Place → List Bounds → List Bounds
 decl_bounds (constant name p c) more = more
