@@ -1,18 +1,17 @@
 -- Completeness follows from what each status says.
-use Rattle.std.proofs.Common.{◌≡◌, inl, inr, ℕ, Bool, true, false, ap, sym, ◌∙◌, arith}
+use Rattle.std.proofs.Common.{◌≡◌, inl, inr, ℕ, Bool, true, false, ◌∙◌, arith}
 use Rattle.std.specs.Bool.{OnTrue}
 use Rattle.std.proofs.lemmas.Bool.{cases_lt, cases_eq}
-use Rattle.rte_cli.specs.Due.{Outcome}
 use Rattle.rte_cli.specs.Answers.{IsWhole, Outside, due_for, Went, Completes}
 use Rattle.rte_cli.specs.Words.{Row}
+use Rattle.rte_cli.proofs.Texts.{TextLaws, only_whole}
 
-told : (row : Row) (before now : Outside) (status : ℕ) → Went true row before now status → Completes row before now status
-told row before now status w o due_is all no_program no_script no_store no_put =
+told : TextLaws → (row : Row) (before now : Outside) (status : ℕ) → Went true row before now status → Completes row before now status
+told laws row before now status w o due_is all no_program no_script no_store no_put =
     elim (cases_lt status 6) [
       | inl below ↦
           let done : IsWhole (due_for row before) status before.taken now.taken (now.held row.image) = w.whole below in
-          let same : done.outcome ≡ o = cc (sym done.is_due ∙ due_is) in
-          inl (done.status_is ∙ (ap (λ (x : Outcome). x.status) same ∙ all))
+          inl (done.status_is ∙ only_whole laws (before.held row.program) (before.held row.script) o done.outcome due_is all done.is_due)
       | inr above ↦ elim (cases_eq status 6) [
         | inl six ↦ absurd (elim (w.read_fault six) [ inl p ↦ no_program p | inr s ↦ no_script s ])
         | inr not6 ↦ elim (cases_eq status 7) [
@@ -22,6 +21,6 @@ told row before now status w o due_is all no_program no_script no_store no_put =
       ]
     ]
 
-pub completes : (tells : Bool) (row : Row) (before now : Outside) (status : ℕ) → Went tells row before now status → OnTrue tells (Completes row before now status)
-completes true row before now status w = told row before now status w
-completes false row before now status w = tt
+pub completes : TextLaws → (tells : Bool) (row : Row) (before now : Outside) (status : ℕ) → Went tells row before now status → OnTrue tells (Completes row before now status)
+completes laws true row before now status w = told laws row before now status w
+completes laws false row before now status w = tt

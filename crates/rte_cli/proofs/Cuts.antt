@@ -1,5 +1,5 @@
 -- What a call that was cut off says, by what its steps say.
-use Rattle.std.proofs.Common.{◌≡◌, ◌≤◌, ◌⊎◌, ℕ, List, Option, Some, None, Bool, true, false, inl, inr, ◌∙◌, refl, arith, length}
+use Rattle.std.proofs.Common.{◌≡◌, ◌≤◌, ◌⊎◌, ℕ, List, Option, Some, None, Bool, true, false, inl, inr, refl, arith, length}
 use Rattle.std.specs.Prelude.{IsSomeAnd, IfSome, nat_le}
 use Rattle.std.specs.Bool.{OnTrue}
 use Rattle.std.proofs.lemmas.Bool.{le-leb}
@@ -8,7 +8,7 @@ use Rattle.rte_form.specs.Target.{named_image_of}
 use Rattle.rte_image.specs.Bytes.{bytes_of}
 use Rattle.rte_io.specs.Outside.{Rose, AppendsFront}
 use Rattle.rte_source.specs.Puts.{PutProg}
-use Rattle.rte_cli.specs.Due.{Outcome, done, due_by_script}
+use Rattle.rte_cli.specs.Due.{Outcome, done, IsDueByScript}
 use Rattle.rte_cli.specs.Answers.{IsCut, StoreFailed}
 
 -- a count that rose since a later state rose since an earlier one
@@ -17,18 +17,18 @@ rose_since before then now less rose = omega (arith, less, rose)
 
 -- for a script that says an end, all is due
 pub done_is_due : (f : PutProg) (held : Option (List ℕ)) (end : ℕ) → IsSomeAnd held (λ text. length text ≤ 16777216) → IsSomeAnd held (λ text. Some end ≡ end_of text)
-    → due_by_script f held ≡ Some (done f end)
+    → IsDueByScript f held (done f end)
 done_is_due f None end short read = absurd short
 done_is_due f (Some text) end short read =
     let fits : nat_le (length text) 16777216 ≡ true = le-leb _ _ short in
     rw (fits, ← read) refl
 
-cut_of_done : (f : PutProg) (end : ℕ) (wanted : Option Outcome) (taken taken' stored : Option (List ℕ)) (write0 write write' faults faults' : ℕ)
-    → wanted ≡ Some (done f end) → write0 ≤ write → AppendsFront taken taken' (done f end).text
-    → StoreFailed true write write' taken taken' faults faults' stored (bytes_of (named_image_of f)) → IsCut wanted taken taken' stored write0 write' faults faults'
-cut_of_done f end wanted taken taken' stored write0 write write' faults faults' due less front (inl (rose, nothing)) =
+cut_of_done : (f : PutProg) (end : ℕ) (Due : Outcome → Type 0) (taken taken' stored : Option (List ℕ)) (write0 write write' faults faults' : ℕ)
+    → Due (done f end) → write0 ≤ write → AppendsFront taken taken' (done f end).text
+    → StoreFailed true write write' taken taken' faults faults' stored (bytes_of (named_image_of f)) → IsCut Due taken taken' stored write0 write' faults faults'
+cut_of_done f end Due taken taken' stored write0 write write' faults faults' due less front (inl (rose, nothing)) =
     record { outcome = done f end; is_due = due; put = front; cause = inl (refl, rose_since write0 write write' less rose, nothing) }
-cut_of_done f end wanted taken taken' stored write0 write write' faults faults' due less front (inr (rose, kept)) =
+cut_of_done f end Due taken taken' stored write0 write write' faults faults' due less front (inr (rose, kept)) =
     record { outcome = done f end; is_due = due; put = front; cause = inr (rose, kept) }
 
 -- storing and telling was cut off
@@ -36,9 +36,9 @@ pub cut_is : (tells : Bool) (f : PutProg) (end : ℕ) (held taken taken' stored 
     → OnTrue tells (IsSomeAnd held (λ text. length text ≤ 16777216)) → OnTrue tells (IsSomeAnd held (λ text. Some end ≡ end_of text))
     → write0 ≤ write → AppendsFront taken taken' (done f end).text
     → StoreFailed tells write write' taken taken' faults faults' stored (bytes_of (named_image_of f))
-    → OnTrue tells (IsCut (due_by_script f held) taken taken' stored write0 write' faults faults')
+    → OnTrue tells (IsCut (IsDueByScript f held) taken taken' stored write0 write' faults faults')
 cut_is true f end held taken taken' stored write0 write write' faults faults' short read less front failed =
-    cut_of_done f end (due_by_script f held) taken taken' stored write0 write write' faults faults' (done_is_due f held end short read) less front failed
+    cut_of_done f end (IsDueByScript f held) taken taken' stored write0 write write' faults faults' (done_is_due f held end short read) less front failed
 cut_is false f end held taken taken' stored write0 write write' faults faults' short read less front failed = tt
 
 pub on_true_implies : (tells : Bool) (P Q : Type 0) → (P → OnTrue tells Q) → OnTrue tells (P → Q)
@@ -46,11 +46,11 @@ on_true_implies true P Q h = h
 on_true_implies false P Q h = tt
 
 -- the same from an earlier state, for what is due there
-pub cut_since : (wanted wanted' : Option Outcome) (taken taken' stored : Option (List ℕ)) (write0 write write' faults faults' : ℕ) → wanted' ≡ wanted → write0 ≤ write
-    → IsCut wanted taken taken' stored write write' faults faults' → IsCut wanted' taken taken' stored write0 write' faults faults'
-cut_since wanted wanted' taken taken' stored write0 write write' faults faults' same less c = record {
+pub cut_since : (Due Due' : Outcome → Type 0) (taken taken' stored : Option (List ℕ)) (write0 write write' faults faults' : ℕ) → ((o : Outcome) → Due o → Due' o) → write0 ≤ write
+    → IsCut Due taken taken' stored write write' faults faults' → IsCut Due' taken taken' stored write0 write' faults faults'
+cut_since Due Due' taken taken' stored write0 write write' faults faults' same less c = record {
   outcome = c.outcome;
-  is_due = same ∙ c.is_due;
+  is_due = same c.outcome c.is_due;
   put = c.put;
   cause = since c.cause;
 }

@@ -1,6 +1,7 @@
 pub mod Complete
 pub mod Cuts
-pub mod Four
-pub mod Returns
 pub mod Done
+pub mod Four
 pub mod Late
+pub mod Returns
+pub mod Texts

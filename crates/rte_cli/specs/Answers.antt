@@ -2,7 +2,7 @@
 use Rattle.std.specs.Prelude.{◌≡◌, ◌≢◌, ◌<◌, ◌≤◌, ◌⊎◌, ℕ, Bool, List, Option, Some, IfSome, codes}
 use Rattle.std.specs.Bool.{OnTrue}
 use Rattle.rte_io.specs.Outside.{Rose, AllStay, OthersStay, Appends, AppendsFront}
-use Rattle.rte_cli.specs.Due.{Outcome, due, ReachesScript}
+use Rattle.rte_cli.specs.Due.{Outcome, IsDue, ReachesScript}
 use Rattle.rte_cli.specs.Words.{Row}
 
 -- the bytes that are due, if any are, are stored
@@ -10,18 +10,18 @@ abbrev pub Stores : Option (List ℕ) → Option (List ℕ) → Type 0
 Stores wanted held = IfSome wanted (λ bytes. held ≡ Some bytes)
 
 -- the status is the one that is due, all that is due was put, and the image that is due is stored
-pub record IsWhole (wanted : Option Outcome) (status : ℕ) (taken taken' stored : Option (List ℕ)) : Type 0 where
+pub record IsWhole (Due : Outcome → Type 0) (status : ℕ) (taken taken' stored : Option (List ℕ)) : Type 0 where
   pub outcome : Outcome
-  pub is_due : wanted ≡ Some outcome
+  pub is_due : Due outcome
   pub status_is : status ≡ outcome.status
   pub put : Appends taken taken' outcome.text
   pub image : Stores outcome.image stored
 
 -- a front of what is due was put, and this is why no more was: the store was due and failed, and nothing was put; or a put
 -- failed, and the image that is due is stored
-pub record IsCut (wanted : Option Outcome) (taken taken' stored : Option (List ℕ)) (write write' faults faults' : ℕ) : Type 0 where
+pub record IsCut (Due : Outcome → Type 0) (taken taken' stored : Option (List ℕ)) (write write' faults faults' : ℕ) : Type 0 where
   pub outcome : Outcome
-  pub is_due : wanted ≡ Some outcome
+  pub is_due : Due outcome
   pub put : AppendsFront taken taken' outcome.text
   pub cause : ((outcome.status ≡ 0) × Rose write write' × (taken' ≡ taken)) ⊎ (Rose faults faults' × Stores outcome.image stored)
 
@@ -31,8 +31,8 @@ StoreFailed tells write write' taken taken' faults faults' stored bytes =
     (Rose write write' × (taken' ≡ taken)) ⊎ (Rose faults faults' × OnTrue tells (stored ≡ Some bytes))
 
 -- nothing is stored where another status is due
-abbrev pub NothingStored : Option Outcome → (held held' : List ℕ → Option (List ℕ)) → Type 0
-NothingStored wanted held held' = IfSome wanted (λ outcome. outcome.status ≢ 0 → AllStay held held')
+abbrev pub NothingStored : (Outcome → Type 0) → (held held' : List ℕ → Option (List ℕ)) → Type 0
+NothingStored Due held held' = (outcome : Outcome) → Due outcome → outcome.status ≢ 0 → AllStay held held'
 
 -- what the outside holds: by name the bytes and the counts of faults of reads and writes, and of the sink the bytes taken
 -- and the count of faults
@@ -44,8 +44,8 @@ pub record Outside : Type 0 where
   pub put_faults : ℕ
 
 -- what is due for a row
-abbrev pub due_for : Row → Outside → Option Outcome
-due_for row before = due (before.held row.program) (before.held row.script)
+abbrev pub due_for : Row → Outside → Outcome → Type 0
+due_for row before = IsDue (before.held row.program) (before.held row.script)
 
 -- What a call of a row did. What is said of bytes is said where the files tell theirs.
 pub record Went (tells : Bool) (row : Row) (before now : Outside) (status : ℕ) : Type 0 where
@@ -69,7 +69,7 @@ pub record Went (tells : Bool) (row : Row) (before now : Outside) (status : ℕ)
 -- where the row is due whole and no fault is counted, the status is 0, or memory was missing
 abbrev pub Completes : Row → (before now : Outside) → (status : ℕ) → Type 0
 Completes row before now status =
-    (outcome : Outcome) → due_for row before ≡ Some outcome → outcome.status ≡ 0
+    (outcome : Outcome) → due_for row before outcome → outcome.status ≡ 0
     → ¬ Rose (before.read_faults row.program) (now.read_faults row.program)
     → ¬ Rose (before.read_faults row.script) (now.read_faults row.script)
     → ¬ Rose (before.write_faults row.image) (now.write_faults row.image)

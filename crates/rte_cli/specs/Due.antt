@@ -1,13 +1,17 @@
--- What a call comes to, as a function of what the files of the program and of the script hold.
-use Rattle.std.specs.Prelude.{◌≡◌, ◌++◌, ℕ, true, List, Option, Some, None, if◌then◌else◌, nat_le, length, codes, IsSomeAnd}
-use Rattle.rte_form.specs.Reading.{form_of}
-use Rattle.rte_form.specs.Report.{is_timely, report_of}
+-- What a call comes to, by what the files of the program and of the script hold.
+use Rattle.std.specs.Prelude.{◌≡◌, ◌++◌, ℕ, List, Option, Some, None, if◌then◌else◌, nat_le, length, codes, decimal, IsSomeAnd}
+use Rattle.rte_form.specs.Reading.{IsForm}
+use Rattle.rte_form.specs.Report.{report_of}
 use Rattle.rte_form.specs.Script.{end_of}
 use Rattle.rte_form.specs.Target.{names_of, image_of, named_image_of, until}
+use Rattle.rte_form.specs.WellFormed.{IsTimely}
 use Rattle.rte_image.specs.Bytes.{bytes_of}
 use Rattle.rte_log.specs.Line.{log_of}
+use Rattle.rte_read.specs.Source.{IsTreeOf, IsSourceFault, start}
 use Rattle.rte_source.specs.Puts.{PutProg}
 use Rattle.rte_target.specs.Run.{events}
+use Rattle.rte_tree.specs.declared.place.Place.{Place}
+use Rattle.rte_tree.specs.Placed.{Prog}
 
 -- the status, the bytes that are put, and the bytes that are stored, if any are
 pub record Outcome : Type 0 where
@@ -22,24 +26,32 @@ longest_program = 1048576
 abbrev pub longest_script : ℕ
 longest_script = 16777216
 
--- the program of a text, if it is a program text
-abbrev pub program_in : List ℕ → Option PutProg
-program_in text = if nat_le (length text) longest_program then form_of text else None
+-- the text has a tree, and the tree is that program of the form
+pub record IsProgramText (text : List ℕ) (f : PutProg) : Type 0 where
+  pub tree : Prog Place
+  pub grown : IsTreeOf text tree
+  pub formed : IsForm tree f
+
+-- the text has a tree, and the tree is no program of the form
+pub record IsFormless (text : List ℕ) : Type 0 where
+  pub tree : Prog Place
+  pub grown : IsTreeOf text tree
+  pub formless : (f : PutProg) → ¬ IsForm tree f
 
 -- the end that a text says, if it is a script
 abbrev pub end_in : List ℕ → Option ℕ
 end_in text = if nat_le (length text) longest_script then end_of text else None
 
--- the fault line of a text that is too long, or else no program text
-abbrev pub source_fault : List ℕ → List ℕ
-source_fault text = if nat_le (length text) longest_program then codes "E9 1:1\n" else codes "E4 1:1\n"
+-- the line of a fault of the program's text
+abbrev pub fault_line : ℕ → Place → List ℕ
+fault_line number place = codes "E" ++ (decimal number ++ (codes " " ++ (decimal place.line ++ (codes ":" ++ (decimal place.col ++ codes "\n")))))
 
 -- the fault line of a text that is too long, or else no script
 abbrev pub script_fault : List ℕ → List ℕ
 script_fault text = if nat_le (length text) longest_script then codes "S1 1\n" else codes "S6 0\n"
 
-abbrev pub bad_source : List ℕ → Outcome
-bad_source text = record { status = 2; text = source_fault text; image = None }
+abbrev pub refused : ℕ → Place → Outcome
+refused number place = record { status = 2; text = fault_line number place; image = None }
 
 -- the report of a program that is not timely; nothing is stored
 abbrev pub late : PutProg → Outcome
@@ -66,15 +78,20 @@ abbrev pub due_by_script : PutProg → Option (List ℕ) → Option Outcome
 due_by_script f None = None
 due_by_script f (Some text) = Some (due_by_end f text (end_in text))
 
-abbrev pub due_by_program : List ℕ → Option PutProg → Option (List ℕ) → Option Outcome
-due_by_program text None script = Some (bad_source text)
-due_by_program text (Some f) script = if is_timely f then due_by_script f script else Some (late f)
+abbrev pub IsDueByScript : PutProg → Option (List ℕ) → Outcome → Type 0
+IsDueByScript f script outcome = due_by_script f script ≡ Some outcome
 
 -- what is due, by what the two files hold
-abbrev pub due : Option (List ℕ) → Option (List ℕ) → Option Outcome
-due None script = None
-due (Some text) script = due_by_program text (program_in text) script
+pub data IsDue (program script : Option (List ℕ)) (outcome : Outcome) : Type 0 where
+  -- the program's text has a fault: the line of that fault
+  source_fault : (text : List ℕ) (number : ℕ) (place : Place) → program ≡ Some text → IsSourceFault text number place → outcome ≡ refused number place → IsDue program script outcome
+  -- its tree is no program of the form: fault 9, at the first byte
+  no_form : (text : List ℕ) → program ≡ Some text → IsFormless text → outcome ≡ refused 9 start → IsDue program script outcome
+  -- its program is not timely: the report
+  untimely : (text : List ℕ) (f : PutProg) → program ≡ Some text → IsProgramText text f → ¬ IsTimely f → outcome ≡ late f → IsDue program script outcome
+  -- its program is timely: the fault line of a text that is no script, or the report and the log
+  timely : (text : List ℕ) (f : PutProg) → program ≡ Some text → IsProgramText text f → IsTimely f → IsDueByScript f script outcome → IsDue program script outcome
 
 -- no status that comes before the reading of the script is due
 abbrev pub ReachesScript : Option (List ℕ) → Type 0
-ReachesScript program = IsSomeAnd program (λ text. IsSomeAnd (program_in text) (λ f. is_timely f ≡ true))
+ReachesScript program = IsSomeAnd program (λ text. (f : PutProg) × IsProgramText text f × IsTimely f)

@@ -1,7 +1,6 @@
 -- What status 0 says: of the text and the script that were read, of what was stored and put, and of every run of the
 -- stored image.
 use Rattle.std.specs.Prelude.{Option, length, ◌≡◌, ◌≤◌, ◌++◌, ℕ, List, Some}
-use Rattle.rte_form.specs.Reading.{form_of}
 use Rattle.rte_form.specs.Report.{report_of}
 use Rattle.rte_form.specs.Script.{IsEndText}
 use Rattle.rte_form.specs.Target.{cost_of, image_of, named_image_of, names_of, until}
@@ -16,7 +15,7 @@ use Rattle.rte_source.specs.Puts.{PutProg, put_prog, put_script}
 use Rattle.rte_source.specs.Source.{EndsWithin, IsSourceRun}
 use Rattle.rte_target.specs.Run.{events}
 use Rattle.rte_cli.specs.Answers.{Outside}
-use Rattle.rte_cli.specs.Due.{longest_program}
+use Rattle.rte_cli.specs.Due.{longest_program, IsProgramText}
 use Rattle.rte_cli.specs.Words.{Row}
 
 -- the greatest end of a script
@@ -36,7 +35,7 @@ pub record IsDone (row : Row) (before now : Outside) : Type 0 where
   pub text : List ℕ
   pub held : before.held row.program ≡ Some text
   pub program : PutProg
-  pub written : form_of text ≡ Some program
+  pub written : IsProgramText text program
   pub well_formed : IsPutProg program
   pub timely : IsTimely program
   -- the printed bound is the least solution of the recurrence within the frame
@@ -57,5 +56,5 @@ pub record IsUnsolved (held : Option (List ℕ)) : Type 0 where
   pub is_held : held ≡ Some text
   pub short : length text ≤ longest_program
   pub program : PutProg
-  pub written : form_of text ≡ Some program
+  pub written : IsProgramText text program
   pub unsolved : (r : ℕ) → ¬ Solves (tasks_of program) 0 r

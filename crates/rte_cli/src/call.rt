@@ -7,7 +7,8 @@ ghost use Rattle.rte_cli.specs.Headline.{IsDone, IsUnsolved};
 ghost use Rattle.rte_cli.specs.Words.{row_of};
 
 use crate::go::carry_out;
-use rte_form::law::{ends_are_written, forms_are_well_formed};
+use crate::law::one_program;
+use rte_form::law::ends_are_written;
 use rte_io::{Files, Sink};
 use rte_puts::law::{
     activations_end_within_their_bound, cost_is_the_least_bound, events_are_a_source_run,
@@ -50,7 +51,7 @@ pub fn rte<F: Files, O: Sink>(alloc: Global, words: &[String], files: &mut F, ou
     ensures late { IfSome (row_of words.now) (λ row. OnTrue F.tells (result < 6 →
         (result ≡ 3) ↔ IsUnsolved (F.held files.old row.program))) }
 {
-    forms_are_well_formed();
+    one_program();
     ends_are_written();
     events_are_a_source_run();
     activations_end_within_their_bound();

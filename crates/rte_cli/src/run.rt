@@ -7,7 +7,8 @@ ghost use Rattle.rte_cli.specs.Due.{done};
 ghost use Rattle.rte_cli.specs.Answers.{StoreFailed};
 ghost use Rattle.rte_form.specs.Form.{program_of};
 ghost use Rattle.rte_form.specs.Target.{named_image_of};
-ghost use Rattle.rte_form.specs.WellFormed.{IsPutProg, IsTimely};
+ghost use Rattle.rte_form.specs.WellFormed.{IsPutProg};
+ghost use Rattle.rte_form.specs.Report.{bound_in};
 ghost use Rattle.rte_image.specs.Bytes.{bytes_of};
 ghost use Rattle.rte_machine.specs.Standing.{IsOf, log_to};
 
@@ -73,12 +74,13 @@ pub fn run_program<F: Files, O: Sink>(
     alloc: Global,
     name: &str,
     form: &Form,
+    bound: u64,
     end: u64,
     files: &mut F,
     out: &mut O,
 ) -> u8
     requires keeps { IsPutProg (program_of form.now) }
-    requires timely { IsTimely (program_of form.now) }
+    requires bound { Some bound ≡ bound_in (program_of form.now) }
     requires within { end ≤ 1000000000 }
     ensures range { (result ≡ 0) ⊎ ((result ≡ 7) ⊎ (result ≡ 8)) }
     ensures whole { result ≡ 0 → Appends (O.taken out.old) (O.taken out.new) (done (program_of form.now) end).text }
@@ -88,7 +90,7 @@ pub fn run_program<F: Files, O: Sink>(
     ensures nothing { result ≡ 8 → O.taken out.new ≡ O.taken out.old }
     ensures others { OthersStay (F.held files.old) (F.held files.new) name.now }
 {
-    let text = match report(alloc, form) {
+    let text = match report(alloc, form, Some(bound)) {
         Ok(text) => text,
         Err(_) => return 8,
     };

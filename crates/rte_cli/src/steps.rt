@@ -1,47 +1,106 @@
 //! The steps of a call.
 
-ghost use Rattle.std.specs.Prelude.{◌≡◌, ◌≢◌, ◌≤◌, ◌<◌, ℕ, List, IsSomeAnd, IfOk, IfSome, length};
+ghost use Rattle.std.specs.Prelude.{◌≡◌, ◌≢◌, ◌≤◌, ◌<◌, ℕ, List, IsSomeAnd, IfOk, IfErr, IfSome, length};
 ghost use Rattle.std.specs.Bool.{OnTrue};
-ghost use Rattle.std.specs.Option.{option_map};
 ghost use Rattle.rte_io.specs.Outside.{Rose, AllStay, NoneFell, Appends, AppendsFront};
 ghost use Rattle.rte_form.specs.Form.{program_of};
-ghost use Rattle.rte_form.specs.Reading.{form_of};
 ghost use Rattle.rte_form.specs.Script.{end_of};
 ghost use Rattle.rte_form.specs.WellFormed.{IsPutProg};
+ghost use Rattle.rte_cli.specs.Due.{IsProgramText};
+ghost use Rattle.rte_cli.specs.Refused.{IsTextFault, IsRefusalOf, OnFault};
 
 use rte_form::{Form, read_end, read_form};
 use rte_io::{Files, ReadFault, Sink, SinkFailed};
+use rte_read::{SourceFault, read};
+use rte_tree::Place;
 use std::alloc::Global;
 
 /// The most bytes of a program text.
 const LONGEST_PROGRAM: usize = 1_048_576;
 
+/// The numbers of the faults of a text that is too long, and of one that is not of the form.
+const TOO_LONG: u8 = 4;
+
+const FORMLESS: u8 = 9;
+
+/// Where a fault of a whole text stands.
+const START: Place = Place { line: 1, col: 1 };
+
 /// The most bytes of a script.
 const LONGEST_SCRIPT: usize = 16_777_216;
 
-/// The program that the file holds, and nothing where it holds none.
-pub fn read_program<F: Files>(
-    alloc: Global,
-    files: &mut F,
-    name: &str,
-) -> Result<Option<Form>, ReadFault>
-    ensures short { IfOk result (λ form. OnTrue F.tells (IsSomeAnd (F.held files.old name.now) (λ text. length text ≤ 1048576))) }
-    ensures read { IfOk result (λ form. OnTrue F.tells (IsSomeAnd (F.held files.old name.now) (λ text. option_map program_of form ≡ form_of text))) }
-    ensures keeps { IfOk result (λ form. IfSome form (λ f. IsPutProg (program_of f))) }
-    ensures long { result ≡ Err ReadFault.Long → OnTrue F.tells (IsSomeAnd (F.held files.old name.now) (λ text. 1048576 < length text)) }
-    ensures failed { result ≡ Err ReadFault.Failed → Rose (F.read_faults files.old name.now) (F.read_faults files.new name.now) }
+/// Why no program was read.
+#[derive(Debug, Drop)]
+pub enum Refusal {
+    /// The file holds no program text: the number and the place of its fault.
+    Fault { number: u8, place: Place },
+    /// The read failed.
+    Failed,
+    /// There was not enough memory.
+    Memory,
+}
+
+impl From<SourceFault> for Refusal {
+    ghost use Rattle.std.specs.Prelude.{◌≡◌};
+    ghost use Rattle.rte_cli.specs.Refused.{told};
+
+    ghost from_gives = { λ fault refusal. refusal ≡ told fault };
+
+    fn from(fault: SourceFault) -> Self {
+        match fault {
+            SourceFault::Fault { number, place } => Refusal::Fault { number, place },
+            SourceFault::Memory => Refusal::Memory,
+        }
+    }
+}
+
+impl From<ReadFault> for Refusal {
+    ghost use Rattle.std.specs.Prelude.{◌≡◌};
+    ghost use Rattle.rte_cli.specs.Refused.{read_told};
+
+    ghost from_gives = { λ fault refusal. refusal ≡ read_told fault };
+
+    fn from(fault: ReadFault) -> Self {
+        match fault {
+            ReadFault::Long => Refusal::Fault {
+                number: TOO_LONG,
+                place: START,
+            },
+            ReadFault::Failed => Refusal::Failed,
+            ReadFault::Memory => Refusal::Memory,
+        }
+    }
+}
+
+/// The program of the form that a text writes.
+fn program_in(alloc: Global, text: &[u8]) -> Result<Form, Refusal>
+    ensures program { IfOk result (λ form. IsProgramText text.now (program_of form)) }
+    ensures refusal { IfErr result (λ refusal. IsRefusalOf text.now refusal) }
+{
+    let tree = read(alloc, text)?;
+    match read_form(alloc, &tree) {
+        Ok(Some(form)) => Ok(form),
+        Ok(None) => Err(Refusal::Fault {
+            number: FORMLESS,
+            place: START,
+        }),
+        Err(_) => Err(Refusal::Memory),
+    }
+}
+
+/// The program that the text in the file writes.
+pub fn read_program<F: Files>(alloc: Global, files: &mut F, name: &str) -> Result<Form, Refusal>
+    ensures program { IfOk result (λ form. OnTrue F.tells (IsSomeAnd (F.held files.old name.now) (λ text. IsProgramText text (program_of form)))) }
+    ensures keeps { IfOk result (λ form. IsPutProg (program_of form)) }
+    ensures fault { IfErr result (λ refusal. OnFault refusal (λ number place. OnTrue F.tells (IsSomeAnd (F.held files.old name.now) (λ text. IsTextFault text number place)))) }
+    ensures failed { result ≡ Err Refusal.Failed → Rose (F.read_faults files.old name.now) (F.read_faults files.new name.now) }
 
     ensures files { AllStay (F.held files.old) (F.held files.new) }
     ensures read_counts { NoneFell (F.read_faults files.old) (F.read_faults files.new) }
     ensures write_counts { NoneFell (F.write_faults files.old) (F.write_faults files.new) }
 {
-    match files.read(name, LONGEST_PROGRAM) {
-        Ok(text) => match read_form(alloc, text.as_slice()) {
-            Ok(form) => Ok(form),
-            Err(_) => Err(ReadFault::Memory),
-        },
-        Err(fault) => Err(fault),
-    }
+    let text = files.read(name, LONGEST_PROGRAM)?;
+    program_in(alloc, text.as_slice())
 }
 
 /// The end that the script in the file says, and nothing where the file holds no script.

@@ -6,8 +6,7 @@ use Rattle.std.specs.Str.Parse.{digits_value}
 use Rattle.std.proofs.lemmas.Bool.{le-leb, leb-true, eqb-true, lt-ltb}
 use Rattle.std.proofs.Math.Seq.{take-append_seam}
 use Rattle.std.proofs.lemmas.Slice.Eq.{bytes_eq-Decides}
-use Rattle.rte_form.specs.Text.{is_number}
-use Rattle.rte_form.specs.Reading.{literal_of}
+use Rattle.rte_form.specs.Script.{is_number, literal_of}
 use Rattle.rte_form.specs.Script.{IsEndText, digits_in, is_plain, is_end_text, end_of}
 use Rattle.rte_form.proofs.Decimals.{literal_is_decimal, decimal_is_literal, no_leading_zero, literal_parts}
 

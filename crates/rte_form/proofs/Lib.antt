@@ -1,8 +1,8 @@
 pub mod Decimals
 pub mod Ends
-pub mod Formed
 pub mod Joined
 pub mod Literals
-pub mod NextWord
-pub mod PutsRead
-pub mod Refusals
+pub mod Shapes
+pub mod Names
+pub mod Walks
+pub mod Puts

@@ -9,8 +9,7 @@ use Rattle.std.proofs.lemmas.Str.Parse.{digits_value-take-le}
 use Rattle.std.proofs.lemmas.Int.Digits.{digits_value_more}
 use Rattle.std.proofs.lemmas.List.Folds.{list_all_more}
 use Rattle.std.proofs.lemmas.Str.{digit_value_digit}
-use Rattle.rte_form.specs.Text.{is_number}
-use Rattle.rte_form.specs.Reading.{literal_of}
+use Rattle.rte_form.specs.Script.{is_number, literal_of}
 
 -- one digit more
 pub digits_more : (w : List ℕ) (i : ℕ) → i < length w → list_all is_ascii_digit (take i w) ≡ true → is_ascii_digit (get_or w i 0) ≡ true

@@ -2,6 +2,6 @@ pub mod Form
 pub mod Reading
 pub mod Report
 pub mod Script
+pub mod Shape
 pub mod Target
-pub mod Text
 pub mod WellFormed

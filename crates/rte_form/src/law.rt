@@ -1,14 +1,15 @@
-//! What a text of the form writes.
+//! What a tree and a text of the form say.
 
 ghost use Rattle.std.specs.Prelude.{◌≡◌, ℕ, List, Some};
-ghost use Rattle.rte_form.specs.Reading.{form_of};
+ghost use Rattle.rte_tree.specs.declared.place.Place.{Place};
+ghost use Rattle.rte_tree.specs.Placed.{Prog};
+ghost use Rattle.rte_form.specs.Reading.{IsForm};
 ghost use Rattle.rte_form.specs.Script.{IsEndText, end_of};
-ghost use Rattle.rte_form.specs.WellFormed.{IsPutProg};
 ghost use Rattle.rte_source.specs.Puts.{PutProg};
 
-/// The program that a text writes keeps the rules of the form.
-pub fn forms_are_well_formed()
-    ensures { (text : List ℕ) (f : PutProg) → form_of text ≡ Some f → IsPutProg f }
+/// A tree is at most one program of the form.
+pub fn one_form()
+    ensures { (g : Prog Place) (f other : PutProg) → IsForm g f → IsForm g other → f ≡ other }
 {}
 
 /// The end that a text says is the one that it is written with.

@@ -1,10 +1,9 @@
 //! The first form of program: one periodic process that puts numbers to devices.
 //!
 //! `specs/WellFormed.antt` says what such a program keeps to, and `specs/Target.antt` what its
-//! image is. `specs/Text.antt` says what the words of a text are, `specs/Reading.antt` which program
-//! they write, by cases, `specs/Script.antt` what a script of the form is, and
-//! `specs/Report.antt` what the report says. `read_form` and `read_end` answer exactly what these
-//! say, and `report` makes exactly that text.
+//! image is. `specs/Reading.antt` says which program of the form a tree is, `specs/Script.antt` what
+//! a script of the form is, and `specs/Report.antt` what the report says. `read_form` and `read_end`
+//! answer exactly what these say, and `report` makes exactly that text.
 #![tactic(auto)]
 
 mod form;
@@ -14,7 +13,6 @@ mod reports;
 mod script;
 #[cfg(test)]
 mod tests;
-mod words;
 
 pub use form::{Form, Put};
 pub use read::read_form;

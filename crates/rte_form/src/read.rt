@@ -1,18 +1,20 @@
-//! The program that a text writes.
+//! The program that a tree is.
 
-ghost use Rattle.std.specs.Prelude.{◌≡◌, ◌≤◌, ◌<◌, ◌+◌, ◌&&◌, ◌∷◌, [], IsTrue, length, IfOk, IfErr, IfSome, IfNone, MatchOption, map, true, false, Some, is_some, position, ◌++◌};
-ghost use Rattle.std.specs.List.{list_all};
-ghost use Rattle.std.specs.Option.{option_map};
+ghost use Rattle.std.specs.Prelude.{◌≡◌, ◌≢◌, ◌≤◌, ◌<◌, ◌^◌, ◌↔◌, ◌∷◌, ◌++◌, [], All, List as Listed, IsTrue, length, IfOk, IfSome, IfNone, map, Some, None, position};
+ghost use Rattle.std.specs.List.{list_all, IsDistinct};
 ghost use Rattle.std.specs.Str.{bytes_eq};
+ghost use Rattle.rte_tree.specs.Placed.{placed, placed_activation, placed_decl, placed_expr, placed_process, placed_stmt, placed_stmts};
+ghost use Rattle.rte_tree.specs.Placed.{Decl as SpecDecl, Process, process};
+ghost use Rattle.rte_tree.specs.declared.place.Place.{Place};
+ghost use Rattle.rte_source.specs.Puts.{PutProg, Put as NamedPut};
 ghost use Rattle.rte_form.specs.Form.{named_put, program_of};
-ghost use Rattle.rte_form.specs.Reading as reading;
-ghost use Rattle.rte_form.specs.Reading.{first, rest, second, third, literal_of, after_four, is_short_name};
-ghost use Rattle.rte_form.specs.WellFormed.{IsPutProg};
-ghost use Rattle.rte_form.specs.Text.{is_filled, words_of};
+ghost use Rattle.rte_form.specs.Reading.{IsForm};
+ghost use Rattle.rte_form.specs.Shape as shape;
+ghost use Rattle.rte_form.specs.Shape.{number_in, number_put, put_in, puts_in, device_in, devices_in, ticks_in, frame_in, IsMade, is_short_name};
+ghost use Rattle.rte_form.specs.WellFormed.{IsPut};
 
 use crate::form::{Form, Put};
-use crate::words::{is_name_word, next_word, read_literal};
-use rte_tree::{List, Name};
+use rte_tree::{Activation, Constant, Decl, Expr, List, Name, Proc, Prog, Stmt, Value};
 use std::alloc::{AllocError, Global};
 
 /// The most devices that a program has.
@@ -26,166 +28,135 @@ const LEAST_FRAME: u32 = 10;
 
 const GREATEST_FRAME: u32 = 1_000_000_000;
 
-/// A put as it is written, with what stands after it.
-#[derive(Clone, Copy)]
-struct WrittenPut<'a> {
-    dev: &'a [u8],
-    value: u32,
-    after: &'a [u8],
-}
+/// The greatest number that is put.
+const GREATEST_VALUE: u32 = 2_147_483_647;
 
-/// The head of a process as it is written, with what stands after it.
-#[derive(Clone, Copy)]
-struct Head<'a> {
-    process: &'a [u8],
-    frame: u32,
-    after: &'a [u8],
-}
+/// The most bytes that a name has.
+const LONGEST_NAME: usize = 63;
 
-fn is(word: &[u8], text: &str) -> bool
-    ensures { result ≡ bytes_eq word.now text.now }
+/// The number that an expression is, if it is a literal.
+fn number_of(expr: &Expr) -> Option<u32>
+    ensures { result ≡ number_in (placed_expr expr.now) }
 {
-    word == text.as_bytes()
+    match expr {
+        Expr::Literal { value, .. } => Some(*value),
+        _ => None,
+    }
 }
 
-/// The device that a text declares first, and what stands after the declaration.
-fn read_device(text: &[u8]) -> Option<(&[u8], &[u8])>
-    ensures none { IfNone result (reading.declares (words_of text.now) ≡ false) }
-    ensures declares { IfSome result (λ device. reading.declares (words_of text.now) ≡ true) }
-    ensures name { IfSome result (λ device. device.0.now ≡ second (words_of text.now)) }
-    ensures after { IfSome result (λ device. words_of device.1.now ≡ after_four (words_of text.now)) }
-    ensures shorter { IfSome result (λ device. length device.1.now < length text.now) }
+/// The device and the number of a put, if the statement is a put of a number.
+fn parts_of(statement: &Stmt) -> Option<(&Name, u32)>
+    ensures some { IfSome result (λ parts. put_in (placed_stmt statement.now) ≡ Some (number_put parts.0.now parts.1)) }
+    ensures none { IfNone result (put_in (placed_stmt statement.now) ≡ None) }
 {
-    let (device, after) = next_word(text);
-    let (name, after) = next_word(after);
-    let (colon, after) = next_word(after);
-    let (out, after) = next_word(after);
-    if is(device, "device") && is(colon, ":") && is(out, "out") {
-        Some((name, after))
+    match statement {
+        Stmt::Put { device, value, .. } => match number_of(value) {
+            Some(number) => Some((device, number)),
+            None => None,
+        },
+        _ => None,
+    }
+}
+
+/// The place of the device of a name.
+fn device_at(devices: &[Name], name: &Name) -> Option<usize>
+    ensures { result ≡ position (λ device. bytes_eq device name.now) devices.now }
+{
+    devices.iter().position(|device| device == name)
+}
+
+/// The put that a statement is, if it is a put of a number of the form to a declared device.
+fn read_put(devices: &[Name], statement: &Stmt) -> Option<Put>
+    requires { length devices.now ≤ 64 }
+    ensures put { IfSome result (λ put. put_in (placed_stmt statement.now) ≡ Some (named_put devices.now put)) }
+    ensures kept { IfSome result (λ put. IsPut devices.now (named_put devices.now put)) }
+    ensures none { IfNone result ((put : NamedPut) → put_in (placed_stmt statement.now) ≡ Some put → ¬ IsPut devices.now put) }
+{
+    let Some((device, value)) = parts_of(statement) else {
+        return None;
+    };
+    if value > GREATEST_VALUE {
+        return None;
+    }
+    match device_at(devices, device) {
+        Some(at) => Some(Put {
+            dev: at as u16,
+            value,
+        }),
+        None => None,
+    }
+}
+
+/// The puts that statements are, if all are puts of the form to declared devices.
+fn read_puts(
+    alloc: Global,
+    devices: &[Name],
+    body: &[Stmt],
+) -> Result<Option<List<Put>>, AllocError>
+    requires { length devices.now ≤ 64 }
+    ensures puts { IfOk result (λ found. IfSome found (λ puts. puts_in (placed_stmts body.now) ≡ Some (map (named_put devices.now) puts))) }
+    ensures kept { IfOk result (λ found. IfSome found (λ puts. All (IsPut devices.now) (map (named_put devices.now) puts))) }
+    ensures none { IfOk result (λ found. IfNone found ((puts : Listed NamedPut) → puts_in (placed_stmts body.now) ≡ Some puts → ¬ All (IsPut devices.now) puts)) }
+{
+    let mut puts = List::new(alloc);
+    for statement in body {
+        match read_put(devices, statement) {
+            Some(put) => puts.push(put)?,
+            None => return Ok(None),
+        }
+    }
+    Ok(Some(puts))
+}
+
+/// The out devices that declarations are, if all are out devices.
+fn read_devices(alloc: Global, decls: &[Decl]) -> Result<Option<List<Name>>, AllocError>
+    ensures { IfOk result (λ found. found ≡ devices_in (map placed_decl decls.now)) }
+{
+    let mut devices = List::new(alloc);
+    for decl in decls {
+        match decl {
+            Decl::Device {
+                name,
+                is_out: true,
+                ..
+            } => devices.push(Name::new(alloc, name.as_bytes())?)?,
+            _ => return Ok(None),
+        }
+    }
+    Ok(Some(devices))
+}
+
+/// The frame of a process, if it is periodic with a literal as its frame and no first activation.
+fn ticks_of(activation: &Activation) -> Option<u32>
+    ensures { result ≡ ticks_in (placed_activation activation.now) }
+{
+    match activation {
+        Activation::Periodic {
+            frame: Constant {
+                minus: false,
+                value: Value::Literal(ticks),
+                ..
+            },
+            first: None,
+        } => Some(*ticks),
+        _ => None,
+    }
+}
+
+/// The same, if the process has no variables, no routines and no handler.
+fn frame_of(process: &Proc) -> Option<u32>
+    ensures { result ≡ frame_in (placed_process process.now) }
+{
+    if process.vars.is_empty() && process.routines.is_empty() && process.handler.is_none() {
+        ticks_of(&process.activation)
     } else {
         None
     }
 }
 
-/// The put that a text has first, and what stands after it.
-fn read_put(text: &[u8]) -> Option<WrittenPut<'_>>
-    ensures none { IfNone result (reading.puts (words_of text.now) ≡ false) }
-    ensures puts { IfSome result (λ put. reading.puts (words_of text.now) ≡ true) }
-    ensures dev { IfSome result (λ put. put.dev.now ≡ second (words_of text.now)) }
-    ensures value { IfSome result (λ put. Some put.value ≡ literal_of (third (words_of text.now))) }
-    ensures after { IfSome result (λ put. words_of put.after.now ≡ rest (rest (rest (words_of text.now)))) }
-    ensures shorter { IfSome result (λ put. length put.after.now < length text.now) }
-{
-    let (word, after) = next_word(text);
-    let (dev, after) = next_word(after);
-    let (number, after) = next_word(after);
-    match read_literal(number) {
-        Some(value) if is(word, "put") => Some(WrittenPut { dev, value, after }),
-        _ => None,
-    }
-}
-
-/// The head of a process that a text begins with, and what stands after it.
-fn read_head(text: &[u8]) -> Option<Head<'_>>
-    ensures none { IfNone result ((reading.heads (words_of text.now) && is_some (literal_of (second (after_four (words_of text.now))))) ≡ false) }
-    ensures heads { IfSome result (λ head. reading.heads (words_of text.now) ≡ true) }
-    ensures process { IfSome result (λ head. head.process.now ≡ second (words_of text.now)) }
-    ensures frame { IfSome result (λ head. head.frame ≡ reading.frame_of (words_of text.now)) }
-    ensures after { IfSome result (λ head. words_of head.after.now ≡ reading.body_of (words_of text.now)) }
-{
-    let (word, after) = next_word(text);
-    let (process, after) = next_word(after);
-    let (colon, after) = next_word(after);
-    let (periodic, after) = next_word(after);
-    let (frame_word, after) = next_word(after);
-    let (number, after) = next_word(after);
-    let (begin, after) = next_word(after);
-    let is_head = is(word, "process")
-        && is(colon, ":")
-        && is(periodic, "periodic")
-        && is(frame_word, "frame")
-        && is(begin, "begin");
-    match read_literal(number) {
-        Some(frame) if is_head => Some(Head {
-            process,
-            frame,
-            after,
-        }),
-        _ => None,
-    }
-}
-
-/// The text is the end of the process and of the program.
-fn is_ending(process: &[u8], program: &[u8], text: &[u8]) -> bool
-    ensures { result ≡ reading.ends process.now program.now (words_of text.now) }
-{
-    let (end, after) = next_word(text);
-    let (first, after) = next_word(after);
-    let (second_end, after) = next_word(after);
-    let (second, after) = next_word(after);
-    let (nothing, _) = next_word(after);
-    is(end, "end")
-        && first == process
-        && is(second_end, "end")
-        && second == program
-        && nothing.is_empty()
-}
-
-/// Reads the devices that a text declares first, and gives what stands after them.
-fn read_devices<'a>(
-    alloc: Global,
-    devices: &mut List<Name>,
-    text: &'a [u8],
-) -> Result<&'a [u8], AllocError>
-    requires { devices.old ≡ [] }
-    ensures devices { IfOk result (λ _. devices.new ≡ reading.devices_of (words_of text.now)) }
-    ensures after { IfOk result (λ after. words_of after.now ≡ reading.after_devices (words_of text.now)) }
-{
-    let mut left = text;
-    while let Some((name, after)) = read_device(left) {
-        devices.push(Name::new(alloc, name)?)?;
-        left = after;
-    }
-    Ok(left)
-}
-
-/// The place of the device of a name.
-fn device_at(devices: &[Name], name: &[u8]) -> Option<usize>
-    ensures { result ≡ position (λ device. bytes_eq device name.now) devices.now }
-{
-    devices.iter().position(|device| device.as_bytes() == name)
-}
-
-/// Reads the puts that a text has first, and gives what stands after them, or nothing where one
-/// is to no declared device.
-fn read_puts<'a>(
-    devices: &[Name],
-    puts: &mut List<Put>,
-    text: &'a [u8],
-) -> Result<Option<&'a [u8]>, AllocError>
-    requires devices { length devices.now ≤ 64 }
-    requires empty { puts.old ≡ [] }
-    ensures puts { IfOk result (λ found. IfSome found (λ _. map (named_put devices.now) puts.new ≡ reading.puts_of (words_of text.now))) }
-    ensures after { IfOk result (λ found. IfSome found (λ after. words_of after.now ≡ reading.after_puts (words_of text.now))) }
-    ensures declared { IfOk result (λ found. is_some found ≡ reading.are_declared devices.now (reading.puts_of (words_of text.now))) }
-{
-    let mut left = text;
-    while let Some(put) = read_put(left) {
-        match device_at(devices, put.dev) {
-            None => return Ok(None),
-            Some(at) => puts.push(Put {
-                dev: at as u16,
-                value: put.value,
-            })?,
-        }
-        left = put.after;
-    }
-    Ok(Some(left))
-}
-
 /// No name stands twice.
 fn are_distinct(names: &[Name]) -> bool
-    ensures { result ≡ reading.are_distinct names.now }
+    ensures { result ≡ shape.are_distinct names.now }
 {
     match names {
         [] => true,
@@ -193,87 +164,98 @@ fn are_distinct(names: &[Name]) -> bool
     }
 }
 
-/// Each name is an identifier of at most 63 bytes and no keyword.
-fn are_short_names(names: &[Name]) -> bool
-    ensures { result ≡ list_all is_short_name names.now }
+/// The name has at most 63 bytes.
+fn is_short(name: &Name) -> bool
+    ensures { result ≡ is_short_name name.now }
 {
-    names.iter().all(|name| is_name_word(name.as_bytes()))
+    name.as_bytes().len() <= LONGEST_NAME
 }
 
-/// The names of a program are names, and no name stands twice.
-fn are_names(program: &Name, process: &Name, devices: &[Name]) -> bool
-    ensures { result ≡ reading.are_names (program.now ∷ process.now ∷ devices.now) }
+/// Each name has at most 63 bytes.
+fn are_short(names: &[Name]) -> bool
+    ensures { result ≡ list_all is_short_name names.now }
 {
-    if !is_name_word(program.as_bytes()) || !is_name_word(process.as_bytes()) {
+    names.iter().all(is_short)
+}
+
+/// No name is too long, and none stands twice.
+fn are_names(program: &Name, process: &Name, devices: &[Name]) -> bool
+    ensures { result ≡ shape.are_names (program.now ∷ process.now ∷ devices.now) }
+{
+    if !is_short(program) || !is_short(process) {
         return false;
     }
     if process == program || devices.contains(program) || devices.contains(process) {
         return false;
     }
-    are_short_names(devices) && are_distinct(devices)
+    are_short(devices) && are_distinct(devices)
 }
 
-/// The program of a name and of devices, whose process the text writes.
-fn read_process(
+/// The program of this tree, whose process stands behind these declarations.
+fn read_parts(
     alloc: Global,
-    name: &[u8],
-    devices: List<Name>,
-    text: &[u8],
+    tree: &Prog,
+    decls: &[Decl],
+    process: &Proc,
 ) -> Result<Option<Form>, AllocError>
-    ensures { IfOk result (λ form. option_map program_of form ≡ reading.form_after name.now devices (words_of text.now)) }
+    ensures some { IfOk result (λ form. IfSome form (λ f. IsMade tree.now.name tree.now.close (map placed_decl decls.now) (placed_process process.now) (program_of f))) }
+    ensures none { IfOk result (λ form. IfNone form ((f : PutProg) → ¬ IsMade tree.now.name tree.now.close (map placed_decl decls.now) (placed_process process.now) f)) }
 {
-    let head = match read_head(text) {
-        Some(head) => head,
-        None => return Ok(None),
+    if decls.len() > MOST_DEVICES {
+        return Ok(None);
+    }
+    if process.body.len() > MOST_PUTS {
+        return Ok(None);
+    }
+    if tree.close != tree.name || process.close != process.name {
+        return Ok(None);
+    }
+    let Some(devices) = read_devices(alloc, decls)? else {
+        return Ok(None);
     };
-    let program = Name::new(alloc, name)?;
-    let process = Name::new(alloc, head.process)?;
-    if devices.len() > MOST_DEVICES || !are_names(&program, &process, devices.as_slice()) {
+    if !are_names(&tree.name, &process.name, devices.as_slice()) {
         return Ok(None);
     }
-    if head.frame < LEAST_FRAME || head.frame > GREATEST_FRAME {
-        return Ok(None);
-    }
-    let mut puts = List::new(alloc);
-    let after = match read_puts(devices.as_slice(), &mut puts, head.after)? {
-        Some(after) => after,
-        None => return Ok(None),
+    let frame = match frame_of(process) {
+        Some(frame) if (LEAST_FRAME..=GREATEST_FRAME).contains(&frame) => frame,
+        _ => return Ok(None),
     };
-    if puts.len() > MOST_PUTS || !is_ending(process.as_bytes(), name, after) {
+    let Some(puts) = read_puts(alloc, devices.as_slice(), process.body.as_slice())? else {
         return Ok(None);
-    }
+    };
     Ok(Some(Form {
-        name: program,
+        name: Name::new(alloc, tree.name.as_bytes())?,
         devices,
-        process,
-        frame: head.frame,
+        process: Name::new(alloc, process.name.as_bytes())?,
+        frame,
         puts,
     }))
 }
 
-/// The program that a text writes, if it writes one of the first form.
-fn find_form(alloc: Global, text: &[u8]) -> Result<Option<Form>, AllocError>
-    ensures { IfOk result (λ form. option_map program_of form ≡ reading.form_of text.now) }
+/// The last declaration, if it is a process, and those before it.
+fn split_process(decls: &[Decl]) -> Option<(&Proc, &[Decl])>
+    ensures some { IfSome result (λ parts. map placed_decl decls.now ≡ map placed_decl parts.1.now ++ process (placed_process parts.0.now) ∷ []) }
+    ensures none { IfNone result ((before : Listed (SpecDecl Place)) (p : Process Place) → map placed_decl decls.now ≢ before ++ process p ∷ []) }
 {
-    let (program, after) = next_word(text);
-    let (name, after) = next_word(after);
-    if !is(program, "program") {
-        return Ok(None);
+    match decls.split_last() {
+        Some((Decl::Proc(process), others)) => Some((process, others)),
+        _ => None,
     }
-    let mut devices = List::new(alloc);
-    let after = read_devices(alloc, &mut devices, after)?;
-    read_process(alloc, name, devices, after)
 }
 
-/// The program that a text writes, and nothing where it writes none of the first form.
+/// The program of the first form that a tree is, and nothing where it is none.
 ///
-/// A text of the form is, split at blanks: `program` N, up to 64 times `device` D `:` `out`,
-/// `process` P `:` `periodic` `frame` T `begin`, up to 32,767 times `put` D K, and `end` P `end` N.
-/// Names are identifiers of at most 63 bytes, no keywords, and all different; each D of a put is
-/// declared; T is 10 to 1,000,000,000 ticks and K at most 2147483647.
-pub fn read_form(alloc: Global, text: &[u8]) -> Result<Option<Form>, AllocError>
-    ensures form { IfOk result (λ form. option_map program_of form ≡ reading.form_of text.now) }
-    ensures keeps { IfOk result (λ form. IfSome form (λ f. IsPutProg (program_of f))) }
+/// A tree of the form has up to 64 declarations of out devices and then a process that is periodic,
+/// with a literal as its frame and no first activation, no variables, routines and handler, and up
+/// to 32,767 statements, each a put of a literal. Names have at most 63 bytes and are all different;
+/// the closing ones are the opening ones; each device of a put is declared; the frame is 10 to
+/// 1,000,000,000 ticks and each number at most 2147483647.
+pub fn read_form(alloc: Global, tree: &Prog) -> Result<Option<Form>, AllocError>
+    ensures some { IfOk result (λ form. IfSome form (λ f. IsForm (placed tree.now) (program_of f))) }
+    ensures none { IfOk result (λ form. IfNone form ((f : PutProg) → ¬ IsForm (placed tree.now) f)) }
 {
-    find_form(alloc, text)
+    match split_process(tree.decls.as_slice()) {
+        Some((process, decls)) => read_parts(alloc, tree, decls, process),
+        None => Ok(None),
+    }
 }

@@ -2,9 +2,8 @@
 
 ghost use Rattle.std.specs.Prelude.{◌≡◌, ◌≤◌, ◌+◌, ◌*◌, ◌++◌, ◌<◌, ◌^◌, length, codes, decimal, IfOk, OnOk, ◌↔◌, IsTrue};
 ghost use Rattle.rte_form.specs.Form.{program_of};
-ghost use Rattle.rte_form.specs.Report.{is_timely, bound_text, verdict_text, times_text, process_text, code_text, report_of};
+ghost use Rattle.rte_form.specs.Report.{bound_text, verdict_text, times_text, process_text, code_text, report_with};
 ghost use Rattle.rte_form.specs.Target.{cost_of, stack_of};
-ghost use Rattle.rte_form.specs.WellFormed.{IsTimely};
 
 use crate::form::Form;
 use itoa::Buffer;
@@ -23,14 +22,6 @@ impl Form {
         ensures { result ≡ cost_of (program_of self.now).puts }
     {
         PUT_TICKS * self.puts.len() as u64 + END_TICKS
-    }
-
-    /// Whether an activation is done within the frame.
-    pub fn is_timely(&self) -> bool
-        requires { length self.now.puts ≤ 32767 }
-        ensures { result ≡ is_timely (program_of self.now) }
-    {
-        self.cost() <= u64::from(self.frame)
     }
 
     /// The words of stack that an activation needs.
@@ -59,35 +50,33 @@ fn add_name(text: &mut Text, words: &str, name: &Name) -> Result<(), AllocError>
 }
 
 /// Puts the bound, if there is one, at the end of a text.
-fn add_bound(text: &mut Text, form: &Form) -> Result<(), AllocError>
-    requires { length form.now.puts ≤ 32767 }
-    ensures { OnOk result (text.new ≡ text.old ++ bound_text (is_timely (program_of form.now)) (cost_of (program_of form.now).puts)) }
+fn add_bound(text: &mut Text, bound: Option<u64>) -> Result<(), AllocError>
+    ensures { OnOk result (text.new ≡ text.old ++ bound_text bound) }
 {
-    if form.is_timely() {
-        add_number(text, "", form.cost())
-    } else {
-        text.extend(b"none")
+    match bound {
+        Some(ticks) => add_number(text, "", ticks),
+        None => text.extend(b"none"),
     }
 }
 
 /// Puts the cost and the bound at the end of a text.
-fn add_times(text: &mut Text, form: &Form) -> Result<(), AllocError>
+fn add_times(text: &mut Text, form: &Form, bound: Option<u64>) -> Result<(), AllocError>
     requires { length form.now.puts ≤ 32767 }
-    ensures { OnOk result (text.new ≡ text.old ++ times_text (program_of form.now)) }
+    ensures { OnOk result (text.new ≡ text.old ++ times_text (program_of form.now) bound) }
 {
     add_number(text, " rank 1 cost ", form.cost())?;
     text.extend(b" suspend 0 waits 0 block 0 bound ")?;
-    add_bound(text, form)
+    add_bound(text, bound)
 }
 
 /// Puts the line of the process at the end of a text.
-fn add_process(text: &mut Text, form: &Form) -> Result<(), AllocError>
+fn add_process(text: &mut Text, form: &Form, bound: Option<u64>) -> Result<(), AllocError>
     requires { length form.now.puts ≤ 32767 }
-    ensures { OnOk result (text.new ≡ text.old ++ process_text (program_of form.now)) }
+    ensures { OnOk result (text.new ≡ text.old ++ process_text (program_of form.now) bound) }
 {
     add_name(text, "process ", &form.process)?;
     add_number(text, " frame ", u64::from(form.frame))?;
-    add_times(text, form)?;
+    add_times(text, form, bound)?;
     add_number(text, " data 0 stack ", form.stack())?;
     text.extend(b"\n")
 }
@@ -101,32 +90,32 @@ fn add_code(text: &mut Text, form: &Form) -> Result<(), AllocError>
     text.extend(b"\n")
 }
 
-/// Puts whether the program is timely at the end of a text.
-fn add_verdict(text: &mut Text, form: &Form) -> Result<(), AllocError>
-    requires { length form.now.puts ≤ 32767 }
-    ensures { OnOk result (text.new ≡ text.old ++ verdict_text (is_timely (program_of form.now)) form.now.process) }
+/// Puts whether the program is timely, which it is where it has a bound, at the end of a text.
+fn add_verdict(text: &mut Text, process: &Name, bound: Option<u64>) -> Result<(), AllocError>
+    ensures { OnOk result (text.new ≡ text.old ++ verdict_text bound process.now) }
 {
-    if form.is_timely() {
-        text.extend(b"timely\n")
-    } else {
-        add_name(text, "untimely ", &form.process)?;
-        text.extend(b"\n")
+    match bound {
+        Some(_) => text.extend(b"timely\n"),
+        None => {
+            add_name(text, "untimely ", process)?;
+            text.extend(b"\n")
+        }
     }
 }
 
-/// The report on a program: its name, its process with the frame, the cost, the bound (`none`
-/// where the cost is above the frame) and the words of stack, the number of its instructions, and
-/// whether it is timely. Ticks and words are at most 360,441, so no number is too large to print.
-#[tactic(auto, unfolding(crate::specs::Report::report_of))]
-pub fn report(alloc: Global, form: &Form) -> Result<Text, AllocError>
+/// The report on a program of this bound: its name, its process with the frame, the cost, the bound
+/// (`none` where there is none) and the words of stack, the number of its instructions, and whether
+/// it is timely, which it is where it has a bound. The cost is at most 360,441 ticks.
+#[tactic(auto, unfolding(crate::specs::Report::report_with))]
+pub fn report(alloc: Global, form: &Form, bound: Option<u64>) -> Result<Text, AllocError>
     requires { length form.now.puts ≤ 32767 }
-    ensures { IfOk result (λ text. text ≡ report_of (program_of form.now)) }
+    ensures { IfOk result (λ text. text ≡ report_with (program_of form.now) bound) }
 {
     let mut text = Text::new(alloc);
     add_name(&mut text, "program ", &form.name)?;
     text.extend(b"\n")?;
-    add_process(&mut text, form)?;
+    add_process(&mut text, form, bound)?;
     add_code(&mut text, form)?;
-    add_verdict(&mut text, form)?;
+    add_verdict(&mut text, &form.process, bound)?;
     Ok(text)
 }

@@ -1,12 +1,13 @@
 //! The script of a program of the first form.
 
 ghost use Rattle.std.specs.Prelude.{◌≡◌, ◌≢◌, ◌≤◌, ◌^◌, ℕ, ◌<◌, ◌++◌, ◌↔◌, List, IsTrue, slice_index, length, decimal, IfSome, IfNone};
-ghost use Rattle.rte_form.specs.Script.{IsEndText, end_of};
-
-use crate::words::read_literal;
+ghost use Rattle.rte_form.specs.Script.{IsEndText, end_of, literal_of};
 
 /// The greatest end of a script, in ticks.
 const GREATEST_END: u64 = 1_000_000_000;
+
+/// The greatest literal.
+const GREATEST_LITERAL: u64 = 2_147_483_647;
 
 /// What stands between a start and an end of the text.
 fn between<'a>(text: &'a [u8], start: &str, end: &str) -> Option<&'a [u8]>
@@ -24,6 +25,26 @@ fn has_leading_zero(digits: &[u8]) -> bool
     ensures { IsTrue result ↔ ((slice_index digits.now 0 ≡ 48) × (1 < length digits.now)) }
 {
     digits.len() > 1 && digits[0] == b'0'
+}
+
+/// The number that decimal digits write, if it is at most 2147483647.
+fn read_literal(digits: &[u8]) -> Option<u32>
+    ensures { result ≡ literal_of digits.now }
+{
+    if digits.is_empty() {
+        return None;
+    }
+    let mut value: u64 = 0;
+    for byte in digits {
+        if !byte.is_ascii_digit() {
+            return None;
+        }
+        value = value * 10 + u64::from(*byte - b'0');
+        if value > GREATEST_LITERAL {
+            return None;
+        }
+    }
+    Some(value as u32)
 }
 
 /// The number that digits without leading zeros write, if it is at most 2147483647.

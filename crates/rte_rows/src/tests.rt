@@ -3,10 +3,15 @@
 use rte_cli::rte;
 use rte_io::{MemFiles, MemSink};
 use std::alloc::Global;
+use std::process::Abort;
 use std::test::Fail;
 
 const VALVE: &str =
     "program a device valve : out process p : periodic frame 15 begin put valve 7 end p end a";
+
+/// The same with a comment and other blanks, and numbers with leading zeros.
+const COMMENTED: &str =
+    "program a %x\n device valve:out\tprocess p : periodic\r\nframe 0000000000000015 begin put valve 007 end p end a%y";
 
 const LATE: &str =
     "program a device valve : out process p : periodic frame 14 begin put valve 7 end p end a";
@@ -84,7 +89,7 @@ fn runs_the_examples(rt: HostRuntime) -> Result<(), Fail> {
             "0 p release\n3 p end\n",
             Some(98),
         ),
-        ("", "end 10\n", 2, "E9 1:1\n", "", None),
+        (COMMENTED, "end 15\n", 0, REPORT, LOG, Some(136)),
         (VALVE, "end 15", 5, "S1 1\n", "", None),
     ];
     for (program, script, status, report, log, size) in rows {
@@ -102,6 +107,93 @@ fn runs_the_examples(rt: HostRuntime) -> Result<(), Fail> {
         assert_eq!(rt; held, size, "{program}");
     }
     Ok(())
+}
+
+/// Puts what is due for a program text, with its status.
+fn says(rt: &impl Abort, alloc: Global, text: &[u8], line: &str) -> Result<(), Fail> {
+    let mut files = MemFiles::new(alloc, Vec::new(alloc), Vec::new(alloc));
+    files.place("P", text)?;
+    files.place("S", b"end 10\n")?;
+    let (status, put, held) = call(alloc, "go P I S", &mut files, Vec::new(alloc))?;
+    assert_eq!(rt; status, 2, "{line}");
+    assert!(rt; put.as_slice() == line.as_bytes(), "{line}");
+    assert!(rt; held.is_none(), "{line}");
+    Ok(())
+}
+
+#[test]
+fn refuses_texts(rt: HostRuntime) -> Result<(), Fail> {
+    let rows = [
+        ("", "E10 1:1\n"),
+        ("program a ;", "E1 1:11\n"),
+        (
+            "program a process p : periodic frame 10 var x : int begin x := 2147483648 end p end a",
+            "E2 1:64\n",
+        ),
+        (
+            "program out process p : periodic frame 10 begin end p end out",
+            "E10 1:9\n",
+        ),
+        (
+            "program a process p : periodic frame 10 begin end p end a\nb",
+            "E10 2:1\n",
+        ),
+        (
+            "program b device a : out process p1 : periodic frame 20 begin put a 1 end p1 process p2 : periodic frame 60 begin put a 2 end p2 end b",
+            "E9 1:1\n",
+        ),
+        (
+            "program a process p : periodic frame 9 begin end p end a",
+            "E9 1:1\n",
+        ),
+        (
+            "program a process p : periodic frame 1000000001 begin end p end a",
+            "E9 1:1\n",
+        ),
+        (
+            "program a process p : periodic frame 10 begin end p end p",
+            "E9 1:1\n",
+        ),
+        (
+            "program a process p : periodic frame 10 begin end a end a",
+            "E9 1:1\n",
+        ),
+        (
+            "program a process a : periodic frame 10 begin end a end a",
+            "E9 1:1\n",
+        ),
+        (
+            "program a process p : periodic frame 10 begin put d 1 end p end a",
+            "E9 1:1\n",
+        ),
+        (
+            "program a device d : in process p : periodic frame 10 begin end p end a",
+            "E9 1:1\n",
+        ),
+        (
+            "program a process p : periodic frame 10 first activation atTime 0 begin end p end a",
+            "E9 1:1\n",
+        ),
+        (
+            "program a device d : out process p : periodic frame 30 begin put d (1) end p end a",
+            "E9 1:1\n",
+        ),
+    ];
+    for (text, line) in rows {
+        says(&rt, rt.alloc(), text.as_bytes(), line)?;
+    }
+    Ok(())
+}
+
+#[test]
+fn refuses_a_byte_too_many(rt: HostRuntime) -> Result<(), Fail> {
+    let mut text = Vec::new(rt.alloc());
+    for _ in 0..1_048_576 {
+        text.push(b' ')?;
+    }
+    says(&rt, rt.alloc(), text.as_slice(), "E10 1:1048577\n")?;
+    text.push(b' ')?;
+    says(&rt, rt.alloc(), text.as_slice(), "E4 1:1\n")
 }
 
 /// The bytes of a text of hexadecimal digits in pairs.

@@ -6,7 +6,7 @@ use Rattle.rte_cli.proofs.call.rte.Goals as goal
 -- status 0, by what is due and the laws of the image
 pub returns-clause-done : goal.returns-clause-done
 returns-clause-done g c =
-    if_done c.forms_are_well_formed.ensures c.ends_are_written.ensures
+    if_done c.ends_are_written.ensures
     (λ f end_tick well_formed timely. record {
       runs = c.events_are_a_source_run.ensures f end_tick well_formed timely;
       in_time = c.activations_end_within_their_bound.ensures f end_tick well_formed timely;
@@ -18,5 +18,5 @@ returns-clause-done g c =
 -- status 3, by what is due and the laws of the recurrence
 pub returns-clause-late : goal.returns-clause-late
 returns-clause-late g c =
-    refused_for_time c.forms_are_well_formed.ensures c.cost_is_the_least_bound.ensures c.solved_programs_are_timely.ensures
+    refused_for_time (record { one = c.one_program.ensures.one; apart = c.one_program.ensures.apart }) c.cost_is_the_least_bound.ensures c.solved_programs_are_timely.ensures
     g.F.Files.tells (row_of c.args.words.now) _ _ _ c.carry_out.ensures.row

@@ -23,4 +23,4 @@ returns-in-len4-clause-complete g c =
     let words = four_read c.args.words.now c.command-item.result c.program-item.result c.image-item.result c.script-item.result len c.command-item.is c.program-item.is c.image-item.is c.script-item.is in
     let row = row_is (string_bytes c.command-item.result) (string_bytes c.program-item.result) (string_bytes c.image-item.result) (string_bytes c.script-item.result)
     (sym c.is_go.ensures ∙ c.if-is_go.true) (sym c.names_file.ensures ∙ c.if-names_file.true) (sym c.names_file-then-names_file.ensures ∙ c.if-names_file-2.true) (sym c.names_file-then-names_file-2.ensures ∙ c.if-names_file-3.true) in
-    rw (words, row) (rw (← c.as_str.ensures.value, ← c.as_str-in-len4.ensures.value, ← c.as_str-in-len4-2.ensures.value) (completes _ _ _ _ _ c.go_row.ensures))
+    rw (words, row) (rw (← c.as_str.ensures.value, ← c.as_str-in-len4.ensures.value, ← c.as_str-in-len4-2.ensures.value) (completes (record { one = c.one_program.ensures.one; apart = c.one_program.ensures.apart }) _ _ _ _ _ c.go_row.ensures))

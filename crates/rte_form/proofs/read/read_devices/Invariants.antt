@@ -1,13 +1,8 @@
-use Rattle.std.proofs.Common.{◌≡◌, ◌++◌, length}
-use Rattle.rte_form.specs.Reading.{devices_of, after_devices}
-use Rattle.rte_form.specs.Text.{words_of}
+use Rattle.std.proofs.Common.{◌≡◌, drop, map}
+use Rattle.rte_tree.specs.Placed.{placed_decl}
+use Rattle.rte_form.specs.Shape.{devices_in}
+use Rattle.rte_form.proofs.Walks.{with_front}
 use Rattle.rte_form.proofs.read.read_devices.Given as goal
 
-abbrev pub invariant-loop-name : goal.invariant-loop-name
-invariant-loop-name l = record {
-  devices : devices_of (words_of l.text) ≡ l.devices ++ devices_of (words_of l.left);
-  after : after_devices (words_of l.text) ≡ after_devices (words_of l.left);
-}
-
-abbrev pub decreases-loop-name : goal.decreases-loop-name
-decreases-loop-name l = length l.left
+abbrev pub invariant-loop-decl : goal.invariant-loop-decl
+invariant-loop-decl l = with_front l.devices (devices_in (map placed_decl (drop l.decl-index l.decls))) ≡ devices_in (map placed_decl l.decls)

@@ -1,17 +1,19 @@
-use Rattle.std.proofs.Common.{◌≡◌, List, ℕ, Some, None, Option, sym}
-use Rattle.std.specs.Prelude.{Result, Ok, Err, IfOk, IfSome}
-use Rattle.std.specs.Option.{option_map}
-use Rattle.rte_form.specs.declared.form.Form.{Form}
-use Rattle.rte_form.specs.Form.{program_of}
-use Rattle.rte_form.specs.Reading.{form_of}
-use Rattle.rte_form.specs.WellFormed.{IsPutProg}
-use Rattle.rte_form.proofs.Formed.{form_keeps}
+use Rattle.std.proofs.Common.{ap, sym, map, ◌∙◌}
+use Rattle.rte_tree.specs.Placed.{placed, placed_decl, placed_process}
+use Rattle.rte_form.proofs.Shapes.{form_splits, forms_of, no_forms}
 use Rattle.rte_form.proofs.read.read_form.Goals as goal
 
-keeps : {E : Type 0} (text : List ℕ) (r : Result (Option Form) E) → IfOk r (λ form. option_map program_of form ≡ form_of text) → IfOk r (λ form. IfSome form (λ f. IsPutProg (program_of f)))
-keeps text (Ok (Some f)) e = form_keeps text (program_of f) (sym e)
-keeps text (Ok None) e = tt
-keeps text (Err e) found = tt
+pub returns-in-Some-clause-some : goal.returns-in-Some-clause-some
+returns-in-Some-clause-some c =
+    forms_of c.read_parts.result (placed c.args.tree.now) (map placed_decl c.in-Some.decls.now) (placed_process c.in-Some.process.now)
+    (ap (map placed_decl) (sym c.as_slice.ensures) ∙ c.in-Some.ensures.some) c.read_parts.ensures.some
 
-pub returns-clause-keeps : goal.returns-clause-keeps
-returns-clause-keeps c = keeps c.args.text.now c.find_form.result c.find_form.ensures
+pub returns-in-Some-clause-none : goal.returns-in-Some-clause-none
+returns-in-Some-clause-none c =
+    no_forms c.read_parts.result (placed c.args.tree.now) (map placed_decl c.in-Some.decls.now) (placed_process c.in-Some.process.now)
+    (ap (map placed_decl) (sym c.as_slice.ensures) ∙ c.in-Some.ensures.some) c.read_parts.ensures.none
+
+pub returns-in-None-clause-none : goal.returns-in-None-clause-none
+returns-in-None-clause-none c = λ f is.
+    let parts = form_splits (placed c.args.tree.now) f is in
+    c.in-None.ensures.none parts.before parts.last (ap (map placed_decl) c.as_slice.ensures ∙ parts.is)

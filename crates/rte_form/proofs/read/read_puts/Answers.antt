@@ -1,33 +1,33 @@
-use Rattle.std.proofs.Common.{◌≡◌, ◌∙◌, sym, ap, subst, map, List, ℕ, true, false}
+use Rattle.std.proofs.Common.{◌≡◌, ◌∷◌, ◌++◌, ◌+◌, List, [], Some, drop, map, sym, ap, ◌∙◌, subst, arith}
+use Rattle.std.specs.Prelude.{All}
+use Rattle.std.proofs.lemmas.List.{map-append}
+use Rattle.std.proofs.lemmas.List.Elements.{All-push}
+use Rattle.rte_tree.specs.Placed.{placed_stmt, placed_stmts}
 use Rattle.rte_source.specs.Puts.{Put}
-use Rattle.rte_form.specs.declared.form.Put.{Put as Numbered}
 use Rattle.rte_form.specs.Form.{named_put}
-use Rattle.rte_form.specs.Reading.{after_puts, is_declared}
-use Rattle.rte_form.specs.Text.{words_of}
-use Rattle.rte_form.proofs.PutsRead.{puts_step, after_step, put_at, declared_at, undeclared, one_more, declared_more, not_declared, put_read}
+use Rattle.rte_form.specs.Shape.{with_first, put_in, puts_in}
+use Rattle.rte_form.specs.WellFormed.{IsPut}
+use Rattle.rte_form.proofs.Walks.{with_front, drop_item, one_read, spoiled}
 use Rattle.rte_form.proofs.read.read_puts.Goals as goal
 
-pub returns-in-None-clause-declared : goal.returns-in-None-clause-declared
-returns-in-None-clause-declared c =
-    let q : Put = record { dev = c.in-Some.put.dev.now; value = c.in-Some.put.value } in
-    let read = put_read (words_of c.loop-put.left.now) c.in-Some.put.dev.now c.in-Some.put.value c.in-Some.ensures.dev c.in-Some.ensures.value in
-    let step = puts_step (words_of c.loop-put.left.now) c.in-Some.ensures.puts in
-    let none : is_declared c.args.devices.now q ≡ false = undeclared c.args.devices.now c.in-Some.put.dev.now (sym c.device_at.ensures ∙ c.in-None.is) in
-    rw (c.loop-put.invariant.puts, step, read) (sym (not_declared c.args.devices.now (map (named_put c.args.devices.now) c.loop-put.puts) q _ none))
+pub returns-in-None-clause-none : goal.returns-in-None-clause-none
+returns-in-None-clause-none c = λ puts found kept.
+    let front = map (named_put c.args.devices.now) c.loop-statement.puts in
+    let item = drop_item c.args.body.now c.loop-statement.statement-index c.statement-item.result (omega arith) c.statement-item.is in
+    let left = ap (λ ss. with_front front (puts_in (placed_stmts ss))) (sym item) ∙ (c.loop-statement.invariant.left ∙ found) in
+    spoiled (IsPut c.args.devices.now) front (put_in (placed_stmt c.statement-item.result)) (puts_in (placed_stmts (drop (c.loop-statement.statement-index + 1) c.args.body.now))) puts left c.in-None.ensures.none kept
 
-pub loop-put-preserved : goal.loop-put-preserved
-loop-put-preserved c =
-    let devices : List (List ℕ) = c.args.devices.now in
-    let p : Numbered = record { dev = c.in-Some-device_at.at; value = c.in-Some.put.value } in
-    let q : Put = record { dev = c.in-Some.put.dev.now; value = c.in-Some.put.value } in
-    let found = sym c.device_at.ensures ∙ c.in-Some-device_at.is in
-    let same : named_put devices p ≡ q = put_at devices c.in-Some.put.dev.now c.in-Some.put.value c.in-Some-device_at.at found in
-    let declared : is_declared devices q ≡ true = declared_at devices c.in-Some.put.dev.now c.in-Some-device_at.at found in
-    let read = put_read (words_of c.loop-put.left.now) c.in-Some.put.dev.now c.in-Some.put.value c.in-Some.ensures.dev c.in-Some.ensures.value in
-    let step = puts_step (words_of c.loop-put.left.now) c.in-Some.ensures.puts in
-    let after = after_step (words_of c.loop-put.left.now) c.in-Some.ensures.puts in
+pub loop-statement-preserved : goal.loop-statement-preserved
+loop-statement-preserved c =
+    let named = named_put c.args.devices.now in
+    let front : List Put = map named c.loop-statement.puts in
+    let item = drop_item c.args.body.now c.loop-statement.statement-index c.statement-item.result (omega arith) c.statement-item.is in
+    let more = puts_in (placed_stmts (drop (c.loop-statement.statement-index + 1) c.args.body.now)) in
+    let pushed : map named c.push.new.self ≡ front ++ named c.in-Some.put ∷ [] = ap (map named) c.in_ok-push-in-Some.ensures.ok ∙ map-append named c.loop-statement.puts (c.in-Some.put ∷ []) in
     record {
-      puts = rw (c.loop-put.invariant.puts, step, read, c.in_ok-push-in-Some-device_at.ensures.ok, c.in-Some.ensures.after) (one_more devices c.loop-put.puts p q _ same);
-      after = c.loop-put.invariant.after ∙ (after ∙ ap after_puts (sym c.in-Some.ensures.after));
-      declared = rw c.in_ok-push-in-Some-device_at.ensures.ok (declared_more devices c.loop-put.puts p c.loop-put.invariant.declared (subst (λ (x : Put). is_declared devices x ≡ true) (sym same) declared));
+      left = ap (λ ps. with_front ps more) pushed
+          ∙ (sym (one_read front (named c.in-Some.put) more)
+          ∙ (ap (λ p. with_front front (with_first p more)) (sym c.in-Some.ensures.put)
+          ∙ (ap (λ ss. with_front front (puts_in (placed_stmts ss))) (sym item) ∙ c.loop-statement.invariant.left)));
+      kept = subst (All (IsPut c.args.devices.now)) (sym pushed) (All-push (IsPut c.args.devices.now) front (named c.in-Some.put) c.loop-statement.invariant.kept c.in-Some.ensures.kept);
     }

@@ -1,5 +1,5 @@
 use Rattle.std.proofs.Common.{◌≡◌, ◌<◌, ◌∙◌, sym, ap, subst, arith, ℕ, List, get_or, length, decimal, true}
-use Rattle.rte_form.specs.Reading.{literal_of}
+use Rattle.rte_form.specs.Script.{literal_of}
 use Rattle.rte_form.proofs.Decimals.{literal_is_decimal, decimal_is_literal, no_leading_zero, zero_alone}
 use Rattle.rte_form.proofs.script.read_decimal.Goals as goal
 
