@@ -1,28 +1,61 @@
--- Which texts are accepted, and the line that refuses another.
+-- Which programs texts write, and why none is read from another text.
 use Rattle.std.specs.Prelude.{◌≡◌, ◌++◌, ℕ, List, codes, decimal}
 use Rattle.rte_tree.specs.declared.place.Place.{Place}
 use Rattle.rte_tree.specs.Placed.{Prog}
 use Rattle.rte_source.specs.Puts.{PutProg}
+use Rattle.rte_io.specs.declared.outside.ReadFault.{ReadFault}
+use Rattle.rte_io.specs.declared.outside.ReadFault.TheVariants as reads
+use Rattle.rte_read.specs.Source.{start}
+use Rattle.rte_read.specs.declared.fault.SourceFault.{SourceFault}
+use Rattle.rte_read.specs.declared.fault.SourceFault.TheVariants as source
 use Rattle.rte_form.specs.Reading.{IsForm}
-use Rattle.rte_accept.specs.declared.accept.Refusal.{Refusal}
-use Rattle.rte_accept.specs.declared.accept.Refusal.TheVariants as refusal_is
 use Rattle.rte_program.specs.Program.{IsProgramOf, IsProgramFault}
+use Rattle.rte_accept.specs.declared.refusal.Refusal.{Refusal}
+use Rattle.rte_accept.specs.declared.refusal.Refusal.TheVariants.{Fault, Failed, Memory}
 
--- the text is that of the program with this tree, which is of the form that is built
-pub record IsAccepted (text : List ℕ) (g : Prog Place) (f : PutProg) : Type 0 where
-  pub program : IsProgramOf text g
-  pub form : IsForm g f
+-- the text is that of the program with this tree, which is that program of the form
+pub record IsAccepted (text : List ℕ) (tree : Prog Place) (f : PutProg) : Type 0 where
+  pub grown : IsProgramOf text tree
+  pub formed : IsForm tree f
 
--- the line of the fault of a number at a place
+-- the text is that of a program, which is that program of the form
+pub record IsProgramText (text : List ℕ) (f : PutProg) : Type 0 where
+  pub tree : Prog Place
+  pub grown : IsProgramOf text tree
+  pub formed : IsForm tree f
+
+-- the text is that of a program, which is no program of the form
+pub record IsFormless (text : List ℕ) : Type 0 where
+  pub tree : Prog Place
+  pub grown : IsProgramOf text tree
+  pub formless : (f : PutProg) → ¬ IsForm tree f
+
+-- the fault of a text that writes no program of the form: that of the program, or else 9 at the first byte, since it is not of the form
+pub data IsTextFault (text : List ℕ) (number : ℕ) (place : Place) : Type 0 where
+  of_source : IsProgramFault text number place → IsTextFault text number place
+  of_form : number ≡ 9 → place ≡ start → IsFormless text → IsTextFault text number place
+
+-- the line of a fault
 abbrev pub fault_line : ℕ → Place → List ℕ
 fault_line number place = codes "E" ++ (decimal number ++ (codes " " ++ (decimal place.line ++ (codes ":" ++ (decimal place.col ++ codes "\n")))))
 
--- the line that refuses the text: that of its fault, or, where it is a program text, that its program is not of the form
-pub data IsRefusal (text : List ℕ) (line : List ℕ) : Type 0 where
-  faulty : (number : ℕ) (place : Place) → IsProgramFault text number place → line ≡ fault_line number place → IsRefusal text line
-  unbuilt : (g : Prog Place) → IsProgramOf text g → ((f : PutProg) → ¬ IsForm g f) → line ≡ codes "E9 1:1\n" → IsRefusal text line
+-- want of memory says nothing of a text
+abbrev pub IsRefusalOf : List ℕ → Refusal → Type 0
+IsRefusalOf text (Fault number place) = IsTextFault text number place
+IsRefusalOf text Failed = ⊥
+IsRefusalOf text Memory = Unit {0}
 
--- want of memory refuses no text
-abbrev pub IsRefusedWith : List ℕ → Refusal → Type 0
-IsRefusedWith text (refusal_is.Line line) = IsRefusal text line
-IsRefusedWith text refusal_is.Memory = Unit {0}
+abbrev pub OnFault : Refusal → (ℕ → Place → Type 0) → Type 0
+OnFault (Fault number place) P = P number place
+OnFault refusal P = Unit {0}
+
+-- ---- what a fault of the source and of a read is told as
+
+abbrev pub told : SourceFault → Refusal
+told (source.Fault number place) = Fault number place
+told source.Memory = Memory
+
+abbrev pub read_told : ReadFault → Refusal
+read_told reads.Long = Fault 4 start
+read_told reads.Failed = Failed
+read_told reads.Memory = Memory

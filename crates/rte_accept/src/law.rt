@@ -1,27 +1,16 @@
-//! Laws of accepted and refused texts. These functions do nothing; their contracts are the laws.
+//! What holds of every text. This function does nothing; its contract is the law.
 
-ghost use Rattle.rte_accept.specs.Laws.{HasOneForm, IsOneOf, LongIsRefused};
+ghost use Rattle.rte_accept.specs.Laws.{HasOneProgram, HasProgramOrFault};
 
 use rte_form::law::one_form;
-use rte_program::{one_program, program_or_fault};
 
-/// A text is accepted as one program.
-pub fn one_accepted()
-    ensures { HasOneForm }
+
+/// A text writes at most one program, and one that writes a program has no fault.
+pub fn one_program()
+    ensures one { HasOneProgram }
+    ensures apart { HasProgramOrFault }
 {
-    one_program();
+    rte_program::one_program();
+    rte_program::program_or_fault();
     one_form();
 }
-
-/// No text is accepted and refused.
-pub fn accepted_or_refused()
-    ensures { IsOneOf }
-{
-    one_program();
-    program_or_fault();
-}
-
-/// A text of more than 1,048,576 bytes is refused at its start.
-pub fn long_is_refused()
-    ensures { LongIsRefused }
-{}

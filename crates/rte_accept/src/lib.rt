@@ -1,15 +1,19 @@
-//! Accepting program texts: the stage that all commands share which read a program.
+//! Accepting programs: the stage that all commands share which read a program.
 //!
-//! `specs/Accept.antt` says which texts are accepted (program texts whose program is of the form
-//! that is built), and which line refuses another text. `accept` gives exactly that program or such
-//! a line; `accept_file` does the same for what a file holds.
+//! `specs/Accept.antt` says which program of the form that is built a text writes, and what the
+//! fault of another text is. `accept_file` gives exactly that program, with its tree, or that
+//! fault; `bound` its least bound, or none.
 #![tactic(auto)]
 
-mod accept;
 mod answer;
-mod file;
-pub mod law;
+mod bound;
+mod fault;
+mod law;
+mod program;
+mod refusal;
 
-pub use accept::{Accepted, Refusal, accept};
-pub use answer::put;
-pub use file::{FileRefusal, accept_file};
+pub use answer::{put, refuse_text};
+pub use bound::bound;
+pub use law::one_program;
+pub use program::{Accepted, accept_file, read_program};
+pub use refusal::Refusal;

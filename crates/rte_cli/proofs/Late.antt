@@ -8,7 +8,8 @@ use Rattle.rte_puts.specs.Recurrence.{tasks_of}
 use Rattle.rte_response.specs.Demand.{IsBound, Solves}
 use Rattle.rte_source.specs.Puts.{PutProg}
 use Rattle.rte_cli.specs.Answers.{IsWhole, Outside, due_for, Went}
-use Rattle.rte_cli.specs.Due.{Outcome, IsProgramText, end_in, bad_script, done, due_by_end, IsDueByScript, IsDue, source_fault, no_form, untimely, timely}
+use Rattle.rte_accept.specs.Accept.{IsProgramText}
+use Rattle.rte_cli.specs.Due.{Outcome, end_in, bad_script, done, due_by_end, IsDueByScript, IsDue, source_fault, no_form, untimely, timely}
 use Rattle.rte_cli.specs.Headline.{IsUnsolved}
 use Rattle.rte_cli.specs.Words.{Row}
 use Rattle.rte_cli.proofs.Texts.{TextLaws, due_late}

@@ -6,9 +6,10 @@ use Rattle.rte_form.specs.WellFormed.{IsTimely}
 use Rattle.rte_io.specs.Outside.{Rose, AllStay, Appends, AppendsFront}
 use Rattle.rte_source.specs.Puts.{PutProg}
 use Rattle.rte_tree.specs.declared.place.Place.{Place}
-use Rattle.rte_cli.specs.Due.{Outcome, IsProgramText, IsDue, untimely, timely, IsDueByScript, late, refused}
+use Rattle.rte_accept.specs.Accept.{IsProgramText}
+use Rattle.rte_cli.specs.Due.{Outcome, IsDue, untimely, timely, IsDueByScript, late, refused}
 use Rattle.rte_cli.specs.Answers.{IsWhole, IsCut, NothingStored}
-use Rattle.rte_cli.specs.Refused.{IsTextFault}
+use Rattle.rte_accept.specs.Accept.{IsTextFault}
 use Rattle.rte_cli.proofs.Cuts.{cut_since}
 use Rattle.rte_cli.proofs.Texts.{TextLaws, due_timely, due_fault}
 

@@ -4,34 +4,21 @@ use Rattle.std.specs.Prelude.{IsSomeAnd, nat_le, cond}
 use Rattle.std.specs.Bool.{OnTrue}
 use Rattle.std.proofs.lemmas.Bool.{leb-true, le-leb}
 use Rattle.rte_tree.specs.declared.place.Place.{Place}
-use Rattle.rte_tree.specs.Placed.{Prog}
-use Rattle.rte_read.specs.Source.{IsTreeOf, IsSourceFault, start}
-use Rattle.rte_read.specs.Laws.{HasOneTree, HasTreeOrFault}
-use Rattle.rte_form.specs.Reading.{IsForm}
+use Rattle.rte_read.specs.Source.{start}
+use Rattle.rte_program.specs.Program.{IsProgramFault}
 use Rattle.rte_form.specs.Report.{is_timely, bound_in}
 use Rattle.rte_form.specs.Target.{cost_of}
 use Rattle.rte_form.specs.WellFormed.{IsTimely}
 use Rattle.rte_source.specs.Puts.{PutProg}
-use Rattle.rte_cli.specs.Due.{Outcome, IsProgramText, IsFormless, refused, late, due_by_script, IsDueByScript, IsDue, source_fault, no_form, untimely, timely}
-use Rattle.rte_cli.specs.Laws.{HasOneProgram, HasProgramOrFault}
-use Rattle.rte_cli.specs.Refused.{IsTextFault, of_source, of_form}
-
--- ---- the laws of every text, by those of trees, faults and forms
-
-pub one_program : HasOneTree → ((g : Prog Place) (f other : PutProg) → IsForm g f → IsForm g other → f ≡ other) → HasOneProgram
-one_program trees forms text f other first second =
-    forms second.tree f other (subst (λ g. IsForm g f) (trees text first.tree second.tree first.grown second.grown) first.formed) second.formed
-
-pub program_or_fault : HasOneTree → HasTreeOrFault → HasProgramOrFault
-program_or_fault trees apart text f number place is (of_source fault) = apart text is.tree number place is.grown fault
-program_or_fault trees apart text f number place is (of_form nine first none) =
-    none.formless f (subst (λ g. IsForm g f) (trees text is.tree none.tree is.grown none.grown) is.formed)
+use Rattle.rte_cli.specs.Due.{Outcome, refused, late, due_by_script, IsDueByScript, IsDue, source_fault, no_form, untimely, timely}
+use Rattle.rte_accept.specs.Accept.{IsProgramText, IsFormless, IsTextFault, of_source, of_form}
+use Rattle.rte_accept.specs.Laws.{HasOneProgram, HasProgramOrFault}
 
 pub record TextLaws : Type 0 where
   pub one : HasOneProgram
   pub apart : HasProgramOrFault
 
-no_fault : TextLaws → (text : List ℕ) (f : PutProg) (number : ℕ) (place : Place) → IsProgramText text f → IsSourceFault text number place → ⊥
+no_fault : TextLaws → (text : List ℕ) (f : PutProg) (number : ℕ) (place : Place) → IsProgramText text f → IsProgramFault text number place → ⊥
 no_fault laws text f number place is fault = laws.apart text f number place is (of_source fault)
 
 not_formless : TextLaws → (text : List ℕ) (f : PutProg) → IsProgramText text f → IsFormless text → ⊥
@@ -43,7 +30,7 @@ same_text text other held = cc
 -- what is due for a text of a timely program
 pub due_timely : TextLaws → (text : List ℕ) (f : PutProg) (script : Option (List ℕ)) (o : Outcome) → IsProgramText text f → IsTimely f → IsDue (Some text) script o → IsDueByScript f script o
 due_timely laws text f script o is in_time (source_fault other number place held fault outcome) =
-    absurd (no_fault laws text f number place is (subst (λ (t : List ℕ). IsSourceFault t number place) (same_text text other held) fault))
+    absurd (no_fault laws text f number place is (subst (λ (t : List ℕ). IsProgramFault t number place) (same_text text other held) fault))
 due_timely laws text f script o is in_time (no_form other held none outcome) = absurd (not_formless laws text f is (subst IsFormless (same_text text other held) none))
 due_timely laws text f script o is in_time (untimely other g held written not_timely outcome) =
     absurd (not_timely (subst IsTimely (laws.one text f g is (subst (λ (t : List ℕ). IsProgramText t g) (same_text text other held) written)) in_time))
@@ -53,7 +40,7 @@ due_timely laws text f script o is in_time (timely other g held written timely_g
 -- and for a text of a program that is not timely
 pub due_late : TextLaws → (text : List ℕ) (f : PutProg) (script : Option (List ℕ)) (o : Outcome) → IsProgramText text f → ¬ IsTimely f → IsDue (Some text) script o → o ≡ late f
 due_late laws text f script o is not_timely (source_fault other number place held fault outcome) =
-    absurd (no_fault laws text f number place is (subst (λ (t : List ℕ). IsSourceFault t number place) (same_text text other held) fault))
+    absurd (no_fault laws text f number place is (subst (λ (t : List ℕ). IsProgramFault t number place) (same_text text other held) fault))
 due_late laws text f script o is not_timely (no_form other held none outcome) = absurd (not_formless laws text f is (subst IsFormless (same_text text other held) none))
 due_late laws text f script o is not_timely (untimely other g held written not_timely_g outcome) =
     outcome ∙ ap late (laws.one text g f (subst (λ (t : List ℕ). IsProgramText t g) (same_text text other held) written) is)

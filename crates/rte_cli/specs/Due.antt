@@ -1,17 +1,17 @@
 -- What a call comes to, by what the files of the program and of the script hold.
-use Rattle.std.specs.Prelude.{◌≡◌, ◌++◌, ℕ, List, Option, Some, None, if◌then◌else◌, nat_le, length, codes, decimal, IsSomeAnd}
-use Rattle.rte_form.specs.Reading.{IsForm}
+use Rattle.std.specs.Prelude.{◌≡◌, ◌++◌, ℕ, List, Option, Some, None, if◌then◌else◌, nat_le, length, codes, IsSomeAnd}
 use Rattle.rte_form.specs.Report.{report_of}
 use Rattle.rte_form.specs.Script.{end_of}
 use Rattle.rte_form.specs.Target.{names_of, image_of, named_image_of, until}
 use Rattle.rte_form.specs.WellFormed.{IsTimely}
 use Rattle.rte_image.specs.Bytes.{bytes_of}
 use Rattle.rte_log.specs.Line.{log_of}
-use Rattle.rte_read.specs.Source.{IsTreeOf, IsSourceFault, start}
+use Rattle.rte_read.specs.Source.{start}
+use Rattle.rte_program.specs.Program.{IsProgramFault}
+use Rattle.rte_accept.specs.Accept.{IsProgramText, IsFormless, fault_line}
 use Rattle.rte_source.specs.Puts.{PutProg}
 use Rattle.rte_target.specs.Run.{events}
 use Rattle.rte_tree.specs.declared.place.Place.{Place}
-use Rattle.rte_tree.specs.Placed.{Prog}
 
 -- the status, the bytes that are put, and the bytes that are stored, if any are
 pub record Outcome : Type 0 where
@@ -26,25 +26,9 @@ longest_program = 1048576
 abbrev pub longest_script : ℕ
 longest_script = 16777216
 
--- the text has a tree, and the tree is that program of the form
-pub record IsProgramText (text : List ℕ) (f : PutProg) : Type 0 where
-  pub tree : Prog Place
-  pub grown : IsTreeOf text tree
-  pub formed : IsForm tree f
-
--- the text has a tree, and the tree is no program of the form
-pub record IsFormless (text : List ℕ) : Type 0 where
-  pub tree : Prog Place
-  pub grown : IsTreeOf text tree
-  pub formless : (f : PutProg) → ¬ IsForm tree f
-
 -- the end that a text says, if it is a script
 abbrev pub end_in : List ℕ → Option ℕ
 end_in text = if nat_le (length text) longest_script then end_of text else None
-
--- the line of a fault of the program's text
-abbrev pub fault_line : ℕ → Place → List ℕ
-fault_line number place = codes "E" ++ (decimal number ++ (codes " " ++ (decimal place.line ++ (codes ":" ++ (decimal place.col ++ codes "\n")))))
 
 -- the fault line of a text that is too long, or else no script
 abbrev pub script_fault : List ℕ → List ℕ
@@ -84,8 +68,8 @@ IsDueByScript f script outcome = due_by_script f script ≡ Some outcome
 -- what is due, by what the two files hold
 pub data IsDue (program script : Option (List ℕ)) (outcome : Outcome) : Type 0 where
   -- the program's text has a fault: the line of that fault
-  source_fault : (text : List ℕ) (number : ℕ) (place : Place) → program ≡ Some text → IsSourceFault text number place → outcome ≡ refused number place → IsDue program script outcome
-  -- its tree is no program of the form: fault 9, at the first byte
+  source_fault : (text : List ℕ) (number : ℕ) (place : Place) → program ≡ Some text → IsProgramFault text number place → outcome ≡ refused number place → IsDue program script outcome
+  -- its program is not of the form: fault 9, at the first byte
   no_form : (text : List ℕ) → program ≡ Some text → IsFormless text → outcome ≡ refused 9 start → IsDue program script outcome
   -- its program is not timely: the report
   untimely : (text : List ℕ) (f : PutProg) → program ≡ Some text → IsProgramText text f → ¬ IsTimely f → outcome ≡ late f → IsDue program script outcome

@@ -15,7 +15,8 @@ use Rattle.rte_source.specs.Puts.{PutProg, put_prog, put_script}
 use Rattle.rte_source.specs.Source.{EndsWithin, IsSourceRun}
 use Rattle.rte_target.specs.Run.{events}
 use Rattle.rte_cli.specs.Answers.{Outside}
-use Rattle.rte_cli.specs.Due.{longest_program, IsProgramText}
+use Rattle.rte_accept.specs.Accept.{IsProgramText}
+use Rattle.rte_cli.specs.Due.{longest_program}
 use Rattle.rte_cli.specs.Words.{Row}
 
 -- the greatest end of a script

@@ -7,7 +7,7 @@ ghost use Rattle.rte_cli.specs.Headline.{IsDone, IsUnsolved};
 ghost use Rattle.rte_cli.specs.Words.{row_of};
 
 use crate::go::carry_out;
-use crate::law::one_program;
+use rte_accept::one_program;
 use rte_form::law::ends_are_written;
 use rte_io::{Files, Sink};
 use rte_puts::law::{

@@ -3,21 +3,18 @@
 ghost use Rattle.std.specs.Prelude.{◌≡◌, ◌≢◌, ◌≤◌, ◌<◌, ◌⊎◌, ℕ, List, Some, None, IfSome, IfNone, IsSomeAnd, true, string_bytes};
 ghost use Rattle.std.specs.Bool.{OnTrue};
 ghost use Rattle.rte_io.specs.Outside.{Rose, AllStay, OthersStay, Appends, AppendsFront};
-ghost use Rattle.rte_cli.specs.Due.{IsDueByScript, IsDue, ReachesScript, fault_line};
+ghost use Rattle.rte_cli.specs.Due.{IsDueByScript, IsDue, ReachesScript};
 ghost use Rattle.rte_cli.specs.Answers.{IsWhole, IsCut, NothingStored, Went, Completes, IsUsage};
 ghost use Rattle.rte_cli.specs.Words.{row_of, is_command, is_file_name};
 ghost use Rattle.rte_form.specs.Form.{program_of};
 ghost use Rattle.rte_form.specs.Report.{bound_in, report_of};
 ghost use Rattle.rte_form.specs.WellFormed.{IsPutProg};
 
-use crate::bound::bound;
-use crate::fault::fault_text;
-use crate::law::one_program;
 use crate::run::run_program;
-use crate::steps::{Refusal, put, read_program, read_script};
+use crate::steps::read_script;
+use rte_accept::{Refusal, bound, one_program, put, read_program, refuse_text};
 use rte_form::{Form, report};
 use rte_io::{Files, ReadFault, Sink};
-use rte_tree::Place;
 use std::alloc::Global;
 
 /// Reads the script, and goes on with it.
@@ -64,20 +61,6 @@ fn refuse<O: Sink>(alloc: Global, form: &Form, out: &mut O) -> u8
 {
     match report(alloc, form, None) {
         Ok(text) => put(out, text.as_bytes(), 3),
-        Err(_) => 8,
-    }
-}
-
-/// Puts the line of a fault of the program's text.
-fn refuse_text<O: Sink>(alloc: Global, number: u8, place: Place, out: &mut O) -> u8
-    ensures range { (result ≡ 2) ⊎ ((result ≡ 7) ⊎ (result ≡ 8)) }
-    ensures whole { result < 6 → (result ≡ 2) × Appends (O.taken out.old) (O.taken out.new) (fault_line number place) }
-    ensures front { result ≡ 7 → AppendsFront (O.taken out.old) (O.taken out.new) (fault_line number place) }
-    ensures failed { result ≡ 7 → Rose (O.faults out.old) (O.faults out.new) }
-    ensures nothing { result ≡ 8 → O.taken out.new ≡ O.taken out.old }
-{
-    match fault_text(alloc, number, place) {
-        Ok(text) => put(out, text.as_bytes(), 2),
         Err(_) => 8,
     }
 }

@@ -6,11 +6,8 @@
 //! a row went so, whatever the files and the sink do.
 #![tactic(auto)]
 
-mod bound;
 mod call;
-mod fault;
 mod go;
-mod law;
 mod run;
 mod steps;
 

@@ -12,7 +12,7 @@ ghost use Rattle.rte_form.specs.Report.{bound_in};
 ghost use Rattle.rte_image.specs.Bytes.{bytes_of};
 ghost use Rattle.rte_machine.specs.Standing.{IsOf, log_to};
 
-use crate::steps::put;
+use rte_accept::put;
 use rte_form::{Form, report};
 use rte_io::{Files, Sink, WriteFault};
 use rte_machine::{Image, Machine, Script};

@@ -1,7 +1,7 @@
 //! The fault line of a text that is no program text.
 
 ghost use Rattle.std.specs.Prelude.{◌≡◌, ◌++◌, decimal, IfOk, OnOk};
-ghost use Rattle.rte_cli.specs.Due.{fault_line};
+ghost use Rattle.rte_accept.specs.Accept.{fault_line};
 
 use itoa::Buffer;
 use rte_tree::{Place, Text};
