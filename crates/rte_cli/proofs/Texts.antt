@@ -1,13 +1,8 @@
 -- A text is at most one program, and comes to one thing.
 use Rattle.std.proofs.Common.{◌≡◌, ◌≤◌, ℕ, List, Option, Some, None, Bool, true, false, inl, inr, sym, subst, ap, ◌∙◌, refl, arith}
-use Rattle.std.specs.Prelude.{IsSomeAnd, nat_le, cond}
-use Rattle.std.specs.Bool.{OnTrue}
-use Rattle.std.proofs.lemmas.Bool.{leb-true, le-leb}
 use Rattle.rte_tree.specs.declared.place.Place.{Place}
 use Rattle.rte_read.specs.Source.{start}
 use Rattle.rte_program.specs.Program.{IsProgramFault}
-use Rattle.rte_form.specs.Report.{is_timely, bound_in}
-use Rattle.rte_form.specs.Target.{cost_of}
 use Rattle.rte_form.specs.WellFormed.{IsTimely}
 use Rattle.rte_source.specs.Puts.{PutProg}
 use Rattle.rte_cli.specs.Due.{Outcome, refused, late, due_by_script, IsDueByScript, IsDue, source_fault, no_form, untimely, timely}
@@ -61,22 +56,3 @@ only_whole laws p s o other (timely text f held written in_time whole) zero due 
     let others = due_timely laws text f s other written in_time (subst (λ (h : Option (List ℕ)). IsDue h s other) held due) in
     let same : o ≡ other = cc (sym whole ∙ others) in
     sym (ap (λ (x : Outcome). x.status) same) ∙ zero
-
--- ---- a program is timely where it has a bound
-
-by_test : (b : Bool) (cost bound : ℕ) → Some bound ≡ cond b (Some cost) None → (b ≡ true) × (bound ≡ cost)
-by_test true cost bound e = (refl, cc)
-by_test false cost bound e = absurd (cc)
-
-no_bound : (b : Bool) (cost : ℕ) → None ≡ cond b (Some cost) None → b ≡ false
-no_bound true cost e = absurd (cc)
-no_bound false cost e = refl
-
-pub bound_is_timely : (f : PutProg) (bound : ℕ) → Some bound ≡ bound_in f → IsTimely f
-bound_is_timely f bound e = leb-true (cost_of f.puts) f.frame (by_test (is_timely f) (cost_of f.puts) bound e).0
-
-pub boundless_is_late : (f : PutProg) → None ≡ bound_in f → ¬ IsTimely f
-boundless_is_late f e in_time =
-    let on_time : is_timely f ≡ true = le-leb (cost_of f.puts) f.frame in_time in
-    let clash : true ≡ false = sym on_time ∙ no_bound (is_timely f) (cost_of f.puts) e in
-    absurd (cc)

@@ -1,32 +1,33 @@
 -- The commands that read a program and put one text: what they come to, and what a call of one did.
-use Rattle.std.specs.Prelude.{◌≡◌, ◌≢◌, ◌<◌, ◌≤◌, ◌⊎◌, ℕ, Bool, true, false, List, Option, IsSomeAnd}
+use Rattle.std.specs.Prelude.{◌≡◌, ◌≢◌, ◌<◌, ◌≤◌, ◌⊎◌, ℕ, Bool, List, Option, IsSomeAnd}
 use Rattle.std.specs.Bool.{OnTrue}
 use Rattle.rte_tree.specs.declared.place.Place.{Place}
 use Rattle.rte_tree.specs.Placed.{Prog, bare}
 use Rattle.rte_source.specs.Puts.{PutProg}
 use Rattle.rte_io.specs.Outside.{Rose, AllStay, Appends, AppendsFront}
-use Rattle.rte_form.specs.Report.{is_timely, report_of}
+use Rattle.rte_form.specs.Report.{report_of}
+use Rattle.rte_form.specs.WellFormed.{IsTimely}
 use Rattle.rte_print.specs.Canonical.{canonical}
-use Rattle.rte_accept.specs.Accept.{IsAccepted, IsRefusal}
+use Rattle.rte_accept.specs.Accept.{IsAccepted, IsProgramText, IsTextFault, fault_line}
 
 -- the status, and the bytes that are put
 pub record Told : Type 0 where
   pub status : ℕ
   pub text : List ℕ
 
-abbrev pub refused_with : List ℕ → Told
-refused_with line = record { status = 2; text = line }
+abbrev pub refused : ℕ → Place → Told
+refused number place = record { status = 2; text = fault_line number place }
 
--- what `check` tells of a text: the line that refuses it, or the report on its program and whether that is timely
+-- what `check` tells of a text: its fault, or the report on its program and whether that is timely
 pub data IsCheckDue (text : List ℕ) (told : Told) : Type 0 where
-  check_refused : (line : List ℕ) → IsRefusal text line → told ≡ refused_with line → IsCheckDue text told
-  check_timely : (g : Prog Place) (f : PutProg) → IsAccepted text g f → is_timely f ≡ true → told ≡ record { status = 0; text = report_of f } → IsCheckDue text told
-  check_late : (g : Prog Place) (f : PutProg) → IsAccepted text g f → is_timely f ≡ false → told ≡ record { status = 3; text = report_of f } → IsCheckDue text told
+  check_fault : (number : ℕ) (place : Place) → IsTextFault text number place → told ≡ refused number place → IsCheckDue text told
+  check_timely : (f : PutProg) → IsProgramText text f → IsTimely f → told ≡ record { status = 0; text = report_of f } → IsCheckDue text told
+  check_late : (f : PutProg) → IsProgramText text f → ¬ IsTimely f → told ≡ record { status = 3; text = report_of f } → IsCheckDue text told
 
--- what `print` tells of a text: the line that refuses it, or the canonical text of its tree
+-- what `print` tells of a text: its fault, or the canonical text of its tree
 pub data IsPrintDue (text : List ℕ) (told : Told) : Type 0 where
-  print_refused : (line : List ℕ) → IsRefusal text line → told ≡ refused_with line → IsPrintDue text told
-  printed : (g : Prog Place) (f : PutProg) → IsAccepted text g f → told ≡ record { status = 0; text = canonical (bare g) } → IsPrintDue text told
+  print_fault : (number : ℕ) (place : Place) → IsTextFault text number place → told ≡ refused number place → IsPrintDue text told
+  printed : (tree : Prog Place) (f : PutProg) → IsAccepted text tree f → told ≡ record { status = 0; text = canonical (bare tree) } → IsPrintDue text told
 
 -- what is due was told whole
 pub record IsToldWhole (Due : List ℕ → Told → Type 0) (status : ℕ) (taken taken' : Option (List ℕ)) (text : List ℕ) : Type 0 where

@@ -1,29 +1,38 @@
 //! `check`.
 
-ghost use Rattle.std.specs.Prelude.{◌≡◌, ◌≢◌, ◌≤◌, ◌<◌, ◌⊎◌, IsSomeAnd, true, false};
+ghost use Rattle.std.specs.Prelude.{◌≡◌, ◌≢◌, ◌≤◌, ◌<◌, ◌⊎◌, IsSomeAnd};
 ghost use Rattle.std.specs.Bool.{OnTrue};
 ghost use Rattle.rte_io.specs.Outside.{Rose, AllStay, Appends, AppendsFront};
 ghost use Rattle.rte_form.specs.Form.{program_of};
-ghost use Rattle.rte_form.specs.Report.{is_timely, report_of};
-ghost use Rattle.rte_form.specs.WellFormed.{IsPutProg};
+ghost use Rattle.rte_form.specs.Report.{bound_in, report_of};
+ghost use Rattle.rte_form.specs.WellFormed.{IsPutProg, IsTimely};
 ghost use Rattle.rte_inspect.specs.Inspect.{IsCheckDue, IsToldWhole, IsToldInPart, Inspects};
 
-use rte_accept::{FileRefusal, accept_file, put};
+use rte_accept::{Refusal, bound, put, read_program, refuse_text};
 use rte_form::{Form, report};
 use rte_io::{Files, Sink};
 use std::alloc::Global;
 
-/// The status of a program: 0 where it is timely, else 3.
-fn status_of(form: &Form) -> u8
-    requires { IsPutProg (program_of form.now) }
-    ensures timely { is_timely (program_of form.now) ≡ true → result ≡ 0 }
-    ensures late { is_timely (program_of form.now) ≡ false → result ≡ 3 }
-    ensures range { result ≤ 3 }
+/// Puts the report on a program of this bound.
+fn put_report<O: Sink>(
+    alloc: Global,
+    form: &Form,
+    bound: Option<u64>,
+    status: u8,
+    out: &mut O,
+) -> u8
+    requires keeps { IsPutProg (program_of form.now) }
+    requires bound { bound ≡ bound_in (program_of form.now) }
+    requires status { status < 6 }
+    ensures range { (result ≡ status) ⊎ ((result ≡ 7) ⊎ (result ≡ 8)) }
+    ensures whole { result < 6 → Appends (O.taken out.old) (O.taken out.new) (report_of (program_of form.now)) }
+    ensures cut { result ≡ 7 → AppendsFront (O.taken out.old) (O.taken out.new) (report_of (program_of form.now)) }
+    ensures failed { result ≡ 7 → Rose (O.faults out.old) (O.faults out.new) }
+    ensures nothing { result ≡ 8 → O.taken out.new ≡ O.taken out.old }
 {
-    if form.is_timely() {
-        0
-    } else {
-        3
+    match report(alloc, form, bound) {
+        Ok(text) => put(out, text.as_bytes(), status),
+        Err(_) => 8,
     }
 }
 
@@ -31,15 +40,17 @@ fn status_of(form: &Form) -> u8
 fn tell<O: Sink>(alloc: Global, form: &Form, out: &mut O) -> u8
     requires { IsPutProg (program_of form.now) }
     ensures range { (result ≡ 0) ⊎ ((result ≡ 3) ⊎ ((result ≡ 7) ⊎ (result ≡ 8))) }
-    ensures timely { result ≡ 0 → is_timely (program_of form.now) ≡ true }
-    ensures late { result ≡ 3 → is_timely (program_of form.now) ≡ false }
+    ensures timely { result ≡ 0 → IsTimely (program_of form.now) }
+    ensures late { result ≡ 3 → ¬ IsTimely (program_of form.now) }
     ensures whole { result < 6 → Appends (O.taken out.old) (O.taken out.new) (report_of (program_of form.now)) }
     ensures cut { result ≡ 7 → AppendsFront (O.taken out.old) (O.taken out.new) (report_of (program_of form.now)) }
+    ensures cause { result ≡ 7 → IsTimely (program_of form.now) ⊎ ¬ IsTimely (program_of form.now) }
     ensures failed { result ≡ 7 → Rose (O.faults out.old) (O.faults out.new) }
     ensures nothing { result ≡ 8 → O.taken out.new ≡ O.taken out.old }
 {
-    match report(alloc, form) {
-        Ok(text) => put(out, text.as_bytes(), status_of(form)),
+    match bound(alloc, form) {
+        Ok(Some(bound)) => put_report(alloc, form, Some(bound), 0, out),
+        Ok(None) => put_report(alloc, form, None, 3, out),
         Err(_) => 8,
     }
 }
@@ -55,11 +66,11 @@ fn inspect<F: Files, O: Sink>(alloc: Global, name: &str, files: &mut F, out: &mu
     ensures nothing { (result ≡ 6) ⊎ (result ≡ 8) → O.taken out.new ≡ O.taken out.old }
     ensures stays { AllStay (F.held files.old) (F.held files.new) }
 {
-    match accept_file(alloc, files, name) {
-        Ok(accepted) => tell(alloc, &accepted.form, out),
-        Err(FileRefusal::Line(line)) => put(out, line.as_bytes(), 2),
-        Err(FileRefusal::Failed) => 6,
-        Err(FileRefusal::Memory) => 8,
+    match read_program(alloc, files, name) {
+        Ok(form) => tell(alloc, &form, out),
+        Err(Refusal::Fault { number, place }) => refuse_text(alloc, number, place, out),
+        Err(Refusal::Failed) => 6,
+        Err(Refusal::Memory) => 8,
     }
 }
 

@@ -7,7 +7,7 @@ ghost use Rattle.rte_io.specs.Outside.{Rose, AllStay, Appends, AppendsFront};
 ghost use Rattle.rte_print.specs.Canonical.{canonical};
 ghost use Rattle.rte_inspect.specs.Inspect.{IsPrintDue, IsToldWhole, IsToldInPart, Inspects};
 
-use rte_accept::{FileRefusal, accept_file, put};
+use rte_accept::{Refusal, accept_file, put, refuse_text};
 use rte_io::{Files, Sink};
 use rte_tree::Prog;
 use std::alloc::Global;
@@ -38,10 +38,10 @@ fn inspect<F: Files, O: Sink>(alloc: Global, name: &str, files: &mut F, out: &mu
     ensures stays { AllStay (F.held files.old) (F.held files.new) }
 {
     match accept_file(alloc, files, name) {
-        Ok(accepted) => tell(alloc, accepted.checked.prog(), out),
-        Err(FileRefusal::Line(line)) => put(out, line.as_bytes(), 2),
-        Err(FileRefusal::Failed) => 6,
-        Err(FileRefusal::Memory) => 8,
+        Ok(accepted) => tell(alloc, accepted.program.prog(), out),
+        Err(Refusal::Fault { number, place }) => refuse_text(alloc, number, place, out),
+        Err(Refusal::Failed) => 6,
+        Err(Refusal::Memory) => 8,
     }
 }
 
