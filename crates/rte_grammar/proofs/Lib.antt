@@ -8,3 +8,5 @@ pub mod ExprAgain
 pub mod StmtAgain
 pub mod Again
 pub mod TreeWords
+pub mod OpenBasics
+pub mod ExprOpens

@@ -8,7 +8,7 @@ use Rattle.rte_grammar.specs.ExprGrammar.{at, a, ◌▷◌, Each, InParens}
 use Rattle.rte_grammar.specs.StmtGrammar.{IsRef, IsStmt, AreStmts}
 use Rattle.rte_grammar.specs.ExprReading.{Parse, same_word, is_at, is_entry, expect, name, constant, index, args, inner, expr}
 use Rattle.rte_grammar.specs.StmtReading as reading
-use Rattle.rte_grammar.specs.StmtReading.{reference_from, reference, entry, assigned, named_stmt, exit_stmt, get_stmt, put_stmt, assert_stmt, wait_stmt, signal_stmt, broadcast_stmt, except_stmt, plain_stmt, simple_stmt, begins_by, begins, stmts_by, closing, else_by, choice, loop_stmt, stmt_by, stmt}
+use Rattle.rte_grammar.specs.StmtReading.{reference_from, reference, entry_args, entry, assigned, named_stmt, exit_stmt, get_stmt, put_stmt, assert_stmt, wait_stmt, signal_stmt, broadcast_stmt, except_stmt, plain_stmt, simple_stmt, begins_by, begins, stmts_by, closing, else_by, choice, loop_stmt, stmt_by, stmt}
 use Rattle.rte_grammar.proofs.Basics.{IsName}
 use Rattle.rte_grammar.proofs.Shorter.{stmt-shorter}
 use Rattle.rte_grammar.proofs.AgainBasics.{step, if-true, if-false, Again, expect_again, name_again, Stop, Ends, stop-at, many_again}
@@ -99,13 +99,18 @@ module _ {P : Type 0} where
   parens-begin v same zero es ts us took = absurd took
   parens-begin v same (suc depth) es ts us (vs, (q, l), more) = ap (is_at v) l ∙ same
 
+  entry_args_again : (depth : ℕ) (es : Exprs P) (ts us : List (Tok P)) → InParens depth es ts us → entry_args depth ts ≡ Ok (arg_list es, us)
+  unfolding entry_args
+  entry_args_again depth es ts us took =
+      if-true (is_at w.LEFT_PAREN ts) _ _ _ (parens-begin w.LEFT_PAREN refl depth es ts us took) (args-again depth es ts us took)
+
   entry_again : (depth : ℕ) (n : Name × P) (es : Exprs P) (ts us : List (Tok P)) → (a w.DOT ▷ IsName n ▷ InParens depth es) ts us
       → entry depth ts ≡ Ok ((n.0, n.1, arg_list es), us)
   unfolding entry
   entry_again depth n es ts us (v1, (q1, t1), (v2, t2, t3)) =
       step (expect w.DOT ts) _ (q1, v1) _ (expect_again w.DOT q1 ts v1 refl t1)
       (step (name v1) _ (n, v2) _ (name_again n v1 v2 t2)
-      (step (args (inner depth) v2) _ (arg_list es, us) _ (args-again depth es v2 us t3)
+      (step (entry_args depth v2) _ (arg_list es, us) _ (entry_args_again depth es v2 us t3)
       refl))
 
   name-stmt : (depth : ℕ) (n : Name × P) (ts vs : List (Tok P)) → IsName n ts vs → stmt depth ts ≡ named_stmt depth n vs
