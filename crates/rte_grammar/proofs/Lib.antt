@@ -10,3 +10,4 @@ pub mod Again
 pub mod TreeWords
 pub mod OpenBasics
 pub mod ExprOpens
+pub mod StmtOpens

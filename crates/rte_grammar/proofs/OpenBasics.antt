@@ -19,6 +19,10 @@ pub past : {A B : Type 0} (r : Result A Fault) (f : A → Result B Fault) (g : F
     → (x : A) × (r ≡ Ok x) × (f x ≡ Err g)
 past r f g never e = by_step r f g (λ e. absurd (never e)) (λ x is e. (x, is, e)) e
 
+-- what was read is no fault
+pub no_fault : {A : Type 0} (x : A) (g : Fault) → ◌≡◌ {A = Result A Fault} (Ok x) (Err g) → ⊥
+no_fault x g e = cc
+
 module _ {P : Type 0} where
   -- up to where so many tokens are left
   abbrev pub Reaches : Part P → List (Tok P) → ℕ → Type 0

@@ -16,7 +16,7 @@ module _ {P : Type 0} where
   abbrev front : Name × P → List (Tok P) → List (Tok P)
   front n ts = record { word = named n.0; place = n.1 } ∷ ts
 
-  reference_from_sound : (depth : ℕ) (n : Name × P) → Sound (reference_from depth n) (λ r ts us. IsRef depth r (front n ts) us)
+  pub reference_from_sound : (depth : ℕ) (n : Name × P) → Sound (reference_from depth n) (λ r ts us. IsRef depth r (front n ts) us)
   unfolding reference_from
   reference_from_sound depth n ts us r e =
       by_if (is_at w.LEFT_BRACKET ts) _ _ _
@@ -183,7 +183,7 @@ module _ {P : Type 0} where
 
   -- ---- statements with others inside
 
-  stmts-of : (depth : ℕ) (ss : List (Stmt P)) (ts us : List (Tok P)) → Each (IsStmt depth) ss ts us → AreStmts depth (stmts_of ss) ts us
+  pub stmts-of : (depth : ℕ) (ss : List (Stmt P)) (ts us : List (Tok P)) → Each (IsStmt depth) ss ts us → AreStmts depth (stmts_of ss) ts us
   stmts-of depth [] ts us took = took
   stmts-of depth (s ∷ ss) ts us (vs, took, more) = (vs, took, stmts-of depth ss vs us more)
 
@@ -193,7 +193,7 @@ module _ {P : Type 0} where
       let c = bind_ok (expect w.END ts) _ _ e in (c.0.1, a_sound w.END ts c.0.1 c.0.0 c.1, a_sound word c.0.1 us p c.2)
 
   module _ (depth : ℕ) (p : Parse P (Stmt P)) (sound : Sound p (IsStmt depth)) where
-    stmts_sound : Sound (stmts_by p) (λ ss. AreStmts depth (stmts_of ss))
+    pub stmts_sound : Sound (stmts_by p) (λ ss. AreStmts depth (stmts_of ss))
     unfolding stmts_by
     stmts_sound ts us ss e = stmts-of depth ss ts us (many_sound p (IsStmt depth) sound begins ts us ss e)
 
