@@ -1,15 +1,15 @@
 -- Where a fault of nesting comes from in an expression.
-use Rattle.std.proofs.Common.{◌≡◌, ℕ, zero, suc, ◌≤◌, ◌<◌, List, [], ◌∷◌, length, true, false, inl, inr, Result, Ok, Err, Option, Some, None, refl, ap, sym, subst, arith}
+use Rattle.std.proofs.Common.{◌≡◌, ℕ, zero, suc, ◌≤◌, ◌<◌, List, [], ◌∷◌, length, true, inl, inr, Err, Option, Some, None, refl, ap, sym, subst, arith}
 use Rattle.rte_tree.specs.Plain.{Name, Op}
 use Rattle.rte_tree.specs.Placed.{Expr}
 use Rattle.rte_grammar.specs.Words as w
 use Rattle.rte_grammar.specs.Words.{Word, named, Tok}
-use Rattle.rte_grammar.specs.ExprGrammar.{a, ◌▷◌, Each, OfLevel, IsExpr}
-use Rattle.rte_grammar.specs.Opening.{Part, Whole, HaveOperators, UpToFactor, OpensFactor, OpensExpr, OpensIndex, OpensArgs}
-use Rattle.rte_grammar.specs.ExprReading.{nesting, Parse, is_at, is_name, is_literal, expect, name, numeral, signless, unsigned, constant, op_at, is_some, next, operand_by, operand_at, turns, operands_at, row_at, level, index, args, named_factor, minus_factor, negation_factor, paren_factor, simple_factor, factor_in, factor, inner, expr}
+use Rattle.rte_grammar.specs.ExprGrammar.{◌▷◌, Each, OfLevel, IsExpr}
+use Rattle.rte_grammar.specs.Opening.{Part, Whole, UpToFactor, OpensFactor, OpensExpr, OpensIndex, OpensArgs}
+use Rattle.rte_grammar.specs.ExprReading.{nesting, Parse, is_at, is_name, is_literal, numeral, signless, unsigned, constant, op_at, is_some, next, operand_by, operand_at, turns, operands_at, row_at, level, index, args, named_factor, minus_factor, negation_factor, paren_factor, simple_factor, factor_in, factor, inner, expr}
 use Rattle.rte_grammar.proofs.Basics.{by_if, Sound, a_sound, name_sound}
 use Rattle.rte_grammar.proofs.ExprSound.{op_sound, IsPair, operand_sound, level_sound, InnerSound, factor_sound}
-use Rattle.rte_grammar.proofs.OpenBasics.{by_step, past, Reaches, Opens, Never, numeral_never, name_never, past_word, past_name, here_opens, each_opens, in_parens_opens}
+use Rattle.rte_grammar.proofs.OpenBasics.{by_step, past, Reaches, Opens, Never, numeral_never, past_word, past_name, here_opens, each_opens, in_parens_opens}
 
 module _ {P : Type 0} where
   -- ---- constants
@@ -72,8 +72,8 @@ module _ {P : Type 0} where
         by_step (operands_at (suc l) p x.1) _ (nesting n)
         (λ bad.
         let (rs, vs, took, few, (us, (v1, (op, is), (v2, up, o)), left)) =
-            each_opens (operand_at (suc l) p) (IsPair l depth) (operand_sound l depth p sound) (Whole (OfLevel (suc l)) ▷ UpToFactor l depth ▷ O) operand_opens
-            (λ us. is_some (op_at (suc l) us)) (turns (suc l) x.1) x.1 n bad in
+        each_opens (operand_at (suc l) p) (IsPair l depth) (operand_sound l depth p sound) (Whole (OfLevel (suc l)) ▷ UpToFactor l depth ▷ O) operand_opens
+        (λ us. is_some (op_at (suc l) us)) (turns (suc l) x.1) x.1 n bad in
         let all = are-behind l depth x.0 rs op ts x.1 vs v1 (sound ts x.1 x.0 good) took is in
         let one = λ (three : suc l ≡ 3). subst (λ k. k ≤ 1) (sym (length-behind x.0 rs op)) (only-one (suc l) x.1 (length rs) few three) in
         (us, (v2, (v1, (behind x.0 rs op, (one, all)), up), o), left))

@@ -11,3 +11,4 @@ pub mod TreeWords
 pub mod OpenBasics
 pub mod ExprOpens
 pub mod StmtOpens
+pub mod ProgOpens

@@ -1,12 +1,12 @@
 -- Where a fault of nesting comes from: steps, single tokens and lists.
-use Rattle.std.proofs.Common.{◌≡◌, ℕ, zero, suc, ◌≤◌, ◌<◌, List, [], ◌∷◌, length, Bool, true, false, Result, Ok, Err, refl, ap, sym, subst, arith}
+use Rattle.std.proofs.Common.{◌≡◌, ℕ, zero, suc, ◌<◌, List, [], ◌∷◌, length, Bool, true, Result, Ok, Err, refl, ap, sym, subst, arith}
 use Rattle.rte_tree.specs.Plain.{Name}
 use Rattle.rte_grammar.specs.Words as w
 use Rattle.rte_grammar.specs.Words.{Word, named, number, keyword, sign, Tok}
-use Rattle.rte_grammar.specs.ExprGrammar.{at, a, ◌▷◌, Each}
+use Rattle.rte_grammar.specs.ExprGrammar.{a, ◌▷◌, Each}
 use Rattle.rte_grammar.specs.Opening.{Part, Whole, here}
-use Rattle.rte_grammar.specs.ExprReading.{Fault, syntax, nesting, ◌>>=◌, Parse, too_deep, same_word, is_at, expect, name_by, name, numeral_by, numeral, each, many, behind_comma, listed, some_listed, in_parens}
-use Rattle.rte_grammar.proofs.Basics.{by_if, same-word, Sound, a_sound, many_sound, behind_comma_sound}
+use Rattle.rte_grammar.specs.ExprReading.{Fault, nesting, ◌>>=◌, Parse, too_deep, same_word, is_at, expect, name_by, name, numeral_by, numeral, each, many, behind_comma, listed, some_listed, in_parens}
+use Rattle.rte_grammar.proofs.Basics.{by_if, same-word, Sound, a_sound, behind_comma_sound}
 
 -- by the step that was at fault
 pub by_step : {A B C : Type 0} (r : Result A Fault) (f : A → Result B Fault) (g : Fault) → (r ≡ Err g → C) → ((x : A) → r ≡ Ok x → f x ≡ Err g → C)
@@ -165,7 +165,7 @@ module _ {P : Type 0} where
         by_step (many (is_at w.COMMA) (behind_comma p) x.1) _ (nesting m)
         (λ bad.
         let (us, (vs, (xs, took), (ws, comma, last)), n) =
-            many_opens (behind_comma p) (λ x. a w.COMMA ▷ R x) (behind_comma_sound p R sound) (a w.COMMA ▷ O) (behind_comma_opens p R sound O opens) (is_at w.COMMA) x.1 m bad in
+        many_opens (behind_comma p) (λ x. a w.COMMA ▷ R x) (behind_comma_sound p R sound) (a w.COMMA ▷ O) (behind_comma_opens p R sound O opens) (is_at w.COMMA) x.1 m bad in
         (us, (ws, (x.0 ∷ xs, commas-behind R x.0 xs ts x.1 vs ws (sound ts x.1 x.0 good) took comma), last), n))
         (λ y good e. cc) e) e
 

@@ -1,16 +1,16 @@
 -- Where a fault of nesting comes from in a statement.
-use Rattle.std.proofs.Common.{◌≡◌, ℕ, zero, suc, List, [], ◌∷◌, true, false, inl, inr, Result, Ok, Err, refl, sym, subst}
+use Rattle.std.proofs.Common.{◌≡◌, ℕ, zero, suc, List, ◌∷◌, true, inl, inr, Result, Ok, Err, refl, sym, subst}
 use Rattle.rte_tree.specs.Plain.{Name}
 use Rattle.rte_tree.specs.Placed.{Constant, Expr, Ref, Stmt, stmts_of}
 use Rattle.rte_grammar.specs.Words as w
 use Rattle.rte_grammar.specs.Words.{Word, named, Tok}
-use Rattle.rte_grammar.specs.ExprGrammar.{a, ◌▷◌, Each}
-use Rattle.rte_grammar.specs.StmtGrammar.{IsRef, IsStmt, AreStmts}
+use Rattle.rte_grammar.specs.ExprGrammar.{a, ◌▷◌}
+use Rattle.rte_grammar.specs.StmtGrammar.{IsRef, IsStmt}
 use Rattle.rte_grammar.specs.Opening.{Part, Whole, ◌∪◌, a_name, OpensExpr, OpensArgs, OpensRef, OpensSimple, OpensStmt, OpensStmts}
-use Rattle.rte_grammar.specs.ExprReading.{Fault, nesting, ◌>>=◌, Parse, too_deep, is_at, is_name, is_entry, expect, name, constant, index, args, inner, expr}
+use Rattle.rte_grammar.specs.ExprReading.{Fault, nesting, ◌>>=◌, Parse, too_deep, is_at, is_name, is_entry, name, constant, index, args, inner, expr}
 use Rattle.rte_grammar.specs.StmtReading as reading
 use Rattle.rte_grammar.specs.StmtReading.{reference_from, reference, entry_args, entry, assigned, named_stmt, exit_stmt, get_stmt, put_stmt, assert_stmt, wait_stmt, signal_stmt, broadcast_stmt, except_stmt, plain_stmt, simple_stmt, begins, stmts_by, closing, else_by, choice, loop_stmt, stmt_by, stmt}
-use Rattle.rte_grammar.proofs.Basics.{by_if, Sound, a_sound, name_sound}
+use Rattle.rte_grammar.proofs.Basics.{by_if, a_sound, name_sound}
 use Rattle.rte_grammar.proofs.ExprSound.{constant_sound, inner_sound, expr_sound}
 use Rattle.rte_grammar.proofs.StmtSound.{reference_from_sound, stmts-of, stmts_sound, stmt_sound}
 use Rattle.rte_grammar.proofs.OpenBasics.{by_step, past, no_fault, Reaches, Opens, Never, past_word, past_name, expect_never, here_opens, many_opens}
@@ -26,7 +26,7 @@ module _ {P : Type 0} where
   past_constant ts f n e = past (constant ts) f (nesting n) (constant_never ts n) e
 
   -- a name that was read
-  name-read : (ts us : List (Tok P)) (m : Name × P) → name ts ≡ Ok (m, us) → a_name ts us
+  pub name-read : (ts us : List (Tok P)) (m : Name × P) → name ts ≡ Ok (m, us) → a_name ts us
   name-read ts us m e = (m.0, (m.1, name_sound ts us m e))
 
   args-opens : (depth : ℕ) (ts : List (Tok P)) (n : ℕ) → is_at w.LEFT_PAREN ts ≡ true → args (inner depth) ts ≡ Err (nesting n) → Reaches (OpensArgs depth) ts n
