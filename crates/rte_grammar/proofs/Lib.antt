@@ -12,3 +12,5 @@ pub mod OpenBasics
 pub mod ExprOpens
 pub mod StmtOpens
 pub mod ProgOpens
+pub mod Tails
+pub mod OpenTails
