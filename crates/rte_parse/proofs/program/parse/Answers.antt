@@ -7,7 +7,7 @@ use Rattle.rte_grammar.proofs.Sound.{whole_sound}
 use Rattle.rte_grammar.proofs.Again.{one_tree}
 use Rattle.rte_parse.specs.declared.fault.Refusal.TheVariants as refusal
 use Rattle.rte_parse.specs.Reads.{Gives}
-use Rattle.rte_parse.proofs.Laws.{no_tree}
+use Rattle.rte_parse.proofs.Laws.{no_tree, opening}
 use Rattle.rte_parse.proofs.program.parse.Goals as goal
 
 pub returns-in-Ok-clause-found : goal.returns-in-Ok-clause-found
@@ -35,3 +35,19 @@ returns-in-Err-Nesting-clause-only c g tree =
     absurd (no_tree (toks_of c.args.text.now c.args.tokens.now.list) (nesting c.in-Err-Nesting.left)
     (ap (λ l. whole (toks_of c.args.text.now l)) (sym c.as_slice.ensures)
     ∙ subst (λ r. Gives placed (whole (toks_of c.args.text.now c.as_slice.result.now)) (Err r)) is c.in-Err-Nesting.ensures) g tree)
+
+pub returns-in-Err-Nesting-clause-nesting : goal.returns-in-Err-Nesting-clause-nesting
+returns-in-Err-Nesting-clause-nesting c p same =
+    let is : c.in-Err-Nesting.field-0 ≡ refusal.Nesting c.in-Err-Nesting.left = c.in-Err-Nesting.field-0-is in
+    let it = opening c.args.text.now c.args.tokens.now.list c.in-Err-Nesting.left
+    (ap (λ l. whole (toks_of c.args.text.now l)) (sym c.as_slice.ensures)
+    ∙ subst (λ r. Gives placed (whole (toks_of c.args.text.now c.as_slice.result.now)) (Err r)) is c.in-Err-Nesting.ensures) in
+    let there : c.place_of-in-Err-Nesting.result ≡ p = cc in
+    record {
+      before = it.before;
+      token = it.token;
+      after = it.after;
+      all = it.all;
+      opens = it.opens;
+      stands = sym there ∙ c.place_of-in-Err-Nesting.ensures.at it.before it.after it.token it.all it.count;
+    }
