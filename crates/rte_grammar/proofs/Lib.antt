@@ -14,3 +14,5 @@ pub mod StmtOpens
 pub mod ProgOpens
 pub mod Tails
 pub mod OpenTails
+pub mod DeepBasics
+pub mod ExprDeep

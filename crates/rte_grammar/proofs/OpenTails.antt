@@ -1,5 +1,5 @@
 -- A token that opens a level beyond the last is one of the list.
-use Rattle.std.proofs.Common.{◌≡◌, ℕ, zero, suc, List, [], ◌∷◌, ◌++◌, inl, inr, ap, sym, ◌∙◌, append_assoc}
+use Rattle.std.proofs.Common.{◌≡◌, ℕ, zero, suc, ◌<◌, List, [], ◌∷◌, ◌++◌, length, inl, inr, ap, sym, ◌∙◌, length-append, arith}
 use Rattle.rte_tree.specs.Plain.{Op}
 use Rattle.rte_tree.specs.Placed.{RoutineKind, function}
 use Rattle.rte_grammar.specs.Words as w
@@ -22,8 +22,12 @@ module _ {P : Type 0} where
   ◌⨟◌ : {ts us vs : List (Tok P)} → IsEnd ts us → IsAt us vs → IsAt ts vs
   ◌⨟◌ h g = record { end = h ⨾ g.end; first = g.first; rest = g.rest; is = g.is }
 
-  abbrev Stops : Part P → Type 0
+  abbrev pub Stops : Part P → Type 0
   Stops R = (ts us : List (Tok P)) → R ts us → IsAt ts us
+
+  -- so it has a token
+  pub some-at : (ts us : List (Tok P)) → IsAt ts us → 0 < length ts
+  some-at ts us it = let e = ap length (it.end.is ∙ ap (λ x. it.end.front ++ x) it.is) in omega (arith, simp length-append at e)
 
   here-at : (word : Word) → Stops (here word)
   here-at word ts us (same, (vs, (p, took))) =
@@ -53,7 +57,7 @@ module _ {P : Type 0} where
   into-end depth ts us (inr (inr (inr (inr (v1, t1, (v2, t2, (v3, t3, t4))))))) =
       name-end ts v1 t1 ⨾ a-end w.LEFT_PAREN v1 v2 t2 ⨾ arg-end depth v2 v3 t3 ⨾ up-end 5 depth v3 us t4
 
-  factor-at : (depth : ℕ) → Stops (OpensFactor depth)
+  pub factor-at : (depth : ℕ) → Stops (OpensFactor depth)
   unfolding OpensFactor
   factor-at zero ts us (inl took) = here-at w.MINUS ts us took
   factor-at zero ts us (inr (inl took)) = here-at w.NOT ts us took
@@ -62,7 +66,7 @@ module _ {P : Type 0} where
   factor-at zero ts us (inr (inr (inr (inr (v1, t1, t2))))) = name-end ts v1 t1 ⨟ here-at w.LEFT_PAREN v1 us t2
   factor-at (suc depth) ts us (v1, t1, t2) = into-end depth ts v1 t1 ⨟ factor-at depth v1 us t2
 
-  expr-at : (depth : ℕ) → Stops (OpensExpr depth)
+  pub expr-at : (depth : ℕ) → Stops (OpensExpr depth)
   expr-at depth ts us (v1, t1, t2) = up-end 5 depth ts v1 t1 ⨟ factor-at depth v1 us t2
 
   index-at : (depth : ℕ) → Stops (OpensIndex depth)
@@ -111,7 +115,7 @@ module _ {P : Type 0} where
       a-end w.FOR ts v1 t1 ⨾ name-end v1 v2 t2 ⨾ a-end w.COLON v2 v3 t3 ⨾ whole-constant v3 v4 t4 ⨾ a-end w.RANGE v4 v5 t5 ⨾ whole-constant v5 v6 t6
       ⨾ a-end w.DO v6 v7 t7 ⨾ whole-stmts depth v7 us t8
 
-  stmt-at : (depth : ℕ) → Stops (OpensStmt depth)
+  pub stmt-at : (depth : ℕ) → Stops (OpensStmt depth)
   unfolding OpensStmt
   stmt-at zero ts us (inl took) = here-at w.IF ts us took
   stmt-at zero ts us (inr (inl took)) = here-at w.FOR ts us took
@@ -130,7 +134,7 @@ module _ {P : Type 0} where
       a-end (kind_word k) ts v1 t1 ⨾ name-end v1 v2 t2 ⨾ a-end w.LEFT_PAREN v2 v3 t3 ⨾ some-listed-end IsParam param-end ps v3 v4 t4
       ⨾ a-end w.RIGHT_PAREN v4 v5 t5 ⨾ result-end k s v5 v6 t6 ⨾ each-end IsVar var-end vs v6 v7 t7 ⨾ a-end w.BEGIN v7 us t8
 
-  routine-at : Stops OpensRoutine
+  pub routine-at : Stops OpensRoutine
   routine-at ts us (inl (v1, (k, t1), t2)) = front-end k ts v1 t1 ⨟ stmts-at MOST_LEVELS v1 us t2
   routine-at ts us (inr (v1, t1, (v2, t2, (v3, t3, t4)))) =
       front-end function ts v1 t1 ⨟ whole-stmts MOST_LEVELS v1 v2 t2 ⨟ a-end w.RETURN v2 v3 t3 ⨟ expr-at MOST_LEVELS v3 us t4
@@ -152,7 +156,7 @@ module _ {P : Type 0} where
       process-end ts v1 t1 ⨟ a-end w.BEGIN v1 v2 t2 ⨟ whole-stmts MOST_LEVELS v2 v3 t3 ⨟ a-end w.HANDLER v3 v4 t4 ⨟ a-end w.LEFT_PAREN v4 v5 t5
       ⨟ listed-end IsConstant constant-end ns v5 v6 t6 ⨟ a-end w.RIGHT_PAREN v6 v7 t7 ⨟ stmts-at MOST_LEVELS v7 us t8
 
-  decl-at : Stops OpensDecl
+  pub decl-at : Stops OpensDecl
   decl-at ts us (inl took) = routine-at ts us took
   decl-at ts us (inr (inl took)) = monitor-at ts us took
   decl-at ts us (inr (inr took)) = process-at ts us took
