@@ -16,3 +16,4 @@ pub mod Tails
 pub mod OpenTails
 pub mod DeepBasics
 pub mod ExprDeep
+pub mod StmtDeep
