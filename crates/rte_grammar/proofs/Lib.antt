@@ -17,3 +17,4 @@ pub mod OpenTails
 pub mod DeepBasics
 pub mod ExprDeep
 pub mod StmtDeep
+pub mod ProgDeep
