@@ -12,6 +12,8 @@ use Rattle.rte_grammar.specs.Reading.{whole}
 use Rattle.rte_grammar.proofs.Again.{whole_again}
 use Rattle.rte_grammar.proofs.ProgOpens.{whole_opens}
 use Rattle.rte_grammar.proofs.OpenTails.{prog-at}
+use Rattle.rte_grammar.proofs.ProgDeep.{whole_finds}
+use Rattle.rte_parse.specs.Faults.{OpensAt}
 
 pub no_tree : {P : Type 0} (ts : List (Tok P)) (f : Fault) → whole ts ≡ Err f → (g : Prog P) → IsProg g ts [] → ⊥
 no_tree {P} ts f e g took = let both : ◌≡◌ {A = Result (Prog P) Fault} (Ok g) (Err f) = sym (whole_again ts g took) ∙ e in cc
@@ -35,17 +37,19 @@ pub record Opening (text : List ℕ) (toks : List Token) (left : ℕ) : Type 0 w
   pub count : left ≡ length (token ∷ after)
   pub opens : OpensProg (toks_of text toks) (toks_of text (token ∷ after))
 
+length-toks : (text : List ℕ) (toks : List Token) → length (toks_of text toks) ≡ length toks
+length-toks text toks = grind (arith, common_steps)
+
 from-end : (text : List ℕ) (toks before after : List Token) (us rest : List (Tok Place)) (first : Tok Place) (n : ℕ) → OpensProg (toks_of text toks) us → length us ≡ n → us ≡ first ∷ rest
     → toks ≡ before ++ after → us ≡ toks_of text after → Opening text toks n
 from-end text toks before [] us rest first n opens left some all is = let none = sym some ∙ is in cc
 from-end text toks before (t ∷ after) us rest first n opens left some all is =
-    let count : length (toks_of text (t ∷ after)) ≡ length (t ∷ after) = grind (arith, common_steps) in
     record {
       before = before;
       token = t;
       after = after;
       all = all;
-      count = sym left ∙ ap length is ∙ count;
+      count = sym left ∙ ap length is ∙ length-toks text (t ∷ after);
       opens = subst (OpensProg (toks_of text toks)) is opens;
     }
 
@@ -55,3 +59,8 @@ opening text toks left e =
     let at = prog-at (toks_of text toks) us opens in
     let (before, after, all, is) = map-end (tok text) toks at.end.front us at.end.is in
     from-end text toks before after us at.rest at.first left opens count at.is all is
+
+-- where a token opens a level beyond the last, reading stops at it
+pub stopped : (text : List ℕ) (toks : List Token) (p : Place) (o : OpensAt text toks p) → whole (toks_of text toks) ≡ Err (nesting (length (o.token ∷ o.after)))
+stopped text toks p o =
+    whole_finds (toks_of text toks) (toks_of text (o.token ∷ o.after)) o.opens ∙ ap (λ n. Err (nesting n)) (length-toks text (o.token ∷ o.after))

@@ -1,6 +1,6 @@
 //! Reading a whole text.
 
-ghost use Rattle.std.specs.Prelude.{◌≡◌, List, ◌∷◌, ◌++◌, length, IfOk, IfErr, MatchResult};
+ghost use Rattle.std.specs.Prelude.{◌≡◌, List, ◌∷◌, ◌++◌, length, ◌⊎◌, IfOk, IfErr, MatchResult};
 ghost use Rattle.rte_tree.specs.Placed.{placed, Prog as SpecProg};
 ghost use Rattle.rte_tree.specs.declared.place.Place.{Place as SpecPlace};
 ghost use Rattle.rte_lex.specs.declared.token.Token.{Token as SpecToken};
@@ -65,6 +65,8 @@ pub fn parse(alloc: Global, text: &[u8], tokens: &Tokens) -> Result<Prog, SynFau
     ensures place { IfErr result (λ f. StandsIn tokens.now f) }
     // A fault of nesting stands at a token that opens level 65.
     ensures nesting { (p : SpecPlace) → result ≡ Err (SynFault.Nesting p) → OpensAt text.now tokens.now.list p }
+    // Where a token opens level 65 it is the fault, unless memory runs out.
+    ensures too_deep { (p : SpecPlace) → OpensAt text.now tokens.now.list p → (result ≡ Err (SynFault.Nesting p)) ⊎ (result ≡ Err SynFault.Memory) }
 {
     match read(alloc, text, tokens.as_slice()) {
         Ok(prog) => Ok(prog),
