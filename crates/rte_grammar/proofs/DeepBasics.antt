@@ -1,5 +1,5 @@
 -- A token that opens a level beyond the last is found as a fault of nesting: steps, single tokens and lists.
-use Rattle.std.proofs.Common.{◌≡◌, ℕ, zero, suc, ◌≤◌, ◌<◌, List, [], ◌∷◌, length, Bool, true, false, Result, Ok, Err, refl, ap, sym, ◌∙◌, subst, arith}
+use Rattle.std.proofs.Common.{◌≡◌, ℕ, zero, suc, ◌<◌, List, [], ◌∷◌, length, Bool, true, false, Result, Err, refl, ap, sym, ◌∙◌, subst, arith}
 use Rattle.rte_grammar.specs.Words as w
 use Rattle.rte_grammar.specs.Words.{Word, Tok}
 use Rattle.rte_grammar.specs.ExprGrammar.{a, ◌▷◌, Each}

@@ -1,13 +1,13 @@
 -- In an expression, a token that opens a level beyond the last is found as a fault of nesting.
-use Rattle.std.proofs.Common.{◌≡◌, ℕ, zero, suc, ◌≤◌, ◌<◌, List, [], ◌∷◌, length, Bool, true, false, cond, nat_eq, inl, inr, Result, Ok, Err, Option, Some, None, refl, ap, sym, ◌∙◌, subst, arith}
+use Rattle.std.proofs.Common.{◌≡◌, ℕ, zero, suc, ◌≤◌, ◌<◌, List, [], ◌∷◌, length, Bool, true, false, cond, nat_eq, inl, inr, Option, Some, None, refl, ap, sym, ◌∙◌, subst, arith}
 use Rattle.std.proofs.lemmas.Bool.{eqb-true}
 use Rattle.rte_tree.specs.Plain.{Name, Op}
 use Rattle.rte_tree.specs.Placed.{Expr}
 use Rattle.rte_grammar.specs.Words as w
 use Rattle.rte_grammar.specs.Words.{Word, named, Tok}
-use Rattle.rte_grammar.specs.ExprGrammar.{at, a, ◌▷◌, Each, OfLevel, IsExpr}
+use Rattle.rte_grammar.specs.ExprGrammar.{◌▷◌, Each, OfLevel, IsExpr}
 use Rattle.rte_grammar.specs.Opening.{Part, Whole, UpToFactor, OpensFactor, OpensExpr, OpensIndex, OpensArgs}
-use Rattle.rte_grammar.specs.ExprReading.{nesting, Parse, same_word, is_at, is_entry, expect, op_at, is_some, next, operand_by, operand_at, turns, operands_at, row_at, level, index, args, named_factor, minus_factor, negation_factor, paren_factor, factor_in, factor, inner, expr}
+use Rattle.rte_grammar.specs.ExprReading.{Parse, same_word, is_at, is_entry, expect, op_at, is_some, next, operand_by, operand_at, turns, operands_at, row_at, level, index, args, named_factor, minus_factor, negation_factor, paren_factor, factor_in, factor, inner, expr}
 use Rattle.rte_grammar.proofs.Shorter.{a-shorter, expr-shorter}
 use Rattle.rte_grammar.proofs.AgainBasics.{step, if-true, if-false, Again, expect_again, Stop, stop-a, op_again, stop-op}
 use Rattle.rte_grammar.proofs.ExprAgain.{BeginsNone, IsPair, count-pairs, operand_again, pair-goes, pair-starts, level_again, expr-begins, expr-entry, InnerAgain, name-factor, factor_again}

@@ -1,12 +1,11 @@
 -- A token that opens a level beyond the last is one of the list.
-use Rattle.std.proofs.Common.{◌≡◌, ℕ, zero, suc, ◌<◌, List, [], ◌∷◌, ◌++◌, length, inl, inr, ap, sym, ◌∙◌, length-append, arith}
-use Rattle.rte_tree.specs.Plain.{Op}
+use Rattle.std.proofs.Common.{◌≡◌, ℕ, zero, suc, ◌<◌, List, ◌∷◌, ◌++◌, length, inl, inr, ap, sym, ◌∙◌, length-append, arith}
 use Rattle.rte_tree.specs.Placed.{RoutineKind, function}
 use Rattle.rte_grammar.specs.Words as w
 use Rattle.rte_grammar.specs.Words.{Word, named, Tok}
-use Rattle.rte_grammar.specs.ExprGrammar.{a, ◌▷◌, Each, Listed, SomeListed, IsConstant, op_word, OfLevel, IsExpr}
+use Rattle.rte_grammar.specs.ExprGrammar.{a, ◌▷◌, IsConstant, op_word, OfLevel, IsExpr}
 use Rattle.rte_grammar.specs.StmtGrammar.{IsRef, AreStmts}
-use Rattle.rte_grammar.specs.Grammar.{MOST_LEVELS, kind_word, IsVar, IsParam, IsResult, IsRoutine, IsMember, IsEntry, IsActivation, IsDecl}
+use Rattle.rte_grammar.specs.Grammar.{MOST_LEVELS, kind_word, IsVar, IsParam, IsRoutine, IsMember, IsEntry, IsDecl}
 use Rattle.rte_grammar.specs.Opening.{Part, Whole, here, a_name, UpToFactor, UpToArg, IntoFactor, OpensFactor, OpensExpr, OpensIndex, OpensArgs, OpensRef, OpensSimple, IntoStmt, OpensStmt, OpensStmts, RoutineFront, OpensRoutine, OpensMonitor, ProcessFront, OpensProcess, OpensDecl, OpensProg}
 use Rattle.rte_grammar.proofs.Tails.{IsEnd, ◌⨾◌, Leaves, nothing-end, a-end, each-end, listed-end, some-listed-end, constant-end, expr-end, ref-end, stmts-end, var-end, param-end, result-end, routine-end, member-end, entry-end, activation-end, decl-end}
 

@@ -1,19 +1,19 @@
 -- In a program, a token that opens a level beyond the last is found as a fault of nesting.
-use Rattle.std.proofs.Common.{◌≡◌, ◌<◌, List, [], ◌∷◌, length, Bool, true, false, inl, inr, Result, Ok, Err, refl, ap, ◌∙◌, arith}
+use Rattle.std.proofs.Common.{◌≡◌, List, length, true, false, inl, inr, Err, refl, ap, ◌∙◌, arith}
 use Rattle.rte_tree.specs.Placed.{RoutineKind, procedure, function}
 use Rattle.rte_grammar.specs.Words as w
 use Rattle.rte_grammar.specs.Words.{Word, Tok}
 use Rattle.rte_grammar.specs.ExprGrammar.{a, ◌▷◌, Each, Listed, IsConstant}
 use Rattle.rte_grammar.specs.Grammar.{MOST_LEVELS, kind_word, IsVar, IsRoutine, IsEntry, IsDecl}
-use Rattle.rte_grammar.specs.Opening.{Part, Whole, OpensExpr, OpensStmts, OpensRoutine, OpensMonitor, OpensProcess, OpensDecl, OpensProg}
-use Rattle.rte_grammar.specs.ExprReading.{nesting, same_word, is_at, expect, name, many, expr}
+use Rattle.rte_grammar.specs.Opening.{Whole, OpensExpr, OpensStmts, OpensRoutine, OpensMonitor, OpensProcess, OpensDecl, OpensProg}
+use Rattle.rte_grammar.specs.ExprReading.{nesting, same_word, is_at, expect, name, expr}
 use Rattle.rte_grammar.specs.StmtReading.{stmts}
 use Rattle.rte_grammar.specs.Reading.{vars, params, block, routine_kind, result, value, routine_decl, begins_routine, routines, begins_member, members, entry_decl, entries, monitor_decl, activation, numbers, handler, process_decl, decl, begins_decl, decls, prog, whole}
 use Rattle.rte_grammar.proofs.AgainBasics.{step, if-true, if-false, expect_again, name_again}
 use Rattle.rte_grammar.proofs.StmtAgain.{stmt_list}
 use Rattle.rte_grammar.proofs.Again.{each-begins, a-begins, params_again, result_again, vars_again, routine_kind_again, block_again, routine-shorter, routines_again, entry_again, entry-shorter, members_again, activation_again, numbers_again, routine_again, end-routine, decl_again, decl-begins, decl-shorter, routine-begins}
-use Rattle.rte_grammar.proofs.OpenTails.{IsAt, some-at, routine-at, decl-at}
-use Rattle.rte_grammar.proofs.Shorter.{Shorter, a-shorter}
+use Rattle.rte_grammar.proofs.OpenTails.{some-at, routine-at, decl-at}
+use Rattle.rte_grammar.proofs.Shorter.{a-shorter}
 use Rattle.rte_grammar.proofs.DeepBasics.{at-fault, Finds, many_finds}
 use Rattle.rte_grammar.proofs.ExprDeep.{expr_finds}
 use Rattle.rte_grammar.proofs.StmtDeep.{stmts_finds}

@@ -117,7 +117,16 @@ module _ {P : Type 0} where
       let r = past (result k.0.0 p.0.1) _ (nesting n) (result_never k.0.0 p.0.1 n) p.2 in
       let v = past (vars r.0.1) _ (nesting n) (vars_never r.0.1 n) r.2 in
       let (p1, left, (p2, ps, right)) = params_sound m.0.1 p.0.1 p.0.0 p.1 in
-      let front = λ (b1 : List (Tok P)) (begin : a w.BEGIN v.0.1 b1). let it : RoutineFront k.0.0 ts b1 = (k.0.1, kind_word_sound ts k.0.1 k.0.0 k.1, (m.0.1, name-read k.0.1 m.0.1 m.0.0 m.1, (p1, left, (p2, (p.0.0, ps), (p.0.1, right, (r.0.1, (r.0.0, result_sound k.0.0 p.0.1 r.0.1 r.0.0 r.1), (v.0.1, (v.0.0, vars_sound r.0.1 v.0.1 v.0.0 v.1), begin))))))) in it in
+      let front = λ (b1 : List (Tok P)) (begin : a w.BEGIN v.0.1 b1).
+      let named_read = name-read k.0.1 m.0.1 m.0.0 m.1 in
+      let result_read = result_sound k.0.0 p.0.1 r.0.1 r.0.0 r.1 in
+      let vars_read = vars_sound r.0.1 v.0.1 v.0.0 v.1 in
+      let it : RoutineFront k.0.0 ts b1 = (
+        k.0.1,
+        kind_word_sound ts k.0.1 k.0.0 k.1,
+        (m.0.1, named_read, (p1, left, (p2, (p.0.0, ps), (p.0.1, right, (r.0.1, (r.0.0, result_read), (v.0.1, (v.0.0, vars_read), begin)))))),
+      ) in
+      it in
       by_step (block v.0.1) _ (nesting n)
       (λ bad. let (us, (b1, begin, o), is) = block_opens v.0.1 n bad in (us, inl (b1, (k.0.0, front b1 begin), o), is))
       (λ b good e.
@@ -229,7 +238,17 @@ module _ {P : Type 0} where
       let d = past_word w.COLON m.0.1 _ n m.2 in
       let x = past (activation d.0.1) _ (nesting n) (activation_never d.0.1 n) d.2 in
       let v = past (vars x.0.1) _ (nesting n) (vars_never x.0.1 n) x.2 in
-      let front = λ (r1 : List (Tok P)) (rs : Whole (Each IsRoutine) v.0.1 r1). let it : ProcessFront ts r1 = (c.0.1, a_sound w.PROCESS ts c.0.1 c.0.0 c.1, (m.0.1, name-read c.0.1 m.0.1 m.0.0 m.1, (d.0.1, a_sound w.COLON m.0.1 d.0.1 d.0.0 d.1, (x.0.1, (x.0.0, activation_sound d.0.1 x.0.1 x.0.0 x.1), (v.0.1, (v.0.0, vars_sound x.0.1 v.0.1 v.0.0 v.1), rs))))) in it in
+      let front = λ (r1 : List (Tok P)) (rs : Whole (Each IsRoutine) v.0.1 r1).
+      let named_read = name-read c.0.1 m.0.1 m.0.0 m.1 in
+      let colon = a_sound w.COLON m.0.1 d.0.1 d.0.0 d.1 in
+      let activation_read = activation_sound d.0.1 x.0.1 x.0.0 x.1 in
+      let vars_read = vars_sound x.0.1 v.0.1 v.0.0 v.1 in
+      let it : ProcessFront ts r1 = (
+        c.0.1,
+        a_sound w.PROCESS ts c.0.1 c.0.0 c.1,
+        (m.0.1, named_read, (d.0.1, colon, (x.0.1, (x.0.0, activation_read), (v.0.1, (v.0.0, vars_read), rs)))),
+      ) in
+      it in
       by_step (routines v.0.1) _ (nesting n)
       (λ bad. let (us, (r1, rs, o), is) = routines_opens v.0.1 n bad in (us, inl (r1, front r1 rs, o), is))
       (λ r good e.

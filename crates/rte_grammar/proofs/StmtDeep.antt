@@ -1,13 +1,13 @@
 -- In a statement, a token that opens a level beyond the last is found as a fault of nesting.
-use Rattle.std.proofs.Common.{◌≡◌, ℕ, zero, suc, ◌<◌, List, [], ◌∷◌, length, true, false, inl, inr, Result, Ok, Err, refl, ap, sym, ◌∙◌}
+use Rattle.std.proofs.Common.{◌≡◌, ℕ, zero, suc, List, true, false, inl, inr, refl, ap, sym, ◌∙◌}
 use Rattle.rte_tree.specs.Plain.{Name}
-use Rattle.rte_tree.specs.Placed.{Ref, Stmt, Stmts}
+use Rattle.rte_tree.specs.Placed.{Ref}
 use Rattle.rte_grammar.specs.Words as w
 use Rattle.rte_grammar.specs.Words.{Word, named, Tok}
-use Rattle.rte_grammar.specs.ExprGrammar.{at, a, ◌▷◌, IsConstant, IsExpr}
-use Rattle.rte_grammar.specs.StmtGrammar.{IsRef, IsStmt, AreStmts}
+use Rattle.rte_grammar.specs.ExprGrammar.{a, ◌▷◌, IsConstant, IsExpr}
+use Rattle.rte_grammar.specs.StmtGrammar.{IsStmt, AreStmts}
 use Rattle.rte_grammar.specs.Opening.{Whole, a_name, OpensExpr, OpensIndex, OpensArgs, OpensRef, OpensSimple, OpensStmt, OpensStmts}
-use Rattle.rte_grammar.specs.ExprReading.{Fault, nesting, is_at, is_name, is_entry, expect, name, constant, index, args, inner, expr}
+use Rattle.rte_grammar.specs.ExprReading.{is_at, is_name, is_entry, expect, name, constant, index, args, inner, expr}
 use Rattle.rte_grammar.specs.StmtReading as reading
 use Rattle.rte_grammar.specs.StmtReading.{reference_from, reference, entry_args, entry, assigned, named_stmt, exit_stmt, get_stmt, put_stmt, assert_stmt, simple_stmt, begins, stmts_by, else_by, choice, loop_stmt, stmt_by, stmt}
 use Rattle.rte_grammar.proofs.Shorter.{stmt-shorter}

@@ -6,7 +6,7 @@ use Rattle.rte_grammar.specs.Words as w
 use Rattle.rte_grammar.specs.Words.{Word, named, Tok}
 use Rattle.rte_grammar.specs.ExprGrammar.{a, ◌▷◌}
 use Rattle.rte_grammar.specs.StmtGrammar.{IsRef, IsStmt}
-use Rattle.rte_grammar.specs.Opening.{Part, Whole, ◌∪◌, a_name, OpensExpr, OpensArgs, OpensRef, OpensSimple, OpensStmt, OpensStmts}
+use Rattle.rte_grammar.specs.Opening.{Part, Whole, ◌∪◌, a_name, OpensExpr, OpensArgs, OpensRef, OpensSimple, IntoStmt, OpensStmt, OpensStmts}
 use Rattle.rte_grammar.specs.ExprReading.{Fault, nesting, ◌>>=◌, Parse, too_deep, is_at, is_name, is_entry, name, constant, index, args, inner, expr}
 use Rattle.rte_grammar.specs.StmtReading as reading
 use Rattle.rte_grammar.specs.StmtReading.{reference_from, reference, entry_args, entry, assigned, named_stmt, exit_stmt, get_stmt, put_stmt, assert_stmt, wait_stmt, signal_stmt, broadcast_stmt, except_stmt, plain_stmt, simple_stmt, begins, stmts_by, closing, else_by, choice, loop_stmt, stmt_by, stmt}
@@ -251,7 +251,20 @@ module _ {P : Type 0} where
         by_step (stmts_by (stmt depth) b.0.1) _ (nesting n)
         (λ bad.
         let (us, (vs, ss, o), left) = stmts_by_opens b.0.1 n bad in
-        (us, inr (inl (vs, inr (inr (q.0.1, a_sound w.FOR ts q.0.1 q.0.0 q.1, (m.0.1, name-read q.0.1 m.0.1 m.0.0 m.1, (c.0.1, a_sound w.COLON m.0.1 c.0.1 c.0.0 c.1, (l.0.1, (l.0.0, constant_sound c.0.1 l.0.1 l.0.0 l.1), (d.0.1, a_sound w.RANGE l.0.1 d.0.1 d.0.0 d.1, (h.0.1, (h.0.0, constant_sound d.0.1 h.0.1 h.0.0 h.1), (b.0.1, a_sound w.DO h.0.1 b.0.1 b.0.0 b.1, ss)))))))), o)), left))
+        let for_read = a_sound w.FOR ts q.0.1 q.0.0 q.1 in
+        let named_read = name-read q.0.1 m.0.1 m.0.0 m.1 in
+        let colon = a_sound w.COLON m.0.1 c.0.1 c.0.0 c.1 in
+        let low = constant_sound c.0.1 l.0.1 l.0.0 l.1 in
+        let range = a_sound w.RANGE l.0.1 d.0.1 d.0.0 d.1 in
+        let high = constant_sound d.0.1 h.0.1 h.0.0 h.1 in
+        let do_read = a_sound w.DO h.0.1 b.0.1 b.0.0 b.1 in
+        let into : IntoStmt depth ts vs =
+        inr (inr (
+          q.0.1,
+          for_read,
+          (m.0.1, named_read, (c.0.1, colon, (l.0.1, (l.0.0, low), (d.0.1, range, (h.0.1, (h.0.0, high), (b.0.1, do_read, ss)))))),
+        )) in
+        (us, inr (inl (vs, into, o)), left))
         (λ x good e. let z = past (closing w.FOR x.1) _ (nesting n) (closing_never w.FOR x.1 n) e in absurd (no_fault _ _ z.2)) b.2
 
   name-simple : (depth : ℕ) (ts : List (Tok P)) (n : ℕ) → Reaches (OpensSimple depth) ts n → Reaches (OpensStmt depth) ts n

@@ -1,10 +1,10 @@
 -- Each part of a program leaves the end of the list that it stands at.
-use Rattle.std.proofs.Common.{◌≡◌, ℕ, zero, suc, List, [], ◌∷◌, ◌++◌, Bool, true, false, Option, Some, None, inl, inr, refl, ap, sym, ◌∙◌, append_assoc}
+use Rattle.std.proofs.Common.{◌≡◌, ℕ, zero, suc, List, [], ◌∷◌, ◌++◌, true, false, Option, Some, None, ap, sym, ◌∙◌, append_assoc}
 use Rattle.rte_tree.specs.Placed as tree
 use Rattle.rte_tree.specs.Placed.{Constant, literal_constant, named_constant, Expr, literal, truth, variable, element, call, minus, negation, paren, row, Exprs, no_exprs, exprs, Operands, no_operands, operand, Ref, whole, part, Stmt, assign, assign_entry, assign_empty, perform, perform_entry, when, when_else, loop, exit_when, get, put, wait, signal, broadcast, except, assert, Stmts, no_stmts, stmts, Scalar, int, boolean, subrange, Kind, scalar, array, Var, Param, RoutineKind, procedure, function, Routine, Member, variable_member, condition_member, Monitor, Activation, periodic, at_event, Handler, Process, Decl, device, event, routine, monitor, process}
 use Rattle.rte_grammar.specs.Words as w
 use Rattle.rte_grammar.specs.Words.{Word, named, number, Tok}
-use Rattle.rte_grammar.specs.ExprGrammar.{at, a, ◌▷◌, Each, Listed, SomeListed, IsConstant, op_word, OfLevel, IsExpr, AreOperands, AreArgs, AreMoreArgs, InParens}
+use Rattle.rte_grammar.specs.ExprGrammar.{at, a, ◌▷◌, Each, Listed, SomeListed, IsConstant, op_word, IsExpr, AreOperands, AreArgs, AreMoreArgs, InParens}
 use Rattle.rte_grammar.specs.StmtGrammar.{IsRef, IsStmt, AreStmts}
 use Rattle.rte_grammar.specs.Grammar.{MOST_LEVELS, kind_word, IsScalar, IsKind, IsVar, IsParam, IsResult, IsValue, IsRoutine, IsMember, IsEntry, IsMonitor, IsFirst, IsActivation, IsHandler, IsProcess, way_word, IsDecl}
 use Rattle.rte_grammar.specs.Opening.{Part}

@@ -1,5 +1,6 @@
--- Where a token opens a level of nesting and none is left: the tokens before it are the beginning of a program, and in it all levels are open.
+-- Where a token opens a level of nesting and none is left: the tokens before it are the beginning of a program, and all levels are open there.
 -- A level is opened by `if` and `for`, by `-` and `not` before a factor, by parentheses, by index brackets and by argument lists.
+-- The parts that are whole before it keep within the levels, so it is the first such token.
 use Rattle.std.specs.Prelude.{◌≡◌, ℕ, zero, suc, ◌≤◌, ◌⊎◌, List, length}
 use Rattle.rte_tree.specs.Plain.{Op}
 use Rattle.rte_tree.specs.Placed.{Expr, RoutineKind, function}
@@ -56,28 +57,32 @@ IntoFactor depth =
     ∪ a_name ▷ a w.LEFT_BRACKET ▷ UpToFactor 5 depth
     ∪ a_name ▷ a w.LEFT_PAREN ▷ UpToArg depth ▷ UpToFactor 5 depth
 
--- in a factor a token opens a level, and none is left
+-- in a factor a token opens a level where none is left: by its own first opening, or in a factor inside it
 unfoldable pub OpensFactor : {P : Type 0} → (depth : ℕ) → Part P
 OpensFactor zero = here w.MINUS ∪ here w.NOT ∪ here w.LEFT_PAREN ∪ a_name ▷ here w.LEFT_BRACKET ∪ a_name ▷ here w.LEFT_PAREN
 OpensFactor (suc depth) = IntoFactor depth ▷ OpensFactor depth
 
+-- in one of an expression's factors a token does
 abbrev pub OpensExpr : {P : Type 0} → (depth : ℕ) → Part P
 OpensExpr depth = UpToFactor 5 depth ▷ OpensFactor depth
 
+-- an index does, by its bracket or inside it
 abbrev pub OpensIndex : {P : Type 0} → (depth : ℕ) → Part P
 OpensIndex zero = here w.LEFT_BRACKET
 OpensIndex (suc depth) = a w.LEFT_BRACKET ▷ OpensExpr depth
 
+-- arguments do, by their parenthesis or inside it
 abbrev pub OpensArgs : {P : Type 0} → (depth : ℕ) → Part P
 OpensArgs zero = here w.LEFT_PAREN
 OpensArgs (suc depth) = a w.LEFT_PAREN ▷ UpToArg depth ▷ OpensExpr depth
 
 -- ---- statements, with this many levels left
 
+-- the index of a reference does
 abbrev pub OpensRef : {P : Type 0} → (depth : ℕ) → Part P
 OpensRef depth = a_name ▷ OpensIndex depth
 
--- in a statement's expressions, `if` and `for` aside
+-- in the expressions of a statement other than `if` and `for` a token does
 abbrev pub OpensSimple : {P : Type 0} → (depth : ℕ) → Part P
 OpensSimple depth =
     OpensRef depth
@@ -97,32 +102,37 @@ IntoStmt depth =
     ∪ a w.IF ▷ Whole (IsExpr 5 depth) ▷ a w.THEN ▷ Whole (AreStmts depth) ▷ a w.ELSE ▷ Whole (AreStmts depth)
     ∪ a w.FOR ▷ a_name ▷ a w.COLON ▷ Whole IsConstant ▷ a w.RANGE ▷ Whole IsConstant ▷ a w.DO ▷ Whole (AreStmts depth)
 
+-- a statement does, by its `if` or `for`, in its test, in a statement inside it, or in its expressions
 unfoldable pub OpensStmt : {P : Type 0} → (depth : ℕ) → Part P
 OpensStmt zero = here w.IF ∪ here w.FOR ∪ OpensSimple zero
 OpensStmt (suc depth) = a w.IF ▷ OpensExpr depth ∪ IntoStmt depth ▷ OpensStmt depth ∪ OpensSimple (suc depth)
 
+-- one of the statements does, behind whole ones
 abbrev pub OpensStmts : {P : Type 0} → (depth : ℕ) → Part P
 OpensStmts depth = Whole (AreStmts depth) ▷ OpensStmt depth
 
 -- ---- declarations
 
--- a routine of this kind up to its statements
+-- a routine of this kind up to its `begin`
 abbrev pub RoutineFront : {P : Type 0} → RoutineKind → Part P
 RoutineFront kind =
     a (kind_word kind) ▷ a_name ▷ a w.LEFT_PAREN ▷ Whole (SomeListed IsParam) ▷ a w.RIGHT_PAREN ▷ Whole (IsResult kind) ▷ Whole (Each IsVar) ▷ a w.BEGIN
 
+-- a routine does, in its statements or in the expression of its result
 abbrev pub OpensRoutine : {P : Type 0} → Part P
 OpensRoutine =
     Whole RoutineFront ▷ OpensStmts MOST_LEVELS
     ∪ RoutineFront function ▷ Whole (AreStmts MOST_LEVELS) ▷ a w.RETURN ▷ OpensExpr MOST_LEVELS
 
+-- one of a monitor's entries does, behind whole ones
 abbrev pub OpensMonitor : {P : Type 0} → Part P
 OpensMonitor = a w.MONITOR ▷ a_name ▷ Whole (Each IsMember) ▷ Whole (Each IsEntry) ▷ a w.ENTRY ▷ OpensRoutine
 
--- a process up to its routines' end
+-- a process up to its own routines, and some of those
 abbrev pub ProcessFront : {P : Type 0} → Part P
 ProcessFront = a w.PROCESS ▷ a_name ▷ a w.COLON ▷ Whole IsActivation ▷ Whole (Each IsVar) ▷ Whole (Each IsRoutine)
 
+-- a process does, in a routine, in its statements or in its handler's
 abbrev pub OpensProcess : {P : Type 0} → Part P
 OpensProcess =
     ProcessFront ▷ OpensRoutine
@@ -130,6 +140,7 @@ OpensProcess =
     ∪ ProcessFront ▷ a w.BEGIN ▷ Whole (AreStmts MOST_LEVELS) ▷ a w.HANDLER ▷ a w.LEFT_PAREN ▷ Whole (Listed IsConstant) ▷ a w.RIGHT_PAREN
     ▷ OpensStmts MOST_LEVELS
 
+-- a declaration does
 abbrev pub OpensDecl : {P : Type 0} → Part P
 OpensDecl = OpensRoutine ∪ OpensMonitor ∪ OpensProcess
 

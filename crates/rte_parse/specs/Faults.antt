@@ -21,7 +21,7 @@ StandsIn toks (Syntax p) = IsPlaceIn toks p
 StandsIn toks (Nesting p) = IsPlaceIn toks p
 StandsIn toks Memory = Unit {0}
 
--- at this place stands a token that opens a level beyond the last: the tokens before it begin a program, and there all levels are open
+-- at this place stands the token that opens a level beyond the last: the tokens before it begin a program, and all levels are open there
 pub record OpensAt (text : List ℕ) (toks : List Token) (p : Place) : Type 0 where
   pub before : List Token
   pub token : Token

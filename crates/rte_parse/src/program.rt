@@ -53,9 +53,10 @@ fn place_of(tokens: &Tokens, left: usize) -> Place
 ///
 /// # Errors
 ///
-/// `Syntax` or `Nesting` exactly where the tokens have no tree: `Nesting` at a token that opens
-/// level 65, `Syntax` at the first token with which the tokens read no longer begin a program, or
-/// at the text's end. `Memory` where there is not enough memory for the tree.
+/// `Syntax` or `Nesting` exactly where the tokens have no tree: `Nesting` exactly where a token
+/// opens level 65, at the first that does; else `Syntax`, at the first token with which the tokens
+/// read no longer begin a program, or at the text's end. `Memory` where there is not enough memory
+/// for the tree.
 pub fn parse(alloc: Global, text: &[u8], tokens: &Tokens) -> Result<Prog, SynFault>
     // What is read has these tokens.
     ensures found { IfOk result (λ g. tree text.now tokens.now.list (placed g)) }
@@ -63,7 +64,7 @@ pub fn parse(alloc: Global, text: &[u8], tokens: &Tokens) -> Result<Prog, SynFau
     ensures only { (g : SpecProg SpecPlace) → tree text.now tokens.now.list g → MatchResult result (λ p. placed p ≡ g) (λ f. f ≡ SynFault.Memory) }
     // A fault stands at a token or at the end.
     ensures place { IfErr result (λ f. StandsIn tokens.now f) }
-    // A fault of nesting stands at a token that opens level 65.
+    // A fault of nesting stands at the token that opens level 65.
     ensures nesting { (p : SpecPlace) → result ≡ Err (SynFault.Nesting p) → OpensAt text.now tokens.now.list p }
     // Where a token opens level 65 it is the fault, unless memory runs out.
     ensures too_deep { (p : SpecPlace) → OpensAt text.now tokens.now.list p → (result ≡ Err (SynFault.Nesting p)) ⊎ (result ≡ Err SynFault.Memory) }
