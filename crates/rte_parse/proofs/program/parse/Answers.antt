@@ -1,4 +1,4 @@
-use Rattle.std.proofs.Common.{◌≡◌, ap, sym, ◌∙◌, subst, ◌∷◌, length, Ok, Err, inl}
+use Rattle.std.proofs.Common.{◌≡◌, ap, sym, ◌∙◌, subst, ◌∷◌, length, Err, inl}
 use Rattle.rte_tree.specs.Placed.{placed}
 use Rattle.rte_grammar.specs.Words.{toks_of}
 use Rattle.rte_grammar.specs.ExprReading.{syntax, nesting}
