@@ -19,7 +19,7 @@ use Rattle.rte_grammar.proofs.StmtAgain.{stmt_list, from-stmts, EndsStmts, all_s
 
 module _ {P : Type 0} where
   -- read whatever follows
-  abbrev Reads : {A : Type 0} → Parse P A → (A → List (Tok P) → List (Tok P) → Type 0) → Type 0
+  abbrev pub Reads : {A : Type 0} → Parse P A → (A → List (Tok P) → List (Tok P) → Type 0) → Type 0
   Reads {A} p R = (x : A) (ts us : List (Tok P)) → R x ts us → p ts ≡ Ok (x, us)
 
   anywhere : List (Tok P) → Type 0
@@ -33,12 +33,12 @@ module _ {P : Type 0} where
       many_again begins p R (λ ts. Unit {0}) (λ ts us x took stop. reads x ts us took) goes (λ x ts us took. tt) shorter xs ts us took tt none
 
   -- what none of them begins with
-  each-begins : {A : Type 0} (begins : List (Tok P) → Bool) (R : A → List (Tok P) → List (Tok P) → Type 0) → ((x : A) (ts us : List (Tok P)) → R x ts us → begins ts ≡ false)
+  pub each-begins : {A : Type 0} (begins : List (Tok P) → Bool) (R : A → List (Tok P) → List (Tok P) → Type 0) → ((x : A) (ts us : List (Tok P)) → R x ts us → begins ts ≡ false)
       → (xs : List A) (ts us : List (Tok P)) → Each R xs ts us → begins us ≡ false → begins ts ≡ false
   each-begins begins R other [] ts us took none = ap begins took ∙ none
   each-begins begins R other (x ∷ xs) ts us (vs, took, more) none = other x ts vs took
 
-  a-begins : (v u : Word) (ts us : List (Tok P)) → a u ts us → is_at v ts ≡ same_word u v
+  pub a-begins : (v u : Word) (ts us : List (Tok P)) → a u ts us → is_at v ts ≡ same_word u v
   a-begins v u ts us (q, took) = ap (is_at v) took
 
   -- ---- types, variables and parameters
@@ -111,7 +111,7 @@ module _ {P : Type 0} where
   var-shorter x = a-then w.VAR (at (named x.name) x.place ▷ a w.COLON ▷ IsKind x.kind)
       (weak _ (at-then (named x.name) x.place (a w.COLON ▷ IsKind x.kind) (weak _ (a-then w.COLON (IsKind x.kind) (weak _ (kind-shorter x.kind))))))
 
-  vars_again : (xs : List (Var P)) (ts us : List (Tok P)) → Each IsVar xs ts us → is_at w.VAR us ≡ false → vars ts ≡ Ok (xs, us)
+  pub vars_again : (xs : List (Var P)) (ts us : List (Tok P)) → Each IsVar xs ts us → is_at w.VAR us ≡ false → vars ts ≡ Ok (xs, us)
   unfolding vars
   vars_again xs ts us took none = all (is_at w.VAR) var IsVar var_again (λ x ts us took. a-begins w.VAR w.VAR ts took.0 took.1) var-shorter xs ts us took none
 
@@ -126,7 +126,7 @@ module _ {P : Type 0} where
   param-shorter : (x : Param P) → Shorter (IsParam x)
   param-shorter x = at-then (named x.name) x.place (a w.COLON ▷ IsScalar x.kind) (weak _ (a-then w.COLON (IsScalar x.kind) (weak _ (scalar-shorter x.kind))))
 
-  params_again : (xs : List (Param P)) (ts us : List (Tok P)) → (a w.LEFT_PAREN ▷ SomeListed IsParam xs ▷ a w.RIGHT_PAREN) ts us → params ts ≡ Ok (xs, us)
+  pub params_again : (xs : List (Param P)) (ts us : List (Tok P)) → (a w.LEFT_PAREN ▷ SomeListed IsParam xs ▷ a w.RIGHT_PAREN) ts us → params ts ≡ Ok (xs, us)
   unfolding params
   params_again xs ts us took =
       in_parens_again param IsParam (λ ts. Unit {0}) (λ ts us x took stop. param_again x ts us took) param-shorter (λ ts us c. tt) (λ x ts us took. ap (is_at w.RIGHT_PAREN) took.1)
@@ -134,7 +134,7 @@ module _ {P : Type 0} where
 
   -- ---- blocks and closing names
 
-  block_again : (ss : Stmts P) (ts us : List (Tok P)) → (a w.BEGIN ▷ AreStmts MOST_LEVELS ss) ts us → (v : Word) (vs : List (Tok P)) → EndsStmts v us vs
+  pub block_again : (ss : Stmts P) (ts us : List (Tok P)) → (a w.BEGIN ▷ AreStmts MOST_LEVELS ss) ts us → (v : Word) (vs : List (Tok P)) → EndsStmts v us vs
       → block ts ≡ Ok (stmt_list ss, us)
   unfolding block
   block_again ss ts us (v1, (q, b), took) v vs ends =
@@ -152,12 +152,12 @@ module _ {P : Type 0} where
 
   -- ---- routines
 
-  routine_kind_again : (k : RoutineKind) (ts us : List (Tok P)) (took : a (kind_word k) ts us) → routine_kind ts ≡ Ok (k, us)
+  pub routine_kind_again : (k : RoutineKind) (ts us : List (Tok P)) (took : a (kind_word k) ts us) → routine_kind ts ≡ Ok (k, us)
   unfolding routine_kind expect
   routine_kind_again procedure ts us (q, took) = ap routine_kind took
   routine_kind_again function ts us (q, took) = ap routine_kind took
 
-  result_again : (k : RoutineKind) (s : Option (Scalar P)) (ts us : List (Tok P)) → IsResult k s ts us → result k ts ≡ Ok (s, us)
+  pub result_again : (k : RoutineKind) (s : Option (Scalar P)) (ts us : List (Tok P)) → IsResult k s ts us → result k ts ≡ Ok (s, us)
   unfolding result
   result_again procedure None ts us took = ap (λ t. Ok (None, t)) took
   result_again procedure (Some s) ts us took = absurd took
@@ -214,7 +214,7 @@ module _ {P : Type 0} where
   params-short [] = nothing-short
   params-short (x ∷ xs) = then-short (IsParam x) (Each (λ x. a w.COMMA ▷ IsParam x) xs) (weak _ (param-shorter x)) (commas-short IsParam param-shorter xs)
 
-  routine-shorter : (x : Routine P) → Shorter (IsRoutine x)
+  pub routine-shorter : (x : Routine P) → Shorter (IsRoutine x)
   routine-shorter x ts us (v1, k, (v2, n, (v3, l, (v4, ps, (v5, r, (v6, s, (v7, vs, (v8, b, (v9, ss, (v10, e, (v11, c, m))))))))))) =
       let e1 = a-shorter (kind_word x.kind) ts v1 k in let e2 = at-shorter (named x.name) x.place v1 v2 n in let e3 = a-shorter w.LEFT_PAREN v2 v3 l in
       let e4 = params-short x.params v3 v4 ps in let e5 = a-shorter w.RIGHT_PAREN v4 v5 r in let e6 = result-short x.kind x.result v5 v6 s in
@@ -222,14 +222,14 @@ module _ {P : Type 0} where
       let e10 = value-short x.kind x.value v9 v10 e in let e11 = a-shorter w.END v10 v11 c in let e12 = at-shorter (named x.close) x.close_place v11 us m in
       omega (arith, e1, e2, e3, e4, e5, e6, e7, e8, e9, e10, e11, e12)
 
-  end-routine : (x : Routine P) (ts us : List (Tok P)) → IsRoutine x ts us → begins_routine ts ≡ true
+  pub end-routine : (x : Routine P) (ts us : List (Tok P)) → IsRoutine x ts us → begins_routine ts ≡ true
   end-routine x ts us took = by-kind x.kind ts took.0 took.1
     where
       by-kind : (k : RoutineKind) (ts us : List (Tok P)) → a (kind_word k) ts us → begins_routine ts ≡ true
       by-kind procedure ts us (q, took) = ap begins_routine took
       by-kind function ts us (q, took) = ap begins_routine took
 
-  routines_again : (xs : List (Routine P)) (ts us : List (Tok P)) → Each IsRoutine xs ts us → begins_routine us ≡ false → routines ts ≡ Ok (xs, us)
+  pub routines_again : (xs : List (Routine P)) (ts us : List (Tok P)) → Each IsRoutine xs ts us → begins_routine us ≡ false → routines ts ≡ Ok (xs, us)
   unfolding routines
   routines_again xs ts us took none = all begins_routine routine_decl IsRoutine routine_again end-routine routine-shorter xs ts us took none
 
@@ -250,14 +250,14 @@ module _ {P : Type 0} where
   member-begins (variable_member v) ts us (v1, (q, c), took) = ap begins_member c
   member-begins (condition_member n p) ts us (v1, (q, c), took) = ap begins_member c
 
-  entry_again : Reads entry_decl IsEntry
+  pub entry_again : Reads entry_decl IsEntry
   unfolding entry_decl
   entry_again x ts us (v1, (q, c), took) = step (expect w.ENTRY ts) _ (q, v1) _ (expect_again w.ENTRY q ts v1 refl c) (routine_again x v1 us took)
 
-  entry-shorter : (x : Routine P) → Shorter (IsEntry x)
+  pub entry-shorter : (x : Routine P) → Shorter (IsEntry x)
   entry-shorter x = a-then w.ENTRY (IsRoutine x) (weak _ (routine-shorter x))
 
-  members_again : (xs : List (Member P)) (ts us : List (Tok P)) → Each IsMember xs ts us → begins_member us ≡ false → members ts ≡ Ok (xs, us)
+  pub members_again : (xs : List (Member P)) (ts us : List (Tok P)) → Each IsMember xs ts us → begins_member us ≡ false → members ts ≡ Ok (xs, us)
   unfolding members
   members_again xs ts us took none = all begins_member member IsMember member_again member-begins member-shorter xs ts us took none
 
@@ -296,7 +296,7 @@ module _ {P : Type 0} where
       (step (constant v3) _ (c, us) _ (constant_again c v3 us t4)
       refl))))
 
-  activation_again : (x : Activation P) (ts us : List (Tok P)) → IsActivation x ts us → is_at w.FIRST us ≡ false → activation ts ≡ Ok (x, us)
+  pub activation_again : (x : Activation P) (ts us : List (Tok P)) → IsActivation x ts us → is_at w.FIRST us ≡ false → activation ts ≡ Ok (x, us)
   unfolding activation
   activation_again (periodic frame f) ts us (v1, (q1, t1), (v2, (q2, t2), (v3, t3, t4))) none =
       if-true (is_at w.PERIODIC ts) _ _ _ (ap (is_at w.PERIODIC) t1) (
@@ -323,7 +323,7 @@ module _ {P : Type 0} where
   activation-shorter (at_event n p frame) =
       a-then w.AT_EVENT (at (named n) p ▷ a w.FRAME ▷ IsConstant frame) (weak _ (at-then (named n) p (a w.FRAME ▷ IsConstant frame) (weak _ (a-then w.FRAME (IsConstant frame) (weak _ (constant-shorter frame))))))
 
-  numbers_again : (xs : List (Constant P)) (ts us : List (Tok P)) → (a w.LEFT_PAREN ▷ Listed IsConstant xs ▷ a w.RIGHT_PAREN) ts us → numbers ts ≡ Ok (xs, us)
+  pub numbers_again : (xs : List (Constant P)) (ts us : List (Tok P)) → (a w.LEFT_PAREN ▷ Listed IsConstant xs ▷ a w.RIGHT_PAREN) ts us → numbers ts ≡ Ok (xs, us)
   unfolding numbers
   numbers_again xs ts us (v1, (q, l), (v2, took, (r, c))) =
       step (expect w.LEFT_PAREN ts) _ (q, v1) _ (expect_again w.LEFT_PAREN q ts v1 refl l)
@@ -356,7 +356,7 @@ module _ {P : Type 0} where
       numbers-short [] = λ ts us took. absurd took
       numbers-short (c ∷ cs) = then-short (IsConstant c) (Each (λ x. a w.COMMA ▷ IsConstant x) cs) (weak _ (constant-shorter c)) (commas-short IsConstant constant-shorter cs)
 
-  routine-begins : (v : Word) → same_word w.PROCEDURE v ≡ false → same_word w.FUNCTION v ≡ false → (x : Routine P) (ts us : List (Tok P)) → IsRoutine x ts us → is_at v ts ≡ false
+  pub routine-begins : (v : Word) → same_word w.PROCEDURE v ≡ false → same_word w.FUNCTION v ≡ false → (x : Routine P) (ts us : List (Tok P)) → IsRoutine x ts us → is_at v ts ≡ false
   routine-begins v p f x ts us took = by-kind x.kind ts took.0 took.1
     where
       by-kind : (k : RoutineKind) (ts us : List (Tok P)) → a (kind_word k) ts us → is_at v ts ≡ false
@@ -422,7 +422,7 @@ module _ {P : Type 0} where
       (step (name v1) _ ((n, p), us) _ (name_again (n, p) v1 us t2)
       refl)
 
-  decl_again : Reads decl IsDecl
+  pub decl_again : Reads decl IsDecl
   unfolding decl
   decl_again (tree.constant n p c) ts us took = if-true (is_at w.CONST ts) _ _ _ (ap (is_at w.CONST) took.1.1) (const_again n p c ts us took)
   decl_again (device n p o) ts us took =
@@ -443,7 +443,7 @@ module _ {P : Type 0} where
       (if-false (is_at w.EVENT ts) _ _ _ (routine-begins w.EVENT refl refl r ts us took) (if-false (is_at w.MONITOR ts) _ _ _ (routine-begins w.MONITOR refl refl r ts us took)
       (if-false (is_at w.PROCESS ts) _ _ _ (routine-begins w.PROCESS refl refl r ts us took) (step (routine_decl ts) _ (r, us) _ (routine_again r ts us took) refl)))))
 
-  decl-begins : (x : Decl P) (ts us : List (Tok P)) → IsDecl x ts us → begins_decl ts ≡ true
+  pub decl-begins : (x : Decl P) (ts us : List (Tok P)) → IsDecl x ts us → begins_decl ts ≡ true
   decl-begins (tree.constant n p c) ts us took = ap begins_decl took.1.1
   decl-begins (device n p o) ts us took = ap begins_decl took.1.1
   decl-begins (event n p) ts us took = ap begins_decl took.1.1
@@ -455,7 +455,7 @@ module _ {P : Type 0} where
       by-kind procedure ts us (q, took) = ap begins_decl took
       by-kind function ts us (q, took) = ap begins_decl took
 
-  decl-shorter : (x : Decl P) → Shorter (IsDecl x)
+  pub decl-shorter : (x : Decl P) → Shorter (IsDecl x)
   decl-shorter (tree.constant n p c) = a-then w.CONST (at (named n) p ▷ a w.ASSIGN ▷ IsConstant c) (weak _ (at-then (named n) p (a w.ASSIGN ▷ IsConstant c) (weak _ (a-then w.ASSIGN (IsConstant c) (weak _ (constant-shorter c))))))
   decl-shorter (device n p o) = a-then w.DEVICE (at (named n) p ▷ a w.COLON ▷ a (way_word o)) (weak _ (at-then (named n) p (a w.COLON ▷ a (way_word o)) (weak _ (a-then w.COLON (a (way_word o)) (weak _ (a-shorter (way_word o)))))))
   decl-shorter (event n p) = a-then w.EVENT (at (named n) p) (weak _ (at-shorter (named n) p))

@@ -138,7 +138,7 @@ module _ {P : Type 0} where
 
   module _ {A : Type 0} (p : Parse P A) (R : A → List (Tok P) → List (Tok P) → Type 0) (F : List (Tok P) → Type 0)
       (again : Again p R F) (shorter : (x : A) → Shorter (R x)) (comma : (ts us : List (Tok P)) → a w.COMMA ts us → F ts) where
-    behind_comma_again : Again (behind_comma p) (λ x. a w.COMMA ▷ R x) F
+    pub behind_comma_again : Again (behind_comma p) (λ x. a w.COMMA ▷ R x) F
     unfolding behind_comma
     behind_comma_again ts us x (vs, (q, c), took) stop =
         step (expect w.COMMA ts) _ (q, vs) _ (expect_again w.COMMA q ts vs refl c) (again vs us x took stop)

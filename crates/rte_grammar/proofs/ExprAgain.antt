@@ -36,14 +36,14 @@ module _ {P : Type 0} where
   from-pairs no_operands = refl
   from-pairs (operand op e rs) = ap (operand op e) (from-pairs rs)
 
-  abbrev IsPair : ℕ → ℕ → Op × Expr P → List (Tok P) → List (Tok P) → Type 0
+  abbrev pub IsPair : ℕ → ℕ → Op × Expr P → List (Tok P) → List (Tok P) → Type 0
   IsPair l depth r = OfLevel (suc l) r.0 ▷ IsExpr l depth r.1
 
   to-pairs : (l depth : ℕ) (rs : Operands P) (ts us : List (Tok P)) → AreOperands l depth rs ts us → Each (IsPair l depth) (pairs rs) ts us
   to-pairs l depth no_operands ts us took = took
   to-pairs l depth (operand op e rs) ts us (vs, o, (ws, took, more)) = (ws, (vs, o, took), to-pairs l depth rs ws us more)
 
-  operand_again : (l depth : ℕ) (p : Parse P (Expr P)) → Again p (IsExpr l depth) (Stop l) → Again (operand_at (suc l) p) (IsPair l depth) (Stop l)
+  pub operand_again : (l depth : ℕ) (p : Parse P (Expr P)) → Again p (IsExpr l depth) (Stop l) → Again (operand_at (suc l) p) (IsPair l depth) (Stop l)
   unfolding operand_at
   operand_again l depth p again ts us r (vs, o, took) stop =
       ap (λ x. operand_by p x ts) (op_again (suc l) r.0 ts vs o)
@@ -53,7 +53,7 @@ module _ {P : Type 0} where
   pair-shorter l depth r ts us (vs, (high, took), more) =
       let e1 = a-shorter _ ts vs took in let e2 = expr-shorter l depth r.1 vs us more in omega (arith, e1, e2)
 
-  count-pairs : (l depth : ℕ) (rs : List (Op × Expr P)) (ts us : List (Tok P)) → Each (IsPair l depth) rs ts us → length rs + length us ≤ length ts
+  pub count-pairs : (l depth : ℕ) (rs : List (Op × Expr P)) (ts us : List (Tok P)) → Each (IsPair l depth) rs ts us → length rs + length us ≤ length ts
   count-pairs l depth [] ts us took = let e = ap length took in omega (arith, e)
   count-pairs l depth (r ∷ rs) ts us (vs, took, more) = let e = pair-shorter l depth r ts vs took in let f = count-pairs l depth rs vs us more in omega (arith, e, f)
 
@@ -99,10 +99,10 @@ module _ {P : Type 0} where
   joined-pairs l f (operand op e rs) shape = ap (λ x. row f (operand op e x)) (from-pairs rs)
 
   module _ (l depth : ℕ) (p : Parse P (Expr P)) (again : Again p (IsExpr l depth) (Stop l)) where
-    pair-goes : (r : Op × Expr P) (ts us : List (Tok P)) → IsPair l depth r ts us → is_some (op_at (suc l) ts) ≡ true
+    pub pair-goes : (r : Op × Expr P) (ts us : List (Tok P)) → IsPair l depth r ts us → is_some (op_at (suc l) ts) ≡ true
     pair-goes r ts us (vs, o, took) = ap is_some (op_again (suc l) r.0 ts vs o)
 
-    pair-starts : (r : Op × Expr P) (ts us : List (Tok P)) → IsPair l depth r ts us → Stop l ts
+    pub pair-starts : (r : Op × Expr P) (ts us : List (Tok P)) → IsPair l depth r ts us → Stop l ts
     pair-starts r ts us (vs, o, took) = stop-op l r.0 ts vs o
 
     operands_again : (rs : List (Op × Expr P)) (ts us : List (Tok P)) → Each (IsPair l depth) rs ts us → length rs ≤ turns (suc l) ts → Stop (suc l) us
@@ -227,7 +227,7 @@ module _ {P : Type 0} where
   factor-in (suc depth) ts = refl
 
   -- a factor whose first word is this name
-  name-factor : (depth : ℕ) (n : Name) (p : P) (ts vs : List (Tok P)) → at (named n) p ts vs → factor depth ts ≡ named_factor (inner depth) (n, p) vs
+  pub name-factor : (depth : ℕ) (n : Name) (p : P) (ts vs : List (Tok P)) → at (named n) p ts vs → factor depth ts ≡ named_factor (inner depth) (n, p) vs
   unfolding factor_in name
   name-factor depth n p ts vs took = factor-in depth ts ∙ ap (factor_in (inner depth)) took
 

@@ -40,7 +40,7 @@ of_level-some h (Some o) op e =
     (λ is e. let same : o ≡ op = cc in (ap (λ x. Some x) same, subst (λ x. height x ≡ h) same (eqb-true (height o) h is))) (λ is e. cc) e
 
 module _ {P : Type 0} where
-  op_sound : (h : ℕ) (ts : List (Tok P)) (op : Op) → op_at h ts ≡ Some op → OfLevel h op ts (next ts)
+  pub op_sound : (h : ℕ) (ts : List (Tok P)) (op : Op) → op_at h ts ≡ Some op → OfLevel h op ts (next ts)
   op_sound h [] op e = cc
   op_sound h (t ∷ ts) op e =
       let is = of_level-some h (op_of t.word) op e in
@@ -97,7 +97,7 @@ module _ {P : Type 0} where
   wider l depth (row e rs) ts us (m, within, shape, took) = (m, omega (arith, within), shape, took)
 
   -- an operator with its operand
-  abbrev IsPair : ℕ → ℕ → Op × Expr P → List (Tok P) → List (Tok P) → Type 0
+  abbrev pub IsPair : ℕ → ℕ → Op × Expr P → List (Tok P) → List (Tok P) → Type 0
   IsPair l depth r = OfLevel (suc l) r.0 ▷ IsExpr l depth r.1
 
   operand_by_sound : (l depth : ℕ) (p : Parse P (Expr P)) → Sound p (IsExpr l depth) → (o : Option Op) (ts us : List (Tok P)) (r : Op × Expr P)
@@ -107,7 +107,7 @@ module _ {P : Type 0} where
       let x = bind_ok (p (next ts)) _ _ e in
       done (IsPair l depth) ts (op, x.0.0) r x.0.1 us (next ts, op_sound (suc l) ts op is, sound (next ts) x.0.1 x.0.0 x.1) x.2
 
-  operand_sound : (l depth : ℕ) (p : Parse P (Expr P)) → Sound p (IsExpr l depth) → Sound (operand_at (suc l) p) (IsPair l depth)
+  pub operand_sound : (l depth : ℕ) (p : Parse P (Expr P)) → Sound p (IsExpr l depth) → Sound (operand_at (suc l) p) (IsPair l depth)
   unfolding operand_at
   operand_sound l depth p sound ts us r e = operand_by_sound l depth p sound (op_at (suc l) ts) ts us r refl e
 

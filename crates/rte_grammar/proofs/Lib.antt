@@ -8,3 +8,13 @@ pub mod ExprAgain
 pub mod StmtAgain
 pub mod Again
 pub mod TreeWords
+pub mod OpenBasics
+pub mod ExprOpens
+pub mod StmtOpens
+pub mod ProgOpens
+pub mod Tails
+pub mod OpenTails
+pub mod DeepBasics
+pub mod ExprDeep
+pub mod StmtDeep
+pub mod ProgDeep

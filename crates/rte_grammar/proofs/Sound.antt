@@ -67,7 +67,7 @@ module _ {P : Type 0} where
       done IsVar ts (record { name = n.0.0.0; place = n.0.0.1; kind = k.0.0 }) s k.0.1 us
       (c.0.1, a_sound w.VAR ts c.0.1 c.0.0 c.1, (n.0.1, name_sound c.0.1 n.0.1 n.0.0 n.1, (d.0.1, a_sound w.COLON n.0.1 d.0.1 d.0.0 d.1, kind_sound d.0.1 k.0.1 k.0.0 k.1))) k.2
 
-  vars_sound : Sound {P = P} vars (Each IsVar)
+  pub vars_sound : Sound {P = P} vars (Each IsVar)
   unfolding vars
   vars_sound ts us s e = many_sound var IsVar var_sound (is_at w.VAR) ts us s e
 
@@ -80,14 +80,14 @@ module _ {P : Type 0} where
       done IsParam ts (record { name = n.0.0.0; place = n.0.0.1; kind = k.0.0 }) s k.0.1 us
       (n.0.1, name_sound ts n.0.1 n.0.0 n.1, (d.0.1, a_sound w.COLON n.0.1 d.0.1 d.0.0 d.1, scalar_sound d.0.1 k.0.1 k.0.0 k.1)) k.2
 
-  params_sound : Sound {P = P} params (λ ps. a w.LEFT_PAREN ▷ SomeListed IsParam ps ▷ a w.RIGHT_PAREN)
+  pub params_sound : Sound {P = P} params (λ ps. a w.LEFT_PAREN ▷ SomeListed IsParam ps ▷ a w.RIGHT_PAREN)
   unfolding params
   params_sound ts us s e = in_parens_sound param IsParam param_sound ts us s e
 
-  abbrev IsBlock : List (Stmt P) → List (Tok P) → List (Tok P) → Type 0
+  abbrev pub IsBlock : List (Stmt P) → List (Tok P) → List (Tok P) → Type 0
   IsBlock ss = a w.BEGIN ▷ AreStmts MOST_LEVELS (stmts_of ss)
 
-  block_sound : Sound {P = P} block IsBlock
+  pub block_sound : Sound {P = P} block IsBlock
   unfolding block
   block_sound ts us s e =
       let c = bind_ok (expect w.BEGIN ts) _ _ e in (c.0.1, a_sound w.BEGIN ts c.0.1 c.0.0 c.1, all_stmts_sound MOST_LEVELS c.0.1 us s c.2)
@@ -101,14 +101,14 @@ module _ {P : Type 0} where
 
   -- ---- routines
 
-  kind_word_sound : Sound {P = P} routine_kind (λ k. a (kind_word k))
+  pub kind_word_sound : Sound {P = P} routine_kind (λ k. a (kind_word k))
   unfolding routine_kind
   kind_word_sound ts us s e =
       by_if (is_at w.PROCEDURE ts) _ _ _
       (λ is e. let c = bind_ok (expect w.PROCEDURE ts) _ _ e in done (λ k. a (kind_word k)) ts procedure s c.0.1 us (a_sound w.PROCEDURE ts c.0.1 c.0.0 c.1) c.2)
       (λ is e. let c = bind_ok (expect w.FUNCTION ts) _ _ e in done (λ k. a (kind_word k)) ts function s c.0.1 us (a_sound w.FUNCTION ts c.0.1 c.0.0 c.1) c.2) e
 
-  result_sound : (k : RoutineKind) → Sound {P = P} (result k) (IsResult k)
+  pub result_sound : (k : RoutineKind) → Sound {P = P} (result k) (IsResult k)
   unfolding result
   result_sound procedure ts us s e = done (IsResult procedure) ts None s ts us refl e
   result_sound function ts us s e =
@@ -188,7 +188,7 @@ module _ {P : Type 0} where
         ),
       ) c.2
 
-  routines_sound : Sound {P = P} routines (Each IsRoutine)
+  pub routines_sound : Sound {P = P} routines (Each IsRoutine)
   unfolding routines
   routines_sound ts us s e = many_sound routine_decl IsRoutine routine_sound begins_routine ts us s e
 
@@ -205,15 +205,15 @@ module _ {P : Type 0} where
       done IsMember ts (condition_member n.0.0.0 n.0.0.1) s n.0.1 us
       (c.0.1, a_sound w.CONDITION ts c.0.1 c.0.0 c.1, name_sound c.0.1 n.0.1 n.0.0 n.1) n.2) e
 
-  entry_sound : Sound {P = P} entry_decl IsEntry
+  pub entry_sound : Sound {P = P} entry_decl IsEntry
   unfolding entry_decl
   entry_sound ts us s e = let c = bind_ok (expect w.ENTRY ts) _ _ e in (c.0.1, a_sound w.ENTRY ts c.0.1 c.0.0 c.1, routine_sound c.0.1 us s c.2)
 
-  members_sound : Sound {P = P} members (Each IsMember)
+  pub members_sound : Sound {P = P} members (Each IsMember)
   unfolding members
   members_sound ts us s e = many_sound member IsMember member_sound begins_member ts us s e
 
-  entries_sound : Sound {P = P} entries (Each IsEntry)
+  pub entries_sound : Sound {P = P} entries (Each IsEntry)
   unfolding entries
   entries_sound ts us s e = many_sound entry_decl IsEntry entry_sound (is_at w.ENTRY) ts us s e
 
@@ -243,7 +243,7 @@ module _ {P : Type 0} where
       (c.0.1, a_sound w.FIRST ts c.0.1 c.0.0 c.1, (d.0.1, a_sound w.ACTIVATION c.0.1 d.0.1 d.0.0 d.1, (f.0.1, a_sound w.AT_TIME d.0.1 f.0.1 f.0.0 f.1, constant_sound f.0.1 x.0.1 x.0.0 x.1))) x.2)
       (λ is e. done IsFirst ts None s ts us refl e) e
 
-  activation_sound : Sound {P = P} activation IsActivation
+  pub activation_sound : Sound {P = P} activation IsActivation
   unfolding activation
   activation_sound ts us s e =
       by_if (is_at w.PERIODIC ts) _ _ _
@@ -262,7 +262,7 @@ module _ {P : Type 0} where
       done IsActivation ts (at_event n.0.0.0 n.0.0.1 x.0.0) s x.0.1 us
       (c.0.1, a_sound w.AT_EVENT ts c.0.1 c.0.0 c.1, (n.0.1, name_sound c.0.1 n.0.1 n.0.0 n.1, (d.0.1, a_sound w.FRAME n.0.1 d.0.1 d.0.0 d.1, constant_sound d.0.1 x.0.1 x.0.0 x.1))) x.2) e
 
-  numbers_sound : Sound {P = P} numbers (λ ns. a w.LEFT_PAREN ▷ Listed IsConstant ns ▷ a w.RIGHT_PAREN)
+  pub numbers_sound : Sound {P = P} numbers (λ ns. a w.LEFT_PAREN ▷ Listed IsConstant ns ▷ a w.RIGHT_PAREN)
   unfolding numbers
   numbers_sound ts us s e =
       let c = bind_ok (expect w.LEFT_PAREN ts) _ _ e in
@@ -370,7 +370,7 @@ module _ {P : Type 0} where
       done IsDecl ts (event n.0.0.0 n.0.0.1) s n.0.1 us
       (c.0.1, a_sound w.EVENT ts c.0.1 c.0.0 c.1, name_sound c.0.1 n.0.1 n.0.0 n.1) n.2
 
-  decl_sound : Sound {P = P} decl IsDecl
+  pub decl_sound : Sound {P = P} decl IsDecl
   unfolding decl
   decl_sound ts us s e =
       by_if (is_at w.CONST ts) _ _ _ (λ is e. const_sound ts us s e) (λ is e.

@@ -1,14 +1,14 @@
 -- What a statement's tokens are is read as that statement.
-use Rattle.std.proofs.Common.{◌≡◌, ℕ, zero, suc, List, [], ◌∷◌, true, false, cond, Ok, refl, ap, sym, ◌∙◌}
+use Rattle.std.proofs.Common.{◌≡◌, ℕ, zero, suc, List, [], ◌∷◌, true, false, cond, Result, Ok, refl, ap, sym, ◌∙◌}
 use Rattle.rte_tree.specs.Plain.{Name}
 use Rattle.rte_tree.specs.Placed.{Constant, Expr, Exprs, Ref, whole, part, Stmt, assign, assign_entry, assign_empty, perform, perform_entry, when, when_else, loop, exit_when, get, put, wait, signal, broadcast, except, assert, Stmts, no_stmts, stmts, stmts_of}
 use Rattle.rte_grammar.specs.Words as w
 use Rattle.rte_grammar.specs.Words.{Word, named, Tok}
 use Rattle.rte_grammar.specs.ExprGrammar.{at, a, ◌▷◌, Each, InParens}
 use Rattle.rte_grammar.specs.StmtGrammar.{IsRef, IsStmt, AreStmts}
-use Rattle.rte_grammar.specs.ExprReading.{Parse, same_word, is_at, is_entry, expect, name, constant, index, args, inner, expr}
+use Rattle.rte_grammar.specs.ExprReading.{Fault, Parse, same_word, is_at, is_entry, expect, name, constant, index, args, inner, expr}
 use Rattle.rte_grammar.specs.StmtReading as reading
-use Rattle.rte_grammar.specs.StmtReading.{reference_from, reference, entry, assigned, named_stmt, exit_stmt, get_stmt, put_stmt, assert_stmt, wait_stmt, signal_stmt, broadcast_stmt, except_stmt, plain_stmt, simple_stmt, begins_by, begins, stmts_by, closing, else_by, choice, loop_stmt, stmt_by, stmt}
+use Rattle.rte_grammar.specs.StmtReading.{reference_from, reference, entry_args, entry, assigned, named_stmt, exit_stmt, get_stmt, put_stmt, assert_stmt, wait_stmt, signal_stmt, broadcast_stmt, except_stmt, plain_stmt, simple_stmt, begins_by, begins, stmts_by, closing, else_by, choice, loop_stmt, stmt_by, stmt}
 use Rattle.rte_grammar.proofs.Basics.{IsName}
 use Rattle.rte_grammar.proofs.Shorter.{stmt-shorter}
 use Rattle.rte_grammar.proofs.AgainBasics.{step, if-true, if-false, Again, expect_again, name_again, Stop, Ends, stop-at, many_again}
@@ -48,7 +48,7 @@ module _ {P : Type 0} where
 
   -- ---- how a statement begins
 
-  record Front (ts : List (Tok P)) : Type 0 where
+  pub record Front (ts : List (Tok P)) : Type 0 where
     pub word : Word
     pub place : P
     pub rest : List (Tok P)
@@ -56,10 +56,10 @@ module _ {P : Type 0} where
     pub ends : Ends word
     pub begins : begins_by word ≡ true
 
-  front : (v : Word) (p : P) (ts us : List (Tok P)) → at v p ts us → Ends v → begins_by v ≡ true → Front ts
+  pub front : (v : Word) (p : P) (ts us : List (Tok P)) → at v p ts us → Ends v → begins_by v ≡ true → Front ts
   front v p ts us took ends goes = record { word = v; place = p; rest = us; first = took; ends = ends; begins = goes }
 
-  ref-front : (depth : ℕ) (r : Ref P) (ts us : List (Tok P)) → IsRef depth r ts us → Front ts
+  pub ref-front : (depth : ℕ) (r : Ref P) (ts us : List (Tok P)) → IsRef depth r ts us → Front ts
   ref-front depth r ts us took =
       let parts = ref-parts depth r ts us took in front (named parts.name.0) parts.name.1 ts parts.rest parts.first (refl, refl, refl, refl) refl
 
@@ -84,10 +84,10 @@ module _ {P : Type 0} where
   stmt-front depth (except p number) ts us (vs, took, more) = front w.EXCEPT p ts vs took (refl, refl, refl, refl) refl
   stmt-front depth (assert p e) ts us (vs, took, more) = front w.ASSERT p ts vs took (refl, refl, refl, refl) refl
 
-  stmt-begins : (depth : ℕ) (s : Stmt P) (ts us : List (Tok P)) → IsStmt depth s ts us → begins ts ≡ true
+  pub stmt-begins : (depth : ℕ) (s : Stmt P) (ts us : List (Tok P)) → IsStmt depth s ts us → begins ts ≡ true
   stmt-begins depth s ts us took = let f = stmt-front depth s ts us took in ap begins f.first ∙ f.begins
 
-  stmt-starts : (depth : ℕ) (s : Stmt P) (ts us : List (Tok P)) → IsStmt depth s ts us → Stop 5 ts
+  pub stmt-starts : (depth : ℕ) (s : Stmt P) (ts us : List (Tok P)) → IsStmt depth s ts us → Stop 5 ts
   stmt-starts depth s ts us took = let f = stmt-front depth s ts us took in stop-at 5 f.word f.place ts f.rest f.ends f.first
 
   -- ---- statements that begin with a name
@@ -99,31 +99,40 @@ module _ {P : Type 0} where
   parens-begin v same zero es ts us took = absurd took
   parens-begin v same (suc depth) es ts us (vs, (q, l), more) = ap (is_at v) l ∙ same
 
+  entry_args_again : (depth : ℕ) (es : Exprs P) (ts us : List (Tok P)) → InParens depth es ts us → entry_args depth ts ≡ Ok (arg_list es, us)
+  unfolding entry_args
+  entry_args_again depth es ts us took =
+      if-true (is_at w.LEFT_PAREN ts) _ _ _ (parens-begin w.LEFT_PAREN refl depth es ts us took) (args-again depth es ts us took)
+
   entry_again : (depth : ℕ) (n : Name × P) (es : Exprs P) (ts us : List (Tok P)) → (a w.DOT ▷ IsName n ▷ InParens depth es) ts us
       → entry depth ts ≡ Ok ((n.0, n.1, arg_list es), us)
   unfolding entry
   entry_again depth n es ts us (v1, (q1, t1), (v2, t2, t3)) =
       step (expect w.DOT ts) _ (q1, v1) _ (expect_again w.DOT q1 ts v1 refl t1)
       (step (name v1) _ (n, v2) _ (name_again n v1 v2 t2)
-      (step (args (inner depth) v2) _ (arg_list es, us) _ (args-again depth es v2 us t3)
+      (step (entry_args depth v2) _ (arg_list es, us) _ (entry_args_again depth es v2 us t3)
       refl))
 
-  name-stmt : (depth : ℕ) (n : Name × P) (ts vs : List (Tok P)) → IsName n ts vs → stmt depth ts ≡ named_stmt depth n vs
+  pub name-stmt : (depth : ℕ) (n : Name × P) (ts vs : List (Tok P)) → IsName n ts vs → stmt depth ts ≡ named_stmt depth n vs
   unfolding stmt stmt_by name
   name-stmt zero n ts vs took = ap (stmt zero) took
   name-stmt (suc depth) n ts vs took = ap (stmt (suc depth)) took
 
   -- a statement that begins with a reference and is no call
-  assigns : (depth : ℕ) (r : Ref P) (s : Stmt P) (ts vs v2 us : List (Tok P)) → IsRef depth r ts vs → a w.ASSIGN vs v2 → assigned depth r v2 ≡ Ok (s, us)
-      → stmt depth ts ≡ Ok (s, us)
+  pub assigns-as : (depth : ℕ) (r : Ref P) (ts vs v2 : List (Tok P)) (y : Result (Stmt P × List (Tok P)) Fault) → IsRef depth r ts vs → a w.ASSIGN vs v2
+      → assigned depth r v2 ≡ y → stmt depth ts ≡ y
   unfolding named_stmt
-  assigns depth r s ts vs v2 us took (q, c) reads =
+  assigns-as depth r ts vs v2 y took (q, c) reads =
       let parts = ref-parts depth r ts vs took in
       name-stmt depth parts.name ts parts.rest parts.first
       ∙ if-false (is_at w.LEFT_PAREN parts.rest) _ _ _ (parts.begins w.LEFT_PAREN refl (ap (is_at w.LEFT_PAREN) c))
       (if-false (is_at w.DOT parts.rest) _ _ _ (parts.begins w.DOT refl (ap (is_at w.DOT) c))
       (step (reference_from depth parts.name parts.rest) _ (r, vs) _ (parts.reads (ap (is_at w.LEFT_BRACKET) c))
       (step (expect w.ASSIGN vs) _ (q, v2) _ (expect_again w.ASSIGN q vs v2 refl c) reads)))
+
+  assigns : (depth : ℕ) (r : Ref P) (s : Stmt P) (ts vs v2 us : List (Tok P)) → IsRef depth r ts vs → a w.ASSIGN vs v2 → assigned depth r v2 ≡ Ok (s, us)
+      → stmt depth ts ≡ Ok (s, us)
+  assigns depth r s ts vs v2 us took becomes reads = assigns-as depth r ts vs v2 (Ok (s, us)) took becomes reads
 
   -- ---- lists of statements
 
@@ -135,7 +144,7 @@ module _ {P : Type 0} where
   from-stmts no_stmts = refl
   from-stmts (stmts s ss) = ap (stmts s) (from-stmts ss)
 
-  to-each : (depth : ℕ) (ss : Stmts P) (ts us : List (Tok P)) → AreStmts depth ss ts us → Each (IsStmt depth) (stmt_list ss) ts us
+  pub to-each : (depth : ℕ) (ss : Stmts P) (ts us : List (Tok P)) → AreStmts depth ss ts us → Each (IsStmt depth) (stmt_list ss) ts us
   to-each depth no_stmts ts us took = took
   to-each depth (stmts s ss) ts us (vs, took, more) = (vs, took, to-each depth ss vs us more)
 
@@ -143,7 +152,7 @@ module _ {P : Type 0} where
   abbrev pub EndsStmts : Word → List (Tok P) → List (Tok P) → Type 0
   EndsStmts v ts us = Ends v × (begins_by v ≡ false) × a v ts us
 
-  stmts_again : (depth : ℕ) (p : Parse P (Stmt P)) → Again p (IsStmt depth) (Stop 5) → (ss : Stmts P) (ts us : List (Tok P)) → AreStmts depth ss ts us
+  pub stmts_again : (depth : ℕ) (p : Parse P (Stmt P)) → Again p (IsStmt depth) (Stop 5) → (ss : Stmts P) (ts us : List (Tok P)) → AreStmts depth ss ts us
       → (v : Word) (vs : List (Tok P)) → EndsStmts v us vs → stmts_by p ts ≡ Ok (stmt_list ss, us)
   unfolding stmts_by
   stmts_again depth p again ss ts us took v vs (ends, none, (q, c)) =

@@ -8,7 +8,7 @@ use Rattle.rte_grammar.specs.ExprGrammar.{at, a, ◌▷◌, Each, IsExpr, InPare
 use Rattle.rte_grammar.specs.StmtGrammar.{IsRef, IsStmt, AreStmts}
 use Rattle.rte_grammar.specs.ExprReading.{Parse, too_deep, is_at, is_name, is_entry, expect, name, constant, index, args, inner, expr}
 use Rattle.rte_grammar.specs.StmtReading as reading
-use Rattle.rte_grammar.specs.StmtReading.{reference_from, reference, entry, assigned, named_stmt, exit_stmt, get_stmt, put_stmt, assert_stmt, wait_stmt, signal_stmt, broadcast_stmt, except_stmt, plain_stmt, simple_stmt, begins, stmts_by, closing, else_by, choice, loop_stmt, stmt_by, stmt}
+use Rattle.rte_grammar.specs.StmtReading.{reference_from, reference, entry_args, entry, assigned, named_stmt, exit_stmt, get_stmt, put_stmt, assert_stmt, wait_stmt, signal_stmt, broadcast_stmt, except_stmt, plain_stmt, simple_stmt, begins, stmts_by, closing, else_by, choice, loop_stmt, stmt_by, stmt}
 use Rattle.rte_grammar.proofs.Basics.{bind_ok, by_if, Sound, done, expect_sound, a_sound, name_sound, many_sound}
 use Rattle.rte_grammar.proofs.ExprSound.{constant_sound, index_sound, args_sound, inner_sound, expr_sound}
 
@@ -16,7 +16,7 @@ module _ {P : Type 0} where
   abbrev front : Name × P → List (Tok P) → List (Tok P)
   front n ts = record { word = named n.0; place = n.1 } ∷ ts
 
-  reference_from_sound : (depth : ℕ) (n : Name × P) → Sound (reference_from depth n) (λ r ts us. IsRef depth r (front n ts) us)
+  pub reference_from_sound : (depth : ℕ) (n : Name × P) → Sound (reference_from depth n) (λ r ts us. IsRef depth r (front n ts) us)
   unfolding reference_from
   reference_from_sound depth n ts us r e =
       by_if (is_at w.LEFT_BRACKET ts) _ _ _
@@ -39,14 +39,18 @@ module _ {P : Type 0} where
   args-sound : (depth : ℕ) → Sound {P = P} (args (inner depth)) (λ es. InParens depth (exprs_of es))
   args-sound depth ts us es e = args_sound (inner depth) depth (inner_sound P depth) ts us es e
 
+  entry_args_sound : (depth : ℕ) → Sound {P = P} (entry_args depth) (λ es. InParens depth (exprs_of es))
+  unfolding entry_args
+  entry_args_sound depth ts us es e = by_if (is_at w.LEFT_PAREN ts) _ _ _ (λ is e. args-sound depth ts us es e) (λ is e. cc) e
+
   entry_sound : (depth : ℕ) → Sound {P = P} (entry depth) (IsCall depth)
   unfolding entry
   entry_sound depth ts us s e =
       let c = bind_ok (expect w.DOT ts) _ _ e in
       let n = bind_ok (name c.0.1) _ _ c.2 in
-      let x = bind_ok (args (inner depth) n.0.1) _ _ n.2 in
+      let x = bind_ok (entry_args depth n.0.1) _ _ n.2 in
       done (IsCall depth) ts (n.0.0.0, n.0.0.1, x.0.0) s x.0.1 us
-      (c.0.1, a_sound w.DOT ts c.0.1 c.0.0 c.1, (n.0.1, name_sound c.0.1 n.0.1 n.0.0 n.1, args-sound depth n.0.1 x.0.1 x.0.0 x.1)) x.2
+      (c.0.1, a_sound w.DOT ts c.0.1 c.0.0 c.1, (n.0.1, name_sound c.0.1 n.0.1 n.0.0 n.1, entry_args_sound depth n.0.1 x.0.1 x.0.0 x.1)) x.2
 
   -- what is assigned to this reference, behind the `:=`
   abbrev Assigned : ℕ → Ref P → Stmt P → List (Tok P) → List (Tok P) → Type 0
@@ -179,7 +183,7 @@ module _ {P : Type 0} where
 
   -- ---- statements with others inside
 
-  stmts-of : (depth : ℕ) (ss : List (Stmt P)) (ts us : List (Tok P)) → Each (IsStmt depth) ss ts us → AreStmts depth (stmts_of ss) ts us
+  pub stmts-of : (depth : ℕ) (ss : List (Stmt P)) (ts us : List (Tok P)) → Each (IsStmt depth) ss ts us → AreStmts depth (stmts_of ss) ts us
   stmts-of depth [] ts us took = took
   stmts-of depth (s ∷ ss) ts us (vs, took, more) = (vs, took, stmts-of depth ss vs us more)
 
@@ -189,7 +193,7 @@ module _ {P : Type 0} where
       let c = bind_ok (expect w.END ts) _ _ e in (c.0.1, a_sound w.END ts c.0.1 c.0.0 c.1, a_sound word c.0.1 us p c.2)
 
   module _ (depth : ℕ) (p : Parse P (Stmt P)) (sound : Sound p (IsStmt depth)) where
-    stmts_sound : Sound (stmts_by p) (λ ss. AreStmts depth (stmts_of ss))
+    pub stmts_sound : Sound (stmts_by p) (λ ss. AreStmts depth (stmts_of ss))
     unfolding stmts_by
     stmts_sound ts us ss e = stmts-of depth ss ts us (many_sound p (IsStmt depth) sound begins ts us ss e)
 

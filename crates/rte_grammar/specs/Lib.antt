@@ -2,6 +2,7 @@ pub mod Words
 pub mod ExprGrammar
 pub mod StmtGrammar
 pub mod Grammar
+pub mod Opening
 pub mod ExprReading
 pub mod StmtReading
 pub mod Reading

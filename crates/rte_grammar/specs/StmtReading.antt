@@ -5,7 +5,7 @@ use Rattle.rte_tree.specs.Plain.{Name}
 use Rattle.rte_tree.specs.Placed.{Expr, Ref, whole, part, Stmt, assign, assign_entry, assign_empty, perform, perform_entry, when, when_else, loop, exit_when, get, put, wait, signal, broadcast, except, assert, exprs_of, stmts_of}
 use Rattle.rte_grammar.specs.Words as w
 use Rattle.rte_grammar.specs.Words.{Word, named, number, keyword, sign, Tok}
-use Rattle.rte_grammar.specs.ExprReading.{◌>>=◌, Parse, too_deep, is_at, is_name, is_entry, expect, name, many, constant, index, args, inner, expr}
+use Rattle.rte_grammar.specs.ExprReading.{◌>>=◌, Parse, refuse, too_deep, is_at, is_name, is_entry, expect, name, many, constant, index, args, inner, expr}
 
 -- behind a name
 unfoldable pub reference_from : {P : Type 0} → ℕ → Name × P → Parse P (Ref P)
@@ -14,9 +14,13 @@ reference_from depth n ts = if is_at w.LEFT_BRACKET ts then (index (inner depth)
 unfoldable pub reference : {P : Type 0} → ℕ → Parse P (Ref P)
 reference depth ts = name ts >>= λ n. reference_from depth n.0 n.1
 
+-- the arguments of an entry
+unfoldable pub entry_args : {P : Type 0} → ℕ → Parse P (List (Expr P))
+entry_args depth ts = if is_at w.LEFT_PAREN ts then args (inner depth) ts else refuse ts
+
 -- the entry that is called, behind its monitor
 unfoldable pub entry : {P : Type 0} → ℕ → Parse P (Name × P × List (Expr P))
-entry depth ts = expect w.DOT ts >>= λ c. name c.1 >>= λ n. args (inner depth) n.1 >>= λ es. Ok ((n.0.0, n.0.1, es.0), es.1)
+entry depth ts = expect w.DOT ts >>= λ c. name c.1 >>= λ n. entry_args depth n.1 >>= λ es. Ok ((n.0.0, n.0.1, es.0), es.1)
 
 -- what is assigned
 unfoldable pub assigned : {P : Type 0} → ℕ → Ref P → Parse P (Stmt P)

@@ -1,8 +1,10 @@
 -- Where a fault stands.
-use Rattle.std.specs.Prelude.{◌≡◌, ℕ, Some, slice_get, ◌⊎◌}
+use Rattle.std.specs.Prelude.{◌≡◌, ℕ, List, ◌∷◌, ◌++◌, Some, slice_get, ◌⊎◌}
 use Rattle.rte_tree.specs.declared.place.Place.{Place}
 use Rattle.rte_lex.specs.declared.token.Token.{Token}
 use Rattle.rte_lex.specs.declared.token.Tokens.{Tokens}
+use Rattle.rte_grammar.specs.Words.{toks_of}
+use Rattle.rte_grammar.specs.Opening.{OpensProg}
 use Rattle.rte_parse.specs.declared.fault.SynFault.{SynFault}
 use Rattle.rte_parse.specs.declared.fault.SynFault.TheVariants.{Syntax, Nesting, Memory}
 
@@ -18,3 +20,12 @@ abbrev pub StandsIn : Tokens → SynFault → Type 0
 StandsIn toks (Syntax p) = IsPlaceIn toks p
 StandsIn toks (Nesting p) = IsPlaceIn toks p
 StandsIn toks Memory = Unit {0}
+
+-- at this place stands the token that opens a level beyond the last: the tokens before it begin a program, and all levels are open there
+pub record OpensAt (text : List ℕ) (toks : List Token) (p : Place) : Type 0 where
+  pub before : List Token
+  pub token : Token
+  pub after : List Token
+  pub all : toks ≡ before ++ token ∷ after
+  pub opens : OpensProg (toks_of text toks) (toks_of text (token ∷ after))
+  pub stands : p ≡ place token

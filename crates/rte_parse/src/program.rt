@@ -1,13 +1,14 @@
 //! Reading a whole text.
 
-ghost use Rattle.std.specs.Prelude.{◌≡◌, IfOk, IfErr, MatchResult};
+ghost use Rattle.std.specs.Prelude.{◌≡◌, List, ◌∷◌, ◌++◌, length, ◌⊎◌, IfOk, IfErr, MatchResult};
 ghost use Rattle.rte_tree.specs.Placed.{placed, Prog as SpecProg};
 ghost use Rattle.rte_tree.specs.declared.place.Place.{Place as SpecPlace};
+ghost use Rattle.rte_lex.specs.declared.token.Token.{Token as SpecToken};
 ghost use Rattle.rte_grammar.specs.Words.{toks_of};
 ghost use Rattle.rte_grammar.specs.Grammar.{tree};
 ghost use Rattle.rte_grammar.specs.Reading as reading;
 ghost use Rattle.rte_parse.specs.Reads.{Gives};
-ghost use Rattle.rte_parse.specs.Faults.{IsPlaceIn, StandsIn};
+ghost use Rattle.rte_parse.specs.Faults.{place, IsPlaceIn, StandsIn, OpensAt};
 
 use crate::fault::{Refusal, SynFault};
 use crate::parser::Parser;
@@ -32,7 +33,8 @@ fn read(alloc: Global, text: &[u8], toks: &[Token]) -> Result<Prog, Refusal>
 
 /// The place of the token with this many left from it on, or of the text's end.
 fn place_of(tokens: &Tokens, left: usize) -> Place
-    ensures { IsPlaceIn tokens.now result }
+    ensures found { IsPlaceIn tokens.now result }
+    ensures at { (before after : List SpecToken) (t : SpecToken) → tokens.now.list ≡ before ++ t ∷ after → left ≡ length (t ∷ after) → result ≡ place t }
 {
     let all = tokens.as_slice();
     match all.get(all.len().saturating_sub(left)) {
@@ -51,9 +53,10 @@ fn place_of(tokens: &Tokens, left: usize) -> Place
 ///
 /// # Errors
 ///
-/// `Syntax` or `Nesting` exactly where the tokens have no tree: `Nesting` at a token that opens
-/// level 65, `Syntax` at the first token with which the tokens read no longer begin a program, or
-/// at the text's end. `Memory` where there is not enough memory for the tree.
+/// `Syntax` or `Nesting` exactly where the tokens have no tree: `Nesting` exactly where a token
+/// opens level 65, at the first that does; else `Syntax`, at the first token with which the tokens
+/// read no longer begin a program, or at the text's end. `Memory` where there is not enough memory
+/// for the tree.
 pub fn parse(alloc: Global, text: &[u8], tokens: &Tokens) -> Result<Prog, SynFault>
     // What is read has these tokens.
     ensures found { IfOk result (λ g. tree text.now tokens.now.list (placed g)) }
@@ -61,6 +64,10 @@ pub fn parse(alloc: Global, text: &[u8], tokens: &Tokens) -> Result<Prog, SynFau
     ensures only { (g : SpecProg SpecPlace) → tree text.now tokens.now.list g → MatchResult result (λ p. placed p ≡ g) (λ f. f ≡ SynFault.Memory) }
     // A fault stands at a token or at the end.
     ensures place { IfErr result (λ f. StandsIn tokens.now f) }
+    // A fault of nesting stands at the token that opens level 65.
+    ensures nesting { (p : SpecPlace) → result ≡ Err (SynFault.Nesting p) → OpensAt text.now tokens.now.list p }
+    // Where a token opens level 65 it is the fault, unless memory runs out.
+    ensures too_deep { (p : SpecPlace) → OpensAt text.now tokens.now.list p → (result ≡ Err (SynFault.Nesting p)) ⊎ (result ≡ Err SynFault.Memory) }
 {
     match read(alloc, text, tokens.as_slice()) {
         Ok(prog) => Ok(prog),

@@ -94,6 +94,17 @@ impl Parser<'_> {
         self.reference_from(alloc, depth, name, place)
     }
 
+    /// The arguments of an entry.
+    #[tactic(auto, unfolding(rte_grammar::specs::StmtReading::entry_args))]
+    fn entry_args(&mut self, alloc: Global, depth: usize) -> Result<List<Expr>, Refusal>
+        ensures { Reads (map placed_expr) (reading.entry_args depth self.old) result self.new }
+    {
+        if self.is_sign(sign::LEFT_PAREN) {
+            return self.args(alloc, depth);
+        }
+        Err(Refusal::Syntax { left: self.left() })
+    }
+
     /// The entry that is called and its arguments, behind the monitor's name.
     #[tactic(auto, unfolding(rte_grammar::specs::StmtReading::entry))]
     fn entry(&mut self, alloc: Global, depth: usize) -> Result<(Name, Place, List<Expr>), Refusal>
@@ -101,7 +112,7 @@ impl Parser<'_> {
     {
         self.expect_sign(sign::DOT)?;
         let (entry, place) = self.name(alloc)?;
-        let args = self.args(alloc, depth)?;
+        let args = self.entry_args(alloc, depth)?;
         Ok((entry, place, args))
     }
 

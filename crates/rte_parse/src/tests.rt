@@ -70,6 +70,21 @@ fn at_most_64_levels(rt: HostRuntime) -> Result<(), Fail> {
 }
 
 #[test]
+fn an_entry_without_arguments_opens_no_level(rt: HostRuntime) -> Result<(), Fail> {
+    let alloc = rt.alloc();
+    let mut body = Vec::new(alloc);
+    for _ in 0..64 {
+        body.extend_from_slice(b"if b then ")?;
+    }
+    body.extend_from_slice(b"m.f")?;
+    let text = with_body(alloc, body.as_slice())?;
+    refuses(&rt, alloc, text.as_slice(), "E10 1:691")?;
+    body.extend_from_slice(b"()")?;
+    let text = with_body(alloc, body.as_slice())?;
+    refuses(&rt, alloc, text.as_slice(), "E11 1:690")
+}
+
+#[test]
 fn a_million_parentheses_are_refused_at_once(rt: HostRuntime) -> Result<(), Fail> {
     let mut text = Vec::new(rt.alloc());
     for _ in 0..1_048_576 {

@@ -1,4 +1,4 @@
-use Rattle.std.proofs.Common.{◌≡◌, ap, sym, ◌∙◌, subst, Err}
+use Rattle.std.proofs.Common.{◌≡◌, ap, sym, ◌∙◌, subst, ◌∷◌, length, Err, inl}
 use Rattle.rte_tree.specs.Placed.{placed}
 use Rattle.rte_grammar.specs.Words.{toks_of}
 use Rattle.rte_grammar.specs.ExprReading.{syntax, nesting}
@@ -6,8 +6,9 @@ use Rattle.rte_grammar.specs.Reading.{whole}
 use Rattle.rte_grammar.proofs.Sound.{whole_sound}
 use Rattle.rte_grammar.proofs.Again.{one_tree}
 use Rattle.rte_parse.specs.declared.fault.Refusal.TheVariants as refusal
+use Rattle.rte_parse.specs.declared.fault.SynFault.TheVariants as fault
 use Rattle.rte_parse.specs.Reads.{Gives}
-use Rattle.rte_parse.proofs.Laws.{no_tree}
+use Rattle.rte_parse.proofs.Laws.{no_tree, opening, stopped}
 use Rattle.rte_parse.proofs.program.parse.Goals as goal
 
 pub returns-in-Ok-clause-found : goal.returns-in-Ok-clause-found
@@ -35,3 +36,45 @@ returns-in-Err-Nesting-clause-only c g tree =
     absurd (no_tree (toks_of c.args.text.now c.args.tokens.now.list) (nesting c.in-Err-Nesting.left)
     (ap (λ l. whole (toks_of c.args.text.now l)) (sym c.as_slice.ensures)
     ∙ subst (λ r. Gives placed (whole (toks_of c.args.text.now c.as_slice.result.now)) (Err r)) is c.in-Err-Nesting.ensures) g tree)
+
+pub returns-in-Err-Nesting-clause-nesting : goal.returns-in-Err-Nesting-clause-nesting
+returns-in-Err-Nesting-clause-nesting c p same =
+    let is : c.in-Err-Nesting.field-0 ≡ refusal.Nesting c.in-Err-Nesting.left = c.in-Err-Nesting.field-0-is in
+    let it = opening c.args.text.now c.args.tokens.now.list c.in-Err-Nesting.left
+    (ap (λ l. whole (toks_of c.args.text.now l)) (sym c.as_slice.ensures)
+    ∙ subst (λ r. Gives placed (whole (toks_of c.args.text.now c.as_slice.result.now)) (Err r)) is c.in-Err-Nesting.ensures) in
+    let there : c.place_of-in-Err-Nesting.result ≡ p = cc in
+    record {
+      before = it.before;
+      token = it.token;
+      after = it.after;
+      all = it.all;
+      opens = it.opens;
+      stands = sym there ∙ c.place_of-in-Err-Nesting.ensures.at it.before it.after it.token it.all it.count;
+    }
+
+pub returns-in-Ok-clause-too_deep : goal.returns-in-Ok-clause-too_deep
+returns-in-Ok-clause-too_deep c p o =
+    let stop = stopped c.args.text.now c.args.tokens.now.list p o in
+    let read = ap (λ l. whole (toks_of c.args.text.now l)) (sym c.as_slice.ensures) ∙ c.in-Ok.ensures in
+    let both = sym read ∙ stop in
+    cc
+
+pub returns-in-Err-Syntax-clause-too_deep : goal.returns-in-Err-Syntax-clause-too_deep
+returns-in-Err-Syntax-clause-too_deep c p o =
+    let is : c.in-Err-Syntax.field-0 ≡ refusal.Syntax c.in-Err-Syntax.left = c.in-Err-Syntax.field-0-is in
+    let stop = stopped c.args.text.now c.args.tokens.now.list p o in
+    let read = ap (λ l. whole (toks_of c.args.text.now l)) (sym c.as_slice.ensures)
+    ∙ subst (λ r. Gives placed (whole (toks_of c.args.text.now c.as_slice.result.now)) (Err r)) is c.in-Err-Syntax.ensures in
+    let both = sym read ∙ stop in
+    cc
+
+pub returns-in-Err-Nesting-clause-too_deep : goal.returns-in-Err-Nesting-clause-too_deep
+returns-in-Err-Nesting-clause-too_deep c p o =
+    let is : c.in-Err-Nesting.field-0 ≡ refusal.Nesting c.in-Err-Nesting.left = c.in-Err-Nesting.field-0-is in
+    let stop = stopped c.args.text.now c.args.tokens.now.list p o in
+    let read = ap (λ l. whole (toks_of c.args.text.now l)) (sym c.as_slice.ensures)
+    ∙ subst (λ r. Gives placed (whole (toks_of c.args.text.now c.as_slice.result.now)) (Err r)) is c.in-Err-Nesting.ensures in
+    let both = sym read ∙ stop in
+    let count : c.in-Err-Nesting.left ≡ length (o.token ∷ o.after) = cc in
+    inl (ap (λ q. Err (fault.Nesting q)) (c.place_of-in-Err-Nesting.ensures.at o.before o.after o.token o.all count ∙ sym o.stands))
