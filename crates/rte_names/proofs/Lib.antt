@@ -5,4 +5,3 @@ pub mod Scoping
 pub mod Notes
 pub mod Programs
 pub mod Failing
-pub mod Reading

@@ -5,7 +5,7 @@ use Rattle.rte_names.specs.declared.kind.Declared.{Declared}
 use Rattle.rte_names.specs.declared.scope.Local.{Local}
 use Rattle.rte_names.specs.declared.around.Around.{Around}
 use Rattle.rte_names.specs.Reach.{same, or_else, within, first, inside}
-use Rattle.rte_names.specs.Seen.{in_loops, meaning, outer_site, site}
+use Rattle.rte_names.specs.Seen.{in_loops, meaning_in, outer_site, site}
 
 pub in_loops-end : (name : Name) (ls : List Local) (l : Local) (o : Option Declared) → in_loops name (ls ++ l ∷ []) o ≡ or_else (if same name l.name.now then Some l.declared else None) (in_loops name ls o)
 in_loops-end name [] l o = refl
@@ -13,7 +13,7 @@ in_loops-end name (x ∷ ls) l o = in_loops-end name ls l (or_else (if same name
 
 pub site-enter : (a : Around) (ls : List Local) (l : Local) → site a (ls ++ l ∷ []) ≡ inside ((l.name.now, l.declared) ∷ []) (site a ls)
 site-enter a ls l = λ i. record {
-  means = λ name. in_loops-end name ls l (within (meaning a.locals.now.entries) (outer_site a.outer).means name) i;
+  means = λ name. in_loops-end name ls l (within (meaning_in a.locals) (outer_site a.outer).means name) i;
   members = (outer_site a.outer).members;
 }
 

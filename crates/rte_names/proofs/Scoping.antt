@@ -51,16 +51,14 @@ pub add_all-first : (earlier ds : Names) → add_all (first earlier) ds ≡ firs
 add_all-first earlier [] = ap first (sym (append-nil earlier))
 add_all-first earlier (d ∷ ds) = ap (λ r. add_all r ds) (sym (snoc earlier d)) ∙ add_all-first (earlier ++ d ∷ []) ds ∙ ap first (append_assoc earlier (d ∷ []) ds)
 
--- two lists of names make one scope
-module _ (outside around : Reach) (f g h : Found) (s t u : Reach) (ds es : Names) (reach : outside ≡ around) (empty : s ≡ nowhere)
-    (one : Scoped outside f s ds g t []) (two : Scoped outside g t es h u []) where
-  pub made-notes : (more : List Occurrence) → noted h more ≡ noted f (declarations around [] (ds ++ es) more)
+-- the names of a whole scope
+module _ (outside : Reach) (f g : Found) (s u : Reach) (ds : Names) (empty : s ≡ nowhere) (made : Scoped outside f s ds g u []) where
+  pub made-notes : (more : List Occurrence) → noted g more ≡ noted f (declarations outside [] ds more)
   made-notes more =
-      two.notes [] more ∙ one.notes (es ++ []) more
-      ∙ ap (λ l. noted f (declared_after outside s (ds ++ l) more)) (append-nil es)
-      ∙ ap (λ r. noted f (declared_after outside r (ds ++ es) more)) empty
-      ∙ ap (noted f) (declarations-after outside [] (ds ++ es) more)
-      ∙ ap (λ w. noted f (declarations w [] (ds ++ es) more)) reach
+      made.notes [] more
+      ∙ ap (λ l. noted f (declared_after outside s l more)) (append-nil ds)
+      ∙ ap (λ r. noted f (declared_after outside r ds more)) empty
+      ∙ ap (noted f) (declarations-after outside [] ds more)
 
-  pub made-means : u ≡ first (ds ++ es)
-  made-means = two.scope [] ∙ one.scope (es ++ []) ∙ ap (λ l. add_all s (ds ++ l)) (append-nil es) ∙ ap (λ r. add_all r (ds ++ es)) empty ∙ add_all-first [] (ds ++ es)
+  pub made-means : u ≡ first ds
+  made-means = made.scope [] ∙ ap (add_all s) (append-nil ds) ∙ ap (λ r. add_all r ds) empty ∙ add_all-first [] ds

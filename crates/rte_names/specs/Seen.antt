@@ -1,8 +1,12 @@
 -- What the code's scopes say.
 use Rattle.std.specs.Prelude.{◌≡◌, ◌++◌, ℕ, Bool, true, false, ◌&&◌, ◌||◌, List, [], ◌∷◌, Option, Some, None, is_some, map, if◌then◌else◌, nat_eq}
 use Rattle.std.specs.Borrow.{Bor}
+use Rattle.indexmap.specs.IndexMap.{IndexMap}
+use Rattle.std.specs.declared.hash.BuildHasherDefault.{BuildHasherDefault}
+use Rattle.std.specs.declared.hash.FoldHasher.{FoldHasher}
 use Rattle.rte_tree.specs.Plain.{Name}
-use Rattle.rte_tree.specs.Placed.{Decl, constant, device, event, routine, monitor, process, Prog}
+use Rattle.rte_tree.specs.Placed.{Decl, constant, device, event, routine, monitor, process, Prog, Stmt, assign, assign_entry, assign_empty, perform, perform_entry, when, when_else, loop, exit_when, get, wait, signal, broadcast, except, assert}
+use Rattle.rte_tree.specs.Placed as tree
 use Rattle.rte_tree.specs.declared.place.Place.{Place}
 use Rattle.rte_names.specs.declared.kind.Declared.{Declared}
 use Rattle.rte_names.specs.declared.scope.Local.{Local}
@@ -11,7 +15,10 @@ use Rattle.rte_names.specs.declared.around.Outer.{Outer}
 use Rattle.rte_names.specs.declared.around.Around.{Around}
 use Rattle.rte_names.specs.Reach.{same, same_place, Names, Reach, nowhere, first, or_else, within, Site}
 use Rattle.rte_names.specs.Findings.{Found, noted}
-use Rattle.rte_names.specs.Occurrences.{Occurrence, declares, decl_name, others, inner_names, entry_name}
+use Rattle.rte_names.specs.Occurrences.{Occurrence, declares, decl_name, others, inner_names, entry_name, stmt_names}
+
+abbrev pub ScopeValue : Type 0
+ScopeValue = IndexMap (Bor Name) Declared (BuildHasherDefault FoldHasher)
 
 abbrev pub entry_of : Bor Name × Declared → Name × Declared
 entry_of e = (e.0.now, e.1)
@@ -19,6 +26,11 @@ entry_of e = (e.0.now, e.1)
 -- what the entries of a map say of a name
 abbrev pub meaning : List (Bor Name × Declared) → Reach
 meaning es = first (map entry_of es)
+
+-- what a scope says of a name, where there is a scope
+abbrev pub meaning_in : Option (Bor ScopeValue) → Reach
+meaning_in None = nowhere
+meaning_in (Some scope) = meaning scope.now.entries
 
 -- once one more is declared in a scope: the first declaration of a name counts
 abbrev pub add : Reach → Name × Declared → Reach
@@ -77,13 +89,13 @@ top_site t = record { means = meaning t.program.now.entries; members = entry_mea
 
 abbrev pub outer_site : Outer → Site
 outer_site o = record {
-  means = within (meaning o.members.now.entries) (meaning o.program.now.entries);
-  members = member_meaning o.monitor (meaning o.members.now.entries) (entry_meaning o.entries.now.entries);
+  means = within (meaning_in o.members) (top_site o.top).means;
+  members = member_meaning o.monitor (meaning_in o.members) (top_site o.top).members;
 }
 
 abbrev pub site : Around → List Local → Site
 site a loops = record {
-  means = λ name. in_loops name loops (within (meaning a.locals.now.entries) (outer_site a.outer).means name);
+  means = λ name. in_loops name loops (within (meaning_in a.locals) (outer_site a.outer).means name);
   members = (outer_site a.outer).members;
 }
 
@@ -110,3 +122,44 @@ IsNext members f p s ds g q t es = p ≡ add_all s (others ds) → Next members 
 
 abbrev pub nothing : Found
 nothing = record { first = None; ties = [] }
+
+-- ---- statements, by the groups of their forms
+
+abbrev pub is_assignment : Stmt Place → Bool
+is_assignment (assign r e) = true
+is_assignment (assign_entry r mon p entry q es) = true
+is_assignment (assign_empty r cond p) = true
+is_assignment s = false
+
+abbrev pub is_call : Stmt Place → Bool
+is_call (perform p name es) = true
+is_call (perform_entry p mon entry q es) = true
+is_call s = false
+
+abbrev pub is_transfer : Stmt Place → Bool
+is_transfer (get p dev q r) = true
+is_transfer (tree.put p dev q e) = true
+is_transfer s = false
+
+abbrev pub is_condition : Stmt Place → Bool
+is_condition (wait p cond q limit number) = true
+is_condition (signal p cond q) = true
+is_condition (broadcast p cond q) = true
+is_condition s = false
+
+abbrev pub is_check : Stmt Place → Bool
+is_check (exit_when p e) = true
+is_check (except p number) = true
+is_check (assert p e) = true
+is_check s = false
+
+-- in the statement no others stand
+abbrev pub is_plain : Stmt Place → Bool
+is_plain (when p e a) = false
+is_plain (when_else p e a b) = false
+is_plain (loop p name q low high a) = false
+is_plain s = true
+
+-- the names of a statement, if it is so
+abbrev pub names_if : (Stmt Place → Bool) → Site → Stmt Place → List Occurrence → List Occurrence
+names_if form here s more = if form s then stmt_names here s more else more

@@ -1,14 +1,14 @@
 //! What is in reach where a name stands.
 
-ghost use Rattle.std.specs.Prelude.{◌≡◌, OnOk, List};
+ghost use Rattle.std.specs.Prelude.{◌≡◌, OnOk, List, []};
 ghost use Rattle.rte_names.specs.Reach.{through, or_else};
 ghost use Rattle.rte_names.specs.Occurrences.{Occurrence, uses, entry_names};
 ghost use Rattle.rte_names.specs.Findings.{note, noted};
-ghost use Rattle.rte_names.specs.Seen.{outer_site, site};
+ghost use Rattle.rte_names.specs.Seen.{top_site, outer_site, site};
 
 use crate::findings::Findings;
 use crate::kind::{Declared, Kind, Want};
-use crate::scope::{Entries, Local, Scope, find, find_entry, find_in_loops};
+use crate::scope::{Entries, Local, Scope, find, find_entry, find_in, find_in_loops};
 use rte_tree::{Name, Place};
 use std::alloc::AllocError;
 
@@ -19,21 +19,20 @@ pub struct Top<'s, 'a> {
     pub entries: &'s Entries<'a>,
 }
 
-/// The scopes around routines: the program's names, the entries of all monitors, and the names of
-/// the monitor or process around, with the place of that monitor's name.
+/// The scopes around routines: those at the top, and, where a monitor or process is around, its
+/// names and the place of that monitor's name.
 #[derive(Clone, Copy)]
 pub struct Outer<'s, 'a> {
-    pub program: &'s Scope<'a>,
-    pub entries: &'s Entries<'a>,
-    pub members: &'s Scope<'a>,
+    pub top: Top<'s, 'a>,
+    pub members: Option<&'s Scope<'a>>,
     pub monitor: Option<Place>,
 }
 
-/// The scopes inside a routine, which has its own names, or a process.
+/// The scopes inside a routine, which has its own names, or outside of routines.
 #[derive(Clone, Copy)]
 pub struct Around<'s, 'a> {
     pub outer: Outer<'s, 'a>,
-    pub locals: &'s Scope<'a>,
+    pub locals: Option<&'s Scope<'a>>,
 }
 
 fn either(inner: Option<Declared>, outer: Option<Declared>) -> Option<Declared>
@@ -45,12 +44,35 @@ fn either(inner: Option<Declared>, outer: Option<Declared>) -> Option<Declared>
     }
 }
 
+impl<'s, 'a> Top<'s, 'a> {
+    /// What is around a routine of the program.
+    pub fn outside(&self) -> Outer<'s, 'a>
+        ensures { outer_site result ≡ top_site self.now }
+    {
+        Outer {
+            top: *self,
+            members: None,
+            monitor: None,
+        }
+    }
+}
+
 impl<'s, 'a> Outer<'s, 'a> {
+    /// What is around where no routine is.
+    pub fn around(&self) -> Around<'s, 'a>
+        ensures { site result [] ≡ outer_site self.now }
+    {
+        Around {
+            outer: *self,
+            locals: None,
+        }
+    }
+
     /// What a name means.
     pub fn means(&self, name: &[u8]) -> Option<Declared>
         ensures { result ≡ (outer_site self.now).means name.now }
     {
-        either(find(self.members, name), find(self.program, name))
+        either(find_in(self.members, name), find(self.top.program, name))
     }
 }
 
@@ -59,7 +81,7 @@ impl<'s, 'a> Around<'s, 'a> {
     pub fn means(&self, loops: &[Local<'a>], name: &[u8]) -> Option<Declared>
         ensures { result ≡ (site self.now loops.now).means name.now }
     {
-        let outside = either(find(self.locals, name), self.outer.means(name));
+        let outside = either(find_in(self.locals, name), self.outer.means(name));
         find_in_loops(loops, name, outside)
     }
 
@@ -68,13 +90,13 @@ impl<'s, 'a> Around<'s, 'a> {
         ensures { result ≡ through (site self.now loops.now) monitor.now name.now }
     {
         let declared = self.means(loops, monitor)?;
-        if declared.kind != Kind::Monitor {
+        if !matches!(declared.kind, Kind::Monitor) {
             return None;
         }
         if self.outer.monitor == Some(declared.place) {
-            return find(self.outer.members, name);
+            return find_in(self.outer.members, name);
         }
-        find_entry(self.outer.entries, declared.place, name)
+        find_entry(self.outer.top.entries, declared.place, name)
     }
 
     /// A name is used.

@@ -1,15 +1,15 @@
-//! Declarations of one scope.
+//! Declarations of one scope: its names, one after another.
 
 ghost use Rattle.std.specs.Prelude.{◌≡◌, OnOk, List, [], ◌∷◌, map};
-ghost use Rattle.rte_tree.specs.Placed.{placed_param, placed_var, placed_member, placed_routine};
-ghost use Rattle.rte_names.specs.Occurrences.{param_name, var_name, member_name, routine_name as name_of_routine, entry_name as name_of_entry};
-ghost use Rattle.rte_names.specs.Seen.{meaning, outer_site, Scoped};
+ghost use Rattle.rte_tree.specs.Placed.{placed_param, placed_var, placed_member, placed_routine, placed_monitor, placed_process};
+ghost use Rattle.rte_names.specs.Occurrences.{param_name, var_name, member_name, routine_name as name_of_routine, entry_name as name_of_entry, routine_scope, monitor_scope, process_scope};
+ghost use Rattle.rte_names.specs.Seen.{meaning, top_site, outer_site, Scoped};
 
-use crate::around::Outer;
+use crate::around::{Outer, Top};
 use crate::findings::Findings;
 use crate::kind::{Declared, Kind};
 use crate::scope::{Scope, add, find};
-use rte_tree::{Member, Name, Param, Routine, Var};
+use rte_tree::{Member, Mon, Name, Param, Proc, Routine, Var};
 use std::alloc::AllocError;
 
 /// Declares a name in a scope.
@@ -28,7 +28,7 @@ fn declare<'a>(
     Ok(())
 }
 
-pub fn params<'a>(
+fn params<'a>(
     findings: &mut Findings,
     scope: &mut Scope<'a>,
     outer: &Outer<'_, 'a>,
@@ -46,7 +46,7 @@ pub fn params<'a>(
     Ok(())
 }
 
-pub fn vars<'a>(
+fn vars<'a>(
     findings: &mut Findings,
     scope: &mut Scope<'a>,
     outer: &Outer<'_, 'a>,
@@ -91,7 +91,7 @@ fn member<'a>(
     Ok(())
 }
 
-pub fn members<'a>(
+fn members<'a>(
     findings: &mut Findings,
     scope: &mut Scope<'a>,
     outer: &Outer<'_, 'a>,
@@ -105,7 +105,7 @@ pub fn members<'a>(
     Ok(())
 }
 
-pub fn entries<'a>(
+fn entries<'a>(
     findings: &mut Findings,
     scope: &mut Scope<'a>,
     outer: &Outer<'_, 'a>,
@@ -123,7 +123,7 @@ pub fn entries<'a>(
     Ok(())
 }
 
-pub fn routines<'a>(
+fn routines<'a>(
     findings: &mut Findings,
     scope: &mut Scope<'a>,
     outer: &Outer<'_, 'a>,
@@ -138,5 +138,49 @@ pub fn routines<'a>(
         };
         declare(findings, scope, outer, &routine.name, declared)?;
     }
+    Ok(())
+}
+
+/// The parameters and variables of a routine.
+pub fn routine<'a>(
+    findings: &mut Findings,
+    scope: &mut Scope<'a>,
+    outer: &Outer<'_, 'a>,
+    routine: &'a Routine,
+) -> Result<(), AllocError>
+    ensures { OnOk result (Scoped (outer_site outer.now).means findings.old (meaning scope.old.entries) (routine_scope (placed_routine routine.now)) findings.new (meaning scope.new.entries) []) }
+{
+    params(findings, scope, outer, routine.params.as_slice())?;
+    vars(findings, scope, outer, routine.vars.as_slice())?;
+    Ok(())
+}
+
+/// The variables, conditions and entries of a monitor.
+pub fn monitor<'a>(
+    findings: &mut Findings,
+    scope: &mut Scope<'a>,
+    top: &Top<'_, 'a>,
+    monitor: &'a Mon,
+) -> Result<(), AllocError>
+    ensures { OnOk result (Scoped (top_site top.now).means findings.old (meaning scope.old.entries) (monitor_scope (placed_monitor monitor.now)) findings.new (meaning scope.new.entries) []) }
+{
+    let outer = top.outside();
+    members(findings, scope, &outer, monitor.members.as_slice())?;
+    entries(findings, scope, &outer, monitor.entries.as_slice())?;
+    Ok(())
+}
+
+/// The variables and routines of a process.
+pub fn process<'a>(
+    findings: &mut Findings,
+    scope: &mut Scope<'a>,
+    top: &Top<'_, 'a>,
+    process: &'a Proc,
+) -> Result<(), AllocError>
+    ensures { OnOk result (Scoped (top_site top.now).means findings.old (meaning scope.old.entries) (process_scope (placed_process process.now)) findings.new (meaning scope.new.entries) []) }
+{
+    let outer = top.outside();
+    vars(findings, scope, &outer, process.vars.as_slice())?;
+    routines(findings, scope, &outer, process.routines.as_slice())?;
     Ok(())
 }

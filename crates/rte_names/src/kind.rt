@@ -6,7 +6,7 @@ ghost use Rattle.rte_names.specs.Reach.{suits as suits_by};
 use rte_tree::Place;
 
 /// What a name is declared as. Parameters are variables.
-#[derive(Clone, Copy, Debug, PartialEq, Eq)]
+#[derive(Clone, Copy)]
 pub enum Kind {
     Program,
     Constant,
@@ -22,7 +22,7 @@ pub enum Kind {
 }
 
 /// What a name is used as. `Value` is a name in an expression, `Target` one that is assigned to.
-#[derive(Clone, Copy, Debug, PartialEq, Eq)]
+#[derive(Clone, Copy)]
 pub enum Want {
     Constant,
     Value,
@@ -36,7 +36,7 @@ pub enum Want {
 }
 
 /// Where and as what a name is declared. The place is that of the name.
-#[derive(Clone, Copy, Debug, PartialEq, Eq)]
+#[derive(Clone, Copy)]
 pub struct Declared {
     pub place: Place,
     pub kind: Kind,

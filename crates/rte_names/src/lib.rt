@@ -23,3 +23,6 @@ mod scope;
 mod stmt;
 
 pub use named::{NameFault, Named, name};
+
+#[cfg(test)]
+mod tests;

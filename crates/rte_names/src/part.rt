@@ -139,11 +139,10 @@ fn routine<'a>(
     ensures { OnOk result ((more : List Occurrence) → noted findings.new more ≡ noted findings.old (routine_names (outer_site outer.now) (placed_routine routine.now) more)) }
 {
     let mut locals = Scope::new(alloc);
-    declare::params(findings, &mut locals, outer, routine.params.as_slice())?;
-    declare::vars(findings, &mut locals, outer, routine.vars.as_slice())?;
+    declare::routine(findings, &mut locals, outer, routine)?;
     let around = Around {
         outer: *outer,
-        locals: &locals,
+        locals: Some(&locals),
     };
     routine_parts(alloc, findings, &around, routine)?;
     Ok(())
@@ -172,11 +171,7 @@ fn monitor_parts<'a>(
 ) -> Result<(), AllocError>
     ensures { OnOk result ((more : List Occurrence) → noted findings.new more ≡ noted findings.old (monitor_inner (outer_site outer.now) (placed_monitor monitor.now) more)) }
 {
-    let none = Scope::new(alloc);
-    let around = Around {
-        outer: *outer,
-        locals: &none,
-    };
+    let around = outer.around();
     members(findings, &around, monitor.members.as_slice())?;
     routines(alloc, findings, outer, monitor.entries.as_slice())?;
     findings.close(&monitor.close, monitor.close_place, &monitor.name);
@@ -191,20 +186,11 @@ fn monitor<'a>(
 ) -> Result<(), AllocError>
     ensures { OnOk result ((more : List Occurrence) → noted findings.new more ≡ noted findings.old (monitor_names (top_site top.now) (placed_monitor monitor.now) more)) }
 {
-    let none = Scope::new(alloc);
     let mut names = Scope::new(alloc);
-    let outside = Outer {
-        program: top.program,
-        entries: top.entries,
-        members: &none,
-        monitor: None,
-    };
-    declare::members(findings, &mut names, &outside, monitor.members.as_slice())?;
-    declare::entries(findings, &mut names, &outside, monitor.entries.as_slice())?;
+    declare::monitor(findings, &mut names, top, monitor)?;
     let inside = Outer {
-        program: top.program,
-        entries: top.entries,
-        members: &names,
+        top: *top,
+        members: Some(&names),
         monitor: Some(monitor.place),
     };
     monitor_parts(alloc, findings, &inside, monitor)?;
@@ -262,12 +248,8 @@ fn process_parts<'a>(
 ) -> Result<(), AllocError>
     ensures { OnOk result ((more : List Occurrence) → noted findings.new more ≡ noted findings.old (process_inner (outer_site outer.now) (placed_process process.now) more)) }
 {
-    let none = Scope::new(alloc);
     let mut loops = Vec::new(alloc);
-    let around = Around {
-        outer: *outer,
-        locals: &none,
-    };
+    let around = outer.around();
     activation(findings, &around, &process.activation)?;
     vars(findings, &around, process.vars.as_slice())?;
     routines(alloc, findings, outer, process.routines.as_slice())?;
@@ -285,20 +267,11 @@ fn process<'a>(
 ) -> Result<(), AllocError>
     ensures { OnOk result ((more : List Occurrence) → noted findings.new more ≡ noted findings.old (process_names (top_site top.now) (placed_process process.now) more)) }
 {
-    let none = Scope::new(alloc);
     let mut names = Scope::new(alloc);
-    let outside = Outer {
-        program: top.program,
-        entries: top.entries,
-        members: &none,
-        monitor: None,
-    };
-    declare::vars(findings, &mut names, &outside, process.vars.as_slice())?;
-    declare::routines(findings, &mut names, &outside, process.routines.as_slice())?;
+    declare::process(findings, &mut names, top, process)?;
     let inside = Outer {
-        program: top.program,
-        entries: top.entries,
-        members: &names,
+        top: *top,
+        members: Some(&names),
         monitor: None,
     };
     process_parts(alloc, findings, &inside, process)?;
@@ -314,25 +287,15 @@ pub fn decl<'a>(
 ) -> Result<(), AllocError>
     ensures { OnOk result ((more : List Occurrence) → noted findings.new more ≡ noted findings.old (inner_names (top_site top.now) (placed_decl decl.now) more)) }
 {
-    let none = Scope::new(alloc);
-    let outer = Outer {
-        program: top.program,
-        entries: top.entries,
-        members: &none,
-        monitor: None,
-    };
     match decl {
         Decl::Const { value, .. } => {
-            let around = Around {
-                outer,
-                locals: &none,
-            };
+            let around = top.outside().around();
             constant(findings, &around, &[], value)?;
             Ok(())
         }
         Decl::Device { .. } | Decl::Event { .. } => Ok(()),
         Decl::Routine(one) => {
-            routine(alloc, findings, &outer, one)?;
+            routine(alloc, findings, &top.outside(), one)?;
             Ok(())
         }
         Decl::Mon(one) => {

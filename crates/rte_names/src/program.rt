@@ -3,7 +3,8 @@
 ghost use Rattle.std.specs.Prelude.{◌≡◌, OnOk, IfOk, List, ◌∷◌, [], map};
 ghost use Rattle.rte_tree.specs.Placed.{Decl as PlacedDecl, placed_decl, placed_routine, placed};
 ghost use Rattle.rte_tree.specs.declared.place.Place.{Place as SpecPlace};
-ghost use Rattle.rte_names.specs.Occurrences.{Occurrence, decl_name, entry_name, others as others_of, names as names_of};
+ghost use Rattle.rte_names.specs.Occurrences.{Occurrence, decl_name, decls_names, entry_name, entries_at, program_name, others as others_of, names as names_of};
+ghost use Rattle.rte_names.specs.Reach.{first};
 ghost use Rattle.rte_names.specs.Findings.{noted};
 ghost use Rattle.rte_names.specs.Seen.{meaning, add as added, add_all, entry_meaning, add_entries, add_monitors, put, IsNext, nothing};
 
@@ -196,30 +197,64 @@ fn decls<'a>(
     Ok(())
 }
 
-/// What is found of all names of a program.
-pub fn findings(alloc: Global, program: &Prog) -> Result<Findings, AllocError>
-    ensures { IfOk result (λ f. f ≡ noted nothing (names_of (placed program.now))) }
+/// The names in reach of the first declaration, and those before it: the program's own.
+fn start<'a>(
+    names: &mut Scope<'a>,
+    seen: &mut Scope<'a>,
+    program: &'a Prog,
+) -> Result<(), AllocError>
+    ensures names { OnOk result (meaning names.new.entries ≡ add_all (added (meaning names.old.entries) (program_name (placed program.now))) (others_of (placed program.now).decls)) }
+    ensures seen { OnOk result (meaning seen.new.entries ≡ added (meaning seen.old.entries) (program_name (placed program.now))) }
 {
     let own = Declared {
         place: program.place,
         kind: Kind::Program,
     };
-    let mut findings = Findings::new(alloc);
-    let mut entries = Entries::new(alloc);
-    let mut seen = Scope::new(alloc);
+    add(seen, program.name.as_bytes(), own)?;
+    add(names, program.name.as_bytes(), own)?;
+    others(names, program.decls.as_slice())?;
+    Ok(())
+}
+
+/// The names of all declarations, the entries being known.
+fn body<'a>(
+    alloc: Global,
+    findings: &mut Findings,
+    entries: &Entries<'a>,
+    program: &'a Prog,
+) -> Result<(), AllocError>
+    ensures { let g = placed program.now in OnOk result ((more : List Occurrence) → noted findings.new more ≡ noted findings.old (decls_names (entry_meaning entries.now.entries) (program_name g ∷ []) g.decls more)) }
+{
     let mut names = Scope::new(alloc);
-    monitors(&mut entries, program.decls.as_slice())?;
-    add(&mut seen, program.name.as_bytes(), own)?;
-    add(&mut names, program.name.as_bytes(), own)?;
-    others(&mut names, program.decls.as_slice())?;
+    let mut seen = Scope::new(alloc);
+    start(&mut names, &mut seen, program)?;
     decls(
         alloc,
-        &mut findings,
+        findings,
         &mut names,
         &mut seen,
-        &entries,
+        entries,
         program.decls.as_slice(),
     )?;
+    Ok(())
+}
+
+/// The names of all declarations.
+fn whole(alloc: Global, findings: &mut Findings, program: &Prog) -> Result<(), AllocError>
+    ensures { let g = placed program.now in OnOk result ((more : List Occurrence) → noted findings.new more ≡ noted findings.old (decls_names (λ place. first (entries_at g.decls place)) (program_name g ∷ []) g.decls more)) }
+{
+    let mut entries = Entries::new(alloc);
+    monitors(&mut entries, program.decls.as_slice())?;
+    body(alloc, findings, &entries, program)?;
+    Ok(())
+}
+
+/// What is found of all names of a program.
+pub fn findings(alloc: Global, program: &Prog) -> Result<Findings, AllocError>
+    ensures { IfOk result (λ f. f ≡ noted nothing (names_of (placed program.now))) }
+{
+    let mut findings = Findings::new(alloc);
+    whole(alloc, &mut findings, program)?;
     findings.close(&program.close, program.close_place, &program.name);
     Ok(findings)
 }

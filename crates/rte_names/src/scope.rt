@@ -1,7 +1,7 @@
 //! The names of one scope.
 
 ghost use Rattle.std.specs.Prelude.{◌≡◌, OnOk};
-ghost use Rattle.rte_names.specs.Seen.{meaning, add as added, in_loops, entry_meaning, add_entry as entry_added};
+ghost use Rattle.rte_names.specs.Seen.{meaning, meaning_in, add as added, in_loops, entry_meaning, add_entry as entry_added};
 
 use crate::kind::Declared;
 use indexmap::IndexMap;
@@ -27,6 +27,13 @@ pub fn find(scope: &Scope<'_>, name: &[u8]) -> Option<Declared>
     ensures { result ≡ meaning scope.now.entries name.now }
 {
     scope.get(name).copied()
+}
+
+/// What a name is declared as in a scope, where there is one.
+pub fn find_in(scope: Option<&Scope<'_>>, name: &[u8]) -> Option<Declared>
+    ensures { result ≡ meaning_in scope.entry name.now }
+{
+    find(scope?, name)
 }
 
 /// Declares a name, unless the scope has it.

@@ -6,7 +6,7 @@ ghost use Rattle.rte_names.specs.declared.kind.Want.TheVariants.{Condition};
 ghost use Rattle.rte_names.specs.Reach.{inside};
 ghost use Rattle.rte_names.specs.Occurrences.{Occurrence, uses, declarations, loop_name, constant_names, exprs_names, ref_names, entry_names, stmt_names, stmts_names};
 ghost use Rattle.rte_names.specs.Findings.{noted};
-ghost use Rattle.rte_names.specs.Seen.{site, AroundValue};
+ghost use Rattle.rte_names.specs.Seen.{site, AroundValue, names_if, is_assignment, is_call, is_transfer, is_condition, is_check, is_plain};
 
 use crate::around::Around;
 use crate::expr::{constant, expr, exprs, target};
@@ -85,6 +85,217 @@ fn assign_empty<'a>(
     Ok(())
 }
 
+/// An assignment.
+fn assignment<'a>(
+    findings: &mut Findings,
+    around: &Around<'_, 'a>,
+    loops: &[Local<'a>],
+    s: &Stmt,
+) -> Result<(), AllocError>
+    ensures { OnOk result ((more : List Occurrence) → noted findings.new more ≡ noted findings.old (names_if is_assignment (site around.now loops.now) (placed_stmt s.now) more)) }
+{
+    match s {
+        Stmt::Assign { target: to, value } => {
+            target(findings, around, loops, to)?;
+            expr(findings, around, loops, value)?;
+            Ok(())
+        }
+        Stmt::AssignEntry {
+            target: to,
+            mon,
+            mon_place,
+            entry,
+            entry_place,
+            args,
+        } => {
+            target(findings, around, loops, to)?;
+            call_entry(
+                findings,
+                around,
+                loops,
+                (mon, *mon_place),
+                (entry, *entry_place),
+                args.as_slice(),
+            )?;
+            Ok(())
+        }
+        Stmt::AssignEmpty {
+            target: to,
+            cond,
+            cond_place,
+        } => {
+            assign_empty(findings, around, loops, to, (cond, *cond_place))?;
+            Ok(())
+        }
+        _ => Ok(()),
+    }
+}
+
+/// A call of a procedure or an entry.
+fn call<'a>(
+    findings: &mut Findings,
+    around: &Around<'_, 'a>,
+    loops: &[Local<'a>],
+    s: &Stmt,
+) -> Result<(), AllocError>
+    ensures { OnOk result ((more : List Occurrence) → noted findings.new more ≡ noted findings.old (names_if is_call (site around.now loops.now) (placed_stmt s.now) more)) }
+{
+    match s {
+        Stmt::Call { place, name, args } => {
+            around.use_name(findings, loops, name, *place, Want::Routine)?;
+            exprs(findings, around, loops, args.as_slice())?;
+            Ok(())
+        }
+        Stmt::CallEntry {
+            place,
+            mon,
+            entry,
+            entry_place,
+            args,
+        } => {
+            call_entry(
+                findings,
+                around,
+                loops,
+                (mon, *place),
+                (entry, *entry_place),
+                args.as_slice(),
+            )?;
+            Ok(())
+        }
+        _ => Ok(()),
+    }
+}
+
+/// A `get` or a `put`.
+fn transfer<'a>(
+    findings: &mut Findings,
+    around: &Around<'_, 'a>,
+    loops: &[Local<'a>],
+    s: &Stmt,
+) -> Result<(), AllocError>
+    ensures { OnOk result ((more : List Occurrence) → noted findings.new more ≡ noted findings.old (names_if is_transfer (site around.now loops.now) (placed_stmt s.now) more)) }
+{
+    match s {
+        Stmt::Get {
+            device,
+            device_place,
+            target: to,
+            ..
+        } => {
+            around.use_name(findings, loops, device, *device_place, Want::Device)?;
+            target(findings, around, loops, to)?;
+            Ok(())
+        }
+        Stmt::Put {
+            device,
+            device_place,
+            value,
+            ..
+        } => {
+            around.use_name(findings, loops, device, *device_place, Want::Device)?;
+            expr(findings, around, loops, value)?;
+            Ok(())
+        }
+        _ => Ok(()),
+    }
+}
+
+/// A statement about a condition.
+fn condition<'a>(
+    findings: &mut Findings,
+    around: &Around<'_, 'a>,
+    loops: &[Local<'a>],
+    s: &Stmt,
+) -> Result<(), AllocError>
+    ensures { OnOk result ((more : List Occurrence) → noted findings.new more ≡ noted findings.old (names_if is_condition (site around.now loops.now) (placed_stmt s.now) more)) }
+{
+    match s {
+        Stmt::Wait {
+            cond,
+            cond_place,
+            limit,
+            number,
+            ..
+        } => {
+            around.use_name(findings, loops, cond, *cond_place, Want::Condition)?;
+            constant(findings, around, loops, limit)?;
+            constant(findings, around, loops, number)?;
+            Ok(())
+        }
+        Stmt::Signal {
+            cond,
+            cond_place,
+            ..
+        }
+        | Stmt::Broadcast {
+            cond,
+            cond_place,
+            ..
+        } => {
+            around.use_name(findings, loops, cond, *cond_place, Want::Condition)?;
+            Ok(())
+        }
+        _ => Ok(()),
+    }
+}
+
+/// An `exit`, an `except` or an `assert`.
+fn check<'a>(
+    findings: &mut Findings,
+    around: &Around<'_, 'a>,
+    loops: &[Local<'a>],
+    s: &Stmt,
+) -> Result<(), AllocError>
+    ensures { OnOk result ((more : List Occurrence) → noted findings.new more ≡ noted findings.old (names_if is_check (site around.now loops.now) (placed_stmt s.now) more)) }
+{
+    match s {
+        Stmt::Except { number, .. } => {
+            constant(findings, around, loops, number)?;
+            Ok(())
+        }
+        Stmt::ExitWhen { test, .. } | Stmt::Assert { test, .. } => {
+            expr(findings, around, loops, test)?;
+            Ok(())
+        }
+        _ => Ok(()),
+    }
+}
+
+/// A statement in which no others stand.
+fn plain<'a>(
+    findings: &mut Findings,
+    around: &Around<'_, 'a>,
+    loops: &[Local<'a>],
+    s: &Stmt,
+) -> Result<(), AllocError>
+    ensures { OnOk result ((more : List Occurrence) → noted findings.new more ≡ noted findings.old (names_if is_plain (site around.now loops.now) (placed_stmt s.now) more)) }
+{
+    match s {
+        Stmt::Assign { .. } | Stmt::AssignEntry { .. } | Stmt::AssignEmpty { .. } => {
+            assignment(findings, around, loops, s)?;
+            Ok(())
+        }
+        Stmt::Call { .. } | Stmt::CallEntry { .. } => {
+            call(findings, around, loops, s)?;
+            Ok(())
+        }
+        Stmt::Get { .. } | Stmt::Put { .. } => {
+            transfer(findings, around, loops, s)?;
+            Ok(())
+        }
+        Stmt::Wait { .. } | Stmt::Signal { .. } | Stmt::Broadcast { .. } => {
+            condition(findings, around, loops, s)?;
+            Ok(())
+        }
+        Stmt::Except { .. } | Stmt::ExitWhen { .. } | Stmt::Assert { .. } => {
+            check(findings, around, loops, s)?;
+            Ok(())
+        }
+        Stmt::If { .. } | Stmt::For { .. } => Ok(()),
+    }
+}
+
 #[cycle(stmt)]
 pub fn stmts<'a>(
     findings: &mut Findings,
@@ -153,132 +364,8 @@ pub fn stmt<'a>(
             leave(loops);
             Ok(())
         }
-        Stmt::Assign { target: to, value } => {
-            target(findings, around, loops.as_slice(), to)?;
-            expr(findings, around, loops.as_slice(), value)?;
-            Ok(())
-        }
-        Stmt::AssignEntry {
-            target: to,
-            mon,
-            mon_place,
-            entry,
-            entry_place,
-            args,
-        } => {
-            let loops = loops.as_slice();
-            target(findings, around, loops, to)?;
-            call_entry(
-                findings,
-                around,
-                loops,
-                (mon, *mon_place),
-                (entry, *entry_place),
-                args.as_slice(),
-            )?;
-            Ok(())
-        }
-        Stmt::AssignEmpty {
-            target: to,
-            cond,
-            cond_place,
-        } => {
-            assign_empty(findings, around, loops.as_slice(), to, (cond, *cond_place))?;
-            Ok(())
-        }
-        Stmt::Call { place, name, args } => {
-            around.use_name(findings, loops.as_slice(), name, *place, Want::Routine)?;
-            exprs(findings, around, loops.as_slice(), args.as_slice())?;
-            Ok(())
-        }
-        Stmt::CallEntry {
-            place,
-            mon,
-            entry,
-            entry_place,
-            args,
-        } => {
-            let loops = loops.as_slice();
-            call_entry(
-                findings,
-                around,
-                loops,
-                (mon, *place),
-                (entry, *entry_place),
-                args.as_slice(),
-            )?;
-            Ok(())
-        }
-        Stmt::Get {
-            device,
-            device_place,
-            target: to,
-            ..
-        } => {
-            around.use_name(
-                findings,
-                loops.as_slice(),
-                device,
-                *device_place,
-                Want::Device,
-            )?;
-            target(findings, around, loops.as_slice(), to)?;
-            Ok(())
-        }
-        Stmt::Put {
-            device,
-            device_place,
-            value,
-            ..
-        } => {
-            around.use_name(
-                findings,
-                loops.as_slice(),
-                device,
-                *device_place,
-                Want::Device,
-            )?;
-            expr(findings, around, loops.as_slice(), value)?;
-            Ok(())
-        }
-        Stmt::Wait {
-            cond,
-            cond_place,
-            limit,
-            number,
-            ..
-        } => {
-            let loops = loops.as_slice();
-            around.use_name(findings, loops, cond, *cond_place, Want::Condition)?;
-            constant(findings, around, loops, limit)?;
-            constant(findings, around, loops, number)?;
-            Ok(())
-        }
-        Stmt::Signal {
-            cond,
-            cond_place,
-            ..
-        }
-        | Stmt::Broadcast {
-            cond,
-            cond_place,
-            ..
-        } => {
-            around.use_name(
-                findings,
-                loops.as_slice(),
-                cond,
-                *cond_place,
-                Want::Condition,
-            )?;
-            Ok(())
-        }
-        Stmt::Except { number, .. } => {
-            constant(findings, around, loops.as_slice(), number)?;
-            Ok(())
-        }
-        Stmt::ExitWhen { test, .. } | Stmt::Assert { test, .. } => {
-            expr(findings, around, loops.as_slice(), test)?;
+        _ => {
+            plain(findings, around, loops.as_slice(), s)?;
             Ok(())
         }
     }

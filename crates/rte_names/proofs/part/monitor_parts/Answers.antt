@@ -1,9 +1,8 @@
 use Rattle.std.proofs.Common.{◌≡◌, List, [], ◌∷◌, map, ap, ◌∙◌}
 use Rattle.rte_tree.specs.Placed.{placed_member, placed_routine}
-use Rattle.rte_names.specs.Reach.{Site, within}
 use Rattle.rte_names.specs.Occurrences.{Occurrence, closes, members_names, routines_names}
 use Rattle.rte_names.specs.Findings.{noted}
-use Rattle.rte_names.specs.Seen.{meaning, outer_site}
+use Rattle.rte_names.specs.Seen.{outer_site}
 use Rattle.rte_names.proofs.part.monitor_parts.Goals as goal
 
 pub returns : goal.returns
@@ -16,5 +15,5 @@ returns c more =
     ∙ c.in_ok-routines.ensures after_entries
     ∙ ap (λ l. noted c.members.new.findings (routines_names here (map placed_routine l) after_entries)) c.as_slice-2.ensures
     ∙ c.in_ok-members.ensures after_members
-    ∙ ap (λ es. noted c.args.findings.now (members_names (record { means = within (meaning es) here.means; members = here.members }) (map placed_member c.as_slice.result.now) after_members)) c.new-none.ensures.empty
+    ∙ ap (λ w. noted c.args.findings.now (members_names w (map placed_member c.as_slice.result.now) after_members)) c.around-around.ensures
     ∙ ap (λ l. noted c.args.findings.now (members_names here (map placed_member l) after_members)) c.as_slice.ensures

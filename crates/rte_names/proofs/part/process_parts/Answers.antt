@@ -1,22 +1,16 @@
 use Rattle.std.proofs.Common.{◌≡◌, List, [], ◌∷◌, map, ap, ◌∙◌}
-use Rattle.std.specs.Borrow.{Bor}
-use Rattle.rte_tree.specs.Plain.{Name}
 use Rattle.rte_tree.specs.Placed.{placed_activation, placed_var, placed_routine, placed_stmts, placed_handler, optional}
-use Rattle.rte_names.specs.declared.kind.Declared.{Declared}
-use Rattle.rte_names.specs.declared.scope.Local.{Local}
-use Rattle.rte_names.specs.Reach.{Site, within}
+use Rattle.rte_names.specs.Reach.{Site}
 use Rattle.rte_names.specs.Occurrences.{Occurrence, closes, activation_names, vars_names, routines_names, stmts_names, optional_names, handler_names}
 use Rattle.rte_names.specs.Findings.{noted}
-use Rattle.rte_names.specs.Seen.{meaning, in_loops, outer_site}
+use Rattle.rte_names.specs.Seen.{outer_site, site}
 use Rattle.rte_names.proofs.part.process_parts.Goals as goal
 
 pub returns : goal.returns
 returns c more =
     let p = c.args.process.now in
     let here = outer_site c.args.outer.now in
-    let none = c.new-none.result.entries in
-    let at : List (Bor Name × Declared) → List Local → Site = λ es ls. record { means = λ name. in_loops name ls (within (meaning es) here.means name); members = here.members } in
-    let inner = at none [] in
+    let inner : Site = site c.around-around.result [] in
     let after_handler = closes p.close p.close_place p.name ∷ more in
     let after_body : Site → List Occurrence = λ w. optional_names (handler_names w) (optional placed_handler p.handler) after_handler in
     let after_routines : Site → List Occurrence = λ w. stmts_names w (placed_stmts p.body) (after_body w) in
@@ -25,11 +19,11 @@ returns c more =
     ap (λ f. noted f more) c.close.ensures
     ∙ c.in_ok-handler.ensures after_handler
     ∙ c.in_ok-stmts.ensures.names (after_body inner)
-    ∙ ap (λ l. noted c.routines.new.findings (stmts_names (at none l) (placed_stmts c.as_slice-3.result.now) (after_body inner))) c.new-loops.ensures.items
+    ∙ ap (λ l. noted c.routines.new.findings (stmts_names (site c.around-around.result l) (placed_stmts c.as_slice-3.result.now) (after_body inner))) c.new-loops.ensures.items
     ∙ ap (λ l. noted c.routines.new.findings (stmts_names inner (placed_stmts l) (after_body inner))) c.as_slice-3.ensures
     ∙ c.in_ok-routines.ensures (after_routines inner)
     ∙ ap (λ l. noted c.vars.new.findings (routines_names here (map placed_routine l) (after_routines inner))) c.as_slice-2.ensures
     ∙ c.in_ok-vars.ensures (after_vars inner)
     ∙ ap (λ l. noted c.activation.new.findings (vars_names inner (map placed_var l) (after_vars inner))) c.as_slice.ensures
     ∙ c.in_ok-activation.ensures (after_activation inner)
-    ∙ ap (λ es. noted c.args.findings.now (activation_names (at es []) (placed_activation p.activation) (after_activation (at es [])))) c.new-none.ensures.empty
+    ∙ ap (λ w. noted c.args.findings.now (activation_names w (placed_activation p.activation) (after_activation w))) c.around-around.ensures

@@ -1,7 +1,7 @@
-use Rattle.std.proofs.Common.{◌≡◌, List, [], ◌++◌, map, refl, ap, ◌∙◌}
-use Rattle.rte_tree.specs.Placed.{placed_param, placed_var, placed_routine}
-use Rattle.rte_names.specs.Reach.{Names, Reach, Site, nowhere, within, first}
-use Rattle.rte_names.specs.Occurrences.{Occurrence, param_name, var_name, routine_scope, routine_inner, declarations}
+use Rattle.std.proofs.Common.{◌≡◌, List, ap, ◌∙◌}
+use Rattle.rte_tree.specs.Placed.{placed_routine}
+use Rattle.rte_names.specs.Reach.{Reach, nowhere, within, first}
+use Rattle.rte_names.specs.Occurrences.{Occurrence, routine_scope, routine_inner}
 use Rattle.rte_names.specs.Findings.{noted}
 use Rattle.rte_names.specs.Seen.{meaning, outer_site}
 use Rattle.rte_names.proofs.Scoping.{made-notes, made-means}
@@ -9,19 +9,15 @@ use Rattle.rte_names.proofs.part.routine.Goals as goal
 
 pub returns : goal.returns
 returns c more =
-    let r = c.args.routine.now in
+    let r = placed_routine c.args.routine.now in
     let o = outer_site c.args.outer.now in
-    let ds = map param_name (map placed_param c.as_slice.result.now) in
-    let es = map var_name (map placed_var c.as_slice-2.result.now) in
+    let ds = routine_scope r in
+    let f = c.args.findings.now in
+    let g = c.routine.new.findings in
     let start = meaning c.new-locals.result.entries in
-    let middle = meaning c.params.new.scope.entries in
-    let last = meaning c.vars.new.scope.entries in
+    let last = meaning c.routine.new.scope.entries in
     let empty : start ≡ nowhere = ap meaning c.new-locals.ensures.empty in
-    let here : Reach → Site = λ m. record { means = within m o.means; members = o.members } in
-    let inner = λ (w : Site). routine_inner w (placed_routine r) more in
-    let listed : ds ++ es ≡ routine_scope (placed_routine r) =
-    ap (λ l. map param_name (map placed_param l) ++ es) c.as_slice.ensures ∙ ap (λ l. map param_name (map placed_param r.params) ++ map var_name (map placed_var l)) c.as_slice-2.ensures in
+    let inner : Reach → List Occurrence = λ m. routine_inner (record { means = within m o.means; members = o.members }) r more in
     c.in_ok-routine_parts.ensures more
-    ∙ ap (λ m. noted c.vars.new.findings (inner (here m))) (made-means o.means o.means c.args.findings.now c.params.new.findings c.vars.new.findings start middle last ds es refl empty c.in_ok-params.ensures c.in_ok-vars.ensures)
-    ∙ made-notes o.means o.means c.args.findings.now c.params.new.findings c.vars.new.findings start middle last ds es refl empty c.in_ok-params.ensures c.in_ok-vars.ensures (inner (here (first (ds ++ es))))
-    ∙ ap (λ (l : Names). noted c.args.findings.now (declarations o.means [] l (inner (here (first l))))) listed
+    ∙ ap (λ m. noted g (inner m)) (made-means o.means f g start last ds empty c.in_ok-routine.ensures)
+    ∙ made-notes o.means f g start last ds empty c.in_ok-routine.ensures (inner (first ds))

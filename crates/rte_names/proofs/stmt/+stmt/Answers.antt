@@ -1,6 +1,6 @@
 use Rattle.std.proofs.Common.{◌≡◌, List, [], ◌∷◌, refl, arith, ap, sym, ◌∙◌}
 use Rattle.rte_tree.specs.Placed.{placed_constant, placed_exprs, placed_ref, placed_stmt, placed_stmts, assign_entry, loop}
-use Rattle.rte_tree.proofs.StmtViews.{stmt-AssignEntry, stmt-For}
+use Rattle.rte_tree.proofs.StmtViews.{stmt-For}
 use Rattle.rte_tree.specs.declared.expr.Expr.{Expr}
 use Rattle.rte_names.specs.declared.scope.Local.{Local}
 use Rattle.rte_names.specs.Reach.{inside}
@@ -36,17 +36,4 @@ stmt-returns-in_ok-stmts-in-For-clause-names t c more =
     ∙ ap (λ b. noted c.loop_head.new.findings (stmts_names (inside scope here) (placed_stmts b) more)) c.as_slice-in-For-2.ensures
     ∙ c.in_ok-loop_head-in-For.ensures (stmts_names (inside scope here) body more)
     ∙ ap (λ ls. let w = site c.args.around.now ls in noted c.args.findings.now (declarations w.means [] scope (constant_names w (placed_constant f.low) (constant_names w (placed_constant f.high) (stmts_names (inside scope here) body more))))) c.as_slice-in-For.ensures.value
-    ∙ ap (λ s. noted c.args.findings.now (stmt_names here s more)) (sym whole)
-
-pub stmt-returns-in_ok-call_entry-in-AssignEntry-clause-names : goal.stmt-returns-in_ok-call_entry-in-AssignEntry-clause-names
-stmt-returns-in_ok-call_entry-in-AssignEntry-clause-names t c more =
-    let a = c.in-AssignEntry in
-    let at = λ (ls : List Local) (es : List Expr). let w = site c.args.around.now ls in noted c.args.findings.now (ref_names w (placed_ref a.to) (entry_names w a.mon a.mon_place a.entry a.entry_place (exprs_names w (placed_exprs es) more))) in
-    let there = site c.args.around.now c.as_slice-loops.result.now in
-    let here = site c.args.around.now c.args.loops.now.items in
-    let whole : placed_stmt c.args.s.now ≡ assign_entry (placed_ref a.to) a.mon a.mon_place a.entry a.entry_place (placed_exprs a.args) = ap placed_stmt a.is ∙ stmt-AssignEntry a.to a.mon a.mon_place a.entry a.entry_place a.args in
-    c.in_ok-call_entry-in-AssignEntry.ensures more
-    ∙ c.in_ok-target-in-AssignEntry.ensures (entry_names there a.mon a.mon_place a.entry a.entry_place (exprs_names there (placed_exprs c.as_slice-in-AssignEntry.result.now) more))
-    ∙ ap (λ ls. at ls c.as_slice-in-AssignEntry.result.now) c.as_slice-loops.ensures.value
-    ∙ ap (λ es. at c.args.loops.now.items es) c.as_slice-in-AssignEntry.ensures
     ∙ ap (λ s. noted c.args.findings.now (stmt_names here s more)) (sym whole)
