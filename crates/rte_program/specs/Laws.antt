@@ -13,7 +13,7 @@ HasOneProgram = (text : List ℕ) (g h : Prog Place) → IsProgramOf text g → 
 abbrev pub HasProgramOrFault : Type 0
 HasProgramOrFault = (text : List ℕ) (g : Prog Place) (number : ℕ) (place : Place) → IsProgramOf text g → IsProgramFault text number place → ⊥
 
--- two faults of a text are the same, or both are of its grammar
+-- two faults of a text have one number, and one place where they are not of its grammar
 abbrev pub HasOneFault : Type 0
 HasOneFault = (text : List ℕ) (number other : ℕ) (place there : Place) → IsProgramFault text number place → IsProgramFault text other there
-    → ((number ≡ other) × (place ≡ there)) ⊎ (IsOfGrammar number × IsOfGrammar other)
+    → (number ≡ other) × ((place ≡ there) ⊎ IsOfGrammar number)

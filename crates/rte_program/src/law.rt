@@ -20,7 +20,7 @@ pub fn program_or_fault()
     tree_or_fault();
 }
 
-/// Two faults of a text are the same, or both are of its grammar.
+/// Two faults of a text have one number, and one place where they are not of its grammar.
 pub fn one_fault()
     ensures { HasOneFault }
 {

@@ -16,7 +16,7 @@ HasTreeOrFault = (text : List ℕ) (g : Prog Place) (number : ℕ) (place : Plac
 abbrev pub IsOfGrammar : ℕ → Type 0
 IsOfGrammar number = (number ≡ 10) ⊎ (number ≡ 11)
 
--- two faults of a text are the same, or both are of its grammar
+-- two faults of a text have one number, and one place where they are not of its grammar
 abbrev pub HasOneGroup : Type 0
 HasOneGroup = (text : List ℕ) (number other : ℕ) (place there : Place) → IsSourceFault text number place → IsSourceFault text other there
-    → ((number ≡ other) × (place ≡ there)) ⊎ (IsOfGrammar number × IsOfGrammar other)
+    → (number ≡ other) × ((place ≡ there) ⊎ IsOfGrammar number)

@@ -11,7 +11,7 @@ use Rattle.rte_lex.specs.Tokens.{tokens, IsEnd}
 use Rattle.rte_grammar.specs.Grammar.{tree}
 use Rattle.rte_parse.specs.declared.fault.SynFault.{SynFault}
 use Rattle.rte_parse.specs.declared.fault.SynFault.TheVariants as syn
-use Rattle.rte_parse.specs.Faults.{StandsIn}
+use Rattle.rte_parse.specs.Faults.{StandsIn, OpensAt}
 use Rattle.rte_read.specs.declared.fault.SourceFault.{SourceFault}
 use Rattle.rte_read.specs.declared.fault.SourceFault.TheVariants.{Fault, Memory}
 
@@ -21,6 +21,12 @@ pub record IsTreeOf (text : List ℕ) (g : Prog Place) : Type 0 where
   pub listed : tokens text toks
   pub grown : tree text toks g
 
+-- a fault of nesting stands where a token opens level 65, and there is another only where no token does
+abbrev pub IsNested : List ℕ → List Token → SynFault → Type 0
+IsNested text toks (syn.Syntax place) = (p : Place) → ¬ OpensAt text toks p
+IsNested text toks (syn.Nesting place) = OpensAt text toks place
+IsNested text toks syn.Memory = Unit {0}
+
 -- the text has tokens, they have no tree, and this is what the parser says of them
 pub record HasNoTree (text : List ℕ) (fault : SynFault) : Type 0 where
   pub toks : Tokens
@@ -28,6 +34,7 @@ pub record HasNoTree (text : List ℕ) (fault : SynFault) : Type 0 where
   pub end : IsEnd text toks.end
   pub none : (g : Prog Place) → ¬ tree text toks.list g
   pub stands : StandsIn toks fault
+  pub nested : IsNested text toks.list fault
 
 -- the first line and byte
 abbrev pub start : Place
@@ -41,7 +48,7 @@ pub data IsSourceFault (text : List ℕ) (number : ℕ) (place : Place) : Type 0
   bad_byte : number ≡ 1 → Faulty text (lex.Byte place.line place.col) → IsSourceFault text number place
   large_literal : number ≡ 2 → Faulty text (lex.Literal place.line place.col) → IsSourceFault text number place
   long_name : number ≡ 3 → Faulty text (lex.Ident place.line place.col) → IsSourceFault text number place
-  -- its grammar: its tokens are no program, or nest too deep
+  -- its grammar: a token opens level 65, or else its tokens are no program
   no_program : number ≡ 10 → HasNoTree text (syn.Syntax place) → IsSourceFault text number place
   too_deep : number ≡ 11 → HasNoTree text (syn.Nesting place) → IsSourceFault text number place
 

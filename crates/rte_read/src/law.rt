@@ -21,9 +21,10 @@ pub fn tree_or_fault()
     one_fault();
 }
 
-/// Two faults of a text are the same, or both are of its grammar.
+/// Two faults of a text have one number, and one place where they are not of its grammar.
 pub fn one_group()
     ensures { HasOneGroup }
 {
+    one_list();
     one_fault();
 }

@@ -1,0 +1,5 @@
+use Rattle.rte_program.proofs.Programs.{program_or_fault}
+use Rattle.rte_program.proofs.law.program_or_fault.Goals as goal
+
+pub returns : goal.returns
+returns c = program_or_fault c.one_tree.ensures c.tree_or_fault.ensures
