@@ -1,5 +1,5 @@
 -- The commands that read a program and put one text: what they come to, and what a call of one did.
-use Rattle.std.specs.Prelude.{◌≡◌, ◌≢◌, ◌<◌, ◌≤◌, ◌⊎◌, ℕ, Bool, List, Option, IsSomeAnd}
+use Rattle.std.specs.Prelude.{◌≡◌, ◌≢◌, ◌<◌, ◌≤◌, ◌⊎◌, ℕ, Bool, List, length, Option, IsSomeAnd}
 use Rattle.std.specs.Bool.{OnTrue}
 use Rattle.rte_tree.specs.declared.place.Place.{Place}
 use Rattle.rte_tree.specs.Placed.{Prog, bare}
@@ -7,7 +7,10 @@ use Rattle.rte_source.specs.Puts.{PutProg}
 use Rattle.rte_io.specs.Outside.{Rose, AllStay, Appends, AppendsFront}
 use Rattle.rte_form.specs.Report.{report_of}
 use Rattle.rte_form.specs.WellFormed.{IsTimely}
+use Rattle.rte_lex.specs.declared.token.Token.{Token}
+use Rattle.rte_lex.specs.Tokens.{tokens, longest_text}
 use Rattle.rte_print.specs.Canonical.{canonical}
+use Rattle.rte_print.specs.ReadBack.{HasTree}
 use Rattle.rte_accept.specs.Accept.{IsAccepted, IsProgramText, IsTextFault, fault_line}
 
 -- the status, and the bytes that are put
@@ -24,10 +27,14 @@ pub data IsCheckDue (text : List ℕ) (told : Told) : Type 0 where
   check_timely : (f : PutProg) → IsProgramText text f → IsTimely f → told ≡ record { status = 0; text = report_of f } → IsCheckDue text told
   check_late : (f : PutProg) → IsProgramText text f → ¬ IsTimely f → told ≡ record { status = 3; text = report_of f } → IsCheckDue text told
 
--- what `print` tells of a text: its fault, or the canonical text of its tree
+-- the canonical text of the tree, where it is no longer than a text may be, has tokens, and these have that tree, apart from places
+abbrev pub ReadsBack : Prog Place → Type 0
+ReadsBack tree = length (canonical (bare tree)) ≤ longest_text → (toks : List Token) × tokens (canonical (bare tree)) toks × HasTree (canonical (bare tree)) toks tree
+
+-- what `print` tells of a text: its fault, or the canonical text of its tree, which reads back
 pub data IsPrintDue (text : List ℕ) (told : Told) : Type 0 where
   print_fault : (number : ℕ) (place : Place) → IsTextFault text number place → told ≡ refused number place → IsPrintDue text told
-  printed : (tree : Prog Place) (f : PutProg) → IsAccepted text tree f → told ≡ record { status = 0; text = canonical (bare tree) } → IsPrintDue text told
+  printed : (tree : Prog Place) (f : PutProg) → IsAccepted text tree f → ReadsBack tree → told ≡ record { status = 0; text = canonical (bare tree) } → IsPrintDue text told
 
 -- what is due was told whole
 pub record IsToldWhole (Due : List ℕ → Told → Type 0) (status : ℕ) (taken taken' : Option (List ℕ)) (text : List ℕ) : Type 0 where

@@ -9,6 +9,7 @@ ghost use Rattle.rte_inspect.specs.Inspect.{IsPrintDue, IsToldWhole, IsToldInPar
 
 use rte_accept::{Refusal, accept_file, put, refuse_text};
 use rte_io::{Files, Sink};
+use rte_print::{reads_back, tokens_are_spelled};
 use rte_tree::Prog;
 use std::alloc::Global;
 
@@ -37,6 +38,8 @@ fn inspect<F: Files, O: Sink>(alloc: Global, name: &str, files: &mut F, out: &mu
     ensures nothing { (result ≡ 6) ⊎ (result ≡ 8) → O.taken out.new ≡ O.taken out.old }
     ensures stays { AllStay (F.held files.old) (F.held files.new) }
 {
+    reads_back();
+    tokens_are_spelled();
     match accept_file(alloc, files, name) {
         Ok(accepted) => tell(alloc, accepted.program.prog(), out),
         Err(Refusal::Fault { number, place }) => refuse_text(alloc, number, place, out),
