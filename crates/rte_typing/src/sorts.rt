@@ -13,9 +13,9 @@ use rte_tree::{Op, Place};
 pub fn fits(want: Sort, sort: Option<Sort>) -> bool
     ensures { result ≡ is_fit want sort }
 {
-    match (want, sort) {
-        (_, None) | (Sort::Number, Some(Sort::Number)) | (Sort::Truth, Some(Sort::Truth)) => true,
-        (Sort::Number, Some(Sort::Truth)) | (Sort::Truth, Some(Sort::Number)) => false,
+    match sort {
+        None => true,
+        Some(sort) => sort == want,
     }
 }
 
