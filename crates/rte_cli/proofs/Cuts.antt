@@ -1,15 +1,15 @@
 -- What a call that was cut off says, by what its steps say.
-use Rattle.std.proofs.Common.{◌≡◌, ◌≤◌, ◌⊎◌, ℕ, List, Option, Some, None, Bool, true, false, inl, inr, refl, arith, length}
+use Rattle.std.proofs.Common.{◌≡◌, ◌≤◌, ◌<◌, ◌⊎◌, ℕ, List, Option, Some, None, Bool, true, false, inl, inr, refl, arith, length}
 use Rattle.std.specs.Prelude.{IsSomeAnd, IfSome, nat_le}
 use Rattle.std.specs.Bool.{OnTrue}
 use Rattle.std.proofs.lemmas.Bool.{le-leb}
 use Rattle.rte_form.specs.Script.{end_of}
 use Rattle.rte_form.specs.Target.{named_image_of}
 use Rattle.rte_image.specs.Bytes.{bytes_of}
-use Rattle.rte_io.specs.Outside.{Rose, AppendsFront}
+use Rattle.rte_io.specs.Outside.{Rose, Appends, AppendsFront}
 use Rattle.rte_source.specs.Puts.{PutProg}
 use Rattle.rte_cli.specs.Due.{Outcome, done, IsDueByScript}
-use Rattle.rte_cli.specs.Answers.{IsCut, StoreFailed}
+use Rattle.rte_cli.specs.Answers.{IsWhole, IsCut, StoreFailed}
 
 -- a count that rose since a later state rose since an earlier one
 rose_since : (before then now : ℕ) → before ≤ then → Rose then now → Rose before now
@@ -22,6 +22,16 @@ done_is_due f None end short read = absurd short
 done_is_due f (Some text) end short read =
     let fits : nat_le (length text) 16777216 ≡ true = le-leb _ _ short in
     rw (fits, ← read) refl
+
+-- storing and telling was whole
+pub whole_is : (tells : Bool) (f : PutProg) (end : ℕ) (held taken taken' stored : Option (List ℕ)) (status : ℕ)
+    → OnTrue tells (IsSomeAnd held (λ text. length text ≤ 16777216)) → OnTrue tells (IsSomeAnd held (λ text. Some end ≡ end_of text))
+    → (status ≡ 0) ⊎ ((status ≡ 7) ⊎ (status ≡ 8)) → (status ≡ 0 → Appends taken taken' (done f end).text) → (status ≡ 0 → OnTrue tells (stored ≡ Some (bytes_of (named_image_of f))))
+    → OnTrue tells (status < 6 → IsWhole (IsDueByScript f held) status taken taken' stored)
+whole_is true f end held taken taken' stored status short read range put kept = λ below.
+    let zero : status ≡ 0 = elim range [ inl zero ↦ zero | inr more ↦ elim more [ inl seven ↦ absurd (omega (arith, seven, below)) | inr eight ↦ absurd (omega (arith, eight, below)) ] ] in
+    record { outcome = done f end; is_due = done_is_due f held end short read; status_is = zero; put = put zero; image = kept zero }
+whole_is false f end held taken taken' stored status short read range put kept = tt
 
 cut_of_done : (f : PutProg) (end : ℕ) (Due : Outcome → Type 0) (taken taken' stored : Option (List ℕ)) (write0 write write' faults faults' : ℕ)
     → Due (done f end) → write0 ≤ write → AppendsFront taken taken' (done f end).text

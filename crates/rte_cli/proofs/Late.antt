@@ -64,6 +64,6 @@ pub refused_for_time : TextLaws → ((f : PutProg) → IsPutProg f → IsTimely 
     → ((f : PutProg) (r : ℕ) → IsPutProg f → Solves (tasks_of f) 0 r → IsTimely f)
     → (tells : Bool) (row : Option Row) (before now : Outside) (status : ℕ) → IfSome row (λ r. Went tells r before now status)
     → IfSome row (λ r. OnTrue tells (status < 6 → (status ≡ 3) ↔ IsUnsolved (before.held r.program)))
-refused_for_time texts bound timely true (Some row) before now status w = exactly (record { texts = texts; bound = bound; timely = timely }) row before now status w
-refused_for_time texts bound timely false (Some row) before now status w = tt
-refused_for_time texts bound timely tells None before now status w = tt
+refused_for_time texts bound solved true (Some row) before now status w = exactly (record { texts = texts; bound = bound; timely = solved }) row before now status w
+refused_for_time texts bound solved false (Some row) before now status w = tt
+refused_for_time texts bound solved tells None before now status w = tt

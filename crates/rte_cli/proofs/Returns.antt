@@ -1,13 +1,15 @@
 -- What each way through a call says of what is due.
-use Rattle.std.proofs.Common.{◌≡◌, ◌≤◌, ◌<◌, ℕ, List, Option, Some, None, Bool, true, false, inr, sym, subst, ◌∙◌, refl}
-use Rattle.std.specs.Prelude.{IsSomeAnd}
+use Rattle.std.proofs.Common.{◌≡◌, ◌≤◌, ◌<◌, ℕ, List, Option, Some, None, Bool, true, false, ◌⊎◌, inr, sym, subst, ◌∙◌, refl, length, codes}
+use Rattle.std.specs.Prelude.{IsSomeAnd, nat_le}
 use Rattle.std.specs.Bool.{OnTrue}
+use Rattle.std.proofs.lemmas.Bool.{le-leb, lt-leb}
+use Rattle.rte_form.specs.Script.{end_of}
 use Rattle.rte_form.specs.WellFormed.{IsTimely}
 use Rattle.rte_io.specs.Outside.{Rose, AllStay, Appends, AppendsFront}
 use Rattle.rte_source.specs.Puts.{PutProg}
 use Rattle.rte_tree.specs.declared.place.Place.{Place}
 use Rattle.rte_accept.specs.Accept.{IsProgramText}
-use Rattle.rte_cli.specs.Due.{Outcome, IsDue, untimely, timely, IsDueByScript, late, refused}
+use Rattle.rte_cli.specs.Due.{Outcome, IsDue, untimely, timely, IsDueByScript, late, refused, ReachesScript}
 use Rattle.rte_cli.specs.Answers.{IsWhole, IsCut, NothingStored}
 use Rattle.rte_accept.specs.Accept.{IsTextFault}
 use Rattle.rte_cli.proofs.Cuts.{cut_since}
@@ -40,6 +42,31 @@ pub text_due : (tells : Bool) (program script : Held) (number : ℕ) (place : Pl
 text_due true (Some text) script number place fault = due_fault text script number place fault
 text_due true None script number place fault = absurd fault
 text_due false program script number place fault = tt
+
+-- a text that is no script
+abbrev pub script_outcome : List ℕ → Outcome
+script_outcome line = record { status = 5; text = line; image = None }
+
+pub scriptless_due : (tells : Bool) (f : PutProg) (script : Held) → OnTrue tells (IsSomeAnd script (λ text. length text ≤ 16777216)) → OnTrue tells (IsSomeAnd script (λ text. None ≡ end_of text))
+    → OnTrue tells (IsDueByScript f script (script_outcome (codes "S1 1\n")))
+scriptless_due true f (Some text) short read =
+    let fits : nat_le (length text) 16777216 ≡ true = le-leb _ _ short in
+    rw (fits, ← read) (rw fits refl)
+scriptless_due true f None short read = absurd short
+scriptless_due false f script short read = tt
+
+pub long_script_due : (tells : Bool) (f : PutProg) (script : Held) → OnTrue tells (IsSomeAnd script (λ text. 16777216 < length text)) → OnTrue tells (IsDueByScript f script (script_outcome (codes "S6 0\n")))
+long_script_due true f (Some text) long =
+    let over : nat_le (length text) 16777216 ≡ false = lt-leb _ _ long in
+    rw over (rw over refl)
+long_script_due true f None long = absurd long
+long_script_due false f script long = tt
+
+-- the reading of the script is reached
+pub reaches : (tells : Bool) (program : Held) (f : PutProg) (P A : Type 0) → OnTrue tells (IsSomeAnd program (λ text. IsProgramText text f)) → IsTimely f → OnTrue tells (P → A ⊎ ReachesScript program)
+reaches true (Some text) f P A is in_time = λ _. inr (f, is, in_time)
+reaches true None f P A is in_time = absurd is
+reaches false program f P A is in_time = tt
 
 -- a text that was put whole, and nothing stored
 pub whole_put : (tells : Bool) (Due : Outcome → Type 0) (o : Outcome) (status : ℕ) (taken taken' stored : Held) → OnTrue tells (Due o) → o.image ≡ None
