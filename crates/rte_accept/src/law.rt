@@ -4,7 +4,6 @@ ghost use Rattle.rte_accept.specs.Laws.{HasOneProgram, HasProgramOrFault};
 
 use rte_form::law::one_form;
 
-
 /// A text writes at most one program, and one that writes a program has no fault.
 pub fn one_program()
     ensures one { HasOneProgram }

@@ -29,13 +29,7 @@ pub fn sooner(x: Option<Broken>, y: Option<Broken>) -> Option<Broken>
     match (x, y) {
         (None, _) => y,
         (_, None) => x,
-        (Some(one), Some(other)) => {
-            if is_before(one, other) {
-                x
-            } else {
-                y
-            }
-        }
+        (Some(one), Some(other)) => { if is_before(one, other) { x } else { y } }
     }
 }
 
