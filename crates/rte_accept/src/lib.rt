@@ -6,14 +6,14 @@
 #![tactic(auto)]
 
 mod answer;
-mod bound;
+mod recurrence;
 mod fault;
 mod law;
 mod program;
 mod refusal;
 
 pub use answer::{put, refuse_text};
-pub use bound::bound;
+pub use recurrence::bound;
 pub use law::one_program;
 pub use program::{Accepted, accept_file, read_program};
 pub use refusal::Refusal;

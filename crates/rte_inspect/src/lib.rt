@@ -5,8 +5,8 @@
 //! files and the sink do.
 #![tactic(auto)]
 
-mod check;
-mod print;
+mod checking;
+mod printing;
 
-pub use check::check;
-pub use print::print;
+pub use checking::check;
+pub use printing::print;

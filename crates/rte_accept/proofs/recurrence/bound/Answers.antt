@@ -4,7 +4,7 @@ use Rattle.rte_form.specs.Target.{cost_of}
 use Rattle.rte_puts.specs.Recurrence.{tasks_of}
 use Rattle.rte_response.specs.declared.tasks.Task.{Task}
 use Rattle.rte_accept.proofs.Bounds.{bound_found}
-use Rattle.rte_accept.proofs.bound.bound.Goals as goal
+use Rattle.rte_accept.proofs.recurrence.bound.Goals as goal
 
 abbrev task : ℕ → ℕ → Task
 task frame run = record { frame = frame; run = run; susp = 0; waits = 0; block = 0 }
