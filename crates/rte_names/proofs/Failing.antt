@@ -1,11 +1,11 @@
 -- The rules that fail are those that the names break.
-use Rattle.std.proofs.Common.{◌≡◌, ◌<◌, ◌≤◌, ℕ, List, [], ◌∷◌, Option, Some, None, Bool, true, false, not, if◌then◌else◌, ◌⊎◌, inl, inr, refl, ap, sym, ◌∙◌, arith, true≢false}
+use Rattle.std.proofs.Common.{◌≡◌, ℕ, List, [], ◌∷◌, Option, Some, None, Bool, true, false, not, if◌then◌else◌, ◌⊎◌, inl, inr, refl, ap, sym, ◌∙◌, arith, true≢false}
 use Rattle.rte_tree.specs.Placed.{Prog}
 use Rattle.rte_tree.specs.declared.place.Place.{Place}
 use Rattle.rte_names.specs.declared.findings.Broken.{Broken}
 use Rattle.rte_names.specs.Reach.{same, suits, or_else}
 use Rattle.rte_names.specs.Occurrences.{Occurrence, declares, closes, used, names, declared_at}
-use Rattle.rte_names.specs.Rules.{Among, place_of, undeclared, shadows, misused, misclosed, Fails, Before, IsFirst, Means, IsUse, NamesAt, UsedAt}
+use Rattle.rte_names.specs.Rules.{Among, place_of, undeclared, shadows, misused, misclosed, Fails, Before, IsFirst, IsUse, NamesAt, UsedAt}
 use Rattle.std.specs.Map.{lookup}
 use Rattle.rte_names.specs.Findings.{Found, noted, same_key, key_of}
 use Rattle.rte_names.specs.Seen.{nothing}

@@ -1,10 +1,10 @@
 -- Entering a loop puts its variable inside.
-use Rattle.std.proofs.Common.{◌≡◌, ◌-◌, ◌+◌, List, [], ◌∷◌, ◌++◌, Option, Some, None, if◌then◌else◌, length, take, length-append, take_at, refl, ap, sym, ◌∙◌, arith}
+use Rattle.std.proofs.Common.{◌≡◌, ◌-◌, List, [], ◌∷◌, ◌++◌, Option, Some, None, if◌then◌else◌, length, take, length-append, take_at, refl, arith}
 use Rattle.rte_tree.specs.Plain.{Name}
 use Rattle.rte_names.specs.declared.kind.Declared.{Declared}
 use Rattle.rte_names.specs.declared.scope.Local.{Local}
 use Rattle.rte_names.specs.declared.around.Around.{Around}
-use Rattle.rte_names.specs.Reach.{same, or_else, within, first, inside}
+use Rattle.rte_names.specs.Reach.{same, or_else, within, inside}
 use Rattle.rte_names.specs.Seen.{in_loops, meaning_in, outer_site, site}
 
 pub in_loops-end : (name : Name) (ls : List Local) (l : Local) (o : Option Declared) → in_loops name (ls ++ l ∷ []) o ≡ or_else (if same name l.name.now then Some l.declared else None) (in_loops name ls o)

@@ -1,19 +1,17 @@
 -- What the walk keeps, once all names are noted: the first rule that fails, and where each used name is declared.
-use Rattle.std.proofs.Common.{◌≡◌, ◌<◌, ◌≤◌, ℕ, List, [], ◌∷◌, Option, Some, None, Bool, true, false, cond, ◌&&◌, ◌||◌, not, nat_eq, nat_lt, if◌then◌else◌, ◌⊎◌, inl, inr, refl, ap, sym, ◌∙◌, subst, arith, true≢false}
+use Rattle.std.proofs.Common.{◌≡◌, ◌<◌, ◌≤◌, ℕ, List, [], ◌∷◌, Option, Some, None, Bool, true, false, cond, nat_eq, if◌then◌else◌, ◌⊎◌, inl, inr, refl, ap, sym, ◌∙◌, subst, arith, true≢false}
 use Rattle.std.specs.Cmp.{IsEquivalence}
 use Rattle.std.specs.Map.{lookup}
 use Rattle.std.proofs.lemmas.Cmp.{nat_eq_equiv, on_equiv, and_equiv}
-use Rattle.std.proofs.lemmas.Bool.{and_parts, eqb-true, ltb-true}
+use Rattle.std.proofs.lemmas.Bool.{and_parts, eqb-true}
 use Rattle.std.proofs.lemmas.Bool.Decides.{nat_tests}
 use Rattle.indexmap.specs.IndexMap.{insert_entry}
 use Rattle.rte_tree.specs.declared.place.Place.{Place}
-use Rattle.rte_names.specs.declared.kind.Declared.{Declared}
-use Rattle.rte_names.specs.declared.kind.Want.{Want}
 use Rattle.rte_names.specs.declared.findings.Broken.{Broken}
 use Rattle.rte_names.specs.Reach.{same, same_place, suits, or_else}
 use Rattle.rte_names.specs.Occurrences.{Occurrence, declares, closes, used, declared_at}
-use Rattle.rte_names.specs.Rules.{Among, place_of, undeclared, shadows, misused, misclosed, Means, IsUse}
-use Rattle.rte_names.specs.Findings.{Key, same_key, key_of, Found, comes_before, sooner, blame, tie, note_use, note_declaration, note, noted}
+use Rattle.rte_names.specs.Rules.{Among, place_of, Means, IsUse}
+use Rattle.rte_names.specs.Findings.{Key, same_key, key_of, Found, comes_before, sooner, blame, tie, note, noted}
 
 -- ---- the order of faults
 

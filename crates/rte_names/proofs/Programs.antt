@@ -1,13 +1,12 @@
 -- The names of declarations, one after another.
-use Rattle.std.proofs.Common.{◌≡◌, ℕ, ◌<◌, ◌≤◌, ◌+◌, Bool, true, false, cond, ◌&&◌, Option, Some, None, is_some, List, [], ◌∷◌, ◌++◌, map, length, drop, get_or, refl, sym, ap, ◌∙◌}
+use Rattle.std.proofs.Common.{◌≡◌, Bool, true, false, cond, ◌&&◌, Option, Some, None, is_some, List, [], ◌∷◌, ◌++◌, map, refl, sym, ap, ◌∙◌}
 use Rattle.rte_tree.specs.Plain.{Name}
-use Rattle.rte_tree.specs.Placed.{Routine, Decl, constant, device, event, routine, monitor, process}
+use Rattle.rte_tree.specs.Placed.{Decl, constant, device, event, routine, monitor, process}
 use Rattle.rte_tree.specs.declared.place.Place.{Place}
 use Rattle.rte_names.specs.declared.kind.Declared.{Declared}
-use Rattle.rte_names.specs.Reach.{same, same_place, Names, Reach, Site, nowhere, first, or_else}
+use Rattle.rte_names.specs.Reach.{same, same_place, Names, Reach, nowhere, first, or_else}
 use Rattle.rte_names.specs.Occurrences.{Occurrence, declares, decl_name, entry_name, others, entries_at, inner_names, decls_names}
 use Rattle.rte_names.specs.Seen.{add, add_all, put, add_entry, add_entries, add_monitors, decls_after}
-use Rattle.rte_names.proofs.Scopes.{same-congr}
 use Rattle.rte_names.proofs.Scoping.{snoc, add_all-first}
 
 -- others and monitors, one declaration at a time

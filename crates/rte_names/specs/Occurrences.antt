@@ -1,15 +1,14 @@
 -- The names of a program: each name that stands in the tree, with what it does there. It declares, it closes, or it is used.
 -- Each definition gives the names of its part, and then `more`. Their order has no meaning: each has its place.
-use Rattle.std.specs.Prelude.{ℕ, Bool, true, false, ◌||◌, List, [], ◌∷◌, ◌++◌, map, Option, Some, None, is_some, if◌then◌else◌}
+use Rattle.std.specs.Prelude.{Bool, false, ◌||◌, List, [], ◌∷◌, ◌++◌, map, Option, Some, None, is_some, if◌then◌else◌}
 use Rattle.rte_tree.specs.Plain.{Name}
 use Rattle.rte_tree.specs.Placed.{Constant, literal_constant, named_constant, Scalar, int, boolean, subrange, Kind, scalar, array, Var, Param, Expr, literal, truth, variable, element, call, minus, negation, paren, row, Exprs, no_exprs, exprs, Operands, no_operands, operand, Ref, whole, part, Stmt, assign, assign_entry, assign_empty, perform, perform_entry, when, when_else, loop, exit_when, get, put, wait, signal, broadcast, except, assert, Stmts, no_stmts, stmts, Routine, Member, variable_member, condition_member, Monitor, Activation, periodic, at_event, Handler, Process, Decl, constant, device, event, routine, monitor, process, Prog}
 use Rattle.rte_tree.specs.declared.place.Place.{Place}
 use Rattle.rte_names.specs.declared.kind.Declared.{Declared}
-use Rattle.rte_names.specs.declared.kind.Kind as kinds
 use Rattle.rte_names.specs.declared.kind.Kind.TheVariants as kind_is
 use Rattle.rte_names.specs.declared.kind.Want.{Want}
 use Rattle.rte_names.specs.declared.kind.Want.TheVariants as want_is
-use Rattle.rte_names.specs.Reach.{Names, Reach, nowhere, first, or_else, within, Site, inside, inside_monitor, through, same_place}
+use Rattle.rte_names.specs.Reach.{Names, Reach, first, or_else, Site, inside, inside_monitor, through, same_place}
 
 -- a name that is declared, and whether the same name is in reach there already; a name that closes, and the name that it has
 -- to repeat; or a name that is used, with what it is used as and what it means there

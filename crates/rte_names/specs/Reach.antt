@@ -1,5 +1,5 @@
 -- What a name means at a place: the declaration of that name that is in reach there.
-use Rattle.std.specs.Prelude.{ℕ, Bool, true, false, ◌&&◌, List, [], ◌∷◌, Option, Some, None, if◌then◌else◌, nat_eq}
+use Rattle.std.specs.Prelude.{Bool, true, false, ◌&&◌, List, [], ◌∷◌, Option, Some, None, if◌then◌else◌, nat_eq}
 use Rattle.std.specs.Cmp.Lexicographic.{pointwise}
 use Rattle.rte_tree.specs.Plain.{Name}
 use Rattle.rte_tree.specs.declared.place.Place.{Place}

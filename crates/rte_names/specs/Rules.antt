@@ -1,5 +1,5 @@
 -- The rules for names, each as a predicate on a program and a place.
-use Rattle.std.specs.Prelude.{◌≡◌, ℕ, ◌<◌, Bool, true, false, not, ◌⊎◌, List, Option, [], ◌∷◌, Some, None}
+use Rattle.std.specs.Prelude.{◌≡◌, ℕ, ◌<◌, Bool, true, false, not, ◌⊎◌, List, [], ◌∷◌, Some, None}
 use Rattle.rte_tree.specs.Placed.{Prog}
 use Rattle.rte_tree.specs.declared.place.Place.{Place}
 use Rattle.rte_names.specs.Reach.{same, suits}

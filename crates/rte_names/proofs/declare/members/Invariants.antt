@@ -1,4 +1,4 @@
-use Rattle.std.proofs.Common.{List, map, drop}
+use Rattle.std.proofs.Common.{map, drop}
 use Rattle.rte_tree.specs.Placed.{placed_member}
 use Rattle.rte_names.specs.Occurrences.{member_name}
 use Rattle.rte_names.specs.Seen.{meaning, outer_site, Scoped}

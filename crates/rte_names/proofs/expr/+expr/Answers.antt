@@ -1,4 +1,4 @@
-use Rattle.std.proofs.Common.{◌≡◌, List, refl, arith, ap, sym, ◌∙◌}
+use Rattle.std.proofs.Common.{◌≡◌, refl, arith, ap, sym, ◌∙◌}
 use Rattle.rte_tree.specs.Placed.{placed_expr, placed_exprs, placed_operands, row}
 use Rattle.rte_tree.proofs.Views.{expr-Chain}
 use Rattle.rte_names.specs.Occurrences.{expr_names, exprs_names, operands_names}

@@ -1,4 +1,4 @@
-use Rattle.std.proofs.Common.{List, refl, arith}
+use Rattle.std.proofs.Common.{refl, arith}
 use Rattle.rte_tree.specs.Placed.{placed_expr, placed_exprs}
 use Rattle.rte_names.specs.Occurrences.{expr_names, exprs_names}
 use Rattle.rte_names.specs.Seen.{site}

@@ -1,4 +1,4 @@
-use Rattle.std.proofs.Common.{◌≡◌, ◌∙◌, sym}
+use Rattle.std.proofs.Common.{◌≡◌, ◌∙◌}
 use Rattle.rte_tree.specs.Placed.{placed}
 use Rattle.rte_names.specs.Occurrences.{names}
 use Rattle.rte_names.specs.Findings.{Found, noted}

@@ -1,4 +1,4 @@
-use Rattle.std.proofs.Common.{List, [], map, refl, arith}
+use Rattle.std.proofs.Common.{[], map, refl, arith}
 use Rattle.rte_tree.specs.Placed.{placed_member}
 use Rattle.rte_names.specs.Occurrences.{members_names, member_inner}
 use Rattle.rte_names.specs.Seen.{site}

@@ -1,6 +1,6 @@
-use Rattle.std.proofs.Common.{◌≡◌, List, [], ◌∷◌, map, ap, ◌∙◌}
+use Rattle.std.proofs.Common.{◌∷◌, map, ap, ◌∙◌}
 use Rattle.rte_tree.specs.Placed.{placed_member, placed_routine}
-use Rattle.rte_names.specs.Occurrences.{Occurrence, closes, members_names, routines_names}
+use Rattle.rte_names.specs.Occurrences.{closes, members_names, routines_names}
 use Rattle.rte_names.specs.Findings.{noted}
 use Rattle.rte_names.specs.Seen.{outer_site}
 use Rattle.rte_names.proofs.part.monitor_parts.Goals as goal

@@ -1,4 +1,4 @@
-use Rattle.std.proofs.Common.{List, [], map, refl, arith}
+use Rattle.std.proofs.Common.{[], map, refl, arith}
 use Rattle.rte_tree.specs.Placed.{placed_param, placed_scalar}
 use Rattle.rte_names.specs.Occurrences.{params_names, scalar_names}
 use Rattle.rte_names.specs.Seen.{site}

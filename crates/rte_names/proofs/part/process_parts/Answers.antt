@@ -1,4 +1,4 @@
-use Rattle.std.proofs.Common.{◌≡◌, List, [], ◌∷◌, map, ap, ◌∙◌}
+use Rattle.std.proofs.Common.{List, [], ◌∷◌, map, ap, ◌∙◌}
 use Rattle.rte_tree.specs.Placed.{placed_activation, placed_var, placed_routine, placed_stmts, placed_handler, optional}
 use Rattle.rte_names.specs.Reach.{Site}
 use Rattle.rte_names.specs.Occurrences.{Occurrence, closes, activation_names, vars_names, routines_names, stmts_names, optional_names, handler_names}

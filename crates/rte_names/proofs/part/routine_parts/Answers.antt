@@ -1,6 +1,6 @@
-use Rattle.std.proofs.Common.{◌≡◌, List, [], ◌∷◌, map, ap, ◌∙◌}
+use Rattle.std.proofs.Common.{[], ◌∷◌, map, ap, ◌∙◌}
 use Rattle.rte_tree.specs.Placed.{placed_param, placed_scalar, placed_var, placed_stmts, placed_expr, optional}
-use Rattle.rte_names.specs.Occurrences.{Occurrence, closes, params_names, optional_names, scalar_names, vars_names, stmts_names, expr_names}
+use Rattle.rte_names.specs.Occurrences.{closes, params_names, optional_names, scalar_names, vars_names, stmts_names, expr_names}
 use Rattle.rte_names.specs.Findings.{noted}
 use Rattle.rte_names.specs.Seen.{site}
 use Rattle.rte_names.proofs.part.routine_parts.Goals as goal

@@ -1,4 +1,4 @@
-use Rattle.std.proofs.Common.{List, [], map, refl, arith}
+use Rattle.std.proofs.Common.{map, refl, arith}
 use Rattle.rte_tree.specs.Placed.{placed_routine}
 use Rattle.rte_names.specs.Occurrences.{routines_names, routine_names}
 use Rattle.rte_names.specs.Seen.{outer_site}

@@ -1,4 +1,4 @@
-use Rattle.std.proofs.Common.{List, [], map, refl, arith}
+use Rattle.std.proofs.Common.{[], map, refl, arith}
 use Rattle.rte_tree.specs.Placed.{placed_var, placed_kind}
 use Rattle.rte_names.specs.Occurrences.{vars_names, kind_names}
 use Rattle.rte_names.specs.Seen.{site}

@@ -1,4 +1,4 @@
-use Rattle.std.proofs.Common.{◌≡◌, List, [], ◌∷◌, map, ap, sym, ◌∙◌}
+use Rattle.std.proofs.Common.{◌≡◌, [], ◌∷◌, map, ap, sym, ◌∙◌}
 use Rattle.rte_tree.specs.Placed.{placed, placed_decl}
 use Rattle.rte_names.specs.Reach.{Names, first}
 use Rattle.rte_names.specs.Occurrences.{others, program_name}

@@ -1,4 +1,4 @@
-use Rattle.std.proofs.Common.{◌≡◌, List, map, drop}
+use Rattle.std.proofs.Common.{map, drop}
 use Rattle.rte_tree.specs.Placed.{placed_decl}
 use Rattle.rte_names.specs.Seen.{meaning, entry_meaning, IsNext}
 use Rattle.rte_names.proofs.program.decls.Given as goal

@@ -1,4 +1,4 @@
-use Rattle.std.proofs.Common.{◌≡◌, List, map, drop}
+use Rattle.std.proofs.Common.{◌≡◌, map, drop}
 use Rattle.rte_tree.specs.Placed.{placed_decl}
 use Rattle.rte_names.specs.Seen.{entry_meaning, add_monitors}
 use Rattle.rte_names.proofs.program.monitors.Given as goal

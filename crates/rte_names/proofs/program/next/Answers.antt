@@ -1,7 +1,5 @@
-use Rattle.std.proofs.Common.{◌≡◌, List, [], ◌∷◌, Bool, is_some, ap, sym, ◌∙◌}
-use Rattle.rte_tree.specs.Plain.{Name}
+use Rattle.std.proofs.Common.{◌≡◌, List, ◌∷◌, is_some, ap, sym, ◌∙◌}
 use Rattle.rte_tree.specs.Placed.{placed_decl}
-use Rattle.rte_names.specs.declared.kind.Declared.{Declared}
 use Rattle.rte_names.specs.Reach.{Reach, Site}
 use Rattle.rte_names.specs.Occurrences.{Occurrence, decl_name, others, inner_names}
 use Rattle.rte_names.specs.Findings.{note_declaration, noted}

@@ -1,6 +1,6 @@
-use Rattle.std.proofs.Common.{◌≡◌, List, [], ◌∷◌, map, Bool, false, is_some, ap, sym, ◌∙◌}
+use Rattle.std.proofs.Common.{◌≡◌, ◌∷◌, map, false, is_some, ap, sym, ◌∙◌}
 use Rattle.rte_tree.specs.Plain.{Name}
-use Rattle.rte_tree.specs.Placed.{Decl, constant, placed_constant, placed_decl}
+use Rattle.rte_tree.specs.Placed.{constant, placed_constant, placed_decl}
 use Rattle.rte_names.specs.declared.kind.Declared.{Declared}
 use Rattle.rte_names.specs.declared.kind.Kind.TheVariants.{Constant}
 use Rattle.rte_names.specs.Occurrences.{decl_name, others}

@@ -1,4 +1,3 @@
-use Rattle.std.proofs.Common.{◌≡◌}
 use Rattle.rte_names.proofs.Scopes.{put-meaning}
 use Rattle.rte_names.proofs.program.set.Goals as goal
 

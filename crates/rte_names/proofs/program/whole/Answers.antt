@@ -1,7 +1,6 @@
-use Rattle.std.proofs.Common.{◌≡◌, List, [], ◌∷◌, map, ap, ◌∙◌}
+use Rattle.std.proofs.Common.{◌≡◌, [], ◌∷◌, map, ap, ◌∙◌}
 use Rattle.rte_tree.specs.Placed.{placed, placed_decl}
-use Rattle.rte_tree.specs.declared.place.Place.{Place}
-use Rattle.rte_names.specs.Reach.{Reach, nowhere, first}
+use Rattle.rte_names.specs.Reach.{nowhere, first}
 use Rattle.rte_names.specs.Occurrences.{entries_at, program_name, decls_names}
 use Rattle.rte_names.specs.Findings.{noted}
 use Rattle.rte_names.specs.Seen.{entry_meaning, add_monitors}

@@ -1,5 +1,4 @@
 use Rattle.std.proofs.Common.{◌≡◌, ◌∙◌, sym, ap, None, true, is_some, map}
-use Rattle.rte_names.specs.Reach.{first}
 use Rattle.rte_names.specs.Seen.{meaning, entry_of}
 use Rattle.rte_names.proofs.Scopes.{none-of, add-meaning, add-present, first-same}
 use Rattle.rte_names.proofs.scope.add.Goals as goal

@@ -1,10 +1,8 @@
-use Rattle.std.proofs.Common.{◌≡◌, List, [], ◌∷◌, refl, arith, ap, sym, ◌∙◌}
-use Rattle.rte_tree.specs.Placed.{placed_constant, placed_exprs, placed_ref, placed_stmt, placed_stmts, assign_entry, loop}
+use Rattle.std.proofs.Common.{◌≡◌, [], ◌∷◌, refl, arith, ap, sym, ◌∙◌}
+use Rattle.rte_tree.specs.Placed.{placed_constant, placed_stmt, placed_stmts, loop}
 use Rattle.rte_tree.proofs.StmtViews.{stmt-For}
-use Rattle.rte_tree.specs.declared.expr.Expr.{Expr}
-use Rattle.rte_names.specs.declared.scope.Local.{Local}
 use Rattle.rte_names.specs.Reach.{inside}
-use Rattle.rte_names.specs.Occurrences.{declarations, loop_name, constant_names, exprs_names, ref_names, entry_names, stmt_names, stmts_names}
+use Rattle.rte_names.specs.Occurrences.{declarations, loop_name, constant_names, stmt_names, stmts_names}
 use Rattle.rte_names.specs.Findings.{noted}
 use Rattle.rte_names.specs.Seen.{site}
 use Rattle.rte_names.proofs.Walks.{step, finish}

@@ -6,7 +6,6 @@ use Rattle.rte_tree.specs.declared.place.Place.{Place}
 use Rattle.rte_names.specs.Occurrences.{names, declared_at}
 use Rattle.rte_names.specs.Rules.{NamesAt, UsedAt}
 use Rattle.rte_names.specs.Findings.{same_key, key_of}
-use Rattle.rte_names.specs.Resolved.{IsResolved}
 use Rattle.rte_names.proofs.named.Named.found.Goals as goal
 
 some_at : (g : Placed Place) (at : Place) (found r : Option Place) → ((d : Place) → found ≡ Some d → NamesAt g at d) → found ≡ r → IfSome r (λ d. NamesAt g at d)

@@ -1,4 +1,4 @@
-use Rattle.std.proofs.Common.{sym, subst}
+use Rattle.std.proofs.Common.{subst}
 use Rattle.rte_tree.specs.Placed.{placed}
 use Rattle.rte_tree.specs.declared.decl.Prog.{Prog}
 use Rattle.rte_names.specs.Resolved.{IsRead, IsNamed}
