@@ -1,6 +1,6 @@
 -- The statements of a program and the results of its functions, each with where it stands.
 use Rattle.std.specs.Prelude.{Bool, true, false, List, [], ◌∷◌, Option, Some, None}
-use Rattle.rte_tree.specs.Placed.{Scalar, Expr, Ref, whole, part, Stmt, assign, assign_entry, assign_empty, perform, perform_entry, when, when_else, loop, exit_when, get, put, wait, signal, broadcast, except, assert, Stmts, no_stmts, stmts, RoutineKind, procedure, function, Routine, Handler, Process, Decl, constant, device, event, routine, monitor, process, Prog}
+use Rattle.rte_tree.specs.Placed.{Scalar, Expr, Ref, whole, part, Stmt, assign, assign_entry, assign_empty, perform, perform_entry, when, when_else, loop, exit_when, get, put, wait, signal, broadcast, except, assert, Stmts, no_stmts, stmts, RoutineKind, procedure, function, Routine, Handler, Decl, constant, device, event, routine, monitor, process, Prog}
 use Rattle.rte_tree.specs.declared.place.Place.{Place}
 use Rattle.rte_declared.specs.declared.home.Home.{Home}
 use Rattle.rte_declared.specs.declared.home.Home.TheVariants as home_is

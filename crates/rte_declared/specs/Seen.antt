@@ -1,7 +1,6 @@
 -- What the code's tables say.
-use Rattle.std.specs.Prelude.{◌≡◌, ℕ, List, [], ◌∷◌, map, Option, Some, None, ℤ, pos, if◌then◌else◌, nat_eq, option_map, unwrap_or}
+use Rattle.std.specs.Prelude.{◌≡◌, List, [], ◌∷◌, map, Option, None, ℤ, pos, if◌then◌else◌, option_map, unwrap_or}
 use Rattle.std.specs.Map.{lookup}
-use Rattle.std.specs.Cmp.Lexicographic.{pointwise}
 use Rattle.std.specs.Borrow.{Bor}
 use Rattle.rte_tree.specs.Plain.{Name, Constant, literal_constant, named_constant, Decl, constant, device, event, routine, monitor, process}
 use Rattle.rte_tree.specs.Placed.{placed_routine, placed_decl, plain_decl}
@@ -32,8 +31,7 @@ abbrev pub number_value : Number → ℤ
 number_value n = signed n.minus (pos n.size)
 
 abbrev pub known_values : List (Bor Name × Number) → Name → Option ℤ
-known_values [] name = None
-known_values (e ∷ es) name = if pointwise nat_eq name e.0.now then Some (number_value e.1) else known_values es name
+known_values entries name = option_map number_value (lookup (λ k. same name k.now) entries)
 
 -- what constants are worth, by name
 abbrev pub Worth : Type 0

@@ -8,7 +8,7 @@ ghost use Rattle.rte_names.specs.Occurrences.{names, declared_at};
 ghost use Rattle.rte_declared.specs.Seen.{seen};
 
 use crate::thing::Thing;
-use crate::things::{Things, decls, keep};
+use crate::things::{Things, things};
 use crate::values::{Values, value_of, values};
 use rte_names::Named;
 use rte_tree::{Constant, Place, Prog};
@@ -48,9 +48,7 @@ impl<'a> Declarations<'a> {
     {
         let program = named.prog();
         let values = values(alloc, program.decls.as_slice())?;
-        let mut things = Things::new(alloc);
-        decls(&mut things, program.decls.as_slice())?;
-        keep(&mut things, program.place, Thing::Other)?;
+        let things = things(alloc, program)?;
         Ok(Declarations {
             named,
             values,

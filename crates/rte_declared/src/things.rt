@@ -3,21 +3,21 @@
 ghost use Rattle.std.specs.Prelude.{◌≡◌, OnOk, IfOk, List, ◌∷◌, [], map};
 ghost use Rattle.rte_tree.specs.Placed.{placed_var, placed_param, placed_routine, placed_member, placed_decl};
 ghost use Rattle.rte_tree.specs.declared.place.Place.{Place as SpecPlace};
-ghost use Rattle.rte_declared.specs.Things.{Thing as SpecThing, learn, vars_things, params_things, routine_things, routines_things, member_things, members_things, decl_things, decls_things};
-ghost use Rattle.rte_declared.specs.Seen.{seen, known_things, Declared};
+ghost use Rattle.rte_declared.specs.Things.{Thing as SpecThing, learn, vars_things, params_things, routine_things, routines_things, member_things, members_things, decl_things, decls_things, other_thing};
+ghost use Rattle.rte_declared.specs.Seen.{seen, known_things, Declared, nothing};
 
 use crate::sort::{Shape, shape_of, sort_of};
 use crate::thing::Thing;
 use indexmap::IndexMap;
-use rte_tree::{Decl, Member, Param, Place, Routine, Var};
-use std::alloc::AllocError;
+use rte_tree::{Decl, Member, Param, Place, Prog, Routine, Var};
+use std::alloc::{AllocError, Global};
 
 /// What stands declared at each place, by line and column.
 pub type Things<'a> = IndexMap<(u32, u32), Thing<'a>>;
 
 /// Keeps one more declaration.
-pub fn keep<'a>(things: &mut Things<'a>, place: Place, thing: Thing<'a>) -> Result<(), AllocError>
-    ensures { OnOk result ((more : List Declared) → learn (known_things things.new.entries) more ≡ learn (known_things things.old.entries) ((place, seen thing) ∷ more)) }
+fn keep<'a>(things: &mut Things<'a>, place: Place, thing: Thing<'a>) -> Result<(), AllocError>
+    ensures { OnOk result ((more : List Declared) → learn (known_things things.new.entries) more ≡ learn (known_things things.old.entries) ((place, seen thing.entry) ∷ more)) }
 {
     things.insert((place.line, place.col), thing)?;
     Ok(())
@@ -127,11 +127,21 @@ fn decl<'a>(things: &mut Things<'a>, decl: &'a Decl) -> Result<(), AllocError>
 }
 
 /// All that stands declared outside of statements, in declarations.
-pub fn decls<'a>(things: &mut Things<'a>, list: &'a [Decl]) -> Result<(), AllocError>
+fn decls<'a>(things: &mut Things<'a>, list: &'a [Decl]) -> Result<(), AllocError>
     ensures { OnOk result ((more : List Declared) → learn (known_things things.new.entries) more ≡ learn (known_things things.old.entries) (decls_things (map placed_decl list.now) more)) }
 {
     for one in list {
         decl(things, one)?;
     }
     Ok(())
+}
+
+/// All that a program declares outside of statements, its own name included.
+pub fn things<'a>(alloc: Global, program: &'a Prog) -> Result<Things<'a>, AllocError>
+    ensures { IfOk result (λ things. known_things things.entries ≡ learn nothing (decls_things (map placed_decl program.now.decls) ((program.now.place, other_thing) ∷ []))) }
+{
+    let mut things = Things::new(alloc);
+    decls(&mut things, program.decls.as_slice())?;
+    keep(&mut things, program.place, Thing::Other)?;
+    Ok(things)
 }

@@ -35,11 +35,7 @@ impl Number {
         ensures { result ≡ number_value self }
     {
         let size = i64::from(self.size);
-        if self.minus {
-            -size
-        } else {
-            size
-        }
+        if self.minus { -size } else { size }
     }
 }
 
@@ -47,13 +43,11 @@ impl Number {
 fn named(values: &Values<'_>, name: &[u8]) -> Number
     ensures { number_value result ≡ kept_worth values.now.entries name.now }
 {
-    match values.get(name) {
-        Some(number) => *number,
-        None => Number {
-            minus: false,
-            size: 0,
-        },
-    }
+    let none = Number {
+        minus: false,
+        size: 0,
+    };
+    values.get(name).copied().unwrap_or(none)
 }
 
 /// The value of a constant.

@@ -9,7 +9,7 @@ use Rattle.rte_names.specs.Rules.{Among, place_of, undeclared, shadows, misused,
 use Rattle.std.specs.Map.{lookup}
 use Rattle.rte_names.specs.Findings.{Found, noted, same_key, key_of}
 use Rattle.rte_names.specs.Seen.{nothing}
-use Rattle.rte_names.specs.Resolved.{IsNamed, IsResolved}
+use Rattle.rte_names.specs.Resolved.{IsRead, IsNamed, IsResolved}
 use Rattle.rte_names.proofs.Notes.{NotBefore, fault_of, Breaks, Clean, Least, first_of_all, ties_of_all, tied-declared}
 
 among-map : {P Q : Occurrence → Type 0} → ((o : Occurrence) → P o → Q o) → (os : List Occurrence) → Among P os → Among Q os
@@ -137,8 +137,8 @@ else-none : (x : Option Place) → or_else x None ≡ x
 else-none (Some p) = refl
 else-none None = refl
 
-pub resolved : (g : Prog Place) (f : Found) → f ≡ noted nothing (names g) → f.first ≡ None → IsResolved g f.ties
-resolved g f is e = record { named = named; tied = tied; unused = unused; declared = declared }
+pub resolved : (g : Prog Place) (f : Found) → IsRead g → f ≡ noted nothing (names g) → f.first ≡ None → IsResolved g f.ties
+resolved g f read is e = record { read = read; named = named; tied = tied; unused = unused; declared = declared }
   where
     clean : Clean None (names g)
     clean = first_of_all (names g) nothing None (sym (ap (λ x. x.first) is) ∙ e)

@@ -5,3 +5,4 @@ pub mod Scoping
 pub mod Notes
 pub mod Programs
 pub mod Failing
+pub mod Reading

@@ -1,19 +1,28 @@
--- A program whose names are resolved: no rule fails, and for the place of each use it is known where the name is declared.
+-- A program whose names are resolved: it was read from a text, no rule fails, and for the place of each use it is known where the name is declared.
 use Rattle.std.specs.Prelude.{◌≡◌, ℕ, List, Option, Some, None}
 use Rattle.std.specs.Map.{lookup}
+use Rattle.rte_lex.specs.declared.token.Token.{Token}
 use Rattle.rte_tree.specs.Placed.{Prog}
 use Rattle.rte_tree.specs.declared.place.Place.{Place}
+use Rattle.rte_grammar.specs.Grammar.{tree}
 use Rattle.rte_names.specs.Occurrences.{names, declared_at}
 use Rattle.rte_names.specs.Rules.{Fails, IsFirst, NamesAt, UsedAt}
 use Rattle.rte_names.specs.Findings.{Key, same_key, key_of}
 use Rattle.rte_names.specs.declared.named.NameFault.{NameFault}
 use Rattle.rte_names.specs.declared.named.NameFault.TheVariants as fault_is
 
+-- the grammar gives the tree to the tokens of some text
+pub record IsRead (g : Prog Place) : Type 0 where
+  pub text : List ℕ
+  pub toks : List Token
+  pub reads : tree text toks g
+
 -- no rule fails at any place
 abbrev pub IsNamed : Prog Place → Type 0
 IsNamed g = (number : ℕ) (place : Place) → ¬ Fails g number place
 
 pub record IsResolved (g : Prog Place) (ties : List (Key × Place)) : Type 0 where
+  pub read : IsRead g
   pub named : IsNamed g
   pub tied : (place declared : Place) → lookup (same_key (key_of place)) ties ≡ Some declared → NamesAt g place declared
   pub unused : (place : Place) → lookup (same_key (key_of place)) ties ≡ None → ¬ UsedAt g place

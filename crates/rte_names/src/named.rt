@@ -4,7 +4,7 @@ ghost use Rattle.std.specs.Prelude.{◌≡◌, IfOk, IfErr, IfSome, IfNone};
 ghost use Rattle.rte_tree.specs.Placed.{placed};
 ghost use Rattle.rte_names.specs.Occurrences.{names as names_of, declared_at};
 ghost use Rattle.rte_names.specs.Rules.{NamesAt, UsedAt};
-ghost use Rattle.rte_names.specs.Resolved.{IsNamed, IsFault};
+ghost use Rattle.rte_names.specs.Resolved.{IsRead, IsNamed, IsFault};
 
 use crate::program::findings;
 use indexmap::IndexMap;
@@ -51,7 +51,10 @@ impl Model for Named {
 
 /// Resolves the names of a program: `Ok` exactly where no rule for names fails, else the rule that
 /// fails first, by place and then by number.
+///
+/// The tree is that of some text's tokens, as `parse` promises.
 pub fn name(alloc: Global, p: Prog) -> Result<Named, NameFault>
+    requires read { IsRead (placed p) }
     ensures same { IfOk result (λ n. n ≡ p) }
     ensures named { IfOk result (λ n. IsNamed (placed n)) }
     ensures fault { IfErr result (λ f. IsFault (placed p) f) }
@@ -85,6 +88,7 @@ impl Named {
 
     pub fn prog(&self) -> &Prog
         ensures tree { result.now ≡ self.now }
+        ensures read { IsRead (placed self.now) }
         ensures named { IsNamed (placed self.now) }
     {
         &self.prog

@@ -16,10 +16,10 @@ pub invariant_of-result : goal.invariant_of-result
 invariant_of-result c =
     let f : Found = record { first = c.found.inside.first; ties = c.found.inside.ties.entries } in
     let is : f ≡ noted nothing (names (placed c.args.p)) = c.found.view_is ∙ c.in-Ok.ensures in
-    resolved (placed c.args.p) f is c.in-None.is
+    resolved (placed c.args.p) f c.requires.read is c.in-None.is
 
 pub returns-in-None-clause-named : goal.returns-in-None-clause-named
 returns-in-None-clause-named c =
     let f : Found = record { first = c.found.inside.first; ties = c.found.inside.ties.entries } in
     let is : f ≡ noted nothing (names (placed c.args.p)) = c.found.view_is ∙ c.in-Ok.ensures in
-    (resolved (placed c.args.p) f is c.in-None.is).named
+    (resolved (placed c.args.p) f c.requires.read is c.in-None.is).named

@@ -1,0 +1,19 @@
+-- What holds of the programs and the faults of every text.
+use Rattle.std.specs.Prelude.{◌≡◌, ◌⊎◌, ℕ, List}
+use Rattle.rte_tree.specs.declared.place.Place.{Place}
+use Rattle.rte_tree.specs.Placed.{Prog}
+use Rattle.rte_read.specs.Laws.{IsOfGrammar}
+use Rattle.rte_program.specs.Program.{IsProgramOf, IsProgramFault}
+
+-- a text is that of at most one program
+abbrev pub HasOneProgram : Type 0
+HasOneProgram = (text : List ℕ) (g h : Prog Place) → IsProgramOf text g → IsProgramOf text h → g ≡ h
+
+-- a program text has no fault
+abbrev pub HasProgramOrFault : Type 0
+HasProgramOrFault = (text : List ℕ) (g : Prog Place) (number : ℕ) (place : Place) → IsProgramOf text g → IsProgramFault text number place → ⊥
+
+-- two faults of a text are the same, or both are of its grammar
+abbrev pub HasOneFault : Type 0
+HasOneFault = (text : List ℕ) (number other : ℕ) (place there : Place) → IsProgramFault text number place → IsProgramFault text other there
+    → ((number ≡ other) × (place ≡ there)) ⊎ (IsOfGrammar number × IsOfGrammar other)
