@@ -9,3 +9,4 @@ mod walk;
 
 pub use cycles::Cycles;
 pub use graph::Graph;
+pub use reach::is_marked;
