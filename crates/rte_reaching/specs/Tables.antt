@@ -1,5 +1,5 @@
 -- What the code's tables say: numbers for the routines, and the graph of their calls.
-use Rattle.std.specs.Prelude.{◌≡◌, ℕ, Bool, true, false, ◌||◌, List, [], ◌∷◌, ◌++◌, map, Option, Some, None, if◌then◌else◌, option_to_list, position, Contains}
+use Rattle.std.specs.Prelude.{◌≡◌, ℕ, Bool, false, ◌||◌, List, [], ◌∷◌, ◌++◌, map, Option, Some, None, if◌then◌else◌, option_to_list, position, Contains}
 use Rattle.std.specs.List.{list_any}
 use Rattle.std.specs.Borrow.{Bor}
 use Rattle.indexmap.specs.IndexSet.{insert_all}
@@ -46,10 +46,14 @@ abbrev pub edges_from : List Key → Option ℕ → List Place → List (ℕ × 
 edges_from keys None ps more = more
 edges_from keys (Some from) ps more = edges_to keys from ps more
 
+-- the edges of the calls of a routine, and then `more`
+abbrev pub routine_edges : Declared → List Key → Routine Place → List (ℕ × ℕ) → List (ℕ × ℕ)
+routine_edges declared keys r more = edges_from keys (number keys r.place) (routine_calls declared r) more
+
 -- the edges of all calls of the routines, and then `more`
 abbrev pub edges_of : Declared → List Key → List (Routine Place) → List (ℕ × ℕ) → List (ℕ × ℕ)
 edges_of declared keys [] more = more
-edges_of declared keys (r ∷ rs) more = edges_from keys (number keys r.place) (routine_calls declared r) (edges_of declared keys rs more)
+edges_of declared keys (r ∷ rs) more = routine_edges declared keys r (edges_of declared keys rs more)
 
 -- the number of a routine, if it waits, and then `more`
 abbrev pub waiter : List Key → Routine Place → List ℕ → List ℕ

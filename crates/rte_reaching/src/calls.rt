@@ -24,16 +24,13 @@ fn call(
     Ok(())
 }
 
-fn expr(
-    calls: &mut Vec<Place>,
-    declarations: &Declarations<'_>,
-    e: &Expr,
-) -> Result<(), AllocError>
+fn expr(calls: &mut Vec<Place>, declarations: &Declarations<'_>, e: &Expr) -> Result<(), AllocError>
     ensures { OnOk result ((more : List SpecPlace) → calls.new.items ++ more ≡ calls.old.items ++ expr_calls (declared_in (placed declarations.now)) (placed_expr e.now) more) }
 {
     match e {
-        Expr::Literal { .. } | Expr::True { .. } | Expr::False { .. } | Expr::Variable { .. } =>
-            Ok(()),
+        Expr::Literal { .. } | Expr::True { .. } | Expr::False { .. } | Expr::Variable { .. } => Ok(
+            (),
+        ),
         Expr::Element { index, .. } => {
             expr(calls, declarations, index)?;
             Ok(())
@@ -160,7 +157,9 @@ fn stmt(calls: &mut Vec<Place>, declarations: &Declarations<'_>, s: &Stmt) -> Re
             Ok(())
         }
         Stmt::CallEntry {
-            entry_place, args, ..
+            entry_place,
+            args,
+            ..
         } => {
             call(calls, declarations, *entry_place)?;
             exprs(calls, declarations, args.as_slice())?;
@@ -174,10 +173,8 @@ fn stmt(calls: &mut Vec<Place>, declarations: &Declarations<'_>, s: &Stmt) -> Re
             expr(calls, declarations, test)?;
             Ok(())
         }
-        Stmt::Wait { .. }
-        | Stmt::Signal { .. }
-        | Stmt::Broadcast { .. }
-        | Stmt::Except { .. } => Ok(()),
+        Stmt::Wait { .. } | Stmt::Signal { .. } | Stmt::Broadcast { .. } | Stmt::Except { .. } =>
+            Ok(()),
     }
 }
 

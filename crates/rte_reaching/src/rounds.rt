@@ -1,9 +1,9 @@
 //! Routines that reach themselves.
 
-ghost use Rattle.std.specs.Prelude.{◌≡◌, ◌↔◌, IfOk, IsTrue, List, [], ◌∷◌, ◌++◌, length};
+ghost use Rattle.std.specs.Prelude.{◌≡◌, ◌↔◌, Some, IfOk, IsTrue, List, [], ◌∷◌, ◌++◌, length};
 ghost use Rattle.rte_tree.specs.Placed.{Routine as SpecRoutine, placed_routine};
 ghost use Rattle.rte_tree.specs.declared.place.Place.{Place as SpecPlace};
-ghost use Rattle.rte_first.specs.First.{IsFirstOf};
+ghost use Rattle.rte_first.specs.First.{IsFirstOf, sooner as sooner_of};
 ghost use Rattle.rte_reaching.specs.Tables.{seen_routines, ComesBack, OneComesBack};
 
 use crate::numbers::{Numbers, number};
@@ -28,6 +28,13 @@ fn comes_back(
     }
 }
 
+/// Whether a failure comes first, beside one that is known.
+fn comes_first(broken: Broken, first: Option<Broken>) -> bool
+    ensures { IsTrue result ↔ (sooner_of (Some broken) first ≡ Some broken) }
+{
+    sooner(Some(broken), first) == Some(broken)
+}
+
 /// The first of the routines so far that reaches itself, once it is known of one more. A routine
 /// whose place comes later than that of the first is not asked.
 fn next_round(
@@ -40,15 +47,15 @@ fn next_round(
     requires { length cycles.now ≡ length numbers.now.keys }
     ensures { IfOk result (λ next. (rs : List (SpecRoutine SpecPlace)) → IsFirstOf (OneComesBack numbers.now.keys cycles.now rs) first → IsFirstOf (OneComesBack numbers.now.keys cycles.now (rs ++ placed_routine routine.now ∷ [])) next) }
 {
-    let broken = Some(Broken {
+    let broken = Broken {
         number: 31,
         place: routine.place,
-    });
-    if sooner(broken, first) != broken {
+    };
+    if !comes_first(broken, first) {
         return Ok(first);
     }
     if comes_back(alloc, numbers, cycles, routine)? {
-        Ok(broken)
+        Ok(Some(broken))
     } else {
         Ok(first)
     }
