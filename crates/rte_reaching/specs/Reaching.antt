@@ -1,5 +1,5 @@
 -- What is reached by calls: no routine reaches itself, and no handler reaches a wait.
-use Rattle.std.specs.Prelude.{◌≡◌, ℕ, true, ◌⊎◌, List, [], ◌∷◌, ◌++◌, Option, Some, None, Contains}
+use Rattle.std.specs.Prelude.{◌≡◌, ℕ, true, ◌⊎◌, List, [], ◌∷◌, ◌++◌, Some, Contains}
 use Rattle.rte_tree.specs.Placed.{Routine, Handler, Process, Decl, constant, device, event, routine, monitor, process, Prog}
 use Rattle.rte_tree.specs.declared.place.Place.{Place}
 use Rattle.rte_names.specs.Occurrences.{names, declared_at}

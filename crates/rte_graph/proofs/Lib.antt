@@ -1,0 +1,4 @@
+pub mod Edges
+pub mod Marking
+pub mod Spreading
+pub mod Rounds

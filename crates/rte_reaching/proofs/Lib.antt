@@ -1,0 +1,5 @@
+pub mod Returning
+pub mod Numbering
+pub mod CallEdges
+pub mod Linking
+pub mod Failing
