@@ -1,2 +1,3 @@
 pub mod Conduct
+pub mod Here
 pub mod Numbers

@@ -1,10 +1,10 @@
 -- The rules for the numbers in statements: turns of loops, exceptions, and limits of waits.
 use Rattle.std.specs.Prelude.{Option, Some, None, pos, ◌+ℤ◌, int_le, int_lt, if◌then◌else◌}
 use Rattle.rte_num.specs.Words.{same}
-use Rattle.rte_tree.specs.Placed.{Stmt, assign, assign_entry, assign_empty, perform, perform_entry, when, when_else, loop, exit_when, get, put, wait, signal, broadcast, except, assert}
+use Rattle.rte_tree.specs.Placed.{loop, wait, except}
 use Rattle.rte_tree.specs.declared.place.Place.{Place}
 use Rattle.rte_declared.specs.Values.{Worth, constant_place, out_of}
-use Rattle.rte_declared.specs.Parts.{Part, statement, answer}
+use Rattle.rte_declared.specs.Parts.{Part, statement}
 
 -- a loop's lower bound is above its upper bound
 abbrev pub crossed_loop : Worth → Part → Option Place

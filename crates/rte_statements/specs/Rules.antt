@@ -10,7 +10,7 @@ use Rattle.rte_typing.specs.Types.{mistyped}
 use Rattle.rte_conduct.specs.Conduct.{misplaced, misdirected}
 use Rattle.rte_conduct.specs.Numbers.{crossed_loop, endless_loop, long_loop, bad_number, bad_limit}
 
-abbrev pub statement_rules : Prog Place → List (Rule Part)
+unfoldable pub statement_rules : Prog Place → List (Rule Part)
 statement_rules g =
     record { number = 30; fails = mistyped (named_at g) }
     ∷ record { number = 32; fails = crossed_loop (value g) }

@@ -1,6 +1,6 @@
 -- The rule for types and numbers of arguments, on a statement by itself and on the result of a function.
 use Rattle.std.specs.Prelude.{Bool, true, not, ◌&&◌, Option, Some, None, if◌then◌else◌}
-use Rattle.rte_tree.specs.Placed.{Scalar, Expr, Ref, whole, part, Stmt, assign, assign_entry, assign_empty, perform, perform_entry, when, when_else, loop, exit_when, get, put, wait, signal, broadcast, except, assert}
+use Rattle.rte_tree.specs.Placed.{Expr, Ref, whole, part, Stmt, assign, assign_entry, assign_empty, perform, perform_entry, when, when_else, loop, exit_when, get, put, wait, signal, broadcast, except, assert}
 use Rattle.rte_tree.specs.declared.place.Place.{Place}
 use Rattle.rte_declared.specs.declared.sort.Sort.{Sort}
 use Rattle.rte_declared.specs.declared.sort.Sort.TheVariants as sort_is
