@@ -20,13 +20,8 @@ fn of_kind(declarations: &Declarations<'_>, kind: &Type) -> u64
     match kind {
         Type::Scalar(_) => 1,
         Type::Array { low, high, .. } => {
-            let low = declarations.value(low);
-            let high = declarations.value(high);
-            if low <= high {
-                (high - low + 1) as u64
-            } else {
-                0
-            }
+            let length = declarations.value(high) - declarations.value(low) + 1;
+            if length > 0 { length.unsigned_abs() } else { 0 }
         }
     }
 }

@@ -11,8 +11,8 @@ use Rattle.rte_names.specs.Resolved.{IsNamed}
 use Rattle.rte_names.specs.declared.named.NameFault.{NameFault}
 use Rattle.rte_names.specs.declared.named.NameFault.TheVariants as name_fault
 use Rattle.rte_static.specs.Static.{Fails, IsChecked}
-use Rattle.rte_static.specs.declared.check.RuleFault.{RuleFault}
-use Rattle.rte_static.specs.declared.check.RuleFault.TheVariants as rule_fault
+use Rattle.rte_static.specs.declared.rules.RuleFault.{RuleFault}
+use Rattle.rte_static.specs.declared.rules.RuleFault.TheVariants as rule_fault
 
 -- the tree is that of the text, and keeps to the rules for names and to all static rules
 pub record IsProgramOf (text : List ℕ) (g : Prog Place) : Type 0 where

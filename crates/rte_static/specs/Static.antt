@@ -7,8 +7,8 @@ use Rattle.rte_names.specs.Resolved.{IsRead, IsNamed}
 use Rattle.rte_statements.specs.Rules.{StatementFails}
 use Rattle.rte_limits.specs.Rules.{LimitFails}
 use Rattle.rte_reaching.specs.Reaching.{ReachFails}
-use Rattle.rte_static.specs.declared.check.RuleFault.{RuleFault}
-use Rattle.rte_static.specs.declared.check.RuleFault.TheVariants as fault_is
+use Rattle.rte_static.specs.declared.rules.RuleFault.{RuleFault}
+use Rattle.rte_static.specs.declared.rules.RuleFault.TheVariants as fault_is
 
 -- a static rule, by its number from 30 to 45, fails at a place of the program
 abbrev pub Fails : Prog Place → ℕ → Place → Type 0

@@ -6,6 +6,9 @@
 //! place, else the rule that fails first.
 #![tactic(auto)]
 
-mod check;
+mod rules;
 
-pub use check::{Checked, RuleFault, check};
+pub use rules::{Checked, RuleFault, check};
+
+#[cfg(test)]
+mod tests;

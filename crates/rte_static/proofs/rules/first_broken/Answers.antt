@@ -1,0 +1,24 @@
+use Rattle.std.proofs.Common.{◌≡◌, ℕ, Option, sym, subst}
+use Rattle.rte_tree.specs.Placed.{Prog as Placed, placed}
+use Rattle.rte_tree.specs.declared.decl.Prog.{Prog}
+use Rattle.rte_tree.specs.declared.place.Place.{Place}
+use Rattle.rte_first.specs.declared.broken.Broken.{Broken}
+use Rattle.rte_first.specs.First.{IsFirstOf, Either, sooner}
+use Rattle.rte_first.proofs.Soonest.{both}
+use Rattle.rte_statements.specs.Rules.{StatementFails}
+use Rattle.rte_limits.specs.Rules.{LimitFails}
+use Rattle.rte_reaching.specs.Reaching.{ReachFails}
+use Rattle.rte_static.specs.Static.{Fails}
+use Rattle.rte_static.proofs.rules.first_broken.Goals as goal
+
+-- the first of the failures of two groups of rules
+joined : (f g : ℕ → Place → Type 0) (x y first : Option Broken) → first ≡ sooner x y → IsFirstOf f x → IsFirstOf g y → IsFirstOf (Either f g) first
+joined f g x y first is h k = subst (IsFirstOf (Either f g)) (sym is) (both f g x y h k)
+
+pub returns : goal.returns
+returns c =
+    let P : Prog → Type 0 = λ t. IsFirstOf (Fails (placed t)) c.sooner-2.result in
+    let g : Placed Place = placed c.in_ok-declarations.declarations in
+    subst P c.in_ok-declarations.ensures
+    (joined (StatementFails g) (Either (LimitFails g) (ReachFails g)) c.first_broken-statements.result c.sooner.result c.sooner-2.result c.sooner-2.ensures c.first_broken-statements.ensures
+    (joined (LimitFails g) (ReachFails g) c.in_ok-limits.limits c.in_ok-reach.reach c.sooner.result c.sooner.ensures c.in_ok-limits.ensures c.in_ok-reach.ensures))
