@@ -6,14 +6,14 @@
 #![tactic(auto)]
 
 mod answer;
-mod recurrence;
 mod fault;
 mod law;
 mod program;
+mod recurrence;
 mod refusal;
 
 pub use answer::{put, refuse_text};
-pub use recurrence::bound;
 pub use law::one_program;
 pub use program::{Accepted, accept_file, read_program};
+pub use recurrence::bound;
 pub use refusal::Refusal;
