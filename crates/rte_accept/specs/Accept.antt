@@ -13,11 +13,6 @@ use Rattle.rte_program.specs.Program.{IsProgramOf, IsProgramFault}
 use Rattle.rte_accept.specs.declared.refusal.Refusal.{Refusal}
 use Rattle.rte_accept.specs.declared.refusal.Refusal.TheVariants.{Fault, Failed, Memory}
 
--- the text is that of the program with this tree, which is that program of the form
-pub record IsAccepted (text : List ℕ) (tree : Prog Place) (f : PutProg) : Type 0 where
-  pub grown : IsProgramOf text tree
-  pub formed : IsForm tree f
-
 -- the text is that of a program, which is that program of the form
 pub record IsProgramText (text : List ℕ) (f : PutProg) : Type 0 where
   pub tree : Prog Place
@@ -39,9 +34,9 @@ pub data IsTextFault (text : List ℕ) (number : ℕ) (place : Place) : Type 0 w
 abbrev pub fault_line : ℕ → Place → List ℕ
 fault_line number place = codes "E" ++ (decimal number ++ (codes " " ++ (decimal place.line ++ (codes ":" ++ (decimal place.col ++ codes "\n")))))
 
--- want of memory says nothing of a text
+-- why no program was read from the text; want of memory says nothing of it
 abbrev pub IsRefusalOf : List ℕ → Refusal → Type 0
-IsRefusalOf text (Fault number place) = IsTextFault text number place
+IsRefusalOf text (Fault number place) = IsProgramFault text number place
 IsRefusalOf text Failed = ⊥
 IsRefusalOf text Memory = Unit {0}
 

@@ -1,8 +1,9 @@
 //! Accepting programs: the stage that all commands share which read a program.
 //!
 //! `specs/Accept.antt` says which program of the form that is built a text writes, and what the
-//! fault of another text is. `accept_file` gives exactly that program, with its tree, or that
-//! fault; `bound` its least bound, or none.
+//! fault of another text is. `read_checked` gives the program of what a file holds, whatever its
+//! form, and `read_program` that of the form; each gives the text's fault where there is none.
+//! `bound` gives the least bound of a program of the form, or none.
 #![tactic(auto)]
 
 mod answer;
@@ -14,6 +15,6 @@ mod refusal;
 
 pub use answer::{put, refuse_text};
 pub use law::one_program;
-pub use program::{Accepted, accept_file, read_program};
+pub use program::{read_checked, read_program};
 pub use recurrence::bound;
 pub use refusal::Refusal;

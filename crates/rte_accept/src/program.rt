@@ -1,12 +1,16 @@
 //! Reading the program of a text.
 
-ghost use Rattle.std.specs.Prelude.{◌≡◌, IsSomeAnd, IfOk, IfErr};
+ghost use Rattle.std.specs.Prelude.{◌≡◌, ◌⊎◌, IsSomeAnd, IfOk, IfErr};
 ghost use Rattle.std.specs.Bool.{OnTrue};
 ghost use Rattle.rte_tree.specs.Placed.{placed};
 ghost use Rattle.rte_io.specs.Outside.{Rose, AllStay, NoneFell};
+ghost use Rattle.rte_read.specs.Source.{start};
 ghost use Rattle.rte_form.specs.Form.{program_of};
+ghost use Rattle.rte_form.specs.Reading.{IsForm};
 ghost use Rattle.rte_form.specs.WellFormed.{IsPutProg};
-ghost use Rattle.rte_accept.specs.Accept.{IsAccepted, IsProgramText, IsTextFault, IsRefusalOf, OnFault};
+ghost use Rattle.rte_program.specs.Program.{IsProgramOf, IsProgramFault};
+ghost use Rattle.rte_source.specs.Puts.{PutProg};
+ghost use Rattle.rte_accept.specs.Accept.{IsProgramText, IsTextFault, IsRefusalOf, OnFault};
 
 use crate::refusal::{Refusal, START};
 use rte_form::{Form, read_form};
@@ -21,21 +25,41 @@ const LONGEST_PROGRAM: usize = 1_048_576;
 /// The number of the fault of a text whose program is not of the form.
 const FORMLESS: u8 = 9;
 
-/// A program that keeps to all rules, and what it is in the form that is built.
-#[derive(Drop)]
-pub struct Accepted {
-    pub program: Checked,
-    pub form: Form,
-}
-
-/// The program of the form that a text writes.
-fn accept(alloc: Global, text: &[u8]) -> Result<Accepted, Refusal>
-    ensures program { IfOk result (λ a. IsAccepted text.now (placed a.program) (program_of a.form)) }
+/// The program of a text.
+fn program_in(alloc: Global, text: &[u8]) -> Result<Checked, Refusal>
+    ensures program { IfOk result (λ c. IsProgramOf text.now (placed c)) }
     ensures refusal { IfErr result (λ refusal. IsRefusalOf text.now refusal) }
 {
     let program = read(alloc, text)?;
+    Ok(program)
+}
+
+/// The program of the text that a file holds, whatever its form.
+///
+/// # Errors
+///
+/// `Fault` exactly where the text is no program text, with its fault: 4 at its first byte where it
+/// has more than 1,048,576 bytes. `Failed` only where the file's count of faults rose. `Memory`
+/// where there is not enough memory.
+pub fn read_checked<F: Files>(alloc: Global, files: &mut F, name: &str) -> Result<Checked, Refusal>
+    ensures program { IfOk result (λ c. OnTrue F.tells (IsSomeAnd (F.held files.old name.now) (λ text. IsProgramOf text (placed c)))) }
+    ensures fault { IfErr result (λ refusal. OnFault refusal (λ number place. OnTrue F.tells (IsSomeAnd (F.held files.old name.now) (λ text. IsProgramFault text number place)))) }
+    ensures failed { result ≡ Err Refusal.Failed → Rose (F.read_faults files.old name.now) (F.read_faults files.new name.now) }
+    ensures files { AllStay (F.held files.old) (F.held files.new) }
+    ensures read_counts { NoneFell (F.read_faults files.old) (F.read_faults files.new) }
+    ensures write_counts { NoneFell (F.write_faults files.old) (F.write_faults files.new) }
+{
+    let text = files.read(name, LONGEST_PROGRAM)?;
+    program_in(alloc, text.as_slice())
+}
+
+/// What a program is in the form that is built.
+fn form_of(alloc: Global, program: &Checked) -> Result<Form, Refusal>
+    ensures form { IfOk result (λ form. IsForm (placed program.now) (program_of form)) }
+    ensures none { IfErr result (λ refusal. ((refusal ≡ Refusal.Fault 9 start) × ((f : PutProg) → ¬ IsForm (placed program.now) f)) ⊎ (refusal ≡ Refusal.Memory)) }
+{
     match read_form(alloc, program.prog()) {
-        Ok(Some(form)) => Ok(Accepted { program, form }),
+        Ok(Some(form)) => Ok(form),
         Ok(None) => Err(Refusal::Fault {
             number: FORMLESS,
             place: START,
@@ -44,27 +68,12 @@ fn accept(alloc: Global, text: &[u8]) -> Result<Accepted, Refusal>
     }
 }
 
-/// The program that the text in the file writes.
+/// The program of the form that the text in a file writes.
 ///
 /// # Errors
 ///
-/// `Fault` exactly where the text is too long (4, at its first byte), has another fault, or writes
-/// a program that is not of the form that is built (9, at its first byte). `Failed` only where the
-/// file's count of faults rose. `Memory` where there is not enough memory.
-pub fn accept_file<F: Files>(alloc: Global, files: &mut F, name: &str) -> Result<Accepted, Refusal>
-    ensures program { IfOk result (λ a. OnTrue F.tells (IsSomeAnd (F.held files.old name.now) (λ text. IsAccepted text (placed a.program) (program_of a.form)))) }
-    ensures keeps { IfOk result (λ a. IsPutProg (program_of a.form)) }
-    ensures fault { IfErr result (λ refusal. OnFault refusal (λ number place. OnTrue F.tells (IsSomeAnd (F.held files.old name.now) (λ text. IsTextFault text number place)))) }
-    ensures failed { result ≡ Err Refusal.Failed → Rose (F.read_faults files.old name.now) (F.read_faults files.new name.now) }
-    ensures files { AllStay (F.held files.old) (F.held files.new) }
-    ensures read_counts { NoneFell (F.read_faults files.old) (F.read_faults files.new) }
-    ensures write_counts { NoneFell (F.write_faults files.old) (F.write_faults files.new) }
-{
-    let text = files.read(name, LONGEST_PROGRAM)?;
-    accept(alloc, text.as_slice())
-}
-
-/// The same, without the tree.
+/// As `read_checked`, and `Fault` 9 at the first byte exactly where the text is a program text, and
+/// its program not of the form that is built.
 pub fn read_program<F: Files>(alloc: Global, files: &mut F, name: &str) -> Result<Form, Refusal>
     ensures program { IfOk result (λ form. OnTrue F.tells (IsSomeAnd (F.held files.old name.now) (λ text. IsProgramText text (program_of form)))) }
     ensures keeps { IfOk result (λ form. IsPutProg (program_of form)) }
@@ -74,6 +83,8 @@ pub fn read_program<F: Files>(alloc: Global, files: &mut F, name: &str) -> Resul
     ensures read_counts { NoneFell (F.read_faults files.old) (F.read_faults files.new) }
     ensures write_counts { NoneFell (F.write_faults files.old) (F.write_faults files.new) }
 {
-    let accepted = accept_file(alloc, files, name)?;
-    Ok(accepted.form)
+    match read_checked(alloc, files, name) {
+        Ok(program) => form_of(alloc, &program),
+        Err(refusal) => Err(refusal),
+    }
 }

@@ -11,7 +11,8 @@ use Rattle.rte_lex.specs.declared.token.Token.{Token}
 use Rattle.rte_lex.specs.Tokens.{tokens, longest_text}
 use Rattle.rte_print.specs.Canonical.{canonical}
 use Rattle.rte_print.specs.ReadBack.{HasTree}
-use Rattle.rte_accept.specs.Accept.{IsAccepted, IsProgramText, IsTextFault, fault_line}
+use Rattle.rte_program.specs.Program.{IsProgramOf, IsProgramFault}
+use Rattle.rte_accept.specs.Accept.{IsProgramText, IsTextFault, fault_line}
 
 -- the status, and the bytes that are put
 pub record Told : Type 0 where
@@ -31,10 +32,10 @@ pub data IsCheckDue (text : List ℕ) (told : Told) : Type 0 where
 abbrev pub ReadsBack : Prog Place → Type 0
 ReadsBack tree = length (canonical (bare tree)) ≤ longest_text → (toks : List Token) × tokens (canonical (bare tree)) toks × HasTree (canonical (bare tree)) toks tree
 
--- what `print` tells of a text: its fault, or the canonical text of its tree, which reads back
+-- what `print` tells of a text, whatever its form: its fault, or the canonical text of its tree, which reads back
 pub data IsPrintDue (text : List ℕ) (told : Told) : Type 0 where
-  print_fault : (number : ℕ) (place : Place) → IsTextFault text number place → told ≡ refused number place → IsPrintDue text told
-  printed : (tree : Prog Place) (f : PutProg) → IsAccepted text tree f → ReadsBack tree → told ≡ record { status = 0; text = canonical (bare tree) } → IsPrintDue text told
+  print_fault : (number : ℕ) (place : Place) → IsProgramFault text number place → told ≡ refused number place → IsPrintDue text told
+  printed : (tree : Prog Place) → IsProgramOf text tree → ReadsBack tree → told ≡ record { status = 0; text = canonical (bare tree) } → IsPrintDue text told
 
 -- what is due was told whole
 pub record IsToldWhole (Due : List ℕ → Told → Type 0) (status : ℕ) (taken taken' : Option (List ℕ)) (text : List ℕ) : Type 0 where

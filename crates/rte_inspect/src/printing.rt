@@ -7,7 +7,7 @@ ghost use Rattle.rte_io.specs.Outside.{Rose, AllStay, Appends, AppendsFront};
 ghost use Rattle.rte_print.specs.Canonical.{canonical};
 ghost use Rattle.rte_inspect.specs.Inspect.{IsPrintDue, IsToldWhole, IsToldInPart, Inspects};
 
-use rte_accept::{Refusal, accept_file, put, refuse_text};
+use rte_accept::{Refusal, put, read_checked, refuse_text};
 use rte_io::{Files, Sink};
 use rte_print::{reads_back, tokens_are_spelled};
 use rte_tree::Prog;
@@ -40,15 +40,15 @@ fn inspect<F: Files, O: Sink>(alloc: Global, name: &str, files: &mut F, out: &mu
 {
     reads_back();
     tokens_are_spelled();
-    match accept_file(alloc, files, name) {
-        Ok(accepted) => tell(alloc, accepted.program.prog(), out),
+    match read_checked(alloc, files, name) {
+        Ok(program) => tell(alloc, program.prog(), out),
         Err(Refusal::Fault { number, place }) => refuse_text(alloc, number, place, out),
         Err(Refusal::Failed) => 6,
         Err(Refusal::Memory) => 8,
     }
 }
 
-/// `print P`: puts the canonical text of the program text in file P.
+/// `print P`: puts the canonical text of the program text in file P, whatever its form.
 ///
 /// The answer is the status. 0: done. 2: P holds no program text; its fault line is put. 6: the
 /// read failed. 7: the put failed. 8: out of memory.
