@@ -1,12 +1,12 @@
 //! Frames and first activations of processes.
 
-ghost use Rattle.std.specs.Prelude.{◌≡◌, List, ◌∷◌, map};
+ghost use Rattle.std.specs.Prelude.{◌≡◌, List, ◌∷◌};
 ghost use Rattle.rte_tree.specs.Placed.{Decl as SpecDecl, placed, placed_constant, placed_activation, placed_process, placed_decl};
 ghost use Rattle.rte_tree.specs.declared.place.Place.{Place as SpecPlace};
 ghost use Rattle.rte_first.specs.First.{IsFirstOf};
 ghost use Rattle.rte_first.specs.Parts.{FailsAmong, note, noted};
 ghost use Rattle.rte_declared.specs.Values.{value, out_of};
-ghost use Rattle.rte_limits.specs.Processes.{processes, frame_of, bad_frame as bad_frame_of, bad_start as bad_start_of};
+ghost use Rattle.rte_limits.specs.Processes.{processes, frame_of, bad_start as bad_start_of};
 ghost use Rattle.rte_limits.specs.Rules.{process_rules};
 
 use rte_declared::Declarations;

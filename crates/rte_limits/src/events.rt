@@ -4,7 +4,7 @@ ghost use Rattle.std.specs.Prelude.{◌≡◌, ◌+◌, IfOk, OnOk, List, ◌∷
 ghost use Rattle.rte_tree.specs.Placed.{Decl as SpecDecl, Process as SpecProcess, Prog as SpecProg, placed, placed_process, placed_decl};
 ghost use Rattle.rte_tree.specs.declared.place.Place.{Place as SpecPlace};
 ghost use Rattle.rte_first.specs.First.{IsFirstOf};
-ghost use Rattle.rte_first.specs.Parts.{FailsAmong, note, noted};
+ghost use Rattle.rte_first.specs.Parts.{FailsAmong, noted};
 ghost use Rattle.rte_names.specs.Reach.{same_place};
 ghost use Rattle.rte_names.specs.Occurrences.{names, declared_at};
 ghost use Rattle.rte_limits.specs.Processes.{processes, events, users};

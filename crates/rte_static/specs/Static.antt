@@ -1,5 +1,5 @@
 -- The static rules, and programs that keep to them.
-use Rattle.std.specs.Prelude.{◌≡◌, ℕ}
+use Rattle.std.specs.Prelude.{ℕ}
 use Rattle.rte_tree.specs.Placed.{Prog}
 use Rattle.rte_tree.specs.declared.place.Place.{Place}
 use Rattle.rte_first.specs.First.{Either, IsFirst}

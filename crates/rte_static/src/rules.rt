@@ -1,6 +1,6 @@
 //! Programs that keep to all rules.
 
-ghost use Rattle.std.specs.Prelude.{◌≡◌, IfOk, IfErr, IfSome, IfNone};
+ghost use Rattle.std.specs.Prelude.{◌≡◌, IfOk, IfErr};
 ghost use Rattle.rte_tree.specs.Placed.{placed};
 ghost use Rattle.rte_first.specs.First.{IsFirstOf};
 ghost use Rattle.rte_names.specs.Occurrences.{names, declared_at};
