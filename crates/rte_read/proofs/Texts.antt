@@ -32,13 +32,13 @@ only_syntactic (Err e) P fault made memory = made ∙ ap syntactic memory
 -- what the parser says of nesting
 pub is_nested : {X : Type 0} (text : List ℕ) (toks : List Token) (fault : SynFault) → ((p : Place) → ◌≡◌ {A = Result X SynFault} (Err fault) (Err (syn.Nesting p)) → OpensAt text toks p)
     → ((p : Place) → OpensAt text toks p → ◌≡◌ {A = Result X SynFault} (Err fault) (Err (syn.Nesting p)) ⊎ ◌≡◌ {A = Result X SynFault} (Err fault) (Err syn.Memory)) → IsNested text toks fault
-is_nested {X} text toks (syn.Syntax place) nesting too_deep = λ p opens. by p (too_deep p opens)
+is_nested {X} text toks (syn.Syntax place) nesting deep = λ p opens. by p (deep p opens)
   where
     by : (p : Place) → ◌≡◌ {A = Result X SynFault} (Err (syn.Syntax place)) (Err (syn.Nesting p)) ⊎ ◌≡◌ {A = Result X SynFault} (Err (syn.Syntax place)) (Err syn.Memory) → ⊥
     by p (inl e) = cc
     by p (inr e) = cc
-is_nested text toks (syn.Nesting place) nesting too_deep = nesting place refl
-is_nested text toks syn.Memory nesting too_deep = tt
+is_nested text toks (syn.Nesting place) nesting deep = nesting place refl
+is_nested text toks syn.Memory nesting deep = tt
 
 -- the parser's fault is the text's
 parser_fault : (text : List ℕ) (toks : Tokens) (fault : SynFault) → tokens text toks.list → IsEnd text toks.end → ((g : Prog Place) → tree text toks.list g → fault ≡ syn.Memory) → StandsIn toks fault
