@@ -10,3 +10,6 @@ mod walk;
 pub use cycles::Cycles;
 pub use graph::Graph;
 pub use reach::is_marked;
+
+#[cfg(test)]
+mod tests;

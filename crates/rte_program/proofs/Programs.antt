@@ -5,11 +5,16 @@ use Rattle.rte_tree.specs.declared.place.Place.{Place}
 use Rattle.rte_tree.specs.Placed.{Prog}
 use Rattle.rte_first.specs.First as rule
 use Rattle.rte_names.specs.Rules as names
-use Rattle.rte_names.specs.Resolved.{IsNamed}
+use Rattle.rte_names.specs.Resolved.{IsNamed, IsFault as IsNameFault}
+use Rattle.rte_names.specs.declared.named.NameFault.{NameFault}
+use Rattle.rte_names.specs.declared.named.NameFault.TheVariants as name_fault
 use Rattle.rte_read.specs.Source.{IsTreeOf, IsSourceFault}
 use Rattle.rte_read.specs.Laws.{HasOneTree, HasTreeOrFault, IsOfGrammar, HasOneGroup}
-use Rattle.rte_static.specs.Static.{Fails, IsChecked}
-use Rattle.rte_program.specs.Program.{IsProgramOf, IsMisnamed, IsMisruled, IsProgramFault, of_text, of_names, of_rules}
+use Rattle.rte_static.specs.Static.{Fails, IsChecked, IsFault as IsRuleFault}
+use Rattle.rte_static.specs.declared.rules.RuleFault.{RuleFault}
+use Rattle.rte_static.specs.declared.rules.RuleFault.TheVariants as rule_fault
+use Rattle.rte_read.specs.declared.fault.SourceFault.TheVariants.{Memory}
+use Rattle.rte_program.specs.Program.{IsProgramOf, IsMisnamed, IsMisruled, IsProgramFault, of_text, of_names, of_rules, IsFaultOf, nominal, regular}
 use Rattle.rte_program.specs.Laws.{HasOneProgram, HasProgramOrFault, HasOneFault}
 
 pub one_program : HasOneTree → HasOneProgram
@@ -65,3 +70,21 @@ one_fault one apart group text number other place there first second = by first 
     by (of_rules m) (of_names n) = absurd (misnamed one text m.program other there m.tree m.named n)
     by (of_rules m) (of_rules n) =
         given (one_rule m.program number other place there m.first (subst (λ h. rule.IsFirst (Fails h) (record { number = other; place = there })) (one text n.program m.program n.tree m.tree) n.first))
+
+-- ---- what `read` answers
+
+pub name_only : HasOneTree → (text : List ℕ) (t g : Prog Place) (fault : NameFault) → IsTreeOf text t → IsNameFault t fault → IsProgramOf text g → nominal fault ≡ Memory
+name_only one text t g (name_fault.Rule number place) tree first is = absurd (subst IsNamed (one text g t is.tree tree) is.checked.named number place first.fails)
+name_only one text t g name_fault.Memory tree first is = refl
+
+pub name_fault_is : (text : List ℕ) (t : Prog Place) (fault : NameFault) → IsTreeOf text t → IsNameFault t fault → IsFaultOf text (nominal fault)
+name_fault_is text t (name_fault.Rule number place) tree first = of_names (record { program = t; tree = tree; first = first })
+name_fault_is text t name_fault.Memory tree first = tt
+
+pub rule_only : HasOneTree → (text : List ℕ) (t g : Prog Place) (fault : RuleFault) → IsTreeOf text t → IsRuleFault t fault → IsProgramOf text g → regular fault ≡ Memory
+rule_only one text t g (rule_fault.Rule number place) tree first is = absurd (subst (λ h. (n : ℕ) (p : Place) → ¬ Fails h n p) (one text g t is.tree tree) is.checked.checked number place first.broken)
+rule_only one text t g rule_fault.Memory tree first is = refl
+
+pub rule_fault_is : (text : List ℕ) (t : Prog Place) (fault : RuleFault) → IsTreeOf text t → IsNamed t → IsRuleFault t fault → IsFaultOf text (regular fault)
+rule_fault_is text t (rule_fault.Rule number place) tree named first = of_rules (record { program = t; tree = tree; named = named; first = first })
+rule_fault_is text t rule_fault.Memory tree named first = tt

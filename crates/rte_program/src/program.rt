@@ -51,6 +51,12 @@ pub fn read(alloc: Global, text: &[u8]) -> Result<Checked, SourceFault>
     one_tree();
     program_or_fault();
     let tree = rte_read::read(alloc, text)?;
-    let named = name(alloc, tree).map_err(of_names)?;
-    check(alloc, named).map_err(of_rules)
+    let named = match name(alloc, tree) {
+        Ok(named) => named,
+        Err(fault) => return Err(of_names(fault)),
+    };
+    match check(alloc, named) {
+        Ok(checked) => Ok(checked),
+        Err(fault) => Err(of_rules(fault)),
+    }
 }

@@ -157,11 +157,11 @@ fn stmt(calls: &mut Vec<Place>, declarations: &Declarations<'_>, s: &Stmt) -> Re
             Ok(())
         }
         Stmt::CallEntry {
-            entry_place,
+            entry_place: entry,
             args,
             ..
         } => {
-            call(calls, declarations, *entry_place)?;
+            call(calls, declarations, *entry)?;
             exprs(calls, declarations, args.as_slice())?;
             Ok(())
         }
@@ -186,8 +186,8 @@ fn answer(
 ) -> Result<(), AllocError>
     ensures { OnOk result ((more : List SpecPlace) → calls.new.items ++ more ≡ calls.old.items ++ answer_calls (declared_in (placed declarations.now)) (optional placed_expr value.now) more) }
 {
-    if let Some(value) = value {
-        expr(calls, declarations, value)?;
+    if let Some(returned) = value {
+        expr(calls, declarations, returned)?;
     }
     Ok(())
 }

@@ -54,3 +54,6 @@ pub fn first_broken(
     )?;
     Ok(sooner(round, waiting))
 }
+
+#[cfg(test)]
+mod tests;
