@@ -144,27 +144,39 @@ fn refuses_texts(rt: HostRuntime) -> Result<(), Fail> {
         ),
         (
             "program a process p : periodic frame 9 begin end p end a",
-            "E9 1:1\n",
+            "E36 1:38\n",
         ),
         (
             "program a process p : periodic frame 1000000001 begin end p end a",
-            "E9 1:1\n",
+            "E36 1:38\n",
         ),
         (
             "program a process p : periodic frame 10 begin end p end p",
-            "E9 1:1\n",
+            "E23 1:57\n",
         ),
         (
             "program a process p : periodic frame 10 begin end a end a",
-            "E9 1:1\n",
+            "E23 1:51\n",
         ),
         (
             "program a process a : periodic frame 10 begin end a end a",
-            "E9 1:1\n",
+            "E21 1:19\n",
         ),
         (
             "program a process p : periodic frame 10 begin put d 1 end p end a",
-            "E9 1:1\n",
+            "E20 1:51\n",
+        ),
+        (
+            "program a process p : periodic frame 10 begin x := 1 end p end a",
+            "E20 1:47\n",
+        ),
+        (
+            "program a device a : out process p : periodic frame 10 begin end p end a",
+            "E21 1:18\n",
+        ),
+        (
+            "program a procedure f() begin g() end f procedure g() begin f() end g process p : periodic frame 10 begin end p end a",
+            "E31 1:21\n",
         ),
         (
             "program a device d : in process p : periodic frame 10 begin end p end a",
