@@ -1,3 +1,4 @@
+pub mod Checks
 pub mod Complete
 pub mod Cuts
 pub mod Done

@@ -1,4 +1,4 @@
-//! The call, from its words to its status.
+//! `go`.
 
 ghost use Rattle.std.specs.Prelude.{◌≡◌, ◌≢◌, ◌≤◌, ◌<◌, ◌⊎◌, ℕ, List, Some, None, IfSome, IfNone, IsSomeAnd, true, string_bytes};
 ghost use Rattle.std.specs.Bool.{OnTrue};
@@ -100,7 +100,7 @@ fn go<F: Files, O: Sink>(
 }
 
 /// The same of a row, in one word.
-fn go_row<F: Files, O: Sink>(
+pub fn go_row<F: Files, O: Sink>(
     alloc: Global,
     program: &str,
     image: &str,
@@ -114,61 +114,4 @@ fn go_row<F: Files, O: Sink>(
         result }
 {
     go(alloc, program, image, script, files, out)
-}
-
-/// The word is the command.
-fn is_go(word: &String) -> bool
-    ensures { result ≡ is_command (string_bytes word.now) }
-{
-    word.as_str() == "go"
-}
-
-/// The word may name a file: it is not empty, and begins with no dash.
-fn names_file(word: &String) -> bool
-    ensures { result ≡ is_file_name (string_bytes word.now) }
-{
-    match word.as_bytes() {
-        [] => false,
-        [first, ..] => *first != b'-',
-    }
-}
-
-/// The same, without what status 0 says of the program.
-pub fn carry_out<F: Files, O: Sink>(
-    alloc: Global,
-    words: &[String],
-    files: &mut F,
-    out: &mut O,
-) -> u8
-    // A call of a row went as is due, by what the files hold.
-    ensures row { IfSome (row_of words.now) (λ row. Went F.tells row
-        (record { held = F.held files.old; read_faults = F.read_faults files.old; write_faults = F.write_faults files.old; taken = O.taken out.old; put_faults = O.faults out.old })
-        (record { held = F.held files.new; read_faults = F.read_faults files.new; write_faults = F.write_faults files.new; taken = O.taken out.new; put_faults = O.faults out.new })
-        result) }
-    // Without a fault, all that is due is done, or memory was missing.
-    ensures complete { IfSome (row_of words.now) (λ row. OnTrue F.tells (Completes row
-        (record { held = F.held files.old; read_faults = F.read_faults files.old; write_faults = F.write_faults files.old; taken = O.taken out.old; put_faults = O.faults out.old })
-        (record { held = F.held files.new; read_faults = F.read_faults files.new; write_faults = F.write_faults files.new; taken = O.taken out.new; put_faults = O.faults out.new })
-        result)) }
-    // All other words are refused.
-    ensures usage { IfNone (row_of words.now) (IsUsage
-        (record { held = F.held files.old; read_faults = F.read_faults files.old; write_faults = F.write_faults files.old; taken = O.taken out.old; put_faults = O.faults out.old })
-        (record { held = F.held files.new; read_faults = F.read_faults files.new; write_faults = F.write_faults files.new; taken = O.taken out.new; put_faults = O.faults out.new })
-        result) }
-{
-    one_program();
-    match words {
-        [command, program, image, script]
-            if is_go(command) && names_file(program) && names_file(image) && names_file(script) => {
-            go_row(
-                alloc,
-                program.as_str(),
-                image.as_str(),
-                script.as_str(),
-                files,
-                out,
-            )
-        }
-        _ => put(out, b"usage\n", 1),
-    }
 }

@@ -7,8 +7,10 @@
 #![tactic(auto)]
 
 mod call;
+mod command;
 mod go;
 mod run;
 mod steps;
+mod words;
 
 pub use call::rte;

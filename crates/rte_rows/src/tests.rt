@@ -324,3 +324,43 @@ fn misses_the_script(rt: HostRuntime) -> Result<(), Fail> {
     assert!(rt; held.is_none());
     Ok(())
 }
+
+/// The canonical text of the first example.
+const VALVE_PRINTED: &str =
+    "program a\ndevice valve : out\nprocess p : periodic frame 15\nbegin\nput valve 7\nend p\nend a\n";
+
+const TWO: &str =
+    "program b process p : periodic frame 10 begin end p process q : periodic frame 20 begin if true then else end if end q end b";
+
+const TWO_PRINTED: &str =
+    "program b\nprocess p : periodic frame 10\nbegin\nend p\nprocess q : periodic frame 20\nbegin\nif true then\nelse\nend if\nend q\nend b\n";
+
+#[test]
+fn checks_and_prints(rt: HostRuntime) -> Result<(), Fail> {
+    let alloc = rt.alloc();
+    let rows = [
+        ("check P", VALVE, 0, REPORT),
+        ("check P", LATE, 3, LATE_REPORT),
+        ("check P", TWO, 2, "E9 1:1\n"),
+        ("check P", "program a ;", 2, "E1 1:11\n"),
+        ("print P", VALVE, 0, VALVE_PRINTED),
+        ("print P", VALVE_PRINTED, 0, VALVE_PRINTED),
+        ("print P", COMMENTED, 0, VALVE_PRINTED),
+        ("print P", TWO, 0, TWO_PRINTED),
+        ("print P", "", 2, "E10 1:1\n"),
+        (
+            "print P",
+            "program a process p : periodic frame 9 begin end p end a",
+            2,
+            "E36 1:38\n",
+        ),
+    ];
+    for (words, program, status, text) in rows {
+        let mut files = files_of(alloc, Some(program), None, Vec::new(alloc), Vec::new(alloc))?;
+        let (got, put, held) = call(alloc, words, &mut files, Vec::new(alloc))?;
+        assert_eq!(rt; got, status, "{words}");
+        assert!(rt; put.as_slice() == text.as_bytes(), "{words}");
+        assert!(rt; held.is_none(), "{words}");
+    }
+    Ok(())
+}

@@ -1,4 +1,5 @@
-use Rattle.rte_cli.specs.Words.{row_of}
+use Rattle.rte_cli.specs.Words.{row_of, check_of}
+use Rattle.rte_cli.proofs.Checks.{checked_for_time}
 use Rattle.rte_cli.proofs.Done.{if_done}
 use Rattle.rte_cli.proofs.Late.{refused_for_time}
 use Rattle.rte_cli.proofs.call.rte.Goals as goal
@@ -20,3 +21,9 @@ pub returns-clause-late : goal.returns-clause-late
 returns-clause-late g c =
     refused_for_time (record { one = c.one_program.ensures.one; apart = c.one_program.ensures.apart }) c.cost_is_the_least_bound.ensures c.solved_programs_are_timely.ensures
     g.F.Files.tells (row_of c.args.words.now) _ _ _ c.carry_out.ensures.row
+
+-- the same of `check`
+pub returns-clause-untimely : goal.returns-clause-untimely
+returns-clause-untimely g c =
+    checked_for_time (record { one = c.one_program.ensures.one; apart = c.one_program.ensures.apart }) c.cost_is_the_least_bound.ensures c.solved_programs_are_timely.ensures
+    g.F.Files.tells (check_of c.args.words.now) _ _ _ c.carry_out.ensures.check
