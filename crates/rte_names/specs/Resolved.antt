@@ -2,6 +2,7 @@
 use Rattle.std.specs.Prelude.{◌≡◌, ℕ, List, Some, None}
 use Rattle.std.specs.Map.{lookup}
 use Rattle.rte_lex.specs.declared.token.Token.{Token}
+use Rattle.rte_lex.specs.Tokens.{tokens}
 use Rattle.rte_tree.specs.Placed.{Prog}
 use Rattle.rte_tree.specs.declared.place.Place.{Place}
 use Rattle.rte_grammar.specs.Grammar.{tree}
@@ -11,10 +12,11 @@ use Rattle.rte_names.specs.Findings.{Key, same_key, key_of}
 use Rattle.rte_names.specs.declared.named.NameFault.{NameFault}
 use Rattle.rte_names.specs.declared.named.NameFault.TheVariants as fault_is
 
--- the grammar gives the tree to the tokens of some text
+-- some text has tokens, and the tree is theirs
 pub record IsRead (g : Prog Place) : Type 0 where
   pub text : List ℕ
   pub toks : List Token
+  pub listed : tokens text toks
   pub reads : tree text toks g
 
 -- no rule fails at any place

@@ -326,22 +326,14 @@ pub fn stmt<'a>(
         Stmt::If {
             test,
             first,
-            second: None,
+            second,
             ..
         } => {
             expr(findings, around, loops.as_slice(), test)?;
             stmts(findings, around, loops, first.as_slice())?;
-            Ok(())
-        }
-        Stmt::If {
-            test,
-            first,
-            second: Some(second),
-            ..
-        } => {
-            expr(findings, around, loops.as_slice(), test)?;
-            stmts(findings, around, loops, first.as_slice())?;
-            stmts(findings, around, loops, second.as_slice())?;
+            if let Some(second) = second {
+                stmts(findings, around, loops, second.as_slice())?;
+            }
             Ok(())
         }
         Stmt::For {
@@ -364,9 +356,6 @@ pub fn stmt<'a>(
             leave(loops);
             Ok(())
         }
-        _ => {
-            plain(findings, around, loops.as_slice(), s)?;
-            Ok(())
-        }
+        _ => plain(findings, around, loops.as_slice(), s),
     }
 }
