@@ -109,32 +109,20 @@ fn stmt(calls: &mut Vec<Place>, declarations: &Declarations<'_>, s: &Stmt) -> Re
         Stmt::If {
             test,
             first,
-            second: None,
+            second,
             ..
         } => {
             expr(calls, declarations, test)?;
             stmts(calls, declarations, first.as_slice())?;
+            if let Some(second) = second {
+                stmts(calls, declarations, second.as_slice())?;
+            }
             Ok(())
         }
-        Stmt::If {
-            test,
-            first,
-            second: Some(second),
-            ..
-        } => {
-            expr(calls, declarations, test)?;
-            stmts(calls, declarations, first.as_slice())?;
-            stmts(calls, declarations, second.as_slice())?;
-            Ok(())
-        }
-        Stmt::For { body, .. } => {
-            stmts(calls, declarations, body.as_slice())?;
-            Ok(())
-        }
+        Stmt::For { body, .. } => stmts(calls, declarations, body.as_slice()),
         Stmt::Assign { target: to, value } => {
             target(calls, declarations, to)?;
-            expr(calls, declarations, value)?;
-            Ok(())
+            expr(calls, declarations, value)
         }
         Stmt::AssignEntry {
             target: to,
@@ -144,35 +132,24 @@ fn stmt(calls: &mut Vec<Place>, declarations: &Declarations<'_>, s: &Stmt) -> Re
         } => {
             target(calls, declarations, to)?;
             call(calls, declarations, *entry_place)?;
-            exprs(calls, declarations, args.as_slice())?;
-            Ok(())
+            exprs(calls, declarations, args.as_slice())
         }
-        Stmt::AssignEmpty { target: to, .. } | Stmt::Get { target: to, .. } => {
-            target(calls, declarations, to)?;
-            Ok(())
-        }
-        Stmt::Call { place, args, .. } => {
-            call(calls, declarations, *place)?;
-            exprs(calls, declarations, args.as_slice())?;
-            Ok(())
-        }
-        Stmt::CallEntry {
-            entry_place: entry,
+        Stmt::AssignEmpty { target: to, .. } | Stmt::Get { target: to, .. } => target(
+            calls,
+            declarations,
+            to,
+        ),
+        Stmt::Call { place, args, .. }
+        | Stmt::CallEntry {
+            entry_place: place,
             args,
             ..
         } => {
-            call(calls, declarations, *entry)?;
-            exprs(calls, declarations, args.as_slice())?;
-            Ok(())
+            call(calls, declarations, *place)?;
+            exprs(calls, declarations, args.as_slice())
         }
-        Stmt::Put { value, .. } => {
-            expr(calls, declarations, value)?;
-            Ok(())
-        }
-        Stmt::ExitWhen { test, .. } | Stmt::Assert { test, .. } => {
-            expr(calls, declarations, test)?;
-            Ok(())
-        }
+        Stmt::Put { value, .. } => expr(calls, declarations, value),
+        Stmt::ExitWhen { test, .. } | Stmt::Assert { test, .. } => expr(calls, declarations, test),
         Stmt::Wait { .. } | Stmt::Signal { .. } | Stmt::Broadcast { .. } | Stmt::Except { .. } =>
             Ok(()),
     }
