@@ -1,0 +1,5 @@
+pub mod Places
+pub mod Written
+pub mod Things
+pub mod Mirrors
+pub mod Judged

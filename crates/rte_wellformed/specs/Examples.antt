@@ -1,0 +1,39 @@
+-- Programs that are not well formed.
+use Rattle.std.specs.Prelude.{Bool, false, true, [], ◌∷◌, None, codes}
+use Rattle.rte_tree.specs.Plain.{Prog, Process, Stmt, Decl, device, process, periodic, literal_constant, literal, variable, loop, put, perform, no_exprs, stmts, no_stmts}
+
+abbrev pub valve : Bool → Decl
+valve is_out = device (codes "valve") is_out
+
+-- one process of one statement
+abbrev pub doing : Decl → Stmt → Prog
+doing d s = record {
+  name = codes "a";
+  decls =
+      d
+      ∷ process (record { name = codes "p"; activation = periodic (literal_constant false 100) None; vars = []; routines = []; body = stmts s no_stmts; handler = None })
+      ∷ [];
+}
+
+abbrev pub put_inwards : Prog
+put_inwards = doing (valve false) (put (codes "valve") (literal 7))
+
+abbrev pub undeclared : Prog
+undeclared = doing (valve true) (put (codes "valve") (variable (codes "x")))
+
+abbrev pub endless : Prog
+endless = doing (valve true) (loop (codes "i") (literal_constant false 2147483647) (literal_constant false 2147483647) no_stmts)
+
+-- a process with a procedure that calls itself
+abbrev pub circle : Process
+circle = record {
+  name = codes "p";
+  activation = periodic (literal_constant false 100) None;
+  vars = [];
+  routines = record { name = codes "f"; params = []; vars = []; body = stmts (perform (codes "f") no_exprs) no_stmts; answers = None } ∷ [];
+  body = stmts (perform (codes "f") no_exprs) no_stmts;
+  handler = None;
+}
+
+abbrev pub circular : Prog
+circular = record { name = codes "a"; decls = process circle ∷ [] }

@@ -1,0 +1,5 @@
+pub mod Here
+pub mod Typed
+pub mod Statements
+pub mod WellFormed
+pub mod Examples
