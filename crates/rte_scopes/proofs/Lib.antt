@@ -1,0 +1,13 @@
+mod Appends
+mod Listed
+mod Counts
+mod Things
+mod Members
+mod Lookups
+mod NamesAfter
+mod ThingsListed
+mod ProgramScope
+mod ProgramNames
+mod EntryNames
+mod ScopeNames
+mod Mirrored
