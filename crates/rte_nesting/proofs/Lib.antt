@@ -1,0 +1,7 @@
+pub mod Lists
+pub mod Through
+pub mod Falling
+pub mod Behind
+pub mod Named
+pub mod Below
+pub mod Levelled
