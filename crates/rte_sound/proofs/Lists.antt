@@ -1,0 +1,146 @@
+-- Members of lists, and where they stand.
+use Rattle.std.proofs.Common.{◌≡◌, ℕ, ◌+◌, ◌≤◌, Bool, true, cond, List, [], ◌∷◌, ◌++◌, map, ◌⊎◌, inl, inr, refl, ap, sym, ◌∙◌, subst, arith}
+use Rattle.std.specs.Prelude.{Contains, All, sum_by, count_by}
+use Rattle.std.proofs.lemmas.List.Sums.{sum_by-append}
+use Rattle.std.proofs.Math.Nat.{zero-add}
+use Rattle.std.proofs.lemmas.List.Elements.{Contains-append_left, Contains-append_right, Contains-push, Contains-push_cases, Contains-append_cases, All-contains_itself, All-weaker, All-map}
+
+pub at_front : {X : Type 0} (x : X) (xs : List X) → Contains (x ∷ xs) x
+at_front x xs = Contains-append_left (x ∷ []) xs x (Contains-push [] x)
+
+pub behind : {X : Type 0} (y : X) (xs : List X) (x : X) → Contains xs x → Contains (y ∷ xs) x
+behind y xs x h = Contains-append_right (y ∷ []) xs x h
+
+pub none_in : {X : Type 0} (x : X) → Contains [] x → ⊥
+none_in x h = let l = h.1 in omega arith
+
+pub front_or_behind : {X : Type 0} (y : X) (xs : List X) (x : X) → Contains (y ∷ xs) x → (y ≡ x) ⊎ Contains xs x
+front_or_behind y xs x h = by (Contains-append_cases (y ∷ []) xs x h)
+  where
+    one : Contains [] x ⊎ (y ≡ x) → (y ≡ x) ⊎ Contains xs x
+    one (inl n) = absurd (none_in x n)
+    one (inr e) = inl e
+
+    by : Contains (y ∷ []) x ⊎ Contains xs x → (y ≡ x) ⊎ Contains xs x
+    by (inl a) = one (Contains-push_cases [] y x a)
+    by (inr a) = inr a
+
+-- where a member stands
+pub record Split {X : Type 0} (xs : List X) (x : X) : Type 0 where
+  pub before : List X
+  pub after : List X
+  pub is : xs ≡ before ++ x ∷ after
+
+pub split : {X : Type 0} (xs : List X) (x : X) → Contains xs x → Split xs x
+split [] x h = absurd (none_in x h)
+split (y ∷ xs) x h = by (split xs x) (front_or_behind y xs x h)
+  where
+    further : Split xs x → Split (y ∷ xs) x
+    further s = record { before = y ∷ s.before; after = s.after; is = ap (λ zs. y ∷ zs) s.is }
+
+    by : (Contains xs x → Split xs x) → (y ≡ x) ⊎ Contains xs x → Split (y ∷ xs) x
+    by again (inl e) = record { before = []; after = xs; is = ap (λ z. z ∷ xs) e }
+    by again (inr m) = further (again m)
+
+pub in_split : {X : Type 0} (xs before after : List X) (x : X) → xs ≡ before ++ x ∷ after → Contains xs x
+in_split xs before after x is = subst (λ ys. Contains ys x) (sym is) (Contains-append_right before (x ∷ after) x (at_front x after))
+
+pub each : {X : Type 0} (P : X → Type 0) (xs : List X) → ((x : X) → Contains xs x → P x) → All P xs
+each P xs f = All-weaker (Contains xs) P f xs (All-contains_itself xs)
+
+pub each_map : {X Y : Type 0} (P : Y → Type 0) (f : X → Y) (xs : List X) → ((x : X) → Contains xs x → P (f x)) → All P (map f xs)
+each_map P f xs h = All-map P f xs (each (λ x. P (f x)) xs h)
+
+pub in_map : {X Y : Type 0} (f : X → Y) (xs : List X) (x : X) → Contains xs x → Contains (map f xs) (f x)
+in_map f [] x h = absurd (none_in x h)
+in_map f (y ∷ xs) x h = by (in_map f xs x) (front_or_behind y xs x h)
+  where
+    by : (Contains xs x → Contains (map f xs) (f x)) → (y ≡ x) ⊎ Contains xs x → Contains (f y ∷ map f xs) (f x)
+    by again (inl e) = subst (λ z. Contains (f y ∷ map f xs) (f z)) e (at_front (f y) (map f xs))
+    by again (inr m) = behind (f y) (map f xs) (f x) (again m)
+
+-- a member of the list whose picture this is
+pub record Pictured {X Y : Type 0} (f : X → Y) (xs : List X) (y : Y) : Type 0 where
+  pub one : X
+  pub listed : Contains xs one
+  pub is : f one ≡ y
+
+pub from_map : {X Y : Type 0} (f : X → Y) (xs : List X) (y : Y) → Contains (map f xs) y → Pictured f xs y
+from_map f [] y h = absurd (none_in y h)
+from_map f (x ∷ xs) y h = by (from_map f xs y) (front_or_behind (f x) (map f xs) y h)
+  where
+    further : Pictured f xs y → Pictured f (x ∷ xs) y
+    further p = record { one = p.one; listed = behind x xs p.one p.listed; is = p.is }
+
+    by : (Contains (map f xs) y → Pictured f xs y) → (f x ≡ y) ⊎ Contains (map f xs) y → Pictured f (x ∷ xs) y
+    by again (inl e) = record { one = x; listed = at_front x xs; is = e }
+    by again (inr m) = further (again m)
+
+pub same_members : {X : Type 0} (P : X → Type 0) (xs ys : List X) → xs ≡ ys → All P ys → All P xs
+same_members P xs ys e h = subst (All P) (sym e) h
+
+-- ---- what gives the things of its part, and then more
+
+pub record Adds {X : Type 0} (f : List X → List X) : Type 0 where
+  pub adds : (a b : List X) → f (a ++ b) ≡ f a ++ b
+
+pub nothing_more : {X : Type 0} → Adds {X = X} (λ m. m)
+nothing_more = record { adds = λ a b. refl }
+
+pub both : {X : Type 0} {f g : List X → List X} → Adds f → Adds g → Adds (λ m. f (g m))
+both {X} {f} {g} p q = record { adds = λ a b. ap f (q.adds a b) ∙ p.adds (g a) b }
+
+pub one_more : {X : Type 0} (x : X) {f : List X → List X} → Adds f → Adds (λ m. x ∷ f m)
+one_more x {f} p = record { adds = λ a b. ap (λ m. x ∷ m) (p.adds a b) }
+
+-- all of it, whatever comes behind
+pub front_part : {X : Type 0} {f : List X → List X} → Adds f → (more : List X) (x : X) → Contains (f []) x → Contains (f more) x
+front_part {X} {f} p more x h = subst (λ xs. Contains xs x) (sym (p.adds [] more)) (Contains-append_left (f []) more x h)
+
+pub rest_part : {X : Type 0} {f : List X → List X} → Adds f → (more : List X) (x : X) → Contains more x → Contains (f more) x
+rest_part {X} {f} p more x h = subst (λ xs. Contains xs x) (sym (p.adds [] more)) (Contains-append_right (f []) more x h)
+
+pub append_nil : {X : Type 0} (xs : List X) → xs ++ [] ≡ xs
+append_nil [] = refl
+append_nil (x ∷ xs) = ap (λ ys. x ∷ ys) (append_nil xs)
+
+-- ---- counts
+
+pub sum_cons : {X : Type 0} (f : X → ℕ) (x : X) (xs : List X) → sum_by f (x ∷ xs) ≡ f x + sum_by f xs
+sum_cons f x xs = sum_by-append f (x ∷ []) xs ∙ ap (λ n. n + sum_by f xs) (zero-add (f x))
+
+abbrev one_if : Bool → ℕ
+one_if b = cond b 1 0
+
+one_passed : {X : Type 0} (p : X → Bool) (y x : X) → y ≡ x → p x ≡ true → one_if (p y) ≡ 1
+one_passed p y x e t = ap one_if (ap p e ∙ t)
+
+counted : {X : Type 0} (p : X → Bool) (xs : List X) (x : X) → Contains xs x → p x ≡ true → 1 ≤ count_by p xs
+counted p [] x h e = absurd (none_in x h)
+counted {X} p (y ∷ xs) x h e = by (λ m. counted p xs x m e) (front_or_behind y xs x h)
+  where
+    by : (Contains xs x → 1 ≤ count_by p xs) → (y ≡ x) ⊎ Contains xs x → 1 ≤ count_by p (y ∷ xs)
+    by again (inl w) = omega (arith, one_passed p y x w e, sum_cons (λ z. one_if (p z)) y xs)
+    by again (inr m) = let l = again m in omega (arith, sum_cons (λ z. one_if (p z)) y xs)
+
+-- of what passes at most once there is one
+pub one_of : {X : Type 0} (p : X → Bool) (xs : List X) → count_by p xs ≤ 1 → (x y : X) → Contains xs x → Contains xs y → p x ≡ true → p y ≡ true → x ≡ y
+one_of {X} p [] few x y h k d e = absurd (none_in x h)
+one_of {X} p (z ∷ xs) few x y h k d e = by (λ l m n. one_of p xs l x y m n d e) (front_or_behind z xs x h) (front_or_behind z xs y k)
+  where
+    by : (count_by p xs ≤ 1 → Contains xs x → Contains xs y → x ≡ y) → (z ≡ x) ⊎ Contains xs x → (z ≡ y) ⊎ Contains xs y → x ≡ y
+    by again (inl a) (inl b) = sym a ∙ b
+    by again (inl a) (inr n) = let f = one_passed p z x a d in let l = counted p xs y n e in absurd (omega (arith, sum_cons (λ v. one_if (p v)) z xs))
+    by again (inr m) (inl b) = let f = one_passed p z y b e in let l = counted p xs x m d in absurd (omega (arith, sum_cons (λ v. one_if (p v)) z xs))
+    by again (inr m) (inr n) = again (omega (arith, sum_cons (λ v. one_if (p v)) z xs)) m n
+
+-- ---- lists within others
+
+abbrev pub Within : {X : Type 0} → List X → List X → Type 0
+Within {X} xs ys = (x : X) → Contains xs x → Contains ys x
+
+pub front : {X : Type 0} (ys : List X) {f : List X → List X} → Adds f → (more : List X) → Within (f more) ys → Within (f []) ys
+front ys a more h x c = h x (front_part a more x c)
+
+pub rest : {X : Type 0} (ys : List X) {f : List X → List X} → Adds f → (more : List X) → Within (f more) ys → Within more ys
+rest ys a more h x c = h x (rest_part a more x c)
