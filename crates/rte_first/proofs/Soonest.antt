@@ -1,5 +1,5 @@
 -- Trying the rules on one part after the other finds the first failure.
-use Rattle.std.proofs.Common.{◌≡◌, ◌<◌, ◌≤◌, ℕ, List, [], ◌∷◌, Option, Some, None, Bool, true, false, ◌&&◌, ◌||◌, nat_eq, nat_lt, if◌then◌else◌, ◌⊎◌, inl, inr, refl, ap, sym, ◌∙◌, subst, arith}
+use Rattle.std.proofs.Common.{◌≡◌, ◌<◌, ◌≤◌, ℕ, List, [], ◌∷◌, Option, Some, None, Bool, true, false, if◌then◌else◌, ◌⊎◌, inl, inr, refl, ap, sym, ◌∙◌, subst, arith}
 use Rattle.std.proofs.lemmas.Bool.Decides.{nat_tests}
 use Rattle.rte_tree.specs.declared.place.Place.{Place}
 use Rattle.rte_first.specs.declared.broken.Broken.{Broken}
@@ -10,10 +10,10 @@ use Rattle.rte_first.specs.Parts.{Rule, FailsOf, FailsAmong, blame, note, noted}
 abbrev pub NotBefore : Broken → Broken → Type 0
 NotBefore x y = (y.place.line < x.place.line) ⊎ ((y.place.line ≡ x.place.line) × ((y.place.col < x.place.col) ⊎ ((y.place.col ≡ x.place.col) × (y.number ≤ x.number))))
 
-not_before-refl : (x : Broken) → NotBefore x x
+pub not_before-refl : (x : Broken) → NotBefore x x
 not_before-refl x = inr (refl, inr (refl, omega arith))
 
-not_before-trans : (x y z : Broken) → NotBefore x y → NotBefore y z → NotBefore x z
+pub not_before-trans : (x y z : Broken) → NotBefore x y → NotBefore y z → NotBefore x z
 not_before-trans x y z (inl a) (inl b) = inl (omega arith)
 not_before-trans x y z (inl a) (inr b) = inl (let e = b.0 in omega arith)
 not_before-trans x y z (inr a) (inl b) = inl (let e = a.0 in omega arith)
@@ -25,14 +25,14 @@ not_before-trans x y z (inr a) (inr b) = inr (b.0 ∙ a.0, columns a.1 b.1)
     columns (inr c) (inl d) = inl (let e = c.0 in omega arith)
     columns (inr c) (inr d) = inr (d.0 ∙ c.0, omega arith)
 
-before-false : (x y : Broken) → comes_before x y ≡ false → NotBefore x y
+pub before-false : (x y : Broken) → comes_before x y ≡ false → NotBefore x y
 before-false x y h = grind (arith, nat_tests)
 
-before-true : (x y : Broken) → comes_before x y ≡ true → NotBefore y x
+pub before-true : (x y : Broken) → comes_before x y ≡ true → NotBefore y x
 before-true x y h = grind (arith, nat_tests)
 
 -- what does not come before is not before
-not-before : (m : ℕ) (p : Place) (b : Broken) → NotBefore (record { number = m; place = p }) b → ¬ Before m p b.number b.place
+pub not-before : (m : ℕ) (p : Place) (b : Broken) → NotBefore (record { number = m; place = p }) b → ¬ Before m p b.number b.place
 not-before m p b (inl a) (inl d) = omega arith
 not-before m p b (inl a) (inr (inl d)) = let e = d.0 in omega arith
 not-before m p b (inl a) (inr (inr d)) = let e : p.line ≡ b.place.line = ap (λ q. q.line) d.0 in omega arith

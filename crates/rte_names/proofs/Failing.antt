@@ -1,16 +1,18 @@
 -- The rules that fail are those that the names break.
-use Rattle.std.proofs.Common.{◌≡◌, ℕ, List, [], ◌∷◌, Option, Some, None, Bool, true, false, not, if◌then◌else◌, ◌⊎◌, inl, inr, refl, ap, sym, ◌∙◌, arith, true≢false}
+use Rattle.std.proofs.Common.{◌≡◌, ℕ, List, [], ◌∷◌, Option, Some, None, Bool, true, false, not, if◌then◌else◌, ◌⊎◌, inl, inr, refl, ap, sym, ◌∙◌, true≢false}
 use Rattle.rte_tree.specs.Placed.{Prog}
 use Rattle.rte_tree.specs.declared.place.Place.{Place}
-use Rattle.rte_names.specs.declared.findings.Broken.{Broken}
+use Rattle.rte_first.specs.declared.broken.Broken.{Broken}
 use Rattle.rte_names.specs.Reach.{same, suits, or_else}
 use Rattle.rte_names.specs.Occurrences.{Occurrence, declares, closes, used, names, declared_at}
-use Rattle.rte_names.specs.Rules.{Among, place_of, undeclared, shadows, misused, misclosed, Fails, Before, IsFirst, IsUse, NamesAt, UsedAt}
+use Rattle.rte_names.specs.Rules.{Among, place_of, undeclared, shadows, misused, misclosed, Fails, IsUse, NamesAt, UsedAt}
 use Rattle.std.specs.Map.{lookup}
 use Rattle.rte_names.specs.Findings.{Found, noted, same_key, key_of}
 use Rattle.rte_names.specs.Seen.{nothing}
 use Rattle.rte_names.specs.Resolved.{IsRead, IsNamed, IsResolved}
-use Rattle.rte_names.proofs.Notes.{NotBefore, fault_of, Breaks, Clean, Least, first_of_all, ties_of_all, tied-declared}
+use Rattle.rte_first.specs.First.{IsFirst}
+use Rattle.rte_first.proofs.Soonest.{not-before}
+use Rattle.rte_names.proofs.Notes.{fault_of, Breaks, Clean, Least, first_of_all, ties_of_all, tied-declared}
 
 among-map : {P Q : Occurrence → Type 0} → ((o : Occurrence) → P o → Q o) → (os : List Occurrence) → Among P os → Among Q os
 among-map f [] a = elim a [ ]
@@ -96,20 +98,9 @@ breaks-standing (o ∷ os) m p (inr rest) = by (breaks-standing os m p rest)
     by (inr (inr (inl w))) = inr (inr (inl (w.0, inr w.1)))
     by (inr (inr (inr w))) = inr (inr (inr (w.0, inr w.1)))
 
--- what comes before is not after
-not-before : (m : ℕ) (p : Place) (b : Broken) → NotBefore (record { number = m; place = p }) b → ¬ Before m p b.number b.place
-not-before m p b (inl a) (inl d) = omega arith
-not-before m p b (inl a) (inr (inl d)) = let e = d.0 in omega arith
-not-before m p b (inl a) (inr (inr d)) = let e : p.line ≡ b.place.line = ap (λ q. q.line) d.0 in omega arith
-not-before m p b (inr a) (inl d) = let e = a.0 in omega arith
-not-before m p b (inr (e, inl a)) (inr (inl d)) = let f = d.1 in omega arith
-not-before m p b (inr (e, inl a)) (inr (inr d)) = let f : p.col ≡ b.place.col = ap (λ q. q.col) d.0 in omega arith
-not-before m p b (inr (e, inr a)) (inr (inl d)) = let f = d.1 in let h = a.0 in omega arith
-not-before m p b (inr (e, inr a)) (inr (inr d)) = let f = d.1 in let h = a.1 in omega arith
-
-pub first-fault : (g : Prog Place) (f : Found) (b : Broken) → f ≡ noted nothing (names g) → f.first ≡ Some b → IsFirst g b.number b.place
+pub first-fault : (g : Prog Place) (f : Found) (b : Broken) → f ≡ noted nothing (names g) → f.first ≡ Some b → IsFirst (Fails g) b
 first-fault g f b is e = record {
-  fails = by least.from;
+  broken = by least.from;
   none_before = λ m p h. not-before m p b (least.least m p (fails-breaks g m p h));
 }
   where

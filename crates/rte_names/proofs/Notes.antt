@@ -1,50 +1,24 @@
 -- What the walk keeps, once all names are noted: the first rule that fails, and where each used name is declared.
-use Rattle.std.proofs.Common.{◌≡◌, ◌<◌, ◌≤◌, ℕ, List, [], ◌∷◌, Option, Some, None, Bool, true, false, cond, nat_eq, if◌then◌else◌, ◌⊎◌, inl, inr, refl, ap, sym, ◌∙◌, subst, arith, true≢false}
+use Rattle.std.proofs.Common.{◌≡◌, ℕ, List, [], ◌∷◌, Option, Some, None, Bool, true, false, cond, nat_eq, if◌then◌else◌, ◌⊎◌, inl, inr, refl, ap, sym, ◌∙◌, subst, true≢false}
 use Rattle.std.specs.Cmp.{IsEquivalence}
 use Rattle.std.specs.Map.{lookup}
 use Rattle.std.proofs.lemmas.Cmp.{nat_eq_equiv, on_equiv, and_equiv}
 use Rattle.std.proofs.lemmas.Bool.{and_parts, eqb-true}
-use Rattle.std.proofs.lemmas.Bool.Decides.{nat_tests}
 use Rattle.indexmap.specs.IndexMap.{insert_entry}
 use Rattle.rte_tree.specs.declared.place.Place.{Place}
-use Rattle.rte_names.specs.declared.findings.Broken.{Broken}
+use Rattle.rte_first.specs.declared.broken.Broken.{Broken}
+use Rattle.rte_first.specs.First.{comes_before, sooner}
+use Rattle.rte_first.proofs.Soonest.{NotBefore, not_before-refl, not_before-trans, before-false, before-true}
 use Rattle.rte_names.specs.Reach.{same, same_place, suits, or_else}
 use Rattle.rte_names.specs.Occurrences.{Occurrence, declares, closes, used, declared_at}
 use Rattle.rte_names.specs.Rules.{Among, place_of, Means, IsUse}
-use Rattle.rte_names.specs.Findings.{Key, same_key, key_of, Found, comes_before, sooner, blame, tie, note, noted}
-
--- ---- the order of faults
-
--- the first comes after the second, or is the same
-abbrev pub NotBefore : Broken → Broken → Type 0
-NotBefore x y = (y.place.line < x.place.line) ⊎ ((y.place.line ≡ x.place.line) × ((y.place.col < x.place.col) ⊎ ((y.place.col ≡ x.place.col) × (y.number ≤ x.number))))
-
-pub not_before-refl : (x : Broken) → NotBefore x x
-not_before-refl x = inr (refl, inr (refl, omega arith))
-
-pub not_before-trans : (x y z : Broken) → NotBefore x y → NotBefore y z → NotBefore x z
-not_before-trans x y z (inl a) (inl b) = inl (omega arith)
-not_before-trans x y z (inl a) (inr b) = inl (let e = b.0 in omega arith)
-not_before-trans x y z (inr a) (inl b) = inl (let e = a.0 in omega arith)
-not_before-trans x y z (inr a) (inr b) = inr (b.0 ∙ a.0, columns a.1 b.1)
-  where
-    columns : (y.place.col < x.place.col) ⊎ ((y.place.col ≡ x.place.col) × (y.number ≤ x.number)) → (z.place.col < y.place.col) ⊎ ((z.place.col ≡ y.place.col) × (z.number ≤ y.number)) → (z.place.col < x.place.col) ⊎ ((z.place.col ≡ x.place.col) × (z.number ≤ x.number))
-    columns (inl c) (inl d) = inl (omega arith)
-    columns (inl c) (inr d) = inl (let e = d.0 in omega arith)
-    columns (inr c) (inl d) = inl (let e = c.0 in omega arith)
-    columns (inr c) (inr d) = inr (d.0 ∙ c.0, omega arith)
-
-pub before-false : (x y : Broken) → comes_before x y ≡ false → NotBefore x y
-before-false x y h = grind (arith, nat_tests)
-
-pub before-true : (x y : Broken) → comes_before x y ≡ true → NotBefore y x
-before-true x y h = grind (arith, nat_tests)
+use Rattle.rte_names.specs.Findings.{Key, same_key, key_of, Found, blame, tie, note, noted}
 
 -- ---- the sooner of two faults
 
 record Picks (n : Broken) (x : Option Broken) : Type 0 where
   pick : Broken
-  is : sooner n x ≡ Some pick
+  is : sooner (Some n) x ≡ Some pick
   source : (n ≡ pick) ⊎ (x ≡ Some pick)
   new : NotBefore n pick
   old : (c : Broken) → x ≡ Some c → NotBefore c pick
@@ -85,7 +59,7 @@ fault_of (used name place want (Some d)) = if suits want d.kind then None else S
 
 abbrev pub after : Option ℕ → Place → Option Broken → Option Broken
 after None place first = first
-after (Some m) place first = sooner (record { number = m; place = place }) first
+after (Some m) place first = sooner (Some (record { number = m; place = place })) first
 
 pub note-first : (f : Found) (o : Occurrence) → (note f o).first ≡ after (fault_of o) (place_of o) f.first
 note-first f (declares name place true) = refl
@@ -151,7 +125,7 @@ extend o os x (Some m) e (Some b) h = record { from = source h.from; start = sta
     chosen i (inl n) = inr (inl (e ∙ ap (λ y. Some y.number) (n ∙ i), ap (λ y. y.place) (n ∙ i)))
     chosen i (inr n) = inl (n ∙ ap (λ y. Some y) i)
 
-    source : (sooner fault x ≡ Some b) ⊎ Among (Breaks b.number b.place) os → (x ≡ Some b) ⊎ Among (Breaks b.number b.place) (o ∷ os)
+    source : (sooner (Some fault) x ≡ Some b) ⊎ Among (Breaks b.number b.place) os → (x ≡ Some b) ⊎ Among (Breaks b.number b.place) (o ∷ os)
     source (inl i) = chosen (some-injective s.pick b (sym s.is ∙ i)) s.source
     source (inr a) = inr (inr a)
 

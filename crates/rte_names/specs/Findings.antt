@@ -1,10 +1,11 @@
 -- What the walk over a tree keeps of the names that it meets: the first rule that fails, and where each used name is declared.
-use Rattle.std.specs.Prelude.{ℕ, Bool, ◌&&◌, ◌||◌, List, [], ◌∷◌, Option, Some, None, if◌then◌else◌, nat_eq, nat_lt}
+use Rattle.std.specs.Prelude.{ℕ, Bool, ◌&&◌, List, [], ◌∷◌, Option, Some, None, if◌then◌else◌, nat_eq}
 use Rattle.indexmap.specs.IndexMap.{insert_entry}
 use Rattle.rte_tree.specs.declared.place.Place.{Place}
+use Rattle.rte_first.specs.declared.broken.Broken.{Broken}
+use Rattle.rte_first.specs.First.{sooner}
 use Rattle.rte_names.specs.declared.kind.Declared.{Declared}
 use Rattle.rte_names.specs.declared.kind.Want.{Want}
-use Rattle.rte_names.specs.declared.findings.Broken.{Broken}
 use Rattle.rte_names.specs.Reach.{same, suits}
 use Rattle.rte_names.specs.Occurrences.{Occurrence, declares, closes, used}
 
@@ -21,16 +22,8 @@ pub record Found : Type 0 where
   pub first : Option Broken
   pub ties : List (Key × Place)
 
--- by line, then column, then number
-abbrev pub comes_before : Broken → Broken → Bool
-comes_before x y = nat_lt x.place.line y.place.line || (nat_eq x.place.line y.place.line && (nat_lt x.place.col y.place.col || (nat_eq x.place.col y.place.col && nat_lt x.number y.number)))
-
-abbrev pub sooner : Broken → Option Broken → Option Broken
-sooner b None = Some b
-sooner b (Some c) = if comes_before b c then Some b else Some c
-
 abbrev pub blame : Found → ℕ → Place → Found
-blame f number place = record f { first = sooner (record { number = number; place = place }) f.first }
+blame f number place = record f { first = sooner (Some (record { number = number; place = place })) f.first }
 
 abbrev pub tie : Found → Place → Place → Found
 tie f place declared = record f { ties = insert_entry same_key f.ties (key_of place) declared }

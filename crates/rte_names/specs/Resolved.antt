@@ -5,9 +5,10 @@ use Rattle.rte_lex.specs.declared.token.Token.{Token}
 use Rattle.rte_lex.specs.Tokens.{tokens}
 use Rattle.rte_tree.specs.Placed.{Prog}
 use Rattle.rte_tree.specs.declared.place.Place.{Place}
+use Rattle.rte_first.specs.First.{IsFirst}
 use Rattle.rte_grammar.specs.Grammar.{tree}
 use Rattle.rte_names.specs.Occurrences.{names, declared_at}
-use Rattle.rte_names.specs.Rules.{Fails, IsFirst, NamesAt, UsedAt}
+use Rattle.rte_names.specs.Rules.{Fails, NamesAt, UsedAt}
 use Rattle.rte_names.specs.Findings.{Key, same_key, key_of}
 use Rattle.rte_names.specs.declared.named.NameFault.{NameFault}
 use Rattle.rte_names.specs.declared.named.NameFault.TheVariants as fault_is
@@ -32,5 +33,5 @@ pub record IsResolved (g : Prog Place) (ties : List (Key × Place)) : Type 0 whe
 
 -- why the program is refused: the first rule that fails, or want of memory
 abbrev pub IsFault : Prog Place → NameFault → Type 0
-IsFault g (fault_is.Rule number place) = IsFirst g number place
+IsFault g (fault_is.Rule number place) = IsFirst (Fails g) (record { number = number; place = place })
 IsFault g fault_is.Memory = Unit {0}

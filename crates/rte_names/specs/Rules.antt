@@ -1,5 +1,5 @@
 -- The rules for names, each as a predicate on a program and a place.
-use Rattle.std.specs.Prelude.{◌≡◌, ℕ, ◌<◌, Bool, true, false, not, ◌⊎◌, List, [], ◌∷◌, Some, None}
+use Rattle.std.specs.Prelude.{◌≡◌, ℕ, Bool, true, false, not, ◌⊎◌, List, [], ◌∷◌, Some, None}
 use Rattle.rte_tree.specs.Placed.{Prog}
 use Rattle.rte_tree.specs.declared.place.Place.{Place}
 use Rattle.rte_names.specs.Reach.{same, suits}
@@ -42,15 +42,6 @@ Stands test g place = Among (λ o. (place_of o ≡ place) × (test o ≡ true)) 
 -- the rule of that number fails at the place
 abbrev pub Fails : Prog Place → ℕ → Place → Type 0
 Fails g number place = ((number ≡ 20) × Stands undeclared g place) ⊎ (((number ≡ 21) × Stands shadows g place) ⊎ (((number ≡ 22) × Stands misused g place) ⊎ ((number ≡ 23) × Stands misclosed g place)))
-
--- the place comes first in the text, or the places are one and the number is less
-abbrev pub Before : ℕ → Place → ℕ → Place → Type 0
-Before m p n q = (p.line < q.line) ⊎ (((p.line ≡ q.line) × (p.col < q.col)) ⊎ ((p ≡ q) × (m < n)))
-
--- the rule fails there, and none before it
-pub record IsFirst (g : Prog Place) (number : ℕ) (place : Place) : Type 0 where
-  pub fails : Fails g number place
-  pub none_before : (m : ℕ) (p : Place) → Fails g m p → ¬ Before m p number place
 
 -- a name is used at the place, and it is declared at the other
 abbrev pub Means : Place → Occurrence → Type 0

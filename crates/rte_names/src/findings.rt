@@ -2,20 +2,14 @@
 
 ghost use Rattle.std.specs.Prelude.{◌≡◌, OnOk, [], None};
 ghost use Rattle.rte_names.specs.Occurrences.{closes};
-ghost use Rattle.rte_names.specs.Findings.{comes_before, blame as blamed, tie as tied, note, note_use, note_declaration};
+ghost use Rattle.rte_names.specs.Findings.{blame as blamed, tie as tied, note, note_use, note_declaration};
 
 use crate::kind::{Declared, Want, suits};
 use indexmap::IndexMap;
+use rte_first::Broken;
 use rte_tree::{Name, Place};
 use std::alloc::{AllocError, Global};
 use std::marker::Model;
-
-/// A rule that fails, by its number, at a place.
-#[derive(Clone, Copy)]
-pub struct Broken {
-    pub number: u8,
-    pub place: Place,
-}
 
 /// The first rule that fails, and for the place of each use that of the declaration.
 #[derive(Drop)]
@@ -32,15 +26,6 @@ impl Model for Findings {
     ghost view = { λ f. record { first = f.first; ties = f.ties.entries } };
 }
 
-/// Whether the first comes before the second: by line, then by column, then by number.
-fn is_before(x: Broken, y: Broken) -> bool
-    ensures { result ≡ comes_before x y }
-{
-    x.place.line < y.place.line
-        || (x.place.line == y.place.line
-            && (x.place.col < y.place.col || (x.place.col == y.place.col && x.number < y.number)))
-}
-
 impl Findings {
     pub fn new(alloc: Global) -> Findings
         ensures first { result.first ≡ None }
@@ -55,15 +40,7 @@ impl Findings {
     fn blame(&mut self, number: u8, place: Place)
         ensures { self.new ≡ blamed self.old number place }
     {
-        let broken = Broken { number, place };
-        match self.first {
-            None => self.first = Some(broken),
-            Some(known) => {
-                if is_before(broken, known) {
-                    self.first = Some(broken);
-                }
-            }
-        }
+        rte_first::blame(&mut self.first, number, Some(place));
     }
 
     fn tie(&mut self, place: Place, declared: Place) -> Result<(), AllocError>

@@ -21,7 +21,7 @@ pub one_program : HasOneTree → HasOneProgram
 one_program one text g h first second = one text g h first.tree second.tree
 
 misnamed : HasOneTree → (text : List ℕ) (g : Prog Place) (number : ℕ) (place : Place) → IsTreeOf text g → IsNamed g → IsMisnamed text number place → ⊥
-misnamed one text g number place tree named m = subst IsNamed (one text g m.program tree m.tree) named number place m.first.fails
+misnamed one text g number place tree named m = subst IsNamed (one text g m.program tree m.tree) named number place m.first.broken
 
 misruled : HasOneTree → (text : List ℕ) (g : Prog Place) (number : ℕ) (place : Place) → IsTreeOf text g → ((n : ℕ) (p : Place) → ¬ Fails g n p) → IsMisruled text number place → ⊥
 misruled one text g number place tree keeps m = subst (λ h. (n : ℕ) (p : Place) → ¬ Fails h n p) (one text g m.program tree m.tree) keeps number place m.first.broken
@@ -47,11 +47,9 @@ the_same m n p q a b = (numbers, places)
     numbers : m ≡ n
     numbers = let h : ¬ (m < n) = λ l. a (inr (inr (places, l))) in let k : ¬ (n < m) = λ l. b (inr (inr (sym places, l))) in omega arith
 
-one_name : (g : Prog Place) (m n : ℕ) (p q : Place) → names.IsFirst g m p → names.IsFirst g n q → (m ≡ n) × (p ≡ q)
-one_name g m n p q first second = the_same m n p q (second.none_before m p first.fails) (first.none_before n q second.fails)
-
-one_rule : (g : Prog Place) (m n : ℕ) (p q : Place) → rule.IsFirst (Fails g) (record { number = m; place = p }) → rule.IsFirst (Fails g) (record { number = n; place = q }) → (m ≡ n) × (p ≡ q)
-one_rule g m n p q first second = the_same m n p q (second.none_before m p first.broken) (first.none_before n q second.broken)
+-- of rules the first failure is one
+one_first : (fails : ℕ → Place → Type 0) (m n : ℕ) (p q : Place) → rule.IsFirst fails (record { number = m; place = p }) → rule.IsFirst fails (record { number = n; place = q }) → (m ≡ n) × (p ≡ q)
+one_first fails m n p q first second = the_same m n p q (second.none_before m p first.broken) (first.none_before n q second.broken)
 
 pub one_fault : HasOneTree → HasTreeOrFault → HasOneGroup → HasOneFault
 one_fault one apart group text number other place there first second = by first second
@@ -65,16 +63,16 @@ one_fault one apart group text number other place there first second = by first 
     by (of_text f) (of_rules m) = absurd (apart text m.program number place m.tree f)
     by (of_names m) (of_text f) = absurd (apart text m.program other there m.tree f)
     by (of_rules m) (of_text f) = absurd (apart text m.program other there m.tree f)
-    by (of_names m) (of_names n) = given (one_name m.program number other place there m.first (subst (λ h. names.IsFirst h other there) (one text n.program m.program n.tree m.tree) n.first))
+    by (of_names m) (of_names n) = given (one_first (names.Fails m.program) number other place there m.first (subst (λ h. rule.IsFirst (names.Fails h) (record { number = other; place = there })) (one text n.program m.program n.tree m.tree) n.first))
     by (of_names m) (of_rules n) = absurd (misnamed one text n.program number place n.tree n.named m)
     by (of_rules m) (of_names n) = absurd (misnamed one text m.program other there m.tree m.named n)
     by (of_rules m) (of_rules n) =
-        given (one_rule m.program number other place there m.first (subst (λ h. rule.IsFirst (Fails h) (record { number = other; place = there })) (one text n.program m.program n.tree m.tree) n.first))
+        given (one_first (Fails m.program) number other place there m.first (subst (λ h. rule.IsFirst (Fails h) (record { number = other; place = there })) (one text n.program m.program n.tree m.tree) n.first))
 
 -- ---- what `read` answers
 
 pub name_only : HasOneTree → (text : List ℕ) (t g : Prog Place) (fault : NameFault) → IsTreeOf text t → IsNameFault t fault → IsProgramOf text g → nominal fault ≡ Memory
-name_only one text t g (name_fault.Rule number place) tree first is = absurd (subst IsNamed (one text g t is.tree tree) is.checked.named number place first.fails)
+name_only one text t g (name_fault.Rule number place) tree first is = absurd (subst IsNamed (one text g t is.tree tree) is.checked.named number place first.broken)
 name_only one text t g name_fault.Memory tree first is = refl
 
 pub name_fault_is : (text : List ℕ) (t : Prog Place) (fault : NameFault) → IsTreeOf text t → IsNameFault t fault → IsFaultOf text (nominal fault)

@@ -23,7 +23,7 @@ pub record IsProgramOf (text : List ℕ) (g : Prog Place) : Type 0 where
 pub record IsMisnamed (text : List ℕ) (number : ℕ) (place : Place) : Type 0 where
   pub program : Prog Place
   pub tree : IsTreeOf text program
-  pub first : names.IsFirst program number place
+  pub first : rule.IsFirst (names.Fails program) (record { number = number; place = place })
 
 -- the tree is that of the text, no rule for names fails, and a static rule fails first at the place
 pub record IsMisruled (text : List ℕ) (number : ℕ) (place : Place) : Type 0 where
