@@ -37,7 +37,7 @@ fn with_program<F: Files, O: Sink>(
     ensures write_fault { result ≡ 7 → Rose (F.write_faults files.old image.now) (F.write_faults files.new image.now) ⊎ Rose (O.faults out.old) (O.faults out.new) }
     ensures nothing { (result ≡ 6) ⊎ (result ≡ 8) → O.taken out.new ≡ O.taken out.old }
     ensures others { OthersStay (F.held files.old) (F.held files.new) image.now }
-    ensures stays { 0 < result → result < 7 → AllStay (F.held files.old) (F.held files.new) }
+    ensures stays { 0 < result → result ≢ 7 → AllStay (F.held files.old) (F.held files.new) }
     ensures refused { OnTrue F.tells (NothingStored (IsDueByScript (program_of form.now) (F.held files.old script.now)) (F.held files.old) (F.held files.new)) }
 {
     match read_script(files, script) {

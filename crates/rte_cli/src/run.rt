@@ -2,7 +2,7 @@
 
 ghost use Rattle.std.specs.Prelude.{◌≡◌, ◌≢◌, ◌≤◌, ◌<◌, ◌⊎◌, ◌++◌, ℕ, List, Some, IfSome, IsSomeAnd, true};
 ghost use Rattle.std.specs.Bool.{OnTrue};
-ghost use Rattle.rte_io.specs.Outside.{Rose, OthersStay, Appends, AppendsFront};
+ghost use Rattle.rte_io.specs.Outside.{Rose, AllStay, OthersStay, Appends, AppendsFront};
 ghost use Rattle.rte_cli.specs.Due.{done};
 ghost use Rattle.rte_cli.specs.Answers.{StoreFailed};
 ghost use Rattle.rte_form.specs.Form.{program_of};
@@ -61,6 +61,7 @@ fn store<F: Files, O: Sink>(
     ensures cause { result ≡ 7 → StoreFailed F.tells (F.write_faults files.old name.now) (F.write_faults files.new name.now) (O.taken out.old) (O.taken out.new) (O.faults out.old) (O.faults out.new) (F.held files.new name.now) bytes.now }
     ensures nothing { result ≡ 8 → O.taken out.new ≡ O.taken out.old }
     ensures others { OthersStay (F.held files.old) (F.held files.new) name.now }
+    ensures kept { result ≡ 8 → AllStay (F.held files.old) (F.held files.new) }
 {
     match files.write(name, bytes) {
         Ok(()) => tell(report, image, script, machine, out),
@@ -89,6 +90,7 @@ pub fn run_program<F: Files, O: Sink>(
     ensures cause { result ≡ 7 → StoreFailed F.tells (F.write_faults files.old name.now) (F.write_faults files.new name.now) (O.taken out.old) (O.taken out.new) (O.faults out.old) (O.faults out.new) (F.held files.new name.now) (bytes_of (named_image_of (program_of form.now))) }
     ensures nothing { result ≡ 8 → O.taken out.new ≡ O.taken out.old }
     ensures others { OthersStay (F.held files.old) (F.held files.new) name.now }
+    ensures kept { result ≡ 8 → AllStay (F.held files.old) (F.held files.new) }
 {
     let text = match report(alloc, form, Some(bound)) {
         Ok(text) => text,

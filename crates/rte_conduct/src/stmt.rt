@@ -46,8 +46,11 @@ fn is_device(declarations: &Declarations<'_>, wants_out: bool, place: Place) -> 
 fn is_foreign(declarations: &Declarations<'_>, home: Home, place: Place) -> bool
     ensures { result ≡ names_foreign home (named_at (placed declarations.now) place) }
 {
-    match (home, declarations.named(place)) {
-        (Home::Function(own), Some(Thing::Variable { owner, .. })) => owner != Some(own),
+    let Home::Function(own) = home else {
+        return false;
+    };
+    match declarations.named(place) {
+        Some(Thing::Variable { owner, .. }) => owner != Some(own),
         _ => false,
     }
 }

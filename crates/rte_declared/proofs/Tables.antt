@@ -68,3 +68,6 @@ worth-from known (process p ∷ ds) = worth-from known ds
 
 pub amount-value : (g : Prog) (c : Constant) → amount (with_decls no_worth g.decls) c ≡ constant_value g c
 amount-value g c = ap (λ w. amount w c) (worth-from [] g.decls) ∙ amount-among (constants g) c
+
+pub worth-value : (g : Prog) (n : Name) → with_decls no_worth g.decls n ≡ value_among (constants g) n
+worth-value g n = ap (λ w. w n) (worth-from [] g.decls)

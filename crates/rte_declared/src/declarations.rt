@@ -1,7 +1,8 @@
 //! What the names of a program are declared as, and what its constants are worth.
 
 ghost use Rattle.std.specs.Prelude.{◌≡◌, IfOk, ◌≤ℤ◌, pos, negsuc, option_map};
-ghost use Rattle.rte_tree.specs.Placed.{placed, placed_constant};
+ghost use Rattle.rte_source.specs.Names.{constants, value_among};
+ghost use Rattle.rte_tree.specs.Placed.{placed, placed_constant, plain};
 ghost use Rattle.rte_declared.specs.Things.{named_at};
 ghost use Rattle.rte_declared.specs.Values.{value, out_of as out_of_limits};
 ghost use Rattle.rte_names.specs.Occurrences.{names, declared_at};
@@ -9,9 +10,9 @@ ghost use Rattle.rte_declared.specs.Seen.{seen};
 
 use crate::thing::Thing;
 use crate::things::{Things, things};
-use crate::values::{Values, value_of, values};
+use crate::values::{Values, named, value_of, values};
 use rte_names::Named;
-use rte_tree::{Constant, Place, Prog};
+use rte_tree::{Constant, Name, Place, Prog};
 use std::alloc::{AllocError, Global};
 use std::marker::Model;
 
@@ -86,6 +87,14 @@ impl<'a> Declarations<'a> {
         ensures within { (negsuc 4294967294 ≤ℤ result) × (result ≤ℤ pos 4294967295) }
     {
         value_of(&self.values, constant).get()
+    }
+
+    /// The value of the constant of that name, 0 where there is none, from -4,294,967,295 to 4,294,967,295.
+    pub fn constant(&self, name: &Name) -> i64
+        ensures exact { result ≡ value_among (constants (plain (placed self.now))) name.now }
+        ensures within { (negsuc 4294967294 ≤ℤ result) × (result ≤ℤ pos 4294967295) }
+    {
+        named(&self.values, name.as_bytes()).get()
     }
 
     /// The place of a constant whose value is not within the limits.

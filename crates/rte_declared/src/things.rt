@@ -8,12 +8,13 @@ ghost use Rattle.rte_declared.specs.Seen.{seen, known_things, Declared, nothing}
 
 use crate::sort::{Shape, shape_of, sort_of};
 use crate::thing::Thing;
-use indexmap::IndexMap;
+use rte_names::PlaceMap;
 use rte_tree::{Decl, Member, Param, Place, Prog, Routine, Var};
 use std::alloc::{AllocError, Global};
+use std::hash::BuildHasherDefault;
 
 /// What stands declared at each place, by line and column.
-pub type Things<'a> = IndexMap<(u32, u32), Thing<'a>>;
+pub type Things<'a> = PlaceMap<Thing<'a>>;
 
 /// Keeps one more declaration.
 fn keep<'a>(things: &mut Things<'a>, place: Place, thing: Thing<'a>) -> Result<(), AllocError>
@@ -140,7 +141,7 @@ fn decls<'a>(things: &mut Things<'a>, list: &'a [Decl]) -> Result<(), AllocError
 pub fn things<'a>(alloc: Global, program: &'a Prog) -> Result<Things<'a>, AllocError>
     ensures { IfOk result (λ things. known_things things.entries ≡ learn nothing (decls_things (map placed_decl program.now.decls) ((program.now.place, other_thing) ∷ []))) }
 {
-    let mut things = Things::new(alloc);
+    let mut things = Things::with_hasher(alloc, BuildHasherDefault::new());
     decls(&mut things, program.decls.as_slice())?;
     keep(&mut things, program.place, Thing::Other)?;
     Ok(things)

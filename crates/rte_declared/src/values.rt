@@ -40,7 +40,7 @@ impl Number {
 }
 
 /// The value of the constant of that name, 0 where there is none.
-fn named(values: &Values<'_>, name: &[u8]) -> Number
+pub fn named(values: &Values<'_>, name: &[u8]) -> Number
     ensures { number_value result ≡ kept_worth values.now.entries name.now }
 {
     let none = Number {

@@ -6,7 +6,8 @@ use Rattle.std.proofs.lemmas.Grind.{div_ceil_times}
 use Rattle.std.proofs.lemmas.List.Sums.{sum_by_more}
 use Rattle.std.proofs.Math.Nat.{mul-le-mul_right}
 use Rattle.rte_response.specs.declared.tasks.Task.{Task}
-use Rattle.rte_response.specs.Demand.{activation, asked, demand_at, IsTask, AreTasks, Solves}
+use Rattle.rte_response.specs.Demand.{activation, asked, demand_at, IsTask, Solves}
+use Rattle.rte_in_time.specs.Limited.{AreLimited}
 use Rattle.rte_in_time.specs.Charges.{total, claim, claims}
 use Rattle.rte_response.specs.Demand.{task_at}
 use Rattle.rte_in_time.specs.Ranked.{cost_at}
@@ -34,11 +35,11 @@ one_frame r frame low high =
         let split : suc (suc d) * frame ≡ frame + frame + d * frame = grind arith in
         absurd (omega arith)
 
-pub task_is : (ts : List Task) (level : ℕ) → AreTasks ts → level < length ts → IsTask (task_at ts level)
-task_is ts level are below = are.each level (record { frame = 0; run = 0; susp = 0; waits = 0; block = 0 }) below
+pub task_is : (ts : List Task) (level : ℕ) → AreLimited ts → level < length ts → IsTask (task_at ts level)
+task_is ts level are below = are level (record { frame = 0; run = 0; susp = 0; waits = 0; block = 0 }) below
 
 -- a solution covers its level and those above it
-pub solution_covers : (ts : List Task) (level r : ℕ) → AreTasks ts → level < length ts → Solves ts level r → (task_at ts level).block + claims (suc level) (λ j. div_ceil r (task_at ts j).frame) (cost_at ts) (task_at ts level).block ≤ r
+pub solution_covers : (ts : List Task) (level r : ℕ) → AreLimited ts → level < length ts → Solves ts level r → (task_at ts level).block + claims (suc level) (λ j. div_ceil r (task_at ts j).frame) (cost_at ts) (task_at ts level).block ≤ r
 unfolding demand_at
 solution_covers ts level r are below solves =
     let own = task_is ts level are below in
@@ -48,7 +49,7 @@ solution_covers ts level r are below solves =
     omega (arith, solves.met, own.frame_high, solves.within)
 
 -- and so does a solution cover one activation of each
-pub covers_one : (ts : List Task) (level r j : ℕ) → AreTasks ts → level < length ts → Solves ts level r → j ≤ level → claim (task_at ts level).block (cost_at ts j) ≤ r
+pub covers_one : (ts : List Task) (level r j : ℕ) → AreLimited ts → level < length ts → Solves ts level r → j ≤ level → claim (task_at ts level).block (cost_at ts j) ≤ r
 covers_one ts level r j are below solves within =
     let all = solution_covers ts level r are below solves in
     let term = total_term (suc level) j (λ i. div_ceil r (task_at ts i).frame * claim (task_at ts level).block (cost_at ts i)) (omega arith) in

@@ -4,7 +4,8 @@ use Rattle.std.specs.Prelude.{true}
 use Rattle.std.specs.Int.{div_ceil}
 use Rattle.std.proofs.lemmas.Bool.{cases_lt}
 use Rattle.rte_response.specs.declared.tasks.Task.{Task}
-use Rattle.rte_response.specs.Demand.{IsTask, AreTasks, Solves}
+use Rattle.rte_response.specs.Demand.{IsTask, Solves}
+use Rattle.rte_in_time.specs.Limited.{AreLimited}
 use Rattle.rte_in_time.specs.Charges.{Cost}
 use Rattle.rte_in_time.specs.Stretches.{flag, NoneActive, SomeActive, Trace, IsRun, AreCharged, releases, IsStretch}
 use Rattle.rte_response.specs.Demand.{task_at}
@@ -23,7 +24,7 @@ run_below n m cost end t le run = record {
 }
 
 -- at most as many releases as frames begin
-few_releases : (ts : List Task) (end : ℕ) (t : Trace) (stay : ℕ → ℕ → ℕ) (start ticks n : ℕ) → AreTasks ts → IsRanked ts end t stay → n ≤ length ts → start + ticks ≤ end → (j : ℕ) → j < n → releases (λ k. t.released k j) start ticks ≤ div_ceil ticks (task_at ts j).frame
+few_releases : (ts : List Task) (end : ℕ) (t : Trace) (stay : ℕ → ℕ → ℕ) (start ticks n : ℕ) → AreLimited ts → IsRanked ts end t stay → n ≤ length ts → start + ticks ≤ end → (j : ℕ) → j < n → releases (λ k. t.released k j) start ticks ≤ div_ceil ticks (task_at ts j).frame
 few_releases ts end t stay start ticks n are ranked le within j below =
     let is : IsTask (task_at ts j) = task_is ts j are (omega arith) in
     releases_ceil (task_at ts j).frame end (λ k. t.released k j) start ticks (omega (arith, is.frame_low)) (ranked.spaced j (omega arith)) within
@@ -42,7 +43,7 @@ at_level ts end t stay level ranked below = record {
 }
 
 -- no stretch of a level is longer than a solution
-pub stretch_within : (ts : List Task) (end : ℕ) (t : Trace) (stay : ℕ → ℕ → ℕ) (level bound start ticks : ℕ) → AreTasks ts → IsRanked ts end t stay → level < length ts → Solves ts level bound → IsStretch (suc level) t start ticks → start + ticks ≤ end → ticks ≤ bound
+pub stretch_within : (ts : List Task) (end : ℕ) (t : Trace) (stay : ℕ → ℕ → ℕ) (level bound start ticks : ℕ) → AreLimited ts → IsRanked ts end t stay → level < length ts → Solves ts level bound → IsStretch (suc level) t start ticks → start + ticks ≤ end → ticks ≤ bound
 stretch_within ts end t stay level bound start ticks are ranked below solves stretch within =
     let l = at_level ts end t stay level ranked below in
     no_longer (suc level) (cost_at ts) (task_at ts level).block end t (stay level) start ticks bound (λ j. div_ceil bound (task_at ts j).frame) l.run l.charged stretch within solves.above (λ sooner. few_releases ts end t stay start bound (suc level) are ranked (omega arith) sooner) (solution_covers ts level bound are below solves)
@@ -64,7 +65,7 @@ from_releases n cost end t j start run below idle (suc ticks) within =
     subst P e (omega (arith, opens.run, acts.run))
 
 -- no release finds its process unfinished
-pub no_overrun : (ts : List Task) (end : ℕ) (t : Trace) (stay : ℕ → ℕ → ℕ) (j bound tick : ℕ) → AreTasks ts → IsRanked ts end t stay → j < length ts → Solves ts j bound → tick < end → t.released tick j ≡ true → (t.before tick j).run_left ≡ 0
+pub no_overrun : (ts : List Task) (end : ℕ) (t : Trace) (stay : ℕ → ℕ → ℕ) (j bound tick : ℕ) → AreLimited ts → IsRanked ts end t stay → j < length ts → Solves ts j bound → tick < end → t.released tick j ≡ true → (t.before tick j).run_left ≡ 0
 no_overrun ts end t stay j bound tick are ranked below solves within released = elim (cases_lt 0 (t.before tick j).run_left) [
   | inr none ↦ omega arith
   | inl active ↦
@@ -105,7 +106,7 @@ clear_or_busy n t start (suc ticks) = elim (clear_or_busy n t start ticks) [
 ]
 
 -- a stretch has ended after as many ticks as a solution
-ends_by : (ts : List Task) (end : ℕ) (t : Trace) (stay : ℕ → ℕ → ℕ) (level bound start : ℕ) → AreTasks ts → IsRanked ts end t stay → level < length ts → Solves ts level bound → IsStretch (suc level) t start 1 → start + bound ≤ end → (k : ℕ) × (0 < k) × (k ≤ bound) × NoneActive (suc level) (t.before (start + k))
+ends_by : (ts : List Task) (end : ℕ) (t : Trace) (stay : ℕ → ℕ → ℕ) (level bound start : ℕ) → AreLimited ts → IsRanked ts end t stay → level < length ts → Solves ts level bound → IsStretch (suc level) t start 1 → start + bound ≤ end → (k : ℕ) × (0 < k) × (k ≤ bound) × NoneActive (suc level) (t.before (start + k))
 ends_by ts end t stay level bound start are ranked below solves stretch within = elim (clear_or_busy (suc level) t start bound) [
   | inl found ↦ (found.0, found.1, omega (arith, found.2), found.3)
   | inr busy ↦
@@ -162,7 +163,7 @@ end_or_active n cost end t j release run below active (suc ticks) within = elim 
 ]
 
 -- every activation ends within its bound
-pub ends_within : (ts : List Task) (end : ℕ) (t : Trace) (stay : ℕ → ℕ → ℕ) (j bound tick : ℕ) → AreTasks ts → IsRanked ts end t stay → j < length ts → Solves ts j bound → t.released tick j ≡ true → tick + bound ≤ end → EndsWithin t j tick bound
+pub ends_within : (ts : List Task) (end : ℕ) (t : Trace) (stay : ℕ → ℕ → ℕ) (j bound tick : ℕ) → AreLimited ts → IsRanked ts end t stay → j < length ts → Solves ts j bound → t.released tick j ≡ true → tick + bound ≤ end → EndsWithin t j tick bound
 ends_within ts end t stay j bound tick are ranked below solves released within =
     let l = at_level ts end t stay j ranked below in
     let pos : 1 ≤ bound = solves.above in
@@ -182,7 +183,7 @@ ends_within ts end t stay j bound tick are ranked below solves released within =
       ]
     ]
 
-pub in_time : (ts : List Task) (bounds : ℕ → ℕ) (end : ℕ) (t : Trace) (stay : ℕ → ℕ → ℕ) → AreTasks ts → AreBounds ts bounds → IsRanked ts end t stay → IsInTime ts bounds end t
+pub in_time : (ts : List Task) (bounds : ℕ → ℕ) (end : ℕ) (t : Trace) (stay : ℕ → ℕ → ℕ) → AreLimited ts → AreBounds ts bounds → IsRanked ts end t stay → IsInTime ts bounds end t
 in_time ts bounds end t stay are solve ranked = record {
   stretches = λ level start ticks below stretch within. stretch_within ts end t stay level (bounds level) start ticks are ranked below (solve level below) stretch within;
   idle = λ k j below within released. no_overrun ts end t stay j (bounds j) k are ranked below (solve j below) within released;

@@ -2,7 +2,7 @@
 use Rattle.std.proofs.Common.{◌≡◌, ℕ, suc, inl, inr, List, length, arith, ap, sym, subst, ◌∙◌}
 use Rattle.std.specs.Prelude.{true, Option, Some, None}
 use Rattle.rte_response.specs.declared.tasks.Task.{Task}
-use Rattle.rte_response.specs.Demand.{AreTasks}
+use Rattle.rte_in_time.specs.Limited.{AreLimited}
 use Rattle.rte_in_time.specs.Stretches.{Life, Trace, Opens, Spaced}
 use Rattle.rte_response.specs.Demand.{task_at}
 use Rattle.rte_in_time.specs.Ranked.{cost_at, EndsWithin}
@@ -89,7 +89,7 @@ end_at_place place t j release bound e = record {
   goes_on = e.goes_on;
 }
 
-pub in_time_at : (ts : List Task) (rank place bounds : ℕ → ℕ) (end : ℕ) (t : Trace) (d : Dispatch) → AreTasks ts → AreBounds ts bounds → AreRanks (length ts) rank place → IsPlaced ts rank end t d → IsInTimeAt ts rank place bounds end t
+pub in_time_at : (ts : List Task) (rank place bounds : ℕ → ℕ) (end : ℕ) (t : Trace) (d : Dispatch) → AreLimited ts → AreBounds ts bounds → AreRanks (length ts) rank place → IsPlaced ts rank end t d → IsInTimeAt ts rank place bounds end t
 in_time_at ts rank place bounds end t d tasks solve are placed =
     let dispatched = is_dispatched ts rank place end t d are placed in
     let timed = in_time ts bounds end (by_rank place t) (λ level k. stay_at ts (λ j. d.inside k (place j)) level) tasks solve (is_ranked ts end (by_rank place t) (dispatch_by_rank rank place d) dispatched) in

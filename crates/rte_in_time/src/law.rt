@@ -22,7 +22,8 @@ ghost use Rattle.rte_in_time.specs.Stretches.{
   Trace,
 };
 ghost use Rattle.rte_response.specs.declared.tasks.Task.{Task};
-ghost use Rattle.rte_response.specs.Demand.{task_at, AreTasks, Solves};
+ghost use Rattle.rte_response.specs.Demand.{task_at, Solves};
+ghost use Rattle.rte_in_time.specs.Limited.{AreLimited};
 ghost use Rattle.std.specs.Int.{div_ceil};
 ghost use Rattle.std.specs.Prelude.{◌+◌, ◌<◌, ◌≡◌, ◌≤◌, length, suc, true, Bool, List, Option, Some, ℕ};
 
@@ -94,7 +95,7 @@ pub fn missed_deadlines_ask_more()
 /// A run in which each busy tick of each level has a charge is in time, where each level has a bound.
 pub fn ranked_runs_are_in_time()
     ensures { (ts : List Task) (bounds : ℕ → ℕ) (end : ℕ) (t : Trace) (stay : ℕ → ℕ → ℕ)
-        → AreTasks ts
+        → AreLimited ts
         → AreBounds ts bounds
         → IsRanked ts end t stay
         → IsInTime ts bounds end t }
@@ -107,7 +108,7 @@ pub fn ranked_runs_are_in_time()
 /// one stay.
 pub fn dispatched_runs_are_in_time()
     ensures { (ts : List Task) (bounds : ℕ → ℕ) (end : ℕ) (t : Trace) (d : Dispatch)
-        → AreTasks ts
+        → AreLimited ts
         → AreBounds ts bounds
         → IsDispatched ts end t d
         → IsInTime ts bounds end t }
@@ -116,7 +117,7 @@ pub fn dispatched_runs_are_in_time()
 /// The same where the processes stand in any order of places, and have their ranks by a numbering of its own.
 pub fn placed_runs_are_in_time()
     ensures { (ts : List Task) (rank place bounds : ℕ → ℕ) (end : ℕ) (t : Trace) (d : Dispatch)
-        → AreTasks ts
+        → AreLimited ts
         → AreBounds ts bounds
         → AreRanks (length ts) rank place
         → IsPlaced ts rank end t d
@@ -127,7 +128,7 @@ pub fn placed_runs_are_in_time()
 /// and so no run cost or suspension of theirs passes it.
 pub fn bounds_cover_activations()
     ensures { (ts : List Task) (level bound j : ℕ)
-        → AreTasks ts
+        → AreLimited ts
         → level < length ts
         → Solves ts level bound
         → j ≤ level

@@ -66,13 +66,14 @@ pub trait Files {
         ensures read_counts { NoneFell (read_faults self.old) (read_faults self.new) }
         ensures write_counts { NoneFell (write_faults self.old) (write_faults self.new) };
 
-    /// Makes the name hold the bytes, and leaves the other names as they were. After a refusal the
-    /// name may hold anything. `Failed` comes only where the name's count of faults rose.
+    /// Makes the name hold the bytes, and leaves the other names as they were. After `Memory` the
+    /// name holds what it held, after `Failed` anything. `Failed` comes only where the name's count of faults rose.
     fn write(&mut self, name: &str, bytes: &[u8]) -> Result<(), WriteFault>
         ensures stored { OnOk result (OnTrue tells (held self.new name.now ≡ Some bytes.now)) }
         ensures failed { result ≡ Err WriteFault.Failed →
             Rose (write_faults self.old name.now) (write_faults self.new name.now) }
         ensures others { OthersStay (held self.old) (held self.new) name.now }
+        ensures kept { result ≡ Err WriteFault.Memory → AllStay (held self.old) (held self.new) }
         ensures read_counts { NoneFell (read_faults self.old) (read_faults self.new) }
         ensures write_counts { NoneFell (write_faults self.old) (write_faults self.new) };
 }

@@ -1,5 +1,5 @@
 -- Entering a loop puts its variable inside.
-use Rattle.std.proofs.Common.{◌≡◌, ◌-◌, List, [], ◌∷◌, ◌++◌, Option, Some, None, if◌then◌else◌, length, take, length-append, take_at, refl, arith}
+use Rattle.std.proofs.Common.{◌≡◌, ◌-◌, List, [], ◌∷◌, ◌++◌, Option, Some, None, if◌then◌else◌, length, take, length-append, take_at, refl, ap, ◌∙◌, arith}
 use Rattle.rte_tree.specs.Plain.{Name}
 use Rattle.rte_names.specs.declared.kind.Declared.{Declared}
 use Rattle.rte_names.specs.declared.scope.Local.{Local}
@@ -19,3 +19,13 @@ site-enter a ls l = λ i. record {
 
 pub take-front : (ls : List Local) (l : Local) → take (length (ls ++ l ∷ []) - 1) (ls ++ l ∷ []) ≡ ls
 take-front ls l = take_at ls (l ∷ []) (length (ls ++ l ∷ []) - 1) (omega (arith, length-append ls (l ∷ [])))
+
+or_else-assoc : (c o p : Option Declared) → or_else c (or_else o p) ≡ or_else (or_else c o) p
+or_else-assoc (Some d) o p = refl
+or_else-assoc None o p = refl
+
+-- a loop variable comes before what is outside of loops
+pub loops_before : (name : Name) (ls : List Local) (o p : Option Declared) → in_loops name ls (or_else o p) ≡ or_else (in_loops name ls o) p
+loops_before name [] o p = refl
+loops_before name (l ∷ ls) o p =
+    ap (in_loops name ls) (or_else-assoc (if same name l.name.now then Some l.declared else None) o p) ∙ loops_before name ls (or_else (if same name l.name.now then Some l.declared else None) o) p

@@ -4,3 +4,4 @@ pub mod Rules
 pub mod Findings
 pub mod Seen
 pub mod Resolved
+pub mod Near

@@ -4,7 +4,7 @@ ghost use Rattle.std.specs.Prelude.{◌≡◌, OnOk, List, []};
 ghost use Rattle.rte_names.specs.Reach.{through, or_else};
 ghost use Rattle.rte_names.specs.Occurrences.{Occurrence, uses, entry_names};
 ghost use Rattle.rte_names.specs.Findings.{note, noted};
-ghost use Rattle.rte_names.specs.Seen.{top_site, outer_site, site};
+ghost use Rattle.rte_names.specs.Seen.{meaning_in, top_site, outer_site, site};
 
 use crate::findings::Findings;
 use crate::kind::{Declared, Kind, Want};
@@ -35,15 +35,6 @@ pub struct Around<'s, 'a> {
     pub locals: Option<&'s Scope<'a>>,
 }
 
-fn either(inner: Option<Declared>, outer: Option<Declared>) -> Option<Declared>
-    ensures { result ≡ or_else inner outer }
-{
-    match inner {
-        Some(declared) => Some(declared),
-        None => outer,
-    }
-}
-
 impl<'s, 'a> Top<'s, 'a> {
     /// What is around a routine of the program.
     pub fn outside(&self) -> Outer<'s, 'a>
@@ -72,17 +63,32 @@ impl<'s, 'a> Outer<'s, 'a> {
     pub fn means(&self, name: &[u8]) -> Option<Declared>
         ensures { result ≡ (outer_site self.now).means name.now }
     {
-        either(find_in(self.members, name), find(self.top.program, name))
+        match find_in(self.members, name) {
+            Some(declared) => Some(declared),
+            None => find(self.top.program, name),
+        }
     }
 }
 
 impl<'s, 'a> Around<'s, 'a> {
+    /// What a name means that is no loop variable.
+    fn outside_loops(&self, name: &[u8]) -> Option<Declared>
+        ensures { result ≡ or_else (meaning_in self.now.locals name.now) ((outer_site self.now.outer).means name.now) }
+    {
+        match find_in(self.locals, name) {
+            Some(declared) => Some(declared),
+            None => self.outer.means(name),
+        }
+    }
+
     /// What a name means.
     pub fn means(&self, loops: &[Local<'a>], name: &[u8]) -> Option<Declared>
         ensures { result ≡ (site self.now loops.now).means name.now }
     {
-        let outside = either(find_in(self.locals, name), self.outer.means(name));
-        find_in_loops(loops, name, outside)
+        match find_in_loops(loops, name, None) {
+            Some(declared) => Some(declared),
+            None => self.outside_loops(name),
+        }
     }
 
     /// What a name means as a member of the monitor that the other means.

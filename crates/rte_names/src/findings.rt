@@ -5,17 +5,18 @@ ghost use Rattle.rte_names.specs.Occurrences.{closes};
 ghost use Rattle.rte_names.specs.Findings.{blame as blamed, tie as tied, note, note_use, note_declaration};
 
 use crate::kind::{Declared, Want, suits};
-use indexmap::IndexMap;
+use crate::near::PlaceMap;
 use rte_first::Broken;
 use rte_tree::{Name, Place};
 use std::alloc::{AllocError, Global};
+use std::hash::BuildHasherDefault;
 use std::marker::Model;
 
 /// The first rule that fails, and for the place of each use that of the declaration.
 #[derive(Drop)]
 pub struct Findings {
     pub first: Option<Broken>,
-    pub ties: IndexMap<(u32, u32), Place>,
+    pub ties: PlaceMap<Place>,
 }
 
 impl Model for Findings {
@@ -33,7 +34,7 @@ impl Findings {
     {
         Findings {
             first: None,
-            ties: IndexMap::new(alloc),
+            ties: PlaceMap::with_hasher(alloc, BuildHasherDefault::new()),
         }
     }
 

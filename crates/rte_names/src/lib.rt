@@ -17,12 +17,14 @@ mod expr;
 mod findings;
 mod kind;
 mod named;
+mod near;
 mod part;
 mod program;
 mod scope;
 mod stmt;
 
 pub use named::{NameFault, Named, name};
+pub use near::{NearHasher, PlaceMap};
 
 #[cfg(test)]
 mod tests;

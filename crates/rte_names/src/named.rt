@@ -6,8 +6,8 @@ ghost use Rattle.rte_names.specs.Occurrences.{names as names_of, declared_at};
 ghost use Rattle.rte_names.specs.Rules.{NamesAt, UsedAt};
 ghost use Rattle.rte_names.specs.Resolved.{IsRead, IsNamed, IsFault};
 
+use crate::near::PlaceMap;
 use crate::program::findings;
-use indexmap::IndexMap;
 use rte_tree::{Place, Prog};
 use std::alloc::Global;
 use std::marker::Model;
@@ -30,7 +30,7 @@ pub enum NameFault {
 #[derive(Drop)]
 pub struct Named {
     prog: Prog,
-    ties: IndexMap<(u32, u32), Place>,
+    ties: PlaceMap<Place>,
 }
 
 impl Model for Named {

@@ -21,7 +21,7 @@ front-step : {P A B : Type 0} (view : A → B) (xs : List A) (x : A) (r : Result
 front-step view xs x (Ok r) = ap (λ ys. Ok (ys, r.1)) (pushed view xs x r.0)
 front-step view xs x (Err f) = refl
 
-each-stop : {P B : Type 0} (b : List (Tok P) → Bool) (p : Parse P B) (n : ℕ) (ts : List (Tok P)) → b ts ≡ false → each b p n ts ≡ Ok ([], ts)
+pub each-stop : {P B : Type 0} (b : List (Tok P) → Bool) (p : Parse P B) (n : ℕ) (ts : List (Tok P)) → b ts ≡ false → each b p n ts ≡ Ok ([], ts)
 unfolding each
 each-stop b p zero ts stop = refl
 each-stop b p (suc n) ts stop = ap (λ c. cond c (p ts >>= λ x. each b p n x.1 >>= λ xs. Ok (x.0 ∷ xs.0, xs.1)) (Ok ([], ts))) stop

@@ -1,5 +1,5 @@
 -- Steps of the functions that read expressions.
-use Rattle.std.proofs.Common.{◌≡◌, ℕ, zero, suc, ◌-◌, ◌<◌, List, [], ◌∷◌, map, Box, Global, arith, ap, sym, ◌∙◌, refl}
+use Rattle.std.proofs.Common.{◌≡◌, ℕ, zero, suc, ◌+◌, ◌-◌, ◌≤◌, List, [], ◌∷◌, map, Ok, Err, false, Box, Global, arith, ap, sym, ◌∙◌, refl}
 use Rattle.rte_tree.specs.declared.place.Place.{Place}
 use Rattle.rte_tree.specs.declared.expr.Op.{Op}
 use Rattle.rte_tree.specs.declared.expr.Expr.{Expr}
@@ -8,18 +8,44 @@ use Rattle.rte_tree.specs.Placed as tree
 use Rattle.rte_tree.specs.Placed.{placed_expr, placed_operands, operand}
 use Rattle.rte_tree.proofs.Views.{expr-Chain}
 use Rattle.rte_grammar.specs.Words.{Tok}
-use Rattle.rte_grammar.specs.ExprReading.{Parse, factor, factor_in, inner, level, row_at, operands_from, joined}
-use Rattle.rte_parse.specs.Reads.{placed_pair}
+use Rattle.rte_grammar.specs.ExprReading.{Parse, Fault, ◌>>=◌, is_some, op_at, operand_at, operands_at, factor, factor_in, inner, level, row_at, operands_from, joined}
+use Rattle.rte_parse.specs.Reads.{Reads, placed_pair, row_from}
+use Rattle.rte_parse.specs.declared.fault.Refusal.{Refusal}
+use Rattle.rte_parse.specs.declared.fault.Refusal.TheVariants.{Memory, Syntax, Nesting}
+use Rattle.rte_parse.proofs.Loops.{each-stop}
 
 pub factor-inner : {P : Type 0} (depth : ℕ) (ts : List (Tok P)) → factor depth ts ≡ factor_in (inner depth) ts
 unfolding factor
 factor-inner zero ts = refl
 factor-inner (suc depth) ts = refl
 
-pub level-row : {P : Type 0} (p : Parse P (tree.Expr P)) (h : ℕ) (ts : List (Tok P)) → 0 < h → level p h ts ≡ row_at h (level p (h - 1)) ts
-unfolding level
-level-row p zero ts pos = absurd (omega arith)
-level-row p (suc h) ts pos = let e : h ≡ suc h - 1 = omega arith in ap (λ m. row_at (suc h) (level p m) ts) e
+-- one level further, behind what was read
+pub level-next : {P : Type 0} (p : Parse P (tree.Expr P)) (h k : ℕ) (e : tree.Expr P) (ts us : List (Tok P)) → k ≡ suc h → level p h ts ≡ Ok (e, us) → level p k ts ≡ row_from k (level p (k - 1)) e us
+unfolding level row_at
+level-next p h k e ts us next read =
+    let back : h ≡ suc h - 1 = omega arith in
+    ap (λ j. level p j ts) next ∙ ap (λ r. r >>= λ x. row_from (suc h) (level p h) x.0 x.1) read ∙ ap (λ j. row_from (suc h) (level p j) e us) back ∙ ap (λ j. row_from j (level p (j - 1)) e us) (sym next)
+
+-- where no operator of the level is next
+pub level-stays : {P : Type 0} (p : Parse P (tree.Expr P)) (h k : ℕ) (e : tree.Expr P) (ts us : List (Tok P)) → k ≡ suc h → level p h ts ≡ Ok (e, us) → is_some (op_at k us) ≡ false → level p k ts ≡ Ok (e, us)
+unfolding operands_at
+level-stays p h k e ts us next read none =
+    level-next p h k e ts us next read ∙ ap (λ r. r >>= λ rs. Ok (joined e rs.0, rs.1)) (each-stop (λ vs. is_some (op_at k vs)) (operand_at k (level p (k - 1))) _ us none)
+
+-- a failure at a lower level is one of all that stand above it
+level-fails : {P : Type 0} (p : Parse P (tree.Expr P)) (h n : ℕ) (ts : List (Tok P)) (f : Fault) → level p h ts ≡ Err f → level p (n + h) ts ≡ Err f
+unfolding level row_at
+level-fails p h zero ts f fails = let same : zero + h ≡ h = omega arith in ap (λ j. level p j ts) same ∙ fails
+level-fails p h (suc n) ts f fails =
+    let same : suc n + h ≡ suc (n + h) = omega arith in
+    ap (λ j. level p j ts) same ∙ ap (λ r. r >>= λ x. row_from (suc (n + h)) (level p (n + h)) x.0 x.1) (level-fails p h n ts f fails)
+
+-- what a lower level could not read, none above it can
+pub refused-above : (p : Parse Place (tree.Expr Place)) (h k : ℕ) (r : Refusal) (ts us vs : List (Tok Place)) → h ≤ k
+    → Reads placed_expr (level p h ts) (Err r) us → Reads placed_expr (level p k ts) (Err r) vs
+refused-above p h k Memory ts us vs below fails = tt
+refused-above p h k (Syntax n) ts us vs below fails = let same : k ≡ (k - h) + h = omega arith in ap (λ j. level p j ts) same ∙ level-fails p h (k - h) ts _ fails
+refused-above p h k (Nesting n) ts us vs below fails = let same : k ≡ (k - h) + h = omega arith in ap (λ j. level p j ts) same ∙ level-fails p h (k - h) ts _ fails
 
 operands-view : (rs : List (Op × Expr)) → placed_operands rs ≡ operands_from (map placed_pair rs)
 operands-view [] = refl

@@ -1,5 +1,5 @@
 -- What a function returned is what reading gives, unless memory ran out.
-use Rattle.std.specs.Prelude.{◌≡◌, List, [], ◌∷◌, ◌++◌, map, Option, Some, None, Result, Ok, Err}
+use Rattle.std.specs.Prelude.{◌≡◌, ℕ, List, [], ◌∷◌, ◌++◌, map, Option, Some, None, Result, Ok, Err}
 use Rattle.rte_tree.specs.declared.place.Place.{Place}
 use Rattle.rte_lex.specs.declared.token.TokenKind.{TokenKind}
 use Rattle.rte_lex.specs.declared.token.TokenKind.TheVariants as kind
@@ -9,7 +9,7 @@ use Rattle.rte_tree.specs.Placed as tree
 use Rattle.rte_tree.specs.declared.expr.Op as code_op
 use Rattle.rte_tree.specs.declared.expr.Expr as code_expr
 use Rattle.rte_tree.specs.declared.expr.Constant as code_constant
-use Rattle.rte_grammar.specs.ExprReading.{Fault, syntax, nesting, ◌>>=◌, op_of}
+use Rattle.rte_grammar.specs.ExprReading.{Fault, Parse, syntax, nesting, ◌>>=◌, op_of, operands_at, joined}
 use Rattle.rte_parse.specs.declared.fault.Refusal.{Refusal}
 use Rattle.rte_parse.specs.declared.fault.Refusal.TheVariants as refusal
 
@@ -61,3 +61,7 @@ Gives view read (Ok x) = read ≡ Ok (view x)
 Gives view read (Err refusal.Memory) = Unit {0}
 Gives view read (Err (refusal.Syntax n)) = read ≡ Err (syntax n)
 Gives view read (Err (refusal.Nesting n)) = read ≡ Err (nesting n)
+
+-- behind a first operand, operators of this level with theirs, read by what reads operands
+abbrev pub row_from : {P : Type 0} → ℕ → Parse P (tree.Expr P) → tree.Expr P → Parse P (tree.Expr P)
+row_from level p first ts = operands_at level p ts >>= λ rs. Ok (joined first rs.0, rs.1)

@@ -6,7 +6,7 @@ ghost use Rattle.rte_grammar.specs.Words.{COMMA};
 ghost use Rattle.rte_grammar.specs.Words.{keyword as keyword_word, sign as sign_word};
 ghost use Rattle.rte_grammar.specs.ExprGrammar.{height as height_in};
 ghost use Rattle.rte_grammar.specs.ExprReading as reading;
-ghost use Rattle.rte_parse.specs.Reads.{Reads, with_front, placed_op, placed_pair, op_of_kind};
+ghost use Rattle.rte_parse.specs.Reads.{Reads, row_from, with_front, placed_op, placed_pair, op_of_kind};
 
 use crate::fault::Refusal;
 use crate::parser::Parser;
@@ -149,28 +149,30 @@ impl Parser<'_> {
         self.unsigned(alloc)
     }
 
-    /// An expression of at most this height, with `depth` levels of nesting left.
+    /// An expression of at most this height, with `depth` levels of nesting left: a factor, and for
+    /// each height in turn, the lowest first, the operators of that height behind what was read.
     #[cycle(expr)]
     #[tactic(auto, unfolding(rte_grammar::specs::ExprReading::level))]
     pub(crate) fn level(&mut self, alloc: Global, depth: usize, height: u8) -> Result<Expr, Refusal>
         requires { height ≤ 5 }
         ensures { Reads placed_expr (reading.level (reading.factor depth) height self.old) result self.new }
     {
-        if height == 0 {
-            return self.factor(alloc, depth);
+        let mut expr = self.factor(alloc, depth)?;
+        for below in 0..height {
+            if self.has_op(below + 1) {
+                expr = self.row(alloc, depth, below + 1, expr)?;
+            }
         }
-        self.row(alloc, depth, height)
+        Ok(expr)
     }
 
-    /// A first operand, and operators of this height with theirs.
+    /// A first operand, and behind it operators of this height with theirs.
     #[cycle(expr)]
-    #[tactic(auto, unfolding(rte_grammar::specs::ExprReading::row_at))]
-    fn row(&mut self, alloc: Global, depth: usize, height: u8) -> Result<Expr, Refusal>
+    fn row(&mut self, alloc: Global, depth: usize, height: u8, first: Expr) -> Result<Expr, Refusal>
         requires low { 1 ≤ height }
         requires high { height ≤ 5 }
-        ensures { Reads placed_expr (reading.row_at height (reading.level (reading.factor depth) (height - 1)) self.old) result self.new }
+        ensures { Reads placed_expr (row_from height (reading.level (reading.factor depth) (height - 1)) (placed_expr first) self.old) result self.new }
     {
-        let first = self.level(alloc, depth, height - 1)?;
         let rest = self.operands(alloc, depth, height)?;
         if rest.is_empty() {
             return Ok(first);

@@ -12,7 +12,7 @@ use Rattle.rte_isa.specs.Ticks.{ticks}
 use Rattle.rte_target.specs.Tick.{at_next}
 use Rattle.rte_safe.specs.Part.{Part, Kind, Plain, kinds, plains, IsSized}
 use Rattle.rte_safe.specs.Laws.{GoesOn}
-use Rattle.rte_safe.specs.Walk.{Where, Cost, At, Walk, within}
+use Rattle.rte_safe.specs.Walk.{Where, Cost, At, Reaches, Walk, within}
 use Rattle.rte_safe.specs.Path.{Step, Segment, Skip, Again, Leaves, under, held, then_rest, Follows, Frame, Returning, Moved, next_own}
 use Rattle.rte_safe.specs.Job.{RoutineFits, RoutinesFit, joined, Inside, Chain, Stands, Comes, Less, Keeps, FindsFree, InstructionIsSafe}
 use Rattle.rte_safe.proofs.Lists.{plains_add, length-plains, under_then, held_then}
@@ -64,6 +64,7 @@ keeps_moves e own c n o st out room g = by_case out g where
     less = record { run = omega (arith, m.less, st.covers); susp = omega (arith, m.less, st.covers); waits = omega (arith, m.less, st.covers); leave = omega (arith, m.less, st.covers) };
     stays = λ k was now. omega (arith, joined_less st.part.monitor m.cost.leave st.here.leave st.later.leave n (let l : m.cost.leave + n ≤ st.here.leave = omega (arith, m.less) in l), st.covers);
     begins = λ k was now. absurd (let same : p.job.inside ≡ o.job.inside = m.inside in cc);
+    reaches = λ k was now. absurd (let same : p.job.inside ≡ o.job.inside = m.inside in cc);
     inside = inl m.inside;
     done = m.done;
     burn = m.burn;
@@ -167,6 +168,7 @@ at_stay e s own o c m body rest st is free =
             less = record { run = omega (arith, stay.covers, f.follows.covers, st.covers); susp = omega (arith, stay.covers, f.follows.covers, st.covers); waits = omega (arith, stay.covers, f.follows.covers, st.covers); leave = omega (arith, stay.covers, f.follows.covers, st.covers) };
             stays = λ k was now. absurd cc;
             begins = λ k was now. (let same : m ≡ k = one_monitor m k now in omega (arith, stay.short, ap (λ (x : ℕ). st.part.stays x) same, ap (λ (x : Option ℕ). joined x here.leave st.later.leave) stay.entry, chain_stays e own st.part o.job.callers st.below st.later k st.chain));
+            reaches = λ k was now. (let same : m ≡ k = one_monitor m k now in subst (λ (x : ℕ). Reaches (within e own) x) same (record { monitor = stay.reach.monitor; there = stay.reach.there; low = omega (arith, stay.reach.low, limit) }));
             inside = inr (inr none);
             done = refl;
             burn = refl;
@@ -208,6 +210,7 @@ at_leave e s own o c m rest st is =
             less = record { run = omega (arith, f.follows.covers, st.covers); susp = omega (arith, f.follows.covers, st.covers); waits = omega (arith, f.follows.covers, st.covers); leave = omega (arith, f.follows.covers, st.covers) };
             stays = λ k was now. absurd cc;
             begins = λ k was now. absurd cc;
+            reaches = λ k was now. absurd cc;
             inside = inr (inl refl);
             done = refl;
             burn = refl;
@@ -307,6 +310,7 @@ at_return e s own o c comes free =
             less = record { run = omega (arith, b.covers, comes.covers); susp = omega (arith, b.covers, comes.covers); waits = omega (arith, b.covers, comes.covers); leave = omega (arith, b.covers, comes.covers) };
             stays = λ k was now. absurd (let none : o.job.inside ≡ None = comes.outside in cc);
             begins = λ k was now. (let same : b.monitor ≡ k = one_monitor b.monitor k now in omega (arith, b.short, ap (λ (x : ℕ). comes.part.stays x) same, ap (λ (x : Option ℕ). joined x b.later.leave comes.later.leave) b.is_entry, chain_stays e own comes.part o.job.callers None comes.later k comes.chain));
+            reaches = λ k was now. (let same : b.monitor ≡ k = one_monitor b.monitor k now in subst (λ (x : ℕ). Reaches (within e own) x) same (record { monitor = b.reach.monitor; there = b.reach.there; low = omega (arith, b.reach.low, limit) }));
             inside = inr (inr comes.outside);
             done = refl;
             burn = refl;
@@ -434,6 +438,7 @@ at_call e s own o c r rest st is routines =
             less = record { run = omega (arith, calls.covers, f.follows.covers, st.covers, fits.covers); susp = omega (arith, calls.covers, f.follows.covers, st.covers, fits.covers); waits = omega (arith, calls.covers, f.follows.covers, st.covers, fits.covers); leave = omega (arith, calls.covers, f.follows.covers, st.covers, fits.covers) };
             stays = λ k was now. stay_called k was;
             begins = λ k was now. absurd cc;
+            reaches = λ k was now. absurd cc;
             inside = inl refl;
             done = refl;
             burn = refl;
@@ -493,6 +498,7 @@ at_last e s own o c st is own_ends routines = by_callers o.job.callers refl st.c
     less = record { run = omega (arith, f.follows.covers, chain.covers, st.covers); susp = omega (arith, chain.covers, st.covers); waits = omega (arith, chain.covers, st.covers); leave = omega (arith, f.follows.covers, chain.covers, st.covers) };
     stays = λ m was now. stay_down k ks chain m was;
     begins = λ m was now. absurd cc;
+    reaches = λ m was now. absurd cc;
     inside = inl refl;
     done = refl;
     burn = refl;

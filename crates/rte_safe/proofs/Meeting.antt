@@ -5,10 +5,10 @@ use Rattle.rte_isa.specs.declared.instr.Instr.{Instr}
 use Rattle.rte_isa.specs.declared.instr.Instr.TheVariants as i
 use Rattle.rte_target.specs.Trees.{Line, Call, Stay, Wait, Nil, Cons}
 use Rattle.rte_target.specs.Image.{Monitor, Routine, Process}
-use Rattle.rte_safe.specs.Walk.{At, Walks}
+use Rattle.rte_safe.specs.Walk.{At, Walks, within}
 use Rattle.rte_safe.specs.Job.{RoutineFits, RoutinesFit}
 use Rattle.rte_safe.specs.Safe.{ProcessFits}
-use Rattle.rte_safe.specs.Example.{cost, entry_cost, meeting, meeting_place, meeting_parts, MeetingFits, MeetingIsSafe}
+use Rattle.rte_safe.specs.Example.{cost, entry_cost, entry_stay, own_part, meeting, meeting_place, meeting_parts, MeetingFits, MeetingIsSafe}
 use Rattle.rte_safe.proofs.Building.{exact, own_fits}
 use Rattle.rte_safe.proofs.Running.{every_run_is_safe}
 
@@ -140,7 +140,7 @@ bases_fit over (suc m) monitor at = absurd cc
 -- the body of a process: one call
 calls : (over r start last : ℕ) → (routine : Routine) → slice_get (meeting over code).routines r ≡ Some routine → routine.params ≡ 0 → routine.locals ≡ 0
     → At (meeting_place over code) start (i.Call (pos r)) → last ≡ start + 1
-    → Walks (meeting_place over code) None None 0 (Cons (Call r) Nil) start last 0 0 (record { run = 6 + (entry_cost r).run; susp = (entry_cost r).susp; waits = (entry_cost r).waits; leave = 6 + (entry_cost r).leave })
+    → Walks (within (meeting_place over code) (own_part 2 1 (entry_stay r))) None None 0 (Cons (Call r) Nil) start last 0 0 (record { run = 6 + (entry_cost r).run; susp = (entry_cost r).susp; waits = (entry_cost r).waits; leave = 6 + (entry_cost r).leave })
 calls over r start last routine there params locals at is = record {
   mid = last;
   between = 0;
@@ -259,10 +259,10 @@ processes_fit over (suc zero) p at =
       handler_tree = None;
     } ≡ p = cc in
     subst (λ (x : Process). ProcessFits (meeting_place over code) x (meeting_parts 1)) is (record {
-      body = own_fits 2 1 13 _ refl refl (omega arith) (omega arith);
+      body = own_fits 2 1 8 _ refl refl (omega arith) (omega arith);
       code = calls over 1 14 15 _ refl refl refl refl refl;
       ends = refl;
-      handler = own_fits 2 1 13 _ refl refl (omega arith) (omega arith);
+      handler = own_fits 2 1 8 _ refl refl (omega arith) (omega arith);
       handles = λ number listed. absurd cc;
       no_susp = refl;
       no_waits = refl;

@@ -80,13 +80,10 @@ module _ (e : Where) (ps : ℕ → Parts) (image_fits : ImageFits e ps) where
     by_case (inl stays) =
         fits.apart ch.index j m n ch.p q (λ is. differ (sym is ∙ at_k)) (record { process = ch.process; job = ch.job; ready = ch.ready; inside = sym stays ∙ now }) other
     by_case (inr (inl leaves)) = absurd cc
-    by_case (inr (inr was_none)) =
-        let rank : c.rank ≡ ch.p.rank = ch.rank ∙ ap (λ (x : Option ℕ). active_rank e.image ch.p x) was_none in
-        let out : c.outside ≡ 1 = ch.out ∙ ap (λ (x : Option ℕ). outside x) was_none in
-        elim (ch.low j n q other.job other.process other.ready other.inside) [ inl lt ↦ inl (omega (arith, rank)) | inr tie ↦ absurd (omega (arith, tie.1, out)) ]
+    by_case (inr (inr was_none)) = inl (ch.free was_none j n q other.job other.process other.ready other.inside)
 
   -- the state after the outcome of the process that is picked
-  settle_keeps : (t : ℕ) (s : State) (c : Candidate) (ch : Chosen e.image 0 e.image.processes s.threads c) (k : ℕ) → c.place ≡ k → slice_get e.image.processes k ≡ Some ch.p
+  pub settle_keeps : (t : ℕ) (s : State) (c : Candidate) (ch : Chosen e.image 0 e.image.processes s.threads c) (k : ℕ) → c.place ≡ k → slice_get e.image.processes k ≡ Some ch.p
       → slice_get s.threads k ≡ Some (Ready ch.job) → StateFits e ps s → (left : Cost) (out : Outcome)
       → TickFits e ch.p (ps k) ch.job (owned_of (slice_get s.owned k)) s.shared left out
       → ((settle e.image t k ch.p ch.job s out).stuck ≡ false) × StateFits e ps (settle e.image t k ch.p ch.job s out).state
@@ -141,6 +138,7 @@ module _ (e : Where) (ps : ℕ → Parts) (image_fits : ImageFits e ps) where
       less = record { run = omega arith; susp = omega arith; waits = omega arith; leave = omega arith };
       stays = λ m was now. omega arith;
       begins = λ m was now. absurd cc;
+      reaches = λ m was now. absurd cc;
       burn = omega (arith, is);
       inside = inl refl;
       owned = refl;

@@ -52,10 +52,10 @@ wake_all_ready image [] k ts job at = at
 wake_all_ready image (j ∷ js) k ts job at = wake_all_ready image js k (wake image j ts) job (wake_ready image j k ts job at)
 
 module _ (e : Where) (ps : ℕ → Parts) (image_fits : ImageFits e ps) where
-  Staying : ℕ → ℕ → ℕ → State → Type 0
+  unfoldable pub Staying : ℕ → ℕ → ℕ → State → Type 0
   Staying k m n s = StateFits e ps s × StaysIn e ps s k m n
 
-  release_stays : (k m n t j : ℕ) (p : Process) (s : State) → Staying k m n s → slice_get e.image.processes j ≡ Some p → Staying k m n (release e.image t j p s).state
+  pub release_stays : (k m n t j : ℕ) (p : Process) (s : State) → Staying k m n s → slice_get e.image.processes j ≡ Some p → Staying k m n (release e.image t j p s).state
   unfolding Staying
   release_stays k m n t j p s u process = (
     release_keeps e ps image_fits t j p s u.0 process,
@@ -70,7 +70,7 @@ module _ (e : Where) (ps : ℕ → Parts) (image_fits : ImageFits e ps) where
     at_other differ (Some (Waiting c due number job)) = u.1
     at_other differ None = u.1
 
-  time_out_stays : (k m n t j : ℕ) (p : Process) (s : State) → Staying k m n s → slice_get e.image.processes j ≡ Some p → Staying k m n (time_out e.image t j p s (slice_get s.threads j)).state
+  pub time_out_stays : (k m n t j : ℕ) (p : Process) (s : State) → Staying k m n s → slice_get e.image.processes j ≡ Some p → Staying k m n (time_out e.image t j p s (slice_get s.threads j)).state
   unfolding Staying
   time_out_stays k m n t j p s u process = (
     time_out_keeps e ps image_fits t j p s u.0 process,
@@ -94,7 +94,7 @@ module _ (e : Where) (ps : ℕ → Parts) (image_fits : ImageFits e ps) where
       by_due false = u.1
       by_due true = stays_same e ps s (told t j (act.TimeOut c number) (record s { queues = queues }) new).state k m n u.1 (get_other s.threads j k new differ) (omega arith)
 
-  device_stays : (k m n d : ℕ) (v : ℤ) (s : State) → Staying k m n s → Staying k m n (record s { devices = slice_set s.devices d v })
+  pub device_stays : (k m n d : ℕ) (v : ℤ) (s : State) → Staying k m n s → Staying k m n (record s { devices = slice_set s.devices d v })
   unfolding Staying
   device_stays k m n d v s u = (device_keeps e ps image_fits d v s u.0, stays_same e ps s (record s { devices = slice_set s.devices d v }) k m n u.1 refl (omega arith))
 
@@ -132,7 +132,7 @@ module _ (e : Where) (ps : ℕ → Parts) (image_fits : ImageFits e ps) where
   run_other_stays t s j k m n None th differ o = o
 
   -- what is to be shown of a state after the tick
-  Nearer : ℕ → ℕ → ℕ → State → Type 0
+  unfoldable pub Nearer : ℕ → ℕ → ℕ → State → Type 0
   Nearer k m n u = (job : Job) → slice_get u.threads k ≡ Some (Ready job) → job.inside ≡ Some m → (l : ℕ) × (n ≡ l + 1) × StaysIn e ps u k m l
 
   -- its own tick
@@ -179,7 +179,7 @@ module _ (e : Where) (ps : ℕ → Parts) (image_fits : ImageFits e ps) where
     by_case Ends g = λ new new_at inside. absurd (let is : slice_get (slice_set s.threads k Idle) k ≡ Some Idle = get_set s.threads k Idle (Ready job) at in cc)
     by_case Stuck g = absurd g
 
-  stay_of_tick : (t : ℕ) (s : State) (k m n : ℕ) → StaysIn e ps s k m n → StateFits e ps s → (x : Option Candidate) → ChosenOf e.image 0 e.image.processes s.threads x
+  pub stay_of_tick : (t : ℕ) (s : State) (k m n : ℕ) → StaysIn e ps s k m n → StateFits e ps s → (x : Option Candidate) → ChosenOf e.image 0 e.image.processes s.threads x
       → (is_chosen k x ≡ true → Nearer k m n (run_picked e.image t s x).state) × (is_chosen k x ≡ false → StaysIn e ps (run_picked e.image t s x).state k m n)
   stay_of_tick t s k m n o fits None none = ((λ is. absurd cc), (λ is. o))
   stay_of_tick t s k m n o fits (Some c) ch = (

@@ -248,6 +248,7 @@ last_tick e ps p job owned shared left n fits ready last early out keeps = by_ca
         less = record { run = omega (arith, l.less, ready.run); susp = omega (arith, l.less, ready.susp); waits = omega (arith, l.less, ready.waits); leave = omega (arith, l.less, ready.run) };
         stays = λ k was now. omega (arith, l.stays k was now, ready.leave k was);
         begins = l.begins;
+        reaches = l.reaches;
         burn = omega (arith, l.burn);
         inside = l.inside;
         owned = l.owned;
@@ -289,6 +290,7 @@ last_tick e ps p job owned shared left n fits ready last early out keeps = by_ca
         less = record { run = omega (arith, k, ready.run); susp = omega arith; waits = omega arith; leave = omega (arith, k, ready.run) };
         stays = λ k was now. absurd cc;
         begins = λ k was now. absurd cc;
+        reaches = λ k was now. absurd cc;
         burn = omega arith;
         inside = inr (inl refl);
         owned = refl;
@@ -333,6 +335,7 @@ tick_is_safe e ps s p job owned left routines fits sized ready free = go routine
               less = record { run = omega (arith, ready.run, time); susp = omega arith; waits = omega arith; leave = omega (arith, ready.run, time) };
               stays = λ k was now. omega (arith, ready.leave k was, inst.3 k was);
               begins = λ k was now. absurd cc;
+              reaches = λ k was now. absurd cc;
               burn = omega arith;
               inside = inl refl;
               owned = refl;

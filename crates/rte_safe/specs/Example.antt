@@ -96,9 +96,14 @@ LoopingFits code = ImageFits (record { image = looping code; parts = looping_par
 
 -- ---- a monitor, a wait, a signal and a handler
 
+-- how long the one entry that waits, and the other, stays in the monitor
+abbrev pub entry_stay : ℕ → ℕ
+entry_stay zero = 13
+entry_stay (suc r) = 8
+
 -- both routines are entries of the one monitor
-abbrev pub entry_part : Part
-entry_part = record { locals = 0; owned = 0; monitor = Some 0; depth = 0; last = i.Return; results = 0; level = 1; limit = 1; stays = λ m. 13 }
+abbrev pub entry_part : ℕ → Part
+entry_part r = record { locals = 0; owned = 0; monitor = Some 0; depth = 0; last = i.Return; results = 0; level = 1; limit = 1; stays = λ m. entry_stay r }
 
 -- by entry what it costs at most, with its return
 abbrev pub entry_cost : ℕ → Cost
@@ -111,12 +116,12 @@ meeting over code = record (waiter_and_signaller over 31) { code = code }
 
 -- the image with its entries
 abbrev pub meeting_place : ℕ → List Instr → Where
-meeting_place over code = record { image = meeting over code; parts = λ r. entry_part; costs = entry_cost; part = own_part 2 1 13 }
+meeting_place over code = record { image = meeting over code; parts = entry_part; costs = entry_cost; part = own_part 2 1 13 }
 
 -- process 0 calls the entry that waits and has a handler, process 1 calls the entry that signals
 abbrev pub meeting_parts : ℕ → Parts
 meeting_parts zero = record { body = own_part 2 1 13; handler = own_part 2 1 13; body_cost = cost 28 30 1; handler_cost = cost 11 0 0 }
-meeting_parts (suc k) = record { body = own_part 2 1 13; handler = own_part 2 1 13; body_cost = cost 23 0 0; handler_cost = cost 0 0 0 }
+meeting_parts (suc k) = record { body = own_part 2 1 8; handler = own_part 2 1 8; body_cost = cost 23 0 0; handler_cost = cost 0 0 0 }
 
 -- the code is of its trees
 abbrev pub MeetingFits : List Instr → Type 0

@@ -7,7 +7,7 @@ use Rattle.rte_target.specs.State.{Caller, State, is_free}
 use Rattle.rte_target.specs.Effect.{Own, Outcome, Goes, Does, Signals, Broadcasts, Waits, Raises, Ends, Stuck, effect}
 use Rattle.rte_isa.specs.Ticks.{ticks}
 use Rattle.rte_safe.specs.Part.{Part, kinds, plains, IsSized}
-use Rattle.rte_safe.specs.Walk.{Where, Cost, Covers, At, Walks, within}
+use Rattle.rte_safe.specs.Walk.{Where, Cost, Covers, At, Reaches, Walks, within}
 use Rattle.rte_safe.specs.Path.{Step, under, held, Follows, Frame, Returning, next_own}
 
 -- ---- routines
@@ -118,6 +118,8 @@ pub record Less (e : Where) (own : Part) (c : Cost) (n : ℕ) (o p : Own) : Type
   -- what is left of a stay falls, and a stay that begins is no longer than the part tells
   pub stays : (m : ℕ) → o.job.inside ≡ Some m → p.job.inside ≡ Some m → cost.leave + n ≤ c.leave
   pub begins : (m : ℕ) → o.job.inside ≡ None → p.job.inside ≡ Some m → cost.leave ≤ own.stays m
+  -- the part may enter the monitor that it enters
+  pub reaches : (m : ℕ) → o.job.inside ≡ None → p.job.inside ≡ Some m → Reaches (within e own) m
   pub done : p.job.done ≡ 0
   pub burn : p.job.burn ≡ o.job.burn
   pub handling : p.job.handling ≡ o.job.handling

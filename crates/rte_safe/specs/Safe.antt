@@ -11,7 +11,7 @@ use Rattle.rte_target.specs.Starts.{raised, lists}
 use Rattle.rte_target.specs.Tick.{outcome_at}
 use Rattle.rte_target.specs.Run.{words_of}
 use Rattle.rte_safe.specs.Part.{Part, IsSized}
-use Rattle.rte_safe.specs.Walk.{Where, Cost, Covers, At, Walks, within}
+use Rattle.rte_safe.specs.Walk.{Where, Cost, Covers, At, Reaches, Walks, within}
 use Rattle.rte_safe.specs.Job.{Stands, Comes, FindsFree, RoutinesFit}
 
 -- ---- a process of a valid image
@@ -105,6 +105,7 @@ pub record Ticks (e : Where) (p : Process) (ps : Parts) (own : Part) (was : Opti
   pub stays : (m : ℕ) → was ≡ Some m → q.job.inside ≡ Some m → after.leave + 1 ≤ left.leave
   pub burn : q.job.burn ≤ burnt
   pub begins : (m : ℕ) → was ≡ None → q.job.inside ≡ Some m → after.leave ≤ own.stays m
+  pub reaches : (m : ℕ) → was ≡ None → q.job.inside ≡ Some m → Reaches (within e own) m
   pub owned : length q.owned ≡ length before
   pub shared : length q.shared ≡ length words
 

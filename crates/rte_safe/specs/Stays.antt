@@ -4,7 +4,7 @@ use Rattle.rte_target.specs.Image.{Process, Monitor, Script}
 use Rattle.rte_target.specs.Starts.{starts}
 use Rattle.rte_target.specs.State.{Job, Ready, State, is_free}
 use Rattle.rte_target.specs.Tick.{Candidate, pick, owned_of, tick}
-use Rattle.rte_safe.specs.Walk.{Where, Cost}
+use Rattle.rte_safe.specs.Walk.{Where, Cost, Reaches, within}
 use Rattle.rte_safe.specs.Safe.{Parts, ImageFits, ReadyFits, part_of}
 use Rattle.rte_safe.specs.Whole.{StateFits}
 use Rattle.rte_safe.specs.Work.{runs}
@@ -29,12 +29,12 @@ StayFalls = (e : Where) (ps : ℕ → Parts) (script : Script) (t : ℕ) (s : St
     × (runs e.image script t s k ≡ false → StaysIn e ps (tick e.image script t s).state k m n)
 
 -- The law: a process that is inside no monitor after the start events of a tick, and inside one after the tick, has entered it, and
--- leaves it within the stay that its part tells of that monitor.
+-- leaves it within the stay that its part tells of that monitor, which its part may enter.
 abbrev pub StayBegins : Type 0
 StayBegins = (e : Where) (ps : ℕ → Parts) (script : Script) (t : ℕ) (s : State) (k m : ℕ) (job new : Job) → ImageFits e ps → StateFits e ps s
     → slice_get (starts e.image script t s).state.threads k ≡ Some (Ready job) → job.inside ≡ None
     → slice_get (tick e.image script t s).state.threads k ≡ Some (Ready new) → new.inside ≡ Some m
-    → StaysIn e ps (tick e.image script t s).state k m ((part_of (ps k) job.handling).stays m)
+    → StaysIn e ps (tick e.image script t s).state k m ((part_of (ps k) job.handling).stays m) × Reaches (within e (part_of (ps k) job.handling)) m
 
 -- The law: when a process is picked that is inside no monitor, each monitor whose ceiling is not above its rank, as a number, is free: so
 -- it finds free whatever it enters.

@@ -1,5 +1,5 @@
 -- The sorts of expressions: which an expression has by its form, and whether those in it agree.
-use Rattle.std.specs.Prelude.{Bool, true, false, not, ◌&&◌, List, [], ◌∷◌, Option, Some, None, option_map}
+use Rattle.std.specs.Prelude.{Bool, true, false, not, ◌&&◌, List, [], ◌∷◌, Option, Some, None, option_map, if◌then◌else◌}
 use Rattle.rte_tree.specs.Plain.{Op, or, and, equal, unequal, less, less_equal, greater, greater_equal, add, sub, mul, div, remainder}
 use Rattle.rte_tree.specs.Placed.{Param, Expr, literal, truth, variable, element, call, minus, negation, paren, row, Exprs, no_exprs, exprs, Operands, no_operands, operand}
 use Rattle.rte_tree.specs.declared.place.Place.{Place}
@@ -127,3 +127,11 @@ abbrev mutual
   call_agrees named (Some []) (exprs e es) = false
   call_agrees named (Some (v ∷ vs)) no_exprs = false
   call_agrees named (Some (v ∷ vs)) (exprs e es) = agrees named e && (fits (sort_of v.kind) (sort named e) && call_agrees named (Some vs) es)
+
+-- the sort of an expression in which the sorts agree
+abbrev pub judged : Named → Expr Place → Option (Option Sort)
+judged named e = if agrees named e then Some (sort named e) else None
+
+-- the sort of a row whose operands agree, what stands left of its operators having the sort s
+abbrev pub row_judged : Named → Option Sort → Operands Place → Option (Option Sort)
+row_judged named s rs = if operands_agree named s rs then Some (row_sort s rs) else None

@@ -18,6 +18,14 @@ abbrev pub target_agrees : Named → Ref Place → Bool
 target_agrees named (whole p name) = not (is_array (named p))
 target_agrees named (part p name i) = is_array (named p) && (agrees named i && fits sort_is.Number (sort named i))
 
+-- the sort of what is assigned to, where that agrees
+abbrev pub target_judged : Named → Ref Place → Option (Option Sort)
+target_judged named r = if target_agrees named r then Some (target_sort named r) else None
+
+-- a value of the sort may be assigned there
+abbrev pub target_takes : Named → Ref Place → Option Sort → Bool
+target_takes named r s = target_agrees named r && alike (target_sort named r) s
+
 -- an expression of that sort
 abbrev pub is_of : Named → Sort → Expr Place → Bool
 is_of named s e = agrees named e && fits s (sort named e)

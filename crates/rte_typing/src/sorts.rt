@@ -1,6 +1,6 @@
 //! The sorts of names, and those that operators take and give.
 
-ghost use Rattle.std.specs.Prelude.{◌≡◌};
+ghost use Rattle.std.specs.Prelude.{◌≡◌, Some, None, IsTrue, IsSome, ◌↔◌, if◌then◌else◌};
 ghost use Rattle.rte_tree.specs.Placed.{placed, op_of};
 ghost use Rattle.rte_declared.specs.Things.{named_at};
 ghost use Rattle.rte_typing.specs.Sorts.{fits as is_fit, alike as is_alike, word_sort as sort_of_word, element_sort as sort_of_element, answer_sort as sort_of_answer, is_array as names_array, gives as sort_given, takes as is_taken};
@@ -29,23 +29,33 @@ pub fn alike(left: Option<Sort>, right: Option<Sort>) -> bool
     }
 }
 
-/// The sort of a name that stands for one word.
-pub fn word_sort(declarations: &Declarations<'_>, place: Place) -> Option<Sort>
-    ensures { result ≡ sort_of_word (named_at (placed declarations.now) place) }
+/// The sort of a name that stands for no array: that of its word, if it stands for one. `None` in
+/// whole where it stands for an array.
+pub fn word(declarations: &Declarations<'_>, place: Place) -> Option<Option<Sort>>
+    ensures { let thing = named_at (placed declarations.now) place in result ≡ (if names_array thing then None else Some (sort_of_word thing)) }
 {
-    match declarations.named(place)? {
-        Thing::Constant | Thing::Loop => Some(Sort::Number),
-        Thing::Variable {
-            shape: Shape::One(sort),
-            ..
-        } => Some(sort),
-        _ => None,
+    match declarations.named(place) {
+        Some(Thing::Constant | Thing::Loop) => Some(Some(Sort::Number)),
+        Some(
+            Thing::Variable {
+                shape: Shape::One(sort),
+                ..
+            },
+        ) => Some(Some(sort)),
+        Some(
+            Thing::Variable {
+                shape: Shape::Many(_),
+                ..
+            },
+        ) => None,
+        _ => Some(None),
     }
 }
 
-/// The sort of the elements of a name that stands for an array.
+/// The sort of the elements of a name that stands for an array, else `None`.
 pub fn element_sort(declarations: &Declarations<'_>, place: Place) -> Option<Sort>
-    ensures { result ≡ sort_of_element (named_at (placed declarations.now) place) }
+    ensures sort { result ≡ sort_of_element (named_at (placed declarations.now) place) }
+    ensures is_array { IsTrue (names_array (named_at (placed declarations.now) place)) ↔ IsSome result }
 {
     match declarations.named(place)? {
         Thing::Variable {
@@ -64,19 +74,6 @@ pub fn answer_sort(declarations: &Declarations<'_>, place: Place) -> Option<Sort
         Thing::Routine { routine, .. } => Some(sort_of(routine.result.as_ref()?)),
         _ => None,
     }
-}
-
-/// Whether the name stands for an array.
-pub fn is_array(declarations: &Declarations<'_>, place: Place) -> bool
-    ensures { result ≡ names_array (named_at (placed declarations.now) place) }
-{
-    matches!(
-        declarations.named(place),
-        Some(Thing::Variable {
-            shape: Shape::Many(_),
-            ..
-        })
-    )
 }
 
 /// The sort of what an operator gives.

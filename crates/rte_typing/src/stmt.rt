@@ -3,31 +3,33 @@
 ghost use Rattle.std.specs.Prelude.{◌≡◌};
 ghost use Rattle.rte_tree.specs.Placed.{placed, placed_scalar, placed_expr, placed_ref, placed_stmt};
 ghost use Rattle.rte_declared.specs.Things.{named_at, sort_of as sort_of_scalar};
-ghost use Rattle.rte_typing.specs.Types.{target_sort as sort_of_target, target_agrees as is_target, is_of as has_the_sort, stmt_agrees as is_agreed};
+ghost use Rattle.rte_typing.specs.Types.{target_judged, target_takes, is_of as has_the_sort, stmt_agrees as is_agreed};
 
-use crate::expr::{agrees, call_agrees, is_of, sort};
-use crate::sorts::{alike, answer_sort, element_sort, is_array, word_sort};
+use crate::expr::{agreed, call_agrees, is_of};
+use crate::sorts::{alike, answer_sort, element_sort, word};
 use rte_declared::{Declarations, Sort, sort_of};
 use rte_tree::{Expr, Ref, Scalar, Stmt};
 
-/// The sort of what is assigned to.
-fn target_sort(declarations: &Declarations<'_>, target: &Ref) -> Option<Sort>
-    ensures { result ≡ sort_of_target (named_at (placed declarations.now)) (placed_ref target.now) }
+/// The sort of what is assigned to, where it is one word and its index is a number.
+fn target(declarations: &Declarations<'_>, target: &Ref) -> Option<Option<Sort>>
+    ensures { result ≡ target_judged (named_at (placed declarations.now)) (placed_ref target.now) }
 {
-    match target.index {
-        None => word_sort(declarations, target.place),
-        Some(_) => element_sort(declarations, target.place),
+    match &target.index {
+        None => word(declarations, target.place),
+        Some(index) => match element_sort(declarations, target.place) {
+            Some(sort) if is_of(declarations, Sort::Number, index) => Some(Some(sort)),
+            _ => None,
+        },
     }
 }
 
-/// Whether one word is assigned to, and its index is a number.
-fn target_agrees(declarations: &Declarations<'_>, target: &Ref) -> bool
-    ensures { result ≡ is_target (named_at (placed declarations.now)) (placed_ref target.now) }
+/// Whether one word of the sort is assigned to.
+fn takes_sort(declarations: &Declarations<'_>, to: &Ref, sort: Option<Sort>) -> bool
+    ensures { result ≡ target_takes (named_at (placed declarations.now)) (placed_ref to.now) sort }
 {
-    let is_array = is_array(declarations, target.place);
-    match &target.index {
-        None => !is_array,
-        Some(index) => is_array && is_of(declarations, Sort::Number, index),
+    match target(declarations, to) {
+        Some(own) => alike(own, sort),
+        None => false,
     }
 }
 
@@ -37,28 +39,24 @@ pub fn stmt_agrees(declarations: &Declarations<'_>, s: &Stmt) -> bool
     ensures { result ≡ is_agreed (named_at (placed declarations.now)) (placed_stmt s.now) }
 {
     match s {
-        Stmt::Assign { target, value } => {
-            target_agrees(declarations, target)
-                && agrees(declarations, value)
-                && alike(target_sort(declarations, target), sort(declarations, value))
-        }
+        Stmt::Assign { target, value } => match agreed(declarations, value) {
+            Some(sort) => takes_sort(declarations, target, sort),
+            None => false,
+        },
         Stmt::AssignEntry {
             target,
             entry_place,
             args,
             ..
         } => {
-            target_agrees(declarations, target)
-                && call_agrees(declarations, *entry_place, args.as_slice())
-                && alike(
-                    target_sort(declarations, target),
+            call_agrees(declarations, *entry_place, args.as_slice())
+                && takes_sort(
+                    declarations,
+                    target,
                     answer_sort(declarations, *entry_place),
                 )
         }
-        Stmt::AssignEmpty { target, .. } => {
-            target_agrees(declarations, target)
-                && alike(target_sort(declarations, target), Some(Sort::Truth))
-        }
+        Stmt::AssignEmpty { target, .. } => { takes_sort(declarations, target, Some(Sort::Truth)) }
         Stmt::Call { place, args, .. } => call_agrees(declarations, *place, args.as_slice()),
         Stmt::CallEntry {
             entry_place,
@@ -68,10 +66,7 @@ pub fn stmt_agrees(declarations: &Declarations<'_>, s: &Stmt) -> bool
         Stmt::If { test, .. } | Stmt::ExitWhen { test, .. } | Stmt::Assert { test, .. } => {
             is_of(declarations, Sort::Truth, test)
         }
-        Stmt::Get { target, .. } => {
-            target_agrees(declarations, target)
-                && alike(target_sort(declarations, target), Some(Sort::Number))
-        }
+        Stmt::Get { target, .. } => { takes_sort(declarations, target, Some(Sort::Number)) }
         Stmt::Put { value, .. } => is_of(declarations, Sort::Number, value),
         Stmt::For { .. }
         | Stmt::Wait { .. }

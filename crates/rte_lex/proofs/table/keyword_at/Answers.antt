@@ -1,9 +1,16 @@
+use Rattle.std.proofs.Common.{arith, sym, ◌∙◌, ap, slice_get}
 use Rattle.rte_lex.specs.Spellings.{keywords}
-use Rattle.rte_lex.proofs.TableLemmas.{place_found, place_none, keyword_rows, keywords_listed}
+use Rattle.rte_lex.proofs.TableLemmas.{slice_get_at, keyword_short, some_is}
+use Rattle.std.specs.Cmp.Lexicographic.{other_text}
 use Rattle.rte_lex.proofs.table.keyword_at.Goals as goal
 
-pub returns-clause-found : goal.returns-clause-found
-returns-clause-found c = place_found keyword_rows keywords c.args.word.now c.find.result keywords_listed c.find.ensures.found
+pub returns-then-word-gt-LONGEST_KEYWORD-clause-none :
+    goal.returns-then-word-gt-LONGEST_KEYWORD-clause-none
+returns-then-word-gt-LONGEST_KEYWORD-clause-none c is = let short = keyword_short c.args.word.now is in omega (arith, short)
 
-pub returns-clause-none : goal.returns-clause-none
-returns-clause-none c = place_none keyword_rows keywords c.args.word.now c.find.result keywords_listed c.find.ensures.none
+pub returns-else-eq-clause-none : goal.returns-else-eq-clause-none
+returns-else-eq-clause-none c is =
+    let stands = slice_get_at keywords c.args.word.now is in
+    let place = c.place-at.ensures.only stands.0 stands.1 in
+    let same = some_is _ _ (sym c.spelling.ensures ∙ ap (slice_get keywords) place ∙ stands.1) in
+    other_text _ _ (sym c.if-eq.false ∙ c.eq.ensures) same

@@ -34,6 +34,7 @@ write-tells g c = record {
   stored = undone c.result;
   failed = rose c.result _ c.args.self.now.faults c.new.self.now.faults c.ensures.raised;
   others = λ _ _. refl;
+  kept = λ _ _. refl;
   read_counts = λ _. c.ensures.count;
   write_counts = λ _. c.ensures.count;
 }

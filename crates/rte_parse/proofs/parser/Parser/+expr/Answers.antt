@@ -1,4 +1,4 @@
-use Rattle.std.proofs.Common.{◌≡◌, ◌-◌, arith, subst, sym, ◌∙◌, []}
+use Rattle.std.proofs.Common.{◌≡◌, ◌-◌, ◌+◌, arith, subst, Err, sym, ◌∙◌, []}
 use Rattle.std.proofs.lemmas.Grind.{common_steps}
 use Rattle.rte_tree.specs.Placed.{placed_expr}
 use Rattle.rte_grammar.specs.Words.{COMMA}
@@ -6,7 +6,8 @@ use Rattle.rte_grammar.specs.ExprReading as reading
 use Rattle.rte_grammar.specs.ExprReading.{is_at, is_some, op_at, operand_at, behind_comma, level, factor, expr}
 use Rattle.rte_parse.specs.Reads.{Reads, placed_pair}
 use Rattle.rte_parse.proofs.Loops.{loop-stop, loop-last, loop-turn, each-turn}
-use Rattle.rte_parse.proofs.Rows.{factor-inner, level-row, row-view}
+use Rattle.rte_parse.proofs.Rows.{factor-inner, level-next, level-stays, refused-above, row-view}
+use Rattle.rte_parse.proofs.parser.Parser.+expr.Goals.{level-then-has_op+in_ok-expr-2, level-else-has_op}
 use Rattle.rte_parse.proofs.parser.Parser.+expr.Goals as goal
 
 pub factor-returns : goal.factor-returns
@@ -15,12 +16,30 @@ factor-returns t c =
     let e = factor-inner c.args.depth c.args.self.now in
     grind (arith, common_steps)
 
-pub level-returns : goal.level-returns
-level-returns t c =
-    subst (λ r. Reads placed_expr r c.row.result c.row.new.self) (sym (level-row (factor c.args.depth) c.args.height c.args.self.now (omega arith))) c.row.ensures
+pub level-returns-in_err-expr : goal.level-returns-in_err-expr
+unfolding level
+level-returns-in_err-expr t c =
+    let above = refused-above (factor c.args.depth) 0 c.args.height c.in_err-expr.field-0.0 c.args.self.now c.factor.new.self c.factor.new.self (omega arith) c.in_err-expr.ensures in
+    grind (arith, common_steps)
+
+pub level-returns-in_err-expr-2 : goal.level-returns-in_err-expr-2
+level-returns-in_err-expr-2 t c =
+    let next = level-next (factor c.args.depth) c.loop-below.below (c.loop-below.below + 1) (placed_expr c.loop-below.expr) c.args.self.now c.loop-below.self (omega arith) c.loop-below.invariant in
+    let above = refused-above (factor c.args.depth) (c.loop-below.below + 1) c.args.height c.in_err-expr-2.field-0.0 c.args.self.now c.row.new.self c.row.new.self (omega (arith, c.loop-below-test.true)) (subst (λ r. Reads placed_expr r (Err c.in_err-expr-2.field-0.0) c.row.new.self) (sym next) c.in_err-expr-2.ensures) in
+    grind (arith, common_steps)
+
+pub level-loop-below-preserved : goal.level-loop-below-preserved
+level-loop-below-preserved t c = elim c.if-has_op.branch [
+  | level-then-has_op+in_ok-expr-2 w ↦
+      let next = level-next (factor c.args.depth) c.loop-below.below (c.loop-below.below + 1) (placed_expr c.loop-below.expr) c.args.self.now c.loop-below.self (omega arith) c.loop-below.invariant in
+      let more = next ∙ w.in_ok-expr-2.ensures in
+      grind (arith, common_steps)
+  | level-else-has_op w ↦
+      let stays = level-stays (factor c.args.depth) c.loop-below.below (c.loop-below.below + 1) (placed_expr c.loop-below.expr) c.args.self.now c.loop-below.self (omega arith) c.loop-below.invariant (sym c.has_op.ensures ∙ w.if-has_op.false) in
+      grind (arith, common_steps)
+]
 
 pub row-returns : goal.row-returns
-unfolding reading.row_at
 row-returns t c =
     let some : c.in_ok-rest.rest ≡ [] → ⊥ = λ e. grind (arith, common_steps) in
     let v = row-view c.in_ok-new.field-0 c.in_ok-rest.rest some in

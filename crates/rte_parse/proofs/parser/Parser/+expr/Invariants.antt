@@ -1,4 +1,4 @@
-use Rattle.std.proofs.Common.{◌≡◌, ◌-◌, ◌+◌, ◌*◌, map}
+use Rattle.std.proofs.Common.{◌≡◌, ◌-◌, ◌+◌, ◌*◌, map, Ok}
 use Rattle.rte_tree.specs.Placed.{placed_expr}
 use Rattle.rte_grammar.specs.Words.{COMMA}
 use Rattle.rte_grammar.specs.ExprReading.{each, many, is_at, is_some, op_at, operand_at, operands_at, behind_comma, level, factor, expr}
@@ -57,3 +57,6 @@ invariant-operands-loop-turn l =
     with_front (map placed_pair l.rest)
     (each (λ us. is_some (op_at l.height us)) (operand_at l.height (level (factor l.depth) (l.height - 1))) (l.turns - l._turn) l.self)
     ≡ operands_at l.height (level (factor l.depth) (l.height - 1)) l.fn.self
+
+abbrev pub invariant-level-loop-below : goal.invariant-level-loop-below
+invariant-level-loop-below l = level (factor l.depth) l.below l.fn.self ≡ Ok (placed_expr l.expr, l.self)
