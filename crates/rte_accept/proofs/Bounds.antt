@@ -8,7 +8,7 @@ use Rattle.rte_form.specs.WellFormed.{IsPutProg, IsTimely}
 use Rattle.rte_puts.specs.Recurrence.{tasks_of}
 use Rattle.rte_response.specs.declared.tasks.Task.{Task}
 use Rattle.rte_response.specs.Demand.{IsBound, Solves}
-use Rattle.rte_source.specs.Puts.{PutProg}
+use Rattle.rte_source_meaning.specs.Puts.{PutProg}
 
 bound_by : (b : Bool) (cost bound : ℕ) → Some bound ≡ cond b (Some cost) None → (b ≡ true) × (bound ≡ cost)
 bound_by true cost bound e = (refl, cc)

@@ -2,7 +2,7 @@
 use Rattle.std.specs.Prelude.{◌≡◌, ◌++◌, ℕ, List, codes, decimal}
 use Rattle.rte_tree.specs.declared.place.Place.{Place}
 use Rattle.rte_tree.specs.Placed.{Prog}
-use Rattle.rte_source.specs.Puts.{PutProg}
+use Rattle.rte_source_meaning.specs.Puts.{PutProg}
 use Rattle.rte_io.specs.declared.outside.ReadFault.{ReadFault}
 use Rattle.rte_io.specs.declared.outside.ReadFault.TheVariants as reads
 use Rattle.rte_read.specs.Source.{start}

@@ -1,6 +1,6 @@
 -- What holds of every text.
 use Rattle.std.specs.Prelude.{◌≡◌, ℕ, List}
-use Rattle.rte_source.specs.Puts.{PutProg}
+use Rattle.rte_source_meaning.specs.Puts.{PutProg}
 use Rattle.rte_tree.specs.declared.place.Place.{Place}
 use Rattle.rte_accept.specs.Accept.{IsProgramText, IsTextFault}
 

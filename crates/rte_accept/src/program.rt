@@ -9,7 +9,7 @@ ghost use Rattle.rte_form.specs.Form.{program_of};
 ghost use Rattle.rte_form.specs.Reading.{IsForm};
 ghost use Rattle.rte_form.specs.WellFormed.{IsPutProg};
 ghost use Rattle.rte_program.specs.Program.{IsProgramOf, IsProgramFault};
-ghost use Rattle.rte_source.specs.Puts.{PutProg};
+ghost use Rattle.rte_source_meaning.specs.Puts.{PutProg};
 ghost use Rattle.rte_accept.specs.Accept.{IsProgramText, IsTextFault, IsRefusalOf, OnFault};
 
 use crate::refusal::{Refusal, START};

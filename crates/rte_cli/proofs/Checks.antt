@@ -8,7 +8,7 @@ use Rattle.rte_form.specs.WellFormed.{IsPutProg, IsTimely}
 use Rattle.rte_inspect.specs.Inspect.{Told, Seen, IsCheckDue, check_fault, check_timely, check_late, IsToldWhole, Inspects}
 use Rattle.rte_puts.specs.Recurrence.{tasks_of}
 use Rattle.rte_response.specs.Demand.{IsBound, Solves}
-use Rattle.rte_source.specs.Puts.{PutProg}
+use Rattle.rte_source_meaning.specs.Puts.{PutProg}
 use Rattle.rte_cli.specs.Headline.{IsUnsolved}
 use Rattle.rte_cli.proofs.Texts.{TextLaws}
 

@@ -7,7 +7,7 @@ use Rattle.rte_form.specs.Script.{end_of}
 use Rattle.rte_form.specs.Target.{named_image_of}
 use Rattle.rte_image.specs.Bytes.{bytes_of}
 use Rattle.rte_io.specs.Outside.{Rose, Appends, AppendsFront}
-use Rattle.rte_source.specs.Puts.{PutProg}
+use Rattle.rte_source_meaning.specs.Puts.{PutProg}
 use Rattle.rte_cli.specs.Due.{Outcome, done, IsDueByScript}
 use Rattle.rte_cli.specs.Answers.{IsWhole, IsCut, StoreFailed}
 

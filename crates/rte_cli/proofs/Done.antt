@@ -8,7 +8,7 @@ use Rattle.rte_form.specs.WellFormed.{IsPutProg, IsTimely}
 use Rattle.rte_io.specs.Outside.{Appends}
 use Rattle.rte_puts.specs.Recurrence.{tasks_of}
 use Rattle.rte_response.specs.Demand.{IsBound}
-use Rattle.rte_source.specs.Puts.{PutProg}
+use Rattle.rte_source_meaning.specs.Puts.{PutProg}
 use Rattle.rte_cli.specs.Answers.{IsWhole, Outside, due_for, Went, Stores}
 use Rattle.rte_accept.specs.Accept.{IsProgramText}
 use Rattle.rte_cli.specs.Due.{Outcome, longest_script, end_in, done, due_by_end, IsDueByScript, IsDue, source_fault, no_form, untimely, timely, log_text}

@@ -6,7 +6,7 @@ use Rattle.rte_form.specs.Target.{cost_of}
 use Rattle.rte_form.specs.WellFormed.{IsPutProg, IsTimely}
 use Rattle.rte_puts.specs.Recurrence.{tasks_of}
 use Rattle.rte_response.specs.Demand.{IsBound, Solves}
-use Rattle.rte_source.specs.Puts.{PutProg}
+use Rattle.rte_source_meaning.specs.Puts.{PutProg}
 use Rattle.rte_cli.specs.Answers.{IsWhole, Outside, due_for, Went}
 use Rattle.rte_accept.specs.Accept.{IsProgramText}
 use Rattle.rte_cli.specs.Due.{Outcome, end_in, bad_script, done, due_by_end, IsDueByScript, IsDue, source_fault, no_form, untimely, timely}

@@ -6,7 +6,7 @@ use Rattle.std.proofs.lemmas.Bool.{le-leb, lt-leb}
 use Rattle.rte_form.specs.Script.{end_of}
 use Rattle.rte_form.specs.WellFormed.{IsTimely}
 use Rattle.rte_io.specs.Outside.{Rose, AllStay, Appends, AppendsFront}
-use Rattle.rte_source.specs.Puts.{PutProg}
+use Rattle.rte_source_meaning.specs.Puts.{PutProg}
 use Rattle.rte_tree.specs.declared.place.Place.{Place}
 use Rattle.rte_accept.specs.Accept.{IsProgramText}
 use Rattle.rte_cli.specs.Due.{Outcome, IsDue, untimely, timely, IsDueByScript, late, refused, ReachesScript}

@@ -4,7 +4,7 @@ use Rattle.rte_tree.specs.declared.place.Place.{Place}
 use Rattle.rte_read.specs.Source.{start}
 use Rattle.rte_program.specs.Program.{IsProgramFault}
 use Rattle.rte_form.specs.WellFormed.{IsTimely}
-use Rattle.rte_source.specs.Puts.{PutProg}
+use Rattle.rte_source_meaning.specs.Puts.{PutProg}
 use Rattle.rte_accept.specs.Accept.{IsProgramText, IsFormless, IsTextFault, of_source, of_form}
 use Rattle.rte_accept.specs.Laws.{HasOneProgram, HasProgramOrFault}
 use Rattle.rte_cli.specs.Due.{Outcome, refused, late, due_by_script, IsDueByScript, IsDue, source_fault, no_form, untimely, timely}

@@ -9,8 +9,8 @@ use Rattle.rte_log.specs.Line.{log_of}
 use Rattle.rte_read.specs.Source.{start}
 use Rattle.rte_program.specs.Program.{IsProgramFault}
 use Rattle.rte_accept.specs.Accept.{IsProgramText, IsFormless, fault_line}
-use Rattle.rte_source.specs.Puts.{PutProg}
-use Rattle.rte_target.specs.Run.{events}
+use Rattle.rte_source_meaning.specs.Puts.{PutProg}
+use Rattle.rte_machine_meaning.specs.Run.{events}
 use Rattle.rte_tree.specs.declared.place.Place.{Place}
 
 -- the status, the bytes that are put, and the bytes that are stored, if any are

@@ -11,9 +11,9 @@ use Rattle.rte_log.specs.Line.{log_of}
 use Rattle.rte_puts.specs.Keeps.{KeepsItsWord}
 use Rattle.rte_puts.specs.Recurrence.{tasks_of}
 use Rattle.rte_response.specs.Demand.{IsBound, Solves}
-use Rattle.rte_source.specs.Puts.{PutProg, put_prog, put_script}
-use Rattle.rte_source.specs.Source.{EndsWithin, IsSourceRun}
-use Rattle.rte_target.specs.Run.{events}
+use Rattle.rte_source_meaning.specs.Puts.{PutProg, put_prog, put_script}
+use Rattle.rte_source_meaning.specs.Source.{EndsWithin, IsSourceRun}
+use Rattle.rte_machine_meaning.specs.Run.{events}
 use Rattle.rte_cli.specs.Answers.{Outside}
 use Rattle.rte_accept.specs.Accept.{IsProgramText}
 use Rattle.rte_cli.specs.Due.{longest_program}

@@ -1,5 +1,5 @@
 -- Where a statement stands, as contracts see it.
-use Rattle.rte_declared.specs.Parts.{Where}
+use Rattle.rte_declarations.specs.Parts.{Where}
 use Rattle.rte_conduct.specs.declared.here.Here.{Here}
 
 abbrev pub where_of : Here → Where

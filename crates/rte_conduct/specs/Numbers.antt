@@ -3,8 +3,8 @@ use Rattle.std.specs.Prelude.{Option, Some, None, pos, ◌+ℤ◌, int_le, int_l
 use Rattle.rte_num.specs.Words.{same}
 use Rattle.rte_tree.specs.Placed.{loop, wait, except}
 use Rattle.rte_tree.specs.declared.place.Place.{Place}
-use Rattle.rte_declared.specs.Values.{Worth, constant_place, out_of}
-use Rattle.rte_declared.specs.Parts.{Part, statement}
+use Rattle.rte_declarations.specs.Values.{Worth, constant_place, out_of}
+use Rattle.rte_declarations.specs.Parts.{Part, statement}
 
 -- a loop's lower bound is above its upper bound
 abbrev pub crossed_loop : Worth → Part → Option Place

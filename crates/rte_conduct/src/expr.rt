@@ -2,10 +2,10 @@
 
 ghost use Rattle.std.specs.Prelude.{◌≡◌};
 ghost use Rattle.rte_tree.specs.Placed.{placed, placed_expr, placed_exprs, placed_operands};
-ghost use Rattle.rte_declared.specs.Things.{named_at};
+ghost use Rattle.rte_declarations.specs.Things.{named_at};
 ghost use Rattle.rte_conduct.specs.Conduct.{is_barred as names_barred, strays as expr_strays, exprs_stray as some_stray, operands_stray as operands_do_stray};
 
-use rte_declared::{Declarations, Thing};
+use rte_declarations::{Declarations, Thing};
 use rte_tree::{Expr, Op, Place, RoutineKind};
 
 /// Whether the name is that of a routine that an expression may not call: a procedure, or an entry

@@ -1,6 +1,6 @@
 //! Where a statement stands.
 
-use rte_declared::Home;
+use rte_declarations::Home;
 
 /// Where a statement stands: in what, and whether in a loop of it.
 #[derive(Clone, Copy, Debug, PartialEq, Eq)]

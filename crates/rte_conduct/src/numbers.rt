@@ -2,11 +2,11 @@
 
 ghost use Rattle.std.specs.Prelude.{◌≡◌};
 ghost use Rattle.rte_tree.specs.Placed.{placed, placed_stmt};
-ghost use Rattle.rte_declared.specs.Values.{value};
-ghost use Rattle.rte_declared.specs.Parts.{Where, statement};
+ghost use Rattle.rte_declarations.specs.Values.{value};
+ghost use Rattle.rte_declarations.specs.Parts.{Where, statement};
 ghost use Rattle.rte_conduct.specs.Numbers.{crossed_loop as crossed_at, endless_loop as endless_at, long_loop as long_at, bad_number as bad_number_at, bad_limit as bad_limit_at};
 
-use rte_declared::Declarations;
+use rte_declarations::Declarations;
 use rte_tree::{Place, Stmt};
 
 /// The most turns that a loop may have.

@@ -2,14 +2,14 @@
 
 ghost use Rattle.std.specs.Prelude.{◌≡◌};
 ghost use Rattle.rte_tree.specs.Placed.{placed, placed_stmt, placed_ref};
-ghost use Rattle.rte_declared.specs.Things.{named_at};
-ghost use Rattle.rte_declared.specs.Parts.{Where, statement};
+ghost use Rattle.rte_declarations.specs.Things.{named_at};
+ghost use Rattle.rte_declarations.specs.Parts.{Where, statement};
 ghost use Rattle.rte_conduct.specs.Conduct.{is_function as names_function, is_procedure as names_procedure, is_foreign as names_foreign, ref_strays as index_strays, target_strays as ref_is_astray, calls_nothing as is_silent, stmt_strays as is_astray, is_device as names_device, misdirected as misdirected_at};
 ghost use Rattle.rte_conduct.specs.Here.{where_of};
 
 use crate::expr::{exprs_stray, strays};
 use crate::here::Here;
-use rte_declared::{Declarations, Home, Thing};
+use rte_declarations::{Declarations, Home, Thing};
 use rte_tree::{Place, Ref, RoutineKind, Stmt};
 
 /// Whether the name is that of a function, be it an entry or not.

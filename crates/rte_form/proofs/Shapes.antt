@@ -8,7 +8,7 @@ use Rattle.rte_tree.specs.Plain.{Name}
 use Rattle.rte_tree.specs.declared.place.Place.{Place}
 use Rattle.rte_tree.specs.Placed as t
 use Rattle.rte_tree.specs.Placed.{Expr, Stmt, Stmts, Var, Routine, Activation, Handler, Process, Decl, Prog, optional, plain_expr, plain_stmt, plain_stmts, plain_var, plain_routine, plain_activation, plain_handler, plain_process, plain_decl, plain}
-use Rattle.rte_source.specs.Puts.{Put, PutProg, put_stmts, put_process, put_decls, put_prog}
+use Rattle.rte_source_meaning.specs.Puts.{Put, PutProg, put_stmts, put_process, put_decls, put_prog}
 use Rattle.rte_form.specs.declared.form.Form.{Form}
 use Rattle.rte_form.specs.Form.{program_of}
 use Rattle.rte_form.specs.Reading.{IsClosed, IsForm}

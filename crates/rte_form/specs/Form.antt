@@ -2,7 +2,7 @@
 use Rattle.std.specs.Prelude.{ℕ, List, map, slice_get, unwrap_or, []}
 use Rattle.rte_form.specs.declared.form.Form.{Form}
 use Rattle.rte_form.specs.declared.form.Put.{Put as Numbered}
-use Rattle.rte_source.specs.Puts.{Put, PutProg}
+use Rattle.rte_source_meaning.specs.Puts.{Put, PutProg}
 
 -- a put by the name of its device
 abbrev pub named_put : List (List ℕ) → Numbered → Put

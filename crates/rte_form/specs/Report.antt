@@ -1,7 +1,7 @@
 -- The report on a program of the first form.
 use Rattle.std.specs.Prelude.{◌+◌, ◌*◌, ◌++◌, ℕ, Bool, List, Option, Some, None, length, codes, decimal, nat_le, if◌then◌else◌}
 use Rattle.rte_form.specs.Target.{cost_of, stack_of}
-use Rattle.rte_source.specs.Puts.{PutProg}
+use Rattle.rte_source_meaning.specs.Puts.{PutProg}
 
 -- the cost is at most the frame
 abbrev pub is_timely : PutProg → Bool

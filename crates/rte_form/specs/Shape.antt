@@ -5,7 +5,7 @@ use Rattle.std.specs.Str.{bytes_eq}
 use Rattle.rte_tree.specs.Plain.{Name}
 use Rattle.rte_tree.specs.declared.place.Place.{Place}
 use Rattle.rte_tree.specs.Placed.{literal_constant, Expr, literal, Stmt, put, Stmts, no_stmts, stmts, Var, Routine, Activation, periodic, Handler, Process, Decl, device, Prog}
-use Rattle.rte_source.specs.Puts.{Put, PutProg}
+use Rattle.rte_source_meaning.specs.Puts.{Put, PutProg}
 use Rattle.rte_form.specs.WellFormed.{IsPutProg}
 
 -- one more at the front, where both are there

@@ -5,10 +5,10 @@ use Rattle.rte_isa.specs.declared.instr.Instr.TheVariants as i
 use Rattle.rte_image.specs.declared.names.DevName.{DevName}
 use Rattle.rte_image.specs.declared.names.ImageNames.{ImageNames}
 use Rattle.rte_image.specs.Named.{NamedImage}
-use Rattle.rte_source.specs.Names.{place_of}
-use Rattle.rte_source.specs.Puts.{Put, PutProg}
-use Rattle.rte_target.specs.Image.{Image, Process, Script}
-use Rattle.rte_target.specs.Trees.{Segs, Nil, Cons, Line}
+use Rattle.rte_source_meaning.specs.Names.{place_of}
+use Rattle.rte_source_meaning.specs.Puts.{Put, PutProg}
+use Rattle.rte_machine_meaning.specs.Image.{Image, Process, Script}
+use Rattle.rte_machine_meaning.specs.Trees.{Segs, Nil, Cons, Line}
 
 -- a PUSH and an OUT for each put, then END
 abbrev pub code_of : List (List ℕ) → List Put → List Instr

@@ -1,7 +1,7 @@
 -- What a program of the first form keeps to.
 use Rattle.std.specs.Prelude.{◌≤◌, ◌<◌, ◌^◌, List, ◌∷◌, length, All, Contains, ℕ, bytes_eq}
 use Rattle.std.specs.List.{IsDistinct}
-use Rattle.rte_source.specs.Puts.{Put, PutProg}
+use Rattle.rte_source_meaning.specs.Puts.{Put, PutProg}
 use Rattle.rte_form.specs.Target.{cost_of}
 
 -- a put is to a declared device, and its number is a word

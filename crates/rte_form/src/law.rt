@@ -5,7 +5,7 @@ ghost use Rattle.rte_tree.specs.declared.place.Place.{Place};
 ghost use Rattle.rte_tree.specs.Placed.{Prog};
 ghost use Rattle.rte_form.specs.Reading.{IsForm};
 ghost use Rattle.rte_form.specs.Script.{IsEndText, end_of};
-ghost use Rattle.rte_source.specs.Puts.{PutProg};
+ghost use Rattle.rte_source_meaning.specs.Puts.{PutProg};
 
 /// A tree is at most one program of the form.
 pub fn one_form()

@@ -6,7 +6,7 @@ ghost use Rattle.std.specs.Str.{bytes_eq};
 ghost use Rattle.rte_tree.specs.Placed.{placed, placed_activation, placed_decl, placed_expr, placed_process, placed_stmt, placed_stmts};
 ghost use Rattle.rte_tree.specs.Placed.{Decl as SpecDecl, Process, process};
 ghost use Rattle.rte_tree.specs.declared.place.Place.{Place};
-ghost use Rattle.rte_source.specs.Puts.{PutProg, Put as NamedPut};
+ghost use Rattle.rte_source_meaning.specs.Puts.{PutProg, Put as NamedPut};
 ghost use Rattle.rte_form.specs.Form.{named_put, program_of};
 ghost use Rattle.rte_form.specs.Reading.{IsForm};
 ghost use Rattle.rte_form.specs.Shape as shape;

@@ -3,12 +3,12 @@ use Rattle.std.proofs.Common.{◌≡◌, ◌≤◌, ◌<◌, ◌+◌, ◌*◌, i
 use Rattle.std.specs.Prelude.{pos, slice_get, slice_index_or, cond, All, Contains, bytes_eq}
 use Rattle.std.proofs.lemmas.Slice.Eq.{bytes_eq-Decides}
 use Rattle.rte_isa.specs.declared.instr.Instr.TheVariants as i
-use Rattle.rte_source.specs.Names.{place_of}
-use Rattle.rte_source.specs.Puts.{Put, PutProg}
+use Rattle.rte_source_meaning.specs.Names.{place_of}
+use Rattle.rte_source_meaning.specs.Puts.{Put, PutProg}
 use Rattle.rte_form.specs.Target.{code_of, stack_of, tree_of, process_of, image_of}
 use Rattle.rte_form.specs.WellFormed.{IsPut, IsPutProg}
-use Rattle.rte_target.specs.Trees.{Line, size}
-use Rattle.rte_target.specs.Image.{Process}
+use Rattle.rte_machine_meaning.specs.Trees.{Line, size}
+use Rattle.rte_machine_meaning.specs.Image.{Process}
 use Rattle.rte_safe.specs.Walk.{Where, IsLine, Walk, Walks}
 use Rattle.rte_safe.specs.Safe.{IsOwn, ProcessFits}
 use Rattle.rte_safe.proofs.Running.{every_run_is_safe}

@@ -1,13 +1,13 @@
 -- The image of a program of the first form, as the laws of a valid image see it.
 use Rattle.std.specs.Prelude.{◌≡◌, ◌+◌, ◌*◌, ℕ, false, List, length, None, Some, slice_get}
 use Rattle.rte_isa.specs.declared.instr.Instr.TheVariants as i
-use Rattle.rte_source.specs.Puts.{Put, PutProg}
+use Rattle.rte_source_meaning.specs.Puts.{Put, PutProg}
 use Rattle.rte_form.specs.Target.{stack_of, image_of}
 use Rattle.rte_form.specs.WellFormed.{IsPutProg}
-use Rattle.rte_target.specs.Image.{Process, Script}
-use Rattle.rte_target.specs.State.{Thread}
-use Rattle.rte_target.specs.Tick.{tick}
-use Rattle.rte_target.specs.Run.{state_at}
+use Rattle.rte_machine_meaning.specs.Image.{Process, Script}
+use Rattle.rte_machine_meaning.specs.State.{Thread}
+use Rattle.rte_machine_meaning.specs.Tick.{tick}
+use Rattle.rte_machine_meaning.specs.Run.{state_at}
 use Rattle.rte_safe.specs.Part.{Part}
 use Rattle.rte_safe.specs.Walk.{Where, Cost}
 use Rattle.rte_safe.specs.Safe.{Parts, ImageFits}

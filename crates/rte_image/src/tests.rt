@@ -3,7 +3,7 @@
 ghost use Rattle.std.specs.Prelude.{◌≡◌, ◌∷◌, [], IfOk};
 ghost use Rattle.rte_image.specs.Example.{alone, empty_program};
 ghost use Rattle.rte_image.specs.Raw.{named_of, process_of};
-ghost use Rattle.rte_target.specs.Trees.{Nil};
+ghost use Rattle.rte_machine_meaning.specs.Trees.{Nil};
 
 use crate::{ImageNames, RawImage, RawProc, write_image};
 use rte_isa::Instr;

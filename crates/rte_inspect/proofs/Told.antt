@@ -6,7 +6,7 @@ use Rattle.rte_tree.specs.declared.place.Place.{Place}
 use Rattle.rte_tree.specs.Placed.{Prog, bare}
 use Rattle.rte_lex.specs.declared.token.Token.{Token}
 use Rattle.rte_lex.specs.Tokens.{tokens}
-use Rattle.rte_source.specs.Puts.{PutProg}
+use Rattle.rte_source_meaning.specs.Puts.{PutProg}
 use Rattle.rte_io.specs.Outside.{Appends, AppendsFront}
 use Rattle.rte_form.specs.Report.{report_of}
 use Rattle.rte_form.specs.WellFormed.{IsTimely}

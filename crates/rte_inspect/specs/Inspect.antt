@@ -3,7 +3,7 @@ use Rattle.std.specs.Prelude.{◌≡◌, ◌≢◌, ◌<◌, ◌≤◌, ◌⊎�
 use Rattle.std.specs.Bool.{OnTrue}
 use Rattle.rte_tree.specs.declared.place.Place.{Place}
 use Rattle.rte_tree.specs.Placed.{Prog, bare}
-use Rattle.rte_source.specs.Puts.{PutProg}
+use Rattle.rte_source_meaning.specs.Puts.{PutProg}
 use Rattle.rte_io.specs.Outside.{Rose, AllStay, Appends, AppendsFront}
 use Rattle.rte_form.specs.Report.{report_of}
 use Rattle.rte_form.specs.WellFormed.{IsTimely}

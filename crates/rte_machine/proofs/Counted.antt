@@ -6,7 +6,7 @@ use Rattle.std.proofs.lemmas.List.Elements.{All-cons, All-head, All-map, All-tai
 use Rattle.rte_image.specs.declared.names.DevName.{DevName}
 use Rattle.rte_image.specs.Named.{NamedImage}
 use Rattle.rte_image.specs.InRange.{IsInRange, IsShort, IsSmall, IsProcessInRange}
-use Rattle.rte_source.specs.Puts.{Put, PutProg}
+use Rattle.rte_source_meaning.specs.Puts.{Put, PutProg}
 use Rattle.rte_form.specs.Target.{code_of, named_image_of, out_device, process_of, tree_of}
 use Rattle.rte_form.specs.WellFormed.{IsPutProg}
 use Rattle.rte_machine.specs.PutImage.{IsPutImage}

@@ -7,10 +7,10 @@ use Rattle.rte_isa.specs.declared.instr.Instr.{Instr}
 use Rattle.rte_isa.specs.declared.instr.Instr.TheVariants as instr
 use Rattle.rte_isa.specs.Ticks.{ticks}
 use Rattle.rte_event.specs.declared.event.Act.TheVariants as act
-use Rattle.rte_target.specs.Image.{Image}
-use Rattle.rte_target.specs.State.{Operand, Value, Job, State}
-use Rattle.rte_target.specs.Effect.{Own, Goes, Does, Ends, effect, put}
-use Rattle.rte_target.specs.Tick.{outcome, outcome_at}
+use Rattle.rte_machine_meaning.specs.Image.{Image}
+use Rattle.rte_machine_meaning.specs.State.{Operand, Value, Job, State}
+use Rattle.rte_machine_meaning.specs.Effect.{Own, Goes, Does, Ends, effect, put}
+use Rattle.rte_machine_meaning.specs.Tick.{outcome, outcome_at}
 use Rattle.rte_machine.specs.Move.{CanMove, Fits, HasDevice, activation}
 
 pub can_move_within : (code : List Instr) (w : Job) → CanMove code w → w.place < length code

@@ -5,8 +5,8 @@ use Rattle.rte_event.specs.declared.event.Event.{Event}
 use Rattle.rte_image.specs.declared.names.ImageNames.{ImageNames}
 use Rattle.rte_image.specs.Named.{NamedImage}
 use Rattle.rte_log.specs.Line.{line_of, log_of}
-use Rattle.rte_target.specs.Image.{Script}
-use Rattle.rte_target.specs.Run.{at_start, events_from, events}
+use Rattle.rte_machine_meaning.specs.Image.{Script}
+use Rattle.rte_machine_meaning.specs.Run.{at_start, events_from, events}
 use Rattle.rte_machine.specs.Standing.{Standing, log_to, next, passing}
 
 pub log_of-append : (names : ImageNames) (xs ys : List Event) → log_of names (xs ++ ys) ≡ log_of names xs ++ log_of names ys

@@ -8,16 +8,16 @@ use Rattle.std.proofs.lemmas.List.Elements.{All-cons, All-append}
 use Rattle.rte_event.specs.declared.event.Event.{Event}
 use Rattle.rte_event.specs.declared.event.Act.{Act}
 use Rattle.rte_event.specs.declared.event.Act.TheVariants as act
-use Rattle.rte_source.specs.Puts.{Put, PutProg}
+use Rattle.rte_source_meaning.specs.Puts.{Put, PutProg}
 use Rattle.rte_form.specs.Target.{cost_of, image_of, names_of, process_of, stack_of, until}
 use Rattle.rte_log.specs.InRange.{ActIsIn}
 use Rattle.rte_form.specs.WellFormed.{IsPutProg, IsTimely}
-use Rattle.rte_target.specs.Image.{Process}
-use Rattle.rte_target.specs.State.{Job, State, Thread, stack_of as job_stack}
-use Rattle.rte_target.specs.Effect.{Outcome}
-use Rattle.rte_target.specs.Starts.{Started, starts, periodic, time_outs, release, followed, unchanged}
-use Rattle.rte_target.specs.Tick.{Passed, Ticked, tick, outcome, settle, pick, run_picked}
-use Rattle.rte_target.specs.Run.{at_start, state_at}
+use Rattle.rte_machine_meaning.specs.Image.{Process}
+use Rattle.rte_machine_meaning.specs.State.{Job, State, Thread, stack_of as job_stack}
+use Rattle.rte_machine_meaning.specs.Effect.{Outcome}
+use Rattle.rte_machine_meaning.specs.Starts.{Started, starts, periodic, time_outs, release, followed, unchanged}
+use Rattle.rte_machine_meaning.specs.Tick.{Passed, Ticked, tick, outcome, settle, pick, run_picked}
+use Rattle.rte_machine_meaning.specs.Run.{at_start, state_at}
 use Rattle.rte_machine.specs.Move.{state_of, thread_of, begun, release_act, told, is_due, ran, fresh}
 use Rattle.rte_machine.specs.Standing.{WithinStacks, stack_in_use}
 use Rattle.rte_machine.proofs.Settles.{active_runs, idle_ticks}

@@ -7,9 +7,9 @@ use Rattle.rte_event.specs.declared.event.Act.TheVariants as act
 use Rattle.rte_machine.specs.declared.job.Moved.{Moved}
 use Rattle.rte_machine.specs.declared.job.Moved.TheVariants as moved
 use Rattle.rte_form.specs.Target.{image_of, process_of}
-use Rattle.rte_source.specs.Puts.{PutProg}
-use Rattle.rte_target.specs.State.{Job}
-use Rattle.rte_target.specs.Tick.{outcome, settle, pick}
+use Rattle.rte_source_meaning.specs.Puts.{PutProg}
+use Rattle.rte_machine_meaning.specs.State.{Job}
+use Rattle.rte_machine_meaning.specs.Tick.{outcome, settle, pick}
 use Rattle.rte_machine.specs.Move.{ProcessTicks, TicksTo, outcome_of, state_of, told, ran}
 
 -- what is told of a tick, and the process after it

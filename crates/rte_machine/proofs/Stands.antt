@@ -9,14 +9,14 @@ use Rattle.rte_isa.specs.declared.instr.Instr.{Instr}
 use Rattle.rte_isa.specs.declared.instr.Instr.TheVariants as instr
 use Rattle.rte_event.specs.declared.event.Act.{Act}
 use Rattle.rte_event.specs.declared.event.Act.TheVariants as act
-use Rattle.rte_source.specs.Names.{place_of}
-use Rattle.rte_source.specs.Puts.{Put, PutProg}
+use Rattle.rte_source_meaning.specs.Names.{place_of}
+use Rattle.rte_source_meaning.specs.Puts.{Put, PutProg}
 use Rattle.rte_form.specs.Target.{code_of, cost_of, image_of, names_of, out_device}
 use Rattle.rte_log.specs.InRange.{ActIsIn}
 use Rattle.rte_form.specs.WellFormed.{IsPut, IsPutProg}
-use Rattle.rte_target.specs.State.{Operand, Value, Job, State}
-use Rattle.rte_target.specs.Effect.{Outcome, Goes, Does, Ends}
-use Rattle.rte_target.specs.Tick.{outcome}
+use Rattle.rte_machine_meaning.specs.State.{Operand, Value, Job, State}
+use Rattle.rte_machine_meaning.specs.Effect.{Outcome, Goes, Does, Ends}
+use Rattle.rte_machine_meaning.specs.Tick.{outcome}
 use Rattle.rte_machine.specs.Move.{activation}
 use Rattle.rte_machine.proofs.Places.{rest_at, get_at}
 use Rattle.rte_machine.proofs.Jobs.{early_tick, push_goes, out_does, end_ends}

@@ -12,14 +12,14 @@ use Rattle.rte_image.specs.declared.names.DevName.{DevName}
 use Rattle.rte_image.specs.declared.names.ImageNames.{ImageNames}
 use Rattle.rte_log.specs.InRange.{AreIn, AreSound, IsShort}
 use Rattle.rte_image.specs.Named.{NamedImage}
-use Rattle.rte_source.specs.Names.{place_of}
-use Rattle.rte_source.specs.Puts.{Put, PutProg}
+use Rattle.rte_source_meaning.specs.Names.{place_of}
+use Rattle.rte_source_meaning.specs.Puts.{Put, PutProg}
 use Rattle.rte_form.specs.Target.{code_of, image_of, names_of, out_device, until}
 use Rattle.rte_form.specs.WellFormed.{IsPut, IsPutProg, IsTimely}
-use Rattle.rte_target.specs.Image.{Image, Process, Script}
-use Rattle.rte_target.specs.State.{Operand, Value, Job, State}
-use Rattle.rte_target.specs.Tick.{Passed, tick}
-use Rattle.rte_target.specs.Run.{at_start, state_at}
+use Rattle.rte_machine_meaning.specs.Image.{Image, Process, Script}
+use Rattle.rte_machine_meaning.specs.State.{Operand, Value, Job, State}
+use Rattle.rte_machine_meaning.specs.Tick.{Passed, tick}
+use Rattle.rte_machine_meaning.specs.Run.{at_start, state_at}
 use Rattle.rte_machine.specs.Move.{CanMove, Fits, HasDevice, ReachesDevice, ProcessTicks, state_of, thread_of, begun, release_act, told, is_due, ran, activation}
 use Rattle.rte_machine.specs.PutImage.{IsPutImage}
 use Rattle.rte_machine.specs.Standing.{Standing, IsOf, IsSound, WithinStacks, next}

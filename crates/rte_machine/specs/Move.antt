@@ -8,11 +8,11 @@ use Rattle.rte_isa.specs.declared.instr.Instr.TheVariants as i
 use Rattle.rte_machine.specs.declared.job.Moved.{Moved}
 use Rattle.rte_machine.specs.declared.job.Moved.TheVariants as moved
 use Rattle.rte_form.specs.Target.{code_of, image_of}
-use Rattle.rte_source.specs.Puts.{PutProg}
-use Rattle.rte_target.specs.Image.{Image}
-use Rattle.rte_target.specs.State.{Operand, Value, Job, Thread, Idle, Ready, State}
-use Rattle.rte_target.specs.Effect.{Outcome, Goes, Does, Ends}
-use Rattle.rte_target.specs.Tick.{Ticked, outcome, pick, run_picked}
+use Rattle.rte_source_meaning.specs.Puts.{PutProg}
+use Rattle.rte_machine_meaning.specs.Image.{Image}
+use Rattle.rte_machine_meaning.specs.State.{Operand, Value, Job, Thread, Idle, Ready, State}
+use Rattle.rte_machine_meaning.specs.Effect.{Outcome, Goes, Does, Ends}
+use Rattle.rte_machine_meaning.specs.Tick.{Ticked, outcome, pick, run_picked}
 
 -- an activation at a place, with so many ticks of its instruction done, and these operands
 abbrev pub activation : ℕ → ℕ → List Operand → Job

@@ -1,7 +1,7 @@
 -- The images that the machine runs.
 use Rattle.std.specs.Prelude.{◌≡◌}
 use Rattle.rte_image.specs.Named.{NamedImage}
-use Rattle.rte_source.specs.Puts.{PutProg}
+use Rattle.rte_source_meaning.specs.Puts.{PutProg}
 use Rattle.rte_form.specs.Target.{named_image_of}
 use Rattle.rte_form.specs.WellFormed.{IsPutProg, IsTimely}
 

@@ -3,10 +3,10 @@ use Rattle.std.specs.Prelude.{◌≡◌, ◌≤◌, ◌+◌, ◌-◌, ℕ, false
 use Rattle.rte_event.specs.declared.event.Event.{Event}
 use Rattle.rte_image.specs.Named.{NamedImage}
 use Rattle.rte_log.specs.Line.{log_of}
-use Rattle.rte_target.specs.Image.{Image, Process, Script}
-use Rattle.rte_target.specs.State.{Thread, Idle, Ready, Waiting, State, stack_of}
-use Rattle.rte_target.specs.Tick.{Passed, tick}
-use Rattle.rte_target.specs.Run.{state_at, events_from}
+use Rattle.rte_machine_meaning.specs.Image.{Image, Process, Script}
+use Rattle.rte_machine_meaning.specs.State.{Thread, Idle, Ready, Waiting, State, stack_of}
+use Rattle.rte_machine_meaning.specs.Tick.{Passed, tick}
+use Rattle.rte_machine_meaning.specs.Run.{state_at, events_from}
 
 -- a machine: the tick that comes next, the state before it, and the events of the tick before
 pub record Standing : Type 0 where

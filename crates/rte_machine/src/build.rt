@@ -8,7 +8,7 @@ ghost use Rattle.rte_form.specs.WellFormed.{IsPutProg};
 ghost use Rattle.rte_image.specs.Raw as raw;
 ghost use Rattle.rte_seg.specs.View.{views};
 ghost use Rattle.rte_machine.specs.Count.{tree_of_count};
-ghost use Rattle.rte_source.specs.Names.{place_of};
+ghost use Rattle.rte_source_meaning.specs.Names.{place_of};
 
 use rte_form::{Form, Put};
 use rte_image::{DevName, ImageNames, RawProc};

@@ -28,7 +28,7 @@ pub struct Job {
 impl Model for Job {
     ghost use Rattle.std.specs.Prelude.{◌≤◌, vec_capacity, reverse, map};
     ghost use Rattle.rte_machine.specs.Move.{activation};
-    ghost use Rattle.rte_target.specs.State.{Job as Activation, Value as word};
+    ghost use Rattle.rte_machine_meaning.specs.State.{Job as Activation, Value as word};
 
     ghost Value = { Activation };
 

@@ -7,7 +7,7 @@ ghost use Rattle.rte_io.specs.Outside.{Appends, AppendsFront, Rose};
 ghost use Rattle.rte_log.specs.InRange.{AreIn};
 ghost use Rattle.rte_log.specs.Line.{line_of, log_of};
 ghost use Rattle.rte_machine.specs.Standing.{IsOf, IsSound, log_to, next};
-ghost use Rattle.rte_target.specs.Run.{at_start, events};
+ghost use Rattle.rte_machine_meaning.specs.Run.{at_start, events};
 
 use crate::image::Image;
 use crate::process::Process;

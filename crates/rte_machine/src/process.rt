@@ -19,7 +19,7 @@ pub struct Process {
 
 impl Model for Process {
     ghost use Rattle.std.specs.Prelude.{Option, Some, None, if◌then◌else◌};
-    ghost use Rattle.rte_target.specs.State.{Job as Activation};
+    ghost use Rattle.rte_machine_meaning.specs.State.{Job as Activation};
 
     ghost Value = { Option Activation };
 

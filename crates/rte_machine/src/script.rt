@@ -14,7 +14,7 @@ pub struct Script {
 impl Model for Script {
     ghost use Rattle.std.specs.Prelude.{◌≤◌};
     ghost use Rattle.rte_form.specs.Target.{until};
-    ghost use Rattle.rte_target.specs.Image.{Script as Meaning};
+    ghost use Rattle.rte_machine_meaning.specs.Image.{Script as Meaning};
 
     ghost Value = { Meaning };
 

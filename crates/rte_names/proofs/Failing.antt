@@ -2,7 +2,7 @@
 use Rattle.std.proofs.Common.{◌≡◌, ℕ, List, [], ◌∷◌, Option, Some, None, Bool, true, false, not, if◌then◌else◌, ◌⊎◌, inl, inr, refl, ap, sym, ◌∙◌, true≢false}
 use Rattle.rte_tree.specs.Placed.{Prog}
 use Rattle.rte_tree.specs.declared.place.Place.{Place}
-use Rattle.rte_first.specs.declared.broken.Broken.{Broken}
+use Rattle.rte_rules.specs.declared.broken.Broken.{Broken}
 use Rattle.rte_names.specs.Reach.{same, suits, or_else}
 use Rattle.rte_names.specs.Occurrences.{Occurrence, declares, closes, used, names, declared_at}
 use Rattle.rte_names.specs.Rules.{Among, place_of, undeclared, shadows, misused, misclosed, Fails, IsUse, NamesAt, UsedAt}
@@ -10,8 +10,8 @@ use Rattle.std.specs.Map.{lookup}
 use Rattle.rte_names.specs.Findings.{Found, noted, same_key, key_of}
 use Rattle.rte_names.specs.Seen.{nothing}
 use Rattle.rte_names.specs.Resolved.{IsRead, IsNamed, IsResolved}
-use Rattle.rte_first.specs.First.{IsFirst}
-use Rattle.rte_first.proofs.Soonest.{not-before}
+use Rattle.rte_rules.specs.First.{IsFirst}
+use Rattle.rte_rules.proofs.Soonest.{not-before}
 use Rattle.rte_names.proofs.Notes.{fault_of, Breaks, Clean, Least, first_of_all, ties_of_all, tied-declared}
 
 among-map : {P Q : Occurrence → Type 0} → ((o : Occurrence) → P o → Q o) → (os : List Occurrence) → Among P os → Among Q os

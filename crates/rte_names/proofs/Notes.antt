@@ -6,9 +6,9 @@ use Rattle.std.proofs.lemmas.Cmp.{nat_eq_equiv, on_equiv, and_equiv}
 use Rattle.std.proofs.lemmas.Bool.{and_parts, eqb-true}
 use Rattle.indexmap.specs.IndexMap.{insert_entry}
 use Rattle.rte_tree.specs.declared.place.Place.{Place}
-use Rattle.rte_first.specs.declared.broken.Broken.{Broken}
-use Rattle.rte_first.specs.First.{comes_before, sooner}
-use Rattle.rte_first.proofs.Soonest.{NotBefore, not_before-refl, not_before-trans, before-false, before-true}
+use Rattle.rte_rules.specs.declared.broken.Broken.{Broken}
+use Rattle.rte_rules.specs.First.{comes_before, sooner}
+use Rattle.rte_rules.proofs.Soonest.{NotBefore, not_before-refl, not_before-trans, before-false, before-true}
 use Rattle.rte_names.specs.Reach.{same, same_place, suits, or_else}
 use Rattle.rte_names.specs.Occurrences.{Occurrence, declares, closes, used, declared_at}
 use Rattle.rte_names.specs.Rules.{Among, place_of, Means, IsUse}

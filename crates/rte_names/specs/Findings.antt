@@ -2,8 +2,8 @@
 use Rattle.std.specs.Prelude.{ℕ, Bool, ◌&&◌, List, [], ◌∷◌, Option, Some, None, if◌then◌else◌, nat_eq}
 use Rattle.indexmap.specs.IndexMap.{insert_entry}
 use Rattle.rte_tree.specs.declared.place.Place.{Place}
-use Rattle.rte_first.specs.declared.broken.Broken.{Broken}
-use Rattle.rte_first.specs.First.{sooner}
+use Rattle.rte_rules.specs.declared.broken.Broken.{Broken}
+use Rattle.rte_rules.specs.First.{sooner}
 use Rattle.rte_names.specs.declared.kind.Declared.{Declared}
 use Rattle.rte_names.specs.declared.kind.Want.{Want}
 use Rattle.rte_names.specs.Reach.{same, suits}

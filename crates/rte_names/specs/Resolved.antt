@@ -5,7 +5,7 @@ use Rattle.rte_lex.specs.declared.token.Token.{Token}
 use Rattle.rte_lex.specs.Tokens.{tokens}
 use Rattle.rte_tree.specs.Placed.{Prog}
 use Rattle.rte_tree.specs.declared.place.Place.{Place}
-use Rattle.rte_first.specs.First.{IsFirst}
+use Rattle.rte_rules.specs.First.{IsFirst}
 use Rattle.rte_grammar.specs.Grammar.{tree}
 use Rattle.rte_names.specs.Occurrences.{names, declared_at}
 use Rattle.rte_names.specs.Rules.{Fails, NamesAt, UsedAt}

@@ -6,7 +6,7 @@ ghost use Rattle.rte_names.specs.Findings.{blame as blamed, tie as tied, note, n
 
 use crate::kind::{Declared, Want, suits};
 use crate::near::PlaceMap;
-use rte_first::Broken;
+use rte_rules::Broken;
 use rte_tree::{Name, Place};
 use std::alloc::{AllocError, Global};
 use std::hash::BuildHasherDefault;
@@ -41,7 +41,7 @@ impl Findings {
     fn blame(&mut self, number: u8, place: Place)
         ensures { self.new ≡ blamed self.old number place }
     {
-        rte_first::blame(&mut self.first, number, Some(place));
+        rte_rules::blame(&mut self.first, number, Some(place));
     }
 
     fn tie(&mut self, place: Place, declared: Place) -> Result<(), AllocError>

@@ -3,7 +3,7 @@ use Rattle.std.proofs.Common.{◌≡◌, ◌<◌, ℕ, List, ◌⊎◌, inl, inr
 use Rattle.std.specs.Prelude.{IfErr, IsErrAnd, MatchResult}
 use Rattle.rte_tree.specs.declared.place.Place.{Place}
 use Rattle.rte_tree.specs.Placed.{Prog}
-use Rattle.rte_first.specs.First as rule
+use Rattle.rte_rules.specs.First as rule
 use Rattle.rte_names.specs.Rules as names
 use Rattle.rte_names.specs.Resolved.{IsNamed, IsFault as IsNameFault}
 use Rattle.rte_names.specs.declared.named.NameFault.{NameFault}

@@ -2,7 +2,7 @@
 use Rattle.std.specs.Prelude.{◌≡◌, ℕ, List}
 use Rattle.rte_tree.specs.declared.place.Place.{Place}
 use Rattle.rte_tree.specs.Placed.{Prog}
-use Rattle.rte_first.specs.First as rule
+use Rattle.rte_rules.specs.First as rule
 use Rattle.rte_read.specs.Source.{IsTreeOf, IsSourceFault}
 use Rattle.rte_read.specs.declared.fault.SourceFault.{SourceFault}
 use Rattle.rte_read.specs.declared.fault.SourceFault.TheVariants.{Fault, Memory}

@@ -3,7 +3,7 @@ use Rattle.std.proofs.Common.{◌≡◌, ◌≤◌, ℕ, arith}
 use Rattle.rte_form.specs.Target.{cost_of}
 use Rattle.rte_form.specs.WellFormed.{IsPutProg, IsTimely}
 use Rattle.rte_response.specs.Demand.{demand_at, Solves, IsBound}
-use Rattle.rte_source.specs.Puts.{PutProg}
+use Rattle.rte_source_meaning.specs.Puts.{PutProg}
 use Rattle.rte_puts.specs.Recurrence.{tasks_of}
 
 -- the cost is not capped

@@ -4,8 +4,8 @@ use Rattle.std.specs.Prelude.{nat_eq, All, bytes_eq, slice_index_or}
 use Rattle.std.proofs.lemmas.Bool.{cases_Bool}
 use Rattle.std.proofs.lemmas.Bool.Decides.{nat_tests}
 use Rattle.rte_form.specs.WellFormed.{IsPut}
-use Rattle.rte_source.specs.Names.{place_of}
-use Rattle.rte_source.specs.Puts.{Put}
+use Rattle.rte_source_meaning.specs.Names.{place_of}
+use Rattle.rte_source_meaning.specs.Puts.{Put}
 use Rattle.rte_puts.proofs.Standing.{AreDeclared}
 
 same_number : (n : ℕ) → nat_eq n n ≡ true

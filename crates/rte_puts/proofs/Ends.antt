@@ -5,11 +5,11 @@ use Rattle.rte_event.specs.declared.event.Event.{Event}
 use Rattle.rte_event.specs.declared.event.Act.TheVariants as act
 use Rattle.rte_form.specs.Target.{image_of, cost_of, until}
 use Rattle.rte_form.specs.WellFormed.{IsTimely}
-use Rattle.rte_source.specs.Names.{place_of}
-use Rattle.rte_source.specs.Puts.{Put, PutProg, Putting, resting, putting}
-use Rattle.rte_source.specs.Source.{EndsWithin, first_end}
-use Rattle.rte_target.specs.State.{Thread, Idle, Ready, Waiting}
-use Rattle.rte_target.specs.Run.{events_from, events}
+use Rattle.rte_source_meaning.specs.Names.{place_of}
+use Rattle.rte_source_meaning.specs.Puts.{Put, PutProg, Putting, resting, putting}
+use Rattle.rte_source_meaning.specs.Source.{EndsWithin, first_end}
+use Rattle.rte_machine_meaning.specs.State.{Thread, Idle, Ready, Waiting}
+use Rattle.rte_machine_meaning.specs.Run.{events_from, events}
 use Rattle.rte_puts.proofs.Ticks.{standing, release, first_state}
 use Rattle.rte_puts.proofs.Standing.{AreDeclared, At}
 use Rattle.rte_puts.proofs.Turns.{Turns, stays, starts, works, does, stops, Next, next}

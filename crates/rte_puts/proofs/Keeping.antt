@@ -3,11 +3,11 @@ use Rattle.std.proofs.Common.{◌≡◌, ◌≤◌, ◌+◌, inl, inr, ℕ, zero
 use Rattle.std.specs.Prelude.{slice_get, ℤ}
 use Rattle.rte_form.specs.Target.{image_of, process_of, stack_of, cost_of, until}
 use Rattle.rte_form.specs.WellFormed.{IsTimely}
-use Rattle.rte_source.specs.Puts.{Put, PutProg, Putting, resting, putting}
-use Rattle.rte_target.specs.Image.{Process}
-use Rattle.rte_target.specs.State.{Job, Thread, Idle, Ready}
-use Rattle.rte_target.specs.Tick.{tick}
-use Rattle.rte_target.specs.Run.{state_at}
+use Rattle.rte_source_meaning.specs.Puts.{Put, PutProg, Putting, resting, putting}
+use Rattle.rte_machine_meaning.specs.Image.{Process}
+use Rattle.rte_machine_meaning.specs.State.{Job, Thread, Idle, Ready}
+use Rattle.rte_machine_meaning.specs.Tick.{tick}
+use Rattle.rte_machine_meaning.specs.Run.{state_at}
 use Rattle.rte_puts.specs.Keeps.{IsWithin, KeepsItsWord, stack_used}
 use Rattle.rte_puts.proofs.Ticks.{standing, first_state}
 use Rattle.rte_puts.proofs.Standing.{AreDeclared, Working, At}

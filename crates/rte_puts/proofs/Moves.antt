@@ -6,11 +6,11 @@ use Rattle.rte_event.specs.declared.event.Act.TheVariants as act
 use Rattle.rte_isa.specs.declared.instr.Instr.{Instr}
 use Rattle.rte_isa.specs.declared.instr.Instr.TheVariants as i
 use Rattle.rte_form.specs.Target.{image_of, code_of, cost_of}
-use Rattle.rte_source.specs.Names.{place_of}
-use Rattle.rte_source.specs.Puts.{Put, PutProg}
-use Rattle.rte_target.specs.State.{Operand, Value, Job, Ready}
-use Rattle.rte_target.specs.Effect.{Own, Outcome, Goes, Does, Ends, effect}
-use Rattle.rte_target.specs.Tick.{outcome, outcome_at}
+use Rattle.rte_source_meaning.specs.Names.{place_of}
+use Rattle.rte_source_meaning.specs.Puts.{Put, PutProg}
+use Rattle.rte_machine_meaning.specs.State.{Operand, Value, Job, Ready}
+use Rattle.rte_machine_meaning.specs.Effect.{Own, Outcome, Goes, Does, Ends, effect}
+use Rattle.rte_machine_meaning.specs.Tick.{outcome, outcome_at}
 use Rattle.rte_puts.proofs.Places.{rest_at, get_at}
 use Rattle.rte_puts.proofs.Ticks.{standing, job_at}
 use Rattle.rte_puts.proofs.Standing.{first_ticks, AreDeclared, Stands}

@@ -6,9 +6,9 @@ use Rattle.std.proofs.lemmas.Bool.Decides.{nat_tests}
 use Rattle.rte_event.specs.declared.event.Event.{Event}
 use Rattle.rte_form.specs.Target.{image_of, until}
 use Rattle.rte_form.specs.WellFormed.{IsTimely}
-use Rattle.rte_source.specs.Puts.{PutProg, Putting, resting, putting, PutRun, NoRelease, release_due, released_at}
-use Rattle.rte_target.specs.State.{Thread, Idle}
-use Rattle.rte_target.specs.Run.{events_from, events}
+use Rattle.rte_source_meaning.specs.Puts.{PutProg, Putting, resting, putting, PutRun, NoRelease, release_due, released_at}
+use Rattle.rte_machine_meaning.specs.State.{Thread, Idle}
+use Rattle.rte_machine_meaning.specs.Run.{events_from, events}
 use Rattle.rte_puts.proofs.Ticks.{standing, is_due, first_state}
 use Rattle.rte_puts.proofs.Standing.{AreDeclared, At}
 use Rattle.rte_puts.proofs.Turns.{Turns, stays, starts, works, does, stops, Next, next}

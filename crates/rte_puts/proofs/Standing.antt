@@ -3,9 +3,9 @@ use Rattle.std.proofs.Common.{◌≡◌, ◌<◌, ◌+◌, ◌%◌, ◌⊎◌, �
 use Rattle.std.specs.Prelude.{pos}
 use Rattle.rte_isa.specs.declared.instr.Instr.TheVariants as i
 use Rattle.rte_form.specs.Target.{code_of, cost_of}
-use Rattle.rte_source.specs.Names.{place_of}
-use Rattle.rte_source.specs.Puts.{Put, PutProg, Putting, resting, putting}
-use Rattle.rte_target.specs.State.{Value, Job, Thread, Idle, Ready}
+use Rattle.rte_source_meaning.specs.Names.{place_of}
+use Rattle.rte_source_meaning.specs.Puts.{Put, PutProg, Putting, resting, putting}
+use Rattle.rte_machine_meaning.specs.State.{Value, Job, Thread, Idle, Ready}
 use Rattle.rte_puts.proofs.Ticks.{job_at}
 
 -- the ticks of the first instruction of the puts

@@ -5,12 +5,12 @@ use Rattle.std.proofs.lemmas.Bool.Decides.{nat_tests}
 use Rattle.rte_event.specs.declared.event.Event.{Event}
 use Rattle.rte_event.specs.declared.event.Act.TheVariants as act
 use Rattle.rte_form.specs.Target.{image_of, process_of, until}
-use Rattle.rte_source.specs.Puts.{PutProg}
-use Rattle.rte_target.specs.State.{Operand, Job, Thread, Idle, Ready, State}
-use Rattle.rte_target.specs.Effect.{Outcome}
-use Rattle.rte_target.specs.Starts.{starts, is_periodic_due, unchanged}
-use Rattle.rte_target.specs.Tick.{Ticked, tick, pick, settle, outcome}
-use Rattle.rte_target.specs.Run.{at_start}
+use Rattle.rte_source_meaning.specs.Puts.{PutProg}
+use Rattle.rte_machine_meaning.specs.State.{Operand, Job, Thread, Idle, Ready, State}
+use Rattle.rte_machine_meaning.specs.Effect.{Outcome}
+use Rattle.rte_machine_meaning.specs.Starts.{starts, is_periodic_due, unchanged}
+use Rattle.rte_machine_meaning.specs.Tick.{Ticked, tick, pick, settle, outcome}
+use Rattle.rte_machine_meaning.specs.Run.{at_start}
 
 -- the state in which the one process has this thread
 abbrev pub standing : PutProg → Thread → State

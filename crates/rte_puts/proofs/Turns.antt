@@ -10,11 +10,11 @@ use Rattle.rte_isa.specs.declared.instr.Instr.{Instr}
 use Rattle.rte_isa.specs.declared.instr.Instr.TheVariants as i
 use Rattle.rte_form.specs.Target.{image_of, code_of, cost_of, until}
 use Rattle.rte_form.specs.WellFormed.{IsTimely}
-use Rattle.rte_source.specs.Names.{place_of}
-use Rattle.rte_source.specs.Puts.{Put, PutProg, Putting, resting, putting}
-use Rattle.rte_target.specs.State.{Value, Job, Thread, Idle, Ready}
-use Rattle.rte_target.specs.Effect.{Outcome, Goes, Does, Ends}
-use Rattle.rte_target.specs.Tick.{tick}
+use Rattle.rte_source_meaning.specs.Names.{place_of}
+use Rattle.rte_source_meaning.specs.Puts.{Put, PutProg, Putting, resting, putting}
+use Rattle.rte_machine_meaning.specs.State.{Value, Job, Thread, Idle, Ready}
+use Rattle.rte_machine_meaning.specs.Effect.{Outcome, Goes, Does, Ends}
+use Rattle.rte_machine_meaning.specs.Tick.{tick}
 use Rattle.rte_puts.proofs.Ticks.{standing, job_at, is_due, release, rests, goes_on, begins}
 use Rattle.rte_puts.proofs.Standing.{AreDeclared, Stands, Working, At}
 use Rattle.rte_puts.proofs.Moves.{Moves, silent, puts, ends, moves, comes_to, own, found_outcome}

@@ -1,10 +1,10 @@
 -- What every run of an image is to keep: no tick is stuck, no release finds its process unfinished, and each process is
 -- within its declared words.
 use Rattle.std.specs.Prelude.{◌≡◌, ◌≤◌, ◌<◌, ℕ, ℤ, List, Some, length, false, slice_get}
-use Rattle.rte_target.specs.Image.{Image, Process, Script}
-use Rattle.rte_target.specs.State.{Thread, Idle, Ready, Waiting, State, stack_of}
-use Rattle.rte_target.specs.Tick.{tick}
-use Rattle.rte_target.specs.Run.{state_at}
+use Rattle.rte_machine_meaning.specs.Image.{Image, Process, Script}
+use Rattle.rte_machine_meaning.specs.State.{Thread, Idle, Ready, Waiting, State, stack_of}
+use Rattle.rte_machine_meaning.specs.Tick.{tick}
+use Rattle.rte_machine_meaning.specs.Run.{state_at}
 
 -- the words of the stack that a process takes
 abbrev pub stack_used : Thread → ℕ

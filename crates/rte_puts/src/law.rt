@@ -3,14 +3,14 @@
 ghost use Rattle.std.specs.Prelude.{ℕ};
 ghost use Rattle.rte_form.specs.Target.{cost_of, image_of, until};
 ghost use Rattle.rte_form.specs.WellFormed.{IsPutProg, IsTimely};
-ghost use Rattle.rte_source.specs.Puts.{PutProg, put_prog, put_script};
+ghost use Rattle.rte_source_meaning.specs.Puts.{PutProg, put_prog, put_script};
 ghost use Rattle.rte_puts.specs.Keeps.{KeepsItsWord};
 ghost use Rattle.rte_puts.specs.Recurrence.{tasks_of};
 ghost use Rattle.rte_response.specs.Demand.{IsBound, Solves};
-ghost use Rattle.rte_source.specs.Source.{EndsWithin, IsSourceRun};
-ghost use Rattle.rte_target.specs.Run.{events};
+ghost use Rattle.rte_source_meaning.specs.Source.{EndsWithin, IsSourceRun};
+ghost use Rattle.rte_machine_meaning.specs.Run.{events};
 
-use rte_source::law::put_runs_are_source_runs;
+use rte_source_meaning::law::put_runs_are_source_runs;
 
 /// Up to every end, the events of the image are a run of the program that it was made from.
 pub fn events_are_a_source_run()

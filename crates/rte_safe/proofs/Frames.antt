@@ -4,9 +4,9 @@ use Rattle.std.specs.Prelude.{cond, pos}
 use Rattle.rte_isa.specs.declared.instr.Instr.{Instr}
 use Rattle.rte_isa.specs.declared.instr.Instr.TheVariants as i
 use Rattle.rte_num.specs.Words.{is_zero}
-use Rattle.rte_target.specs.Trees.{Segs, Line, Fork, Rep, Exit, Nil, Cons}
-use Rattle.rte_target.specs.State.{Operand, Value, Counter, State}
-use Rattle.rte_target.specs.Effect.{Own, Outcome, Goes, Does, Signals, Broadcasts, Waits, Raises, Ends, Stuck, effect, holding, go_to, count_down, drop_counter}
+use Rattle.rte_machine_meaning.specs.Trees.{Segs, Line, Fork, Rep, Exit, Nil, Cons}
+use Rattle.rte_machine_meaning.specs.State.{Operand, Value, Counter, State}
+use Rattle.rte_machine_meaning.specs.Effect.{Own, Outcome, Goes, Does, Signals, Broadcasts, Waits, Raises, Ends, Stuck, effect, holding, go_to, count_down, drop_counter}
 use Rattle.rte_isa.specs.Ticks.{ticks}
 use Rattle.rte_safe.specs.Part.{Kind, Plain, Counts, kinds, plains, takes, gives, IsSized}
 use Rattle.rte_safe.specs.Laws.{GoesOn, After, IsIn}

@@ -4,12 +4,12 @@ use Rattle.std.specs.Prelude.{ℤ, pos, nat_eq}
 use Rattle.std.proofs.lemmas.Bool.Decides.{nat_tests}
 use Rattle.rte_isa.specs.declared.instr.Instr.{Instr}
 use Rattle.rte_isa.specs.declared.instr.Instr.TheVariants as i
-use Rattle.rte_target.specs.Trees.{Segs, Line, Fork, Rep, Call, Stay, Wait, Exit}
-use Rattle.rte_target.specs.Image.{Routine}
-use Rattle.rte_target.specs.State.{Operand, Value, Counter, Caller, State, is_free, is_inside, zeros}
-use Rattle.rte_target.specs.Effect.{Own, Outcome, Goes, Does, Signals, Broadcasts, Waits, Raises, Ends, Stuck, effect, holding, take_one, one, give, arguments, called, call, back, enters, leaves, wait, waits}
+use Rattle.rte_machine_meaning.specs.Trees.{Segs, Line, Fork, Rep, Call, Stay, Wait, Exit}
+use Rattle.rte_machine_meaning.specs.Image.{Routine}
+use Rattle.rte_machine_meaning.specs.State.{Operand, Value, Counter, Caller, State, is_free, is_inside, zeros}
+use Rattle.rte_machine_meaning.specs.Effect.{Own, Outcome, Goes, Does, Signals, Broadcasts, Waits, Raises, Ends, Stuck, effect, holding, take_one, one, give, arguments, called, call, back, enters, leaves, wait, waits}
 use Rattle.rte_isa.specs.Ticks.{ticks}
-use Rattle.rte_target.specs.Tick.{at_next}
+use Rattle.rte_machine_meaning.specs.Tick.{at_next}
 use Rattle.rte_safe.specs.Part.{Part, Kind, Plain, kinds, plains, IsSized}
 use Rattle.rte_safe.specs.Laws.{GoesOn}
 use Rattle.rte_safe.specs.Walk.{Where, Cost, At, Reaches, Walk, within}

@@ -4,11 +4,11 @@ use Rattle.std.specs.Prelude.{ℤ, slice_get, slice_set, cond, nat_eq}
 use Rattle.std.proofs.lemmas.Bool.{cases_Bool}
 use Rattle.std.proofs.lemmas.Bool.Decides.{nat_tests}
 use Rattle.rte_event.specs.declared.event.Act.TheVariants as act
-use Rattle.rte_target.specs.Image.{Process, Script}
-use Rattle.rte_target.specs.State.{Job, Thread, Idle, Ready, Waiting, State}
-use Rattle.rte_target.specs.Effect.{Own, Outcome, Goes, Does, Signals, Broadcasts, Waits, Raises, Ends, Stuck}
-use Rattle.rte_target.specs.Starts.{Started, unchanged, told, released, release, release_thread, time_out, raised, without, queue_of, starts}
-use Rattle.rte_target.specs.Tick.{Candidate, least, pick, woken, wake, wake_all, first, rest, wake_first, settle, outcome, owned_of, run_thread, run_picked, tick}
+use Rattle.rte_machine_meaning.specs.Image.{Process, Script}
+use Rattle.rte_machine_meaning.specs.State.{Job, Thread, Idle, Ready, Waiting, State}
+use Rattle.rte_machine_meaning.specs.Effect.{Own, Outcome, Goes, Does, Signals, Broadcasts, Waits, Raises, Ends, Stuck}
+use Rattle.rte_machine_meaning.specs.Starts.{Started, unchanged, told, released, release, release_thread, time_out, raised, without, queue_of, starts}
+use Rattle.rte_machine_meaning.specs.Tick.{Candidate, least, pick, woken, wake, wake_all, first, rest, wake_first, settle, outcome, owned_of, run_thread, run_picked, tick}
 use Rattle.rte_safe.specs.Walk.{Where, Cost}
 use Rattle.rte_safe.specs.Safe.{Parts, ImageFits, ReadyFits, Ticks, TickFits, own_of, part_of, spare}
 use Rattle.rte_safe.specs.Whole.{StateFits}

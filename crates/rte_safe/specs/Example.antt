@@ -2,11 +2,11 @@
 use Rattle.std.specs.Prelude.{◌≡◌, ℕ, zero, suc, true, false, List, [], ◌∷◌, Some, None}
 use Rattle.rte_isa.specs.declared.instr.Instr.{Instr}
 use Rattle.rte_isa.specs.declared.instr.Instr.TheVariants as i
-use Rattle.rte_target.specs.Trees.{Line, Fork, Rep, Call, Exit, Nil, Cons}
-use Rattle.rte_target.specs.Image.{Image, Routine, Process, Script}
-use Rattle.rte_target.specs.Tick.{tick}
-use Rattle.rte_target.specs.Run.{state_at}
-use Rattle.rte_target.specs.Example.{waiter_and_signaller}
+use Rattle.rte_machine_meaning.specs.Trees.{Line, Fork, Rep, Call, Exit, Nil, Cons}
+use Rattle.rte_machine_meaning.specs.Image.{Image, Routine, Process, Script}
+use Rattle.rte_machine_meaning.specs.Tick.{tick}
+use Rattle.rte_machine_meaning.specs.Run.{state_at}
+use Rattle.rte_machine_meaning.specs.Example.{waiter_and_signaller}
 use Rattle.rte_safe.specs.Part.{Part}
 use Rattle.rte_safe.specs.Walk.{Where, Cost}
 use Rattle.rte_safe.specs.Safe.{Parts, ImageFits}

@@ -2,9 +2,9 @@
 use Rattle.std.specs.Prelude.{◌≡◌, ◌≤◌, ◌+◌, ◌⊎◌, ℕ, true, List, [], ◌∷◌, length, Option, Some, None, slice_get}
 use Rattle.rte_isa.specs.declared.instr.Instr.{Instr}
 use Rattle.rte_isa.specs.declared.instr.Instr.TheVariants as i
-use Rattle.rte_target.specs.Image.{Monitor, Routine}
-use Rattle.rte_target.specs.State.{Caller, State, is_free}
-use Rattle.rte_target.specs.Effect.{Own, Outcome, Goes, Does, Signals, Broadcasts, Waits, Raises, Ends, Stuck, effect}
+use Rattle.rte_machine_meaning.specs.Image.{Monitor, Routine}
+use Rattle.rte_machine_meaning.specs.State.{Caller, State, is_free}
+use Rattle.rte_machine_meaning.specs.Effect.{Own, Outcome, Goes, Does, Signals, Broadcasts, Waits, Raises, Ends, Stuck, effect}
 use Rattle.rte_isa.specs.Ticks.{ticks}
 use Rattle.rte_safe.specs.Part.{Part, kinds, plains, IsSized}
 use Rattle.rte_safe.specs.Walk.{Where, Cost, Covers, At, Reaches, Walks, within}

@@ -3,8 +3,8 @@
 use Rattle.std.specs.Prelude.{◌≡◌, ◌≤◌, ◌<◌, ◌+◌, ℕ, zero, suc, ℤ, pos, List, [], ◌∷◌, length, Option, Some, slice_get}
 use Rattle.rte_isa.specs.declared.instr.Instr.{Instr}
 use Rattle.rte_isa.specs.declared.instr.Instr.TheVariants as i
-use Rattle.rte_target.specs.Image.{Image, Monitor}
-use Rattle.rte_target.specs.State.{Operand, Value, Counter, State}
+use Rattle.rte_machine_meaning.specs.Image.{Image, Monitor}
+use Rattle.rte_machine_meaning.specs.State.{Operand, Value, Counter, State}
 
 -- what is known of a part
 pub record Part : Type 0 where

@@ -2,9 +2,9 @@
 -- which operands stand in the frame.
 use Rattle.std.specs.Prelude.{◌≡◌, ◌≤◌, ◌+◌, ◌*◌, ℕ, suc, pos, List, [], ◌∷◌, length, Option, Some, None}
 use Rattle.rte_isa.specs.declared.instr.Instr.TheVariants as i
-use Rattle.rte_target.specs.Trees.{Seg, Segs, Nil, Cons}
-use Rattle.rte_target.specs.Effect.{Own}
-use Rattle.rte_target.specs.Tick.{at_next}
+use Rattle.rte_machine_meaning.specs.Trees.{Seg, Segs, Nil, Cons}
+use Rattle.rte_machine_meaning.specs.Effect.{Own}
+use Rattle.rte_machine_meaning.specs.Tick.{at_next}
 use Rattle.rte_safe.specs.Part.{Kind, Counts, kinds, plains}
 use Rattle.rte_safe.specs.Laws.{IsIn}
 use Rattle.rte_safe.specs.Walk.{Where, Cost, Covers, At, Reaches, Walk, Walks}

@@ -1,10 +1,10 @@
 -- Who waits on a condition stands in its queue, once, and nobody else does.
 use Rattle.std.specs.Prelude.{◌≡◌, ℕ, suc, List, [], ◌∷◌, Option, Some, None, if◌then◌else◌, slice_get, nat_eq}
-use Rattle.rte_target.specs.Image.{Script}
-use Rattle.rte_target.specs.State.{Thread, Idle, Ready, Waiting, State}
-use Rattle.rte_target.specs.Starts.{queue_of, starts}
-use Rattle.rte_target.specs.Tick.{tick}
-use Rattle.rte_target.specs.Run.{state_at}
+use Rattle.rte_machine_meaning.specs.Image.{Script}
+use Rattle.rte_machine_meaning.specs.State.{Thread, Idle, Ready, Waiting, State}
+use Rattle.rte_machine_meaning.specs.Starts.{queue_of, starts}
+use Rattle.rte_machine_meaning.specs.Tick.{tick}
+use Rattle.rte_machine_meaning.specs.Run.{state_at}
 use Rattle.rte_safe.specs.Walk.{Where}
 use Rattle.rte_safe.specs.Safe.{Parts, ImageFits}
 use Rattle.rte_safe.specs.Whole.{StateFits}

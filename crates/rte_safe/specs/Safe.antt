@@ -2,14 +2,14 @@
 use Rattle.std.specs.Prelude.{◌≡◌, ◌≤◌, ◌<◌, ◌+◌, ◌⊎◌, ℕ, Bool, true, false, ℤ, List, length, Option, Some, None, slice_get}
 use Rattle.rte_isa.specs.declared.instr.Instr.{Instr}
 use Rattle.rte_isa.specs.declared.instr.Instr.TheVariants as i
-use Rattle.rte_target.specs.Trees.{Segs}
-use Rattle.rte_target.specs.Image.{Monitor, Process, end_of}
-use Rattle.rte_target.specs.State.{Job, State}
-use Rattle.rte_target.specs.Effect.{Own, Outcome, Goes, Does, Signals, Broadcasts, Waits, Raises, Ends, Stuck}
+use Rattle.rte_machine_meaning.specs.Trees.{Segs}
+use Rattle.rte_machine_meaning.specs.Image.{Monitor, Process, end_of}
+use Rattle.rte_machine_meaning.specs.State.{Job, State}
+use Rattle.rte_machine_meaning.specs.Effect.{Own, Outcome, Goes, Does, Signals, Broadcasts, Waits, Raises, Ends, Stuck}
 use Rattle.rte_isa.specs.Ticks.{ticks}
-use Rattle.rte_target.specs.Starts.{raised, lists}
-use Rattle.rte_target.specs.Tick.{outcome_at}
-use Rattle.rte_target.specs.Run.{words_of}
+use Rattle.rte_machine_meaning.specs.Starts.{raised, lists}
+use Rattle.rte_machine_meaning.specs.Tick.{outcome_at}
+use Rattle.rte_machine_meaning.specs.Run.{words_of}
 use Rattle.rte_safe.specs.Part.{Part, IsSized}
 use Rattle.rte_safe.specs.Walk.{Where, Cost, Covers, At, Reaches, Walks, within}
 use Rattle.rte_safe.specs.Job.{Stands, Comes, FindsFree, RoutinesFit}

@@ -1,9 +1,9 @@
 -- How long a process may still run inside the monitor that it is inside.
 use Rattle.std.specs.Prelude.{◌≡◌, ◌≤◌, ◌+◌, ℕ, true, false, Some, None, slice_get}
-use Rattle.rte_target.specs.Image.{Process, Monitor, Script}
-use Rattle.rte_target.specs.Starts.{starts}
-use Rattle.rte_target.specs.State.{Job, Ready, State, is_free}
-use Rattle.rte_target.specs.Tick.{Candidate, pick, owned_of, tick}
+use Rattle.rte_machine_meaning.specs.Image.{Process, Monitor, Script}
+use Rattle.rte_machine_meaning.specs.Starts.{starts}
+use Rattle.rte_machine_meaning.specs.State.{Job, Ready, State, is_free}
+use Rattle.rte_machine_meaning.specs.Tick.{Candidate, pick, owned_of, tick}
 use Rattle.rte_safe.specs.Walk.{Where, Cost, Reaches, within}
 use Rattle.rte_safe.specs.Safe.{Parts, ImageFits, ReadyFits, part_of}
 use Rattle.rte_safe.specs.Whole.{StateFits}

@@ -1,9 +1,9 @@
 -- How long a process may still wait in its activation, and how often.
 use Rattle.std.specs.Prelude.{◌≡◌, ◌≤◌, ◌+◌, ◌-◌, ◌⊎◌, ℕ, Bool, true, false, length, Option, Some, None, slice_get}
-use Rattle.rte_target.specs.Image.{Image, Process, Script}
-use Rattle.rte_target.specs.State.{Thread, Idle, Ready, Waiting, State}
-use Rattle.rte_target.specs.Starts.{release, starts}
-use Rattle.rte_target.specs.Tick.{owned_of, tick}
+use Rattle.rte_machine_meaning.specs.Image.{Image, Process, Script}
+use Rattle.rte_machine_meaning.specs.State.{Thread, Idle, Ready, Waiting, State}
+use Rattle.rte_machine_meaning.specs.Starts.{release, starts}
+use Rattle.rte_machine_meaning.specs.Tick.{owned_of, tick}
 use Rattle.rte_safe.specs.Walk.{Where, Cost}
 use Rattle.rte_safe.specs.Safe.{Parts, ImageFits}
 use Rattle.rte_safe.specs.Whole.{StateFits}

@@ -3,8 +3,8 @@
 use Rattle.std.specs.Prelude.{◌≡◌, ◌≤◌, ◌+◌, ◌*◌, ◌⊎◌, ℕ, zero, suc, pos, Option, Some, None, slice_get}
 use Rattle.rte_isa.specs.declared.instr.Instr.{Instr}
 use Rattle.rte_isa.specs.declared.instr.Instr.TheVariants as i
-use Rattle.rte_target.specs.Trees.{Seg, Segs, Line, Fork, Rep, Call, Stay, Wait, Exit, Nil, Cons}
-use Rattle.rte_target.specs.Image.{Image, Monitor, Routine}
+use Rattle.rte_machine_meaning.specs.Trees.{Seg, Segs, Line, Fork, Rep, Call, Stay, Wait, Exit, Nil, Cons}
+use Rattle.rte_machine_meaning.specs.Image.{Image, Monitor, Routine}
 use Rattle.rte_isa.specs.Ticks.{ticks}
 use Rattle.rte_safe.specs.Part.{Part, IsPlain, takes, gives}
 

@@ -1,9 +1,9 @@
 -- The whole state: what every tick of a valid image keeps.
 use Rattle.std.specs.Prelude.{◌≡◌, ◌≤◌, ◌<◌, ◌⊎◌, ℕ, false, ℤ, List, length, Some, slice_get}
-use Rattle.rte_target.specs.Image.{Image, Process, Script}
-use Rattle.rte_target.specs.State.{Job, Thread, Idle, Ready, Waiting, State, stack_of}
-use Rattle.rte_target.specs.Tick.{ceiling, owned_of, tick}
-use Rattle.rte_target.specs.Run.{state_at}
+use Rattle.rte_machine_meaning.specs.Image.{Image, Process, Script}
+use Rattle.rte_machine_meaning.specs.State.{Job, Thread, Idle, Ready, Waiting, State, stack_of}
+use Rattle.rte_machine_meaning.specs.Tick.{ceiling, owned_of, tick}
+use Rattle.rte_machine_meaning.specs.Run.{state_at}
 use Rattle.rte_safe.specs.Part.{IsSized}
 use Rattle.rte_safe.specs.Walk.{Where, Cost}
 use Rattle.rte_safe.specs.Safe.{Parts, ImageFits, ReadyFits, WaitingFits}

@@ -1,9 +1,9 @@
 -- How long a process may still run in its activation, with the ticks of dispatch.
 use Rattle.std.specs.Prelude.{◌≡◌, ◌≤◌, ◌+◌, ◌*◌, ◌⊎◌, ℕ, Bool, true, false, ℤ, List, Option, Some, None, slice_get, nat_eq}
-use Rattle.rte_target.specs.Image.{Image, Process, Script}
-use Rattle.rte_target.specs.State.{Thread, Idle, Ready, Waiting, State}
-use Rattle.rte_target.specs.Starts.{release, starts}
-use Rattle.rte_target.specs.Tick.{Candidate, pick, owned_of, tick}
+use Rattle.rte_machine_meaning.specs.Image.{Image, Process, Script}
+use Rattle.rte_machine_meaning.specs.State.{Thread, Idle, Ready, Waiting, State}
+use Rattle.rte_machine_meaning.specs.Starts.{release, starts}
+use Rattle.rte_machine_meaning.specs.Tick.{Candidate, pick, owned_of, tick}
 use Rattle.rte_safe.specs.Walk.{Where, Cost}
 use Rattle.rte_safe.specs.Safe.{Parts, ImageFits, ReadyFits, WaitingFits}
 use Rattle.rte_safe.specs.Whole.{StateFits}

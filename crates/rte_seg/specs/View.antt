@@ -1,6 +1,6 @@
 -- Segment trees as plain data, without where they lie in memory.
 use Rattle.std.specs.Prelude.{List, [], ◌∷◌, map}
-use Rattle.rte_target.specs.Trees as tree
+use Rattle.rte_machine_meaning.specs.Trees as tree
 use Rattle.rte_seg.specs.declared.seg.Seg.{Seg, fold-Seg}
 use Rattle.rte_seg.specs.declared.seg.Seg.TheOpen.{Seg-F}
 

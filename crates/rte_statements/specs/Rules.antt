@@ -2,10 +2,10 @@
 use Rattle.std.specs.Prelude.{ℕ, List, [], ◌∷◌}
 use Rattle.rte_tree.specs.Placed.{Prog}
 use Rattle.rte_tree.specs.declared.place.Place.{Place}
-use Rattle.rte_first.specs.Parts.{Rule, FailsAmong}
-use Rattle.rte_declared.specs.Things.{named_at}
-use Rattle.rte_declared.specs.Values.{value}
-use Rattle.rte_declared.specs.Parts.{Part, parts}
+use Rattle.rte_rules.specs.Parts.{Rule, FailsAmong}
+use Rattle.rte_declarations.specs.Things.{named_at}
+use Rattle.rte_declarations.specs.Values.{value}
+use Rattle.rte_declarations.specs.Parts.{Part, parts}
 use Rattle.rte_typing.specs.Types.{mistyped}
 use Rattle.rte_conduct.specs.Conduct.{misplaced, misdirected}
 use Rattle.rte_conduct.specs.Numbers.{crossed_loop, endless_loop, long_loop, bad_number, bad_limit}

@@ -2,17 +2,17 @@
 
 ghost use Rattle.std.specs.Prelude.{◌≡◌, List, map};
 ghost use Rattle.rte_tree.specs.Placed.{placed, placed_routine, placed_handler, placed_decl, optional};
-ghost use Rattle.rte_first.specs.First.{IsFirstOf};
-ghost use Rattle.rte_first.specs.Parts.{noted};
-ghost use Rattle.rte_declared.specs.Parts.{Part, home_of as home_of_routine, outside_loops as standing_in, routine_parts, routines_parts, handler_parts, decl_parts, decls_parts};
+ghost use Rattle.rte_rules.specs.First.{IsFirstOf};
+ghost use Rattle.rte_rules.specs.Parts.{noted};
+ghost use Rattle.rte_declarations.specs.Parts.{Part, home_of as home_of_routine, outside_loops as standing_in, routine_parts, routines_parts, handler_parts, decl_parts, decls_parts};
 ghost use Rattle.rte_conduct.specs.Here.{where_of};
 ghost use Rattle.rte_statements.specs.Rules.{statement_rules, StatementFails};
 
 use crate::rules::try_answer;
 use crate::stmt::stmts;
 use rte_conduct::Here;
-use rte_declared::{Declarations, Home};
-use rte_first::Broken;
+use rte_declarations::{Declarations, Home};
+use rte_rules::Broken;
 use rte_tree::{Decl, Handler, Routine, RoutineKind};
 
 /// What the statements of a routine stand in. A function that is no entry is known by the place of

@@ -2,9 +2,9 @@
 
 ghost use Rattle.std.specs.Prelude.{◌≡◌};
 ghost use Rattle.rte_tree.specs.Placed.{placed, placed_stmt, placed_ref, placed_scalar, placed_expr};
-ghost use Rattle.rte_first.specs.Parts.{note};
-ghost use Rattle.rte_declared.specs.Things.{named_at};
-ghost use Rattle.rte_declared.specs.Parts.{Where, statement, answer, stmt_place as place_of_stmt};
+ghost use Rattle.rte_rules.specs.Parts.{note};
+ghost use Rattle.rte_declarations.specs.Things.{named_at};
+ghost use Rattle.rte_declarations.specs.Parts.{Where, statement, answer, stmt_place as place_of_stmt};
 ghost use Rattle.rte_typing.specs.Types.{mistyped as mistyped_at};
 ghost use Rattle.rte_conduct.specs.Conduct.{misplaced as misplaced_at};
 ghost use Rattle.rte_conduct.specs.Here.{where_of};
@@ -14,8 +14,8 @@ use rte_conduct::{
     Here, answer_strays, bad_limit, bad_number, crossed_loop, endless_loop, long_loop, misdirected,
     stmt_strays,
 };
-use rte_declared::Declarations;
-use rte_first::{Broken, blame};
+use rte_declarations::Declarations;
+use rte_rules::{Broken, blame};
 use rte_tree::{Expr, Place, Scalar, Stmt};
 use rte_typing::{answer_agrees, stmt_agrees};
 

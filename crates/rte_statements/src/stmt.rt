@@ -2,15 +2,15 @@
 
 ghost use Rattle.std.specs.Prelude.{◌≡◌, List};
 ghost use Rattle.rte_tree.specs.Placed.{placed, placed_stmt, placed_stmts};
-ghost use Rattle.rte_first.specs.Parts.{noted};
-ghost use Rattle.rte_declared.specs.Parts.{Part, stmt_parts, stmts_parts};
+ghost use Rattle.rte_rules.specs.Parts.{noted};
+ghost use Rattle.rte_declarations.specs.Parts.{Part, stmt_parts, stmts_parts};
 ghost use Rattle.rte_conduct.specs.Here.{where_of};
 ghost use Rattle.rte_statements.specs.Rules.{statement_rules};
 
 use crate::rules::try_stmt;
 use rte_conduct::Here;
-use rte_declared::Declarations;
-use rte_first::Broken;
+use rte_declarations::Declarations;
+use rte_rules::Broken;
 use rte_tree::Stmt;
 
 /// Tries the rules on each statement of a list and those in it.

@@ -2,11 +2,11 @@
 use Rattle.std.specs.Prelude.{ℕ}
 use Rattle.rte_tree.specs.Placed.{Prog}
 use Rattle.rte_tree.specs.declared.place.Place.{Place}
-use Rattle.rte_first.specs.First.{Either, IsFirst}
+use Rattle.rte_rules.specs.First.{Either, IsFirst}
 use Rattle.rte_names.specs.Resolved.{IsRead, IsNamed}
 use Rattle.rte_statements.specs.Rules.{StatementFails}
-use Rattle.rte_limits.specs.Rules.{LimitFails}
-use Rattle.rte_reaching.specs.Reaching.{ReachFails}
+use Rattle.rte_rules_declarations.specs.Rules.{LimitFails}
+use Rattle.rte_rules_calls.specs.Reaching.{ReachFails}
 use Rattle.rte_static.specs.declared.rules.RuleFault.{RuleFault}
 use Rattle.rte_static.specs.declared.rules.RuleFault.TheVariants as fault_is
 

@@ -1,10 +1,10 @@
 //! Static rules: what a program whose names are resolved has to keep to besides.
 //!
 //! `specs/Static.antt` joins the rules, which are stated apart in the crates below: types in
-//! `rte_typing`, what may stand where in `rte_conduct`, bounds and numbers in `rte_limits`, and what
-//! is reached by calls in `rte_reaching`. `check` answers `Ok` exactly where none fails at any
+//! `rte_typing`, what may stand where in `rte_conduct`, bounds and numbers in `rte_rules_declarations`, and what
+//! is reached by calls in `rte_rules_calls`. `check` answers `Ok` exactly where none fails at any
 //! place, else the rule that fails first. What it passes is well formed, as the meaning of programs
-//! takes it for granted (`rte_wellformed`, by the law of `rte_sound`).
+//! takes it for granted (`rte_wellformed`, by the law of `rte_wellformed_law`).
 #![tactic(auto)]
 
 mod rules;

@@ -2,15 +2,15 @@
 
 ghost use Rattle.std.specs.Prelude.{◌≡◌, IfOk, IfErr};
 ghost use Rattle.rte_tree.specs.Placed.{placed, plain};
-ghost use Rattle.rte_first.specs.First.{IsFirstOf};
+ghost use Rattle.rte_rules.specs.First.{IsFirstOf};
 ghost use Rattle.rte_names.specs.Occurrences.{names, declared_at};
 ghost use Rattle.rte_static.specs.Static.{Fails, IsChecked, IsFault};
 ghost use Rattle.rte_wellformed.specs.WellFormed.{IsWellFormed};
 
-use rte_declared::Declarations;
-use rte_first::{Broken, sooner};
+use rte_declarations::Declarations;
+use rte_rules::{Broken, sooner};
 use rte_names::Named;
-use rte_sound::checked_programs_are_well_formed;
+use rte_wellformed_law::checked_programs_are_well_formed;
 use rte_tree::{Place, Prog};
 use std::alloc::{AllocError, Global};
 use std::marker::Model;
@@ -55,8 +55,8 @@ fn first_broken(alloc: Global, named: &Named) -> Result<Option<Broken>, AllocErr
 {
     let declarations = Declarations::new(alloc, named)?;
     let statements = rte_statements::first_broken(&declarations);
-    let limits = rte_limits::first_broken(alloc, &declarations)?;
-    let reach = rte_reaching::first_broken(alloc, &declarations)?;
+    let limits = rte_rules_declarations::first_broken(alloc, &declarations)?;
+    let reach = rte_rules_calls::first_broken(alloc, &declarations)?;
     Ok(sooner(statements, sooner(limits, reach)))
 }
 

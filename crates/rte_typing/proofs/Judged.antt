@@ -3,8 +3,8 @@ use Rattle.std.proofs.Common.{◌≡◌, Bool, true, false, ◌&&◌, Option, So
 use Rattle.rte_tree.specs.Plain.{Op}
 use Rattle.rte_tree.specs.Placed.{Param, Expr, Exprs, exprs, Operands, operand, row}
 use Rattle.rte_tree.specs.declared.place.Place.{Place}
-use Rattle.rte_declared.specs.declared.sort.Sort.{Sort}
-use Rattle.rte_declared.specs.Things.{sort_of}
+use Rattle.rte_declarations.specs.declared.sort.Sort.{Sort}
+use Rattle.rte_declarations.specs.Things.{sort_of}
 use Rattle.rte_typing.specs.Types.{is_of}
 use Rattle.rte_typing.specs.Sorts.{Named, sort, row_sort, fits, agrees, call_agrees, operands_agree, takes, gives, judged, row_judged}
 

@@ -3,10 +3,10 @@ use Rattle.std.specs.Prelude.{Bool, true, false, not, ◌&&◌, List, [], ◌∷
 use Rattle.rte_tree.specs.Plain.{Op, or, and, equal, unequal, less, less_equal, greater, greater_equal, add, sub, mul, div, remainder}
 use Rattle.rte_tree.specs.Placed.{Param, Expr, literal, truth, variable, element, call, minus, negation, paren, row, Exprs, no_exprs, exprs, Operands, no_operands, operand}
 use Rattle.rte_tree.specs.declared.place.Place.{Place}
-use Rattle.rte_declared.specs.declared.sort.Sort.{Sort}
-use Rattle.rte_declared.specs.declared.sort.Sort.TheVariants as sort_is
-use Rattle.rte_declared.specs.declared.sort.Shape.TheVariants as shape_is
-use Rattle.rte_declared.specs.Things.{Thing, constant_thing, routine_thing, variable_thing, loop_thing, sort_of}
+use Rattle.rte_declarations.specs.declared.sort.Sort.{Sort}
+use Rattle.rte_declarations.specs.declared.sort.Sort.TheVariants as sort_is
+use Rattle.rte_declarations.specs.declared.sort.Shape.TheVariants as shape_is
+use Rattle.rte_declarations.specs.Things.{Thing, constant_thing, routine_thing, variable_thing, loop_thing, sort_of}
 
 -- what the name that is used at a place is declared as
 abbrev pub Named : Type 0

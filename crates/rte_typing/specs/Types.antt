@@ -2,10 +2,10 @@
 use Rattle.std.specs.Prelude.{Bool, true, not, ◌&&◌, Option, Some, None, if◌then◌else◌}
 use Rattle.rte_tree.specs.Placed.{Expr, Ref, whole, part, Stmt, assign, assign_entry, assign_empty, perform, perform_entry, when, when_else, loop, exit_when, get, put, wait, signal, broadcast, except, assert}
 use Rattle.rte_tree.specs.declared.place.Place.{Place}
-use Rattle.rte_declared.specs.declared.sort.Sort.{Sort}
-use Rattle.rte_declared.specs.declared.sort.Sort.TheVariants as sort_is
-use Rattle.rte_declared.specs.Things.{sort_of}
-use Rattle.rte_declared.specs.Parts.{Part, statement, answer, stmt_place}
+use Rattle.rte_declarations.specs.declared.sort.Sort.{Sort}
+use Rattle.rte_declarations.specs.declared.sort.Sort.TheVariants as sort_is
+use Rattle.rte_declarations.specs.Things.{sort_of}
+use Rattle.rte_declarations.specs.Parts.{Part, statement, answer, stmt_place}
 use Rattle.rte_typing.specs.Sorts.{Named, fits, alike, word_sort, element_sort, answer_sort, is_array, sort, asked, agrees, call_agrees}
 
 -- the sort of what is assigned to

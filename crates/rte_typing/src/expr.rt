@@ -2,12 +2,12 @@
 
 ghost use Rattle.std.specs.Prelude.{◌≡◌, Some, map, option_map};
 ghost use Rattle.rte_tree.specs.Placed.{placed, placed_expr, placed_exprs, placed_operands, placed_param};
-ghost use Rattle.rte_declared.specs.Things.{named_at};
+ghost use Rattle.rte_declarations.specs.Things.{named_at};
 ghost use Rattle.rte_typing.specs.Sorts.{judged, row_judged, asked as params_asked, call_agrees as call_is_agreed};
 ghost use Rattle.rte_typing.specs.Types.{is_of as has_the_sort};
 
 use crate::sorts::{answer_sort, element_sort, fits, gives, takes, word};
-use rte_declared::{Declarations, Sort, Thing, sort_of};
+use rte_declarations::{Declarations, Sort, Thing, sort_of};
 use rte_tree::{Expr, Op, Param, Place};
 
 /// The parameters of a routine that is called.

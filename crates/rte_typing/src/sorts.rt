@@ -2,10 +2,10 @@
 
 ghost use Rattle.std.specs.Prelude.{◌≡◌, Some, None, IsTrue, IsSome, ◌↔◌, if◌then◌else◌};
 ghost use Rattle.rte_tree.specs.Placed.{placed, op_of};
-ghost use Rattle.rte_declared.specs.Things.{named_at};
+ghost use Rattle.rte_declarations.specs.Things.{named_at};
 ghost use Rattle.rte_typing.specs.Sorts.{fits as is_fit, alike as is_alike, word_sort as sort_of_word, element_sort as sort_of_element, answer_sort as sort_of_answer, is_array as names_array, gives as sort_given, takes as is_taken};
 
-use rte_declared::{Declarations, Shape, Sort, Thing, sort_of};
+use rte_declarations::{Declarations, Shape, Sort, Thing, sort_of};
 use rte_tree::{Op, Place};
 
 /// Whether a value of the sort may stand where `want` is asked for. What has no sort of its own

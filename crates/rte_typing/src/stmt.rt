@@ -2,12 +2,12 @@
 
 ghost use Rattle.std.specs.Prelude.{◌≡◌};
 ghost use Rattle.rte_tree.specs.Placed.{placed, placed_scalar, placed_expr, placed_ref, placed_stmt};
-ghost use Rattle.rte_declared.specs.Things.{named_at, sort_of as sort_of_scalar};
+ghost use Rattle.rte_declarations.specs.Things.{named_at, sort_of as sort_of_scalar};
 ghost use Rattle.rte_typing.specs.Types.{target_judged, target_takes, is_of as has_the_sort, stmt_agrees as is_agreed};
 
 use crate::expr::{agreed, call_agrees, is_of};
 use crate::sorts::{alike, answer_sort, element_sort, word};
-use rte_declared::{Declarations, Sort, sort_of};
+use rte_declarations::{Declarations, Sort, sort_of};
 use rte_tree::{Expr, Ref, Scalar, Stmt};
 
 /// The sort of what is assigned to, where it is one word and its index is a number.

@@ -2,11 +2,11 @@
 use Rattle.std.proofs.Common.{◌≡◌, ◌<◌, ℕ, zero, suc, [], ◌∷◌, Some, None, arith, refl, ap, sym, subst, ◌∙◌, true, false}
 use Rattle.std.specs.Prelude.{All, Contains, Bool, codes, slice_get, is_some, unwrap_or}
 use Rattle.rte_tree.specs.Plain.{Name, Monitor, Process, Decl, constant, device, event, routine, monitor, process, Prog}
-use Rattle.rte_declared.specs.declared.sort.Sort.TheVariants as sort_is
-use Rattle.rte_source.specs.Run.{Found, of_monitor, routine_named}
-use Rattle.rte_source.specs.Nesting.{Levels}
-use Rattle.rte_source.specs.Names.{processes, monitors}
-use Rattle.rte_source.specs.Example.{one_put, handled_range, signalled_wait}
+use Rattle.rte_declarations.specs.declared.sort.Sort.TheVariants as sort_is
+use Rattle.rte_source_meaning.specs.Run.{Found, of_monitor, routine_named}
+use Rattle.rte_source_meaning.specs.Nesting.{Levels}
+use Rattle.rte_source_meaning.specs.Names.{processes, monitors}
+use Rattle.rte_source_meaning.specs.Example.{one_put, handled_range, signalled_wait}
 use Rattle.rte_wellformed.specs.Examples.{put_inwards, undeclared, endless, circle, circular}
 use Rattle.rte_wellformed.specs.Here.{in_process}
 use Rattle.rte_wellformed.specs.Statements.{AllFit}

@@ -1,10 +1,10 @@
 -- Where a text stands, and what a name stands for there. Names are looked for as the meaning of programs looks for them.
 use Rattle.std.specs.Prelude.{Bool, true, false, not, ◌||◌, List, [], ◌∷◌, ◌++◌, Option, Some, None, ℤ, map, filter_map, slice_get, is_some, bytes_eq, if◌then◌else◌}
 use Rattle.rte_tree.specs.Plain.{Name, Scalar, int, boolean, subrange, Kind, scalar, array, Var, Param, Routine, Monitor, Process, Prog}
-use Rattle.rte_declared.specs.declared.sort.Sort.{Sort}
-use Rattle.rte_declared.specs.declared.sort.Sort.TheVariants as sort_is
-use Rattle.rte_source.specs.Names.{named, constants, monitors, variable_in, conditions_of}
-use Rattle.rte_source.specs.Run.{Home, of_program, of_process, of_monitor}
+use Rattle.rte_declarations.specs.declared.sort.Sort.{Sort}
+use Rattle.rte_declarations.specs.declared.sort.Sort.TheVariants as sort_is
+use Rattle.rte_source_meaning.specs.Names.{named, constants, monitors, variable_in, conditions_of}
+use Rattle.rte_source_meaning.specs.Run.{Home, of_program, of_process, of_monitor}
 
 -- the program, the process that runs, whose text it is, whether it is that of a function that is no entry, the variables of the
 -- loops around it, innermost first, and the parameters and variables of its routine

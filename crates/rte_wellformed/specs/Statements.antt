@@ -2,10 +2,10 @@
 use Rattle.std.specs.Prelude.{◌≡◌, ℕ, Bool, true, false, not, ◌||◌, List, [], ◌∷◌, Some, None, ℤ, pos, ◌+ℤ◌, int_le, int_lt, IsSome, Contains}
 use Rattle.rte_num.specs.Words.{is_word, within}
 use Rattle.rte_tree.specs.Plain.{Name, Constant, literal_constant, named_constant, Stmt, assign, assign_entry, assign_empty, perform, perform_entry, when, when_else, loop, exit_when, get, put, wait, signal, broadcast, except, assert, Stmts, no_stmts, stmts, device, Prog}
-use Rattle.rte_declared.specs.declared.sort.Sort.{Sort}
-use Rattle.rte_declared.specs.declared.sort.Sort.TheVariants as sort_is
-use Rattle.rte_source.specs.Names.{named, constants, constant_among}
-use Rattle.rte_source.specs.Run.{routine_named, entry_named}
+use Rattle.rte_declarations.specs.declared.sort.Sort.{Sort}
+use Rattle.rte_declarations.specs.declared.sort.Sort.TheVariants as sort_is
+use Rattle.rte_source_meaning.specs.Names.{named, constants, constant_among}
+use Rattle.rte_source_meaning.specs.Run.{routine_named, entry_named}
 use Rattle.rte_wellformed.specs.Here.{Here, in_loop, is_monitor, conditions_here}
 use Rattle.rte_wellformed.specs.Typed.{answer_sort, params_of, IsOf, AreArguments, IsTarget, CallsEntry}
 

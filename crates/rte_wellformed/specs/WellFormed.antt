@@ -2,10 +2,10 @@
 use Rattle.std.specs.Prelude.{◌≡◌, ℕ, ◌≤◌, ◌+◌, Bool, false, true, ◌||◌, List, [], ◌∷◌, length, Option, Some, None, ℤ, pos, ◌+ℤ◌, ◌-ℤ◌, int_le, int_lt, slice_get, bytes_eq, All, AllPairs, Contains, count_by, sum_by, filter_map}
 use Rattle.rte_num.specs.Words.{within}
 use Rattle.rte_tree.specs.Plain.{Name, Constant, Scalar, int, boolean, subrange, Kind, scalar, array, Var, Param, Answers, Routine, Monitor, Activation, periodic, at_event, Handler, Process, Decl, constant, device, event, routine, monitor, process, Prog}
-use Rattle.rte_source.specs.Names.{constants, constant_among, device_in, event_in, variable_in, routines, monitors, processes, condition_count, routine_count}
-use Rattle.rte_source.specs.Store.{up_to}
-use Rattle.rte_source.specs.Run.{Home, of_program, of_process, of_monitor}
-use Rattle.rte_source.specs.Nesting.{Levels}
+use Rattle.rte_source_meaning.specs.Names.{constants, constant_among, device_in, event_in, variable_in, routines, monitors, processes, condition_count, routine_count}
+use Rattle.rte_source_meaning.specs.Store.{up_to}
+use Rattle.rte_source_meaning.specs.Run.{Home, of_program, of_process, of_monitor}
+use Rattle.rte_source_meaning.specs.Nesting.{Levels}
 use Rattle.rte_wellformed.specs.Here.{Here, sort_of, in_routine, in_process}
 use Rattle.rte_wellformed.specs.Typed.{IsOf}
 use Rattle.rte_wellformed.specs.Statements.{IsConstant, IsWithin, AllFit}

@@ -6,9 +6,9 @@ use Rattle.rte_image.specs.Named.{NamedImage}
 use Rattle.rte_io.specs.Outside.{Appends, AppendsFront}
 use Rattle.rte_log.specs.Line.{log_of}
 use Rattle.rte_machine.specs.Standing.{log_to}
-use Rattle.rte_source.specs.Puts.{PutProg}
-use Rattle.rte_target.specs.Image.{Script}
-use Rattle.rte_target.specs.Run.{events}
+use Rattle.rte_source_meaning.specs.Puts.{PutProg}
+use Rattle.rte_machine_meaning.specs.Image.{Script}
+use Rattle.rte_machine_meaning.specs.Run.{events}
 use Rattle.rte_cli.specs.Due.{log_text, done}
 use Rattle.rte_cli.proofs.run.run_program.Goals as goal
 

@@ -1,6 +1,6 @@
 use Rattle.std.proofs.Common.{◌≡◌, drop}
 use Rattle.rte_tree.specs.Placed.{placed, placed_exprs, placed_operands}
-use Rattle.rte_declared.specs.Things.{named_at}
+use Rattle.rte_declarations.specs.Things.{named_at}
 use Rattle.rte_conduct.specs.Conduct.{exprs_stray, operands_stray}
 use Rattle.rte_conduct.proofs.expr.+strays.Given as goal
 

@@ -4,7 +4,7 @@ use Rattle.std.specs.Range.{range_inclusive_start, range_inclusive_end}
 use Rattle.std.proofs.lemmas.List.{length-map}
 use Rattle.std.proofs.lemmas.Map.Keys.{le_from_is_le}
 use Rattle.rte_tree.specs.Placed.{placed_decl, placed_stmt, placed_stmts, placed_process}
-use Rattle.rte_source.specs.Puts.{Put}
+use Rattle.rte_source_meaning.specs.Puts.{Put}
 use Rattle.rte_form.specs.Form.{named_put}
 use Rattle.rte_form.specs.Shape.{devices_in, puts_in, are_names}
 use Rattle.rte_form.specs.WellFormed.{IsPut}

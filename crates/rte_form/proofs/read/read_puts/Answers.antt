@@ -3,7 +3,7 @@ use Rattle.std.specs.Prelude.{All}
 use Rattle.std.proofs.lemmas.List.{map-append}
 use Rattle.std.proofs.lemmas.List.Elements.{All-push}
 use Rattle.rte_tree.specs.Placed.{placed_stmt, placed_stmts}
-use Rattle.rte_source.specs.Puts.{Put}
+use Rattle.rte_source_meaning.specs.Puts.{Put}
 use Rattle.rte_form.specs.Form.{named_put}
 use Rattle.rte_form.specs.Shape.{with_first, put_in, puts_in}
 use Rattle.rte_form.specs.WellFormed.{IsPut}

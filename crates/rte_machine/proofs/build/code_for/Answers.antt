@@ -2,7 +2,7 @@ use Rattle.std.proofs.Common.{◌≡◌, ◌<◌, ◌≤◌, ◌^◌, List, [], 
 use Rattle.std.specs.Prelude.{slice_get, unwrap_or}
 use Rattle.std.proofs.lemmas.Int.{to_z_pos, ints}
 use Rattle.rte_form.specs.declared.form.Put.{Put as Numbered}
-use Rattle.rte_source.specs.Names.{place_of}
+use Rattle.rte_source_meaning.specs.Names.{place_of}
 use Rattle.rte_machine.proofs.Built.{code_of-push, value_fits}
 use Rattle.rte_machine.proofs.build.code_for.Goals as goal
 

@@ -1,7 +1,7 @@
 use Rattle.std.proofs.Common.{◌≡◌, List, map, drop}
 use Rattle.rte_tree.specs.Placed.{placed, placed_decl}
-use Rattle.rte_first.specs.Parts.{noted}
-use Rattle.rte_declared.specs.Parts.{Part, decls_parts}
+use Rattle.rte_rules.specs.Parts.{noted}
+use Rattle.rte_declarations.specs.Parts.{Part, decls_parts}
 use Rattle.rte_statements.specs.Rules.{statement_rules}
 use Rattle.rte_statements.proofs.program.decls.Given as goal
 

@@ -1,9 +1,9 @@
 use Rattle.std.proofs.Common.{◌≡◌, None, [], map, ap, sym, subst, ◌∙◌}
 use Rattle.rte_tree.specs.Placed.{placed, placed_decl}
-use Rattle.rte_first.specs.First.{IsFirstOf}
-use Rattle.rte_first.specs.Parts.{noted}
-use Rattle.rte_first.proofs.Soonest.{noted-is-first}
-use Rattle.rte_declared.specs.Parts.{decls_parts, parts}
+use Rattle.rte_rules.specs.First.{IsFirstOf}
+use Rattle.rte_rules.specs.Parts.{noted}
+use Rattle.rte_rules.proofs.Soonest.{noted-is-first}
+use Rattle.rte_declarations.specs.Parts.{decls_parts, parts}
 use Rattle.rte_statements.specs.Rules.{statement_rules, StatementFails}
 use Rattle.rte_statements.proofs.program.first_broken.Goals as goal
 

@@ -1,7 +1,7 @@
 use Rattle.std.proofs.Common.{◌≡◌, ℕ, Option, refl, ap, ◌∙◌}
 use Rattle.rte_tree.specs.declared.place.Place.{Place}
-use Rattle.rte_first.specs.declared.broken.Broken.{Broken}
-use Rattle.rte_first.specs.Parts.{blame}
+use Rattle.rte_rules.specs.declared.broken.Broken.{Broken}
+use Rattle.rte_rules.specs.Parts.{blame}
 use Rattle.rte_conduct.specs.Here.{where_of}
 use Rattle.rte_statements.specs.Rules.{statement_rules}
 use Rattle.rte_statements.proofs.rules.try_stmt.Goals as goal

@@ -1,7 +1,7 @@
 use Rattle.std.proofs.Common.{◌≡◌, List, drop}
 use Rattle.rte_tree.specs.Placed.{placed, placed_stmts}
-use Rattle.rte_first.specs.Parts.{noted}
-use Rattle.rte_declared.specs.Parts.{Part, stmts_parts}
+use Rattle.rte_rules.specs.Parts.{noted}
+use Rattle.rte_declarations.specs.Parts.{Part, stmts_parts}
 use Rattle.rte_conduct.specs.Here.{where_of}
 use Rattle.rte_statements.specs.Rules.{statement_rules}
 use Rattle.rte_statements.proofs.stmt.+stmt.Given as goal

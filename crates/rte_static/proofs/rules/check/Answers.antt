@@ -1,8 +1,8 @@
 use Rattle.std.proofs.Common.{◌≡◌, Option, None, subst}
 use Rattle.rte_tree.specs.Placed.{placed}
 use Rattle.rte_tree.specs.declared.decl.Prog.{Prog}
-use Rattle.rte_first.specs.declared.broken.Broken.{Broken}
-use Rattle.rte_first.specs.First.{IsFirstOf}
+use Rattle.rte_rules.specs.declared.broken.Broken.{Broken}
+use Rattle.rte_rules.specs.First.{IsFirstOf}
 use Rattle.rte_names.specs.Resolved.{IsRead, IsNamed}
 use Rattle.rte_static.specs.Static.{Fails, IsChecked}
 use Rattle.rte_static.proofs.Formed.{well_formed}

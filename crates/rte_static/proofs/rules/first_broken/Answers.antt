@@ -2,12 +2,12 @@ use Rattle.std.proofs.Common.{◌≡◌, ℕ, Option, sym, subst}
 use Rattle.rte_tree.specs.Placed.{Prog as Placed, placed}
 use Rattle.rte_tree.specs.declared.decl.Prog.{Prog}
 use Rattle.rte_tree.specs.declared.place.Place.{Place}
-use Rattle.rte_first.specs.declared.broken.Broken.{Broken}
-use Rattle.rte_first.specs.First.{IsFirstOf, Either, sooner}
-use Rattle.rte_first.proofs.Soonest.{both}
+use Rattle.rte_rules.specs.declared.broken.Broken.{Broken}
+use Rattle.rte_rules.specs.First.{IsFirstOf, Either, sooner}
+use Rattle.rte_rules.proofs.Soonest.{both}
 use Rattle.rte_statements.specs.Rules.{StatementFails}
-use Rattle.rte_limits.specs.Rules.{LimitFails}
-use Rattle.rte_reaching.specs.Reaching.{ReachFails}
+use Rattle.rte_rules_declarations.specs.Rules.{LimitFails}
+use Rattle.rte_rules_calls.specs.Reaching.{ReachFails}
 use Rattle.rte_static.specs.Static.{Fails}
 use Rattle.rte_static.proofs.rules.first_broken.Goals as goal
 

@@ -2,7 +2,7 @@ use Rattle.std.proofs.Common.{◌+◌, arith, map, drop, ap, sym, ◌∙◌}
 use Rattle.std.proofs.lemmas.Grind.{common_steps}
 use Rattle.rte_tree.specs.Placed.{placed, placed_expr, placed_exprs, placed_operands, placed_param}
 use Rattle.rte_tree.proofs.Views.{expr-Chain}
-use Rattle.rte_declared.specs.Things.{named_at}
+use Rattle.rte_declarations.specs.Things.{named_at}
 use Rattle.rte_typing.specs.Types.{is_of}
 use Rattle.rte_typing.proofs.Judged.{row-from, args_go}
 use Rattle.rte_typing.proofs.expr.+agrees.Goals as goal

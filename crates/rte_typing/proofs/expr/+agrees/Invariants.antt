@@ -1,6 +1,6 @@
 use Rattle.std.proofs.Common.{◌≡◌, Some, map, drop}
 use Rattle.rte_tree.specs.Placed.{placed, placed_exprs, placed_operands, placed_param}
-use Rattle.rte_declared.specs.Things.{named_at}
+use Rattle.rte_declarations.specs.Things.{named_at}
 use Rattle.rte_typing.specs.Sorts.{row_judged, call_agrees}
 use Rattle.rte_typing.proofs.expr.+agrees.Given as goal
 

@@ -7,7 +7,7 @@ use Rattle.rte_isa.specs.declared.instr.Instr.{Instr}
 use Rattle.rte_isa.specs.declared.instr.Instr.TheVariants as instr
 use Rattle.rte_event.specs.declared.event.Act.TheVariants as act
 use Rattle.rte_isa.specs.Ticks.{ticks}
-use Rattle.rte_target.specs.State.{Operand, Value, Job}
+use Rattle.rte_machine_meaning.specs.State.{Operand, Value, Job}
 use Rattle.rte_machine.specs.declared.job.Moved.TheVariants as moved
 use Rattle.rte_machine.specs.Move.{TicksTo, CanMove, activation, outcome_of, HasDevice, Fits}
 use Rattle.rte_machine.proofs.Jobs.{read_found, push_goes, out_does, end_ends}

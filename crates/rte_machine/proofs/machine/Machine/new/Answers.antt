@@ -1,8 +1,8 @@
 use Rattle.std.proofs.Common.{◌≡◌, length, List, [], None, Option, ap, ◌∙◌, pos}
 use Rattle.std.specs.Prelude.{replicate}
 use Rattle.rte_event.specs.declared.event.Event.{Event}
-use Rattle.rte_target.specs.State.{Job, State}
-use Rattle.rte_target.specs.Run.{at_start}
+use Rattle.rte_machine_meaning.specs.State.{Job, State}
+use Rattle.rte_machine_meaning.specs.Run.{at_start}
 use Rattle.rte_machine.specs.Move.{state_of}
 use Rattle.rte_machine.specs.Standing.{Standing, log_to}
 use Rattle.rte_machine.proofs.Logs.{log_to-start}

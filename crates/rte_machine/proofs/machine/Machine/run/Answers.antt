@@ -5,7 +5,7 @@ use Rattle.rte_event.specs.declared.event.Event.{Event}
 use Rattle.rte_image.specs.Named.{NamedImage}
 use Rattle.rte_image.specs.declared.names.ImageNames.{ImageNames}
 use Rattle.rte_log.specs.Line.{log_of}
-use Rattle.rte_target.specs.Image.{Script}
+use Rattle.rte_machine_meaning.specs.Image.{Script}
 use Rattle.rte_machine.specs.Standing.{Standing, next, log_to}
 use Rattle.rte_machine.proofs.Logs.{log_to-next, log_to-end}
 use Rattle.rte_machine.proofs.machine.Machine.run.Goals as goal

@@ -2,7 +2,7 @@ use Rattle.std.proofs.Common.{◌≡◌, ◌<◌, ◌+◌, ◌++◌, List, Optio
 use Rattle.std.specs.Option.{ForSome}
 use Rattle.rte_event.specs.declared.event.Event.{Event}
 use Rattle.rte_log.specs.InRange.{AreIn}
-use Rattle.rte_target.specs.State.{Job}
+use Rattle.rte_machine_meaning.specs.State.{Job}
 use Rattle.rte_machine.specs.Move.{CanMove, ProcessTicks, begun, release_act, told, is_due}
 use Rattle.rte_machine.specs.Standing.{Standing, IsOf, next}
 use Rattle.rte_machine.proofs.Steps.{standing, can_step, stepped, next_is_of, is_sound, lines_of}

@@ -1,7 +1,7 @@
 use Rattle.std.proofs.Common.{◌≡◌, refl, Option, Some, None, Bool, true, false, sym, subst, ap}
 use Rattle.std.specs.Prelude.{cond}
 use Rattle.std.specs.Option.{ForSome}
-use Rattle.rte_target.specs.State.{Job}
+use Rattle.rte_machine_meaning.specs.State.{Job}
 use Rattle.rte_machine.specs.declared.job.Moved.TheVariants as moved
 use Rattle.rte_machine.specs.Move.{CanMove, ProcessTicks}
 use Rattle.rte_machine.proofs.Settles.{act_of, active_ticks}

@@ -1,9 +1,0 @@
-use Rattle.std.proofs.Common.{◌≡◌, map, drop, None}
-use Rattle.rte_tree.specs.Placed.{placed, placed_decl}
-use Rattle.rte_first.specs.Parts.{noted}
-use Rattle.rte_limits.specs.Processes.{processes, all_handled}
-use Rattle.rte_limits.specs.Rules.{handler_rules}
-use Rattle.rte_limits.proofs.handlers.first_broken.Given as goal
-
-abbrev pub invariant-loop-one : goal.invariant-loop-one
-invariant-loop-one l = let rules = handler_rules (placed l.declarations) in noted rules l.first (all_handled (processes (map placed_decl (drop l.one-index l.one-items)))) ≡ noted rules None (all_handled (processes (map placed_decl l.one-items)))

@@ -1,0 +1,70 @@
+//! Frames and first activations of processes.
+
+ghost use Rattle.std.specs.Prelude.{◌≡◌, List, ◌∷◌};
+ghost use Rattle.rte_tree.specs.Placed.{Decl as SpecDecl, placed, placed_constant, placed_activation, placed_process, placed_decl};
+ghost use Rattle.rte_tree.specs.declared.place.Place.{Place as SpecPlace};
+ghost use Rattle.rte_rules.specs.First.{IsFirstOf};
+ghost use Rattle.rte_rules.specs.Parts.{FailsAmong, note, noted};
+ghost use Rattle.rte_declarations.specs.Values.{value, out_of};
+ghost use Rattle.rte_rules_declarations.specs.Processes.{processes, frame_of, bad_start as bad_start_of};
+ghost use Rattle.rte_rules_declarations.specs.Rules.{process_rules};
+
+use rte_declarations::Declarations;
+use rte_rules::{Broken, blame};
+use rte_tree::{Activation, Constant, Decl, Place, Proc};
+
+/// A frame has at least so many ticks.
+const LEAST_FRAME: u32 = 10;
+
+/// A frame has at most so many ticks, and a first activation is at most so many ticks late.
+const MOST_TICKS: u32 = 1_000_000_000;
+
+fn frame(activation: &Activation) -> &Constant
+    ensures { placed_constant result.now ≡ frame_of (placed_activation activation.now) }
+{
+    match activation {
+        Activation::Periodic { frame, .. } | Activation::AtEvent { frame, .. } => frame,
+    }
+}
+
+/// The place of a first activation that is outside its limits.
+fn bad_start(declarations: &Declarations<'_>, activation: &Activation) -> Option<Place>
+    ensures { result ≡ bad_start_of (value (placed declarations.now)) (placed_activation activation.now) }
+{
+    match activation {
+        Activation::Periodic {
+            first: Some(start),
+            ..
+        } => declarations.out_of(0, MOST_TICKS, start),
+        Activation::Periodic { first: None, .. } | Activation::AtEvent { .. } => None,
+    }
+}
+
+/// Tries the rules on a process.
+fn process(first: &mut Option<Broken>, declarations: &Declarations<'_>, process: &Proc)
+    ensures { first.new ≡ note (process_rules (placed declarations.now)) first.old (placed_process process.now) }
+{
+    let frame = frame(&process.activation);
+    let bad_frame = declarations.out_of(LEAST_FRAME, MOST_TICKS, frame);
+    blame(first, 36, bad_frame);
+    blame(first, 36, bad_start(declarations, &process.activation));
+}
+
+fn decl(first: &mut Option<Broken>, declarations: &Declarations<'_>, decl: &Decl)
+    ensures { let rules = process_rules (placed declarations.now) in (rest : List (SpecDecl SpecPlace)) → noted rules first.new (processes rest) ≡ noted rules first.old (processes (placed_decl decl.now ∷ rest)) }
+{
+    if let Decl::Proc(one) = decl {
+        process(first, declarations, one);
+    }
+}
+
+/// The rule for frames and first activations that fails first, if any does.
+pub fn first_broken(declarations: &Declarations<'_>) -> Option<Broken>
+    ensures { let g = placed declarations.now in IsFirstOf (FailsAmong (process_rules g) (processes g.decls)) result }
+{
+    let mut first = None;
+    for one in declarations.program().decls.as_slice() {
+        decl(&mut first, declarations, one);
+    }
+    first
+}

@@ -1,0 +1,12 @@
+use Rattle.std.proofs.Common.{◌≤◌, ◌∙◌, sym, subst}
+use Rattle.rte_grammar.specs.Words.{toks_of}
+use Rattle.rte_names.specs.Occurrences.{names}
+use Rattle.rte_wellformed_names.proofs.Counts.{count-standing}
+use Rattle.rte_wellformed_names.proofs.DeclParts.{program-keeps}
+use Rattle.rte_wellformed_names.proofs.TokenPlaces.{one-named}
+use Rattle.rte_wellformed_names.proofs.law.names_stand_apart.Goals as goal
+
+pub returns : goal.returns
+returns c g read q =
+    subst (λ n. n ≤ 1) (sym (count-standing q (names g) ∙ program-keeps q g (toks_of read.text read.toks) read.reads))
+    (one-named q read.text read.toks (c.tokens_in_order.ensures read.text read.toks read.listed))

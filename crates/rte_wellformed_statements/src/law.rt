@@ -1,0 +1,26 @@
+//! Laws of the statements of a program. These functions do nothing; their contracts are the laws.
+
+ghost use Rattle.std.specs.Prelude.{Option, List, [], Contains};
+ghost use Rattle.rte_tree.specs.Placed.{Scalar, Expr, Stmts, Process, Prog, plain_scalar, plain_expr, plain_stmts};
+ghost use Rattle.rte_tree.specs.declared.place.Place.{Place};
+ghost use Rattle.rte_names.specs.Reach.{Site};
+ghost use Rattle.rte_names.specs.Occurrences.{expr_names, stmts_names};
+ghost use Rattle.rte_declarations.specs.Parts.{Where, answer, stmts_parts, parts};
+ghost use Rattle.rte_wellformed.specs.Here.{Here, sort_of};
+ghost use Rattle.rte_wellformed.specs.Typed.{IsOf};
+ghost use Rattle.rte_wellformed.specs.Statements.{AllFit};
+ghost use Rattle.rte_wellformed_terms.specs.Written.{ExprWritten, StmtsWritten};
+ghost use Rattle.rte_wellformed_terms.specs.Mirrors.{Mirrors};
+ghost use Rattle.rte_wellformed_terms.specs.Judged.{IsKept, IsPlaced, AreNames, AreParts};
+
+/// The result of a function has its sort.
+pub fn answers_fit()
+    ensures { (g : Prog Place) (p : Process Place) (at : Option Place) (site : Site) (c : Here) (name : Place) (s : Scalar Place) (e : Expr Place) → IsKept g → Mirrors g p at site c
+        → ExprWritten e → AreNames g (expr_names site e []) → Contains (parts g) (answer name s e) → IsOf c (sort_of (plain_scalar s)) (plain_expr e) }
+{}
+
+/// The statements of a text fit.
+pub fn bodies_fit()
+    ensures { (g : Prog Place) (p : Process Place) (at : Option Place) (site : Site) (c : Here) (w : Where) (ss : Stmts Place) → IsKept g → Mirrors g p at site c → IsPlaced w at c
+        → StmtsWritten ss → AreNames g (stmts_names site ss []) → AreParts g (stmts_parts w ss []) → AllFit c (plain_stmts ss) }
+{}
