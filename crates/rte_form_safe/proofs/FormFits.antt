@@ -9,8 +9,8 @@ use Rattle.rte_form.specs.Target.{code_of, stack_of, tree_of, process_of, image_
 use Rattle.rte_form.specs.WellFormed.{IsPut, IsPutProg}
 use Rattle.rte_machine_meaning.specs.Trees.{Line, size}
 use Rattle.rte_machine_meaning.specs.Image.{Process}
-use Rattle.rte_safe.specs.Walk.{Where, IsLine, Walk, Walks}
-use Rattle.rte_safe.specs.Safe.{IsOwn, ProcessFits}
+use Rattle.rte_safe_terms.specs.Walk.{Where, IsLine, Walk, Walks}
+use Rattle.rte_safe_terms.specs.Safe.{IsOwn, ProcessFits}
 use Rattle.rte_safe.proofs.Running.{every_run_is_safe}
 use Rattle.rte_form_safe.specs.FormFits.{part_of_puts, cost_of_puts, place_of_form, parts_of_form, FormFits, FormIsSafe}
 

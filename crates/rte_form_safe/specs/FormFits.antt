@@ -8,10 +8,10 @@ use Rattle.rte_machine_meaning.specs.Image.{Process, Script}
 use Rattle.rte_machine_meaning.specs.State.{Thread}
 use Rattle.rte_machine_meaning.specs.Tick.{tick}
 use Rattle.rte_machine_meaning.specs.Run.{state_at}
-use Rattle.rte_safe.specs.Part.{Part}
-use Rattle.rte_safe.specs.Walk.{Where, Cost}
-use Rattle.rte_safe.specs.Safe.{Parts, ImageFits}
-use Rattle.rte_safe.specs.Whole.{StackFits}
+use Rattle.rte_safe_terms.specs.Part.{Part}
+use Rattle.rte_safe_terms.specs.Walk.{Where, Cost}
+use Rattle.rte_safe_terms.specs.Safe.{Parts, ImageFits}
+use Rattle.rte_safe_terms.specs.Whole.{StackFits}
 
 -- its one part has no locals, no words and no monitor
 abbrev pub part_of_puts : List Put → Part

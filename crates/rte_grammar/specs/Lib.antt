@@ -3,7 +3,3 @@ pub mod ExprGrammar
 pub mod StmtGrammar
 pub mod Grammar
 pub mod Opening
-pub mod ExprReading
-pub mod StmtReading
-pub mod Reading
-pub mod TreeWords

@@ -5,4 +5,3 @@ pub mod Effect
 pub mod Starts
 pub mod Tick
 pub mod Run
-pub mod Example

@@ -7,12 +7,12 @@ use Rattle.rte_tree.specs.Placed.{Prog}
 use Rattle.rte_grammar.specs.Words.{Tok, tok, toks_of}
 use Rattle.rte_grammar.specs.Grammar.{IsProg}
 use Rattle.rte_grammar.specs.Opening.{OpensProg}
-use Rattle.rte_grammar.specs.ExprReading.{Fault, nesting}
-use Rattle.rte_grammar.specs.Reading.{whole}
-use Rattle.rte_grammar.proofs.Again.{whole_again}
-use Rattle.rte_grammar.proofs.ProgOpens.{whole_opens}
-use Rattle.rte_grammar.proofs.OpenTails.{prog-at}
-use Rattle.rte_grammar.proofs.ProgDeep.{whole_finds}
+use Rattle.rte_reading.specs.ExprReading.{Fault, nesting}
+use Rattle.rte_reading.specs.Reading.{whole}
+use Rattle.rte_reading.proofs.Again.{whole_again}
+use Rattle.rte_reading.proofs.ProgOpens.{whole_opens}
+use Rattle.rte_reading.proofs.OpenTails.{prog-at}
+use Rattle.rte_reading.proofs.ProgDeep.{whole_finds}
 use Rattle.rte_parse.specs.Faults.{OpensAt}
 
 pub no_tree : {P : Type 0} (ts : List (Tok P)) (f : Fault) → whole ts ≡ Err f → (g : Prog P) → IsProg g ts [] → ⊥

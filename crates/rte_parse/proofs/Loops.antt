@@ -1,7 +1,7 @@
 -- The turns of a loop that reads a list.
 use Rattle.std.proofs.Common.{◌≡◌, ℕ, zero, suc, ◌+◌, ◌-◌, ◌<◌, ◌≤◌, List, [], ◌∷◌, ◌++◌, map, Ok, Err, Result, Bool, true, false, cond, arith, ap, ◌∙◌, refl}
 use Rattle.rte_grammar.specs.Words.{Tok}
-use Rattle.rte_grammar.specs.ExprReading.{Parse, Fault, each, ◌>>=◌}
+use Rattle.rte_reading.specs.ExprReading.{Parse, Fault, each, ◌>>=◌}
 use Rattle.rte_parse.specs.Reads.{with_front}
 
 append-nil : {A : Type 0} (xs : List A) → xs ++ [] ≡ xs

@@ -8,7 +8,7 @@ use Rattle.rte_tree.specs.Placed as tree
 use Rattle.rte_tree.specs.Placed.{placed_expr, placed_operands, operand}
 use Rattle.rte_tree.proofs.Views.{expr-Chain}
 use Rattle.rte_grammar.specs.Words.{Tok}
-use Rattle.rte_grammar.specs.ExprReading.{Parse, Fault, ◌>>=◌, is_some, op_at, operand_at, operands_at, factor, factor_in, inner, level, row_at, operands_from, joined}
+use Rattle.rte_reading.specs.ExprReading.{Parse, Fault, ◌>>=◌, is_some, op_at, operand_at, operands_at, factor, factor_in, inner, level, row_at, operands_from, joined}
 use Rattle.rte_parse.specs.Reads.{Reads, placed_pair, row_from}
 use Rattle.rte_parse.specs.declared.fault.Refusal.{Refusal}
 use Rattle.rte_parse.specs.declared.fault.Refusal.TheVariants.{Memory, Syntax, Nesting}

@@ -2,8 +2,8 @@
 use Rattle.std.proofs.Common.{◌≡◌, ℕ, zero, suc, List, refl}
 use Rattle.rte_tree.specs.Placed.{Stmt}
 use Rattle.rte_grammar.specs.Words.{Tok}
-use Rattle.rte_grammar.specs.ExprReading.{Parse, too_deep}
-use Rattle.rte_grammar.specs.StmtReading.{stmt, stmt_by, choice, loop_stmt}
+use Rattle.rte_reading.specs.ExprReading.{Parse, too_deep}
+use Rattle.rte_reading.specs.StmtReading.{stmt, stmt_by, choice, loop_stmt}
 
 abbrev pub chosen : {P : Type 0} → ℕ → Parse P (Stmt P)
 chosen zero = too_deep

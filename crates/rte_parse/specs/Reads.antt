@@ -9,7 +9,7 @@ use Rattle.rte_tree.specs.Placed as tree
 use Rattle.rte_tree.specs.declared.expr.Op as code_op
 use Rattle.rte_tree.specs.declared.expr.Expr as code_expr
 use Rattle.rte_tree.specs.declared.expr.Constant as code_constant
-use Rattle.rte_grammar.specs.ExprReading.{Fault, Parse, syntax, nesting, ◌>>=◌, op_of, operands_at, joined}
+use Rattle.rte_reading.specs.ExprReading.{Fault, Parse, syntax, nesting, ◌>>=◌, op_of, operands_at, joined}
 use Rattle.rte_parse.specs.declared.fault.Refusal.{Refusal}
 use Rattle.rte_parse.specs.declared.fault.Refusal.TheVariants as refusal
 

@@ -2,7 +2,7 @@
 
 ghost use Rattle.std.specs.Prelude.{◌≡◌, map};
 ghost use Rattle.rte_tree.specs.Placed.{placed, placed_decl};
-ghost use Rattle.rte_grammar.specs.Reading as reading;
+ghost use Rattle.rte_reading.specs.Reading as reading;
 ghost use Rattle.rte_parse.specs.Reads.{Reads};
 
 use crate::fault::Refusal;
@@ -12,7 +12,7 @@ use rte_tree::{Decl, List, Prog};
 use std::alloc::Global;
 
 impl Parser<'_> {
-    #[tactic(auto, unfolding(rte_grammar::specs::Reading::const_decl))]
+    #[tactic(auto, unfolding(rte_reading::specs::Reading::const_decl))]
     fn const_decl(&mut self, alloc: Global) -> Result<Decl, Refusal>
         ensures { Reads placed_decl (reading.const_decl self.old) result self.new }
     {
@@ -24,7 +24,7 @@ impl Parser<'_> {
     }
 
     /// Whether a device is an out device.
-    #[tactic(auto, unfolding(rte_grammar::specs::Reading::way))]
+    #[tactic(auto, unfolding(rte_reading::specs::Reading::way))]
     fn is_out_device(&mut self) -> Result<bool, Refusal>
         ensures { Reads (λ b. b) (reading.way self.old) result self.new }
     {
@@ -36,7 +36,7 @@ impl Parser<'_> {
         Ok(false)
     }
 
-    #[tactic(auto, unfolding(rte_grammar::specs::Reading::device_decl))]
+    #[tactic(auto, unfolding(rte_reading::specs::Reading::device_decl))]
     fn device_decl(&mut self, alloc: Global) -> Result<Decl, Refusal>
         ensures { Reads placed_decl (reading.device_decl self.old) result self.new }
     {
@@ -51,7 +51,7 @@ impl Parser<'_> {
         })
     }
 
-    #[tactic(auto, unfolding(rte_grammar::specs::Reading::event_decl))]
+    #[tactic(auto, unfolding(rte_reading::specs::Reading::event_decl))]
     fn event_decl(&mut self, alloc: Global) -> Result<Decl, Refusal>
         ensures { Reads placed_decl (reading.event_decl self.old) result self.new }
     {
@@ -60,7 +60,7 @@ impl Parser<'_> {
         Ok(Decl::Event { name, place })
     }
 
-    #[tactic(auto, unfolding(rte_grammar::specs::Reading::decl))]
+    #[tactic(auto, unfolding(rte_reading::specs::Reading::decl))]
     fn decl(&mut self, alloc: Global) -> Result<Decl, Refusal>
         ensures { Reads placed_decl (reading.decl self.old) result self.new }
     {
@@ -97,7 +97,7 @@ impl Parser<'_> {
     }
 
     /// As many declarations as there are.
-    #[tactic(auto, unfolding(rte_grammar::specs::Reading::decls, rte_grammar::specs::ExprReading::many))]
+    #[tactic(auto, unfolding(rte_reading::specs::Reading::decls, rte_reading::specs::ExprReading::many))]
     fn decls(&mut self, alloc: Global) -> Result<List<Decl>, Refusal>
         ensures { Reads (map placed_decl) (reading.decls self.old) result self.new }
     {
@@ -113,7 +113,7 @@ impl Parser<'_> {
         Ok(decls)
     }
 
-    #[tactic(auto, unfolding(rte_grammar::specs::Reading::prog))]
+    #[tactic(auto, unfolding(rte_reading::specs::Reading::prog))]
     pub(crate) fn prog(&mut self, alloc: Global) -> Result<Prog, Refusal>
         ensures { Reads placed (reading.prog self.old) result self.new }
     {

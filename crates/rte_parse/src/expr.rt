@@ -5,7 +5,7 @@ ghost use Rattle.rte_tree.specs.Placed.{placed_constant, placed_expr, op_of as p
 ghost use Rattle.rte_grammar.specs.Words.{COMMA};
 ghost use Rattle.rte_grammar.specs.Words.{keyword as keyword_word, sign as sign_word};
 ghost use Rattle.rte_grammar.specs.ExprGrammar.{height as height_in};
-ghost use Rattle.rte_grammar.specs.ExprReading as reading;
+ghost use Rattle.rte_reading.specs.ExprReading as reading;
 ghost use Rattle.rte_parse.specs.Reads.{Reads, row_from, with_front, placed_op, placed_pair, op_of_kind};
 
 use crate::fault::Refusal;
@@ -93,7 +93,7 @@ impl Parser<'_> {
     }
 
     /// A constant behind its minus.
-    #[tactic(auto, unfolding(rte_grammar::specs::ExprReading::signless))]
+    #[tactic(auto, unfolding(rte_reading::specs::ExprReading::signless))]
     fn signless(&mut self, alloc: Global, place: Place) -> Result<Constant, Refusal>
         ensures { Reads placed_constant (reading.signless place true self.old) result self.new }
     {
@@ -116,7 +116,7 @@ impl Parser<'_> {
     }
 
     /// A constant with no minus.
-    #[tactic(auto, unfolding(rte_grammar::specs::ExprReading::unsigned))]
+    #[tactic(auto, unfolding(rte_reading::specs::ExprReading::unsigned))]
     fn unsigned(&mut self, alloc: Global) -> Result<Constant, Refusal>
         ensures { Reads placed_constant (reading.unsigned self.old) result self.new }
     {
@@ -138,7 +138,7 @@ impl Parser<'_> {
         })
     }
 
-    #[tactic(auto, unfolding(rte_grammar::specs::ExprReading::constant))]
+    #[tactic(auto, unfolding(rte_reading::specs::ExprReading::constant))]
     pub(crate) fn constant(&mut self, alloc: Global) -> Result<Constant, Refusal>
         ensures { Reads placed_constant (reading.constant self.old) result self.new }
     {
@@ -152,7 +152,7 @@ impl Parser<'_> {
     /// An expression of at most this height, with `depth` levels of nesting left: a factor, and for
     /// each height in turn, the lowest first, the operators of that height behind what was read.
     #[cycle(expr)]
-    #[tactic(auto, unfolding(rte_grammar::specs::ExprReading::level))]
+    #[tactic(auto, unfolding(rte_reading::specs::ExprReading::level))]
     pub(crate) fn level(&mut self, alloc: Global, depth: usize, height: u8) -> Result<Expr, Refusal>
         requires { height ≤ 5 }
         ensures { Reads placed_expr (reading.level (reading.factor depth) height self.old) result self.new }
@@ -184,7 +184,7 @@ impl Parser<'_> {
     }
 
     #[cycle(expr)]
-    #[tactic(auto, unfolding(rte_grammar::specs::ExprReading::operands_at))]
+    #[tactic(auto, unfolding(rte_reading::specs::ExprReading::operands_at))]
     fn operands(
         &mut self,
         alloc: Global,
@@ -209,7 +209,7 @@ impl Parser<'_> {
 
     /// An operator of this height with its right operand.
     #[cycle(expr)]
-    #[tactic(auto, unfolding(rte_grammar::specs::ExprReading::operand_at))]
+    #[tactic(auto, unfolding(rte_reading::specs::ExprReading::operand_at))]
     fn operand(&mut self, alloc: Global, depth: usize, height: u8) -> Result<(Op, Expr), Refusal>
         requires low { 1 ≤ height }
         requires high { height ≤ 5 }
@@ -226,7 +226,7 @@ impl Parser<'_> {
     }
 
     #[cycle(expr)]
-    #[tactic(auto, unfolding(rte_grammar::specs::ExprReading::factor, rte_grammar::specs::ExprReading::factor_in))]
+    #[tactic(auto, unfolding(rte_reading::specs::ExprReading::factor, rte_reading::specs::ExprReading::factor_in))]
     fn factor(&mut self, alloc: Global, depth: usize) -> Result<Expr, Refusal>
         ensures { Reads placed_expr (reading.factor depth self.old) result self.new }
     {
@@ -247,7 +247,7 @@ impl Parser<'_> {
     }
 
     /// A literal or a truth value.
-    #[tactic(auto, unfolding(rte_grammar::specs::ExprReading::simple_factor))]
+    #[tactic(auto, unfolding(rte_reading::specs::ExprReading::simple_factor))]
     fn simple_factor(&mut self) -> Result<Expr, Refusal>
         ensures { Reads placed_expr (reading.simple_factor self.old) result self.new }
     {
@@ -265,7 +265,7 @@ impl Parser<'_> {
 
     /// What a name that begins a factor is.
     #[cycle(expr)]
-    #[tactic(auto, unfolding(rte_grammar::specs::ExprReading::named_factor))]
+    #[tactic(auto, unfolding(rte_reading::specs::ExprReading::named_factor))]
     fn named_factor(
         &mut self,
         alloc: Global,
@@ -292,7 +292,7 @@ impl Parser<'_> {
 
     /// An index in its brackets.
     #[cycle(expr)]
-    #[tactic(auto, unfolding(rte_grammar::specs::ExprReading::index))]
+    #[tactic(auto, unfolding(rte_reading::specs::ExprReading::index))]
     pub(crate) fn index(&mut self, alloc: Global, depth: usize) -> Result<Expr, Refusal>
         ensures { Reads placed_expr (reading.index (reading.inner depth) self.old) result self.new }
     {
@@ -305,7 +305,7 @@ impl Parser<'_> {
 
     /// Arguments in their parentheses.
     #[cycle(expr)]
-    #[tactic(auto, unfolding(rte_grammar::specs::ExprReading::args, rte_grammar::specs::ExprReading::in_parens))]
+    #[tactic(auto, unfolding(rte_reading::specs::ExprReading::args, rte_reading::specs::ExprReading::in_parens))]
     pub(crate) fn args(&mut self, alloc: Global, depth: usize) -> Result<List<Expr>, Refusal>
         ensures { Reads (map placed_expr) (reading.args (reading.inner depth) self.old) result self.new }
     {
@@ -317,7 +317,7 @@ impl Parser<'_> {
     }
 
     #[cycle(expr)]
-    #[tactic(auto, unfolding(rte_grammar::specs::ExprReading::some_listed, rte_grammar::specs::ExprReading::listed))]
+    #[tactic(auto, unfolding(rte_reading::specs::ExprReading::some_listed, rte_reading::specs::ExprReading::listed))]
     fn some_args(&mut self, alloc: Global, depth: usize) -> Result<List<Expr>, Refusal>
         ensures { Reads (map placed_expr) (reading.some_listed (reading.expr depth) self.old) result self.new }
     {
@@ -332,7 +332,7 @@ impl Parser<'_> {
 
     /// The arguments behind those that were read, each after a comma.
     #[cycle(expr)]
-    #[tactic(auto, unfolding(rte_grammar::specs::ExprReading::many))]
+    #[tactic(auto, unfolding(rte_reading::specs::ExprReading::many))]
     fn more_args(
         &mut self,
         alloc: Global,
@@ -354,7 +354,7 @@ impl Parser<'_> {
 
     /// An argument behind a comma.
     #[cycle(expr)]
-    #[tactic(auto, unfolding(rte_grammar::specs::ExprReading::behind_comma))]
+    #[tactic(auto, unfolding(rte_reading::specs::ExprReading::behind_comma))]
     fn more_arg(&mut self, alloc: Global, depth: usize) -> Result<Expr, Refusal>
         ensures { Reads placed_expr (reading.behind_comma (reading.expr depth) self.old) result self.new }
     {
@@ -363,7 +363,7 @@ impl Parser<'_> {
     }
 
     #[cycle(expr)]
-    #[tactic(auto, unfolding(rte_grammar::specs::ExprReading::minus_factor))]
+    #[tactic(auto, unfolding(rte_reading::specs::ExprReading::minus_factor))]
     fn minus(&mut self, alloc: Global, depth: usize) -> Result<Expr, Refusal>
         ensures { Reads placed_expr (reading.minus_factor (reading.inner depth) self.old) result self.new }
     {
@@ -377,7 +377,7 @@ impl Parser<'_> {
     }
 
     #[cycle(expr)]
-    #[tactic(auto, unfolding(rte_grammar::specs::ExprReading::negation_factor))]
+    #[tactic(auto, unfolding(rte_reading::specs::ExprReading::negation_factor))]
     fn negation(&mut self, alloc: Global, depth: usize) -> Result<Expr, Refusal>
         ensures { Reads placed_expr (reading.negation_factor (reading.inner depth) self.old) result self.new }
     {
@@ -392,7 +392,7 @@ impl Parser<'_> {
 
     /// An expression in parentheses.
     #[cycle(expr)]
-    #[tactic(auto, unfolding(rte_grammar::specs::ExprReading::paren_factor))]
+    #[tactic(auto, unfolding(rte_reading::specs::ExprReading::paren_factor))]
     fn paren(&mut self, alloc: Global, depth: usize) -> Result<Expr, Refusal>
         ensures { Reads placed_expr (reading.paren_factor (reading.inner depth) self.old) result self.new }
     {

@@ -3,7 +3,7 @@
 ghost use Rattle.std.specs.Prelude.{◌≡◌, length, suc, IfOk, IfErr, IsTrue, ◌↔◌};
 ghost use Rattle.rte_lex.specs.Tokens.{bytes_of as bytes_of_token};
 ghost use Rattle.rte_grammar.specs.Words.{keyword as keyword_word, sign as sign_word};
-ghost use Rattle.rte_grammar.specs.ExprReading as reading;
+ghost use Rattle.rte_reading.specs.ExprReading as reading;
 ghost use Rattle.rte_parse.specs.Reads.{Reads, kind_at};
 
 use crate::fault::Refusal;
@@ -110,7 +110,7 @@ impl Parser<'_> {
     }
 
     /// Passes this keyword, and gives its place.
-    #[tactic(auto, unfolding(rte_grammar::specs::ExprReading::expect))]
+    #[tactic(auto, unfolding(rte_reading::specs::ExprReading::expect))]
     pub(crate) fn expect_keyword(&mut self, at: u8) -> Result<Place, Refusal>
         ensures { Reads (λ p. p) (reading.expect (keyword_word at) self.old) result self.new }
     {
@@ -125,7 +125,7 @@ impl Parser<'_> {
     }
 
     /// Passes this sign, and gives its place.
-    #[tactic(auto, unfolding(rte_grammar::specs::ExprReading::expect))]
+    #[tactic(auto, unfolding(rte_reading::specs::ExprReading::expect))]
     pub(crate) fn expect_sign(&mut self, at: u8) -> Result<Place, Refusal>
         ensures { Reads (λ p. p) (reading.expect (sign_word at) self.old) result self.new }
     {
@@ -140,7 +140,7 @@ impl Parser<'_> {
     }
 
     /// Passes a name, and gives it with its place.
-    #[tactic(auto, unfolding(rte_grammar::specs::ExprReading::name))]
+    #[tactic(auto, unfolding(rte_reading::specs::ExprReading::name))]
     pub(crate) fn name(&mut self, alloc: Global) -> Result<(Name, Place), Refusal>
         ensures { Reads (λ n. n) (reading.name self.old) result self.new }
     {
@@ -156,7 +156,7 @@ impl Parser<'_> {
     }
 
     /// Passes a literal, and gives its value with its place.
-    #[tactic(auto, unfolding(rte_grammar::specs::ExprReading::numeral))]
+    #[tactic(auto, unfolding(rte_reading::specs::ExprReading::numeral))]
     pub(crate) fn numeral(&mut self) -> Result<(u32, Place), Refusal>
         ensures { Reads (λ n. n) (reading.numeral self.old) result self.new }
     {

@@ -3,8 +3,8 @@
 ghost use Rattle.std.specs.Prelude.{◌≡◌, map};
 ghost use Rattle.rte_tree.specs.Placed.{placed_constant, placed_activation, placed_handler, placed_process, optional};
 ghost use Rattle.rte_grammar.specs.Words.{COMMA};
-ghost use Rattle.rte_grammar.specs.ExprReading.{many, is_at, behind_comma, listed, constant as constant_at};
-ghost use Rattle.rte_grammar.specs.Reading as reading;
+ghost use Rattle.rte_reading.specs.ExprReading.{many, is_at, behind_comma, listed, constant as constant_at};
+ghost use Rattle.rte_reading.specs.Reading as reading;
 ghost use Rattle.rte_parse.specs.Reads.{Reads, with_front};
 
 use crate::fault::Refusal;
@@ -15,7 +15,7 @@ use std::alloc::Global;
 
 impl Parser<'_> {
     /// The first activation, where it is said.
-    #[tactic(auto, unfolding(rte_grammar::specs::Reading::first))]
+    #[tactic(auto, unfolding(rte_reading::specs::Reading::first))]
     fn first(&mut self, alloc: Global) -> Result<Option<Constant>, Refusal>
         ensures { Reads (optional placed_constant) (reading.first self.old) result self.new }
     {
@@ -29,7 +29,7 @@ impl Parser<'_> {
         Ok(None)
     }
 
-    #[tactic(auto, unfolding(rte_grammar::specs::Reading::activation))]
+    #[tactic(auto, unfolding(rte_reading::specs::Reading::activation))]
     fn activation(&mut self, alloc: Global) -> Result<Activation, Refusal>
         ensures { Reads placed_activation (reading.activation self.old) result self.new }
     {
@@ -52,7 +52,7 @@ impl Parser<'_> {
     }
 
     /// The numbers of a handler in their parentheses.
-    #[tactic(auto, unfolding(rte_grammar::specs::Reading::numbers))]
+    #[tactic(auto, unfolding(rte_reading::specs::Reading::numbers))]
     fn numbers(&mut self, alloc: Global) -> Result<List<Constant>, Refusal>
         ensures { Reads (map placed_constant) (reading.numbers self.old) result self.new }
     {
@@ -62,7 +62,7 @@ impl Parser<'_> {
         Ok(numbers)
     }
 
-    #[tactic(auto, unfolding(rte_grammar::specs::ExprReading::listed))]
+    #[tactic(auto, unfolding(rte_reading::specs::ExprReading::listed))]
     fn listed_numbers(&mut self, alloc: Global) -> Result<List<Constant>, Refusal>
         ensures { Reads (map placed_constant) (listed constant_at self.old) result self.new }
     {
@@ -73,7 +73,7 @@ impl Parser<'_> {
     }
 
     /// The numbers behind those that were read, each after a comma.
-    #[tactic(auto, unfolding(rte_grammar::specs::ExprReading::many))]
+    #[tactic(auto, unfolding(rte_reading::specs::ExprReading::many))]
     fn more_numbers(
         &mut self,
         alloc: Global,
@@ -92,7 +92,7 @@ impl Parser<'_> {
         Ok(numbers)
     }
 
-    #[tactic(auto, unfolding(rte_grammar::specs::ExprReading::behind_comma))]
+    #[tactic(auto, unfolding(rte_reading::specs::ExprReading::behind_comma))]
     fn next_constant(&mut self, alloc: Global) -> Result<Constant, Refusal>
         ensures { Reads placed_constant (behind_comma constant_at self.old) result self.new }
     {
@@ -101,7 +101,7 @@ impl Parser<'_> {
     }
 
     /// The handler, where there is one.
-    #[tactic(auto, unfolding(rte_grammar::specs::Reading::handler))]
+    #[tactic(auto, unfolding(rte_reading::specs::Reading::handler))]
     fn handler(&mut self, alloc: Global) -> Result<Option<Handler>, Refusal>
         ensures { Reads (optional placed_handler) (reading.handler self.old) result self.new }
     {
@@ -114,7 +114,7 @@ impl Parser<'_> {
         Ok(None)
     }
 
-    #[tactic(auto, unfolding(rte_grammar::specs::Reading::process_decl))]
+    #[tactic(auto, unfolding(rte_reading::specs::Reading::process_decl))]
     pub(crate) fn process(&mut self, alloc: Global) -> Result<Proc, Refusal>
         ensures { Reads placed_process (reading.process_decl self.old) result self.new }
     {

@@ -2,7 +2,7 @@
 
 ghost use Rattle.std.specs.Prelude.{◌≡◌, map};
 ghost use Rattle.rte_tree.specs.Placed.{placed_expr, placed_scalar, placed_stmt, placed_routine, placed_routine_kind, placed_member, placed_monitor, optional};
-ghost use Rattle.rte_grammar.specs.Reading as reading;
+ghost use Rattle.rte_reading.specs.Reading as reading;
 ghost use Rattle.rte_parse.specs.Reads.{Reads};
 
 use crate::fault::Refusal;
@@ -13,7 +13,7 @@ use std::alloc::Global;
 
 impl Parser<'_> {
     /// Statements behind their `begin`.
-    #[tactic(auto, unfolding(rte_grammar::specs::Reading::block))]
+    #[tactic(auto, unfolding(rte_reading::specs::Reading::block))]
     pub(crate) fn block(&mut self, alloc: Global) -> Result<List<Stmt>, Refusal>
         ensures { Reads (map placed_stmt) (reading.block self.old) result self.new }
     {
@@ -22,7 +22,7 @@ impl Parser<'_> {
     }
 
     /// The closing name behind its `end`.
-    #[tactic(auto, unfolding(rte_grammar::specs::Reading::close))]
+    #[tactic(auto, unfolding(rte_reading::specs::Reading::close))]
     pub(crate) fn close(&mut self, alloc: Global) -> Result<(Name, Place), Refusal>
         ensures { Reads (λ n. n) (reading.close self.old) result self.new }
     {
@@ -30,7 +30,7 @@ impl Parser<'_> {
         self.name(alloc)
     }
 
-    #[tactic(auto, unfolding(rte_grammar::specs::Reading::routine_kind))]
+    #[tactic(auto, unfolding(rte_reading::specs::Reading::routine_kind))]
     fn routine_kind(&mut self) -> Result<RoutineKind, Refusal>
         ensures { Reads placed_routine_kind (reading.routine_kind self.old) result self.new }
     {
@@ -43,7 +43,7 @@ impl Parser<'_> {
     }
 
     /// The type of the result, where the routine is a function.
-    #[tactic(auto, unfolding(rte_grammar::specs::Reading::result))]
+    #[tactic(auto, unfolding(rte_reading::specs::Reading::result))]
     fn result(&mut self, alloc: Global, kind: RoutineKind) -> Result<Option<Scalar>, Refusal>
         ensures { Reads (optional placed_scalar) (reading.result (placed_routine_kind kind) self.old) result self.new }
     {
@@ -58,7 +58,7 @@ impl Parser<'_> {
     }
 
     /// The expression of the result, where the routine is a function.
-    #[tactic(auto, unfolding(rte_grammar::specs::Reading::value))]
+    #[tactic(auto, unfolding(rte_reading::specs::Reading::value))]
     fn value(&mut self, alloc: Global, kind: RoutineKind) -> Result<Option<Expr>, Refusal>
         ensures { Reads (optional placed_expr) (reading.value (placed_routine_kind kind) self.old) result self.new }
     {
@@ -72,7 +72,7 @@ impl Parser<'_> {
         }
     }
 
-    #[tactic(auto, unfolding(rte_grammar::specs::Reading::routine_decl))]
+    #[tactic(auto, unfolding(rte_reading::specs::Reading::routine_decl))]
     pub(crate) fn routine(&mut self, alloc: Global) -> Result<Routine, Refusal>
         ensures { Reads placed_routine (reading.routine_decl self.old) result self.new }
     {
@@ -105,7 +105,7 @@ impl Parser<'_> {
     }
 
     /// As many routines as there are.
-    #[tactic(auto, unfolding(rte_grammar::specs::Reading::routines, rte_grammar::specs::ExprReading::many))]
+    #[tactic(auto, unfolding(rte_reading::specs::Reading::routines, rte_reading::specs::ExprReading::many))]
     pub(crate) fn routines(&mut self, alloc: Global) -> Result<List<Routine>, Refusal>
         ensures { Reads (map placed_routine) (reading.routines self.old) result self.new }
     {
@@ -127,7 +127,7 @@ impl Parser<'_> {
         self.is_keyword(keyword::VAR) || self.is_keyword(keyword::CONDITION)
     }
 
-    #[tactic(auto, unfolding(rte_grammar::specs::Reading::member))]
+    #[tactic(auto, unfolding(rte_reading::specs::Reading::member))]
     fn member(&mut self, alloc: Global) -> Result<Member, Refusal>
         ensures { Reads placed_member (reading.member self.old) result self.new }
     {
@@ -141,7 +141,7 @@ impl Parser<'_> {
     }
 
     /// As many variables and conditions as there are.
-    #[tactic(auto, unfolding(rte_grammar::specs::Reading::members, rte_grammar::specs::ExprReading::many))]
+    #[tactic(auto, unfolding(rte_reading::specs::Reading::members, rte_reading::specs::ExprReading::many))]
     fn members(&mut self, alloc: Global) -> Result<List<Member>, Refusal>
         ensures { Reads (map placed_member) (reading.members self.old) result self.new }
     {
@@ -158,7 +158,7 @@ impl Parser<'_> {
     }
 
     /// A routine behind its `entry`.
-    #[tactic(auto, unfolding(rte_grammar::specs::Reading::entry_decl))]
+    #[tactic(auto, unfolding(rte_reading::specs::Reading::entry_decl))]
     fn entry_decl(&mut self, alloc: Global) -> Result<Routine, Refusal>
         ensures { Reads placed_routine (reading.entry_decl self.old) result self.new }
     {
@@ -167,7 +167,7 @@ impl Parser<'_> {
     }
 
     /// As many entries as there are.
-    #[tactic(auto, unfolding(rte_grammar::specs::Reading::entries, rte_grammar::specs::ExprReading::many))]
+    #[tactic(auto, unfolding(rte_reading::specs::Reading::entries, rte_reading::specs::ExprReading::many))]
     fn entries(&mut self, alloc: Global) -> Result<List<Routine>, Refusal>
         ensures { Reads (map placed_routine) (reading.entries self.old) result self.new }
     {
@@ -183,7 +183,7 @@ impl Parser<'_> {
         Ok(entries)
     }
 
-    #[tactic(auto, unfolding(rte_grammar::specs::Reading::monitor_decl))]
+    #[tactic(auto, unfolding(rte_reading::specs::Reading::monitor_decl))]
     pub(crate) fn monitor(&mut self, alloc: Global) -> Result<Mon, Refusal>
         ensures { Reads placed_monitor (reading.monitor_decl self.old) result self.new }
     {

@@ -3,8 +3,8 @@
 ghost use Rattle.std.specs.Prelude.{◌≡◌, map};
 ghost use Rattle.rte_tree.specs.Placed.{placed_expr, placed_ref, placed_stmt};
 ghost use Rattle.rte_grammar.specs.Words.{keyword as keyword_word, IF, FOR};
-ghost use Rattle.rte_grammar.specs.StmtReading as reading;
-ghost use Rattle.rte_grammar.specs.ExprReading.{is_entry as is_entry_at};
+ghost use Rattle.rte_reading.specs.StmtReading as reading;
+ghost use Rattle.rte_reading.specs.ExprReading.{is_entry as is_entry_at};
 ghost use Rattle.rte_parse.specs.Reads.{Reads, placed_entry};
 
 use crate::fault::Refusal;
@@ -61,7 +61,7 @@ impl Parser<'_> {
     }
 
     /// What is assigned to, behind its name.
-    #[tactic(auto, unfolding(rte_grammar::specs::StmtReading::reference_from))]
+    #[tactic(auto, unfolding(rte_reading::specs::StmtReading::reference_from))]
     fn reference_from(
         &mut self,
         alloc: Global,
@@ -86,7 +86,7 @@ impl Parser<'_> {
         })
     }
 
-    #[tactic(auto, unfolding(rte_grammar::specs::StmtReading::reference))]
+    #[tactic(auto, unfolding(rte_reading::specs::StmtReading::reference))]
     fn reference(&mut self, alloc: Global, depth: usize) -> Result<Ref, Refusal>
         ensures { Reads placed_ref (reading.reference depth self.old) result self.new }
     {
@@ -95,7 +95,7 @@ impl Parser<'_> {
     }
 
     /// The arguments of an entry.
-    #[tactic(auto, unfolding(rte_grammar::specs::StmtReading::entry_args))]
+    #[tactic(auto, unfolding(rte_reading::specs::StmtReading::entry_args))]
     fn entry_args(&mut self, alloc: Global, depth: usize) -> Result<List<Expr>, Refusal>
         ensures { Reads (map placed_expr) (reading.entry_args depth self.old) result self.new }
     {
@@ -106,7 +106,7 @@ impl Parser<'_> {
     }
 
     /// The entry that is called and its arguments, behind the monitor's name.
-    #[tactic(auto, unfolding(rte_grammar::specs::StmtReading::entry))]
+    #[tactic(auto, unfolding(rte_reading::specs::StmtReading::entry))]
     fn entry(&mut self, alloc: Global, depth: usize) -> Result<(Name, Place, List<Expr>), Refusal>
         ensures { Reads placed_entry (reading.entry depth self.old) result self.new }
     {
@@ -117,7 +117,7 @@ impl Parser<'_> {
     }
 
     /// What is assigned to this, behind the `:=`.
-    #[tactic(auto, unfolding(rte_grammar::specs::StmtReading::assigned))]
+    #[tactic(auto, unfolding(rte_reading::specs::StmtReading::assigned))]
     fn assigned(&mut self, alloc: Global, depth: usize, target: Ref) -> Result<Stmt, Refusal>
         ensures { Reads placed_stmt (reading.assigned depth (placed_ref target) self.old) result self.new }
     {
@@ -147,7 +147,7 @@ impl Parser<'_> {
     }
 
     /// A statement that begins with this name.
-    #[tactic(auto, unfolding(rte_grammar::specs::StmtReading::named_stmt))]
+    #[tactic(auto, unfolding(rte_reading::specs::StmtReading::named_stmt))]
     fn named_stmt(
         &mut self,
         alloc: Global,
@@ -176,7 +176,7 @@ impl Parser<'_> {
         self.assigned(alloc, depth, target)
     }
 
-    #[tactic(auto, unfolding(rte_grammar::specs::StmtReading::exit_stmt))]
+    #[tactic(auto, unfolding(rte_reading::specs::StmtReading::exit_stmt))]
     fn exit_stmt(&mut self, alloc: Global, depth: usize) -> Result<Stmt, Refusal>
         ensures { Reads placed_stmt (reading.exit_stmt depth self.old) result self.new }
     {
@@ -186,7 +186,7 @@ impl Parser<'_> {
         Ok(Stmt::ExitWhen { place, test })
     }
 
-    #[tactic(auto, unfolding(rte_grammar::specs::StmtReading::get_stmt))]
+    #[tactic(auto, unfolding(rte_reading::specs::StmtReading::get_stmt))]
     fn get_stmt(&mut self, alloc: Global, depth: usize) -> Result<Stmt, Refusal>
         ensures { Reads placed_stmt (reading.get_stmt depth self.old) result self.new }
     {
@@ -201,7 +201,7 @@ impl Parser<'_> {
         })
     }
 
-    #[tactic(auto, unfolding(rte_grammar::specs::StmtReading::put_stmt))]
+    #[tactic(auto, unfolding(rte_reading::specs::StmtReading::put_stmt))]
     fn put_stmt(&mut self, alloc: Global, depth: usize) -> Result<Stmt, Refusal>
         ensures { Reads placed_stmt (reading.put_stmt depth self.old) result self.new }
     {
@@ -216,7 +216,7 @@ impl Parser<'_> {
         })
     }
 
-    #[tactic(auto, unfolding(rte_grammar::specs::StmtReading::assert_stmt))]
+    #[tactic(auto, unfolding(rte_reading::specs::StmtReading::assert_stmt))]
     fn assert_stmt(&mut self, alloc: Global, depth: usize) -> Result<Stmt, Refusal>
         ensures { Reads placed_stmt (reading.assert_stmt depth self.old) result self.new }
     {
@@ -225,7 +225,7 @@ impl Parser<'_> {
         Ok(Stmt::Assert { place, test })
     }
 
-    #[tactic(auto, unfolding(rte_grammar::specs::StmtReading::wait_stmt))]
+    #[tactic(auto, unfolding(rte_reading::specs::StmtReading::wait_stmt))]
     fn wait_stmt(&mut self, alloc: Global) -> Result<Stmt, Refusal>
         ensures { Reads placed_stmt (reading.wait_stmt self.old) result self.new }
     {
@@ -244,7 +244,7 @@ impl Parser<'_> {
         })
     }
 
-    #[tactic(auto, unfolding(rte_grammar::specs::StmtReading::signal_stmt))]
+    #[tactic(auto, unfolding(rte_reading::specs::StmtReading::signal_stmt))]
     fn signal_stmt(&mut self, alloc: Global) -> Result<Stmt, Refusal>
         ensures { Reads placed_stmt (reading.signal_stmt self.old) result self.new }
     {
@@ -257,7 +257,7 @@ impl Parser<'_> {
         })
     }
 
-    #[tactic(auto, unfolding(rte_grammar::specs::StmtReading::broadcast_stmt))]
+    #[tactic(auto, unfolding(rte_reading::specs::StmtReading::broadcast_stmt))]
     fn broadcast_stmt(&mut self, alloc: Global) -> Result<Stmt, Refusal>
         ensures { Reads placed_stmt (reading.broadcast_stmt self.old) result self.new }
     {
@@ -270,7 +270,7 @@ impl Parser<'_> {
         })
     }
 
-    #[tactic(auto, unfolding(rte_grammar::specs::StmtReading::except_stmt))]
+    #[tactic(auto, unfolding(rte_reading::specs::StmtReading::except_stmt))]
     fn except_stmt(&mut self, alloc: Global) -> Result<Stmt, Refusal>
         ensures { Reads placed_stmt (reading.except_stmt self.old) result self.new }
     {
@@ -280,7 +280,7 @@ impl Parser<'_> {
     }
 
     /// A statement with no expression.
-    #[tactic(auto, unfolding(rte_grammar::specs::StmtReading::plain_stmt))]
+    #[tactic(auto, unfolding(rte_reading::specs::StmtReading::plain_stmt))]
     fn plain_stmt(&mut self, alloc: Global) -> Result<Stmt, Refusal>
         ensures { Reads placed_stmt (reading.plain_stmt self.old) result self.new }
     {
@@ -297,7 +297,7 @@ impl Parser<'_> {
     }
 
     /// A statement that begins with its keyword and has no statements inside.
-    #[tactic(auto, unfolding(rte_grammar::specs::StmtReading::simple_stmt))]
+    #[tactic(auto, unfolding(rte_reading::specs::StmtReading::simple_stmt))]
     fn simple_stmt(&mut self, alloc: Global, depth: usize) -> Result<Stmt, Refusal>
         ensures { Reads placed_stmt (reading.simple_stmt depth self.old) result self.new }
     {
@@ -317,7 +317,7 @@ impl Parser<'_> {
     }
 
     /// The `end` of a form that begins with this keyword.
-    #[tactic(auto, unfolding(rte_grammar::specs::StmtReading::closing))]
+    #[tactic(auto, unfolding(rte_reading::specs::StmtReading::closing))]
     fn closing(&mut self, at: u8) -> Result<Place, Refusal>
         ensures { Reads (λ p. p) (reading.closing (keyword_word at) self.old) result self.new }
     {
@@ -327,7 +327,7 @@ impl Parser<'_> {
 
     /// A statement, with `depth` levels of nesting left.
     #[cycle(stmt)]
-    #[tactic(auto, unfolding(rte_grammar::specs::StmtReading::stmt, rte_grammar::specs::StmtReading::stmt_by))]
+    #[tactic(auto, unfolding(rte_reading::specs::StmtReading::stmt, rte_reading::specs::StmtReading::stmt_by))]
     fn stmt(&mut self, alloc: Global, depth: usize) -> Result<Stmt, Refusal>
         ensures { Reads placed_stmt (reading.stmt depth self.old) result self.new }
     {
@@ -348,7 +348,7 @@ impl Parser<'_> {
 
     /// As many statements as there are.
     #[cycle(stmt)]
-    #[tactic(auto, unfolding(rte_grammar::specs::StmtReading::stmts, rte_grammar::specs::StmtReading::stmts_by, rte_grammar::specs::ExprReading::many))]
+    #[tactic(auto, unfolding(rte_reading::specs::StmtReading::stmts, rte_reading::specs::StmtReading::stmts_by, rte_reading::specs::ExprReading::many))]
     pub(crate) fn stmts(&mut self, alloc: Global, depth: usize) -> Result<List<Stmt>, Refusal>
         ensures { Reads (map placed_stmt) (reading.stmts depth self.old) result self.new }
     {
@@ -366,7 +366,7 @@ impl Parser<'_> {
 
     /// A branch, with `depth` levels of nesting left inside it.
     #[cycle(stmt)]
-    #[tactic(auto, unfolding(rte_grammar::specs::StmtReading::choice, rte_grammar::specs::StmtReading::stmts))]
+    #[tactic(auto, unfolding(rte_reading::specs::StmtReading::choice, rte_reading::specs::StmtReading::stmts))]
     fn choice(&mut self, alloc: Global, depth: usize) -> Result<Stmt, Refusal>
         ensures { Reads placed_stmt (reading.choice depth (reading.stmt depth) self.old) result self.new }
     {
@@ -379,7 +379,7 @@ impl Parser<'_> {
 
     /// What stands behind the first statements of a branch.
     #[cycle(stmt)]
-    #[tactic(auto, unfolding(rte_grammar::specs::StmtReading::else_by, rte_grammar::specs::StmtReading::stmts))]
+    #[tactic(auto, unfolding(rte_reading::specs::StmtReading::else_by, rte_reading::specs::StmtReading::stmts))]
     fn choice_from(
         &mut self,
         alloc: Global,
@@ -412,7 +412,7 @@ impl Parser<'_> {
 
     /// A loop, with `depth` levels of nesting left inside it.
     #[cycle(stmt)]
-    #[tactic(auto, unfolding(rte_grammar::specs::StmtReading::loop_stmt, rte_grammar::specs::StmtReading::stmts))]
+    #[tactic(auto, unfolding(rte_reading::specs::StmtReading::loop_stmt, rte_reading::specs::StmtReading::stmts))]
     fn for_stmt(&mut self, alloc: Global, depth: usize) -> Result<Stmt, Refusal>
         ensures { Reads placed_stmt (reading.loop_stmt (reading.stmt depth) self.old) result self.new }
     {

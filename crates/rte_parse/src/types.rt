@@ -3,8 +3,8 @@
 ghost use Rattle.std.specs.Prelude.{◌≡◌, map};
 ghost use Rattle.rte_tree.specs.Placed.{placed_constant, placed_scalar, placed_kind, placed_var, placed_param};
 ghost use Rattle.rte_grammar.specs.Words.{COMMA};
-ghost use Rattle.rte_grammar.specs.ExprReading.{many, is_at, behind_comma, some_listed};
-ghost use Rattle.rte_grammar.specs.Reading as reading;
+ghost use Rattle.rte_reading.specs.ExprReading.{many, is_at, behind_comma, some_listed};
+ghost use Rattle.rte_reading.specs.Reading as reading;
 ghost use Rattle.rte_parse.specs.Reads.{Reads, with_front, placed_range};
 
 use crate::fault::Refusal;
@@ -15,7 +15,7 @@ use std::alloc::Global;
 
 impl Parser<'_> {
     /// Two constants with `..` between them.
-    #[tactic(auto, unfolding(rte_grammar::specs::Reading::range))]
+    #[tactic(auto, unfolding(rte_reading::specs::Reading::range))]
     fn range(&mut self, alloc: Global) -> Result<(Constant, Constant), Refusal>
         ensures { Reads placed_range (reading.range self.old) result self.new }
     {
@@ -26,7 +26,7 @@ impl Parser<'_> {
     }
 
     /// The type of a word.
-    #[tactic(auto, unfolding(rte_grammar::specs::Reading::scalar_type))]
+    #[tactic(auto, unfolding(rte_reading::specs::Reading::scalar_type))]
     pub(crate) fn scalar_type(&mut self, alloc: Global) -> Result<Scalar, Refusal>
         ensures { Reads placed_scalar (reading.scalar_type self.old) result self.new }
     {
@@ -43,7 +43,7 @@ impl Parser<'_> {
     }
 
     /// The type of a variable.
-    #[tactic(auto, unfolding(rte_grammar::specs::Reading::kind))]
+    #[tactic(auto, unfolding(rte_reading::specs::Reading::kind))]
     fn variable_type(&mut self, alloc: Global) -> Result<Type, Refusal>
         ensures { Reads placed_kind (reading.kind self.old) result self.new }
     {
@@ -58,7 +58,7 @@ impl Parser<'_> {
         Ok(Type::Scalar(scalar))
     }
 
-    #[tactic(auto, unfolding(rte_grammar::specs::Reading::var))]
+    #[tactic(auto, unfolding(rte_reading::specs::Reading::var))]
     pub(crate) fn var(&mut self, alloc: Global) -> Result<Var, Refusal>
         ensures { Reads placed_var (reading.var self.old) result self.new }
     {
@@ -70,7 +70,7 @@ impl Parser<'_> {
     }
 
     /// As many variables as there are.
-    #[tactic(auto, unfolding(rte_grammar::specs::Reading::vars, rte_grammar::specs::ExprReading::many))]
+    #[tactic(auto, unfolding(rte_reading::specs::Reading::vars, rte_reading::specs::ExprReading::many))]
     pub(crate) fn vars(&mut self, alloc: Global) -> Result<List<Var>, Refusal>
         ensures { Reads (map placed_var) (reading.vars self.old) result self.new }
     {
@@ -86,7 +86,7 @@ impl Parser<'_> {
         Ok(vars)
     }
 
-    #[tactic(auto, unfolding(rte_grammar::specs::Reading::param))]
+    #[tactic(auto, unfolding(rte_reading::specs::Reading::param))]
     fn param(&mut self, alloc: Global) -> Result<Param, Refusal>
         ensures { Reads placed_param (reading.param self.old) result self.new }
     {
@@ -97,7 +97,7 @@ impl Parser<'_> {
     }
 
     /// Parameters in their parentheses.
-    #[tactic(auto, unfolding(rte_grammar::specs::Reading::params, rte_grammar::specs::ExprReading::in_parens))]
+    #[tactic(auto, unfolding(rte_reading::specs::Reading::params, rte_reading::specs::ExprReading::in_parens))]
     pub(crate) fn params(&mut self, alloc: Global) -> Result<List<Param>, Refusal>
         ensures { Reads (map placed_param) (reading.params self.old) result self.new }
     {
@@ -107,7 +107,7 @@ impl Parser<'_> {
         Ok(params)
     }
 
-    #[tactic(auto, unfolding(rte_grammar::specs::ExprReading::some_listed, rte_grammar::specs::ExprReading::listed))]
+    #[tactic(auto, unfolding(rte_reading::specs::ExprReading::some_listed, rte_reading::specs::ExprReading::listed))]
     fn some_params(&mut self, alloc: Global) -> Result<List<Param>, Refusal>
         ensures { Reads (map placed_param) (some_listed reading.param self.old) result self.new }
     {
@@ -121,7 +121,7 @@ impl Parser<'_> {
     }
 
     /// The parameters behind those that were read, each after a comma.
-    #[tactic(auto, unfolding(rte_grammar::specs::ExprReading::many))]
+    #[tactic(auto, unfolding(rte_reading::specs::ExprReading::many))]
     fn more_params(
         &mut self,
         alloc: Global,
@@ -140,7 +140,7 @@ impl Parser<'_> {
         Ok(params)
     }
 
-    #[tactic(auto, unfolding(rte_grammar::specs::ExprReading::behind_comma))]
+    #[tactic(auto, unfolding(rte_reading::specs::ExprReading::behind_comma))]
     fn next_param(&mut self, alloc: Global) -> Result<Param, Refusal>
         ensures { Reads placed_param (behind_comma reading.param self.old) result self.new }
     {

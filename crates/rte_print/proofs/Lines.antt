@@ -5,7 +5,7 @@ use Rattle.rte_grammar.specs.Words as w
 use Rattle.rte_grammar.specs.Words.{Word, named, number}
 use Rattle.rte_grammar.specs.ExprGrammar.{op_word}
 use Rattle.rte_grammar.specs.Grammar.{kind_word}
-use Rattle.rte_grammar.specs.TreeWords as g
+use Rattle.rte_reading.specs.TreeWords as g
 use Rattle.rte_print.specs.Canonical as c
 use Rattle.rte_print.specs.Canonical.{Line}
 use Rattle.rte_print.proofs.Spelled.{flat}

@@ -7,8 +7,8 @@ use Rattle.rte_lex.specs.Tokens.{tokens}
 use Rattle.rte_lex.proofs.LawLemmas.{one_list}
 use Rattle.rte_grammar.specs.Words.{Tok, toks_of, words_of}
 use Rattle.rte_grammar.specs.Grammar.{IsProg}
-use Rattle.rte_grammar.specs.TreeWords.{prog_words}
-use Rattle.rte_grammar.proofs.TreeWords.{prog-words}
+use Rattle.rte_reading.specs.TreeWords.{prog_words}
+use Rattle.rte_reading.proofs.TreeWords.{prog-words}
 use Rattle.rte_print.specs.Canonical.{canonical, program_lines}
 use Rattle.rte_print.specs.ReadBack.{IsPrinted, HasTree}
 use Rattle.rte_print.proofs.Lexed.{HasWords}

@@ -10,7 +10,7 @@ ghost use Rattle.rte_response.specs.Demand.{IsBound, Solves};
 ghost use Rattle.rte_source_meaning.specs.Source.{EndsWithin, IsSourceRun};
 ghost use Rattle.rte_machine_meaning.specs.Run.{events};
 
-use rte_source_meaning::law::put_runs_are_source_runs;
+use rte_source_laws::law::put_runs_are_source_runs;
 
 /// Up to every end, the events of the image are a run of the program that it was made from.
 pub fn events_are_a_source_run()

@@ -9,7 +9,7 @@ use rte_lex::{one_fault, one_list};
 pub fn one_tree()
     ensures { HasOneTree }
 {
-    rte_grammar::one_tree();
+    rte_reading::one_tree();
     one_list();
 }
 

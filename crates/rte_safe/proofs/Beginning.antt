@@ -6,11 +6,11 @@ use Rattle.rte_machine_meaning.specs.Image.{Image, Process, Script}
 use Rattle.rte_machine_meaning.specs.State.{Thread, Idle, Ready, Waiting, State}
 use Rattle.rte_machine_meaning.specs.Starts.{unchanged, told, released, release, release_thread, time_out, raised, without, queue_of, starts}
 use Rattle.rte_machine_meaning.specs.Tick.{Candidate, least, pick, run_picked, tick}
-use Rattle.rte_safe.specs.Walk.{Where}
-use Rattle.rte_safe.specs.Safe.{Parts, ImageFits}
-use Rattle.rte_safe.specs.Whole.{StateFits}
-use Rattle.rte_safe.specs.Work.{Owes, IsBusy, worst_of, activation, WorkBegins}
-use Rattle.rte_safe.specs.Waits.{Suspends, SuspensionBegins}
+use Rattle.rte_safe_terms.specs.Walk.{Where}
+use Rattle.rte_safe_terms.specs.Safe.{Parts, ImageFits}
+use Rattle.rte_safe_terms.specs.Whole.{StateFits}
+use Rattle.rte_safe_terms.specs.Work.{Owes, IsBusy, worst_of, activation, WorkBegins}
+use Rattle.rte_safe_terms.specs.Waits.{Suspends, SuspensionBegins}
 use Rattle.rte_safe.proofs.Picked.{ChosenOf, chosen}
 use Rattle.rte_safe.proofs.Starting.{starts_pass, release_keeps, time_out_keeps, device_keeps}
 use Rattle.rte_safe.proofs.Working.{get_set, get_other, same_or_not, release_owes}

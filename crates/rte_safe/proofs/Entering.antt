@@ -7,11 +7,11 @@ use Rattle.rte_machine_meaning.specs.State.{Job, Thread, Idle, Ready, Waiting, S
 use Rattle.rte_machine_meaning.specs.Effect.{Own, Outcome, Goes, Does, Signals, Broadcasts, Waits, Raises, Ends, Stuck}
 use Rattle.rte_machine_meaning.specs.Starts.{raised, queue_of, starts}
 use Rattle.rte_machine_meaning.specs.Tick.{Candidate, least, pick, first, settle, outcome, owned_of, run_thread, run_picked, tick}
-use Rattle.rte_safe.specs.Part.{Part}
-use Rattle.rte_safe.specs.Walk.{Where, Cost, Reaches, within}
-use Rattle.rte_safe.specs.Safe.{Parts, ImageFits, Ticks, TickFits, part_of}
-use Rattle.rte_safe.specs.Whole.{ThreadFits, StateFits}
-use Rattle.rte_safe.specs.Stays.{StaysIn, StayBegins, EntersFree}
+use Rattle.rte_safe_terms.specs.Part.{Part}
+use Rattle.rte_safe_terms.specs.Walk.{Where, Cost, Reaches, within}
+use Rattle.rte_safe_terms.specs.Safe.{Parts, ImageFits, Ticks, TickFits, part_of}
+use Rattle.rte_safe_terms.specs.Whole.{ThreadFits, StateFits}
+use Rattle.rte_safe_terms.specs.Stays.{StaysIn, StayBegins, EntersFree}
 use Rattle.rte_safe.proofs.Ticking.{tick_is_safe}
 use Rattle.rte_safe.proofs.Whole.{ready_elsewhere, length_owned}
 use Rattle.rte_safe.proofs.Picked.{Chosen, ChosenOf, chosen, finds_free}

@@ -10,11 +10,11 @@ use Rattle.rte_machine_meaning.specs.State.{Operand, Value, Counter, Caller, Sta
 use Rattle.rte_machine_meaning.specs.Effect.{Own, Outcome, Goes, Does, Signals, Broadcasts, Waits, Raises, Ends, Stuck, effect, holding, take_one, one, give, arguments, called, call, back, enters, leaves, wait, waits}
 use Rattle.rte_isa.specs.Ticks.{ticks}
 use Rattle.rte_machine_meaning.specs.Tick.{at_next}
-use Rattle.rte_safe.specs.Part.{Part, Kind, Plain, kinds, plains, IsSized}
-use Rattle.rte_safe.specs.Laws.{GoesOn}
-use Rattle.rte_safe.specs.Walk.{Where, Cost, At, Reaches, Walk, within}
-use Rattle.rte_safe.specs.Path.{Step, Segment, Skip, Again, Leaves, under, held, then_rest, Follows, Frame, Returning, Moved, next_own}
-use Rattle.rte_safe.specs.Job.{RoutineFits, RoutinesFit, joined, Inside, Chain, Stands, Comes, Less, Keeps, FindsFree, InstructionIsSafe}
+use Rattle.rte_safe_terms.specs.Part.{Part, Kind, Plain, kinds, plains, IsSized}
+use Rattle.rte_safe_terms.specs.Laws.{GoesOn}
+use Rattle.rte_safe_terms.specs.Walk.{Where, Cost, At, Reaches, Walk, within}
+use Rattle.rte_safe_terms.specs.Path.{Step, Segment, Skip, Again, Leaves, under, held, then_rest, Follows, Frame, Returning, Moved, next_own}
+use Rattle.rte_safe_terms.specs.Job.{RoutineFits, RoutinesFit, joined, Inside, Chain, Stands, Comes, Less, Keeps, FindsFree, InstructionIsSafe}
 use Rattle.rte_safe.proofs.Lists.{plains_add, length-plains, under_then, held_then}
 use Rattle.rte_safe.proofs.Frames.{IsInside, Moves, follows_then, at_line, at_fork, at_skip, at_rep, at_again, at_exit}
 

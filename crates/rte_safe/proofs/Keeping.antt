@@ -8,9 +8,9 @@ use Rattle.rte_machine_meaning.specs.Effect.{Outcome, Goes, Does, Signals, Broad
 use Rattle.rte_machine_meaning.specs.Starts.{unchanged, told, release, release_thread, time_out, raised, without, queue_of, starts}
 use Rattle.rte_machine_meaning.specs.Tick.{Candidate, least, pick, settle, outcome, owned_of, run_thread, run_picked, tick}
 use Rattle.rte_machine_meaning.specs.Run.{at_start, state_at}
-use Rattle.rte_safe.specs.Walk.{Where, Cost}
-use Rattle.rte_safe.specs.Safe.{Parts, ImageFits, TickFits}
-use Rattle.rte_safe.specs.Whole.{ThreadFits, StateFits, WordsFit, RunKeepsWords}
+use Rattle.rte_safe_terms.specs.Walk.{Where, Cost}
+use Rattle.rte_safe_terms.specs.Safe.{Parts, ImageFits, TickFits}
+use Rattle.rte_safe_terms.specs.Whole.{ThreadFits, StateFits, WordsFit, RunKeepsWords}
 use Rattle.rte_safe.proofs.Whole.{length_owned}
 use Rattle.rte_safe.proofs.Picked.{ChosenOf, chosen}
 use Rattle.rte_safe.proofs.Starting.{length-zeros, starts_pass, starts_keep}

@@ -5,9 +5,9 @@ use Rattle.rte_isa.specs.declared.instr.Instr.{Instr}
 use Rattle.rte_isa.specs.declared.instr.Instr.TheVariants as i
 use Rattle.rte_machine_meaning.specs.Trees.{Line, Fork, Call, Exit, Nil, Cons}
 use Rattle.rte_machine_meaning.specs.Image.{Routine, Process}
-use Rattle.rte_safe.specs.Walk.{Where, Walks, within}
-use Rattle.rte_safe.specs.Job.{RoutineFits, RoutinesFit}
-use Rattle.rte_safe.specs.Safe.{ProcessFits}
+use Rattle.rte_safe_terms.specs.Walk.{Where, Walks, within}
+use Rattle.rte_safe_terms.specs.Job.{RoutineFits, RoutinesFit}
+use Rattle.rte_safe_terms.specs.Safe.{ProcessFits}
 use Rattle.rte_safe.specs.Example.{IsNeverStuck, cost, own_part, inner_routine, outer_routine, looping_process, looping, inner_part, outer_part, looping_part, looping_cost, looping_parts, LoopingFits}
 use Rattle.rte_safe.proofs.Building.{exact, own_fits}
 use Rattle.rte_safe.proofs.Running.{every_run_is_safe}

@@ -5,9 +5,9 @@ use Rattle.rte_isa.specs.declared.instr.Instr.{Instr}
 use Rattle.rte_isa.specs.declared.instr.Instr.TheVariants as i
 use Rattle.rte_machine_meaning.specs.Trees.{Line, Call, Stay, Wait, Nil, Cons}
 use Rattle.rte_machine_meaning.specs.Image.{Monitor, Routine, Process}
-use Rattle.rte_safe.specs.Walk.{At, Walks, within}
-use Rattle.rte_safe.specs.Job.{RoutineFits, RoutinesFit}
-use Rattle.rte_safe.specs.Safe.{ProcessFits}
+use Rattle.rte_safe_terms.specs.Walk.{At, Walks, within}
+use Rattle.rte_safe_terms.specs.Job.{RoutineFits, RoutinesFit}
+use Rattle.rte_safe_terms.specs.Safe.{ProcessFits}
 use Rattle.rte_safe.specs.Example.{cost, entry_cost, entry_stay, own_part, meeting, meeting_place, meeting_parts, MeetingFits, MeetingIsSafe}
 use Rattle.rte_safe.proofs.Building.{exact, own_fits}
 use Rattle.rte_safe.proofs.Running.{every_run_is_safe}

@@ -11,10 +11,10 @@ use Rattle.rte_machine_meaning.specs.Effect.{Outcome, Goes, Does, Signals, Broad
 use Rattle.rte_machine_meaning.specs.Starts.{unchanged, told, released, release, release_thread, time_out, raised, without, queue_of, starts}
 use Rattle.rte_machine_meaning.specs.Tick.{Candidate, least, pick, woken, wake, wake_all, first, rest, wake_first, settle, outcome, owned_of, run_thread, run_picked, tick}
 use Rattle.rte_machine_meaning.specs.Run.{at_start, state_at}
-use Rattle.rte_safe.specs.Walk.{Where, Cost}
-use Rattle.rte_safe.specs.Safe.{Parts, ImageFits, TickFits}
-use Rattle.rte_safe.specs.Whole.{ThreadFits, StateFits}
-use Rattle.rte_safe.specs.Queues.{times, waits_on, QueuesFit, AreQueued, TickKeepsQueues, RunKeepsQueues}
+use Rattle.rte_safe_terms.specs.Walk.{Where, Cost}
+use Rattle.rte_safe_terms.specs.Safe.{Parts, ImageFits, TickFits}
+use Rattle.rte_safe_terms.specs.Whole.{ThreadFits, StateFits}
+use Rattle.rte_safe_terms.specs.Queues.{times, waits_on, QueuesFit, AreQueued, TickKeepsQueues, RunKeepsQueues}
 use Rattle.rte_safe.proofs.Picked.{ChosenOf, chosen}
 use Rattle.rte_safe.proofs.Starting.{starts_pass, starts_keep}
 use Rattle.rte_safe.proofs.Settling.{outcome_fits}

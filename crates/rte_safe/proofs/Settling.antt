@@ -6,9 +6,9 @@ use Rattle.rte_machine_meaning.specs.State.{Job, Thread, Idle, Ready, Waiting, S
 use Rattle.rte_machine_meaning.specs.Effect.{Own, Outcome, Goes, Does, Signals, Broadcasts, Waits, Raises, Ends, Stuck}
 use Rattle.rte_machine_meaning.specs.Starts.{starts, raised, queue_of}
 use Rattle.rte_machine_meaning.specs.Tick.{Candidate, active_rank, outside, least, pick, woken, wake, wake_all, first, rest, wake_first, settle, outcome, owned_of, run_thread, run_picked, tick}
-use Rattle.rte_safe.specs.Walk.{Where, Cost}
-use Rattle.rte_safe.specs.Safe.{Parts, ProcessFits, ImageFits, ReadyFits, WaitingFits, Ticks, TickFits, part_of}
-use Rattle.rte_safe.specs.Whole.{ThreadFits, ceiling_of, StateFits, EveryTickIsSafe}
+use Rattle.rte_safe_terms.specs.Walk.{Where, Cost}
+use Rattle.rte_safe_terms.specs.Safe.{Parts, ProcessFits, ImageFits, ReadyFits, WaitingFits, Ticks, TickFits, part_of}
+use Rattle.rte_safe_terms.specs.Whole.{ThreadFits, ceiling_of, StateFits, EveryTickIsSafe}
 use Rattle.rte_safe.proofs.Ticking.{some_ticks, tick_is_safe, comes_at}
 use Rattle.rte_safe.proofs.Whole.{IsClear, state_set, thread_set}
 use Rattle.rte_safe.proofs.Picked.{Chosen, ChosenOf, chosen, finds_free, process_of}

@@ -6,10 +6,10 @@ use Rattle.rte_machine_meaning.specs.Image.{Process, Script, Line, Sets, Occurs,
 use Rattle.rte_machine_meaning.specs.State.{Job, Thread, Idle, Ready, Waiting, State, zeros}
 use Rattle.rte_machine_meaning.specs.Starts.{Started, unchanged, told, released, release_thread, release, occurs, line, lines, is_periodic_due, periodic, raised, without, queue_of, time_out, at_rank, time_outs, starts}
 use Rattle.rte_machine_meaning.specs.Tick.{owned_of}
-use Rattle.rte_safe.specs.Walk.{Where, Cost}
-use Rattle.rte_safe.specs.Safe.{Parts, ProcessFits, ImageFits, ReadyFits, own_of, part_of, spare}
-use Rattle.rte_safe.specs.Work.{worst_of}
-use Rattle.rte_safe.specs.Whole.{ThreadFits, StateFits}
+use Rattle.rte_safe_terms.specs.Walk.{Where, Cost}
+use Rattle.rte_safe_terms.specs.Safe.{Parts, ProcessFits, ImageFits, ReadyFits, own_of, part_of, spare}
+use Rattle.rte_safe_terms.specs.Work.{worst_of}
+use Rattle.rte_safe_terms.specs.Whole.{ThreadFits, StateFits}
 use Rattle.rte_safe.proofs.Ticking.{some_ticks, at_start_of, raise_fits, based, Based, fits_at}
 use Rattle.rte_safe.proofs.Whole.{thread_set}
 

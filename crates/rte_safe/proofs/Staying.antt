@@ -8,11 +8,11 @@ use Rattle.rte_machine_meaning.specs.State.{Job, Thread, Idle, Ready, Waiting, S
 use Rattle.rte_machine_meaning.specs.Effect.{Own, Outcome, Goes, Does, Signals, Broadcasts, Waits, Raises, Ends, Stuck}
 use Rattle.rte_machine_meaning.specs.Starts.{unchanged, told, released, release, release_thread, time_out, raised, without, queue_of, starts}
 use Rattle.rte_machine_meaning.specs.Tick.{Candidate, least, pick, woken, wake, wake_all, first, wake_first, settle, outcome, owned_of, run_thread, run_picked, tick}
-use Rattle.rte_safe.specs.Walk.{Where, Cost}
-use Rattle.rte_safe.specs.Safe.{Parts, ImageFits, ReadyFits, Ticks, TickFits, part_of}
-use Rattle.rte_safe.specs.Whole.{StateFits}
-use Rattle.rte_safe.specs.Work.{is_chosen, runs}
-use Rattle.rte_safe.specs.Stays.{StaysIn, StayFalls}
+use Rattle.rte_safe_terms.specs.Walk.{Where, Cost}
+use Rattle.rte_safe_terms.specs.Safe.{Parts, ImageFits, ReadyFits, Ticks, TickFits, part_of}
+use Rattle.rte_safe_terms.specs.Whole.{StateFits}
+use Rattle.rte_safe_terms.specs.Work.{is_chosen, runs}
+use Rattle.rte_safe_terms.specs.Stays.{StaysIn, StayFalls}
 use Rattle.rte_safe.proofs.Ticking.{tick_is_safe}
 use Rattle.rte_safe.proofs.Whole.{ready_elsewhere, length_owned}
 use Rattle.rte_safe.proofs.Picked.{ChosenOf, chosen, finds_free}

@@ -11,11 +11,11 @@ use Rattle.rte_machine_meaning.specs.Effect.{Own, Outcome, Goes, Does, Signals, 
 use Rattle.rte_isa.specs.Ticks.{ticks}
 use Rattle.rte_machine_meaning.specs.Starts.{raised, lists}
 use Rattle.rte_machine_meaning.specs.Tick.{outcome_at}
-use Rattle.rte_safe.specs.Part.{Part, Kind, kinds}
-use Rattle.rte_safe.specs.Walk.{Where, Cost, At, Walks, within}
-use Rattle.rte_safe.specs.Path.{Step, under, then_rest, Follows, Returning, next_own}
-use Rattle.rte_safe.specs.Job.{RoutinesFit, joined, Chain, Stands, Comes, Less, Pauses, Keeps}
-use Rattle.rte_safe.specs.Safe.{Parts, IsOwn, HandlerFits, ProcessFits, part_of, spare, own_of, ReadyFits, Ticks, Pausing, TickFits, TickIsSafe}
+use Rattle.rte_safe_terms.specs.Part.{Part, Kind, kinds}
+use Rattle.rte_safe_terms.specs.Walk.{Where, Cost, At, Walks, within}
+use Rattle.rte_safe_terms.specs.Path.{Step, under, then_rest, Follows, Returning, next_own}
+use Rattle.rte_safe_terms.specs.Job.{RoutinesFit, joined, Chain, Stands, Comes, Less, Pauses, Keeps}
+use Rattle.rte_safe_terms.specs.Safe.{Parts, IsOwn, HandlerFits, ProcessFits, part_of, spare, own_of, ReadyFits, Ticks, Pausing, TickFits, TickIsSafe}
 use Rattle.rte_safe.proofs.Lists.{under_then}
 use Rattle.rte_safe.proofs.Frames.{follows_then, at_least_end}
 use Rattle.rte_safe.proofs.Jobs.{instruction_is_safe}

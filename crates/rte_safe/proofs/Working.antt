@@ -9,10 +9,10 @@ use Rattle.rte_machine_meaning.specs.State.{Job, Thread, Idle, Ready, Waiting, S
 use Rattle.rte_machine_meaning.specs.Effect.{Own, Outcome, Goes, Does, Signals, Broadcasts, Waits, Raises, Ends, Stuck}
 use Rattle.rte_machine_meaning.specs.Starts.{Started, unchanged, told, released, release, release_thread, time_out, raised, without, queue_of, starts}
 use Rattle.rte_machine_meaning.specs.Tick.{Candidate, least, pick, woken, wake, wake_all, first, rest, wake_first, settle, outcome, owned_of, run_thread, run_picked, tick}
-use Rattle.rte_safe.specs.Walk.{Where, Cost}
-use Rattle.rte_safe.specs.Safe.{Parts, ImageFits, ReadyFits, Ticks, TickFits, own_of, part_of, spare}
-use Rattle.rte_safe.specs.Whole.{StateFits}
-use Rattle.rte_safe.specs.Work.{work_of, HasLeft, Owes, IsBusy, is_chosen, runs, worst_of, activation, WorkFalls, ReleaseOwes}
+use Rattle.rte_safe_terms.specs.Walk.{Where, Cost}
+use Rattle.rte_safe_terms.specs.Safe.{Parts, ImageFits, ReadyFits, Ticks, TickFits, own_of, part_of, spare}
+use Rattle.rte_safe_terms.specs.Whole.{StateFits}
+use Rattle.rte_safe_terms.specs.Work.{work_of, HasLeft, Owes, IsBusy, is_chosen, runs, worst_of, activation, WorkFalls, ReleaseOwes}
 use Rattle.rte_safe.proofs.Ticking.{tick_is_safe, raise_fits, based, Based}
 use Rattle.rte_safe.proofs.Whole.{ready_elsewhere, waiting_elsewhere, length_owned}
 use Rattle.rte_safe.proofs.Picked.{Chosen, ChosenOf, chosen, finds_free}

@@ -6,10 +6,10 @@ use Rattle.rte_machine_meaning.specs.Trees.{Line, Fork, Rep, Call, Exit, Nil, Co
 use Rattle.rte_machine_meaning.specs.Image.{Image, Routine, Process, Script}
 use Rattle.rte_machine_meaning.specs.Tick.{tick}
 use Rattle.rte_machine_meaning.specs.Run.{state_at}
-use Rattle.rte_machine_meaning.specs.Example.{waiter_and_signaller}
-use Rattle.rte_safe.specs.Part.{Part}
-use Rattle.rte_safe.specs.Walk.{Where, Cost}
-use Rattle.rte_safe.specs.Safe.{Parts, ImageFits}
+use Rattle.rte_machine_laws.specs.Example.{waiter_and_signaller}
+use Rattle.rte_safe_terms.specs.Part.{Part}
+use Rattle.rte_safe_terms.specs.Walk.{Where, Cost}
+use Rattle.rte_safe_terms.specs.Safe.{Parts, ImageFits}
 
 -- no tick of any run of the image is stuck
 abbrev pub IsNeverStuck : Image → Type 0

@@ -2,14 +2,14 @@
 //!
 //! Each is a statement of `specs/`. The premise is `ImageFits` of `specs/Safe.antt`, the invariant `StateFits` of `specs/Whole.antt`.
 
-ghost use Rattle.rte_safe.specs.Job.{InstructionIsSafe};
-ghost use Rattle.rte_safe.specs.Laws.{PlainIsSafe};
-ghost use Rattle.rte_safe.specs.Safe.{TickIsSafe};
-ghost use Rattle.rte_safe.specs.Whole.{EveryTickIsSafe, RunFits, EveryRunIsSafe, RunKeepsWords};
-ghost use Rattle.rte_safe.specs.Queues.{TickKeepsQueues, RunKeepsQueues};
-ghost use Rattle.rte_safe.specs.Stays.{StayFalls, StayBegins, EntersFree};
-ghost use Rattle.rte_safe.specs.Waits.{SuspensionFalls, SuspensionBegins, ReleaseSuspends};
-ghost use Rattle.rte_safe.specs.Work.{ReleaseOwes, WorkFalls, WorkBegins};
+ghost use Rattle.rte_safe_terms.specs.Job.{InstructionIsSafe};
+ghost use Rattle.rte_safe_terms.specs.Laws.{PlainIsSafe};
+ghost use Rattle.rte_safe_terms.specs.Safe.{TickIsSafe};
+ghost use Rattle.rte_safe_terms.specs.Whole.{EveryTickIsSafe, RunFits, EveryRunIsSafe, RunKeepsWords};
+ghost use Rattle.rte_safe_terms.specs.Queues.{TickKeepsQueues, RunKeepsQueues};
+ghost use Rattle.rte_safe_terms.specs.Stays.{StayFalls, StayBegins, EntersFree};
+ghost use Rattle.rte_safe_terms.specs.Waits.{SuspensionFalls, SuspensionBegins, ReleaseSuspends};
+ghost use Rattle.rte_safe_terms.specs.Work.{ReleaseOwes, WorkFalls, WorkBegins};
 
 /// An instruction of a line is not stuck, and leaves the operands that its row says.
 pub fn plain_is_safe()

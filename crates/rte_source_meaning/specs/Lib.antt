@@ -9,4 +9,3 @@ pub mod Starts
 pub mod Source
 pub mod Puts
 pub mod Nesting
-pub mod Example

@@ -6,7 +6,7 @@ use Rattle.rte_declarations.specs.declared.sort.Sort.TheVariants as sort_is
 use Rattle.rte_source_meaning.specs.Run.{Found, of_monitor, routine_named}
 use Rattle.rte_source_meaning.specs.Nesting.{Levels}
 use Rattle.rte_source_meaning.specs.Names.{processes, monitors}
-use Rattle.rte_source_meaning.specs.Example.{one_put, handled_range, signalled_wait}
+use Rattle.rte_source_laws.specs.Example.{one_put, handled_range, signalled_wait}
 use Rattle.rte_wellformed.specs.Examples.{put_inwards, undeclared, endless, circle, circular}
 use Rattle.rte_wellformed.specs.Here.{in_process}
 use Rattle.rte_wellformed.specs.Statements.{AllFit}

@@ -1,6 +1,6 @@
 //! Programs that are well formed, and programs that are not.
 
-ghost use Rattle.rte_source_meaning.specs.Example.{one_put, handled_range, signalled_wait};
+ghost use Rattle.rte_source_laws.specs.Example.{one_put, handled_range, signalled_wait};
 ghost use Rattle.rte_wellformed.specs.Examples.{put_inwards, undeclared, endless, circular};
 ghost use Rattle.rte_wellformed.specs.WellFormed.{IsWellFormed};
 

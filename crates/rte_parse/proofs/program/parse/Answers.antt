@@ -1,10 +1,10 @@
 use Rattle.std.proofs.Common.{◌≡◌, ap, sym, ◌∙◌, subst, ◌∷◌, length, Err, inl}
 use Rattle.rte_tree.specs.Placed.{placed}
 use Rattle.rte_grammar.specs.Words.{toks_of}
-use Rattle.rte_grammar.specs.ExprReading.{syntax, nesting}
-use Rattle.rte_grammar.specs.Reading.{whole}
-use Rattle.rte_grammar.proofs.Sound.{whole_sound}
-use Rattle.rte_grammar.proofs.Again.{one_tree}
+use Rattle.rte_reading.specs.ExprReading.{syntax, nesting}
+use Rattle.rte_reading.specs.Reading.{whole}
+use Rattle.rte_reading.proofs.Sound.{whole_sound}
+use Rattle.rte_reading.proofs.Again.{one_tree}
 use Rattle.rte_parse.specs.declared.fault.Refusal.TheVariants as refusal
 use Rattle.rte_parse.specs.declared.fault.SynFault.TheVariants as fault
 use Rattle.rte_parse.specs.Reads.{Gives}

@@ -2,8 +2,8 @@ use Rattle.std.proofs.Common.{◌≡◌, ◌-◌, ◌+◌, arith, subst, Err, sy
 use Rattle.std.proofs.lemmas.Grind.{common_steps}
 use Rattle.rte_tree.specs.Placed.{placed_expr}
 use Rattle.rte_grammar.specs.Words.{COMMA}
-use Rattle.rte_grammar.specs.ExprReading as reading
-use Rattle.rte_grammar.specs.ExprReading.{is_at, is_some, op_at, operand_at, behind_comma, level, factor, expr}
+use Rattle.rte_reading.specs.ExprReading as reading
+use Rattle.rte_reading.specs.ExprReading.{is_at, is_some, op_at, operand_at, behind_comma, level, factor, expr}
 use Rattle.rte_parse.specs.Reads.{Reads, placed_pair}
 use Rattle.rte_parse.proofs.Loops.{loop-stop, loop-last, loop-turn, each-turn}
 use Rattle.rte_parse.proofs.Rows.{factor-inner, level-next, level-stays, refused-above, row-view}

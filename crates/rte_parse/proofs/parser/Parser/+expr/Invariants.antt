@@ -1,7 +1,7 @@
 use Rattle.std.proofs.Common.{◌≡◌, ◌-◌, ◌+◌, ◌*◌, map, Ok}
 use Rattle.rte_tree.specs.Placed.{placed_expr}
 use Rattle.rte_grammar.specs.Words.{COMMA}
-use Rattle.rte_grammar.specs.ExprReading.{each, many, is_at, is_some, op_at, operand_at, operands_at, behind_comma, level, factor, expr}
+use Rattle.rte_reading.specs.ExprReading.{each, many, is_at, is_some, op_at, operand_at, operands_at, behind_comma, level, factor, expr}
 use Rattle.rte_parse.specs.Reads.{with_front, placed_pair}
 use Rattle.rte_parse.proofs.parser.Parser.+expr.Given as goal
 

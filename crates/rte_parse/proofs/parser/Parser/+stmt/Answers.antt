@@ -2,8 +2,8 @@ use Rattle.std.proofs.Common.{arith, sym, ◌∙◌}
 use Rattle.std.proofs.lemmas.Grind.{common_steps}
 use Rattle.rte_tree.specs.Placed.{placed_stmt}
 use Rattle.rte_tree.proofs.StmtViews.{stmt-IfElse}
-use Rattle.rte_grammar.specs.StmtReading as reading
-use Rattle.rte_grammar.specs.StmtReading.{begins, stmt}
+use Rattle.rte_reading.specs.StmtReading as reading
+use Rattle.rte_reading.specs.StmtReading.{begins, stmt}
 use Rattle.rte_parse.proofs.Stmts.{stmt-by}
 use Rattle.rte_parse.proofs.Loops.{loop-stop, loop-last, loop-turn, each-turn}
 use Rattle.rte_parse.proofs.parser.Parser.+stmt.Goals as goal

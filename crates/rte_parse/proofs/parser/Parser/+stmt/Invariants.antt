@@ -1,7 +1,7 @@
 use Rattle.std.proofs.Common.{◌≡◌, ◌-◌, ◌+◌, ◌*◌, map}
 use Rattle.rte_tree.specs.Placed.{placed_stmt}
-use Rattle.rte_grammar.specs.ExprReading.{each}
-use Rattle.rte_grammar.specs.StmtReading.{begins, stmt, stmts}
+use Rattle.rte_reading.specs.ExprReading.{each}
+use Rattle.rte_reading.specs.StmtReading.{begins, stmt, stmts}
 use Rattle.rte_parse.specs.Reads.{with_front}
 use Rattle.rte_parse.proofs.parser.Parser.+stmt.Given as goal
 

@@ -2,8 +2,8 @@ use Rattle.std.proofs.Common.{arith, sym, ◌∙◌}
 use Rattle.std.proofs.lemmas.Grind.{common_steps}
 use Rattle.rte_tree.specs.Placed.{placed_routine}
 use Rattle.rte_grammar.specs.Words.{ENTRY}
-use Rattle.rte_grammar.specs.ExprReading.{is_at}
-use Rattle.rte_grammar.specs.Reading.{entry_decl}
+use Rattle.rte_reading.specs.ExprReading.{is_at}
+use Rattle.rte_reading.specs.Reading.{entry_decl}
 use Rattle.rte_parse.proofs.Loops.{loop-stop, loop-last, loop-turn, each-turn}
 use Rattle.rte_parse.proofs.parser.Parser.entries.Goals as goal
 

@@ -1,8 +1,8 @@
 use Rattle.std.proofs.Common.{◌≡◌, ◌-◌, map}
 use Rattle.rte_tree.specs.Placed.{placed_routine}
 use Rattle.rte_grammar.specs.Words.{ENTRY}
-use Rattle.rte_grammar.specs.ExprReading.{each, is_at}
-use Rattle.rte_grammar.specs.Reading.{entry_decl, entries}
+use Rattle.rte_reading.specs.ExprReading.{each, is_at}
+use Rattle.rte_reading.specs.Reading.{entry_decl, entries}
 use Rattle.rte_parse.specs.Reads.{with_front}
 use Rattle.rte_parse.proofs.parser.Parser.entries.Given as goal
 

@@ -2,7 +2,7 @@ use Rattle.std.proofs.Common.{arith, sym, ◌∙◌}
 use Rattle.std.proofs.lemmas.Grind.{common_steps}
 use Rattle.rte_tree.specs.Placed.{placed_constant}
 use Rattle.rte_grammar.specs.Words.{COMMA}
-use Rattle.rte_grammar.specs.ExprReading.{is_at, behind_comma, constant}
+use Rattle.rte_reading.specs.ExprReading.{is_at, behind_comma, constant}
 use Rattle.rte_parse.proofs.Loops.{loop-stop, loop-last, loop-turn, each-turn}
 use Rattle.rte_parse.proofs.parser.Parser.more_numbers.Goals as goal
 

@@ -1,7 +1,7 @@
 use Rattle.std.proofs.Common.{◌≡◌, ◌-◌, map}
 use Rattle.rte_tree.specs.Placed.{placed_constant}
 use Rattle.rte_grammar.specs.Words.{COMMA}
-use Rattle.rte_grammar.specs.ExprReading.{each, many, is_at, behind_comma, constant}
+use Rattle.rte_reading.specs.ExprReading.{each, many, is_at, behind_comma, constant}
 use Rattle.rte_parse.specs.Reads.{with_front}
 use Rattle.rte_parse.proofs.parser.Parser.more_numbers.Given as goal
 

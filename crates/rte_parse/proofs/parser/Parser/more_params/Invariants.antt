@@ -1,8 +1,8 @@
 use Rattle.std.proofs.Common.{◌≡◌, ◌-◌, map}
 use Rattle.rte_tree.specs.Placed.{placed_param}
 use Rattle.rte_grammar.specs.Words.{COMMA}
-use Rattle.rte_grammar.specs.ExprReading.{each, many, is_at, behind_comma}
-use Rattle.rte_grammar.specs.Reading.{param}
+use Rattle.rte_reading.specs.ExprReading.{each, many, is_at, behind_comma}
+use Rattle.rte_reading.specs.Reading.{param}
 use Rattle.rte_parse.specs.Reads.{with_front}
 use Rattle.rte_parse.proofs.parser.Parser.more_params.Given as goal
 

@@ -1,7 +1,7 @@
 use Rattle.std.proofs.Common.{arith, sym, ◌∙◌}
 use Rattle.std.proofs.lemmas.Grind.{common_steps}
 use Rattle.rte_tree.specs.Placed.{placed_routine}
-use Rattle.rte_grammar.specs.Reading.{begins_routine, routine_decl}
+use Rattle.rte_reading.specs.Reading.{begins_routine, routine_decl}
 use Rattle.rte_parse.proofs.Loops.{loop-stop, loop-last, loop-turn, each-turn}
 use Rattle.rte_parse.proofs.parser.Parser.routines.Goals as goal
 

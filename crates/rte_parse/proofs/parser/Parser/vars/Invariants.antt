@@ -1,8 +1,8 @@
 use Rattle.std.proofs.Common.{◌≡◌, ◌-◌, map}
 use Rattle.rte_tree.specs.Placed.{placed_var}
 use Rattle.rte_grammar.specs.Words.{VAR}
-use Rattle.rte_grammar.specs.ExprReading.{each, is_at}
-use Rattle.rte_grammar.specs.Reading.{var, vars}
+use Rattle.rte_reading.specs.ExprReading.{each, is_at}
+use Rattle.rte_reading.specs.Reading.{var, vars}
 use Rattle.rte_parse.specs.Reads.{with_front}
 use Rattle.rte_parse.proofs.parser.Parser.vars.Given as goal
 

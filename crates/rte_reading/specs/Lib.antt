@@ -1,0 +1,4 @@
+pub mod ExprReading
+pub mod StmtReading
+pub mod Reading
+pub mod TreeWords

@@ -1,0 +1,46 @@
+-- Logs that are no run of their program.
+use Rattle.std.specs.Prelude.{◌≡◌, true, false, is_some, [], ◌∷◌, pos}
+use Rattle.std.proofs.Common.{refl, ap}
+use Rattle.rte_event.specs.declared.event.Act.TheVariants as act
+use Rattle.rte_source_meaning.specs.Ranks.{reached}
+use Rattle.rte_source_meaning.specs.Next.{calls_to}
+use Rattle.rte_source_meaning.specs.Starts.{due}
+use Rattle.rte_source_meaning.specs.Source.{IsSourceRun, first_end}
+use Rattle.rte_source_laws.proofs.Replays.{no_run, other_run}
+use Rattle.rte_source_laws.specs.Example.{at, before_occupant_log, ends_early_log, last_signalled_log, late_signal, one_put, out_of_order_log, overrun_log, raise_inside, release_missing_log, released_twice_log, signal_late_log, time_out_late_log, two_waiters, until}
+
+pub ends_early_is_none : IsSourceRun one_put (until 15) ends_early_log → ⊥
+unfolding due calls_to reached
+ends_early_is_none h = other_run one_put (until 15) ends_early_log (at 0 0 act.Release ∷ at 5 0 (act.Put 0 (pos 7)) ∷ []) refl (λ e. let b : false ≡ true = ap (λ l. is_some (first_end 0 l)) e in absurd cc) h
+
+pub released_twice_is_none : IsSourceRun one_put (until 15) released_twice_log → ⊥
+unfolding due calls_to reached
+released_twice_is_none h = no_run one_put (until 15) released_twice_log refl h
+
+pub release_missing_is_none : IsSourceRun one_put (until 16) release_missing_log → ⊥
+unfolding due calls_to reached
+release_missing_is_none h = no_run one_put (until 16) release_missing_log refl h
+
+pub overrun_is_none : IsSourceRun one_put (until 16) overrun_log → ⊥
+unfolding due calls_to reached
+overrun_is_none h = no_run one_put (until 16) overrun_log refl h
+
+pub time_out_late_is_none : IsSourceRun late_signal (until 100) time_out_late_log → ⊥
+unfolding due calls_to reached
+time_out_late_is_none h = no_run late_signal (until 100) time_out_late_log refl h
+
+pub signal_late_is_none : IsSourceRun late_signal (until 100) signal_late_log → ⊥
+unfolding due calls_to reached
+signal_late_is_none h = no_run late_signal (until 100) signal_late_log refl h
+
+pub before_occupant_is_none : IsSourceRun late_signal (until 100) before_occupant_log → ⊥
+unfolding due calls_to reached
+before_occupant_is_none h = no_run late_signal (until 100) before_occupant_log refl h
+
+pub out_of_order_is_none : IsSourceRun raise_inside (until 50) out_of_order_log → ⊥
+unfolding due calls_to reached
+out_of_order_is_none h = no_run raise_inside (until 50) out_of_order_log refl h
+
+pub last_signalled_is_none : IsSourceRun two_waiters (until 300) last_signalled_log → ⊥
+unfolding due calls_to reached
+last_signalled_is_none h = no_run two_waiters (until 300) last_signalled_log refl h
