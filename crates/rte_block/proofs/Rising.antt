@@ -86,4 +86,4 @@ pub starts_mono : (ts : List Task) (level r s : ℕ) → AreTasks ts → r ≤ s
 starts_mono ts level r s are le = (rises_at ts level r s are le).starts
 
 pub starts_level : (ts : List Task) (level r : ℕ) → level < length ts → starts_in r (take level ts) ≤ starts_in r (take (level + 1) ts)
-starts_level ts level r below = omega (arith, sum_by_more (λ t. div_ceil r t.frame) ts level (record { frame = 0; run = 0; susp = 0; waits = 0; block = 0 }) below)
+starts_level ts level r below = omega (arith, sum_by_more (λ t. div_ceil r t.frame) ts level (record { frame = 0; deadline = 0; run = 0; susp = 0; waits = 0; block = 0 }) below)

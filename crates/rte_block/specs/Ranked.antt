@@ -4,11 +4,11 @@ use Rattle.rte_block.specs.declared.uses.Stay.{Stay}
 use Rattle.rte_block.specs.declared.uses.Use.{Use}
 
 abbrev pub use_at : List Use → ℕ → Use
-use_at us p = slice_index_or us p (record { frame = 0; cost = record { run = 0; susp = 0; waits = 0 }; stays = [] })
+use_at us p = slice_index_or us p (record { frame = 0; deadline = 0; cost = record { run = 0; susp = 0; waits = 0 }; stays = [] })
 
--- p ranks higher than q: its frame is shorter, or as long and p stands first in the text
+-- p ranks higher than q: its deadline is shorter, or as long and p stands first in the text
 abbrev pub outranks : List Use → ℕ → ℕ → Bool
-outranks us p q = nat_lt (use_at us p).frame (use_at us q).frame || ((use_at us p).frame == (use_at us q).frame && nat_lt p q)
+outranks us p q = nat_lt (use_at us p).deadline (use_at us q).deadline || ((use_at us p).deadline == (use_at us q).deadline && nat_lt p q)
 
 -- ranks are 1 .. number of processes, and the process that ranks higher has the smaller number
 pub record AreRanks (us : List Use) (ranks : List ℕ) : Type 0 where

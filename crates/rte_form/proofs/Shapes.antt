@@ -74,11 +74,11 @@ pub nothing_there : {A B : Type 0} (f : A → B) (x : Option A) → optional f x
 nothing_there f None e = refl
 nothing_there f (Some x) e = absurd (cc)
 
-ticks_sound : {P : Type 0} (a : Activation P) (n : ℕ) → ticks_in a ≡ Some n → plain_activation a ≡ plain_of.periodic (plain_of.literal_constant false n) None
-ticks_sound (t.periodic (t.literal_constant p false m q) None) n e = let same : m ≡ n = cc in ap (λ (k : ℕ). plain_of.periodic (plain_of.literal_constant false k) None) same
+ticks_sound : {P : Type 0} (a : Activation P) (n : ℕ) → ticks_in a ≡ Some n → plain_activation a ≡ plain_of.periodic (plain_of.literal_constant false n) None None
+ticks_sound (t.periodic (t.literal_constant p false m q) None) n e = let same : m ≡ n = cc in ap (λ (k : ℕ). plain_of.periodic (plain_of.literal_constant false k) None None) same
 ticks_sound _ n e = absurd (cc)
 
-ticks_complete : {P : Type 0} (a : Activation P) (n : ℕ) → plain_activation a ≡ plain_of.periodic (plain_of.literal_constant false n) None → ticks_in a ≡ Some n
+ticks_complete : {P : Type 0} (a : Activation P) (n : ℕ) → plain_activation a ≡ plain_of.periodic (plain_of.literal_constant false n) None None → ticks_in a ≡ Some n
 ticks_complete (t.periodic (t.literal_constant p false m q) None) n e = let same : m ≡ n = cc in ap Some same
 ticks_complete _ n e = absurd (cc)
 
@@ -94,13 +94,13 @@ abbrev made_process : Name → plain_of.Activation → List plain_of.Var → Lis
 made_process name activation vars routines body handler = record { name = name; activation = activation; vars = vars; routines = routines; body = body; handler = handler }
 
 abbrev plain_puts : Name → ℕ → List Put → plain_of.Process
-plain_puts name n ps = made_process name (plain_of.periodic (plain_of.literal_constant false n) None) [] [] (put_stmts ps) None
+plain_puts name n ps = made_process name (plain_of.periodic (plain_of.literal_constant false n) None None) [] [] (put_stmts ps) None
 
 process_by : {P : Type 0} (name : Name) (a : Activation P) (vars : List (Var P)) (routines : List (Routine P)) (ss : Stmts P) (handler : Option (Handler P)) (n : ℕ) (ps : List Put)
     → frame_by a vars routines handler ≡ Some n → puts_in ss ≡ Some ps
     → made_process name (plain_activation a) (map plain_var vars) (map plain_routine routines) (plain_stmts ss) (optional plain_handler handler) ≡ plain_puts name n ps
 process_by name a [] [] ss None n ps frame puts =
-    ap (λ b. made_process name b [] [] (plain_stmts ss) None) (ticks_sound a n frame) ∙ ap (λ b. made_process name (plain_of.periodic (plain_of.literal_constant false n) None) [] [] b None) (puts_sound ss ps puts)
+    ap (λ b. made_process name b [] [] (plain_stmts ss) None) (ticks_sound a n frame) ∙ ap (λ b. made_process name (plain_of.periodic (plain_of.literal_constant false n) None None) [] [] b None) (puts_sound ss ps puts)
 process_by name a [] [] ss (Some h) n ps frame puts = absurd (cc)
 process_by name a [] (r ∷ rs) ss handler n ps frame puts = absurd (cc)
 process_by name a (v ∷ vs) routines ss handler n ps frame puts = absurd (cc)
@@ -262,7 +262,7 @@ one_program f h e =
     let name : f.name ≡ h.name = ap (λ (g : plain_of.Prog). g.name) e in
     let decls = one_decls (put_process f) (put_process h) f.devices h.devices (ap (λ (g : plain_of.Prog). g.decls) e) in
     let process : f.process ≡ h.process = ap (λ (p : plain_of.Process). p.name) decls.0 in
-    let activation : plain_of.periodic (plain_of.literal_constant false f.frame) None ≡ plain_of.periodic (plain_of.literal_constant false h.frame) None = ap (λ (p : plain_of.Process). p.activation) decls.0 in
+    let activation : plain_of.periodic (plain_of.literal_constant false f.frame) None None ≡ plain_of.periodic (plain_of.literal_constant false h.frame) None None = ap (λ (p : plain_of.Process). p.activation) decls.0 in
     let frame : f.frame ≡ h.frame = cc in
     let puts = one_puts f.puts h.puts (ap (λ (p : plain_of.Process). p.body) decls.0) in
     let same : made_program f.name f.devices f.process f.frame f.puts ≡ made_program h.name h.devices h.process h.frame h.puts = cc (name, decls.1, process, frame, puts) in

@@ -61,14 +61,19 @@ abbrev pub IsMonitor : {P : Type 0} → Monitor P → List (Tok P) → List (Tok
 IsMonitor m =
     a w.MONITOR ▷ at (named m.name) m.place ▷ Each IsMember m.members ▷ Each IsEntry m.entries ▷ a w.END ▷ at (named m.close) m.close_place
 
+-- the deadline of a process, where it is said
+abbrev pub IsDeadline : {P : Type 0} → Option (Constant P) → List (Tok P) → List (Tok P) → Type 0
+IsDeadline None = nothing
+IsDeadline (Some c) = a w.DEADLINE ▷ IsConstant c
+
 -- the first activation of a process, where it is said
 abbrev pub IsFirst : {P : Type 0} → Option (Constant P) → List (Tok P) → List (Tok P) → Type 0
 IsFirst None = nothing
 IsFirst (Some c) = a w.FIRST ▷ a w.ACTIVATION ▷ a w.AT_TIME ▷ IsConstant c
 
 abbrev pub IsActivation : {P : Type 0} → Activation P → List (Tok P) → List (Tok P) → Type 0
-IsActivation (periodic frame first) = a w.PERIODIC ▷ a w.FRAME ▷ IsConstant frame ▷ IsFirst first
-IsActivation (at_event e p frame) = a w.AT_EVENT ▷ at (named e) p ▷ a w.FRAME ▷ IsConstant frame
+IsActivation (periodic frame deadline first) = a w.PERIODIC ▷ a w.FRAME ▷ IsConstant frame ▷ IsDeadline deadline ▷ IsFirst first
+IsActivation (at_event e p frame deadline) = a w.AT_EVENT ▷ at (named e) p ▷ a w.FRAME ▷ IsConstant frame ▷ IsDeadline deadline
 
 abbrev pub IsHandler : {P : Type 0} → Option (Handler P) → List (Tok P) → List (Tok P) → Type 0
 IsHandler None = nothing

@@ -1,5 +1,5 @@
 -- The tokens of a text as words: names with their bytes, literals with their values, keywords and signs.
-use Rattle.std.specs.Prelude.{ℕ, List, map}
+use Rattle.std.specs.Prelude.{ℕ, List, map, codes}
 use Rattle.rte_tree.specs.Plain.{Name}
 use Rattle.rte_tree.specs.declared.place.Place.{Place}
 use Rattle.rte_lex.specs.declared.token.TokenKind.{TokenKind}
@@ -38,6 +38,10 @@ toks_of text toks = map (tok text) toks
 -- the words alone
 abbrev pub words_of : {P : Type 0} → List (Tok P) → List Word
 words_of ts = map (λ t. t.word) ts
+
+-- a name that begins a deadline where one may stand, and no keyword
+abbrev pub DEADLINE : Word
+DEADLINE = named (codes "deadline")
 
 -- ---- the keywords and the signs
 

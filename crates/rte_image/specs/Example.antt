@@ -12,6 +12,7 @@ abbrev pub alone : ℕ → ℕ → ℕ → Segs → Process
 alone frame cost stack body = record {
   kind = 0;
   frame = frame;
+  deadline = frame;
   first = 0;
   event = 0;
   rank = 1;

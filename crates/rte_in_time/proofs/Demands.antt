@@ -18,7 +18,7 @@ asked_total : (ts : List Task) (b r level : ℕ) → level ≤ length ts → ask
 asked_total ts b r zero within = refl
 asked_total ts b r (suc level) within =
     let rest = asked_total ts b r level (omega arith) in
-    let more = sum_by_more (λ t. div_ceil r t.frame * activation b t) ts level (record { frame = 0; run = 0; susp = 0; waits = 0; block = 0 }) (omega arith) in
+    let more = sum_by_more (λ t. div_ceil r t.frame * activation b t) ts level (record { frame = 0; deadline = 0; run = 0; susp = 0; waits = 0; block = 0 }) (omega arith) in
     let e : suc level ≡ level + 1 = omega arith in
     ap (λ k. asked b r (take k ts)) e ∙ more ∙ ap (λ k. k + div_ceil r (task_at ts level).frame * claim b (cost_at ts level)) rest
 
@@ -36,7 +36,7 @@ one_frame r frame low high =
         absurd (omega arith)
 
 pub task_is : (ts : List Task) (level : ℕ) → AreLimited ts → level < length ts → IsTask (task_at ts level)
-task_is ts level are below = are level (record { frame = 0; run = 0; susp = 0; waits = 0; block = 0 }) below
+task_is ts level are below = are level (record { frame = 0; deadline = 0; run = 0; susp = 0; waits = 0; block = 0 }) below
 
 -- a solution covers its level and those above it
 pub solution_covers : (ts : List Task) (level r : ℕ) → AreLimited ts → level < length ts → Solves ts level r → (task_at ts level).block + claims (suc level) (λ j. div_ceil r (task_at ts j).frame) (cost_at ts) (task_at ts level).block ≤ r

@@ -23,6 +23,7 @@ abbrev pub alone : (frame run words stack : ℕ) → Segs → Process
 alone frame run words stack body = record {
   kind = 0;
   frame = frame;
+  deadline = frame;
   first = 0;
   event = 0;
   rank = 1;
@@ -117,6 +118,7 @@ waiter_and_signaller over first = record {
       record {
         kind = 0;
         frame = 200;
+        deadline = 200;
         first = 0;
         event = 0;
         rank = 1;
@@ -137,6 +139,7 @@ waiter_and_signaller over first = record {
       ∷ record {
         kind = 0;
         frame = 300;
+        deadline = 300;
         first = first;
         event = 0;
         rank = 2;
@@ -189,6 +192,7 @@ raiser = record {
       record {
         kind = 0;
         frame = 100;
+        deadline = 100;
         first = 0;
         event = 0;
         rank = 1;
@@ -209,6 +213,7 @@ raiser = record {
       ∷ record {
         kind = 0;
         frame = 200;
+        deadline = 200;
         first = 0;
         event = 0;
         rank = 2;
@@ -246,6 +251,7 @@ raiser_with_handler = record raiser {
       record {
         kind = 0;
         frame = 200;
+        deadline = 200;
         first = 0;
         event = 0;
         rank = 2;
@@ -266,6 +272,7 @@ raiser_with_handler = record raiser {
       ∷ record {
         kind = 0;
         frame = 100;
+        deadline = 100;
         first = 20;
         event = 0;
         rank = 1;
@@ -303,6 +310,7 @@ adders = record {
       record {
         kind = 0;
         frame = 200;
+        deadline = 200;
         first = 0;
         event = 0;
         rank = 3;
@@ -323,6 +331,7 @@ adders = record {
       ∷ record {
         kind = 0;
         frame = 100;
+        deadline = 100;
         first = 12;
         event = 0;
         rank = 2;
@@ -343,6 +352,7 @@ adders = record {
       ∷ record {
         kind = 0;
         frame = 90;
+        deadline = 90;
         first = 14;
         event = 0;
         rank = 1;

@@ -37,6 +37,8 @@ pub record Process : Type 0 where
   -- 0 for a periodic process, released at first, first + frame, first + 2 frames and so on; 1 for one that its event releases
   pub kind : ℕ
   pub frame : ℕ
+  -- an activation has to end within so many ticks, at most the frame
+  pub deadline : ℕ
   pub first : ℕ
   pub event : ℕ
   -- 1 is the highest

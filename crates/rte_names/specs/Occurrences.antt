@@ -174,8 +174,10 @@ abbrev pub monitor_names : Site → Monitor Place → List Occurrence → List O
 monitor_names outer m more = declarations outer.means [] (monitor_scope m) (monitor_inner (inside_monitor m.place (monitor_scope m) outer) m more)
 
 abbrev pub activation_names : Site → Activation Place → List Occurrence → List Occurrence
-activation_names here (periodic frame start) more = constant_names here frame (optional_names (constant_names here) start more)
-activation_names here (at_event name place frame) more = uses here name place want_is.Event ∷ constant_names here frame more
+activation_names here (periodic frame deadline start) more =
+    constant_names here frame (optional_names (constant_names here) deadline (optional_names (constant_names here) start more))
+activation_names here (at_event name place frame deadline) more =
+    uses here name place want_is.Event ∷ constant_names here frame (optional_names (constant_names here) deadline more)
 
 abbrev pub handler_names : Site → Handler Place → List Occurrence → List Occurrence
 handler_names here h more = constants_names here h.numbers (stmts_names here h.body more)

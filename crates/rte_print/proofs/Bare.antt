@@ -136,8 +136,8 @@ first_bare None = refl
 first_bare (Some x) = λ i. w.FIRST ∷ w.ACTIVATION ∷ w.AT_TIME ∷ constant_bare x i
 
 activation_bare : {P : Type 0} (x : Activation P) → c.activation_words (bare_activation x) ≡ c.activation_words x
-activation_bare (periodic frame first) = λ i. w.PERIODIC ∷ w.FRAME ∷ (constant_bare frame i ++ first_bare first i)
-activation_bare (at_event e p frame) = λ i. w.AT_EVENT ∷ named e ∷ w.FRAME ∷ constant_bare frame i
+activation_bare (periodic frame deadline first) = λ i. w.PERIODIC ∷ w.FRAME ∷ (constant_bare frame i ++ first_bare first i)
+activation_bare (at_event e p frame deadline) = λ i. w.AT_EVENT ∷ named e ∷ w.FRAME ∷ constant_bare frame i
 
 handler_bare : {P : Type 0} (x : Option (Handler P)) → c.handler_lines (optional bare_handler x) ≡ c.handler_lines x
 handler_bare None = refl

@@ -179,9 +179,9 @@ module _ {P : Type 0} where
   first-says (Some x) ws = ap (λ v. w.FIRST ∷ w.ACTIVATION ∷ w.AT_TIME ∷ v) (constant-says x ws)
 
   activation-says : (x : Activation P) → Says (c.activation_words x) (g.activation_words x)
-  activation-says (periodic frame first) ws =
+  activation-says (periodic frame deadline first) ws =
       ap (λ v. w.PERIODIC ∷ w.FRAME ∷ v) (after _ _ (c.constant_words frame) (g.constant_words frame) (constant-says frame) (first-says first ws))
-  activation-says (at_event e p frame) ws = ap (λ v. w.AT_EVENT ∷ named e ∷ w.FRAME ∷ v) (constant-says frame ws)
+  activation-says (at_event e p frame deadline) ws = ap (λ v. w.AT_EVENT ∷ named e ∷ w.FRAME ∷ v) (constant-says frame ws)
 
   handler-says : (x : Option (Handler P)) → SaysLines (c.handler_lines x) (g.optional_words g.handler_words x)
   handler-says None rest = refl

@@ -85,10 +85,10 @@ module _ {P Q : Type 0} where
       (λ y. Some y.two.two.two) (λ y os vs t. t) (λ y l. let c_like = l.two.two.two in λ i. Some (c_like i))
 
   activation-moves : (x : Activation P) → Moves {P = P} {Q = Q} {Y = Activation Q} (IsActivation x) IsActivation (λ h. bare_activation h ≡ bare_activation x)
-  activation-moves (periodic frame first) =
+  activation-moves (periodic frame deadline first) =
       made (a-moves w.PERIODIC ⋆ a-moves w.FRAME ⋆ constant-moves frame ⋆ first-moves first)
       (λ y. periodic y.two.two.one y.two.two.two) (λ y os vs t. t) (λ y l. let frame_like = l.two.two.one in let first_like = l.two.two.two in λ i. periodic (frame_like i) (first_like i))
-  activation-moves (at_event e p frame) =
+  activation-moves (at_event e p frame deadline) =
       made (a-moves w.AT_EVENT ⋆ at-moves (named e) p ⋆ a-moves w.FRAME ⋆ constant-moves frame)
       (λ y. at_event e y.two.one y.two.two.two) (λ y os vs t. t) (λ y l. let frame_like = l.two.two.two in λ i. at_event e tt (frame_like i))
 

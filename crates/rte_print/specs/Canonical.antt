@@ -172,14 +172,21 @@ member_lines (condition_member n p) = (w.CONDITION ∷ named n ∷ []) ∷ []
 abbrev pub monitor_lines : {P : Type 0} → Monitor P → List Line
 monitor_lines m = (w.MONITOR ∷ named m.name ∷ []) ∷ (lines_of member_lines m.members ++ (lines_of entry_lines m.entries ++ end_line m.close ∷ []))
 
+-- the deadline, where it is said
+abbrev pub deadline_words : {P : Type 0} → Option (Constant P) → Line
+deadline_words None = []
+deadline_words (Some c) = w.DEADLINE ∷ constant_words c
+
 -- the first activation, where it is said
 abbrev pub first_words : {P : Type 0} → Option (Constant P) → Line
 first_words None = []
 first_words (Some c) = w.FIRST ∷ w.ACTIVATION ∷ w.AT_TIME ∷ constant_words c
 
 abbrev pub activation_words : {P : Type 0} → Activation P → Line
-activation_words (periodic frame first) = w.PERIODIC ∷ w.FRAME ∷ (constant_words frame ++ first_words first)
-activation_words (at_event e p frame) = w.AT_EVENT ∷ named e ∷ w.FRAME ∷ constant_words frame
+activation_words (periodic frame deadline first) =
+    w.PERIODIC ∷ w.FRAME ∷ (constant_words frame ++ (deadline_words deadline ++ first_words first))
+activation_words (at_event e p frame deadline) =
+    w.AT_EVENT ∷ named e ∷ w.FRAME ∷ (constant_words frame ++ deadline_words deadline)
 
 abbrev pub handler_words : {P : Type 0} → List (Constant P) → Line
 handler_words numbers = w.HANDLER ∷ w.LEFT_PAREN ∷ (listed constant_words numbers ++ w.RIGHT_PAREN ∷ [])

@@ -305,7 +305,7 @@ module _ {P : Type 0} where
       (step (constant v2) _ (frame, v3) _ (constant_again frame v2 v3 t3)
       (step (first v3) _ (f, us) _ (first_again f v3 us t4 none)
       refl))))
-  activation_again (at_event n p frame) ts us (v1, (q1, t1), (v2, t2, (v3, (q3, t3), t4))) none =
+  activation_again (at_event n p frame deadline) ts us (v1, (q1, t1), (v2, t2, (v3, (q3, t3), t4))) none =
       if-false (is_at w.PERIODIC ts) _ _ _ (ap (is_at w.PERIODIC) t1) (
       step (expect w.AT_EVENT ts) _ (q1, v1) _ (expect_again w.AT_EVENT q1 ts v1 refl t1)
       (step (name v1) _ ((n, p), v2) _ (name_again (n, p) v1 v2 t2)
@@ -320,7 +320,7 @@ module _ {P : Type 0} where
   activation-shorter : (x : Activation P) → Shorter (IsActivation x)
   activation-shorter (periodic frame f) =
       a-then w.PERIODIC (a w.FRAME ▷ IsConstant frame ▷ IsFirst f) (weak _ (a-then w.FRAME (IsConstant frame ▷ IsFirst f) (then-short (IsConstant frame) (IsFirst f) (weak _ (constant-shorter frame)) (first-short f))))
-  activation-shorter (at_event n p frame) =
+  activation-shorter (at_event n p frame deadline) =
       a-then w.AT_EVENT (at (named n) p ▷ a w.FRAME ▷ IsConstant frame) (weak _ (at-then (named n) p (a w.FRAME ▷ IsConstant frame) (weak _ (a-then w.FRAME (IsConstant frame) (weak _ (constant-shorter frame))))))
 
   pub numbers_again : (xs : List (Constant P)) (ts us : List (Tok P)) → (a w.LEFT_PAREN ▷ Listed IsConstant xs ▷ a w.RIGHT_PAREN) ts us → numbers ts ≡ Ok (xs, us)

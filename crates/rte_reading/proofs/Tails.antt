@@ -187,7 +187,7 @@ module _ {P : Type 0} where
   pub activation-end : (x : Activation P) → Leaves (IsActivation x)
   activation-end (periodic frame f) ts us (v1, t1, (v2, t2, (v3, t3, t4))) =
       a-end w.PERIODIC ts v1 t1 ⨾ a-end w.FRAME v1 v2 t2 ⨾ constant-end frame v2 v3 t3 ⨾ first-end f v3 us t4
-  activation-end (at_event n p frame) ts us (v1, t1, (v2, t2, (v3, t3, t4))) =
+  activation-end (at_event n p frame deadline) ts us (v1, t1, (v2, t2, (v3, t3, t4))) =
       a-end w.AT_EVENT ts v1 t1 ⨾ at-end (named n) p v1 v2 t2 ⨾ a-end w.FRAME v2 v3 t3 ⨾ constant-end frame v3 us t4
 
   handler-end : (x : Option (Handler P)) → Leaves (IsHandler x)

@@ -153,7 +153,7 @@ module _ {P : Type 0} where
 
   activation-words : (x : Activation P) → Has (IsActivation x) (activation_words (bare_activation x))
   activation-words (periodic frame f) ts us (v1, (q1, t1), (v2, (q2, t2), (v3, t3, t4))) = ap words_of t1 ∙ ap (λ x. w.PERIODIC ∷ x) (ap words_of t2 ∙ ap (λ x. w.FRAME ∷ x) (constant-words frame v2 v3 t3 ∙ ap (constant_words (bare_constant frame)) (first-words f v3 us t4)))
-  activation-words (at_event e p frame) ts us (v1, (q1, t1), (v2, t2, (v3, (q3, t3), t4))) = ap words_of t1 ∙ ap (λ x. w.AT_EVENT ∷ x) (ap words_of t2 ∙ ap (λ x. named e ∷ x) (ap words_of t3 ∙ ap (λ x. w.FRAME ∷ x) (constant-words frame v3 us t4)))
+  activation-words (at_event e p frame deadline) ts us (v1, (q1, t1), (v2, t2, (v3, (q3, t3), t4))) = ap words_of t1 ∙ ap (λ x. w.AT_EVENT ∷ x) (ap words_of t2 ∙ ap (λ x. named e ∷ x) (ap words_of t3 ∙ ap (λ x. w.FRAME ∷ x) (constant-words frame v3 us t4)))
 
   handler-words : (x : Option (Handler P)) → Has (IsHandler x) (optional_words handler_words (optional bare_handler x))
   handler-words None ts us took = ap words_of took

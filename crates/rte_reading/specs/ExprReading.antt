@@ -1,5 +1,5 @@
 -- Reading, as functions on lists of tokens: what is read and what follows it, or a fault.
-use Rattle.std.specs.Prelude.{ℕ, zero, suc, ◌==◌, Bool, true, false, ◌&&◌, if◌then◌else◌, List, [], ◌∷◌, length, Result, Ok, Err, Option, Some, None}
+use Rattle.std.specs.Prelude.{ℕ, zero, suc, ◌==◌, bytes_eq, Bool, true, false, ◌&&◌, if◌then◌else◌, List, [], ◌∷◌, length, Result, Ok, Err, Option, Some, None}
 use Rattle.rte_tree.specs.Plain.{Name, Op, or, and, equal, unequal, less, less_equal, greater, greater_equal, add, sub, mul, div, remainder}
 use Rattle.rte_tree.specs.Placed.{Constant, literal_constant, named_constant, Expr, literal, truth, variable, element, call, minus, negation, paren, row, Operands, no_operands, operand, exprs_of}
 use Rattle.rte_grammar.specs.Words as w
@@ -27,10 +27,11 @@ too_deep ts = Err (nesting (length ts))
 
 -- ---- single tokens
 
--- of two keywords or two signs
+-- of two keywords, two signs or two names
 abbrev pub same_word : Word → Word → Bool
 same_word (keyword a) (keyword b) = a == b
 same_word (sign a) (sign b) = a == b
+same_word (named m) (named n) = bytes_eq m n
 same_word _ _ = false
 
 abbrev pub is_at : {P : Type 0} → Word → List (Tok P) → Bool
@@ -58,7 +59,7 @@ abbrev pub is_entry : {P : Type 0} → List (Tok P) → Bool
 is_entry [] = false
 is_entry (t ∷ ts) = is_named t.word && is_at w.DOT ts
 
--- the place of this keyword or sign
+-- the place of this word
 unfoldable pub expect : {P : Type 0} → Word → Parse P P
 expect word [] = refuse []
 expect word (t ∷ ts) = if same_word t.word word then Ok (t.place, ts) else refuse (t ∷ ts)

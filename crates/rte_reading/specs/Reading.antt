@@ -112,6 +112,10 @@ monitor_decl ts =
 
 -- ---- processes
 
+unfoldable pub deadline : {P : Type 0} → Parse P (Option (Constant P))
+deadline ts =
+    if is_at w.DEADLINE ts then (expect w.DEADLINE ts >>= λ c. constant c.1 >>= λ d. Ok (Some d.0, d.1)) else Ok (None, ts)
+
 unfoldable pub first : {P : Type 0} → Parse P (Option (Constant P))
 first ts =
     if is_at w.FIRST ts then
@@ -121,10 +125,11 @@ first ts =
 unfoldable pub activation : {P : Type 0} → Parse P (Activation P)
 activation ts =
     if is_at w.PERIODIC ts then
-    (expect w.PERIODIC ts >>= λ c. expect w.FRAME c.1 >>= λ c. constant c.1 >>= λ frame. first frame.1 >>= λ f. Ok (periodic frame.0 f.0, f.1))
+    (expect w.PERIODIC ts >>= λ c. expect w.FRAME c.1 >>= λ c. constant c.1 >>= λ frame. deadline frame.1 >>= λ d. first d.1 >>= λ f.
+    Ok (periodic frame.0 d.0 f.0, f.1))
     else
-    (expect w.AT_EVENT ts >>= λ c. name c.1 >>= λ n. expect w.FRAME n.1 >>= λ c. constant c.1 >>= λ frame.
-    Ok (at_event n.0.0 n.0.1 frame.0, frame.1))
+    (expect w.AT_EVENT ts >>= λ c. name c.1 >>= λ n. expect w.FRAME n.1 >>= λ c. constant c.1 >>= λ frame. deadline frame.1 >>= λ d.
+    Ok (at_event n.0.0 n.0.1 frame.0 d.0, d.1))
 
 unfoldable pub numbers : {P : Type 0} → Parse P (List (Constant P))
 numbers ts = expect w.LEFT_PAREN ts >>= λ c. listed constant c.1 >>= λ ns. expect w.RIGHT_PAREN ns.1 >>= λ c. Ok (ns.0, c.1)

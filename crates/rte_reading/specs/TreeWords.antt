@@ -116,12 +116,17 @@ entry_words r ws = w.ENTRY ∷ routine_words r ws
 abbrev pub monitor_words : {P : Type 0} → Monitor P → List Word → List Word
 monitor_words m ws = w.MONITOR ∷ named m.name ∷ each_words member_words m.members (each_words entry_words m.entries (w.END ∷ named m.close ∷ ws))
 
+abbrev pub deadline_words : {P : Type 0} → Constant P → List Word → List Word
+deadline_words c ws = w.DEADLINE ∷ constant_words c ws
+
 abbrev pub first_words : {P : Type 0} → Constant P → List Word → List Word
 first_words c ws = w.FIRST ∷ w.ACTIVATION ∷ w.AT_TIME ∷ constant_words c ws
 
 abbrev pub activation_words : {P : Type 0} → Activation P → List Word → List Word
-activation_words (periodic frame first) ws = w.PERIODIC ∷ w.FRAME ∷ constant_words frame (optional_words first_words first ws)
-activation_words (at_event e p frame) ws = w.AT_EVENT ∷ named e ∷ w.FRAME ∷ constant_words frame ws
+activation_words (periodic frame deadline first) ws =
+    w.PERIODIC ∷ w.FRAME ∷ constant_words frame (optional_words deadline_words deadline (optional_words first_words first ws))
+activation_words (at_event e p frame deadline) ws =
+    w.AT_EVENT ∷ named e ∷ w.FRAME ∷ constant_words frame (optional_words deadline_words deadline ws)
 
 abbrev pub handler_words : {P : Type 0} → Handler P → List Word → List Word
 handler_words h ws = w.HANDLER ∷ w.LEFT_PAREN ∷ listed_words constant_words h.numbers (w.RIGHT_PAREN ∷ stmts_words h.body ws)

@@ -42,7 +42,7 @@ demand_of-capped own ts r =
     (asked-capped own.block r ts)
 
 task_at-capped : (ts : List Task) (level : ℕ) → task_at (map capped ts) level ≡ capped (task_at ts level)
-task_at-capped ts level = get_or-map capped ts level (record { frame = 0; run = 0; susp = 0; waits = 0; block = 0 })
+task_at-capped ts level = get_or-map capped ts level (record { frame = 0; deadline = 0; run = 0; susp = 0; waits = 0; block = 0 })
 
 pub demand-capped : (ts : List Task) (level r : ℕ) → demand_at (map capped ts) level r ≡ demand_at ts level r
 unfolding demand_at

@@ -7,10 +7,11 @@ use Rattle.rte_response.specs.declared.tasks.Task.{Task}
 
 -- the task of a level; levels count from 0, and 0 is the highest rank
 abbrev pub task_at : List Task → ℕ → Task
-task_at ts level = slice_index_or ts level (record { frame = 0; run = 0; susp = 0; waits = 0; block = 0 })
+task_at ts level = slice_index_or ts level (record { frame = 0; deadline = 0; run = 0; susp = 0; waits = 0; block = 0 })
 
-abbrev pub frame_at : List Task → ℕ → ℕ
-frame_at ts level = (task_at ts level).frame
+-- an activation has to end within so many ticks
+abbrev pub deadline_at : List Task → ℕ → ℕ
+deadline_at ts level = (task_at ts level).deadline
 
 -- one activation, where each wait is followed by a blocking of b
 abbrev pub activation : ℕ → Task → ℕ
@@ -41,27 +42,29 @@ demand_at ts level r = demand_of (task_at ts level) (take level ts) r
 
 -- the task with its costs and its block capped
 abbrev pub capped : Task → Task
-capped t = record { frame = t.frame; run = cap t.run; susp = cap t.susp; waits = cap t.waits; block = cap t.block }
+capped t = record { frame = t.frame; deadline = t.deadline; run = cap t.run; susp = cap t.susp; waits = cap t.waits; block = cap t.block }
 
 pub record IsTask (t : Task) : Type 0 where
   pub frame_low : 10 ≤ t.frame
   pub frame_high : t.frame ≤ 1000000000
+  pub deadline_low : 10 ≤ t.deadline
+  pub deadline_high : t.deadline ≤ t.frame
   pub run : t.run ≤ 1000000001
   pub susp : t.susp ≤ 1000000001
   pub waits : t.waits ≤ 1000000001
   pub block : t.block ≤ 1000000001
 
--- 1 to 64 tasks in the order of their ranks, where no frame is above a later one
+-- 1 to 64 tasks in the order of their ranks, where no deadline is above a later one
 pub record AreTasks (ts : List Task) : Type 0 where
-  pub ascending : IsNonDecreasingBy (λ t. t.frame) ts
+  pub ascending : IsNonDecreasingBy (λ t. t.deadline) ts
   pub some : 0 < length ts
   pub few : length ts ≤ 64
   pub each : All IsTask ts
 
--- r is in the frame and meets the recurrence
+-- r is within the deadline and meets the recurrence
 pub record Solves (ts : List Task) (level r : ℕ) : Type 0 where
   pub above : 1 ≤ r
-  pub within : r ≤ frame_at ts level
+  pub within : r ≤ deadline_at ts level
   pub met : demand_at ts level r ≤ r
 
 -- r is the least response that meets it

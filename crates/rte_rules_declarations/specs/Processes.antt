@@ -1,5 +1,5 @@
 -- The rules for frames, events and the numbers of handlers.
-use Rattle.std.specs.Prelude.{ℕ, suc, Bool, false, ◌||◌, List, [], ◌∷◌, ◌++◌, Option, Some, None, ℤ, nat_eq, if◌then◌else◌}
+use Rattle.std.specs.Prelude.{ℕ, suc, Bool, false, ◌||◌, ◌&&◌, int_le, pos, List, [], ◌∷◌, ◌++◌, Option, Some, None, ℤ, nat_eq, if◌then◌else◌}
 use Rattle.rte_num.specs.Words.{same}
 use Rattle.rte_tree.specs.Placed.{Constant, Activation, periodic, at_event, Handler, Process, Decl, constant, device, event, routine, monitor, process}
 use Rattle.rte_tree.specs.declared.place.Place.{Place}
@@ -18,15 +18,27 @@ processes (process p ∷ ds) = p ∷ processes ds
 -- ---- frames
 
 abbrev pub frame_of : Activation Place → Constant Place
-frame_of (periodic frame start) = frame
-frame_of (at_event name q frame) = frame
+frame_of (periodic frame deadline start) = frame
+frame_of (at_event name q frame deadline) = frame
 
 -- a frame is outside 10 .. 1,000,000,000
 abbrev pub bad_frame : Worth → Process Place → Option Place
 bad_frame worth p = out_of worth 10 1000000000 (frame_of p.activation)
 
+abbrev pub deadline_of : Activation Place → Option (Constant Place)
+deadline_of (periodic frame deadline start) = deadline
+deadline_of (at_event name q frame deadline) = deadline
+
+abbrev pub bad_limit : Worth → Constant Place → Option (Constant Place) → Option Place
+bad_limit worth frame None = None
+bad_limit worth frame (Some d) = if int_le (pos 10) (worth d) && int_le (worth d) (worth frame) then None else Some (constant_place d)
+
+-- a deadline is below 10 or above its frame
+abbrev pub bad_deadline : Worth → Process Place → Option Place
+bad_deadline worth p = bad_limit worth (frame_of p.activation) (deadline_of p.activation)
+
 abbrev pub bad_start : Worth → Activation Place → Option Place
-bad_start worth (periodic frame (Some start)) = out_of worth 0 1000000000 start
+bad_start worth (periodic frame deadline (Some start)) = out_of worth 0 1000000000 start
 bad_start worth _ = None
 
 -- a first activation is outside 0 .. 1,000,000,000
@@ -51,8 +63,8 @@ is_at place (Some p) = same_place p place
 
 -- the process is activated by the event whose name is declared at the place
 abbrev pub is_activated_by : (Place → Option Place) → Place → Activation Place → Bool
-is_activated_by declared e (periodic frame start) = false
-is_activated_by declared e (at_event name q frame) = is_at e (declared q)
+is_activated_by declared e (periodic frame deadline start) = false
+is_activated_by declared e (at_event name q frame deadline) = is_at e (declared q)
 
 -- how many of the processes are activated by the event
 abbrev pub users : (Place → Option Place) → Place → List (Process Place) → ℕ

@@ -7,7 +7,7 @@ use Rattle.rte_rules.specs.Parts.{Rule, FailsAmong}
 use Rattle.rte_names.specs.Occurrences.{names, declared_at}
 use Rattle.rte_declarations.specs.Values.{value}
 use Rattle.rte_rules_declarations.specs.Types.{Bounds, decls_bounds, crossed, too_long}
-use Rattle.rte_rules_declarations.specs.Processes.{processes, bad_frame, bad_first, events, misused_event, Handled, all_handled, bad_handled, repeated}
+use Rattle.rte_rules_declarations.specs.Processes.{processes, bad_frame, bad_deadline, bad_first, events, misused_event, Handled, all_handled, bad_handled, repeated}
 use Rattle.rte_rules_declarations.specs.Counts.{process_places, monitors, monitor_places, devices, conditions, routines, one_too_many, no_process, too_many_words}
 
 abbrev pub bounds_rules : Prog Place → List (Rule Bounds)
@@ -19,6 +19,7 @@ bounds_rules g =
 abbrev pub process_rules : Prog Place → List (Rule (Process Place))
 process_rules g =
     record { number = 36; fails = bad_frame (value g) }
+    ∷ record { number = 36; fails = bad_deadline (value g) }
     ∷ record { number = 36; fails = bad_first (value g) }
     ∷ []
 

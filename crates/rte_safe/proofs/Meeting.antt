@@ -174,6 +174,7 @@ processes_fit over zero p at =
     let is : record {
       kind = 0;
       frame = 200;
+      deadline = 200;
       first = 0;
       event = 0;
       rank = 1;
@@ -241,6 +242,7 @@ processes_fit over (suc zero) p at =
     let is : record {
       kind = 0;
       frame = 300;
+      deadline = 300;
       first = 31;
       event = 0;
       rank = 2;

@@ -38,6 +38,7 @@ abbrev pub looping_process : Process
 looping_process = record {
   kind = 0;
   frame = 200;
+  deadline = 200;
   first = 0;
   event = 0;
   rank = 1;

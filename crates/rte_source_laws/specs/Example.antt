@@ -15,7 +15,7 @@ one_put = record {
   name = codes "a";
   decls =
       device (codes "valve") true
-      ∷ process (record { name = codes "p"; activation = periodic (literal_constant false 15) None; vars = []; routines = []; body = (stmts (put (codes "valve") (literal 7)) no_stmts); handler = None })
+      ∷ process (record { name = codes "p"; activation = periodic (literal_constant false 15) None None; vars = []; routines = []; body = (stmts (put (codes "valve") (literal 7)) no_stmts); handler = None })
       ∷ [];
 }
 
@@ -36,9 +36,9 @@ three_ranks = record {
   decls =
       device (codes "a") true
       ∷ monitor (record { name = codes "m"; members = (variable_member (record { name = codes "n"; kind = scalar int }) ∷ []); entries = (record { name = codes "e"; params = []; vars = []; body = (stmts (assign (whole (codes "n")) (row (variable (codes "n")) (operand add (literal 1) no_operands))) no_stmts); answers = None } ∷ []) })
-      ∷ process (record { name = codes "l"; activation = periodic (literal_constant false 200) None; vars = []; routines = []; body = (stmts (perform_entry (codes "m") (codes "e") no_exprs) no_stmts); handler = None })
-      ∷ process (record { name = codes "u"; activation = periodic (literal_constant false 100) (Some (literal_constant false 12)); vars = []; routines = []; body = (stmts (perform_entry (codes "m") (codes "e") no_exprs) no_stmts); handler = None })
-      ∷ process (record { name = codes "h"; activation = periodic (literal_constant false 90) (Some (literal_constant false 14)); vars = []; routines = []; body = (stmts (put (codes "a") (literal 1)) no_stmts); handler = None })
+      ∷ process (record { name = codes "l"; activation = periodic (literal_constant false 200) None None; vars = []; routines = []; body = (stmts (perform_entry (codes "m") (codes "e") no_exprs) no_stmts); handler = None })
+      ∷ process (record { name = codes "u"; activation = periodic (literal_constant false 100) None (Some (literal_constant false 12)); vars = []; routines = []; body = (stmts (perform_entry (codes "m") (codes "e") no_exprs) no_stmts); handler = None })
+      ∷ process (record { name = codes "h"; activation = periodic (literal_constant false 90) None (Some (literal_constant false 14)); vars = []; routines = []; body = (stmts (put (codes "a") (literal 1)) no_stmts); handler = None })
       ∷ [];
 }
 
@@ -67,8 +67,8 @@ signalled_wait = record {
   decls =
       device (codes "a") true
       ∷ monitor (record { name = codes "m"; members = (condition_member (codes "c") ∷ []); entries = (record { name = codes "w"; params = []; vars = []; body = (stmts (wait (codes "c") (literal_constant false 30) (literal_constant false 10)) no_stmts); answers = None } ∷ record { name = codes "s"; params = []; vars = []; body = (stmts (signal (codes "c")) no_stmts); answers = None } ∷ []) })
-      ∷ process (record { name = codes "p"; activation = periodic (literal_constant false 200) None; vars = []; routines = []; body = (stmts (perform_entry (codes "m") (codes "w") no_exprs) no_stmts); handler = Some (record { numbers = ((literal_constant false 10) ∷ []); body = (stmts (put (codes "a") (literal 1)) no_stmts) }) })
-      ∷ process (record { name = codes "q"; activation = periodic (literal_constant false 300) (Some (literal_constant false 31)); vars = []; routines = []; body = (stmts (perform_entry (codes "m") (codes "s") no_exprs) no_stmts); handler = None })
+      ∷ process (record { name = codes "p"; activation = periodic (literal_constant false 200) None None; vars = []; routines = []; body = (stmts (perform_entry (codes "m") (codes "w") no_exprs) no_stmts); handler = Some (record { numbers = ((literal_constant false 10) ∷ []); body = (stmts (put (codes "a") (literal 1)) no_stmts) }) })
+      ∷ process (record { name = codes "q"; activation = periodic (literal_constant false 300) None (Some (literal_constant false 31)); vars = []; routines = []; body = (stmts (perform_entry (codes "m") (codes "s") no_exprs) no_stmts); handler = None })
       ∷ [];
 }
 
@@ -97,8 +97,8 @@ late_signal = record {
   decls =
       device (codes "a") true
       ∷ monitor (record { name = codes "m"; members = (condition_member (codes "c") ∷ []); entries = (record { name = codes "w"; params = []; vars = []; body = (stmts (wait (codes "c") (literal_constant false 30) (literal_constant false 10)) no_stmts); answers = None } ∷ record { name = codes "s"; params = []; vars = []; body = (stmts (signal (codes "c")) no_stmts); answers = None } ∷ []) })
-      ∷ process (record { name = codes "p"; activation = periodic (literal_constant false 200) None; vars = []; routines = []; body = (stmts (perform_entry (codes "m") (codes "w") no_exprs) no_stmts); handler = Some (record { numbers = ((literal_constant false 10) ∷ []); body = (stmts (put (codes "a") (literal 1)) no_stmts) }) })
-      ∷ process (record { name = codes "q"; activation = periodic (literal_constant false 300) (Some (literal_constant false 32)); vars = []; routines = []; body = (stmts (perform_entry (codes "m") (codes "s") no_exprs) no_stmts); handler = None })
+      ∷ process (record { name = codes "p"; activation = periodic (literal_constant false 200) None None; vars = []; routines = []; body = (stmts (perform_entry (codes "m") (codes "w") no_exprs) no_stmts); handler = Some (record { numbers = ((literal_constant false 10) ∷ []); body = (stmts (put (codes "a") (literal 1)) no_stmts) }) })
+      ∷ process (record { name = codes "q"; activation = periodic (literal_constant false 300) None (Some (literal_constant false 32)); vars = []; routines = []; body = (stmts (perform_entry (codes "m") (codes "s") no_exprs) no_stmts); handler = None })
       ∷ [];
 }
 
@@ -126,8 +126,8 @@ raise_inside = record {
   name = codes "a";
   decls =
       monitor (record { name = codes "m"; members = []; entries = (record { name = codes "r"; params = []; vars = []; body = (stmts (except (literal_constant false 12)) no_stmts); answers = None } ∷ record { name = codes "e"; params = []; vars = []; body = no_stmts; answers = None } ∷ []) })
-      ∷ process (record { name = codes "p"; activation = periodic (literal_constant false 100) None; vars = []; routines = []; body = (stmts (perform_entry (codes "m") (codes "r") no_exprs) no_stmts); handler = None })
-      ∷ process (record { name = codes "q"; activation = periodic (literal_constant false 200) None; vars = []; routines = []; body = (stmts (perform_entry (codes "m") (codes "e") no_exprs) no_stmts); handler = None })
+      ∷ process (record { name = codes "p"; activation = periodic (literal_constant false 100) None None; vars = []; routines = []; body = (stmts (perform_entry (codes "m") (codes "r") no_exprs) no_stmts); handler = None })
+      ∷ process (record { name = codes "q"; activation = periodic (literal_constant false 200) None None; vars = []; routines = []; body = (stmts (perform_entry (codes "m") (codes "e") no_exprs) no_stmts); handler = None })
       ∷ [];
 }
 
@@ -152,7 +152,7 @@ handled_range = record {
   name = codes "b";
   decls =
       device (codes "a") true
-      ∷ process (record { name = codes "p"; activation = periodic (literal_constant false 30) None; vars = (record { name = codes "x"; kind = scalar (subrange (literal_constant false 0) (literal_constant false 9)) } ∷ []); routines = []; body = (stmts (assign (whole (codes "x")) (literal 10)) no_stmts); handler = Some (record { numbers = ((literal_constant false 3) ∷ []); body = (stmts (put (codes "a") (literal 1)) no_stmts) }) })
+      ∷ process (record { name = codes "p"; activation = periodic (literal_constant false 30) None None; vars = (record { name = codes "x"; kind = scalar (subrange (literal_constant false 0) (literal_constant false 9)) } ∷ []); routines = []; body = (stmts (assign (whole (codes "x")) (literal 10)) no_stmts); handler = Some (record { numbers = ((literal_constant false 3) ∷ []); body = (stmts (put (codes "a") (literal 1)) no_stmts) }) })
       ∷ [];
 }
 
@@ -172,7 +172,7 @@ abbrev pub overflow : Prog
 overflow = record {
   name = codes "a";
   decls =
-      process (record { name = codes "p"; activation = periodic (literal_constant false 10) None; vars = (record { name = codes "x"; kind = scalar int } ∷ []); routines = []; body = (stmts (assign (whole (codes "x")) (row (literal 2147483647) (operand add (literal 1) no_operands))) no_stmts); handler = None })
+      process (record { name = codes "p"; activation = periodic (literal_constant false 10) None None; vars = (record { name = codes "x"; kind = scalar int } ∷ []); routines = []; body = (stmts (assign (whole (codes "x")) (row (literal 2147483647) (operand add (literal 1) no_operands))) no_stmts); handler = None })
       ∷ [];
 }
 
@@ -191,7 +191,7 @@ abbrev pub least_word : Prog
 least_word = record {
   name = codes "a";
   decls =
-      process (record { name = codes "p"; activation = periodic (literal_constant false 30) None; vars = (record { name = codes "x"; kind = scalar int } ∷ []); routines = []; body = (stmts (assign (whole (codes "x")) (row (paren (row (minus (literal 2147483647)) (operand sub (literal 1) no_operands))) (operand div (paren (minus (literal 1))) no_operands))) no_stmts); handler = None })
+      process (record { name = codes "p"; activation = periodic (literal_constant false 30) None None; vars = (record { name = codes "x"; kind = scalar int } ∷ []); routines = []; body = (stmts (assign (whole (codes "x")) (row (paren (row (minus (literal 2147483647)) (operand sub (literal 1) no_operands))) (operand div (paren (minus (literal 1))) no_operands))) no_stmts); handler = None })
       ∷ [];
 }
 
@@ -212,7 +212,7 @@ by_event = record {
   decls =
       device (codes "valve") true
       ∷ event (codes "e")
-      ∷ process (record { name = codes "p"; activation = at_event (codes "e") (literal_constant false 15); vars = []; routines = []; body = (stmts (put (codes "valve") (literal 7)) no_stmts); handler = None })
+      ∷ process (record { name = codes "p"; activation = at_event (codes "e") (literal_constant false 15) None; vars = []; routines = []; body = (stmts (put (codes "valve") (literal 7)) no_stmts); handler = None })
       ∷ [];
 }
 
@@ -239,7 +239,7 @@ loop_and_function = record {
       ∷ device (codes "out1") true
       ∷ routine (record { name = codes "upto"; params = (record { name = codes "n"; kind = (subrange (literal_constant false 0) (literal_constant false 10)) } ∷ []); vars = (record { name = codes "s"; kind = scalar int } ∷ []); body = (stmts (loop (codes "i") (literal_constant false 1) (literal_constant false 100) (stmts (exit_when (row (variable (codes "i")) (operand greater (variable (codes "n")) no_operands))) (stmts (assign (whole (codes "s")) (row (variable (codes "s")) (operand add (variable (codes "i")) no_operands))) no_stmts))) no_stmts); answers = Some (record { kind = int; value = (variable (codes "s")) }) })
       ∷ routine (record { name = codes "show"; params = (record { name = codes "v"; kind = int } ∷ []); vars = []; body = (stmts (put (codes "out1") (variable (codes "v"))) (stmts (put (codes "out1") (minus (variable (codes "v")))) no_stmts)); answers = None })
-      ∷ process (record { name = codes "p"; activation = periodic (literal_constant false 1000) None; vars = (record { name = codes "t"; kind = array (literal_constant false 1) (named_constant false (codes "last")) (subrange (literal_constant false 0) (literal_constant false 50)) } ∷ record { name = codes "b"; kind = scalar boolean } ∷ []); routines = (record { name = codes "top"; params = []; vars = []; body = no_stmts; answers = Some (record { kind = int; value = (row (element (codes "t") (variable (codes "last"))) (operand add (call (codes "upto") (exprs (literal 2) no_exprs)) no_operands)) }) } ∷ []); body = (stmts (get (codes "in1") (part (codes "t") (literal 2))) (stmts (loop (codes "k") (literal_constant false 1) (literal_constant false 2) (stmts (perform (codes "show") (exprs (row (call (codes "upto") (exprs (row (variable (codes "k")) (operand add (literal 1) no_operands)) no_exprs)) (operand add (element (codes "t") (variable (codes "k"))) no_operands)) no_exprs)) no_stmts)) (stmts (assign (part (codes "t") (variable (codes "last"))) (row (call (codes "top") no_exprs) (operand mul (literal 2) no_operands))) (stmts (assert (row (row (element (codes "t") (literal 4)) (operand equal (literal 6) no_operands)) (operand and (negation (variable (codes "b"))) no_operands))) (stmts (assign (part (codes "t") (row (call (codes "upto") (exprs (literal 1) no_exprs)) (operand add (literal 4) no_operands))) (literal 1)) (stmts (put (codes "out1") (literal 99)) no_stmts)))))); handler = Some (record { numbers = ((literal_constant false 3) ∷ (literal_constant false 4) ∷ []); body = (stmts (put (codes "out1") (call (codes "top") no_exprs)) (stmts (except (literal_constant false 3)) no_stmts)) }) })
+      ∷ process (record { name = codes "p"; activation = periodic (literal_constant false 1000) None None; vars = (record { name = codes "t"; kind = array (literal_constant false 1) (named_constant false (codes "last")) (subrange (literal_constant false 0) (literal_constant false 50)) } ∷ record { name = codes "b"; kind = scalar boolean } ∷ []); routines = (record { name = codes "top"; params = []; vars = []; body = no_stmts; answers = Some (record { kind = int; value = (row (element (codes "t") (variable (codes "last"))) (operand add (call (codes "upto") (exprs (literal 2) no_exprs)) no_operands)) }) } ∷ []); body = (stmts (get (codes "in1") (part (codes "t") (literal 2))) (stmts (loop (codes "k") (literal_constant false 1) (literal_constant false 2) (stmts (perform (codes "show") (exprs (row (call (codes "upto") (exprs (row (variable (codes "k")) (operand add (literal 1) no_operands)) no_exprs)) (operand add (element (codes "t") (variable (codes "k"))) no_operands)) no_exprs)) no_stmts)) (stmts (assign (part (codes "t") (variable (codes "last"))) (row (call (codes "top") no_exprs) (operand mul (literal 2) no_operands))) (stmts (assert (row (row (element (codes "t") (literal 4)) (operand equal (literal 6) no_operands)) (operand and (negation (variable (codes "b"))) no_operands))) (stmts (assign (part (codes "t") (row (call (codes "upto") (exprs (literal 1) no_exprs)) (operand add (literal 4) no_operands))) (literal 1)) (stmts (put (codes "out1") (literal 99)) no_stmts)))))); handler = Some (record { numbers = ((literal_constant false 3) ∷ (literal_constant false 4) ∷ []); body = (stmts (put (codes "out1") (call (codes "top") no_exprs)) (stmts (except (literal_constant false 3)) no_stmts)) }) })
       ∷ [];
 }
 
@@ -274,12 +274,12 @@ mine = record {
       ∷ event (codes "high")
       ∷ monitor (record { name = codes "motor"; members = (variable_member (record { name = codes "on"; kind = scalar boolean }) ∷ variable_member (record { name = codes "safe"; kind = scalar boolean }) ∷ []); entries = (record { name = codes "gas"; params = (record { name = codes "ok"; kind = boolean } ∷ []); vars = []; body = (stmts (assign (whole (codes "safe")) (variable (codes "ok"))) (stmts (when (negation (variable (codes "ok"))) (stmts (assign (whole (codes "on")) (truth false)) (stmts (put (codes "pump") (literal 0)) no_stmts))) no_stmts)); answers = None } ∷ record { name = codes "start"; params = []; vars = []; body = (stmts (when (variable (codes "safe")) (stmts (assign (whole (codes "on")) (truth true)) (stmts (put (codes "pump") (literal 1)) no_stmts))) no_stmts); answers = Some (record { kind = boolean; value = (variable (codes "on")) }) } ∷ []) })
       ∷ monitor (record { name = codes "box"; members = (variable_member (record { name = codes "last"; kind = scalar (subrange (literal_constant false 0) (literal_constant false 1000)) }) ∷ condition_member (codes "fresh") ∷ []); entries = (record { name = codes "store"; params = (record { name = codes "v"; kind = (subrange (literal_constant false 0) (literal_constant false 1000)) } ∷ []); vars = []; body = (stmts (assign (whole (codes "last")) (variable (codes "v"))) (stmts (broadcast (codes "fresh")) no_stmts)); answers = None } ∷ record { name = codes "fetch"; params = []; vars = []; body = (stmts (wait (codes "fresh") (literal_constant false 900) (literal_constant false 20)) no_stmts); answers = Some (record { kind = int; value = (variable (codes "last")) }) } ∷ []) })
-      ∷ process (record { name = codes "gasWatch"; activation = periodic (literal_constant false 800) None; vars = (record { name = codes "m"; kind = scalar (subrange (literal_constant false 0) (literal_constant false 1000)) } ∷ []); routines = []; body = (stmts (get (codes "methane") (whole (codes "m"))) (stmts (perform_entry (codes "motor") (codes "gas") (exprs (row (variable (codes "m")) (operand less (literal 100) no_operands)) no_exprs)) (stmts (perform_entry (codes "box") (codes "store") (exprs (variable (codes "m")) no_exprs)) no_stmts))); handler = Some (record { numbers = ((literal_constant false 3) ∷ []); body = (stmts (perform_entry (codes "motor") (codes "gas") (exprs (truth false) no_exprs)) (stmts (put (codes "alarm") (literal 1)) no_stmts)) }) })
-      ∷ process (record { name = codes "airWatch"; activation = periodic (literal_constant false 1000) None; vars = (record { name = codes "a"; kind = scalar int } ∷ []); routines = []; body = (stmts (get (codes "air") (whole (codes "a"))) (stmts (when (row (variable (codes "a")) (operand less (literal 20) no_operands)) (stmts (put (codes "alarm") (literal 2)) no_stmts)) no_stmts)); handler = None })
-      ∷ process (record { name = codes "flow"; activation = at_event (codes "high") (literal_constant false 2000); vars = (record { name = codes "b"; kind = scalar boolean } ∷ []); routines = []; body = (stmts (assign_entry (whole (codes "b")) (codes "motor") (codes "start") no_exprs) (stmts (when (negation (variable (codes "b"))) (stmts (put (codes "alarm") (literal 3)) no_stmts)) no_stmts)); handler = None })
-      ∷ process (record { name = codes "shower"; activation = periodic (literal_constant false 3000) None; vars = (record { name = codes "n"; kind = scalar int } ∷ []); routines = []; body = (stmts (assign_entry (whole (codes "n")) (codes "box") (codes "fetch") no_exprs) (stmts (put (codes "panel") (variable (codes "n"))) no_stmts)); handler = Some (record { numbers = ((literal_constant false 20) ∷ []); body = (stmts (put (codes "alarm") (literal 4)) no_stmts) }) })
-      ∷ process (record { name = codes "tally"; activation = periodic (literal_constant false 10000) None; vars = (record { name = codes "t"; kind = array (literal_constant false 0) (literal_constant false 9) int } ∷ record { name = codes "s"; kind = scalar int } ∷ []); routines = []; body = (stmts (get (codes "level") (whole (codes "s"))) (stmts (loop (codes "i") (literal_constant false 0) (literal_constant false 9) (stmts (assign (part (codes "t") (variable (codes "i"))) (row (element (codes "t") (variable (codes "i"))) (operand add (variable (codes "s")) no_operands))) no_stmts)) no_stmts)); handler = None })
-      ∷ process (record { name = codes "selfTest"; activation = periodic (literal_constant false 60000) None; vars = []; routines = []; body = (stmts (perform_entry (codes "box") (codes "store") (exprs (literal 0) no_exprs)) (stmts (put (codes "panel") (literal 0)) no_stmts)); handler = None })
+      ∷ process (record { name = codes "gasWatch"; activation = periodic (literal_constant false 800) None None; vars = (record { name = codes "m"; kind = scalar (subrange (literal_constant false 0) (literal_constant false 1000)) } ∷ []); routines = []; body = (stmts (get (codes "methane") (whole (codes "m"))) (stmts (perform_entry (codes "motor") (codes "gas") (exprs (row (variable (codes "m")) (operand less (literal 100) no_operands)) no_exprs)) (stmts (perform_entry (codes "box") (codes "store") (exprs (variable (codes "m")) no_exprs)) no_stmts))); handler = Some (record { numbers = ((literal_constant false 3) ∷ []); body = (stmts (perform_entry (codes "motor") (codes "gas") (exprs (truth false) no_exprs)) (stmts (put (codes "alarm") (literal 1)) no_stmts)) }) })
+      ∷ process (record { name = codes "airWatch"; activation = periodic (literal_constant false 1000) None None; vars = (record { name = codes "a"; kind = scalar int } ∷ []); routines = []; body = (stmts (get (codes "air") (whole (codes "a"))) (stmts (when (row (variable (codes "a")) (operand less (literal 20) no_operands)) (stmts (put (codes "alarm") (literal 2)) no_stmts)) no_stmts)); handler = None })
+      ∷ process (record { name = codes "flow"; activation = at_event (codes "high") (literal_constant false 2000) None; vars = (record { name = codes "b"; kind = scalar boolean } ∷ []); routines = []; body = (stmts (assign_entry (whole (codes "b")) (codes "motor") (codes "start") no_exprs) (stmts (when (negation (variable (codes "b"))) (stmts (put (codes "alarm") (literal 3)) no_stmts)) no_stmts)); handler = None })
+      ∷ process (record { name = codes "shower"; activation = periodic (literal_constant false 3000) None None; vars = (record { name = codes "n"; kind = scalar int } ∷ []); routines = []; body = (stmts (assign_entry (whole (codes "n")) (codes "box") (codes "fetch") no_exprs) (stmts (put (codes "panel") (variable (codes "n"))) no_stmts)); handler = Some (record { numbers = ((literal_constant false 20) ∷ []); body = (stmts (put (codes "alarm") (literal 4)) no_stmts) }) })
+      ∷ process (record { name = codes "tally"; activation = periodic (literal_constant false 10000) None None; vars = (record { name = codes "t"; kind = array (literal_constant false 0) (literal_constant false 9) int } ∷ record { name = codes "s"; kind = scalar int } ∷ []); routines = []; body = (stmts (get (codes "level") (whole (codes "s"))) (stmts (loop (codes "i") (literal_constant false 0) (literal_constant false 9) (stmts (assign (part (codes "t") (variable (codes "i"))) (row (element (codes "t") (variable (codes "i"))) (operand add (variable (codes "s")) no_operands))) no_stmts)) no_stmts)); handler = None })
+      ∷ process (record { name = codes "selfTest"; activation = periodic (literal_constant false 60000) None None; vars = []; routines = []; body = (stmts (perform_entry (codes "box") (codes "store") (exprs (literal 0) no_exprs)) (stmts (put (codes "panel") (literal 0)) no_stmts)); handler = None })
       ∷ [];
 }
 
@@ -309,9 +309,9 @@ long_wait = record {
   decls =
       monitor (record { name = codes "m"; members = (variable_member (record { name = codes "n"; kind = scalar int }) ∷ []); entries = (record { name = codes "e"; params = []; vars = []; body = (stmts (assign (whole (codes "n")) (row (variable (codes "n")) (operand add (literal 1) no_operands))) no_stmts); answers = None } ∷ []) })
       ∷ monitor (record { name = codes "k"; members = (condition_member (codes "c") ∷ []); entries = (record { name = codes "w"; params = []; vars = []; body = (stmts (wait (codes "c") (literal_constant false 150) (literal_constant false 10)) no_stmts); answers = None } ∷ []) })
-      ∷ process (record { name = codes "a"; activation = periodic (literal_constant false 60) None; vars = []; routines = []; body = (stmts (perform_entry (codes "m") (codes "e") no_exprs) no_stmts); handler = None })
-      ∷ process (record { name = codes "b"; activation = periodic (literal_constant false 800) None; vars = []; routines = []; body = (stmts (perform_entry (codes "k") (codes "w") no_exprs) no_stmts); handler = None })
-      ∷ process (record { name = codes "l"; activation = periodic (literal_constant false 900) None; vars = []; routines = []; body = (stmts (loop (codes "i") (literal_constant false 1) (literal_constant false 5) (stmts (perform_entry (codes "m") (codes "e") no_exprs) no_stmts)) no_stmts); handler = None })
+      ∷ process (record { name = codes "a"; activation = periodic (literal_constant false 60) None None; vars = []; routines = []; body = (stmts (perform_entry (codes "m") (codes "e") no_exprs) no_stmts); handler = None })
+      ∷ process (record { name = codes "b"; activation = periodic (literal_constant false 800) None None; vars = []; routines = []; body = (stmts (perform_entry (codes "k") (codes "w") no_exprs) no_stmts); handler = None })
+      ∷ process (record { name = codes "l"; activation = periodic (literal_constant false 900) None None; vars = []; routines = []; body = (stmts (loop (codes "i") (literal_constant false 1) (literal_constant false 5) (stmts (perform_entry (codes "m") (codes "e") no_exprs) no_stmts)) no_stmts); handler = None })
       ∷ [];
 }
 
@@ -368,12 +368,12 @@ mine_woken = record {
       ∷ event (codes "high")
       ∷ monitor (record { name = codes "motor"; members = (variable_member (record { name = codes "on"; kind = scalar boolean }) ∷ variable_member (record { name = codes "safe"; kind = scalar boolean }) ∷ []); entries = (record { name = codes "gas"; params = (record { name = codes "ok"; kind = boolean } ∷ []); vars = []; body = (stmts (assign (whole (codes "safe")) (variable (codes "ok"))) (stmts (when (negation (variable (codes "ok"))) (stmts (assign (whole (codes "on")) (truth false)) (stmts (put (codes "pump") (literal 0)) no_stmts))) no_stmts)); answers = None } ∷ record { name = codes "start"; params = []; vars = []; body = (stmts (when (variable (codes "safe")) (stmts (assign (whole (codes "on")) (truth true)) (stmts (put (codes "pump") (literal 1)) no_stmts))) no_stmts); answers = Some (record { kind = boolean; value = (variable (codes "on")) }) } ∷ []) })
       ∷ monitor (record { name = codes "box"; members = (variable_member (record { name = codes "last"; kind = scalar (subrange (literal_constant false 0) (literal_constant false 1000)) }) ∷ condition_member (codes "fresh") ∷ []); entries = (record { name = codes "store"; params = (record { name = codes "v"; kind = (subrange (literal_constant false 0) (literal_constant false 1000)) } ∷ []); vars = []; body = (stmts (assign (whole (codes "last")) (variable (codes "v"))) (stmts (broadcast (codes "fresh")) no_stmts)); answers = None } ∷ record { name = codes "fetch"; params = []; vars = []; body = (stmts (wait (codes "fresh") (literal_constant false 900) (literal_constant false 20)) no_stmts); answers = Some (record { kind = int; value = (variable (codes "last")) }) } ∷ []) })
-      ∷ process (record { name = codes "gasWatch"; activation = periodic (literal_constant false 800) None; vars = (record { name = codes "m"; kind = scalar (subrange (literal_constant false 0) (literal_constant false 1000)) } ∷ []); routines = []; body = (stmts (get (codes "methane") (whole (codes "m"))) (stmts (perform_entry (codes "motor") (codes "gas") (exprs (row (variable (codes "m")) (operand less (literal 100) no_operands)) no_exprs)) (stmts (perform_entry (codes "box") (codes "store") (exprs (variable (codes "m")) no_exprs)) no_stmts))); handler = Some (record { numbers = ((literal_constant false 3) ∷ []); body = (stmts (perform_entry (codes "motor") (codes "gas") (exprs (truth false) no_exprs)) (stmts (put (codes "alarm") (literal 1)) no_stmts)) }) })
-      ∷ process (record { name = codes "airWatch"; activation = periodic (literal_constant false 1000) None; vars = (record { name = codes "a"; kind = scalar int } ∷ []); routines = []; body = (stmts (get (codes "air") (whole (codes "a"))) (stmts (when (row (variable (codes "a")) (operand less (literal 20) no_operands)) (stmts (put (codes "alarm") (literal 2)) no_stmts)) no_stmts)); handler = None })
-      ∷ process (record { name = codes "flow"; activation = at_event (codes "high") (literal_constant false 2000); vars = (record { name = codes "b"; kind = scalar boolean } ∷ []); routines = []; body = (stmts (assign_entry (whole (codes "b")) (codes "motor") (codes "start") no_exprs) (stmts (when (negation (variable (codes "b"))) (stmts (put (codes "alarm") (literal 3)) no_stmts)) no_stmts)); handler = None })
-      ∷ process (record { name = codes "shower"; activation = periodic (literal_constant false 3000) None; vars = (record { name = codes "n"; kind = scalar int } ∷ []); routines = []; body = (stmts (assign_entry (whole (codes "n")) (codes "box") (codes "fetch") no_exprs) (stmts (put (codes "panel") (variable (codes "n"))) no_stmts)); handler = Some (record { numbers = ((literal_constant false 20) ∷ []); body = (stmts (put (codes "alarm") (literal 4)) no_stmts) }) })
-      ∷ process (record { name = codes "tally"; activation = periodic (literal_constant false 10000) None; vars = (record { name = codes "t"; kind = array (literal_constant false 0) (literal_constant false 9) int } ∷ record { name = codes "s"; kind = scalar int } ∷ []); routines = []; body = (stmts (get (codes "level") (whole (codes "s"))) (stmts (loop (codes "i") (literal_constant false 0) (literal_constant false 9) (stmts (assign (part (codes "t") (variable (codes "i"))) (row (element (codes "t") (variable (codes "i"))) (operand add (variable (codes "s")) no_operands))) no_stmts)) no_stmts)); handler = None })
-      ∷ process (record { name = codes "selfTest"; activation = periodic (literal_constant false 60000) None; vars = []; routines = []; body = (stmts (perform_entry (codes "box") (codes "store") (exprs (literal 0) no_exprs)) (stmts (put (codes "panel") (literal 0)) no_stmts)); handler = None })
+      ∷ process (record { name = codes "gasWatch"; activation = periodic (literal_constant false 800) None None; vars = (record { name = codes "m"; kind = scalar (subrange (literal_constant false 0) (literal_constant false 1000)) } ∷ []); routines = []; body = (stmts (get (codes "methane") (whole (codes "m"))) (stmts (perform_entry (codes "motor") (codes "gas") (exprs (row (variable (codes "m")) (operand less (literal 100) no_operands)) no_exprs)) (stmts (perform_entry (codes "box") (codes "store") (exprs (variable (codes "m")) no_exprs)) no_stmts))); handler = Some (record { numbers = ((literal_constant false 3) ∷ []); body = (stmts (perform_entry (codes "motor") (codes "gas") (exprs (truth false) no_exprs)) (stmts (put (codes "alarm") (literal 1)) no_stmts)) }) })
+      ∷ process (record { name = codes "airWatch"; activation = periodic (literal_constant false 1000) None None; vars = (record { name = codes "a"; kind = scalar int } ∷ []); routines = []; body = (stmts (get (codes "air") (whole (codes "a"))) (stmts (when (row (variable (codes "a")) (operand less (literal 20) no_operands)) (stmts (put (codes "alarm") (literal 2)) no_stmts)) no_stmts)); handler = None })
+      ∷ process (record { name = codes "flow"; activation = at_event (codes "high") (literal_constant false 2000) None; vars = (record { name = codes "b"; kind = scalar boolean } ∷ []); routines = []; body = (stmts (assign_entry (whole (codes "b")) (codes "motor") (codes "start") no_exprs) (stmts (when (negation (variable (codes "b"))) (stmts (put (codes "alarm") (literal 3)) no_stmts)) no_stmts)); handler = None })
+      ∷ process (record { name = codes "shower"; activation = periodic (literal_constant false 3000) None None; vars = (record { name = codes "n"; kind = scalar int } ∷ []); routines = []; body = (stmts (assign_entry (whole (codes "n")) (codes "box") (codes "fetch") no_exprs) (stmts (put (codes "panel") (variable (codes "n"))) no_stmts)); handler = Some (record { numbers = ((literal_constant false 20) ∷ []); body = (stmts (put (codes "alarm") (literal 4)) no_stmts) }) })
+      ∷ process (record { name = codes "tally"; activation = periodic (literal_constant false 10000) None None; vars = (record { name = codes "t"; kind = array (literal_constant false 0) (literal_constant false 9) int } ∷ record { name = codes "s"; kind = scalar int } ∷ []); routines = []; body = (stmts (get (codes "level") (whole (codes "s"))) (stmts (loop (codes "i") (literal_constant false 0) (literal_constant false 9) (stmts (assign (part (codes "t") (variable (codes "i"))) (row (element (codes "t") (variable (codes "i"))) (operand add (variable (codes "s")) no_operands))) no_stmts)) no_stmts)); handler = None })
+      ∷ process (record { name = codes "selfTest"; activation = periodic (literal_constant false 60000) None None; vars = []; routines = []; body = (stmts (perform_entry (codes "box") (codes "store") (exprs (literal 0) no_exprs)) (stmts (put (codes "panel") (literal 0)) no_stmts)); handler = None })
       ∷ [];
 }
 
@@ -424,9 +424,9 @@ two_waiters = record {
   decls =
       device (codes "o") true
       ∷ monitor (record { name = codes "m"; members = (variable_member (record { name = codes "n"; kind = scalar int }) ∷ condition_member (codes "c") ∷ []); entries = (record { name = codes "take"; params = []; vars = []; body = (stmts (wait (codes "c") (literal_constant false 500) (literal_constant false 10)) no_stmts); answers = Some (record { kind = int; value = (variable (codes "n")) }) } ∷ record { name = codes "fill"; params = (record { name = codes "v"; kind = int } ∷ []); vars = (record { name = codes "b"; kind = scalar boolean } ∷ []); body = (stmts (assign (whole (codes "n")) (variable (codes "v"))) (stmts (assign_empty (whole (codes "b")) (codes "c")) (stmts (when (negation (variable (codes "b"))) (stmts (signal (codes "c")) no_stmts)) (stmts (assign_empty (whole (codes "b")) (codes "c")) (stmts (when (variable (codes "b")) (stmts (broadcast (codes "c")) no_stmts)) no_stmts))))); answers = None } ∷ []) })
-      ∷ process (record { name = codes "a"; activation = periodic (literal_constant false 2000) None; vars = (record { name = codes "x"; kind = scalar int } ∷ []); routines = []; body = (stmts (assign_entry (whole (codes "x")) (codes "m") (codes "take") no_exprs) (stmts (put (codes "o") (variable (codes "x"))) no_stmts)); handler = None })
-      ∷ process (record { name = codes "b"; activation = periodic (literal_constant false 2001) None; vars = (record { name = codes "x"; kind = scalar int } ∷ []); routines = []; body = (stmts (assign_entry (whole (codes "x")) (codes "m") (codes "take") no_exprs) (stmts (put (codes "o") (variable (codes "x"))) no_stmts)); handler = None })
-      ∷ process (record { name = codes "q"; activation = periodic (literal_constant false 3000) (Some (literal_constant false 100)); vars = []; routines = []; body = (stmts (loop (codes "i") (literal_constant false 1) (literal_constant false 5) (stmts (put (codes "o") (variable (codes "i"))) (stmts (exit_when (row (variable (codes "i")) (operand equal (literal 3) no_operands))) (stmts (perform_entry (codes "m") (codes "fill") (exprs (variable (codes "i")) no_exprs)) no_stmts)))) no_stmts); handler = None })
+      ∷ process (record { name = codes "a"; activation = periodic (literal_constant false 2000) None None; vars = (record { name = codes "x"; kind = scalar int } ∷ []); routines = []; body = (stmts (assign_entry (whole (codes "x")) (codes "m") (codes "take") no_exprs) (stmts (put (codes "o") (variable (codes "x"))) no_stmts)); handler = None })
+      ∷ process (record { name = codes "b"; activation = periodic (literal_constant false 2001) None None; vars = (record { name = codes "x"; kind = scalar int } ∷ []); routines = []; body = (stmts (assign_entry (whole (codes "x")) (codes "m") (codes "take") no_exprs) (stmts (put (codes "o") (variable (codes "x"))) no_stmts)); handler = None })
+      ∷ process (record { name = codes "q"; activation = periodic (literal_constant false 3000) None (Some (literal_constant false 100)); vars = []; routines = []; body = (stmts (loop (codes "i") (literal_constant false 1) (literal_constant false 5) (stmts (put (codes "o") (variable (codes "i"))) (stmts (exit_when (row (variable (codes "i")) (operand equal (literal 3) no_operands))) (stmts (perform_entry (codes "m") (codes "fill") (exprs (variable (codes "i")) no_exprs)) no_stmts)))) no_stmts); handler = None })
       ∷ [];
 }
 

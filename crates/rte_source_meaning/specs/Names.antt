@@ -115,5 +115,15 @@ abbrev pub routine_count : Prog → ℕ
 routine_count g = sum_by routines_in g.decls
 
 abbrev pub frame_of : Prog → Activation → ℕ
-frame_of g (periodic frame first) = count_value g frame
-frame_of g (at_event e frame) = count_value g frame
+frame_of g (periodic frame deadline first) = count_value g frame
+frame_of g (at_event e frame deadline) = count_value g frame
+
+-- the frame where no deadline is told
+abbrev pub deadline_or : Prog → ℕ → Option Constant → ℕ
+deadline_or g frame None = frame
+deadline_or g frame (Some d) = count_value g d
+
+-- an activation has to end within so many ticks
+abbrev pub deadline_of : Prog → Activation → ℕ
+deadline_of g (periodic frame deadline first) = deadline_or g (count_value g frame) deadline
+deadline_of g (at_event e frame deadline) = deadline_or g (count_value g frame) deadline

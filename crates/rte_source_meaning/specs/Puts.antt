@@ -26,7 +26,7 @@ put_stmts (p ∷ ps) = stmts (put p.dev (literal p.value)) (put_stmts ps)
 abbrev pub put_process : PutProg → Process
 put_process f = record {
   name = f.process;
-  activation = periodic (literal_constant false f.frame) None;
+  activation = periodic (literal_constant false f.frame) None None;
   vars = [];
   routines = [];
   body = put_stmts f.puts;

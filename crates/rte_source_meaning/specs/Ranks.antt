@@ -1,7 +1,7 @@
 -- Ranks, ceilings and active ranks.
 use Rattle.std.specs.Prelude.{ℕ, zero, suc, ◌+◌, Bool, false, cond, ◌&&◌, ◌||◌, not, List, [], ◌∷◌, ◌++◌, Option, Some, None, length, map, filter_map, position, nat_eq, nat_lt, min, slice_get, unwrap_or, is_some}
 use Rattle.rte_tree.specs.Plain.{Name, Stmt, assign_entry, perform, perform_entry, when, when_else, loop, Stmts, no_stmts, stmts, Routine, Process, Prog, Handler}
-use Rattle.rte_source_meaning.specs.Names.{processes, frame_of, monitor_number, routine_count}
+use Rattle.rte_source_meaning.specs.Names.{processes, deadline_of, monitor_number, routine_count}
 use Rattle.rte_source_meaning.specs.Run.{Found, routine_named}
 use Rattle.rte_source_meaning.specs.Config.{Config, inside}
 
@@ -10,17 +10,17 @@ abbrev pub numbers_from : ℕ → ℕ → List ℕ
 numbers_from zero k = []
 numbers_from (suc n) k = k ∷ numbers_from n (suc k)
 
-abbrev pub frames : Prog → List ℕ
-frames g = map (λ p. frame_of g p.activation) (processes g)
+abbrev pub deadlines : Prog → List ℕ
+deadlines g = map (λ p. deadline_of g p.activation) (processes g)
 
--- how many of the frames, the first of process j, belong to processes of higher rank than process k
-abbrev pub higher : (k frame j : ℕ) → List ℕ → ℕ
-higher k frame j [] = 0
-higher k frame j (f ∷ fs) = cond (nat_lt f frame || (nat_eq f frame && nat_lt j k)) 1 0 + higher k frame (suc j) fs
+-- how many of the deadlines, the first of process j, belong to processes of higher rank than process k
+abbrev pub higher : (k deadline j : ℕ) → List ℕ → ℕ
+higher k deadline j [] = 0
+higher k deadline j (d ∷ ds) = cond (nat_lt d deadline || (nat_eq d deadline && nat_lt j k)) 1 0 + higher k deadline (suc j) ds
 
--- the shorter frame has the smaller rank number; equal frames go by the text
+-- the shorter deadline has the smaller rank number; equal deadlines go by the text
 abbrev pub rank : Prog → ℕ → ℕ
-rank g k = suc (higher k (unwrap_or (slice_get (frames g) k) 0) 0 (frames g))
+rank g k = suc (higher k (unwrap_or (slice_get (deadlines g) k) 0) 0 (deadlines g))
 
 -- the processes in rank order
 abbrev pub by_rank : Prog → List ℕ

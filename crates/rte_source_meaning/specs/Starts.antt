@@ -41,8 +41,8 @@ release_missing t k None = []
 release_missing t k (Some j) = cond (was_released_at t j.doing) [] (release_of t k ∷ [])
 
 abbrev pub waits_for_event : Prog → ℕ → Activation → Bool
-waits_for_event g e (at_event name frame) = nat_eq (event_number g name) e
-waits_for_event g e (periodic frame first) = false
+waits_for_event g e (at_event name frame deadline) = nat_eq (event_number g name) e
+waits_for_event g e (periodic frame deadline first) = false
 
 -- the releases by event e that have not come, of the processes from number k on
 abbrev pub releases_by : Prog → Config → ℕ → ℕ → ℕ → List Process → List Event
@@ -61,8 +61,8 @@ first_of g (Some f) = count_value g f
 
 -- a periodic process is due at its first activation and each frame after it
 abbrev pub is_due : Prog → ℕ → Activation → Bool
-is_due g t (periodic frame first) = nat_le (first_of g first) t && nat_eq ((t - first_of g first) % count_value g frame) 0
-is_due g t (at_event name frame) = false
+is_due g t (periodic frame deadline first) = nat_le (first_of g first) t && nat_eq ((t - first_of g first) % count_value g frame) 0
+is_due g t (at_event name frame deadline) = false
 
 -- the periodic releases at a tick, in textual order
 abbrev pub periodic_releases : Prog → Config → ℕ → ℕ → List Process → List Event

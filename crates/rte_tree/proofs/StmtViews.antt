@@ -1,5 +1,5 @@
 -- The equations of `placed_stmt`, one for each form of the code's statements.
-use Rattle.std.proofs.Common.{◌≡◌, List, Some, None, rules}
+use Rattle.std.proofs.Common.{◌≡◌, List, Some, None, Box, Global, rules}
 use Rattle.rte_tree.specs.Plain.{Name}
 use Rattle.rte_tree.specs.Placed.{placed_constant, placed_expr, placed_exprs, placed_ref, placed_stmt, placed_stmts, assign, assign_entry, assign_empty, perform, perform_entry, when, when_else, loop, exit_when, get, put, wait, signal, broadcast, except, assert}
 use Rattle.rte_tree.specs.declared.place.Place.{Place}
@@ -30,7 +30,7 @@ stmt-If p e a = search (rules, the_lemmas)
 pub stmt-IfElse : (p : Place) (e : Expr) (a b : List Stmt) → placed_stmt (v.If p e a (Some b)) ≡ when_else p (placed_expr e) (placed_stmts a) (placed_stmts b)
 stmt-IfElse p e a b = search (rules, the_lemmas)
 
-pub stmt-For : (p : Place) (n : Name) (q : Place) (low high : Constant) (a : List Stmt) → placed_stmt (v.For p n q low high a) ≡ loop p n q (placed_constant low) (placed_constant high) (placed_stmts a)
+pub stmt-For : (p : Place) (n : Name) (q : Place) (low high : Box Constant Global) (a : List Stmt) → placed_stmt (v.For p n q low high a) ≡ loop p n q (placed_constant low.value) (placed_constant high.value) (placed_stmts a)
 stmt-For p n q low high a = search (rules, the_lemmas)
 
 pub stmt-ExitWhen : (p : Place) (e : Expr) → placed_stmt (v.ExitWhen p e) ≡ exit_when p (placed_expr e)
@@ -42,7 +42,7 @@ stmt-Get p dev q r = search (rules, the_lemmas)
 pub stmt-Put : (p : Place) (dev : Name) (q : Place) (e : Expr) → placed_stmt (v.Put p dev q e) ≡ put p dev q (placed_expr e)
 stmt-Put p dev q e = search (rules, the_lemmas)
 
-pub stmt-Wait : (p : Place) (cond : Name) (q : Place) (limit number : Constant) → placed_stmt (v.Wait p cond q limit number) ≡ wait p cond q (placed_constant limit) (placed_constant number)
+pub stmt-Wait : (p : Place) (cond : Name) (q : Place) (limit number : Box Constant Global) → placed_stmt (v.Wait p cond q limit number) ≡ wait p cond q (placed_constant limit.value) (placed_constant number.value)
 stmt-Wait p cond q limit number = search (rules, the_lemmas)
 
 pub stmt-Signal : (p : Place) (cond : Name) (q : Place) → placed_stmt (v.Signal p cond q) ≡ signal p cond q

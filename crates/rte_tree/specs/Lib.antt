@@ -1,3 +1,4 @@
 pub mod Plain
 pub mod Placed
+pub mod Parts
 pub mod formers

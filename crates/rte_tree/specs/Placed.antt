@@ -1,5 +1,6 @@
 -- Trees as plain data, with a place of any kind at each part: one case for each form of the grammar, closing names included.
-use Rattle.std.specs.Prelude.{ℕ, Bool, true, false, List, [], ◌∷◌, map, Option, Some, None}
+use Rattle.std.specs.Prelude.{ℕ, Bool, true, false, List, [], ◌∷◌, map, Option, Some, None, Box}
+use Rattle.std.specs.Global.{Global}
 use Rattle.rte_tree.specs.Plain as plain_of
 use Rattle.rte_tree.specs.Plain.{Name, Op, or, and, equal, unequal, less, less_equal, greater, greater_equal, add, sub, mul, div, remainder}
 use Rattle.rte_tree.specs.declared.place.Place.{Place}
@@ -137,8 +138,8 @@ pub record Monitor (P : Type 0) : Type 0 where
   pub close_place : P
 
 pub data Activation (P : Type 0) : Type 0 where
-  periodic : (frame : Constant P) → (first : Option (Constant P)) → Activation P
-  at_event : (event : Name) → P → (frame : Constant P) → Activation P
+  periodic : (frame : Constant P) → (deadline : Option (Constant P)) → (first : Option (Constant P)) → Activation P
+  at_event : (event : Name) → P → (frame : Constant P) → (deadline : Option (Constant P)) → Activation P
 
 pub record Handler (P : Type 0) : Type 0 where
   pub numbers : List (Constant P)
@@ -272,8 +273,8 @@ bare_monitor m = record {
 }
 
 abbrev pub bare_activation : {P : Type 0} → Activation P → Activation (Unit {0})
-bare_activation (periodic frame first) = periodic (bare_constant frame) (optional bare_constant first)
-bare_activation (at_event e p frame) = at_event e tt (bare_constant frame)
+bare_activation (periodic frame deadline first) = periodic (bare_constant frame) (optional bare_constant deadline) (optional bare_constant first)
+bare_activation (at_event e p frame deadline) = at_event e tt (bare_constant frame) (optional bare_constant deadline)
 
 abbrev pub bare_handler : {P : Type 0} → Handler P → Handler (Unit {0})
 bare_handler h = record { numbers = map bare_constant h.numbers; body = bare_stmts h.body }
@@ -393,8 +394,8 @@ abbrev pub plain_monitor : {P : Type 0} → Monitor P → plain_of.Monitor
 plain_monitor m = record { name = m.name; members = map plain_member m.members; entries = map plain_routine m.entries }
 
 abbrev pub plain_activation : {P : Type 0} → Activation P → plain_of.Activation
-plain_activation (periodic frame first) = plain_of.periodic (plain_constant frame) (optional plain_constant first)
-plain_activation (at_event e p frame) = plain_of.at_event e (plain_constant frame)
+plain_activation (periodic frame deadline first) = plain_of.periodic (plain_constant frame) (optional plain_constant deadline) (optional plain_constant first)
+plain_activation (at_event e p frame deadline) = plain_of.at_event e (plain_constant frame) (optional plain_constant deadline)
 
 abbrev pub plain_handler : {P : Type 0} → Handler P → plain_of.Handler
 plain_handler h = record { numbers = map plain_constant h.numbers; body = plain_stmts h.body }
@@ -490,9 +491,9 @@ placed_exprs es = exprs_of (map placed_expr es)
 abbrev pub placed_operands : List (code_op.Op × code_expr.Expr) → Operands Place
 placed_operands rs = operands_of (map (λ r. (r.0, placed_expr r.1)) rs)
 
-abbrev pub ref_of : Place → Name → Option code_expr.Expr → Ref Place
+abbrev pub ref_of : Place → Name → Option (Box code_expr.Expr Global) → Ref Place
 ref_of p n None = whole p n
-ref_of p n (Some i) = part p n (placed_expr i)
+ref_of p n (Some i) = part p n (placed_expr i.value)
 
 abbrev pub placed_ref : code_ref.Ref → Ref Place
 placed_ref r = ref_of r.place r.name r.index
@@ -513,11 +514,11 @@ stmt_step (Stmt-F.AssignEmpty r cond p) = assign_empty (placed_ref r) cond p
 stmt_step (Stmt-F.Call p n es) = perform p n (placed_exprs es)
 stmt_step (Stmt-F.CallEntry p mon entry q es) = perform_entry p mon entry q (placed_exprs es)
 stmt_step (Stmt-F.If p e a b) = choice_of p (placed_expr e) a b
-stmt_step (Stmt-F.For p n q low high a) = loop p n q (placed_constant low) (placed_constant high) (stmts_of a)
+stmt_step (Stmt-F.For p n q low high a) = loop p n q (placed_constant low.value) (placed_constant high.value) (stmts_of a)
 stmt_step (Stmt-F.ExitWhen p e) = exit_when p (placed_expr e)
 stmt_step (Stmt-F.Get p dev q r) = get p dev q (placed_ref r)
 stmt_step (Stmt-F.Put p dev q e) = put p dev q (placed_expr e)
-stmt_step (Stmt-F.Wait p cond q limit number) = wait p cond q (placed_constant limit) (placed_constant number)
+stmt_step (Stmt-F.Wait p cond q limit number) = wait p cond q (placed_constant limit.value) (placed_constant number.value)
 stmt_step (Stmt-F.Signal p cond q) = signal p cond q
 stmt_step (Stmt-F.Broadcast p cond q) = broadcast p cond q
 stmt_step (Stmt-F.Except p number) = except p (placed_constant number)
@@ -562,8 +563,9 @@ placed_monitor m = record {
 }
 
 abbrev pub placed_activation : code_activation.Activation → Activation Place
-placed_activation (activation_is.Periodic frame first) = periodic (placed_constant frame) (optional placed_constant first)
-placed_activation (activation_is.AtEvent e p frame) = at_event e p (placed_constant frame)
+placed_activation (activation_is.Periodic frame deadline first) =
+    periodic (placed_constant frame) (optional placed_constant deadline) (optional placed_constant first)
+placed_activation (activation_is.AtEvent e p frame deadline) = at_event e p (placed_constant frame) (optional placed_constant deadline)
 
 abbrev pub placed_handler : code_handler.Handler → Handler Place
 placed_handler h = record { numbers = map placed_constant h.numbers; body = placed_stmts h.body }

@@ -115,8 +115,8 @@ pub record Monitor : Type 0 where
   pub entries : List Routine
 
 pub data Activation : Type 0 where
-  periodic : (frame : Constant) → (first : Option Constant) → Activation
-  at_event : (event : Name) → (frame : Constant) → Activation
+  periodic : (frame : Constant) → (deadline : Option Constant) → (first : Option Constant) → Activation
+  at_event : (event : Name) → (frame : Constant) → (deadline : Option Constant) → Activation
 
 pub record Handler : Type 0 where
   pub numbers : List Constant

@@ -82,17 +82,20 @@ pub struct Mon {
     pub close_place: Place,
 }
 
-/// When a process is released.
+/// When a process is released, and by when an activation has to end: within its deadline, which is
+/// its frame where none is told.
 #[derive(Debug, Drop)]
 pub enum Activation {
     Periodic {
         frame: Constant,
+        deadline: Option<Constant>,
         first: Option<Constant>,
     },
     AtEvent {
         event: Name,
         event_place: Place,
         frame: Constant,
+        deadline: Option<Constant>,
     },
 }
 

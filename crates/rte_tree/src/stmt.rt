@@ -10,11 +10,12 @@ use crate::place::Place;
 pub struct Ref {
     pub place: Place,
     pub name: Name,
-    pub index: Option<Expr>,
+    pub index: Option<Box<Expr>>,
 }
 
 /// A statement. Its place is that of its first token: `place`, or that of `target` where the
-/// statement is an assignment.
+/// statement is an assignment. What is large and rare stands in a box, so that a statement is cheap
+/// to move.
 #[derive(Debug, Drop)]
 pub enum Stmt {
     Assign {
@@ -61,8 +62,8 @@ pub enum Stmt {
         place: Place,
         name: Name,
         name_place: Place,
-        low: Constant,
-        high: Constant,
+        low: Box<Constant>,
+        high: Box<Constant>,
         body: List<Stmt>,
     },
     ExitWhen {
@@ -85,8 +86,8 @@ pub enum Stmt {
         place: Place,
         cond: Name,
         cond_place: Place,
-        limit: Constant,
-        number: Constant,
+        limit: Box<Constant>,
+        number: Box<Constant>,
     },
     Signal {
         place: Place,

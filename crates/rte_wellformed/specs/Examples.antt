@@ -11,7 +11,7 @@ doing d s = record {
   name = codes "a";
   decls =
       d
-      ∷ process (record { name = codes "p"; activation = periodic (literal_constant false 100) None; vars = []; routines = []; body = stmts s no_stmts; handler = None })
+      ∷ process (record { name = codes "p"; activation = periodic (literal_constant false 100) None None; vars = []; routines = []; body = stmts s no_stmts; handler = None })
       ∷ [];
 }
 
@@ -28,7 +28,7 @@ endless = doing (valve true) (loop (codes "i") (literal_constant false 214748364
 abbrev pub circle : Process
 circle = record {
   name = codes "p";
-  activation = periodic (literal_constant false 100) None;
+  activation = periodic (literal_constant false 100) None None;
   vars = [];
   routines = record { name = codes "f"; params = []; vars = []; body = stmts (perform (codes "f") no_exprs) no_stmts; answers = None } ∷ [];
   body = stmts (perform (codes "f") no_exprs) no_stmts;

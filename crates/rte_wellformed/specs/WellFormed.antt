@@ -59,13 +59,21 @@ pub record RoutineFits (g : Prog) (p : Process) (home : Home) (r : Routine) : Ty
 
 -- ---- processes
 
+-- a deadline is 10 up to the frame
+abbrev pub DeadlineFits : Prog → Constant → Option Constant → Type 0
+DeadlineFits g frame None = Unit {0}
+DeadlineFits g frame (Some d) = IsConstant (constants g) d × (int_le (pos 10) (constant_among (constants g) d) ≡ true)
+    × (int_le (constant_among (constants g) d) (constant_among (constants g) frame) ≡ true)
+
 abbrev pub FirstFits : Prog → Option Constant → Type 0
 FirstFits g None = Unit {0}
 FirstFits g (Some c) = IsWithin g 0 1000000000 c
 
 abbrev pub ActivationFits : Prog → Activation → Type 0
-ActivationFits g (periodic frame first) = IsWithin g 10 1000000000 frame × FirstFits g first
-ActivationFits g (at_event e frame) = Contains g.decls (event e) × IsWithin g 10 1000000000 frame
+ActivationFits g (periodic frame deadline first) =
+    IsWithin g 10 1000000000 frame × DeadlineFits g frame deadline × FirstFits g first
+ActivationFits g (at_event e frame deadline) =
+    Contains g.decls (event e) × IsWithin g 10 1000000000 frame × DeadlineFits g frame deadline
 
 -- the number of an exception that a handler may list
 pub record IsHandled (g : Prog) (c : Constant) : Type 0 where
@@ -103,8 +111,8 @@ MonitorFits g m = All (VarFits g) (filter_map variable_in m.members)
 -- ---- the program
 
 abbrev pub is_event_of : Name → Activation → Bool
-is_event_of e (periodic frame first) = false
-is_event_of e (at_event n frame) = bytes_eq n e
+is_event_of e (periodic frame deadline first) = false
+is_event_of e (at_event n frame deadline) = bytes_eq n e
 
 -- each event activates one process
 abbrev pub EventsFit : Prog → Type 0

@@ -132,8 +132,8 @@ module _ (P : List Occurrence → Type 0) (rest : (o : Occurrence) (os : List Oc
   behind_start here (Some c) more h = behind_constant here c more h
 
   behind_activation : (here : Site) (a : Activation Place) (more : List Occurrence) → P (activation_names here a more) → P more
-  behind_activation here (periodic frame start) more h = behind_start here start more (behind_constant here frame (optional_names (constant_names here) start more) h)
-  behind_activation here (at_event name place frame) more h = behind_constant here frame more (rest _ _ h)
+  behind_activation here (periodic frame deadline start) more h = behind_start here start more (behind_constant here frame (optional_names (constant_names here) start more) h)
+  behind_activation here (at_event name place frame deadline) more h = behind_constant here frame more (rest _ _ h)
 
   pub at_process_routine : (outer : Site) (p : Process Place) (r : Routine Place) (more : List Occurrence) → Contains p.routines r → P (process_names outer p more) → AtRoutine (inside (process_scope p) outer) r
   at_process_routine outer p r more listed h =

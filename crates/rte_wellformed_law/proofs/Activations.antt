@@ -121,16 +121,16 @@ module _ (g : Prog Place) (l : Laws g) where
   pub activation_fits : (before : List (Decl Place)) (p : Process Place) (after : List (Decl Place)) → g.decls ≡ before ++ process p ∷ after → Reaches (constants (plain g)) (process_site g before p after)
       → (a : Activation Place) → ActivationWritten a → Within (activation_names (process_site g before p after) a []) (names g)
       → out_of (value g) 10 1000000000 (frame_of a) ≡ None → bad_start (value g) a ≡ None → ActivationFits (plain g) (plain_activation a)
-  activation_fits before p after is reaches (periodic frame None) w n good start =
+  activation_fits before p after is reaches (periodic frame deadline None) w n good start =
       (within_fits 10 1000000000 frame (constant_fits g l (process_site g before p after) reaches frame w.0 n) good, tt)
-  activation_fits before p after is reaches (periodic frame (Some k)) w n good start = (
+  activation_fits before p after is reaches (periodic frame deadline (Some k)) w n good start = (
     within_fits 10 1000000000 frame (constant_fits g l site reaches frame w.0 (front (names g) (constant_adds site frame) (constant_names site k []) n)) good,
     within_fits 0 1000000000 k (constant_fits g l site reaches k w.1 (rest (names g) (constant_adds site frame) (constant_names site k []) n)) start,
   )
     where
       site : Site
       site = process_site g before p after
-  activation_fits before p after is reaches (at_event e q frame) w n good start = (
+  activation_fits before p after is reaches (at_event e q frame deadline) w n good start = (
     in_map plain_decl g.decls (event e found.place) found.listed,
     within_fits 10 1000000000 frame (constant_fits g l site reaches frame w (λ x h. n x (behind _ (constant_names site frame []) x h))) good,
   )

@@ -89,8 +89,8 @@ module _ (g : Prog Place) (l : Laws g) where
 
   activated : (e : Name) (q : Place) → Contains g.decls (event e q) → (before : List (Decl Place)) (p : Process Place) (after : List (Decl Place)) → g.decls ≡ before ++ process p ∷ after
       → (a : Activation Place) → Within (activation_names (process_site g before p after) a []) (names g) → is_activated_by (declared_at (names g)) q a ≡ is_event_of e (plain_activation a)
-  activated e q h before p after is (periodic frame start) w = refl
-  activated e q h before p after is (at_event n at frame) w = ap (is_at q) found.found ∙ same_events n e found.place q found.listed h
+  activated e q h before p after is (periodic frame deadline start) w = refl
+  activated e q h before p after is (at_event n at frame deadline) w = ap (is_at q) found.found ∙ same_events n e found.place q found.listed h
     where
       found : EventAt g n at
       found = event_at g l before p after is n at (w _ (at_front _ (constant_names (process_site g before p after) frame [])))

@@ -126,8 +126,8 @@ first-keeps here None = none
 first-keeps here (Some c) = quiet w.FIRST tt ▸ quiet w.ACTIVATION tt ▸ quiet w.AT_TIME tt ▸ constant-keeps here c
 
 activation-keeps : {z : Place} (here : Site) (x : Activation Place) → Keeps z (IsActivation x) (activation_names here x)
-activation-keeps here (periodic frame start) = quiet w.PERIODIC tt ▸ quiet w.FRAME tt ▸ constant-keeps here frame ▸ first-keeps here start
-activation-keeps here (at_event e p frame) = quiet w.AT_EVENT tt ▸ name e (uses here e p want_is.Event) ▸ quiet w.FRAME tt ▸ constant-keeps here frame
+activation-keeps here (periodic frame deadline start) = quiet w.PERIODIC tt ▸ quiet w.FRAME tt ▸ constant-keeps here frame ▸ first-keeps here start
+activation-keeps here (at_event e p frame deadline) = quiet w.AT_EVENT tt ▸ name e (uses here e p want_is.Event) ▸ quiet w.FRAME tt ▸ constant-keeps here frame
 
 more-numbers-keep : {z : Place} (here : Site) (cs : List (Constant Place)) → Keeps z (Each (λ c. a w.COMMA ▷ IsConstant c) cs) (constants_names here cs)
 more-numbers-keep here [] = none

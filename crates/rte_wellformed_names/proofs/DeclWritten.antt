@@ -87,8 +87,8 @@ first-written None = none
 first-written (Some c) = any w.FIRST ▹ any w.ACTIVATION ▹ any w.AT_TIME ▹ constant-written c
 
 activation-written : (x : Activation Place) → Gives (IsActivation x) (ActivationWritten x)
-activation-written (periodic frame start) = any w.PERIODIC ▹ any w.FRAME ▹ constant-written frame ▸ first-written start
-activation-written (at_event e p frame) = any w.AT_EVENT ▹ any_at (named e) p ▹ any w.FRAME ▹ constant-written frame
+activation-written (periodic frame deadline start) = any w.PERIODIC ▹ any w.FRAME ▹ constant-written frame ▸ first-written start
+activation-written (at_event e p frame deadline) = any w.AT_EVENT ▹ any_at (named e) p ▹ any w.FRAME ▹ constant-written frame
 
 handler-written : (h : Option (Handler Place)) → Gives (IsHandler h) (HandlerWritten h)
 handler-written None = none

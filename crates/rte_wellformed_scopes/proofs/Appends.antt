@@ -151,9 +151,9 @@ monitor_puts outer m =
     then_puts (declarations outer.means [] (monitor_scope m)) (monitor_inner here m) (declarations_puts outer.means [] (monitor_scope m)) (monitor_inner_puts here m)
 
 activation_puts : (here : Site) (x : Activation Place) → Puts (activation_names here x)
-activation_puts here (periodic frame start) a b =
+activation_puts here (periodic frame deadline start) a b =
     then_puts (constant_names here frame) (optional_names (constant_names here) start) (constant_puts here frame) (optional_puts (constant_names here) (constant_puts here) start) a b
-activation_puts here (at_event name place frame) a b = keep (constant_puts here frame a b)
+activation_puts here (at_event name place frame deadline) a b = keep (constant_puts here frame a b)
 
 handler_puts : (here : Site) (h : Handler Place) → Puts (handler_names here h)
 handler_puts here h = then_puts (constants_names here h.numbers) (stmts_names here h.body) (constants_puts here h.numbers) (stmts_puts here h.body)

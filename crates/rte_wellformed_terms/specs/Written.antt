@@ -93,13 +93,14 @@ pub record MonitorWritten (m : Monitor Place) : Type 0 where
   pub members : All MemberWritten m.members
   pub entries : All RoutineWritten m.entries
 
-abbrev pub FirstWritten : Option (Constant Place) → Type 0
-FirstWritten None = Unit {0}
-FirstWritten (Some c) = ConstantWritten c
+-- of a deadline or a first activation, where it is said
+abbrev pub OptionalWritten : Option (Constant Place) → Type 0
+OptionalWritten None = Unit {0}
+OptionalWritten (Some c) = ConstantWritten c
 
 abbrev pub ActivationWritten : Activation Place → Type 0
-ActivationWritten (periodic frame first) = ConstantWritten frame × FirstWritten first
-ActivationWritten (at_event name p frame) = ConstantWritten frame
+ActivationWritten (periodic frame deadline first) = ConstantWritten frame × OptionalWritten deadline × OptionalWritten first
+ActivationWritten (at_event name p frame deadline) = ConstantWritten frame × OptionalWritten deadline
 
 abbrev pub HandlerWritten : Option (Handler Place) → Type 0
 HandlerWritten None = Unit {0}

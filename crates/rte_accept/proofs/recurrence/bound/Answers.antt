@@ -7,7 +7,7 @@ use Rattle.rte_accept.proofs.Bounds.{bound_found}
 use Rattle.rte_accept.proofs.recurrence.bound.Goals as goal
 
 abbrev task : ℕ → ℕ → Task
-task frame run = record { frame = frame; run = run; susp = 0; waits = 0; block = 0 }
+task frame run = record { frame = frame; deadline = deadline; run = run; susp = 0; waits = 0; block = 0 }
 
 pub returns : goal.returns
 returns c =
