@@ -4,7 +4,7 @@ ghost use Rattle.std.specs.Prelude.{ℕ};
 ghost use Rattle.rte_tree.specs.Placed.{Prog, plain};
 ghost use Rattle.rte_tree.specs.declared.place.Place.{Place};
 ghost use Rattle.rte_names.specs.Resolved.{IsRead, IsNamed};
-ghost use Rattle.rte_statements.specs.Rules.{StatementFails};
+ghost use Rattle.rte_rules_statements.specs.Rules.{StatementFails};
 ghost use Rattle.rte_rules_declarations.specs.Rules.{LimitFails};
 ghost use Rattle.rte_rules_calls.specs.Reaching.{ReachFails};
 ghost use Rattle.rte_wellformed.specs.WellFormed.{IsWellFormed};
