@@ -82,6 +82,7 @@ pub struct Run {
 const TASKS: [Task; 2] = [
     Task {
         frame: 10,
+        deadline: 10,
         run: 3,
         susp: 0,
         waits: 0,
@@ -89,6 +90,7 @@ const TASKS: [Task; 2] = [
     },
     Task {
         frame: 20,
+        deadline: 18,
         run: 8,
         susp: 4,
         waits: 1,
