@@ -15,18 +15,18 @@ fn higher(uses: &[Use], place: usize) -> u16
     ensures value { result ≡ count_below (λ other. outranks uses.now other place) (length uses.now) }
     ensures few { result ≤ 64 }
 {
-    let frame = uses[place].frame;
+    let deadline = uses[place].deadline;
     let mut count = 0;
     for (other, used) in uses.iter().enumerate() {
-        if used.frame < frame || (used.frame == frame && other < place) {
+        if used.deadline < deadline || (used.deadline == deadline && other < place) {
             count += 1;
         }
     }
     count
 }
 
-/// The rank of each of at most 64 processes, from 1, in the order of the text: the shorter frame has the smaller
-/// number, and of equal frames the earlier process.
+/// The rank of each of at most 64 processes, from 1, in the order of the text: the shorter deadline has the smaller
+/// number, and of equal deadlines the earlier process (Leung and Whitehead).
 pub fn ranks(alloc: Global, uses: &List<Use>) -> Result<List<u16>, AllocError>
     requires { length uses.now ≤ 64 }
     ensures { IfOk result (AreRanks uses.now) }
