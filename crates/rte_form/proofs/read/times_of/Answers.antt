@@ -1,9 +1,9 @@
-use Rattle.std.proofs.Common.{◌≡◌, List, [], None, true, false, sym, ap, map, ◌∙◌}
+use Rattle.std.proofs.Common.{◌≡◌, true, false, sym, ap, map, ◌∙◌}
 use Rattle.std.specs.Prelude.{not, is_some}
 use Rattle.rte_tree.specs.Placed.{optional, placed_activation, placed_var, placed_routine, placed_handler}
 use Rattle.rte_form.proofs.Shapes.{nothing_mapped, nothing_there, no_frame}
-use Rattle.rte_form.proofs.read.frame_of.Goals as goal
-use Rattle.rte_form.proofs.read.frame_of.Goals.{else-is_empty-via-then-is_empty+then-is_empty-2+else-is_none, else-is_empty-via-then-is_empty+else-is_empty-2, else-is_empty-via-else-is_empty}
+use Rattle.rte_form.proofs.read.times_of.Goals as goal
+use Rattle.rte_form.proofs.read.times_of.Goals.{else-is_empty-via-then-is_empty+then-is_empty-2+else-is_none, else-is_empty-via-then-is_empty+else-is_empty-2, else-is_empty-via-else-is_empty}
 
 pub returns-else-is_empty : goal.returns-else-is_empty
 returns-else-is_empty c =
