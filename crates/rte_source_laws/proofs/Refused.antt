@@ -7,6 +7,7 @@ use Rattle.rte_source_meaning.specs.Next.{calls_to}
 use Rattle.rte_source_meaning.specs.Starts.{due}
 use Rattle.rte_source_meaning.specs.Source.{IsSourceRun, first_end}
 use Rattle.rte_source_laws.proofs.Replays.{no_run, other_run}
+use Rattle.rte_source_laws.specs.ByDeadline.{by_deadline, by_deadline_script, shorter_frame_first_log}
 use Rattle.rte_source_laws.specs.Example.{at, before_occupant_log, ends_early_log, last_signalled_log, late_signal, one_put, out_of_order_log, overrun_log, raise_inside, release_missing_log, released_twice_log, signal_late_log, time_out_late_log, two_waiters, until}
 
 pub ends_early_is_none : IsSourceRun one_put (until 15) ends_early_log → ⊥
@@ -44,3 +45,7 @@ out_of_order_is_none h = no_run raise_inside (until 50) out_of_order_log refl h
 pub last_signalled_is_none : IsSourceRun two_waiters (until 300) last_signalled_log → ⊥
 unfolding due calls_to reached
 last_signalled_is_none h = no_run two_waiters (until 300) last_signalled_log refl h
+
+pub shorter_frame_first_is_none : IsSourceRun by_deadline by_deadline_script shorter_frame_first_log → ⊥
+unfolding due calls_to reached
+shorter_frame_first_is_none h = no_run by_deadline by_deadline_script shorter_frame_first_log refl h

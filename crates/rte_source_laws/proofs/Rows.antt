@@ -6,6 +6,7 @@ use Rattle.rte_source_meaning.specs.Next.{calls_to}
 use Rattle.rte_source_meaning.specs.Starts.{due}
 use Rattle.rte_source_meaning.specs.Source.{IsSourceRun}
 use Rattle.rte_source_laws.proofs.Plays.{begins, acts_at, is_run}
+use Rattle.rte_source_laws.specs.ByDeadline.{by_deadline, by_deadline_log, by_deadline_script}
 use Rattle.rte_source_laws.specs.Example.{by_event, by_event_log, by_event_script, handled_range, handled_range_log, handled_range_script, late_signal, late_signal_log, late_signal_script, least_word, least_word_log, least_word_script, loop_and_function, loop_and_function_log, loop_and_function_script, one_put, one_put_log, one_put_script, overflow, overflow_log, overflow_script, raise_inside, raise_inside_log, raise_inside_script, signalled_wait, signalled_wait_log, signalled_wait_script, three_ranks, three_ranks_log, three_ranks_script}
 
 pub one_put_runs : IsSourceRun one_put one_put_script one_put_log
@@ -47,3 +48,7 @@ by_event_runs = is_run by_event by_event_script (begins 0 ∷ acts_at 10 0 ∷ a
 pub loop_and_function_runs : IsSourceRun loop_and_function loop_and_function_script loop_and_function_log
 unfolding due calls_to reached
 loop_and_function_runs = is_run loop_and_function loop_and_function_script (begins 0 ∷ acts_at 20 0 ∷ acts_at 100 0 ∷ acts_at 110 0 ∷ acts_at 200 0 ∷ acts_at 220 0 ∷ acts_at 300 0 ∷ acts_at 400 0 ∷ acts_at 420 0 ∷ acts_at 430 0 ∷ []) loop_and_function_log refl
+
+pub by_deadline_runs : IsSourceRun by_deadline by_deadline_script by_deadline_log
+unfolding due calls_to reached
+by_deadline_runs = is_run by_deadline by_deadline_script (begins 0 ∷ begins 0 ∷ acts_at 11 1 ∷ acts_at 15 1 ∷ acts_at 27 0 ∷ acts_at 33 0 ∷ []) by_deadline_log refl

@@ -1,1 +1,2 @@
+pub mod ByDeadline
 pub mod Example

@@ -1,5 +1,6 @@
 //! Logs of small programs that are runs of them, and logs that are none.
 
+ghost use Rattle.rte_source_laws.specs.ByDeadline.{by_deadline, by_deadline_script, shorter_frame_first_log};
 ghost use Rattle.rte_source_laws.specs.Example.{late_signal, late_signal_script, one_put, one_put_script, raise_inside, raise_inside_script, signalled_wait, signalled_wait_script, three_ranks, three_ranks_script};
 ghost use Rattle.rte_source_laws.specs.Example.{before_occupant_log, ends_early_log, last_signalled_log, out_of_order_log, overrun_log, release_missing_log, released_twice_log, signal_late_log, time_out_late_log, two_waiters, until};
 ghost use Rattle.rte_source_meaning.specs.Source.{IsSourceRun};
@@ -275,6 +276,44 @@ pub fn raise_inside_log() -> [Event; 8]
     ]
 }
 
+/// The log of two processes whose ranks go by the deadline: the one with the longer frame acts first.
+pub fn by_deadline_log() -> [Event; 6]
+    ensures { IsSourceRun by_deadline by_deadline_script result }
+{
+    [
+        Event {
+            tick: 0,
+            proc: 0,
+            act: Act::Release,
+        },
+        Event {
+            tick: 0,
+            proc: 1,
+            act: Act::Release,
+        },
+        Event {
+            tick: 11,
+            proc: 1,
+            act: Act::Put { dev: 0, value: 2 },
+        },
+        Event {
+            tick: 15,
+            proc: 1,
+            act: Act::End,
+        },
+        Event {
+            tick: 27,
+            proc: 0,
+            act: Act::Put { dev: 0, value: 1 },
+        },
+        Event {
+            tick: 33,
+            proc: 0,
+            act: Act::End,
+        },
+    ]
+}
+
 /// An end in place of the put is no run.
 pub fn ends_early_is_none()
     ensures { IsSourceRun one_put (until 15) ends_early_log → ⊥ }
@@ -318,4 +357,9 @@ pub fn out_of_order_is_none()
 /// A signal that takes the last of a queue is no run.
 pub fn last_signalled_is_none()
     ensures { IsSourceRun two_waiters (until 300) last_signalled_log → ⊥ }
+{}
+
+/// A process with the shorter frame that acts before one with the shorter deadline is no run.
+pub fn shorter_frame_first_is_none()
+    ensures { IsSourceRun by_deadline by_deadline_script shorter_frame_first_log → ⊥ }
 {}
