@@ -18,11 +18,11 @@ ranked us ranks one_each each = record {
   low = λ p below. let e = each p below in omega (arith, e);
   high = λ p below.
       let e = each p below in
-      let less = count_less (λ other. outranks us other p) (length us) p below (none_before_itself (use_at us p).frame p) in
+      let less = count_less (λ other. outranks us other p) (length us) p below (none_before_itself (use_at us p).deadline p) in
       omega (arith, e, less);
   ordered = λ p q p_below q_below higher.
       let rank_p = each p p_below in
       let rank_q = each q q_below in
-      let more = count_lt (λ other. outranks us other p) (λ other. outranks us other q) (length us) p (λ k below k_higher. before_along (use_at us k).frame (use_at us p).frame (use_at us q).frame k p q k_higher higher) p_below (none_before_itself (use_at us p).frame p) higher in
+      let more = count_lt (λ other. outranks us other p) (λ other. outranks us other q) (length us) p (λ k below k_higher. before_along (use_at us k).deadline (use_at us p).deadline (use_at us q).deadline k p q k_higher higher) p_below (none_before_itself (use_at us p).deadline p) higher in
       omega (arith, rank_p, rank_q, more);
 }

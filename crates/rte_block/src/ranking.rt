@@ -1,8 +1,9 @@
 //! The ranks of processes.
 
-ghost use Rattle.std.specs.Prelude.{◌≡◌, ◌==◌, ◌&&◌, ◌||◌, ◌<◌, ◌≤◌, ℕ, length, nat_lt, IfOk};
-ghost use Rattle.rte_block.specs.Ranked.{AreRanks, outranks};
+ghost use Rattle.std.specs.Prelude.{◌≡◌, ◌==◌, ◌&&◌, ◌||◌, ◌<◌, ◌≤◌, ℕ, List, length, nat_lt, IfOk};
+ghost use Rattle.rte_block.specs.Ranked.{AreCounted, AreRanks, outranks};
 ghost use Rattle.rte_block.specs.Counts.{count_below};
+ghost use Rattle.rte_block.specs.declared.uses.Use.{Use};
 
 use crate::uses::Use;
 use rte_tree::List;
@@ -15,18 +16,18 @@ fn higher(uses: &[Use], place: usize) -> u16
     ensures value { result ≡ count_below (λ other. outranks uses.now other place) (length uses.now) }
     ensures few { result ≤ 64 }
 {
-    let frame = uses[place].frame;
+    let deadline = uses[place].deadline;
     let mut count = 0;
     for (other, used) in uses.iter().enumerate() {
-        if used.frame < frame || (used.frame == frame && other < place) {
+        if used.deadline < deadline || (used.deadline == deadline && other < place) {
             count += 1;
         }
     }
     count
 }
 
-/// The rank of each of at most 64 processes, from 1, in the order of the text: the shorter frame has the smaller
-/// number, and of equal frames the earlier process.
+/// The rank of each of at most 64 processes, from 1, in the order of the text: the shorter deadline has the smaller
+/// number, and of equal deadlines the earlier process (Leung and Whitehead).
 pub fn ranks(alloc: Global, uses: &List<Use>) -> Result<List<u16>, AllocError>
     requires { length uses.now ≤ 64 }
     ensures { IfOk result (AreRanks uses.now) }
@@ -37,3 +38,9 @@ pub fn ranks(alloc: Global, uses: &List<Use>) -> Result<List<u16>, AllocError>
     }
     Ok(all)
 }
+
+/// The law of ranks: where they are 1 up to the number of processes, and who ranks higher has the smaller number, the
+/// rank of each process is one more than the number of those that rank higher.
+pub fn ranks_are_counted()
+    ensures { (us : List Use) (ranks : List ℕ) → AreRanks us ranks → AreCounted us ranks }
+{}

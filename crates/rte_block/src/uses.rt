@@ -17,6 +17,8 @@ pub struct Stay {
 pub struct Use {
     /// The ticks from one release to the next, at least.
     pub frame: u64,
+    /// Within how many ticks of its release an activation has to end.
+    pub deadline: u64,
     /// What one activation costs at most, capped.
     pub cost: Cost,
     /// The stays of the entries that it reaches through calls from its body or handler.

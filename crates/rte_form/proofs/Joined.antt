@@ -9,5 +9,5 @@ then_ok (Err e) P Q p f = tt
 pub four_joined : (t a b c d : List ℕ) → ((t ++ (a ++ b)) ++ c) ++ d ≡ t ++ (a ++ (b ++ (c ++ d)))
 four_joined t a b c d = simp append_assoc
 
-pub seven_joined : (t a b c d e f g h : List ℕ) → ((((t ++ (a ++ b)) ++ (c ++ d)) ++ e) ++ (f ++ g)) ++ h ≡ t ++ (a ++ (b ++ (c ++ (d ++ (e ++ ((f ++ g) ++ h))))))
-seven_joined t a b c d e f g h = simp append_assoc
+pub eight_joined : (t a b c d i e f g h : List ℕ) → (((((t ++ (a ++ b)) ++ (c ++ d)) ++ i) ++ e) ++ (f ++ g)) ++ h ≡ t ++ (a ++ (b ++ (c ++ (d ++ (i ++ (e ++ ((f ++ g) ++ h)))))))
+eight_joined t a b c d i e f g h = simp append_assoc

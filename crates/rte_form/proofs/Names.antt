@@ -1,11 +1,11 @@
 -- The names of a program are all different and none is too long, by their tests.
-use Rattle.std.proofs.Common.{◌≡◌, ◌≤◌, ℕ, List, [], ◌∷◌, Bool, true, false, length, sym, ap, refl}
+use Rattle.std.proofs.Common.{◌≡◌, ◌≤◌, ℕ, List, [], ◌∷◌, Bool, true, false, length, sym, ap, refl, arith}
 use Rattle.std.specs.Prelude.{◌&&◌, ◌||◌, not, nat_le, All}
 use Rattle.std.specs.List.{list_all, list_any, AllByRecursion, IsDistinct}
 use Rattle.std.specs.Str.{bytes_eq}
 use Rattle.std.proofs.lemmas.Bool.{leb-true, le-leb}
 use Rattle.std.proofs.lemmas.List.Sums.{AllPass-from_list_all, list_all-from_AllPass}
-use Rattle.rte_source_meaning.specs.Puts.{Put}
+use Rattle.rte_source_meaning.specs.Puts.{Put, PutProg, deadline_in}
 use Rattle.rte_form.specs.WellFormed.{IsPut, IsPutProg}
 use Rattle.rte_form.specs.Shape.{are_distinct, is_short_name, are_names}
 use Rattle.rte_form.proofs.Ends.{both, same_bytes, equal_bytes}
@@ -66,8 +66,8 @@ same_name v w e = by_test (bytes_eq v w) refl
     by_test false other = absurd (cc (e, ap not other))
 
 -- a program that passes the tests keeps the rules of the form
-pub kept : (name process : List ℕ) (devices : List (List ℕ)) (frame : ℕ) (puts : List Put) → are_names (name ∷ process ∷ devices) ≡ true → length devices ≤ 64 → length puts ≤ 32767 → All (IsPut devices) puts
-    → 10 ≤ frame → frame ≤ 1000000000 → IsPutProg (record { name = name; devices = devices; process = process; frame = frame; puts = puts })
-kept name process devices frame puts names few some each low high =
-    let parts = names_kept (name ∷ process ∷ devices) names in
-    record { distinct = parts.0; lengths = parts.1; devices = few; puts = some; each = each; frame_low = low; frame_high = high }
+pub kept : (f : PutProg) → are_names (f.name ∷ f.process ∷ f.devices) ≡ true → length f.devices ≤ 64 → length f.puts ≤ 32767 → All (IsPut f.devices) f.puts
+    → (10 ≤ deadline_in f) × (deadline_in f ≤ f.frame) × (f.frame ≤ 1000000000) → IsPutProg f
+kept f names few some each times =
+    let parts = names_kept (f.name ∷ f.process ∷ f.devices) names in
+    record { distinct = parts.0; lengths = parts.1; devices = few; puts = some; each = each; frame_low = omega (arith, times.0, times.1); frame_high = times.2; deadline_low = times.0; deadline_high = times.1 }

@@ -7,12 +7,12 @@ use Rattle.rte_tree.specs.Plain as plain_of
 use Rattle.rte_tree.specs.Plain.{Name}
 use Rattle.rte_tree.specs.declared.place.Place.{Place}
 use Rattle.rte_tree.specs.Placed as t
-use Rattle.rte_tree.specs.Placed.{Expr, Stmt, Stmts, Var, Routine, Activation, Handler, Process, Decl, Prog, optional, plain_expr, plain_stmt, plain_stmts, plain_var, plain_routine, plain_activation, plain_handler, plain_process, plain_decl, plain}
+use Rattle.rte_tree.specs.Placed.{Constant, Expr, Stmt, Stmts, Var, Routine, Activation, Handler, Process, Decl, Prog, optional, plain_expr, plain_stmt, plain_stmts, plain_var, plain_routine, plain_constant, plain_activation, plain_handler, plain_process, plain_decl, plain}
 use Rattle.rte_source_meaning.specs.Puts.{Put, PutProg, put_stmts, put_process, put_decls, put_prog}
 use Rattle.rte_form.specs.declared.form.Form.{Form}
 use Rattle.rte_form.specs.Form.{program_of}
 use Rattle.rte_form.specs.Reading.{IsClosed, IsForm}
-use Rattle.rte_form.specs.Shape.{with_first, number_in, number_put, put_in, puts_in, device_in, devices_in, ticks_in, frame_by, frame_in, IsMade}
+use Rattle.rte_form.specs.Shape.{with_first, number_in, number_put, put_in, puts_in, device_in, devices_in, literal_in, told_in, timed, ticks_in, times_by, times_in, IsMade}
 
 -- a list with one more at the front is there where both are
 first_parts : {A : Type 0} (x : Option A) (xs : Option (List A)) (ys : List A) → with_first x xs ≡ Some ys → (y : A) × (more : List A) × (x ≡ Some y) × (xs ≡ Some more) × (ys ≡ y ∷ more)
@@ -74,16 +74,59 @@ pub nothing_there : {A B : Type 0} (f : A → B) (x : Option A) → optional f x
 nothing_there f None e = refl
 nothing_there f (Some x) e = absurd (cc)
 
-ticks_sound : {P : Type 0} (a : Activation P) (n : ℕ) → ticks_in a ≡ Some n → plain_activation a ≡ plain_of.periodic (plain_of.literal_constant false n) None None
-ticks_sound (t.periodic (t.literal_constant p false m q) None) n e = let same : m ≡ n = cc in ap (λ (k : ℕ). plain_of.periodic (plain_of.literal_constant false k) None None) same
-ticks_sound _ n e = absurd (cc)
+literal_sound : {P : Type 0} (c : Constant P) (n : ℕ) → literal_in c ≡ Some n → plain_constant c ≡ plain_of.literal_constant false n
+literal_sound (t.literal_constant p false m q) n e = let same : m ≡ n = cc in ap (plain_of.literal_constant false) same
+literal_sound _ n e = absurd (cc)
 
-ticks_complete : {P : Type 0} (a : Activation P) (n : ℕ) → plain_activation a ≡ plain_of.periodic (plain_of.literal_constant false n) None None → ticks_in a ≡ Some n
-ticks_complete (t.periodic (t.literal_constant p false m q) None) n e = let same : m ≡ n = cc in ap Some same
-ticks_complete _ n e = absurd (cc)
+literal_complete : {P : Type 0} (c : Constant P) (n : ℕ) → plain_constant c ≡ plain_of.literal_constant false n → literal_in c ≡ Some n
+literal_complete (t.literal_constant p false m q) n e = let same : m ≡ n = cc in ap Some same
+literal_complete _ n e = absurd (cc)
+
+-- a constant that is no literal tells no deadline
+no_literal : (o : Option ℕ) (x : Option ℕ) → option_map Some o ≡ Some x → (n : ℕ) × (o ≡ Some n) × (x ≡ Some n)
+no_literal None x e = absurd (cc)
+no_literal (Some n) x e = (n, refl, cc)
+
+-- what is told is the deadline as a literal
+told_sound : {P : Type 0} (o : Option (Constant P)) (d : Option ℕ) → told_in o ≡ Some d → optional plain_constant o ≡ option_map (plain_of.literal_constant false) d
+told_sound None d e = let none : None ≡ d = cc in ap (option_map (plain_of.literal_constant false)) none
+told_sound (Some c) d e =
+    let found = no_literal (literal_in c) d e in
+    ap Some (literal_sound c found.0 found.1) ∙ ap (option_map (plain_of.literal_constant false)) (sym found.2)
+
+told_complete : {P : Type 0} (o : Option (Constant P)) (d : Option ℕ) → optional plain_constant o ≡ option_map (plain_of.literal_constant false) d → told_in o ≡ Some d
+told_complete None None e = refl
+told_complete None (Some n) e = absurd (cc)
+told_complete (Some c) None e = absurd (cc)
+told_complete (Some c) (Some n) e = let literal = literal_complete c n (cc) in rw literal refl
+
+-- a process of this frame and this deadline
+abbrev plain_times : ℕ → Option ℕ → plain_of.Activation
+plain_times n d = plain_of.periodic (plain_of.literal_constant false n) (option_map (plain_of.literal_constant false) d) None
+
+timed_parts : (x : Option ℕ) (y : Option (Option ℕ)) (n : ℕ) (d : Option ℕ) → timed x y ≡ Some (n, d) → (x ≡ Some n) × (y ≡ Some d)
+timed_parts (Some x) (Some y) n d e =
+    let same : (x, y) ≡ (n, d) = cc in
+    (ap (λ (p : ℕ × Option ℕ). Some p.0) same, ap (λ (p : ℕ × Option ℕ). Some p.1) same)
+timed_parts (Some x) None n d e = absurd (cc)
+timed_parts None y n d e = absurd (cc)
+
+ticks_sound : {P : Type 0} (a : Activation P) (n : ℕ) (d : Option ℕ) → ticks_in a ≡ Some (n, d) → plain_activation a ≡ plain_times n d
+ticks_sound (t.periodic frame deadline None) n d e =
+    let parts = timed_parts (literal_in frame) (told_in deadline) n d e in
+    ap (λ (c : plain_of.Constant). plain_of.periodic c (optional plain_constant deadline) None) (literal_sound frame n parts.0)
+    ∙ ap (λ (o : Option plain_of.Constant). plain_of.periodic (plain_of.literal_constant false n) o None) (told_sound deadline d parts.1)
+ticks_sound _ n d e = absurd (cc)
+
+ticks_complete : {P : Type 0} (a : Activation P) (n : ℕ) (d : Option ℕ) → plain_activation a ≡ plain_times n d → ticks_in a ≡ Some (n, d)
+ticks_complete (t.periodic frame deadline None) n d e =
+    let literal = literal_complete frame n (cc) in
+    let told = told_complete deadline d (cc) in
+    rw (literal, told) refl
+ticks_complete _ n d e = absurd (cc)
 
 -- a process that has more has no such frame
-pub no_frame : {P : Type 0} (a : Activation P) (vars : List (Var P)) (routines : List (Routine P)) (handler : Option (Handler P)) → (vars ≡ [] → routines ≡ [] → handler ≡ None → ⊥) → frame_by a vars routines handler ≡ None
+pub no_frame : {P : Type 0} (a : Activation P) (vars : List (Var P)) (routines : List (Routine P)) (handler : Option (Handler P)) → (vars ≡ [] → routines ≡ [] → handler ≡ None → ⊥) → times_by a vars routines handler ≡ None
 no_frame a [] [] None more = absurd (more refl refl refl)
 no_frame a [] [] (Some h) more = refl
 no_frame a [] (r ∷ rs) handler more = refl
@@ -93,24 +136,24 @@ no_frame a (v ∷ vs) routines handler more = refl
 abbrev made_process : Name → plain_of.Activation → List plain_of.Var → List plain_of.Routine → plain_of.Stmts → Option plain_of.Handler → plain_of.Process
 made_process name activation vars routines body handler = record { name = name; activation = activation; vars = vars; routines = routines; body = body; handler = handler }
 
-abbrev plain_puts : Name → ℕ → List Put → plain_of.Process
-plain_puts name n ps = made_process name (plain_of.periodic (plain_of.literal_constant false n) None None) [] [] (put_stmts ps) None
+abbrev plain_puts : Name → ℕ → Option ℕ → List Put → plain_of.Process
+plain_puts name n d ps = made_process name (plain_times n d) [] [] (put_stmts ps) None
 
-process_by : {P : Type 0} (name : Name) (a : Activation P) (vars : List (Var P)) (routines : List (Routine P)) (ss : Stmts P) (handler : Option (Handler P)) (n : ℕ) (ps : List Put)
-    → frame_by a vars routines handler ≡ Some n → puts_in ss ≡ Some ps
-    → made_process name (plain_activation a) (map plain_var vars) (map plain_routine routines) (plain_stmts ss) (optional plain_handler handler) ≡ plain_puts name n ps
-process_by name a [] [] ss None n ps frame puts =
-    ap (λ b. made_process name b [] [] (plain_stmts ss) None) (ticks_sound a n frame) ∙ ap (λ b. made_process name (plain_of.periodic (plain_of.literal_constant false n) None None) [] [] b None) (puts_sound ss ps puts)
-process_by name a [] [] ss (Some h) n ps frame puts = absurd (cc)
-process_by name a [] (r ∷ rs) ss handler n ps frame puts = absurd (cc)
-process_by name a (v ∷ vs) routines ss handler n ps frame puts = absurd (cc)
+process_by : {P : Type 0} (name : Name) (a : Activation P) (vars : List (Var P)) (routines : List (Routine P)) (ss : Stmts P) (handler : Option (Handler P)) (n : ℕ) (d : Option ℕ) (ps : List Put)
+    → times_by a vars routines handler ≡ Some (n, d) → puts_in ss ≡ Some ps
+    → made_process name (plain_activation a) (map plain_var vars) (map plain_routine routines) (plain_stmts ss) (optional plain_handler handler) ≡ plain_puts name n d ps
+process_by name a [] [] ss None n d ps times puts =
+    ap (λ b. made_process name b [] [] (plain_stmts ss) None) (ticks_sound a n d times) ∙ ap (λ b. made_process name (plain_times n d) [] [] b None) (puts_sound ss ps puts)
+process_by name a [] [] ss (Some h) n d ps times puts = absurd (cc)
+process_by name a [] (r ∷ rs) ss handler n d ps times puts = absurd (cc)
+process_by name a (v ∷ vs) routines ss handler n d ps times puts = absurd (cc)
 
-pub process_sound : {P : Type 0} (p : Process P) (n : ℕ) (ps : List Put) → frame_in p ≡ Some n → puts_in p.body ≡ Some ps → plain_process p ≡ plain_puts p.name n ps
-process_sound p n ps frame puts = process_by p.name p.activation p.vars p.routines p.body p.handler n ps frame puts
+pub process_sound : {P : Type 0} (p : Process P) (n : ℕ) (d : Option ℕ) (ps : List Put) → times_in p ≡ Some (n, d) → puts_in p.body ≡ Some ps → plain_process p ≡ plain_puts p.name n d ps
+process_sound p n d ps times puts = process_by p.name p.activation p.vars p.routines p.body p.handler n d ps times puts
 
-pub frame_complete : {P : Type 0} (p : Process P) (name : Name) (n : ℕ) (ps : List Put) → plain_process p ≡ plain_puts name n ps → frame_in p ≡ Some n
-frame_complete p name n ps is =
-    let ticks = ticks_complete p.activation n (ap (λ (q : plain_of.Process). q.activation) is) in
+pub times_complete : {P : Type 0} (p : Process P) (name : Name) (n : ℕ) (d : Option ℕ) (ps : List Put) → plain_process p ≡ plain_puts name n d ps → times_in p ≡ Some (n, d)
+times_complete p name n d ps is =
+    let ticks = ticks_complete p.activation n d (ap (λ (q : plain_of.Process). q.activation) is) in
     let vars = nothing_mapped plain_var p.vars (ap (λ (q : plain_of.Process). q.vars) is) in
     let routines = nothing_mapped plain_routine p.routines (ap (λ (q : plain_of.Process). q.routines) is) in
     let handler = nothing_there plain_handler p.handler (ap (λ (q : plain_of.Process). q.handler) is) in
@@ -187,7 +230,7 @@ made_prog name decls = record { name = name; decls = decls }
 pub made_is_form : (g : Prog Place) (before : List (Decl Place)) (p : Process Place) (f : PutProg) → g.decls ≡ before ++ t.process p ∷ [] → IsMade g.name g.close before p f → IsForm g f
 made_is_form g before p f split made =
     let decls : map plain_decl g.decls ≡ put_decls (plain_process p) f.devices = ap (map plain_decl) split ∙ decls_sound before p f.devices made.devices_are in
-    let same : plain_process p ≡ put_process f = process_sound p f.frame f.puts made.frame_is made.puts_are ∙ ap (λ (n : Name). plain_puts n f.frame f.puts) (sym made.process_is) in
+    let same : plain_process p ≡ put_process f = process_sound p f.frame f.deadline f.puts made.times_are made.puts_are ∙ ap (λ (n : Name). plain_puts n f.frame f.deadline f.puts) (sym made.process_is) in
     record {
       shape = ap (λ (n : Name). made_prog n (map plain_decl g.decls)) (sym made.name_is) ∙ ap (made_prog f.name) (decls ∙ ap (λ q. put_decls q f.devices) same);
       close = made.close_is;
@@ -215,7 +258,7 @@ form_is_made g before p f split is =
       name_is = sym (ap (λ (h : plain_of.Prog). h.name) is.shape);
       devices_are = ap devices_in both.0 ∙ parts.devices;
       process_is = sym (ap (λ (q : plain_of.Process). q.name) same);
-      frame_is = frame_complete p f.process f.frame f.puts same;
+      times_are = times_complete p f.process f.frame f.deadline f.puts same;
       puts_are = puts_complete p.body f.puts (ap (λ (q : plain_of.Process). q.body) same);
       close_is = is.close;
       process_close_is = last_closed before p (subst (All IsClosed) split is.closes);
@@ -254,18 +297,25 @@ one_decls p q [] (n ∷ ns) e = absurd (cc)
 one_decls p q (n ∷ ns) [] e = absurd (cc)
 one_decls p q (n ∷ ns) (m ∷ ms) e = let more = one_decls p q ns ms (cc) in let same : n ≡ m = cc in (more.0, cc (same, more.1))
 
-abbrev made_program : Name → List Name → Name → ℕ → List Put → PutProg
-made_program name devices process frame puts = record { name = name; devices = devices; process = process; frame = frame; puts = puts }
+abbrev made_program : Name → List Name → Name → ℕ → Option ℕ → List Put → PutProg
+made_program name devices process frame deadline puts = record { name = name; devices = devices; process = process; frame = frame; deadline = deadline; puts = puts }
+
+one_deadline : (d e : Option ℕ) → option_map (plain_of.literal_constant false) d ≡ option_map (plain_of.literal_constant false) e → d ≡ e
+one_deadline None None is = refl
+one_deadline None (Some n) is = absurd (cc)
+one_deadline (Some n) None is = absurd (cc)
+one_deadline (Some n) (Some m) is = let same : n ≡ m = cc in ap Some same
 
 one_program : (f h : PutProg) → put_prog f ≡ put_prog h → f ≡ h
 one_program f h e =
     let name : f.name ≡ h.name = ap (λ (g : plain_of.Prog). g.name) e in
     let decls = one_decls (put_process f) (put_process h) f.devices h.devices (ap (λ (g : plain_of.Prog). g.decls) e) in
     let process : f.process ≡ h.process = ap (λ (p : plain_of.Process). p.name) decls.0 in
-    let activation : plain_of.periodic (plain_of.literal_constant false f.frame) None None ≡ plain_of.periodic (plain_of.literal_constant false h.frame) None None = ap (λ (p : plain_of.Process). p.activation) decls.0 in
+    let activation : plain_times f.frame f.deadline ≡ plain_times h.frame h.deadline = ap (λ (p : plain_of.Process). p.activation) decls.0 in
     let frame : f.frame ≡ h.frame = cc in
+    let deadline = one_deadline f.deadline h.deadline (cc) in
     let puts = one_puts f.puts h.puts (ap (λ (p : plain_of.Process). p.body) decls.0) in
-    let same : made_program f.name f.devices f.process f.frame f.puts ≡ made_program h.name h.devices h.process h.frame h.puts = cc (name, decls.1, process, frame, puts) in
+    let same : made_program f.name f.devices f.process f.frame f.deadline f.puts ≡ made_program h.name h.devices h.process h.frame h.deadline h.puts = cc (name, decls.1, process, frame, deadline, puts) in
     same
 
 pub one_form : (g : Prog Place) (f other : PutProg) → IsForm g f → IsForm g other → f ≡ other

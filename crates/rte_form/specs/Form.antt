@@ -9,4 +9,4 @@ abbrev pub named_put : List (List ℕ) → Numbered → Put
 named_put devices p = record { dev = unwrap_or (slice_get devices p.dev) []; value = p.value }
 
 abbrev pub program_of : Form → PutProg
-program_of f = record { name = f.name; devices = f.devices; process = f.process; frame = f.frame; puts = map (named_put f.devices) f.puts }
+program_of f = record { name = f.name; devices = f.devices; process = f.process; frame = f.frame; deadline = f.deadline; puts = map (named_put f.devices) f.puts }

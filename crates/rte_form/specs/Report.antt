@@ -1,11 +1,11 @@
 -- The report on a program of the first form.
-use Rattle.std.specs.Prelude.{◌+◌, ◌*◌, ◌++◌, ℕ, Bool, List, Option, Some, None, length, codes, decimal, nat_le, if◌then◌else◌}
+use Rattle.std.specs.Prelude.{◌+◌, ◌*◌, ◌++◌, ℕ, Bool, List, [], Option, Some, None, length, codes, decimal, nat_le, nat_eq, if◌then◌else◌}
 use Rattle.rte_form.specs.Target.{cost_of, stack_of}
-use Rattle.rte_source_meaning.specs.Puts.{PutProg}
+use Rattle.rte_source_meaning.specs.Puts.{PutProg, deadline_in}
 
--- the cost is at most the frame
+-- the cost is at most the deadline
 abbrev pub is_timely : PutProg → Bool
-is_timely f = nat_le (cost_of f.puts) f.frame
+is_timely f = nat_le (cost_of f.puts) (deadline_in f)
 
 -- a timely program has a bound, which is its cost
 abbrev pub bound_in : PutProg → Option ℕ
@@ -23,12 +23,16 @@ verdict_text None process = codes "untimely " ++ (process ++ codes "\n")
 abbrev pub times_text : PutProg → Option ℕ → List ℕ
 times_text f bound = codes " rank 1 cost " ++ (decimal (cost_of f.puts) ++ (codes " suspend 0 waits 0 block 0 bound " ++ bound_text bound))
 
+-- the deadline, where it is not the frame
+abbrev pub deadline_text : (frame deadline : ℕ) → List ℕ
+deadline_text frame deadline = if nat_eq deadline frame then [] else codes " deadline " ++ decimal deadline
+
 -- its words of data and of stack
 abbrev pub sizes_text : PutProg → List ℕ
 sizes_text f = codes " data 0 stack " ++ decimal (stack_of f.puts)
 
 abbrev pub process_text : PutProg → Option ℕ → List ℕ
-process_text f bound = codes "process " ++ (f.process ++ (codes " frame " ++ (decimal f.frame ++ (times_text f bound ++ (sizes_text f ++ codes "\n")))))
+process_text f bound = codes "process " ++ (f.process ++ (codes " frame " ++ (decimal f.frame ++ (deadline_text f.frame (deadline_in f) ++ (times_text f bound ++ (sizes_text f ++ codes "\n"))))))
 
 abbrev pub code_text : PutProg → List ℕ
 code_text f = codes "code " ++ (decimal (2 * length f.puts + 1) ++ codes "\n")

@@ -1,10 +1,11 @@
--- What a tree is made of, part by part: its puts, its devices, and the frame of its process, if it has the shape of the form.
+-- What a tree is made of, part by part: its puts, its devices, and the frame and deadline of its process, if it has the shape of the
+-- form.
 use Rattle.std.specs.Prelude.{◌≡◌, ℕ, Bool, true, false, not, ◌&&◌, List, [], ◌∷◌, Option, Some, None, option_map, length, nat_le}
 use Rattle.std.specs.List.{list_all, list_any}
 use Rattle.std.specs.Str.{bytes_eq}
 use Rattle.rte_tree.specs.Plain.{Name}
 use Rattle.rte_tree.specs.declared.place.Place.{Place}
-use Rattle.rte_tree.specs.Placed.{literal_constant, Expr, literal, Stmt, put, Stmts, no_stmts, stmts, Var, Routine, Activation, periodic, Handler, Process, Decl, device, Prog}
+use Rattle.rte_tree.specs.Placed.{Constant, literal_constant, Expr, literal, Stmt, put, Stmts, no_stmts, stmts, Var, Routine, Activation, periodic, Handler, Process, Decl, device, Prog}
 use Rattle.rte_source_meaning.specs.Puts.{Put, PutProg}
 use Rattle.rte_form.specs.WellFormed.{IsPutProg}
 
@@ -42,25 +43,40 @@ abbrev pub devices_in : {P : Type 0} → List (Decl P) → Option (List Name)
 devices_in [] = Some []
 devices_in (d ∷ ds) = with_first (device_in d) (devices_in ds)
 
--- the frame, if it is a literal and no first activation is told
-abbrev pub ticks_in : {P : Type 0} → Activation P → Option ℕ
-ticks_in (periodic (literal_constant p false n q) None) = Some n
+-- the number that a constant is, if it is a literal without a minus
+abbrev pub literal_in : {P : Type 0} → Constant P → Option ℕ
+literal_in (literal_constant p false n q) = Some n
+literal_in c = None
+
+-- the deadline that is told, or that none is
+abbrev pub told_in : {P : Type 0} → Option (Constant P) → Option (Option ℕ)
+told_in None = Some None
+told_in (Some c) = option_map Some (literal_in c)
+
+-- both, where both are there
+abbrev pub timed : Option ℕ → Option (Option ℕ) → Option (ℕ × Option ℕ)
+timed (Some frame) (Some deadline) = Some (frame, deadline)
+timed frame deadline = None
+
+-- the frame and the deadline, if there is one: literals, where no first activation is told
+abbrev pub ticks_in : {P : Type 0} → Activation P → Option (ℕ × Option ℕ)
+ticks_in (periodic frame deadline None) = timed (literal_in frame) (told_in deadline)
 ticks_in a = None
 
 -- the same, if the process has no variables, no routines and no handler
-abbrev pub frame_by : {P : Type 0} → Activation P → List (Var P) → List (Routine P) → Option (Handler P) → Option ℕ
-frame_by a [] [] None = ticks_in a
-frame_by a vars routines handler = None
+abbrev pub times_by : {P : Type 0} → Activation P → List (Var P) → List (Routine P) → Option (Handler P) → Option (ℕ × Option ℕ)
+times_by a [] [] None = ticks_in a
+times_by a vars routines handler = None
 
-abbrev pub frame_in : {P : Type 0} → Process P → Option ℕ
-frame_in p = frame_by p.activation p.vars p.routines p.handler
+abbrev pub times_in : {P : Type 0} → Process P → Option (ℕ × Option ℕ)
+times_in p = times_by p.activation p.vars p.routines p.handler
 
 -- a program of this name, these devices before its process and this process is of the form
 pub record IsMade (name close : Name) (decls : List (Decl Place)) (p : Process Place) (f : PutProg) : Type 0 where
   pub name_is : f.name ≡ name
   pub devices_are : devices_in decls ≡ Some f.devices
   pub process_is : f.process ≡ p.name
-  pub frame_is : frame_in p ≡ Some f.frame
+  pub times_are : times_in p ≡ Some (f.frame, f.deadline)
   pub puts_are : puts_in p.body ≡ Some f.puts
   pub close_is : close ≡ name
   pub process_close_is : p.close ≡ p.name

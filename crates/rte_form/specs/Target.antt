@@ -6,7 +6,7 @@ use Rattle.rte_image.specs.declared.names.DevName.{DevName}
 use Rattle.rte_image.specs.declared.names.ImageNames.{ImageNames}
 use Rattle.rte_image.specs.Named.{NamedImage}
 use Rattle.rte_source_meaning.specs.Names.{place_of}
-use Rattle.rte_source_meaning.specs.Puts.{Put, PutProg}
+use Rattle.rte_source_meaning.specs.Puts.{Put, PutProg, deadline_in}
 use Rattle.rte_machine_meaning.specs.Image.{Image, Process, Script}
 use Rattle.rte_machine_meaning.specs.Trees.{Segs, Nil, Cons, Line}
 
@@ -34,6 +34,7 @@ abbrev pub process_of : PutProg → Process
 process_of f = record {
   kind = 0;
   frame = f.frame;
+  deadline = deadline_in f;
   first = 0;
   event = 0;
   rank = 1;

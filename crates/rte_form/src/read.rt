@@ -3,14 +3,14 @@
 ghost use Rattle.std.specs.Prelude.{◌≡◌, ◌≢◌, ◌≤◌, ◌<◌, ◌^◌, ◌↔◌, ◌∷◌, ◌++◌, [], All, List as Listed, IsTrue, length, IfOk, IfSome, IfNone, map, Some, None, position};
 ghost use Rattle.std.specs.List.{list_all, IsDistinct};
 ghost use Rattle.std.specs.Str.{bytes_eq};
-ghost use Rattle.rte_tree.specs.Placed.{placed, placed_activation, placed_decl, placed_expr, placed_process, placed_stmt, placed_stmts};
+ghost use Rattle.rte_tree.specs.Placed.{placed, placed_activation, placed_constant, placed_decl, placed_expr, placed_process, placed_stmt, placed_stmts};
 ghost use Rattle.rte_tree.specs.Placed.{Decl as SpecDecl, Process, process};
 ghost use Rattle.rte_tree.specs.declared.place.Place.{Place};
 ghost use Rattle.rte_source_meaning.specs.Puts.{PutProg, Put as NamedPut};
 ghost use Rattle.rte_form.specs.Form.{named_put, program_of};
 ghost use Rattle.rte_form.specs.Reading.{IsForm};
 ghost use Rattle.rte_form.specs.Shape as shape;
-ghost use Rattle.rte_form.specs.Shape.{number_in, number_put, put_in, puts_in, device_in, devices_in, ticks_in, frame_in, IsMade, is_short_name};
+ghost use Rattle.rte_form.specs.Shape.{number_in, number_put, put_in, puts_in, device_in, devices_in, literal_in, ticks_in, times_in, IsMade, is_short_name};
 ghost use Rattle.rte_form.specs.WellFormed.{IsPut};
 
 use crate::form::{Form, Put};
@@ -23,8 +23,8 @@ const MOST_DEVICES: usize = 64;
 /// The most puts that a program has.
 const MOST_PUTS: usize = 32_767;
 
-/// The frames that a program may have, in ticks.
-const LEAST_FRAME: u32 = 10;
+/// The least deadline and the greatest frame that a program may have, in ticks.
+const LEAST_DEADLINE: u32 = 10;
 
 const GREATEST_FRAME: u32 = 1_000_000_000;
 
@@ -126,32 +126,56 @@ fn read_devices(alloc: Global, decls: &[Decl]) -> Result<Option<List<Name>>, All
     Ok(Some(devices))
 }
 
-/// The frame of a process, if it is periodic with a literal as its frame and no first activation.
-fn ticks_of(activation: &Activation) -> Option<u32>
-    ensures { result ≡ ticks_in (placed_activation activation.now) }
+/// The number of a constant, if it is a literal without a minus.
+fn literal_of(constant: &Constant) -> Option<u32>
+    ensures { result ≡ literal_in (placed_constant constant.now) }
 {
-    match activation {
-        Activation::Periodic {
-            frame: Constant {
-                minus: false,
-                value: Value::Literal(ticks),
-                ..
-            },
-            first: None,
-        } => Some(*ticks),
+    match constant {
+        Constant {
+            minus: false,
+            value: Value::Literal(number),
+            ..
+        } => Some(*number),
         _ => None,
     }
 }
 
+/// The frame of a process, and its deadline where one is told, if it is periodic with literals as
+/// these and no first activation.
+fn ticks_of(activation: &Activation) -> Option<(u32, Option<u32>)>
+    ensures { result ≡ ticks_in (placed_activation activation.now) }
+{
+    let Activation::Periodic {
+        frame,
+        deadline,
+        first: None,
+    } = activation
+    else {
+        return None;
+    };
+    let frame = literal_of(frame)?;
+    match deadline {
+        None => Some((frame, None)),
+        Some(deadline) => Some((frame, Some(literal_of(deadline)?))),
+    }
+}
+
 /// The same, if the process has no variables, no routines and no handler.
-fn frame_of(process: &Proc) -> Option<u32>
-    ensures { result ≡ frame_in (placed_process process.now) }
+fn times_of(process: &Proc) -> Option<(u32, Option<u32>)>
+    ensures { result ≡ times_in (placed_process process.now) }
 {
     if process.vars.is_empty() && process.routines.is_empty() && process.handler.is_none() {
         ticks_of(&process.activation)
     } else {
         None
     }
+}
+
+/// A deadline is 10 ticks to the frame, and a frame at most 1,000,000,000.
+fn are_times(frame: u32, deadline: u32) -> bool
+    ensures { IsTrue result ↔ ((10 ≤ deadline) × (deadline ≤ frame) × (frame ≤ 1000000000)) }
+{
+    LEAST_DEADLINE <= deadline && deadline <= frame && frame <= GREATEST_FRAME
 }
 
 /// No name stands twice.
@@ -216,10 +240,12 @@ fn read_parts(
     if !are_names(&tree.name, &process.name, devices.as_slice()) {
         return Ok(None);
     }
-    let frame = match frame_of(process) {
-        Some(frame) if (LEAST_FRAME..=GREATEST_FRAME).contains(&frame) => frame,
-        _ => return Ok(None),
+    let Some((frame, deadline)) = times_of(process) else {
+        return Ok(None);
     };
+    if !are_times(frame, deadline.unwrap_or(frame)) {
+        return Ok(None);
+    }
     let Some(puts) = read_puts(alloc, devices.as_slice(), process.body.as_slice())? else {
         return Ok(None);
     };
@@ -228,6 +254,7 @@ fn read_parts(
         devices,
         process: Name::new(alloc, process.name.as_bytes())?,
         frame,
+        deadline,
         puts,
     }))
 }
@@ -246,10 +273,11 @@ fn split_process(decls: &[Decl]) -> Option<(&Proc, &[Decl])>
 /// The program of the first form that a tree is, and nothing where it is none.
 ///
 /// A tree of the form has up to 64 declarations of out devices and then a process that is periodic,
-/// with a literal as its frame and no first activation, no variables, routines and handler, and up
-/// to 32,767 statements, each a put of a literal. Names have at most 63 bytes and are all different;
-/// the closing ones are the opening ones; each device of a put is declared; the frame is 10 to
-/// 1,000,000,000 ticks and each number at most 2147483647.
+/// with literals as its frame and as its deadline, where one is told, and no first activation, no
+/// variables, routines and handler, and up to 32,767 statements, each a put of a literal. Names have
+/// at most 63 bytes and are all different; the closing ones are the opening ones; each device of a
+/// put is declared; the frame is 10 to 1,000,000,000 ticks, the deadline 10 to the frame, and each
+/// number at most 2147483647.
 pub fn read_form(alloc: Global, tree: &Prog) -> Result<Option<Form>, AllocError>
     ensures some { IfOk result (λ form. IfSome form (λ f. IsForm (placed tree.now) (program_of f))) }
     ensures none { IfOk result (λ form. IfNone form ((f : PutProg) → ¬ IsForm (placed tree.now) f)) }

@@ -2,8 +2,9 @@
 
 ghost use Rattle.std.specs.Prelude.{◌≡◌, ◌≤◌, ◌+◌, ◌*◌, ◌++◌, ◌<◌, ◌^◌, length, codes, decimal, IfOk, OnOk, ◌↔◌, IsTrue};
 ghost use Rattle.rte_form.specs.Form.{program_of};
-ghost use Rattle.rte_form.specs.Report.{bound_text, verdict_text, times_text, process_text, code_text, report_with};
+ghost use Rattle.rte_form.specs.Report.{bound_text, deadline_text, verdict_text, times_text, process_text, code_text, report_with};
 ghost use Rattle.rte_form.specs.Target.{cost_of, stack_of};
+ghost use Rattle.rte_source_meaning.specs.Puts.{deadline_in};
 
 use crate::form::Form;
 use itoa::Buffer;
@@ -59,6 +60,17 @@ fn add_bound(text: &mut Text, bound: Option<u64>) -> Result<(), AllocError>
     }
 }
 
+/// Puts the deadline at the end of a text, where it is not the frame.
+fn add_deadline(text: &mut Text, form: &Form) -> Result<(), AllocError>
+    ensures { OnOk result (text.new ≡ text.old ++ deadline_text form.now.frame (deadline_in (program_of form.now))) }
+{
+    let deadline = form.limit();
+    if deadline == form.frame {
+        return Ok(());
+    }
+    add_number(text, " deadline ", u64::from(deadline))
+}
+
 /// Puts the cost and the bound at the end of a text.
 fn add_times(text: &mut Text, form: &Form, bound: Option<u64>) -> Result<(), AllocError>
     requires { length form.now.puts ≤ 32767 }
@@ -76,6 +88,7 @@ fn add_process(text: &mut Text, form: &Form, bound: Option<u64>) -> Result<(), A
 {
     add_name(text, "process ", &form.process)?;
     add_number(text, " frame ", u64::from(form.frame))?;
+    add_deadline(text, form)?;
     add_times(text, form, bound)?;
     add_number(text, " data 0 stack ", form.stack())?;
     text.extend(b"\n")
@@ -103,9 +116,10 @@ fn add_verdict(text: &mut Text, process: &Name, bound: Option<u64>) -> Result<()
     }
 }
 
-/// The report on a program of this bound: its name, its process with the frame, the cost, the bound
-/// (`none` where there is none) and the words of stack, the number of its instructions, and whether
-/// it is timely, which it is where it has a bound. The cost is at most 360,441 ticks.
+/// The report on a program of this bound: its name, its process with the frame, the deadline where
+/// it is not the frame, the cost, the bound (`none` where there is none) and the words of stack, the
+/// number of its instructions, and whether it is timely, which it is where it has a bound. The cost
+/// is at most 360,441 ticks.
 #[tactic(auto, unfolding(crate::specs::Report::report_with))]
 pub fn report(alloc: Global, form: &Form, bound: Option<u64>) -> Result<Text, AllocError>
     requires { length form.now.puts ≤ 32767 }

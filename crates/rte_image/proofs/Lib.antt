@@ -1,4 +1,3 @@
 pub mod Chain
-pub mod InRange
 pub mod Mapped
 pub mod Rows

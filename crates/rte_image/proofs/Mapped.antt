@@ -3,7 +3,7 @@ use Rattle.std.proofs.Common.{◌≡◌, ◌<◌, ◌+◌, ◌++◌, ℕ, List, 
 use Rattle.std.specs.List.{flat_map}
 use Rattle.std.proofs.lemmas.List.{get_or-map, drop_more, take_more, map-append, flat_map_more, length-map}
 use Rattle.rte_image.specs.declared.raw.RawProc.{RawProc}
-use Rattle.rte_image.specs.Bytes.{process_bytes, processes_bytes}
+use Rattle.rte_image.specs.Bytes.{Second, process_bytes, processes_bytes}
 use Rattle.rte_image.specs.Raw.{process_of}
 
 -- what holds of each of the new list holds of what an element becomes
@@ -22,12 +22,12 @@ one_more f bytes xs i x start out new within is so_far put =
 
 -- the bytes of one more process, where the rest is still to be put
 pub one_process_more : (names : List (List ℕ)) (ps : List RawProc) (i : ℕ) (name : List ℕ) (p : RawProc) (all out new : List ℕ) → i < length names → i < length ps
-    → name ≡ get_or names i name → p ≡ get_or ps i p → out ++ processes_bytes (drop i names) (map process_of (drop i ps)) ≡ all → new ≡ out ++ process_bytes name (process_of p)
-    → new ++ processes_bytes (drop (i + 1) names) (map process_of (drop (i + 1) ps)) ≡ all
+    → name ≡ get_or names i name → p ≡ get_or ps i p → out ++ processes_bytes Second (drop i names) (map process_of (drop i ps)) ≡ all → new ≡ out ++ process_bytes Second name (process_of p)
+    → new ++ processes_bytes Second (drop (i + 1) names) (map process_of (drop (i + 1) ps)) ≡ all
 one_process_more names ps i name p all out new named within name-is p-is so_far put =
-    let rest : List ℕ = processes_bytes (drop (i + 1) names) (map process_of (drop (i + 1) ps)) in
+    let rest : List ℕ = processes_bytes Second (drop (i + 1) names) (map process_of (drop (i + 1) ps)) in
     let first : drop i names ≡ name ∷ drop (i + 1) names = drop_more names i name named ∙ ap (λ n. n ∷ drop (i + 1) names) (sym name-is) in
     let second : drop i ps ≡ p ∷ drop (i + 1) ps = drop_more ps i p within ∙ ap (λ q. q ∷ drop (i + 1) ps) (sym p-is) in
-    let left : processes_bytes (drop i names) (map process_of (drop i ps)) ≡ process_bytes name (process_of p) ++ rest =
-    ap (λ ns. processes_bytes ns (map process_of (drop i ps))) first ∙ ap (λ qs. processes_bytes (name ∷ drop (i + 1) names) (map process_of qs)) second in
-    ap (λ (ys : List ℕ). ys ++ rest) put ∙ append_assoc out (process_bytes name (process_of p)) rest ∙ ap (λ (ys : List ℕ). out ++ ys) (sym left) ∙ so_far
+    let left : processes_bytes Second (drop i names) (map process_of (drop i ps)) ≡ process_bytes Second name (process_of p) ++ rest =
+    ap (λ ns. processes_bytes Second ns (map process_of (drop i ps))) first ∙ ap (λ qs. processes_bytes Second (name ∷ drop (i + 1) names) (map process_of qs)) second in
+    ap (λ (ys : List ℕ). ys ++ rest) put ∙ append_assoc out (process_bytes Second name (process_of p)) rest ∙ ap (λ (ys : List ℕ). out ++ ys) (sym left) ∙ so_far

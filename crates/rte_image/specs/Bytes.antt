@@ -1,6 +1,6 @@
--- The bytes of an image, version 1: a head with all counts, the names of devices, events, monitors and conditions, the routines,
+-- The bytes of an image, in each of two versions: a head with all counts, the names of devices, events, monitors and conditions, the routines,
 -- the processes, the code.
-use Rattle.std.specs.Prelude.{◌++◌, ℕ, List, [], ◌∷◌, Option, Some, length, codes}
+use Rattle.std.specs.Prelude.{◌≡◌, ◌++◌, ℕ, All, List, [], ◌∷◌, Option, Some, length, codes}
 use Rattle.std.specs.List.{flat_map}
 use Rattle.rte_isa.specs.Bytes.{instr_bytes}
 use Rattle.rte_machine_meaning.specs.Image.{Image, Monitor, Routine, Process}
@@ -19,9 +19,24 @@ counts_bytes names image =
     u16 (length image.processes) ++ (u16 (length image.monitors) ++ (u16 (length names.conditions) ++ (u16 (length names.devices)
     ++ (u16 (length names.events) ++ (u16 (length image.routines) ++ u32 (length image.code))))))
 
+-- an image is written in one of two versions: the first has neither the overhead nor the deadlines
+pub data Version : Type 0 where
+  First : Version
+  Second : Version
+
+-- what the first version cannot tell: there is no overhead, and each deadline is the frame
+abbrev pub IsTold : Version → Image → Type 0
+IsTold First image = (image.over ≡ 0) × All (λ p. p.deadline ≡ p.frame) image.processes
+IsTold Second image = Unit {0}
+
+-- the number of the version, and the overhead where it stands
+abbrev pub version_bytes : Version → (over : ℕ) → List ℕ
+version_bytes First over = u16 1
+version_bytes Second over = u16 2 ++ u16 over
+
 -- the letters RTEU, the version, the counts, and the program's name
-abbrev pub head_bytes : NamedImage → List ℕ
-head_bytes named = codes "RTEU" ++ (u16 1 ++ (counts_bytes named.names named.image ++ name_bytes named.program))
+abbrev pub head_bytes : Version → NamedImage → List ℕ
+head_bytes version named = codes "RTEU" ++ (version_bytes version named.image.over ++ (counts_bytes named.names named.image ++ name_bytes named.program))
 
 -- a device: its name, and 1 where it is an out device
 abbrev pub device_bytes : DevName → List ℕ
@@ -56,9 +71,14 @@ cost_bytes r = u32 r.start ++ (u32 r.run ++ (u32 r.susp ++ (u32 r.waits ++ u32 r
 abbrev pub routine_bytes : Routine → List ℕ
 routine_bytes r = owner_bytes r ++ (cost_bytes r ++ tree_bytes r.tree)
 
--- when a process is released, and its rank
-abbrev pub release_bytes : Process → List ℕ
-release_bytes p = u8 p.kind ++ (u32 p.frame ++ (u32 p.first ++ (u16 p.event ++ u16 p.rank)))
+-- the deadline, where it stands
+abbrev pub deadline_bytes : Version → Process → List ℕ
+deadline_bytes First p = []
+deadline_bytes Second p = u32 p.deadline
+
+-- when a process is released, within what it has to end, and its rank
+abbrev pub release_bytes : Version → Process → List ℕ
+release_bytes version p = u8 p.kind ++ (u32 p.frame ++ (deadline_bytes version p ++ (u32 p.first ++ (u16 p.event ++ u16 p.rank))))
 
 -- what it takes of time: run, suspension, waits, blocking and bound
 abbrev pub time_bytes : Process → List ℕ
@@ -78,14 +98,14 @@ handler_bytes (n ∷ ns) (Some tree) = tree_bytes tree
 handler_bytes numbers tree = []
 
 -- a process: its name, its numbers, and the trees of its body and its handler
-abbrev pub process_bytes : List ℕ → Process → List ℕ
-process_bytes name p =
-    name_bytes name ++ (release_bytes p ++ (time_bytes p ++ (room_bytes p ++ (numbers_bytes p.numbers ++ (tree_bytes p.body ++ handler_bytes p.numbers p.handler_tree)))))
+abbrev pub process_bytes : Version → List ℕ → Process → List ℕ
+process_bytes version name p =
+    name_bytes name ++ (release_bytes version p ++ (time_bytes p ++ (room_bytes p ++ (numbers_bytes p.numbers ++ (tree_bytes p.body ++ handler_bytes p.numbers p.handler_tree)))))
 
 -- each process with its name
-abbrev pub processes_bytes : List (List ℕ) → List Process → List ℕ
-processes_bytes (n ∷ ns) (p ∷ ps) = process_bytes n p ++ processes_bytes ns ps
-processes_bytes names processes = []
+abbrev pub processes_bytes : Version → List (List ℕ) → List Process → List ℕ
+processes_bytes version (n ∷ ns) (p ∷ ps) = process_bytes version n p ++ processes_bytes version ns ps
+processes_bytes version names processes = []
 
 -- the devices, the events, the monitors and the conditions
 abbrev pub names_bytes : ImageNames → List Monitor → List ℕ
@@ -93,7 +113,7 @@ names_bytes names monitors =
     flat_map device_bytes names.devices ++ (flat_map event_bytes names.events ++ (monitors_bytes names.monitors monitors ++ flat_map condition_bytes names.conditions))
 
 -- the whole image; the directions of devices and the monitors of conditions stand with their names
-unfoldable pub bytes_of : NamedImage → List ℕ
-bytes_of named =
-    head_bytes named ++ (names_bytes named.names named.image.monitors ++ (flat_map routine_bytes named.image.routines
-    ++ (processes_bytes named.names.processes named.image.processes ++ flat_map instr_bytes named.image.code)))
+unfoldable pub bytes_of : Version → NamedImage → List ℕ
+bytes_of version named =
+    head_bytes version named ++ (names_bytes named.names named.image.monitors ++ (flat_map routine_bytes named.image.routines
+    ++ (processes_bytes version named.names.processes named.image.processes ++ flat_map instr_bytes named.image.code)))

@@ -33,6 +33,7 @@ abbrev pub process_of : RawProc → Process
 process_of p = record {
   kind = p.kind;
   frame = p.frame;
+  deadline = p.deadline;
   first = p.first;
   event = p.event;
   rank = p.rank;
@@ -51,10 +52,10 @@ process_of p = record {
   handler_tree = option_map views p.handler_tree;
 }
 
--- what the machine runs: there is no release overhead
+-- what the machine runs
 abbrev pub image_of : RawImage → Image
 image_of raw = record {
-  over = 0;
+  over = raw.overhead;
   monitors = map monitor_of raw.monitors;
   conditions = map (λ c. c.mon) raw.names.conditions;
   devices = map (λ d. d.out) raw.names.devices;

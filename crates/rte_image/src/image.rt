@@ -2,7 +2,7 @@
 
 ghost use Rattle.std.specs.Prelude.{◌≡◌, ◌++◌, ◌<◌, ◌^◌, All, length, map, IfOk, OnOk};
 ghost use Rattle.std.specs.List.{flat_map};
-ghost use Rattle.rte_image.specs.Bytes.{bytes_of, condition_bytes, counts_bytes, device_bytes, event_bytes, head_bytes, monitors_bytes, names_bytes, processes_bytes, routine_bytes};
+ghost use Rattle.rte_image.specs.Bytes.{Second, bytes_of, condition_bytes, counts_bytes, device_bytes, event_bytes, head_bytes, monitors_bytes, names_bytes, processes_bytes, routine_bytes, version_bytes};
 ghost use Rattle.rte_image.specs.InRange.{AreCounted, AreNamed, IsInRange, IsProcessInRange, IsShort, IsSmall};
 ghost use Rattle.rte_image.specs.Raw.{image_of, monitor_of, named_of, process_of, routine_of};
 ghost use Rattle.rte_isa.specs.Bytes.{instr_bytes};
@@ -30,14 +30,23 @@ fn put_counts(out: &mut Vec<u8>, image: &RawImage) -> Result<(), AllocError>
     Ok(())
 }
 
-/// Puts the letters, the version, the counts and the program's name.
+/// Puts the number of the version, and the overhead.
+fn put_version(out: &mut Vec<u8>, overhead: u16) -> Result<(), AllocError>
+    ensures { OnOk result (out.new.items ≡ out.old.items ++ version_bytes Second overhead) }
+{
+    put_u16(out, 2)?;
+    put_u16(out, overhead)?;
+    Ok(())
+}
+
+/// Puts the letters, the version, the overhead, the counts and the program's name.
 fn put_head(out: &mut Vec<u8>, image: &RawImage) -> Result<(), AllocError>
     requires counts { AreCounted image.now.names (image_of image.now) }
     requires program { IsShort image.now.program }
-    ensures { OnOk result (out.new.items ≡ out.old.items ++ head_bytes (named_of image.now)) }
+    ensures { OnOk result (out.new.items ≡ out.old.items ++ head_bytes Second (named_of image.now)) }
 {
     out.extend_from_slice(b"RTEU")?;
-    put_u16(out, 1)?;
+    put_version(out, image.overhead)?;
     put_counts(out, image)?;
     put_name(out, &image.program)?;
     Ok(())
@@ -104,7 +113,7 @@ fn put_processes(out: &mut Vec<u8>, names: &[Name], processes: &[RawProc]) -> Re
     requires each { length names.now ≡ length processes.now }
     requires short { All IsShort names.now }
     requires in_range { All IsProcessInRange (map process_of processes.now) }
-    ensures { OnOk result (out.new.items ≡ out.old.items ++ processes_bytes names.now (map process_of processes.now)) }
+    ensures { OnOk result (out.new.items ≡ out.old.items ++ processes_bytes Second names.now (map process_of processes.now)) }
 {
     for (at, process) in processes.iter().enumerate() {
         put_process(out, &names[at], process)?;
@@ -135,12 +144,12 @@ fn put_named(out: &mut Vec<u8>, image: &RawImage) -> Result<(), AllocError>
     Ok(())
 }
 
-/// The bytes of an image, version 1, as a file holds them, all numbers with the highest byte first.
+/// The bytes of an image, version 2, as a file holds them, all numbers with the highest byte first.
 /// The counts must fit their fields, and each process and monitor have a name. An error says that
 /// memory is short.
 pub fn write_image(alloc: Global, image: &RawImage) -> Result<Vec<u8>, AllocError>
     requires { IsInRange (named_of image.now) }
-    ensures { IfOk result (λ bytes. bytes.items ≡ bytes_of (named_of image.now)) }
+    ensures { IfOk result (λ bytes. bytes.items ≡ bytes_of Second (named_of image.now)) }
 {
     let mut out = Vec::new(alloc);
     put_head(&mut out, image)?;

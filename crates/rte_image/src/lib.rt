@@ -17,6 +17,3 @@ pub use image::write_image;
 pub use law::{a_put, a_tree, an_empty_program};
 pub use names::{CondName, DevName, EventName, ImageNames};
 pub use raw::{RawImage, RawMon, RawProc, RawRoutine};
-
-#[cfg(test)]
-mod tests;

@@ -1,7 +1,7 @@
 //! The parts of an image at the end of a buffer. After an error the buffer may hold a piece of one.
 
 ghost use Rattle.std.specs.Prelude.{◌≡◌, ◌++◌, ◌<◌, ◌^◌, length, OnOk};
-ghost use Rattle.rte_image.specs.Bytes.{condition_bytes, cost_bytes, device_bytes, event_bytes, handler_bytes, monitor_bytes, numbers_bytes, owner_bytes, process_bytes, release_bytes, room_bytes, routine_bytes, time_bytes};
+ghost use Rattle.rte_image.specs.Bytes.{Second, condition_bytes, cost_bytes, device_bytes, event_bytes, handler_bytes, monitor_bytes, numbers_bytes, owner_bytes, process_bytes, release_bytes, room_bytes, routine_bytes, time_bytes};
 ghost use Rattle.rte_image.specs.InRange.{IsProcessInRange, IsShort, IsSmall, IsSmallHandler};
 ghost use Rattle.rte_image.specs.Raw.{monitor_of, process_of, routine_of};
 ghost use Rattle.rte_seg.specs.View.{views};
@@ -89,12 +89,13 @@ pub fn put_routine(out: &mut Vec<u8>, routine: &RawRoutine) -> Result<(), AllocE
     Ok(())
 }
 
-/// Puts when a process is released, and its rank.
+/// Puts when a process is released, within what it has to end, and its rank.
 fn put_release(out: &mut Vec<u8>, process: &RawProc) -> Result<(), AllocError>
-    ensures { OnOk result (out.new.items ≡ out.old.items ++ release_bytes (process_of process.now)) }
+    ensures { OnOk result (out.new.items ≡ out.old.items ++ release_bytes Second (process_of process.now)) }
 {
     put_u8(out, process.kind)?;
     put_u32(out, process.frame)?;
+    put_u32(out, process.deadline)?;
     put_u32(out, process.first)?;
     put_u16(out, process.event)?;
     put_u16(out, process.rank)?;
@@ -153,7 +154,7 @@ fn put_handler(out: &mut Vec<u8>, process: &RawProc) -> Result<(), AllocError>
 pub fn put_process(out: &mut Vec<u8>, name: &Name, process: &RawProc) -> Result<(), AllocError>
     requires named { IsShort name.now }
     requires in_range { IsProcessInRange (process_of process.now) }
-    ensures { OnOk result (out.new.items ≡ out.old.items ++ process_bytes name.now (process_of process.now)) }
+    ensures { OnOk result (out.new.items ≡ out.old.items ++ process_bytes Second name.now (process_of process.now)) }
 {
     put_name(out, name)?;
     put_release(out, process)?;

@@ -35,13 +35,14 @@ pub struct RawRoutine {
 }
 
 /// A process. Its kind is 0 for a periodic one, 1 for one that an event releases. Ranks go from 1,
-/// which is the highest. `frame`, `first`, `run`, `susp`, `block` and `bound` are in ticks; `words`
-/// are its data words; `start` and `handler` are addresses; `numbers` are those that its handler
+/// which is the highest. `frame`, `deadline`, `first`, `run`, `susp`, `block` and `bound` are in
+/// ticks; an activation has to end within its deadline, at most the frame. `words` are its data words; `start` and `handler` are addresses; `numbers` are those that its handler
 /// takes, and `handler_tree` is there exactly where these are.
 #[derive(Debug, Drop)]
 pub struct RawProc {
     pub kind: u8,
     pub frame: u32,
+    pub deadline: u32,
     pub first: u32,
     pub event: u16,
     pub rank: u16,
@@ -60,9 +61,11 @@ pub struct RawProc {
     pub handler_tree: Option<Segs>,
 }
 
-/// An image. Monitors, routines and processes stand in the order of their numbers, from 0.
+/// An image. Monitors, routines and processes stand in the order of their numbers, from 0. The
+/// overhead is the ticks of one dispatch.
 #[derive(Debug, Drop)]
 pub struct RawImage {
+    pub overhead: u16,
     pub program: Name,
     pub names: ImageNames,
     pub monitors: List<RawMon>,

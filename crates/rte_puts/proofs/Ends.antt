@@ -4,14 +4,13 @@ use Rattle.std.specs.Prelude.{IsSomeAnd, pos}
 use Rattle.rte_event.specs.declared.event.Event.{Event}
 use Rattle.rte_event.specs.declared.event.Act.TheVariants as act
 use Rattle.rte_form.specs.Target.{image_of, cost_of, until}
-use Rattle.rte_form.specs.WellFormed.{IsTimely}
 use Rattle.rte_source_meaning.specs.Names.{place_of}
 use Rattle.rte_source_meaning.specs.Puts.{Put, PutProg, Putting, resting, putting}
 use Rattle.rte_source_meaning.specs.Source.{EndsWithin, first_end}
 use Rattle.rte_machine_meaning.specs.State.{Thread, Idle, Ready, Waiting}
 use Rattle.rte_machine_meaning.specs.Run.{events_from, events}
 use Rattle.rte_puts.proofs.Ticks.{standing, release, first_state}
-use Rattle.rte_puts.proofs.Standing.{AreDeclared, At}
+use Rattle.rte_puts.proofs.Standing.{AreDeclared, FitsFrame, At}
 use Rattle.rte_puts.proofs.Turns.{Turns, stays, starts, works, does, stops, Next, next}
 
 -- each release of the list is followed by an end within so many ticks, where these are before the script's end
@@ -42,19 +41,19 @@ turn f end_tick t _ _ thread _ es at (works since rest quiet begun) then = then
 turn f end_tick t _ _ thread _ es at (does since p after quiet begun) then = ((λ is fits. let differs : act.Put (place_of p.dev f.devices) (pos p.value) ≡ act.Release = ap (λ (e : Event). e.act) is in absurd (cc), then.0), then.1)
 turn f end_tick t _ _ thread _ es at (stops since quiet begun) then = ((λ is fits. let differs : act.End ≡ act.Release = ap (λ (e : Event). e.act) is in absurd (cc), then.0), λ fits. not_over f t since [] thread at)
 
-rest_of_run : (f : PutProg) (end_tick : ℕ) → IsTimely f → AreDeclared f.devices f.puts → (n t : ℕ) (d : Putting) (thread : Thread) → t + n ≡ end_tick → At f t d thread
+rest_of_run : (f : PutProg) (end_tick : ℕ) → FitsFrame f → AreDeclared f.devices f.puts → (n t : ℕ) (d : Putting) (thread : Thread) → t + n ≡ end_tick → At f t d thread
     → AllEnd (cost_of f.puts) end_tick (events_from (image_of f) (until end_tick) n t (standing f thread)) × Ends f end_tick d (events_from (image_of f) (until end_tick) n t (standing f thread))
 unfolding events_from
-rest_of_run f end_tick timely declared zero t resting thread is at = (tt, tt)
-rest_of_run f end_tick timely declared zero t (putting since rest) thread is at = let open_yet : t < since + cost_of f.puts = not_over f t since rest thread at in (tt, λ fits. absurd (omega (arith, is)))
-rest_of_run f end_tick timely declared (suc n) t d thread is at =
-    let one : Next f end_tick t d thread = next f end_tick t d thread timely declared at in
+rest_of_run f end_tick fits_frame declared zero t resting thread is at = (tt, tt)
+rest_of_run f end_tick fits_frame declared zero t (putting since rest) thread is at = let open_yet : t < since + cost_of f.puts = not_over f t since rest thread at in (tt, λ fits. absurd (omega (arith, is)))
+rest_of_run f end_tick fits_frame declared (suc n) t d thread is at =
+    let one : Next f end_tick t d thread = next f end_tick t d thread fits_frame declared at in
     rw one.ticks
     (turn f end_tick t d one.goes_to thread one.told (events_from (image_of f) (until end_tick) n (t + 1) (standing f one.new)) at one.turns
-    (rest_of_run f end_tick timely declared n (t + 1) one.goes_to one.new (omega (arith, is)) one.stands))
+    (rest_of_run f end_tick fits_frame declared n (t + 1) one.goes_to one.new (omega (arith, is)) one.stands))
 
-pub ends : (f : PutProg) (end_tick : ℕ) → IsTimely f → AreDeclared f.devices f.puts → EndsWithin 0 (cost_of f.puts) end_tick (events (image_of f) (until end_tick))
+pub ends : (f : PutProg) (end_tick : ℕ) → FitsFrame f → AreDeclared f.devices f.puts → EndsWithin 0 (cost_of f.puts) end_tick (events (image_of f) (until end_tick))
 unfolding events
-ends f end_tick timely declared earlier later t is fits =
+ends f end_tick fits_frame declared earlier later t is fits =
     ends_within (cost_of f.puts) end_tick earlier later t
-    (subst (AllEnd (cost_of f.puts) end_tick) is (rw (first_state f) (rest_of_run f end_tick timely declared end_tick 0 resting Idle (omega arith) tt).0)) fits
+    (subst (AllEnd (cost_of f.puts) end_tick) is (rw (first_state f) (rest_of_run f end_tick fits_frame declared end_tick 0 resting Idle (omega arith) tt).0)) fits

@@ -2,7 +2,6 @@
 use Rattle.std.proofs.Common.{◌≡◌, ◌≤◌, ◌+◌, inl, inr, ℕ, zero, suc, List, [], ◌∷◌, Some, length, arith, refl, ap, subst, ◌∙◌, false}
 use Rattle.std.specs.Prelude.{slice_get, ℤ}
 use Rattle.rte_form.specs.Target.{image_of, process_of, stack_of, cost_of, until}
-use Rattle.rte_form.specs.WellFormed.{IsTimely}
 use Rattle.rte_source_meaning.specs.Puts.{Put, PutProg, Putting, resting, putting}
 use Rattle.rte_machine_meaning.specs.Image.{Process}
 use Rattle.rte_machine_meaning.specs.State.{Job, Thread, Idle, Ready}
@@ -10,7 +9,7 @@ use Rattle.rte_machine_meaning.specs.Tick.{tick}
 use Rattle.rte_machine_meaning.specs.Run.{state_at}
 use Rattle.rte_puts.specs.Keeps.{IsWithin, KeepsItsWord, stack_used}
 use Rattle.rte_puts.proofs.Ticks.{standing, first_state}
-use Rattle.rte_puts.proofs.Standing.{AreDeclared, Working, At}
+use Rattle.rte_puts.proofs.Standing.{AreDeclared, FitsFrame, Working, At}
 use Rattle.rte_puts.proofs.Turns.{Next, next}
 
 -- where the program says that the process stands before a tick
@@ -20,12 +19,12 @@ record Stood (f : PutProg) (end_tick t : ℕ) : Type 0 where
   is : state_at (image_of f) (until end_tick) t ≡ standing f thread
   at : At f t d thread
 
-stood : (f : PutProg) (end_tick : ℕ) → IsTimely f → AreDeclared f.devices f.puts → (t : ℕ) → Stood f end_tick t
+stood : (f : PutProg) (end_tick : ℕ) → FitsFrame f → AreDeclared f.devices f.puts → (t : ℕ) → Stood f end_tick t
 unfolding state_at
-stood f end_tick timely declared zero = record { d = resting; thread = Idle; is = first_state f; at = tt }
-stood f end_tick timely declared (suc t) =
-    let before : Stood f end_tick t = stood f end_tick timely declared t in
-    let one : Next f end_tick t before.d before.thread = next f end_tick t before.d before.thread timely declared before.at in
+stood f end_tick fits_frame declared zero = record { d = resting; thread = Idle; is = first_state f; at = tt }
+stood f end_tick fits_frame declared (suc t) =
+    let before : Stood f end_tick t = stood f end_tick fits_frame declared t in
+    let one : Next f end_tick t before.d before.thread = next f end_tick t before.d before.thread fits_frame declared before.at in
     let e : tick (image_of f) (until end_tick) t (state_at (image_of f) (until end_tick) t) ≡ record { state = standing f one.new; events = one.told; stuck = false; overrun = false } =
     ap (tick (image_of f) (until end_tick) t) before.is ∙ one.ticks in
     let next_tick : t + 1 ≡ suc t = omega arith in
@@ -71,19 +70,19 @@ fits f t d thread at = record {
       subst (λ (ws : List ℤ). length ws ≤ p.words) none (omega arith);
 }
 
-pub keeps : (f : PutProg) (end_tick : ℕ) → IsTimely f → AreDeclared f.devices f.puts → KeepsItsWord (image_of f) (until end_tick)
-keeps f end_tick timely declared = record {
+pub keeps : (f : PutProg) (end_tick : ℕ) → FitsFrame f → AreDeclared f.devices f.puts → KeepsItsWord (image_of f) (until end_tick)
+keeps f end_tick fits_frame declared = record {
   never_stuck = λ t below. ap (λ p. p.stuck) (ticked t);
   no_overrun = λ t below. ap (λ p. p.overrun) (ticked t);
-  within = λ t below. let s : Stood f end_tick t = stood f end_tick timely declared t in rw s.is (fits f t s.d s.thread s.at);
+  within = λ t below. let s : Stood f end_tick t = stood f end_tick fits_frame declared t in rw s.is (fits f t s.d s.thread s.at);
 }
   where
     ticked : (t : ℕ) → tick (image_of f) (until end_tick) t (state_at (image_of f) (until end_tick) t) ≡ record {
-      state = standing f (next f end_tick t (stood f end_tick timely declared t).d (stood f end_tick timely declared t).thread timely declared (stood f end_tick timely declared t).at).new;
-      events = (next f end_tick t (stood f end_tick timely declared t).d (stood f end_tick timely declared t).thread timely declared (stood f end_tick timely declared t).at).told;
+      state = standing f (next f end_tick t (stood f end_tick fits_frame declared t).d (stood f end_tick fits_frame declared t).thread fits_frame declared (stood f end_tick fits_frame declared t).at).new;
+      events = (next f end_tick t (stood f end_tick fits_frame declared t).d (stood f end_tick fits_frame declared t).thread fits_frame declared (stood f end_tick fits_frame declared t).at).told;
       stuck = false;
       overrun = false;
     }
     ticked t =
-        let s : Stood f end_tick t = stood f end_tick timely declared t in
-        ap (tick (image_of f) (until end_tick) t) s.is ∙ (next f end_tick t s.d s.thread timely declared s.at).ticks
+        let s : Stood f end_tick t = stood f end_tick fits_frame declared t in
+        ap (tick (image_of f) (until end_tick) t) s.is ∙ (next f end_tick t s.d s.thread fits_frame declared s.at).ticks

@@ -5,12 +5,11 @@ use Rattle.std.proofs.lemmas.Bool.{cases_lt}
 use Rattle.std.proofs.lemmas.Bool.Decides.{nat_tests}
 use Rattle.rte_event.specs.declared.event.Event.{Event}
 use Rattle.rte_form.specs.Target.{image_of, until}
-use Rattle.rte_form.specs.WellFormed.{IsTimely}
 use Rattle.rte_source_meaning.specs.Puts.{PutProg, Putting, resting, putting, PutRun, NoRelease, release_due, released_at}
 use Rattle.rte_machine_meaning.specs.State.{Thread, Idle}
 use Rattle.rte_machine_meaning.specs.Run.{events_from, events}
 use Rattle.rte_puts.proofs.Ticks.{standing, is_due, first_state}
-use Rattle.rte_puts.proofs.Standing.{AreDeclared, At}
+use Rattle.rte_puts.proofs.Standing.{AreDeclared, FitsFrame, At}
 use Rattle.rte_puts.proofs.Turns.{Turns, stays, starts, works, does, stops, Next, next}
 
 -- before tick t: nobody acted in it, and no release before it is missing
@@ -83,19 +82,19 @@ turn f end_tick t reached acted _ _ _ es below r (stops since quiet begun) then 
     (true, resting, refl, below, r.by, r.none, (not_due_none f reached t acted (putting since []) quiet, apart, refl, refl), then t true (acted_now f t resting quiet))
 
 -- the rest of a run
-rest_of_run : (f : PutProg) (end_tick : ℕ) → IsTimely f → AreDeclared f.devices f.puts
+rest_of_run : (f : PutProg) (end_tick : ℕ) → FitsFrame f → AreDeclared f.devices f.puts
     → (n t reached : ℕ) (acted : Bool) (d : Putting) (thread : Thread) → t + n ≡ end_tick → Reached f t reached acted d → At f t d thread
     → PutRun f end_tick reached acted d (events_from (image_of f) (until end_tick) n t (standing f thread))
 unfolding events_from
-rest_of_run f end_tick timely declared zero t reached acted d thread is r at = let e : t ≡ end_tick = omega arith in subst (λ h. NoRelease f reached acted d h) e r.none
-rest_of_run f end_tick timely declared (suc n) t reached acted d thread is r at =
-    let one : Next f end_tick t d thread = next f end_tick t d thread timely declared at in
+rest_of_run f end_tick fits_frame declared zero t reached acted d thread is r at = let e : t ≡ end_tick = omega arith in subst (λ h. NoRelease f reached acted d h) e r.none
+rest_of_run f end_tick fits_frame declared (suc n) t reached acted d thread is r at =
+    let one : Next f end_tick t d thread = next f end_tick t d thread fits_frame declared at in
     rw one.ticks
     (turn f end_tick t reached acted d one.goes_to one.told (events_from (image_of f) (until end_tick) n (t + 1) (standing f one.new)) (omega arith) r one.turns
-    (λ reached' acted' r'. rest_of_run f end_tick timely declared n (t + 1) reached' acted' one.goes_to one.new (omega arith) r' one.stands))
+    (λ reached' acted' r'. rest_of_run f end_tick fits_frame declared n (t + 1) reached' acted' one.goes_to one.new (omega arith) r' one.stands))
 
 -- a whole run
-pub is_put_run : (f : PutProg) (end_tick : ℕ) → IsTimely f → AreDeclared f.devices f.puts → PutRun f end_tick 0 false resting (events (image_of f) (until end_tick))
+pub is_put_run : (f : PutProg) (end_tick : ℕ) → FitsFrame f → AreDeclared f.devices f.puts → PutRun f end_tick 0 false resting (events (image_of f) (until end_tick))
 unfolding events
-is_put_run f end_tick timely declared =
-    rw (first_state f) (rest_of_run f end_tick timely declared end_tick 0 0 false resting Idle (omega arith) (record { by = omega arith; fresh = λ h. cc; none = λ u from below. absurd (omega arith) }) tt)
+is_put_run f end_tick fits_frame declared =
+    rw (first_state f) (rest_of_run f end_tick fits_frame declared end_tick 0 0 false resting Idle (omega arith) (record { by = omega arith; fresh = λ h. cc; none = λ u from below. absurd (omega arith) }) tt)

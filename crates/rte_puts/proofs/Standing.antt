@@ -1,5 +1,5 @@
 -- Where a process of the first form stands: before the puts that remain.
-use Rattle.std.proofs.Common.{◌≡◌, ◌<◌, ◌+◌, ◌%◌, ◌⊎◌, ℕ, List, [], ◌∷◌, length, drop}
+use Rattle.std.proofs.Common.{◌≡◌, ◌<◌, ◌≤◌, ◌+◌, ◌%◌, ◌⊎◌, ℕ, List, [], ◌∷◌, length, drop}
 use Rattle.std.specs.Prelude.{pos}
 use Rattle.rte_isa.specs.declared.instr.Instr.TheVariants as i
 use Rattle.rte_form.specs.Target.{code_of, cost_of}
@@ -53,6 +53,10 @@ pub record Working (f : PutProg) (t since : ℕ) (rest : List Put) (job : Job) :
   pub multiple : since % f.frame ≡ 0
   pub begun : since < t
   pub count : t + left ≡ since + cost_of f.puts
+
+-- an activation is done within the frame
+abbrev pub FitsFrame : PutProg → Type 0
+FitsFrame f = cost_of f.puts ≤ f.frame
 
 -- the process is where its program says, before tick t
 abbrev pub At : PutProg → ℕ → Putting → Thread → Type 0

@@ -9,14 +9,13 @@ use Rattle.rte_event.specs.declared.event.Act.TheVariants as act
 use Rattle.rte_isa.specs.declared.instr.Instr.{Instr}
 use Rattle.rte_isa.specs.declared.instr.Instr.TheVariants as i
 use Rattle.rte_form.specs.Target.{image_of, code_of, cost_of, until}
-use Rattle.rte_form.specs.WellFormed.{IsTimely}
 use Rattle.rte_source_meaning.specs.Names.{place_of}
 use Rattle.rte_source_meaning.specs.Puts.{Put, PutProg, Putting, resting, putting}
 use Rattle.rte_machine_meaning.specs.State.{Value, Job, Thread, Idle, Ready}
 use Rattle.rte_machine_meaning.specs.Effect.{Outcome, Goes, Does, Ends}
 use Rattle.rte_machine_meaning.specs.Tick.{tick}
 use Rattle.rte_puts.proofs.Ticks.{standing, job_at, is_due, release, rests, goes_on, begins}
-use Rattle.rte_puts.proofs.Standing.{AreDeclared, Stands, Working, At}
+use Rattle.rte_puts.proofs.Standing.{AreDeclared, FitsFrame, Stands, Working, At}
 use Rattle.rte_puts.proofs.Moves.{Moves, silent, puts, ends, moves, comes_to, own, found_outcome}
 use Rattle.rte_puts.proofs.Places.{rest_at}
 
@@ -56,9 +55,9 @@ due_multiple : (f : PutProg) (t : ℕ) → is_due f t ≡ true → t % f.frame �
 due_multiple f t due = grind (arith, nat_tests, due)
 
 -- a tick of a process at work
-working : (f : PutProg) (end_tick t since : ℕ) (rest : List Put) (job : Job) → IsTimely f → Working f t since rest job → Next f end_tick t (putting since rest) (Ready job)
-working f end_tick t since rest job timely w =
-    let quiet : is_due f t ≡ false = not_due f t since w.multiple w.begun (omega (arith, w.count, w.some_left, timely)) in
+working : (f : PutProg) (end_tick t since : ℕ) (rest : List Put) (job : Job) → FitsFrame f → Working f t since rest job → Next f end_tick t (putting since rest) (Ready job)
+working f end_tick t since rest job fits_frame w =
+    let quiet : is_due f t ≡ false = not_due f t since w.multiple w.begun (omega (arith, w.count, w.some_left, fits_frame)) in
     working_moves f end_tick t since rest job w quiet (comes_to f job) refl (moves f rest w.left job w.stands)
   where
     working_moves : (f : PutProg) (end_tick t since : ℕ) (rest : List Put) (job : Job) (w : Working f t since rest job) → is_due f t ≡ false
@@ -150,7 +149,7 @@ idle f end_tick t declared =
     ]
 
 -- a tick from where the program says
-pub next : (f : PutProg) (end_tick t : ℕ) (d : Putting) (thread : Thread) → IsTimely f → AreDeclared f.devices f.puts → At f t d thread → Next f end_tick t d thread
-next f end_tick t resting Idle timely declared at = idle f end_tick t declared
-next f end_tick t (putting since rest) (Ready job) timely declared at = working f end_tick t since rest job timely at
-next f end_tick t d thread timely declared at = absurd at
+pub next : (f : PutProg) (end_tick t : ℕ) (d : Putting) (thread : Thread) → FitsFrame f → AreDeclared f.devices f.puts → At f t d thread → Next f end_tick t d thread
+next f end_tick t resting Idle fits_frame declared at = idle f end_tick t declared
+next f end_tick t (putting since rest) (Ready job) fits_frame declared at = working f end_tick t since rest job fits_frame at
+next f end_tick t d thread fits_frame declared at = absurd at

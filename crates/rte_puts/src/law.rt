@@ -34,7 +34,7 @@ pub fn cost_is_the_least_bound()
     ensures { (f : PutProg) → IsPutProg f → IsTimely f → IsBound (tasks_of f) 0 (cost_of f.puts) }
 {}
 
-/// A program whose recurrence has a solution within the frame is timely.
+/// A program whose recurrence has a solution within the deadline is timely.
 pub fn solved_programs_are_timely()
     ensures { (f : PutProg) (r : ℕ) → IsPutProg f → Solves (tasks_of f) 0 r → IsTimely f }
 {}

@@ -1,5 +1,5 @@
 -- What a task and those of higher rank ask of the processor, and the recurrence of the response times.
-use Rattle.std.specs.Prelude.{◌≤◌, ◌<◌, ◌+◌, ◌*◌, ℕ, List, length, take, sum_by, slice_index_or, All}
+use Rattle.std.specs.Prelude.{◌≤◌, ◌<◌, ◌+◌, ◌*◌, ℕ, List, length, take, sum_by, slice_index_or, slice_set, All}
 use Rattle.std.specs.Int.{div_ceil}
 use Rattle.std.specs.List.Sorted.{IsNonDecreasingBy}
 use Rattle.rte_num.specs.Capped.{cap}
@@ -12,6 +12,10 @@ task_at ts level = slice_index_or ts level (record { frame = 0; deadline = 0; ru
 -- an activation has to end within so many ticks
 abbrev pub deadline_at : List Task → ℕ → ℕ
 deadline_at ts level = (task_at ts level).deadline
+
+-- the same tasks, but that the one of the level runs for so many ticks
+abbrev pub with_run : List Task → ℕ → ℕ → List Task
+with_run ts level ticks = slice_set ts level (record (task_at ts level) { run = ticks })
 
 -- one activation, where each wait is followed by a blocking of b
 abbrev pub activation : ℕ → Task → ℕ

@@ -1,4 +1,4 @@
-//! What capping costs: nothing, since every frame is within the cap.
+//! What capping costs: nothing, since every deadline is within the cap.
 
 ghost use Rattle.std.specs.Prelude.{◌≡◌, ◌≤◌, ◌↔◌, ℕ, List, map};
 ghost use Rattle.rte_response.specs.declared.tasks.Task.{Task};

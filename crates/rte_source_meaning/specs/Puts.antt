@@ -1,5 +1,5 @@
 -- The smallest form of program, one periodic process that puts numbers, and its runs in few cases.
-use Rattle.std.specs.Prelude.{◌≡◌, ℕ, ◌%◌, ◌≤◌, ◌<◌, Bool, true, false, ◌&&◌, not, List, [], ◌∷◌, None, pos, nat_eq}
+use Rattle.std.specs.Prelude.{◌≡◌, ℕ, ◌%◌, ◌≤◌, ◌<◌, Bool, true, false, ◌&&◌, not, List, [], ◌∷◌, Option, None, option_map, unwrap_or, pos, nat_eq}
 use Rattle.rte_event.specs.declared.event.Event.{Event}
 use Rattle.rte_event.specs.declared.event.Act.{Act}
 use Rattle.rte_event.specs.declared.event.Act.TheVariants as act
@@ -17,7 +17,12 @@ pub record PutProg : Type 0 where
   pub devices : List Name
   pub process : Name
   pub frame : ℕ
+  pub deadline : Option ℕ
   pub puts : List Put
+
+-- the deadline of its process, which is the frame where none is told
+abbrev pub deadline_in : PutProg → ℕ
+deadline_in f = unwrap_or f.deadline f.frame
 
 abbrev pub put_stmts : List Put → Stmts
 put_stmts [] = no_stmts
@@ -26,7 +31,7 @@ put_stmts (p ∷ ps) = stmts (put p.dev (literal p.value)) (put_stmts ps)
 abbrev pub put_process : PutProg → Process
 put_process f = record {
   name = f.process;
-  activation = periodic (literal_constant false f.frame) None None;
+  activation = periodic (literal_constant false f.frame) (option_map (literal_constant false) f.deadline) None;
   vars = [];
   routines = [];
   body = put_stmts f.puts;

@@ -54,7 +54,7 @@ fn first_broken(alloc: Global, named: &Named) -> Result<Option<Broken>, AllocErr
     ensures { IfOk result (λ first. IsFirstOf (Fails (placed named.now)) first) }
 {
     let declarations = Declarations::new(alloc, named)?;
-    let statements = rte_statements::first_broken(&declarations);
+    let statements = rte_rules_statements::first_broken(&declarations);
     let limits = rte_rules_declarations::first_broken(alloc, &declarations)?;
     let reach = rte_rules_calls::first_broken(alloc, &declarations)?;
     Ok(sooner(statements, sooner(limits, reach)))

@@ -1,8 +1,6 @@
-use Rattle.std.proofs.Common.{◌≡◌, ◌≤◌, ◌∷◌, List, ℕ, Some, None, true, false, length, map, sym, ap, ◌∙◌, subst, arith}
+use Rattle.std.proofs.Common.{◌≡◌, ◌≤◌, ◌∷◌, List, ℕ, Some, None, true, false, length, map, sym, ap, ◌∙◌, subst, arith, refl}
 use Rattle.std.specs.Prelude.{All}
-use Rattle.std.specs.Range.{range_inclusive_start, range_inclusive_end}
 use Rattle.std.proofs.lemmas.List.{length-map}
-use Rattle.std.proofs.lemmas.Map.Keys.{le_from_is_le}
 use Rattle.rte_tree.specs.Placed.{placed_decl, placed_stmt, placed_stmts, placed_process}
 use Rattle.rte_source_meaning.specs.Puts.{Put}
 use Rattle.rte_form.specs.Form.{named_put}
@@ -68,17 +66,16 @@ returns-clause-some c =
     let count = puts_length (map placed_stmt c.args.process.now.body) puts body in
     let name : c.in_ok-new.field-0 ≡ c.args.tree.now.name = c.in_ok-new.ensures ∙ c.as_bytes.ensures in
     let process : c.in_ok-new-2.field-0 ≡ c.args.process.now.name = c.in_ok-new-2.ensures ∙ c.as_bytes-2.ensures in
+    let times = subst (λ (d : ℕ). (10 ≤ d) × (d ≤ c.in-Some-times_of.frame) × (c.in-Some-times_of.frame ≤ 1000000000)) c.unwrap_or.ensures (c.if-not-are_times.ensures.0 refl) in
     let names : are_names (c.in_ok-new.field-0 ∷ c.in_ok-new-2.field-0 ∷ devices) ≡ true =
     same_tests c.args.tree.now.name c.args.process.now.name c.in_ok-new.field-0 c.in_ok-new-2.field-0 c.as_slice.result.now devices name process (view ∙ sym c.as_slice.ensures) ∙ sym c.if-not-are_names.ensures in
-    let low : 10 ≤ c.in-Some-frame_of.frame = rw c.new.ensures.start at (le_from_is_le (range_inclusive_start c.new.result) c.in-Some-frame_of.frame c.if-contains.ensures.cases.0) in
-    let high : c.in-Some-frame_of.frame ≤ 1000000000 = rw c.new.ensures.end at (le_from_is_le c.in-Some-frame_of.frame (range_inclusive_end c.new.result) c.if-contains.ensures.cases.1) in
     record {
       name_is = name;
       devices_are = declared ∙ ap Some (sym view);
       process_is = process;
-      frame_is = sym c.in-Some-frame_of.ensures;
+      times_are = sym c.in-Some-times_of.ensures;
       puts_are = body;
       close_is = same_name c.args.tree.now.close c.args.tree.now.name c.if-ne.ensures;
       process_close_is = same_name c.args.process.now.close c.args.process.now.name c.if-ne-2.ensures;
-      kept = kept c.in_ok-new.field-0 c.in_ok-new-2.field-0 devices c.in-Some-frame_of.frame puts names (omega (arith, many, ap length view, length-map c.args.decls.now placed_decl)) (omega (arith, count, length-map c.args.process.now.body placed_stmt, c.len.ensures)) (subst (λ (ds : List (List ℕ)). All (IsPut ds) (map (named_put ds) c.in-Some-2.puts)) (sym same) each) low high;
+      kept = kept (record { name = c.in_ok-new.field-0; devices = devices; process = c.in_ok-new-2.field-0; frame = c.in-Some-times_of.frame; deadline = c.in-Some-times_of.deadline; puts = puts }) names (omega (arith, many, ap length view, length-map c.args.decls.now placed_decl)) (omega (arith, count, length-map c.args.process.now.body placed_stmt, c.len.ensures)) (subst (λ (ds : List (List ℕ)). All (IsPut ds) (map (named_put ds) c.in-Some-2.puts)) (sym same) each) times;
     }

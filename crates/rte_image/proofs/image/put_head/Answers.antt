@@ -1,6 +1,6 @@
 use Rattle.std.proofs.Common.{◌++◌, codes}
-use Rattle.rte_image.specs.Bytes.{counts_bytes}
-use Rattle.rte_image.specs.Numbers.{name_bytes, u16}
+use Rattle.rte_image.specs.Bytes.{Second, counts_bytes, version_bytes}
+use Rattle.rte_image.specs.Numbers.{name_bytes}
 use Rattle.rte_image.specs.Raw.{image_of}
 use Rattle.rte_image.proofs.Chain.{after}
 use Rattle.rte_image.proofs.image.put_head.Goals as goal
@@ -9,7 +9,8 @@ pub returns : goal.returns
 returns c =
     let name = name_bytes c.args.image.now.program in
     let counts = counts_bytes c.args.image.now.names (image_of c.args.image.now) in
+    let version = version_bytes Second c.args.image.now.overhead in
     let end = c.put_name.new.out.items in
-    after (codes "RTEU") (u16 1 ++ (counts ++ name)) c.args.out.now.items c.extend_from_slice.new.self.items end c.in_ok-extend_from_slice.ensures.items
-    (after (u16 1) (counts ++ name) c.extend_from_slice.new.self.items c.put_u16.new.out.items end c.in_ok-put_u16.ensures
-    (after counts name c.put_u16.new.out.items c.put_counts.new.out.items end c.in_ok-put_counts.ensures c.in_ok-put_name.ensures))
+    after (codes "RTEU") (version ++ (counts ++ name)) c.args.out.now.items c.extend_from_slice.new.self.items end c.in_ok-extend_from_slice.ensures.items
+    (after version (counts ++ name) c.extend_from_slice.new.self.items c.put_version.new.out.items end c.in_ok-put_version.ensures
+    (after counts name c.put_version.new.out.items c.put_counts.new.out.items end c.in_ok-put_counts.ensures c.in_ok-put_name.ensures))

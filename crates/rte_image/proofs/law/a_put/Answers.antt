@@ -4,4 +4,4 @@ use Rattle.rte_image.proofs.law.a_put.Goals as goal
 
 pub returns : goal.returns
 unfolding bytes_of
-returns c = refl
+returns c = record { first = refl; second = refl }

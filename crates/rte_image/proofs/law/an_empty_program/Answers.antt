@@ -4,4 +4,4 @@ use Rattle.rte_image.proofs.law.an_empty_program.Goals as goal
 
 pub returns : goal.returns
 unfolding bytes_of
-returns c = refl
+returns c = record { first = refl; second = refl; first_length = refl; second_length = refl }
