@@ -9,7 +9,7 @@ use Rattle.rte_rules_calls.specs.Reaching.{ReachFails}
 use Rattle.rte_wellformed.specs.WellFormed.{IsWellFormed}
 use Rattle.rte_static.specs.Static.{IsChecked}
 
-pub well_formed : ((g : Prog Place) → IsRead g → IsNamed g → ((number : ℕ) (place : Place) → ¬ StatementFails g number place)
+pub checked_is_well_formed : ((g : Prog Place) → IsRead g → IsNamed g → ((number : ℕ) (place : Place) → ¬ StatementFails g number place)
     → ((number : ℕ) (place : Place) → ¬ LimitFails g number place) → ((number : ℕ) (place : Place) → ¬ ReachFails g number place) → IsWellFormed (plain g))
     → (g : Prog Place) → IsChecked g → IsWellFormed (plain g)
-well_formed law g is = law g is.read is.named (λ n p f. is.checked n p (inl f)) (λ n p f. is.checked n p (inr (inl f))) (λ n p f. is.checked n p (inr (inr f)))
+checked_is_well_formed law g is = law g is.read is.named (λ n p f. is.checked n p (inl f)) (λ n p f. is.checked n p (inr (inl f))) (λ n p f. is.checked n p (inr (inr f)))
