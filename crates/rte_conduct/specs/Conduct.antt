@@ -2,7 +2,7 @@
 use Rattle.std.specs.Prelude.{Bool, true, false, not, ◌||◌, Option, Some, None, if◌then◌else◌}
 use Rattle.rte_tree.specs.Placed.{Expr, literal, truth, variable, element, call, minus, negation, paren, row, Exprs, no_exprs, exprs, Operands, no_operands, operand, Ref, whole, part, Stmt, assign, assign_entry, assign_empty, perform, perform_entry, when, when_else, loop, exit_when, get, put, wait, signal, broadcast, except, assert, RoutineKind, procedure, function}
 use Rattle.rte_tree.specs.declared.place.Place.{Place}
-use Rattle.rte_names.specs.Reach.{same_place}
+use Rattle.rte_tree.specs.Parts.{same_place}
 use Rattle.rte_declarations.specs.declared.home.Home.{Home}
 use Rattle.rte_declarations.specs.declared.home.Home.TheVariants as home_is
 use Rattle.rte_declarations.specs.Things.{Thing, device_thing, routine_thing, variable_thing}

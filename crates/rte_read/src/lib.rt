@@ -8,8 +8,6 @@
 mod fault;
 mod law;
 mod source;
-#[cfg(test)]
-mod tests;
 
 pub use fault::SourceFault;
 pub use law::{one_group, one_tree, tree_or_fault};

@@ -54,6 +54,3 @@ pub fn first_broken(
     )?;
     Ok(sooner(round, waiting))
 }
-
-#[cfg(test)]
-mod tests;

@@ -3,7 +3,7 @@ use Rattle.std.specs.Prelude.{ℕ, suc, Bool, false, ◌||◌, ◌&&◌, int_le,
 use Rattle.rte_num.specs.Words.{same}
 use Rattle.rte_tree.specs.Placed.{Constant, Activation, periodic, at_event, Handler, Process, Decl, constant, device, event, routine, monitor, process}
 use Rattle.rte_tree.specs.declared.place.Place.{Place}
-use Rattle.rte_names.specs.Reach.{same_place}
+use Rattle.rte_tree.specs.Parts.{same_place}
 use Rattle.rte_declarations.specs.Values.{Worth, constant_place, is_within, out_of}
 
 abbrev pub processes : List (Decl Place) → List (Process Place)

@@ -10,6 +10,3 @@
 mod rules;
 
 pub use rules::{Checked, RuleFault, check};
-
-#[cfg(test)]
-mod tests;

@@ -7,7 +7,8 @@ use Rattle.rte_grammar.specs.Words.{Word, named, Tok}
 use Rattle.rte_grammar.specs.ExprGrammar.{a, ◌▷◌, Each, Listed, SomeListed, IsConstant}
 use Rattle.rte_grammar.specs.Grammar.{MOST_LEVELS, IsScalar, IsKind, IsVar, IsParam, kind_word, IsResult, IsValue, IsRoutine, IsMember, IsEntry, IsMonitor, IsFirst, IsActivation, IsHandler, IsProcess, way_word, IsDecl, IsProg}
 use Rattle.rte_names.specs.declared.kind.Want.TheVariants as want_is
-use Rattle.rte_names.specs.Reach.{Names, Reach, first, Site, inside, inside_monitor, same_place}
+use Rattle.rte_tree.specs.Parts.{same_place}
+use Rattle.rte_names.specs.Reach.{Names, Reach, first, Site, inside, inside_monitor}
 use Rattle.rte_names.specs.Occurrences.{Occurrence, declares, closes, uses, declarations, constant_names, constants_names, scalar_names, kind_names, expr_names, var_name, param_name, routine_name, entry_name, member_name, vars_names, params_names, member_inner, members_names, optional_names, routine_scope, routine_inner, routine_names, routines_names, monitor_scope, monitor_inner, monitor_names, activation_names, handler_names, process_scope, process_inner, process_names, decl_name, others, entries_at, inner_names, decls_names, program_name, names}
 use Rattle.rte_wellformed_names.proofs.Counts.{one, standing}
 use Rattle.rte_wellformed_names.proofs.Parts.{named_at, Silent, Keeps, Owes, ◌▸◌, owe_first, owe_next, owe_both, settle, none, owe_none, quiet, name, owed}

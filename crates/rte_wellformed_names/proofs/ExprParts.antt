@@ -8,7 +8,8 @@ use Rattle.rte_grammar.specs.Words.{Word, named, number, Tok}
 use Rattle.rte_grammar.specs.ExprGrammar.{Unsigned, IsConstant, op_word, OfLevel, IsExpr, AreOperands, AreArgs, AreMoreArgs, InParens}
 use Rattle.rte_grammar.specs.StmtGrammar.{IsRef, IsStmt, AreStmts}
 use Rattle.rte_names.specs.declared.kind.Want.TheVariants as want_is
-use Rattle.rte_names.specs.Reach.{Site, inside, through, same_place}
+use Rattle.rte_tree.specs.Parts.{same_place}
+use Rattle.rte_names.specs.Reach.{Site, inside, through}
 use Rattle.rte_names.specs.Occurrences.{declares, used, uses, constant_names, expr_names, exprs_names, operands_names, ref_names, loop_name, stmt_names, stmts_names}
 use Rattle.rte_wellformed_names.proofs.Counts.{one}
 use Rattle.rte_wellformed_names.proofs.Parts.{named_at, Silent, Keeps, ◌▸◌, none, quiet_at, quiet, name, deeper}

@@ -4,7 +4,7 @@ use Rattle.rte_tree.specs.Plain.{Name}
 use Rattle.rte_tree.specs.declared.place.Place.{Place}
 use Rattle.rte_grammar.specs.Words.{Word, named, number, keyword, sign, Tok}
 use Rattle.rte_grammar.specs.ExprGrammar.{at, a, ◌▷◌, nothing, Deeper}
-use Rattle.rte_names.specs.Reach.{same_place}
+use Rattle.rte_tree.specs.Parts.{same_place}
 use Rattle.rte_names.specs.Occurrences.{Occurrence}
 use Rattle.rte_names.specs.Rules.{place_of}
 use Rattle.rte_wellformed_names.proofs.Counts.{one, standing}

@@ -10,7 +10,8 @@ use Rattle.rte_tree.specs.declared.place.Place.{Place}
 use Rattle.rte_names.specs.declared.kind.Declared.{Declared}
 use Rattle.rte_names.specs.declared.kind.Kind.{Kind}
 use Rattle.rte_names.specs.declared.kind.Kind.TheVariants as kind_is
-use Rattle.rte_names.specs.Reach.{Names, Reach, Site, first, through, members_of, same_place}
+use Rattle.rte_tree.specs.Parts.{same_place}
+use Rattle.rte_names.specs.Reach.{Names, Reach, Site, first, through, members_of}
 use Rattle.rte_names.specs.Occurrences.{Occurrence, declares, closes, decls_names, inner_names, others, decl_name, entry_name, entries_at, program_name}
 use Rattle.rte_names.specs.Rules.{place_of}
 use Rattle.rte_source_meaning.specs.Names.{named, monitor_number}

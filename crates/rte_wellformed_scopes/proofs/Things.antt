@@ -8,7 +8,7 @@ use Rattle.std.proofs.lemmas.List.Sums.{sum_by-cons}
 use Rattle.rte_tree.specs.Plain.{Name}
 use Rattle.rte_tree.specs.Placed.{Constant, loop, Stmts, Prog}
 use Rattle.rte_tree.specs.declared.place.Place.{Place}
-use Rattle.rte_names.specs.Reach.{same_place}
+use Rattle.rte_tree.specs.Parts.{same_place}
 use Rattle.rte_names.specs.Occurrences.{Occurrence, declares, closes, used, names}
 use Rattle.rte_names.specs.Rules.{place_of}
 use Rattle.rte_declarations.specs.Things.{Thing, loop_thing, learn, thing_at}
