@@ -15,7 +15,7 @@ use Rattle.rte_source_meaning.specs.Names.{routine_count}
 use Rattle.rte_source_meaning.specs.Run.{Found, routine_named}
 use Rattle.rte_source_meaning.specs.Nesting.{StmtsBelow, AnswersBelow, Levels}
 use Rattle.rte_rules_calls.specs.Calls.{routine_calls}
-use Rattle.rte_rules_calls.specs.Reaching.{routines}
+use Rattle.rte_tree.specs.Parts.{routines, program_routines}
 use Rattle.rte_wellformed_terms.specs.Places.{NamesFound}
 use Rattle.rte_wellformed_terms.specs.Mirrors.{routine_of, IsEntry, StandsAs, Mirrors, program_site, process_site, NamesListed, AreMirrored}
 use Rattle.rte_wellformed_calls.specs.Levels.{ArePlaceLevels, HasPlaceLevels}

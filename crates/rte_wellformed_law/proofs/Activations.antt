@@ -17,7 +17,8 @@ use Rattle.rte_names.specs.Occurrences.{Occurrence, used, names, declared_at, co
 use Rattle.rte_declarations.specs.Values.{Worth, value, constant_place, is_within, out_of}
 use Rattle.rte_declarations.specs.Parts.{handler_parts, outside_loops, parts}
 use Rattle.rte_declarations.specs.declared.home.Home.TheVariants as home_is
-use Rattle.rte_rules_declarations.specs.Processes.{processes, frame_of, deadline_of, bad_limit, bad_start, Handled, handled, handler_numbers, all_handled, has_value}
+use Rattle.rte_tree.specs.Parts.{processes}
+use Rattle.rte_rules_declarations.specs.Processes.{frame_of, deadline_of, bad_limit, bad_start, Handled, handled, handler_numbers, all_handled, has_value}
 use Rattle.rte_source_meaning.specs.Names.{constants}
 use Rattle.rte_wellformed.specs.Here.{in_process}
 use Rattle.rte_wellformed.specs.Statements.{IsConstant, IsWithin}

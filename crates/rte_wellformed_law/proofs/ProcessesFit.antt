@@ -12,8 +12,8 @@ use Rattle.rte_names.specs.Occurrences.{Occurrence, closes, names, activation_na
 use Rattle.rte_declarations.specs.Parts.{parts, stmts_parts, handler_parts, outside_loops}
 use Rattle.rte_declarations.specs.declared.home.Home.TheVariants as home_is
 use Rattle.rte_rules_declarations.specs.Types.{Bounds, decls_bounds, decl_bounds, routines_bounds}
-use Rattle.rte_rules_declarations.specs.Processes.{processes, handler_numbers, all_handled}
-use Rattle.rte_rules_declarations.specs.Counts.{monitors}
+use Rattle.rte_tree.specs.Parts.{processes, monitors, program_routines}
+use Rattle.rte_rules_declarations.specs.Processes.{handler_numbers, all_handled}
 use Rattle.rte_source_meaning.specs.Names.{constants, routine_in, monitor_in, process_in}
 use Rattle.rte_source_meaning.specs.Run.{of_program, of_process, of_monitor}
 use Rattle.rte_wellformed.specs.Here.{in_process}

@@ -8,8 +8,9 @@ use Rattle.rte_names.specs.Occurrences.{names, declared_at}
 use Rattle.rte_declarations.specs.Values.{value}
 use Rattle.rte_rules_declarations.specs.Rules.{LimitFails, bounds_rules, process_rules, event_rules, handler_rules, count_rules}
 use Rattle.rte_rules_declarations.specs.Types.{Bounds, decls_bounds, crossed, too_long}
-use Rattle.rte_rules_declarations.specs.Processes.{processes, bad_frame, bad_deadline, bad_first, events, misused_event, Handled, all_handled, bad_handled, repeated}
-use Rattle.rte_rules_declarations.specs.Counts.{process_places, monitors, monitor_places, devices, conditions, routines, one_too_many, no_process, too_many_words}
+use Rattle.rte_tree.specs.Parts.{processes, events, monitors, devices}
+use Rattle.rte_rules_declarations.specs.Processes.{bad_frame, bad_deadline, bad_first, misused_event, Handled, all_handled, bad_handled, repeated}
+use Rattle.rte_rules_declarations.specs.Counts.{process_places, monitor_places, conditions, routine_places, one_too_many, no_process, too_many_words}
 use Rattle.rte_wellformed_law.proofs.Lists.{at_front, none_in, front_or_behind}
 
 -- the rule holds of the part
@@ -54,7 +55,7 @@ pub record Limits (g : Prog Place) : Type 0 where
   pub few_devices : one_too_many 64 (devices g.decls) ≡ None
   pub few_events : one_too_many 64 (events g.decls) ≡ None
   pub few_conditions : one_too_many 256 (conditions (monitors g.decls)) ≡ None
-  pub few_routines : one_too_many 512 (routines g.decls) ≡ None
+  pub few_routines : one_too_many 512 (routine_places g.decls) ≡ None
   pub few_words : too_many_words (value g) g ≡ None
 
 pub limits_hold : (g : Prog Place) → ((number : ℕ) (place : Place) → ¬ LimitFails g number place) → Limits g

@@ -10,8 +10,7 @@ use Rattle.rte_names.specs.Reach.{Site}
 use Rattle.rte_names.specs.Occurrences.{Occurrence, routine_names, routines_names}
 use Rattle.rte_declarations.specs.Parts.{Part, routine_parts, routines_parts}
 use Rattle.rte_rules_declarations.specs.Types.{Bounds, decls_bounds, decl_bounds, routine_bounds, routines_bounds}
-use Rattle.rte_rules_declarations.specs.Processes.{processes}
-use Rattle.rte_rules_declarations.specs.Counts.{monitors}
+use Rattle.rte_tree.specs.Parts.{processes, monitors, program_routines}
 use Rattle.rte_source_meaning.specs.Names.{routine_in, monitor_in, process_in}
 use Rattle.rte_wellformed_terms.specs.Mirrors.{monitors_in}
 use Rattle.rte_wellformed_law.proofs.Lists.{at_front, behind, none_in, front_or_behind, Within, front, rest}
