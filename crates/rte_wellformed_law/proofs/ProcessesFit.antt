@@ -4,7 +4,7 @@ use Rattle.std.specs.Prelude.{Contains, All, filter_map}
 use Rattle.std.proofs.lemmas.List.Elements.{All-contains}
 use Rattle.rte_tree.specs.Plain as plain_of
 use Rattle.rte_tree.specs.Placed.{Routine, Member, variable_member, condition_member, Monitor, Process, Decl, routine, monitor, process, Prog, plain, plain_decl, plain_routine, plain_monitor, plain_process}
-use Rattle.rte_tree.specs.Parts.{program_routines}
+use Rattle.rte_tree.specs.Parts.{program_routines, processes, monitors}
 use Rattle.rte_tree.specs.declared.place.Place.{Place}
 use Rattle.rte_names.specs.declared.kind.Kind.TheVariants as kind_is
 use Rattle.rte_names.specs.Reach.{Site}
@@ -12,7 +12,6 @@ use Rattle.rte_names.specs.Occurrences.{Occurrence, closes, names, activation_na
 use Rattle.rte_declarations.specs.Parts.{parts, stmts_parts, handler_parts, outside_loops}
 use Rattle.rte_declarations.specs.declared.home.Home.TheVariants as home_is
 use Rattle.rte_rules_declarations.specs.Types.{Bounds, decls_bounds, decl_bounds, routines_bounds}
-use Rattle.rte_tree.specs.Parts.{processes, monitors, program_routines}
 use Rattle.rte_rules_declarations.specs.Processes.{handler_numbers, all_handled}
 use Rattle.rte_source_meaning.specs.Names.{constants, routine_in, monitor_in, process_in}
 use Rattle.rte_source_meaning.specs.Run.{of_program, of_process, of_monitor}
