@@ -7,8 +7,8 @@ ghost use Rattle.rte_names.specs.Occurrences.{names, declared_at};
 ghost use Rattle.rte_static.specs.Static.{Fails, IsChecked, IsFault};
 
 use rte_declarations::Declarations;
-use rte_rules::{Broken, sooner};
 use rte_names::Named;
+use rte_rules::{Broken, sooner};
 use rte_tree::{Place, Prog};
 use std::alloc::{AllocError, Global};
 use std::marker::Model;

@@ -14,12 +14,12 @@ use Rattle.rte_grammar.specs.Grammar.{tree}
 use Rattle.rte_parse.specs.declared.fault.SynFault.{SynFault}
 use Rattle.rte_parse.specs.declared.fault.SynFault.TheVariants as syn
 use Rattle.rte_parse.specs.Faults.{StandsIn, OpensAt}
-use Rattle.rte_read.specs.declared.fault.SourceFault.{SourceFault}
-use Rattle.rte_read.specs.declared.fault.SourceFault.TheVariants.{Fault, Memory}
-use Rattle.rte_read.specs.Source.{IsTreeOf, IsNested, HasNoTree, start, IsSourceFault, too_long, bad_byte, large_literal, long_name, no_program, too_deep, IsFaultOf, lexical, syntactic}
-use Rattle.rte_read.specs.Laws.{HasOneTree, HasTreeOrFault, IsOfGrammar, HasOneGroup}
+use Rattle.rte_program.specs.declared.fault.SourceFault.{SourceFault}
+use Rattle.rte_program.specs.declared.fault.SourceFault.TheVariants.{Fault, Memory}
+use Rattle.rte_program.specs.Source.{IsTreeOf, IsNested, HasNoTree, start, IsSourceFault, too_long, bad_byte, large_literal, long_name, no_program, too_deep, IsSourceFaultOf, lexical, syntactic}
+use Rattle.rte_program.specs.Laws.{HasOneTree, IsOfGrammar}
 
--- ---- what `read` answers
+-- ---- what `read_tree` answers
 
 pub only_lexical : {X : Type 0} (r : Result X SourceFault) (P : X → Type 0) (fault : LexFault) → IsErrAnd r (λ made. made ≡ lexical fault) → fault ≡ lex.Memory → MatchResult r P (λ f. f ≡ Memory)
 only_lexical (Ok x) P fault made memory = absurd made
@@ -42,7 +42,7 @@ is_nested text toks syn.Memory nesting deep = tt
 
 -- the parser's fault is the text's
 parser_fault : (text : List ℕ) (toks : Tokens) (fault : SynFault) → tokens text toks.list → IsEnd text toks.end → ((g : Prog Place) → tree text toks.list g → fault ≡ syn.Memory) → StandsIn toks fault
-    → IsNested text toks.list fault → IsFaultOf text (syntactic fault)
+    → IsNested text toks.list fault → IsSourceFaultOf text (syntactic fault)
 parser_fault text toks (syn.Syntax p) listed end only stands nested =
     no_program refl (record { toks = toks; listed = listed; end = end; none = λ g grown. let e : ◌≡◌ {A = SynFault} (syn.Syntax p) syn.Memory = only g grown in cc; stands = stands; nested = nested })
 parser_fault text toks (syn.Nesting p) listed end only stands nested =
@@ -50,11 +50,24 @@ parser_fault text toks (syn.Nesting p) listed end only stands nested =
 parser_fault text toks syn.Memory listed end only stands nested = tt
 
 pub syntactic_fault : {X : Type 0} (r : Result X SourceFault) (text : List ℕ) (toks : Tokens) (fault : SynFault) → IsErrAnd r (λ made. made ≡ syntactic fault) → tokens text toks.list → IsEnd text toks.end
-    → ((g : Prog Place) → tree text toks.list g → fault ≡ syn.Memory) → StandsIn toks fault → IsNested text toks.list fault → IfErr r (λ f. IsFaultOf text f)
+    → ((g : Prog Place) → tree text toks.list g → fault ≡ syn.Memory) → StandsIn toks fault → IsNested text toks.list fault → IfErr r (λ f. IsSourceFaultOf text f)
 syntactic_fault (Ok x) text toks fault made listed end only stands nested = tt
-syntactic_fault (Err e) text toks fault made listed end only stands nested = subst (IsFaultOf text) (sym made) (parser_fault text toks fault listed end only stands nested)
+syntactic_fault (Err e) text toks fault made listed end only stands nested = subst (IsSourceFaultOf text) (sym made) (parser_fault text toks fault listed end only stands nested)
 
 -- ---- the laws
+
+-- a text that has a tree has no fault of its tokens or of its grammar
+abbrev pub HasTreeOrFault : Type 0
+HasTreeOrFault =
+    (text : List ℕ) (g : Prog Place) (number : ℕ) (place : Place)
+    → IsTreeOf text g → IsSourceFault text number place → ⊥
+
+-- of these faults two have one number, and one place where they are not of the grammar
+abbrev pub HasOneGroup : Type 0
+HasOneGroup =
+    (text : List ℕ) (number other : ℕ) (place there : Place)
+    → IsSourceFault text number place → IsSourceFault text other there
+    → (number ≡ other) × ((place ≡ there) ⊎ IsOfGrammar number)
 
 pub one_tree : HasOneList → ((text : List ℕ) (toks : List Token) (g h : Prog Place) → tree text toks g → tree text toks h → g ≡ h) → HasOneTree
 one_tree one_list one text g h first second =

@@ -23,7 +23,7 @@ const START: Place = Place { line: 1, col: 1 };
 
 impl From<LexFault> for SourceFault {
     ghost use Rattle.std.specs.Prelude.{◌≡◌};
-    ghost use Rattle.rte_read.specs.Source.{lexical};
+    ghost use Rattle.rte_program.specs.Source.{lexical};
 
     ghost from_gives = { λ fault made. made ≡ lexical fault };
 
@@ -52,7 +52,7 @@ impl From<LexFault> for SourceFault {
 
 impl From<SynFault> for SourceFault {
     ghost use Rattle.std.specs.Prelude.{◌≡◌};
-    ghost use Rattle.rte_read.specs.Source.{syntactic};
+    ghost use Rattle.rte_program.specs.Source.{syntactic};
 
     ghost from_gives = { λ fault made. made ≡ syntactic fault };
 

@@ -12,8 +12,8 @@ use Rattle.rte_grammar.specs.Grammar.{tree}
 use Rattle.rte_parse.specs.declared.fault.SynFault.{SynFault}
 use Rattle.rte_parse.specs.declared.fault.SynFault.TheVariants as syn
 use Rattle.rte_parse.specs.Faults.{StandsIn, OpensAt}
-use Rattle.rte_read.specs.declared.fault.SourceFault.{SourceFault}
-use Rattle.rte_read.specs.declared.fault.SourceFault.TheVariants.{Fault, Memory}
+use Rattle.rte_program.specs.declared.fault.SourceFault.{SourceFault}
+use Rattle.rte_program.specs.declared.fault.SourceFault.TheVariants.{Fault, Memory}
 
 -- the text has tokens, and the tree is theirs
 pub record IsTreeOf (text : List ℕ) (g : Prog Place) : Type 0 where
@@ -53,9 +53,9 @@ pub data IsSourceFault (text : List ℕ) (number : ℕ) (place : Place) : Type 0
   too_deep : number ≡ 11 → HasNoTree text (syn.Nesting place) → IsSourceFault text number place
 
 -- want of memory is no fault of a text
-abbrev pub IsFaultOf : List ℕ → SourceFault → Type 0
-IsFaultOf text (Fault number place) = IsSourceFault text number place
-IsFaultOf text Memory = Unit {0}
+abbrev pub IsSourceFaultOf : List ℕ → SourceFault → Type 0
+IsSourceFaultOf text (Fault number place) = IsSourceFault text number place
+IsSourceFaultOf text Memory = Unit {0}
 
 -- ---- what a fault of the tokens and of the tree is told as
 

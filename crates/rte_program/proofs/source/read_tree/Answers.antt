@@ -1,8 +1,8 @@
 use Rattle.std.proofs.Common.{◌≡◌, subst}
 use Rattle.rte_tree.specs.Placed.{placed}
 use Rattle.rte_grammar.specs.Grammar.{tree}
-use Rattle.rte_read.proofs.Texts.{only_lexical, only_syntactic, is_nested, syntactic_fault}
-use Rattle.rte_read.proofs.source.read.Goals as goal
+use Rattle.rte_program.proofs.Texts.{only_lexical, only_syntactic, is_nested, syntactic_fault}
+use Rattle.rte_program.proofs.source.read_tree.Goals as goal
 
 pub returns-in_err-tokens-clause-only : goal.returns-in_err-tokens-clause-only
 returns-in_err-tokens-clause-only c = λ g is.
