@@ -10,8 +10,7 @@ use rte_wellformed_calls::{calls_have_levels, routines_have_levels};
 use rte_wellformed_names::{names_are_found, names_stand_apart, trees_are_written};
 use rte_wellformed_scopes::{declarations_are_listed, texts_are_mirrored, things_are_known};
 
-/// A program that is checked, so read from a text and kept to the rules for names and to all static
-/// rules, is well formed as its meaning takes it for granted.
+/// A program that is read and keeps to the rules for names and to all static rules is well formed.
 pub fn checked_programs_are_well_formed()
     ensures { (g : Prog Place) → IsChecked g → IsWellFormed (plain g) }
 {
