@@ -128,7 +128,7 @@ module _ (g : Prog Place) (l : Laws g) where
   deadline_fits site reaches frame None w n near = tt
   deadline_fits site reaches frame (Some d) w n near =
       let tests = both_true (int_le (pos 10) (value g d)) (int_le (value g d) (value g frame))
-          (is_then (int_le (pos 10) (value g d) && int_le (value g d) (value g frame)) (constant_place d) near) in
+      (is_then (int_le (pos 10) (value g d) && int_le (value g d) (value g frame)) (constant_place d) near) in
       (constant_fits g l site reaches d w n, tests.0, tests.1)
 
   pub activation_fits : (before : List (Decl Place)) (p : Process Place) (after : List (Decl Place)) → g.decls ≡ before ++ process p ∷ after → Reaches (constants (plain g)) (process_site g before p after)
