@@ -1,3 +1,5 @@
 pub mod Local
 pub mod ExprLocal
 pub mod StmtLocal
+pub mod ProgLocal
+pub mod Viable
