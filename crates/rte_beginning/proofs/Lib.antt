@@ -3,3 +3,4 @@ pub mod ExprLocal
 pub mod StmtLocal
 pub mod ProgLocal
 pub mod Viable
+pub mod ExprViable

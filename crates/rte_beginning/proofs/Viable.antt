@@ -122,7 +122,7 @@ module _ {P : Type 0} where
   }
 
   -- what is refused at once
-  at-once : (O : Part P) → Some O → (ts : List (Tok P)) (n : ℕ) → length ts ≡ n → Partial O ts n
+  pub at-once : (O : Part P) → Some O → (ts : List (Tok P)) (n : ℕ) → length ts ≡ n → Partial O ts n
   at-once O s ts n left = record { front = []; rest = ts; more = s.more; is = refl; left = left; fits = s.fits }
 
   pub via-refuse : {A : Type 0} (x : A) (O : Part P) → Some O → Via {A = A} refuse O
@@ -132,6 +132,9 @@ module _ {P : Type 0} where
   via-deep x O s = record { value = x; some = s; free = λ ts vs y e. cc; viable = λ ts n e. cc }
 
   -- ---- single tokens, where places are some
+
+  abbrev pub a_number : Part P
+  a_number = Whole (λ n. a (number n))
 
   module _ (o : P) where
     abbrev pub some-tok : Word → Tok P
@@ -183,9 +186,6 @@ module _ {P : Type 0} where
         viable [] n e = at-once a_name name-some [] n cc
         viable (t ∷ ts) n e = by-viable t.word t ts n e
 
-    abbrev pub a_number : Part P
-    a_number = Whole (λ n. a (number n))
-
     number-some : Some a_number
     number-some = record { more = some-tok (number 0) ∷ []; fits = λ us. (0, (o, refl)) }
 
@@ -230,9 +230,8 @@ module _ {P : Type 0} where
         (bind p (Whole R) (Few R n) _ h (λ x. last (each c p n) (Few R n) _ (via-each n) (λ xs. via-ok (x ∷ xs)))))
         (imp (Few R (suc n)) (λ ts us same. ([], omega arith, same)) (via-ok []))
 
-    pub via-many : Via (many c p) (Whole (Each R))
-    unfolding many
-    via-many = record {
+    pub via-lengths : Via (λ ts. each c p (length ts) ts) (Whole (Each R))
+    via-lengths = record {
       value = [];
       some = record { more = []; fits = λ us. ([], refl) };
       free = λ ts vs x e. (all (length ts)).free ts vs x e;
@@ -242,8 +241,9 @@ module _ {P : Type 0} where
         all : (n : ℕ) → Via (each c p n) (Whole (Each R))
         all n = imp (Whole (Each R)) (λ ts us (xs, few, took). (xs, took)) (via-each n)
 
-    pub via-turns : (n : ℕ) → Via (each c p n) (Few R n)
-    via-turns = via-each
+    pub via-many : Via (many c p) (Whole (Each R))
+    unfolding many
+    via-many = via-lengths
 
   module _ (o : P) {A B : Type 0} (p : Parse P B) (R : A → Part P) (h : Via p (Whole R)) where
     pub via-comma : Via (behind_comma p) (Whole (λ x. a w.COMMA ▷ R x))
