@@ -1,3 +1,6 @@
 pub mod Local
 pub mod ExprLocal
 pub mod StmtLocal
+pub mod ProgLocal
+pub mod Viable
+pub mod ExprViable

@@ -52,6 +52,7 @@ module _ {P : Type 0} (t : Tok P) (a b : List (Tok P)) where
         first false is =
             cond-out t a b (is_entry (t ∷ a)) (is_entry (t ∷ b)) (p (t ∷ a)) (r (t ∷ a)) (q (t ∷ b)) (s (t ∷ b))
             (ap (λ c. c && is_at w.DOT a) is ∙ sym (ap (λ c. c && is_at w.DOT b) is)) (h.local []) (g.local [])
+
         at : (front : List (Tok P)) → Out t a b (cond (is_entry (front ++ t ∷ a)) (p (front ++ t ∷ a)) (r (front ++ t ∷ a))) (cond (is_entry (front ++ t ∷ b)) (q (front ++ t ∷ b)) (s (front ++ t ∷ b)))
         at [] = first (is_named t.word) refl
         at (u ∷ []) = cond-out t a b (is_entry (u ∷ t ∷ a)) (is_entry (u ∷ t ∷ b)) _ _ _ _ refl (h.local (u ∷ [])) (g.local (u ∷ []))
