@@ -1,13 +1,13 @@
 -- Why a text is no script: the first line that breaks a rule, and the least number of a rule that it breaks.
-use Rattle.std.specs.Prelude.{◌≡◌, ◌≤◌, ◌<◌, ◌+◌, ◌==◌, ◌⊎◌, ℕ, Bool, true, false, List, [], ◌∷◌, ◌++◌, length, Option, Some, None, nat_lt, nat_le, fold, if◌then◌else◌}
+use Rattle.std.specs.Prelude.{◌≡◌, ◌≤◌, ◌<◌, ◌+◌, ◌==◌, ◌⊎◌, ℕ, Bool, true, false, List, [], length, Option, Some, None, nat_lt, nat_le, fold, if◌then◌else◌}
 use Rattle.rte_image.specs.declared.names.ImageNames.{ImageNames}
 use Rattle.rte_script.specs.declared.script.ScriptLine.{ScriptLine}
 use Rattle.rte_script.specs.declared.script.ScriptLine.TheVariants.{Set, Occur}
 use Rattle.rte_script.specs.declared.fault.Flaw.{Flaw}
 use Rattle.rte_script.specs.declared.fault.Flaw.TheVariants.{Unknown, Early, Soon}
 use Rattle.rte_script.specs.declared.fault.ScriptFault.{ScriptFault}
-use Rattle.rte_script.specs.declared.fault.ScriptFault.TheVariants.{Bad, Memory}
-use Rattle.rte_script.specs.Saying.{Said, set, event, end, Begins, text_of}
+use Rattle.rte_script.specs.declared.fault.ScriptFault.TheVariants.{Bad}
+use Rattle.rte_script.specs.Saying.{Said, set, event, end, Begins}
 use Rattle.rte_script.specs.Scripts.{in_device, event_number, frame_of, tick_of, IsBegun, longest_text, most_lines}
 
 -- the tick of the last of these lines
@@ -16,7 +16,7 @@ last_tick = fold (λ last line. Some (tick_of line)) None
 
 abbrev pub last_after : ℕ → Option ℕ → ScriptLine → Option ℕ
 last_after number last (Set tick dev value) = last
-last_after number last (Occur tick event) = if event == number then Some tick else last
+last_after number last (Occur tick other) = if other == number then Some tick else last
 
 -- the tick of the last of these lines in which the event occurs
 abbrev pub last_of : ℕ → List ScriptLine → Option ℕ
@@ -87,12 +87,25 @@ pub record IsWrong (names : ImageNames) (lines : List ScriptLine) (bytes : List 
 abbrev pub IsLineFault : ImageNames → List ScriptLine → List ℕ → ℕ → ScriptFault → Type 0
 IsLineFault names lines bytes line fault = (IsUnread bytes × (fault ≡ Bad 1 line 0 0)) ⊎ IsWrong names lines bytes line fault
 
+-- the first line of the bytes follows the one that says the end: S1 to S4, else S5
+abbrev pub IsFaultOfRest : ImageNames → List ScriptLine → List ℕ → ℕ → ScriptFault → Type 0
+IsFaultOfRest names lines bytes line fault =
+    IsLineFault names lines bytes line fault
+    ⊎ ((next : Said) × (after : List ℕ) × IsRight names lines bytes next after × (fault ≡ Bad 5 line 0 0))
+
 -- S6: the text is too long
 pub record IsLong (text : List ℕ) (fault : ScriptFault) : Type 0 where
   pub long : longest_text < length text
   pub is : fault ≡ Bad 6 0 0 0
 
--- a line before the end is faulty, the lines before it being right: S1 to S4, S5 where the text ends there, or S6 where it is one too many
+-- the fault of the line after these: S1 to S4, S5 where the text ends there, or S6 where the line is one too many
+abbrev pub IsFaultHere : ImageNames → List ScriptLine → List ℕ → ScriptFault → Type 0
+IsFaultHere names lines rest fault =
+    IsLineFault names lines rest (length lines + 1) fault
+    ⊎ ((rest ≡ []) × (fault ≡ Bad 5 (length lines + 1) 0 0))
+    ⊎ ((length lines ≡ most_lines) × (next : Said) × (after : List ℕ) × IsRight names lines rest next after × (fault ≡ Bad 6 (length lines + 1) 0 0))
+
+-- a line before the end is faulty, the lines before it being right
 pub record IsFaultBeforeEnd (names : ImageNames) (text : List ℕ) (fault : ScriptFault) : Type 0 where
   pub short : length text ≤ longest_text
   pub said : List Said
@@ -100,10 +113,7 @@ pub record IsFaultBeforeEnd (names : ImageNames) (text : List ℕ) (fault : Scri
   pub rest : List ℕ
   pub begun : IsBegun names text said lines rest
   pub few : length lines ≤ most_lines
-  pub fault_is :
-    IsLineFault names lines rest (length lines + 1) fault
-    ⊎ ((rest ≡ []) × (fault ≡ Bad 5 (length lines + 1) 0 0))
-    ⊎ ((length lines ≡ most_lines) × (next : Said) × (after : List ℕ) × IsRight names lines rest next after × (fault ≡ Bad 6 (length lines + 1) 0 0))
+  pub fault_is : IsFaultHere names lines rest fault
 
 -- a line follows the one that says the end: S1 to S4, else S5
 pub record IsFaultAfterEnd (names : ImageNames) (text : List ℕ) (fault : ScriptFault) : Type 0 where
@@ -116,12 +126,8 @@ pub record IsFaultAfterEnd (names : ImageNames) (text : List ℕ) (fault : Scrip
   pub last : ℕ
   pub rest : List ℕ
   pub ends : IsRight names lines bytes (end last) rest
-  pub fault_is :
-    IsLineFault names lines rest (length lines + 2) fault
-    ⊎ ((next : Said) × (after : List ℕ) × IsRight names lines rest next after × (fault ≡ Bad 5 (length lines + 2) 0 0))
+  pub fault_is : IsFaultOfRest names lines rest (length lines + 2) fault
 
--- the fault of a text that is no script; want of memory is none
+-- the fault of a text that is no script
 abbrev pub IsFault : ImageNames → List ℕ → ScriptFault → Type 0
-IsFault names text (Bad number line a b) =
-    IsLong text (Bad number line a b) ⊎ IsFaultBeforeEnd names text (Bad number line a b) ⊎ IsFaultAfterEnd names text (Bad number line a b)
-IsFault names text Memory = ⊥
+IsFault names text fault = IsLong text fault ⊎ IsFaultBeforeEnd names text fault ⊎ IsFaultAfterEnd names text fault

@@ -1,5 +1,6 @@
 //! Why a text is no script.
 
+use std::alloc::AllocError;
 use std::fmt::{self, Display, Formatter, Write};
 use thiserror::Error;
 
@@ -26,7 +27,7 @@ pub enum ScriptFault {
     /// 4. the event occurs at `b`, less than its process's frame after its last occurrence at `a`,
     /// 5. a line follows the one that says the end, or there is none that says it,
     /// 6. the text has more than 16,777,216 bytes (line 0) or more than 1,000,000 lines.
-    #[error("S{number} {line}{}", Ticks { number: *number, a: *a, b: *b })]
+    #[error("S{number} {line}{}", Ticks {number: *number, a: *a, b: *b})]
     Bad {
         number: u8,
         line: u32,
@@ -39,6 +40,7 @@ pub enum ScriptFault {
 }
 
 /// The ticks of a fault that has some.
+#[derive(Clone, Copy)]
 struct Ticks {
     number: u8,
     a: u64,
@@ -52,5 +54,16 @@ impl Display for Ticks {
         } else {
             Ok(())
         }
+    }
+}
+
+impl From<AllocError> for ScriptFault {
+    ghost use Rattle.std.specs.Prelude.{◌≡◌};
+    ghost use Rattle.rte_script.specs.declared.fault.ScriptFault.TheVariants.{Memory};
+
+    ghost from_gives = { λ _ fault. fault ≡ Memory };
+
+    fn from(_: AllocError) -> ScriptFault {
+        ScriptFault::Memory
     }
 }

@@ -39,7 +39,7 @@ const LAST_TICK: u64 = 999_999_999;
 const LAST_END: u64 = 1_000_000_000;
 
 /// The device and the value that bytes without LF spell.
-fn setting(bytes: &[u8]) -> Option<Setting<'_>>
+fn read_setting(bytes: &[u8]) -> Option<Setting<'_>>
     requires { Lacks 10 bytes.now }
     ensures word { IfSome result (λ s. IsWord s.dev.now) }
     ensures found { IfSome result (λ s.
@@ -75,18 +75,21 @@ fn timed(tick: u64, bytes: &[u8]) -> Option<Line<'_>>
         None => None,
         Some(parts) => {
             if is_same(parts.before, b"set") {
-                return match setting(parts.after) {
+                return match read_setting(parts.after) {
                     None => None,
                     Some(Setting { dev, value }) => Some(Line::Set { tick, dev, value }),
                 };
             }
-            if is_same(parts.before, b"event") && is_word(parts.after) {
-                return Some(Line::Event {
-                    tick,
-                    name: parts.after,
-                });
+            if !is_same(parts.before, b"event") {
+                return None;
             }
-            None
+            if !is_word(parts.after) {
+                return None;
+            }
+            Some(Line::Event {
+                tick,
+                name: parts.after,
+            })
         }
     }
 }

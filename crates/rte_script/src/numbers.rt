@@ -1,11 +1,11 @@
 //! Numbers of devices and events by their names.
 
 ghost use Rattle.std.specs.Prelude.{◌≡◌, ◌≤◌, ◌^◌, length, IfOk, OnOk};
-ghost use Rattle.rte_script.specs.Reading.{AddsNumber, AreNumbers, number_in};
+ghost use Rattle.rte_script.specs.Reading.{AddsDevice, AddsNumber, AreNumbers, number_in};
 ghost use Rattle.rte_script.specs.Scripts.{in_device, event_number};
 
 use indexmap::IndexMap;
-use rte_image::ImageNames;
+use rte_image::{DevName, ImageNames};
 use std::alloc::{AllocError, Global};
 
 /// Numbers by name.
@@ -29,6 +29,21 @@ fn add<'a>(numbers: &mut Numbers<'a>, name: &'a [u8], number: u16) -> Result<(),
     Ok(())
 }
 
+/// Gives the name of an in device a number, unless it has one.
+fn add_device<'a>(
+    numbers: &mut Numbers<'a>,
+    device: &'a DevName,
+    number: u16,
+) -> Result<(), AllocError>
+    ensures { OnOk result
+        (AddsDevice numbers.old.entries numbers.new.entries device.now number) }
+{
+    if device.out {
+        return Ok(());
+    }
+    add(numbers, device.name.as_bytes(), number)
+}
+
 /// The numbers of the in devices.
 pub fn device_numbers<'a>(alloc: Global, names: &'a ImageNames) -> Result<Numbers<'a>, AllocError>
     requires { length names.now.devices ≤ 2 ^ 16 }
@@ -37,9 +52,7 @@ pub fn device_numbers<'a>(alloc: Global, names: &'a ImageNames) -> Result<Number
     let devices = names.devices.as_slice();
     let mut numbers = Numbers::new(alloc);
     for (k, device) in devices.iter().enumerate() {
-        if !device.out {
-            add(&mut numbers, device.name.as_bytes(), k as u16)?;
-        }
+        add_device(&mut numbers, device, k as u16)?;
     }
     Ok(numbers)
 }

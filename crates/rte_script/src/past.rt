@@ -1,9 +1,9 @@
 //! What is kept of the lines that were read, and what is wrong with a line after them.
 
-ghost use Rattle.std.specs.Prelude.{◌≡◌, ◌++◌, ◌∷◌, [], ◌<◌, ◌≤◌, length, All, None, Some, IfOk, IfErr, OnOk, IsTrue};
+ghost use Rattle.std.specs.Prelude.{◌≡◌, ◌++◌, ◌∷◌, [], ◌<◌, ◌≤◌, length, All, None, Some, IfOk, IfErr, OnOk, true};
 ghost use Rattle.rte_script.specs.Faults.{event_flaw, flaw, is_above as above, is_from as from_last, too_soon as too_soon_after};
 ghost use Rattle.rte_script.specs.Reading.{IsPast, AreNumbers, IsUpTo, seen};
-ghost use Rattle.rte_script.specs.Scripts.{event_number, frame_of as frame_in, in_device, meaning, tick_of};
+ghost use Rattle.rte_script.specs.Scripts.{event_number, frame_of as frame_in, in_device, meaning, tick_of, IsWithin};
 
 use crate::fault::Flaw;
 use crate::line::Line;
@@ -149,7 +149,8 @@ impl Past {
     /// One more line.
     pub fn add(&mut self, names: &ImageNames, line: ScriptLine) -> Result<(), AllocError>
         requires past { IsPast names.now self.old.lines self.old.last self.old.occurred.items }
-        requires order { IsTrue (from_last (tick_of line) self.old.last) }
+        requires within { IsWithin names.now line }
+        requires order { from_last (tick_of line) self.old.last ≡ true }
         ensures past { OnOk result
             (IsPast names.now self.new.lines self.new.last self.new.occurred.items) }
         ensures lines { OnOk result (self.new.lines ≡ self.old.lines ++ line ∷ []) }
@@ -159,9 +160,7 @@ impl Past {
             ScriptLine::Set { tick, .. } => self.last = Some(tick),
             ScriptLine::Occur { tick, event } => {
                 self.last = Some(tick);
-                if (event as usize) < self.occurred.len() {
-                    self.occurred[event as usize] = Some(tick);
-                }
+                self.occurred[event as usize] = Some(tick);
             }
         }
         Ok(())

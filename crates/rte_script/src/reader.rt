@@ -58,7 +58,7 @@ fn fault(line: u32, flaw: Flaw) -> ScriptFault
 }
 
 /// The first line of the bytes; None where it is in no form.
-fn first(bytes: &[u8]) -> Option<First<'_>>
+fn first_line(bytes: &[u8]) -> Option<First<'_>>
     ensures found { IfSome result (λ first. Begins bytes.now (seen first.line) first.rest.now) }
     ensures none { IfNone result ((said : Said) (rest : List ℕ) → ¬ Begins bytes.now said rest) }
 {
@@ -75,7 +75,7 @@ fn first(bytes: &[u8]) -> Option<First<'_>>
 }
 
 /// What the first line of the bytes means after the lines read so far, or its fault.
-pub fn next<'a>(
+pub fn judge_next<'a>(
     names: &ImageNames,
     devices: &Numbers<'_>,
     events: &Numbers<'_>,
@@ -91,7 +91,7 @@ pub fn next<'a>(
     ensures fault { IfErr result (λ fault.
         IsLineFault names.now past.now.lines bytes.now number fault) }
 {
-    match first(bytes) {
+    match first_line(bytes) {
         None => Err(bad(1, number)),
         Some(First { line, rest }) => match past.judge(names, devices, events, line) {
             Err(flaw) => Err(fault(number, flaw)),

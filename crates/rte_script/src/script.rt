@@ -1,5 +1,7 @@
 //! Scripts.
 
+ghost use Rattle.std.specs.Prelude.{◌≡◌};
+
 use rte_tree::List;
 
 /// A line of a script: at a tick an in device is set to a value, or an event occurs. Devices and
@@ -13,6 +15,22 @@ pub enum ScriptLine {
 /// The lines of a script, and the tick before which its run ends.
 #[derive(Debug, Drop)]
 pub struct Script {
-    lines: List<ScriptLine>,
-    end: u64,
+    pub(crate) lines: List<ScriptLine>,
+    pub(crate) end: u64,
+}
+
+impl Script {
+    /// The lines, in the order of the text.
+    pub fn lines(&self) -> &List<ScriptLine>
+        ensures { result.now ≡ self.now.lines }
+    {
+        &self.lines
+    }
+
+    /// The tick before which the run ends.
+    pub fn end(&self) -> u64
+        ensures { result ≡ self.now.end }
+    {
+        self.end
+    }
 }
