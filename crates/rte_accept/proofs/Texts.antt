@@ -7,7 +7,7 @@ use Rattle.rte_tree.specs.Placed.{Prog}
 use Rattle.rte_form.specs.Reading.{IsForm}
 use Rattle.rte_program.specs.Laws as programs
 use Rattle.rte_program.specs.Program.{IsProgramOf, IsProgramFault}
-use Rattle.rte_read.specs.Source.{start}
+use Rattle.rte_program.specs.Source.{start}
 use Rattle.rte_source_meaning.specs.Puts.{PutProg}
 use Rattle.rte_accept.specs.declared.refusal.Refusal.{Refusal}
 use Rattle.rte_accept.specs.declared.refusal.Refusal.TheVariants.{Fault, Failed, Memory}

@@ -5,9 +5,9 @@ use Rattle.rte_tree.specs.Placed.{Prog}
 use Rattle.rte_source_meaning.specs.Puts.{PutProg}
 use Rattle.rte_io.specs.declared.outside.ReadFault.{ReadFault}
 use Rattle.rte_io.specs.declared.outside.ReadFault.TheVariants as reads
-use Rattle.rte_read.specs.Source.{start}
-use Rattle.rte_read.specs.declared.fault.SourceFault.{SourceFault}
-use Rattle.rte_read.specs.declared.fault.SourceFault.TheVariants as source
+use Rattle.rte_program.specs.Source.{start}
+use Rattle.rte_program.specs.declared.fault.SourceFault.{SourceFault}
+use Rattle.rte_program.specs.declared.fault.SourceFault.TheVariants as source
 use Rattle.rte_form.specs.Reading.{IsForm}
 use Rattle.rte_program.specs.Program.{IsProgramOf, IsProgramFault}
 use Rattle.rte_accept.specs.declared.refusal.Refusal.{Refusal}

@@ -4,7 +4,7 @@ ghost use Rattle.std.specs.Prelude.{◌≡◌, ◌⊎◌, IsSomeAnd, IfOk, IfErr
 ghost use Rattle.std.specs.Bool.{OnTrue};
 ghost use Rattle.rte_tree.specs.Placed.{placed};
 ghost use Rattle.rte_io.specs.Outside.{Rose, AllStay, NoneFell};
-ghost use Rattle.rte_read.specs.Source.{start};
+ghost use Rattle.rte_program.specs.Source.{start};
 ghost use Rattle.rte_form.specs.Form.{program_of};
 ghost use Rattle.rte_form.specs.Reading.{IsForm};
 ghost use Rattle.rte_form.specs.WellFormed.{IsPutProg};

@@ -1,7 +1,7 @@
 //! Why no program was read.
 
 use rte_io::ReadFault;
-use rte_read::SourceFault;
+use rte_program::SourceFault;
 use rte_tree::Place;
 
 /// The number of the fault of a text that is too long.

@@ -1,5 +1,6 @@
 -- The ranks of processes, the ceilings of monitors, and how long a lower process can keep a higher one from running.
-use Rattle.std.specs.Prelude.{◌≡◌, ◌<◌, ◌≤◌, ◌==◌, ◌&&◌, ◌||◌, ◌⊎◌, ℕ, Bool, nat_lt, List, [], length, Option, Some, None, IsTrue, IsSomeAnd, slice_index, slice_index_or, min, Any}
+use Rattle.std.specs.Prelude.{◌≡◌, ◌<◌, ◌≤◌, ◌+◌, ◌==◌, ◌&&◌, ◌||◌, ◌⊎◌, ℕ, Bool, nat_lt, List, [], length, Option, Some, None, IsTrue, IsSomeAnd, slice_index, slice_index_or, min, Any}
+use Rattle.rte_block.specs.Counts.{count_below}
 use Rattle.rte_block.specs.declared.uses.Stay.{Stay}
 use Rattle.rte_block.specs.declared.uses.Use.{Use}
 
@@ -16,6 +17,10 @@ pub record AreRanks (us : List Use) (ranks : List ℕ) : Type 0 where
   pub low : (p : ℕ) → p < length us → 1 ≤ slice_index ranks p
   pub high : (p : ℕ) → p < length us → slice_index ranks p ≤ length us
   pub ordered : (p q : ℕ) → p < length us → q < length us → IsTrue (outranks us p q) → slice_index ranks p < slice_index ranks q
+
+-- the rank of each process is one more than the number of those that rank higher
+abbrev pub AreCounted : List Use → List ℕ → Type 0
+AreCounted us ranks = (k : ℕ) → k < length us → slice_index ranks k ≡ 1 + count_below (λ other. outranks us other k) (length us)
 
 -- the process reaches an entry of the monitor
 abbrev pub Reaches : ℕ → Use → Type 0

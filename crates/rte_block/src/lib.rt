@@ -16,6 +16,6 @@ mod uses;
 pub use block::blocking;
 pub use ceiling::ceilings;
 pub use least::bound;
-pub use ranking::ranks;
+pub use ranking::{ranks, ranks_are_counted};
 pub use uncounted::bound_of;
 pub use uses::{Stay, Use};

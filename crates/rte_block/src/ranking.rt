@@ -1,8 +1,9 @@
 //! The ranks of processes.
 
-ghost use Rattle.std.specs.Prelude.{◌≡◌, ◌==◌, ◌&&◌, ◌||◌, ◌<◌, ◌≤◌, ℕ, length, nat_lt, IfOk};
-ghost use Rattle.rte_block.specs.Ranked.{AreRanks, outranks};
+ghost use Rattle.std.specs.Prelude.{◌≡◌, ◌==◌, ◌&&◌, ◌||◌, ◌<◌, ◌≤◌, ℕ, List, length, nat_lt, IfOk};
+ghost use Rattle.rte_block.specs.Ranked.{AreCounted, AreRanks, outranks};
 ghost use Rattle.rte_block.specs.Counts.{count_below};
+ghost use Rattle.rte_block.specs.declared.uses.Use.{Use};
 
 use crate::uses::Use;
 use rte_tree::List;
@@ -37,3 +38,9 @@ pub fn ranks(alloc: Global, uses: &List<Use>) -> Result<List<u16>, AllocError>
     }
     Ok(all)
 }
+
+/// The law of ranks: where they are 1 up to the number of processes, and who ranks higher has the smaller number, the
+/// rank of each process is one more than the number of those that rank higher.
+pub fn ranks_are_counted()
+    ensures { (us : List Use) (ranks : List ℕ) → AreRanks us ranks → AreCounted us ranks }
+{}

@@ -1,7 +1,7 @@
 -- A text comes to one thing.
 use Rattle.std.proofs.Common.{◌≡◌, ℕ, List, Option, Some, sym, subst, ap, ◌∙◌, refl, arith}
 use Rattle.rte_tree.specs.declared.place.Place.{Place}
-use Rattle.rte_read.specs.Source.{start}
+use Rattle.rte_program.specs.Source.{start}
 use Rattle.rte_program.specs.Program.{IsProgramFault}
 use Rattle.rte_form.specs.WellFormed.{IsTimely}
 use Rattle.rte_source_meaning.specs.Puts.{PutProg}

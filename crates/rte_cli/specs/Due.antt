@@ -6,7 +6,7 @@ use Rattle.rte_form.specs.Target.{names_of, image_of, named_image_of, until}
 use Rattle.rte_form.specs.WellFormed.{IsTimely}
 use Rattle.rte_image.specs.Bytes.{Second, bytes_of}
 use Rattle.rte_log.specs.Line.{log_of}
-use Rattle.rte_read.specs.Source.{start}
+use Rattle.rte_program.specs.Source.{start}
 use Rattle.rte_program.specs.Program.{IsProgramFault}
 use Rattle.rte_accept.specs.Accept.{IsProgramText, IsFormless, fault_line}
 use Rattle.rte_source_meaning.specs.Puts.{PutProg}

@@ -7,7 +7,8 @@ use Rattle.std.proofs.lemmas.Cmp.{nat_list_eq_equiv}
 use Rattle.rte_tree.specs.Plain.{Name, Constant, literal_constant, named_constant, Decl, constant, device, event, routine, monitor, process, Prog}
 use Rattle.rte_source_meaning.specs.Names.{value_among, constant_among, constants_from, constants, constant_value}
 use Rattle.rte_tree.specs.declared.place.Place.{Place}
-use Rattle.rte_names.specs.Reach.{same, same_place}
+use Rattle.rte_tree.specs.Parts.{same_place}
+use Rattle.rte_names.specs.Reach.{same}
 use Rattle.rte_names.specs.Findings.{Key, same_key, key_of}
 use Rattle.rte_names.proofs.Notes.{key_equiv}
 use Rattle.rte_declarations.specs.declared.values.Number.{Number}

@@ -4,11 +4,7 @@ use Rattle.rte_tree.specs.Placed.{Scalar, Expr, Ref, whole, part, Stmt, assign, 
 use Rattle.rte_tree.specs.declared.place.Place.{Place}
 use Rattle.rte_declarations.specs.declared.home.Home.{Home}
 use Rattle.rte_declarations.specs.declared.home.Home.TheVariants as home_is
-
--- where a statement stands: in what, and whether in a loop
-pub record Where : Type 0 where
-  pub home : Home
-  pub in_loop : Bool
+use Rattle.rte_declarations.specs.declared.home.Where.{Where}
 
 -- a statement, or the result of a function: its type and its expression, at the function's name
 pub data Part : Type 0 where

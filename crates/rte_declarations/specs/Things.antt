@@ -2,7 +2,7 @@
 use Rattle.std.specs.Prelude.{Bool, true, false, List, [], ◌∷◌, Option, Some, None, if◌then◌else◌, unwrap_or, option_map}
 use Rattle.rte_tree.specs.Placed.{Scalar, int, boolean, subrange, Kind, scalar, array, Var, Param, Routine, Member, variable_member, condition_member, Decl, constant, device, event, routine, monitor, process, Prog}
 use Rattle.rte_tree.specs.declared.place.Place.{Place}
-use Rattle.rte_names.specs.Reach.{same_place}
+use Rattle.rte_tree.specs.Parts.{same_place}
 use Rattle.rte_names.specs.Occurrences.{names, declared_at}
 use Rattle.rte_declarations.specs.declared.sort.Sort.{Sort}
 use Rattle.rte_declarations.specs.declared.sort.Sort.TheVariants as sort_is

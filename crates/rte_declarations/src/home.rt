@@ -10,3 +10,10 @@ pub enum Home {
     Entry,
     Function(Place),
 }
+
+/// Where a statement stands: in what, and whether in a loop of it.
+#[derive(Clone, Copy, Debug, PartialEq, Eq)]
+pub struct Where {
+    pub home: Home,
+    pub in_loop: bool,
+}

@@ -14,6 +14,6 @@ mod things;
 mod values;
 
 pub use declarations::Declarations;
-pub use home::Home;
+pub use home::{Home, Where};
 pub use sort::{Shape, Sort, shape_of, sort_of};
 pub use thing::Thing;

@@ -38,28 +38,28 @@ IsResult procedure (Some s) = never
 IsResult function None = never
 IsResult function (Some s) = a w.RETURNS ▷ IsScalar s
 
--- a function has an expression of its result, a procedure none
-abbrev pub IsValue : {P : Type 0} → RoutineKind → Option (Expr P) → List (Tok P) → List (Tok P) → Type 0
-IsValue procedure None = nothing
-IsValue procedure (Some e) = never
-IsValue function None = never
-IsValue function (Some e) = a w.RETURN ▷ IsExpr 5 MOST_LEVELS e
+-- a function has an expression of its result, a procedure none; with this many levels of nesting, here and below
+abbrev pub IsValueWithin : {P : Type 0} → (depth : ℕ) → RoutineKind → Option (Expr P) → List (Tok P) → List (Tok P) → Type 0
+IsValueWithin depth procedure None = nothing
+IsValueWithin depth procedure (Some e) = never
+IsValueWithin depth function None = never
+IsValueWithin depth function (Some e) = a w.RETURN ▷ IsExpr 5 depth e
 
-abbrev pub IsRoutine : {P : Type 0} → Routine P → List (Tok P) → List (Tok P) → Type 0
-IsRoutine r =
+abbrev pub IsRoutineWithin : {P : Type 0} → (depth : ℕ) → Routine P → List (Tok P) → List (Tok P) → Type 0
+IsRoutineWithin depth r =
     a (kind_word r.kind) ▷ at (named r.name) r.place ▷ a w.LEFT_PAREN ▷ SomeListed IsParam r.params ▷ a w.RIGHT_PAREN ▷ IsResult r.kind r.result
-    ▷ Each IsVar r.vars ▷ a w.BEGIN ▷ AreStmts MOST_LEVELS r.body ▷ IsValue r.kind r.value ▷ a w.END ▷ at (named r.close) r.close_place
+    ▷ Each IsVar r.vars ▷ a w.BEGIN ▷ AreStmts depth r.body ▷ IsValueWithin depth r.kind r.value ▷ a w.END ▷ at (named r.close) r.close_place
 
 abbrev pub IsMember : {P : Type 0} → Member P → List (Tok P) → List (Tok P) → Type 0
 IsMember (variable_member v) = IsVar v
 IsMember (condition_member n p) = a w.CONDITION ▷ at (named n) p
 
-abbrev pub IsEntry : {P : Type 0} → Routine P → List (Tok P) → List (Tok P) → Type 0
-IsEntry r = a w.ENTRY ▷ IsRoutine r
+abbrev pub IsEntryWithin : {P : Type 0} → (depth : ℕ) → Routine P → List (Tok P) → List (Tok P) → Type 0
+IsEntryWithin depth r = a w.ENTRY ▷ IsRoutineWithin depth r
 
-abbrev pub IsMonitor : {P : Type 0} → Monitor P → List (Tok P) → List (Tok P) → Type 0
-IsMonitor m =
-    a w.MONITOR ▷ at (named m.name) m.place ▷ Each IsMember m.members ▷ Each IsEntry m.entries ▷ a w.END ▷ at (named m.close) m.close_place
+abbrev pub IsMonitorWithin : {P : Type 0} → (depth : ℕ) → Monitor P → List (Tok P) → List (Tok P) → Type 0
+IsMonitorWithin depth m =
+    a w.MONITOR ▷ at (named m.name) m.place ▷ Each IsMember m.members ▷ Each (IsEntryWithin depth) m.entries ▷ a w.END ▷ at (named m.close) m.close_place
 
 -- the deadline of a process, where it is said
 abbrev pub IsDeadline : {P : Type 0} → Option (Constant P) → List (Tok P) → List (Tok P) → Type 0
@@ -75,29 +75,55 @@ abbrev pub IsActivation : {P : Type 0} → Activation P → List (Tok P) → Lis
 IsActivation (periodic frame deadline first) = a w.PERIODIC ▷ a w.FRAME ▷ IsConstant frame ▷ IsDeadline deadline ▷ IsFirst first
 IsActivation (at_event e p frame deadline) = a w.AT_EVENT ▷ at (named e) p ▷ a w.FRAME ▷ IsConstant frame ▷ IsDeadline deadline
 
-abbrev pub IsHandler : {P : Type 0} → Option (Handler P) → List (Tok P) → List (Tok P) → Type 0
-IsHandler None = nothing
-IsHandler (Some h) = a w.HANDLER ▷ a w.LEFT_PAREN ▷ Listed IsConstant h.numbers ▷ a w.RIGHT_PAREN ▷ AreStmts MOST_LEVELS h.body
+abbrev pub IsHandlerWithin : {P : Type 0} → (depth : ℕ) → Option (Handler P) → List (Tok P) → List (Tok P) → Type 0
+IsHandlerWithin depth None = nothing
+IsHandlerWithin depth (Some h) = a w.HANDLER ▷ a w.LEFT_PAREN ▷ Listed IsConstant h.numbers ▷ a w.RIGHT_PAREN ▷ AreStmts depth h.body
 
-abbrev pub IsProcess : {P : Type 0} → Process P → List (Tok P) → List (Tok P) → Type 0
-IsProcess p =
-    a w.PROCESS ▷ at (named p.name) p.place ▷ a w.COLON ▷ IsActivation p.activation ▷ Each IsVar p.vars ▷ Each IsRoutine p.routines ▷ a w.BEGIN
-    ▷ AreStmts MOST_LEVELS p.body ▷ IsHandler p.handler ▷ a w.END ▷ at (named p.close) p.close_place
+abbrev pub IsProcessWithin : {P : Type 0} → (depth : ℕ) → Process P → List (Tok P) → List (Tok P) → Type 0
+IsProcessWithin depth p =
+    a w.PROCESS ▷ at (named p.name) p.place ▷ a w.COLON ▷ IsActivation p.activation ▷ Each IsVar p.vars ▷ Each (IsRoutineWithin depth) p.routines ▷ a w.BEGIN
+    ▷ AreStmts depth p.body ▷ IsHandlerWithin depth p.handler ▷ a w.END ▷ at (named p.close) p.close_place
 
 abbrev pub way_word : Bool → Word
 way_word true = w.OUT
 way_word false = w.IN
 
+abbrev pub IsDeclWithin : {P : Type 0} → (depth : ℕ) → Decl P → List (Tok P) → List (Tok P) → Type 0
+IsDeclWithin depth (constant n p c) = a w.CONST ▷ at (named n) p ▷ a w.ASSIGN ▷ IsConstant c
+IsDeclWithin depth (device n p is_out) = a w.DEVICE ▷ at (named n) p ▷ a w.COLON ▷ a (way_word is_out)
+IsDeclWithin depth (event n p) = a w.EVENT ▷ at (named n) p
+IsDeclWithin depth (routine r) = IsRoutineWithin depth r
+IsDeclWithin depth (monitor m) = IsMonitorWithin depth m
+IsDeclWithin depth (process p) = IsProcessWithin depth p
+
+abbrev pub IsProgWithin : {P : Type 0} → (depth : ℕ) → Prog P → List (Tok P) → List (Tok P) → Type 0
+IsProgWithin depth g = a w.PROGRAM ▷ at (named g.name) g.place ▷ Each (IsDeclWithin depth) g.decls ▷ a w.END ▷ at (named g.close) g.close_place
+
+-- ---- with the most levels of nesting
+
+abbrev pub IsValue : {P : Type 0} → RoutineKind → Option (Expr P) → List (Tok P) → List (Tok P) → Type 0
+IsValue = IsValueWithin MOST_LEVELS
+
+abbrev pub IsRoutine : {P : Type 0} → Routine P → List (Tok P) → List (Tok P) → Type 0
+IsRoutine = IsRoutineWithin MOST_LEVELS
+
+abbrev pub IsEntry : {P : Type 0} → Routine P → List (Tok P) → List (Tok P) → Type 0
+IsEntry = IsEntryWithin MOST_LEVELS
+
+abbrev pub IsMonitor : {P : Type 0} → Monitor P → List (Tok P) → List (Tok P) → Type 0
+IsMonitor = IsMonitorWithin MOST_LEVELS
+
+abbrev pub IsHandler : {P : Type 0} → Option (Handler P) → List (Tok P) → List (Tok P) → Type 0
+IsHandler = IsHandlerWithin MOST_LEVELS
+
+abbrev pub IsProcess : {P : Type 0} → Process P → List (Tok P) → List (Tok P) → Type 0
+IsProcess = IsProcessWithin MOST_LEVELS
+
 abbrev pub IsDecl : {P : Type 0} → Decl P → List (Tok P) → List (Tok P) → Type 0
-IsDecl (constant n p c) = a w.CONST ▷ at (named n) p ▷ a w.ASSIGN ▷ IsConstant c
-IsDecl (device n p is_out) = a w.DEVICE ▷ at (named n) p ▷ a w.COLON ▷ a (way_word is_out)
-IsDecl (event n p) = a w.EVENT ▷ at (named n) p
-IsDecl (routine r) = IsRoutine r
-IsDecl (monitor m) = IsMonitor m
-IsDecl (process p) = IsProcess p
+IsDecl = IsDeclWithin MOST_LEVELS
 
 abbrev pub IsProg : {P : Type 0} → Prog P → List (Tok P) → List (Tok P) → Type 0
-IsProg g = a w.PROGRAM ▷ at (named g.name) g.place ▷ Each IsDecl g.decls ▷ a w.END ▷ at (named g.close) g.close_place
+IsProg = IsProgWithin MOST_LEVELS
 
 -- the tokens of the text, all of them, are those of the program
 abbrev pub tree : List ℕ → List Token → Prog Place → Type 0

@@ -43,10 +43,10 @@ pub solution_covers : (ts : List Task) (level r : ℕ) → AreLimited ts → lev
 unfolding demand_at
 solution_covers ts level r are below solves =
     let own = task_is ts level are below in
-    let one = one_frame r (task_at ts level).frame solves.above solves.within in
+    let one = one_frame r (task_at ts level).frame solves.above (omega (arith, solves.within, own.deadline_high)) in
     let before = asked_total ts (task_at ts level).block r level (omega arith) in
     let last : div_ceil r (task_at ts level).frame * claim (task_at ts level).block (cost_at ts level) ≡ claim (task_at ts level).block (cost_at ts level) = ap (λ k. k * claim (task_at ts level).block (cost_at ts level)) one ∙ omega arith in
-    omega (arith, solves.met, own.frame_high, solves.within)
+    omega (arith, solves.met, own.frame_high, own.deadline_high, solves.within)
 
 -- and so does a solution cover one activation of each
 pub covers_one : (ts : List Task) (level r j : ℕ) → AreLimited ts → level < length ts → Solves ts level r → j ≤ level → claim (task_at ts level).block (cost_at ts j) ≤ r

@@ -8,9 +8,9 @@ use Rattle.rte_response.specs.Demand.{IsTask, Solves}
 use Rattle.rte_in_time.specs.Limited.{AreLimited}
 use Rattle.rte_in_time.specs.Charges.{Cost}
 use Rattle.rte_in_time.specs.Stretches.{flag, NoneActive, SomeActive, Trace, IsRun, AreCharged, releases, IsStretch}
-use Rattle.rte_response.specs.Demand.{task_at}
+use Rattle.rte_response.specs.Demand.{task_at, deadline_at}
 use Rattle.rte_in_time.specs.Ranked.{cost_at, IsRanked, EndsAt, EndsWithin}
-use Rattle.rte_in_time.specs.InTime.{AreBounds, IsInTime}
+use Rattle.rte_in_time.specs.InTime.{AreBounds, IsInTime, MeetsDeadlines}
 use Rattle.rte_in_time.proofs.Releases.{releases_ceil}
 use Rattle.rte_in_time.proofs.Stretches.{cleared, no_longer, began, cases_active, not_both}
 use Rattle.rte_in_time.proofs.Demands.{task_is, one_frame, solution_covers}
@@ -75,7 +75,7 @@ no_overrun ts end t stay j bound tick are ranked below solves within released = 
       let b = began (suc j) (cost_at ts) end t l.run l.clear tick within busy in
       let short : suc b.ticks ≤ bound = stretch_within ts end t stay j bound b.start (suc b.ticks) are ranked below solves b.stretch (omega (arith, b.here)) in
       let few : releases (λ k. t.released k j) b.start (suc b.ticks) ≤ div_ceil (suc b.ticks) (task_at ts j).frame = few_releases ts end t stay b.start (suc b.ticks) (suc j) are ranked (omega arith) (omega (arith, b.here)) j (omega arith) in
-      let one : div_ceil (suc b.ticks) (task_at ts j).frame ≡ 1 = one_frame (suc b.ticks) (task_at ts j).frame (omega arith) (omega (arith, solves.within)) in
+      let one : div_ceil (suc b.ticks) (task_at ts j).frame ≡ 1 = one_frame (suc b.ticks) (task_at ts j).frame (omega arith) (omega (arith, solves.within, (task_is ts j are below).deadline_high)) in
       let e : tick ≡ b.start + b.ticks = sym b.here in
       let P : ℕ → Type 0 = λ k. flag (t.released k j) ≡ 1 in
       let last : flag (t.released (b.start + b.ticks) j) ≡ 1 = subst P e (ap flag released) in
@@ -189,3 +189,10 @@ in_time ts bounds end t stay are solve ranked = record {
   idle = λ k j below within released. no_overrun ts end t stay j (bounds j) k are ranked below (solve j below) within released;
   ends = λ k j below within released. ends_within ts end t stay j (bounds j) k are ranked below (solve j below) released within;
 }
+
+-- who ends within so many ticks ends within more
+pub ends_sooner : (t : Trace) (j release bound deadline : ℕ) → bound ≤ deadline → EndsWithin t j release bound → EndsWithin t j release deadline
+ends_sooner t j release bound deadline low soon = record { tick = soon.tick; since = soon.since; soon = omega (arith, soon.soon); ends = soon.ends; goes_on = soon.goes_on }
+
+pub meets_deadlines : (ts : List Task) (bounds : ℕ → ℕ) (end : ℕ) (t : Trace) → AreBounds ts bounds → IsInTime ts bounds end t → MeetsDeadlines ts bounds end t
+meets_deadlines ts bounds end t solve is k j below within released = ends_sooner t j k (bounds j) (deadline_at ts j) (solve j below).within (is.ends k j below within released)

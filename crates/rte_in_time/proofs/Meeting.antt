@@ -4,7 +4,7 @@ use Rattle.std.specs.Prelude.{Bool, true, false, ◌&&◌, ◌||◌, Option, Som
 use Rattle.std.proofs.Math.Dec.{leb, ltb, eqb}
 use Rattle.std.proofs.lemmas.Bool.{and_parts, and_from, or_cases, leb-true, le-leb, ltb-true, eqb-true, eq-eqb, cases_lt, false_from_ne_true}
 use Rattle.rte_response.specs.declared.tasks.Task.{Task}
-use Rattle.rte_response.specs.Demand.{task_at, frame_at, demand_at, Solves}
+use Rattle.rte_response.specs.Demand.{task_at, deadline_at, demand_at, Solves}
 use Rattle.rte_in_time.specs.Charges.{Cost}
 use Rattle.rte_in_time.specs.Stretches.{Life, Trace, IsLife, Opens, Acts, Spaced, flag}
 use Rattle.rte_in_time.specs.Dispatched.{Stay, Dispatch, IsReady, active_rank, TakesOne, KeepsStays}
@@ -276,10 +276,10 @@ placed ts rank end t d pass = record {
     each ticks f ok k p within below = all_at (length ts) (f k) (all_at ticks (λ i. all_below (length ts) (f i)) ok k within) p below
 
 abbrev pub solves_ok : List Task → ℕ → ℕ → Bool
-solves_ok ts level r = leb 1 r && (leb r (frame_at ts level) && leb (demand_at ts level r) r)
+solves_ok ts level r = leb 1 r && (leb r (deadline_at ts level) && leb (demand_at ts level r) r)
 
 pub solves : (ts : List Task) (level r : ℕ) → solves_ok ts level r ≡ true → Solves ts level r
 solves ts level r ok =
-    let above = and_le 1 r (leb r (frame_at ts level) && leb (demand_at ts level r) r) ok in
-    let within = and_le r (frame_at ts level) (leb (demand_at ts level r) r) above.1 in
+    let above = and_le 1 r (leb r (deadline_at ts level) && leb (demand_at ts level r) r) ok in
+    let within = and_le r (deadline_at ts level) (leb (demand_at ts level r) r) above.1 in
     record { above = above.0; within = within.0; met = leb-true (demand_at ts level r) r within.1 }

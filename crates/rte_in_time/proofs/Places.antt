@@ -4,13 +4,13 @@ use Rattle.std.specs.Prelude.{true, Option, Some, None}
 use Rattle.rte_response.specs.declared.tasks.Task.{Task}
 use Rattle.rte_in_time.specs.Limited.{AreLimited}
 use Rattle.rte_in_time.specs.Stretches.{Life, Trace, Opens, Spaced}
-use Rattle.rte_response.specs.Demand.{task_at}
+use Rattle.rte_response.specs.Demand.{task_at, deadline_at}
 use Rattle.rte_in_time.specs.Ranked.{cost_at, EndsWithin}
 use Rattle.rte_in_time.specs.Dispatched.{Stay, Dispatch, active_rank, PicksOf, KeepsStays, AreStays, IsDispatched}
 use Rattle.rte_in_time.specs.InTime.{AreBounds}
-use Rattle.rte_in_time.specs.Placed.{AreRanks, PicksAt, AreStaysAt, IsPlaced, by_rank, IsInTimeAt}
+use Rattle.rte_in_time.specs.Placed.{AreRanks, PicksAt, AreStaysAt, IsPlaced, by_rank, IsInTimeAt, MeetsDeadlinesAt}
 use Rattle.rte_in_time.proofs.Ceilings.{stay_at, is_ranked}
-use Rattle.rte_in_time.proofs.InTime.{in_time}
+use Rattle.rte_in_time.proofs.InTime.{in_time, ends_sooner}
 
 abbrev rank_picked : (ℕ → ℕ) → Option ℕ → Option ℕ
 rank_picked rank None = None
@@ -106,3 +106,7 @@ in_time_at ts rank place bounds end t d tasks solve are placed =
           let P : ℕ → Type 0 = λ i. EndsWithin t i k (bounds (rank p)) in
           subst P e (end_at_place place t (rank p) k (bounds (rank p)) (timed.ends k (rank p) (are.rank_below p below) within is));
     }
+
+pub meets_deadlines_at : (ts : List Task) (rank place bounds : ℕ → ℕ) (end : ℕ) (t : Trace) → AreBounds ts bounds → AreRanks (length ts) rank place → IsInTimeAt ts rank place bounds end t → MeetsDeadlinesAt ts rank bounds end t
+meets_deadlines_at ts rank place bounds end t solve are is k p below within released =
+    ends_sooner t p k (bounds (rank p)) (deadline_at ts (rank p)) (solve (rank p) (are.rank_below p below)).within (is.ends k p below within released)

@@ -2,7 +2,7 @@
 use Rattle.std.specs.Prelude.{◌≡◌, ◌≤◌, ◌<◌, ◌+◌, ◌⊎◌, ℕ, suc, true, List, length, Option, Some, None}
 use Rattle.rte_response.specs.declared.tasks.Task.{Task}
 use Rattle.rte_in_time.specs.Stretches.{Life, Trace, IsLife, Opens, Acts, Spaced, IsStretch}
-use Rattle.rte_response.specs.Demand.{task_at}
+use Rattle.rte_response.specs.Demand.{task_at, deadline_at}
 use Rattle.rte_in_time.specs.Ranked.{cost_at, EndsWithin}
 use Rattle.rte_in_time.specs.Dispatched.{Stay, Dispatch, IsReady, active_rank, KeepsStays}
 
@@ -64,3 +64,7 @@ pub record IsInTimeAt (ts : List Task) (rank place bounds : ℕ → ℕ) (end : 
   pub idle : (k p : ℕ) → p < length ts → k < end → t.released k p ≡ true → (t.before k p).run_left ≡ 0
   -- each activation ends within the bound of its rank, where the bound is within the run
   pub ends : (k p : ℕ) → p < length ts → k + bounds (rank p) ≤ end → t.released k p ≡ true → EndsWithin t p k (bounds (rank p))
+
+-- each activation ends within its deadline, where the bound of its rank is within the run
+abbrev pub MeetsDeadlinesAt : List Task → (rank bounds : ℕ → ℕ) → ℕ → Trace → Type 0
+MeetsDeadlinesAt ts rank bounds end t = (k p : ℕ) → p < length ts → k + bounds (rank p) ≤ end → t.released k p ≡ true → EndsWithin t p k (deadline_at ts (rank p))

@@ -11,10 +11,10 @@ ghost use Rattle.rte_in_time.specs.Example.{
   ShowsEach,
 };
 ghost use Rattle.rte_in_time.specs.InTime.{AreBounds};
-ghost use Rattle.rte_in_time.specs.Placed.{AreRanks, IsInTimeAt, IsPlaced};
+ghost use Rattle.rte_in_time.specs.Placed.{AreRanks, IsInTimeAt, IsPlaced, MeetsDeadlinesAt};
 ghost use Rattle.rte_response.specs.Demand.{AreTasks};
 
-use crate::law::placed_runs_are_in_time;
+use crate::law::{activations_meet_deadlines, placed_runs_are_in_time};
 use rte_response::Task;
 
 /// What is left of an activation.
@@ -82,6 +82,7 @@ pub struct Run {
 const TASKS: [Task; 2] = [
     Task {
         frame: 10,
+        deadline: 10,
         run: 3,
         susp: 0,
         waits: 0,
@@ -89,6 +90,7 @@ const TASKS: [Task; 2] = [
     },
     Task {
         frame: 20,
+        deadline: 18,
         run: 8,
         susp: 4,
         waits: 1,
@@ -210,25 +212,16 @@ pub fn example() -> Run
 }
 
 /// The example again, which is in time by `placed_runs_are_in_time`: no stretch of a level is longer than its bound, no
-/// release finds its process unfinished, and each activation ends within its bound.
+/// release finds its process unfinished, and each activation ends within its bound and so within its deadline.
 pub fn example_is_in_time() -> Run
     ensures in_time { IsInTimeAt result.tasks (rank_of result) (place_of result) (bound_of result) 18
+        (trace_of result) }
+    ensures deadlines { MeetsDeadlinesAt result.tasks (rank_of result) (bound_of result) 18
         (trace_of result) }
     ensures shows { ShowsEach result }
     ensures reached { ReachesBounds result }
 {
     placed_runs_are_in_time();
+    activations_meet_deadlines();
     example()
-}
-
-#[cfg(test)]
-mod tests {
-    use super::*;
-    use std::test::Fail;
-
-    #[test]
-    fn the_same_run_is_in_time(rt: HostRuntime) -> Result<(), Fail> {
-        assert!(rt; example_is_in_time() == example());
-        Ok(())
-    }
 }

@@ -7,8 +7,8 @@
 ghost use Rattle.rte_in_time.specs.Charges.{claim, claims, Charge, Cost, Paid};
 ghost use Rattle.rte_in_time.specs.Deadlines.{AsksMore, IsDueBy};
 ghost use Rattle.rte_in_time.specs.Dispatched.{AreApart, Dispatch, IsDispatched, KeepsStays, RunsAbove, Stay};
-ghost use Rattle.rte_in_time.specs.InTime.{AreBounds, IsInTime};
-ghost use Rattle.rte_in_time.specs.Placed.{AreRanks, IsInTimeAt, IsPlaced};
+ghost use Rattle.rte_in_time.specs.InTime.{AreBounds, IsInTime, MeetsDeadlines};
+ghost use Rattle.rte_in_time.specs.Placed.{AreRanks, IsInTimeAt, IsPlaced, MeetsDeadlinesAt};
 ghost use Rattle.rte_in_time.specs.Ranked.{cost_at, IsRanked};
 ghost use Rattle.rte_in_time.specs.Stretches.{
   releases,
@@ -122,6 +122,20 @@ pub fn placed_runs_are_in_time()
         → AreRanks (length ts) rank place
         → IsPlaced ts rank end t d
         → IsInTimeAt ts rank place bounds end t }
+{}
+
+/// Where each level has a bound, which is within its deadline, and a run is in time, each activation ends within its
+/// deadline: so it is for processes in the order of their ranks, and for those in any order of places.
+pub fn activations_meet_deadlines()
+    ensures ranked { (ts : List Task) (bounds : ℕ → ℕ) (end : ℕ) (t : Trace)
+        → AreBounds ts bounds
+        → IsInTime ts bounds end t
+        → MeetsDeadlines ts bounds end t }
+    ensures placed { (ts : List Task) (rank place bounds : ℕ → ℕ) (end : ℕ) (t : Trace)
+        → AreBounds ts bounds
+        → AreRanks (length ts) rank place
+        → IsInTimeAt ts rank place bounds end t
+        → MeetsDeadlinesAt ts rank bounds end t }
 {}
 
 /// A bound of a level covers one activation of each rank up to the level, with the level's block for each of its waits,

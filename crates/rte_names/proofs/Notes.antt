@@ -9,7 +9,8 @@ use Rattle.rte_tree.specs.declared.place.Place.{Place}
 use Rattle.rte_rules.specs.declared.broken.Broken.{Broken}
 use Rattle.rte_rules.specs.First.{comes_before, sooner}
 use Rattle.rte_rules.proofs.Soonest.{NotBefore, not_before-refl, not_before-trans, before-false, before-true}
-use Rattle.rte_names.specs.Reach.{same, same_place, suits, or_else}
+use Rattle.rte_tree.specs.Parts.{same_place}
+use Rattle.rte_names.specs.Reach.{same, suits, or_else}
 use Rattle.rte_names.specs.Occurrences.{Occurrence, declares, closes, used, declared_at}
 use Rattle.rte_names.specs.Rules.{Among, place_of, Means, IsUse}
 use Rattle.rte_names.specs.Findings.{Key, same_key, key_of, Found, blame, tie, note, noted}

@@ -4,7 +4,8 @@ use Rattle.rte_tree.specs.Plain.{Name}
 use Rattle.rte_tree.specs.Placed.{Decl, constant, device, event, routine, monitor, process}
 use Rattle.rte_tree.specs.declared.place.Place.{Place}
 use Rattle.rte_names.specs.declared.kind.Declared.{Declared}
-use Rattle.rte_names.specs.Reach.{same, same_place, Names, Reach, nowhere, first, or_else}
+use Rattle.rte_tree.specs.Parts.{same_place}
+use Rattle.rte_names.specs.Reach.{same, Names, Reach, nowhere, first, or_else}
 use Rattle.rte_names.specs.Occurrences.{Occurrence, declares, decl_name, entry_name, others, entries_at, inner_names, decls_names}
 use Rattle.rte_names.specs.Seen.{add, add_all, put, add_entry, add_entries, add_monitors, decls_after}
 use Rattle.rte_names.proofs.Scoping.{snoc, add_all-first}

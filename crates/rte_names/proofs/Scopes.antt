@@ -8,7 +8,8 @@ use Rattle.std.proofs.lemmas.Cmp.{nat_eq_equiv, nat_list_eq_equiv, on_equiv, and
 use Rattle.rte_tree.specs.Plain.{Name}
 use Rattle.rte_tree.specs.declared.place.Place.{Place}
 use Rattle.rte_names.specs.declared.kind.Declared.{Declared}
-use Rattle.rte_names.specs.Reach.{same, same_place, Names, Reach, first, or_else}
+use Rattle.rte_tree.specs.Parts.{same_place}
+use Rattle.rte_names.specs.Reach.{same, Names, Reach, first, or_else}
 use Rattle.rte_names.specs.Seen.{entry_of, meaning, add, EntryKey, entry_meaning, add_entry}
 
 pub same-refl : (n : Name) → same n n ≡ true

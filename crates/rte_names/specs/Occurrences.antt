@@ -8,7 +8,8 @@ use Rattle.rte_names.specs.declared.kind.Declared.{Declared}
 use Rattle.rte_names.specs.declared.kind.Kind.TheVariants as kind_is
 use Rattle.rte_names.specs.declared.kind.Want.{Want}
 use Rattle.rte_names.specs.declared.kind.Want.TheVariants as want_is
-use Rattle.rte_names.specs.Reach.{Names, Reach, first, or_else, Site, inside, inside_monitor, through, same_place}
+use Rattle.rte_tree.specs.Parts.{same_place}
+use Rattle.rte_names.specs.Reach.{Names, Reach, first, or_else, Site, inside, inside_monitor, through}
 
 -- a name that is declared, and whether the same name is in reach there already; a name that closes, and the name that it has
 -- to repeat; or a name that is used, with what it is used as and what it means there

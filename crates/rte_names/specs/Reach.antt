@@ -1,8 +1,9 @@
 -- What a name means at a place: the declaration of that name that is in reach there.
-use Rattle.std.specs.Prelude.{Bool, true, false, ◌&&◌, List, [], ◌∷◌, Option, Some, None, if◌then◌else◌, nat_eq}
+use Rattle.std.specs.Prelude.{Bool, true, false, List, [], ◌∷◌, Option, Some, None, if◌then◌else◌, nat_eq}
 use Rattle.std.specs.Cmp.Lexicographic.{pointwise}
 use Rattle.rte_tree.specs.Plain.{Name}
 use Rattle.rte_tree.specs.declared.place.Place.{Place}
+use Rattle.rte_tree.specs.Parts.{same_place}
 use Rattle.rte_names.specs.declared.kind.Declared.{Declared}
 use Rattle.rte_names.specs.declared.kind.Kind.{Kind}
 use Rattle.rte_names.specs.declared.kind.Kind.TheVariants as kind_is
@@ -11,9 +12,6 @@ use Rattle.rte_names.specs.declared.kind.Want.TheVariants as want_is
 
 abbrev pub same : Name → Name → Bool
 same = pointwise nat_eq
-
-abbrev pub same_place : Place → Place → Bool
-same_place p q = nat_eq p.line q.line && nat_eq p.col q.col
 
 -- the declarations of one scope, in the order of the text: each name with where and as what it is declared
 abbrev pub Names : Type 0

@@ -13,7 +13,8 @@ use Rattle.rte_names.specs.declared.scope.Local.{Local}
 use Rattle.rte_names.specs.declared.around.Top.{Top}
 use Rattle.rte_names.specs.declared.around.Outer.{Outer}
 use Rattle.rte_names.specs.declared.around.Around.{Around}
-use Rattle.rte_names.specs.Reach.{same, same_place, Names, Reach, nowhere, first, or_else, within, Site}
+use Rattle.rte_tree.specs.Parts.{same_place}
+use Rattle.rte_names.specs.Reach.{same, Names, Reach, nowhere, first, or_else, within, Site}
 use Rattle.rte_names.specs.Findings.{Found, noted}
 use Rattle.rte_names.specs.Occurrences.{Occurrence, declares, decl_name, others, inner_names, entry_name, stmt_names}
 

@@ -25,6 +25,3 @@ mod stmt;
 
 pub use named::{NameFault, Named, name};
 pub use near::{NearHasher, PlaceMap};
-
-#[cfg(test)]
-mod tests;

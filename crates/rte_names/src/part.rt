@@ -197,6 +197,20 @@ fn monitor<'a>(
     Ok(())
 }
 
+/// A deadline or a first activation.
+fn limit<'a>(
+    findings: &mut Findings,
+    around: &Around<'_, 'a>,
+    limit: &Option<Constant>,
+) -> Result<(), AllocError>
+    ensures { OnOk result ((more : List Occurrence) → noted findings.new more ≡ noted findings.old (optional_names (constant_names (site around.now [])) (optional placed_constant limit.now) more)) }
+{
+    if let Some(limit) = limit {
+        constant(findings, around, &[], limit)?;
+    }
+    Ok(())
+}
+
 fn activation<'a>(
     findings: &mut Findings,
     around: &Around<'_, 'a>,
@@ -205,19 +219,24 @@ fn activation<'a>(
     ensures { OnOk result ((more : List Occurrence) → noted findings.new more ≡ noted findings.old (activation_names (site around.now []) (placed_activation activation.now) more)) }
 {
     match activation {
-        Activation::Periodic { frame, first } => {
+        Activation::Periodic {
+            frame,
+            deadline,
+            first,
+        } => {
             constant(findings, around, &[], frame)?;
-            if let Some(first) = first {
-                constant(findings, around, &[], first)?;
-            }
+            limit(findings, around, deadline)?;
+            limit(findings, around, first)?;
         }
         Activation::AtEvent {
             event,
             event_place,
             frame,
+            deadline,
         } => {
             around.use_name(findings, &[], event, *event_place, Want::Event)?;
             constant(findings, around, &[], frame)?;
+            limit(findings, around, deadline)?;
         }
     }
     Ok(())

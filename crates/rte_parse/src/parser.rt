@@ -2,7 +2,7 @@
 
 ghost use Rattle.std.specs.Prelude.{◌≡◌, length, suc, IfOk, IfErr, IsTrue, ◌↔◌};
 ghost use Rattle.rte_lex.specs.Tokens.{bytes_of as bytes_of_token};
-ghost use Rattle.rte_grammar.specs.Words.{keyword as keyword_word, sign as sign_word};
+ghost use Rattle.rte_grammar.specs.Words.{keyword as keyword_word, sign as sign_word, DEADLINE};
 ghost use Rattle.rte_reading.specs.ExprReading as reading;
 ghost use Rattle.rte_parse.specs.Reads.{Reads, kind_at};
 
@@ -130,6 +130,34 @@ impl Parser<'_> {
         ensures { Reads (λ p. p) (reading.expect (sign_word at) self.old) result self.new }
     {
         let matches = self.is_sign(at);
+        if let Some((token, others)) = self.toks.split_first() {
+            if matches {
+                self.toks = others;
+                return Ok(place_of(token));
+            }
+        }
+        Err(Refusal::Syntax { left: self.left() })
+    }
+
+    /// Whether the name `deadline` is next, which begins a deadline where one may stand.
+    pub(crate) fn is_deadline(&self) -> bool
+        ensures { result ≡ reading.is_at DEADLINE self.now }
+    {
+        match self.toks.first() {
+            Some(token) => match token.kind {
+                TokenKind::Name => bytes_of(self.text, token) == b"deadline".as_slice(),
+                _ => false,
+            },
+            None => false,
+        }
+    }
+
+    /// Passes the name `deadline`, and gives its place.
+    #[tactic(auto, unfolding(rte_reading::specs::ExprReading::expect))]
+    pub(crate) fn expect_deadline(&mut self) -> Result<Place, Refusal>
+        ensures { Reads (λ p. p) (reading.expect DEADLINE self.old) result self.new }
+    {
+        let matches = self.is_deadline();
         if let Some((token, others)) = self.toks.split_first() {
             if matches {
                 self.toks = others;

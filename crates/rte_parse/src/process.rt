@@ -29,6 +29,19 @@ impl Parser<'_> {
         Ok(None)
     }
 
+    /// The deadline, where it is said.
+    #[tactic(auto, unfolding(rte_reading::specs::Reading::deadline))]
+    fn deadline(&mut self, alloc: Global) -> Result<Option<Constant>, Refusal>
+        ensures { Reads (optional placed_constant) (reading.deadline self.old) result self.new }
+    {
+        if self.is_deadline() {
+            self.expect_deadline()?;
+            let deadline = self.constant(alloc)?;
+            return Ok(Some(deadline));
+        }
+        Ok(None)
+    }
+
     #[tactic(auto, unfolding(rte_reading::specs::Reading::activation))]
     fn activation(&mut self, alloc: Global) -> Result<Activation, Refusal>
         ensures { Reads placed_activation (reading.activation self.old) result self.new }
@@ -37,17 +50,24 @@ impl Parser<'_> {
             self.expect_keyword(keyword::PERIODIC)?;
             self.expect_keyword(keyword::FRAME)?;
             let frame = self.constant(alloc)?;
+            let deadline = self.deadline(alloc)?;
             let first = self.first(alloc)?;
-            return Ok(Activation::Periodic { frame, first });
+            return Ok(Activation::Periodic {
+                frame,
+                deadline,
+                first,
+            });
         }
         self.expect_keyword(keyword::AT_EVENT)?;
         let (event, event_place) = self.name(alloc)?;
         self.expect_keyword(keyword::FRAME)?;
         let frame = self.constant(alloc)?;
+        let deadline = self.deadline(alloc)?;
         Ok(Activation::AtEvent {
             event,
             event_place,
             frame,
+            deadline,
         })
     }
 

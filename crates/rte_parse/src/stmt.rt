@@ -76,7 +76,7 @@ impl Parser<'_> {
             return Ok(Ref {
                 place,
                 name,
-                index: Some(index),
+                index: Some(Box::new(alloc, index)?),
             });
         }
         Ok(Ref {
@@ -239,8 +239,8 @@ impl Parser<'_> {
             place,
             cond,
             cond_place,
-            limit,
-            number,
+            limit: Box::new(alloc, limit)?,
+            number: Box::new(alloc, number)?,
         })
     }
 
@@ -429,8 +429,8 @@ impl Parser<'_> {
             place,
             name,
             name_place,
-            low,
-            high,
+            low: Box::new(alloc, low)?,
+            high: Box::new(alloc, high)?,
             body,
         })
     }

@@ -15,8 +15,6 @@ mod page;
 mod program;
 mod stmt;
 mod table;
-#[cfg(test)]
-mod tests;
 
 pub use law::{reads_back, tokens_are_spelled};
 pub use program::print;

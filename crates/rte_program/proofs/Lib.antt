@@ -1,1 +1,2 @@
-mod Programs
+pub mod Texts
+pub mod Programs

@@ -8,14 +8,14 @@ use Rattle.rte_names.specs.Rules as names
 use Rattle.rte_names.specs.Resolved.{IsNamed, IsFault as IsNameFault}
 use Rattle.rte_names.specs.declared.named.NameFault.{NameFault}
 use Rattle.rte_names.specs.declared.named.NameFault.TheVariants as name_fault
-use Rattle.rte_read.specs.Source.{IsTreeOf, IsSourceFault}
-use Rattle.rte_read.specs.Laws.{HasOneTree, HasTreeOrFault, IsOfGrammar, HasOneGroup}
+use Rattle.rte_program.specs.Source.{IsTreeOf, IsSourceFault}
 use Rattle.rte_static.specs.Static.{Fails, IsChecked, IsFault as IsRuleFault}
 use Rattle.rte_static.specs.declared.rules.RuleFault.{RuleFault}
 use Rattle.rte_static.specs.declared.rules.RuleFault.TheVariants as rule_fault
-use Rattle.rte_read.specs.declared.fault.SourceFault.TheVariants.{Memory}
+use Rattle.rte_program.specs.declared.fault.SourceFault.TheVariants.{Memory}
 use Rattle.rte_program.specs.Program.{IsProgramOf, IsMisnamed, IsMisruled, IsProgramFault, of_text, of_names, of_rules, IsFaultOf, nominal, regular}
-use Rattle.rte_program.specs.Laws.{HasOneProgram, HasProgramOrFault, HasOneFault}
+use Rattle.rte_program.specs.Laws.{HasOneTree, HasOneProgram, HasProgramOrFault, IsOfGrammar, HasOneFault}
+use Rattle.rte_program.proofs.Texts.{HasTreeOrFault, HasOneGroup}
 
 pub one_program : HasOneTree → HasOneProgram
 one_program one text g h first second = one text g h first.tree second.tree

@@ -2,8 +2,12 @@
 use Rattle.std.specs.Prelude.{◌≡◌, ◌⊎◌, ℕ, List}
 use Rattle.rte_tree.specs.declared.place.Place.{Place}
 use Rattle.rte_tree.specs.Placed.{Prog}
-use Rattle.rte_read.specs.Laws.{IsOfGrammar}
+use Rattle.rte_program.specs.Source.{IsTreeOf}
 use Rattle.rte_program.specs.Program.{IsProgramOf, IsProgramFault}
+
+-- a text has at most one tree
+abbrev pub HasOneTree : Type 0
+HasOneTree = (text : List ℕ) (g h : Prog Place) → IsTreeOf text g → IsTreeOf text h → g ≡ h
 
 -- a text is that of at most one program
 abbrev pub HasOneProgram : Type 0
@@ -11,9 +15,17 @@ HasOneProgram = (text : List ℕ) (g h : Prog Place) → IsProgramOf text g → 
 
 -- a program text has no fault
 abbrev pub HasProgramOrFault : Type 0
-HasProgramOrFault = (text : List ℕ) (g : Prog Place) (number : ℕ) (place : Place) → IsProgramOf text g → IsProgramFault text number place → ⊥
+HasProgramOrFault =
+    (text : List ℕ) (g : Prog Place) (number : ℕ) (place : Place)
+    → IsProgramOf text g → IsProgramFault text number place → ⊥
+
+-- the fault is one of the grammar
+abbrev pub IsOfGrammar : ℕ → Type 0
+IsOfGrammar number = (number ≡ 10) ⊎ (number ≡ 11)
 
 -- two faults of a text have one number, and one place where they are not of its grammar
 abbrev pub HasOneFault : Type 0
-HasOneFault = (text : List ℕ) (number other : ℕ) (place there : Place) → IsProgramFault text number place → IsProgramFault text other there
+HasOneFault =
+    (text : List ℕ) (number other : ℕ) (place there : Place)
+    → IsProgramFault text number place → IsProgramFault text other there
     → (number ≡ other) × ((place ≡ there) ⊎ IsOfGrammar number)

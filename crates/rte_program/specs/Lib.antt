@@ -1,2 +1,3 @@
+pub mod Source
 pub mod Program
 pub mod Laws

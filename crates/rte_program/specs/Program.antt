@@ -3,9 +3,9 @@ use Rattle.std.specs.Prelude.{◌≡◌, ℕ, List}
 use Rattle.rte_tree.specs.declared.place.Place.{Place}
 use Rattle.rte_tree.specs.Placed.{Prog}
 use Rattle.rte_rules.specs.First as rule
-use Rattle.rte_read.specs.Source.{IsTreeOf, IsSourceFault}
-use Rattle.rte_read.specs.declared.fault.SourceFault.{SourceFault}
-use Rattle.rte_read.specs.declared.fault.SourceFault.TheVariants.{Fault, Memory}
+use Rattle.rte_program.specs.Source.{IsTreeOf, IsSourceFault}
+use Rattle.rte_program.specs.declared.fault.SourceFault.{SourceFault}
+use Rattle.rte_program.specs.declared.fault.SourceFault.TheVariants.{Fault, Memory}
 use Rattle.rte_names.specs.Rules as names
 use Rattle.rte_names.specs.Resolved.{IsNamed}
 use Rattle.rte_names.specs.declared.named.NameFault.{NameFault}

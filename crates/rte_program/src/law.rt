@@ -1,9 +1,17 @@
-//! Laws of the programs and the faults of texts. These functions do nothing; their contracts are
-//! the laws.
+//! Laws of the trees, the programs and the faults of texts. These functions do nothing; their
+//! contracts are the laws.
 
-ghost use Rattle.rte_program.specs.Laws.{HasOneProgram, HasProgramOrFault, HasOneFault};
+ghost use Rattle.rte_program.specs.Laws.{HasOneTree, HasOneProgram, HasProgramOrFault, HasOneFault};
 
-use rte_read::{one_group, one_tree, tree_or_fault};
+use rte_lex::one_list;
+
+/// A text has at most one tree.
+pub fn one_tree()
+    ensures { HasOneTree }
+{
+    rte_reading::one_tree();
+    one_list();
+}
 
 /// A text is that of at most one program.
 pub fn one_program()
@@ -17,7 +25,8 @@ pub fn program_or_fault()
     ensures { HasProgramOrFault }
 {
     one_tree();
-    tree_or_fault();
+    one_list();
+    rte_lex::one_fault();
 }
 
 /// Two faults of a text have one number, and one place where they are not of its grammar.
@@ -25,6 +34,6 @@ pub fn one_fault()
     ensures { HasOneFault }
 {
     one_tree();
-    one_group();
-    tree_or_fault();
+    one_list();
+    rte_lex::one_fault();
 }

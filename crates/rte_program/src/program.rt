@@ -5,9 +5,10 @@ ghost use Rattle.rte_tree.specs.Placed.{placed, Prog as SpecProg};
 ghost use Rattle.rte_tree.specs.declared.place.Place.{Place as SpecPlace};
 ghost use Rattle.rte_program.specs.Program.{IsProgramOf, IsFaultOf, nominal, regular};
 
-use crate::law::program_or_fault;
+use crate::fault::SourceFault;
+use crate::law::{one_tree, program_or_fault};
+use crate::source::read_tree;
 use rte_names::{NameFault, name};
-use rte_read::{SourceFault, one_tree};
 use rte_static::{Checked, RuleFault, check};
 use std::alloc::Global;
 
@@ -50,7 +51,7 @@ pub fn read(alloc: Global, text: &[u8]) -> Result<Checked, SourceFault>
 {
     one_tree();
     program_or_fault();
-    let tree = rte_read::read(alloc, text)?;
+    let tree = read_tree(alloc, text)?;
     let named = match name(alloc, tree) {
         Ok(named) => named,
         Err(fault) => return Err(of_names(fault)),

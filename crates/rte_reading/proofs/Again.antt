@@ -7,10 +7,10 @@ use Rattle.rte_grammar.specs.Words as w
 use Rattle.rte_grammar.specs.Words.{Word, named, Tok}
 use Rattle.rte_grammar.specs.ExprGrammar.{at, a, ◌▷◌, Each, Listed, SomeListed, IsConstant, IsExpr}
 use Rattle.rte_grammar.specs.StmtGrammar.{AreStmts}
-use Rattle.rte_grammar.specs.Grammar.{MOST_LEVELS, IsScalar, IsKind, IsVar, IsParam, kind_word, IsResult, IsValue, IsRoutine, IsMember, IsEntry, IsMonitor, IsFirst, IsActivation, IsHandler, IsProcess, way_word, IsDecl, IsProg}
+use Rattle.rte_grammar.specs.Grammar.{MOST_LEVELS, IsScalar, IsKind, IsVar, IsParam, kind_word, IsResult, IsValue, IsRoutine, IsMember, IsEntry, IsMonitor, IsDeadline, IsFirst, IsActivation, IsHandler, IsProcess, way_word, IsDecl, IsProg}
 use Rattle.rte_reading.specs.ExprReading.{Parse, same_word, is_at, expect, name, many, listed, constant, expr}
 use Rattle.rte_reading.specs.StmtReading.{stmts}
-use Rattle.rte_reading.specs.Reading.{range, scalar_type, kind, var, vars, param, params, block, close, routine_kind, result, value, routine_decl, begins_routine, routines, begins_member, member, members, entry_decl, entries, monitor_decl, first, activation, numbers, handler, process_decl, const_decl, way, device_decl, event_decl, decl, begins_decl, decls, prog, whole}
+use Rattle.rte_reading.specs.Reading.{range, scalar_type, kind, var, vars, param, params, block, close, routine_kind, result, value, routine_decl, begins_routine, routines, begins_member, member, members, entry_decl, entries, monitor_decl, deadline, first, activation, numbers, handler, process_decl, const_decl, way, device_decl, event_decl, decl, begins_decl, decls, prog, whole}
 use Rattle.rte_reading.proofs.Basics.{IsName}
 use Rattle.rte_reading.proofs.Shorter.{Short, Shorter, at-shorter, a-shorter, nothing-short, weak, then, then-short, a-then, at-then, each-short, constant-shorter, expr-shorter, stmts-short}
 use Rattle.rte_reading.proofs.AgainBasics.{step, if-true, if-false, expect_again, name_again, stop-at, many_again, listed_again, in_parens_again}
@@ -43,11 +43,11 @@ module _ {P : Type 0} where
 
   -- ---- types, variables and parameters
 
-  constant-begins : (v : Word) → same_word w.MINUS v ≡ false → (c : Constant P) (ts us : List (Tok P)) → IsConstant c ts us → is_at v ts ≡ false
-  constant-begins v none (literal_constant p true n q) ts us (vs, m, took) = ap (is_at v) m ∙ none
-  constant-begins v none (literal_constant p false n q) ts us (same, took) = ap (is_at v) took
-  constant-begins v none (named_constant p true n q) ts us (vs, m, took) = ap (is_at v) m ∙ none
-  constant-begins v none (named_constant p false n q) ts us (same, took) = ap (is_at v) took
+  constant-begins : (v : Word) → same_word w.MINUS v ≡ false → ((n : Name) → same_word (named n) v ≡ false) → (c : Constant P) (ts us : List (Tok P)) → IsConstant c ts us → is_at v ts ≡ false
+  constant-begins v none no_name (literal_constant p true n q) ts us (vs, m, took) = ap (is_at v) m ∙ none
+  constant-begins v none no_name (literal_constant p false n q) ts us (same, took) = ap (is_at v) took
+  constant-begins v none no_name (named_constant p true n q) ts us (vs, m, took) = ap (is_at v) m ∙ none
+  constant-begins v none no_name (named_constant p false n q) ts us (same, took) = ap (is_at v) took ∙ no_name n
 
   abbrev IsRange : Constant P × Constant P → List (Tok P) → List (Tok P) → Type 0
   IsRange r = IsConstant r.0 ▷ a w.RANGE ▷ IsConstant r.1
@@ -68,8 +68,8 @@ module _ {P : Type 0} where
   scalar_again int ts us (q, took) = ap scalar_type took
   scalar_again boolean ts us (q, took) = ap scalar_type took
   scalar_again (subrange low high) ts us took =
-      if-false (is_at w.INT ts) _ _ _ (constant-begins w.INT refl low ts took.0 took.1)
-      (if-false (is_at w.BOOLEAN ts) _ _ _ (constant-begins w.BOOLEAN refl low ts took.0 took.1)
+      if-false (is_at w.INT ts) _ _ _ (constant-begins w.INT refl (λ n. refl) low ts took.0 took.1)
+      (if-false (is_at w.BOOLEAN ts) _ _ _ (constant-begins w.BOOLEAN refl (λ n. refl) low ts took.0 took.1)
       (step (range ts) _ ((low, high), us) _ (range_again (low, high) ts us took) refl))
 
   scalar-shorter : (s : Scalar P) → Shorter (IsScalar s)
@@ -77,15 +77,15 @@ module _ {P : Type 0} where
   scalar-shorter boolean = a-shorter w.BOOLEAN
   scalar-shorter (subrange low high) = range-shorter (low, high)
 
-  scalar-begins : (v : Word) → same_word w.MINUS v ≡ false → same_word w.INT v ≡ false → same_word w.BOOLEAN v ≡ false → (s : Scalar P) (ts us : List (Tok P)) → IsScalar s ts us → is_at v ts ≡ false
-  scalar-begins v m i b int ts us (q, took) = ap (is_at v) took ∙ i
-  scalar-begins v m i b boolean ts us (q, took) = ap (is_at v) took ∙ b
-  scalar-begins v m i b (subrange low high) ts us took = constant-begins v m low ts took.0 took.1
+  scalar-begins : (v : Word) → same_word w.MINUS v ≡ false → ((n : Name) → same_word (named n) v ≡ false) → same_word w.INT v ≡ false → same_word w.BOOLEAN v ≡ false → (s : Scalar P) (ts us : List (Tok P)) → IsScalar s ts us → is_at v ts ≡ false
+  scalar-begins v m no_name i b int ts us (q, took) = ap (is_at v) took ∙ i
+  scalar-begins v m no_name i b boolean ts us (q, took) = ap (is_at v) took ∙ b
+  scalar-begins v m no_name i b (subrange low high) ts us took = constant-begins v m no_name low ts took.0 took.1
 
   kind_again : Reads kind IsKind
   unfolding kind
   kind_again (scalar s) ts us took =
-      if-false (is_at w.ARRAY ts) _ _ _ (scalar-begins w.ARRAY refl refl refl s ts us took) (step (scalar_type ts) _ (s, us) _ (scalar_again s ts us took) refl)
+      if-false (is_at w.ARRAY ts) _ _ _ (scalar-begins w.ARRAY refl (λ n. refl) refl refl s ts us took) (step (scalar_type ts) _ (s, us) _ (scalar_again s ts us took) refl)
   kind_again (array low high s) ts us (v1, (q, t), (v2, l, (v3, r, (v4, h, (v5, (o, f), took))))) =
       if-true (is_at w.ARRAY ts) _ _ _ (ap (is_at w.ARRAY) t)
       (step (expect w.ARRAY ts) _ (q, v1) _ (expect_again w.ARRAY q ts v1 refl t)
@@ -296,32 +296,52 @@ module _ {P : Type 0} where
       (step (constant v3) _ (c, us) _ (constant_again c v3 us t4)
       refl))))
 
-  pub activation_again : (x : Activation P) (ts us : List (Tok P)) → IsActivation x ts us → is_at w.FIRST us ≡ false → activation ts ≡ Ok (x, us)
+  deadline_again : (x : Option (Constant P)) (ts us : List (Tok P)) → IsDeadline x ts us → is_at w.DEADLINE us ≡ false → deadline ts ≡ Ok (x, us)
+  unfolding deadline
+  deadline_again None ts us took none = if-false (is_at w.DEADLINE ts) _ _ _ (ap (is_at w.DEADLINE) took ∙ none) (ap (λ t. Ok (None, t)) took)
+  deadline_again (Some c) ts us (v1, (q1, t1), t2) none =
+      if-true (is_at w.DEADLINE ts) _ _ _ (ap (is_at w.DEADLINE) t1)
+      (step (expect w.DEADLINE ts) _ (q1, v1) _ (expect_again w.DEADLINE q1 ts v1 refl t1) (step (constant v1) _ (c, us) _ (constant_again c v1 us t2) refl))
+
+  -- what begins a first activation begins no deadline
+  first-other : (x : Option (Constant P)) (ts us : List (Tok P)) → IsFirst x ts us → is_at w.DEADLINE us ≡ false → is_at w.DEADLINE ts ≡ false
+  first-other None ts us took none = ap (is_at w.DEADLINE) took ∙ none
+  first-other (Some c) ts us (v1, (q1, t1), more) none = ap (is_at w.DEADLINE) t1
+
+  pub activation_again : (x : Activation P) (ts us : List (Tok P)) → IsActivation x ts us → is_at w.FIRST us ≡ false → is_at w.DEADLINE us ≡ false → activation ts ≡ Ok (x, us)
   unfolding activation
-  activation_again (periodic frame f) ts us (v1, (q1, t1), (v2, (q2, t2), (v3, t3, t4))) none =
+  activation_again (periodic frame d f) ts us (v1, (q1, t1), (v2, (q2, t2), (v3, t3, (v4, t4, t5)))) none no_deadline =
       if-true (is_at w.PERIODIC ts) _ _ _ (ap (is_at w.PERIODIC) t1) (
       step (expect w.PERIODIC ts) _ (q1, v1) _ (expect_again w.PERIODIC q1 ts v1 refl t1)
       (step (expect w.FRAME v1) _ (q2, v2) _ (expect_again w.FRAME q2 v1 v2 refl t2)
       (step (constant v2) _ (frame, v3) _ (constant_again frame v2 v3 t3)
-      (step (first v3) _ (f, us) _ (first_again f v3 us t4 none)
-      refl))))
-  activation_again (at_event n p frame deadline) ts us (v1, (q1, t1), (v2, t2, (v3, (q3, t3), t4))) none =
+      (step (deadline v3) _ (d, v4) _ (deadline_again d v3 v4 t4 (first-other f v4 us t5 no_deadline))
+      (step (first v4) _ (f, us) _ (first_again f v4 us t5 none)
+      refl)))))
+  activation_again (at_event n p frame d) ts us (v1, (q1, t1), (v2, t2, (v3, (q3, t3), (v4, t4, t5)))) none no_deadline =
       if-false (is_at w.PERIODIC ts) _ _ _ (ap (is_at w.PERIODIC) t1) (
       step (expect w.AT_EVENT ts) _ (q1, v1) _ (expect_again w.AT_EVENT q1 ts v1 refl t1)
       (step (name v1) _ ((n, p), v2) _ (name_again (n, p) v1 v2 t2)
       (step (expect w.FRAME v2) _ (q3, v3) _ (expect_again w.FRAME q3 v2 v3 refl t3)
-      (step (constant v3) _ (frame, us) _ (constant_again frame v3 us t4)
-      refl))))
+      (step (constant v3) _ (frame, v4) _ (constant_again frame v3 v4 t4)
+      (step (deadline v4) _ (d, us) _ (deadline_again d v4 us t5 no_deadline)
+      refl)))))
 
   first-short : (x : Option (Constant P)) → Short (IsFirst x)
   first-short None = nothing-short
   first-short (Some c) = weak _ (a-then w.FIRST (a w.ACTIVATION ▷ a w.AT_TIME ▷ IsConstant c) (weak _ (a-then w.ACTIVATION (a w.AT_TIME ▷ IsConstant c) (weak _ (a-then w.AT_TIME (IsConstant c) (weak _ (constant-shorter c)))))))
 
+  deadline-short : (x : Option (Constant P)) → Short (IsDeadline x)
+  deadline-short None = nothing-short
+  deadline-short (Some c) = weak _ (a-then w.DEADLINE (IsConstant c) (weak _ (constant-shorter c)))
+
   activation-shorter : (x : Activation P) → Shorter (IsActivation x)
-  activation-shorter (periodic frame f) =
-      a-then w.PERIODIC (a w.FRAME ▷ IsConstant frame ▷ IsFirst f) (weak _ (a-then w.FRAME (IsConstant frame ▷ IsFirst f) (then-short (IsConstant frame) (IsFirst f) (weak _ (constant-shorter frame)) (first-short f))))
-  activation-shorter (at_event n p frame deadline) =
-      a-then w.AT_EVENT (at (named n) p ▷ a w.FRAME ▷ IsConstant frame) (weak _ (at-then (named n) p (a w.FRAME ▷ IsConstant frame) (weak _ (a-then w.FRAME (IsConstant frame) (weak _ (constant-shorter frame))))))
+  activation-shorter (periodic frame d f) =
+      a-then w.PERIODIC (a w.FRAME ▷ IsConstant frame ▷ IsDeadline d ▷ IsFirst f) (weak _ (a-then w.FRAME (IsConstant frame ▷ IsDeadline d ▷ IsFirst f)
+      (then-short (IsConstant frame) (IsDeadline d ▷ IsFirst f) (weak _ (constant-shorter frame)) (then-short (IsDeadline d) (IsFirst f) (deadline-short d) (first-short f)))))
+  activation-shorter (at_event n p frame d) =
+      a-then w.AT_EVENT (at (named n) p ▷ a w.FRAME ▷ IsConstant frame ▷ IsDeadline d) (weak _ (at-then (named n) p (a w.FRAME ▷ IsConstant frame ▷ IsDeadline d)
+      (weak _ (a-then w.FRAME (IsConstant frame ▷ IsDeadline d) (then-short (IsConstant frame) (IsDeadline d) (weak _ (constant-shorter frame)) (deadline-short d))))))
 
   pub numbers_again : (xs : List (Constant P)) (ts us : List (Tok P)) → (a w.LEFT_PAREN ▷ Listed IsConstant xs ▷ a w.RIGHT_PAREN) ts us → numbers ts ≡ Ok (xs, us)
   unfolding numbers
@@ -370,11 +390,13 @@ module _ {P : Type 0} where
       let no_var = each-begins (is_at w.VAR) IsRoutine (routine-begins w.VAR refl refl) x.routines v5 v6 t6 (ap (is_at w.VAR) at_begin) in
       let no_first = each-begins (is_at w.FIRST) IsVar (λ x ts us took. ap (is_at w.FIRST) took.1.1) x.vars v4 v5 t5
       (each-begins (is_at w.FIRST) IsRoutine (routine-begins w.FIRST refl refl) x.routines v5 v6 t6 (ap (is_at w.FIRST) at_begin)) in
+      let no_deadline = each-begins (is_at w.DEADLINE) IsVar (λ x ts us took. ap (is_at w.DEADLINE) took.1.1) x.vars v4 v5 t5
+      (each-begins (is_at w.DEADLINE) IsRoutine (routine-begins w.DEADLINE refl refl) x.routines v5 v6 t6 (ap (is_at w.DEADLINE) at_begin)) in
       let ends = handler-ends x.handler v8 v9 v10 t9 t10 in
       step (expect w.PROCESS ts) _ (q1, v1) _ (expect_again w.PROCESS q1 ts v1 refl t1)
       (step (name v1) _ ((x.name, x.place), v2) _ (name_again (x.name, x.place) v1 v2 t2)
       (step (expect w.COLON v2) _ (q3, v3) _ (expect_again w.COLON q3 v2 v3 refl t3)
-      (step (activation v3) _ (x.activation, v4) _ (activation_again x.activation v3 v4 t4 no_first)
+      (step (activation v3) _ (x.activation, v4) _ (activation_again x.activation v3 v4 t4 no_first no_deadline)
       (step (vars v4) _ (x.vars, v5) _ (vars_again x.vars v4 v5 t5 no_var)
       (step (routines v5) _ (x.routines, v6) _ (routines_again x.routines v5 v6 t6 (ap begins_routine at_begin))
       (step (block v6) _ (stmt_list x.body, v8) _ (block_again x.body v6 v8 (v7, t7, t8) ends.0 ends.1 ends.2)

@@ -1,6 +1,7 @@
 -- What a parser gives: steps, single tokens and lists.
 use Rattle.std.proofs.Common.{◌≡◌, ℕ, zero, suc, ◌≤◌, List, [], ◌∷◌, length, Bool, true, false, cond, Result, Ok, Err, refl, ap, subst, arith}
 use Rattle.std.proofs.lemmas.Bool.{eqb-true}
+use Rattle.std.proofs.lemmas.Slice.Eq.{bytes_eq-Decides}
 use Rattle.rte_tree.specs.Plain.{Name}
 use Rattle.rte_grammar.specs.Words as w
 use Rattle.rte_grammar.specs.Words.{Word, named, number, keyword, sign, Tok}
@@ -19,6 +20,7 @@ by_if false x y z f g e = g refl e
 pub same-word : (v u : Word) → same_word v u ≡ true → v ≡ u
 same-word (keyword m) (keyword n) e = ap keyword (eqb-true m n e)
 same-word (sign m) (sign n) e = ap sign (eqb-true m n e)
+same-word (named m) (named n) e = ap named ((bytes_eq-Decides m n).0 e)
 same-word (named m) u e = cc
 same-word (number m) u e = cc
 same-word (keyword m) u e = cc

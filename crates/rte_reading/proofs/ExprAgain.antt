@@ -13,7 +13,7 @@ use Rattle.rte_reading.proofs.AgainBasics.{step, if-true, if-false, Again, expec
 
 -- none begins with this word
 abbrev pub BeginsNone : Word → Type 0
-BeginsNone v = (same_word w.TRUE v ≡ false) × (same_word w.FALSE v ≡ false) × (same_word w.MINUS v ≡ false) × (same_word w.NOT v ≡ false) × (same_word w.LEFT_PAREN v ≡ false)
+BeginsNone v = (same_word w.TRUE v ≡ false) × (same_word w.FALSE v ≡ false) × (same_word w.MINUS v ≡ false) × (same_word w.NOT v ≡ false) × (same_word w.LEFT_PAREN v ≡ false) × ((n : Name) → same_word (named n) v ≡ false)
 
 module _ {P : Type 0} where
   -- ---- constants
@@ -140,9 +140,9 @@ module _ {P : Type 0} where
   expr-begins v none l depth (literal p n) ts us took = ap (is_at v) took
   expr-begins v none l depth (truth p true) ts us took = ap (is_at v) took ∙ none.0
   expr-begins v none l depth (truth p false) ts us took = ap (is_at v) took ∙ none.1
-  expr-begins v none l depth (variable p n) ts us took = ap (is_at v) took
-  expr-begins v none l depth (element p n i) ts us (vs, took, more) = ap (is_at v) took
-  expr-begins v none l depth (call p n es) ts us (vs, took, more) = ap (is_at v) took
+  expr-begins v none l depth (variable p n) ts us took = ap (is_at v) took ∙ none.5 n
+  expr-begins v none l depth (element p n i) ts us (vs, took, more) = ap (is_at v) took ∙ none.5 n
+  expr-begins v none l depth (call p n es) ts us (vs, took, more) = ap (is_at v) took ∙ none.5 n
   expr-begins v none l zero (minus p e) ts us took = absurd took
   expr-begins v none l (suc depth) (minus p e) ts us (vs, took, more) = ap (is_at v) took ∙ none.2
   expr-begins v none l zero (negation p e) ts us took = absurd took
@@ -219,7 +219,7 @@ module _ {P : Type 0} where
   args_again None (suc depth) again es ts us took = absurd again
   args_again (Some f) (suc depth) again es ts us (v1, l, (v2, took, r)) =
       in_parens_again (level f 5) (IsExpr 5 depth) (Stop 5) (level_again depth f again 5) (expr-shorter 5 depth) (λ ts us c. stop-a 5 w.COMMA ts us (refl, refl, refl, refl) c)
-      (expr-begins w.RIGHT_PAREN (refl, refl, refl, refl, refl) 5 depth) (stop-right_paren 5) (arg_list es) ts us (v1, l, (v2, to-list depth es v1 v2 took, r))
+      (expr-begins w.RIGHT_PAREN (refl, refl, refl, refl, refl, λ n. refl) 5 depth) (stop-right_paren 5) (arg_list es) ts us (v1, l, (v2, to-list depth es v1 v2 took, r))
 
   factor-in : (depth : ℕ) (ts : List (Tok P)) → factor depth ts ≡ factor_in (inner depth) ts
   unfolding factor

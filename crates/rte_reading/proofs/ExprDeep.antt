@@ -103,13 +103,13 @@ module _ {P : Type 0} where
   factor-begins v none zero ts us (inl (same, (vs, (q, took)))) = ap (is_at v) took ∙ none.2
   factor-begins v none zero ts us (inr (inl (same, (vs, (q, took))))) = ap (is_at v) took ∙ none.3
   factor-begins v none zero ts us (inr (inr (inl (same, (vs, (q, took)))))) = ap (is_at v) took ∙ none.4
-  factor-begins v none zero ts us (inr (inr (inr (inl (vs, (n, (q, took)), o))))) = ap (is_at v) took
-  factor-begins v none zero ts us (inr (inr (inr (inr (vs, (n, (q, took)), o))))) = ap (is_at v) took
+  factor-begins v none zero ts us (inr (inr (inr (inl (vs, (n, (q, took)), o))))) = ap (is_at v) took ∙ none.5 n
+  factor-begins v none zero ts us (inr (inr (inr (inr (vs, (n, (q, took)), o))))) = ap (is_at v) took ∙ none.5 n
   factor-begins v none (suc depth) ts us (vs, inl (q, took), o) = ap (is_at v) took ∙ none.2
   factor-begins v none (suc depth) ts us (vs, inr (inl (q, took)), o) = ap (is_at v) took ∙ none.3
   factor-begins v none (suc depth) ts us (vs, inr (inr (inl (v2, (q, took), up))), o) = ap (is_at v) took ∙ none.4
-  factor-begins v none (suc depth) ts us (vs, inr (inr (inr (inl (v2, (n, (q, took)), up)))), o) = ap (is_at v) took
-  factor-begins v none (suc depth) ts us (vs, inr (inr (inr (inr (v2, (n, (q, took)), up)))), o) = ap (is_at v) took
+  factor-begins v none (suc depth) ts us (vs, inr (inr (inr (inl (v2, (n, (q, took)), up)))), o) = ap (is_at v) took ∙ none.5 n
+  factor-begins v none (suc depth) ts us (vs, inr (inr (inr (inr (v2, (n, (q, took)), up)))), o) = ap (is_at v) took ∙ none.5 n
 
   pub opens-begins : (v : Word) → BeginsNone v → (l depth : ℕ) (ts us : List (Tok P)) → (UpToFactor l depth ▷ OpensFactor depth) ts us → is_at v ts ≡ false
   unfolding UpToFactor
@@ -162,8 +162,8 @@ module _ {P : Type 0} where
   args_finds (Some f) zero again finds ts us o = absurd finds
   args_finds (Some f) (suc depth) again finds ts us o =
       in_parens_finds (level f 5) (IsExpr 5 depth) (Stop 5) (level_again depth f again 5) (expr-shorter 5 depth) (λ ts us c. stop-a 5 w.COMMA ts us (refl, refl, refl, refl) c)
-      (OpensExpr depth) (level_finds depth f again (OpensFactor depth) finds 5) (expr-begins w.RIGHT_PAREN (refl, refl, refl, refl, refl) 5 depth)
-      (opens-begins w.RIGHT_PAREN (refl, refl, refl, refl, refl) 5 depth) ts us o
+      (OpensExpr depth) (level_finds depth f again (OpensFactor depth) finds 5) (expr-begins w.RIGHT_PAREN (refl, refl, refl, refl, refl, λ n. refl) 5 depth)
+      (opens-begins w.RIGHT_PAREN (refl, refl, refl, refl, refl, λ n. refl) 5 depth) ts us o
 
   -- behind a name
   named_index_finds : (o : Option (Parse P (Expr P))) (depth : ℕ) (m : Name × P) → InnerAgain o depth → InnerFinds o depth → Finds (named_factor o m) (OpensIndex depth)

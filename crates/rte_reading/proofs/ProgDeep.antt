@@ -108,29 +108,35 @@ module _ {P : Type 0} where
       let no_var = each-begins (is_at w.VAR) IsRoutine (routine-begins w.VAR refl refl) rs v5 v6 t6 (opens-other w.VAR refl refl v6 us o) in
       let no_first = each-begins (is_at w.FIRST) IsVar (λ x ts us took. ap (is_at w.FIRST) took.1.1) vs v4 v5 t5
       (each-begins (is_at w.FIRST) IsRoutine (routine-begins w.FIRST refl refl) rs v5 v6 t6 (opens-other w.FIRST refl refl v6 us o)) in
+      let no_deadline = each-begins (is_at w.DEADLINE) IsVar (λ x ts us took. ap (is_at w.DEADLINE) took.1.1) vs v4 v5 t5
+      (each-begins (is_at w.DEADLINE) IsRoutine (routine-begins w.DEADLINE refl refl) rs v5 v6 t6 (opens-other w.DEADLINE refl refl v6 us o)) in
       step (expect w.PROCESS ts) _ (q1, v1) _ (expect_again w.PROCESS q1 ts v1 refl t1)
       (step (name v1) _ ((n, q2), v2) _ (name_again (n, q2) v1 v2 t2)
       (step (expect w.COLON v2) _ (q3, v3) _ (expect_again w.COLON q3 v2 v3 refl t3)
-      (step (activation v3) _ (x, v4) _ (activation_again x v3 v4 t4 no_first)
+      (step (activation v3) _ (x, v4) _ (activation_again x v3 v4 t4 no_first no_deadline)
       (step (vars v4) _ (vs, v5) _ (vars_again vs v4 v5 t5 no_var) (at-fault (routines v5) _ _ (routines_finds v5 us (v6, (rs, t6), o)))))))
   process_finds ts us (inr (inl (v6, (v1, (q1, t1), (v2, (n, (q2, t2)), (v3, (q3, t3), (v4, (x, t4), (v5, (vs, t5), (rs, t6)))))), (v7, (q7, t7), o)))) =
       let no_var = each-begins (is_at w.VAR) IsRoutine (routine-begins w.VAR refl refl) rs v5 v6 t6 (ap (is_at w.VAR) t7) in
       let no_first = each-begins (is_at w.FIRST) IsVar (λ x ts us took. ap (is_at w.FIRST) took.1.1) vs v4 v5 t5
       (each-begins (is_at w.FIRST) IsRoutine (routine-begins w.FIRST refl refl) rs v5 v6 t6 (ap (is_at w.FIRST) t7)) in
+      let no_deadline = each-begins (is_at w.DEADLINE) IsVar (λ x ts us took. ap (is_at w.DEADLINE) took.1.1) vs v4 v5 t5
+      (each-begins (is_at w.DEADLINE) IsRoutine (routine-begins w.DEADLINE refl refl) rs v5 v6 t6 (ap (is_at w.DEADLINE) t7)) in
       step (expect w.PROCESS ts) _ (q1, v1) _ (expect_again w.PROCESS q1 ts v1 refl t1)
       (step (name v1) _ ((n, q2), v2) _ (name_again (n, q2) v1 v2 t2)
       (step (expect w.COLON v2) _ (q3, v3) _ (expect_again w.COLON q3 v2 v3 refl t3)
-      (step (activation v3) _ (x, v4) _ (activation_again x v3 v4 t4 no_first)
+      (step (activation v3) _ (x, v4) _ (activation_again x v3 v4 t4 no_first no_deadline)
       (step (vars v4) _ (vs, v5) _ (vars_again vs v4 v5 t5 no_var)
       (step (routines v5) _ (rs, v6) _ (routines_again rs v5 v6 t6 (ap begins_routine t7)) (at-fault (block v6) _ _ (block_finds v6 us (v7, (q7, t7), o))))))))
   process_finds ts us (inr (inr (v6, (v1, (q1, t1), (v2, (n, (q2, t2)), (v3, (q3, t3), (v4, (x, t4), (v5, (vs, t5), (rs, t6)))))), (v7, (q7, t7), (v8, (ss, t8), (v9, t9, more)))))) =
       let no_var = each-begins (is_at w.VAR) IsRoutine (routine-begins w.VAR refl refl) rs v5 v6 t6 (ap (is_at w.VAR) t7) in
       let no_first = each-begins (is_at w.FIRST) IsVar (λ x ts us took. ap (is_at w.FIRST) took.1.1) vs v4 v5 t5
       (each-begins (is_at w.FIRST) IsRoutine (routine-begins w.FIRST refl refl) rs v5 v6 t6 (ap (is_at w.FIRST) t7)) in
+      let no_deadline = each-begins (is_at w.DEADLINE) IsVar (λ x ts us took. ap (is_at w.DEADLINE) took.1.1) vs v4 v5 t5
+      (each-begins (is_at w.DEADLINE) IsRoutine (routine-begins w.DEADLINE refl refl) rs v5 v6 t6 (ap (is_at w.DEADLINE) t7)) in
       step (expect w.PROCESS ts) _ (q1, v1) _ (expect_again w.PROCESS q1 ts v1 refl t1)
       (step (name v1) _ ((n, q2), v2) _ (name_again (n, q2) v1 v2 t2)
       (step (expect w.COLON v2) _ (q3, v3) _ (expect_again w.COLON q3 v2 v3 refl t3)
-      (step (activation v3) _ (x, v4) _ (activation_again x v3 v4 t4 no_first)
+      (step (activation v3) _ (x, v4) _ (activation_again x v3 v4 t4 no_first no_deadline)
       (step (vars v4) _ (vs, v5) _ (vars_again vs v4 v5 t5 no_var)
       (step (routines v5) _ (rs, v6) _ (routines_again rs v5 v6 t6 (ap begins_routine t7))
       (step (block v6) _ (stmt_list ss, v8) _ (block_again ss v6 v8 (v7, (q7, t7), t8) w.HANDLER v9 ((refl, refl, refl, refl), refl, t9))

@@ -8,7 +8,7 @@ use Rattle.rte_grammar.specs.Grammar.{MOST_LEVELS, IsRoutine, IsEntry, IsDecl}
 use Rattle.rte_grammar.specs.Opening.{Whole, OpensExpr, OpensStmts, RoutineFront, OpensRoutine, OpensMonitor, ProcessFront, OpensProcess, OpensDecl, OpensProg}
 use Rattle.rte_reading.specs.ExprReading.{nesting, is_at, listed, constant, expr}
 use Rattle.rte_reading.specs.StmtReading.{stmts}
-use Rattle.rte_reading.specs.Reading.{range, scalar_type, kind, var, vars, param, params, block, close, routine_kind, result, value, routine_decl, begins_routine, routines, begins_member, member, members, entry_decl, entries, monitor_decl, first, activation, numbers, handler, process_decl, const_decl, way, device_decl, event_decl, decl, begins_decl, decls, prog, if_last, whole}
+use Rattle.rte_reading.specs.Reading.{range, scalar_type, kind, var, vars, param, params, block, close, routine_kind, result, value, routine_decl, begins_routine, routines, begins_member, member, members, entry_decl, entries, monitor_decl, deadline, first, activation, numbers, handler, process_decl, const_decl, way, device_decl, event_decl, decl, begins_decl, decls, prog, if_last, whole}
 use Rattle.rte_reading.proofs.Basics.{by_if, a_sound}
 use Rattle.rte_reading.proofs.Sound.{params_sound, vars_sound, block_sound, kind_word_sound, result_sound, routine_sound, members_sound, entry_sound, activation_sound, routines_sound, numbers_sound, decl_sound}
 use Rattle.rte_reading.proofs.OpenBasics.{by_step, past, no_fault, Reaches, Opens, Never, name_never, past_word, past_name, many_never, listed_never, in_parens_never, many_opens}
@@ -190,6 +190,16 @@ module _ {P : Type 0} where
       no_fault _ _ x.2)
       (λ is e. no_fault _ _ e) e
 
+  deadline_never : Never {P = P} deadline
+  unfolding deadline
+  deadline_never ts n e =
+      by_if (is_at w.DEADLINE ts) _ _ _
+      (λ is e.
+      let c = past_word w.DEADLINE ts _ n e in
+      let x = past_constant c.0.1 _ n c.2 in
+      no_fault _ _ x.2)
+      (λ is e. no_fault _ _ e) e
+
   activation_never : Never {P = P} activation
   unfolding activation
   activation_never ts n e =
@@ -198,14 +208,16 @@ module _ {P : Type 0} where
       let c = past_word w.PERIODIC ts _ n e in
       let d = past_word w.FRAME c.0.1 _ n c.2 in
       let x = past_constant d.0.1 _ n d.2 in
-      let f = past (first x.0.1) _ (nesting n) (first_never x.0.1 n) x.2 in
+      let y = past (deadline x.0.1) _ (nesting n) (deadline_never x.0.1 n) x.2 in
+      let f = past (first y.0.1) _ (nesting n) (first_never y.0.1 n) y.2 in
       no_fault _ _ f.2)
       (λ is e.
       let c = past_word w.AT_EVENT ts _ n e in
       let m = past_name c.0.1 _ n c.2 in
       let d = past_word w.FRAME m.0.1 _ n m.2 in
       let x = past_constant d.0.1 _ n d.2 in
-      no_fault _ _ x.2) e
+      let y = past (deadline x.0.1) _ (nesting n) (deadline_never x.0.1 n) x.2 in
+      no_fault _ _ y.2) e
 
   numbers_never : Never {P = P} numbers
   unfolding numbers

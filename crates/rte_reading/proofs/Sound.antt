@@ -7,10 +7,10 @@ use Rattle.rte_grammar.specs.Words as w
 use Rattle.rte_grammar.specs.Words.{Word, named, Tok}
 use Rattle.rte_grammar.specs.ExprGrammar.{a, ◌▷◌, Each, Listed, SomeListed, IsConstant}
 use Rattle.rte_grammar.specs.StmtGrammar.{AreStmts}
-use Rattle.rte_grammar.specs.Grammar.{MOST_LEVELS, IsScalar, IsKind, IsVar, IsParam, kind_word, IsResult, IsValue, IsRoutine, IsMember, IsEntry, IsMonitor, IsFirst, IsActivation, IsHandler, IsProcess, way_word, IsDecl, IsProg}
+use Rattle.rte_grammar.specs.Grammar.{MOST_LEVELS, IsScalar, IsKind, IsVar, IsParam, kind_word, IsResult, IsValue, IsRoutine, IsMember, IsEntry, IsMonitor, IsDeadline, IsFirst, IsActivation, IsHandler, IsProcess, way_word, IsDecl, IsProg}
 use Rattle.rte_reading.specs.ExprReading.{is_at, expect, name, listed, constant, expr}
 use Rattle.rte_reading.specs.StmtReading.{stmts}
-use Rattle.rte_reading.specs.Reading.{range, scalar_type, kind, var, vars, param, params, block, close, routine_kind, result, value, routine_decl, begins_routine, routines, begins_member, member, members, entry_decl, entries, monitor_decl, first, activation, numbers, handler, process_decl, const_decl, way, device_decl, event_decl, decl, begins_decl, decls, prog, if_last, whole}
+use Rattle.rte_reading.specs.Reading.{range, scalar_type, kind, var, vars, param, params, block, close, routine_kind, result, value, routine_decl, begins_routine, routines, begins_member, member, members, entry_decl, entries, monitor_decl, deadline, first, activation, numbers, handler, process_decl, const_decl, way, device_decl, event_decl, decl, begins_decl, decls, prog, if_last, whole}
 use Rattle.rte_reading.proofs.Basics.{bind_ok, by_if, Sound, done, IsName, a_sound, name_sound, many_sound, listed_sound, in_parens_sound}
 use Rattle.rte_reading.proofs.ExprSound.{constant_sound, expr_sound}
 use Rattle.rte_reading.proofs.StmtSound.{all_stmts_sound}
@@ -243,6 +243,16 @@ module _ {P : Type 0} where
       (c.0.1, a_sound w.FIRST ts c.0.1 c.0.0 c.1, (d.0.1, a_sound w.ACTIVATION c.0.1 d.0.1 d.0.0 d.1, (f.0.1, a_sound w.AT_TIME d.0.1 f.0.1 f.0.0 f.1, constant_sound f.0.1 x.0.1 x.0.0 x.1))) x.2)
       (λ is e. done IsFirst ts None s ts us refl e) e
 
+  deadline_sound : Sound {P = P} deadline IsDeadline
+  unfolding deadline
+  deadline_sound ts us s e =
+      by_if (is_at w.DEADLINE ts) _ _ _
+      (λ is e.
+      let c = bind_ok (expect w.DEADLINE ts) _ _ e in
+      let x = bind_ok (constant c.0.1) _ _ c.2 in
+      done IsDeadline ts (Some x.0.0) s x.0.1 us (c.0.1, a_sound w.DEADLINE ts c.0.1 c.0.0 c.1, constant_sound c.0.1 x.0.1 x.0.0 x.1) x.2)
+      (λ is e. done IsDeadline ts None s ts us refl e) e
+
   pub activation_sound : Sound {P = P} activation IsActivation
   unfolding activation
   activation_sound ts us s e =
@@ -251,16 +261,36 @@ module _ {P : Type 0} where
       let c = bind_ok (expect w.PERIODIC ts) _ _ e in
       let d = bind_ok (expect w.FRAME c.0.1) _ _ c.2 in
       let x = bind_ok (constant d.0.1) _ _ d.2 in
-      let f = bind_ok (first x.0.1) _ _ x.2 in
-      done IsActivation ts (periodic x.0.0 f.0.0) s f.0.1 us
-      (c.0.1, a_sound w.PERIODIC ts c.0.1 c.0.0 c.1, (d.0.1, a_sound w.FRAME c.0.1 d.0.1 d.0.0 d.1, (x.0.1, constant_sound d.0.1 x.0.1 x.0.0 x.1, first_sound x.0.1 f.0.1 f.0.0 f.1))) f.2)
+      let y = bind_ok (deadline x.0.1) _ _ x.2 in
+      let f = bind_ok (first y.0.1) _ _ y.2 in
+      done IsActivation ts (periodic x.0.0 y.0.0 f.0.0) s f.0.1 us (
+        c.0.1,
+        a_sound w.PERIODIC ts c.0.1 c.0.0 c.1,
+        (
+          d.0.1,
+          a_sound w.FRAME c.0.1 d.0.1 d.0.0 d.1,
+          (x.0.1, constant_sound d.0.1 x.0.1 x.0.0 x.1, (y.0.1, deadline_sound x.0.1 y.0.1 y.0.0 y.1, first_sound y.0.1 f.0.1 f.0.0 f.1)),
+        ),
+      ) f.2)
       (λ is e.
       let c = bind_ok (expect w.AT_EVENT ts) _ _ e in
       let n = bind_ok (name c.0.1) _ _ c.2 in
       let d = bind_ok (expect w.FRAME n.0.1) _ _ n.2 in
       let x = bind_ok (constant d.0.1) _ _ d.2 in
-      done IsActivation ts (at_event n.0.0.0 n.0.0.1 x.0.0) s x.0.1 us
-      (c.0.1, a_sound w.AT_EVENT ts c.0.1 c.0.0 c.1, (n.0.1, name_sound c.0.1 n.0.1 n.0.0 n.1, (d.0.1, a_sound w.FRAME n.0.1 d.0.1 d.0.0 d.1, constant_sound d.0.1 x.0.1 x.0.0 x.1))) x.2) e
+      let y = bind_ok (deadline x.0.1) _ _ x.2 in
+      done IsActivation ts (at_event n.0.0.0 n.0.0.1 x.0.0 y.0.0) s y.0.1 us (
+        c.0.1,
+        a_sound w.AT_EVENT ts c.0.1 c.0.0 c.1,
+        (
+          n.0.1,
+          name_sound c.0.1 n.0.1 n.0.0 n.1,
+          (
+            d.0.1,
+            a_sound w.FRAME n.0.1 d.0.1 d.0.0 d.1,
+            (x.0.1, constant_sound d.0.1 x.0.1 x.0.0 x.1, deadline_sound x.0.1 y.0.1 y.0.0 y.1),
+          ),
+        ),
+      ) y.2) e
 
   pub numbers_sound : Sound {P = P} numbers (λ ns. a w.LEFT_PAREN ▷ Listed IsConstant ns ▷ a w.RIGHT_PAREN)
   unfolding numbers

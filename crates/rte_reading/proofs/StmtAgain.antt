@@ -208,7 +208,7 @@ module _ {P : Type 0} where
   unfolding stmt stmt_by simple_stmt plain_stmt exit_stmt get_stmt put_stmt assert_stmt wait_stmt signal_stmt broadcast_stmt except_stmt expect named_stmt assigned
   stmt_again depth ts us (assign r e) (vs, took, (v2, c, x)) stop =
       assigns depth r (assign r e) ts vs v2 us took c
-      (if-false (is_at w.EMPTY v2) _ _ _ (expr-begins w.EMPTY (refl, refl, refl, refl, refl) 5 depth e v2 us x)
+      (if-false (is_at w.EMPTY v2) _ _ _ (expr-begins w.EMPTY (refl, refl, refl, refl, refl, λ n. refl) 5 depth e v2 us x)
       (if-false (is_entry v2) _ _ _ (expr-entry 5 depth e v2 us x stop.dot) (step (expr depth v2) _ (e, us) _ (expr_again depth v2 us e x stop) refl)))
   stmt_again depth ts us (assign_entry r mon p entry q es) (vs, took, (v2, c, (v3, m, (v4, (o, d), more)))) stop =
       assigns depth r (assign_entry r mon p entry q es) ts vs v2 us took c

@@ -81,7 +81,7 @@ module _ {P : Type 0} where
   assigned_expr_finds : (depth : ℕ) (r : Ref P) → Finds (assigned depth r) (OpensExpr depth)
   unfolding assigned
   assigned_expr_finds depth r ts us o =
-      if-false (is_at w.EMPTY ts) _ _ _ (opens-begins w.EMPTY (refl, refl, refl, refl, refl) 5 depth ts us o)
+      if-false (is_at w.EMPTY ts) _ _ _ (opens-begins w.EMPTY (refl, refl, refl, refl, refl, λ n. refl) 5 depth ts us o)
       (if-false (is_entry ts) _ _ _ (opens-entry 5 depth ts us o) (at-fault (expr depth ts) _ _ (expr_finds depth ts us o)))
 
   assigned_entry_finds : (depth : ℕ) (r : Ref P) → Finds (assigned depth r) (a_name ▷ a w.DOT ▷ a_name ▷ OpensArgs depth)

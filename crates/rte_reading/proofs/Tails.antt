@@ -6,7 +6,7 @@ use Rattle.rte_grammar.specs.Words as w
 use Rattle.rte_grammar.specs.Words.{Word, named, number, Tok}
 use Rattle.rte_grammar.specs.ExprGrammar.{at, a, ◌▷◌, Each, Listed, SomeListed, IsConstant, op_word, IsExpr, AreOperands, AreArgs, AreMoreArgs, InParens}
 use Rattle.rte_grammar.specs.StmtGrammar.{IsRef, IsStmt, AreStmts}
-use Rattle.rte_grammar.specs.Grammar.{MOST_LEVELS, kind_word, IsScalar, IsKind, IsVar, IsParam, IsResult, IsValue, IsRoutine, IsMember, IsEntry, IsMonitor, IsFirst, IsActivation, IsHandler, IsProcess, way_word, IsDecl}
+use Rattle.rte_grammar.specs.Grammar.{MOST_LEVELS, kind_word, IsScalar, IsKind, IsVar, IsParam, IsResult, IsValue, IsRoutine, IsMember, IsEntry, IsMonitor, IsDeadline, IsFirst, IsActivation, IsHandler, IsProcess, way_word, IsDecl}
 use Rattle.rte_grammar.specs.Opening.{Part}
 
 module _ {P : Type 0} where
@@ -184,11 +184,15 @@ module _ {P : Type 0} where
   first-end (Some c) ts us (v1, t1, (v2, t2, (v3, t3, t4))) =
       a-end w.FIRST ts v1 t1 ⨾ a-end w.ACTIVATION v1 v2 t2 ⨾ a-end w.AT_TIME v2 v3 t3 ⨾ constant-end c v3 us t4
 
+  deadline-end : (x : Option (Constant P)) → Leaves (IsDeadline x)
+  deadline-end None ts us took = nothing-end ts us took
+  deadline-end (Some c) ts us (v1, t1, t2) = a-end w.DEADLINE ts v1 t1 ⨾ constant-end c v1 us t2
+
   pub activation-end : (x : Activation P) → Leaves (IsActivation x)
-  activation-end (periodic frame f) ts us (v1, t1, (v2, t2, (v3, t3, t4))) =
-      a-end w.PERIODIC ts v1 t1 ⨾ a-end w.FRAME v1 v2 t2 ⨾ constant-end frame v2 v3 t3 ⨾ first-end f v3 us t4
-  activation-end (at_event n p frame deadline) ts us (v1, t1, (v2, t2, (v3, t3, t4))) =
-      a-end w.AT_EVENT ts v1 t1 ⨾ at-end (named n) p v1 v2 t2 ⨾ a-end w.FRAME v2 v3 t3 ⨾ constant-end frame v3 us t4
+  activation-end (periodic frame d f) ts us (v1, t1, (v2, t2, (v3, t3, (v4, t4, t5)))) =
+      a-end w.PERIODIC ts v1 t1 ⨾ a-end w.FRAME v1 v2 t2 ⨾ constant-end frame v2 v3 t3 ⨾ deadline-end d v3 v4 t4 ⨾ first-end f v4 us t5
+  activation-end (at_event n p frame d) ts us (v1, t1, (v2, t2, (v3, t3, (v4, t4, t5)))) =
+      a-end w.AT_EVENT ts v1 t1 ⨾ at-end (named n) p v1 v2 t2 ⨾ a-end w.FRAME v2 v3 t3 ⨾ constant-end frame v3 v4 t4 ⨾ deadline-end d v4 us t5
 
   handler-end : (x : Option (Handler P)) → Leaves (IsHandler x)
   handler-end None ts us took = nothing-end ts us took

@@ -5,8 +5,8 @@ use Rattle.rte_grammar.specs.Words as w
 use Rattle.rte_grammar.specs.Words.{Word, named, number, Tok, words_of}
 use Rattle.rte_grammar.specs.ExprGrammar.{a, ◌▷◌, Each, Listed, SomeListed, IsConstant, op_word, IsExpr, AreOperands, AreArgs, AreMoreArgs, InParens}
 use Rattle.rte_grammar.specs.StmtGrammar.{IsRef, IsStmt, AreStmts}
-use Rattle.rte_grammar.specs.Grammar.{MOST_LEVELS, IsScalar, IsKind, IsVar, IsParam, kind_word, IsResult, IsValue, IsRoutine, IsMember, IsEntry, IsMonitor, IsFirst, IsActivation, IsHandler, IsProcess, IsDecl, IsProg}
-use Rattle.rte_reading.specs.TreeWords.{each_words, listed_words, optional_words, constant_words, expr_words, operands_words, args_words, more_words, parens_words, ref_words, stmt_words, stmts_words, scalar_words, kind_words, var_words, param_words, result_words, value_words, routine_words, member_words, entry_words, monitor_words, first_words, activation_words, handler_words, process_words, decl_words, prog_words}
+use Rattle.rte_grammar.specs.Grammar.{MOST_LEVELS, IsScalar, IsKind, IsVar, IsParam, kind_word, IsResult, IsValue, IsRoutine, IsMember, IsEntry, IsMonitor, IsDeadline, IsFirst, IsActivation, IsHandler, IsProcess, IsDecl, IsProg}
+use Rattle.rte_reading.specs.TreeWords.{each_words, listed_words, optional_words, constant_words, expr_words, operands_words, args_words, more_words, parens_words, ref_words, stmt_words, stmts_words, scalar_words, kind_words, var_words, param_words, result_words, value_words, routine_words, member_words, entry_words, monitor_words, deadline_words, first_words, activation_words, handler_words, process_words, decl_words, prog_words}
 
 module _ {P : Type 0} where
   -- a part has these words
@@ -151,9 +151,17 @@ module _ {P : Type 0} where
   first-words None ts us took = ap words_of took
   first-words (Some c) ts us (v1, (q1, t1), (v2, (q2, t2), (v3, (q3, t3), t4))) = ap words_of t1 ∙ ap (λ x. w.FIRST ∷ x) (ap words_of t2 ∙ ap (λ x. w.ACTIVATION ∷ x) (ap words_of t3 ∙ ap (λ x. w.AT_TIME ∷ x) (constant-words c v3 us t4)))
 
+  deadline-words : (c : Option (Constant P)) → Has (IsDeadline c) (optional_words deadline_words (optional bare_constant c))
+  deadline-words None ts us took = ap words_of took
+  deadline-words (Some c) ts us (v1, (q1, t1), t2) = ap words_of t1 ∙ ap (λ x. w.DEADLINE ∷ x) (constant-words c v1 us t2)
+
   activation-words : (x : Activation P) → Has (IsActivation x) (activation_words (bare_activation x))
-  activation-words (periodic frame f) ts us (v1, (q1, t1), (v2, (q2, t2), (v3, t3, t4))) = ap words_of t1 ∙ ap (λ x. w.PERIODIC ∷ x) (ap words_of t2 ∙ ap (λ x. w.FRAME ∷ x) (constant-words frame v2 v3 t3 ∙ ap (constant_words (bare_constant frame)) (first-words f v3 us t4)))
-  activation-words (at_event e p frame deadline) ts us (v1, (q1, t1), (v2, t2, (v3, (q3, t3), t4))) = ap words_of t1 ∙ ap (λ x. w.AT_EVENT ∷ x) (ap words_of t2 ∙ ap (λ x. named e ∷ x) (ap words_of t3 ∙ ap (λ x. w.FRAME ∷ x) (constant-words frame v3 us t4)))
+  activation-words (periodic frame d f) ts us (v1, (q1, t1), (v2, (q2, t2), (v3, t3, (v4, t4, t5)))) =
+      ap words_of t1 ∙ ap (λ x. w.PERIODIC ∷ x) (ap words_of t2 ∙ ap (λ x. w.FRAME ∷ x) (constant-words frame v2 v3 t3 ∙ ap (constant_words (bare_constant frame))
+      (deadline-words d v3 v4 t4 ∙ ap (optional_words deadline_words (optional bare_constant d)) (first-words f v4 us t5))))
+  activation-words (at_event e p frame d) ts us (v1, (q1, t1), (v2, t2, (v3, (q3, t3), (v4, t4, t5)))) =
+      ap words_of t1 ∙ ap (λ x. w.AT_EVENT ∷ x) (ap words_of t2 ∙ ap (λ x. named e ∷ x) (ap words_of t3 ∙ ap (λ x. w.FRAME ∷ x) (constant-words frame v3 v4 t4
+      ∙ ap (constant_words (bare_constant frame)) (deadline-words d v4 us t5))))
 
   handler-words : (x : Option (Handler P)) → Has (IsHandler x) (optional_words handler_words (optional bare_handler x))
   handler-words None ts us took = ap words_of took

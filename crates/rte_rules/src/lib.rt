@@ -9,6 +9,3 @@
 mod broken;
 
 pub use broken::{Broken, blame, sooner};
-
-#[cfg(test)]
-mod tests;

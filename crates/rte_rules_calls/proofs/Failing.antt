@@ -12,7 +12,8 @@ use Rattle.rte_rules.proofs.Soonest.{both, same, noted-is-first}
 use Rattle.rte_names.specs.Findings.{Key}
 use Rattle.rte_graph.specs.Graph.{Graph, HasEdges, ReachesOne, marked}
 use Rattle.rte_rules_calls.specs.Calls.{stmts_calls, stmts_wait}
-use Rattle.rte_rules_calls.specs.Reaching.{routines, processes, ReachesWait, ReachesItself, CallsWaiter, HandlerWaits, ReachFails}
+use Rattle.rte_tree.specs.Parts.{routines, processes}
+use Rattle.rte_rules_calls.specs.Reaching.{ReachesWait, ReachesItself, CallsWaiter, HandlerWaits, ReachFails}
 use Rattle.rte_rules_calls.specs.Tables.{declared_in, places, number, edges_of, waiters, marked_at, is_marked_place, come_to_wait, handler_fault, handler_rule, OneComesBack}
 use Rattle.rte_rules_calls.proofs.Numbering.{routine-number}
 use Rattle.rte_rules_calls.proofs.CallEdges.{cons-cases, cons-tail}

@@ -6,7 +6,8 @@ use Rattle.rte_tree.specs.declared.place.Place.{Place}
 use Rattle.rte_names.specs.Findings.{Key}
 use Rattle.rte_graph.specs.Graph.{Graph, HasEdge, HasEdges, ReachesOne}
 use Rattle.rte_graph.specs.Graph as graph
-use Rattle.rte_rules_calls.specs.Reaching.{routines, Calls, Reaches, by_call, by_calls, Waits, ReachesWait}
+use Rattle.rte_tree.specs.Parts.{routines}
+use Rattle.rte_rules_calls.specs.Reaching.{Calls, Reaches, by_call, by_calls, Waits, ReachesWait}
 use Rattle.rte_rules_calls.specs.Tables.{declared_in, places, number, edges_of, waiters}
 use Rattle.rte_rules_calls.proofs.Numbering.{HasNumber, routine-number, number-injective}
 use Rattle.rte_rules_calls.proofs.CallEdges.{edge-listed, edge-only, WaitsAt, waiter-listed, waiter-only}

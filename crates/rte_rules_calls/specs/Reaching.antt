@@ -1,28 +1,10 @@
 -- What is reached by calls: no routine reaches itself, and no handler reaches a wait.
-use Rattle.std.specs.Prelude.{◌≡◌, ℕ, true, ◌⊎◌, List, [], ◌∷◌, ◌++◌, Some, Contains}
-use Rattle.rte_tree.specs.Placed.{Routine, Handler, Process, Decl, constant, device, event, routine, monitor, process, Prog}
+use Rattle.std.specs.Prelude.{◌≡◌, ℕ, true, ◌⊎◌, List, [], ◌∷◌, Some, Contains}
+use Rattle.rte_tree.specs.Placed.{Routine, Handler, Process, Prog}
+use Rattle.rte_tree.specs.Parts.{routines, processes}
 use Rattle.rte_tree.specs.declared.place.Place.{Place}
 use Rattle.rte_names.specs.Occurrences.{names, declared_at}
 use Rattle.rte_rules_calls.specs.Calls.{routine_calls, stmts_calls, stmts_wait}
-
--- all routines and entries of a program
-abbrev pub routines : List (Decl Place) → List (Routine Place)
-routines [] = []
-routines (constant name p c ∷ ds) = routines ds
-routines (device name p is_out ∷ ds) = routines ds
-routines (event name p ∷ ds) = routines ds
-routines (routine r ∷ ds) = r ∷ routines ds
-routines (monitor m ∷ ds) = m.entries ++ routines ds
-routines (process p ∷ ds) = p.routines ++ routines ds
-
-abbrev pub processes : List (Decl Place) → List (Process Place)
-processes [] = []
-processes (constant name p c ∷ ds) = processes ds
-processes (device name p is_out ∷ ds) = processes ds
-processes (event name p ∷ ds) = processes ds
-processes (routine r ∷ ds) = processes ds
-processes (monitor m ∷ ds) = processes ds
-processes (process p ∷ ds) = p ∷ processes ds
 
 -- one routine calls the other, each by the place of its name
 pub record Calls (g : Prog Place) (from to : Place) : Type 0 where

@@ -10,8 +10,8 @@ use crate::calls::calls_of;
 use crate::numbers::{Numbers, number};
 use crate::waits::stmts_wait;
 use rte_declarations::Declarations;
-use rte_rules::{Broken, blame};
 use rte_graph::is_marked;
+use rte_rules::{Broken, blame};
 use rte_tree::{Handler, Place, Proc, Stmt};
 use std::alloc::{AllocError, Global};
 

@@ -24,8 +24,8 @@ use numbers::numbers;
 use rounds::first_round;
 use routines::{processes, routines};
 use rte_declarations::Declarations;
-use rte_rules::{Broken, sooner};
 use rte_graph::Cycles;
+use rte_rules::{Broken, sooner};
 use std::alloc::{AllocError, Global};
 
 /// The first failure of the rules 31 and 35: a routine reaches itself by calls, at its name; a
@@ -54,6 +54,3 @@ pub fn first_broken(
     )?;
     Ok(sooner(round, waiting))
 }
-
-#[cfg(test)]
-mod tests;

@@ -7,8 +7,8 @@ ghost use Rattle.rte_rules.specs.First.{IsFirstOf, sooner as sooner_of};
 ghost use Rattle.rte_rules_calls.specs.Tables.{seen_routines, ComesBack, OneComesBack};
 
 use crate::numbers::{Numbers, number};
-use rte_rules::{Broken, sooner};
 use rte_graph::Cycles;
+use rte_rules::{Broken, sooner};
 use rte_tree::Routine;
 use std::alloc::{AllocError, Global};
 

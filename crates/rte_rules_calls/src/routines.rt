@@ -3,7 +3,7 @@
 ghost use Rattle.std.specs.Prelude.{◌≡◌, OnOk, IfOk, List, [], ◌∷◌, ◌++◌, map};
 ghost use Rattle.rte_tree.specs.Placed.{Decl as SpecDecl, placed_routine, placed_decl};
 ghost use Rattle.rte_tree.specs.declared.place.Place.{Place as SpecPlace};
-ghost use Rattle.rte_rules_calls.specs.Reaching.{routines as routines_of, processes as processes_of};
+ghost use Rattle.rte_tree.specs.Parts.{routines as routines_of, processes as processes_of};
 ghost use Rattle.rte_rules_calls.specs.Tables.{seen_routines, seen_processes};
 
 use rte_tree::{Decl, Proc, Routine};

@@ -3,7 +3,7 @@ use Rattle.std.proofs.Common.{◌≡◌, ◌+◌, ℕ, Bool, true, false, cond, 
 use Rattle.std.specs.Map.{lookup}
 use Rattle.rte_tree.specs.declared.place.Place.{Place}
 use Rattle.rte_names.specs.Findings.{Key, same_key, key_of}
-use Rattle.rte_names.specs.Reach.{same_place}
+use Rattle.rte_tree.specs.Parts.{same_place}
 use Rattle.rte_names.proofs.Notes.{key-true}
 use Rattle.rte_rules_declarations.specs.Seen.{held, known_uses}
 

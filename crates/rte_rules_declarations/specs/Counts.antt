@@ -2,34 +2,16 @@
 use Rattle.std.specs.Prelude.{ℕ, ◌+◌, List, [], ◌∷◌, ◌++◌, map, Option, Some, None, ◌-ℤ◌, slice_get, nat_lt, if◌then◌else◌}
 use Rattle.rte_tree.specs.Placed.{Kind, scalar, array, Var, Member, variable_member, condition_member, Monitor, Decl, constant, device, event, routine, monitor, process, Prog}
 use Rattle.rte_tree.specs.declared.place.Place.{Place}
+use Rattle.rte_tree.specs.Parts.{processes, monitors, routines}
 use Rattle.rte_source_meaning.specs.Store.{up_to}
 use Rattle.rte_declarations.specs.Values.{Worth}
-use Rattle.rte_rules_declarations.specs.Processes.{processes}
 
--- the places of the names of the processes, monitors and devices
+-- the places of the names of the processes and monitors
 abbrev pub process_places : List (Decl Place) → List Place
 process_places ds = map (λ p. p.place) (processes ds)
 
-abbrev pub monitors : List (Decl Place) → List (Monitor Place)
-monitors [] = []
-monitors (constant name p c ∷ ds) = monitors ds
-monitors (device name p is_out ∷ ds) = monitors ds
-monitors (event name p ∷ ds) = monitors ds
-monitors (routine r ∷ ds) = monitors ds
-monitors (monitor m ∷ ds) = m ∷ monitors ds
-monitors (process p ∷ ds) = monitors ds
-
 abbrev pub monitor_places : List (Decl Place) → List Place
 monitor_places ds = map (λ m. m.place) (monitors ds)
-
-abbrev pub devices : List (Decl Place) → List Place
-devices [] = []
-devices (constant name p c ∷ ds) = devices ds
-devices (device name p is_out ∷ ds) = p ∷ devices ds
-devices (event name p ∷ ds) = devices ds
-devices (routine r ∷ ds) = devices ds
-devices (monitor m ∷ ds) = devices ds
-devices (process p ∷ ds) = devices ds
 
 abbrev pub member_conditions : List (Member Place) → List Place
 member_conditions [] = []
@@ -42,14 +24,8 @@ conditions [] = []
 conditions (m ∷ ms) = member_conditions m.members ++ conditions ms
 
 -- the places of the names of all routines and entries
-abbrev pub routines : List (Decl Place) → List Place
-routines [] = []
-routines (constant name p c ∷ ds) = routines ds
-routines (device name p is_out ∷ ds) = routines ds
-routines (event name p ∷ ds) = routines ds
-routines (routine r ∷ ds) = r.place ∷ routines ds
-routines (monitor m ∷ ds) = map (λ r. r.place) m.entries ++ routines ds
-routines (process p ∷ ds) = map (λ r. r.place) p.routines ++ routines ds
+abbrev pub routine_places : List (Decl Place) → List Place
+routine_places ds = map (λ r. r.place) (routines ds)
 
 -- the one at that place of a list counted from 0, which is one too many
 abbrev pub one_too_many : ℕ → List Place → Option Place

@@ -2,7 +2,7 @@
 use Rattle.std.specs.Prelude.{List, ◌++◌}
 use Rattle.rte_tree.specs.Placed.{Decl, Prog}
 use Rattle.rte_tree.specs.declared.place.Place.{Place}
-use Rattle.rte_rules_declarations.specs.Processes as of_processes
+use Rattle.rte_tree.specs.Parts as of_tree
 use Rattle.rte_rules_declarations.specs.Counts as of_counts
 
 -- entries are among the routines
@@ -19,18 +19,18 @@ abbrev pub with_decls : Places → List (Decl Place) → Places
 with_decls p ds = record {
   processes = p.processes ++ of_counts.process_places ds;
   monitors = p.monitors ++ of_counts.monitor_places ds;
-  devices = p.devices ++ of_counts.devices ds;
-  events = p.events ++ of_processes.events ds;
-  conditions = p.conditions ++ of_counts.conditions (of_counts.monitors ds);
-  routines = p.routines ++ of_counts.routines ds;
+  devices = p.devices ++ of_tree.devices ds;
+  events = p.events ++ of_tree.events ds;
+  conditions = p.conditions ++ of_counts.conditions (of_tree.monitors ds);
+  routines = p.routines ++ of_counts.routine_places ds;
 }
 
 abbrev pub places_of : Prog Place → Places
 places_of g = record {
   processes = of_counts.process_places g.decls;
   monitors = of_counts.monitor_places g.decls;
-  devices = of_counts.devices g.decls;
-  events = of_processes.events g.decls;
-  conditions = of_counts.conditions (of_counts.monitors g.decls);
-  routines = of_counts.routines g.decls;
+  devices = of_tree.devices g.decls;
+  events = of_tree.events g.decls;
+  conditions = of_counts.conditions (of_tree.monitors g.decls);
+  routines = of_counts.routine_places g.decls;
 }

@@ -1,19 +1,10 @@
 -- The rules for frames, events and the numbers of handlers.
 use Rattle.std.specs.Prelude.{ℕ, suc, Bool, false, ◌||◌, ◌&&◌, int_le, pos, List, [], ◌∷◌, ◌++◌, Option, Some, None, ℤ, nat_eq, if◌then◌else◌}
 use Rattle.rte_num.specs.Words.{same}
-use Rattle.rte_tree.specs.Placed.{Constant, Activation, periodic, at_event, Handler, Process, Decl, constant, device, event, routine, monitor, process}
+use Rattle.rte_tree.specs.Placed.{Constant, Activation, periodic, at_event, Handler, Process}
 use Rattle.rte_tree.specs.declared.place.Place.{Place}
-use Rattle.rte_names.specs.Reach.{same_place}
+use Rattle.rte_tree.specs.Parts.{same_place}
 use Rattle.rte_declarations.specs.Values.{Worth, constant_place, is_within, out_of}
-
-abbrev pub processes : List (Decl Place) → List (Process Place)
-processes [] = []
-processes (constant name p c ∷ ds) = processes ds
-processes (device name p is_out ∷ ds) = processes ds
-processes (event name p ∷ ds) = processes ds
-processes (routine r ∷ ds) = processes ds
-processes (monitor m ∷ ds) = processes ds
-processes (process p ∷ ds) = p ∷ processes ds
 
 -- ---- frames
 
@@ -46,16 +37,6 @@ abbrev pub bad_first : Worth → Process Place → Option Place
 bad_first worth p = bad_start worth p.activation
 
 -- ---- events
-
--- the places of the names of the events
-abbrev pub events : List (Decl Place) → List Place
-events [] = []
-events (constant name p c ∷ ds) = events ds
-events (device name p is_out ∷ ds) = events ds
-events (event name p ∷ ds) = p ∷ events ds
-events (routine r ∷ ds) = events ds
-events (monitor m ∷ ds) = events ds
-events (process p ∷ ds) = events ds
 
 abbrev pub is_at : Place → Option Place → Bool
 is_at place None = false

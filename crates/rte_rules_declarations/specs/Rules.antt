@@ -7,8 +7,9 @@ use Rattle.rte_rules.specs.Parts.{Rule, FailsAmong}
 use Rattle.rte_names.specs.Occurrences.{names, declared_at}
 use Rattle.rte_declarations.specs.Values.{value}
 use Rattle.rte_rules_declarations.specs.Types.{Bounds, decls_bounds, crossed, too_long}
-use Rattle.rte_rules_declarations.specs.Processes.{processes, bad_frame, bad_deadline, bad_first, events, misused_event, Handled, all_handled, bad_handled, repeated}
-use Rattle.rte_rules_declarations.specs.Counts.{process_places, monitors, monitor_places, devices, conditions, routines, one_too_many, no_process, too_many_words}
+use Rattle.rte_tree.specs.Parts.{processes, events, monitors, devices}
+use Rattle.rte_rules_declarations.specs.Processes.{bad_frame, bad_deadline, bad_first, misused_event, Handled, all_handled, bad_handled, repeated}
+use Rattle.rte_rules_declarations.specs.Counts.{process_places, monitor_places, conditions, routine_places, one_too_many, no_process, too_many_words}
 
 abbrev pub bounds_rules : Prog Place → List (Rule Bounds)
 bounds_rules g =
@@ -40,7 +41,7 @@ count_rules g =
     ∷ record { number = 40; fails = λ h. one_too_many 64 (devices h.decls) }
     ∷ record { number = 40; fails = λ h. one_too_many 64 (events h.decls) }
     ∷ record { number = 41; fails = λ h. one_too_many 256 (conditions (monitors h.decls)) }
-    ∷ record { number = 42; fails = λ h. one_too_many 512 (routines h.decls) }
+    ∷ record { number = 42; fails = λ h. one_too_many 512 (routine_places h.decls) }
     ∷ record { number = 43; fails = too_many_words (value g) }
     ∷ []
 

@@ -1,20 +1,21 @@
-//! Frames and first activations of processes.
+//! Frames, deadlines and first activations of processes.
 
 ghost use Rattle.std.specs.Prelude.{◌≡◌, List, ◌∷◌};
-ghost use Rattle.rte_tree.specs.Placed.{Decl as SpecDecl, placed, placed_constant, placed_activation, placed_process, placed_decl};
+ghost use Rattle.rte_tree.specs.Placed.{Decl as SpecDecl, placed, placed_constant, placed_activation, placed_process, placed_decl, optional};
 ghost use Rattle.rte_tree.specs.declared.place.Place.{Place as SpecPlace};
 ghost use Rattle.rte_rules.specs.First.{IsFirstOf};
 ghost use Rattle.rte_rules.specs.Parts.{FailsAmong, note, noted};
 ghost use Rattle.rte_declarations.specs.Values.{value, out_of};
-ghost use Rattle.rte_rules_declarations.specs.Processes.{processes, frame_of, bad_start as bad_start_of};
+ghost use Rattle.rte_tree.specs.Parts.{processes};
+ghost use Rattle.rte_rules_declarations.specs.Processes.{frame_of, deadline_of, bad_limit, bad_start as bad_start_of};
 ghost use Rattle.rte_rules_declarations.specs.Rules.{process_rules};
 
 use rte_declarations::Declarations;
 use rte_rules::{Broken, blame};
 use rte_tree::{Activation, Constant, Decl, Place, Proc};
 
-/// A frame has at least so many ticks.
-const LEAST_FRAME: u32 = 10;
+/// A frame, and a deadline, has at least so many ticks.
+const LEAST_TICKS: u32 = 10;
 
 /// A frame has at most so many ticks, and a first activation is at most so many ticks late.
 const MOST_TICKS: u32 = 1_000_000_000;
@@ -24,6 +25,31 @@ fn frame(activation: &Activation) -> &Constant
 {
     match activation {
         Activation::Periodic { frame, .. } | Activation::AtEvent { frame, .. } => frame,
+    }
+}
+
+fn deadline(activation: &Activation) -> &Option<Constant>
+    ensures { optional placed_constant result.now ≡ deadline_of (placed_activation activation.now) }
+{
+    match activation {
+        Activation::Periodic { deadline, .. } | Activation::AtEvent { deadline, .. } => deadline,
+    }
+}
+
+/// The place of a deadline that is below 10 or above the frame.
+fn bad_deadline(
+    declarations: &Declarations<'_>,
+    frame: &Constant,
+    deadline: &Option<Constant>,
+) -> Option<Place>
+    ensures { let worth = value (placed declarations.now) in result ≡ bad_limit worth (placed_constant frame.now) (optional placed_constant deadline.now) }
+{
+    let deadline = deadline.as_ref()?;
+    let ticks = declarations.value(deadline);
+    if i64::from(LEAST_TICKS) <= ticks && ticks <= declarations.value(frame) {
+        None
+    } else {
+        Some(deadline.place)
     }
 }
 
@@ -44,10 +70,19 @@ fn bad_start(declarations: &Declarations<'_>, activation: &Activation) -> Option
 fn process(first: &mut Option<Broken>, declarations: &Declarations<'_>, process: &Proc)
     ensures { first.new ≡ note (process_rules (placed declarations.now)) first.old (placed_process process.now) }
 {
-    let frame = frame(&process.activation);
-    let bad_frame = declarations.out_of(LEAST_FRAME, MOST_TICKS, frame);
-    blame(first, 36, bad_frame);
-    blame(first, 36, bad_start(declarations, &process.activation));
+    let activation = &process.activation;
+    let frame = frame(activation);
+    blame(
+        first,
+        36,
+        declarations.out_of(LEAST_TICKS, MOST_TICKS, frame),
+    );
+    blame(
+        first,
+        36,
+        bad_deadline(declarations, frame, deadline(activation)),
+    );
+    blame(first, 36, bad_start(declarations, activation));
 }
 
 fn decl(first: &mut Option<Broken>, declarations: &Declarations<'_>, decl: &Decl)
@@ -58,7 +93,7 @@ fn decl(first: &mut Option<Broken>, declarations: &Declarations<'_>, decl: &Decl
     }
 }
 
-/// The rule for frames and first activations that fails first, if any does.
+/// The rule for frames, deadlines and first activations that fails first, if any does.
 pub fn first_broken(declarations: &Declarations<'_>) -> Option<Broken>
     ensures { let g = placed declarations.now in IsFirstOf (FailsAmong (process_rules g) (processes g.decls)) result }
 {

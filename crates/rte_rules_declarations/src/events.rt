@@ -5,9 +5,9 @@ ghost use Rattle.rte_tree.specs.Placed.{Decl as SpecDecl, Process as SpecProcess
 ghost use Rattle.rte_tree.specs.declared.place.Place.{Place as SpecPlace};
 ghost use Rattle.rte_rules.specs.First.{IsFirstOf};
 ghost use Rattle.rte_rules.specs.Parts.{FailsAmong, noted};
-ghost use Rattle.rte_names.specs.Reach.{same_place};
+ghost use Rattle.rte_tree.specs.Parts.{same_place, processes, events};
 ghost use Rattle.rte_names.specs.Occurrences.{names, declared_at};
-ghost use Rattle.rte_rules_declarations.specs.Processes.{processes, events, users};
+ghost use Rattle.rte_rules_declarations.specs.Processes.{users};
 ghost use Rattle.rte_rules_declarations.specs.Rules.{event_rules};
 ghost use Rattle.rte_rules_declarations.specs.Seen.{held, known_uses};
 

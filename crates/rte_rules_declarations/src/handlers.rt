@@ -6,7 +6,8 @@ ghost use Rattle.rte_tree.specs.declared.place.Place.{Place as SpecPlace};
 ghost use Rattle.rte_rules.specs.First.{IsFirstOf};
 ghost use Rattle.rte_rules.specs.Parts.{FailsAmong, note, noted};
 ghost use Rattle.rte_declarations.specs.Values.{value, is_within};
-ghost use Rattle.rte_rules_declarations.specs.Processes.{processes, handled, handler_numbers, all_handled, bad_handled, repeated as repeated_of};
+ghost use Rattle.rte_tree.specs.Parts.{processes};
+ghost use Rattle.rte_rules_declarations.specs.Processes.{handled, handler_numbers, all_handled, bad_handled, repeated as repeated_of};
 ghost use Rattle.rte_rules_declarations.specs.Rules.{handler_rules};
 ghost use Rattle.rte_rules_declarations.specs.Seen.{Tries, HasValues};
 

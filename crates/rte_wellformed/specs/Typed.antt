@@ -3,7 +3,7 @@ use Rattle.std.specs.Prelude.{◌≡◌, ℕ, ◌≤◌, true, List, [], ◌∷�
 use Rattle.rte_tree.specs.Plain.{Name, Param, Expr, literal, truth, variable, element, call, minus, negation, paren, row, Exprs, no_exprs, exprs, Operands, no_operands, operand, Ref, whole, part}
 use Rattle.rte_declarations.specs.declared.sort.Sort.{Sort}
 use Rattle.rte_declarations.specs.declared.sort.Sort.TheVariants as sort_is
-use Rattle.rte_typing.specs.Sorts.{gives, takes}
+use Rattle.rte_declarations.specs.Sorts.{gives, takes}
 use Rattle.rte_source_meaning.specs.Run.{Found, routine_named, entry_named}
 use Rattle.rte_wellformed.specs.Here.{Here, meant, sort_of, word_sort, element_sort, is_assignable}
 

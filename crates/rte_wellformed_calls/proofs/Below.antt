@@ -12,7 +12,7 @@ use Rattle.rte_names.specs.Reach.{same, suits, or_else, Site, inside, through}
 use Rattle.rte_names.specs.Occurrences.{Occurrence, used, uses, names, declared_at, constant_names, expr_names, exprs_names, operands_names, ref_names, entry_names, loop_name, stmt_names, stmts_names, optional_names, routine_scope, routine_names, closes}
 use Rattle.rte_source_meaning.specs.Nesting.{ExprBelow, ExprsBelow, OperandsBelow, RefBelow, StmtBelow, StmtsBelow, AnswersBelow}
 use Rattle.rte_rules_calls.specs.Calls.{called, expr_calls, exprs_calls, operands_calls, ref_calls, stmt_calls, stmts_calls, answer_calls, routine_calls}
-use Rattle.rte_rules_calls.specs.Reaching.{routines}
+use Rattle.rte_tree.specs.Parts.{routines}
 use Rattle.rte_wellformed_terms.specs.Places.{IsFound, NamesFound}
 use Rattle.rte_wellformed_terms.specs.Mirrors.{routine_of}
 use Rattle.rte_rules_calls.proofs.CallEdges.{cons-tail}

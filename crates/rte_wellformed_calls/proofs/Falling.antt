@@ -5,10 +5,10 @@ use Rattle.std.specs.List.{list_any}
 use Rattle.std.proofs.lemmas.Bool.{and_parts, and_from, eqb-true, eq-eqb, false_from_ne_true}
 use Rattle.rte_tree.specs.Placed.{Routine, Prog}
 use Rattle.rte_tree.specs.declared.place.Place.{Place}
-use Rattle.rte_names.specs.Reach.{same_place}
+use Rattle.rte_tree.specs.Parts.{same_place, routines}
 use Rattle.rte_names.specs.Occurrences.{names, declared_at}
 use Rattle.rte_rules_calls.specs.Calls.{routine_calls}
-use Rattle.rte_rules_calls.specs.Reaching.{routines, Calls, Reaches, by_call, by_calls, ReachesItself}
+use Rattle.rte_rules_calls.specs.Reaching.{Calls, Reaches, by_call, by_calls, ReachesItself}
 use Rattle.rte_wellformed_calls.specs.Levels.{HasPlaceLevels}
 use Rattle.rte_wellformed_calls.proofs.Lists.{Passing, any-passes, any-from, count-lt, count-few, cons-head, none-contained}
 use Rattle.rte_wellformed_calls.proofs.Through.{through, through-edge, through-joined, through-holds}

@@ -2,7 +2,8 @@
 use Rattle.std.specs.Prelude.{◌≡◌, ℕ, ◌<◌, length, Contains}
 use Rattle.rte_tree.specs.Placed.{Routine, Prog}
 use Rattle.rte_tree.specs.declared.place.Place.{Place}
-use Rattle.rte_rules_calls.specs.Reaching.{routines, Calls}
+use Rattle.rte_tree.specs.Parts.{routines}
+use Rattle.rte_rules_calls.specs.Reaching.{Calls}
 
 -- a routine stands above each that it calls, and the levels are fewer than the routines
 pub record ArePlaceLevels (g : Prog Place) (level : Place → ℕ) : Type 0 where

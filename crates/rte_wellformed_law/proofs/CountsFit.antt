@@ -9,7 +9,8 @@ use Rattle.rte_tree.specs.Plain as plain_of
 use Rattle.rte_tree.specs.Placed.{Kind, scalar, array, Var, Member, variable_member, condition_member, Monitor, Process, Decl, constant, device, event, routine, monitor, process, Prog, plain, plain_kind, plain_var, plain_member, plain_routine, plain_monitor, plain_process, plain_decl}
 use Rattle.rte_tree.specs.declared.place.Place.{Place}
 use Rattle.rte_declarations.specs.Values.{value}
-use Rattle.rte_rules_declarations.specs.Processes.{processes, events}
+use Rattle.rte_tree.specs.Parts.{processes, events}
+use Rattle.rte_tree.specs.Parts as tree
 use Rattle.rte_rules_declarations.specs.Counts as limit
 use Rattle.rte_source_meaning.specs.Names.{device_in, event_in, monitor_in, process_in, variable_in, condition_in, conditions_of, condition_count, routines_in}
 use Rattle.rte_wellformed.specs.WellFormed.{kind_words, vars_words, CountsFit}
@@ -32,9 +33,9 @@ process_count : (ds : List (Decl Place)) → length (filter_map process_in (map 
 process_count ds = ap length (plain_processes ds) ∙ length-map (processes ds) plain_process ∙ sym (length-map (processes ds) (λ p. p.place))
 
 monitor_count : (ds : List (Decl Place)) → length (filter_map monitor_in (map plain_decl ds)) ≡ length (limit.monitor_places ds)
-monitor_count ds = ap length (plain_monitors ds) ∙ length-map (limit.monitors ds) plain_monitor ∙ sym (length-map (limit.monitors ds) (λ m. m.place))
+monitor_count ds = ap length (plain_monitors ds) ∙ length-map (tree.monitors ds) plain_monitor ∙ sym (length-map (tree.monitors ds) (λ m. m.place))
 
-device_count : (ds : List (Decl Place)) → length (filter_map device_in (map plain_decl ds)) ≡ length (limit.devices ds)
+device_count : (ds : List (Decl Place)) → length (filter_map device_in (map plain_decl ds)) ≡ length (tree.devices ds)
 device_count [] = refl
 device_count (constant n p k ∷ ds) = device_count ds
 device_count (device n p is_out ∷ ds) = ap suc (device_count ds)
@@ -66,16 +67,16 @@ conditions_in (m ∷ ms) = let e = member_conditions m.members in let h = condit
 
 -- ---- routines
 
-routines_of : (ds : List (Decl Place)) → sum_by routines_in (map plain_decl ds) ≡ length (limit.routines ds)
+routines_of : (ds : List (Decl Place)) → sum_by routines_in (map plain_decl ds) ≡ length (limit.routine_places ds)
 routines_of [] = refl
 routines_of (constant n p k ∷ ds) = let h = routines_of ds in sum_cons routines_in (plain_decl (constant n p k)) (map plain_decl ds) ∙ omega (arith, h)
 routines_of (device n p is_out ∷ ds) = let h = routines_of ds in sum_cons routines_in (plain_decl (device n p is_out)) (map plain_decl ds) ∙ omega (arith, h)
 routines_of (event n p ∷ ds) = let h = routines_of ds in sum_cons routines_in (plain_decl (event n p)) (map plain_decl ds) ∙ omega (arith, h)
 routines_of (routine r ∷ ds) = let h = routines_of ds in sum_cons routines_in (plain_decl (routine r)) (map plain_decl ds) ∙ omega (arith, h)
 routines_of (monitor m ∷ ds) = let h = routines_of ds in sum_cons routines_in (plain_decl (monitor m)) (map plain_decl ds)
-    ∙ omega (arith, h, length-map m.entries plain_routine, length-map m.entries (λ r. r.place), length-append (map (λ r. r.place) m.entries) (limit.routines ds))
+    ∙ omega (arith, h, length-map m.entries plain_routine, length-map m.entries (λ r. r.place), length-append (map (λ r. r.place) m.entries) (limit.routine_places ds))
 routines_of (process p ∷ ds) = let h = routines_of ds in sum_cons routines_in (plain_decl (process p)) (map plain_decl ds)
-    ∙ omega (arith, h, length-map p.routines plain_routine, length-map p.routines (λ r. r.place), length-append (map (λ r. r.place) p.routines) (limit.routines ds))
+    ∙ omega (arith, h, length-map p.routines plain_routine, length-map p.routines (λ r. r.place), length-append (map (λ r. r.place) p.routines) (limit.routine_places ds))
 
 module _ (g : Prog Place) where
   -- ---- words
@@ -122,9 +123,9 @@ module _ (g : Prog Place) where
     one_process = let h = one (processes g.decls) l.limits.a_process in omega (arith, h, process_count g.decls, length-map (processes g.decls) (λ p. p.place));
     few_processes = same_few 64 (limit.process_places g.decls) (length (filter_map process_in (map plain_decl g.decls))) (process_count g.decls) l.limits.few_processes;
     few_monitors = same_few 64 (limit.monitor_places g.decls) (length (filter_map monitor_in (map plain_decl g.decls))) (monitor_count g.decls) l.limits.few_monitors;
-    few_devices = same_few 64 (limit.devices g.decls) (length (filter_map device_in (map plain_decl g.decls))) (device_count g.decls) l.limits.few_devices;
+    few_devices = same_few 64 (tree.devices g.decls) (length (filter_map device_in (map plain_decl g.decls))) (device_count g.decls) l.limits.few_devices;
     few_events = same_few 64 (events g.decls) (length (filter_map event_in (map plain_decl g.decls))) (event_count g.decls) l.limits.few_events;
-    few_conditions = same_few 256 (limit.conditions (limit.monitors g.decls)) (condition_count (filter_map monitor_in (map plain_decl g.decls))) (ap condition_count (plain_monitors g.decls) ∙ conditions_in (limit.monitors g.decls)) l.limits.few_conditions;
-    few_routines = same_few 512 (limit.routines g.decls) (sum_by routines_in (map plain_decl g.decls)) (routines_of g.decls) l.limits.few_routines;
+    few_conditions = same_few 256 (limit.conditions (tree.monitors g.decls)) (condition_count (filter_map monitor_in (map plain_decl g.decls))) (ap condition_count (plain_monitors g.decls) ∙ conditions_in (tree.monitors g.decls)) l.limits.few_conditions;
+    few_routines = same_few 512 (limit.routine_places g.decls) (sum_by routines_in (map plain_decl g.decls)) (routines_of g.decls) l.limits.few_routines;
     few_words = subst (λ n. n ≤ 1048576) (sym (same_words g.decls)) (few_words (limit.words (value g) g.decls) (not_then (nat_lt 1048576 (limit.words (value g) g.decls)) g.place l.limits.few_words));
   }

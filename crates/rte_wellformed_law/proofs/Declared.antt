@@ -11,7 +11,8 @@ use Rattle.rte_tree.specs.declared.place.Place.{Place}
 use Rattle.rte_names.specs.declared.kind.Declared.{Declared}
 use Rattle.rte_names.specs.declared.kind.Kind.{Kind as NameKind}
 use Rattle.rte_names.specs.declared.kind.Kind.TheVariants as kind_is
-use Rattle.rte_names.specs.Reach.{Names, Reach, first, same, same_place, or_else}
+use Rattle.rte_tree.specs.Parts.{same_place}
+use Rattle.rte_names.specs.Reach.{Names, Reach, first, same, or_else}
 use Rattle.rte_names.specs.Occurrences.{Occurrence, declares, closes, used, decl_name, others, entries_at, decls_names, names, program_name}
 use Rattle.rte_names.specs.Rules.{place_of}
 use Rattle.rte_wellformed_terms.specs.Places.{StandApart, NamesFound}

@@ -6,8 +6,9 @@ use Rattle.rte_tree.specs.Placed.{Constant, Scalar, Expr, Stmts, Process, proces
 use Rattle.rte_tree.specs.declared.place.Place.{Place}
 use Rattle.rte_names.specs.Reach.{Site}
 use Rattle.rte_names.specs.Occurrences.{constant_names, expr_names, stmts_names}
-use Rattle.rte_declarations.specs.Parts.{Where, answer, stmts_parts, parts}
-use Rattle.rte_statements.specs.Rules.{StatementFails}
+use Rattle.rte_declarations.specs.declared.home.Where.{Where}
+use Rattle.rte_declarations.specs.Parts.{answer, stmts_parts, parts}
+use Rattle.rte_rules_statements.specs.Rules.{StatementFails}
 use Rattle.rte_source_meaning.specs.Names.{constants}
 use Rattle.rte_source_meaning.specs.Nesting.{Levels}
 use Rattle.rte_wellformed.specs.Here.{Here, sort_of}

@@ -12,3 +12,4 @@ pub mod ProcessesFit
 pub mod EventsFit
 pub mod CountsFit
 pub mod WellFormed
+pub mod Formed

@@ -7,8 +7,9 @@ use Rattle.rte_tree.specs.declared.place.Place.{Place}
 use Rattle.rte_names.specs.Reach.{Site}
 use Rattle.rte_names.specs.Occurrences.{expr_names, stmts_names}
 use Rattle.rte_names.specs.Resolved.{IsRead, IsNamed}
-use Rattle.rte_declarations.specs.Parts.{Where, answer, stmts_parts, parts}
-use Rattle.rte_statements.specs.Rules.{StatementFails}
+use Rattle.rte_declarations.specs.declared.home.Where.{Where}
+use Rattle.rte_declarations.specs.Parts.{answer, stmts_parts, parts}
+use Rattle.rte_rules_statements.specs.Rules.{StatementFails}
 use Rattle.rte_rules_declarations.specs.Rules.{LimitFails}
 use Rattle.rte_rules_calls.specs.Reaching.{ReachesItself, ReachFails}
 use Rattle.rte_wellformed_calls.specs.Levels.{HasPlaceLevels}

@@ -2,7 +2,7 @@
 use Rattle.std.proofs.Common.{◌≡◌, ℕ, ◌+◌, Bool, cond, List, [], ◌∷◌, refl, ap, ◌∙◌}
 use Rattle.std.proofs.lemmas.List.Sums.{sum_by-cons}
 use Rattle.rte_tree.specs.declared.place.Place.{Place}
-use Rattle.rte_names.specs.Reach.{same_place}
+use Rattle.rte_tree.specs.Parts.{same_place}
 use Rattle.rte_names.specs.Occurrences.{Occurrence}
 use Rattle.rte_names.specs.Rules.{place_of}
 use Rattle.rte_wellformed_terms.specs.Places.{count_at}

@@ -6,7 +6,8 @@ use Rattle.rte_tree.specs.Placed.{Prog}
 use Rattle.rte_tree.specs.declared.place.Place.{Place}
 use Rattle.rte_names.specs.declared.kind.Declared.{Declared}
 use Rattle.rte_names.specs.declared.kind.Want.{Want}
-use Rattle.rte_names.specs.Reach.{same_place, suits, or_else}
+use Rattle.rte_tree.specs.Parts.{same_place}
+use Rattle.rte_names.specs.Reach.{suits, or_else}
 use Rattle.rte_names.specs.Occurrences.{Occurrence, declares, closes, used, names, declared_at}
 use Rattle.rte_names.specs.Rules.{Among, place_of, undeclared, shadows, misused, Stands}
 use Rattle.rte_names.specs.Resolved.{IsRead, IsNamed}

@@ -9,7 +9,7 @@ use Rattle.rte_lex.specs.declared.token.Token.{Token}
 use Rattle.rte_lex.specs.Tokens.{is_line_feed, is_in_line, StandsIn}
 use Rattle.rte_lex.specs.Laws.{HasSpan, IsBefore, StandInOrder}
 use Rattle.rte_grammar.specs.Words.{Word, named, number, keyword, sign, tok, toks_of}
-use Rattle.rte_names.specs.Reach.{same_place}
+use Rattle.rte_tree.specs.Parts.{same_place}
 use Rattle.rte_wellformed_names.proofs.Counts.{one}
 use Rattle.rte_wellformed_names.proofs.Parts.{weigh, named_at}
 

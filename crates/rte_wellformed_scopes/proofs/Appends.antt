@@ -4,7 +4,8 @@ use Rattle.rte_tree.specs.Placed.{Constant, literal_constant, named_constant, Sc
 use Rattle.rte_tree.specs.declared.place.Place.{Place}
 use Rattle.rte_names.specs.Reach.{Names, Reach, Site, inside, inside_monitor}
 use Rattle.rte_names.specs.Occurrences.{Occurrence, declarations, constant_names, constants_names, scalar_names, kind_names, expr_names, exprs_names, operands_names, ref_names, entry_names, loop_name, stmt_names, stmts_names, vars_names, params_names, member_inner, members_names, optional_names, routine_scope, routine_inner, routine_names, routines_names, monitor_scope, monitor_inner, monitor_names, activation_names, handler_names, process_scope, process_inner, process_names, inner_names}
-use Rattle.rte_declarations.specs.Parts.{Where, looped, stmt_parts, stmts_parts, home_of, outside_loops, answer_parts, routine_parts, routines_parts, handler_parts, decl_parts}
+use Rattle.rte_declarations.specs.declared.home.Where.{Where}
+use Rattle.rte_declarations.specs.Parts.{looped, stmt_parts, stmts_parts, home_of, outside_loops, answer_parts, routine_parts, routines_parts, handler_parts, decl_parts}
 
 -- what a part of a tree gives is put before what follows
 abbrev pub Puts : {A : Type 0} → (List A → List A) → Type 0
@@ -152,8 +153,11 @@ monitor_puts outer m =
 
 activation_puts : (here : Site) (x : Activation Place) → Puts (activation_names here x)
 activation_puts here (periodic frame deadline start) a b =
-    then_puts (constant_names here frame) (optional_names (constant_names here) start) (constant_puts here frame) (optional_puts (constant_names here) (constant_puts here) start) a b
-activation_puts here (at_event name place frame deadline) a b = keep (constant_puts here frame a b)
+    then_puts (constant_names here frame) (λ m. optional_names (constant_names here) deadline (optional_names (constant_names here) start m)) (constant_puts here frame)
+    (then_puts (optional_names (constant_names here) deadline) (optional_names (constant_names here) start) (optional_puts (constant_names here) (constant_puts here) deadline)
+    (optional_puts (constant_names here) (constant_puts here) start)) a b
+activation_puts here (at_event name place frame deadline) a b =
+    keep (then_puts (constant_names here frame) (optional_names (constant_names here) deadline) (constant_puts here frame) (optional_puts (constant_names here) (constant_puts here) deadline) a b)
 
 handler_puts : (here : Site) (h : Handler Place) → Puts (handler_names here h)
 handler_puts here h = then_puts (constants_names here h.numbers) (stmts_names here h.body) (constants_puts here h.numbers) (stmts_puts here h.body)

@@ -3,11 +3,13 @@
 use Rattle.std.proofs.Common.{◌≡◌, ℕ, ◌+◌, Bool, true, false, cond, List, [], ◌∷◌, ◌++◌, map, Option, Some, None, refl, ◌∙◌, arith}
 use Rattle.rte_tree.specs.Placed.{Constant, literal_constant, named_constant, Scalar, int, boolean, subrange, Kind, scalar, array, Var, Param, Expr, literal, truth, variable, element, call, minus, negation, paren, row, Exprs, no_exprs, exprs, Operands, no_operands, operand, Ref, whole, part, Stmt, assign, assign_entry, assign_empty, perform, perform_entry, when, when_else, loop, exit_when, get, put, wait, signal, broadcast, except, assert, Stmts, no_stmts, stmts, Routine, Member, variable_member, condition_member, Monitor, Activation, periodic, at_event, Handler, Process, Decl, constant, device, event, routine, monitor, process, Prog}
 use Rattle.rte_tree.specs.declared.place.Place.{Place}
-use Rattle.rte_names.specs.Reach.{Names, Reach, Site, first, same_place, inside, inside_monitor}
+use Rattle.rte_tree.specs.Parts.{same_place}
+use Rattle.rte_names.specs.Reach.{Names, Reach, Site, first, inside, inside_monitor}
 use Rattle.rte_names.specs.Occurrences.{Occurrence, declares, closes, used, declarations, constant_names, constants_names, scalar_names, kind_names, expr_names, exprs_names, operands_names, ref_names, entry_names, loop_name, stmt_names, stmts_names, var_name, param_name, routine_name, entry_name, member_name, vars_names, params_names, member_inner, members_names, optional_names, routine_scope, routine_inner, routine_names, routines_names, monitor_scope, monitor_inner, monitor_names, activation_names, handler_names, process_scope, process_inner, process_names, decl_name, others, entries_at, inner_names, decls_names, program_name, names}
 use Rattle.rte_declarations.specs.declared.home.Home.TheVariants as home_is
 use Rattle.rte_declarations.specs.Things.{Thing, other_thing, vars_things, params_things, routine_things, routines_things, members_things, decl_things, decls_things}
-use Rattle.rte_declarations.specs.Parts.{Where, Part, statement, answer, looped, stmt_parts, stmts_parts, home_of, outside_loops, answer_parts, routine_parts, routines_parts, handler_parts, decl_parts, decls_parts, parts}
+use Rattle.rte_declarations.specs.declared.home.Where.{Where}
+use Rattle.rte_declarations.specs.Parts.{Part, statement, answer, looped, stmt_parts, stmts_parts, home_of, outside_loops, answer_parts, routine_parts, routines_parts, handler_parts, decl_parts, decls_parts, parts}
 use Rattle.rte_wellformed_terms.specs.Things.{things}
 
 -- 1 where the places are one
@@ -124,8 +126,11 @@ optional_silent f silent (Some x) q more = silent x q more
 
 activation_silent : (here : Site) (x : Activation Place) → Silent (activation_names here x)
 activation_silent here (periodic frame deadline start) q more =
-    constant_silent here frame q (optional_names (constant_names here) start more) ∙ optional_silent (constant_names here) (constant_silent here) start q more
-activation_silent here (at_event name place frame deadline) q more = omega (arith, constant_silent here frame q more)
+    constant_silent here frame q (optional_names (constant_names here) deadline (optional_names (constant_names here) start more))
+    ∙ optional_silent (constant_names here) (constant_silent here) deadline q (optional_names (constant_names here) start more)
+    ∙ optional_silent (constant_names here) (constant_silent here) start q more
+activation_silent here (at_event name place frame deadline) q more =
+    omega (arith, constant_silent here frame q (optional_names (constant_names here) deadline more), optional_silent (constant_names here) (constant_silent here) deadline q more)
 
 -- ---- statements
 

@@ -10,7 +10,8 @@ use Rattle.rte_tree.specs.declared.place.Place.{Place}
 use Rattle.rte_names.specs.declared.kind.Declared.{Declared}
 use Rattle.rte_names.specs.declared.kind.Kind.{Kind}
 use Rattle.rte_names.specs.declared.kind.Kind.TheVariants as kind_is
-use Rattle.rte_names.specs.Reach.{Names, Reach, Site, first, through, members_of, same_place}
+use Rattle.rte_tree.specs.Parts.{same_place, monitors}
+use Rattle.rte_names.specs.Reach.{Names, Reach, Site, first, through, members_of}
 use Rattle.rte_names.specs.Occurrences.{Occurrence, declares, closes, decls_names, inner_names, others, decl_name, entry_name, entries_at, program_name}
 use Rattle.rte_names.specs.Rules.{place_of}
 use Rattle.rte_source_meaning.specs.Names.{named, monitor_number}
@@ -25,7 +26,7 @@ use Rattle.rte_wellformed_scopes.proofs.Members.{In, in-contains, ends-count, co
 use Rattle.rte_wellformed_scopes.proofs.Lookups.{named-map, none-some, first-append, FoundBy, found-by, Either, in_first, in_second, either}
 use Rattle.rte_wellformed_scopes.proofs.NamesAfter.{ends-inner}
 use Rattle.rte_wellformed_scopes.proofs.ThingsListed.{thing-known, routine-always, entry-always}
-use Rattle.rte_wellformed_scopes.proofs.ProgramScope.{Listed, Looks, program_monitors, monitors-plain, monitor_called}
+use Rattle.rte_wellformed_scopes.proofs.ProgramScope.{Listed, Looks, monitors-plain, monitor_called}
 use Rattle.rte_wellformed_scopes.proofs.ProgramNames.{text_at, as_found}
 
 -- ---- monitors have places of their own
@@ -109,7 +110,7 @@ pub record MonitorOf (g : Prog Place) (m : Name) (d : Declared) : Type 0 where
   pub one : Monitor Place
   pub listed : In g.decls (monitor one)
   pub place : one.place ≡ d.place
-  pub found : named monitor_called m (program_monitors g.decls) ≡ Some one
+  pub found : named monitor_called m (monitors g.decls) ≡ Some one
 
 pub monitor-of : (g : Prog Place) (m : Name) (d : Declared) → d.kind ≡ kind_is.Monitor → Listed g.decls m d → MonitorOf g m d
 monitor-of g m d kind l = by l.one l.listed (ap (λ e. e.kind) l.is ∙ kind) (ap (λ e. e.place) l.is) l.looks
@@ -143,7 +144,7 @@ entries-of (process p ∷ ds) q m x d only e = entries-of ds q m x d (λ k i. on
 -- ---- the entry
 
 module _ (g : Prog Place) (written : IsWritten g) (known : ThingsKnown g) (p : Process Place) where
-  pub entry-stands : (home : Home) (f : Bool) (own : List plain_of.Var) (m x : Name) (d : Declared) (one : Monitor Place) → In g.decls (monitor one) → named monitor_called m (program_monitors g.decls) ≡ Some one
+  pub entry-stands : (home : Home) (f : Bool) (own : List plain_of.Var) (m x : Name) (d : Declared) (one : Monitor Place) → In g.decls (monitor one) → named monitor_called m (monitors g.decls) ≡ Some one
       → first (map entry_name one.entries) x ≡ Some d → IsEntryOf g (text_at g p home f own) m x d.place
   entry-stands home f own m x d one i found e =
       let l : FoundBy entry_name one.entries x d = found-by entry_name one.entries x d e in
@@ -153,7 +154,7 @@ module _ (g : Prog Place) (written : IsWritten g) (known : ThingsKnown g) (p : P
         is = ap (λ c. c.place) l.is;
         thing = subst (λ c. thing_is c l.one) (ap (λ c. c.place) l.is) (thing-known g known (monitor one) l.one.place (routine_thing true l.one) i (entry-always one l.one _ l.listed (routine-always true l.one)));
         result = (All-contains RoutineWritten one.entries l.one (All-contains DeclWritten g.decls (monitor one) written (in-contains _ _ i)).entries (in-contains _ _ l.listed)).result;
-        found = ap (entry_of (monitor_number (plain g) m) x) (ap (named (λ k. k.name) m) (monitors-plain g.decls) ∙ named-map plain_monitor (λ k. k.name) m (program_monitors g.decls) ∙ ap (option_map plain_monitor) found)
+        found = ap (entry_of (monitor_number (plain g) m) x) (ap (named (λ k. k.name) m) (monitors-plain g.decls) ∙ named-map plain_monitor (λ k. k.name) m (monitors g.decls) ∙ ap (option_map plain_monitor) found)
             ∙ ap (option_map (as_found (of_monitor (monitor_number (plain g) m)))) (named-map plain_routine run_of.entry_name x one.entries ∙ ap (option_map plain_routine) l.found);
       }
     where

@@ -6,7 +6,8 @@ use Rattle.rte_tree.specs.Placed.{Routine, Member, variable_member, condition_me
 use Rattle.rte_tree.specs.declared.place.Place.{Place}
 use Rattle.rte_names.specs.declared.kind.Declared.{Declared}
 use Rattle.rte_names.specs.declared.kind.Kind.TheVariants as kind_is
-use Rattle.rte_names.specs.Reach.{Names, Reach, Site, first, inside, same_place}
+use Rattle.rte_tree.specs.Parts.{same_place}
+use Rattle.rte_names.specs.Reach.{Names, Reach, Site, first, inside}
 use Rattle.rte_names.specs.Occurrences.{var_name, param_name, routine_name, entry_name, member_name, routine_scope, process_scope, monitor_scope, program_name, entries_at}
 use Rattle.rte_source_meaning.specs.Names.{named}
 use Rattle.rte_source_meaning.specs.Run.{of_program, of_process, of_monitor}

@@ -3,25 +3,16 @@ use Rattle.std.proofs.Common.{◌≡◌, ◌⊎◌, inl, inr, Bool, true, false,
 use Rattle.std.specs.Prelude.{filter_map}
 use Rattle.rte_tree.specs.Plain.{Name}
 use Rattle.rte_tree.specs.Placed.{Routine, Monitor, Process, Decl, constant, device, event, routine, monitor, process, Prog, plain_routine, plain_monitor, plain_decl}
+use Rattle.rte_tree.specs.Parts.{program_routines, monitors}
 use Rattle.rte_tree.specs.declared.place.Place.{Place}
 use Rattle.rte_names.specs.declared.kind.Declared.{Declared}
 use Rattle.rte_names.specs.Reach.{same, Names, Reach, first}
 use Rattle.rte_names.specs.Occurrences.{Occurrence, declares, declarations, decl_name, others, routine_name, var_name, process_scope, program_name}
 use Rattle.rte_source_meaning.specs.Names.{named, routine_in, monitor_in}
 use Rattle.rte_wellformed_terms.specs.Places.{NamesFound}
-use Rattle.rte_wellformed_terms.specs.Mirrors.{NamesListed, program_site, program_routines}
+use Rattle.rte_wellformed_terms.specs.Mirrors.{NamesListed, program_site}
 use Rattle.rte_wellformed_scopes.proofs.Members.{In, in-contains, in-right, in-map}
 use Rattle.rte_wellformed_scopes.proofs.Lookups.{same-is, some-is, none-some, named-step, named-here, named-in, first-not}
-
--- the monitors of a program
-abbrev pub program_monitors : List (Decl Place) → List (Monitor Place)
-program_monitors [] = []
-program_monitors (constant name q k ∷ ds) = program_monitors ds
-program_monitors (device name q is_out ∷ ds) = program_monitors ds
-program_monitors (event name q ∷ ds) = program_monitors ds
-program_monitors (routine r ∷ ds) = program_monitors ds
-program_monitors (monitor m ∷ ds) = m ∷ program_monitors ds
-program_monitors (process q ∷ ds) = program_monitors ds
 
 pub routines-plain : (ds : List (Decl Place)) → filter_map routine_in (map plain_decl ds) ≡ map plain_routine (program_routines ds)
 routines-plain [] = refl
@@ -32,7 +23,7 @@ routines-plain (routine r ∷ ds) = ap (λ l. plain_routine r ∷ l) (routines-p
 routines-plain (monitor m ∷ ds) = routines-plain ds
 routines-plain (process q ∷ ds) = routines-plain ds
 
-pub monitors-plain : (ds : List (Decl Place)) → filter_map monitor_in (map plain_decl ds) ≡ map plain_monitor (program_monitors ds)
+pub monitors-plain : (ds : List (Decl Place)) → filter_map monitor_in (map plain_decl ds) ≡ map plain_monitor (monitors ds)
 monitors-plain [] = refl
 monitors-plain (constant name q k ∷ ds) = monitors-plain ds
 monitors-plain (device name q is_out ∷ ds) = monitors-plain ds
@@ -53,7 +44,7 @@ Looks (constant name q k) ds x = Unit {0}
 Looks (device name q is_out) ds x = Unit {0}
 Looks (event name q) ds x = Unit {0}
 Looks (routine r) ds x = named routine_called x (program_routines ds) ≡ Some r
-Looks (monitor m) ds x = named monitor_called x (program_monitors ds) ≡ Some m
+Looks (monitor m) ds x = named monitor_called x (monitors ds) ≡ Some m
 Looks (process q) ds x = Unit {0}
 
 pub record Listed (ds : List (Decl Place)) (x : Name) (d : Declared) : Type 0 where
@@ -68,7 +59,7 @@ looks-here (constant name q k) ds x s = tt
 looks-here (device name q is_out) ds x s = tt
 looks-here (event name q) ds x s = tt
 looks-here (routine r) ds x s = named-here routine_called x r (program_routines ds) s
-looks-here (monitor m) ds x s = named-here monitor_called x m (program_monitors ds) s
+looks-here (monitor m) ds x s = named-here monitor_called x m (monitors ds) s
 looks-here (process q) ds x s = tt
 
 routine-after : (c : Decl Place) (ds : List (Decl Place)) (x : Name) → same x (decl_name c).0 ≡ false → named routine_called x (program_routines (c ∷ ds)) ≡ named routine_called x (program_routines ds)
@@ -79,12 +70,12 @@ routine-after (routine r) ds x s = named-step routine_called x r (program_routin
 routine-after (monitor m) ds x s = refl
 routine-after (process q) ds x s = refl
 
-monitor-after : (c : Decl Place) (ds : List (Decl Place)) (x : Name) → same x (decl_name c).0 ≡ false → named monitor_called x (program_monitors (c ∷ ds)) ≡ named monitor_called x (program_monitors ds)
+monitor-after : (c : Decl Place) (ds : List (Decl Place)) (x : Name) → same x (decl_name c).0 ≡ false → named monitor_called x (monitors (c ∷ ds)) ≡ named monitor_called x (monitors ds)
 monitor-after (constant name q k) ds x s = refl
 monitor-after (device name q is_out) ds x s = refl
 monitor-after (event name q) ds x s = refl
 monitor-after (routine r) ds x s = refl
-monitor-after (monitor m) ds x s = named-step monitor_called x m (program_monitors ds) s
+monitor-after (monitor m) ds x s = named-step monitor_called x m (monitors ds) s
 monitor-after (process q) ds x s = refl
 
 looks-after : (one c : Decl Place) (ds : List (Decl Place)) (x : Name) → same x (decl_name c).0 ≡ false → Looks one ds x → Looks one (c ∷ ds) x
@@ -95,7 +86,7 @@ looks-after (routine r) c ds x s l = routine-after c ds x s ∙ l
 looks-after (monitor m) c ds x s l = monitor-after c ds x s ∙ l
 looks-after (process q) c ds x s l = tt
 
-looks-constant : (one : Decl Place) (c : Decl Place) (ds : List (Decl Place)) (x : Name) → program_routines (c ∷ ds) ≡ program_routines ds → program_monitors (c ∷ ds) ≡ program_monitors ds → Looks one ds x → Looks one (c ∷ ds) x
+looks-constant : (one : Decl Place) (c : Decl Place) (ds : List (Decl Place)) (x : Name) → program_routines (c ∷ ds) ≡ program_routines ds → monitors (c ∷ ds) ≡ monitors ds → Looks one ds x → Looks one (c ∷ ds) x
 looks-constant (constant name q k) c ds x r m l = tt
 looks-constant (device name q is_out) c ds x r m l = tt
 looks-constant (event name q) c ds x r m l = tt

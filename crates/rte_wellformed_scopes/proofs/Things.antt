@@ -8,11 +8,12 @@ use Rattle.std.proofs.lemmas.List.Sums.{sum_by-cons}
 use Rattle.rte_tree.specs.Plain.{Name}
 use Rattle.rte_tree.specs.Placed.{Constant, loop, Stmts, Prog}
 use Rattle.rte_tree.specs.declared.place.Place.{Place}
-use Rattle.rte_names.specs.Reach.{same_place}
+use Rattle.rte_tree.specs.Parts.{same_place}
 use Rattle.rte_names.specs.Occurrences.{Occurrence, declares, closes, used, names}
 use Rattle.rte_names.specs.Rules.{place_of}
 use Rattle.rte_declarations.specs.Things.{Thing, loop_thing, learn, thing_at}
-use Rattle.rte_declarations.specs.Parts.{Where, Part, statement, parts}
+use Rattle.rte_declarations.specs.declared.home.Where.{Where}
+use Rattle.rte_declarations.specs.Parts.{Part, statement, parts}
 use Rattle.rte_wellformed_terms.specs.Things.{ThingsKnown, things}
 use Rattle.rte_wellformed_terms.specs.Places.{StandApart, count_at}
 use Rattle.rte_wellformed_scopes.proofs.Counts.{stands, stands-is, standing, part_loops, loops, declares_at, declared, program_count}

@@ -6,7 +6,8 @@ use Rattle.rte_tree.specs.declared.place.Place.{Place}
 use Rattle.rte_names.specs.declared.kind.Want.TheVariants as want_is
 use Rattle.rte_names.specs.Reach.{Site, inside, through}
 use Rattle.rte_names.specs.Occurrences.{Occurrence, declares, used, uses, names, constant_names, expr_names, exprs_names, ref_names, entry_names, loop_name, stmt_names, stmts_names}
-use Rattle.rte_declarations.specs.Parts.{Where, Part, statement, looped, stmt_parts, stmts_parts, parts}
+use Rattle.rte_declarations.specs.declared.home.Where.{Where}
+use Rattle.rte_declarations.specs.Parts.{Part, statement, looped, stmt_parts, stmts_parts, parts}
 use Rattle.rte_wellformed_terms.specs.Judged.{AreNames, AreParts}
 use Rattle.rte_wellformed_statements.proofs.Basics.{cons_head, cons_tail}
 use Rattle.rte_wellformed_statements.proofs.Uses.{more_names}

@@ -6,7 +6,8 @@ use Rattle.rte_tree.specs.Placed.{Constant, loop, Stmts, Prog, plain, plain_cons
 use Rattle.rte_tree.specs.Plain.{Name}
 use Rattle.rte_tree.specs.declared.place.Place.{Place}
 use Rattle.rte_declarations.specs.Values.{value, is_within, out_of, constant_place}
-use Rattle.rte_declarations.specs.Parts.{Where, statement}
+use Rattle.rte_declarations.specs.declared.home.Where.{Where}
+use Rattle.rte_declarations.specs.Parts.{statement}
 use Rattle.rte_source_meaning.specs.Names.{constants}
 use Rattle.rte_wellformed.specs.Statements.{IsConstant, IsWithin, AreTurns}
 use Rattle.rte_wellformed_statements.proofs.Basics.{KeepsRules, held, not_held}

@@ -5,7 +5,8 @@ ghost use Rattle.rte_tree.specs.Placed.{Scalar, Expr, Stmts, Process, Prog, plai
 ghost use Rattle.rte_tree.specs.declared.place.Place.{Place};
 ghost use Rattle.rte_names.specs.Reach.{Site};
 ghost use Rattle.rte_names.specs.Occurrences.{expr_names, stmts_names};
-ghost use Rattle.rte_declarations.specs.Parts.{Where, answer, stmts_parts, parts};
+ghost use Rattle.rte_declarations.specs.declared.home.Where.{Where};
+ghost use Rattle.rte_declarations.specs.Parts.{answer, stmts_parts, parts};
 ghost use Rattle.rte_wellformed.specs.Here.{Here, sort_of};
 ghost use Rattle.rte_wellformed.specs.Typed.{IsOf};
 ghost use Rattle.rte_wellformed.specs.Statements.{AllFit};

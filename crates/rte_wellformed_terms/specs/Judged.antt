@@ -6,8 +6,9 @@ use Rattle.rte_tree.specs.declared.place.Place.{Place}
 use Rattle.rte_names.specs.Occurrences.{Occurrence, names}
 use Rattle.rte_declarations.specs.declared.home.Home.{Home}
 use Rattle.rte_declarations.specs.declared.home.Home.TheVariants as home_is
-use Rattle.rte_declarations.specs.Parts.{Where, Part, parts}
-use Rattle.rte_statements.specs.Rules.{StatementFails}
+use Rattle.rte_declarations.specs.declared.home.Where.{Where}
+use Rattle.rte_declarations.specs.Parts.{Part, parts}
+use Rattle.rte_rules_statements.specs.Rules.{StatementFails}
 use Rattle.rte_source_meaning.specs.Names.{constants}
 use Rattle.rte_wellformed.specs.Here.{Here, is_monitor}
 use Rattle.rte_wellformed.specs.Statements.{is_looped}

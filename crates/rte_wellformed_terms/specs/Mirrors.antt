@@ -2,7 +2,8 @@
 use Rattle.std.specs.Prelude.{◌≡◌, ℕ, ◌⊎◌, Bool, true, false, List, [], ◌∷◌, ◌++◌, Option, Some, None, map, length, filter_map, Contains}
 use Rattle.rte_tree.specs.Plain.{Name}
 use Rattle.rte_tree.specs.Plain as plain_of
-use Rattle.rte_tree.specs.Placed.{Kind, Routine, Monitor, Process, Decl, constant, device, event, routine, monitor, process, Prog, plain, plain_kind, plain_routine, plain_process, plain_decl}
+use Rattle.rte_tree.specs.Placed.{Kind, Routine, Monitor, Process, Decl, routine, monitor, process, Prog, plain, plain_kind, plain_routine, plain_process, plain_decl}
+use Rattle.rte_tree.specs.Parts.{program_routines}
 use Rattle.rte_tree.specs.declared.place.Place.{Place}
 use Rattle.rte_names.specs.declared.kind.Declared.{Declared}
 use Rattle.rte_names.specs.declared.kind.Kind.{Kind as NameKind}
@@ -24,16 +25,6 @@ pub record IsVariable (g : Prog Place) (c : Here) (routine_place : Option Place)
   pub kind : Kind Place
   pub stands : ((thing_at g place ≡ variable_thing routine_place (shape_of kind)) × (meant c x ≡ own_variable (plain_kind kind)))
       ⊎ ((thing_at g place ≡ variable_thing None (shape_of kind)) × (meant c x ≡ outer_variable (plain_kind kind)))
-
--- the routines that are declared by themselves
-abbrev pub program_routines : List (Decl Place) → List (Routine Place)
-program_routines [] = []
-program_routines (constant name q k ∷ ds) = program_routines ds
-program_routines (device name q is_out ∷ ds) = program_routines ds
-program_routines (event name q ∷ ds) = program_routines ds
-program_routines (routine r ∷ ds) = r ∷ program_routines ds
-program_routines (monitor m ∷ ds) = program_routines ds
-program_routines (process q ∷ ds) = program_routines ds
 
 -- the routine of that name, of the process or of the program
 abbrev pub routine_of : Prog Place → Process Place → Name → Option (Routine Place)

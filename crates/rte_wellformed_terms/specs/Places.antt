@@ -5,7 +5,8 @@ use Rattle.rte_tree.specs.Placed.{Prog}
 use Rattle.rte_tree.specs.declared.place.Place.{Place}
 use Rattle.rte_names.specs.declared.kind.Declared.{Declared}
 use Rattle.rte_names.specs.declared.kind.Want.{Want}
-use Rattle.rte_names.specs.Reach.{same_place, suits}
+use Rattle.rte_tree.specs.Parts.{same_place}
+use Rattle.rte_names.specs.Reach.{suits}
 use Rattle.rte_names.specs.Occurrences.{Occurrence, declares, used, names, declared_at}
 use Rattle.rte_names.specs.Rules.{place_of}
 

@@ -4,7 +4,8 @@ use Rattle.rte_tree.specs.Plain.{Name}
 use Rattle.rte_tree.specs.Placed.{Constant, loop, Stmts, Prog}
 use Rattle.rte_tree.specs.declared.place.Place.{Place}
 use Rattle.rte_declarations.specs.Things.{Thing, loop_thing, other_thing, decls_things, thing_at}
-use Rattle.rte_declarations.specs.Parts.{Where, statement, parts}
+use Rattle.rte_declarations.specs.declared.home.Where.{Where}
+use Rattle.rte_declarations.specs.Parts.{statement, parts}
 
 -- all declarations with the places of their names, the program's included
 abbrev pub things : Prog Place → List (Place × Thing)

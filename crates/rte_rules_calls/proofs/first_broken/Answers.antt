@@ -2,7 +2,8 @@ use Rattle.std.proofs.Common.{◌≡◌, ℕ, Bool, true, List, [], map, ap, sym
 use Rattle.rte_tree.specs.Placed.{placed, placed_decl}
 use Rattle.rte_rules.specs.First.{IsFirstOf}
 use Rattle.rte_graph.specs.Graph.{ReachesOne, marked}
-use Rattle.rte_rules_calls.specs.Reaching.{ReachFails, routines, processes}
+use Rattle.rte_tree.specs.Parts.{routines, processes}
+use Rattle.rte_rules_calls.specs.Reaching.{ReachFails}
 use Rattle.rte_rules_calls.specs.Tables.{seen_routines, seen_processes, waiters}
 use Rattle.rte_rules_calls.proofs.Failing.{first-of-tables}
 use Rattle.rte_rules_calls.proofs.first_broken.Goals as goal

@@ -1,6 +1,7 @@
 use Rattle.std.proofs.Common.{◌≡◌, List, ap, ◌∙◌, if◌then◌else◌}
 use Rattle.rte_tree.specs.Placed.{placed_monitor}
-use Rattle.rte_names.specs.Reach.{Reach, Site, nowhere, within, first, same_place}
+use Rattle.rte_tree.specs.Parts.{same_place}
+use Rattle.rte_names.specs.Reach.{Reach, Site, nowhere, within, first}
 use Rattle.rte_names.specs.Occurrences.{Occurrence, monitor_scope, monitor_inner}
 use Rattle.rte_names.specs.Findings.{noted}
 use Rattle.rte_names.specs.Seen.{meaning, top_site}

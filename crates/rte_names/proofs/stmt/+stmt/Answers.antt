@@ -1,9 +1,10 @@
 use Rattle.std.proofs.Common.{◌≡◌, [], ◌∷◌, refl, arith, ap, sym, ◌∙◌}
 use Rattle.rte_tree.specs.Placed.{placed_constant, placed_stmt, placed_stmts, loop}
 use Rattle.rte_tree.proofs.StmtViews.{stmt-For}
-use Rattle.rte_names.specs.Reach.{inside}
+use Rattle.rte_tree.specs.declared.expr.Constant.{Constant}
+use Rattle.rte_names.specs.Reach.{Site, inside}
 use Rattle.rte_names.specs.Occurrences.{declarations, loop_name, constant_names, stmt_names, stmts_names}
-use Rattle.rte_names.specs.Findings.{noted}
+use Rattle.rte_names.specs.Findings.{Found, noted}
 use Rattle.rte_names.specs.Seen.{site}
 use Rattle.rte_names.proofs.Walks.{step, finish}
 use Rattle.rte_names.proofs.stmt.+stmt.Goals as goal
@@ -27,11 +28,15 @@ stmt-returns-in_ok-stmts-in-For-clause-names t c more =
     let f = c.in-For in
     let here = site c.args.around.now c.args.loops.now.items in
     let scope = loop_name f.name f.name_place ∷ [] in
-    let whole : placed_stmt c.args.s.now ≡ loop f.place f.name f.name_place (placed_constant f.low) (placed_constant f.high) (placed_stmts f.body) = ap placed_stmt f.is ∙ stmt-For f.place f.name f.name_place f.low f.high f.body in
+    let whole : placed_stmt c.args.s.now ≡ loop f.place f.name f.name_place (placed_constant f.low.value) (placed_constant f.high.value) (placed_stmts f.body) = ap placed_stmt f.is ∙ stmt-For f.place f.name f.name_place f.low f.high f.body in
     let body = placed_stmts f.body in
+    let head : Site → Constant → Constant → Found =
+    λ w low high. noted c.args.findings.now (declarations w.means [] scope (constant_names w (placed_constant low) (constant_names w (placed_constant high) (stmts_names (inside scope here) body more)))) in
     c.in_ok-stmts-in-For.ensures.names more
     ∙ ap (λ w. noted c.loop_head.new.findings (stmts_names w (placed_stmts c.as_slice-in-For-2.result.now) more)) (c.in_ok-enter-in-For.ensures.inner c.args.around.now)
     ∙ ap (λ b. noted c.loop_head.new.findings (stmts_names (inside scope here) (placed_stmts b) more)) c.as_slice-in-For-2.ensures
     ∙ c.in_ok-loop_head-in-For.ensures (stmts_names (inside scope here) body more)
-    ∙ ap (λ ls. let w = site c.args.around.now ls in noted c.args.findings.now (declarations w.means [] scope (constant_names w (placed_constant f.low) (constant_names w (placed_constant f.high) (stmts_names (inside scope here) body more))))) c.as_slice-in-For.ensures.value
+    ∙ ap (λ ls. let w = site c.args.around.now ls in head w c.deref.result.now c.deref-in-For.result.now) c.as_slice-in-For.ensures.value
+    ∙ ap (λ low. head here low c.deref-in-For.result.now) c.deref.ensures
+    ∙ ap (λ high. head here f.low.value high) c.deref-in-For.ensures
     ∙ ap (λ s. noted c.args.findings.now (stmt_names here s more)) (sym whole)

@@ -1,6 +1,6 @@
 use Rattle.std.proofs.Common.{◌≡◌, ◌++◌, map, drop}
 use Rattle.rte_tree.specs.Placed.{placed_decl}
-use Rattle.rte_rules_calls.specs.Reaching.{processes}
+use Rattle.rte_tree.specs.Parts.{processes}
 use Rattle.rte_rules_calls.specs.Tables.{seen_processes}
 use Rattle.rte_rules_calls.proofs.routines.processes.Given as goal
 

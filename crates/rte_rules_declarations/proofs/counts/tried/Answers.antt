@@ -1,7 +1,7 @@
 use Rattle.std.proofs.Common.{◌≡◌, List, [], ◌∷◌, map, refl, ap, ◌∙◌}
 use Rattle.rte_tree.specs.Placed.{placed}
 use Rattle.rte_tree.specs.declared.place.Place.{Place}
-use Rattle.rte_rules_declarations.specs.Processes.{processes}
+use Rattle.rte_tree.specs.Parts.{processes}
 use Rattle.rte_rules_declarations.specs.Counts.{at_none, one_too_many}
 use Rattle.rte_rules_declarations.proofs.Walks.{then}
 use Rattle.rte_rules_declarations.proofs.counts.tried.Goals as goal

@@ -1,7 +1,8 @@
 use Rattle.std.proofs.Common.{◌+◌, ◌∷◌, ap, sym, ◌∙◌}
 use Rattle.rte_tree.specs.Placed.{placed, placed_decl}
 use Rattle.rte_names.specs.Occurrences.{names, declared_at}
-use Rattle.rte_rules_declarations.specs.Processes.{processes, users}
+use Rattle.rte_tree.specs.Parts.{processes}
+use Rattle.rte_rules_declarations.specs.Processes.{users}
 use Rattle.rte_rules_declarations.specs.Seen.{held, known_uses}
 use Rattle.rte_rules_declarations.proofs.events.decl.Goals as goal
 

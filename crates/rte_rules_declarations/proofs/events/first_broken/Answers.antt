@@ -1,7 +1,7 @@
 use Rattle.std.proofs.Common.{map, None, ap, ◌∙◌, arith}
 use Rattle.rte_tree.specs.Placed.{placed, placed_decl}
 use Rattle.rte_rules.specs.Parts.{noted}
-use Rattle.rte_rules_declarations.specs.Processes.{events}
+use Rattle.rte_tree.specs.Parts.{events}
 use Rattle.rte_rules_declarations.specs.Rules.{event_rules}
 use Rattle.rte_rules_declarations.proofs.Walks.{step, finish, first-noted}
 use Rattle.rte_rules_declarations.proofs.events.first_broken.Goals as goal

@@ -1,7 +1,8 @@
 use Rattle.std.proofs.Common.{◌≡◌, map, drop, None}
 use Rattle.rte_tree.specs.Placed.{placed, placed_decl}
 use Rattle.rte_rules.specs.Parts.{noted}
-use Rattle.rte_rules_declarations.specs.Processes.{processes, all_handled}
+use Rattle.rte_tree.specs.Parts.{processes}
+use Rattle.rte_rules_declarations.specs.Processes.{all_handled}
 use Rattle.rte_rules_declarations.specs.Rules.{handler_rules}
 use Rattle.rte_rules_declarations.proofs.handlers.first_broken.Given as goal
 

@@ -4,7 +4,8 @@ use Rattle.rte_tree.specs.declared.place.Place.{Place}
 use Rattle.rte_rules.specs.First.{Either}
 use Rattle.rte_rules.specs.Parts.{FailsAmong}
 use Rattle.rte_rules_declarations.specs.Types.{decls_bounds}
-use Rattle.rte_rules_declarations.specs.Processes.{processes, events, all_handled}
+use Rattle.rte_tree.specs.Parts.{processes, events}
+use Rattle.rte_rules_declarations.specs.Processes.{all_handled}
 use Rattle.rte_rules_declarations.specs.Rules.{bounds_rules, process_rules, event_rules, handler_rules, count_rules}
 use Rattle.rte_rules_declarations.proofs.Walks.{first-sooner}
 use Rattle.rte_rules_declarations.proofs.limits.first_broken.Goals as goal

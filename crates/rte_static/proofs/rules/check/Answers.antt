@@ -5,7 +5,6 @@ use Rattle.rte_rules.specs.declared.broken.Broken.{Broken}
 use Rattle.rte_rules.specs.First.{IsFirstOf}
 use Rattle.rte_names.specs.Resolved.{IsRead, IsNamed}
 use Rattle.rte_static.specs.Static.{Fails, IsChecked}
-use Rattle.rte_static.proofs.Formed.{well_formed}
 use Rattle.rte_static.proofs.rules.check.Goals as goal
 
 -- a program that was read, whose names are in order, and of which no static rule fails
@@ -24,7 +23,3 @@ invariant_of-result c = keeps c.named.inside.prog c.args.named c.in-Ok-None.fiel
 
 pub returns-in-Ok-None-clause-checked : goal.returns-in-Ok-None-clause-checked
 returns-in-Ok-None-clause-checked c = keeps c.named.inside.prog c.args.named c.in-Ok-None.field-0 c.named.view_is c.named.invariant.read c.named.invariant.named c.in-Ok-None.ensures c.in-Ok-None.field-0-is
-
-pub returns-in-Ok-None-clause-formed : goal.returns-in-Ok-None-clause-formed
-returns-in-Ok-None-clause-formed c =
-    well_formed c.checked_programs_are_well_formed.ensures (placed c.args.named) (keeps c.named.inside.prog c.args.named c.in-Ok-None.field-0 c.named.view_is c.named.invariant.read c.named.invariant.named c.in-Ok-None.ensures c.in-Ok-None.field-0-is)

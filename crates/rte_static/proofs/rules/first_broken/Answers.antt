@@ -5,7 +5,7 @@ use Rattle.rte_tree.specs.declared.place.Place.{Place}
 use Rattle.rte_rules.specs.declared.broken.Broken.{Broken}
 use Rattle.rte_rules.specs.First.{IsFirstOf, Either, sooner}
 use Rattle.rte_rules.proofs.Soonest.{both}
-use Rattle.rte_statements.specs.Rules.{StatementFails}
+use Rattle.rte_rules_statements.specs.Rules.{StatementFails}
 use Rattle.rte_rules_declarations.specs.Rules.{LimitFails}
 use Rattle.rte_rules_calls.specs.Reaching.{ReachFails}
 use Rattle.rte_static.specs.Static.{Fails}

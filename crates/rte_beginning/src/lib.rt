@@ -1,0 +1,2 @@
+//! The beginnings of programs.
+#![tactic(auto)]

@@ -1,3 +1,0 @@
-pub mod Conduct
-pub mod Here
-pub mod Numbers
