@@ -151,7 +151,7 @@ module _ {P : Type 0} (o : P) where
     fits = λ us. (_, (o, refl), (_, (literal o 0, refl), (o, refl)));
   }
 
-  args-some : (d : ℕ) → v.Some (ArgsPart d)
+  pub args-some : (d : ℕ) → v.Some (ArgsPart d)
   args-some d = record {
     more = some-tok o w.LEFT_PAREN ∷ some-tok o w.RIGHT_PAREN ∷ [];
     fits = λ us. (no_exprs, (_, (o, refl), (_, refl, (o, refl))));

@@ -4,3 +4,5 @@ pub mod StmtLocal
 pub mod ProgLocal
 pub mod Viable
 pub mod ExprViable
+pub mod StmtViable
+pub mod ProgViable
