@@ -9,6 +9,7 @@
 
 mod fault;
 mod line;
+mod names;
 mod numbers;
 mod past;
 mod read;
