@@ -9,7 +9,8 @@ use std::test::Fail;
 const ROOM: usize = 1_048_576;
 
 /// What a call came to: its status, the bytes and the pieces that it put, and what I holds.
-pub struct Call {
+#[derive(Drop)]
+pub struct Outcome {
     pub status: u8,
     pub put: Vec<u8>,
     pub puts: u64,
@@ -40,7 +41,12 @@ fn words_of(alloc: Global, line: &str) -> Result<Vec<String>, Fail> {
 }
 
 /// A call of the words of the line, where P holds the program and S the script, if there is one.
-pub fn call(alloc: Global, line: &str, program: &[u8], script: Option<&str>) -> Result<Call, Fail> {
+pub fn call(
+    alloc: Global,
+    line: &str,
+    program: &[u8],
+    script: Option<&str>,
+) -> Result<Outcome, Fail> {
     call_with(alloc, line, program, script, NO_FAILURES)
 }
 
@@ -51,7 +57,7 @@ pub fn call_with(
     program: &[u8],
     script: Option<&str>,
     failures: Failures,
-) -> Result<Call, Fail> {
+) -> Result<Outcome, Fail> {
     let reads = vec![in alloc; failures.read]?;
     let writes = vec![in alloc; failures.write]?;
     let mut files = MemFiles::new(alloc, reads, writes);
@@ -66,7 +72,7 @@ pub fn call_with(
         Some(bytes) => Some(Vec::from_slice(alloc, bytes)?),
         None => None,
     };
-    Ok(Call {
+    Ok(Outcome {
         status,
         put: Vec::from_slice(alloc, out.bytes())?,
         puts: out.puts(),

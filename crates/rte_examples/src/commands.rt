@@ -1,6 +1,6 @@
 //! Worked calls of each command, and a call with each read, write and put failing in turn.
 
-use crate::call::{Call, Failures, NO_FAILURES, call, call_with};
+use crate::call::{Failures, NO_FAILURES, Outcome, call, call_with};
 use std::alloc::Global;
 use std::test::Fail;
 
@@ -66,7 +66,7 @@ fn goes_whole(rt: HostRuntime) -> Result<(), Fail> {
         (VALVE, "end 15", 5, "S1 1\n", "", 1),
     ];
     for (program, script, want, report, log, pieces) in rows {
-        let Call {
+        let Outcome {
             status,
             put,
             puts,
@@ -76,7 +76,11 @@ fn goes_whole(rt: HostRuntime) -> Result<(), Fail> {
         assert_eq!(rt; status, want, "{program}");
         assert!(rt; put.as_slice() == text.as_bytes(), "{program}");
         assert_eq!(rt; puts, pieces, "{program}");
-        assert_eq!(rt; image.map(|bytes| bytes.len()), if want == 0 { Some(142) } else { None }, "{program}");
+        assert_eq!(rt;
+            image.map(|bytes| bytes.len()),
+            if want == 0 { Some(142) } else { None },
+            "{program}"
+        );
     }
     Ok(())
 }
@@ -108,7 +112,7 @@ fn checks_and_prints(rt: HostRuntime) -> Result<(), Fail> {
         ("check -P", VALVE, 1, "usage\n"),
     ];
     for (line, program, want, text) in rows {
-        let Call {
+        let Outcome {
             status,
             put,
             puts,
@@ -134,13 +138,38 @@ fn fails_at_each_step(rt: HostRuntime) -> Result<(), Fail> {
         ("write", Failures { write: 1, ..none }, 7, "", false),
         ("report", Failures { put: 1, ..none }, 7, "", true),
         ("first line", Failures { put: 2, ..none }, 7, REPORT, true),
-        ("second line", Failures { put: 3, ..none }, 7, release.as_str(), true),
-        ("none", Failures { read: 3, write: 2, put: 5 }, 0, whole.as_str(), true),
+        (
+            "second line",
+            Failures { put: 3, ..none },
+            7,
+            release.as_str(),
+            true,
+        ),
+        (
+            "none",
+            Failures {
+                read: 3,
+                write: 2,
+                put: 5,
+            },
+            0,
+            whole.as_str(),
+            true,
+        ),
     ];
     for (what, failures, want, text, stores) in rows {
-        let Call {
-            status, put, image, ..
-        } = call_with(alloc, "go P I S", VALVE.as_bytes(), Some("end 15\n"), failures)?;
+        let Outcome {
+            status,
+            put,
+            image,
+            ..
+        } = call_with(
+            alloc,
+            "go P I S",
+            VALVE.as_bytes(),
+            Some("end 15\n"),
+            failures,
+        )?;
         assert_eq!(rt; status, want, "{what}");
         assert!(rt; put.as_slice() == text.as_bytes(), "{what}");
         assert_eq!(rt; image.is_some(), stores, "{what}");

@@ -1,6 +1,6 @@
 //! Images that are stored, and a long run.
 
-use crate::call::{Call, call};
+use crate::call::{Outcome, call};
 use std::alloc::Global;
 use std::test::Fail;
 
@@ -23,7 +23,7 @@ fn hexadecimal(alloc: Global, bytes: &[u8]) -> Result<String, Fail> {
 #[test]
 fn stores_the_image(rt: HostRuntime) -> Result<(), Fail> {
     let alloc = rt.alloc();
-    let Call { image, .. } = call(alloc, "go P I S", IDLE.as_bytes(), Some("end 10\n"))?;
+    let Outcome { image, .. } = call(alloc, "go P I S", IDLE.as_bytes(), Some("end 10\n"))?;
     let bytes = image.ok_or("no image")?;
     let want = IDLE_IMAGE.replace(alloc, " ", "")?;
     assert_eq!(rt; bytes.len(), 104);
@@ -60,12 +60,18 @@ fn logs_each_event_of_a_long_run(rt: HostRuntime) -> Result<(), Fail> {
         let end = format!(in alloc; "{last} p end\n")?;
         log.push_str(end.as_str())?;
     }
-    let program = format!(in alloc; "program a device d : out process p : periodic frame {FRAME} begin{body} end p end a")?;
+    let program = format!(in alloc;
+        "program a device d : out process p : periodic frame {FRAME} begin{body} end p end a"
+    )?;
     let script = format!(in alloc; "end {}\n", ACTIVATIONS * FRAME)?;
-    let Call {
-        status, put, puts, ..
+    let Outcome {
+        status,
+        put,
+        puts,
+        ..
     } = call(alloc, "go P I S", program.as_bytes(), Some(script.as_str()))?;
-    let report = "program a\nprocess p frame 3500 rank 1 cost 3304 suspend 0 waits 0 block 0 bound 3304 data 0 stack 1\ncode 601\ntimely\n";
+    let report =
+        "program a\nprocess p frame 3500 rank 1 cost 3304 suspend 0 waits 0 block 0 bound 3304 data 0 stack 1\ncode 601\ntimely\n";
     let want = format!(in alloc; "{report}{log}")?;
     assert_eq!(rt; status, 0);
     assert!(rt; put.as_slice() == want.as_bytes());
