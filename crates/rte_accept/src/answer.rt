@@ -12,10 +12,11 @@ use std::alloc::Global;
 /// Puts the text, and gives the status, or 7 where it was not taken whole.
 pub fn put<O: Sink>(out: &mut O, text: &[u8], status: u8) -> u8
     requires { status < 7 }
-    ensures whole { result ≢ 7 → (result ≡ status) × Appends (O.taken out.old) (O.taken out.new) text.now }
-    ensures front { result ≡ 7 → AppendsFront (O.taken out.old) (O.taken out.new) text.now }
-    ensures failed { result ≡ 7 → Rose (O.faults out.old) (O.faults out.new) }
-    ensures count { O.faults out.old ≤ O.faults out.new }
+    ensures whole { result ≢ 7 → (result ≡ status) × Appends (O.state out.old).taken (O.state out.new).taken text.now }
+    ensures front { result ≡ 7 → AppendsFront (O.state out.old).taken (O.state out.new).taken text.now }
+    ensures failed { result ≡ 7 → Rose (O.state out.old).faults (O.state out.new).faults }
+    ensures count { (O.state out.old).faults ≤ (O.state out.new).faults }
+    ensures quiet { result ≢ 7 → (O.state out.new).faults ≡ (O.state out.old).faults }
 {
     match out.put(text) {
         Ok(()) => status,
@@ -26,10 +27,11 @@ pub fn put<O: Sink>(out: &mut O, text: &[u8], status: u8) -> u8
 /// Puts the line of a fault of the program's text.
 pub fn refuse_text<O: Sink>(alloc: Global, number: u8, place: Place, out: &mut O) -> u8
     ensures range { (result ≡ 2) ⊎ ((result ≡ 7) ⊎ (result ≡ 8)) }
-    ensures whole { result < 6 → (result ≡ 2) × Appends (O.taken out.old) (O.taken out.new) (fault_line number place) }
-    ensures front { result ≡ 7 → AppendsFront (O.taken out.old) (O.taken out.new) (fault_line number place) }
-    ensures failed { result ≡ 7 → Rose (O.faults out.old) (O.faults out.new) }
-    ensures nothing { result ≡ 8 → O.taken out.new ≡ O.taken out.old }
+    ensures whole { result < 6 → (result ≡ 2) × Appends (O.state out.old).taken (O.state out.new).taken (fault_line number place) }
+    ensures front { result ≡ 7 → AppendsFront (O.state out.old).taken (O.state out.new).taken (fault_line number place) }
+    ensures failed { result ≡ 7 → Rose (O.state out.old).faults (O.state out.new).faults }
+    ensures nothing { result ≡ 8 → (O.state out.new).taken ≡ (O.state out.old).taken }
+    ensures quiet { result ≢ 7 → (O.state out.new).faults ≡ (O.state out.old).faults }
 {
     match fault_text(alloc, number, place) {
         Ok(text) => put(out, text.as_bytes(), 2),

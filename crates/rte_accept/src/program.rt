@@ -42,12 +42,12 @@ fn program_in(alloc: Global, text: &[u8]) -> Result<Checked, Refusal>
 /// has more than 1,048,576 bytes. `Failed` only where the file's count of faults rose. `Memory`
 /// where there is not enough memory.
 pub fn read_checked<F: Files>(alloc: Global, files: &mut F, name: &str) -> Result<Checked, Refusal>
-    ensures program { IfOk result (λ c. OnTrue F.tells (IsSomeAnd (F.held files.old name.now) (λ text. IsProgramOf text (placed c)))) }
-    ensures fault { IfErr result (λ refusal. OnFault refusal (λ number place. OnTrue F.tells (IsSomeAnd (F.held files.old name.now) (λ text. IsProgramFault text number place)))) }
-    ensures failed { result ≡ Err Refusal.Failed → Rose (F.read_faults files.old name.now) (F.read_faults files.new name.now) }
-    ensures files { AllStay (F.held files.old) (F.held files.new) }
-    ensures read_counts { NoneFell (F.read_faults files.old) (F.read_faults files.new) }
-    ensures write_counts { NoneFell (F.write_faults files.old) (F.write_faults files.new) }
+    ensures program { IfOk result (λ c. OnTrue F.tells (IsSomeAnd ((F.state files.old).held name.now) (λ text. IsProgramOf text (placed c)))) }
+    ensures fault { IfErr result (λ refusal. OnFault refusal (λ number place. OnTrue F.tells (IsSomeAnd ((F.state files.old).held name.now) (λ text. IsProgramFault text number place)))) }
+    ensures failed { result ≡ Err Refusal.Failed → Rose ((F.state files.old).read_faults name.now) ((F.state files.new).read_faults name.now) }
+    ensures files { AllStay (F.state files.old).held (F.state files.new).held }
+    ensures read_counts { NoneFell (F.state files.old).read_faults (F.state files.new).read_faults }
+    ensures write_counts { NoneFell (F.state files.old).write_faults (F.state files.new).write_faults }
 {
     let text = files.read(name, LONGEST_PROGRAM)?;
     program_in(alloc, text.as_slice())
@@ -75,13 +75,13 @@ fn form_of(alloc: Global, program: &Checked) -> Result<Form, Refusal>
 /// As `read_checked`, and `Fault` 9 at the first byte exactly where the text is a program text, and
 /// its program not of the form that is built.
 pub fn read_program<F: Files>(alloc: Global, files: &mut F, name: &str) -> Result<Form, Refusal>
-    ensures program { IfOk result (λ form. OnTrue F.tells (IsSomeAnd (F.held files.old name.now) (λ text. IsProgramText text (program_of form)))) }
+    ensures program { IfOk result (λ form. OnTrue F.tells (IsSomeAnd ((F.state files.old).held name.now) (λ text. IsProgramText text (program_of form)))) }
     ensures keeps { IfOk result (λ form. IsPutProg (program_of form)) }
-    ensures fault { IfErr result (λ refusal. OnFault refusal (λ number place. OnTrue F.tells (IsSomeAnd (F.held files.old name.now) (λ text. IsTextFault text number place)))) }
-    ensures failed { result ≡ Err Refusal.Failed → Rose (F.read_faults files.old name.now) (F.read_faults files.new name.now) }
-    ensures files { AllStay (F.held files.old) (F.held files.new) }
-    ensures read_counts { NoneFell (F.read_faults files.old) (F.read_faults files.new) }
-    ensures write_counts { NoneFell (F.write_faults files.old) (F.write_faults files.new) }
+    ensures fault { IfErr result (λ refusal. OnFault refusal (λ number place. OnTrue F.tells (IsSomeAnd ((F.state files.old).held name.now) (λ text. IsTextFault text number place)))) }
+    ensures failed { result ≡ Err Refusal.Failed → Rose ((F.state files.old).read_faults name.now) ((F.state files.new).read_faults name.now) }
+    ensures files { AllStay (F.state files.old).held (F.state files.new).held }
+    ensures read_counts { NoneFell (F.state files.old).read_faults (F.state files.new).read_faults }
+    ensures write_counts { NoneFell (F.state files.old).write_faults (F.state files.new).write_faults }
 {
     match read_checked(alloc, files, name) {
         Ok(program) => form_of(alloc, &program),

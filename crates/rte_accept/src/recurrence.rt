@@ -11,7 +11,7 @@ use rte_puts::law::{cost_is_the_least_bound, solved_programs_are_timely};
 use rte_response::{Task, TaskSet};
 use std::alloc::{AllocError, Global};
 
-/// The least response of the program's one task within its frame, and none exactly where its
+/// The least response of the program's one task within its deadline, and none exactly where its
 /// recurrence has no solution.
 pub fn bound(alloc: Global, form: &Form) -> Result<Option<u64>, AllocError>
     requires { IsPutProg (program_of form.now) }
@@ -21,6 +21,7 @@ pub fn bound(alloc: Global, form: &Form) -> Result<Option<u64>, AllocError>
     solved_programs_are_timely();
     let task = Task {
         frame: u64::from(form.frame),
+        deadline: u64::from(form.limit()),
         run: form.cost(),
         susp: 0,
         waits: 0,

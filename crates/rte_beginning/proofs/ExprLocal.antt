@@ -3,8 +3,8 @@ use Rattle.std.proofs.Common.{◌≡◌, ℕ, zero, suc, ◌==◌, ◌≤◌, �
 use Rattle.rte_tree.specs.Plain.{Name, Op}
 use Rattle.rte_tree.specs.Placed.{Expr, Constant, exprs_of}
 use Rattle.rte_grammar.specs.Words as w
-use Rattle.rte_grammar.specs.Words.{Word, named, number, Tok}
-use Rattle.rte_reading.specs.ExprReading.{Fault, ◌>>=◌, Parse, refuse, too_deep, is_at, is_name, is_literal, expect, name, numeral, each, signless, unsigned, constant, op_of, of_level, op_at, is_some, next, operand_by, operand_at, turns, operands_at, joined, row_at, level, inside, index, args, named_factor, minus_factor, negation_factor, paren_factor, simple_factor, factor_in, factor, inner, expr, in_parens}
+use Rattle.rte_grammar.specs.Words.{Word, named, number, keyword, sign, Tok}
+use Rattle.rte_reading.specs.ExprReading.{Fault, ◌>>=◌, Parse, refuse, too_deep, is_at, is_named, is_name, is_literal, expect, name_by, name, numeral, each, signless, unsigned, constant, op_of, of_level, op_at, is_some, next, operand_by, operand_at, turns, operands_at, joined, row_at, level, inside, index, args, named_factor, minus_factor, negation_factor, paren_factor, simple_factor, factor_in, factor, inner, expr, in_parens}
 use Rattle.rte_beginning.proofs.Local.{Within, Stays, Moves, within-more, bind-within, Out, Local, Good, Heads, good-ok, bind, either, good-expect, good-name, good-numeral, good-lengths, good-turns, good-parens}
 
 module _ {P : Type 0} (t : Tok P) (a b : List (Tok P)) where
@@ -92,7 +92,7 @@ module _ {P : Type 0} (t : Tok P) (a b : List (Tok P)) where
   GoodInner (Some f) None = ⊥
   GoodInner (Some f) (Some g) = Good t a b f g
 
-  deep : {A : Type 0} (q : Parse P A) → Good t a b too_deep q
+  pub deep : {A : Type 0} (q : Parse P A) → Good t a b too_deep q
   deep q = record { stays = λ v. tt; local = λ front. inr (inr tt) }
 
   pub good-index : (o r : Option (Parse P (Expr P))) → GoodInner o r → Good t a b (index o) (index r)
@@ -164,3 +164,36 @@ module _ {P : Type 0} (t : Tok P) (a b : List (Tok P)) where
   good-inner zero e less = tt
   good-inner (suc d) zero less = absurd (omega (arith, less))
   good-inner (suc d) (suc e) less = good-factor d e (omega (arith, less))
+
+  -- ---- where the token is a name, an expression that begins with it goes past it
+
+  pub name-past : {B : Type 0} (k : (Name × P) × List (Tok P) → Result (B × List (Tok P)) Fault) → ((x : Name × P) → Stays (λ v. k (x, v))) → is_named t.word ≡ true
+      → Within (name (t ∷ a) >>= k) (length a)
+  unfolding name
+  name-past k s is = by t.word is
+    where
+      by : (v : Word) → is_named v ≡ true → Within (name_by v t a >>= k) (length a)
+      by (named n) is = s (n, t.place) a
+      by (number n) is = cc
+      by (keyword n) is = cc
+      by (sign n) is = cc
+
+  cond-true : {A : Type 0} (c : Bool) (r s : Result (A × List (Tok P)) Fault) (n : ℕ) → c ≡ true → Within r n → Within (cond c r s) n
+  cond-true c r s n is h = subst (λ c. Within (cond c r s) n) (sym is) h
+
+  factor-past : (d : ℕ) → is_named t.word ≡ true → Within (factor d (t ∷ a)) (length a)
+  unfolding factor factor_in
+  factor-past zero is = cond-true (is_named t.word) _ _ (length a) is (name-past (λ n. named_factor None n.0 n.1) (λ n. (good-named None None tt n).stays) is)
+  factor-past (suc d) is =
+      cond-true (is_named t.word) _ _ (length a) is
+      (name-past (λ n. named_factor (Some (factor d)) n.0 n.1) (λ n. (good-named (Some (factor d)) (Some (factor d)) (good-factor d d (omega arith)) n).stays) is)
+
+  level-past : (p : Parse P (Expr P)) → Good t a b p p → Within (p (t ∷ a)) (length a) → (l : ℕ) → Within (level p l (t ∷ a)) (length a)
+  unfolding level row_at
+  level-past p good past zero = past
+  level-past p good past (suc l) =
+      bind-within (level p l (t ∷ a)) _ (length a) (level-past p good past l)
+      (λ x v. bind-within (operands_at (suc l) (level p l) v) _ (length v) ((good-operands (suc l) (level p l) (level p l) (good-level p p good l)).stays v) (λ y u. omega arith))
+
+  pub expr-past : (d : ℕ) → is_named t.word ≡ true → Within (expr d (t ∷ a)) (length a)
+  expr-past d is = level-past (factor d) (good-factor d d (omega arith)) (factor-past d is) 5

@@ -173,7 +173,7 @@ module _ {P : Type 0} where
     abbrev pub Enough : (m n : ℕ) (front : List (Tok P)) → Type 0
     Enough m n front = (m ≡ n) ⊎ ((length (front ++ t ∷ a) ≤ m) × (length (front ++ t ∷ b) ≤ n))
 
-    ends-suc : (front : List (Tok P)) (c : List (Tok P)) → length (front ++ t ∷ c) ≡ suc (length front + length c)
+    pub ends-suc : (front : List (Tok P)) (c : List (Tok P)) → length (front ++ t ∷ c) ≡ suc (length front + length c)
     ends-suc [] c = omega arith
     ends-suc (u ∷ front) c = let h = ends-suc front c in omega (arith, h)
 
@@ -271,3 +271,17 @@ module _ {P : Type 0} where
       good-parens =
           bind (expect w.LEFT_PAREN) (expect w.LEFT_PAREN) _ _ (good-expect w.LEFT_PAREN) (λ l.
           bind (some_listed p) (some_listed q) _ _ good-some (λ xs. bind (expect w.RIGHT_PAREN) (expect w.RIGHT_PAREN) _ _ (good-expect w.RIGHT_PAREN) (λ r. good-ok xs)))
+
+    pub either-moves : {A : Type 0} (c : List (Tok P) → Bool) (p q : Parse P A) → Moves p → Moves q → Moves {A = A} (λ ts. cond (c ts) (p ts) (q ts))
+    either-moves c p q h g ts us x e = by (c ts) e
+      where
+        by : (b : Bool) → cond b (p ts) (q ts) ≡ Ok (x, us) → length us < length ts
+        by true e = h ts us x e
+        by false e = g ts us x e
+
+    pub bind-moves : {A B : Type 0} (p : Parse P A) (k : A × List (Tok P) → Result (B × List (Tok P)) Fault) → Moves p → ((x : A) → Stays (λ v. k (x, v))) → Moves {A = B} (λ ts. p ts >>= k)
+    bind-moves {A} p k m s ts us x e = by (p ts) refl e
+      where
+        by : (r : Result (A × List (Tok P)) Fault) → p ts ≡ r → (r >>= k) ≡ Ok (x, us) → length us < length ts
+        by (Ok y) is e = let h = m ts y.1 y.0 is in let g = subst (λ r. Within r (length y.1)) e (s y.0 y.1) in omega (arith, h, g)
+        by (Err f) is e = cc

@@ -5,10 +5,11 @@ use Rattle.std.specs.Bool.{OnTrue}
 use Rattle.rte_accept.specs.Accept.{IsProgramText}
 use Rattle.rte_form.specs.Target.{cost_of}
 use Rattle.rte_form.specs.WellFormed.{IsPutProg, IsTimely}
-use Rattle.rte_inspect.specs.Inspect.{Told, Seen, IsCheckDue, check_fault, check_timely, check_late, IsToldWhole, Inspects}
+use Rattle.rte_inspect.specs.Inspect.{Told, IsCheckDue, check_fault, check_timely, check_late, IsToldWhole, Inspects}
 use Rattle.rte_puts.specs.Recurrence.{tasks_of}
 use Rattle.rte_response.specs.Demand.{IsBound, Solves}
 use Rattle.rte_source_meaning.specs.Puts.{PutProg}
+use Rattle.rte_io.specs.Outside.{Outside}
 use Rattle.rte_cli.specs.Headline.{IsUnsolved}
 use Rattle.rte_cli.proofs.Texts.{TextLaws}
 
@@ -59,8 +60,8 @@ exactly laws None status taken taken' w = absurd w
 
 pub checked_for_time : TextLaws → ((f : PutProg) → IsPutProg f → IsTimely f → IsBound (tasks_of f) 0 (cost_of f.puts))
     → ((f : PutProg) (r : ℕ) → IsPutProg f → Solves (tasks_of f) 0 r → IsTimely f)
-    → (tells : Bool) (name : Option (List ℕ)) (before now : Seen) (status : ℕ) → IfSome name (λ n. Inspects tells IsCheckDue n before now status)
-    → IfSome name (λ n. OnTrue tells (status < 6 → (status ≡ 3) ↔ IsUnsolved (before.held n)))
-checked_for_time texts bound solved true (Some name) before now status w = λ below. exactly (record { texts = texts; bound = bound; timely = solved }) (before.held name) status before.taken now.taken (w.whole below)
+    → (tells : Bool) (name : Option (List ℕ)) (before now : Outside) (status : ℕ) → IfSome name (λ n. Inspects tells IsCheckDue n before now status)
+    → IfSome name (λ n. OnTrue tells (status < 6 → (status ≡ 3) ↔ IsUnsolved (before.files.held n)))
+checked_for_time texts bound solved true (Some name) before now status w = λ below. exactly (record { texts = texts; bound = bound; timely = solved }) (before.files.held name) status before.out.taken now.out.taken (w.whole below)
 checked_for_time texts bound solved false (Some name) before now status w = tt
 checked_for_time texts bound solved tells None before now status w = tt

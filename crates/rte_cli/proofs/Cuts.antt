@@ -5,7 +5,7 @@ use Rattle.std.specs.Bool.{OnTrue}
 use Rattle.std.proofs.lemmas.Bool.{le-leb}
 use Rattle.rte_form.specs.Script.{end_of}
 use Rattle.rte_form.specs.Target.{named_image_of}
-use Rattle.rte_image.specs.Bytes.{bytes_of}
+use Rattle.rte_image.specs.Bytes.{Second, bytes_of}
 use Rattle.rte_io.specs.Outside.{Rose, Appends, AppendsFront}
 use Rattle.rte_source_meaning.specs.Puts.{PutProg}
 use Rattle.rte_cli.specs.Due.{Outcome, done, IsDueByScript}
@@ -26,7 +26,7 @@ done_is_due f (Some text) end short read =
 -- storing and telling was whole
 pub whole_is : (tells : Bool) (f : PutProg) (end : ℕ) (held taken taken' stored : Option (List ℕ)) (status : ℕ)
     → OnTrue tells (IsSomeAnd held (λ text. length text ≤ 16777216)) → OnTrue tells (IsSomeAnd held (λ text. Some end ≡ end_of text))
-    → (status ≡ 0) ⊎ ((status ≡ 7) ⊎ (status ≡ 8)) → (status ≡ 0 → Appends taken taken' (done f end).text) → (status ≡ 0 → OnTrue tells (stored ≡ Some (bytes_of (named_image_of f))))
+    → (status ≡ 0) ⊎ ((status ≡ 7) ⊎ (status ≡ 8)) → (status ≡ 0 → Appends taken taken' (done f end).text) → (status ≡ 0 → OnTrue tells (stored ≡ Some (bytes_of Second (named_image_of f))))
     → OnTrue tells (status < 6 → IsWhole (IsDueByScript f held) status taken taken' stored)
 whole_is true f end held taken taken' stored status short read range put kept = λ below.
     let zero : status ≡ 0 = elim range [ inl zero ↦ zero | inr more ↦ elim more [ inl seven ↦ absurd (omega (arith, seven, below)) | inr eight ↦ absurd (omega (arith, eight, below)) ] ] in
@@ -35,7 +35,7 @@ whole_is false f end held taken taken' stored status short read range put kept =
 
 cut_of_done : (f : PutProg) (end : ℕ) (Due : Outcome → Type 0) (taken taken' stored : Option (List ℕ)) (write0 write write' faults faults' : ℕ)
     → Due (done f end) → write0 ≤ write → AppendsFront taken taken' (done f end).text
-    → StoreFailed true write write' taken taken' faults faults' stored (bytes_of (named_image_of f)) → IsCut Due taken taken' stored write0 write' faults faults'
+    → StoreFailed true write write' taken taken' faults faults' stored (bytes_of Second (named_image_of f)) → IsCut Due taken taken' stored write0 write' faults faults'
 cut_of_done f end Due taken taken' stored write0 write write' faults faults' due less front (inl (rose, nothing)) =
     record { outcome = done f end; is_due = due; put = front; cause = inl (refl, rose_since write0 write write' less rose, nothing) }
 cut_of_done f end Due taken taken' stored write0 write write' faults faults' due less front (inr (rose, kept)) =
@@ -45,7 +45,7 @@ cut_of_done f end Due taken taken' stored write0 write write' faults faults' due
 pub cut_is : (tells : Bool) (f : PutProg) (end : ℕ) (held taken taken' stored : Option (List ℕ)) (write0 write write' faults faults' : ℕ)
     → OnTrue tells (IsSomeAnd held (λ text. length text ≤ 16777216)) → OnTrue tells (IsSomeAnd held (λ text. Some end ≡ end_of text))
     → write0 ≤ write → AppendsFront taken taken' (done f end).text
-    → StoreFailed tells write write' taken taken' faults faults' stored (bytes_of (named_image_of f))
+    → StoreFailed tells write write' taken taken' faults faults' stored (bytes_of Second (named_image_of f))
     → OnTrue tells (IsCut (IsDueByScript f held) taken taken' stored write0 write' faults faults')
 cut_is true f end held taken taken' stored write0 write write' faults faults' short read less front failed =
     cut_of_done f end (IsDueByScript f held) taken taken' stored write0 write write' faults faults' (done_is_due f held end short read) less front failed

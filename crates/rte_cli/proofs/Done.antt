@@ -5,11 +5,11 @@ use Rattle.std.specs.Bool.{OnTrue}
 use Rattle.rte_form.specs.Script.{IsEndText, end_of}
 use Rattle.rte_form.specs.Target.{cost_of}
 use Rattle.rte_form.specs.WellFormed.{IsPutProg, IsTimely}
-use Rattle.rte_io.specs.Outside.{Appends}
+use Rattle.rte_io.specs.Outside.{Outside, Appends}
 use Rattle.rte_puts.specs.Recurrence.{tasks_of}
 use Rattle.rte_response.specs.Demand.{IsBound}
 use Rattle.rte_source_meaning.specs.Puts.{PutProg}
-use Rattle.rte_cli.specs.Answers.{IsWhole, Outside, due_for, Went, Stores}
+use Rattle.rte_cli.specs.Answers.{IsWhole, due_for, Went, Stores}
 use Rattle.rte_accept.specs.Accept.{IsProgramText}
 use Rattle.rte_cli.specs.Due.{Outcome, longest_script, end_in, done, due_by_end, IsDueByScript, IsDue, source_fault, no_form, untimely, timely, log_text}
 use Rattle.rte_cli.specs.Headline.{IsFaithful, IsDone}
@@ -60,8 +60,8 @@ pub is_done : ((text : List ℕ) (end_tick : ℕ) → end_of text ≡ Some end_t
     → (row : Row) (before now : Outside) → Went true row before now 0 → IsDone row before now
 unfolding log_text
 is_done ends faithful bound row before now w =
-    let whole : IsWhole (due_for row before) 0 before.taken now.taken (now.held row.image) = w.whole (omega arith) in
-    let d : DueDone (before.held row.program) (before.held row.script) whole.outcome = due_done (before.held row.program) (before.held row.script) whole.outcome whole.is_due (sym whole.status_is) in
+    let whole : IsWhole (due_for row before) 0 before.out.taken now.out.taken (now.files.held row.image) = w.whole (omega arith) in
+    let d : DueDone (before.files.held row.program) (before.files.held row.script) whole.outcome = due_done (before.files.held row.program) (before.files.held row.script) whole.outcome whole.is_due (sym whole.status_is) in
     let keeps : IsPutProg d.program = d.written.formed.kept in
     record {
       text = d.text;
@@ -75,8 +75,8 @@ is_done ends faithful bound row before now w =
       script_held = d.script_held;
       end_tick = d.end_tick;
       script_written = ends d.script d.end_tick (within_limit (nat_le (length d.script) longest_script) (end_of d.script) d.end_tick d.script_written);
-      stored = subst (λ (o : Outcome). Stores o.image (now.held row.image)) d.is whole.image;
-      put = subst (λ (o : Outcome). Appends before.taken now.taken o.text) d.is whole.put;
+      stored = subst (λ (o : Outcome). Stores o.image (now.files.held row.image)) d.is whole.image;
+      put = subst (λ (o : Outcome). Appends before.out.taken now.out.taken o.text) d.is whole.put;
       faithful = λ other within. faithful d.program other keeps d.in_time;
     }
 

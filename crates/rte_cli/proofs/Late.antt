@@ -1,14 +1,14 @@
 -- A program text is refused for time exactly where its recurrence has no solution.
-use Rattle.std.proofs.Common.{◌≡◌, ◌≤◌, ◌<◌, ℕ, List, Option, Some, None, Bool, true, false, ap, sym, subst, ◌∙◌, refl, arith}
-use Rattle.std.specs.Prelude.{◌↔◌, cond, nat_le, length, IfSome}
+use Rattle.std.proofs.Common.{◌≡◌, ◌<◌, ℕ, List, Option, Some, None, Bool, true, false, ap, sym, subst, ◌∙◌, refl, arith}
+use Rattle.std.specs.Prelude.{◌↔◌, IfSome}
 use Rattle.std.specs.Bool.{OnTrue}
 use Rattle.rte_form.specs.Target.{cost_of}
 use Rattle.rte_form.specs.WellFormed.{IsPutProg, IsTimely}
 use Rattle.rte_puts.specs.Recurrence.{tasks_of}
 use Rattle.rte_response.specs.Demand.{IsBound, Solves}
 use Rattle.rte_source_meaning.specs.Puts.{PutProg}
-use Rattle.rte_cli.specs.Answers.{IsWhole, Outside, due_for, Went}
-use Rattle.rte_accept.specs.Accept.{IsProgramText}
+use Rattle.rte_io.specs.Outside.{Outside}
+use Rattle.rte_cli.specs.Answers.{IsWhole, due_for, Went}
 use Rattle.rte_cli.specs.Due.{Outcome, end_in, bad_script, done, due_by_end, IsDueByScript, IsDue, source_fault, no_form, untimely, timely}
 use Rattle.rte_cli.specs.Headline.{IsUnsolved}
 use Rattle.rte_cli.specs.Words.{Row}
@@ -53,17 +53,17 @@ unsolved_late laws p s o is u =
     let not_timely : ¬ IsTimely u.program = λ in_time. u.unsolved (cost_of u.program.puts) (laws.bound u.program u.written.formed.kept in_time).solves in
     ap (λ (x : Outcome). x.status) (due_late laws.texts u.text u.program s o u.written not_timely (subst (λ (h : Option (List ℕ)). IsDue h s o) u.is_held is))
 
-exactly : Laws → (row : Row) (before now : Outside) (status : ℕ) → Went true row before now status → status < 6 → (status ≡ 3) ↔ IsUnsolved (before.held row.program)
+exactly : Laws → (row : Row) (before now : Outside) (status : ℕ) → Went true row before now status → status < 6 → (status ≡ 3) ↔ IsUnsolved (before.files.held row.program)
 exactly laws row before now status w below =
-    let whole : IsWhole (due_for row before) status before.taken now.taken (now.held row.image) = w.whole below in (
-      λ three. late_unsolved laws (before.held row.program) (before.held row.script) whole.outcome whole.is_due (sym whole.status_is ∙ three),
-      λ u. whole.status_is ∙ unsolved_late laws (before.held row.program) (before.held row.script) whole.outcome whole.is_due u,
+    let whole : IsWhole (due_for row before) status before.out.taken now.out.taken (now.files.held row.image) = w.whole below in (
+      λ three. late_unsolved laws (before.files.held row.program) (before.files.held row.script) whole.outcome whole.is_due (sym whole.status_is ∙ three),
+      λ u. whole.status_is ∙ unsolved_late laws (before.files.held row.program) (before.files.held row.script) whole.outcome whole.is_due u,
     )
 
 pub refused_for_time : TextLaws → ((f : PutProg) → IsPutProg f → IsTimely f → IsBound (tasks_of f) 0 (cost_of f.puts))
     → ((f : PutProg) (r : ℕ) → IsPutProg f → Solves (tasks_of f) 0 r → IsTimely f)
     → (tells : Bool) (row : Option Row) (before now : Outside) (status : ℕ) → IfSome row (λ r. Went tells r before now status)
-    → IfSome row (λ r. OnTrue tells (status < 6 → (status ≡ 3) ↔ IsUnsolved (before.held r.program)))
+    → IfSome row (λ r. OnTrue tells (status < 6 → (status ≡ 3) ↔ IsUnsolved (before.files.held r.program)))
 refused_for_time texts bound solved true (Some row) before now status w = exactly (record { texts = texts; bound = bound; timely = solved }) row before now status w
 refused_for_time texts bound solved false (Some row) before now status w = tt
 refused_for_time texts bound solved tells None before now status w = tt

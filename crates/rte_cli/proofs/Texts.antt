@@ -1,5 +1,5 @@
 -- A text comes to one thing.
-use Rattle.std.proofs.Common.{◌≡◌, ℕ, List, Option, Some, None, sym, subst, ap, ◌∙◌, refl, arith}
+use Rattle.std.proofs.Common.{◌≡◌, ℕ, List, Option, Some, sym, subst, ap, ◌∙◌, refl, arith}
 use Rattle.rte_tree.specs.declared.place.Place.{Place}
 use Rattle.rte_program.specs.Source.{start}
 use Rattle.rte_program.specs.Program.{IsProgramFault}
@@ -7,7 +7,7 @@ use Rattle.rte_form.specs.WellFormed.{IsTimely}
 use Rattle.rte_source_meaning.specs.Puts.{PutProg}
 use Rattle.rte_accept.specs.Accept.{IsProgramText, IsFormless, IsTextFault, of_source, of_form}
 use Rattle.rte_accept.specs.Laws.{HasOneProgram, HasProgramOrFault}
-use Rattle.rte_cli.specs.Due.{Outcome, refused, late, due_by_script, IsDueByScript, IsDue, source_fault, no_form, untimely, timely}
+use Rattle.rte_cli.specs.Due.{Outcome, refused, late, IsDueByScript, IsDue, source_fault, no_form, untimely, timely}
 
 pub record TextLaws : Type 0 where
   pub one : HasOneProgram

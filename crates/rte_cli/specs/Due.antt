@@ -4,7 +4,7 @@ use Rattle.rte_form.specs.Report.{report_of}
 use Rattle.rte_form.specs.Script.{end_of}
 use Rattle.rte_form.specs.Target.{names_of, image_of, named_image_of, until}
 use Rattle.rte_form.specs.WellFormed.{IsTimely}
-use Rattle.rte_image.specs.Bytes.{bytes_of}
+use Rattle.rte_image.specs.Bytes.{Second, bytes_of}
 use Rattle.rte_log.specs.Line.{log_of}
 use Rattle.rte_program.specs.Source.{start}
 use Rattle.rte_program.specs.Program.{IsProgramFault}
@@ -50,7 +50,7 @@ log_text f end_tick = log_of (names_of f) (events (image_of f) (until end_tick))
 
 -- the report and the log, and the image of the program
 abbrev pub done : PutProg → ℕ → Outcome
-done f end_tick = record { status = 0; text = report_of f ++ log_text f end_tick; image = Some (bytes_of (named_image_of f)) }
+done f end_tick = record { status = 0; text = report_of f ++ log_text f end_tick; image = Some (bytes_of Second (named_image_of f)) }
 
 -- for a timely program and what is in the script
 abbrev pub due_by_end : PutProg → List ℕ → Option ℕ → Outcome

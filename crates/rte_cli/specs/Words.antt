@@ -1,5 +1,5 @@
 -- Which words are a command, and which files they name.
-use Rattle.std.specs.Prelude.{◌≡◌, ℕ, Bool, false, not, ◌==◌, ◌&&◌, List, [], ◌∷◌, Option, Some, None, if◌then◌else◌, String, string_bytes, codes}
+use Rattle.std.specs.Prelude.{◌≡◌, ℕ, Bool, false, not, ◌==◌, ◌&&◌, List, [], ◌∷◌, Option, Some, None, if◌then◌else◌, IsSomeAnd, String, string_bytes, codes}
 use Rattle.std.specs.Global.{Global}
 use Rattle.std.specs.Str.{bytes_eq}
 
@@ -47,3 +47,7 @@ pub record IsNoCommand (words : List (String Global)) : Type 0 where
   pub no_row : row_of words ≡ None
   pub no_check : check_of words ≡ None
   pub no_print : print_of words ≡ None
+
+-- a name that a call of the words may write: that of the image
+abbrev pub Writes : List (String Global) → List ℕ → Type 0
+Writes words name = IsSomeAnd (row_of words) (λ row. name ≡ row.image)

@@ -1,11 +1,11 @@
 //! The top call.
 
-ghost use Rattle.std.specs.Prelude.{◌≡◌, ◌<◌, ◌↔◌, IfSome};
+ghost use Rattle.std.specs.Prelude.{◌≡◌, ◌≢◌, ◌<◌, ◌⊎◌, ◌↔◌, ℕ, List, IfSome};
 ghost use Rattle.std.specs.Bool.{OnTrue};
-ghost use Rattle.rte_inspect.specs.Inspect.{Inspects, IsCheckDue, IsPrintDue};
-ghost use Rattle.rte_cli.specs.Answers.{Went, Completes, IsUsage};
+ghost use Rattle.rte_io.specs.Outside.{outside, AllStay};
+ghost use Rattle.rte_cli.specs.Answers.{Carried};
 ghost use Rattle.rte_cli.specs.Headline.{IsDone, IsUnsolved};
-ghost use Rattle.rte_cli.specs.Words.{row_of, check_of, print_of, IsNoCommand};
+ghost use Rattle.rte_cli.specs.Words.{Writes, row_of, check_of};
 
 use crate::command::carry_out;
 use rte_accept::one_program;
@@ -29,41 +29,30 @@ use std::alloc::Global;
 /// its faults, its time, reading S, its faults, storing I, the report, the log; `check` puts the
 /// report before it asks for the time.
 pub fn rte<F: Files, O: Sink>(alloc: Global, words: &[String], files: &mut F, out: &mut O) -> u8
-    // A call of a row went as is due, by what the files hold.
-    ensures row { IfSome (row_of words.now) (λ row. Went F.tells row
-        (record { held = F.held files.old; read_faults = F.read_faults files.old; write_faults = F.write_faults files.old; taken = O.taken out.old; put_faults = O.faults out.old })
-        (record { held = F.held files.new; read_faults = F.read_faults files.new; write_faults = F.write_faults files.new; taken = O.taken out.new; put_faults = O.faults out.new })
-        result) }
-    // Without a fault, all that is due is done, or memory was missing.
-    ensures complete { IfSome (row_of words.now) (λ row. OnTrue F.tells (Completes row
-        (record { held = F.held files.old; read_faults = F.read_faults files.old; write_faults = F.write_faults files.old; taken = O.taken out.old; put_faults = O.faults out.old })
-        (record { held = F.held files.new; read_faults = F.read_faults files.new; write_faults = F.write_faults files.new; taken = O.taken out.new; put_faults = O.faults out.new })
-        result)) }
-    // `check` tells what is due of its file, and `print` of its.
-    ensures check { IfSome (check_of words.now) (λ name. Inspects F.tells IsCheckDue name
-        (record { held = F.held files.old; read_faults = F.read_faults files.old; taken = O.taken out.old; put_faults = O.faults out.old })
-        (record { held = F.held files.new; read_faults = F.read_faults files.new; taken = O.taken out.new; put_faults = O.faults out.new })
-        result) }
-    ensures print { IfSome (print_of words.now) (λ name. Inspects F.tells IsPrintDue name
-        (record { held = F.held files.old; read_faults = F.read_faults files.old; taken = O.taken out.old; put_faults = O.faults out.old })
-        (record { held = F.held files.new; read_faults = F.read_faults files.new; taken = O.taken out.new; put_faults = O.faults out.new })
-        result) }
-    // All other words are refused.
-    ensures usage { IsNoCommand words.now → IsUsage
-        (record { held = F.held files.old; read_faults = F.read_faults files.old; write_faults = F.write_faults files.old; taken = O.taken out.old; put_faults = O.faults out.old })
-        (record { held = F.held files.new; read_faults = F.read_faults files.new; write_faults = F.write_faults files.new; taken = O.taken out.new; put_faults = O.faults out.new })
-        result }
+    // A row went as is due, `check` and `print` told what is due, other words are refused.
+    ensures carried { Carried F.tells words.now
+        (outside (F.state files.old) (O.state out.old))
+        (outside (F.state files.new) (O.state out.new)) result }
+    // With every status but 0 and 7 no file has changed, and with these none but the image.
+    ensures kept { 0 < result → result ≢ 7 → AllStay (F.state files.old).held (F.state files.new).held }
+    ensures others { (name : List ℕ) → ¬ Writes words.now name →
+        (F.state files.new).held name ≡ (F.state files.old).held name }
+    // So once a file has changed, the status is 0 or 7.
+    ensures stored { (name : List ℕ) →
+        (F.state files.new).held name ≢ (F.state files.old).held name → (result ≡ 0) ⊎ (result ≡ 7) }
+    // A failed put always gives 7.
+    ensures quiet { result ≢ 7 → (O.state out.new).faults ≡ (O.state out.old).faults }
     // Status 0: the text is a timely program text and the script one, what is stored is the image of
     // the program, what was put is its report and the log of that image over the script; and over
     // every script, that log is a run of the program, in time, within its sizes, never stuck.
     ensures done { IfSome (row_of words.now) (λ row. OnTrue F.tells (result ≡ 0 → IsDone row
-        (record { held = F.held files.old; read_faults = F.read_faults files.old; write_faults = F.write_faults files.old; taken = O.taken out.old; put_faults = O.faults out.old })
-        (record { held = F.held files.new; read_faults = F.read_faults files.new; write_faults = F.write_faults files.new; taken = O.taken out.new; put_faults = O.faults out.new }))) }
-    // Status 3 comes exactly where the recurrence of the program has no solution within its frame.
+        (outside (F.state files.old) (O.state out.old))
+        (outside (F.state files.new) (O.state out.new)))) }
+    // Status 3 comes exactly where the recurrence of the program has no solution within its deadline.
     ensures untimely { IfSome (check_of words.now) (λ name. OnTrue F.tells (result < 6 →
-        (result ≡ 3) ↔ IsUnsolved (F.held files.old name))) }
+        (result ≡ 3) ↔ IsUnsolved ((F.state files.old).held name))) }
     ensures late { IfSome (row_of words.now) (λ row. OnTrue F.tells (result < 6 →
-        (result ≡ 3) ↔ IsUnsolved (F.held files.old row.program))) }
+        (result ≡ 3) ↔ IsUnsolved ((F.state files.old).held row.program))) }
 {
     one_program();
     ends_are_written();

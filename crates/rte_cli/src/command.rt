@@ -1,10 +1,11 @@
 //! The call, from its words to its status.
 
-ghost use Rattle.std.specs.Prelude.{◌≡◌, IfSome};
+ghost use Rattle.std.specs.Prelude.{◌≡◌, ◌≢◌, ◌<◌, ℕ, List, IfSome};
 ghost use Rattle.std.specs.Bool.{OnTrue};
-ghost use Rattle.rte_inspect.specs.Inspect.{Inspects, IsCheckDue, IsPrintDue};
+ghost use Rattle.rte_io.specs.Outside.{outside, AllStay};
+ghost use Rattle.rte_inspect.specs.Inspect.{Inspects, Finishes, IsCheckDue, IsPrintDue};
 ghost use Rattle.rte_cli.specs.Answers.{Went, Completes, IsUsage};
-ghost use Rattle.rte_cli.specs.Words.{row_of, check_of, print_of, IsNoCommand};
+ghost use Rattle.rte_cli.specs.Words.{Writes, row_of, check_of, print_of, IsNoCommand};
 
 use crate::go::go_row;
 use crate::words::{name, row};
@@ -20,30 +21,31 @@ pub fn carry_out<F: Files, O: Sink>(
     files: &mut F,
     out: &mut O,
 ) -> u8
-    // A call of a row went as is due, by what the files hold.
     ensures row { IfSome (row_of words.now) (λ row. Went F.tells row
-        (record { held = F.held files.old; read_faults = F.read_faults files.old; write_faults = F.write_faults files.old; taken = O.taken out.old; put_faults = O.faults out.old })
-        (record { held = F.held files.new; read_faults = F.read_faults files.new; write_faults = F.write_faults files.new; taken = O.taken out.new; put_faults = O.faults out.new })
-        result) }
-    // Without a fault, all that is due is done, or memory was missing.
+        (outside (F.state files.old) (O.state out.old))
+        (outside (F.state files.new) (O.state out.new)) result) }
     ensures complete { IfSome (row_of words.now) (λ row. OnTrue F.tells (Completes row
-        (record { held = F.held files.old; read_faults = F.read_faults files.old; write_faults = F.write_faults files.old; taken = O.taken out.old; put_faults = O.faults out.old })
-        (record { held = F.held files.new; read_faults = F.read_faults files.new; write_faults = F.write_faults files.new; taken = O.taken out.new; put_faults = O.faults out.new })
-        result)) }
-    // `check` tells what is due of its file, and `print` of its.
+        (outside (F.state files.old) (O.state out.old))
+        (outside (F.state files.new) (O.state out.new)) result)) }
     ensures check { IfSome (check_of words.now) (λ name. Inspects F.tells IsCheckDue name
-        (record { held = F.held files.old; read_faults = F.read_faults files.old; taken = O.taken out.old; put_faults = O.faults out.old })
-        (record { held = F.held files.new; read_faults = F.read_faults files.new; taken = O.taken out.new; put_faults = O.faults out.new })
-        result) }
+        (outside (F.state files.old) (O.state out.old))
+        (outside (F.state files.new) (O.state out.new)) result) }
+    ensures check_whole { IfSome (check_of words.now) (λ name. OnTrue F.tells (Finishes IsCheckDue name
+        (outside (F.state files.old) (O.state out.old))
+        (outside (F.state files.new) (O.state out.new)) result)) }
     ensures print { IfSome (print_of words.now) (λ name. Inspects F.tells IsPrintDue name
-        (record { held = F.held files.old; read_faults = F.read_faults files.old; taken = O.taken out.old; put_faults = O.faults out.old })
-        (record { held = F.held files.new; read_faults = F.read_faults files.new; taken = O.taken out.new; put_faults = O.faults out.new })
-        result) }
-    // All other words are refused.
+        (outside (F.state files.old) (O.state out.old))
+        (outside (F.state files.new) (O.state out.new)) result) }
+    ensures print_whole { IfSome (print_of words.now) (λ name. OnTrue F.tells (Finishes IsPrintDue name
+        (outside (F.state files.old) (O.state out.old))
+        (outside (F.state files.new) (O.state out.new)) result)) }
     ensures usage { IsNoCommand words.now → IsUsage
-        (record { held = F.held files.old; read_faults = F.read_faults files.old; write_faults = F.write_faults files.old; taken = O.taken out.old; put_faults = O.faults out.old })
-        (record { held = F.held files.new; read_faults = F.read_faults files.new; write_faults = F.write_faults files.new; taken = O.taken out.new; put_faults = O.faults out.new })
-        result }
+        (outside (F.state files.old) (O.state out.old))
+        (outside (F.state files.new) (O.state out.new)) result }
+    ensures kept { 0 < result → result ≢ 7 → AllStay (F.state files.old).held (F.state files.new).held }
+    ensures others { (name : List ℕ) → ¬ Writes words.now name →
+        (F.state files.new).held name ≡ (F.state files.old).held name }
+    ensures quiet { result ≢ 7 → (O.state out.new).faults ≡ (O.state out.old).faults }
 {
     one_program();
     if let Some(row) = row(words) {

@@ -2,7 +2,7 @@
 
 ghost use Rattle.std.specs.Prelude.{◌≡◌, ◌≢◌, ◌≤◌, ◌<◌, ◌⊎◌, ℕ, List, Some, None, IfSome, IfNone, IsSomeAnd, true, string_bytes};
 ghost use Rattle.std.specs.Bool.{OnTrue};
-ghost use Rattle.rte_io.specs.Outside.{Rose, AllStay, OthersStay, Appends, AppendsFront};
+ghost use Rattle.rte_io.specs.Outside.{outside, Rose, AllStay, OthersStay, Appends, AppendsFront};
 ghost use Rattle.rte_cli.specs.Due.{IsDueByScript, IsDue, ReachesScript};
 ghost use Rattle.rte_cli.specs.Answers.{IsWhole, IsCut, NothingStored, Went, Completes, IsUsage};
 ghost use Rattle.rte_cli.specs.Words.{row_of, is_command, is_file_name};
@@ -31,14 +31,15 @@ fn with_program<F: Files, O: Sink>(
     requires bound { Some bound ≡ bound_in (program_of form.now) }
     ensures row { result ≢ 1 }
     ensures range { result ≤ 8 }
-    ensures whole { OnTrue F.tells (result < 6 → IsWhole (IsDueByScript (program_of form.now) (F.held files.old script.now)) result (O.taken out.old) (O.taken out.new) (F.held files.new image.now)) }
-    ensures cut { OnTrue F.tells (result ≡ 7 → IsCut (IsDueByScript (program_of form.now) (F.held files.old script.now)) (O.taken out.old) (O.taken out.new) (F.held files.new image.now) (F.write_faults files.old image.now) (F.write_faults files.new image.now) (O.faults out.old) (O.faults out.new)) }
-    ensures read_fault { result ≡ 6 → Rose (F.read_faults files.old script.now) (F.read_faults files.new script.now) }
-    ensures write_fault { result ≡ 7 → Rose (F.write_faults files.old image.now) (F.write_faults files.new image.now) ⊎ Rose (O.faults out.old) (O.faults out.new) }
-    ensures nothing { (result ≡ 6) ⊎ (result ≡ 8) → O.taken out.new ≡ O.taken out.old }
-    ensures others { OthersStay (F.held files.old) (F.held files.new) image.now }
-    ensures stays { 0 < result → result ≢ 7 → AllStay (F.held files.old) (F.held files.new) }
-    ensures refused { OnTrue F.tells (NothingStored (IsDueByScript (program_of form.now) (F.held files.old script.now)) (F.held files.old) (F.held files.new)) }
+    ensures whole { OnTrue F.tells (result < 6 → IsWhole (IsDueByScript (program_of form.now) ((F.state files.old).held script.now)) result (O.state out.old).taken (O.state out.new).taken ((F.state files.new).held image.now)) }
+    ensures cut { OnTrue F.tells (result ≡ 7 → IsCut (IsDueByScript (program_of form.now) ((F.state files.old).held script.now)) (O.state out.old).taken (O.state out.new).taken ((F.state files.new).held image.now) ((F.state files.old).write_faults image.now) ((F.state files.new).write_faults image.now) (O.state out.old).faults (O.state out.new).faults) }
+    ensures read_fault { result ≡ 6 → Rose ((F.state files.old).read_faults script.now) ((F.state files.new).read_faults script.now) }
+    ensures write_fault { result ≡ 7 → Rose ((F.state files.old).write_faults image.now) ((F.state files.new).write_faults image.now) ⊎ Rose (O.state out.old).faults (O.state out.new).faults }
+    ensures nothing { (result ≡ 6) ⊎ (result ≡ 8) → (O.state out.new).taken ≡ (O.state out.old).taken }
+    ensures quiet { result ≢ 7 → (O.state out.new).faults ≡ (O.state out.old).faults }
+    ensures others { OthersStay (F.state files.old).held (F.state files.new).held image.now }
+    ensures stays { 0 < result → result ≢ 7 → AllStay (F.state files.old).held (F.state files.new).held }
+    ensures refused { OnTrue F.tells (NothingStored (IsDueByScript (program_of form.now) ((F.state files.old).held script.now)) (F.state files.old).held (F.state files.new).held) }
 {
     match read_script(files, script) {
         Ok(Some(end)) => run_program(alloc, image, form, bound, end, files, out),
@@ -54,10 +55,11 @@ fn refuse<O: Sink>(alloc: Global, form: &Form, out: &mut O) -> u8
     requires keeps { IsPutProg (program_of form.now) }
     requires bound { None ≡ bound_in (program_of form.now) }
     ensures range { (result ≡ 3) ⊎ ((result ≡ 7) ⊎ (result ≡ 8)) }
-    ensures whole { result < 6 → (result ≡ 3) × Appends (O.taken out.old) (O.taken out.new) (report_of (program_of form.now)) }
-    ensures front { result ≡ 7 → AppendsFront (O.taken out.old) (O.taken out.new) (report_of (program_of form.now)) }
-    ensures failed { result ≡ 7 → Rose (O.faults out.old) (O.faults out.new) }
-    ensures nothing { result ≡ 8 → O.taken out.new ≡ O.taken out.old }
+    ensures whole { result < 6 → (result ≡ 3) × Appends (O.state out.old).taken (O.state out.new).taken (report_of (program_of form.now)) }
+    ensures front { result ≡ 7 → AppendsFront (O.state out.old).taken (O.state out.new).taken (report_of (program_of form.now)) }
+    ensures failed { result ≡ 7 → Rose (O.state out.old).faults (O.state out.new).faults }
+    ensures nothing { result ≡ 8 → (O.state out.new).taken ≡ (O.state out.old).taken }
+    ensures quiet { result ≢ 7 → (O.state out.new).faults ≡ (O.state out.old).faults }
 {
     match report(alloc, form, None) {
         Ok(text) => put(out, text.as_bytes(), 3),
@@ -76,15 +78,16 @@ fn go<F: Files, O: Sink>(
 ) -> u8
     ensures row { result ≢ 1 }
     ensures range { result ≤ 8 }
-    ensures whole { OnTrue F.tells (result < 6 → IsWhole (IsDue (F.held files.old program.now) (F.held files.old script.now)) result (O.taken out.old) (O.taken out.new) (F.held files.new image.now)) }
-    ensures cut { OnTrue F.tells (result ≡ 7 → IsCut (IsDue (F.held files.old program.now) (F.held files.old script.now)) (O.taken out.old) (O.taken out.new) (F.held files.new image.now) (F.write_faults files.old image.now) (F.write_faults files.new image.now) (O.faults out.old) (O.faults out.new)) }
-    ensures read_fault { result ≡ 6 → Rose (F.read_faults files.old program.now) (F.read_faults files.new program.now) ⊎ Rose (F.read_faults files.old script.now) (F.read_faults files.new script.now) }
-    ensures read_order { OnTrue F.tells (result ≡ 6 → Rose (F.read_faults files.old program.now) (F.read_faults files.new program.now) ⊎ ReachesScript (F.held files.old program.now)) }
-    ensures write_fault { result ≡ 7 → Rose (F.write_faults files.old image.now) (F.write_faults files.new image.now) ⊎ Rose (O.faults out.old) (O.faults out.new) }
-    ensures nothing { (result ≡ 6) ⊎ (result ≡ 8) → O.taken out.new ≡ O.taken out.old }
-    ensures others { OthersStay (F.held files.old) (F.held files.new) image.now }
-    ensures stays { 0 < result → result < 7 → AllStay (F.held files.old) (F.held files.new) }
-    ensures refused { OnTrue F.tells (NothingStored (IsDue (F.held files.old program.now) (F.held files.old script.now)) (F.held files.old) (F.held files.new)) }
+    ensures whole { OnTrue F.tells (result < 6 → IsWhole (IsDue ((F.state files.old).held program.now) ((F.state files.old).held script.now)) result (O.state out.old).taken (O.state out.new).taken ((F.state files.new).held image.now)) }
+    ensures cut { OnTrue F.tells (result ≡ 7 → IsCut (IsDue ((F.state files.old).held program.now) ((F.state files.old).held script.now)) (O.state out.old).taken (O.state out.new).taken ((F.state files.new).held image.now) ((F.state files.old).write_faults image.now) ((F.state files.new).write_faults image.now) (O.state out.old).faults (O.state out.new).faults) }
+    ensures read_fault { result ≡ 6 → Rose ((F.state files.old).read_faults program.now) ((F.state files.new).read_faults program.now) ⊎ Rose ((F.state files.old).read_faults script.now) ((F.state files.new).read_faults script.now) }
+    ensures read_order { OnTrue F.tells (result ≡ 6 → Rose ((F.state files.old).read_faults program.now) ((F.state files.new).read_faults program.now) ⊎ ReachesScript ((F.state files.old).held program.now)) }
+    ensures write_fault { result ≡ 7 → Rose ((F.state files.old).write_faults image.now) ((F.state files.new).write_faults image.now) ⊎ Rose (O.state out.old).faults (O.state out.new).faults }
+    ensures nothing { (result ≡ 6) ⊎ (result ≡ 8) → (O.state out.new).taken ≡ (O.state out.old).taken }
+    ensures quiet { result ≢ 7 → (O.state out.new).faults ≡ (O.state out.old).faults }
+    ensures others { OthersStay (F.state files.old).held (F.state files.new).held image.now }
+    ensures stays { 0 < result → result ≢ 7 → AllStay (F.state files.old).held (F.state files.new).held }
+    ensures refused { OnTrue F.tells (NothingStored (IsDue ((F.state files.old).held program.now) ((F.state files.old).held script.now)) (F.state files.old).held (F.state files.new).held) }
 {
     one_program();
     match read_program(alloc, files, program) {
@@ -109,8 +112,8 @@ pub fn go_row<F: Files, O: Sink>(
     out: &mut O,
 ) -> u8
     ensures { Went F.tells (record { program = program.now; image = image.now; script = script.now })
-        (record { held = F.held files.old; read_faults = F.read_faults files.old; write_faults = F.write_faults files.old; taken = O.taken out.old; put_faults = O.faults out.old })
-        (record { held = F.held files.new; read_faults = F.read_faults files.new; write_faults = F.write_faults files.new; taken = O.taken out.new; put_faults = O.faults out.new })
+        (outside (F.state files.old) (O.state out.old))
+        (outside (F.state files.new) (O.state out.new))
         result }
 {
     go(alloc, program, image, script, files, out)

@@ -11,6 +11,11 @@ mod command;
 mod go;
 mod run;
 mod steps;
+mod system;
 mod words;
 
 pub use call::rte;
+pub use system::system_words;
+
+/// The status for want of memory.
+pub const MEMORY: u8 = 8;

@@ -9,7 +9,7 @@ ghost use Rattle.rte_form.specs.Form.{program_of};
 ghost use Rattle.rte_form.specs.Target.{named_image_of};
 ghost use Rattle.rte_form.specs.WellFormed.{IsPutProg};
 ghost use Rattle.rte_form.specs.Report.{bound_in};
-ghost use Rattle.rte_image.specs.Bytes.{bytes_of};
+ghost use Rattle.rte_image.specs.Bytes.{Second, bytes_of};
 ghost use Rattle.rte_machine.specs.Standing.{IsOf, log_to};
 
 use rte_accept::put;
@@ -28,9 +28,10 @@ fn tell<O: Sink>(
 ) -> u8
     requires { IsOf image.now.image script.now machine.old }
     ensures range { (result ≡ 0) ⊎ (result ≡ 7) }
-    ensures whole { result ≡ 0 → Appends (O.taken out.old) (O.taken out.new) (report.now ++ log_to image.now script.now machine.old) }
-    ensures cut { result ≡ 7 → AppendsFront (O.taken out.old) (O.taken out.new) (report.now ++ log_to image.now script.now machine.old) }
-    ensures failed { result ≡ 7 → Rose (O.faults out.old) (O.faults out.new) }
+    ensures whole { result ≡ 0 → Appends (O.state out.old).taken (O.state out.new).taken (report.now ++ log_to image.now script.now machine.old) }
+    ensures cut { result ≡ 7 → AppendsFront (O.state out.old).taken (O.state out.new).taken (report.now ++ log_to image.now script.now machine.old) }
+    ensures failed { result ≡ 7 → Rose (O.state out.old).faults (O.state out.new).faults }
+    ensures quiet { result ≢ 7 → (O.state out.new).faults ≡ (O.state out.old).faults }
 {
     let status = put(out, report, 0);
     if status == 7 {
@@ -55,13 +56,14 @@ fn store<F: Files, O: Sink>(
 ) -> u8
     requires { IsOf image.now.image script.now machine.old }
     ensures range { (result ≡ 0) ⊎ ((result ≡ 7) ⊎ (result ≡ 8)) }
-    ensures whole { result ≡ 0 → Appends (O.taken out.old) (O.taken out.new) (report.now ++ log_to image.now script.now machine.old) }
-    ensures stored { result ≡ 0 → OnTrue F.tells (F.held files.new name.now ≡ Some bytes.now) }
-    ensures cut { result ≡ 7 → AppendsFront (O.taken out.old) (O.taken out.new) (report.now ++ log_to image.now script.now machine.old) }
-    ensures cause { result ≡ 7 → StoreFailed F.tells (F.write_faults files.old name.now) (F.write_faults files.new name.now) (O.taken out.old) (O.taken out.new) (O.faults out.old) (O.faults out.new) (F.held files.new name.now) bytes.now }
-    ensures nothing { result ≡ 8 → O.taken out.new ≡ O.taken out.old }
-    ensures others { OthersStay (F.held files.old) (F.held files.new) name.now }
-    ensures kept { result ≡ 8 → AllStay (F.held files.old) (F.held files.new) }
+    ensures whole { result ≡ 0 → Appends (O.state out.old).taken (O.state out.new).taken (report.now ++ log_to image.now script.now machine.old) }
+    ensures stored { result ≡ 0 → OnTrue F.tells ((F.state files.new).held name.now ≡ Some bytes.now) }
+    ensures cut { result ≡ 7 → AppendsFront (O.state out.old).taken (O.state out.new).taken (report.now ++ log_to image.now script.now machine.old) }
+    ensures cause { result ≡ 7 → StoreFailed F.tells ((F.state files.old).write_faults name.now) ((F.state files.new).write_faults name.now) (O.state out.old).taken (O.state out.new).taken (O.state out.old).faults (O.state out.new).faults ((F.state files.new).held name.now) bytes.now }
+    ensures nothing { result ≡ 8 → (O.state out.new).taken ≡ (O.state out.old).taken }
+    ensures quiet { result ≢ 7 → (O.state out.new).faults ≡ (O.state out.old).faults }
+    ensures others { OthersStay (F.state files.old).held (F.state files.new).held name.now }
+    ensures kept { result ≡ 8 → AllStay (F.state files.old).held (F.state files.new).held }
 {
     match files.write(name, bytes) {
         Ok(()) => tell(report, image, script, machine, out),
@@ -84,13 +86,14 @@ pub fn run_program<F: Files, O: Sink>(
     requires bound { Some bound ≡ bound_in (program_of form.now) }
     requires within { end ≤ 1000000000 }
     ensures range { (result ≡ 0) ⊎ ((result ≡ 7) ⊎ (result ≡ 8)) }
-    ensures whole { result ≡ 0 → Appends (O.taken out.old) (O.taken out.new) (done (program_of form.now) end).text }
-    ensures stored { result ≡ 0 → OnTrue F.tells (F.held files.new name.now ≡ Some (bytes_of (named_image_of (program_of form.now)))) }
-    ensures cut { result ≡ 7 → AppendsFront (O.taken out.old) (O.taken out.new) (done (program_of form.now) end).text }
-    ensures cause { result ≡ 7 → StoreFailed F.tells (F.write_faults files.old name.now) (F.write_faults files.new name.now) (O.taken out.old) (O.taken out.new) (O.faults out.old) (O.faults out.new) (F.held files.new name.now) (bytes_of (named_image_of (program_of form.now))) }
-    ensures nothing { result ≡ 8 → O.taken out.new ≡ O.taken out.old }
-    ensures others { OthersStay (F.held files.old) (F.held files.new) name.now }
-    ensures kept { result ≡ 8 → AllStay (F.held files.old) (F.held files.new) }
+    ensures whole { result ≡ 0 → Appends (O.state out.old).taken (O.state out.new).taken (done (program_of form.now) end).text }
+    ensures stored { result ≡ 0 → OnTrue F.tells ((F.state files.new).held name.now ≡ Some (bytes_of Second (named_image_of (program_of form.now)))) }
+    ensures cut { result ≡ 7 → AppendsFront (O.state out.old).taken (O.state out.new).taken (done (program_of form.now) end).text }
+    ensures cause { result ≡ 7 → StoreFailed F.tells ((F.state files.old).write_faults name.now) ((F.state files.new).write_faults name.now) (O.state out.old).taken (O.state out.new).taken (O.state out.old).faults (O.state out.new).faults ((F.state files.new).held name.now) (bytes_of Second (named_image_of (program_of form.now))) }
+    ensures nothing { result ≡ 8 → (O.state out.new).taken ≡ (O.state out.old).taken }
+    ensures quiet { result ≢ 7 → (O.state out.new).faults ≡ (O.state out.old).faults }
+    ensures others { OthersStay (F.state files.old).held (F.state files.new).held name.now }
+    ensures kept { result ≡ 8 → AllStay (F.state files.old).held (F.state files.new).held }
 {
     let text = match report(alloc, form, Some(bound)) {
         Ok(text) => text,

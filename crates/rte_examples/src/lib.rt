@@ -2,4 +2,10 @@
 #![tactic(auto)]
 
 #[cfg(test)]
-mod tests;
+mod call;
+#[cfg(test)]
+mod commands;
+#[cfg(test)]
+mod runs;
+#[cfg(test)]
+mod texts;

@@ -1,23 +1,47 @@
 -- What each way through a command says of what is due.
-use Rattle.std.proofs.Common.{◌≡◌, ◌<◌, ◌≤◌, ℕ, List, Option, Some, None, Bool, true, false, ◌⊎◌, inl, inr, refl, sym, ◌∙◌, subst, arith, length}
+use Rattle.std.proofs.Common.{◌≡◌, ◌<◌, ◌≤◌, ℕ, List, Option, Some, None, Bool, true, false, ◌⊎◌, inl, inr, refl, arith}
 use Rattle.std.specs.Prelude.{IsSomeAnd}
 use Rattle.std.specs.Bool.{OnTrue}
+use Rattle.std.proofs.lemmas.Bool.{cases_lt, cases_eq}
 use Rattle.rte_tree.specs.declared.place.Place.{Place}
 use Rattle.rte_tree.specs.Placed.{Prog, bare}
 use Rattle.rte_lex.specs.declared.token.Token.{Token}
 use Rattle.rte_lex.specs.Tokens.{tokens}
 use Rattle.rte_source_meaning.specs.Puts.{PutProg}
-use Rattle.rte_io.specs.Outside.{Appends, AppendsFront}
+use Rattle.rte_io.specs.Outside.{Outside, Rose, Appends, AppendsFront}
 use Rattle.rte_form.specs.Report.{report_of}
 use Rattle.rte_form.specs.WellFormed.{IsTimely}
 use Rattle.rte_print.specs.Canonical.{canonical}
 use Rattle.rte_print.specs.ReadBack.{AreSpelled, HasTree, IsPrinted}
 use Rattle.rte_program.specs.Program.{IsProgramOf, IsProgramFault}
 use Rattle.rte_accept.specs.Accept.{IsProgramText, IsTextFault, fault_line}
-use Rattle.rte_inspect.specs.Inspect.{Told, refused, IsCheckDue, check_fault, check_timely, check_late, ReadsBack, IsPrintDue, print_fault, printed, IsToldWhole, IsToldInPart}
+use Rattle.rte_inspect.specs.Inspect.{Told, refused, IsCheckDue, check_fault, check_timely, check_late, ReadsBack, IsPrintDue, print_fault, printed, IsToldWhole, IsToldInPart, Finishes}
 
 abbrev Held : Type 0
 Held = Option (List ℕ)
+
+-- ---- without a fault of the outside
+
+-- a status of neither a read nor a put that failed
+told_or_short : (D : Type 0) (before now before' now' status : ℕ) → status ≤ 8 → (status < 6 → D) → (status ≡ 6 → Rose before now) → (status ≡ 7 → Rose before' now') → ¬ Rose before now → ¬ Rose before' now' → (status ≡ 8) ⊎ D
+told_or_short D before now before' now' status range whole read put no_read no_put =
+    elim (cases_lt status 6) [
+      | inl below ↦ inr (whole below)
+      | inr above ↦ elim (cases_eq status 6) [
+        | inl six ↦ absurd (no_read (read six))
+        | inr not6 ↦ elim (cases_eq status 7) [
+          | inl seven ↦ absurd (no_put (put seven))
+          | inr not7 ↦ inl (omega (arith, range))
+        ]
+      ]
+    ]
+
+pub finishes : (tells : Bool) (Due : List ℕ → Told → Type 0) (name : List ℕ) (before now : Outside) (status : ℕ) → status ≤ 8
+    → OnTrue tells (status < 6 → IsSomeAnd (before.files.held name) (IsToldWhole Due status before.out.taken now.out.taken))
+    → (status ≡ 6 → Rose (before.files.read_faults name) (now.files.read_faults name)) → (status ≡ 7 → Rose before.out.faults now.out.faults) → OnTrue tells (Finishes Due name before now status)
+finishes true Due name before now status range whole read put =
+    told_or_short (IsSomeAnd (before.files.held name) (IsToldWhole Due status before.out.taken now.out.taken)) (before.files.read_faults name) (now.files.read_faults name) before.out.faults now.out.faults status range whole read put
+finishes false Due name before now status range whole read put = tt
 
 -- ---- a fault
 

@@ -4,7 +4,7 @@ use Rattle.std.specs.Bool.{OnTrue}
 use Rattle.rte_tree.specs.declared.place.Place.{Place}
 use Rattle.rte_tree.specs.Placed.{Prog, bare}
 use Rattle.rte_source_meaning.specs.Puts.{PutProg}
-use Rattle.rte_io.specs.Outside.{Rose, AllStay, Appends, AppendsFront}
+use Rattle.rte_io.specs.Outside.{Outside, Rose, AllStay, Appends, AppendsFront}
 use Rattle.rte_form.specs.Report.{report_of}
 use Rattle.rte_form.specs.WellFormed.{IsTimely}
 use Rattle.rte_lex.specs.declared.token.Token.{Token}
@@ -50,27 +50,28 @@ pub record IsToldInPart (Due : List ℕ → Told → Type 0) (taken taken' : Opt
   pub due : Due text told
   pub put : AppendsFront taken taken' told.text
 
--- what the outside holds: by name the bytes and the counts of faults of reads, and of the sink the bytes taken and the count of
--- faults
-pub record Seen : Type 0 where
-  pub held : List ℕ → Option (List ℕ)
-  pub read_faults : List ℕ → ℕ
-  pub taken : Option (List ℕ)
-  pub put_faults : ℕ
-
 -- What a call of a command on the file of a name did, where `Due` says what is told of a text. What is said of bytes is said
 -- where the files tell theirs.
-pub record Inspects (tells : Bool) (Due : List ℕ → Told → Type 0) (name : List ℕ) (before now : Seen) (status : ℕ) : Type 0 where
+pub record Inspects (tells : Bool) (Due : List ℕ → Told → Type 0) (name : List ℕ) (before now : Outside) (status : ℕ) : Type 0 where
   pub in_command : status ≢ 1
   pub range : status ≤ 8
   -- 0 to 5: what is due was told whole
-  pub whole : OnTrue tells (status < 6 → IsSomeAnd (before.held name) (IsToldWhole Due status before.taken now.taken))
+  pub whole : OnTrue tells (status < 6 → IsSomeAnd (before.files.held name) (IsToldWhole Due status before.out.taken now.out.taken))
   -- 6: the read failed
-  pub read_fault : status ≡ 6 → Rose (before.read_faults name) (now.read_faults name)
+  pub read_fault : status ≡ 6 → Rose (before.files.read_faults name) (now.files.read_faults name)
   -- 7: the put failed, and a front of what is due was put
-  pub put_fault : status ≡ 7 → Rose before.put_faults now.put_faults
-  pub cut : OnTrue tells (status ≡ 7 → IsSomeAnd (before.held name) (IsToldInPart Due before.taken now.taken))
+  pub put_fault : status ≡ 7 → Rose before.out.faults now.out.faults
+  pub cut : OnTrue tells (status ≡ 7 → IsSomeAnd (before.files.held name) (IsToldInPart Due before.out.taken now.out.taken))
   -- 6 and 8: nothing was put
-  pub nothing : (status ≡ 6) ⊎ (status ≡ 8) → now.taken ≡ before.taken
+  pub nothing : (status ≡ 6) ⊎ (status ≡ 8) → now.out.taken ≡ before.out.taken
+  -- a failed put always gives 7
+  pub quiet : status ≢ 7 → now.out.faults ≡ before.out.faults
   -- no file has changed
-  pub stays : AllStay before.held now.held
+  pub stays : AllStay before.files.held now.files.held
+
+-- without a fault, what is due was told whole, or memory was missing
+abbrev pub Finishes : (Due : List ℕ → Told → Type 0) (name : List ℕ) (before now : Outside) (status : ℕ) → Type 0
+Finishes Due name before now status =
+    ¬ Rose (before.files.read_faults name) (now.files.read_faults name)
+    → ¬ Rose before.out.faults now.out.faults
+    → (status ≡ 8) ⊎ IsSomeAnd (before.files.held name) (IsToldWhole Due status before.out.taken now.out.taken)

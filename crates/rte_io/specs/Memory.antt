@@ -6,6 +6,7 @@ use Rattle.rte_io.specs.declared.sure.SureFiles.{SureFiles}
 use Rattle.rte_io.specs.declared.sure.SureSink.{SureSink}
 use Rattle.rte_io.specs.Calls.{Calls}
 use Rattle.rte_io.specs.Kept.{count_of, held_in}
+use Rattle.rte_io.specs.Outside.{FilesState}
 
 -- what a name holds, if it is there
 abbrev pub held_of : MemFiles → List ℕ → Option (List ℕ)
@@ -18,6 +19,9 @@ read_faults_of files name = count_of files.failed_reads.items name
 -- how many writes of a name have failed
 abbrev pub write_faults_of : MemFiles → List ℕ → ℕ
 write_faults_of files name = count_of files.failed_writes.items name
+
+abbrev pub state_of : MemFiles → FilesState
+state_of files = record { held = held_of files; read_faults = read_faults_of files; write_faults = write_faults_of files }
 
 -- the reads of the files so far, and those that fail
 abbrev pub reads_of : MemFiles → Calls

@@ -3,6 +3,25 @@ use Rattle.std.specs.Prelude.{◌≡◌, ◌≢◌, ◌≤◌, ◌+◌, ◌-◌,
 use Rattle.std.proofs.Common.{refl, sym, ap, subst, ◌∙◌, append_assoc}
 use Rattle.std.proofs.lemmas.List.{append-nil}
 
+-- what files hold by name, and how many reads and writes of each name have failed
+pub record FilesState : Type 0 where
+  pub held : List ℕ → Option (List ℕ)
+  pub read_faults : List ℕ → ℕ
+  pub write_faults : List ℕ → ℕ
+
+-- what a sink has taken, where it tells, and how many of its puts have failed
+pub record SinkState : Type 0 where
+  pub taken : Option (List ℕ)
+  pub faults : ℕ
+
+-- all that a call finds outside
+pub record Outside : Type 0 where
+  pub files : FilesState
+  pub out : SinkState
+
+abbrev pub outside : FilesState → SinkState → Outside
+outside files out = record { files = files; out = out }
+
 -- a count after one more, held at the greatest u64
 abbrev pub next_count : ℕ → ℕ
 next_count count = min (count + 1) (2 ^ 64 - 1)

@@ -42,6 +42,13 @@ impl MemSink {
         })
     }
 
+    /// The number of puts so far, held at the greatest u64.
+    pub fn puts(&self) -> u64
+        ensures { result ≡ (puts_of self.now).made }
+    {
+        self.puts
+    }
+
     /// The bytes taken so far. It takes no memory.
     pub fn bytes(&self) -> &[u8]
         ensures { result.now ≡ bytes_of self.now }
@@ -54,9 +61,7 @@ impl Sink for MemSink {
     ghost use Rattle.rte_io.specs.Memory.{bytes_of, faults_of, puts_of, room_of};
     ghost use Rattle.std.specs.Prelude.{Some};
 
-    ghost taken = { λ s. Some (bytes_of s) };
-
-    ghost faults = { faults_of };
+    ghost state = { λ s. record { taken = Some (bytes_of s); faults = faults_of s } };
 
     fn put(&mut self, piece: &[u8]) -> Result<(), SinkFailed>
         ensures listed { OnTrue (next_fails (puts_of self.old)) (IsErr result) }

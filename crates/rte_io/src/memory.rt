@@ -4,7 +4,7 @@ ghost use Rattle.std.specs.Prelude.{◌≡◌, ℕ, List, Some, None, OnOk, OnEr
 ghost use Rattle.std.specs.Option.{option_copied};
 ghost use Rattle.rte_io.specs.Calls.{HasFailed, ReadAnswers, ReadsAs, WriteAnswers, next, next_fails, read_failed, write_failed};
 ghost use Rattle.rte_io.specs.Kept.{count_of};
-ghost use Rattle.rte_io.specs.Memory.{held_of, read_faults_of, write_faults_of, reads_of, writes_of};
+ghost use Rattle.rte_io.specs.Memory.{held_of, read_faults_of, write_faults_of, reads_of, state_of, writes_of};
 ghost use Rattle.rte_io.specs.Outside.{AllStay, CountsFailure, NoneFell, OneMore, OthersStay, Rose, SameCounts};
 
 use crate::outside::{Files, ReadFault, WriteFault};
@@ -114,11 +114,7 @@ impl Files for MemFiles {
 
     ghost tells = { true };
 
-    ghost held = { held_of };
-
-    ghost read_faults = { read_faults_of };
-
-    ghost write_faults = { write_faults_of };
+    ghost state = { state_of };
 
     fn read(&mut self, name: &str, most: usize) -> Result<Vec<u8>, ReadFault>
         ensures answer { ReadAnswers (next_fails (reads_of self.old)) (held_of self.old name.now) most result }

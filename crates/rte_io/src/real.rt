@@ -51,8 +51,8 @@ fn read_up_to<F: Read>(alloc: Global, file: &mut F, most: usize) -> Result<Vec<u
 impl<'a, R: rt::Files> RealFiles<'a, R> {
     /// No faults yet. It takes no memory.
     pub fn new(alloc: Global, rt: &'a R) -> RealFiles<'a, R>
-        ensures reads { (name : List ℕ) → ⟦<RealFiles<'a, R> as Files>⟧.read_faults result name ≡ 0 }
-        ensures writes { (name : List ℕ) → ⟦<RealFiles<'a, R> as Files>⟧.write_faults result name ≡ 0 }
+        ensures reads { (name : List ℕ) → (⟦<RealFiles<'a, R> as Files>⟧.state result).read_faults name ≡ 0 }
+        ensures writes { (name : List ℕ) → (⟦<RealFiles<'a, R> as Files>⟧.state result).write_faults name ≡ 0 }
     {
         RealFiles {
             rt,
@@ -75,20 +75,20 @@ impl<'a, R: rt::Files> Files for RealFiles<'a, R> {
 
     ghost tells = { false };
 
-    ghost held = { λ _ _. None };
-
-    ghost read_faults = { λ s _. s.faults };
-
-    ghost write_faults = { λ s _. s.faults };
+    ghost state = { λ s. record {
+      held = λ _. None;
+      read_faults = λ _. s.faults;
+      write_faults = λ _. s.faults;
+    } };
 
     fn read(&mut self, name: &str, most: usize) -> Result<Vec<u8>, ReadFault>
         ensures within { IfOk result (λ bytes. vec_len bytes ≤ most) }
-        ensures raised { let faults = ⟦<RealFiles<'a, R> as Files>⟧.read_faults in
-            OnErr result (faults self.new name.now ≡ next_count (faults self.old name.now)) }
-        ensures quiet { let faults = ⟦<RealFiles<'a, R> as Files>⟧.read_faults in
-            OnOk result (faults self.new name.now ≡ faults self.old name.now) }
-        ensures count { let faults = ⟦<RealFiles<'a, R> as Files>⟧.read_faults in
-            faults self.old name.now ≤ faults self.new name.now }
+        ensures raised { let state = ⟦<RealFiles<'a, R> as Files>⟧.state in
+            OnErr result ((state self.new).read_faults name.now ≡ next_count ((state self.old).read_faults name.now)) }
+        ensures quiet { let state = ⟦<RealFiles<'a, R> as Files>⟧.state in
+            OnOk result ((state self.new).read_faults name.now ≡ (state self.old).read_faults name.now) }
+        ensures count { let state = ⟦<RealFiles<'a, R> as Files>⟧.state in
+            (state self.old).read_faults name.now ≤ (state self.new).read_faults name.now }
     {
         let answer = match fs::open(self.rt, name) {
             Ok(mut file) => read_up_to(self.alloc, &mut file, most),
@@ -101,12 +101,12 @@ impl<'a, R: rt::Files> Files for RealFiles<'a, R> {
     }
 
     fn write(&mut self, name: &str, bytes: &[u8]) -> Result<(), WriteFault>
-        ensures raised { let faults = ⟦<RealFiles<'a, R> as Files>⟧.write_faults in
-            OnErr result (faults self.new name.now ≡ next_count (faults self.old name.now)) }
-        ensures quiet { let faults = ⟦<RealFiles<'a, R> as Files>⟧.write_faults in
-            OnOk result (faults self.new name.now ≡ faults self.old name.now) }
-        ensures count { let faults = ⟦<RealFiles<'a, R> as Files>⟧.write_faults in
-            faults self.old name.now ≤ faults self.new name.now }
+        ensures raised { let state = ⟦<RealFiles<'a, R> as Files>⟧.state in
+            OnErr result ((state self.new).write_faults name.now ≡ next_count ((state self.old).write_faults name.now)) }
+        ensures quiet { let state = ⟦<RealFiles<'a, R> as Files>⟧.state in
+            OnOk result ((state self.new).write_faults name.now ≡ (state self.old).write_faults name.now) }
+        ensures count { let state = ⟦<RealFiles<'a, R> as Files>⟧.state in
+            (state self.old).write_faults name.now ≤ (state self.new).write_faults name.now }
     {
         match fs::write(self.rt, name, bytes) {
             Ok(()) => Ok(()),
@@ -121,7 +121,7 @@ impl<'a, R: rt::Files> Files for RealFiles<'a, R> {
 impl<'a, P: Print> RealSink<'a, P> {
     /// No faults yet. It takes no memory.
     pub fn new(rt: &'a P) -> RealSink<'a, P>
-        ensures { ⟦<RealSink<'a, P> as Sink>⟧.faults result ≡ 0 }
+        ensures { (⟦<RealSink<'a, P> as Sink>⟧.state result).faults ≡ 0 }
     {
         RealSink { rt, faults: 0 }
     }
@@ -130,9 +130,7 @@ impl<'a, P: Print> RealSink<'a, P> {
 impl<'a, P: Print> Sink for RealSink<'a, P> {
     ghost use Rattle.std.specs.Prelude.{None};
 
-    ghost taken = { λ _. None };
-
-    ghost faults = { λ s. s.faults };
+    ghost state = { λ s. record { taken = None; faults = s.faults } };
 
     fn put(&mut self, piece: &[u8]) -> Result<(), SinkFailed> {
         match self.rt.write_all(piece) {

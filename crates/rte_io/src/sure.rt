@@ -64,11 +64,11 @@ impl Files for SureFiles {
 
     ghost tells = { true };
 
-    ghost held = { λ s name. Some (shown_in s name) };
-
-    ghost read_faults = { λ _ _. 0 };
-
-    ghost write_faults = { λ _ _. 0 };
+    ghost state = { λ s. record {
+      held = λ name. Some (shown_in s name);
+      read_faults = λ _. 0;
+      write_faults = λ _. 0;
+    } };
 
     fn read(&mut self, name: &str, most: usize) -> Result<Vec<u8>, ReadFault>
         ensures answer { ReadsAs (shown_in self.old name.now) most result }
@@ -112,9 +112,7 @@ impl SureSink {
 impl Sink for SureSink {
     ghost use Rattle.std.specs.Prelude.{None};
 
-    ghost taken = { λ _. None };
-
-    ghost faults = { λ _. 0 };
+    ghost state = { λ _. record { taken = None; faults = 0 } };
 
     fn put(&mut self, piece: &[u8]) -> Result<(), SinkFailed>
         ensures sure { IsOk result }

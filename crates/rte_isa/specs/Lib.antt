@@ -1,3 +1,4 @@
 pub mod Ticks
 pub mod Bytes
 pub mod Numbered
+pub mod Operands

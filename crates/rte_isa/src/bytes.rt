@@ -70,7 +70,7 @@ fn fields_of(instr: &Instr) -> (u8, [i32; 3])
 }
 
 /// The instruction of a number from 1 to 48, with those of the operands that it names.
-fn instr_of(number: u8, a: i32, b: i32, c: i32) -> Option<Instr>
+pub fn instr_of(number: u8, a: i32, b: i32, c: i32) -> Option<Instr>
     ensures { result ≡ numbered number a b c }
 {
     match number {

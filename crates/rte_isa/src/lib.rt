@@ -6,7 +6,7 @@ mod instr;
 mod law;
 mod timing;
 
-pub use bytes::{read_instr, write_instr};
+pub use bytes::{instr_of, read_instr, write_instr};
 pub use instr::Instr;
 pub use law::instructions_are_distinct;
 pub use timing::ticks;

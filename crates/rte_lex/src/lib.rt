@@ -16,4 +16,5 @@ mod token;
 pub use fault::LexFault;
 pub use laws::{one_fault, one_list, tokens_in_order};
 pub use lexer::lex;
+pub use table::keyword_at;
 pub use token::{Token, TokenKind, Tokens, keyword, sign};

@@ -90,6 +90,6 @@ outs (d ∷ ds) = ap (λ xs. true ∷ xs) (outs ds)
 pub built : (form : Form) (program : List ℕ) (names : ImageNames) (monitors : List RawMon) (routines : List RawRoutine) (processes : List RawProc) (code : List Instr) (process : RawProc)
     → program ≡ form.name → names ≡ names_of (program_of form) → monitors ≡ [] → routines ≡ [] → processes ≡ process ∷ [] → raw.process_of process ≡ process_of (program_of form)
     → code ≡ code_of form.devices (program_of form).puts
-    → raw.named_of (record { program = program; names = names; monitors = monitors; routines = routines; processes = processes; code = code }) ≡ named_image_of (program_of form)
+    → raw.named_of (record { overhead = 0; program = program; names = names; monitors = monitors; routines = routines; processes = processes; code = code }) ≡ named_image_of (program_of form)
 built form program names monitors routines processes code process program_is names_is monitors_is routines_is processes_is process_is code_is =
     rw (program_is, names_is, monitors_is, routines_is, processes_is, code_is) (rw (process_is, outs form.devices) refl)

@@ -106,13 +106,13 @@ pub record Reached (f : PutProg) (t : ℕ) (s : State) : Type 0 where
   pub at : IsAt f t t activation
 
 -- an unfinished activation is not released again
-pub not_late : (f : PutProg) (t : ℕ) (o : Option Job) → IsTimely f → IsAt f t t o → late (is_due t f.frame) o ≡ false
-not_late f t None timely at = go (is_due t f.frame) where
+pub not_late : (f : PutProg) (t : ℕ) (o : Option Job) → IsPutProg f → IsTimely f → IsAt f t t o → late (is_due t f.frame) o ≡ false
+not_late f t None whole timely at = go (is_due t f.frame) where
   go : (b : Bool) → late b None ≡ false
   go true = refl
   go false = refl
-not_late f t (Some w) timely at =
-    ap (λ b. late b (Some w)) (not_due t at.since f.frame at.multiple at.began (omega (arith, at.count, at.some_left, timely)))
+not_late f t (Some w) whole timely at =
+    ap (λ b. late b (Some w)) (not_due t at.since f.frame at.multiple at.began (omega (arith, at.count, at.some_left, timely, whole.deadline_high)))
 
 -- a fresh activation stands before all its puts
 fresh_working : (f : PutProg) (t : ℕ) → IsPutProg f → t % f.frame ≡ 0 → Working f t (t + 1) fresh
@@ -191,7 +191,7 @@ keeps f end_tick t s whole timely reached =
     let r : Runs f t (ran f t (begun (is_due t f.frame) o) (words f)) = runs f t (begun (is_due t f.frame) o) whole (begun_at f t o whole reached.at) in
     subst (λ (x : State). Keeps f t (tick (image_of f) (until end_tick) t x)) (sym reached.is)
     (subst (Keeps f t) (sym (ticked f end_tick t o (words f)))
-    (record { reached = r.reached; unstuck = r.unstuck; in_time = not_late f t o timely reached.at; events = All-append (IsOfTick f t) (told t (release_act (is_due t f.frame) o)) (ran f t (begun (is_due t f.frame) o) (words f)).events (release_of_tick f t (is_due t f.frame) o) r.events }))
+    (record { reached = r.reached; unstuck = r.unstuck; in_time = not_late f t o whole timely reached.at; events = All-append (IsOfTick f t) (told t (release_act (is_due t f.frame) o)) (ran f t (begun (is_due t f.frame) o) (words f)).events (release_of_tick f t (is_due t f.frame) o) r.events }))
 
 -- ---- the states of a run
 

@@ -5,7 +5,7 @@ use Rattle.rte_source_meaning.specs.Puts.{PutProg}
 use Rattle.rte_form.specs.Target.{named_image_of}
 use Rattle.rte_form.specs.WellFormed.{IsPutProg, IsTimely}
 
--- the image is that of a program of the first form, whose process is done within its frame
+-- the image is that of a program of the first form, whose process is done within its deadline
 pub record IsPutImage (image : NamedImage) : Type 0 where
   pub program : PutProg
   pub well_formed : IsPutProg program

@@ -117,6 +117,7 @@ pub fn process_for(alloc: Global, form: &Form) -> Result<RawProc, AllocError>
     Ok(RawProc {
         kind: 0,
         frame: form.frame,
+        deadline: form.limit(),
         first: 0,
         event: 0,
         rank: 1,

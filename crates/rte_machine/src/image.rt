@@ -4,7 +4,7 @@ ghost use Rattle.std.specs.Prelude.{◌≡◌, ◌<◌, ◌∷◌, [], map, IfOk
 ghost use Rattle.rte_form.specs.Form.{program_of};
 ghost use Rattle.rte_form.specs.Target.{named_image_of};
 ghost use Rattle.rte_form.specs.WellFormed.{IsPutProg, IsTimely};
-ghost use Rattle.rte_image.specs.Bytes.{bytes_of};
+ghost use Rattle.rte_image.specs.Bytes.{Second, bytes_of};
 ghost use Rattle.rte_machine.specs.PutImage.{IsPutImage};
 
 use crate::build::{code_for, names_for, one, process_for};
@@ -15,7 +15,7 @@ use rte_tree::{List, Name};
 use std::alloc::{AllocError, Global};
 use std::marker::Model;
 
-/// The image of a program of one periodic process that puts numbers, and is done within its frame.
+/// The image of a program of one periodic process that puts numbers, and is done within its deadline.
 #[derive(Drop)]
 pub struct Image {
     raw: RawImage,
@@ -45,6 +45,7 @@ impl Image {
         ensures { IfOk result (λ image. image ≡ named_image_of (program_of form.now)) }
     {
         let raw = RawImage {
+            overhead: 0,
             program: Name::new(alloc, form.name.as_bytes())?,
             names: names_for(alloc, form)?,
             monitors: List::new(alloc),
@@ -63,9 +64,9 @@ impl Image {
         &self.raw.names
     }
 
-    /// The bytes of an image file, version 1.
+    /// The bytes of an image file, version 2.
     pub fn bytes(&self, alloc: Global) -> Result<Vec<u8>, AllocError>
-        ensures { IfOk result (λ bytes. bytes.items ≡ bytes_of self.now) }
+        ensures { IfOk result (λ bytes. bytes.items ≡ bytes_of Second self.now) }
     {
         write_image(alloc, &self.raw)
     }

@@ -67,10 +67,11 @@ fn tell(tick: u64, act: Option<Act>, fired: &mut ArrayVec<Event, MOST>)
 /// Puts the line of an event.
 fn put_line<O: Sink>(names: &ImageNames, event: &Event, out: &mut O) -> Result<(), SinkFailed>
     requires { AreIn names.now event.now }
-    ensures whole { OnOk result (Appends (O.taken out.old) (O.taken out.new) (line_of names.now event.now)) }
-    ensures front { OnErr result (AppendsFront (O.taken out.old) (O.taken out.new) (line_of names.now event.now)) }
-    ensures failed { OnErr result (Rose (O.faults out.old) (O.faults out.new)) }
-    ensures count { O.faults out.old ≤ O.faults out.new }
+    ensures whole { OnOk result (Appends (O.state out.old).taken (O.state out.new).taken (line_of names.now event.now)) }
+    ensures front { OnErr result (AppendsFront (O.state out.old).taken (O.state out.new).taken (line_of names.now event.now)) }
+    ensures failed { OnErr result (Rose (O.state out.old).faults (O.state out.new).faults) }
+    ensures count { (O.state out.old).faults ≤ (O.state out.new).faults }
+    ensures quiet { OnOk result ((O.state out.new).faults ≡ (O.state out.old).faults) }
 {
     out.put(line(names, event).as_slice())
 }
@@ -78,10 +79,11 @@ fn put_line<O: Sink>(names: &ImageNames, event: &Event, out: &mut O) -> Result<(
 /// Puts the line of each event, one put a line.
 fn put_all<O: Sink>(names: &ImageNames, events: &[Event], out: &mut O) -> Result<(), SinkFailed>
     requires { All (AreIn names.now) events.now }
-    ensures whole { OnOk result (Appends (O.taken out.old) (O.taken out.new) (log_of names.now events.now)) }
-    ensures front { OnErr result (AppendsFront (O.taken out.old) (O.taken out.new) (log_of names.now events.now)) }
-    ensures failed { OnErr result (Rose (O.faults out.old) (O.faults out.new)) }
-    ensures count { O.faults out.old ≤ O.faults out.new }
+    ensures whole { OnOk result (Appends (O.state out.old).taken (O.state out.new).taken (log_of names.now events.now)) }
+    ensures front { OnErr result (AppendsFront (O.state out.old).taken (O.state out.new).taken (log_of names.now events.now)) }
+    ensures failed { OnErr result (Rose (O.state out.old).faults (O.state out.new).faults) }
+    ensures count { (O.state out.old).faults ≤ (O.state out.new).faults }
+    ensures quiet { OnOk result ((O.state out.new).faults ≡ (O.state out.old).faults) }
 {
     for event in events {
         put_line(names, event, out)?;
@@ -173,11 +175,12 @@ impl Machine {
         out: &mut O,
     ) -> Result<(), SinkFailed>
         requires made { IsOf image.now.image script.now self.old }
-        ensures whole { OnOk result (Appends (O.taken out.old) (O.taken out.new) (log_to image.now script.now self.old)) }
+        ensures whole { OnOk result (Appends (O.state out.old).taken (O.state out.new).taken (log_to image.now script.now self.old)) }
         ensures end { OnOk result (self.new.tick ≡ script.now.end_tick) }
-        ensures front { OnErr result (AppendsFront (O.taken out.old) (O.taken out.new) (log_to image.now script.now self.old)) }
-        ensures failed { OnErr result (Rose (O.faults out.old) (O.faults out.new)) }
-        ensures count { O.faults out.old ≤ O.faults out.new }
+        ensures front { OnErr result (AppendsFront (O.state out.old).taken (O.state out.new).taken (log_to image.now script.now self.old)) }
+        ensures failed { OnErr result (Rose (O.state out.old).faults (O.state out.new).faults) }
+        ensures count { (O.state out.old).faults ≤ (O.state out.new).faults }
+        ensures quiet { OnOk result ((O.state out.new).faults ≡ (O.state out.old).faults) }
         ensures made { IsOf image.now.image script.now self.new }
     {
         let end = script.end();

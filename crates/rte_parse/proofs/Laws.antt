@@ -5,7 +5,7 @@ use Rattle.rte_tree.specs.declared.place.Place.{Place}
 use Rattle.rte_lex.specs.declared.token.Token.{Token}
 use Rattle.rte_tree.specs.Placed.{Prog}
 use Rattle.rte_grammar.specs.Words.{Tok, tok, toks_of}
-use Rattle.rte_grammar.specs.Grammar.{IsProg}
+use Rattle.rte_grammar.specs.Grammar.{MOST_LEVELS, IsProg}
 use Rattle.rte_grammar.specs.Opening.{OpensProg}
 use Rattle.rte_reading.specs.ExprReading.{Fault, nesting}
 use Rattle.rte_reading.specs.Reading.{whole}
@@ -15,8 +15,8 @@ use Rattle.rte_reading.proofs.OpenTails.{prog-at}
 use Rattle.rte_reading.proofs.ProgDeep.{whole_finds}
 use Rattle.rte_parse.specs.Faults.{OpensAt}
 
-pub no_tree : {P : Type 0} (ts : List (Tok P)) (f : Fault) → whole ts ≡ Err f → (g : Prog P) → IsProg g ts [] → ⊥
-no_tree {P} ts f e g took = let both : ◌≡◌ {A = Result (Prog P) Fault} (Ok g) (Err f) = sym (whole_again ts g took) ∙ e in cc
+pub no_tree : {P : Type 0} (ts : List (Tok P)) (f : Fault) → whole MOST_LEVELS ts ≡ Err f → (g : Prog P) → IsProg g ts [] → ⊥
+no_tree {P} ts f e g took = let both : ◌≡◌ {A = Result (Prog P) Fault} (Ok g) (Err f) = sym (whole_again MOST_LEVELS ts g took) ∙ e in cc
 
 -- the end of what a list is mapped to is what an end of the list is mapped to
 map-end : {A B : Type 0} (f : A → B) (xs : List A) (front us : List B) → map f xs ≡ front ++ us
@@ -53,7 +53,7 @@ from-end text toks before (t ∷ after) us rest first n opens left some all is =
       opens = subst (OpensProg (toks_of text toks)) is opens;
     }
 
-pub opening : (text : List ℕ) (toks : List Token) (left : ℕ) → whole (toks_of text toks) ≡ Err (nesting left) → Opening text toks left
+pub opening : (text : List ℕ) (toks : List Token) (left : ℕ) → whole MOST_LEVELS (toks_of text toks) ≡ Err (nesting left) → Opening text toks left
 opening text toks left e =
     let (us, opens, count) = whole_opens (toks_of text toks) left e in
     let at = prog-at (toks_of text toks) us opens in
@@ -61,6 +61,6 @@ opening text toks left e =
     from-end text toks before after us at.rest at.first left opens count at.is all is
 
 -- where a token opens a level beyond the last, reading stops at it
-pub stopped : (text : List ℕ) (toks : List Token) (p : Place) (o : OpensAt text toks p) → whole (toks_of text toks) ≡ Err (nesting (length (o.token ∷ o.after)))
+pub stopped : (text : List ℕ) (toks : List Token) (p : Place) (o : OpensAt text toks p) → whole MOST_LEVELS (toks_of text toks) ≡ Err (nesting (length (o.token ∷ o.after)))
 stopped text toks p o =
     whole_finds (toks_of text toks) (toks_of text (o.token ∷ o.after)) o.opens ∙ ap (λ n. Err (nesting n)) (length-toks text (o.token ∷ o.after))

@@ -2,6 +2,7 @@
 
 ghost use Rattle.std.specs.Prelude.{◌≡◌, map};
 ghost use Rattle.rte_tree.specs.Placed.{placed, placed_decl};
+ghost use Rattle.rte_grammar.specs.Grammar.{MOST_LEVELS};
 ghost use Rattle.rte_reading.specs.Reading as reading;
 ghost use Rattle.rte_parse.specs.Reads.{Reads};
 
@@ -62,7 +63,7 @@ impl Parser<'_> {
 
     #[tactic(auto, unfolding(rte_reading::specs::Reading::decl))]
     fn decl(&mut self, alloc: Global) -> Result<Decl, Refusal>
-        ensures { Reads placed_decl (reading.decl self.old) result self.new }
+        ensures { Reads placed_decl (reading.decl MOST_LEVELS self.old) result self.new }
     {
         if self.is_keyword(keyword::CONST) {
             return self.const_decl(alloc);
@@ -99,7 +100,7 @@ impl Parser<'_> {
     /// As many declarations as there are.
     #[tactic(auto, unfolding(rte_reading::specs::Reading::decls, rte_reading::specs::ExprReading::many))]
     fn decls(&mut self, alloc: Global) -> Result<List<Decl>, Refusal>
-        ensures { Reads (map placed_decl) (reading.decls self.old) result self.new }
+        ensures { Reads (map placed_decl) (reading.decls MOST_LEVELS self.old) result self.new }
     {
         let mut decls = List::new(alloc);
         let turns = self.left();
@@ -115,7 +116,7 @@ impl Parser<'_> {
 
     #[tactic(auto, unfolding(rte_reading::specs::Reading::prog))]
     pub(crate) fn prog(&mut self, alloc: Global) -> Result<Prog, Refusal>
-        ensures { Reads placed (reading.prog self.old) result self.new }
+        ensures { Reads placed (reading.prog MOST_LEVELS self.old) result self.new }
     {
         self.expect_keyword(keyword::PROGRAM)?;
         let (name, place) = self.name(alloc)?;

@@ -3,6 +3,7 @@
 ghost use Rattle.std.specs.Prelude.{◌≡◌, map};
 ghost use Rattle.rte_tree.specs.Placed.{placed_constant, placed_activation, placed_handler, placed_process, optional};
 ghost use Rattle.rte_grammar.specs.Words.{COMMA};
+ghost use Rattle.rte_grammar.specs.Grammar.{MOST_LEVELS};
 ghost use Rattle.rte_reading.specs.ExprReading.{many, is_at, behind_comma, listed, constant as constant_at};
 ghost use Rattle.rte_reading.specs.Reading as reading;
 ghost use Rattle.rte_parse.specs.Reads.{Reads, with_front};
@@ -123,7 +124,7 @@ impl Parser<'_> {
     /// The handler, where there is one.
     #[tactic(auto, unfolding(rte_reading::specs::Reading::handler))]
     fn handler(&mut self, alloc: Global) -> Result<Option<Handler>, Refusal>
-        ensures { Reads (optional placed_handler) (reading.handler self.old) result self.new }
+        ensures { Reads (optional placed_handler) (reading.handler MOST_LEVELS self.old) result self.new }
     {
         if self.is_keyword(keyword::HANDLER) {
             self.expect_keyword(keyword::HANDLER)?;
@@ -136,7 +137,7 @@ impl Parser<'_> {
 
     #[tactic(auto, unfolding(rte_reading::specs::Reading::process_decl))]
     pub(crate) fn process(&mut self, alloc: Global) -> Result<Proc, Refusal>
-        ensures { Reads placed_process (reading.process_decl self.old) result self.new }
+        ensures { Reads placed_process (reading.process_decl MOST_LEVELS self.old) result self.new }
     {
         self.expect_keyword(keyword::PROCESS)?;
         let (name, place) = self.name(alloc)?;

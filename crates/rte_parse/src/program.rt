@@ -5,7 +5,7 @@ ghost use Rattle.rte_tree.specs.Placed.{placed, Prog as SpecProg};
 ghost use Rattle.rte_tree.specs.declared.place.Place.{Place as SpecPlace};
 ghost use Rattle.rte_lex.specs.declared.token.Token.{Token as SpecToken};
 ghost use Rattle.rte_grammar.specs.Words.{toks_of};
-ghost use Rattle.rte_grammar.specs.Grammar.{tree};
+ghost use Rattle.rte_grammar.specs.Grammar.{MOST_LEVELS, tree};
 ghost use Rattle.rte_reading.specs.Reading as reading;
 ghost use Rattle.rte_parse.specs.Reads.{Gives};
 ghost use Rattle.rte_parse.specs.Faults.{place, IsPlaceIn, StandsIn, OpensAt};
@@ -19,7 +19,7 @@ use std::alloc::Global;
 /// The program that all the tokens are.
 #[tactic(auto, unfolding(rte_reading::specs::Reading::whole))]
 fn read(alloc: Global, text: &[u8], toks: &[Token]) -> Result<Prog, Refusal>
-    ensures { Gives placed (reading.whole (toks_of text.now toks.now)) result }
+    ensures { Gives placed (reading.whole MOST_LEVELS (toks_of text.now toks.now)) result }
 {
     let mut parser = Parser { text, toks };
     let prog = parser.prog(alloc)?;

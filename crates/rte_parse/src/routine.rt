@@ -2,6 +2,7 @@
 
 ghost use Rattle.std.specs.Prelude.{◌≡◌, map};
 ghost use Rattle.rte_tree.specs.Placed.{placed_expr, placed_scalar, placed_stmt, placed_routine, placed_routine_kind, placed_member, placed_monitor, optional};
+ghost use Rattle.rte_grammar.specs.Grammar.{MOST_LEVELS};
 ghost use Rattle.rte_reading.specs.Reading as reading;
 ghost use Rattle.rte_parse.specs.Reads.{Reads};
 
@@ -15,7 +16,7 @@ impl Parser<'_> {
     /// Statements behind their `begin`.
     #[tactic(auto, unfolding(rte_reading::specs::Reading::block))]
     pub(crate) fn block(&mut self, alloc: Global) -> Result<List<Stmt>, Refusal>
-        ensures { Reads (map placed_stmt) (reading.block self.old) result self.new }
+        ensures { Reads (map placed_stmt) (reading.block MOST_LEVELS self.old) result self.new }
     {
         self.expect_keyword(keyword::BEGIN)?;
         self.stmts(alloc, 64)
@@ -60,7 +61,7 @@ impl Parser<'_> {
     /// The expression of the result, where the routine is a function.
     #[tactic(auto, unfolding(rte_reading::specs::Reading::value))]
     fn value(&mut self, alloc: Global, kind: RoutineKind) -> Result<Option<Expr>, Refusal>
-        ensures { Reads (optional placed_expr) (reading.value (placed_routine_kind kind) self.old) result self.new }
+        ensures { Reads (optional placed_expr) (reading.value MOST_LEVELS (placed_routine_kind kind) self.old) result self.new }
     {
         match kind {
             RoutineKind::Procedure => Ok(None),
@@ -74,7 +75,7 @@ impl Parser<'_> {
 
     #[tactic(auto, unfolding(rte_reading::specs::Reading::routine_decl))]
     pub(crate) fn routine(&mut self, alloc: Global) -> Result<Routine, Refusal>
-        ensures { Reads placed_routine (reading.routine_decl self.old) result self.new }
+        ensures { Reads placed_routine (reading.routine_decl MOST_LEVELS self.old) result self.new }
     {
         let kind = self.routine_kind()?;
         let (name, place) = self.name(alloc)?;
@@ -107,7 +108,7 @@ impl Parser<'_> {
     /// As many routines as there are.
     #[tactic(auto, unfolding(rte_reading::specs::Reading::routines, rte_reading::specs::ExprReading::many))]
     pub(crate) fn routines(&mut self, alloc: Global) -> Result<List<Routine>, Refusal>
-        ensures { Reads (map placed_routine) (reading.routines self.old) result self.new }
+        ensures { Reads (map placed_routine) (reading.routines MOST_LEVELS self.old) result self.new }
     {
         let mut routines = List::new(alloc);
         let turns = self.left();
@@ -160,7 +161,7 @@ impl Parser<'_> {
     /// A routine behind its `entry`.
     #[tactic(auto, unfolding(rte_reading::specs::Reading::entry_decl))]
     fn entry_decl(&mut self, alloc: Global) -> Result<Routine, Refusal>
-        ensures { Reads placed_routine (reading.entry_decl self.old) result self.new }
+        ensures { Reads placed_routine (reading.entry_decl MOST_LEVELS self.old) result self.new }
     {
         self.expect_keyword(keyword::ENTRY)?;
         self.routine(alloc)
@@ -169,7 +170,7 @@ impl Parser<'_> {
     /// As many entries as there are.
     #[tactic(auto, unfolding(rte_reading::specs::Reading::entries, rte_reading::specs::ExprReading::many))]
     fn entries(&mut self, alloc: Global) -> Result<List<Routine>, Refusal>
-        ensures { Reads (map placed_routine) (reading.entries self.old) result self.new }
+        ensures { Reads (map placed_routine) (reading.entries MOST_LEVELS self.old) result self.new }
     {
         let mut entries = List::new(alloc);
         let turns = self.left();
@@ -185,7 +186,7 @@ impl Parser<'_> {
 
     #[tactic(auto, unfolding(rte_reading::specs::Reading::monitor_decl))]
     pub(crate) fn monitor(&mut self, alloc: Global) -> Result<Mon, Refusal>
-        ensures { Reads placed_monitor (reading.monitor_decl self.old) result self.new }
+        ensures { Reads placed_monitor (reading.monitor_decl MOST_LEVELS self.old) result self.new }
     {
         self.expect_keyword(keyword::MONITOR)?;
         let (name, place) = self.name(alloc)?;

@@ -135,9 +135,13 @@ first_bare : {P : Type 0} (x : Option (Constant P)) → c.first_words (optional 
 first_bare None = refl
 first_bare (Some x) = λ i. w.FIRST ∷ w.ACTIVATION ∷ w.AT_TIME ∷ constant_bare x i
 
+deadline_bare : {P : Type 0} (x : Option (Constant P)) → c.deadline_words (optional bare_constant x) ≡ c.deadline_words x
+deadline_bare None = refl
+deadline_bare (Some x) = λ i. w.DEADLINE ∷ constant_bare x i
+
 activation_bare : {P : Type 0} (x : Activation P) → c.activation_words (bare_activation x) ≡ c.activation_words x
-activation_bare (periodic frame deadline first) = λ i. w.PERIODIC ∷ w.FRAME ∷ (constant_bare frame i ++ first_bare first i)
-activation_bare (at_event e p frame deadline) = λ i. w.AT_EVENT ∷ named e ∷ w.FRAME ∷ constant_bare frame i
+activation_bare (periodic frame deadline first) = λ i. w.PERIODIC ∷ w.FRAME ∷ (constant_bare frame i ++ (deadline_bare deadline i ++ first_bare first i))
+activation_bare (at_event e p frame deadline) = λ i. w.AT_EVENT ∷ named e ∷ w.FRAME ∷ (constant_bare frame i ++ deadline_bare deadline i)
 
 handler_bare : {P : Type 0} (x : Option (Handler P)) → c.handler_lines (optional bare_handler x) ≡ c.handler_lines x
 handler_bare None = refl

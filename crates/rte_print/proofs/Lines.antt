@@ -178,10 +178,16 @@ module _ {P : Type 0} where
   first-says None ws = refl
   first-says (Some x) ws = ap (λ v. w.FIRST ∷ w.ACTIVATION ∷ w.AT_TIME ∷ v) (constant-says x ws)
 
+  deadline-says : (x : Option (Constant P)) → Says (c.deadline_words x) (g.optional_words g.deadline_words x)
+  deadline-says None ws = refl
+  deadline-says (Some x) ws = ap (λ v. w.DEADLINE ∷ v) (constant-says x ws)
+
   activation-says : (x : Activation P) → Says (c.activation_words x) (g.activation_words x)
   activation-says (periodic frame deadline first) ws =
-      ap (λ v. w.PERIODIC ∷ w.FRAME ∷ v) (after _ _ (c.constant_words frame) (g.constant_words frame) (constant-says frame) (first-says first ws))
-  activation-says (at_event e p frame deadline) ws = ap (λ v. w.AT_EVENT ∷ named e ∷ w.FRAME ∷ v) (constant-says frame ws)
+      ap (λ v. w.PERIODIC ∷ w.FRAME ∷ v) (after _ _ (c.constant_words frame) (g.constant_words frame) (constant-says frame)
+      (after _ _ (c.deadline_words deadline) (g.optional_words g.deadline_words deadline) (deadline-says deadline) (first-says first ws)))
+  activation-says (at_event e p frame deadline) ws =
+      ap (λ v. w.AT_EVENT ∷ named e ∷ w.FRAME ∷ v) (after _ _ (c.constant_words frame) (g.constant_words frame) (constant-says frame) (deadline-says deadline ws))
 
   handler-says : (x : Option (Handler P)) → SaysLines (c.handler_lines x) (g.optional_words g.handler_words x)
   handler-says None rest = refl

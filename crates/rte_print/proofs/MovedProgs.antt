@@ -4,7 +4,7 @@ use Rattle.rte_tree.specs.Placed.{Constant, Scalar, int, boolean, subrange, Kind
 use Rattle.rte_grammar.specs.Words as w
 use Rattle.rte_grammar.specs.Words.{Word, named, number, Tok, words_of}
 use Rattle.rte_grammar.specs.ExprGrammar.{IsConstant}
-use Rattle.rte_grammar.specs.Grammar.{MOST_LEVELS, IsScalar, IsKind, IsVar, IsParam, kind_word, IsResult, IsValue, IsRoutine, IsMember, IsEntry, IsMonitor, IsFirst, IsActivation, IsHandler, IsProcess, way_word, IsDecl, IsProg}
+use Rattle.rte_grammar.specs.Grammar.{MOST_LEVELS, IsScalar, IsKind, IsVar, IsParam, kind_word, IsResult, IsValue, IsRoutine, IsMember, IsEntry, IsMonitor, IsDeadline, IsFirst, IsActivation, IsHandler, IsProcess, way_word, IsDecl, IsProg}
 use Rattle.rte_print.proofs.Moves.{Moves, at-moves, a-moves, nothing-moves, ◌⋆◌, never-moves, made, each-moves, listed-moves, some-listed-moves}
 use Rattle.rte_print.proofs.MovedExprs.{constant-moves, expr-moves}
 use Rattle.rte_print.proofs.MovedStmts.{stmts-moves}
@@ -84,13 +84,21 @@ module _ {P Q : Type 0} where
       made (a-moves w.FIRST ⋆ a-moves w.ACTIVATION ⋆ a-moves w.AT_TIME ⋆ constant-moves c)
       (λ y. Some y.two.two.two) (λ y os vs t. t) (λ y l. let c_like = l.two.two.two in λ i. Some (c_like i))
 
+  deadline-moves : (c : Option (Constant P)) → Moves {P = P} {Q = Q} {Y = Option (Constant Q)} (IsDeadline c) IsDeadline (λ h. optional bare_constant h ≡ optional bare_constant c)
+  deadline-moves None = made nothing-moves (λ y. None) (λ y os vs t. t) (λ y l. refl)
+  deadline-moves (Some c) =
+      made (a-moves w.DEADLINE ⋆ constant-moves c)
+      (λ y. Some y.two) (λ y os vs t. t) (λ y l. let c_like = l.two in λ i. Some (c_like i))
+
   activation-moves : (x : Activation P) → Moves {P = P} {Q = Q} {Y = Activation Q} (IsActivation x) IsActivation (λ h. bare_activation h ≡ bare_activation x)
   activation-moves (periodic frame deadline first) =
-      made (a-moves w.PERIODIC ⋆ a-moves w.FRAME ⋆ constant-moves frame ⋆ first-moves first)
-      (λ y. periodic y.two.two.one y.two.two.two) (λ y os vs t. t) (λ y l. let frame_like = l.two.two.one in let first_like = l.two.two.two in λ i. periodic (frame_like i) (first_like i))
+      made (a-moves w.PERIODIC ⋆ a-moves w.FRAME ⋆ constant-moves frame ⋆ deadline-moves deadline ⋆ first-moves first)
+      (λ y. periodic y.two.two.one y.two.two.two.one y.two.two.two.two) (λ y os vs t. t)
+      (λ y l. let frame_like = l.two.two.one in let deadline_like = l.two.two.two.one in let first_like = l.two.two.two.two in λ i. periodic (frame_like i) (deadline_like i) (first_like i))
   activation-moves (at_event e p frame deadline) =
-      made (a-moves w.AT_EVENT ⋆ at-moves (named e) p ⋆ a-moves w.FRAME ⋆ constant-moves frame)
-      (λ y. at_event e y.two.one y.two.two.two) (λ y os vs t. t) (λ y l. let frame_like = l.two.two.two in λ i. at_event e tt (frame_like i))
+      made (a-moves w.AT_EVENT ⋆ at-moves (named e) p ⋆ a-moves w.FRAME ⋆ constant-moves frame ⋆ deadline-moves deadline)
+      (λ y. at_event e y.two.one y.two.two.two.one y.two.two.two.two) (λ y os vs t. t)
+      (λ y l. let frame_like = l.two.two.two.one in let deadline_like = l.two.two.two.two in λ i. at_event e tt (frame_like i) (deadline_like i))
 
   handler-moves : (h : Option (Handler P)) → Moves {P = P} {Q = Q} {Y = Option (Handler Q)} (IsHandler h) IsHandler (λ g. optional bare_handler g ≡ optional bare_handler h)
   handler-moves None = made nothing-moves (λ y. None) (λ y os vs t. t) (λ y l. refl)

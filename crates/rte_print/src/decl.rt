@@ -6,7 +6,7 @@ ghost use Rattle.rte_tree.specs.Placed.{optional, placed, placed_activation, pla
 ghost use Rattle.rte_grammar.specs.Words as w;
 ghost use Rattle.rte_grammar.specs.Grammar.{kind_word, way_word};
 ghost use Rattle.rte_print.specs.Pages.{ended, put_lines, puts};
-ghost use Rattle.rte_print.specs.Canonical.{activation_words, constant_words, decl_lines, end_line as end_words, entry_lines, first_words, handler_lines, handler_words, header as header_words, kind_words, lines_of, listed, member_lines, monitor_lines, param_words, process_lines, process_words, program_lines, rest_of_routine, result_words, return_lines, routine_lines, scalar_words, var_lines};
+ghost use Rattle.rte_print.specs.Canonical.{activation_words, constant_words, deadline_words, decl_lines, end_line as end_words, entry_lines, first_words, handler_lines, handler_words, header as header_words, kind_words, lines_of, listed, member_lines, monitor_lines, param_words, process_lines, process_words, program_lines, rest_of_routine, result_words, return_lines, routine_lines, scalar_words, var_lines};
 
 use crate::page::Page;
 use rte_lex::{keyword, sign};
@@ -247,26 +247,50 @@ impl Page {
         Ok(())
     }
 
-    #[tactic(auto, using(crate::proofs::Steps::puts_append))]
-    fn periodic(&mut self, frame: &Constant, first: &Option<Constant>) -> Result<(), AllocError>
-        ensures { OnOk result (self.new ≡ puts self.old (w.PERIODIC ∷ w.FRAME ∷ (constant_words (placed_constant frame.now) ++ first_words (optional placed_constant first.now)))) }
+    /// The deadline of a process, where it is told.
+    fn deadline(&mut self, deadline: &Option<Constant>) -> Result<(), AllocError>
+        ensures { OnOk result (self.new ≡ puts self.old (deadline_words (optional placed_constant deadline.now))) }
     {
-        self.keyword(keyword::PERIODIC)?;
-        self.keyword(keyword::FRAME)?;
-        self.constant(frame)?;
-        self.first(first)
+        if let Some(ticks) = deadline {
+            self.deadline_word()?;
+            self.constant(ticks)?;
+        }
+        Ok(())
     }
 
+    /// The frame of a process, and its deadline where it is told.
+    #[tactic(auto, using(crate::proofs::Steps::puts_append))]
+    fn times(&mut self, frame: &Constant, deadline: &Option<Constant>) -> Result<(), AllocError>
+        ensures { OnOk result (self.new ≡ puts self.old (w.FRAME ∷ (constant_words (placed_constant frame.now) ++ deadline_words (optional placed_constant deadline.now)))) }
+    {
+        self.keyword(keyword::FRAME)?;
+        self.constant(frame)?;
+        self.deadline(deadline)
+    }
+
+    #[tactic(auto, using(crate::proofs::Steps::puts_append))]
     fn activation(&mut self, activation: &Activation) -> Result<(), AllocError>
         ensures { OnOk result (self.new ≡ puts self.old (activation_words (placed_activation activation.now))) }
     {
         match activation {
-            Activation::Periodic { frame, first } => self.periodic(frame, first),
-            Activation::AtEvent { event, frame, .. } => {
+            Activation::Periodic {
+                frame,
+                deadline,
+                first,
+            } => {
+                self.keyword(keyword::PERIODIC)?;
+                self.times(frame, deadline)?;
+                self.first(first)
+            }
+            Activation::AtEvent {
+                event,
+                frame,
+                deadline,
+                ..
+            } => {
                 self.keyword(keyword::AT_EVENT)?;
                 self.name(event)?;
-                self.keyword(keyword::FRAME)?;
-                self.constant(frame)
+                self.times(frame, deadline)
             }
         }
     }

@@ -72,6 +72,15 @@ impl Page {
         Ok(())
     }
 
+    /// The word that begins a deadline, which is a name to the lexer.
+    #[tactic(auto, unfolding(crate::specs::Pages::put))]
+    pub fn deadline_word(&mut self) -> Result<(), AllocError>
+        ensures { OnOk result (self.new ≡ put self.old w.DEADLINE) }
+    {
+        self.word(b"deadline")?;
+        Ok(())
+    }
+
     /// The sign at this place of the list of signs.
     #[tactic(auto, unfolding(crate::specs::Pages::put))]
     pub fn sign(&mut self, at: u8) -> Result<(), AllocError>

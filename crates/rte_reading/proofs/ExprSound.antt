@@ -84,7 +84,7 @@ module _ {P : Type 0} where
   -- ---- rows
 
   -- one more level up holds what the level below holds
-  wider : (l depth : ℕ) (e : Expr P) (ts us : List (Tok P)) → IsExpr l depth e ts us → IsExpr (suc l) depth e ts us
+  pub wider : (l depth : ℕ) (e : Expr P) (ts us : List (Tok P)) → IsExpr l depth e ts us → IsExpr (suc l) depth e ts us
   wider l depth (literal p n) ts us took = took
   wider l depth (truth p true) ts us took = took
   wider l depth (truth p false) ts us took = took
@@ -111,7 +111,7 @@ module _ {P : Type 0} where
   unfolding operand_at
   operand_sound l depth p sound ts us r e = operand_by_sound l depth p sound (op_at (suc l) ts) ts us r refl e
 
-  operands-of : (l depth : ℕ) (rs : List (Op × Expr P)) (ts us : List (Tok P)) → Each (IsPair l depth) rs ts us → AreOperands l depth (operands_from rs) ts us
+  pub operands-of : (l depth : ℕ) (rs : List (Op × Expr P)) (ts us : List (Tok P)) → Each (IsPair l depth) rs ts us → AreOperands l depth (operands_from rs) ts us
   operands-of l depth [] ts us took = took
   operands-of l depth (r ∷ rs) ts us (ws, (vs, op, e), more) = (vs, op, (ws, e, operands-of l depth rs ws us more))
 

@@ -70,7 +70,7 @@ module _ {P : Type 0} where
   unfolding params
   params_never ts n e = in_parens_never param param_never ts n e
 
-  block_opens : Opens {P = P} block (a w.BEGIN ▷ OpensStmts MOST_LEVELS)
+  block_opens : Opens {P = P} (block MOST_LEVELS) (a w.BEGIN ▷ OpensStmts MOST_LEVELS)
   unfolding block
   block_opens ts n e =
       let c = past_word w.BEGIN ts _ n e in
@@ -97,7 +97,7 @@ module _ {P : Type 0} where
       let s = past (scalar_type c.0.1) _ (nesting n) (scalar_never c.0.1 n) c.2 in
       no_fault _ _ s.2
 
-  value_opens : (k : RoutineKind) (ts : List (Tok P)) (n : ℕ) → value k ts ≡ Err (nesting n) → (k ≡ function) × Reaches (a w.RETURN ▷ OpensExpr MOST_LEVELS) ts n
+  value_opens : (k : RoutineKind) (ts : List (Tok P)) (n : ℕ) → value MOST_LEVELS k ts ≡ Err (nesting n) → (k ≡ function) × Reaches (a w.RETURN ▷ OpensExpr MOST_LEVELS) ts n
   unfolding value
   value_opens procedure ts n e = absurd (no_fault _ _ e)
   value_opens function ts n e =
@@ -108,7 +108,7 @@ module _ {P : Type 0} where
       (refl, (r.0, (c.0.1, a_sound w.RETURN ts c.0.1 c.0.0 c.1, r.1), r.2)))
       (λ x good e. absurd (no_fault _ _ e)) c.2
 
-  routine_opens : Opens {P = P} routine_decl OpensRoutine
+  routine_opens : Opens {P = P} (routine_decl MOST_LEVELS) OpensRoutine
   unfolding routine_decl
   routine_opens ts n e =
       let k = past (routine_kind ts) _ (nesting n) (routine_kind_never ts n) e in
@@ -127,19 +127,19 @@ module _ {P : Type 0} where
         (m.0.1, named_read, (p1, left, (p2, (p.0.0, ps), (p.0.1, right, (r.0.1, (r.0.0, result_read), (v.0.1, (v.0.0, vars_read), begin)))))),
       ) in
       it in
-      by_step (block v.0.1) _ (nesting n)
+      by_step (block MOST_LEVELS v.0.1) _ (nesting n)
       (λ bad. let (us, (b1, begin, o), is) = block_opens v.0.1 n bad in (us, inl (b1, (k.0.0, front b1 begin), o), is))
       (λ b good e.
       let (b1, begin, ss) = block_sound v.0.1 b.1 b.0 good in
-      by_step (value k.0.0 b.1) _ (nesting n)
+      by_step (value MOST_LEVELS k.0.0 b.1) _ (nesting n)
       (λ bad.
       let (function_read, (us, o, is)) = value_opens k.0.0 b.1 n bad in
       (us, inr (b1, subst (λ k. RoutineFront k ts b1) function_read (front b1 begin), (b.1, (stmts_of b.0, ss), o)), is))
       (λ x good e. let c = past (close x.1) _ (nesting n) (close_never x.1 n) e in absurd (no_fault _ _ c.2)) e) v.2
 
-  routines_opens : Opens {P = P} routines (Whole (Each IsRoutine) ▷ OpensRoutine)
+  routines_opens : Opens {P = P} (routines MOST_LEVELS) (Whole (Each IsRoutine) ▷ OpensRoutine)
   unfolding routines
-  routines_opens ts n e = many_opens routine_decl IsRoutine routine_sound OpensRoutine routine_opens begins_routine ts n e
+  routines_opens ts n e = many_opens (routine_decl MOST_LEVELS) IsRoutine routine_sound OpensRoutine routine_opens begins_routine ts n e
 
   -- ---- monitors
 
@@ -153,24 +153,24 @@ module _ {P : Type 0} where
   unfolding members
   members_never ts n e = many_never member member_never begins_member ts n e
 
-  entry_opens : Opens {P = P} entry_decl (a w.ENTRY ▷ OpensRoutine)
+  entry_opens : Opens {P = P} (entry_decl MOST_LEVELS) (a w.ENTRY ▷ OpensRoutine)
   unfolding entry_decl
   entry_opens ts n e =
       let c = past_word w.ENTRY ts _ n e in
       let r = routine_opens c.0.1 n c.2 in
       (r.0, (c.0.1, a_sound w.ENTRY ts c.0.1 c.0.0 c.1, r.1), r.2)
 
-  entries_opens : Opens {P = P} entries (Whole (Each IsEntry) ▷ a w.ENTRY ▷ OpensRoutine)
+  entries_opens : Opens {P = P} (entries MOST_LEVELS) (Whole (Each IsEntry) ▷ a w.ENTRY ▷ OpensRoutine)
   unfolding entries
-  entries_opens ts n e = many_opens entry_decl IsEntry entry_sound (a w.ENTRY ▷ OpensRoutine) entry_opens (is_at w.ENTRY) ts n e
+  entries_opens ts n e = many_opens (entry_decl MOST_LEVELS) IsEntry entry_sound (a w.ENTRY ▷ OpensRoutine) entry_opens (is_at w.ENTRY) ts n e
 
-  monitor_opens : Opens {P = P} monitor_decl OpensMonitor
+  monitor_opens : Opens {P = P} (monitor_decl MOST_LEVELS) OpensMonitor
   unfolding monitor_decl
   monitor_opens ts n e =
       let c = past_word w.MONITOR ts _ n e in
       let m = past_name c.0.1 _ n c.2 in
       let x = past (members m.0.1) _ (nesting n) (members_never m.0.1 n) m.2 in
-      by_step (entries x.0.1) _ (nesting n)
+      by_step (entries MOST_LEVELS x.0.1) _ (nesting n)
       (λ bad.
       let r = entries_opens x.0.1 n bad in
       (r.0, (c.0.1, a_sound w.MONITOR ts c.0.1 c.0.0 c.1, (m.0.1, name-read c.0.1 m.0.1 m.0.0 m.1, (x.0.1, (x.0.0, members_sound m.0.1 x.0.1 x.0.0 x.1), r.1))), r.2))
@@ -227,7 +227,7 @@ module _ {P : Type 0} where
       let d = past_word w.RIGHT_PAREN x.0.1 _ n x.2 in
       no_fault _ _ d.2
 
-  handler_opens : Opens {P = P} handler (a w.HANDLER ▷ a w.LEFT_PAREN ▷ Whole (Listed IsConstant) ▷ a w.RIGHT_PAREN ▷ OpensStmts MOST_LEVELS)
+  handler_opens : Opens {P = P} (handler MOST_LEVELS) (a w.HANDLER ▷ a w.LEFT_PAREN ▷ Whole (Listed IsConstant) ▷ a w.RIGHT_PAREN ▷ OpensStmts MOST_LEVELS)
   unfolding handler
   handler_opens ts n e =
       by_if (is_at w.HANDLER ts) _ _ _
@@ -242,7 +242,7 @@ module _ {P : Type 0} where
       (λ y good e. absurd (no_fault _ _ e)) x.2)
       (λ is e. absurd (no_fault _ _ e)) e
 
-  process_opens : Opens {P = P} process_decl OpensProcess
+  process_opens : Opens {P = P} (process_decl MOST_LEVELS) OpensProcess
   unfolding process_decl
   process_opens ts n e =
       let c = past_word w.PROCESS ts _ n e in
@@ -261,15 +261,15 @@ module _ {P : Type 0} where
         (m.0.1, named_read, (d.0.1, colon, (x.0.1, (x.0.0, activation_read), (v.0.1, (v.0.0, vars_read), rs)))),
       ) in
       it in
-      by_step (routines v.0.1) _ (nesting n)
+      by_step (routines MOST_LEVELS v.0.1) _ (nesting n)
       (λ bad. let (us, (r1, rs, o), is) = routines_opens v.0.1 n bad in (us, inl (r1, front r1 rs, o), is))
       (λ r good e.
       let all = front r.1 (r.0, routines_sound v.0.1 r.1 r.0 good) in
-      by_step (block r.1) _ (nesting n)
+      by_step (block MOST_LEVELS r.1) _ (nesting n)
       (λ bad. let (us, o, is) = block_opens r.1 n bad in (us, inr (inl (r.1, all, o)), is))
       (λ b good e.
       let (b1, begin, ss) = block_sound r.1 b.1 b.0 good in
-      by_step (handler b.1) _ (nesting n)
+      by_step (handler MOST_LEVELS b.1) _ (nesting n)
       (λ bad. let (us, o, is) = handler_opens b.1 n bad in (us, inr (inr (r.1, all, (b1, begin, (b.1, (stmts_of b.0, ss), o)))), is))
       (λ h good e. let z = past (close h.1) _ (nesting n) (close_never h.1 n) e in absurd (no_fault _ _ z.2)) e) e) v.2
 
@@ -302,7 +302,7 @@ module _ {P : Type 0} where
   unfolding event_decl
   event_never ts n e = let c = past_word w.EVENT ts _ n e in let m = past_name c.0.1 _ n c.2 in no_fault _ _ m.2
 
-  decl_opens : Opens {P = P} decl OpensDecl
+  decl_opens : Opens {P = P} (decl MOST_LEVELS) OpensDecl
   unfolding decl
   decl_opens ts n e =
       by_if (is_at w.CONST ts) _ _ _ (λ is e. absurd (const_never ts n e)) (λ is e.
@@ -310,23 +310,23 @@ module _ {P : Type 0} where
       by_if (is_at w.EVENT ts) _ _ _ (λ is e. absurd (event_never ts n e)) (λ is e.
       by_if (is_at w.MONITOR ts) _ _ _
       (λ is e.
-      by_step (monitor_decl ts) _ (nesting n) (λ bad. let r = monitor_opens ts n bad in (r.0, inr (inl r.1), r.2)) (λ x good e. absurd (no_fault _ _ e)) e) (λ is e.
+      by_step (monitor_decl MOST_LEVELS ts) _ (nesting n) (λ bad. let r = monitor_opens ts n bad in (r.0, inr (inl r.1), r.2)) (λ x good e. absurd (no_fault _ _ e)) e) (λ is e.
       by_if (is_at w.PROCESS ts) _ _ _
       (λ is e.
-      by_step (process_decl ts) _ (nesting n) (λ bad. let r = process_opens ts n bad in (r.0, inr (inr r.1), r.2)) (λ x good e. absurd (no_fault _ _ e)) e)
+      by_step (process_decl MOST_LEVELS ts) _ (nesting n) (λ bad. let r = process_opens ts n bad in (r.0, inr (inr r.1), r.2)) (λ x good e. absurd (no_fault _ _ e)) e)
       (λ is e.
-      by_step (routine_decl ts) _ (nesting n) (λ bad. let r = routine_opens ts n bad in (r.0, inl r.1, r.2)) (λ x good e. absurd (no_fault _ _ e)) e) e) e) e) e) e
+      by_step (routine_decl MOST_LEVELS ts) _ (nesting n) (λ bad. let r = routine_opens ts n bad in (r.0, inl r.1, r.2)) (λ x good e. absurd (no_fault _ _ e)) e) e) e) e) e) e
 
-  decls_opens : Opens {P = P} decls (Whole (Each IsDecl) ▷ OpensDecl)
+  decls_opens : Opens {P = P} (decls MOST_LEVELS) (Whole (Each IsDecl) ▷ OpensDecl)
   unfolding decls
-  decls_opens ts n e = many_opens decl IsDecl decl_sound OpensDecl decl_opens begins_decl ts n e
+  decls_opens ts n e = many_opens (decl MOST_LEVELS) IsDecl decl_sound OpensDecl decl_opens begins_decl ts n e
 
-  prog_opens : Opens {P = P} prog OpensProg
+  prog_opens : Opens {P = P} (prog MOST_LEVELS) OpensProg
   unfolding prog
   prog_opens ts n e =
       let c = past_word w.PROGRAM ts _ n e in
       let m = past_name c.0.1 _ n c.2 in
-      by_step (decls m.0.1) _ (nesting n)
+      by_step (decls MOST_LEVELS m.0.1) _ (nesting n)
       (λ bad. let r = decls_opens m.0.1 n bad in (r.0, (c.0.1, a_sound w.PROGRAM ts c.0.1 c.0.0 c.1, (m.0.1, name-read c.0.1 m.0.1 m.0.0 m.1, r.1)), r.2))
       (λ d good e. let z = past (close d.1) _ (nesting n) (close_never d.1 n) e in absurd (no_fault _ _ z.2)) m.2
 
@@ -335,6 +335,6 @@ module _ {P : Type 0} where
   last_never x (u ∷ us) n e = cc
 
   -- a list of tokens is at fault for nesting only at one that opens a level beyond the last
-  pub whole_opens : (ts : List (Tok P)) (n : ℕ) → whole ts ≡ Err (nesting n) → Reaches OpensProg ts n
+  pub whole_opens : (ts : List (Tok P)) (n : ℕ) → whole MOST_LEVELS ts ≡ Err (nesting n) → Reaches OpensProg ts n
   unfolding whole
-  whole_opens ts n e = by_step (prog ts) _ (nesting n) (λ bad. prog_opens ts n bad) (λ x good e. absurd (last_never x.0 x.1 n e)) e
+  whole_opens ts n e = by_step (prog MOST_LEVELS ts) _ (nesting n) (λ bad. prog_opens ts n bad) (λ x good e. absurd (last_never x.0 x.1 n e)) e

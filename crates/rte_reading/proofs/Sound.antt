@@ -87,7 +87,7 @@ module _ {P : Type 0} where
   abbrev pub IsBlock : List (Stmt P) → List (Tok P) → List (Tok P) → Type 0
   IsBlock ss = a w.BEGIN ▷ AreStmts MOST_LEVELS (stmts_of ss)
 
-  pub block_sound : Sound {P = P} block IsBlock
+  pub block_sound : Sound {P = P} (block MOST_LEVELS) IsBlock
   unfolding block
   block_sound ts us s e =
       let c = bind_ok (expect w.BEGIN ts) _ _ e in (c.0.1, a_sound w.BEGIN ts c.0.1 c.0.0 c.1, all_stmts_sound MOST_LEVELS c.0.1 us s c.2)
@@ -117,7 +117,7 @@ module _ {P : Type 0} where
       done (IsResult function) ts (Some x.0.0) s x.0.1 us
       (c.0.1, a_sound w.RETURNS ts c.0.1 c.0.0 c.1, scalar_sound c.0.1 x.0.1 x.0.0 x.1) x.2
 
-  value_sound : (k : RoutineKind) → Sound {P = P} (value k) (IsValue k)
+  value_sound : (k : RoutineKind) → Sound {P = P} (value MOST_LEVELS k) (IsValue k)
   unfolding value
   value_sound procedure ts us s e = done (IsValue procedure) ts None s ts us refl e
   value_sound function ts us s e =
@@ -126,7 +126,7 @@ module _ {P : Type 0} where
       done (IsValue function) ts (Some x.0.0) s x.0.1 us
       (c.0.1, a_sound w.RETURN ts c.0.1 c.0.0 c.1, expr_sound MOST_LEVELS c.0.1 x.0.1 x.0.0 x.1) x.2
 
-  pub routine_sound : Sound {P = P} routine_decl IsRoutine
+  pub routine_sound : Sound {P = P} (routine_decl MOST_LEVELS) IsRoutine
   unfolding routine_decl
   routine_sound ts us s e =
       let k = bind_ok (routine_kind ts) _ _ e in
@@ -134,8 +134,8 @@ module _ {P : Type 0} where
       let p = bind_ok (params n.0.1) _ _ n.2 in
       let r = bind_ok (result k.0.0 p.0.1) _ _ p.2 in
       let v = bind_ok (vars r.0.1) _ _ r.2 in
-      let b = bind_ok (block v.0.1) _ _ v.2 in
-      let x = bind_ok (value k.0.0 b.0.1) _ _ b.2 in
+      let b = bind_ok (block MOST_LEVELS v.0.1) _ _ v.2 in
+      let x = bind_ok (value MOST_LEVELS k.0.0 b.0.1) _ _ b.2 in
       let c = bind_ok (close x.0.1) _ _ x.2 in
       let (p1, left, (p2, ps, right)) = params_sound n.0.1 p.0.1 p.0.0 p.1 in
       let (b1, begin, ss) = block_sound v.0.1 b.0.1 b.0.0 b.1 in
@@ -188,9 +188,9 @@ module _ {P : Type 0} where
         ),
       ) c.2
 
-  pub routines_sound : Sound {P = P} routines (Each IsRoutine)
+  pub routines_sound : Sound {P = P} (routines MOST_LEVELS) (Each IsRoutine)
   unfolding routines
-  routines_sound ts us s e = many_sound routine_decl IsRoutine routine_sound begins_routine ts us s e
+  routines_sound ts us s e = many_sound (routine_decl MOST_LEVELS) IsRoutine routine_sound begins_routine ts us s e
 
   -- ---- monitors
 
@@ -205,7 +205,7 @@ module _ {P : Type 0} where
       done IsMember ts (condition_member n.0.0.0 n.0.0.1) s n.0.1 us
       (c.0.1, a_sound w.CONDITION ts c.0.1 c.0.0 c.1, name_sound c.0.1 n.0.1 n.0.0 n.1) n.2) e
 
-  pub entry_sound : Sound {P = P} entry_decl IsEntry
+  pub entry_sound : Sound {P = P} (entry_decl MOST_LEVELS) IsEntry
   unfolding entry_decl
   entry_sound ts us s e = let c = bind_ok (expect w.ENTRY ts) _ _ e in (c.0.1, a_sound w.ENTRY ts c.0.1 c.0.0 c.1, routine_sound c.0.1 us s c.2)
 
@@ -213,17 +213,17 @@ module _ {P : Type 0} where
   unfolding members
   members_sound ts us s e = many_sound member IsMember member_sound begins_member ts us s e
 
-  pub entries_sound : Sound {P = P} entries (Each IsEntry)
+  pub entries_sound : Sound {P = P} (entries MOST_LEVELS) (Each IsEntry)
   unfolding entries
-  entries_sound ts us s e = many_sound entry_decl IsEntry entry_sound (is_at w.ENTRY) ts us s e
+  entries_sound ts us s e = many_sound (entry_decl MOST_LEVELS) IsEntry entry_sound (is_at w.ENTRY) ts us s e
 
-  monitor_sound : Sound {P = P} monitor_decl IsMonitor
+  monitor_sound : Sound {P = P} (monitor_decl MOST_LEVELS) IsMonitor
   unfolding monitor_decl
   monitor_sound ts us s e =
       let c = bind_ok (expect w.MONITOR ts) _ _ e in
       let n = bind_ok (name c.0.1) _ _ c.2 in
       let m = bind_ok (members n.0.1) _ _ n.2 in
-      let x = bind_ok (entries m.0.1) _ _ m.2 in
+      let x = bind_ok (entries MOST_LEVELS m.0.1) _ _ m.2 in
       let z = bind_ok (close x.0.1) _ _ x.2 in
       done IsMonitor ts (record { name = n.0.0.0; place = n.0.0.1; members = m.0.0; entries = x.0.0; close = z.0.0.0; close_place = z.0.0.1 }) s z.0.1 us
       (c.0.1, a_sound w.MONITOR ts c.0.1 c.0.0 c.1, (n.0.1, name_sound c.0.1 n.0.1 n.0.0 n.1, (m.0.1, members_sound n.0.1 m.0.1 m.0.0 m.1, (x.0.1, entries_sound m.0.1 x.0.1 x.0.0 x.1, close_sound x.0.1 z.0.1 z.0.0 z.1)))) z.2
@@ -301,7 +301,7 @@ module _ {P : Type 0} where
       done (λ ns. a w.LEFT_PAREN ▷ Listed IsConstant ns ▷ a w.RIGHT_PAREN) ts x.0.0 s d.0.1 us
       (c.0.1, a_sound w.LEFT_PAREN ts c.0.1 c.0.0 c.1, (x.0.1, listed_sound constant IsConstant constant_sound c.0.1 x.0.1 x.0.0 x.1, a_sound w.RIGHT_PAREN x.0.1 d.0.1 d.0.0 d.1)) d.2
 
-  handler_sound : Sound {P = P} handler IsHandler
+  handler_sound : Sound {P = P} (handler MOST_LEVELS) IsHandler
   unfolding handler
   handler_sound ts us s e =
       by_if (is_at w.HANDLER ts) _ _ _
@@ -314,7 +314,7 @@ module _ {P : Type 0} where
       (c.0.1, a_sound w.HANDLER ts c.0.1 c.0.0 c.1, (n1, left, (n2, ns, (n.0.1, right, all_stmts_sound MOST_LEVELS n.0.1 x.0.1 x.0.0 x.1)))) x.2)
       (λ is e. done IsHandler ts None s ts us refl e) e
 
-  process_sound : Sound {P = P} process_decl IsProcess
+  process_sound : Sound {P = P} (process_decl MOST_LEVELS) IsProcess
   unfolding process_decl
   process_sound ts us s e =
       let c = bind_ok (expect w.PROCESS ts) _ _ e in
@@ -322,9 +322,9 @@ module _ {P : Type 0} where
       let d = bind_ok (expect w.COLON n.0.1) _ _ n.2 in
       let x = bind_ok (activation d.0.1) _ _ d.2 in
       let v = bind_ok (vars x.0.1) _ _ x.2 in
-      let r = bind_ok (routines v.0.1) _ _ v.2 in
-      let b = bind_ok (block r.0.1) _ _ r.2 in
-      let h = bind_ok (handler b.0.1) _ _ b.2 in
+      let r = bind_ok (routines MOST_LEVELS v.0.1) _ _ v.2 in
+      let b = bind_ok (block MOST_LEVELS r.0.1) _ _ r.2 in
+      let h = bind_ok (handler MOST_LEVELS b.0.1) _ _ b.2 in
       let z = bind_ok (close h.0.1) _ _ h.2 in
       let (b1, begin, ss) = block_sound r.0.1 b.0.1 b.0.0 b.1 in
       done IsProcess ts (record {
@@ -400,28 +400,28 @@ module _ {P : Type 0} where
       done IsDecl ts (event n.0.0.0 n.0.0.1) s n.0.1 us
       (c.0.1, a_sound w.EVENT ts c.0.1 c.0.0 c.1, name_sound c.0.1 n.0.1 n.0.0 n.1) n.2
 
-  pub decl_sound : Sound {P = P} decl IsDecl
+  pub decl_sound : Sound {P = P} (decl MOST_LEVELS) IsDecl
   unfolding decl
   decl_sound ts us s e =
       by_if (is_at w.CONST ts) _ _ _ (λ is e. const_sound ts us s e) (λ is e.
       by_if (is_at w.DEVICE ts) _ _ _ (λ is e. device_sound ts us s e) (λ is e.
       by_if (is_at w.EVENT ts) _ _ _ (λ is e. event_sound ts us s e) (λ is e.
       by_if (is_at w.MONITOR ts) _ _ _
-      (λ is e. let x = bind_ok (monitor_decl ts) _ _ e in done IsDecl ts (monitor x.0.0) s x.0.1 us (monitor_sound ts x.0.1 x.0.0 x.1) x.2) (λ is e.
+      (λ is e. let x = bind_ok (monitor_decl MOST_LEVELS ts) _ _ e in done IsDecl ts (monitor x.0.0) s x.0.1 us (monitor_sound ts x.0.1 x.0.0 x.1) x.2) (λ is e.
       by_if (is_at w.PROCESS ts) _ _ _
-      (λ is e. let x = bind_ok (process_decl ts) _ _ e in done IsDecl ts (process x.0.0) s x.0.1 us (process_sound ts x.0.1 x.0.0 x.1) x.2)
-      (λ is e. let x = bind_ok (routine_decl ts) _ _ e in done IsDecl ts (routine x.0.0) s x.0.1 us (routine_sound ts x.0.1 x.0.0 x.1) x.2) e) e) e) e) e
+      (λ is e. let x = bind_ok (process_decl MOST_LEVELS ts) _ _ e in done IsDecl ts (process x.0.0) s x.0.1 us (process_sound ts x.0.1 x.0.0 x.1) x.2)
+      (λ is e. let x = bind_ok (routine_decl MOST_LEVELS ts) _ _ e in done IsDecl ts (routine x.0.0) s x.0.1 us (routine_sound ts x.0.1 x.0.0 x.1) x.2) e) e) e) e) e
 
-  decls_sound : Sound {P = P} decls (Each IsDecl)
+  decls_sound : Sound {P = P} (decls MOST_LEVELS) (Each IsDecl)
   unfolding decls
-  decls_sound ts us s e = many_sound decl IsDecl decl_sound begins_decl ts us s e
+  decls_sound ts us s e = many_sound (decl MOST_LEVELS) IsDecl decl_sound begins_decl ts us s e
 
-  pub prog_sound : Sound {P = P} prog IsProg
+  pub prog_sound : Sound {P = P} (prog MOST_LEVELS) IsProg
   unfolding prog
   prog_sound ts us s e =
       let c = bind_ok (expect w.PROGRAM ts) _ _ e in
       let n = bind_ok (name c.0.1) _ _ c.2 in
-      let d = bind_ok (decls n.0.1) _ _ n.2 in
+      let d = bind_ok (decls MOST_LEVELS n.0.1) _ _ n.2 in
       let z = bind_ok (close d.0.1) _ _ d.2 in
       done IsProg ts (record { name = n.0.0.0; place = n.0.0.1; decls = d.0.0; close = z.0.0.0; close_place = z.0.0.1 }) s z.0.1 us
       (c.0.1, a_sound w.PROGRAM ts c.0.1 c.0.0 c.1, (n.0.1, name_sound c.0.1 n.0.1 n.0.0 n.1, (d.0.1, decls_sound n.0.1 d.0.1 d.0.0 d.1, close_sound d.0.1 z.0.1 z.0.0 z.1))) z.2
@@ -430,6 +430,6 @@ module _ {P : Type 0} where
   last_sound h g ts [] took e = let same : h ≡ g = cc in subst (λ x. IsProg x ts []) same took
   last_sound h g ts (u ∷ us) took e = cc
 
-  pub whole_sound : (ts : List (Tok P)) (g : Prog P) → whole ts ≡ Ok g → IsProg g ts []
+  pub whole_sound : (ts : List (Tok P)) (g : Prog P) → whole MOST_LEVELS ts ≡ Ok g → IsProg g ts []
   unfolding whole
-  whole_sound ts g e = let x = bind_ok (prog ts) _ _ e in last_sound x.0.0 g ts x.0.1 (prog_sound ts x.0.1 x.0.0 x.1) x.2
+  whole_sound ts g e = let x = bind_ok (prog MOST_LEVELS ts) _ _ e in last_sound x.0.0 g ts x.0.1 (prog_sound ts x.0.1 x.0.0 x.1) x.2

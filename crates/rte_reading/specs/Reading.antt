@@ -1,11 +1,10 @@
 -- Reading declarations and programs.
-use Rattle.std.specs.Prelude.{Bool, true, false, ◌||◌, if◌then◌else◌, List, [], ◌∷◌, length, Result, Ok, Err, Option, Some, None}
+use Rattle.std.specs.Prelude.{ℕ, Bool, true, false, ◌||◌, if◌then◌else◌, List, [], ◌∷◌, length, Result, Ok, Err, Option, Some, None}
 use Rattle.rte_tree.specs.Plain.{Name}
 use Rattle.rte_tree.specs.Placed.{Constant, Scalar, int, boolean, subrange, Kind, scalar, array, Var, Param, Expr, Stmt, stmts_of, RoutineKind, procedure, function, Routine, Member, variable_member, condition_member, Monitor, Activation, periodic, at_event, Handler, Process, Decl, device, event, routine, monitor, process, Prog}
 use Rattle.rte_tree.specs.Placed as tree
 use Rattle.rte_grammar.specs.Words as w
 use Rattle.rte_grammar.specs.Words.{Word, named, number, keyword, sign, Tok}
-use Rattle.rte_grammar.specs.Grammar.{MOST_LEVELS}
 use Rattle.rte_reading.specs.ExprReading.{Fault, syntax, ◌>>=◌, Parse, is_at, expect, name, many, listed, in_parens, constant, expr}
 use Rattle.rte_reading.specs.StmtReading.{stmts}
 
@@ -38,8 +37,10 @@ param ts = name ts >>= λ n. expect w.COLON n.1 >>= λ c. scalar_type c.1 >>= λ
 unfoldable pub params : {P : Type 0} → Parse P (List (Param P))
 params ts = in_parens param ts
 
-unfoldable pub block : {P : Type 0} → Parse P (List (Stmt P))
-block ts = expect w.BEGIN ts >>= λ c. stmts MOST_LEVELS c.1
+-- from here on with a number of levels of nesting
+
+unfoldable pub block : {P : Type 0} → ℕ → Parse P (List (Stmt P))
+block depth ts = expect w.BEGIN ts >>= λ c. stmts depth c.1
 
 -- the closing name
 unfoldable pub close : {P : Type 0} → Parse P (Name × P)
@@ -56,14 +57,14 @@ unfoldable pub result : {P : Type 0} → RoutineKind → Parse P (Option (Scalar
 result procedure ts = Ok (None, ts)
 result function ts = expect w.RETURNS ts >>= λ c. scalar_type c.1 >>= λ s. Ok (Some s.0, s.1)
 
-unfoldable pub value : {P : Type 0} → RoutineKind → Parse P (Option (Expr P))
-value procedure ts = Ok (None, ts)
-value function ts = expect w.RETURN ts >>= λ c. expr MOST_LEVELS c.1 >>= λ e. Ok (Some e.0, e.1)
+unfoldable pub value : {P : Type 0} → ℕ → RoutineKind → Parse P (Option (Expr P))
+value depth procedure ts = Ok (None, ts)
+value depth function ts = expect w.RETURN ts >>= λ c. expr depth c.1 >>= λ e. Ok (Some e.0, e.1)
 
-unfoldable pub routine_decl : {P : Type 0} → Parse P (Routine P)
-routine_decl ts =
-    routine_kind ts >>= λ k. name k.1 >>= λ n. params n.1 >>= λ ps. result k.0 ps.1 >>= λ s. vars s.1 >>= λ vs. block vs.1 >>= λ b.
-    value k.0 b.1 >>= λ e. close e.1 >>= λ c.
+unfoldable pub routine_decl : {P : Type 0} → ℕ → Parse P (Routine P)
+routine_decl depth ts =
+    routine_kind ts >>= λ k. name k.1 >>= λ n. params n.1 >>= λ ps. result k.0 ps.1 >>= λ s. vars s.1 >>= λ vs. block depth vs.1 >>= λ b.
+    value depth k.0 b.1 >>= λ e. close e.1 >>= λ c.
     Ok (
       record {
         kind = k.0;
@@ -83,8 +84,8 @@ routine_decl ts =
 abbrev pub begins_routine : {P : Type 0} → List (Tok P) → Bool
 begins_routine ts = is_at w.PROCEDURE ts || is_at w.FUNCTION ts
 
-unfoldable pub routines : {P : Type 0} → Parse P (List (Routine P))
-routines ts = many begins_routine routine_decl ts
+unfoldable pub routines : {P : Type 0} → ℕ → Parse P (List (Routine P))
+routines depth ts = many begins_routine (routine_decl depth) ts
 
 -- ---- monitors
 
@@ -99,15 +100,15 @@ member ts =
 unfoldable pub members : {P : Type 0} → Parse P (List (Member P))
 members ts = many begins_member member ts
 
-unfoldable pub entry_decl : {P : Type 0} → Parse P (Routine P)
-entry_decl ts = expect w.ENTRY ts >>= λ c. routine_decl c.1
+unfoldable pub entry_decl : {P : Type 0} → ℕ → Parse P (Routine P)
+entry_decl depth ts = expect w.ENTRY ts >>= λ c. routine_decl depth c.1
 
-unfoldable pub entries : {P : Type 0} → Parse P (List (Routine P))
-entries ts = many (is_at w.ENTRY) entry_decl ts
+unfoldable pub entries : {P : Type 0} → ℕ → Parse P (List (Routine P))
+entries depth ts = many (is_at w.ENTRY) (entry_decl depth) ts
 
-unfoldable pub monitor_decl : {P : Type 0} → Parse P (Monitor P)
-monitor_decl ts =
-    expect w.MONITOR ts >>= λ c. name c.1 >>= λ n. members n.1 >>= λ ms. entries ms.1 >>= λ es. close es.1 >>= λ c.
+unfoldable pub monitor_decl : {P : Type 0} → ℕ → Parse P (Monitor P)
+monitor_decl depth ts =
+    expect w.MONITOR ts >>= λ c. name c.1 >>= λ n. members n.1 >>= λ ms. entries depth ms.1 >>= λ es. close es.1 >>= λ c.
     Ok (record { name = n.0.0; place = n.0.1; members = ms.0; entries = es.0; close = c.0.0; close_place = c.0.1 }, c.1)
 
 -- ---- processes
@@ -134,17 +135,17 @@ activation ts =
 unfoldable pub numbers : {P : Type 0} → Parse P (List (Constant P))
 numbers ts = expect w.LEFT_PAREN ts >>= λ c. listed constant c.1 >>= λ ns. expect w.RIGHT_PAREN ns.1 >>= λ c. Ok (ns.0, c.1)
 
-unfoldable pub handler : {P : Type 0} → Parse P (Option (Handler P))
-handler ts =
+unfoldable pub handler : {P : Type 0} → ℕ → Parse P (Option (Handler P))
+handler depth ts =
     if is_at w.HANDLER ts then
-    (expect w.HANDLER ts >>= λ c. numbers c.1 >>= λ ns. stmts MOST_LEVELS ns.1 >>= λ ss.
+    (expect w.HANDLER ts >>= λ c. numbers c.1 >>= λ ns. stmts depth ns.1 >>= λ ss.
     Ok (Some (record { numbers = ns.0; body = stmts_of ss.0 }), ss.1))
     else Ok (None, ts)
 
-unfoldable pub process_decl : {P : Type 0} → Parse P (Process P)
-process_decl ts =
+unfoldable pub process_decl : {P : Type 0} → ℕ → Parse P (Process P)
+process_decl depth ts =
     expect w.PROCESS ts >>= λ c. name c.1 >>= λ n. expect w.COLON n.1 >>= λ c. activation c.1 >>= λ a. vars a.1 >>= λ vs.
-    routines vs.1 >>= λ rs. block rs.1 >>= λ b. handler b.1 >>= λ h. close h.1 >>= λ c.
+    routines depth vs.1 >>= λ rs. block depth rs.1 >>= λ b. handler depth b.1 >>= λ h. close h.1 >>= λ c.
     Ok (
       record {
         name = n.0.0;
@@ -175,25 +176,25 @@ device_decl ts = expect w.DEVICE ts >>= λ c. name c.1 >>= λ n. expect w.COLON 
 unfoldable pub event_decl : {P : Type 0} → Parse P (Decl P)
 event_decl ts = expect w.EVENT ts >>= λ c. name c.1 >>= λ n. Ok (event n.0.0 n.0.1, n.1)
 
-unfoldable pub decl : {P : Type 0} → Parse P (Decl P)
-decl ts =
+unfoldable pub decl : {P : Type 0} → ℕ → Parse P (Decl P)
+decl depth ts =
     if is_at w.CONST ts then const_decl ts
     else if is_at w.DEVICE ts then device_decl ts
     else if is_at w.EVENT ts then event_decl ts
-    else if is_at w.MONITOR ts then (monitor_decl ts >>= λ m. Ok (monitor m.0, m.1))
-    else if is_at w.PROCESS ts then (process_decl ts >>= λ p. Ok (process p.0, p.1))
-    else (routine_decl ts >>= λ r. Ok (routine r.0, r.1))
+    else if is_at w.MONITOR ts then (monitor_decl depth ts >>= λ m. Ok (monitor m.0, m.1))
+    else if is_at w.PROCESS ts then (process_decl depth ts >>= λ p. Ok (process p.0, p.1))
+    else (routine_decl depth ts >>= λ r. Ok (routine r.0, r.1))
 
 abbrev pub begins_decl : {P : Type 0} → List (Tok P) → Bool
 begins_decl ts =
     is_at w.CONST ts || is_at w.DEVICE ts || is_at w.EVENT ts || is_at w.MONITOR ts || is_at w.PROCESS ts || begins_routine ts
 
-unfoldable pub decls : {P : Type 0} → Parse P (List (Decl P))
-decls ts = many begins_decl decl ts
+unfoldable pub decls : {P : Type 0} → ℕ → Parse P (List (Decl P))
+decls depth ts = many begins_decl (decl depth) ts
 
-unfoldable pub prog : {P : Type 0} → Parse P (Prog P)
-prog ts =
-    expect w.PROGRAM ts >>= λ c. name c.1 >>= λ n. decls n.1 >>= λ ds. close ds.1 >>= λ c.
+unfoldable pub prog : {P : Type 0} → ℕ → Parse P (Prog P)
+prog depth ts =
+    expect w.PROGRAM ts >>= λ c. name c.1 >>= λ n. decls depth n.1 >>= λ ds. close ds.1 >>= λ c.
     Ok (record { name = n.0.0; place = n.0.1; decls = ds.0; close = c.0.0; close_place = c.0.1 }, c.1)
 
 abbrev pub if_last : {P A : Type 0} → A → List (Tok P) → Result A Fault
@@ -201,5 +202,5 @@ if_last x [] = Ok x
 if_last x (t ∷ ts) = Err (syntax (length (t ∷ ts)))
 
 -- the program that all the tokens are
-unfoldable pub whole : {P : Type 0} → List (Tok P) → Result (Prog P) Fault
-whole ts = prog ts >>= λ g. if_last g.0 g.1
+unfoldable pub whole : {P : Type 0} → ℕ → List (Tok P) → Result (Prog P) Fault
+whole depth ts = prog depth ts >>= λ g. if_last g.0 g.1

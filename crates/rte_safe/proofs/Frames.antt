@@ -8,7 +8,8 @@ use Rattle.rte_machine_meaning.specs.Trees.{Segs, Line, Fork, Rep, Exit, Nil, Co
 use Rattle.rte_machine_meaning.specs.State.{Operand, Value, Counter, State}
 use Rattle.rte_machine_meaning.specs.Effect.{Own, Outcome, Goes, Does, Signals, Broadcasts, Waits, Raises, Ends, Stuck, effect, holding, go_to, count_down, drop_counter}
 use Rattle.rte_isa.specs.Ticks.{ticks}
-use Rattle.rte_safe_terms.specs.Part.{Kind, Plain, Counts, kinds, plains, takes, gives, IsSized}
+use Rattle.rte_isa.specs.Operands.{takes, gives}
+use Rattle.rte_safe_terms.specs.Part.{Kind, Plain, Counts, kinds, plains, IsSized}
 use Rattle.rte_safe_terms.specs.Laws.{GoesOn, After, IsIn}
 use Rattle.rte_safe_terms.specs.Walk.{Where, Cost, Covers, At, IsLine, Walk, Walks}
 use Rattle.rte_safe_terms.specs.Path.{Step, Segment, Skip, Again, Leaves, under, held, then_rest, Follows, Frame, Moved, next_own}

@@ -6,7 +6,8 @@ use Rattle.rte_isa.specs.declared.instr.Instr.TheVariants as i
 use Rattle.rte_machine_meaning.specs.Trees.{Seg, Segs, Line, Fork, Rep, Call, Stay, Wait, Exit, Nil, Cons}
 use Rattle.rte_machine_meaning.specs.Image.{Image, Monitor, Routine}
 use Rattle.rte_isa.specs.Ticks.{ticks}
-use Rattle.rte_safe_terms.specs.Part.{Part, IsPlain, takes, gives}
+use Rattle.rte_isa.specs.Operands.{takes, gives}
+use Rattle.rte_safe_terms.specs.Part.{Part, IsPlain}
 
 -- ticks of execution, ticks of suspension, waits; and ticks of execution until the monitor is left that the process is inside
 pub record Cost : Type 0 where

@@ -2,4 +2,3 @@ pub mod Here
 pub mod Typed
 pub mod Statements
 pub mod WellFormed
-pub mod Examples

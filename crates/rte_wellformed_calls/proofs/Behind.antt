@@ -127,13 +127,16 @@ module _ (P : List Occurrence → Type 0) (rest : (o : Occurrence) (os : List Oc
       by (inl same) later = subst (AtRoutine outer) same (record { more = routines_names outer rs more; holds = h })
       by (inr there) later = later there
 
-  behind_start : (here : Site) (c : Option (Constant Place)) (more : List Occurrence) → P (optional_names (constant_names here) c more) → P more
-  behind_start here None more h = h
-  behind_start here (Some c) more h = behind_constant here c more h
+  behind_optional : (here : Site) (c : Option (Constant Place)) (more : List Occurrence) → P (optional_names (constant_names here) c more) → P more
+  behind_optional here None more h = h
+  behind_optional here (Some c) more h = behind_constant here c more h
 
   behind_activation : (here : Site) (a : Activation Place) (more : List Occurrence) → P (activation_names here a more) → P more
-  behind_activation here (periodic frame deadline start) more h = behind_start here start more (behind_constant here frame (optional_names (constant_names here) start more) h)
-  behind_activation here (at_event name place frame deadline) more h = behind_constant here frame more (rest _ _ h)
+  behind_activation here (periodic frame deadline start) more h =
+      let after = optional_names (constant_names here) start more in
+      behind_optional here start more (behind_optional here deadline after (behind_constant here frame (optional_names (constant_names here) deadline after) h))
+  behind_activation here (at_event name place frame deadline) more h =
+      behind_optional here deadline more (behind_constant here frame (optional_names (constant_names here) deadline more) (rest _ _ h))
 
   pub at_process_routine : (outer : Site) (p : Process Place) (r : Routine Place) (more : List Occurrence) → Contains p.routines r → P (process_names outer p more) → AtRoutine (inside (process_scope p) outer) r
   at_process_routine outer p r more listed h =

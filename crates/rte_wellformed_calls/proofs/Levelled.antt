@@ -4,6 +4,7 @@ use Rattle.std.specs.Prelude.{Contains}
 use Rattle.rte_tree.specs.Plain as plain_of
 use Rattle.rte_tree.specs.Plain.{Name}
 use Rattle.rte_tree.specs.Placed.{Routine, Process, routine, process, Prog, plain, plain_process, plain_routine}
+use Rattle.rte_tree.specs.Parts.{program_routines, routines}
 use Rattle.rte_tree.specs.declared.place.Place.{Place}
 use Rattle.rte_names.specs.declared.kind.Kind.{Kind}
 use Rattle.rte_names.specs.declared.kind.Kind.TheVariants as kind_is
@@ -14,7 +15,6 @@ use Rattle.rte_source_meaning.specs.Names.{routine_count}
 use Rattle.rte_source_meaning.specs.Run.{Found, routine_named}
 use Rattle.rte_source_meaning.specs.Nesting.{StmtsBelow, AnswersBelow, Levels}
 use Rattle.rte_rules_calls.specs.Calls.{routine_calls}
-use Rattle.rte_tree.specs.Parts.{routines, program_routines}
 use Rattle.rte_wellformed_terms.specs.Places.{NamesFound}
 use Rattle.rte_wellformed_terms.specs.Mirrors.{routine_of, IsEntry, StandsAs, Mirrors, program_site, process_site, NamesListed, AreMirrored}
 use Rattle.rte_wellformed_calls.specs.Levels.{ArePlaceLevels, HasPlaceLevels}

@@ -8,10 +8,10 @@ use Rattle.std.proofs.lemmas.Option.{same_Some, none-some}
 use Rattle.rte_tree.specs.Plain as plain_of
 use Rattle.rte_tree.specs.Plain.{Name}
 use Rattle.rte_tree.specs.Placed.{Routine, Process, Decl, constant, device, event, routine, monitor, process, Prog, plain, plain_routine, plain_process, plain_decl}
+use Rattle.rte_tree.specs.Parts.{program_routines, routines}
 use Rattle.rte_tree.specs.declared.place.Place.{Place}
 use Rattle.rte_source_meaning.specs.Names.{named, routine_in, routines_in, routine_count}
 use Rattle.rte_source_meaning.specs.Run.{Found, of_program, of_process, entry_name, or_else, routine_named}
-use Rattle.rte_tree.specs.Parts.{routines, program_routines}
 use Rattle.rte_wellformed_terms.specs.Mirrors.{routine_of}
 use Rattle.rte_rules_calls.proofs.CallEdges.{cons-cases, cons-tail}
 use Rattle.rte_wellformed_calls.proofs.Lists.{cons-head, none-contained}

@@ -7,7 +7,7 @@ use Rattle.rte_source_meaning.specs.Run.{Found, of_monitor, routine_named}
 use Rattle.rte_source_meaning.specs.Nesting.{Levels}
 use Rattle.rte_source_meaning.specs.Names.{processes, monitors}
 use Rattle.rte_source_laws.specs.Example.{one_put, handled_range, signalled_wait}
-use Rattle.rte_wellformed.specs.Examples.{put_inwards, undeclared, endless, circle, circular}
+use Rattle.rte_wellformed_examples.specs.Examples.{put_inwards, undeclared, endless, circle, circular, due_in, hurrying}
 use Rattle.rte_wellformed.specs.Here.{in_process}
 use Rattle.rte_wellformed.specs.Statements.{AllFit}
 use Rattle.rte_wellformed.specs.WellFormed.{IsWellFormed, ProcessFits, RoutineFits, MonitorFits, VarFits, IsHandled}
@@ -52,7 +52,7 @@ pub one_put_fits : IsWellFormed one_put
 one_put_fits = record {
   constants_fit = tt;
   processes_fit = all_one (ProcessFits one_put) _ (record {
-    activation = (record { constant = record { known_name = tt; word = refl }; limits = refl }, tt);
+    activation = (record { constant = record { known_name = tt; word = refl }; limits = refl }, tt, tt);
     vars = all_none _;
     body = ((refl, (0, omega arith, refl), (refl, omega arith)), tt);
     handler = tt;
@@ -105,7 +105,7 @@ pub handled_range_fits : IsWellFormed handled_range
 handled_range_fits = record {
   constants_fit = tt;
   processes_fit = all_one (ProcessFits handled_range) _ (record {
-    activation = (record { constant = record { known_name = tt; word = refl }; limits = refl }, tt);
+    activation = (record { constant = record { known_name = tt; word = refl }; limits = refl }, tt, tt);
     vars = all_one (VarFits handled_range) _ (record { low_constant = record { known_name = tt; word = refl }; high_constant = record { known_name = tt; word = refl }; order = refl });
     body = ((sort_is.Number, (refl, refl), (refl, omega arith)), tt);
     handler = record {
@@ -156,7 +156,7 @@ signalled_wait_fits = record {
   constants_fit = tt;
   processes_fit = all_two (ProcessFits signalled_wait) _ _
       (record {
-        activation = (record { constant = record { known_name = tt; word = refl }; limits = refl }, tt);
+        activation = (record { constant = record { known_name = tt; word = refl }; limits = refl }, tt, tt);
         vars = all_none _;
         body = ((refl, refl, tt), tt);
         handler = record {
@@ -170,7 +170,7 @@ signalled_wait_fits = record {
         levels = no_levels _ _ is_none_found;
       })
       (record {
-        activation = (record { constant = record { known_name = tt; word = refl }; limits = refl }, record { constant = record { known_name = tt; word = refl }; limits = refl });
+        activation = (record { constant = record { known_name = tt; word = refl }; limits = refl }, tt, record { constant = record { known_name = tt; word = refl }; limits = refl });
         vars = all_none _;
         body = ((refl, refl, tt), tt);
         handler = tt;
@@ -199,3 +199,38 @@ circular_does_not fits =
     let levels = (fits.processes_fit 0 (circle) (omega arith)).levels in
     let below : levels.0 (codes "f") < levels.0 (codes "f") = (levels.1.body (codes "f") _ refl).0.0 in
     omega (arith, below)
+
+-- ---- deadlines
+
+pub early_deadline_fits : IsWellFormed (hurrying 50)
+early_deadline_fits = record {
+  constants_fit = tt;
+  processes_fit = all_one (ProcessFits (hurrying 50)) _ (record {
+    activation = (record { constant = record { known_name = tt; word = refl }; limits = refl }, (record { known_name = tt; word = refl }, refl, refl), tt);
+    vars = all_none _;
+    body = ((refl, (0, omega arith, refl), (refl, omega arith)), tt);
+    handler = tt;
+    own = all_none _;
+    shared = all_none _;
+    entries = λ k m is. let b : false ≡ true = ap is_some is in absurd cc;
+    levels = no_levels _ _ is_none_found;
+  });
+  monitors_fit = all_none _;
+  events_fit = λ e is. absurd (no_event_in_two _ _ e is refl refl);
+  counts_fit = record {
+    one_process = omega arith;
+    few_processes = omega arith;
+    few_monitors = omega arith;
+    few_devices = omega arith;
+    few_events = omega arith;
+    few_conditions = omega arith;
+    few_routines = omega arith;
+    few_words = omega arith;
+  };
+}
+
+pub late_deadline_does_not : IsWellFormed (hurrying 101) → ⊥
+late_deadline_does_not fits = let b : false ≡ true = (fits.processes_fit 0 (due_in 101) (omega arith)).activation.1.2 in absurd cc
+
+pub hasty_deadline_does_not : IsWellFormed (hurrying 9) → ⊥
+hasty_deadline_does_not fits = let b : false ≡ true = (fits.processes_fit 0 (due_in 9) (omega arith)).activation.1.1 in absurd cc

@@ -1,5 +1,5 @@
--- Programs that are not well formed.
-use Rattle.std.specs.Prelude.{Bool, false, true, [], ◌∷◌, None, codes}
+-- Programs that are not well formed, and some that are.
+use Rattle.std.specs.Prelude.{ℕ, Bool, false, true, [], ◌∷◌, Some, None, codes}
 use Rattle.rte_tree.specs.Plain.{Prog, Process, Stmt, Decl, device, process, periodic, literal_constant, literal, variable, loop, put, perform, no_exprs, stmts, no_stmts}
 
 abbrev pub valve : Bool → Decl
@@ -37,3 +37,17 @@ circle = record {
 
 abbrev pub circular : Prog
 circular = record { name = codes "a"; decls = process circle ∷ [] }
+
+-- a process that is released each 100 ticks and has to end within so many
+abbrev pub due_in : ℕ → Process
+due_in deadline = record {
+  name = codes "p";
+  activation = periodic (literal_constant false 100) (Some (literal_constant false deadline)) None;
+  vars = [];
+  routines = [];
+  body = stmts (put (codes "valve") (literal 7)) no_stmts;
+  handler = None;
+}
+
+abbrev pub hurrying : ℕ → Prog
+hurrying deadline = record { name = codes "a"; decls = valve true ∷ process (due_in deadline) ∷ [] }

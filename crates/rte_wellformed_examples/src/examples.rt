@@ -1,7 +1,7 @@
 //! Programs that are well formed, and programs that are not.
 
 ghost use Rattle.rte_source_laws.specs.Example.{one_put, handled_range, signalled_wait};
-ghost use Rattle.rte_wellformed.specs.Examples.{put_inwards, undeclared, endless, circular};
+ghost use Rattle.rte_wellformed_examples.specs.Examples.{put_inwards, undeclared, endless, circular, hurrying};
 ghost use Rattle.rte_wellformed.specs.WellFormed.{IsWellFormed};
 
 /// One process that puts a number is well formed.
@@ -37,4 +37,19 @@ pub fn endless_is_not()
 /// A procedure that calls itself is not well formed.
 pub fn circular_is_not()
     ensures { ¬ IsWellFormed circular }
+{}
+
+/// A deadline below the frame is well formed.
+pub fn early_deadline_is_well_formed()
+    ensures { IsWellFormed (hurrying 50) }
+{}
+
+/// A deadline above the frame is not well formed.
+pub fn late_deadline_is_not()
+    ensures { ¬ IsWellFormed (hurrying 101) }
+{}
+
+/// A deadline below 10 is not well formed.
+pub fn hasty_deadline_is_not()
+    ensures { ¬ IsWellFormed (hurrying 9) }
 {}

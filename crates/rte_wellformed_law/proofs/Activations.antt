@@ -1,6 +1,6 @@
 -- The activations and handlers of processes fit.
 use Rattle.std.proofs.Common.{◌≡◌, ℕ, Bool, true, false, ◌||◌, List, [], ◌∷◌, ◌++◌, map, append_assoc, Option, Some, None, ◌⊎◌, inl, inr, refl, ap, sym, ◌∙◌, subst, arith, true≢false}
-use Rattle.std.specs.Prelude.{Contains, All, AllPairs, ℤ, pos, negsuc}
+use Rattle.std.specs.Prelude.{Contains, All, AllPairs, ℤ, pos, negsuc, ◌&&◌, int_le}
 use Rattle.std.proofs.lemmas.Bool.Decides.{nat_tests}
 use Rattle.std.proofs.lemmas.List.{map-append}
 use Rattle.std.proofs.lemmas.List.Elements.{All-contains}
@@ -18,16 +18,16 @@ use Rattle.rte_declarations.specs.Values.{Worth, value, constant_place, is_withi
 use Rattle.rte_declarations.specs.Parts.{handler_parts, outside_loops, parts}
 use Rattle.rte_declarations.specs.declared.home.Home.TheVariants as home_is
 use Rattle.rte_tree.specs.Parts.{processes}
-use Rattle.rte_rules_declarations.specs.Processes.{frame_of, bad_start, Handled, handled, handler_numbers, all_handled, has_value}
+use Rattle.rte_rules_declarations.specs.Processes.{frame_of, deadline_of, bad_limit, bad_start, Handled, handled, handler_numbers, all_handled, has_value}
 use Rattle.rte_source_meaning.specs.Names.{constants}
 use Rattle.rte_wellformed.specs.Here.{in_process}
 use Rattle.rte_wellformed.specs.Statements.{IsConstant, IsWithin}
-use Rattle.rte_wellformed.specs.WellFormed.{ActivationFits, IsHandled, Differ, OptionalFits}
+use Rattle.rte_wellformed.specs.WellFormed.{DeadlineFits, ActivationFits, IsHandled, Differ, OptionalFits}
 use Rattle.rte_wellformed_terms.specs.Places.{IsFound}
-use Rattle.rte_wellformed_terms.specs.Written.{ConstantWritten, ActivationWritten, HandlerWritten}
+use Rattle.rte_wellformed_terms.specs.Written.{ConstantWritten, OptionalWritten, ActivationWritten, HandlerWritten}
 use Rattle.rte_wellformed_terms.specs.Mirrors.{Mirrors, program_site, process_site}
 use Rattle.rte_wellformed_law.proofs.Lists.{at_front, behind, none_in, front_or_behind, each_map, in_map, append_nil, Pictured, Adds, nothing_more, one_more, Within, front, rest}
-use Rattle.rte_wellformed_law.proofs.Adding.{constant_adds, constants_add}
+use Rattle.rte_wellformed_law.proofs.Adding.{constant_adds, constants_add, optional_adds}
 use Rattle.rte_wellformed_law.proofs.Declared.{Lacks, lacks_both, lacks_map, outside_scope, event_declared}
 use Rattle.rte_wellformed_law.proofs.Constants.{Reaches}
 use Rattle.rte_wellformed_law.proofs.Laws.{Laws, kept, constant_fits}
@@ -115,32 +115,67 @@ constant_names_of s (d ∷ cs) ys w c h = by (constant_names_of s cs ys (rest ys
     by again (inl e) = subst (λ z. Within (constant_names s z []) ys) e (front ys (constant_adds s d) (constants_names s cs []) w)
     by again (inr m) = again m
 
+both_true : (b c : Bool) → b && c ≡ true → (b ≡ true) × (c ≡ true)
+both_true true c h = (refl, h)
+both_true false c h = absurd (true≢false (sym h))
+
 module _ (g : Prog Place) (l : Laws g) where
   within_fits : (low high : ℕ) (k : Constant Place) → IsConstant (constants (plain g)) (plain_constant k) → out_of (value g) low high k ≡ None → IsWithin (plain g) low high (plain_constant k)
   within_fits low high k c e = record { constant = c; limits = is_then (is_within low high (value g k)) (constant_place k) e }
 
+  deadline_fits : (site : Site) → Reaches (constants (plain g)) site → (frame : Constant Place) (d : Option (Constant Place)) → OptionalWritten d
+      → Within (optional_names (constant_names site) d []) (names g) → bad_limit (value g) frame d ≡ None → DeadlineFits (plain g) (plain_constant frame) (optional plain_constant d)
+  deadline_fits site reaches frame None w n near = tt
+  deadline_fits site reaches frame (Some d) w n near =
+      let tests = both_true (int_le (pos 10) (value g d)) (int_le (value g d) (value g frame))
+      (is_then (int_le (pos 10) (value g d) && int_le (value g d) (value g frame)) (constant_place d) near) in
+      (constant_fits g l site reaches d w n, tests.0, tests.1)
+
   pub activation_fits : (before : List (Decl Place)) (p : Process Place) (after : List (Decl Place)) → g.decls ≡ before ++ process p ∷ after → Reaches (constants (plain g)) (process_site g before p after)
       → (a : Activation Place) → ActivationWritten a → Within (activation_names (process_site g before p after) a []) (names g)
-      → out_of (value g) 10 1000000000 (frame_of a) ≡ None → bad_start (value g) a ≡ None → ActivationFits (plain g) (plain_activation a)
-  activation_fits before p after is reaches (periodic frame deadline None) w n good start =
-      (within_fits 10 1000000000 frame (constant_fits g l (process_site g before p after) reaches frame w.0 n) good, tt)
-  activation_fits before p after is reaches (periodic frame deadline (Some k)) w n good start = (
-    within_fits 10 1000000000 frame (constant_fits g l site reaches frame w.0 (front (names g) (constant_adds site frame) (constant_names site k []) n)) good,
-    within_fits 0 1000000000 k (constant_fits g l site reaches k w.1 (rest (names g) (constant_adds site frame) (constant_names site k []) n)) start,
-  )
-    where
-      site : Site
-      site = process_site g before p after
-  activation_fits before p after is reaches (at_event e q frame deadline) w n good start = (
-    in_map plain_decl g.decls (event e found.place) found.listed,
-    within_fits 10 1000000000 frame (constant_fits g l site reaches frame w (λ x h. n x (behind _ (constant_names site frame []) x h))) good,
+      → out_of (value g) 10 1000000000 (frame_of a) ≡ None → bad_limit (value g) (frame_of a) (deadline_of a) ≡ None → bad_start (value g) a ≡ None → ActivationFits (plain g) (plain_activation a)
+  activation_fits before p after is reaches (periodic frame deadline None) w n good near start = (
+    within_fits 10 1000000000 frame (constant_fits g l site reaches frame w.0 (front (names g) (constant_adds site frame) limit n)) good,
+    deadline_fits site reaches frame deadline w.1 (rest (names g) (constant_adds site frame) limit n) near,
+    tt,
   )
     where
       site : Site
       site = process_site g before p after
 
+      limit : List Occurrence
+      limit = optional_names (constant_names site) deadline []
+  activation_fits before p after is reaches (periodic frame deadline (Some k)) w n good near start = (
+    within_fits 10 1000000000 frame (constant_fits g l site reaches frame w.0 (front (names g) (constant_adds site frame) limits n)) good,
+    deadline_fits site reaches frame deadline w.1 (front (names g) (optional_adds (constant_names site) (constant_adds site) deadline) (constant_names site k []) behind_frame) near,
+    within_fits 0 1000000000 k (constant_fits g l site reaches k w.2 (rest (names g) (optional_adds (constant_names site) (constant_adds site) deadline) (constant_names site k []) behind_frame)) start,
+  )
+    where
+      site : Site
+      site = process_site g before p after
+
+      limits : List Occurrence
+      limits = optional_names (constant_names site) deadline (constant_names site k [])
+
+      behind_frame : Within limits (names g)
+      behind_frame = rest (names g) (constant_adds site frame) limits n
+  activation_fits before p after is reaches (at_event e q frame deadline) w n good near start = (
+    in_map plain_decl g.decls (event e found.place) found.listed,
+    within_fits 10 1000000000 frame (constant_fits g l site reaches frame w.0 (front (names g) (constant_adds site frame) limit behind_event)) good,
+    deadline_fits site reaches frame deadline w.1 (rest (names g) (constant_adds site frame) limit behind_event) near,
+  )
+    where
+      site : Site
+      site = process_site g before p after
+
+      limit : List Occurrence
+      limit = optional_names (constant_names site) deadline []
+
+      behind_event : Within (constant_names site frame limit) (names g)
+      behind_event = λ x h. n x (behind _ (constant_names site frame limit) x h)
+
       found : EventAt g e q
-      found = event_at g l before p after is e q (n _ (at_front _ (constant_names site frame [])))
+      found = event_at g l before p after is e q (n _ (at_front _ (constant_names site frame limit)))
 
   -- numbers that differ from all before
   numbers_differ : (before cs : List (Constant Place)) → Within (handled before cs []) (all_handled (processes g.decls)) → AllPairs (Differ (plain g)) (map plain_constant before)

@@ -120,8 +120,9 @@ pub monitor_adds : (s : Site) (m : Monitor Place) → Adds (monitor_names s m)
 monitor_adds s m = both (declarations_add s.means [] (monitor_scope m)) (monitor_inner_adds (inside_monitor m.place (monitor_scope m) s) m)
 
 pub activation_adds : (s : Site) (a : Activation Place) → Adds (activation_names s a)
-activation_adds s (periodic frame deadline start) = both (constant_adds s frame) (optional_adds (constant_names s) (constant_adds s) start)
-activation_adds s (at_event name place frame deadline) = one_more _ (constant_adds s frame)
+activation_adds s (periodic frame deadline start) =
+    both (constant_adds s frame) (both (optional_adds (constant_names s) (constant_adds s) deadline) (optional_adds (constant_names s) (constant_adds s) start))
+activation_adds s (at_event name place frame deadline) = one_more _ (both (constant_adds s frame) (optional_adds (constant_names s) (constant_adds s) deadline))
 
 pub handler_adds : (s : Site) (h : Handler Place) → Adds (handler_names s h)
 handler_adds s h = both (constants_add s h.numbers) (stmts_add s h.body)

@@ -8,7 +8,7 @@ use Rattle.rte_tree.specs.Placed.{Activation, periodic, at_event, Process, proce
 use Rattle.rte_tree.specs.declared.place.Place.{Place}
 use Rattle.rte_tree.specs.Parts.{same_place, processes, events}
 use Rattle.rte_names.specs.Reach.{same}
-use Rattle.rte_names.specs.Occurrences.{names, declared_at, constant_names, activation_names}
+use Rattle.rte_names.specs.Occurrences.{names, declared_at, constant_names, optional_names, activation_names}
 use Rattle.rte_rules_declarations.specs.Processes.{is_at, is_activated_by, users}
 use Rattle.rte_wellformed.specs.WellFormed.{is_event_of, EventsFit}
 use Rattle.rte_wellformed_terms.specs.Mirrors.{process_site}
@@ -94,7 +94,7 @@ module _ (g : Prog Place) (l : Laws g) where
   activated e q h before p after is (at_event n at frame deadline) w = ap (is_at q) found.found ∙ same_events n e found.place q found.listed h
     where
       found : EventAt g n at
-      found = event_at g l before p after is n at (w _ (at_front _ (constant_names (process_site g before p after) frame [])))
+      found = event_at g l before p after is n at (w _ (at_front _ (constant_names (process_site g before p after) frame (optional_names (constant_names (process_site g before p after)) deadline []))))
 
   pub events_fit : EventsFit (plain g)
   events_fit e h = ap (count_by (λ p. is_event_of e p.activation)) (plain_processes g.decls) ∙ sym (counted_once (declared_at (names g)) of.place e (processes g.decls) agree)

@@ -4,6 +4,7 @@ use Rattle.std.specs.Prelude.{Contains, All, filter_map}
 use Rattle.std.proofs.lemmas.List.Elements.{All-contains}
 use Rattle.rte_tree.specs.Plain as plain_of
 use Rattle.rte_tree.specs.Placed.{Routine, Member, variable_member, condition_member, Monitor, Process, Decl, routine, monitor, process, Prog, plain, plain_decl, plain_routine, plain_monitor, plain_process}
+use Rattle.rte_tree.specs.Parts.{program_routines, processes, monitors}
 use Rattle.rte_tree.specs.declared.place.Place.{Place}
 use Rattle.rte_names.specs.declared.kind.Kind.TheVariants as kind_is
 use Rattle.rte_names.specs.Reach.{Site}
@@ -11,7 +12,6 @@ use Rattle.rte_names.specs.Occurrences.{Occurrence, closes, names, activation_na
 use Rattle.rte_declarations.specs.Parts.{parts, stmts_parts, handler_parts, outside_loops}
 use Rattle.rte_declarations.specs.declared.home.Home.TheVariants as home_is
 use Rattle.rte_rules_declarations.specs.Types.{Bounds, decls_bounds, decl_bounds, routines_bounds}
-use Rattle.rte_tree.specs.Parts.{processes, monitors, program_routines}
 use Rattle.rte_rules_declarations.specs.Processes.{handler_numbers, all_handled}
 use Rattle.rte_source_meaning.specs.Names.{constants, routine_in, monitor_in, process_in}
 use Rattle.rte_source_meaning.specs.Run.{of_program, of_process, of_monitor}
@@ -169,7 +169,7 @@ module _ (g : Prog Place) (l : Laws g) where
 
   process_fit : (p : Process Place) → Contains (processes g.decls) p → ProcessFits (plain g) (plain_process p)
   process_fit p listed = record {
-    activation = activation_fits g l s.before p s.after s.is reaches p.activation w.activation inside.activation (l.limits.frames p listed) (l.limits.firsts p listed);
+    activation = activation_fits g l s.before p s.after s.is reaches p.activation w.activation inside.activation (l.limits.frames p listed) (l.limits.deadlines p listed) (l.limits.firsts p listed);
     vars = vars_fit g l site reaches p.vars w.vars inside.vars (front all_bounds (vars_bounds_add p.vars) (routines_bounds p.routines []) (bounds_listed (process p) h));
     body = l.bodies p None site (in_process (plain g) (plain_process p)) (outside_loops home_is.Free) p.body (kept g l) mirrors (record { home = (refl, refl); loops = refl }) w.body inside.body
         (front (parts g) (stmts_parts_add (outside_loops home_is.Free) p.body) (handler_parts p.handler []) below_routines);

@@ -9,7 +9,7 @@ use Rattle.rte_declarations.specs.Values.{value}
 use Rattle.rte_rules_declarations.specs.Rules.{LimitFails, bounds_rules, process_rules, event_rules, handler_rules, count_rules}
 use Rattle.rte_rules_declarations.specs.Types.{Bounds, decls_bounds, crossed, too_long}
 use Rattle.rte_tree.specs.Parts.{processes, events, monitors, devices}
-use Rattle.rte_rules_declarations.specs.Processes.{bad_frame, bad_first, misused_event, Handled, all_handled, bad_handled, repeated}
+use Rattle.rte_rules_declarations.specs.Processes.{bad_frame, bad_deadline, bad_first, misused_event, Handled, all_handled, bad_handled, repeated}
 use Rattle.rte_rules_declarations.specs.Counts.{process_places, monitor_places, conditions, routine_places, one_too_many, no_process, too_many_words}
 use Rattle.rte_wellformed_law.proofs.Lists.{at_front, none_in, front_or_behind}
 
@@ -44,6 +44,7 @@ pub record Limits (g : Prog Place) : Type 0 where
   pub crossed_none : (b : Bounds) → Contains (decls_bounds g.decls []) b → crossed (value g) b ≡ None
   pub long_none : (b : Bounds) → Contains (decls_bounds g.decls []) b → too_long (value g) b ≡ None
   pub frames : (p : Process Place) → Contains (processes g.decls) p → bad_frame (value g) p ≡ None
+  pub deadlines : (p : Process Place) → Contains (processes g.decls) p → bad_deadline (value g) p ≡ None
   pub firsts : (p : Process Place) → Contains (processes g.decls) p → bad_first (value g) p ≡ None
   pub used_once : (e : Place) → Contains (events g.decls) e → misused_event (declared_at (names g)) (processes g.decls) e ≡ None
   pub once : (h : Handled) → Contains (all_handled (processes g.decls)) h → repeated (value g) h ≡ None
@@ -62,7 +63,8 @@ limits_hold g keeps = record {
   crossed_none = λ b h. hold (bounds_rules g) b (bound b h) 0;
   long_none = λ b h. hold (bounds_rules g) b (bound b h) 1;
   frames = λ p h. hold (process_rules g) p (of_process p h) 0;
-  firsts = λ p h. hold (process_rules g) p (of_process p h) 1;
+  deadlines = λ p h. hold (process_rules g) p (of_process p h) 1;
+  firsts = λ p h. hold (process_rules g) p (of_process p h) 2;
   used_once = λ e h. hold (event_rules g) e (each_keeps (event_rules g) (events g.decls) (λ n q f. keeps n q (inr (inr (inl f)))) e h) 0;
   once = λ e h. hold (handler_rules g) e (of_handled e h) 0;
   numbers = λ e h. hold (handler_rules g) e (of_handled e h) 1;

@@ -4,12 +4,12 @@ use Rattle.std.specs.Prelude.{Contains, filter_map, slice_get}
 use Rattle.std.proofs.lemmas.Option.{none-some, same_Some}
 use Rattle.rte_tree.specs.Plain as plain_of
 use Rattle.rte_tree.specs.Placed.{Routine, Monitor, Process, Decl, constant, device, event, routine, monitor, process, plain_routine, plain_monitor, plain_process, plain_decl}
+use Rattle.rte_tree.specs.Parts.{program_routines, processes, monitors}
 use Rattle.rte_tree.specs.declared.place.Place.{Place}
 use Rattle.rte_names.specs.Reach.{Site}
 use Rattle.rte_names.specs.Occurrences.{Occurrence, routine_names, routines_names}
 use Rattle.rte_declarations.specs.Parts.{Part, routine_parts, routines_parts}
 use Rattle.rte_rules_declarations.specs.Types.{Bounds, decls_bounds, decl_bounds, routine_bounds, routines_bounds}
-use Rattle.rte_tree.specs.Parts.{processes, monitors, program_routines}
 use Rattle.rte_source_meaning.specs.Names.{routine_in, monitor_in, process_in}
 use Rattle.rte_wellformed_terms.specs.Mirrors.{monitors_in}
 use Rattle.rte_wellformed_law.proofs.Lists.{at_front, behind, none_in, front_or_behind, Within, front, rest}

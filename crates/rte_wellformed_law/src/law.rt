@@ -5,10 +5,10 @@ ghost use Rattle.rte_tree.specs.declared.place.Place.{Place};
 ghost use Rattle.rte_static.specs.Static.{IsChecked};
 ghost use Rattle.rte_wellformed.specs.WellFormed.{IsWellFormed};
 
-use rte_wellformed_statements::{answers_fit, bodies_fit};
 use rte_wellformed_calls::{calls_have_levels, routines_have_levels};
 use rte_wellformed_names::{names_are_found, names_stand_apart, trees_are_written};
 use rte_wellformed_scopes::{declarations_are_listed, texts_are_mirrored, things_are_known};
+use rte_wellformed_statements::{answers_fit, bodies_fit};
 
 /// A program that is read and keeps to the rules for names and to all static rules is well formed.
 pub fn checked_programs_are_well_formed()

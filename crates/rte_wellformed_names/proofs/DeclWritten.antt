@@ -5,8 +5,8 @@ use Rattle.rte_tree.specs.declared.place.Place.{Place}
 use Rattle.rte_grammar.specs.Words as w
 use Rattle.rte_grammar.specs.Words.{Word, named, Tok}
 use Rattle.rte_grammar.specs.ExprGrammar.{IsConstant}
-use Rattle.rte_grammar.specs.Grammar.{MOST_LEVELS, IsScalar, IsKind, IsVar, IsParam, kind_word, IsResult, IsValue, IsRoutine, IsMember, IsEntry, IsMonitor, IsFirst, IsActivation, IsHandler, IsProcess, way_word, IsDecl, IsProg}
-use Rattle.rte_wellformed_terms.specs.Written.{ConstantWritten, ScalarWritten, KindWritten, VarWritten, ParamWritten, ExprWritten, ResultWritten, RoutineWritten, MemberWritten, MonitorWritten, FirstWritten, ActivationWritten, HandlerWritten, ProcessWritten, DeclWritten, IsWritten}
+use Rattle.rte_grammar.specs.Grammar.{MOST_LEVELS, IsScalar, IsKind, IsVar, IsParam, kind_word, IsResult, IsValue, IsRoutine, IsMember, IsEntry, IsMonitor, IsDeadline, IsFirst, IsActivation, IsHandler, IsProcess, way_word, IsDecl, IsProg}
+use Rattle.rte_wellformed_terms.specs.Written.{ConstantWritten, ScalarWritten, KindWritten, VarWritten, ParamWritten, ExprWritten, ResultWritten, RoutineWritten, MemberWritten, MonitorWritten, OptionalWritten, ActivationWritten, HandlerWritten, ProcessWritten, DeclWritten, IsWritten}
 use Rattle.rte_wellformed_names.proofs.Given.{AllFit, Gives, ◌▸◌, ◌▹◌, ◌◃◌, turn, three, none, any_at, any, each, listed, some_listed}
 use Rattle.rte_wellformed_names.proofs.ExprWritten.{constant-written, expr-written, stmts-written}
 
@@ -82,13 +82,17 @@ monitor-written m = turn
     ▹ any_at (named m.close) m.close_place)
     (λ x. record { members = x.0; entries = x.1 })
 
-first-written : (c : Option (Constant Place)) → Gives (IsFirst c) (FirstWritten c)
+deadline-written : (c : Option (Constant Place)) → Gives (IsDeadline c) (OptionalWritten c)
+deadline-written None = none
+deadline-written (Some c) = any w.DEADLINE ▹ constant-written c
+
+first-written : (c : Option (Constant Place)) → Gives (IsFirst c) (OptionalWritten c)
 first-written None = none
 first-written (Some c) = any w.FIRST ▹ any w.ACTIVATION ▹ any w.AT_TIME ▹ constant-written c
 
 activation-written : (x : Activation Place) → Gives (IsActivation x) (ActivationWritten x)
-activation-written (periodic frame deadline start) = any w.PERIODIC ▹ any w.FRAME ▹ constant-written frame ▸ first-written start
-activation-written (at_event e p frame deadline) = any w.AT_EVENT ▹ any_at (named e) p ▹ any w.FRAME ▹ constant-written frame
+activation-written (periodic frame deadline start) = three (any w.PERIODIC ▹ any w.FRAME ▹ constant-written frame ▸ deadline-written deadline ▸ first-written start)
+activation-written (at_event e p frame deadline) = any w.AT_EVENT ▹ any_at (named e) p ▹ any w.FRAME ▹ constant-written frame ▸ deadline-written deadline
 
 handler-written : (h : Option (Handler Place)) → Gives (IsHandler h) (HandlerWritten h)
 handler-written None = none

@@ -1,5 +1,5 @@
--- Names are counted part by part: of the names that stand at a place, a tree has as many as the tokens that it takes.
-use Rattle.std.proofs.Common.{◌≡◌, ℕ, zero, suc, ◌+◌, List, [], ◌∷◌, refl, ap, arith}
+-- Names are counted part by part: of the names that stand at a place, a tree has at most as many as the tokens that it takes.
+use Rattle.std.proofs.Common.{◌≡◌, ◌≤◌, ℕ, zero, suc, ◌+◌, List, [], ◌∷◌, refl, ap, arith}
 use Rattle.rte_tree.specs.Plain.{Name}
 use Rattle.rte_tree.specs.declared.place.Place.{Place}
 use Rattle.rte_grammar.specs.Words.{Word, named, number, keyword, sign, Tok}
@@ -23,28 +23,15 @@ abbrev pub named_at : Place → List (Tok Place) → ℕ
 named_at z [] = 0
 named_at z (t ∷ ts) = weigh z t.word t.place + named_at z ts
 
--- the word is no name
-abbrev pub Silent : Word → Type 0
-Silent (named n) = ⊥
-Silent (number n) = Unit {0}
-Silent (keyword n) = Unit {0}
-Silent (sign n) = Unit {0}
-
-weighs-nothing : (z : Place) (word : Word) (p : Place) → Silent word → weigh z word p ≡ 0
-weighs-nothing z (named n) p h = absurd h
-weighs-nothing z (number n) p h = refl
-weighs-nothing z (keyword n) p h = refl
-weighs-nothing z (sign n) p h = refl
-
 -- ---- parts
 
 -- the names that the part gives stand where its tokens do
 pub record Keeps (z : Place) (R : List (Tok Place) → List (Tok Place) → Type 0) (f : List Occurrence → List Occurrence) : Type 0 where
-  pub counts : (ts us : List (Tok Place)) (more : List Occurrence) → R ts us → standing z (f more) + named_at z us ≡ named_at z ts + standing z more
+  pub counts : (ts us : List (Tok Place)) (more : List Occurrence) → R ts us → standing z (f more) + named_at z us ≤ named_at z ts + standing z more
 
 -- so many of the names among the part's tokens are not among those that it gives
 pub record Owes (z : Place) (n : ℕ) (R : List (Tok Place) → List (Tok Place) → Type 0) (f : List Occurrence → List Occurrence) : Type 0 where
-  pub counts : (ts us : List (Tok Place)) (more : List Occurrence) → R ts us → n + (standing z (f more) + named_at z us) ≡ named_at z ts + standing z more
+  pub counts : (ts us : List (Tok Place)) (more : List Occurrence) → R ts us → n + (standing z (f more) + named_at z us) ≤ named_at z ts + standing z more
 
 infixr 5 ◌▸◌
 pub ◌▸◌ : {z : Place} {R S : List (Tok Place) → List (Tok Place) → Type 0} {f g : List Occurrence → List Occurrence}
@@ -77,12 +64,12 @@ none {z} = record { counts = λ ts us more t. let x = ap (named_at z) t in omega
 pub owe_none : {z : Place} → Owes z 0 nothing (λ more. more)
 owe_none {z} = record { counts = λ ts us more t. let x = ap (named_at z) t in omega arith }
 
--- a word that is no name, at a place that is told or not
-pub quiet_at : {z : Place} (word : Word) (p : Place) → Silent word → Keeps z (at word p) (λ more. more)
-quiet_at {z} word p h = record { counts = λ ts us more t. let x = ap (named_at z) t in let y = weighs-nothing z word p h in omega arith }
+-- a word that gives no name, at a place that is told or not: a keyword, a sign, a number, or a name that begins a part
+pub quiet_at : {z : Place} (word : Word) (p : Place) → Keeps z (at word p) (λ more. more)
+quiet_at {z} word p = record { counts = λ ts us more t. let x = ap (named_at z) t in omega arith }
 
-pub quiet : {z : Place} (word : Word) → Silent word → Keeps z (a word) (λ more. more)
-quiet {z} word h = record { counts = λ ts us more t. let x = ap (named_at z) t.1 in let y = weighs-nothing z word t.0 h in omega arith }
+pub quiet : {z : Place} (word : Word) → Keeps z (a word) (λ more. more)
+quiet {z} word = record { counts = λ ts us more t. let x = ap (named_at z) t.1 in omega arith }
 
 -- a name that is given where it stands
 pub name : {z : Place} (n : Name) (o : Occurrence) → Keeps z (at (named n) (place_of o)) (λ more. o ∷ more)

@@ -153,8 +153,11 @@ monitor_puts outer m =
 
 activation_puts : (here : Site) (x : Activation Place) → Puts (activation_names here x)
 activation_puts here (periodic frame deadline start) a b =
-    then_puts (constant_names here frame) (optional_names (constant_names here) start) (constant_puts here frame) (optional_puts (constant_names here) (constant_puts here) start) a b
-activation_puts here (at_event name place frame deadline) a b = keep (constant_puts here frame a b)
+    then_puts (constant_names here frame) (λ m. optional_names (constant_names here) deadline (optional_names (constant_names here) start m)) (constant_puts here frame)
+    (then_puts (optional_names (constant_names here) deadline) (optional_names (constant_names here) start) (optional_puts (constant_names here) (constant_puts here) deadline)
+    (optional_puts (constant_names here) (constant_puts here) start)) a b
+activation_puts here (at_event name place frame deadline) a b =
+    keep (then_puts (constant_names here frame) (optional_names (constant_names here) deadline) (constant_puts here frame) (optional_puts (constant_names here) (constant_puts here) deadline) a b)
 
 handler_puts : (here : Site) (h : Handler Place) → Puts (handler_names here h)
 handler_puts here h = then_puts (constants_names here h.numbers) (stmts_names here h.body) (constants_puts here h.numbers) (stmts_puts here h.body)

@@ -126,8 +126,11 @@ optional_silent f silent (Some x) q more = silent x q more
 
 activation_silent : (here : Site) (x : Activation Place) → Silent (activation_names here x)
 activation_silent here (periodic frame deadline start) q more =
-    constant_silent here frame q (optional_names (constant_names here) start more) ∙ optional_silent (constant_names here) (constant_silent here) start q more
-activation_silent here (at_event name place frame deadline) q more = omega (arith, constant_silent here frame q more)
+    constant_silent here frame q (optional_names (constant_names here) deadline (optional_names (constant_names here) start more))
+    ∙ optional_silent (constant_names here) (constant_silent here) deadline q (optional_names (constant_names here) start more)
+    ∙ optional_silent (constant_names here) (constant_silent here) start q more
+activation_silent here (at_event name place frame deadline) q more =
+    omega (arith, constant_silent here frame q (optional_names (constant_names here) deadline more), optional_silent (constant_names here) (constant_silent here) deadline q more)
 
 -- ---- statements
 

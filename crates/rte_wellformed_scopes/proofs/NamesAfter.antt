@@ -108,8 +108,9 @@ pub ends-monitor : (outer : Site) (m : Monitor Place) (more : List Occurrence) �
 ends-monitor outer m more = ends-two (ends-two (ends-two (ends-cons _ (ends-same _)) (ends-routines (inside_monitor m.place (monitor_scope m) outer) m.entries _)) (ends-members (inside_monitor m.place (monitor_scope m) outer) m.members _)) (ends-declarations outer.means [] (monitor_scope m) _)
 
 pub ends-activation : (here : Site) (a : Activation Place) (more : List Occurrence) → Ends more (activation_names here a more)
-ends-activation here (periodic frame deadline start) more = ends-two (ends-optional (constant_names here) (ends-constant here) start _) (ends-constant here frame _)
-ends-activation here (at_event n p frame deadline) more = ends-cons _ (ends-constant here frame _)
+ends-activation here (periodic frame deadline start) more =
+    ends-two (ends-two (ends-optional (constant_names here) (ends-constant here) start _) (ends-optional (constant_names here) (ends-constant here) deadline _)) (ends-constant here frame _)
+ends-activation here (at_event n p frame deadline) more = ends-cons _ (ends-two (ends-optional (constant_names here) (ends-constant here) deadline _) (ends-constant here frame _))
 
 pub ends-handler : (here : Site) (h : Handler Place) (more : List Occurrence) → Ends more (handler_names here h more)
 ends-handler here h more = ends-two (ends-stmts here h.body _) (ends-constants here h.numbers _)

@@ -5,6 +5,7 @@ use Rattle.std.proofs.lemmas.List.Elements.{All-contains}
 use Rattle.rte_tree.specs.Plain.{Name}
 use Rattle.rte_tree.specs.Plain as plain_of
 use Rattle.rte_tree.specs.Placed.{Routine, Process, Decl, constant, device, event, routine, monitor, process, Prog, plain, plain_constant, plain_routine, plain_process, plain_decl}
+use Rattle.rte_tree.specs.Parts.{program_routines}
 use Rattle.rte_tree.specs.declared.place.Place.{Place}
 use Rattle.rte_names.specs.declared.kind.Declared.{Declared}
 use Rattle.rte_names.specs.Occurrences.{decl_name, program_name}
@@ -14,7 +15,6 @@ use Rattle.rte_declarations.specs.Things.{constant_thing, device_thing, routine_
 use Rattle.rte_wellformed.specs.Here.{Here, value, meant_own, meant_outer, meant_constant, var_named, outer_vars}
 use Rattle.rte_wellformed_terms.specs.Written.{IsWritten, DeclWritten}
 use Rattle.rte_wellformed_terms.specs.Things.{ThingsKnown}
-use Rattle.rte_tree.specs.Parts.{program_routines}
 use Rattle.rte_wellformed_terms.specs.Mirrors.{StandsAs, routine_of}
 use Rattle.rte_wellformed_scopes.proofs.Members.{In, in-contains, in-map}
 use Rattle.rte_wellformed_scopes.proofs.Lookups.{same-refl, named-map}

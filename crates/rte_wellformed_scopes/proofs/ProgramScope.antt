@@ -3,8 +3,8 @@ use Rattle.std.proofs.Common.{◌≡◌, ◌⊎◌, inl, inr, Bool, true, false,
 use Rattle.std.specs.Prelude.{filter_map}
 use Rattle.rte_tree.specs.Plain.{Name}
 use Rattle.rte_tree.specs.Placed.{Routine, Monitor, Process, Decl, constant, device, event, routine, monitor, process, Prog, plain_routine, plain_monitor, plain_decl}
+use Rattle.rte_tree.specs.Parts.{program_routines, monitors}
 use Rattle.rte_tree.specs.declared.place.Place.{Place}
-use Rattle.rte_tree.specs.Parts.{monitors, program_routines}
 use Rattle.rte_names.specs.declared.kind.Declared.{Declared}
 use Rattle.rte_names.specs.Reach.{same, Names, Reach, first}
 use Rattle.rte_names.specs.Occurrences.{Occurrence, declares, declarations, decl_name, others, routine_name, var_name, process_scope, program_name}

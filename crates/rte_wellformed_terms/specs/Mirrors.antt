@@ -2,9 +2,9 @@
 use Rattle.std.specs.Prelude.{◌≡◌, ℕ, ◌⊎◌, Bool, true, false, List, [], ◌∷◌, ◌++◌, Option, Some, None, map, length, filter_map, Contains}
 use Rattle.rte_tree.specs.Plain.{Name}
 use Rattle.rte_tree.specs.Plain as plain_of
-use Rattle.rte_tree.specs.Placed.{Kind, Routine, Monitor, Process, Decl, constant, device, event, routine, monitor, process, Prog, plain, plain_kind, plain_routine, plain_process, plain_decl}
-use Rattle.rte_tree.specs.declared.place.Place.{Place}
+use Rattle.rte_tree.specs.Placed.{Kind, Routine, Monitor, Process, Decl, routine, monitor, process, Prog, plain, plain_kind, plain_routine, plain_process, plain_decl}
 use Rattle.rte_tree.specs.Parts.{program_routines}
+use Rattle.rte_tree.specs.declared.place.Place.{Place}
 use Rattle.rte_names.specs.declared.kind.Declared.{Declared}
 use Rattle.rte_names.specs.declared.kind.Kind.{Kind as NameKind}
 use Rattle.rte_names.specs.declared.kind.Kind.TheVariants as kind_is

@@ -1,3 +1,5 @@
+use Rattle.std.proofs.Common.{inl, inr, arith}
+use Rattle.std.proofs.lemmas.Bool.{cases_eq}
 use Rattle.rte_cli.specs.Words.{row_of, check_of}
 use Rattle.rte_cli.proofs.Checks.{checked_for_time}
 use Rattle.rte_cli.proofs.Done.{if_done}
@@ -27,3 +29,24 @@ pub returns-clause-untimely : goal.returns-clause-untimely
 returns-clause-untimely g c =
     checked_for_time (record { one = c.one_program.ensures.one; apart = c.one_program.ensures.apart }) c.cost_is_the_least_bound.ensures c.solved_programs_are_timely.ensures
     g.F.Files.tells (check_of c.args.words.now) _ _ _ c.carry_out.ensures.check
+
+pub returns-clause-carried : goal.returns-clause-carried
+returns-clause-carried g c = record {
+  row = c.carry_out.ensures.row;
+  complete = c.carry_out.ensures.complete;
+  check = c.carry_out.ensures.check;
+  check_whole = c.carry_out.ensures.check_whole;
+  print = c.carry_out.ensures.print;
+  print_whole = c.carry_out.ensures.print_whole;
+  usage = c.carry_out.ensures.usage;
+}
+
+-- a file that has changed
+pub returns-clause-stored : goal.returns-clause-stored
+returns-clause-stored g c = λ name changed. elim (cases_eq c.carry_out.result 7) [
+  | inl seven ↦ inr seven
+  | inr other ↦ elim (cases_eq c.carry_out.result 0) [
+    | inl zero ↦ inl zero
+    | inr more ↦ absurd (changed (c.carry_out.ensures.kept (omega (arith, more)) other name))
+  ]
+]

@@ -22,10 +22,10 @@ pub returns-clause-whole : goal.returns-clause-whole
 returns-clause-whole g c =
     let log : List ℕ = log_to c.in-Ok-new.image c.until-script.result c.in-Ok-new-2.machine in
     let due = made_is_due (program_of c.args.form.now) c.args.end c.as_bytes.result.now log c.in-Ok-new.image c.until-script.result (c.as_bytes.ensures ∙ (c.in-Ok.ensures ∙ ap (report_with (program_of c.args.form.now)) c.requires.bound)) c.in-Ok-new-2.ensures.log c.in-Ok-new.ensures c.until-script.ensures in
-    λ e. subst (λ (text : List ℕ). Appends (g.O.Sink.taken c.args.out.now) (g.O.Sink.taken c.store.new.out) text) due (c.store.ensures.whole e)
+    λ e. subst (λ (text : List ℕ). Appends (g.O.Sink.state c.args.out.now).taken (g.O.Sink.state c.store.new.out).taken text) due (c.store.ensures.whole e)
 
 pub returns-clause-cut : goal.returns-clause-cut
 returns-clause-cut g c =
     let log : List ℕ = log_to c.in-Ok-new.image c.until-script.result c.in-Ok-new-2.machine in
     let due = made_is_due (program_of c.args.form.now) c.args.end c.as_bytes.result.now log c.in-Ok-new.image c.until-script.result (c.as_bytes.ensures ∙ (c.in-Ok.ensures ∙ ap (report_with (program_of c.args.form.now)) c.requires.bound)) c.in-Ok-new-2.ensures.log c.in-Ok-new.ensures c.until-script.ensures in
-    λ e. subst (λ (text : List ℕ). AppendsFront (g.O.Sink.taken c.args.out.now) (g.O.Sink.taken c.store.new.out) text) due (c.store.ensures.cut e)
+    λ e. subst (λ (text : List ℕ). AppendsFront (g.O.Sink.state c.args.out.now).taken (g.O.Sink.state c.store.new.out).taken text) due (c.store.ensures.cut e)

@@ -1,10 +1,11 @@
-use Rattle.std.proofs.Common.{◌≤◌, take}
+use Rattle.std.proofs.Common.{◌≡◌, ◌≤◌, take}
 use Rattle.rte_io.specs.Outside.{Appends}
 use Rattle.rte_log.specs.Line.{log_of}
 use Rattle.rte_machine.proofs.machine.put_all.Given as goal
 
 abbrev pub invariant-loop-event : goal.invariant-loop-event
 invariant-loop-event g l = record {
-  taken : Appends (g.O.Sink.taken l.fn.out) (g.O.Sink.taken l.out) (log_of l.names (take l.event-index l.events));
-  count : g.O.Sink.faults l.fn.out ≤ g.O.Sink.faults l.out;
+  taken : Appends (g.O.Sink.state l.fn.out).taken (g.O.Sink.state l.out).taken (log_of l.names (take l.event-index l.events));
+  count : (g.O.Sink.state l.fn.out).faults ≤ (g.O.Sink.state l.out).faults;
+  quiet : (g.O.Sink.state l.out).faults ≡ (g.O.Sink.state l.fn.out).faults;
 }

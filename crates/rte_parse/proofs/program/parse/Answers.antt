@@ -1,5 +1,6 @@
 use Rattle.std.proofs.Common.{◌≡◌, ap, sym, ◌∙◌, subst, ◌∷◌, length, Err, inl}
 use Rattle.rte_tree.specs.Placed.{placed}
+use Rattle.rte_grammar.specs.Grammar.{MOST_LEVELS}
 use Rattle.rte_grammar.specs.Words.{toks_of}
 use Rattle.rte_reading.specs.ExprReading.{syntax, nesting}
 use Rattle.rte_reading.specs.Reading.{whole}
@@ -14,35 +15,35 @@ use Rattle.rte_parse.proofs.program.parse.Goals as goal
 pub returns-in-Ok-clause-found : goal.returns-in-Ok-clause-found
 returns-in-Ok-clause-found c =
     whole_sound (toks_of c.args.text.now c.args.tokens.now.list) (placed c.in-Ok.prog)
-    (ap (λ l. whole (toks_of c.args.text.now l)) (sym c.as_slice.ensures) ∙ c.in-Ok.ensures)
+    (ap (λ l. (whole MOST_LEVELS) (toks_of c.args.text.now l)) (sym c.as_slice.ensures) ∙ c.in-Ok.ensures)
 
 pub returns-in-Ok-clause-only : goal.returns-in-Ok-clause-only
 returns-in-Ok-clause-only c g tree =
-    one_tree (toks_of c.args.text.now c.args.tokens.now.list) (placed c.in-Ok.prog) g
+    (one_tree MOST_LEVELS) (toks_of c.args.text.now c.args.tokens.now.list) (placed c.in-Ok.prog) g
     (whole_sound (toks_of c.args.text.now c.args.tokens.now.list) (placed c.in-Ok.prog)
-    (ap (λ l. whole (toks_of c.args.text.now l)) (sym c.as_slice.ensures) ∙ c.in-Ok.ensures))
+    (ap (λ l. (whole MOST_LEVELS) (toks_of c.args.text.now l)) (sym c.as_slice.ensures) ∙ c.in-Ok.ensures))
     tree
 
 pub returns-in-Err-Syntax-clause-only : goal.returns-in-Err-Syntax-clause-only
 returns-in-Err-Syntax-clause-only c g tree =
     let is : c.in-Err-Syntax.field-0 ≡ refusal.Syntax c.in-Err-Syntax.left = c.in-Err-Syntax.field-0-is in
     absurd (no_tree (toks_of c.args.text.now c.args.tokens.now.list) (syntax c.in-Err-Syntax.left)
-    (ap (λ l. whole (toks_of c.args.text.now l)) (sym c.as_slice.ensures)
-    ∙ subst (λ r. Gives placed (whole (toks_of c.args.text.now c.as_slice.result.now)) (Err r)) is c.in-Err-Syntax.ensures) g tree)
+    (ap (λ l. (whole MOST_LEVELS) (toks_of c.args.text.now l)) (sym c.as_slice.ensures)
+    ∙ subst (λ r. Gives placed (whole MOST_LEVELS (toks_of c.args.text.now c.as_slice.result.now)) (Err r)) is c.in-Err-Syntax.ensures) g tree)
 
 pub returns-in-Err-Nesting-clause-only : goal.returns-in-Err-Nesting-clause-only
 returns-in-Err-Nesting-clause-only c g tree =
     let is : c.in-Err-Nesting.field-0 ≡ refusal.Nesting c.in-Err-Nesting.left = c.in-Err-Nesting.field-0-is in
     absurd (no_tree (toks_of c.args.text.now c.args.tokens.now.list) (nesting c.in-Err-Nesting.left)
-    (ap (λ l. whole (toks_of c.args.text.now l)) (sym c.as_slice.ensures)
-    ∙ subst (λ r. Gives placed (whole (toks_of c.args.text.now c.as_slice.result.now)) (Err r)) is c.in-Err-Nesting.ensures) g tree)
+    (ap (λ l. (whole MOST_LEVELS) (toks_of c.args.text.now l)) (sym c.as_slice.ensures)
+    ∙ subst (λ r. Gives placed (whole MOST_LEVELS (toks_of c.args.text.now c.as_slice.result.now)) (Err r)) is c.in-Err-Nesting.ensures) g tree)
 
 pub returns-in-Err-Nesting-clause-nesting : goal.returns-in-Err-Nesting-clause-nesting
 returns-in-Err-Nesting-clause-nesting c p same =
     let is : c.in-Err-Nesting.field-0 ≡ refusal.Nesting c.in-Err-Nesting.left = c.in-Err-Nesting.field-0-is in
     let it = opening c.args.text.now c.args.tokens.now.list c.in-Err-Nesting.left
-    (ap (λ l. whole (toks_of c.args.text.now l)) (sym c.as_slice.ensures)
-    ∙ subst (λ r. Gives placed (whole (toks_of c.args.text.now c.as_slice.result.now)) (Err r)) is c.in-Err-Nesting.ensures) in
+    (ap (λ l. (whole MOST_LEVELS) (toks_of c.args.text.now l)) (sym c.as_slice.ensures)
+    ∙ subst (λ r. Gives placed (whole MOST_LEVELS (toks_of c.args.text.now c.as_slice.result.now)) (Err r)) is c.in-Err-Nesting.ensures) in
     let there : c.place_of-in-Err-Nesting.result ≡ p = cc in
     record {
       before = it.before;
@@ -56,7 +57,7 @@ returns-in-Err-Nesting-clause-nesting c p same =
 pub returns-in-Ok-clause-too_deep : goal.returns-in-Ok-clause-too_deep
 returns-in-Ok-clause-too_deep c p o =
     let stop = stopped c.args.text.now c.args.tokens.now.list p o in
-    let read = ap (λ l. whole (toks_of c.args.text.now l)) (sym c.as_slice.ensures) ∙ c.in-Ok.ensures in
+    let read = ap (λ l. (whole MOST_LEVELS) (toks_of c.args.text.now l)) (sym c.as_slice.ensures) ∙ c.in-Ok.ensures in
     let both = sym read ∙ stop in
     cc
 
@@ -64,8 +65,8 @@ pub returns-in-Err-Syntax-clause-too_deep : goal.returns-in-Err-Syntax-clause-to
 returns-in-Err-Syntax-clause-too_deep c p o =
     let is : c.in-Err-Syntax.field-0 ≡ refusal.Syntax c.in-Err-Syntax.left = c.in-Err-Syntax.field-0-is in
     let stop = stopped c.args.text.now c.args.tokens.now.list p o in
-    let read = ap (λ l. whole (toks_of c.args.text.now l)) (sym c.as_slice.ensures)
-    ∙ subst (λ r. Gives placed (whole (toks_of c.args.text.now c.as_slice.result.now)) (Err r)) is c.in-Err-Syntax.ensures in
+    let read = ap (λ l. (whole MOST_LEVELS) (toks_of c.args.text.now l)) (sym c.as_slice.ensures)
+    ∙ subst (λ r. Gives placed (whole MOST_LEVELS (toks_of c.args.text.now c.as_slice.result.now)) (Err r)) is c.in-Err-Syntax.ensures in
     let both = sym read ∙ stop in
     cc
 
@@ -73,8 +74,8 @@ pub returns-in-Err-Nesting-clause-too_deep : goal.returns-in-Err-Nesting-clause-
 returns-in-Err-Nesting-clause-too_deep c p o =
     let is : c.in-Err-Nesting.field-0 ≡ refusal.Nesting c.in-Err-Nesting.left = c.in-Err-Nesting.field-0-is in
     let stop = stopped c.args.text.now c.args.tokens.now.list p o in
-    let read = ap (λ l. whole (toks_of c.args.text.now l)) (sym c.as_slice.ensures)
-    ∙ subst (λ r. Gives placed (whole (toks_of c.args.text.now c.as_slice.result.now)) (Err r)) is c.in-Err-Nesting.ensures in
+    let read = ap (λ l. (whole MOST_LEVELS) (toks_of c.args.text.now l)) (sym c.as_slice.ensures)
+    ∙ subst (λ r. Gives placed (whole MOST_LEVELS (toks_of c.args.text.now c.as_slice.result.now)) (Err r)) is c.in-Err-Nesting.ensures in
     let both = sym read ∙ stop in
     let count : c.in-Err-Nesting.left ≡ length (o.token ∷ o.after) = cc in
     inl (ap (λ q. Err (fault.Nesting q)) (c.place_of-in-Err-Nesting.ensures.at o.before o.after o.token o.all count ∙ sym o.stands))

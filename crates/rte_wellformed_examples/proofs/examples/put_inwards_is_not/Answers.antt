@@ -1,5 +1,5 @@
-use Rattle.rte_wellformed.proofs.Small.{put_inwards_does_not}
-use Rattle.rte_wellformed.proofs.examples.put_inwards_is_not.Goals as goal
+use Rattle.rte_wellformed_examples.proofs.Small.{put_inwards_does_not}
+use Rattle.rte_wellformed_examples.proofs.examples.put_inwards_is_not.Goals as goal
 
 pub returns : goal.returns
 returns c = put_inwards_does_not

@@ -1,4 +1,4 @@
-use Rattle.std.proofs.Common.{◌≤◌, ◌∙◌, sym, subst}
+use Rattle.std.proofs.Common.{◌≤◌, sym, subst, arith}
 use Rattle.rte_grammar.specs.Words.{toks_of}
 use Rattle.rte_names.specs.Occurrences.{names}
 use Rattle.rte_wellformed_names.proofs.Counts.{count-standing}
@@ -8,5 +8,6 @@ use Rattle.rte_wellformed_names.proofs.law.names_stand_apart.Goals as goal
 
 pub returns : goal.returns
 returns c g read q =
-    subst (λ n. n ≤ 1) (sym (count-standing q (names g) ∙ program-keeps q g (toks_of read.text read.toks) read.reads))
-    (one-named q read.text read.toks (c.tokens_in_order.ensures read.text read.toks read.listed))
+    let few = program-keeps q g (toks_of read.text read.toks) read.reads in
+    let one = one-named q read.text read.toks (c.tokens_in_order.ensures read.text read.toks read.listed) in
+    subst (λ n. n ≤ 1) (sym (count-standing q (names g))) (omega (arith, few, one))

@@ -33,6 +33,7 @@ loop-self-preserved g c =
       end = c.loop-self.invariant.end;
       taken = (taken.0 ++ log_of c.names.result.now c.events.result.now, Appends-append _ _ _ _ _ taken.1 c.in_ok-put_all.ensures.whole, all ∙ sym (append_assoc taken.0 (log_of c.names.result.now c.events.result.now) (log_to c.args.image.now c.args.script.now c.advance.new.self)));
       count = omega (arith, c.loop-self.invariant.count, c.put_all.ensures.count);
+      quiet = c.in_ok-put_all.ensures.quiet ∙ c.loop-self.invariant.quiet;
     }
 
 pub returns-in_err-put_all-clause-front : goal.returns-in_err-put_all-clause-front

@@ -7,8 +7,9 @@ abbrev pub invariant-loop-self : goal.invariant-loop-self
 invariant-loop-self g l = record {
   made : IsOf l.image.image l.script l.self;
   end : l.end ≡ l.script.end_tick;
-  taken : (before : List ℕ) × Appends (g.O.Sink.taken l.fn.out) (g.O.Sink.taken l.out) before × (log_to l.image l.script l.fn.self ≡ before ++ log_to l.image l.script l.self);
-  count : g.O.Sink.faults l.fn.out ≤ g.O.Sink.faults l.out;
+  taken : (before : List ℕ) × Appends (g.O.Sink.state l.fn.out).taken (g.O.Sink.state l.out).taken before × (log_to l.image l.script l.fn.self ≡ before ++ log_to l.image l.script l.self);
+  count : (g.O.Sink.state l.fn.out).faults ≤ (g.O.Sink.state l.out).faults;
+  quiet : (g.O.Sink.state l.out).faults ≡ (g.O.Sink.state l.fn.out).faults;
 }
 
 abbrev pub decreases-loop-self : goal.decreases-loop-self

@@ -1,9 +1,10 @@
 use Rattle.std.proofs.Common.{◌≡◌, ◌-◌, map}
 use Rattle.rte_tree.specs.Placed.{placed_routine}
+use Rattle.rte_grammar.specs.Grammar.{MOST_LEVELS}
 use Rattle.rte_reading.specs.ExprReading.{each}
 use Rattle.rte_reading.specs.Reading.{begins_routine, routine_decl, routines}
 use Rattle.rte_parse.specs.Reads.{with_front}
 use Rattle.rte_parse.proofs.parser.Parser.routines.Given as goal
 
 abbrev pub invariant-loop-turn : goal.invariant-loop-turn
-invariant-loop-turn l = with_front (map placed_routine l.routines) (each begins_routine routine_decl (l.turns - l._turn) l.self) ≡ routines l.fn.self
+invariant-loop-turn l = with_front (map placed_routine l.routines) (each begins_routine (routine_decl MOST_LEVELS) (l.turns - l._turn) l.self) ≡ routines MOST_LEVELS l.fn.self

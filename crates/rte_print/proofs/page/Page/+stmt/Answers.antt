@@ -36,7 +36,7 @@ stmt-returns-after-second t c =
 
 pub stmt-returns-in_ok-stmts-in-For : goal.stmt-returns-in_ok-stmts-in-For
 stmt-returns-in_ok-stmts-in-For t c =
-    let top : Paper = ended (puts c.args.self.now (for_line c.in-For.name (placed_constant c.in-For.low) (placed_constant c.in-For.high))) in
+    let top : Paper = ended (puts c.args.self.now (for_line c.in-For.name (placed_constant c.in-For.low.value) (placed_constant c.in-For.high.value))) in
     on_ok c.end_keyword-in-For.result c.end_keyword-in-For.ensures (λ e.
     let v = stmt-For c.in-For.place c.in-For.name c.in-For.name_place c.in-For.low c.in-For.high c.in-For.body in
     let a = put_lines_append top (stmts_lines (placed_stmts c.in-For.body)) ((END ∷ FOR ∷ []) ∷ []) in

@@ -1,0 +1,81 @@
+//! Calls of the top over files and a sink in memory.
+
+use rte_cli::rte;
+use rte_io::{MemFiles, MemSink};
+use std::alloc::Global;
+use std::test::Fail;
+
+/// The bytes that the sink of a call takes.
+const ROOM: usize = 1_048_576;
+
+/// What a call came to: its status, the bytes and the pieces that it put, and what I holds.
+#[derive(Drop)]
+pub struct Outcome {
+    pub status: u8,
+    pub put: Vec<u8>,
+    pub puts: u64,
+    pub image: Option<Vec<u8>>,
+}
+
+/// Which reads, writes and puts fail, by their numbers from 1; 0 is none.
+#[derive(Clone, Copy)]
+pub struct Failures {
+    pub read: u64,
+    pub write: u64,
+    pub put: u64,
+}
+
+pub const NO_FAILURES: Failures = Failures {
+    read: 0,
+    write: 0,
+    put: 0,
+};
+
+/// The words of a line.
+fn words_of(alloc: Global, line: &str) -> Result<Vec<String>, Fail> {
+    let mut words = Vec::new(alloc);
+    for word in line.split_whitespace() {
+        words.push(String::from_str(alloc, word)?)?;
+    }
+    Ok(words)
+}
+
+/// A call of the words of the line, where P holds the program and S the script, if there is one.
+pub fn call(
+    alloc: Global,
+    line: &str,
+    program: &[u8],
+    script: Option<&str>,
+) -> Result<Outcome, Fail> {
+    call_with(alloc, line, program, script, NO_FAILURES)
+}
+
+/// The same, with failures.
+pub fn call_with(
+    alloc: Global,
+    line: &str,
+    program: &[u8],
+    script: Option<&str>,
+    failures: Failures,
+) -> Result<Outcome, Fail> {
+    let reads = vec![in alloc; failures.read]?;
+    let writes = vec![in alloc; failures.write]?;
+    let mut files = MemFiles::new(alloc, reads, writes);
+    files.place("P", program)?;
+    if let Some(text) = script {
+        files.place("S", text.as_bytes())?;
+    }
+    let words = words_of(alloc, line)?;
+    let mut out = MemSink::new(alloc, ROOM, vec![in alloc; failures.put]?)?;
+    let status = rte(alloc, words.as_slice(), &mut files, &mut out);
+    let image = match files.held("I") {
+        Some(bytes) => Some(Vec::from_slice(alloc, bytes)?),
+        None => None,
+    };
+    Ok(Outcome {
+        status,
+        put: Vec::from_slice(alloc, out.bytes())?,
+        puts: out.puts(),
+        image,
+    })
+}

@@ -1,0 +1,10 @@
+use Rattle.std.proofs.Common.{◌≡◌, drop}
+use Rattle.rte_tree.specs.Placed.{placed_operands, plain_operands}
+use Rattle.rte_made.specs.Told.{inside}
+use Rattle.rte_made.specs.Made.{row_out}
+use Rattle.rte_gen.proofs.making.Out.+expr.Given as goal
+
+abbrev pub invariant-operands-loop-operand : goal.invariant-operands-loop-operand
+invariant-operands-loop-operand g l =
+    row_out (g.L.Lookup.program l.names) (inside l.loops (g.L.Lookup.scope l.names)) (plain_operands (placed_operands (drop l.operand-index l.operands))) l.self
+    ≡ row_out (g.L.Lookup.program l.names) (inside l.loops (g.L.Lookup.scope l.names)) (plain_operands (placed_operands l.operands)) l.fn.self

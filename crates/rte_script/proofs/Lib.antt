@@ -1,0 +1,5 @@
+pub mod Lookups
+pub mod Readings
+pub mod Steps
+pub mod Pasts
+pub mod Endings

@@ -1,0 +1,4 @@
+pub mod Saying
+pub mod Scripts
+pub mod Faults
+pub mod Reading

@@ -1,0 +1,14 @@
+-- What an answer of the search for a failing level says of the set.
+use Rattle.std.proofs.Common.{◌≡◌, ℕ, List, Option, Some, None, IfSome, IfNone, true, false}
+use Rattle.std.specs.Prelude.{is_some}
+use Rattle.rte_response.specs.declared.tasks.Task.{Task}
+use Rattle.rte_slack.specs.Slack.{IsFirstFailing, IsTimely}
+use Rattle.rte_slack.proofs.More.{not_timely}
+
+pub timely_by : (ts : List Task) (found : Option ℕ) → false ≡ is_some found → IfNone found (IsTimely ts) → IsTimely ts
+timely_by ts None none timely = timely
+timely_by ts (Some level) none timely = absurd (cc)
+
+pub not_timely_by : (ts : List Task) (found : Option ℕ) → true ≡ is_some found → IfSome found (IsFirstFailing ts) → IsTimely ts → ⊥
+not_timely_by ts None some failing = λ timely. cc
+not_timely_by ts (Some level) some failing = not_timely ts level failing

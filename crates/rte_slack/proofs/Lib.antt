@@ -1,0 +1,4 @@
+pub mod Answered
+pub mod Halving
+pub mod Lighter
+pub mod More

@@ -1,0 +1,106 @@
+-- A level that runs for some ticks more.
+use Rattle.std.proofs.Common.{◌≡◌, ◌≤◌, ◌<◌, ◌+◌, inl, inr, ℕ, suc, List, length, ap, sym, subst, ◌∙◌, arith, refl, add-zero}
+use Rattle.std.specs.Prelude.{slice_set}
+use Rattle.std.proofs.lemmas.Bool.{cases_eq, cases_lt}
+use Rattle.std.proofs.lemmas.List.{get_or-set_same, get_or-set_other, set-get_or, set-set, length-set}
+use Rattle.rte_response.specs.declared.tasks.Task.{Task}
+use Rattle.rte_response.specs.Demand.{task_at, deadline_at, with_run}
+use Rattle.rte_slack.specs.Slack.{evaluations, with_more, IsFirstFailing, IsSlack, IsTimely}
+use Rattle.rte_slack.proofs.Lighter.{nobody, IsLighter, AreLighter, fewer, solves_lighter, run_within, evaluations_lighter}
+
+pub length_more : (ts : List Task) (level x : ℕ) → length (with_more ts level x) ≡ length ts
+length_more ts level x = length-set ts level (record (task_at ts level) { run = (task_at ts level).run + x })
+
+at_level : (ts : List Task) (level x : ℕ) → level < length ts → task_at (with_more ts level x) level ≡ record (task_at ts level) { run = (task_at ts level).run + x }
+at_level ts level x below = get_or-set_same ts level (record (task_at ts level) { run = (task_at ts level).run + x }) nobody below
+
+elsewhere : (ts : List Task) (level x k : ℕ) → (k ≡ level → ⊥) → task_at (with_more ts level x) k ≡ task_at ts k
+elsewhere ts level x k other = get_or-set_other ts level k (record (task_at ts level) { run = (task_at ts level).run + x }) nobody other
+
+pub more_none : (ts : List Task) (level : ℕ) → with_more ts level 0 ≡ ts
+more_none ts level = ap (λ (n : ℕ). with_run ts level n) (add-zero (task_at ts level).run) ∙ set-get_or ts level nobody
+
+pub put_back : (ts : List Task) (level x : ℕ) → level < length ts → with_run (with_more ts level x) level (task_at ts level).run ≡ ts
+put_back ts level x below =
+    ap (λ (t : Task). slice_set (with_more ts level x) level (record t { run = (task_at ts level).run })) (at_level ts level x below)
+    ∙ set-set ts level (record (task_at ts level) { run = (task_at ts level).run + x }) (task_at ts level)
+    ∙ set-get_or ts level nobody
+
+lighter_along : (s t s' t' : Task) → s ≡ s' → t ≡ t' → IsLighter s' t' → IsLighter s t
+lighter_along s t s' t' first second light = subst (λ (u : Task). IsLighter u t) (sym first) (subst (λ (u : Task). IsLighter s' u) (sym second) light)
+
+lighter_same : (t : Task) → IsLighter t t
+lighter_same t = record { frame = refl; deadline = refl; run = omega arith; susp = refl; waits = refl; block = refl }
+
+lighter_run : (t : Task) (x y : ℕ) → x ≤ y → IsLighter (record t { run = t.run + x }) (record t { run = t.run + y })
+lighter_run t x y low = record { frame = refl; deadline = refl; run = omega arith; susp = refl; waits = refl; block = refl }
+
+-- with fewer ticks more the tasks are lighter
+pub are_lighter : (ts : List Task) (level x y : ℕ) → level < length ts → x ≤ y → AreLighter (length ts) (with_more ts level x) (with_more ts level y)
+are_lighter ts level x y below low = record {
+  fit = omega (arith, length_more ts level x);
+  fit_too = omega (arith, length_more ts level y);
+  each = λ k within. elim (cases_eq k level) [
+    | inl e ↦ let P : ℕ → Type 0 = λ n. IsLighter (task_at (with_more ts level x) n) (task_at (with_more ts level y) n) in
+        subst P (sym e) (lighter_along _ _ _ _ (at_level ts level x below) (at_level ts level y below) (lighter_run (task_at ts level) x y low))
+    | inr other ↦ lighter_along _ _ _ _ (elsewhere ts level x k other) (elsewhere ts level y k other) (lighter_same (task_at ts k))
+  ];
+}
+
+-- above the level nothing changes
+before_lighter : (ts : List Task) (level x y : ℕ) → level < length ts → AreLighter level (with_more ts level x) (with_more ts level y)
+before_lighter ts level x y below = record {
+  fit = omega (arith, length_more ts level x);
+  fit_too = omega (arith, length_more ts level y);
+  each = λ k within. let other : k ≡ level → ⊥ = λ e. omega arith in lighter_along _ _ _ _ (elsewhere ts level x k other) (elsewhere ts level y k other) (lighter_same (task_at ts k));
+}
+
+pub timely_falls : (ts : List Task) (level x y : ℕ) → level < length ts → x ≤ y → IsTimely (with_more ts level y) → IsTimely (with_more ts level x)
+timely_falls ts level x y below low timely = λ other within.
+    let fits : other < length ts = omega (arith, within, length_more ts level x) in
+    let solved = timely other (omega (arith, fits, length_more ts level y)) in
+    let light = fewer (length ts) (suc other) (with_more ts level x) (with_more ts level y) (omega arith) (are_lighter ts level x y below low) in
+    (solved.0, solves_lighter (with_more ts level x) (with_more ts level y) other solved.0 light solved.1)
+
+pub evaluations_same : (ts : List Task) (level x : ℕ) → level < length ts → evaluations (with_more ts level x) (length (with_more ts level x)) ≡ evaluations ts (length ts)
+evaluations_same ts level x below =
+    ap (λ (n : ℕ). evaluations (with_more ts level x) n) (length_more ts level x)
+    ∙ sym (evaluations_lighter (length ts) (with_more ts level 0) (with_more ts level x) (are_lighter ts level 0 x below (omega arith)))
+    ∙ ap (λ (us : List Task). evaluations us (length ts)) (more_none ts level)
+
+pub timely_as_it_is : (ts : List Task) (level : ℕ) → IsTimely ts → IsTimely (with_more ts level 0)
+timely_as_it_is ts level timely = subst (λ (us : List Task). IsTimely us) (sym (more_none ts level)) timely
+
+-- where the run passes the deadline, the level is the first that fails
+pub fails_past_deadline : (ts : List Task) (level x : ℕ) → level < length ts → deadline_at ts level ≤ 1000000000 → deadline_at ts level < (task_at ts level).run + x → IsTimely ts → IsFirstFailing (with_more ts level x) level
+fails_past_deadline ts level x below low past timely = record {
+  within = omega (arith, length_more ts level x, below);
+  fails = λ r solves.
+      let due : deadline_at (with_more ts level x) level ≡ deadline_at ts level = ap (λ (t : Task). t.deadline) (at_level ts level x below) in
+      let run : (task_at (with_more ts level x) level).run ≡ (task_at ts level).run + x = ap (λ (t : Task). t.run) (at_level ts level x below) in
+      let held = run_within (with_more ts level x) level r (omega (arith, due, low)) solves in
+      omega (arith, due, run, held, solves.within, past);
+  before = λ other above.
+      let solved = timely_as_it_is ts level timely other (omega (arith, above, below, length_more ts level 0)) in
+      let light = fewer level (suc other) (with_more ts level x) (with_more ts level 0) (omega arith) (before_lighter ts level x 0 below) in
+      (solved.0, solves_lighter (with_more ts level x) (with_more ts level 0) other solved.0 light solved.1);
+}
+
+pub not_timely : (ts : List Task) (level : ℕ) → IsFirstFailing ts level → IsTimely ts → ⊥
+not_timely ts level failing timely = let solved = timely level failing.within in failing.fails solved.0 solved.1
+
+-- x is the slack where it fits and one more does not
+pub is_slack : (ts : List Task) (level x fails : ℕ) → level < length ts → IsTimely (with_more ts level x) → IsFirstFailing (with_more ts level (x + 1)) fails → IsSlack ts level x
+is_slack ts level x fails below fits failing = record {
+  fits = fits;
+  greatest = λ y timely. elim (cases_lt x y) [
+    | inl more ↦ absurd (not_timely (with_more ts level (x + 1)) fails failing (timely_falls ts level (x + 1) y below (omega arith) timely))
+    | inr most ↦ most
+  ];
+}
+
+-- a run is no longer than its deadline in a timely set
+pub run_within_deadline : (ts : List Task) (level : ℕ) → level < length ts → deadline_at ts level ≤ 1000000000 → IsTimely ts → (task_at ts level).run ≤ deadline_at ts level
+run_within_deadline ts level below low timely =
+    let solved = timely level below in
+    omega (arith, run_within ts level solved.0 low solved.1, solved.1.within)
