@@ -1,5 +1,5 @@
 -- A program has no more than it may have.
-use Rattle.std.proofs.Common.{◌≡◌, ◌≤◌, ℕ, zero, suc, ◌+◌, false, List, [], ◌∷◌, map, length, length-append, None, refl, ap, sym, ◌∙◌, subst, arith}
+use Rattle.std.proofs.Common.{◌≡◌, ◌≤◌, ℕ, zero, suc, ◌+◌, false, List, [], ◌∷◌, ◌++◌, map, length, length-append, None, refl, ap, sym, ◌∙◌, subst, arith}
 use Rattle.std.specs.Prelude.{filter_map, sum_by, nat_lt}
 use Rattle.std.proofs.lemmas.Option.{none-some}
 use Rattle.std.proofs.lemmas.Bool.Decides.{nat_tests}
@@ -74,9 +74,9 @@ routines_of (device n p is_out ∷ ds) = let h = routines_of ds in sum_cons rout
 routines_of (event n p ∷ ds) = let h = routines_of ds in sum_cons routines_in (plain_decl (event n p)) (map plain_decl ds) ∙ omega (arith, h)
 routines_of (routine r ∷ ds) = let h = routines_of ds in sum_cons routines_in (plain_decl (routine r)) (map plain_decl ds) ∙ omega (arith, h)
 routines_of (monitor m ∷ ds) = let h = routines_of ds in sum_cons routines_in (plain_decl (monitor m)) (map plain_decl ds)
-    ∙ omega (arith, h, length-map m.entries plain_routine, length-map m.entries (λ r. r.place), length-append (map (λ r. r.place) m.entries) (limit.routine_places ds))
+    ∙ omega (arith, h, length-map m.entries plain_routine, length-map (m.entries ++ tree.routines ds) (λ r. r.place), length-map (tree.routines ds) (λ r. r.place), length-append m.entries (tree.routines ds))
 routines_of (process p ∷ ds) = let h = routines_of ds in sum_cons routines_in (plain_decl (process p)) (map plain_decl ds)
-    ∙ omega (arith, h, length-map p.routines plain_routine, length-map p.routines (λ r. r.place), length-append (map (λ r. r.place) p.routines) (limit.routine_places ds))
+    ∙ omega (arith, h, length-map p.routines plain_routine, length-map (p.routines ++ tree.routines ds) (λ r. r.place), length-map (tree.routines ds) (λ r. r.place), length-append p.routines (tree.routines ds))
 
 module _ (g : Prog Place) where
   -- ---- words
