@@ -6,3 +6,4 @@ pub mod Viable
 pub mod ExprViable
 pub mod StmtViable
 pub mod ProgViable
+pub mod Stops

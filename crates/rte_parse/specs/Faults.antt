@@ -5,6 +5,7 @@ use Rattle.rte_lex.specs.declared.token.Token.{Token}
 use Rattle.rte_lex.specs.declared.token.Tokens.{Tokens}
 use Rattle.rte_grammar.specs.Words.{toks_of}
 use Rattle.rte_grammar.specs.Opening.{OpensProg}
+use Rattle.rte_beginning.specs.Beginning.{BeginsProg, Stop}
 use Rattle.rte_parse.specs.declared.fault.SynFault.{SynFault}
 use Rattle.rte_parse.specs.declared.fault.SynFault.TheVariants.{Syntax, Nesting, Memory}
 
@@ -29,3 +30,7 @@ pub record OpensAt (text : List ℕ) (toks : List Token) (p : Place) : Type 0 wh
   pub all : toks ≡ before ++ token ∷ after
   pub opens : OpensProg (toks_of text toks) (toks_of text (token ∷ after))
   pub stands : p ≡ place token
+
+-- the place of a fault of the grammar: that of the token with which the tokens read no longer begin a program, or the text's end, where all of them begin one
+abbrev pub StopsAt : List ℕ → Tokens → Place → Type 0
+StopsAt text toks p = ((s : Stop text toks.list) × (p ≡ place s.token)) ⊎ (BeginsProg (toks_of text toks.list) × (p ≡ toks.end))

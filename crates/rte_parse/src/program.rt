@@ -8,7 +8,7 @@ ghost use Rattle.rte_grammar.specs.Words.{toks_of};
 ghost use Rattle.rte_grammar.specs.Grammar.{MOST_LEVELS, tree};
 ghost use Rattle.rte_reading.specs.Reading as reading;
 ghost use Rattle.rte_parse.specs.Reads.{Gives};
-ghost use Rattle.rte_parse.specs.Faults.{place, IsPlaceIn, StandsIn, OpensAt};
+ghost use Rattle.rte_parse.specs.Faults.{place, IsPlaceIn, StandsIn, OpensAt, StopsAt};
 
 use crate::fault::{Refusal, SynFault};
 use crate::parser::Parser;
@@ -34,6 +34,7 @@ fn read(alloc: Global, text: &[u8], toks: &[Token]) -> Result<Prog, Refusal>
 /// The place of the token with this many left from it on, or of the text's end.
 fn place_of(tokens: &Tokens, left: usize) -> Place
     ensures found { IsPlaceIn tokens.now result }
+    ensures last { left ≡ 0 → result ≡ tokens.now.end }
     ensures at { (before after : List SpecToken) (t : SpecToken) → tokens.now.list ≡ before ++ t ∷ after → left ≡ length (t ∷ after) → result ≡ place t }
 {
     let all = tokens.as_slice();
@@ -64,6 +65,9 @@ pub fn parse(alloc: Global, text: &[u8], tokens: &Tokens) -> Result<Prog, SynFau
     ensures only { (g : SpecProg SpecPlace) → tree text.now tokens.now.list g → MatchResult result (λ p. placed p ≡ g) (λ f. f ≡ SynFault.Memory) }
     // A fault stands at a token or at the end.
     ensures place { IfErr result (λ f. StandsIn tokens.now f) }
+    // A fault of the grammar stands at the token with which the tokens read no longer begin a
+    // program, or at the text's end.
+    ensures syntax { (p : SpecPlace) → result ≡ Err (SynFault.Syntax p) → StopsAt text.now tokens.now p }
     // A fault of nesting stands at the token that opens level 65.
     ensures nesting { (p : SpecPlace) → result ≡ Err (SynFault.Nesting p) → OpensAt text.now tokens.now.list p }
     // Where a token opens level 65 it is the fault, unless memory runs out.

@@ -1,6 +1,5 @@
 -- The programs and the faults of texts, by those of trees, names and rules.
-use Rattle.std.proofs.Common.{◌≡◌, ◌<◌, ℕ, List, ◌⊎◌, inl, inr, refl, ap, sym, ◌∙◌, subst, arith, Result, Ok, Err}
-use Rattle.std.specs.Prelude.{IfErr, IsErrAnd, MatchResult}
+use Rattle.std.proofs.Common.{◌≡◌, ◌<◌, ℕ, List, ◌⊎◌, inl, inr, refl, sym, subst, arith}
 use Rattle.rte_tree.specs.declared.place.Place.{Place}
 use Rattle.rte_tree.specs.Placed.{Prog}
 use Rattle.rte_rules.specs.First as rule
@@ -8,8 +7,8 @@ use Rattle.rte_names.specs.Rules as names
 use Rattle.rte_names.specs.Resolved.{IsNamed, IsFault as IsNameFault}
 use Rattle.rte_names.specs.declared.named.NameFault.{NameFault}
 use Rattle.rte_names.specs.declared.named.NameFault.TheVariants as name_fault
-use Rattle.rte_program.specs.Source.{IsTreeOf, IsSourceFault}
-use Rattle.rte_static.specs.Static.{Fails, IsChecked, IsFault as IsRuleFault}
+use Rattle.rte_program.specs.Source.{IsTreeOf}
+use Rattle.rte_static.specs.Static.{Fails, IsFault as IsRuleFault}
 use Rattle.rte_static.specs.declared.rules.RuleFault.{RuleFault}
 use Rattle.rte_static.specs.declared.rules.RuleFault.TheVariants as rule_fault
 use Rattle.rte_program.specs.declared.fault.SourceFault.TheVariants.{Memory}

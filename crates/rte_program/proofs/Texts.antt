@@ -16,7 +16,7 @@ use Rattle.rte_parse.specs.declared.fault.SynFault.TheVariants as syn
 use Rattle.rte_parse.specs.Faults.{StandsIn, OpensAt}
 use Rattle.rte_program.specs.declared.fault.SourceFault.{SourceFault}
 use Rattle.rte_program.specs.declared.fault.SourceFault.TheVariants.{Fault, Memory}
-use Rattle.rte_program.specs.Source.{IsTreeOf, IsNested, HasNoTree, start, IsSourceFault, too_long, bad_byte, large_literal, long_name, no_program, too_deep, IsSourceFaultOf, lexical, syntactic}
+use Rattle.rte_program.specs.Source.{IsTreeOf, IsNested, HasNoTree, IsSourceFault, too_long, bad_byte, large_literal, long_name, no_program, too_deep, IsSourceFaultOf, lexical, syntactic}
 use Rattle.rte_program.specs.Laws.{HasOneTree, IsOfGrammar}
 
 -- ---- what `read_tree` answers

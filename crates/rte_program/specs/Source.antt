@@ -1,5 +1,5 @@
 -- What a text is: its tree, or else its fault, which comes from the first group that has one.
-use Rattle.std.specs.Prelude.{◌≡◌, ◌⊎◌, ℕ, List}
+use Rattle.std.specs.Prelude.{◌≡◌, ℕ, List}
 use Rattle.rte_tree.specs.declared.place.Place.{Place}
 use Rattle.rte_tree.specs.Placed.{Prog}
 use Rattle.rte_lex.specs.declared.fault.LexFault.{LexFault}

@@ -1,4 +1,4 @@
-use Rattle.std.proofs.Common.{◌≡◌, ap, sym, ◌∙◌, subst, ◌∷◌, length, Err, inl}
+use Rattle.std.proofs.Common.{◌≡◌, ap, sym, ◌∙◌, subst, ◌∷◌, length, Err, inl, inr}
 use Rattle.rte_tree.specs.Placed.{placed}
 use Rattle.rte_grammar.specs.Grammar.{MOST_LEVELS}
 use Rattle.rte_grammar.specs.Words.{toks_of}
@@ -9,6 +9,7 @@ use Rattle.rte_reading.proofs.Again.{one_tree}
 use Rattle.rte_parse.specs.declared.fault.Refusal.TheVariants as refusal
 use Rattle.rte_parse.specs.declared.fault.SynFault.TheVariants as fault
 use Rattle.rte_parse.specs.Reads.{Gives}
+use Rattle.rte_beginning.proofs.Stops.{fault-stops}
 use Rattle.rte_parse.proofs.Laws.{no_tree, opening, stopped}
 use Rattle.rte_parse.proofs.program.parse.Goals as goal
 
@@ -53,6 +54,17 @@ returns-in-Err-Nesting-clause-nesting c p same =
       opens = it.opens;
       stands = sym there ∙ c.place_of-in-Err-Nesting.ensures.at it.before it.after it.token it.all it.count;
     }
+
+pub returns-in-Err-Syntax-clause-syntax : goal.returns-in-Err-Syntax-clause-syntax
+returns-in-Err-Syntax-clause-syntax c p same =
+    let is : c.in-Err-Syntax.field-0 ≡ refusal.Syntax c.in-Err-Syntax.left = c.in-Err-Syntax.field-0-is in
+    let read = ap (λ l. whole MOST_LEVELS (toks_of c.args.text.now l)) (sym c.as_slice.ensures)
+    ∙ subst (λ r. Gives placed (whole MOST_LEVELS (toks_of c.args.text.now c.as_slice.result.now)) (Err r)) is c.in-Err-Syntax.ensures in
+    let there : c.place_of.result ≡ p = cc in
+    elim (fault-stops c.args.text.now c.args.tokens.now.list c.in-Err-Syntax.left read) [
+      | inl (s, count) ↦ inl (s, sym there ∙ c.place_of.ensures.at s.before s.after s.token s.all count)
+      | inr (begins, none) ↦ inr (begins, sym there ∙ c.place_of.ensures.last none)
+    ]
 
 pub returns-in-Ok-clause-too_deep : goal.returns-in-Ok-clause-too_deep
 returns-in-Ok-clause-too_deep c p o =

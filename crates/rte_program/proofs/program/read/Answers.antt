@@ -1,9 +1,7 @@
 use Rattle.std.proofs.Common.{◌≡◌, ◌∙◌, ap, sym, subst}
 use Rattle.rte_tree.specs.Placed.{placed}
 use Rattle.rte_tree.specs.declared.decl.Prog.{Prog}
-use Rattle.rte_names.specs.Resolved.{IsNamed}
 use Rattle.rte_program.specs.Source.{IsTreeOf}
-use Rattle.rte_static.specs.Static.{IsFault}
 use Rattle.rte_program.specs.Program.{IsFaultOf}
 use Rattle.rte_program.proofs.Programs.{name_only, rule_only, rule_fault_is}
 use Rattle.rte_program.proofs.program.read.Goals as goal
