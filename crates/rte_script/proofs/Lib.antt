@@ -3,3 +3,4 @@ pub mod Readings
 pub mod Steps
 pub mod Pasts
 pub mod Endings
+pub mod Once

@@ -42,7 +42,7 @@ set_lacks = ((λ e. omega arith), ((λ e. omega arith), ((λ e. omega arith), tt
 event_lacks : Lacks 32 (codes "event")
 event_lacks = ((λ e. omega arith), ((λ e. omega arith), ((λ e. omega arith), ((λ e. omega arith), ((λ e. omega arith), tt)))))
 
-end_lacks : Lacks 32 (codes "end")
+pub end_lacks : Lacks 32 (codes "end")
 end_lacks = ((λ e. omega arith), ((λ e. omega arith), ((λ e. omega arith), tt)))
 
 pub untimed_lacks : (tick : ℕ) (bytes : List ℕ) → Lacks 32 bytes → (said : Said) → ¬ IsTimed tick bytes said
@@ -87,10 +87,10 @@ not_feed within = omega arith
 not_e : ¬ IsInRange 48 57 101
 not_e within = omega arith
 
-tick_lacks : (tick : ℕ) → tick < 1000000000 → Lacks 32 (decimal tick)
+pub tick_lacks : (tick : ℕ) → tick < 1000000000 → Lacks 32 (decimal tick)
 tick_lacks tick small = decimal_lacks 32 tick not_space (omega arith)
 
-no_end_tick : (before : List ℕ) (tick : ℕ) → tick < 1000000000 → before ≡ codes "end" → before ≢ decimal tick
+pub no_end_tick : (before : List ℕ) (tick : ℕ) → tick < 1000000000 → before ≡ codes "end" → before ≢ decimal tick
 no_end_tick before tick small is e = no_other (codes "end") tick 0 (omega arith) (omega arith) not_e (sym is ∙ e)
 
 pub unsaid_lacks : (line : List ℕ) → Lacks 32 line → (said : Said) → ¬ Says line said

@@ -77,7 +77,7 @@ pub up_to_from : (last : Option ℕ) (tick next : ℕ) → IsUpTo last tick → 
 up_to_from None tick next up from = absurd up
 up_to_from (Some last) tick next up from = grind (arith, nat_tests)
 
-text_push : (said : List Said) (next : Said) (rest : List ℕ) → text_of said ++ (spelled next ++ 10 ∷ rest) ≡ text_of (said ++ next ∷ []) ++ rest
+pub text_push : (said : List Said) (next : Said) (rest : List ℕ) → text_of said ++ (spelled next ++ 10 ∷ rest) ≡ text_of (said ++ next ∷ []) ++ rest
 text_push [] next rest = sym (append_assoc (spelled next) (10 ∷ []) rest)
 text_push (s ∷ said) next rest =
     append_assoc (spelled s) (10 ∷ text_of said) (spelled next ++ 10 ∷ rest)

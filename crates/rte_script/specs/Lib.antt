@@ -2,3 +2,4 @@ pub mod Saying
 pub mod Scripts
 pub mod Faults
 pub mod Reading
+pub mod Laws

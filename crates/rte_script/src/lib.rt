@@ -8,6 +8,7 @@
 #![tactic(auto)]
 
 mod fault;
+mod laws;
 mod line;
 mod names;
 mod numbers;
@@ -17,5 +18,6 @@ mod reader;
 mod script;
 
 pub use fault::ScriptFault;
+pub use laws::one_script;
 pub use read::read_script;
 pub use script::{Script, ScriptLine};
