@@ -122,11 +122,11 @@ fn read_lines(
 
 /// The script that the text is, for these names. Devices and events are found by their names.
 ///
-/// A text has one answer. It is a script where its lines are those of one that respects the
-/// frames, the last says an end above the ticks, and the limits hold: at most 16,777,216 bytes and
-/// 1,000,000 lines. Else `Bad` has the fault: S6 on line 0 where the text is too long, or the first
-/// line that breaks a rule with the least number of those that it breaks, S4 with its two ticks.
-/// `Memory` may stand in place of any answer but the first.
+/// It is a script where its lines are those of one that respects the frames, the last says an end
+/// above the ticks, and the limits hold: at most 16,777,216 bytes and 1,000,000 lines. Else `Bad`
+/// has the fault: S6 on line 0 where the text is too long, or the first line that breaks a rule
+/// with the least number of those that it breaks, S4 with its two ticks. `Memory` may stand in
+/// place of any answer but S6 on line 0.
 pub fn read_script(alloc: Global, text: &[u8], names: &ImageNames) -> Result<Script, ScriptFault>
     requires devices { length names.now.devices ≤ 2 ^ 16 }
     requires events { length names.now.events ≤ 2 ^ 16 }
