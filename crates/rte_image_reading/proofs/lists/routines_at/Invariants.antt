@@ -1,0 +1,11 @@
+use Rattle.std.proofs.Common.{◌≡◌, ◌-◌, [], map}
+use Rattle.rte_image_reading.specs.Format.{each_read}
+use Rattle.rte_image.specs.Raw.{routine_of}
+use Rattle.rte_image_reading.specs.Grammar.{routine_format}
+use Rattle.rte_image_reading.proofs.EachLoop.{in_front}
+use Rattle.rte_image_reading.proofs.lists.routines_at.Given as goal
+
+abbrev pub invariant-loop : goal.invariant-loop
+invariant-loop l =
+    in_front (map routine_of l.routines) (each_read (λ earlier. routine_format l.counts) (map routine_of l.routines) (l.counts.routines - l.counter) l.rest)
+    ≡ each_read (λ earlier. routine_format l.counts) [] l.counts.routines l.bytes

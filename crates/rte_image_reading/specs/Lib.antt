@@ -1,0 +1,9 @@
+pub mod Format
+pub mod TreeFormat
+pub mod Grammar
+pub mod File
+pub mod Gives
+pub mod Versions
+pub mod Law
+pub mod Answer
+pub mod Held

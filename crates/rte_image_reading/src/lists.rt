@@ -1,0 +1,126 @@
+//! Lists of parts that the bytes begin with. Each has as many as the counts say.
+
+ghost use Rattle.std.specs.Prelude.{◌≡◌, ◌++◌, ◌∷◌, [], map, IfOk, OnOk};
+ghost use Rattle.rte_image.specs.Raw.{routine_of};
+ghost use Rattle.rte_image_reading.specs.Gives.{Gives};
+ghost use Rattle.rte_image_reading.specs.Format.{each};
+ghost use Rattle.rte_image_reading.specs.Grammar.{instr_format};
+ghost use Rattle.rte_image_reading.specs.File.{conditions_format, devices_format, events_format, routines_format};
+
+use crate::counts::Counts;
+use crate::fault::ReadError;
+use crate::instr::instr_at;
+use crate::names::name_at;
+use crate::parts::{condition_at, device_at, routine_at};
+use rte_image::{CondName, DevName, RawRoutine};
+use rte_isa::Instr;
+use rte_tree::{List, Name};
+use std::alloc::{AllocError, Global};
+
+/// Takes a name, so that no later part may have it.
+pub fn take(alloc: Global, taken: &mut List<Name>, name: &Name) -> Result<(), AllocError>
+    ensures { OnOk result (taken.new ≡ taken.old ++ name.now ∷ []) }
+{
+    let copy = Name::new(alloc, name.as_bytes())?;
+    taken.push(copy)?;
+    Ok(())
+}
+
+/// The devices, whose names are taken.
+pub fn devices_at<'a>(
+    alloc: Global,
+    bytes: &'a [u8],
+    counts: &Counts,
+    taken: &mut List<Name>,
+) -> Result<(List<DevName>, &'a [u8]), ReadError>
+    ensures read { Gives (λ x. (x.0, x.1.now)) result ((devices_format counts.now taken.old).read bytes.now) }
+    ensures taken { IfOk result (λ x. taken.new ≡ taken.old ++ map (λ d. d.name) x.0) }
+{
+    let mut devices = List::new(alloc);
+    let mut rest = bytes;
+    for _ in 0..counts.devices {
+        let (device, after) = device_at(alloc, rest, taken.as_slice())?;
+        take(alloc, taken, &device.name)?;
+        devices.push(device)?;
+        rest = after;
+    }
+    Ok((devices, rest))
+}
+
+/// The names of the events, which are taken.
+pub fn events_at<'a>(
+    alloc: Global,
+    bytes: &'a [u8],
+    counts: &Counts,
+    taken: &mut List<Name>,
+) -> Result<(List<Name>, &'a [u8]), ReadError>
+    ensures read { Gives (λ x. (x.0, x.1.now)) result ((events_format counts.now taken.old).read bytes.now) }
+    ensures taken { IfOk result (λ x. taken.new ≡ taken.old ++ x.0) }
+{
+    let mut events = List::new(alloc);
+    let mut rest = bytes;
+    for _ in 0..counts.events {
+        let (event, after) = name_at(alloc, rest, taken.as_slice())?;
+        take(alloc, taken, &event)?;
+        events.push(event)?;
+        rest = after;
+    }
+    Ok((events, rest))
+}
+
+/// The conditions.
+pub fn conditions_at<'a>(
+    alloc: Global,
+    bytes: &'a [u8],
+    counts: &Counts,
+    taken: &[Name],
+) -> Result<(List<CondName>, &'a [u8]), ReadError>
+    ensures { Gives (λ x. (x.0, x.1.now)) result ((conditions_format counts.now taken.now).read bytes.now) }
+{
+    let mut conditions = List::new(alloc);
+    let mut rest = bytes;
+    for _ in 0..counts.conditions {
+        let (condition, after) = condition_at(
+            alloc,
+            rest,
+            taken,
+            counts.monitors,
+            conditions.as_slice(),
+        )?;
+        conditions.push(condition)?;
+        rest = after;
+    }
+    Ok((conditions, rest))
+}
+
+/// The routines.
+pub fn routines_at<'a>(
+    alloc: Global,
+    bytes: &'a [u8],
+    counts: &Counts,
+) -> Result<(List<RawRoutine>, &'a [u8]), ReadError>
+    ensures { Gives (λ x. (map routine_of x.0, x.1.now)) result ((routines_format counts.now).read bytes.now) }
+{
+    let mut routines = List::new(alloc);
+    let mut rest = bytes;
+    for _ in 0..counts.routines {
+        let (routine, after) = routine_at(alloc, rest, counts)?;
+        routines.push(routine)?;
+        rest = after;
+    }
+    Ok((routines, rest))
+}
+
+/// The instructions.
+pub fn instrs_at(alloc: Global, bytes: &[u8], count: u32) -> Result<(List<Instr>, &[u8]), ReadError>
+    ensures { Gives (λ x. (x.0, x.1.now)) result ((each (λ earlier. instr_format) [] count).read bytes.now) }
+{
+    let mut code = List::new(alloc);
+    let mut rest = bytes;
+    for _ in 0..count {
+        let (instr, after) = instr_at(rest)?;
+        code.push(instr)?;
+        rest = after;
+    }
+    Ok((code, rest))
+}

@@ -1,0 +1,114 @@
+//! Names that the bytes begin with.
+
+ghost use Rattle.std.specs.Prelude.{◌≡◌, ◌&&◌, not};
+ghost use Rattle.std.specs.List.{list_all};
+ghost use Rattle.rte_lex.specs.Spellings.{is_identifier as identifier_test, is_letter as letter_test, is_word as word_test, keywords};
+ghost use Rattle.rte_image_reading.specs.Gives.{Gives};
+ghost use Rattle.rte_image_reading.specs.Format.{bytes_as_are, both, checked, u8 as one_byte};
+ghost use Rattle.rte_image_reading.specs.TreeFormat.{within};
+ghost use Rattle.rte_image_reading.specs.Grammar.{has, name_format};
+
+use crate::fault::{Fault, ReadError};
+use crate::fields::u8_at;
+use rte_lex::keyword_at;
+use rte_tree::Name;
+use std::alloc::Global;
+
+fn is_letter(byte: u8) -> bool
+    ensures { result ≡ letter_test byte }
+{
+    byte.is_ascii_alphabetic()
+}
+
+fn is_word(byte: u8) -> bool
+    ensures { result ≡ word_test byte }
+{
+    is_letter(byte) || byte.is_ascii_digit() || byte == b'_'
+}
+
+/// Whether all bytes are letters, digits and `_`.
+fn are_words(bytes: &[u8]) -> bool
+    ensures { result ≡ list_all word_test bytes.now }
+{
+    bytes.iter().all(|byte| is_word(*byte))
+}
+
+/// Whether the bytes are a letter, and then letters, digits and `_`.
+fn is_identifier(name: &[u8]) -> bool
+    ensures { result ≡ identifier_test name.now }
+{
+    match name {
+        [] => false,
+        [first, rest @ ..] => is_letter(*first) && are_words(rest),
+    }
+}
+
+/// Whether the bytes are a keyword.
+fn is_keyword(name: &[u8]) -> bool
+    ensures { result ≡ has keywords name.now }
+{
+    match keyword_at(name) {
+        Some(_) => true,
+        None => false,
+    }
+}
+
+/// Whether the name is one of these.
+pub fn is_one_of(name: &[u8], taken: &[Name]) -> bool
+    ensures { result ≡ has taken.now name.now }
+{
+    taken.iter().any(|other| other.as_bytes() == name)
+}
+
+/// So many bytes as they are.
+pub fn bytes_at(bytes: &[u8], size: usize) -> Result<(&[u8], &[u8]), ReadError>
+    ensures { Gives (λ x. (x.0.now, x.1.now)) result ((bytes_as_are size).read bytes.now) }
+{
+    if bytes.len() < size {
+        return Err(ReadError::Fault(Fault { number: 2, left: 0 }));
+    }
+    let (front, rest) = bytes.split_at(size);
+    Ok((front, rest))
+}
+
+/// The length of a name.
+fn length_at(bytes: &[u8]) -> Result<(u8, &[u8]), ReadError>
+    ensures { Gives (λ x. (x.0, x.1.now)) result ((checked one_byte (within 0 63)).read bytes.now) }
+{
+    let (length, rest) = u8_at(bytes)?;
+    if length <= 63 {
+        Ok((length, rest))
+    } else {
+        Err(ReadError::Fault(Fault {
+            number: 4,
+            left: bytes.len(),
+        }))
+    }
+}
+
+/// Whether the bytes may be a name where these are taken.
+fn is_fresh(name: &[u8], taken: &[Name]) -> bool
+    ensures { result ≡ (identifier_test name.now && not (has keywords name.now) && not (has taken.now name.now)) }
+{
+    is_identifier(name) && !is_keyword(name) && !is_one_of(name, taken)
+}
+
+/// A name that is not taken.
+pub fn name_at<'a>(
+    alloc: Global,
+    bytes: &'a [u8],
+    taken: &[Name],
+) -> Result<(Name, &'a [u8]), ReadError>
+    ensures { Gives (λ x. (x.0, x.1.now)) result ((name_format taken.now).read bytes.now) }
+{
+    let (length, rest) = length_at(bytes)?;
+    let (name, rest) = bytes_at(rest, usize::from(length))?;
+    if is_fresh(name, taken) {
+        Ok((Name::new(alloc, name)?, rest))
+    } else {
+        Err(ReadError::Fault(Fault {
+            number: 5,
+            left: bytes.len(),
+        }))
+    }
+}
