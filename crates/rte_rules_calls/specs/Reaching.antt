@@ -1,5 +1,5 @@
 -- What is reached by calls: no routine reaches itself, and no handler reaches a wait.
-use Rattle.std.specs.Prelude.{◌≡◌, ℕ, true, ◌⊎◌, List, [], ◌∷◌, Some, Contains}
+use Rattle.std.specs.Prelude.{◌≡◌, ℕ, true, ◌⊎◌, [], Some, Contains}
 use Rattle.rte_tree.specs.Placed.{Routine, Handler, Process, Prog}
 use Rattle.rte_tree.specs.Parts.{routines, processes}
 use Rattle.rte_tree.specs.declared.place.Place.{Place}
