@@ -1,5 +1,5 @@
 -- Faults of all groups: two of a text are one.
-use Rattle.std.proofs.Common.{◌≡◌, ◌<◌, ℕ, List, ◌⊎◌, inl, inr, sym, subst, arith}
+use Rattle.std.proofs.Common.{◌≡◌, ◌<◌, ℕ, inl, inr, sym, subst, arith}
 use Rattle.rte_tree.specs.declared.place.Place.{Place}
 use Rattle.rte_rules.specs.First as rule
 use Rattle.rte_names.specs.Rules as names
@@ -7,7 +7,7 @@ use Rattle.rte_static.specs.Static.{Fails}
 use Rattle.rte_program.specs.Program.{IsProgramFault, of_text, of_names, of_rules}
 use Rattle.rte_program.specs.Laws.{HasOneTree}
 use Rattle.rte_program.proofs.Texts.{HasTreeOrFault}
-use Rattle.rte_program.proofs.Programs.{misnamed, misruled}
+use Rattle.rte_program.proofs.Programs.{misnamed}
 use Rattle.rte_program_laws.specs.OneFault.{HasOneFault}
 use Rattle.rte_program_laws.proofs.Sources.{HasOneSourceFault}
 
@@ -45,4 +45,3 @@ one_fault one apart sources text number other place there first second = by firs
     by (of_rules m) (of_names n) = absurd (misnamed one text m.program other there m.tree m.named n)
     by (of_rules m) (of_rules n) =
         (one_first (Fails m.program) number other place there m.first (subst (λ h. rule.IsFirst (Fails h) (record { number = other; place = there })) (one text n.program m.program n.tree m.tree) n.first))
-

@@ -1,5 +1,5 @@
 -- Faults of tokens, of the grammar and of nesting: two of a text are one.
-use Rattle.std.proofs.Common.{◌≡◌, ℕ, List, refl, ap, sym, ◌∙◌, subst}
+use Rattle.std.proofs.Common.{◌≡◌, ℕ, List, ap, sym, ◌∙◌, subst}
 use Rattle.rte_tree.specs.declared.place.Place.{Place}
 use Rattle.rte_lex.specs.declared.fault.LexFault.{LexFault}
 use Rattle.rte_lex.specs.declared.fault.LexFault.TheVariants as lex
@@ -8,7 +8,6 @@ use Rattle.rte_lex.specs.declared.token.Tokens.{Tokens}
 use Rattle.rte_lex.specs.Faults.{Faulty}
 use Rattle.rte_lex.specs.Laws.{HasOneList, HasTokensOrFault, HasOneFault}
 use Rattle.rte_lex.specs.Tokens.{tokens, IsEnd}
-use Rattle.rte_parse.specs.declared.fault.SynFault.{SynFault}
 use Rattle.rte_parse.specs.declared.fault.SynFault.TheVariants as syn
 use Rattle.rte_parse.specs.Faults.{OpensAt, StopsAt}
 use Rattle.rte_program.specs.declared.fault.SourceFault.{SourceFault}
