@@ -7,17 +7,16 @@ use Rattle.rte_lex.specs.declared.fault.LexFault.{LexFault}
 use Rattle.rte_lex.specs.declared.fault.LexFault.TheVariants as lex
 use Rattle.rte_lex.specs.declared.token.Token.{Token}
 use Rattle.rte_lex.specs.declared.token.Tokens.{Tokens}
-use Rattle.rte_lex.specs.Faults.{Faulty}
-use Rattle.rte_lex.specs.Laws.{HasOneList, HasTokensOrFault, HasOneFault}
+use Rattle.rte_lex.specs.Laws.{HasOneList, HasTokensOrFault}
 use Rattle.rte_lex.specs.Tokens.{tokens, IsEnd}
 use Rattle.rte_grammar.specs.Grammar.{tree}
 use Rattle.rte_parse.specs.declared.fault.SynFault.{SynFault}
 use Rattle.rte_parse.specs.declared.fault.SynFault.TheVariants as syn
-use Rattle.rte_parse.specs.Faults.{StandsIn, OpensAt}
+use Rattle.rte_parse.specs.Faults.{OpensAt, StopsAt}
 use Rattle.rte_program.specs.declared.fault.SourceFault.{SourceFault}
-use Rattle.rte_program.specs.declared.fault.SourceFault.TheVariants.{Fault, Memory}
-use Rattle.rte_program.specs.Source.{IsTreeOf, IsNested, HasNoTree, IsSourceFault, too_long, bad_byte, large_literal, long_name, no_program, too_deep, IsSourceFaultOf, lexical, syntactic}
-use Rattle.rte_program.specs.Laws.{HasOneTree, IsOfGrammar}
+use Rattle.rte_program.specs.declared.fault.SourceFault.TheVariants.{Memory}
+use Rattle.rte_program.specs.Source.{IsTreeOf, Stands, HasNoTree, IsSourceFault, too_long, bad_byte, large_literal, long_name, no_program, too_deep, IsSourceFaultOf, lexical, syntactic}
+use Rattle.rte_program.specs.Laws.{HasOneTree}
 
 -- ---- what `read_tree` answers
 
@@ -29,30 +28,33 @@ pub only_syntactic : {X : Type 0} (r : Result X SourceFault) (P : X → Type 0) 
 only_syntactic (Ok x) P fault made memory = absurd made
 only_syntactic (Err e) P fault made memory = made ∙ ap syntactic memory
 
--- what the parser says of nesting
-pub is_nested : {X : Type 0} (text : List ℕ) (toks : List Token) (fault : SynFault) → ((p : Place) → ◌≡◌ {A = Result X SynFault} (Err fault) (Err (syn.Nesting p)) → OpensAt text toks p)
-    → ((p : Place) → OpensAt text toks p → ◌≡◌ {A = Result X SynFault} (Err fault) (Err (syn.Nesting p)) ⊎ ◌≡◌ {A = Result X SynFault} (Err fault) (Err syn.Memory)) → IsNested text toks fault
-is_nested {X} text toks (syn.Syntax place) nesting deep = λ p opens. by p (deep p opens)
+-- what the parser says of the place of its fault
+pub stands_as : {X : Type 0} (text : List ℕ) (toks : Tokens) (fault : SynFault)
+    → ((p : Place) → ◌≡◌ {A = Result X SynFault} (Err fault) (Err (syn.Syntax p)) → StopsAt text toks p)
+    → ((p : Place) → ◌≡◌ {A = Result X SynFault} (Err fault) (Err (syn.Nesting p)) → OpensAt text toks.list p)
+    → ((p : Place) → OpensAt text toks.list p → ◌≡◌ {A = Result X SynFault} (Err fault) (Err (syn.Nesting p)) ⊎ ◌≡◌ {A = Result X SynFault} (Err fault) (Err syn.Memory))
+    → Stands text toks fault
+stands_as {X} text toks (syn.Syntax place) stops nesting deep = (stops place refl, λ p opens. by p (deep p opens))
   where
     by : (p : Place) → ◌≡◌ {A = Result X SynFault} (Err (syn.Syntax place)) (Err (syn.Nesting p)) ⊎ ◌≡◌ {A = Result X SynFault} (Err (syn.Syntax place)) (Err syn.Memory) → ⊥
     by p (inl e) = cc
     by p (inr e) = cc
-is_nested text toks (syn.Nesting place) nesting deep = nesting place refl
-is_nested text toks syn.Memory nesting deep = tt
+stands_as text toks (syn.Nesting place) stops nesting deep = nesting place refl
+stands_as text toks syn.Memory stops nesting deep = tt
 
 -- the parser's fault is the text's
-parser_fault : (text : List ℕ) (toks : Tokens) (fault : SynFault) → tokens text toks.list → IsEnd text toks.end → ((g : Prog Place) → tree text toks.list g → fault ≡ syn.Memory) → StandsIn toks fault
-    → IsNested text toks.list fault → IsSourceFaultOf text (syntactic fault)
-parser_fault text toks (syn.Syntax p) listed end only stands nested =
-    no_program refl (record { toks = toks; listed = listed; end = end; none = λ g grown. let e : ◌≡◌ {A = SynFault} (syn.Syntax p) syn.Memory = only g grown in cc; stands = stands; nested = nested })
-parser_fault text toks (syn.Nesting p) listed end only stands nested =
-    too_deep refl (record { toks = toks; listed = listed; end = end; none = λ g grown. let e : ◌≡◌ {A = SynFault} (syn.Nesting p) syn.Memory = only g grown in cc; stands = stands; nested = nested })
-parser_fault text toks syn.Memory listed end only stands nested = tt
+parser_fault : (text : List ℕ) (toks : Tokens) (fault : SynFault) → tokens text toks.list → IsEnd text toks.end → ((g : Prog Place) → tree text toks.list g → fault ≡ syn.Memory)
+    → Stands text toks fault → IsSourceFaultOf text (syntactic fault)
+parser_fault text toks (syn.Syntax p) listed end only stands =
+    no_program refl (record { toks = toks; listed = listed; end = end; none = λ g grown. let e : ◌≡◌ {A = SynFault} (syn.Syntax p) syn.Memory = only g grown in cc; stands = stands })
+parser_fault text toks (syn.Nesting p) listed end only stands =
+    too_deep refl (record { toks = toks; listed = listed; end = end; none = λ g grown. let e : ◌≡◌ {A = SynFault} (syn.Nesting p) syn.Memory = only g grown in cc; stands = stands })
+parser_fault text toks syn.Memory listed end only stands = tt
 
 pub syntactic_fault : {X : Type 0} (r : Result X SourceFault) (text : List ℕ) (toks : Tokens) (fault : SynFault) → IsErrAnd r (λ made. made ≡ syntactic fault) → tokens text toks.list → IsEnd text toks.end
-    → ((g : Prog Place) → tree text toks.list g → fault ≡ syn.Memory) → StandsIn toks fault → IsNested text toks.list fault → IfErr r (λ f. IsSourceFaultOf text f)
-syntactic_fault (Ok x) text toks fault made listed end only stands nested = tt
-syntactic_fault (Err e) text toks fault made listed end only stands nested = subst (IsSourceFaultOf text) (sym made) (parser_fault text toks fault listed end only stands nested)
+    → ((g : Prog Place) → tree text toks.list g → fault ≡ syn.Memory) → Stands text toks fault → IfErr r (λ f. IsSourceFaultOf text f)
+syntactic_fault (Ok x) text toks fault made listed end only stands = tt
+syntactic_fault (Err e) text toks fault made listed end only stands = subst (IsSourceFaultOf text) (sym made) (parser_fault text toks fault listed end only stands)
 
 -- ---- the laws
 
@@ -61,13 +63,6 @@ abbrev pub HasTreeOrFault : Type 0
 HasTreeOrFault =
     (text : List ℕ) (g : Prog Place) (number : ℕ) (place : Place)
     → IsTreeOf text g → IsSourceFault text number place → ⊥
-
--- of these faults two have one number, and one place where they are not of the grammar
-abbrev pub HasOneGroup : Type 0
-HasOneGroup =
-    (text : List ℕ) (number other : ℕ) (place there : Place)
-    → IsSourceFault text number place → IsSourceFault text other there
-    → (number ≡ other) × ((place ≡ there) ⊎ IsOfGrammar number)
 
 pub one_tree : HasOneList → ((text : List ℕ) (toks : List Token) (g h : Prog Place) → tree text toks g → tree text toks h → g ≡ h) → HasOneTree
 one_tree one_list one text g h first second =
@@ -83,38 +78,3 @@ tree_or_fault one_list apart text g number place is (large_literal n fault) = ap
 tree_or_fault one_list apart text g number place is (long_name n fault) = apart text is.toks (lex.Ident place.line place.col) is.listed fault
 tree_or_fault one_list apart text g number place is (no_program n none) = no_tree one_list text g (syn.Syntax place) is none
 tree_or_fault one_list apart text g number place is (too_deep n none) = no_tree one_list text g (syn.Nesting place) is none
-
--- a fault of the lexer, or one of the parser
-data Kinds (text : List ℕ) (number : ℕ) (place : Place) : Type 0 where
-  of_lexer : (fault : LexFault) → Faulty text fault → lexical fault ≡ Fault number place → Kinds text number place
-  of_grammar : number ≡ 10 → HasNoTree text (syn.Syntax place) → Kinds text number place
-  of_nesting : number ≡ 11 → HasNoTree text (syn.Nesting place) → Kinds text number place
-
-kinds : (text : List ℕ) (number : ℕ) (place : Place) → IsSourceFault text number place → Kinds text number place
-kinds text number place (too_long n p fault) = of_lexer lex.Long fault cc
-kinds text number place (bad_byte n fault) = of_lexer (lex.Byte place.line place.col) fault cc
-kinds text number place (large_literal n fault) = of_lexer (lex.Literal place.line place.col) fault cc
-kinds text number place (long_name n fault) = of_lexer (lex.Ident place.line place.col) fault cc
-kinds text number place (no_program n none) = of_grammar n none
-kinds text number place (too_deep n none) = of_nesting n none
-
--- where a token opens level 65 there is no other fault
-not_both : HasOneList → (text : List ℕ) (place there : Place) → HasNoTree text (syn.Syntax place) → HasNoTree text (syn.Nesting there) → ⊥
-not_both one_list text place there none deep =
-    none.nested there (subst (λ toks. OpensAt text toks there) (one_list text deep.toks.list none.toks.list deep.listed none.listed) deep.nested)
-
-pub one_group : HasOneList → HasTokensOrFault → HasOneFault → HasOneGroup
-one_group one_list apart one text number other place there first second = by_kinds (kinds text number place first) (kinds text other there second)
-  where
-    by_kinds : Kinds text number place → Kinds text other there → (number ≡ other) × ((place ≡ there) ⊎ IsOfGrammar number)
-    by_kinds (of_lexer fault is told) (of_lexer fault' is' told') =
-        let same : ◌≡◌ {A = SourceFault} (Fault number place) (Fault other there) = sym told ∙ (ap lexical (one text fault fault' is is') ∙ told') in
-        (cc, inl cc)
-    by_kinds (of_lexer fault is told) (of_grammar n none) = absurd (apart text none.toks.list fault none.listed is)
-    by_kinds (of_lexer fault is told) (of_nesting n none) = absurd (apart text none.toks.list fault none.listed is)
-    by_kinds (of_grammar n none) (of_lexer fault is told) = absurd (apart text none.toks.list fault none.listed is)
-    by_kinds (of_nesting n none) (of_lexer fault is told) = absurd (apart text none.toks.list fault none.listed is)
-    by_kinds (of_grammar n none) (of_grammar m none') = (n ∙ sym m, inr (inl n))
-    by_kinds (of_nesting n none) (of_nesting m none') = (n ∙ sym m, inr (inr n))
-    by_kinds (of_grammar n none) (of_nesting m none') = absurd (not_both one_list text place there none none')
-    by_kinds (of_nesting n none) (of_grammar m none') = absurd (not_both one_list text there place none' none)

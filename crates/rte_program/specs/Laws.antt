@@ -1,5 +1,5 @@
 -- What holds of the programs and the faults of every text.
-use Rattle.std.specs.Prelude.{◌≡◌, ◌⊎◌, ℕ, List}
+use Rattle.std.specs.Prelude.{◌≡◌, ℕ, List}
 use Rattle.rte_tree.specs.declared.place.Place.{Place}
 use Rattle.rte_tree.specs.Placed.{Prog}
 use Rattle.rte_program.specs.Source.{IsTreeOf}
@@ -18,14 +18,3 @@ abbrev pub HasProgramOrFault : Type 0
 HasProgramOrFault =
     (text : List ℕ) (g : Prog Place) (number : ℕ) (place : Place)
     → IsProgramOf text g → IsProgramFault text number place → ⊥
-
--- the fault is one of the grammar
-abbrev pub IsOfGrammar : ℕ → Type 0
-IsOfGrammar number = (number ≡ 10) ⊎ (number ≡ 11)
-
--- two faults of a text have one number, and one place where they are not of its grammar
-abbrev pub HasOneFault : Type 0
-HasOneFault =
-    (text : List ℕ) (number other : ℕ) (place there : Place)
-    → IsProgramFault text number place → IsProgramFault text other there
-    → (number ≡ other) × ((place ≡ there) ⊎ IsOfGrammar number)

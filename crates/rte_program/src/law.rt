@@ -1,7 +1,7 @@
 //! Laws of the trees, the programs and the faults of texts. These functions do nothing; their
 //! contracts are the laws.
 
-ghost use Rattle.rte_program.specs.Laws.{HasOneTree, HasOneProgram, HasProgramOrFault, HasOneFault};
+ghost use Rattle.rte_program.specs.Laws.{HasOneTree, HasOneProgram, HasProgramOrFault};
 
 use rte_lex::one_list;
 
@@ -23,15 +23,6 @@ pub fn one_program()
 /// A program text has no fault.
 pub fn program_or_fault()
     ensures { HasProgramOrFault }
-{
-    one_tree();
-    one_list();
-    rte_lex::one_fault();
-}
-
-/// Two faults of a text have one number, and one place where they are not of its grammar.
-pub fn one_fault()
-    ensures { HasOneFault }
 {
     one_tree();
     one_list();

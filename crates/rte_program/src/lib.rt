@@ -13,6 +13,6 @@ mod program;
 mod source;
 
 pub use fault::SourceFault;
-pub use law::{one_fault, one_program, program_or_fault};
+pub use law::{one_program, one_tree, program_or_fault};
 pub use program::read;
 pub use source::read_tree;

@@ -1,7 +1,7 @@
 use Rattle.std.proofs.Common.{◌≡◌, subst}
 use Rattle.rte_tree.specs.Placed.{placed}
 use Rattle.rte_grammar.specs.Grammar.{tree}
-use Rattle.rte_program.proofs.Texts.{only_lexical, only_syntactic, is_nested, syntactic_fault}
+use Rattle.rte_program.proofs.Texts.{only_lexical, only_syntactic, stands_as, syntactic_fault}
 use Rattle.rte_program.proofs.source.read_tree.Goals as goal
 
 pub returns-in_err-tokens-clause-only : goal.returns-in_err-tokens-clause-only
@@ -16,8 +16,8 @@ returns-in_err-tree-clause-only c = λ g is.
 pub returns-in_err-tree-clause-fault : goal.returns-in_err-tree-clause-fault
 returns-in_err-tree-clause-fault c =
     syntactic_fault c.from_residual-in_err-tree.result c.args.text.now c.in_ok-tokens.tokens c.in_err-tree.field-0.0 c.from_residual-in_err-tree.ensures.1
-    c.in_ok-tokens.ensures.list c.in_ok-tokens.ensures.end c.in_err-tree.ensures.only c.in_err-tree.ensures.place
-    (is_nested c.args.text.now c.in_ok-tokens.tokens.list c.in_err-tree.field-0.0 c.in_err-tree.ensures.nesting c.in_err-tree.ensures.too_deep)
+    c.in_ok-tokens.ensures.list c.in_ok-tokens.ensures.end c.in_err-tree.ensures.only
+    (stands_as c.args.text.now c.in_ok-tokens.tokens c.in_err-tree.field-0.0 c.in_err-tree.ensures.syntax c.in_err-tree.ensures.nesting c.in_err-tree.ensures.too_deep)
 
 pub returns-clause-only : goal.returns-clause-only
 returns-clause-only c = λ g is.
