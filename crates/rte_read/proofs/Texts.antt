@@ -13,7 +13,7 @@ use Rattle.rte_lex.specs.Tokens.{tokens, IsEnd}
 use Rattle.rte_grammar.specs.Grammar.{tree}
 use Rattle.rte_parse.specs.declared.fault.SynFault.{SynFault}
 use Rattle.rte_parse.specs.declared.fault.SynFault.TheVariants as syn
-use Rattle.rte_parse.specs.Faults.{StandsIn, OpensAt}
+use Rattle.rte_parse.specs.Faults.{StandsIn, OpensAt, StopsAt}
 use Rattle.rte_read.specs.declared.fault.SourceFault.{SourceFault}
 use Rattle.rte_read.specs.declared.fault.SourceFault.TheVariants.{Fault, Memory}
 use Rattle.rte_read.specs.Source.{IsTreeOf, IsNested, HasNoTree, start, IsSourceFault, too_long, bad_byte, large_literal, long_name, no_program, too_deep, IsFaultOf, lexical, syntactic}
@@ -30,19 +30,20 @@ only_syntactic (Ok x) P fault made memory = absurd made
 only_syntactic (Err e) P fault made memory = made ∙ ap syntactic memory
 
 -- what the parser says of nesting
-pub is_nested : {X : Type 0} (text : List ℕ) (toks : List Token) (fault : SynFault) → ((p : Place) → ◌≡◌ {A = Result X SynFault} (Err fault) (Err (syn.Nesting p)) → OpensAt text toks p)
-    → ((p : Place) → OpensAt text toks p → ◌≡◌ {A = Result X SynFault} (Err fault) (Err (syn.Nesting p)) ⊎ ◌≡◌ {A = Result X SynFault} (Err fault) (Err syn.Memory)) → IsNested text toks fault
-is_nested {X} text toks (syn.Syntax place) nesting deep = λ p opens. by p (deep p opens)
+pub is_nested : {X : Type 0} (text : List ℕ) (toks : Tokens) (fault : SynFault) → ((p : Place) → ◌≡◌ {A = Result X SynFault} (Err fault) (Err (syn.Syntax p)) → StopsAt text toks p)
+    → ((p : Place) → ◌≡◌ {A = Result X SynFault} (Err fault) (Err (syn.Nesting p)) → OpensAt text toks.list p)
+    → ((p : Place) → OpensAt text toks.list p → ◌≡◌ {A = Result X SynFault} (Err fault) (Err (syn.Nesting p)) ⊎ ◌≡◌ {A = Result X SynFault} (Err fault) (Err syn.Memory)) → IsNested text toks fault
+is_nested {X} text toks (syn.Syntax place) stops nesting deep = (stops place refl, λ p opens. by p (deep p opens))
   where
     by : (p : Place) → ◌≡◌ {A = Result X SynFault} (Err (syn.Syntax place)) (Err (syn.Nesting p)) ⊎ ◌≡◌ {A = Result X SynFault} (Err (syn.Syntax place)) (Err syn.Memory) → ⊥
     by p (inl e) = cc
     by p (inr e) = cc
-is_nested text toks (syn.Nesting place) nesting deep = nesting place refl
-is_nested text toks syn.Memory nesting deep = tt
+is_nested text toks (syn.Nesting place) stops nesting deep = nesting place refl
+is_nested text toks syn.Memory stops nesting deep = tt
 
 -- the parser's fault is the text's
 parser_fault : (text : List ℕ) (toks : Tokens) (fault : SynFault) → tokens text toks.list → IsEnd text toks.end → ((g : Prog Place) → tree text toks.list g → fault ≡ syn.Memory) → StandsIn toks fault
-    → IsNested text toks.list fault → IsFaultOf text (syntactic fault)
+    → IsNested text toks fault → IsFaultOf text (syntactic fault)
 parser_fault text toks (syn.Syntax p) listed end only stands nested =
     no_program refl (record { toks = toks; listed = listed; end = end; none = λ g grown. let e : ◌≡◌ {A = SynFault} (syn.Syntax p) syn.Memory = only g grown in cc; stands = stands; nested = nested })
 parser_fault text toks (syn.Nesting p) listed end only stands nested =
@@ -50,7 +51,7 @@ parser_fault text toks (syn.Nesting p) listed end only stands nested =
 parser_fault text toks syn.Memory listed end only stands nested = tt
 
 pub syntactic_fault : {X : Type 0} (r : Result X SourceFault) (text : List ℕ) (toks : Tokens) (fault : SynFault) → IsErrAnd r (λ made. made ≡ syntactic fault) → tokens text toks.list → IsEnd text toks.end
-    → ((g : Prog Place) → tree text toks.list g → fault ≡ syn.Memory) → StandsIn toks fault → IsNested text toks.list fault → IfErr r (λ f. IsFaultOf text f)
+    → ((g : Prog Place) → tree text toks.list g → fault ≡ syn.Memory) → StandsIn toks fault → IsNested text toks fault → IfErr r (λ f. IsFaultOf text f)
 syntactic_fault (Ok x) text toks fault made listed end only stands nested = tt
 syntactic_fault (Err e) text toks fault made listed end only stands nested = subst (IsFaultOf text) (sym made) (parser_fault text toks fault listed end only stands nested)
 
@@ -88,7 +89,7 @@ kinds text number place (too_deep n none) = of_nesting n none
 -- where a token opens level 65 there is no other fault
 not_both : HasOneList → (text : List ℕ) (place there : Place) → HasNoTree text (syn.Syntax place) → HasNoTree text (syn.Nesting there) → ⊥
 not_both one_list text place there none deep =
-    none.nested there (subst (λ toks. OpensAt text toks there) (one_list text deep.toks.list none.toks.list deep.listed none.listed) deep.nested)
+    none.nested.1 there (subst (λ toks. OpensAt text toks there) (one_list text deep.toks.list none.toks.list deep.listed none.listed) deep.nested)
 
 pub one_group : HasOneList → HasTokensOrFault → HasOneFault → HasOneGroup
 one_group one_list apart one text number other place there first second = by_kinds (kinds text number place first) (kinds text other there second)

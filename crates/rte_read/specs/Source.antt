@@ -11,7 +11,7 @@ use Rattle.rte_lex.specs.Tokens.{tokens, IsEnd}
 use Rattle.rte_grammar.specs.Grammar.{tree}
 use Rattle.rte_parse.specs.declared.fault.SynFault.{SynFault}
 use Rattle.rte_parse.specs.declared.fault.SynFault.TheVariants as syn
-use Rattle.rte_parse.specs.Faults.{StandsIn, OpensAt}
+use Rattle.rte_parse.specs.Faults.{StandsIn, OpensAt, StopsAt}
 use Rattle.rte_read.specs.declared.fault.SourceFault.{SourceFault}
 use Rattle.rte_read.specs.declared.fault.SourceFault.TheVariants.{Fault, Memory}
 
@@ -21,10 +21,11 @@ pub record IsTreeOf (text : List ℕ) (g : Prog Place) : Type 0 where
   pub listed : tokens text toks
   pub grown : tree text toks g
 
--- a fault of nesting stands where a token opens level 65, and there is another only where no token does
-abbrev pub IsNested : List ℕ → List Token → SynFault → Type 0
-IsNested text toks (syn.Syntax place) = (p : Place) → ¬ OpensAt text toks p
-IsNested text toks (syn.Nesting place) = OpensAt text toks place
+-- a fault of nesting stands where a token opens level 65; there is another only where no token does, and it stands at the token with which the
+-- tokens read no longer begin a program, or at the text's end
+abbrev pub IsNested : List ℕ → Tokens → SynFault → Type 0
+IsNested text toks (syn.Syntax place) = StopsAt text toks place × ((p : Place) → ¬ OpensAt text toks.list p)
+IsNested text toks (syn.Nesting place) = OpensAt text toks.list place
 IsNested text toks syn.Memory = Unit {0}
 
 -- the text has tokens, they have no tree, and this is what the parser says of them
@@ -34,7 +35,7 @@ pub record HasNoTree (text : List ℕ) (fault : SynFault) : Type 0 where
   pub end : IsEnd text toks.end
   pub none : (g : Prog Place) → ¬ tree text toks.list g
   pub stands : StandsIn toks fault
-  pub nested : IsNested text toks.list fault
+  pub nested : IsNested text toks fault
 
 -- the first line and byte
 abbrev pub start : Place

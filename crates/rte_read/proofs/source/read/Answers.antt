@@ -17,7 +17,7 @@ pub returns-in_err-tree-clause-fault : goal.returns-in_err-tree-clause-fault
 returns-in_err-tree-clause-fault c =
     syntactic_fault c.from_residual-in_err-tree.result c.args.text.now c.in_ok-tokens.tokens c.in_err-tree.field-0.0 c.from_residual-in_err-tree.ensures.1
     c.in_ok-tokens.ensures.list c.in_ok-tokens.ensures.end c.in_err-tree.ensures.only c.in_err-tree.ensures.place
-    (is_nested c.args.text.now c.in_ok-tokens.tokens.list c.in_err-tree.field-0.0 c.in_err-tree.ensures.nesting c.in_err-tree.ensures.too_deep)
+    (is_nested c.args.text.now c.in_ok-tokens.tokens c.in_err-tree.field-0.0 c.in_err-tree.ensures.syntax c.in_err-tree.ensures.nesting c.in_err-tree.ensures.too_deep)
 
 pub returns-clause-only : goal.returns-clause-only
 returns-clause-only c = λ g is.
