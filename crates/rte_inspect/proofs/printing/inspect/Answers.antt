@@ -1,4 +1,4 @@
-use Rattle.std.proofs.Common.{◌≡◌, ℕ, List, subst}
+use Rattle.std.proofs.Common.{◌≡◌, subst}
 use Rattle.rte_tree.specs.Placed.{placed, bare}
 use Rattle.rte_tree.specs.declared.decl.Prog.{Prog}
 use Rattle.rte_io.specs.Outside.{Appends, AppendsFront}
