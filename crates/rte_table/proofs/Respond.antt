@@ -21,10 +21,10 @@ bounded tasks level (Some least) is r solves = refl
 pub respond : TimelyTablesRespond
 respond us monitors sizes table is = (
   λ timely p below.
-      let has : IsSome (row_at table.rows p).bound = All-get_or (λ (row : Row). IsSome row.bound) table.rows p no_row (omega (arith, below, is.one_each)) timely in
-      solved is.tasks (get_or is.ranks p 0 - 1) (row_at table.rows p).bound (is.each p below).bound has,
+      let has : IsSome (row_at table.rows p).bound = All-get_or (λ (row : Row). IsSome row.bound) table.rows p no_row (omega (arith, below, is.rows.one_each)) timely in
+      solved is.tasks (get_or is.ranks p 0 - 1) (row_at table.rows p).bound (is.rows.each p below).bound has,
   λ all. All-from_get_or (λ (row : Row). IsSome row.bound) table.rows no_row (λ p below.
-      let lt : p < length us = omega (arith, below, is.one_each) in
+      let lt : p < length us = omega (arith, below, is.rows.one_each) in
       let one = all p lt in
-      bounded is.tasks (get_or is.ranks p 0 - 1) (row_at table.rows p).bound (is.each p lt).bound one.0 one.1),
+      bounded is.tasks (get_or is.ranks p 0 - 1) (row_at table.rows p).bound (is.rows.each p lt).bound one.0 one.1),
 )

@@ -43,7 +43,12 @@ pub record IsRow (u : Use) (needs : Size) (r b : ℕ) (tasks : List Task) (row :
   pub bound : IsBoundAt tasks (r - 1) row.bound
   pub size : row.size ≡ needs
 
--- a row for each process in the order of the text, and the ceiling of each monitor
+-- a row for each process, in the order of the text
+pub record AreRows (us : List Use) (sizes : List Size) (ranks blocks : List ℕ) (tasks : List Task) (rows : List Row) : Type 0 where
+  pub one_each : length rows ≡ length us
+  pub each : (p : ℕ) → p < length us → IsRow (use_at us p) (size_at sizes p) (slice_index ranks p) (slice_index blocks p) tasks (row_at rows p)
+
+-- the rows by the ranks, the blocks and the tasks, and the ceiling of each monitor
 pub record IsTable (us : List Use) (monitors : ℕ) (sizes : List Size) (table : Table) : Type 0 where
   pub ranks : List ℕ
   pub blocks : List ℕ
@@ -52,8 +57,7 @@ pub record IsTable (us : List Use) (monitors : ℕ) (sizes : List Size) (table :
   pub ceilings : AreCeilings us ranks monitors table.ceilings
   pub blocked : AreBlocks us ranks table.ceilings blocks
   pub ordered : AreInOrder us ranks blocks tasks
-  pub one_each : length table.rows ≡ length us
-  pub each : (p : ℕ) → p < length us → IsRow (use_at us p) (size_at sizes p) (slice_index ranks p) (slice_index blocks p) tasks (row_at table.rows p)
+  pub rows : AreRows us sizes ranks blocks tasks table.rows
 
 -- each process has a bound
 abbrev pub IsTimely : Table → Type 0

@@ -1,9 +1,8 @@
 //! The table of what the processes use.
 
 ghost use Rattle.std.specs.Prelude.{◌≡◌, ◌≤◌, ◌<◌, ◌-◌, [], ℕ, length, slice_index, IfOk};
-ghost use Rattle.rte_block.specs.Ranked.{use_at};
 ghost use Rattle.rte_table.specs.Limits.{CanBeTabled};
-ghost use Rattle.rte_table.specs.Table.{IsRow, IsTable, row_at, size_at};
+ghost use Rattle.rte_table.specs.Table.{AreRows, IsRow, IsTable};
 
 use crate::blocks::blocks;
 use crate::order::task_set;
@@ -45,9 +44,7 @@ fn rows(
     requires blocks { length blocks.now ≡ length uses.now }
     requires low { (p : ℕ) → p < length uses.now → 1 ≤ slice_index ranks.now p }
     requires high { (p : ℕ) → p < length uses.now → slice_index ranks.now p ≤ length set.now }
-    ensures one_each { IfOk result (λ rows. length rows ≡ length uses.now) }
-    ensures each { IfOk result (λ rows. (p : ℕ) → p < length uses.now
-        → IsRow (use_at uses.now p) (size_at sizes.now p) (slice_index ranks.now p) (slice_index blocks.now p) set.now (row_at rows p)) }
+    ensures { IfOk result (AreRows uses.now sizes.now ranks.now blocks.now set.now) }
 {
     let mut all = List::new(alloc);
     for (place, used) in uses.iter().enumerate() {

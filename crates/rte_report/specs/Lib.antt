@@ -1,0 +1,4 @@
+pub mod Example
+pub mod Json
+pub mod Late
+pub mod Report
