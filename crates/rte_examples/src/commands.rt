@@ -180,13 +180,21 @@ fn fails_at_each_step(rt: HostRuntime) -> Result<(), Fail> {
     Ok(())
 }
 
+/// A text of the greatest length, of this byte alone.
+fn filled(alloc: Global, byte: u8) -> Result<Vec<u8>, Fail> {
+    let mut text = Vec::new(alloc);
+    for _ in 0..1_048_576 {
+        text.push(byte)?;
+    }
+    Ok(text)
+}
+
 #[test]
 fn refuses_a_byte_too_many(rt: HostRuntime) -> Result<(), Fail> {
     let alloc = rt.alloc();
-    let mut text = Vec::new(alloc);
-    for _ in 0..1_048_576 {
-        text.push(b' ')?;
-    }
+    let open = call(alloc, "print P", filled(alloc, b'(')?.as_slice(), None)?;
+    assert!(rt; open.put.as_slice() == b"E10 1:1\n".as_slice());
+    let mut text = filled(alloc, b' ')?;
     let most = call(alloc, "print P", text.as_slice(), None)?;
     assert!(rt; most.put.as_slice() == b"E10 1:1048577\n".as_slice());
     text.push(b' ')?;

@@ -37,6 +37,12 @@ const ENTRY: Around = Around {
     after: " end e end m process zz : periodic frame 1000 begin end zz end a",
 };
 
+/// A row is what follows an assignment's sign, from column 64 on, up to the text's end.
+const ASSIGNED: Around = Around {
+    before: "program a process p : periodic frame 90 var x : int begin x := ",
+    after: "",
+};
+
 /// Deadlines, and texts that are none of the grammar.
 const TEXTS: &[(&str, &str)] = &[
     (
@@ -112,6 +118,10 @@ const TEXTS: &[(&str, &str)] = &[
         "program a process p : periodic frame 20 first activation atTime 0 deadline 15 begin end p end a",
     ),
     ("E10 1:1", ""),
+    ("E10 1:11", "program a begin end a"),
+    ("E10 1:18", "program a process"),
+    ("E10 1:9", "program end"),
+    ("E1 1:9", "program ; begin"),
     ("E1 1:11", "program a ;"),
     (
         "E10 1:59",
@@ -414,6 +424,19 @@ const ENTRY_STATEMENTS: &[(&str, &str)] = &[
     ("E45 1:456", "wait c noLongerThan 0 : 9"),
 ];
 
+/// Where the words stop beginning a program, and where one opens level 65.
+const OPEN_TEXTS: &[(&str, &str)] = &[
+    (
+        "E11 1:128",
+        "(((((((((((((((((((((((((((((((((((((((((((((((((((((((((((((((((",
+    ),
+    (
+        "E10 1:128",
+        "(((((((((((((((((((((((((((((((((((((((((((((((((((((((((((((((()",
+    ),
+    ("E10 1:70", "1 end end p end a"),
+];
+
 /// Each text of the table has its answer, put as one piece.
 fn answers(
     rt: &impl Abort,
@@ -447,6 +470,7 @@ fn answers(
 fn texts_have_their_answers(rt: HostRuntime) -> Result<(), Fail> {
     let alloc = rt.alloc();
     answers(&rt, alloc, &NOTHING, TEXTS)?;
+    answers(&rt, alloc, &ASSIGNED, OPEN_TEXTS)?;
     answers(&rt, alloc, &NOTHING, WHOLE)?;
     answers(&rt, alloc, &IDLE, DECLARATIONS)?;
     answers(&rt, alloc, &PROCESS, STATEMENTS)?;
