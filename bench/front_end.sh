@@ -21,8 +21,8 @@ awk 'BEGIN { print "program bench device valve : out process p : periodic frame 
     print "end p end bench" }' > puts
 printf 'end 1000000\n' > script
 awk 'BEGIN { print "program a process p : periodic frame 10 var x : int begin"
-    for (n = 0; n < 1040000; n += 205) { line = "x := 1"
-        for (i = 1; i < 100; i++) line = line (i % 2 ? "+x" : "*1"); print line }
+    for (n = 0; n < 1040000; n += 403) { line = "x := 1"
+        for (i = 1; i < 100; i++) line = line " + 1"; print line }
     print "end p end a" }' > rows
 awk 'BEGIN { printf "program a process p : periodic frame 10 var x : int begin x := 1"
     for (i = 1; i < 260000; i++) printf " + 1"

@@ -4,7 +4,7 @@ use Rattle.std.specs.Prelude.{IfSome, IfNone, cond}
 use Rattle.std.proofs.lemmas.Bool.{leb-true, le-leb}
 use Rattle.rte_form.specs.Report.{is_timely, bound_in}
 use Rattle.rte_form.specs.Target.{cost_of}
-use Rattle.rte_form.specs.WellFormed.{IsPutProg, IsTimely}
+use Rattle.rte_form.specs.Kept.{IsPutProg, IsTimely}
 use Rattle.rte_puts.specs.Recurrence.{tasks_of}
 use Rattle.rte_response.specs.declared.tasks.Task.{Task}
 use Rattle.rte_response.specs.Demand.{IsBound, Solves}

@@ -7,7 +7,7 @@ ghost use Rattle.rte_io.specs.Outside.{Rose, AllStay, NoneFell};
 ghost use Rattle.rte_program.specs.Source.{start};
 ghost use Rattle.rte_form.specs.Form.{program_of};
 ghost use Rattle.rte_form.specs.Reading.{IsForm};
-ghost use Rattle.rte_form.specs.WellFormed.{IsPutProg};
+ghost use Rattle.rte_form.specs.Kept.{IsPutProg};
 ghost use Rattle.rte_program.specs.Program.{IsProgramOf, IsProgramFault};
 ghost use Rattle.rte_source_meaning.specs.Puts.{PutProg};
 ghost use Rattle.rte_accept.specs.Accept.{IsProgramText, IsTextFault, IsRefusalOf, OnFault};

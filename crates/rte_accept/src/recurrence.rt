@@ -3,7 +3,7 @@
 ghost use Rattle.std.specs.Prelude.{◌≡◌, [], ◌∷◌, IfOk};
 ghost use Rattle.rte_form.specs.Form.{program_of};
 ghost use Rattle.rte_form.specs.Report.{bound_in};
-ghost use Rattle.rte_form.specs.WellFormed.{IsPutProg};
+ghost use Rattle.rte_form.specs.Kept.{IsPutProg};
 
 use rte_block::bound_of;
 use rte_form::Form;

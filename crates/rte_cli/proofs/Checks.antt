@@ -4,7 +4,7 @@ use Rattle.std.specs.Prelude.{◌↔◌, IfSome, IsSomeAnd}
 use Rattle.std.specs.Bool.{OnTrue}
 use Rattle.rte_accept.specs.Accept.{IsProgramText}
 use Rattle.rte_form.specs.Target.{cost_of}
-use Rattle.rte_form.specs.WellFormed.{IsPutProg, IsTimely}
+use Rattle.rte_form.specs.Kept.{IsPutProg, IsTimely}
 use Rattle.rte_inspect.specs.Inspect.{Told, IsCheckDue, check_fault, check_timely, check_late, IsToldWhole, Inspects}
 use Rattle.rte_puts.specs.Recurrence.{tasks_of}
 use Rattle.rte_response.specs.Demand.{IsBound, Solves}

@@ -4,7 +4,7 @@ use Rattle.std.specs.Prelude.{cond, nat_le, length, IfSome}
 use Rattle.std.specs.Bool.{OnTrue}
 use Rattle.rte_form.specs.Script.{IsEndText, end_of}
 use Rattle.rte_form.specs.Target.{cost_of}
-use Rattle.rte_form.specs.WellFormed.{IsPutProg, IsTimely}
+use Rattle.rte_form.specs.Kept.{IsPutProg, IsTimely}
 use Rattle.rte_io.specs.Outside.{Outside, Appends}
 use Rattle.rte_puts.specs.Recurrence.{tasks_of}
 use Rattle.rte_response.specs.Demand.{IsBound}
@@ -68,7 +68,7 @@ is_done ends faithful bound row before now w =
       held = d.held;
       program = d.program;
       written = d.written;
-      well_formed = keeps;
+      kept = keeps;
       timely = d.in_time;
       bound = bound d.program keeps d.in_time;
       script = d.script;

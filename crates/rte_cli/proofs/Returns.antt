@@ -4,7 +4,7 @@ use Rattle.std.specs.Prelude.{IsSomeAnd, nat_le}
 use Rattle.std.specs.Bool.{OnTrue}
 use Rattle.std.proofs.lemmas.Bool.{le-leb, lt-leb}
 use Rattle.rte_form.specs.Script.{end_of}
-use Rattle.rte_form.specs.WellFormed.{IsTimely}
+use Rattle.rte_form.specs.Kept.{IsTimely}
 use Rattle.rte_io.specs.Outside.{Rose, AllStay, Appends, AppendsFront}
 use Rattle.rte_source_meaning.specs.Puts.{PutProg}
 use Rattle.rte_tree.specs.declared.place.Place.{Place}

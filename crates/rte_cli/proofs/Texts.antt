@@ -3,7 +3,7 @@ use Rattle.std.proofs.Common.{◌≡◌, ℕ, List, Option, Some, sym, subst, ap
 use Rattle.rte_tree.specs.declared.place.Place.{Place}
 use Rattle.rte_program.specs.Source.{start}
 use Rattle.rte_program.specs.Program.{IsProgramFault}
-use Rattle.rte_form.specs.WellFormed.{IsTimely}
+use Rattle.rte_form.specs.Kept.{IsTimely}
 use Rattle.rte_source_meaning.specs.Puts.{PutProg}
 use Rattle.rte_accept.specs.Accept.{IsProgramText, IsFormless, IsTextFault, of_source, of_form}
 use Rattle.rte_accept.specs.Laws.{HasOneProgram, HasProgramOrFault}

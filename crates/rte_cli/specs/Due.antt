@@ -3,7 +3,7 @@ use Rattle.std.specs.Prelude.{◌≡◌, ◌++◌, ℕ, List, Option, Some, None
 use Rattle.rte_form.specs.Report.{report_of}
 use Rattle.rte_form.specs.Script.{end_of}
 use Rattle.rte_form.specs.Target.{names_of, image_of, named_image_of, until}
-use Rattle.rte_form.specs.WellFormed.{IsTimely}
+use Rattle.rte_form.specs.Kept.{IsTimely}
 use Rattle.rte_image.specs.Bytes.{Second, bytes_of}
 use Rattle.rte_log.specs.Line.{log_of}
 use Rattle.rte_program.specs.Source.{start}

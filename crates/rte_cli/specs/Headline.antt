@@ -4,7 +4,7 @@ use Rattle.std.specs.Prelude.{Option, length, ◌≡◌, ◌≤◌, ◌++◌, �
 use Rattle.rte_form.specs.Report.{report_of}
 use Rattle.rte_form.specs.Script.{IsEndText}
 use Rattle.rte_form.specs.Target.{cost_of, image_of, named_image_of, names_of, until}
-use Rattle.rte_form.specs.WellFormed.{IsPutProg, IsTimely}
+use Rattle.rte_form.specs.Kept.{IsPutProg, IsTimely}
 use Rattle.rte_image.specs.Bytes.{Second, bytes_of}
 use Rattle.rte_io.specs.Outside.{Outside, Appends}
 use Rattle.rte_log.specs.Line.{log_of}
@@ -36,7 +36,7 @@ pub record IsDone (row : Row) (before now : Outside) : Type 0 where
   pub held : before.files.held row.program ≡ Some text
   pub program : PutProg
   pub written : IsProgramText text program
-  pub well_formed : IsPutProg program
+  pub kept : IsPutProg program
   pub timely : IsTimely program
   -- the printed bound is the least solution of the recurrence within the deadline
   pub bound : IsBound (tasks_of program) 0 (cost_of program.puts)

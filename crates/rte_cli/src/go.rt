@@ -8,7 +8,7 @@ ghost use Rattle.rte_cli.specs.Answers.{IsWhole, IsCut, NothingStored, Went, Com
 ghost use Rattle.rte_cli.specs.Words.{row_of, is_command, is_file_name};
 ghost use Rattle.rte_form.specs.Form.{program_of};
 ghost use Rattle.rte_form.specs.Report.{bound_in, report_of};
-ghost use Rattle.rte_form.specs.WellFormed.{IsPutProg};
+ghost use Rattle.rte_form.specs.Kept.{IsPutProg};
 
 use crate::run::run_program;
 use crate::steps::read_script;

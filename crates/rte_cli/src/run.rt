@@ -7,7 +7,7 @@ ghost use Rattle.rte_cli.specs.Due.{done};
 ghost use Rattle.rte_cli.specs.Answers.{StoreFailed};
 ghost use Rattle.rte_form.specs.Form.{program_of};
 ghost use Rattle.rte_form.specs.Target.{named_image_of};
-ghost use Rattle.rte_form.specs.WellFormed.{IsPutProg};
+ghost use Rattle.rte_form.specs.Kept.{IsPutProg};
 ghost use Rattle.rte_form.specs.Report.{bound_in};
 ghost use Rattle.rte_image.specs.Bytes.{Second, bytes_of};
 ghost use Rattle.rte_machine.specs.Standing.{IsOf, log_to};

@@ -6,7 +6,7 @@ use Rattle.std.specs.Str.{bytes_eq}
 use Rattle.std.proofs.lemmas.Bool.{leb-true, le-leb}
 use Rattle.std.proofs.lemmas.List.Sums.{AllPass-from_list_all, list_all-from_AllPass}
 use Rattle.rte_source_meaning.specs.Puts.{Put, PutProg, deadline_in}
-use Rattle.rte_form.specs.WellFormed.{IsPut, IsPutProg}
+use Rattle.rte_form.specs.Kept.{IsPut, IsPutProg}
 use Rattle.rte_form.specs.Shape.{are_distinct, is_short_name, are_names}
 use Rattle.rte_form.proofs.Ends.{both, same_bytes, equal_bytes}
 

@@ -10,7 +10,7 @@ use Rattle.std.proofs.lemmas.Option.{unwrap_or-slice_get}
 use Rattle.rte_source_meaning.specs.Puts.{Put}
 use Rattle.rte_form.specs.Form.{named_put}
 use Rattle.rte_form.specs.Shape.{number_put}
-use Rattle.rte_form.specs.WellFormed.{IsPut}
+use Rattle.rte_form.specs.Kept.{IsPut}
 use Rattle.rte_form.proofs.Ends.{same_bytes, equal_bytes}
 
 -- the device at a place is the one of the name that was looked for there

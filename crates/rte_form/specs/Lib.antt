@@ -4,4 +4,4 @@ pub mod Report
 pub mod Script
 pub mod Shape
 pub mod Target
-pub mod WellFormed
+pub mod Kept

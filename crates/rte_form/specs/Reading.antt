@@ -3,7 +3,7 @@ use Rattle.std.specs.Prelude.{◌≡◌, All}
 use Rattle.rte_tree.specs.declared.place.Place.{Place}
 use Rattle.rte_tree.specs.Placed.{Decl, process, Prog, plain}
 use Rattle.rte_source_meaning.specs.Puts.{PutProg, put_prog}
-use Rattle.rte_form.specs.WellFormed.{IsPutProg}
+use Rattle.rte_form.specs.Kept.{IsPutProg}
 
 -- a process closes with its own name
 abbrev pub IsClosed : Decl Place → Type 0

@@ -7,7 +7,7 @@ use Rattle.rte_tree.specs.Plain.{Name}
 use Rattle.rte_tree.specs.declared.place.Place.{Place}
 use Rattle.rte_tree.specs.Placed.{Constant, literal_constant, Expr, literal, Stmt, put, Stmts, no_stmts, stmts, Var, Routine, Activation, periodic, Handler, Process, Decl, device, Prog}
 use Rattle.rte_source_meaning.specs.Puts.{Put, PutProg}
-use Rattle.rte_form.specs.WellFormed.{IsPutProg}
+use Rattle.rte_form.specs.Kept.{IsPutProg}
 
 -- one more at the front, where both are there
 abbrev pub with_first : {A : Type 0} → Option A → Option (List A) → Option (List A)

@@ -11,7 +11,7 @@ ghost use Rattle.rte_form.specs.Form.{named_put, program_of};
 ghost use Rattle.rte_form.specs.Reading.{IsForm};
 ghost use Rattle.rte_form.specs.Shape as shape;
 ghost use Rattle.rte_form.specs.Shape.{number_in, number_put, put_in, puts_in, device_in, devices_in, literal_in, ticks_in, times_in, IsMade, is_short_name};
-ghost use Rattle.rte_form.specs.WellFormed.{IsPut};
+ghost use Rattle.rte_form.specs.Kept.{IsPut};
 
 use crate::form::{Form, Put};
 use rte_tree::{Activation, Constant, Decl, Expr, List, Name, Proc, Prog, Stmt, Value};

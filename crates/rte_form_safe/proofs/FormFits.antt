@@ -6,7 +6,7 @@ use Rattle.rte_isa.specs.declared.instr.Instr.TheVariants as i
 use Rattle.rte_source_meaning.specs.Names.{place_of}
 use Rattle.rte_source_meaning.specs.Puts.{Put, PutProg}
 use Rattle.rte_form.specs.Target.{code_of, stack_of, tree_of, process_of, image_of}
-use Rattle.rte_form.specs.WellFormed.{IsPut, IsPutProg}
+use Rattle.rte_form.specs.Kept.{IsPut, IsPutProg}
 use Rattle.rte_machine_meaning.specs.Trees.{Line, size}
 use Rattle.rte_machine_meaning.specs.Image.{Process}
 use Rattle.rte_safe_terms.specs.Walk.{Where, IsLine, Walk, Walks}

@@ -3,7 +3,7 @@ use Rattle.std.specs.Prelude.{◌≡◌, ◌+◌, ◌*◌, ℕ, false, List, len
 use Rattle.rte_isa.specs.declared.instr.Instr.TheVariants as i
 use Rattle.rte_source_meaning.specs.Puts.{Put, PutProg}
 use Rattle.rte_form.specs.Target.{stack_of, image_of}
-use Rattle.rte_form.specs.WellFormed.{IsPutProg}
+use Rattle.rte_form.specs.Kept.{IsPutProg}
 use Rattle.rte_machine_meaning.specs.Image.{Process, Script}
 use Rattle.rte_machine_meaning.specs.State.{Thread}
 use Rattle.rte_machine_meaning.specs.Tick.{tick}

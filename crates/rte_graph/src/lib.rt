@@ -1,5 +1,5 @@
 //! Graphs whose nodes are the numbers below a size: which nodes reach which by their edges, and
-//! which reach themselves, each in time in proportion to the nodes and edges.
+//! which reach themselves.
 #![tactic(auto)]
 
 mod cycles;

@@ -10,7 +10,7 @@ use Rattle.rte_lex.specs.Tokens.{tokens}
 use Rattle.rte_source_meaning.specs.Puts.{PutProg}
 use Rattle.rte_io.specs.Outside.{Outside, Rose, Appends, AppendsFront}
 use Rattle.rte_form.specs.Report.{report_of}
-use Rattle.rte_form.specs.WellFormed.{IsTimely}
+use Rattle.rte_form.specs.Kept.{IsTimely}
 use Rattle.rte_print.specs.Canonical.{canonical}
 use Rattle.rte_print.specs.ReadBack.{AreSpelled, HasTree, IsPrinted}
 use Rattle.rte_program.specs.Program.{IsProgramOf, IsProgramFault}

@@ -6,7 +6,7 @@ use Rattle.rte_tree.specs.Placed.{Prog, bare}
 use Rattle.rte_source_meaning.specs.Puts.{PutProg}
 use Rattle.rte_io.specs.Outside.{Outside, Rose, AllStay, Appends, AppendsFront}
 use Rattle.rte_form.specs.Report.{report_of}
-use Rattle.rte_form.specs.WellFormed.{IsTimely}
+use Rattle.rte_form.specs.Kept.{IsTimely}
 use Rattle.rte_lex.specs.declared.token.Token.{Token}
 use Rattle.rte_lex.specs.Tokens.{tokens, longest_text}
 use Rattle.rte_print.specs.Canonical.{canonical}

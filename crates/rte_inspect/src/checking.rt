@@ -5,7 +5,7 @@ ghost use Rattle.std.specs.Bool.{OnTrue};
 ghost use Rattle.rte_io.specs.Outside.{outside, Rose, AllStay, Appends, AppendsFront};
 ghost use Rattle.rte_form.specs.Form.{program_of};
 ghost use Rattle.rte_form.specs.Report.{bound_in, report_of};
-ghost use Rattle.rte_form.specs.WellFormed.{IsPutProg, IsTimely};
+ghost use Rattle.rte_form.specs.Kept.{IsPutProg, IsTimely};
 ghost use Rattle.rte_inspect.specs.Inspect.{IsCheckDue, IsToldWhole, IsToldInPart, Inspects, Finishes};
 
 use rte_accept::{Refusal, bound, put, read_program, refuse_text};

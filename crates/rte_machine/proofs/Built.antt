@@ -12,7 +12,7 @@ use Rattle.rte_form.specs.declared.form.Put.{Put as Numbered}
 use Rattle.rte_form.specs.declared.form.Form.{Form}
 use Rattle.rte_form.specs.Form.{named_put, program_of}
 use Rattle.rte_form.specs.Target.{code_of, names_of, named_image_of, out_device, process_of}
-use Rattle.rte_form.specs.WellFormed.{IsPut}
+use Rattle.rte_form.specs.Kept.{IsPut}
 use Rattle.rte_image.specs.declared.names.DevName.{DevName}
 use Rattle.rte_image.specs.declared.names.ImageNames.{ImageNames}
 use Rattle.rte_image.specs.declared.raw.RawMon.{RawMon}

@@ -8,7 +8,7 @@ use Rattle.rte_image.specs.Named.{NamedImage}
 use Rattle.rte_image.specs.InRange.{IsInRange, IsShort, IsSmall, IsProcessInRange}
 use Rattle.rte_source_meaning.specs.Puts.{Put, PutProg}
 use Rattle.rte_form.specs.Target.{code_of, named_image_of, out_device, process_of, tree_of}
-use Rattle.rte_form.specs.WellFormed.{IsPutProg}
+use Rattle.rte_form.specs.Kept.{IsPutProg}
 use Rattle.rte_machine.specs.PutImage.{IsPutImage}
 
 length-code_of : (devices : List (List ℕ)) (ps : List Put) → length (code_of devices ps) ≡ 2 * length ps + 1
@@ -51,4 +51,4 @@ counted f whole =
     }
 
 pub in_range : (image : NamedImage) → IsPutImage image → IsInRange image
-in_range image put = subst IsInRange (sym put.is) (counted put.program put.well_formed)
+in_range image put = subst IsInRange (sym put.is) (counted put.program put.kept)

@@ -11,7 +11,7 @@ use Rattle.rte_event.specs.declared.event.Act.TheVariants as act
 use Rattle.rte_source_meaning.specs.Puts.{Put, PutProg}
 use Rattle.rte_form.specs.Target.{cost_of, image_of, names_of, process_of, stack_of, until}
 use Rattle.rte_log.specs.InRange.{ActIsIn}
-use Rattle.rte_form.specs.WellFormed.{IsPutProg, IsTimely}
+use Rattle.rte_form.specs.Kept.{IsPutProg, IsTimely}
 use Rattle.rte_machine_meaning.specs.Image.{Process}
 use Rattle.rte_machine_meaning.specs.State.{Job, State, Thread, stack_of as job_stack}
 use Rattle.rte_machine_meaning.specs.Effect.{Outcome}

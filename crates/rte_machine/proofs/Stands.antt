@@ -13,7 +13,7 @@ use Rattle.rte_source_meaning.specs.Names.{place_of}
 use Rattle.rte_source_meaning.specs.Puts.{Put, PutProg}
 use Rattle.rte_form.specs.Target.{code_of, cost_of, image_of, names_of, out_device}
 use Rattle.rte_log.specs.InRange.{ActIsIn}
-use Rattle.rte_form.specs.WellFormed.{IsPut, IsPutProg}
+use Rattle.rte_form.specs.Kept.{IsPut, IsPutProg}
 use Rattle.rte_machine_meaning.specs.State.{Operand, Value, Job, State}
 use Rattle.rte_machine_meaning.specs.Effect.{Outcome, Goes, Does, Ends}
 use Rattle.rte_machine_meaning.specs.Tick.{outcome}

@@ -15,7 +15,7 @@ use Rattle.rte_image.specs.Named.{NamedImage}
 use Rattle.rte_source_meaning.specs.Names.{place_of}
 use Rattle.rte_source_meaning.specs.Puts.{Put, PutProg}
 use Rattle.rte_form.specs.Target.{code_of, image_of, names_of, out_device, until}
-use Rattle.rte_form.specs.WellFormed.{IsPut, IsPutProg, IsTimely}
+use Rattle.rte_form.specs.Kept.{IsPut, IsPutProg, IsTimely}
 use Rattle.rte_machine_meaning.specs.Image.{Image, Process, Script}
 use Rattle.rte_machine_meaning.specs.State.{Operand, Value, Job, State}
 use Rattle.rte_machine_meaning.specs.Tick.{Passed, tick}
@@ -122,7 +122,7 @@ can_step image script h t frame o ds es cs put script_is frames same made =
     let is : image.image ≡ image_of f = ap (λ (x : NamedImage). x.image) put.is in
     let frame_is : f.frame ≡ frame = frame_of f frame (subst (λ (x : Image). map (λ (p : Process). p.frame) x.processes ≡ frame ∷ []) is frames) in
     let made_of : IsOf (image_of f) (until h) (standing t o ds es) = subst (λ (s : Script). IsOf (image_of f) s (standing t o ds es)) script_is (subst (λ (x : Image). IsOf x script (standing t o ds es)) is made) in
-    subst (λ n. ForSome (begun (is_due t n) o) (CanMove cs)) frame_is (can_of f h t o ds es cs put.well_formed put.timely made_of (same ∙ ap (λ (x : Image). x.code) is))
+    subst (λ n. ForSome (begun (is_due t n) o) (CanMove cs)) frame_is (can_of f h t o ds es cs put.kept put.timely made_of (same ∙ ap (λ (x : Image). x.code) is))
 
 -- the release and the tick of the process are the next tick
 pub stepped : (image : NamedImage) (script : Script) (h t frame : ℕ) (o new : Option Job) (ds : List ℤ) (es : List Event) (a : Option Act) (cs : List Instr) → IsPutImage image
@@ -136,7 +136,7 @@ stepped image script h t frame o new ds es a cs put script_is frames same made t
     let made_of : IsOf (image_of f) (until h) (standing t o ds es) = subst (λ (s : Script). IsOf (image_of f) s (standing t o ds es)) script_is (subst (λ (x : Image). IsOf x script (standing t o ds es)) is made) in
     let ticks_of : ProcessTicks cs (begun (is_due t f.frame) o) a new = subst (λ n. ProcessTicks cs (begun (is_due t n) o) a new) (sym frame_is) ticks in
     let step : standing (t + 1) new ds (told t (release_act (is_due t f.frame) o) ++ told t a) ≡ next (image_of f) (until h) (standing t o ds es) =
-    stepped_of f h t o new ds es a cs put.well_formed put.timely made_of (same ∙ ap (λ (x : Image). x.code) is) ticks_of in
+    stepped_of f h t o new ds es a cs put.kept put.timely made_of (same ∙ ap (λ (x : Image). x.code) is) ticks_of in
     subst (λ n. standing (t + 1) new ds (told t (release_act (is_due t n) o) ++ told t a) ≡ next image.image script (standing t o ds es)) frame_is
     (step ∙ (ap (λ (x : Image). next x (until h) (standing t o ds es)) (sym is) ∙ ap (λ (s : Script). next image.image s (standing t o ds es)) (sym script_is)))
 
@@ -161,9 +161,9 @@ keeps_of image script h m put script_is of =
     let f : PutProg = put.program in
     let is : image.image ≡ image_of f = ap (λ (x : NamedImage). x.image) put.is in
     let at : m.state ≡ state_at (image_of f) (until h) m.tick = of.reached ∙ (ap (λ (x : Image). state_at x script m.tick) is ∙ ap (λ (s : Script). state_at (image_of f) s m.tick) script_is) in
-    let there : Reached f m.tick m.state = subst (Reached f m.tick) (sym at) (reached f h m.tick put.well_formed put.timely) in
+    let there : Reached f m.tick m.state = subst (Reached f m.tick) (sym at) (reached f h m.tick put.kept put.timely) in
     subst (λ (x : Image). Keeps f m.tick (tick x script m.tick m.state)) (sym is)
-    (subst (λ (s : Script). Keeps f m.tick (tick (image_of f) s m.tick m.state)) (sym script_is) (keeps f h m.tick m.state put.well_formed put.timely there))
+    (subst (λ (s : Script). Keeps f m.tick (tick (image_of f) s m.tick m.state)) (sym script_is) (keeps f h m.tick m.state put.kept put.timely there))
 
 pub is_sound : (image : NamedImage) (script : Script) (h : ℕ) (m : Standing) → IsPutImage image → script ≡ until h → IsOf image.image script m → IsSound image.image script m
 is_sound image script h m put script_is of =
@@ -196,7 +196,7 @@ pub lines_of : (image : NamedImage) (script : Script) (h : ℕ) (m : Standing) �
 lines_of image script h m put script_is of below =
     let k = keeps_of image script h m put script_is of in
     subst (λ (names : ImageNames). All (AreIn names) (next image.image script m).events) (sym (ap (λ (x : NamedImage). x.names) put.is))
-    (have_lines put.program m.tick (tick image.image script m.tick m.state).events put.well_formed below k.events)
+    (have_lines put.program m.tick (tick image.image script m.tick m.state).events put.kept below k.events)
 
 -- ---- before tick 0
 

@@ -4,7 +4,7 @@ ghost use Rattle.std.specs.Prelude.{◌≡◌, ◌≤◌, [], ◌∷◌, length,
 ghost use Rattle.std.specs.Str.{bytes_eq};
 ghost use Rattle.rte_form.specs.Form.{program_of};
 ghost use Rattle.rte_form.specs.Target as target;
-ghost use Rattle.rte_form.specs.WellFormed.{IsPutProg};
+ghost use Rattle.rte_form.specs.Kept.{IsPutProg};
 ghost use Rattle.rte_image.specs.Raw as raw;
 ghost use Rattle.rte_seg.specs.View.{views};
 ghost use Rattle.rte_machine.specs.Count.{tree_of_count};

@@ -3,7 +3,7 @@
 ghost use Rattle.std.specs.Prelude.{◌≡◌, ◌<◌, ◌∷◌, [], map, IfOk};
 ghost use Rattle.rte_form.specs.Form.{program_of};
 ghost use Rattle.rte_form.specs.Target.{named_image_of};
-ghost use Rattle.rte_form.specs.WellFormed.{IsPutProg, IsTimely};
+ghost use Rattle.rte_form.specs.Kept.{IsPutProg, IsTimely};
 ghost use Rattle.rte_image.specs.Bytes.{Second, bytes_of};
 ghost use Rattle.rte_machine.specs.PutImage.{IsPutImage};
 
@@ -40,7 +40,7 @@ impl Model for Image {
 impl Image {
     /// The image of the program that the form stands for.
     pub fn new(alloc: Global, form: &Form) -> Result<Image, AllocError>
-        requires well_formed { IsPutProg (program_of form.now) }
+        requires kept { IsPutProg (program_of form.now) }
         requires timely { IsTimely (program_of form.now) }
         ensures { IfOk result (λ image. image ≡ named_image_of (program_of form.now)) }
     {

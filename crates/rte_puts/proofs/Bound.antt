@@ -1,7 +1,7 @@
 -- The least bound of the one process is its cost, where that is at most the deadline.
 use Rattle.std.proofs.Common.{◌≡◌, ◌≤◌, ℕ, arith}
 use Rattle.rte_form.specs.Target.{cost_of}
-use Rattle.rte_form.specs.WellFormed.{IsPutProg, IsTimely}
+use Rattle.rte_form.specs.Kept.{IsPutProg, IsTimely}
 use Rattle.rte_response.specs.Demand.{demand_at, Solves, IsBound}
 use Rattle.rte_source_meaning.specs.Puts.{PutProg}
 use Rattle.rte_puts.specs.Recurrence.{tasks_of}

@@ -3,7 +3,7 @@ use Rattle.std.proofs.Common.{◌≡◌, ◌<◌, ◌&&◌, inl, inr, ℕ, zero,
 use Rattle.std.specs.Prelude.{nat_eq, All, bytes_eq, slice_index_or}
 use Rattle.std.proofs.lemmas.Bool.{cases_Bool}
 use Rattle.std.proofs.lemmas.Bool.Decides.{nat_tests}
-use Rattle.rte_form.specs.WellFormed.{IsPut}
+use Rattle.rte_form.specs.Kept.{IsPut}
 use Rattle.rte_source_meaning.specs.Names.{place_of}
 use Rattle.rte_source_meaning.specs.Puts.{Put}
 use Rattle.rte_puts.proofs.Standing.{AreDeclared}

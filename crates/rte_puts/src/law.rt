@@ -2,7 +2,7 @@
 
 ghost use Rattle.std.specs.Prelude.{ℕ};
 ghost use Rattle.rte_form.specs.Target.{cost_of, image_of, until};
-ghost use Rattle.rte_form.specs.WellFormed.{IsPutProg, IsTimely};
+ghost use Rattle.rte_form.specs.Kept.{IsPutProg, IsTimely};
 ghost use Rattle.rte_source_meaning.specs.Puts.{PutProg, put_prog, put_script};
 ghost use Rattle.rte_puts.specs.Keeps.{KeepsItsWord};
 ghost use Rattle.rte_puts.specs.Recurrence.{tasks_of};

@@ -29,7 +29,7 @@ use rte_rules::{Broken, sooner};
 use std::alloc::{AllocError, Global};
 
 /// The first failure of the rules 31 and 35: a routine reaches itself by calls, at its name; a
-/// handler reaches a wait, at the name of its process. It takes time in proportion to the calls.
+/// handler reaches a wait, at the name of its process.
 pub fn first_broken(
     alloc: Global,
     declarations: &Declarations<'_>,

@@ -1,9 +1,10 @@
 //! Programs that keep to all rules.
 
-ghost use Rattle.std.specs.Prelude.{◌≡◌, IfOk, IfErr};
+ghost use Rattle.std.specs.Prelude.{◌≡◌, IfOk, IfErr, IfSome, IfNone};
 ghost use Rattle.rte_tree.specs.Placed.{placed};
 ghost use Rattle.rte_rules.specs.First.{IsFirstOf};
 ghost use Rattle.rte_names.specs.Occurrences.{names, declared_at};
+ghost use Rattle.rte_names.specs.Rules.{NamesAt, UsedAt};
 ghost use Rattle.rte_static.specs.Static.{Fails, IsChecked, IsFault};
 
 use rte_declarations::Declarations;
@@ -85,9 +86,12 @@ impl Checked {
         self.named.prog()
     }
 
-    /// Where the name that is used at a place is declared; `None` where no name is used there.
+    /// Where the name that is used at a place is declared; `None` exactly where no use stands at
+    /// that place.
     pub fn found(&self, at: &Place) -> Option<Place>
-        ensures { result ≡ declared_at (names (placed self.now)) at.now }
+        ensures some { IfSome result (λ declared. NamesAt (placed self.now) at.now declared) }
+        ensures none { IfNone result (¬ UsedAt (placed self.now) at.now) }
+        ensures declared { result ≡ declared_at (names (placed self.now)) at.now }
     {
         self.named.found(at)
     }

@@ -10,10 +10,10 @@ use Rattle.rte_cli.proofs.call.rte.Goals as goal
 pub returns-clause-done : goal.returns-clause-done
 returns-clause-done g c =
     if_done c.ends_are_written.ensures
-    (λ f end_tick well_formed timely. record {
-      runs = c.events_are_a_source_run.ensures f end_tick well_formed timely;
-      in_time = c.activations_end_within_their_bound.ensures f end_tick well_formed timely;
-      keeps = c.images_keep_their_word.ensures f end_tick well_formed timely;
+    (λ f end_tick kept timely. record {
+      runs = c.events_are_a_source_run.ensures f end_tick kept timely;
+      in_time = c.activations_end_within_their_bound.ensures f end_tick kept timely;
+      keeps = c.images_keep_their_word.ensures f end_tick kept timely;
     })
     c.cost_is_the_least_bound.ensures
     g.F.Files.tells (row_of c.args.words.now) _ _ _ c.carry_out.ensures.row

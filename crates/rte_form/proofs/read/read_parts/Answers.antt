@@ -5,7 +5,7 @@ use Rattle.rte_tree.specs.Placed.{placed_decl, placed_stmt, placed_stmts, placed
 use Rattle.rte_source_meaning.specs.Puts.{Put}
 use Rattle.rte_form.specs.Form.{named_put}
 use Rattle.rte_form.specs.Shape.{devices_in, puts_in, are_names}
-use Rattle.rte_form.specs.WellFormed.{IsPut}
+use Rattle.rte_form.specs.Kept.{IsPut}
 use Rattle.rte_form.proofs.Names.{names_pass, same_name, kept}
 use Rattle.rte_form.proofs.Shapes.{devices_length, puts_length}
 use Rattle.rte_form.proofs.read.read_parts.Goals as goal

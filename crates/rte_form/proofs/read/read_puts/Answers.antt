@@ -6,7 +6,7 @@ use Rattle.rte_tree.specs.Placed.{placed_stmt, placed_stmts}
 use Rattle.rte_source_meaning.specs.Puts.{Put}
 use Rattle.rte_form.specs.Form.{named_put}
 use Rattle.rte_form.specs.Shape.{with_first, put_in, puts_in}
-use Rattle.rte_form.specs.WellFormed.{IsPut}
+use Rattle.rte_form.specs.Kept.{IsPut}
 use Rattle.rte_form.proofs.Walks.{with_front, drop_item, one_read, spoiled}
 use Rattle.rte_form.proofs.read.read_puts.Goals as goal
 

@@ -3,7 +3,7 @@ use Rattle.std.specs.Prelude.{All}
 use Rattle.rte_tree.specs.Placed.{placed_stmts}
 use Rattle.rte_form.specs.Form.{named_put}
 use Rattle.rte_form.specs.Shape.{puts_in}
-use Rattle.rte_form.specs.WellFormed.{IsPut}
+use Rattle.rte_form.specs.Kept.{IsPut}
 use Rattle.rte_form.proofs.Walks.{with_front}
 use Rattle.rte_form.proofs.read.read_puts.Given as goal
 
