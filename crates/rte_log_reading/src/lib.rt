@@ -1,0 +1,20 @@
+//! Reading a log: the events whose lines a text has.
+//!
+//! The text of an event is `line_of` in `rte_log`. `specs/Logs.antt` says which events the names of
+//! an image can tell, which text is the log of which events, and which line of a text is the first
+//! that tells none. `read_log` gives the events of a text, or that line, and `one_log` has the law
+//! that a text is the log of one list of events at most.
+#![tactic(auto)]
+
+mod act;
+mod fault;
+mod find;
+mod laws;
+mod line;
+mod read;
+mod verb;
+
+pub use fault::LogFault;
+pub use laws::one_log;
+pub use line::read_line;
+pub use read::read_log;

@@ -1,0 +1,39 @@
+//! One line of a log.
+
+ghost use Rattle.std.specs.Prelude.{IfSome, IfNone};
+ghost use Rattle.rte_event.specs.declared.event.Event.{Event as Event_spec};
+ghost use Rattle.rte_log_reading.specs.Logs.{AreFew, AreWords, Tells};
+
+use crate::act::read_act;
+use crate::find::find_process;
+use rte_event::Event;
+use rte_fields::{cut_at, unsigned};
+use rte_image::ImageNames;
+
+/// The greatest tick of a line.
+const LAST_TICK: u64 = 999_999_999;
+
+/// The event that a line tells, which is given without its LF; None where it tells none.
+pub fn read_line(line: &[u8], names: &ImageNames) -> Option<Event>
+    requires words { AreWords names.now }
+    requires few { AreFew names.now }
+    ensures found { IfSome result (λ event. Tells names.now line.now event) }
+    ensures none { IfNone result ((event : Event_spec) → ¬ Tells names.now line.now event) }
+{
+    match cut_at(line, b' ') {
+        None => None,
+        Some(front) => match unsigned(front.before, LAST_TICK) {
+            None => None,
+            Some(tick) => match cut_at(front.after, b' ') {
+                None => None,
+                Some(parts) => match find_process(names, parts.before) {
+                    None => None,
+                    Some(proc) => match read_act(names, parts.after) {
+                        None => None,
+                        Some(act) => Some(Event { tick, proc, act }),
+                    },
+                },
+            },
+        },
+    }
+}
