@@ -12,7 +12,7 @@ use Rattle.rte_fields.proofs.Numerals.{decimal_lacks, signed_lacks}
 use Rattle.rte_image.specs.declared.names.ImageNames.{ImageNames}
 use Rattle.rte_log.specs.InRange.{WokenIsIn}
 use Rattle.rte_log.specs.Line.{line_of, log_of, condition_name, device_name, monitor_name, process_name, truth_text, woken_name}
-use Rattle.rte_log_reading.specs.Logs.{AreWords, IsTold, Tells, IsFaultyLine, longest_text}
+use Rattle.rte_log_reading.specs.Logs.{AreWords, IsTold, Tells, IsFaultyLine, IsLog, longest_text}
 use Rattle.rte_log_reading.specs.Parts.{act_words, args_text, spelled, spoken, verb_of, verb_text, ActIsTold}
 use Rattle.rte_log_reading.proofs.Names.{same_cut, word_at, device_word, condition_pair}
 use Rattle.rte_log_reading.proofs.Acts.{verb_feed}
@@ -127,3 +127,14 @@ faulty names text es rest line short told whole is some none = record {
   some = some;
   none = none;
 }
+
+pub faulty_names : (names : ImageNames) (text : List ℕ) → length text ≤ longest_text → 0 < length text → ¬ AreWords names → IsFaultyLine names text 1
+faulty_names names text short some other =
+    faulty names text [] text 1 short (λ k d below. absurd (omega arith)) (read_none names text) refl some (λ e after told same. other told.words)
+
+pub empty_log : (names : ImageNames) (text : List ℕ) (es : List Event) → length text ≡ 0 → es ≡ [] → IsLog names text es
+empty_log names text es none is = subst (IsLog names text) (sym is) (record {
+  short = omega arith;
+  told = λ k d below. absurd (omega arith);
+  whole = read_all names [] text text (read_none names text) none;
+})

@@ -34,8 +34,9 @@ ActFits (act.Broadcast cond count) = count < 2 ^ 16
 ActFits (act.Raise number) = number < 2 ^ 16
 ActFits other = Unit {0}
 
--- an event below tick 1,000,000,000 whose numbers are in range of the names
+-- an event below tick 1,000,000,000 whose numbers are in range of names that are words
 pub record IsTold (names : ImageNames) (event : Event) : Type 0 where
+  pub words : AreWords names
   pub tick : event.tick < 1000000000
   pub process : event.proc < length names.processes
   pub act : ActIsIn names event.act

@@ -13,8 +13,10 @@ mod laws;
 mod line;
 mod read;
 mod verb;
+mod words;
 
 pub use fault::LogFault;
 pub use laws::one_log;
 pub use line::read_line;
 pub use read::read_log;
+pub use words::are_words;

@@ -2,10 +2,11 @@
 
 ghost use Rattle.std.specs.Prelude.{◌≡◌, ◌<◌, ◌≤◌, ◌⊎◌, IfOk, IfErr, length};
 ghost use Rattle.rte_log_reading.specs.declared.fault.LogFault.TheVariants.{Memory};
-ghost use Rattle.rte_log_reading.specs.Logs.{AreFew, AreWords, IsFault, IsLog};
+ghost use Rattle.rte_log_reading.specs.Logs.{AreFew, AreWords, IsFault, IsLog, longest_text};
 
 use crate::fault::LogFault;
 use crate::line::read_line;
+use crate::words::are_words;
 use rte_event::Event;
 use rte_fields::cut_at;
 use rte_image::ImageNames;
@@ -15,21 +16,14 @@ use std::alloc::Global;
 /// How many bytes a log has at most.
 const LONGEST_TEXT: usize = 67_108_864;
 
-/// The events whose log the text is, for these names.
-///
-/// The names are words, and a number of 16 bits can name each. `Long` comes exactly where the text
-/// has more than 67,108,864 bytes, else `Line` with the first line that is the text of no event
-/// whose tick is below 1,000,000,000 and whose numbers are in range of the names; bytes after the
-/// last LF are such a line. `Memory` may stand in place of any answer but `Long`.
-pub fn read_log(alloc: Global, text: &[u8], names: &ImageNames) -> Result<List<Event>, LogFault>
+/// Reads a text that is not too long, line by line.
+fn read_lines(alloc: Global, text: &[u8], names: &ImageNames) -> Result<List<Event>, LogFault>
+    requires short { length text.now ≤ longest_text }
     requires words { AreWords names.now }
     requires few { AreFew names.now }
     ensures log { IfOk result (λ events. IsLog names.now text.now events) }
     ensures fault { IfErr result (λ fault. (fault ≡ Memory) ⊎ IsFault names.now text.now fault) }
 {
-    if text.len() > LONGEST_TEXT {
-        return Err(LogFault::Long);
-    }
     let mut events = List::new(alloc);
     let mut rest = text;
     while !rest.is_empty() {
@@ -46,4 +40,28 @@ pub fn read_log(alloc: Global, text: &[u8], names: &ImageNames) -> Result<List<E
         }
     }
     Ok(events)
+}
+
+/// The events whose log the text is, for these names.
+///
+/// An event has a line where the names are words without spaces and LF, its tick is below
+/// 1,000,000,000, and its numbers are in range of the names. `Long` comes exactly where the text
+/// has more than 67,108,864 bytes, else `Line` with the first line that is the text of no event;
+/// bytes after the last LF are such a line. `Memory` may stand in place of any answer but `Long`.
+/// There are at most 65,536 processes, monitors, conditions and devices each.
+pub fn read_log(alloc: Global, text: &[u8], names: &ImageNames) -> Result<List<Event>, LogFault>
+    requires few { AreFew names.now }
+    ensures log { IfOk result (λ events. IsLog names.now text.now events) }
+    ensures fault { IfErr result (λ fault. (fault ≡ Memory) ⊎ IsFault names.now text.now fault) }
+{
+    if text.len() > LONGEST_TEXT {
+        return Err(LogFault::Long);
+    }
+    if text.is_empty() {
+        return Ok(List::new(alloc));
+    }
+    if !are_words(names) {
+        return Err(LogFault::Line(1));
+    }
+    read_lines(alloc, text, names)
 }

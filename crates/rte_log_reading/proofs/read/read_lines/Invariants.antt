@@ -1,7 +1,7 @@
 use Rattle.std.proofs.Common.{◌≡◌, ◌≤◌, ◌+◌, ◌++◌, length, All}
 use Rattle.rte_log.specs.Line.{log_of}
 use Rattle.rte_log_reading.specs.Logs.{IsTold, longest_text}
-use Rattle.rte_log_reading.proofs.read.read_log.Given as goal
+use Rattle.rte_log_reading.proofs.read.read_lines.Given as goal
 
 abbrev pub invariant-loop-rest : goal.invariant-loop-rest
 invariant-loop-rest l = record {
