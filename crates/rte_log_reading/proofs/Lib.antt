@@ -1,4 +1,5 @@
 pub mod Names
+pub mod Finding
 pub mod Acts
 pub mod Lines
 pub mod Reading

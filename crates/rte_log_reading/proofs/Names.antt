@@ -115,6 +115,9 @@ unasked_name names bytes before after own rest words cut more none c last below 
     let r = asked_parts names bytes before after own rest c last words cut more below e in
     none c below r.0
 
+pub unasked_front : (names : ImageNames) (bytes before after own rest front : List ℕ) → AreWords names → IsCutAt 32 bytes before after → IsCutAt 32 after own rest → front ≡ before ++ 32 ∷ own → ((c : ℕ) → c < length names.conditions → condition_name names c ≢ front) → (c : ℕ) (last : List ℕ) → c < length names.conditions → bytes ≢ condition_name names c ++ 32 ∷ last
+unasked_front names bytes before after own rest front words cut more is none = unasked_name names bytes before after own rest words cut more (λ c below e. none c below (e ∙ sym is))
+
 pub asked_whole : (names : ImageNames) (bytes before after own rest : List ℕ) (c : ℕ) → IsCutAt 32 bytes before after → IsCutAt 32 after own rest → condition_name names c ≡ before ++ 32 ∷ own → bytes ≡ condition_name names c ++ 32 ∷ rest
 asked_whole names bytes before after own rest c cut more e = cut.whole ∙ ap (λ t. before ++ 32 ∷ t) more.whole ∙ sym (asked_text (condition_name names c) rest before own e)
 

@@ -1,3 +1,4 @@
 pub mod Logs
 pub mod Parts
+pub mod Finding
 pub mod Laws

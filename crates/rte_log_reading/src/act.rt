@@ -7,14 +7,14 @@ ghost use Rattle.rte_fields.specs.Fields.{Is32};
 ghost use Rattle.rte_image.specs.declared.names.ImageNames.{ImageNames as ImageNames_spec};
 ghost use Rattle.rte_log.specs.InRange.{WokenIsIn};
 ghost use Rattle.rte_log.specs.Line.{condition_name, device_name, truth_text, woken_name};
-ghost use Rattle.rte_log_reading.specs.Logs.{AreFew, AreWords};
+ghost use Rattle.rte_log_reading.specs.Finding.{AreFound};
+ghost use Rattle.rte_log_reading.specs.Logs.{AreWords};
 ghost use Rattle.rte_log_reading.specs.Parts.{ActIsTold, IsSaid, IsUnsaid, act_words};
 
-use crate::find::{find_condition, find_device, find_monitor, find_process};
+use crate::find::{Named, find_condition, find_device, find_monitor, find_process};
 use crate::verb::{Verb, verb_named};
 use rte_event::Act;
 use rte_fields::{cut_at, is_same, signed, unsigned};
-use rte_image::ImageNames;
 
 /// A device, and the value that is read or written.
 #[derive(Clone, Copy)]
@@ -83,12 +83,12 @@ fn read_truth(word: &[u8]) -> Option<bool>
 }
 
 /// The process that the word names, or nobody where it is a dash.
-fn read_woken(names: &ImageNames, word: &[u8]) -> Option<Woken>
-    requires few { AreFew names.now }
-    ensures within { IfSome result (λ woken. WokenIsIn names.now woken.process) }
-    ensures found { IfSome result (λ woken. word.now ≡ woken_name names.now woken.process) }
-    ensures none { IfNone result ((woken : Option ℕ) → WokenIsIn names.now woken →
-        word.now ≢ woken_name names.now woken) }
+fn read_woken(names: &Named<'_, '_>, word: &[u8]) -> Option<Woken>
+    requires found { AreFound names.now }
+    ensures within { IfSome result (λ woken. WokenIsIn names.now.names.now woken.process) }
+    ensures found { IfSome result (λ woken. word.now ≡ woken_name names.now.names.now woken.process) }
+    ensures none { IfNone result ((woken : Option ℕ) → WokenIsIn names.now.names.now woken →
+        word.now ≢ woken_name names.now.names.now woken) }
 {
     if is_same(word, b"-") {
         return Some(Woken { process: None });
@@ -102,14 +102,14 @@ fn read_woken(names: &ImageNames, word: &[u8]) -> Option<Woken>
 }
 
 /// The device and the value that the bytes spell.
-fn read_transfer(names: &ImageNames, bytes: &[u8]) -> Option<Transfer>
-    requires words { AreWords names.now }
-    requires few { AreFew names.now }
-    ensures within { IfSome result (λ t. t.dev < length names.now.devices) }
+fn read_transfer(names: &Named<'_, '_>, bytes: &[u8]) -> Option<Transfer>
+    requires words { AreWords names.now.names.now }
+    requires found { AreFound names.now }
+    ensures within { IfSome result (λ t. t.dev < length names.now.names.now.devices) }
     ensures found { IfSome result (λ t.
-        bytes.now ≡ device_name names.now t.dev ++ 32 ∷ signed_decimal t.value) }
-    ensures none { IfNone result ((d : ℕ) (value : ℤ) → d < length names.now.devices →
-        Is32 value → bytes.now ≢ device_name names.now d ++ 32 ∷ signed_decimal value) }
+        bytes.now ≡ device_name names.now.names.now t.dev ++ 32 ∷ signed_decimal t.value) }
+    ensures none { IfNone result ((d : ℕ) (value : ℤ) → d < length names.now.names.now.devices →
+        Is32 value → bytes.now ≢ device_name names.now.names.now d ++ 32 ∷ signed_decimal value) }
 {
     match cut_at(bytes, b' ') {
         None => None,
@@ -124,35 +124,43 @@ fn read_transfer(names: &ImageNames, bytes: &[u8]) -> Option<Transfer>
 }
 
 /// The condition that the bytes name, behind its monitor.
-fn read_condition(names: &ImageNames, bytes: &[u8]) -> Option<u16>
-    requires words { AreWords names.now }
-    requires few { AreFew names.now }
-    ensures within { IfSome result (λ c. c < length names.now.conditions) }
-    ensures found { IfSome result (λ c. bytes.now ≡ condition_name names.now c) }
-    ensures none { IfNone result ((c : ℕ) → c < length names.now.conditions →
-        bytes.now ≢ condition_name names.now c) }
+fn read_condition(names: &Named<'_, '_>, bytes: &[u8]) -> Option<u16>
+    requires words { AreWords names.now.names.now }
+    requires found { AreFound names.now }
+    ensures within { IfSome result (λ c. c < length names.now.names.now.conditions) }
+    ensures found { IfSome result (λ c. bytes.now ≡ condition_name names.now.names.now c) }
+    ensures none { IfNone result ((c : ℕ) → c < length names.now.names.now.conditions →
+        bytes.now ≢ condition_name names.now.names.now c) }
 {
-    match cut_at(bytes, b' ') {
-        None => None,
-        Some(parts) => find_condition(names, parts.before, parts.after),
-    }
+    find_condition(names, bytes)
+}
+
+/// The first two words of the bytes, with the space between them.
+fn front_of<'a>(bytes: &'a [u8], first: &[u8], second: &[u8], rest: &[u8]) -> &'a [u8]
+    requires { bytes.now ≡ first.now ++ 32 ∷ (second.now ++ 32 ∷ rest.now) }
+    ensures { result.now ≡ first.now ++ 32 ∷ second.now }
+{
+    &bytes[..first.len() + 1 + second.len()]
 }
 
 /// The condition that the bytes begin with, and what stands behind it and a space.
-fn read_asked<'a>(names: &ImageNames, bytes: &'a [u8]) -> Option<Asked<'a>>
-    requires words { AreWords names.now }
-    requires few { AreFew names.now }
-    ensures within { IfSome result (λ asked. asked.cond < length names.now.conditions) }
+fn read_asked<'a>(names: &Named<'_, '_>, bytes: &'a [u8]) -> Option<Asked<'a>>
+    requires words { AreWords names.now.names.now }
+    requires found { AreFound names.now }
+    ensures within { IfSome result (λ asked. asked.cond < length names.now.names.now.conditions) }
     ensures found { IfSome result (λ asked.
-        bytes.now ≡ condition_name names.now asked.cond ++ 32 ∷ asked.last.now) }
-    ensures none { IfNone result ((c : ℕ) (last : List ℕ) → c < length names.now.conditions →
-        bytes.now ≢ condition_name names.now c ++ 32 ∷ last) }
+        bytes.now ≡ condition_name names.now.names.now asked.cond ++ 32 ∷ asked.last.now) }
+    ensures none { IfNone result ((c : ℕ) (last : List ℕ) → c < length names.now.names.now.conditions →
+        bytes.now ≢ condition_name names.now.names.now c ++ 32 ∷ last) }
 {
     match cut_at(bytes, b' ') {
         None => None,
         Some(parts) => match cut_at(parts.after, b' ') {
             None => None,
-            Some(more) => match find_condition(names, parts.before, more.before) {
+            Some(more) => match find_condition(
+                names,
+                front_of(bytes, parts.before, more.before, more.after),
+            ) {
                 None => None,
                 Some(cond) => Some(Asked {
                     cond,
@@ -164,14 +172,14 @@ fn read_asked<'a>(names: &ImageNames, bytes: &'a [u8]) -> Option<Asked<'a>>
 }
 
 /// The condition and the number that the bytes spell.
-fn read_counted(names: &ImageNames, bytes: &[u8]) -> Option<Counted>
-    requires words { AreWords names.now }
-    requires few { AreFew names.now }
-    ensures within { IfSome result (λ it. it.cond < length names.now.conditions) }
+fn read_counted(names: &Named<'_, '_>, bytes: &[u8]) -> Option<Counted>
+    requires words { AreWords names.now.names.now }
+    requires found { AreFound names.now }
+    ensures within { IfSome result (λ it. it.cond < length names.now.names.now.conditions) }
     ensures found { IfSome result (λ it.
-        bytes.now ≡ condition_name names.now it.cond ++ 32 ∷ decimal it.number) }
-    ensures none { IfNone result ((c number : ℕ) → c < length names.now.conditions →
-        number < 2 ^ 16 → bytes.now ≢ condition_name names.now c ++ 32 ∷ decimal number) }
+        bytes.now ≡ condition_name names.now.names.now it.cond ++ 32 ∷ decimal it.number) }
+    ensures none { IfNone result ((c number : ℕ) → c < length names.now.names.now.conditions →
+        number < 2 ^ 16 → bytes.now ≢ condition_name names.now.names.now c ++ 32 ∷ decimal number) }
 {
     match read_asked(names, bytes) {
         None => None,
@@ -186,16 +194,16 @@ fn read_counted(names: &ImageNames, bytes: &[u8]) -> Option<Counted>
 }
 
 /// The condition and the process, if any, that the bytes spell.
-fn read_signal(names: &ImageNames, bytes: &[u8]) -> Option<Signal>
-    requires words { AreWords names.now }
-    requires few { AreFew names.now }
-    ensures within { IfSome result (λ it. it.cond < length names.now.conditions) }
-    ensures woken { IfSome result (λ it. WokenIsIn names.now it.woken) }
+fn read_signal(names: &Named<'_, '_>, bytes: &[u8]) -> Option<Signal>
+    requires words { AreWords names.now.names.now }
+    requires found { AreFound names.now }
+    ensures within { IfSome result (λ it. it.cond < length names.now.names.now.conditions) }
+    ensures woken { IfSome result (λ it. WokenIsIn names.now.names.now it.woken) }
     ensures found { IfSome result (λ it.
-        bytes.now ≡ condition_name names.now it.cond ++ 32 ∷ woken_name names.now it.woken) }
+        bytes.now ≡ condition_name names.now.names.now it.cond ++ 32 ∷ woken_name names.now.names.now it.woken) }
     ensures none { IfNone result ((c : ℕ) (woken : Option ℕ) →
-        c < length names.now.conditions → WokenIsIn names.now woken →
-        bytes.now ≢ condition_name names.now c ++ 32 ∷ woken_name names.now woken) }
+        c < length names.now.names.now.conditions → WokenIsIn names.now.names.now woken →
+        bytes.now ≢ condition_name names.now.names.now c ++ 32 ∷ woken_name names.now.names.now woken) }
 {
     match read_asked(names, bytes) {
         None => None,
@@ -210,14 +218,14 @@ fn read_signal(names: &ImageNames, bytes: &[u8]) -> Option<Signal>
 }
 
 /// The condition and the truth that the bytes spell.
-fn read_empty(names: &ImageNames, bytes: &[u8]) -> Option<Empty>
-    requires words { AreWords names.now }
-    requires few { AreFew names.now }
-    ensures within { IfSome result (λ it. it.cond < length names.now.conditions) }
+fn read_empty(names: &Named<'_, '_>, bytes: &[u8]) -> Option<Empty>
+    requires words { AreWords names.now.names.now }
+    requires found { AreFound names.now }
+    ensures within { IfSome result (λ it. it.cond < length names.now.names.now.conditions) }
     ensures found { IfSome result (λ it.
-        bytes.now ≡ condition_name names.now it.cond ++ 32 ∷ truth_text it.answer) }
-    ensures none { IfNone result ((c : ℕ) (answer : Bool) → c < length names.now.conditions →
-        bytes.now ≢ condition_name names.now c ++ 32 ∷ truth_text answer) }
+        bytes.now ≡ condition_name names.now.names.now it.cond ++ 32 ∷ truth_text it.answer) }
+    ensures none { IfNone result ((c : ℕ) (answer : Bool) → c < length names.now.names.now.conditions →
+        bytes.now ≢ condition_name names.now.names.now c ++ 32 ∷ truth_text answer) }
 {
     match read_asked(names, bytes) {
         None => None,
@@ -244,11 +252,11 @@ fn read_bare(verb: Verb) -> Option<Act>
 }
 
 /// The act with this verb and these bytes behind it.
-fn read_args(names: &ImageNames, verb: Verb, bytes: &[u8]) -> Option<Act>
-    requires words { AreWords names.now }
-    requires few { AreFew names.now }
-    ensures found { IfSome result (λ a. IsSaid names.now verb (Some bytes.now) a) }
-    ensures none { IfNone result (IsUnsaid names.now verb (Some bytes.now)) }
+fn read_args(names: &Named<'_, '_>, verb: Verb, bytes: &[u8]) -> Option<Act>
+    requires words { AreWords names.now.names.now }
+    requires found { AreFound names.now }
+    ensures found { IfSome result (λ a. IsSaid names.now.names.now verb (Some bytes.now) a) }
+    ensures none { IfNone result (IsUnsaid names.now.names.now verb (Some bytes.now)) }
 {
     match verb {
         Verb::Release => None,
@@ -300,13 +308,13 @@ fn read_args(names: &ImageNames, verb: Verb, bytes: &[u8]) -> Option<Act>
 }
 
 /// The act that the bytes behind a process tell.
-pub fn read_act(names: &ImageNames, bytes: &[u8]) -> Option<Act>
-    requires words { AreWords names.now }
-    requires few { AreFew names.now }
-    ensures told { IfSome result (λ a. ActIsTold names.now a) }
-    ensures found { IfSome result (λ a. bytes.now ≡ act_words names.now a) }
-    ensures none { IfNone result ((a : Act_spec) → ActIsTold names.now a →
-        bytes.now ≢ act_words names.now a) }
+pub fn read_act(names: &Named<'_, '_>, bytes: &[u8]) -> Option<Act>
+    requires words { AreWords names.now.names.now }
+    requires found { AreFound names.now }
+    ensures told { IfSome result (λ a. ActIsTold names.now.names.now a) }
+    ensures found { IfSome result (λ a. bytes.now ≡ act_words names.now.names.now a) }
+    ensures none { IfNone result ((a : Act_spec) → ActIsTold names.now.names.now a →
+        bytes.now ≢ act_words names.now.names.now a) }
 {
     match cut_at(bytes, b' ') {
         None => match verb_named(bytes) {

@@ -11,12 +11,12 @@ mod fault;
 mod find;
 mod laws;
 mod line;
+mod numbers;
 mod read;
 mod verb;
 mod words;
 
 pub use fault::LogFault;
 pub use laws::one_log;
-pub use line::read_line;
 pub use read::read_log;
 pub use words::are_words;

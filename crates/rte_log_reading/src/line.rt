@@ -2,23 +2,23 @@
 
 ghost use Rattle.std.specs.Prelude.{IfSome, IfNone};
 ghost use Rattle.rte_event.specs.declared.event.Event.{Event as Event_spec};
-ghost use Rattle.rte_log_reading.specs.Logs.{AreFew, AreWords, Tells};
+ghost use Rattle.rte_log_reading.specs.Finding.{AreFound};
+ghost use Rattle.rte_log_reading.specs.Logs.{AreWords, Tells};
 
 use crate::act::read_act;
-use crate::find::find_process;
+use crate::find::{Named, find_process};
 use rte_event::Event;
 use rte_fields::{cut_at, unsigned};
-use rte_image::ImageNames;
 
 /// The greatest tick of a line.
 const LAST_TICK: u64 = 999_999_999;
 
 /// The event that a line tells, which is given without its LF; None where it tells none.
-pub fn read_line(line: &[u8], names: &ImageNames) -> Option<Event>
-    requires words { AreWords names.now }
-    requires few { AreFew names.now }
-    ensures found { IfSome result (λ event. Tells names.now line.now event) }
-    ensures none { IfNone result ((event : Event_spec) → ¬ Tells names.now line.now event) }
+pub fn read_line(line: &[u8], names: &Named<'_, '_>) -> Option<Event>
+    requires words { AreWords names.now.names.now }
+    requires found { AreFound names.now }
+    ensures found { IfSome result (λ event. Tells names.now.names.now line.now event) }
+    ensures none { IfNone result ((event : Event_spec) → ¬ Tells names.now.names.now line.now event) }
 {
     match cut_at(line, b' ') {
         None => None,

@@ -2,10 +2,13 @@
 
 ghost use Rattle.std.specs.Prelude.{◌≡◌, ◌<◌, ◌≤◌, ◌⊎◌, IfOk, IfErr, length};
 ghost use Rattle.rte_log_reading.specs.declared.fault.LogFault.TheVariants.{Memory};
+ghost use Rattle.rte_log_reading.specs.Finding.{AreFound};
 ghost use Rattle.rte_log_reading.specs.Logs.{AreFew, AreWords, IsFault, IsLog, longest_text};
 
 use crate::fault::LogFault;
+use crate::find::Named;
 use crate::line::read_line;
+use crate::numbers::{device_numbers, numbers_of, qualified_names};
 use crate::words::are_words;
 use rte_event::Event;
 use rte_fields::cut_at;
@@ -17,12 +20,12 @@ use std::alloc::Global;
 const LONGEST_TEXT: usize = 67_108_864;
 
 /// Reads a text that is not too long, line by line.
-fn read_lines(alloc: Global, text: &[u8], names: &ImageNames) -> Result<List<Event>, LogFault>
+fn read_lines(alloc: Global, text: &[u8], names: &Named<'_, '_>) -> Result<List<Event>, LogFault>
     requires short { length text.now ≤ longest_text }
-    requires words { AreWords names.now }
-    requires few { AreFew names.now }
-    ensures log { IfOk result (λ events. IsLog names.now text.now events) }
-    ensures fault { IfErr result (λ fault. (fault ≡ Memory) ⊎ IsFault names.now text.now fault) }
+    requires words { AreWords names.now.names.now }
+    requires found { AreFound names.now }
+    ensures log { IfOk result (λ events. IsLog names.now.names.now text.now events) }
+    ensures fault { IfErr result (λ fault. (fault ≡ Memory) ⊎ IsFault names.now.names.now text.now fault) }
 {
     let mut events = List::new(alloc);
     let mut rest = text;
@@ -63,5 +66,13 @@ pub fn read_log(alloc: Global, text: &[u8], names: &ImageNames) -> Result<List<E
     if !are_words(names) {
         return Err(LogFault::Line(1));
     }
-    read_lines(alloc, text, names)
+    let texts = qualified_names(alloc, names)?;
+    let named = Named {
+        names,
+        processes: numbers_of(alloc, names.processes.as_slice())?,
+        monitors: numbers_of(alloc, names.monitors.as_slice())?,
+        conditions: numbers_of(alloc, texts.as_slice())?,
+        devices: device_numbers(alloc, names)?,
+    };
+    read_lines(alloc, text, &named)
 }

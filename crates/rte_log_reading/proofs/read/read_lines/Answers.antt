@@ -8,13 +8,13 @@ use Rattle.rte_log_reading.proofs.read.read_lines.Goals as goal
 
 pub returns-in-None-clause-fault : goal.returns-in-None-clause-fault
 returns-in-None-clause-fault c =
-    inr (faulty c.args.names.now c.args.text.now c.loop-rest.events c.loop-rest.rest.now (c.len.result + 1) c.loop-rest.invariant.short c.loop-rest.invariant.told c.loop-rest.invariant.whole (grind arith) (grind arith)
-    (unlined_lacks c.args.names.now c.loop-rest.rest.now c.in-None.ensures.none))
+    inr (faulty c.args.names.now.names.now c.args.text.now c.loop-rest.events c.loop-rest.rest.now (c.len.result + 1) c.loop-rest.invariant.short c.loop-rest.invariant.told c.loop-rest.invariant.whole (grind arith) (grind arith)
+    (unlined_lacks c.args.names.now.names.now c.loop-rest.rest.now c.in-None.ensures.none))
 
 pub returns-in-None-read_line-clause-fault : goal.returns-in-None-read_line-clause-fault
 returns-in-None-read_line-clause-fault c =
-    inr (faulty c.args.names.now c.args.text.now c.loop-rest.events c.loop-rest.rest.now (c.len.result + 1) c.loop-rest.invariant.short c.loop-rest.invariant.told c.loop-rest.invariant.whole (grind arith) (grind arith)
-    (unlined c.args.names.now c.loop-rest.rest.now c.in-Some.parts.before.now c.in-Some.parts.after.now c.requires.words c.in-Some.ensures.found c.in-None-read_line.ensures.none))
+    inr (faulty c.args.names.now.names.now c.args.text.now c.loop-rest.events c.loop-rest.rest.now (c.len.result + 1) c.loop-rest.invariant.short c.loop-rest.invariant.told c.loop-rest.invariant.whole (grind arith) (grind arith)
+    (unlined c.args.names.now.names.now c.loop-rest.rest.now c.in-Some.parts.before.now c.in-Some.parts.after.now c.requires.words c.in-Some.ensures.found c.in-None-read_line.ensures.none))
 
 pub loop-rest-init : goal.loop-rest-init
 loop-rest-init c =
@@ -22,7 +22,7 @@ loop-rest-init c =
     record {
       short = grind arith;
       told = λ k d below. absurd (omega (arith, none, below));
-      whole = subst (λ es. c.args.text.now ≡ log_of c.args.names.now es ++ c.args.text.now) (sym c.new-events.ensures) (read_none c.args.names.now c.args.text.now);
+      whole = subst (λ es. c.args.text.now ≡ log_of c.args.names.now.names.now es ++ c.args.text.now) (sym c.new-events.ensures) (read_none c.args.names.now.names.now c.args.text.now);
       few = omega (arith, none);
     }
 
@@ -33,9 +33,9 @@ loop-rest-preserved c =
     let more = sym c.in_ok-push-in-Some-read_line.ensures.ok in
     record {
       short = c.loop-rest.invariant.short;
-      told = subst (λ es. All (IsTold c.args.names.now) es) more (All-push (IsTold c.args.names.now) c.loop-rest.events c.in-Some-read_line.event c.loop-rest.invariant.told tells.told);
-      whole = subst (λ es. c.args.text.now ≡ log_of c.args.names.now es ++ c.in-Some.parts.after.now) more
-          (read_more c.args.names.now c.loop-rest.events c.in-Some-read_line.event c.args.text.now c.loop-rest.rest.now c.in-Some.parts.before.now c.in-Some.parts.after.now c.loop-rest.invariant.whole cut tells);
+      told = subst (λ es. All (IsTold c.args.names.now.names.now) es) more (All-push (IsTold c.args.names.now.names.now) c.loop-rest.events c.in-Some-read_line.event c.loop-rest.invariant.told tells.told);
+      whole = subst (λ es. c.args.text.now ≡ log_of c.args.names.now.names.now es ++ c.in-Some.parts.after.now) more
+          (read_more c.args.names.now.names.now c.loop-rest.events c.in-Some-read_line.event c.args.text.now c.loop-rest.rest.now c.in-Some.parts.before.now c.in-Some.parts.after.now c.loop-rest.invariant.whole cut tells);
       few = subst (λ (es : List Event). length es + length c.in-Some.parts.after.now ≤ length c.args.text.now) more
           (less_more c.loop-rest.events c.in-Some-read_line.event c.args.text.now c.loop-rest.rest.now c.in-Some.parts.before.now c.in-Some.parts.after.now c.loop-rest.invariant.few cut);
     }

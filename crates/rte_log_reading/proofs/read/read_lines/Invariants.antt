@@ -6,8 +6,8 @@ use Rattle.rte_log_reading.proofs.read.read_lines.Given as goal
 abbrev pub invariant-loop-rest : goal.invariant-loop-rest
 invariant-loop-rest l = record {
   short : length l.text ≤ longest_text;
-  told : All (IsTold l.names) l.events;
-  whole : l.text ≡ log_of l.names l.events ++ l.rest;
+  told : All (IsTold l.names.names.now) l.events;
+  whole : l.text ≡ log_of l.names.names.now l.events ++ l.rest;
   few : length l.events + length l.rest ≤ length l.text;
 }
 

@@ -1,4 +1,7 @@
-use Rattle.std.proofs.Common.{inr, arith}
+use Rattle.std.proofs.Common.{ℕ, List, [], length, ap, inr, arith, ◌∙◌}
+use Rattle.std.specs.Prelude.{slice_get, unwrap_or}
+use Rattle.rte_log.specs.Line.{condition_name, monitor_name, process_name}
+use Rattle.rte_log_reading.proofs.Finding.{numbers_same}
 use Rattle.rte_fields.proofs.Numerals.{grind_some}
 use Rattle.rte_log_reading.proofs.Reading.{empty_log, faulty_names}
 use Rattle.rte_log_reading.proofs.read.read_log.Goals as goal
@@ -9,3 +12,14 @@ returns-then-is_empty-clause-log c = empty_log c.args.names.now c.args.text.now 
 pub returns-then-not-are_words-clause-fault : goal.returns-then-not-are_words-clause-fault
 returns-then-not-are_words-clause-fault c =
     inr (faulty_names c.args.names.now c.args.text.now (omega arith) (grind_some c.args.text.now c.is_empty.result c.is_empty.ensures c.if-is_empty.false) (c.are_words.ensures.no c.if-not-are_words.true))
+
+pub read_lines-requires-clause-found : goal.read_lines-requires-clause-found
+read_lines-requires-clause-found c = record {
+  processes_found = numbers_same c.in_ok-numbers_of.field-0.entries (length c.as_slice.result.now) (length c.args.names.now.processes) (λ k. unwrap_or (slice_get c.as_slice.result.now k) []) (process_name c.args.names.now) (ap length c.as_slice.ensures)
+      (λ k below. ap (λ (xs : List (List ℕ)). unwrap_or (slice_get xs k) []) c.as_slice.ensures) c.in_ok-numbers_of.ensures;
+  monitors_found = numbers_same c.in_ok-numbers_of-2.field-0.entries (length c.as_slice-2.result.now) (length c.args.names.now.monitors) (λ k. unwrap_or (slice_get c.as_slice-2.result.now k) []) (monitor_name c.args.names.now) (ap length c.as_slice-2.ensures)
+      (λ k below. ap (λ (xs : List (List ℕ)). unwrap_or (slice_get xs k) []) c.as_slice-2.ensures) c.in_ok-numbers_of-2.ensures;
+  conditions_found = numbers_same c.in_ok-numbers_of-3.field-0.entries (length c.as_slice-3.result.now) (length c.args.names.now.conditions) (λ k. unwrap_or (slice_get c.as_slice-3.result.now k) []) (condition_name c.args.names.now) (ap length c.as_slice-3.ensures ∙ c.in_ok-texts.ensures.len)
+      (λ k below. ap (λ (xs : List (List ℕ)). unwrap_or (slice_get xs k) []) c.as_slice-3.ensures ∙ c.in_ok-texts.ensures.each k below) c.in_ok-numbers_of-3.ensures;
+  devices_found = c.in_ok-device_numbers.ensures;
+}
