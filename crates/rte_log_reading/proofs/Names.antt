@@ -82,11 +82,6 @@ named names condition own monitor name is same e = ap (λ m. m ++ 32 ∷ conditi
 
 -- ---- what stands behind a condition
 
-pub no_condition : (names : ImageNames) (bytes : List ℕ) → AreWords names → Lacks 32 bytes → (c : ℕ) → c < length names.conditions → bytes ≢ condition_name names c
-no_condition names bytes words l c below e =
-    let pair = condition_pair names c words below in
-    cut_lacks 32 bytes pair.monitor pair.own l (e ∙ pair.text)
-
 asked_text : (name last monitor own : List ℕ) → name ≡ monitor ++ 32 ∷ own → name ++ 32 ∷ last ≡ monitor ++ 32 ∷ (own ++ 32 ∷ last)
 asked_text name last monitor own e = ap (λ n. n ++ 32 ∷ last) e ∙ append_assoc monitor (32 ∷ own) (32 ∷ last)
 
@@ -117,9 +112,6 @@ unasked_name names bytes before after own rest words cut more none c last below 
 
 pub unasked_front : (names : ImageNames) (bytes before after own rest front : List ℕ) → AreWords names → IsCutAt 32 bytes before after → IsCutAt 32 after own rest → front ≡ before ++ 32 ∷ own → ((c : ℕ) → c < length names.conditions → condition_name names c ≢ front) → (c : ℕ) (last : List ℕ) → c < length names.conditions → bytes ≢ condition_name names c ++ 32 ∷ last
 unasked_front names bytes before after own rest front words cut more is none = unasked_name names bytes before after own rest words cut more (λ c below e. none c below (e ∙ sym is))
-
-pub asked_whole : (names : ImageNames) (bytes before after own rest : List ℕ) (c : ℕ) → IsCutAt 32 bytes before after → IsCutAt 32 after own rest → condition_name names c ≡ before ++ 32 ∷ own → bytes ≡ condition_name names c ++ 32 ∷ rest
-asked_whole names bytes before after own rest c cut more e = cut.whole ∙ ap (λ t. before ++ 32 ∷ t) more.whole ∙ sym (asked_text (condition_name names c) rest before own e)
 
 -- behind two conditions stands the same
 pub same_last : (names : ImageNames) (bytes : List ℕ) (c d : ℕ) (last other : List ℕ) → AreWords names → c < length names.conditions → d < length names.conditions → bytes ≡ condition_name names c ++ 32 ∷ last → bytes ≡ condition_name names d ++ 32 ∷ other → (condition_name names c ≡ condition_name names d) × (last ≡ other)

@@ -1,6 +1,9 @@
 -- Lines of a text, one after another.
 use Rattle.std.proofs.Common.{◌≡◌, ◌≢◌, ◌≤◌, ◌<◌, ◌+◌, ◌^◌, ℕ, List, [], ◌∷◌, ◌++◌, length, codes, decimal, Option, Some, None, Bool, true, false, refl, sym, ap, subst, ◌∙◌, arith, append_assoc, length-append, All}
 use Rattle.std.specs.Fmt.{signed_decimal}
+use Rattle.std.specs.Prelude.{Result, Ok, Err, IfErr}
+use Rattle.rte_log_reading.specs.declared.fault.LogFault.{LogFault}
+use Rattle.rte_log_reading.specs.declared.fault.LogFault.TheVariants.{Long}
 use Rattle.std.proofs.lemmas.List.{append-nil}
 use Rattle.std.specs.Int.{IsInRange}
 use Rattle.rte_event.specs.declared.event.Event.{Event}
@@ -138,3 +141,8 @@ empty_log names text es none is = subst (IsLog names text) (sym is) (record {
   told = λ k d below. absurd (omega arith);
   whole = read_all names [] text text (read_none names text) none;
 })
+
+-- what comes of a text that is not too long is no matter of a long one
+pub not_long : {X : Type 0} → (r : Result X LogFault) (text : List ℕ) → length text ≤ longest_text → IfErr r (λ fault. longest_text < length text → fault ≡ Long)
+not_long (Ok x) text short = tt
+not_long (Err fault) text short = λ long. absurd (omega arith)

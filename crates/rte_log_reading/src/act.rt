@@ -86,7 +86,8 @@ fn read_truth(word: &[u8]) -> Option<bool>
 fn read_woken(names: &Named<'_, '_>, word: &[u8]) -> Option<Woken>
     requires found { AreFound names.now }
     ensures within { IfSome result (λ woken. WokenIsIn names.now.names.now woken.process) }
-    ensures found { IfSome result (λ woken. word.now ≡ woken_name names.now.names.now woken.process) }
+    ensures found { IfSome result (λ woken.
+        word.now ≡ woken_name names.now.names.now woken.process) }
     ensures none { IfNone result ((woken : Option ℕ) → WokenIsIn names.now.names.now woken →
         word.now ≢ woken_name names.now.names.now woken) }
 {
@@ -108,8 +109,9 @@ fn read_transfer(names: &Named<'_, '_>, bytes: &[u8]) -> Option<Transfer>
     ensures within { IfSome result (λ t. t.dev < length names.now.names.now.devices) }
     ensures found { IfSome result (λ t.
         bytes.now ≡ device_name names.now.names.now t.dev ++ 32 ∷ signed_decimal t.value) }
-    ensures none { IfNone result ((d : ℕ) (value : ℤ) → d < length names.now.names.now.devices →
-        Is32 value → bytes.now ≢ device_name names.now.names.now d ++ 32 ∷ signed_decimal value) }
+    ensures none { IfNone result ((d : ℕ) (value : ℤ) →
+        d < length names.now.names.now.devices → Is32 value →
+        bytes.now ≢ device_name names.now.names.now d ++ 32 ∷ signed_decimal value) }
 {
     match cut_at(bytes, b' ') {
         None => None,
@@ -150,7 +152,8 @@ fn read_asked<'a>(names: &Named<'_, '_>, bytes: &'a [u8]) -> Option<Asked<'a>>
     ensures within { IfSome result (λ asked. asked.cond < length names.now.names.now.conditions) }
     ensures found { IfSome result (λ asked.
         bytes.now ≡ condition_name names.now.names.now asked.cond ++ 32 ∷ asked.last.now) }
-    ensures none { IfNone result ((c : ℕ) (last : List ℕ) → c < length names.now.names.now.conditions →
+    ensures none { IfNone result ((c : ℕ) (last : List ℕ) →
+        c < length names.now.names.now.conditions →
         bytes.now ≢ condition_name names.now.names.now c ++ 32 ∷ last) }
 {
     match cut_at(bytes, b' ') {
@@ -178,8 +181,9 @@ fn read_counted(names: &Named<'_, '_>, bytes: &[u8]) -> Option<Counted>
     ensures within { IfSome result (λ it. it.cond < length names.now.names.now.conditions) }
     ensures found { IfSome result (λ it.
         bytes.now ≡ condition_name names.now.names.now it.cond ++ 32 ∷ decimal it.number) }
-    ensures none { IfNone result ((c number : ℕ) → c < length names.now.names.now.conditions →
-        number < 2 ^ 16 → bytes.now ≢ condition_name names.now.names.now c ++ 32 ∷ decimal number) }
+    ensures none { IfNone result ((c number : ℕ) →
+        c < length names.now.names.now.conditions → number < 2 ^ 16 →
+        bytes.now ≢ condition_name names.now.names.now c ++ 32 ∷ decimal number) }
 {
     match read_asked(names, bytes) {
         None => None,
@@ -200,10 +204,14 @@ fn read_signal(names: &Named<'_, '_>, bytes: &[u8]) -> Option<Signal>
     ensures within { IfSome result (λ it. it.cond < length names.now.names.now.conditions) }
     ensures woken { IfSome result (λ it. WokenIsIn names.now.names.now it.woken) }
     ensures found { IfSome result (λ it.
-        bytes.now ≡ condition_name names.now.names.now it.cond ++ 32 ∷ woken_name names.now.names.now it.woken) }
+        bytes.now ≡
+        condition_name names.now.names.now it.cond
+        ++ 32 ∷ woken_name names.now.names.now it.woken) }
     ensures none { IfNone result ((c : ℕ) (woken : Option ℕ) →
         c < length names.now.names.now.conditions → WokenIsIn names.now.names.now woken →
-        bytes.now ≢ condition_name names.now.names.now c ++ 32 ∷ woken_name names.now.names.now woken) }
+        bytes.now ≢
+        condition_name names.now.names.now c
+        ++ 32 ∷ woken_name names.now.names.now woken) }
 {
     match read_asked(names, bytes) {
         None => None,
@@ -224,7 +232,8 @@ fn read_empty(names: &Named<'_, '_>, bytes: &[u8]) -> Option<Empty>
     ensures within { IfSome result (λ it. it.cond < length names.now.names.now.conditions) }
     ensures found { IfSome result (λ it.
         bytes.now ≡ condition_name names.now.names.now it.cond ++ 32 ∷ truth_text it.answer) }
-    ensures none { IfNone result ((c : ℕ) (answer : Bool) → c < length names.now.names.now.conditions →
+    ensures none { IfNone result ((c : ℕ) (answer : Bool) →
+        c < length names.now.names.now.conditions →
         bytes.now ≢ condition_name names.now.names.now c ++ 32 ∷ truth_text answer) }
 {
     match read_asked(names, bytes) {

@@ -18,7 +18,8 @@ pub fn read_line(line: &[u8], names: &Named<'_, '_>) -> Option<Event>
     requires words { AreWords names.now.names.now }
     requires found { AreFound names.now }
     ensures found { IfSome result (λ event. Tells names.now.names.now line.now event) }
-    ensures none { IfNone result ((event : Event_spec) → ¬ Tells names.now.names.now line.now event) }
+    ensures none { IfNone result ((event : Event_spec) →
+        ¬ Tells names.now.names.now line.now event) }
 {
     match cut_at(line, b' ') {
         None => None,

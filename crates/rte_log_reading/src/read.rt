@@ -1,7 +1,7 @@
 //! Reading a log.
 
 ghost use Rattle.std.specs.Prelude.{◌≡◌, ◌<◌, ◌≤◌, ◌⊎◌, IfOk, IfErr, length};
-ghost use Rattle.rte_log_reading.specs.declared.fault.LogFault.TheVariants.{Memory};
+ghost use Rattle.rte_log_reading.specs.declared.fault.LogFault.TheVariants.{Long, Memory};
 ghost use Rattle.rte_log_reading.specs.Finding.{AreFound};
 ghost use Rattle.rte_log_reading.specs.Logs.{AreFew, AreWords, IsFault, IsLog, longest_text};
 
@@ -25,7 +25,8 @@ fn read_lines(alloc: Global, text: &[u8], names: &Named<'_, '_>) -> Result<List<
     requires words { AreWords names.now.names.now }
     requires found { AreFound names.now }
     ensures log { IfOk result (λ events. IsLog names.now.names.now text.now events) }
-    ensures fault { IfErr result (λ fault. (fault ≡ Memory) ⊎ IsFault names.now.names.now text.now fault) }
+    ensures fault { IfErr result (λ fault.
+        (fault ≡ Memory) ⊎ IsFault names.now.names.now text.now fault) }
 {
     let mut events = List::new(alloc);
     let mut rest = text;
@@ -55,7 +56,9 @@ fn read_lines(alloc: Global, text: &[u8], names: &Named<'_, '_>) -> Result<List<
 pub fn read_log(alloc: Global, text: &[u8], names: &ImageNames) -> Result<List<Event>, LogFault>
     requires few { AreFew names.now }
     ensures log { IfOk result (λ events. IsLog names.now text.now events) }
-    ensures fault { IfErr result (λ fault. (fault ≡ Memory) ⊎ IsFault names.now text.now fault) }
+    ensures fault { IfErr result (λ fault.
+        (fault ≡ Memory) ⊎ IsFault names.now text.now fault) }
+    ensures long { IfErr result (λ fault. longest_text < length text.now → fault ≡ Long) }
 {
     if text.len() > LONGEST_TEXT {
         return Err(LogFault::Long);

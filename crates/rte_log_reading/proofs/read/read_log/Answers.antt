@@ -3,7 +3,7 @@ use Rattle.std.specs.Prelude.{slice_get, unwrap_or}
 use Rattle.rte_log.specs.Line.{condition_name, monitor_name, process_name}
 use Rattle.rte_log_reading.proofs.Finding.{numbers_same}
 use Rattle.rte_fields.proofs.Numerals.{grind_some}
-use Rattle.rte_log_reading.proofs.Reading.{empty_log, faulty_names}
+use Rattle.rte_log_reading.proofs.Reading.{empty_log, faulty_names, not_long}
 use Rattle.rte_log_reading.proofs.read.read_log.Goals as goal
 
 pub returns-then-is_empty-clause-log : goal.returns-then-is_empty-clause-log
@@ -23,3 +23,6 @@ read_lines-requires-clause-found c = record {
       (λ k below. ap (λ (xs : List (List ℕ)). unwrap_or (slice_get xs k) []) c.as_slice-3.ensures ∙ c.in_ok-texts.ensures.each k below) c.in_ok-numbers_of-3.ensures;
   devices_found = c.in_ok-device_numbers.ensures;
 }
+
+pub returns-clause-long : goal.returns-clause-long
+returns-clause-long c = not_long c.read_lines.result c.args.text.now (omega arith)
