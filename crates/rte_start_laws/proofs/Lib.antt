@@ -1,0 +1,4 @@
+pub mod Lists
+pub mod Waiting
+pub mod Moving
+pub mod Counting
