@@ -42,13 +42,17 @@ due_are_released image script t done k s slots p tick has at slot = is_due_now t
 
 -- ---- after
 
-next_release : (t : ℕ) (p : Process) (tick : Option ℕ) → 0 < p.frame → IsReleaseFrom t p tick → IsNextRelease t p (moved_on t (Some (t + p.frame)) tick)
+is_periodic : (t : ℕ) (p : Process) → is_periodic_due t p ≡ true → p.kind ≡ 0
+is_periodic t p is = grind (arith, nat_tests, is)
+
+next_release : (t : ℕ) (p : Process) (tick : Option ℕ) → (p.kind ≡ 0 → 0 < p.frame) → IsReleaseFrom t p tick → IsNextRelease t p (moved_on t (Some (t + p.frame)) tick)
 next_release t p None some first = λ u low. first u (omega arith)
 next_release t p (Some r) some first = by (nat_eq r t) refl where
   by : (b : Bool) → nat_eq r t ≡ b → IsNextRelease t p (cond b (Some (t + p.frame)) (Some r))
   by true is =
       let same : r ≡ t = grind (arith, nat_tests, is) in
-      next_is_a_frame_later t p some (subst (λ (u : ℕ). is_periodic_due u p ≡ true) same first.0)
+      let due : is_periodic_due t p ≡ true = subst (λ (u : ℕ). is_periodic_due u p ≡ true) same first.0 in
+      next_is_a_frame_later t p (some (is_periodic t p due)) due
   by false isnt =
       let apart : r ≢ t = (λ same. absurd (grind (arith, nat_tests, isnt, same))) in
       let le : t ≤ r = first.1 in

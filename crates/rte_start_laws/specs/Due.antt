@@ -42,7 +42,7 @@ pub record AreDone (t done : ℕ) (lines : List Line) : Type 0 where
 
 -- each process that is released by the clock has a frame
 abbrev pub HasFrames : Image → Type 0
-HasFrames image = (k : ℕ) (p : Process) → slice_get image.processes k ≡ Some p → 0 < p.frame
+HasFrames image = (k : ℕ) (p : Process) → slice_get image.processes k ≡ Some p → p.kind ≡ 0 → 0 < p.frame
 
 -- each process has a rank of its own, from 1 to the number of processes
 pub record HasOwnRanks (image : Image) : Type 0 where
