@@ -11,7 +11,7 @@ use Rattle.rte_isa.specs.declared.instr.Instr.TheVariants as i
 use Rattle.rte_emits.specs.Layout.{Owner, Area, in_frame, in_process, in_monitor, Shape, single, array, Spot, Scope, spot_of}
 use Rattle.rte_emits.specs.Numbering.{Text, routine_in, entry_in, number_of}
 use Rattle.rte_emits.specs.Code.{op_instr, constant_named, range_code, range_of_spot, ref_name}
-use Rattle.rte_emits.specs.Emits.{inner, turns_of}
+use Rattle.rte_emits.specs.Emits.{monitor_of, inner, turns_of}
 use Rattle.rte_emits.specs.Segments.{before, line, call_segs, expr_segs, row_segs, args_segs, index_segs, put_segs, stmt_segs, stmts_segs}
 use Rattle.rte_seg.specs.View.{view, tree_of}
 use Rattle.rte_seg.specs.declared.seg.Seg.{Seg}
@@ -22,41 +22,76 @@ use Rattle.rte_costs.specs.Lengths.{check_length, call_length, expr_length, row_
 use Rattle.rte_measured.specs.Sound.{SoundRef, IsFree, Sound, SoundAll}
 use Rattle.rte_measured.proofs.Sizes.{Alike, alike_inner, free_of, same_range}
 use Rattle.rte_measured.proofs.Seen.{Sees, sees_inside, range_is}
-use Rattle.rte_made.specs.Told.{fit, told_area, told_range, told_shape, told_spot, value_told, within}
-use Rattle.rte_made.specs.Made.{Out, push, closed, joined, begun, patched, counted, load_told, load_at_told, expr_out, row_out, index_out, range_out, store_to, store_at_out, put_whole, put_part, put_out, open_exit, aims, aim, one_arm, between, two_arms, choice, counting, turning, stepped, looped, worth, turns_between, stmt_out, stmts_out}
+use Rattle.rte_made.specs.declared.spot.Range.{Range as Range_told}
+use Rattle.rte_made.specs.Told.{fit, told_area, told_range, told_shape, told_spot, told_callee, range_told, value_told, within}
+use Rattle.rte_made.specs.Made.{Out, push, closed, joined, begun, patched, counted, load_told, load_at_told, called, call_out, expr_out, row_out, args_out, condition_told, count_told, store_whole, store_part, store_out, index_out, range_out, store_to, store_at_out, put_whole, put_part, put_out, open_exit, aims, aim, one_arm, between, two_arms, choice, counting, turning, stepped, looped, worth, turns_between, stmt_out, stmts_out}
 use Rattle.rte_made_right.specs.Fits.{Fit}
 use Rattle.rte_made_right.proofs.Lists.{length_more}
 use Rattle.rte_made_right.proofs.Trees.{line_line}
-use Rattle.rte_made_right.proofs.Joins.{view_fork, view_rep, view_exit}
+use Rattle.rte_made_right.proofs.Joins.{view_line, view_fork, view_rep, view_call, view_wait, view_exit}
 use Rattle.rte_made_right.proofs.Expressions.{aiming}
 use Rattle.rte_made_right.proofs.Growth.{Grows, none, both, told_as, one, segment, part_tree, length_patched, length_aims}
-
--- ---- expressions
-
-module _ (g : Prog) (c d : Scope) (o : Owner) (alike : c.owner ≡ d.owner) (own : c.owner ≡ o) where
-  mutual
-    pub expr_grows : (e : Expr) → Grows (expr_out g c e) (expr_segs g d e) (expr_length g o e)
-    expr_grows (literal n) = one (λ o. i.Push (fit (pos n)))
-    expr_grows (truth b) = one (λ o. i.Push (of_bool b))
-    expr_grows (variable x) = one (λ o. load_told (told_spot (spot_of g c x)) (fit (value_told (constant_named g x))))
-    expr_grows (element x e) = both (expr_out g c e) (λ o. push o (load_at_told (told_spot (spot_of g c x)))) (expr_segs g d e) (λ k. line 1 k) (expr_length g o e) 1 (expr_grows e) (one (λ o. load_at_told (told_spot (spot_of g c x))))
-    expr_grows (call f es) = ?
-    expr_grows (minus e) = both (expr_out g c e) (λ o. push o i.Neg) (expr_segs g d e) (λ k. line 1 k) (expr_length g o e) 1 (expr_grows e) (one (λ o. i.Neg))
-    expr_grows (negation e) = both (expr_out g c e) (λ o. push o i.Not) (expr_segs g d e) (λ k. line 1 k) (expr_length g o e) 1 (expr_grows e) (one (λ o. i.Not))
-    expr_grows (paren e) = expr_grows e
-    expr_grows (row e r) = both (expr_out g c e) (row_out g c r) (expr_segs g d e) (row_segs g d r) (expr_length g o e) (row_length g o r) (expr_grows e) (row_grows r)
-
-    row_grows : (r : Operands) → Grows (row_out g c r) (row_segs g d r) (row_length g o r)
-    row_grows no_operands = none
-    row_grows (operand op e r) =
-        both (expr_out g c e) (λ z. row_out g c r (push z (op_instr op))) (expr_segs g d e) (λ k. line 1 (row_segs g d r k)) (expr_length g o e) (1 + row_length g o r) (expr_grows e)
-        (both (λ z. push z (op_instr op)) (row_out g c r) (λ k. line 1 k) (row_segs g d r) 1 (row_length g o r) (one (λ o. op_instr op)) (row_grows r))
-
--- ---- stores
 
 range_grows : (r : Option Range) → Grows (range_out (option_map told_range r)) (λ k. line (length (range_code r)) k) (check_length r)
 range_grows None = none
 range_grows (Some r) = one (λ o. i.Range (fit r.low) (fit r.high))
+
+-- ---- expressions
+
+module _ (g : Prog) (few : (t : Text) → number_of g t ≤ 65535) where
+  -- a call of what it names, if it names a routine
+  call_grows : (t : Option Text) (args : List (Option Range_told) → Out → Out) (segs : List Param → Segs → Segs) (count : List Param → ℕ)
+      → ((ps : List Param) → Grows (λ o. args (map (λ p. range_told g p.kind) ps) o) (segs ps) (count ps)) → Grows (λ o. call_out (told_callee g t) (λ rs. args rs o) o) (λ k. call_segs g t segs k) (call_length t count)
+  call_grows None args segs count a = none
+  call_grows (Some t) args segs count a =
+      let small : number_of g t ≤ 65535 = few t in
+      let same : min (number_of g t) 65535 ≡ number_of g t = omega arith in
+      segment (λ o. args (map (λ p. range_told g p.kind) t.routine.params) o) (λ o. push (args (map (λ p. range_told g p.kind) t.routine.params) o) (i.Call (fit (pos (number_of g t))))) (segs t.routine.params)
+      (λ o. seg.Call (min (number_of g t) 65535)) (tree.Call (number_of g t)) (count t.routine.params) 1 (a t.routine.params)
+      (λ o. length_more (args (map (λ p. range_told g p.kind) t.routine.params) o).code (i.Call (fit (pos (number_of g t))) ∷ []))
+      (λ o h small. view_call (min (number_of g t) 65535) ∙ ap (λ n. tree.Call n) same) (λ i after. refl)
+
+  module _ (c d : Scope) (o : Owner) (alike : c.owner ≡ d.owner) (own : c.owner ≡ o) where
+    -- one instruction more
+    followed_by : (e : Expr) (j : Instr) → Grows (expr_out g c e) (expr_segs g d e) (expr_length g o e) → Grows (λ z. push (expr_out g c e z) j) (λ k. expr_segs g d e (line 1 k)) (expr_length g o e + 1)
+    followed_by e j a = both (expr_out g c e) (λ z. push z j) (expr_segs g d e) (λ k. line 1 k) (expr_length g o e) 1 a (one (λ z. j))
+
+    -- a call of a routine, in two scopes of one owner
+    pub named_grows : (t u v : Option Text) (es : Exprs) → t ≡ u → t ≡ v → ((ps : List Param) → Grows (λ z. args_out g c es (map (λ p. range_told g p.kind) ps) z) (λ k. args_segs g d es ps k) (args_length g o es ps))
+        → Grows (λ z. call_out (told_callee g t) (λ rs. args_out g c es rs z) z) (λ k. call_segs g u (λ ps n. args_segs g d es ps n) k) (call_length v (λ ps. args_length g o es ps))
+    named_grows t u v es same also a =
+        told_as (λ z. call_out (told_callee g t) (λ rs. args_out g c es rs z) z) (λ k. call_segs g t (λ ps n. args_segs g d es ps n) k) (λ k. call_segs g u (λ ps n. args_segs g d es ps n) k) (call_length t (λ ps. args_length g o es ps)) (call_length v (λ ps. args_length g o es ps))
+        (λ k. ap (λ r. call_segs g r (λ ps n. args_segs g d es ps n) k) same) (ap (λ r. call_length r (λ ps. args_length g o es ps)) also)
+        (call_grows t (λ rs z. args_out g c es rs z) (λ ps n. args_segs g d es ps n) (λ ps. args_length g o es ps) a)
+
+    mutual
+      pub expr_grows : (e : Expr) → Grows (expr_out g c e) (expr_segs g d e) (expr_length g o e)
+      expr_grows (literal n) = one (λ o. i.Push (fit (pos n)))
+      expr_grows (truth b) = one (λ o. i.Push (of_bool b))
+      expr_grows (variable x) = one (λ o. load_told (told_spot (spot_of g c x)) (fit (value_told (constant_named g x))))
+      expr_grows (element x e) = followed_by e (load_at_told (told_spot (spot_of g c x))) (expr_grows e)
+      expr_grows (call f es) = named_grows (routine_in g c.owner f) (routine_in g d.owner f) (routine_in g o f) es (ap (λ r. routine_in g r f) alike) (ap (λ r. routine_in g r f) own) (λ ps. args_grows es ps)
+      expr_grows (minus e) = followed_by e i.Neg (expr_grows e)
+      expr_grows (negation e) = followed_by e i.Not (expr_grows e)
+      expr_grows (paren e) = expr_grows e
+      expr_grows (row e r) = both (expr_out g c e) (row_out g c r) (expr_segs g d e) (row_segs g d r) (expr_length g o e) (row_length g o r) (expr_grows e) (row_grows r)
+
+      row_grows : (r : Operands) → Grows (row_out g c r) (row_segs g d r) (row_length g o r)
+      row_grows no_operands = none
+      row_grows (operand op e r) =
+          both (expr_out g c e) (λ z. row_out g c r (push z (op_instr op))) (expr_segs g d e) (λ k. line 1 (row_segs g d r k)) (expr_length g o e) (1 + row_length g o r) (expr_grows e)
+          (both (λ z. push z (op_instr op)) (row_out g c r) (λ k. line 1 k) (row_segs g d r) 1 (row_length g o r) (one (λ o. op_instr op)) (row_grows r))
+
+      pub args_grows : (es : Exprs) (ps : List Param) → Grows (λ z. args_out g c es (map (λ p. range_told g p.kind) ps) z) (λ k. args_segs g d es ps k) (args_length g o es ps)
+      args_grows no_exprs ps = none
+      args_grows (exprs e es) [] = none
+      args_grows (exprs e es) (p ∷ ps) =
+          both (expr_out g c e) (λ z. args_out g c es (map (λ q. range_told g q.kind) ps) (range_out (range_told g p.kind) z)) (expr_segs g d e) (λ k. line (length (range_code (range_of g p.kind))) (args_segs g d es ps k))
+          (expr_length g o e) (check_length (range_of g p.kind) + args_length g o es ps) (expr_grows e)
+          (both (range_out (range_told g p.kind)) (λ z. args_out g c es (map (λ q. range_told g q.kind) ps) z) (λ k. line (length (range_code (range_of g p.kind))) k) (λ k. args_segs g d es ps k) (check_length (range_of g p.kind)) (args_length g o es ps)
+          (range_grows (range_of g p.kind)) (args_grows es ps))
+
+-- ---- stores
 
 store_grows : (a : Area) (w : ℤ) (sh : Shape) → (low : ℤ) × (len : ℕ) × (sh ≡ array low len) → Grows (store_at_out (told_area a) w (told_shape sh)) (λ k. line 1 k) 1
 store_grows a w single h = absurd (never h.0 h.1 h.2)
@@ -113,7 +148,39 @@ stepped_grows w =
     told_as (stepped w) (λ k. line 1 (line 1 (line 1 (line 1 k)))) (λ k. line 4 k) 4 4 (λ k. ap (λ z. line 1 (line 1 z)) (line_line 1 1 k) ∙ ap (λ z. line 1 z) (line_line 1 2 k) ∙ line_line 1 3 k) refl
     (both (λ o. push (push (push o (i.LoadLocal w)) (i.Push (pos 1))) i.Add) (λ o. push o (i.StoreLocal w)) (λ k. line 1 (line 1 (line 1 k))) (λ k. line 1 k) 3 1 three (one (λ o. i.StoreLocal w)))
 
-module _ (g : Prog) (may : Text → Type 0) where
+-- the store alone
+whole_stores : (s : Option Spot) → IsSingle s → Grows (store_whole (told_spot s)) (λ k. line 1 k) 1
+whole_stores None h = absurd h
+whole_stores (Some s) h = one (λ o. store_to (told_area s.area) (fit (pos s.place.word)))
+
+part_stores : (s : Option Spot) → IsArray s → Grows (store_part (told_spot s)) (λ k. line 1 k) 1
+part_stores None h = absurd h
+part_stores (Some s) h = store_grows s.area (fit (pos s.place.word)) s.place.shape h
+
+empty_grows : (g : Prog) (c : Scope) (r : Ref) (j : Instr) → SoundRef g c r → Grows (λ o. store_out g c r (push o j)) (λ k. line 2 k) 2
+empty_grows g c (whole x) j h =
+    told_as (λ o. store_whole (told_spot (spot_of g c x)) (push o j)) (λ k. line 1 (line 1 k)) (λ k. line 2 k) 2 2 (λ k. line_line 1 1 k) refl
+    (both (λ o. push o j) (store_whole (told_spot (spot_of g c x))) (λ k. line 1 k) (λ k. line 1 k) 1 1 (one (λ o. j)) (whole_stores (spot_of g c x) h.0))
+empty_grows g c (part x e) j h =
+    told_as (λ o. store_part (told_spot (spot_of g c x)) (push o j)) (λ k. line 1 (line 1 k)) (λ k. line 2 k) 2 2 (λ k. line_line 1 1 k) refl
+    (both (λ o. push o j) (store_part (told_spot (spot_of g c x))) (λ k. line 1 k) (λ k. line 1 k) 1 1 (one (λ o. j)) (part_stores (spot_of g c x) h.0))
+
+wait_grows : (g : Prog) (c : Scope) (x : Name) (l n : Constant) → Grows (stmt_out g c (wait x l n)) (λ k. Cons tree.Wait k) 2
+wait_grows g c x l n =
+    let j : Instr = i.Wait (condition_told g c x) (count_told g l) (count_told g n) in
+    let k : Instr = i.Reenter (fit (pos (monitor_of c.owner))) in
+    segment (λ o. o) (λ o. push (push o j) k) (λ k. k) (λ o. seg.Wait) tree.Wait 0 2 none (λ o. length_more (o.code ++ j ∷ []) (k ∷ []) ∙ ap (λ m. m + 1) (length_more o.code (j ∷ [])) ∙ omega arith) (λ o h small. view_wait) (λ i after. refl)
+
+assert_grows : (g : Prog) (c d : Scope) (e : Expr) (m : ℕ) → Grows (expr_out g c e) (expr_segs g d e) m → Grows (stmt_out g c (assert e)) (stmt_segs g d (assert e)) (m + 3)
+assert_grows g c d e m test =
+    let skip : Out → Instr = λ o. i.JumpZero (fit (pos (length (expr_out g c e o).code + 2))) in
+    let over_it : Out → Instr = λ o. i.Jump (fit (pos (length (expr_out g c e o).code + 3))) in
+    let done : Out → Out = λ o. push (push (push (expr_out g c e o) (skip o)) (over_it o)) (i.Raise (pos 4)) in
+    segment (expr_out g c e) done (expr_segs g d e) (λ o. seg.Fork [] (seg.Line 1 ∷ [])) (tree.Fork Nil (line 1 Nil)) m 3 test
+    (λ o. length_more (((expr_out g c e o).code ++ skip o ∷ []) ++ over_it o ∷ []) (i.Raise (pos 4) ∷ []) ∙ ap (λ k. k + 1) (length_more ((expr_out g c e o).code ++ skip o ∷ []) (over_it o ∷ []) ∙ ap (λ k. k + 1) (length_more (expr_out g c e o).code (skip o ∷ []))) ∙ omega arith)
+    (λ o h small. view_fork [] (seg.Line 1 ∷ []) ∙ ap (λ z. tree.Fork Nil (Cons z Nil)) (view_line 1)) (λ i after. refl)
+
+module _ (g : Prog) (few : (t : Text) → number_of g t ≤ 65535) (may : Text → Type 0) where
   put_grows : (c d : Scope) (y : Option ℕ) (n : Names) (r : Ref) → Alike g (aiming c y) d → Sees g (aiming c y) n → SoundRef g (aiming c y) r → Grows (put_out g c r) (put_segs g d r) (put_length n r)
   put_grows c d y n (whole x) a s h =
       told_as (put_out g c (whole x)) (λ k. line (length (range_code (range_of_spot (spot_of g c x))) + 1) k) (put_segs g d (whole x)) (check_length (range_of_spot (spot_of g c x)) + 1) (put_length n (whole x))
@@ -126,7 +193,7 @@ module _ (g : Prog) (may : Text → Type 0) where
 
   index_grows : (c d : Scope) (o : Owner) (r : Ref) → c.owner ≡ d.owner → c.owner ≡ o → Grows (index_out g c r) (index_segs g d r) (index_length g o r)
   index_grows c d o (whole x) a own = none
-  index_grows c d o (part x e) a own = expr_grows g c d o a own e
+  index_grows c d o (part x e) a own = expr_grows g few c d o a own e
 
   when_grows : (c d : Scope) (e : Expr) (a : Stmts) (m n : ℕ) → Grows (expr_out g c e) (expr_segs g d e) m → Grows (stmts_out g c a) (stmts_segs g d a) n → Grows (stmt_out g c (when e a)) (stmt_segs g d (when e a)) (m + (1 + n + 1))
   when_grows c d e a m n test arm =
@@ -201,30 +268,43 @@ module _ (g : Prog) (may : Text → Type 0) where
       ∙ ap (λ z. tree.Rep (turns_of (constant_value g low) (constant_value g high)) z) (part_tree (λ z. stepped (fit (pos o.word)) (stmts_out g (within c x o.word) ss z)) (λ k. stmts_segs g d ss (line 4 k)) (n + 4) (turn o.word) (start o) refl refl less))
       (λ i after. refl))
 
+  -- a call of an entry
+  entry_grows : (c d : Scope) (y : Option ℕ) (n : Names) (m e : Name) (es : Exprs) → Alike g (aiming c y) d → Sees g (aiming c y) n
+      → Grows (λ o. call_out (told_callee g (entry_in g m e)) (λ rs. args_out g c es rs o) o) (λ k. call_segs g (entry_in g m e) (λ ps z. args_segs g d es ps z) k) (call_length (entry_in g m e) (λ ps. args_length g n.owner es ps))
+  entry_grows c d y n m e es a s = named_grows g few c d n.owner a.owner s.owner (entry_in g m e) (entry_in g m e) (entry_in g m e) es refl refl (λ ps. args_grows g few c d n.owner a.owner s.owner es ps)
+
   mutual
     pub stmt_grows : (s : Stmt) (c d : Scope) (y : Option ℕ) (n : Names) → Alike g (aiming c y) d → Sees g (aiming c y) n → BoundsFit g s → Sound g may (aiming c y) s → Grows (stmt_out g c s) (stmt_segs g d s) (stmt_length g n s)
     stmt_grows (assign r e) c d y n a s f h =
         both (index_out g c r) (λ o. put_out g c r (expr_out g c e o)) (index_segs g d r) (λ k. expr_segs g d e (put_segs g d r k)) (index_length g n.owner r) (expr_length g n.owner e + put_length n r) (index_grows c d n.owner r a.owner s.owner)
-        (both (expr_out g c e) (put_out g c r) (expr_segs g d e) (put_segs g d r) (expr_length g n.owner e) (put_length n r) (expr_grows g c d n.owner a.owner s.owner e) (put_grows c d y n r a s h.1))
-    stmt_grows (assign_entry r m e es) c d y n a s f h = ?
-    stmt_grows (assign_empty r x) c d y n a s f h = ?
-    stmt_grows (perform p es) c d y n a s f h = ?
-    stmt_grows (perform_entry m e es) c d y n a s f h = ?
-    stmt_grows (when e p) c d y n a s f h = when_grows c d e p (expr_length g n.owner e) (stmts_length g n p) (expr_grows g c d n.owner a.owner s.owner e) (stmts_grows p c d y n a s f h.1)
+        (both (expr_out g c e) (put_out g c r) (expr_segs g d e) (put_segs g d r) (expr_length g n.owner e) (put_length n r) (expr_grows g few c d n.owner a.owner s.owner e) (put_grows c d y n r a s h.1))
+    stmt_grows (assign_entry r m e es) c d y n a s f h =
+        both (index_out g c r) (λ o. put_out g c r (call_out (told_callee g (entry_in g m e)) (λ rs. args_out g c es rs o) o)) (index_segs g d r) (λ k. call_segs g (entry_in g m e) (λ ps z. args_segs g d es ps z) (put_segs g d r k))
+        (index_length g n.owner r) (call_length (entry_in g m e) (λ ps. args_length g n.owner es ps) + put_length n r) (index_grows c d n.owner r a.owner s.owner)
+        (both (λ o. call_out (told_callee g (entry_in g m e)) (λ rs. args_out g c es rs o) o) (put_out g c r) (λ k. call_segs g (entry_in g m e) (λ ps z. args_segs g d es ps z) k) (put_segs g d r)
+        (call_length (entry_in g m e) (λ ps. args_length g n.owner es ps)) (put_length n r) (entry_grows c d y n m e es a s) (put_grows c d y n r a s h.1))
+    stmt_grows (assign_empty r x) c d y n a s f h =
+        both (index_out g c r) (λ o. store_out g c r (push o (i.Empty (condition_told g c x)))) (index_segs g d r) (λ k. line 2 k) (index_length g n.owner r) 2 (index_grows c d n.owner r a.owner s.owner) (empty_grows g c r (i.Empty (condition_told g c x)) h.1)
+    stmt_grows (perform p es) c d y n a s f h =
+        named_grows g few c d n.owner a.owner s.owner (routine_in g c.owner p) (routine_in g d.owner p) (routine_in g n.owner p) es (ap (λ r. routine_in g r p) a.owner) (ap (λ r. routine_in g r p) s.owner) (λ ps. args_grows g few c d n.owner a.owner s.owner es ps)
+    stmt_grows (perform_entry m e es) c d y n a s f h = entry_grows c d y n m e es a s
+    stmt_grows (when e p) c d y n a s f h = when_grows c d e p (expr_length g n.owner e) (stmts_length g n p) (expr_grows g few c d n.owner a.owner s.owner e) (stmts_grows p c d y n a s f h.1)
     stmt_grows (when_else e p q) c d y n a s f h =
-        when_else_grows c d e p q (expr_length g n.owner e) (stmts_length g n p) (stmts_length g n q) (expr_grows g c d n.owner a.owner s.owner e) (stmts_grows p c d y n a s f.0 h.1) (stmts_grows q c d y n a s f.1 h.2)
+        when_else_grows c d e p q (expr_length g n.owner e) (stmts_length g n p) (stmts_length g n q) (expr_grows g few c d n.owner a.owner s.owner e) (stmts_grows p c d y n a s f.0 h.1) (stmts_grows q c d y n a s f.1 h.2)
     stmt_grows (loop x low high ss) c d y n a s f h =
         loop_grows c d x low high ss (stmts_length g (inside n x) ss) f.0 f.1 f.2
         (λ w. stmts_grows ss (within c x w) d (Some 0) (inside n x) (alike_inner g (aiming c y) d x w 0 a) (sees_inside g (aiming c y) n x w 0 s) f.3 (h.1 w 0))
-    stmt_grows (exit_when e) c d y n a s f h = exit_grows c d e (expr_length g n.owner e) (expr_grows g c d n.owner a.owner s.owner e)
-    stmt_grows (get x r) c d y n a s f h = ?
+    stmt_grows (exit_when e) c d y n a s f h = exit_grows c d e (expr_length g n.owner e) (expr_grows g few c d n.owner a.owner s.owner e)
+    stmt_grows (get x r) c d y n a s f h =
+        both (index_out g c r) (λ o. put_out g c r (push o (i.In (fit (pos (device_number g x)))))) (index_segs g d r) (λ k. line 1 (put_segs g d r k)) (index_length g n.owner r) (1 + put_length n r) (index_grows c d n.owner r a.owner s.owner)
+        (both (λ o. push o (i.In (fit (pos (device_number g x))))) (put_out g c r) (λ k. line 1 k) (put_segs g d r) 1 (put_length n r) (one (λ o. i.In (fit (pos (device_number g x))))) (put_grows c d y n r a s h.1))
     stmt_grows (put x e) c d y n a s f h =
-        both (expr_out g c e) (λ o. push o (i.Out (fit (pos (device_number g x))))) (expr_segs g d e) (λ k. line 1 k) (expr_length g n.owner e) 1 (expr_grows g c d n.owner a.owner s.owner e) (one (λ o. i.Out (fit (pos (device_number g x)))))
-    stmt_grows (wait x l m) c d y n a s f h = ?
-    stmt_grows (signal x) c d y n a s f h = ?
-    stmt_grows (broadcast x) c d y n a s f h = ?
-    stmt_grows (except m) c d y n a s f h = ?
-    stmt_grows (assert e) c d y n a s f h = ?
+        both (expr_out g c e) (λ o. push o (i.Out (fit (pos (device_number g x))))) (expr_segs g d e) (λ k. line 1 k) (expr_length g n.owner e) 1 (expr_grows g few c d n.owner a.owner s.owner e) (one (λ o. i.Out (fit (pos (device_number g x)))))
+    stmt_grows (wait x l m) c d y n a s f h = wait_grows g c x l m
+    stmt_grows (signal x) c d y n a s f h = one (λ o. i.Signal (condition_told g c x))
+    stmt_grows (broadcast x) c d y n a s f h = one (λ o. i.Broadcast (condition_told g c x))
+    stmt_grows (except m) c d y n a s f h = one (λ o. i.Raise (count_told g m))
+    stmt_grows (assert e) c d y n a s f h = assert_grows g c d e (expr_length g n.owner e) (expr_grows g few c d n.owner a.owner s.owner e)
 
     pub stmts_grows : (ss : Stmts) (c d : Scope) (y : Option ℕ) (n : Names) → Alike g (aiming c y) d → Sees g (aiming c y) n → AllBoundsFit g ss → SoundAll g may (aiming c y) ss → Grows (stmts_out g c ss) (stmts_segs g d ss) (stmts_length g n ss)
     stmts_grows no_stmts c d y n a s f h = none
