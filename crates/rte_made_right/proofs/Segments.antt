@@ -30,9 +30,10 @@ use Rattle.rte_made_right.proofs.Lists.{length_more}
 use Rattle.rte_made_right.proofs.Trees.{line_line}
 use Rattle.rte_made_right.proofs.Joins.{view_line, view_fork, view_rep, view_call, view_wait, view_exit}
 use Rattle.rte_made_right.proofs.Expressions.{aiming}
+use Rattle.rte_made_right.proofs.Bounds.{small_of, BoundsFit, AllBoundsFit}
 use Rattle.rte_made_right.proofs.Growth.{Grows, none, both, told_as, one, segment, part_tree, length_patched, length_aims}
 
-range_grows : (r : Option Range) → Grows (range_out (option_map told_range r)) (λ k. line (length (range_code r)) k) (check_length r)
+pub range_grows : (r : Option Range) → Grows (range_out (option_map told_range r)) (λ k. line (length (range_code r)) k) (check_length r)
 range_grows None = none
 range_grows (Some r) = one (λ o. i.Range (fit r.low) (fit r.high))
 
@@ -118,22 +119,6 @@ part_grows None h = absurd h
 part_grows (Some s) h = checked s.place.range (store_at_out (told_area s.area) (fit (pos s.place.word)) (told_shape s.place.shape)) (store_grows s.area (fit (pos s.place.word)) s.place.shape h)
 
 -- ---- statements
-
--- the bounds and the turns of loops are not cut off
-abbrev mutual
-  pub BoundsFit : Prog → Stmt → Type 0
-  BoundsFit g (when e a) = AllBoundsFit g a
-  BoundsFit g (when_else e a b) = AllBoundsFit g a × AllBoundsFit g b
-  BoundsFit g (loop x low high ss) = Fit (constant_value g low) × Fit (constant_value g high) × Fit (pos (turns_of (constant_value g low) (constant_value g high))) × AllBoundsFit g ss
-  BoundsFit g _ = Unit {0}
-
-  pub AllBoundsFit : Prog → Stmts → Type 0
-  AllBoundsFit g no_stmts = Unit {0}
-  AllBoundsFit g (stmts s ss) = BoundsFit g s × AllBoundsFit g ss
-
--- a number that is not cut off is small
-pub small_of : (n : ℕ) → Fit (pos n) → n ≤ 2147483647
-small_of n h = let e : min n 2147483647 ≡ n = cc in omega arith
 
 counting_grows : (low : ℤ) → Grows (counting low) (λ k. line 2 k) 2
 counting_grows low =
