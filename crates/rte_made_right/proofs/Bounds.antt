@@ -1,6 +1,6 @@
 -- The bounds and the turns of loops are not cut off.
 use Rattle.std.proofs.Common.{◌≡◌, ◌+◌, ◌≤◌, min, ℕ, suc, Bool, pos, arith}
-use Rattle.rte_tree.specs.Plain.{Stmt, assign, assign_entry, assign_empty, perform, perform_entry, when, when_else, loop, exit_when, get, put, wait, signal, broadcast, except, assert, Stmts, no_stmts, stmts, Prog}
+use Rattle.rte_tree.specs.Plain.{Stmt, when, when_else, loop, Stmts, no_stmts, stmts, Prog}
 use Rattle.rte_source_meaning.specs.Names.{constant_value}
 use Rattle.rte_emits.specs.Layout.{Scope, loops, loops_in}
 use Rattle.rte_emits.specs.Emits.{turns_of}

@@ -1,5 +1,5 @@
 -- What is made of a text is as long as the text says, and its segments are those of the text.
-use Rattle.std.proofs.Common.{◌≡◌, ◌+◌, ◌-◌, ◌≤◌, min, ℕ, zero, suc, List, [], ◌∷◌, ◌++◌, map, length, slice_set, Option, Some, None, option_map, ℤ, pos, refl, sym, ap, subst, ◌∙◌, arith}
+use Rattle.std.proofs.Common.{◌≡◌, ◌+◌, ◌-◌, ◌≤◌, min, ℕ, List, [], ◌∷◌, ◌++◌, map, length, Option, Some, None, option_map, ℤ, pos, refl, sym, ap, ◌∙◌, arith}
 use Rattle.rte_tree.specs.Plain.{Name, Constant, Param, Expr, literal, truth, variable, element, call, minus, negation, paren, row, Exprs, no_exprs, exprs, Operands, no_operands, operand, Ref, whole, part, Stmt, assign, assign_entry, assign_empty, perform, perform_entry, when, when_else, loop, exit_when, get, put, wait, signal, broadcast, except, assert, Stmts, no_stmts, stmts, Prog}
 use Rattle.rte_num.specs.Words.{of_bool}
 use Rattle.rte_source_meaning.specs.Names.{constant_value, device_number}
@@ -10,21 +10,20 @@ use Rattle.rte_isa.specs.declared.instr.Instr.{Instr}
 use Rattle.rte_isa.specs.declared.instr.Instr.TheVariants as i
 use Rattle.rte_emits.specs.Layout.{Owner, Area, in_frame, in_process, in_monitor, Shape, single, array, Spot, Scope, spot_of}
 use Rattle.rte_emits.specs.Numbering.{Text, routine_in, entry_in, number_of}
-use Rattle.rte_emits.specs.Code.{op_instr, constant_named, range_code, range_of_spot, ref_name}
-use Rattle.rte_emits.specs.Emits.{monitor_of, inner, turns_of}
-use Rattle.rte_emits.specs.Segments.{before, line, call_segs, expr_segs, row_segs, args_segs, index_segs, put_segs, stmt_segs, stmts_segs}
+use Rattle.rte_emits.specs.Code.{op_instr, constant_named, range_code, range_of_spot}
+use Rattle.rte_emits.specs.Emits.{monitor_of, turns_of}
+use Rattle.rte_emits.specs.Segments.{line, call_segs, expr_segs, row_segs, args_segs, index_segs, put_segs, stmt_segs, stmts_segs}
 use Rattle.rte_seg.specs.View.{view, tree_of}
-use Rattle.rte_seg.specs.declared.seg.Seg.{Seg}
 use Rattle.rte_seg.specs.declared.seg.Seg.TheVariants as seg
 use Rattle.rte_stands.specs.Proper.{IsSingle, IsArray}
-use Rattle.rte_costs.specs.Names.{Names, inside, range_seen}
+use Rattle.rte_costs.specs.Names.{Names, inside}
 use Rattle.rte_costs.specs.Lengths.{check_length, call_length, expr_length, row_length, args_length, index_length, put_length, stmt_length, stmts_length}
-use Rattle.rte_measured.specs.Sound.{SoundRef, IsFree, Sound, SoundAll}
-use Rattle.rte_measured.proofs.Sizes.{Alike, alike_inner, free_of, same_range}
+use Rattle.rte_measured.specs.Sound.{SoundRef, Sound, SoundAll}
+use Rattle.rte_measured.proofs.Sizes.{Alike, alike_inner, same_range}
 use Rattle.rte_measured.proofs.Seen.{Sees, sees_inside, range_is}
 use Rattle.rte_made.specs.declared.spot.Range.{Range as Range_told}
 use Rattle.rte_made.specs.Told.{fit, told_area, told_range, told_shape, told_spot, told_callee, range_told, value_told, within}
-use Rattle.rte_made.specs.Made.{Out, push, closed, joined, begun, patched, counted, load_told, load_at_told, called, call_out, expr_out, row_out, args_out, condition_told, count_told, store_whole, store_part, store_out, index_out, range_out, store_to, store_at_out, put_whole, put_part, put_out, open_exit, aims, aim, one_arm, between, two_arms, choice, counting, turning, stepped, looped, worth, turns_between, stmt_out, stmts_out}
+use Rattle.rte_made.specs.Made.{Out, push, closed, patched, load_told, load_at_told, call_out, expr_out, row_out, args_out, condition_told, count_told, store_whole, store_part, store_out, index_out, range_out, store_to, store_at_out, put_whole, put_part, put_out, open_exit, aim, between, choice, counting, turning, stepped, worth, turns_between, stmt_out, stmts_out}
 use Rattle.rte_made_right.specs.Fits.{Fit}
 use Rattle.rte_made_right.proofs.Lists.{length_more}
 use Rattle.rte_made_right.proofs.Trees.{line_line}

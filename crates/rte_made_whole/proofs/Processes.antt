@@ -1,14 +1,12 @@
 -- What is made of a process is its code, with its trees.
-use Rattle.std.proofs.Common.{◌≡◌, ◌+◌, ◌-◌, ◌≤◌, ℕ, zero, suc, false, List, [], ◌∷◌, ◌++◌, map, length, Option, Some, None, option_map, pos, refl, sym, ap, subst, ◌∙◌, append_assoc, append-nil, arith}
+use Rattle.std.proofs.Common.{◌≡◌, ◌+◌, ◌≤◌, ℕ, suc, false, List, [], ◌∷◌, ◌++◌, length, Option, Some, None, option_map, pos, refl, sym, ap, subst, ◌∙◌, append_assoc, append-nil, arith}
 use Rattle.rte_tree.specs.Plain.{Handler, Process, Prog}
 use Rattle.rte_isa.specs.declared.instr.Instr.{Instr}
 use Rattle.rte_isa.specs.declared.instr.Instr.TheVariants as i
 use Rattle.rte_machine_meaning.specs.Image as image
-use Rattle.rte_machine_meaning.specs.Trees.{Nil}
-use Rattle.rte_seg.specs.View.{views}
 use Rattle.rte_emits.specs.Layout.{Scope, loops}
 use Rattle.rte_emits.specs.Numbering.{Text, number_of}
-use Rattle.rte_emits.specs.Emits.{Has, At, EmitsAll}
+use Rattle.rte_emits.specs.Emits.{Has}
 use Rattle.rte_emits.specs.Segments.{stmts_segs}
 use Rattle.rte_emits.specs.Compiled.{process_scope, EmitsHandler, EmitsProcess}
 use Rattle.rte_costs.specs.Lengths.{stmts_length, handler_length, process_length}
@@ -16,10 +14,9 @@ use Rattle.rte_costs.specs.Levels.{process_names}
 use Rattle.rte_measured.specs.Sound.{SoundHandler, SoundProcess}
 use Rattle.rte_measured.proofs.Sizes.{alike}
 use Rattle.rte_measured.proofs.Seen.{sees}
-use Rattle.rte_made.specs.declared.code.Part.{Part}
 use Rattle.rte_made.specs.declared.code.ProcessParts.{ProcessParts}
-use Rattle.rte_made.specs.Made.{Out, begun, closed, stmts_out}
-use Rattle.rte_made.specs.Parts.{opened, part_of, body_out, ended, handler_out, process_out, handler_part}
+use Rattle.rte_made.specs.Made.{Out, begun, stmts_out}
+use Rattle.rte_made.specs.Parts.{opened, part_of, body_out, ended, process_out, handler_part}
 use Rattle.rte_made_right.proofs.Lists.{length_more, has_first, has_rest}
 use Rattle.rte_made_right.proofs.Statements.{StmtsMade}
 use Rattle.rte_made_right.proofs.Nested.{stmts_made}

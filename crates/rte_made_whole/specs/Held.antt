@@ -1,5 +1,5 @@
 -- An image holds the code that is made of a program, with the words and the tables of its text.
-use Rattle.std.specs.Prelude.{◌≡◌, ℕ, List, [], ◌∷◌, Option, Some, None, map, filter_map, is_some}
+use Rattle.std.specs.Prelude.{◌≡◌, List, [], ◌∷◌, Option, Some, None, map, filter_map, is_some}
 use Rattle.rte_tree.specs.Plain.{Handler, Process, Prog}
 use Rattle.rte_source_meaning.specs.Names.{monitors, processes, count_value, frame_of, deadline_of}
 use Rattle.rte_machine_meaning.specs.Image as image
