@@ -1,0 +1,11 @@
+use Rattle.std.proofs.Common.{◌≡◌, map, take}
+use Rattle.rte_cells.specs.Threads.{threads_of}
+use Rattle.rte_machine_meaning.specs.State.{Idle}
+use Rattle.rte_state.specs.Board.{rooms_of}
+use Rattle.rte_state.proofs.board.idle_cells.Given as goal
+
+abbrev pub invariant-loop-process : goal.invariant-loop-process
+invariant-loop-process l = record {
+  idle : threads_of l.cells.items ≡ map (λ p. Idle) (take l.process-index l.processes);
+  rooms : rooms_of l.cells.items ≡ map (λ p. p.stack) (take l.process-index l.processes);
+}

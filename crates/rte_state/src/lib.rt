@@ -1,0 +1,16 @@
+//! What the running machine keeps: the plan of its image, and the board, where all processes stand.
+//!
+//! `specs/Plan.antt` says when a plan is that of an image (`IsOf`), and `specs/Board.antt` which
+//! state of the machine's meaning a board is (`state_of`), and that it has a place for all that
+//! the image has (`IsBoardOf`). `Board::new` is the state at the start. Its parts lie open, so
+//! that one process can run on its own activation and words, and nothing that is made here takes
+//! memory later.
+#![tactic(auto)]
+
+mod board;
+mod fired;
+mod plan;
+
+pub use board::Board;
+pub use fired::{Fired, MOST, tell};
+pub use plan::{Plan, Process, Release};
