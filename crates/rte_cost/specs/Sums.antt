@@ -54,7 +54,7 @@ looped t a = record {
 
 -- the row of a routine, and a row that says nothing
 abbrev pub no_row : Known
-no_row = record { cost = running 0; height = 0; words = 0 }
+no_row = record { cost = running 0; stay = 0; height = 0; words = 0; length = 0 }
 
 abbrev pub row_or : Option Known → Known
 row_or None = no_row

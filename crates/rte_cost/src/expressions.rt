@@ -70,8 +70,10 @@ fn row(rows: &[Known], number: usize) -> Known
         Some(known) => *known,
         None => Known {
             cost: run(0),
+            stay: 0,
             height: 0,
             words: 0,
+            length: 0,
         },
     }
 }

@@ -18,22 +18,25 @@ pub struct Measure {
     pub length: u64,
 }
 
-/// What is known of a routine that may be called: its cost behind its CALL, the words of stack that
-/// it takes above its locals, and the words of its locals.
+/// What is known of a routine: its cost behind its CALL, the ticks that an entry stays in its
+/// monitor, the words of stack that it takes above its locals, the words of its locals, and its
+/// number of instructions.
 #[derive(Clone, Copy, Debug, PartialEq, Eq)]
 pub struct Known {
     pub cost: Cost,
+    pub stay: u64,
     pub height: u64,
     pub words: u64,
+    pub length: u64,
 }
 
-fn cap(a: u64, b: u64) -> u64
+pub fn cap(a: u64, b: u64) -> u64
     ensures { result ≡ capped (a + b) }
 {
     a.saturating_add(b).min(OVER)
 }
 
-fn hold(a: u64, b: u64) -> u64
+pub fn hold(a: u64, b: u64) -> u64
     ensures { result ≡ held (a + b) }
 {
     a.saturating_add(b).min(MOST)

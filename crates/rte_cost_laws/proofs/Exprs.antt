@@ -99,10 +99,10 @@ check_is (Some r) = same (omega arith) (omega arith) (omega arith) (omega arith)
 pub row_tells : (g : Prog) (rows : List Known) (k : Calls) (t : Text) (c : Cost) (h n : ℕ) → IsRow g rows k t
     → called (row_at rows (number_of g t)) (measured c h n) ≡ measured (plus c (longer 6 (k.cost t))) (max h (2 + routine_words g t.routine + k.height t)) (n + 1)
 row_tells g rows k t c h n is =
-    rows_same (row_at rows (number_of g t)) is.run is.susp is.waits is.height is.words ∙ called_is (k.cost t) (k.height t) (routine_words g t.routine) c h n
+    rows_same (row_at rows (number_of g t)) is.run is.susp is.waits is.height is.words ∙ called_is (k.cost t) (row_at rows (number_of g t)).stay (k.height t) (routine_words g t.routine) (row_at rows (number_of g t)).length c h n
   where
     rows_same : (r : Known) → r.cost.run ≡ cap (k.cost t).run → r.cost.susp ≡ cap (k.cost t).susp → r.cost.waits ≡ cap (k.cost t).waits → r.height ≡ held (k.height t) → r.words ≡ held (routine_words g t.routine)
-        → called r (measured c h n) ≡ called (record { cost = amount (cap (k.cost t).run) (cap (k.cost t).susp) (cap (k.cost t).waits); height = held (k.height t); words = held (routine_words g t.routine) }) (measured c h n)
+        → called r (measured c h n) ≡ called (record { cost = amount (cap (k.cost t).run) (cap (k.cost t).susp) (cap (k.cost t).waits); stay = r.stay; height = held (k.height t); words = held (routine_words g t.routine); length = r.length }) (measured c h n)
     rows_same r a b e f w =
         same (ap (λ x. cap (cap c.run + cap (6 + x))) a) (ap (λ x. cap (cap c.susp + cap (0 + x))) b) (ap (λ x. cap (cap c.waits + cap (0 + x))) e)
         (ap (λ x. max (held h) (held (held (2 + x) + r.height))) w ∙ ap (λ x. max (held h) (held (held (2 + held (routine_words g t.routine)) + x))) f) refl

@@ -6,7 +6,6 @@ use Rattle.rte_valid.specs.Found.{amount, plus, greater, longer}
 use Rattle.rte_costs.specs.Costs.{run, loop_cost}
 use Rattle.rte_whole.proofs.Capped.{times_like}
 use Rattle.rte_cost.specs.declared.measure.Measure.{Measure}
-use Rattle.rte_cost.specs.declared.measure.Known.{Known}
 use Rattle.rte_cost.specs.Sums.{held, joined, above, forked, looped, called, of}
 use Rattle.rte_cost_laws.specs.Measured.{measured}
 
@@ -50,12 +49,11 @@ looped_is t c h n =
     let turn : cap (cap t * cap (cap c.run + 10)) ≡ cap (t * (c.run + 10)) = ap (λ x. cap (cap t * x)) (omega arith) ∙ cap_times t (c.run + 10) in
     same (ap (λ x. cap (5 + x)) turn ∙ omega arith) (cap_times t c.susp) (cap_times t c.waits) (omega arith) (omega arith)
 
--- a row that tells so
-pub row_of : Cost → (height words : ℕ) → Known
-row_of k kh kw = record { cost = amount (cap k.run) (cap k.susp) (cap k.waits); height = held kh; words = held kw }
-
-pub called_is : (k : Cost) (kh kw : ℕ) (c : Cost) (h n : ℕ) → called (record { cost = amount (cap k.run) (cap k.susp) (cap k.waits); height = held kh; words = held kw }) (measured c h n) ≡ measured (plus c (longer 6 k)) (max h (2 + kw + kh)) (n + 1)
-called_is k kh kw c h n = same (omega arith) (omega arith) (omega arith) (omega arith) (omega arith)
+-- the call of a routine whose row tells so
+pub called_is : (k : Cost) (s kh kw l : ℕ) (c : Cost) (h n : ℕ)
+    → called (record { cost = amount (cap k.run) (cap k.susp) (cap k.waits); stay = s; height = held kh; words = held kw; length = l }) (measured c h n)
+    ≡ measured (plus c (longer 6 k)) (max h (2 + kw + kh)) (n + 1)
+called_is k s kh kw l c h n = same (omega arith) (omega arith) (omega arith) (omega arith) (omega arith)
 
 pub of_is : (t h n : ℕ) → t ≤ 100 → h ≤ 100 → n ≤ 100 → of t h n ≡ measured (run t) h n
 of_is t h n a b c = same (omega (arith, a)) (omega arith) (omega arith) (omega (arith, b)) (omega (arith, c))
