@@ -23,9 +23,13 @@ struct Maker {
 }
 
 impl Model for Maker {
+    ghost use Rattle.std.specs.Coded.{codes};
+    ghost use Rattle.rte_seg.specs.contracts.seg.Seg as seg;
     ghost use Rattle.rte_made.specs.declared.code.Code.{Code as Made};
 
     ghost Value = { Made };
+
+    ghost coded = { Prim.hlevel (codes, seg.the_row.coded) };
 
     ghost view = { λ m. record { instrs = m.out.code; routines = m.routines; processes = m.processes } };
 }
@@ -108,7 +112,7 @@ impl Maker {
         ensures { IfOk result (λ code. code ≡ self) }
     {
         Ok(Code {
-            instrs: listed(alloc, self.out.code.as_slice())?,
+            instrs: listed(alloc, self.out.as_slice())?,
             routines: self.routines,
             processes: self.processes,
         })
