@@ -23,7 +23,9 @@ pub fn return_from(routine: &Routine) -> Instr
 
 /// The result of a function, with the check of its range.
 fn answer<L: Lookup>(out: &mut Out, names: &L, routine: &Routine) -> Result<(), AllocError>
-    ensures { OnOk result (out.new ≡ answer_out (L.program names.now) (L.scope names.now) (plain_routine (placed_routine routine.now)).answers out.old) }
+    ensures { OnOk result (out.new
+        ≡ answer_out (L.program names.now) (L.scope names.now)
+        (plain_routine (placed_routine routine.now)).answers out.old) }
 {
     match (&routine.result, &routine.value) {
         (Some(kind), Some(value)) => {

@@ -5,7 +5,10 @@ ghost use Rattle.rte_emits.specs.Emits.{turns_of};
 ghost use Rattle.rte_seg.specs.declared.seg.Seg.TheVariants as seg;
 ghost use Rattle.rte_isa.specs.declared.instr.Instr.TheVariants as i;
 ghost use Rattle.rte_made.specs.Told.{fit as fitting};
-ghost use Rattle.rte_made.specs.Made.{aim as aim_of, aim_one as aim_one_of, aimed, aims, asserting, between, choice, closed, counting, joined, looped, one_arm, open_exit, patched, push as push_of, turning, stepped as stepped_of, turns_told, worth_told};
+ghost use Rattle.rte_made.specs.Made.{aim as aim_of, aim_one as aim_one_of, aimed, aims};
+ghost use Rattle.rte_made.specs.Made.{asserting, between, choice, closed, counting, joined, looped};
+ghost use Rattle.rte_made.specs.Made.{one_arm, open_exit, patched, push as push_of, turning};
+ghost use Rattle.rte_made.specs.Made.{stepped as stepped_of, turns_told, worth_told};
 
 use crate::making::{Out, fit};
 use rte_isa::Instr;
@@ -47,7 +50,10 @@ impl Out {
 
     /// An exit at this address goes to the other, if there is one whose address is not known.
     fn aim_one(&mut self, at: usize, to: usize)
-        ensures { self.new ≡ record (self.old) { code = aim_one_of (fitting (pos to)) at (slice_get self.old.code at) self.old.code } }
+        ensures { self.new ≡ record (self.old) {
+          code = aim_one_of (fitting (pos to)) at
+              (slice_get self.old.code at) self.old.code;
+        } }
     {
         if at < self.code.len() {
             self.code[at] = aimed(self.code[at], fit(to));
@@ -56,7 +62,10 @@ impl Out {
 
     /// The exits between two addresses go to a third.
     fn aim_all(&mut self, start: usize, end: usize, to: usize)
-        ensures { self.new ≡ record (self.old) { code = aims (fitting (pos to)) start (end - start) self.old.code } }
+        ensures { self.new ≡ record (self.old) {
+          code = aims (fitting (pos to)) start (end -
+              start) self.old.code;
+        } }
     {
         for at in start..end {
             self.aim_one(at, to);
@@ -108,7 +117,8 @@ impl Out {
 
     /// The end of a choice with two arms; the first one's jump stands at `mid`.
     pub fn end_two_arms(&mut self, mid: usize, before: Segs, first: Segs) -> Result<(), AllocError>
-        ensures { OnOk result (self.new ≡ joined (patched self.old mid (i.Jump (fitting (pos (length self.old.code))))) before (seg.Fork first (closed self.old))) }
+        ensures { OnOk result (self.new ≡ joined (patched self.old mid (i.Jump (fitting (pos
+            (length self.old.code))))) before (seg.Fork first (closed self.old))) }
     {
         let second = self.take()?;
         let to = fit(self.code.len());
@@ -118,7 +128,8 @@ impl Out {
 
     /// A loop begins: its variable gets its first number, and the segments before it are taken.
     pub fn begin_loop(&mut self, low: i32, turns: i64) -> Result<Segs, AllocError>
-        ensures out { OnOk result ((n : ℕ) → turns ≡ pos n → self.new ≡ turning n (counting low self.old)) }
+        ensures out { OnOk result ((n : ℕ) → turns ≡ pos n → self.new ≡ turning n (counting low
+            self.old)) }
         ensures segs { IfOk result (λ segs. segs ≡ closed (counting low self.old)) }
     {
         let word = fit(self.word);
@@ -140,9 +151,13 @@ impl Out {
         low: &Constant,
         high: &Constant,
     ) -> Result<(i64, Segs), AllocError>
-        ensures turns { IfOk result (λ h. h.0 ≡ pos (turns_told (L.program names.now) low.now high.now)) }
-        ensures out { OnOk result (self.new ≡ turning (turns_told (L.program names.now) low.now high.now) (counting (worth_told (L.program names.now) low.now) self.old)) }
-        ensures segs { IfOk result (λ h. h.1 ≡ closed (counting (worth_told (L.program names.now) low.now) self.old)) }
+        ensures turns { let g = L.program names.now in
+            IfOk result (λ h. h.0 ≡ pos (turns_told g low.now high.now)) }
+        ensures out { let g = L.program names.now in
+            OnOk result (self.new ≡ turning (turns_told g low.now high.now) (counting (worth_told
+            g low.now) self.old)) }
+        ensures segs { let g = L.program names.now in
+            IfOk result (λ h. h.1 ≡ closed (counting (worth_told g low.now) self.old)) }
     {
         let low = names.value(low);
         let turns = turns(low, names.value(high));
@@ -152,7 +167,8 @@ impl Out {
 
     /// The end of a loop, whose body is made with the rest of the turn.
     pub fn end_loop(&mut self, turns: i64, start: usize, before: Segs) -> Result<(), AllocError>
-        ensures { OnOk result ((n : ℕ) → turns ≡ pos n → self.new ≡ looped n start before self.old) }
+        ensures { OnOk result ((n : ℕ) → turns ≡ pos n → self.new ≡ looped n start before
+            self.old) }
     {
         let body = self.take()?;
         self.push(Instr::Repeat { to: fit(start) })?;
@@ -165,7 +181,8 @@ impl Out {
 
     /// An exit from the loop around, behind its condition.
     pub fn exit(&mut self) -> Result<(), AllocError>
-        ensures { OnOk result (self.new ≡ joined (push_of self.old open_exit) (closed self.old) seg.Exit) }
+        ensures { OnOk result (self.new ≡ joined (push_of self.old open_exit) (closed self.old)
+            seg.Exit) }
     {
         let before = self.take()?;
         self.push(Instr::Exit { to: -1 })?;

@@ -1,9 +1,9 @@
 //! What is stored to: a variable or an element.
 
 ghost use Rattle.std.specs.Prelude.{◌≡◌, OnOk, Some};
-ghost use Rattle.rte_tree.specs.Placed.{placed_ref, plain_ref};
 ghost use Rattle.rte_made.specs.Told.{inside};
-ghost use Rattle.rte_made.specs.Made.{index_out, put_out, put_part, put_whole, store_out, store_part, store_whole};
+ghost use Rattle.rte_made.specs.Made.{put_part, put_whole, store_part, store_whole};
+ghost use Rattle.rte_gen.specs.Of.{index_of, put_of, store_of};
 
 use crate::making::Out;
 use rte_isa::Instr;
@@ -62,7 +62,8 @@ impl Out {
         loops: &[Loop],
         target: &Ref,
     ) -> Result<(), AllocError>
-        ensures { OnOk result (self.new ≡ index_out (L.program names.now) (inside loops.now (L.scope names.now)) (plain_ref (placed_ref target.now)) self.old) }
+        ensures { let g = L.program names.now in let c = inside loops.now (L.scope names.now) in
+            OnOk result (self.new ≡ index_of g c target.now self.old) }
     {
         match &target.index {
             Some(index) => self.expr(names, loops, index),
@@ -77,7 +78,8 @@ impl Out {
         loops: &[Loop],
         target: &Ref,
     ) -> Result<(), AllocError>
-        ensures { OnOk result (self.new ≡ put_out (L.program names.now) (inside loops.now (L.scope names.now)) (plain_ref (placed_ref target.now)) self.old) }
+        ensures { let g = L.program names.now in let c = inside loops.now (L.scope names.now) in
+            OnOk result (self.new ≡ put_of g c target.now self.old) }
     {
         match names.variable(loops, &target.name) {
             None => Ok(()),
@@ -95,7 +97,8 @@ impl Out {
         loops: &[Loop],
         target: &Ref,
     ) -> Result<(), AllocError>
-        ensures { OnOk result (self.new ≡ store_out (L.program names.now) (inside loops.now (L.scope names.now)) (plain_ref (placed_ref target.now)) self.old) }
+        ensures { let g = L.program names.now in let c = inside loops.now (L.scope names.now) in
+            OnOk result (self.new ≡ store_of g c target.now self.old) }
     {
         match names.variable(loops, &target.name) {
             None => Ok(()),
