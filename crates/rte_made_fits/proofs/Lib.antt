@@ -4,3 +4,4 @@ pub mod Counts
 pub mod Reached
 pub mod Texts
 pub mod Whole
+pub mod Meeting

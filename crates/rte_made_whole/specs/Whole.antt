@@ -13,13 +13,15 @@ use Rattle.rte_made_whole.specs.Held.{Holds}
 
 -- Names mean what they should, and no number is cut off.
 abbrev pub MadeIsCode : Type 0
-MadeIsCode = (g : Prog) (m : image.Image) → IsSound g → ProgramFits g → Holds g (program_made g) m → IsCodeOf g m
+MadeIsCode = (g : Prog) (m : image.Image) → IsSound g → ProgramFits g
+    → Holds g (program_made g) m → IsCodeOf g m
 
 -- What is made of a program has as many instructions as its text says, however many they are.
 abbrev pub MadeHasItsLength : Type 0
 MadeHasItsLength = (g : Prog) → IsSound g → length (program_made g).instrs ≡ code_length g
 
--- A program with a monitor, a wait, a signal and a handler meets the premises, and its image written by hand holds what is made of it.
+-- A program with a monitor, a wait, a signal and a handler meets the premises, and its image written
+-- by hand holds what is made of it.
 pub record ExampleHolds : Type 0 where
   pub sound : IsSound signalled_wait
   pub fits : ProgramFits signalled_wait

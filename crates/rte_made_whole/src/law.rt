@@ -2,7 +2,8 @@
 
 ghost use Rattle.rte_made_whole.specs.Whole.{ExampleHolds, MadeHasItsLength, MadeIsCode};
 
-/// What is made of a program, put into an image, is the code of the program: routines and processes with their segment trees.
+/// What is made of a program, put into an image, is the code of the program: routines and processes
+/// with their segment trees.
 pub fn made_programs_are_code()
     ensures { MadeIsCode }
 {}
