@@ -1,0 +1,4 @@
+pub mod Texts
+pub mod Owners
+pub mod Levels
+pub mod Sound
