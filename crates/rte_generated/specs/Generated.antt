@@ -1,5 +1,5 @@
--- The law of the generator: what it makes of a well-formed program that is not too large is the code
--- of the program.
+-- The law of the generator: what it makes of a well-formed program that is not too large is the
+-- code of the program.
 use Rattle.std.specs.Prelude.{◌≡◌, ◌≤◌, length}
 use Rattle.rte_tree.specs.Plain.{Prog}
 use Rattle.rte_machine_meaning.specs.Image as image
@@ -22,7 +22,8 @@ pub record IsSmall (g : Prog) : Type 0 where
 
 -- The law: an image that holds what is made of it is its code.
 abbrev pub GeneratedIsCode : Type 0
-GeneratedIsCode = (g : Prog) (m : image.Image) → IsSmall g → Holds g (program_made g) m → IsCodeOf g m
+GeneratedIsCode = (g : Prog) (m : image.Image) → IsSmall g → Holds g (program_made g) m
+    → IsCodeOf g m
 
 -- The law: what is made has as many instructions as the text says, however many they are.
 abbrev pub GeneratedHasItsLength : Type 0
@@ -31,4 +32,5 @@ GeneratedHasItsLength = (g : Prog) → IsWellFormed g → NamesApart g
 
 -- A program with a monitor, a wait, a signal and a handler, and its image, meet the premises.
 abbrev pub ExampleIsGenerated : Type 0
-ExampleIsGenerated = IsSmall signalled_wait × Holds signalled_wait (program_made signalled_wait) meeting
+ExampleIsGenerated = IsSmall signalled_wait
+    × Holds signalled_wait (program_made signalled_wait) meeting

@@ -8,7 +8,8 @@ pub fn what_is_generated_is_code()
     ensures { GeneratedIsCode }
 {}
 
-/// What is made of a program has as many instructions as its text says, also where they are too many.
+/// What is made of a program has as many instructions as its text says, also where they are too
+/// many.
 pub fn what_is_generated_has_its_length()
     ensures { GeneratedHasItsLength }
 {}

@@ -20,8 +20,8 @@ MadeIsCode = (g : Prog) (m : image.Image) → IsSound g → ProgramFits g
 abbrev pub MadeHasItsLength : Type 0
 MadeHasItsLength = (g : Prog) → IsSound g → length (program_made g).instrs ≡ code_length g
 
--- A program with a monitor, a wait, a signal and a handler meets the premises, and its image written
--- by hand holds what is made of it.
+-- A program with a monitor, a wait, a signal and a handler meets the premises, and its image
+-- written by hand holds what is made of it.
 pub record ExampleHolds : Type 0 where
   pub sound : IsSound signalled_wait
   pub fits : ProgramFits signalled_wait
