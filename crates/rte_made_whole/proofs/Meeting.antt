@@ -1,22 +1,16 @@
 -- The example meets the premises, and its image holds what is made.
-use Rattle.std.proofs.Common.{◌≡◌, ℕ, zero, suc, List, Some, None, slice_get, refl, sym, subst, ◌∙◌, arith, rules}
+use Rattle.std.proofs.Common.{◌≡◌, refl, arith, rules}
 use Rattle.rte_source_meaning.specs.Names.{processes}
 use Rattle.rte_source_laws.specs.Example.{signalled_wait}
 use Rattle.rte_seg.specs.declared.seg.Seg.{the_lemmas}
 use Rattle.rte_emits.specs.Numbering.{numbered, visit, number_of}
 use Rattle.rte_costs.specs.Levels.{code_length}
 use Rattle.rte_valid_examples.specs.Example.{meeting}
-use Rattle.rte_whole.proofs.Meeting.{meeting_is_made}
+use Rattle.rte_whole.proofs.Meeting.{both, meeting_is_made}
 use Rattle.rte_made.specs.Parts.{program_made}
 use Rattle.rte_made_whole.specs.Fits.{RoutineFits, ProcessFits, ProgramFits}
 use Rattle.rte_made_whole.specs.Held.{Holds}
 use Rattle.rte_made_whole.specs.Whole.{ExampleHolds}
-
--- a fact of both elements of a list of two
-both : {A : Type 0} (xs : List A) (P : ℕ → A → Type 0) (x y : A) → slice_get xs 0 ≡ Some x → slice_get xs 1 ≡ Some y → ((k : ℕ) → slice_get xs (suc (suc k)) ≡ None) → P 0 x → P 1 y → (k : ℕ) (z : A) → slice_get xs k ≡ Some z → P k z
-both xs P x y is_x is_y no_more one two zero z at = let e : Some x ≡ Some z = sym is_x ∙ at in let same : x ≡ z = cc in subst (λ w. P 0 w) same one
-both xs P x y is_x is_y no_more one two (suc zero) z at = let e : Some y ≡ Some z = sym is_y ∙ at in let same : y ≡ z = cc in subst (λ w. P 1 w) same two
-both xs P x y is_x is_y no_more one two (suc (suc k)) z at = let e : None ≡ Some z = sym (no_more k) ∙ at in absurd cc
 
 fits : ProgramFits signalled_wait
 unfolding numbered visit number_of

@@ -1,6 +1,6 @@
 -- What is made of a process is its code, with its trees.
 use Rattle.std.proofs.Common.{◌≡◌, ◌+◌, ◌≤◌, ℕ, suc, false, List, [], ◌∷◌, ◌++◌, length, Option, Some, None, option_map, pos, refl, sym, ap, subst, ◌∙◌, append_assoc, append-nil, arith}
-use Rattle.rte_tree.specs.Plain.{Handler, Process, Prog}
+use Rattle.rte_tree.specs.Plain.{Stmts, Handler, Process, Prog}
 use Rattle.rte_isa.specs.declared.instr.Instr.{Instr}
 use Rattle.rte_isa.specs.declared.instr.Instr.TheVariants as i
 use Rattle.rte_machine_meaning.specs.Image as image
@@ -11,7 +11,7 @@ use Rattle.rte_emits.specs.Segments.{stmts_segs}
 use Rattle.rte_emits.specs.Compiled.{process_scope, EmitsHandler, EmitsProcess}
 use Rattle.rte_costs.specs.Lengths.{stmts_length, handler_length, process_length}
 use Rattle.rte_costs.specs.Levels.{process_names}
-use Rattle.rte_measured.specs.Sound.{SoundHandler, SoundProcess}
+use Rattle.rte_measured.specs.Sound.{SoundAll, SoundHandler, SoundProcess}
 use Rattle.rte_measured.proofs.Sizes.{alike}
 use Rattle.rte_measured.proofs.Seen.{sees}
 use Rattle.rte_made.specs.declared.code.ProcessParts.{ProcessParts}
@@ -39,6 +39,27 @@ parts_of g n t k = record {
   handler = option_map (λ x. handler_part g (process_scope g n t) (ended (body_of g n t k)) x) t.handler;
 }
 
+-- ---- the length, which does not ask how large anything is
+
+module _ (g : Prog) (may : Text → Type 0) (n : ℕ) (t : Process) where
+  text_long : (ss : Stmts) → SoundAll g may (process_scope g n t) ss → (o : Out) → length (stmts_out g (process_scope g n t) ss o).code ≡ length o.code + stmts_length g (process_names g n t) ss
+  text_long ss sound o =
+      let grows : Grows ⊥ (stmts_out g (process_scope g n t) ss) (stmts_segs g (process_scope g n t) ss) (stmts_length g (process_names g n t) ss) =
+      stmts_grows g ⊥ (λ z. absurd z) may ss (process_scope g n t) (process_scope g n t) None (process_names g n t) (alike g (process_scope g n t)) (sees g (process_scope g n t)) (λ z. absurd z) sound in
+      grows.longer o
+
+  handler_long : (h : Option Handler) (o : Out) → SoundHandler g may (process_scope g n t) h → length (process_out g (process_scope g n t) h o).code ≡ length o.code + handler_length g (process_names g n t) h
+  handler_long None o sound = omega arith
+  handler_long (Some h) o sound =
+      let e : length (stmts_out g (process_scope g n t) h.body (begun o)).code ≡ length o.code + stmts_length g (process_names g n t) h.body = text_long h.body sound (begun o) in
+      length_more (stmts_out g (process_scope g n t) h.body (begun o)).code (i.End ∷ []) ∙ omega arith
+
+  pub process_long : SoundProcess g may n t → (k : List Instr) → length (whole_of g n t k).code ≡ length k + process_length g (process_names g n t) t
+  process_long sound k =
+      let b : length (body_of g n t k).code ≡ length k + stmts_length g (process_names g n t) t.body = text_long t.body sound.0 (opened 0 k) in
+      let e : length ((body_of g n t k).code ++ i.End ∷ []) ≡ length (body_of g n t k).code + 1 = length_more (body_of g n t k).code (i.End ∷ []) in
+      handler_long t.handler (ended (body_of g n t k)) sound.1 ∙ omega arith
+
 module _ (g : Prog) (few : (t : Text) → number_of g t ≤ 65535) (may : Text → Type 0) (n : ℕ) (t : Process) where
   -- ---- the handler
 
@@ -50,10 +71,10 @@ module _ (g : Prog) (few : (t : Text) → number_of g t ≤ 65535) (may : Text �
         → HoldsHandler g h (option_map (λ x. handler_part g (process_scope g n t) o x) h) ip → EmitsHandler g all n t h p (p + length code) ip
 
   handler_grows : (h : Handler) → HandlerFits g (process_scope g n t) (loops t.body) (Some h) → SoundHandler g may (process_scope g n t) (Some h)
-      → Grows (stmts_out g (process_scope g n t) h.body) (stmts_segs g (process_scope g n t) h.body) (stmts_length g (process_names g n t) h.body)
+      → Grows (Unit {0}) (stmts_out g (process_scope g n t) h.body) (stmts_segs g (process_scope g n t) h.body) (stmts_length g (process_names g n t) h.body)
   handler_grows h fits sound =
-      stmts_grows g few may h.body (process_scope g n t) (process_scope g n t) None (process_names g n t) (alike g (process_scope g n t)) (sees g (process_scope g n t))
-      (all_bounds_fit g (process_scope g n t) false (loops t.body) h.body fits) sound
+      stmts_grows g (Unit {0}) (λ z. few) may h.body (process_scope g n t) (process_scope g n t) None (process_names g n t) (alike g (process_scope g n t)) (sees g (process_scope g n t))
+      (λ z. all_bounds_fit g (process_scope g n t) false (loops t.body) h.body fits) sound
 
   handler_code : (h : Option Handler) (p : ℕ) → HandlerFits g (process_scope g n t) (loops t.body) h → SoundHandler g may (process_scope g n t) h → HandlerCode h p
   handler_code None p fits sound = record {
@@ -78,29 +99,16 @@ module _ (g : Prog) (few : (t : Text) → number_of g t ≤ 65535) (may : Text �
               record { has = has_rest all p (p + length m.code) m.code (i.End ∷ []) refl h1; end = end },
               holds.0 ∙ long,
               holds.1,
-              holds.2 ∙ ap (λ z. Some z) (part_tree (stmts_out g c h.body) (stmts_segs g c h.body) (stmts_length g (process_names g n t) h.body) (handler_grows h fits sound) (begun o) refl refl low2),
+              holds.2 ∙ ap (λ z. Some z) (part_tree (stmts_out g c h.body) (stmts_segs g c h.body) (stmts_length g (process_names g n t) h.body) (handler_grows h fits sound) tt (begun o) refl refl low2),
             );
       }
 
-  handler_long : (h : Option Handler) (o : Out) → HandlerFits g (process_scope g n t) (loops t.body) h → SoundHandler g may (process_scope g n t) h
-      → length (process_out g (process_scope g n t) h o).code ≡ length o.code + handler_length g (process_names g n t) h
-  handler_long None o fits sound = omega arith
-  handler_long (Some h) o fits sound =
-      let e : length (stmts_out g (process_scope g n t) h.body (begun o)).code ≡ length o.code + stmts_length g (process_names g n t) h.body = (handler_grows h fits sound).longer (begun o) in
-      length_more (stmts_out g (process_scope g n t) h.body (begun o)).code (i.End ∷ []) ∙ omega arith
-
   -- ---- the process
 
-  body_grows : ProcessFits g n t → SoundProcess g may n t → Grows (stmts_out g (process_scope g n t) t.body) (stmts_segs g (process_scope g n t) t.body) (stmts_length g (process_names g n t) t.body)
+  body_grows : ProcessFits g n t → SoundProcess g may n t → Grows (Unit {0}) (stmts_out g (process_scope g n t) t.body) (stmts_segs g (process_scope g n t) t.body) (stmts_length g (process_names g n t) t.body)
   body_grows fits sound =
-      stmts_grows g few may t.body (process_scope g n t) (process_scope g n t) None (process_names g n t) (alike g (process_scope g n t)) (sees g (process_scope g n t))
-      (all_bounds_fit g (process_scope g n t) false 0 t.body fits.body) sound.0
-
-  pub process_long : ProcessFits g n t → SoundProcess g may n t → (k : List Instr) → length (whole_of g n t k).code ≡ length k + process_length g (process_names g n t) t
-  process_long fits sound k =
-      let b : length (body_of g n t k).code ≡ length k + stmts_length g (process_names g n t) t.body = (body_grows fits sound).longer (opened 0 k) in
-      let e : length ((body_of g n t k).code ++ i.End ∷ []) ≡ length (body_of g n t k).code + 1 = length_more (body_of g n t k).code (i.End ∷ []) in
-      handler_long t.handler (ended (body_of g n t k)) fits.handler sound.1 ∙ omega arith
+      stmts_grows g (Unit {0}) (λ z. few) may t.body (process_scope g n t) (process_scope g n t) None (process_names g n t) (alike g (process_scope g n t)) (sees g (process_scope g n t))
+      (λ z. all_bounds_fit g (process_scope g n t) false 0 t.body fits.body) sound.0
 
   -- what is made of a process at p
   pub record ProcessCode (p : ℕ) : Type 0 where
@@ -143,7 +151,7 @@ module _ (g : Prog) (few : (t : Text) → number_of g t ≤ 65535) (may : Text �
               start = holds.start ∙ long;
               locals = holds.locals;
               words = holds.words;
-              tree = holds.tree ∙ part_tree (stmts_out g c t.body) (stmts_segs g c t.body) (stmts_length g (process_names g n t) t.body) (body_grows fits sound) (opened 0 k) refl refl low_b;
+              tree = holds.tree ∙ part_tree (stmts_out g c t.body) (stmts_segs g c t.body) (stmts_length g (process_names g n t) t.body) (body_grows fits sound) tt (opened 0 k) refl refl low_b;
               frame = holds.frame;
               deadline = holds.deadline;
               released = holds.released;

@@ -10,24 +10,54 @@ use Rattle.rte_emits.specs.Compiled.{process_scope, EmitsRoutine, EmitsRoutines,
 use Rattle.rte_costs.specs.Lengths.{routine_length, process_length}
 use Rattle.rte_costs.specs.Levels.{routine_names, process_names, routines_length, processes_length, code_length}
 use Rattle.rte_measured.specs.Sound.{SoundRoutine, SoundProcess}
-use Rattle.rte_whole.specs.Declared.{IsBelow}
+use Rattle.rte_whole.specs.Declared.{IsBelow, IsSound}
 use Rattle.rte_made.specs.declared.code.Part.{Part}
 use Rattle.rte_made.specs.declared.code.ProcessParts.{ProcessParts}
 use Rattle.rte_made.specs.declared.code.Code.{Code}
 use Rattle.rte_made.specs.Made.{push}
-use Rattle.rte_made.specs.Parts.{part_of, return_of, text_made, texts_made, process_made, processes_made, nothing_made}
+use Rattle.rte_made.specs.Parts.{part_of, return_of, text_made, texts_made, process_made, processes_made, nothing_made, program_made}
 use Rattle.rte_made_right.proofs.Lists.{length_more, has_first, has_rest}
 use Rattle.rte_made_right.proofs.Emitted.{has_there}
 use Rattle.rte_made_whole.specs.Fits.{RoutineFits, ProcessFits}
 use Rattle.rte_made_whole.specs.Held.{HoldsRoutine, HoldRoutines, HoldProcesses}
-use Rattle.rte_made_whole.specs.Whole.{MadeIsCode}
+use Rattle.rte_made_whole.specs.Whole.{MadeHasItsLength, MadeIsCode}
 use Rattle.rte_made_whole.proofs.Numbers.{few_routines}
 use Rattle.rte_made_whole.proofs.Routines.{whole_out, RoutineCode, routine_code, routine_long, routine_tree}
 use Rattle.rte_made_whole.proofs.Processes.{parts_of, ProcessCode, process_code, process_long}
 
--- where code was made, it has its length
-made_long : (xs k js : List Instr) (n : ℕ) → xs ≡ k ++ js → length xs ≡ length k + n → length js ≡ n
-made_long xs k js n e l = let a : length xs ≡ length k + length js = ap length e ∙ length_more k js in omega arith
+-- ---- the length, which does not ask how large anything is
+
+module _ (g : Prog) where
+  texts_long : (ts : List Text) (k : Code) → ((r : ℕ) (t : Text) → slice_get ts r ≡ Some t → (below : ℕ) × SoundRoutine g (λ y. IsBelow g below y) t) → length (texts_made g ts k).instrs ≡ length k.instrs + routines_length g ts
+  texts_long [] k sound = omega arith
+  texts_long (t ∷ ts) k sound =
+      let ok : (below : ℕ) × SoundRoutine g (λ y. IsBelow g below y) t = sound 0 t refl in
+      let a : length (text_made g t k).instrs ≡ length k.instrs + routine_length g (routine_names g t) t = routine_long g (λ y. IsBelow g ok.0 y) t ok.1 k.instrs in
+      let b : length (texts_made g ts (text_made g t k)).instrs ≡ length (text_made g t k).instrs + routines_length g ts = texts_long ts (text_made g t k) (λ r u at. sound (suc r) u at) in
+      omega arith
+
+  processes_long : (n : ℕ) (ts : List Process) (k : Code) → ((r : ℕ) (t : Process) → slice_get ts r ≡ Some t → (below : ℕ) × SoundProcess g (λ y. IsBelow g below y) (n + r) t)
+      → length (processes_made g n ts k).instrs ≡ length k.instrs + processes_length g n ts
+  processes_long n [] k sound = omega arith
+  processes_long n (t ∷ ts) k sound =
+      let first : n + 0 ≡ n = omega arith in
+      let ok : (below : ℕ) × SoundProcess g (λ y. IsBelow g below y) n t = subst (λ i. (below : ℕ) × SoundProcess g (λ y. IsBelow g below y) i t) first (sound 0 t refl) in
+      let next : Code = process_made g (process_scope g n t) t k in
+      let a : length next.instrs ≡ length k.instrs + process_length g (process_names g n t) t = process_long g (λ y. IsBelow g ok.0 y) n t ok.1 k.instrs in
+      let b : length (processes_made g (suc n) ts next).instrs ≡ length next.instrs + processes_length g (suc n) ts =
+      processes_long (suc n) ts next (λ r u at. let e : n + suc r ≡ suc n + r = omega arith in subst (λ i. (below : ℕ) × SoundProcess g (λ y. IsBelow g below y) i u) e (sound (suc r) u at)) in
+      omega arith
+
+  routines_alone : IsSound g → length (texts_made g (numbered g) nothing_made).instrs ≡ routines_length g (numbered g)
+  routines_alone sound = texts_long (numbered g) nothing_made (λ r t at. (r, sound.routines r t at)) ∙ omega arith
+
+pub made_has_its_length : MadeHasItsLength
+made_has_its_length g sound =
+    let k : Code = texts_made g (numbered g) nothing_made in
+    let a : length k.instrs ≡ routines_length g (numbered g) = routines_alone g sound in
+    let b : length (program_made g).instrs ≡ length k.instrs + processes_length g 0 (processes g) =
+    processes_long g 0 (processes g) k (λ r t at. let e : r ≡ 0 + r = omega arith in subst (λ i. (below : ℕ) × SoundProcess g (λ y. IsBelow g below y) i t) e (length (numbered g), sound.bodies r t at)) in
+    omega arith
 
 module _ (g : Prog) (few : (t : Text) → number_of g t ≤ 65535) where
   -- ---- routines
@@ -52,7 +82,6 @@ module _ (g : Prog) (few : (t : Text) → number_of g t ≤ 65535) where
   record TextsCode (ts : List Text) (k : Code) : Type 0 where
     code : List Instr
     made : (texts_made g ts k).instrs ≡ k.instrs ++ code
-    long : length code ≡ routines_length g ts
     emits : (all : List Instr) (rs : List image.Routine) → length k.instrs + length code ≤ 65535 → Has all (length k.instrs) code → HoldRoutines g ts (new_routines ts k) rs
         → EmitsRoutines g all (length k.instrs) (length k.instrs + length code) ts rs
 
@@ -90,19 +119,16 @@ module _ (g : Prog) (few : (t : Text) → number_of g t ≤ 65535) where
   no_more k all (r ∷ rs) holds = absurd holds
 
   texts_code : (ts : List Text) (k : Code) → ((r : ℕ) (t : Text) → slice_get ts r ≡ Some t → Ready t) → TextsCode ts k
-  texts_code [] k ready = record { code = []; made = sym (append-nil k.instrs); long = refl; emits = λ all rs small h holds. no_more k all rs holds }
+  texts_code [] k ready = record { code = []; made = sym (append-nil k.instrs); emits = λ all rs small h holds. no_more k all rs holds }
   texts_code (t ∷ ts) k ready =
       let ok : Ready t = ready 0 t refl in
-      let m : RoutineCode g t (length k.instrs) = routine_code g few t (length k.instrs) ok.fits in
+      let m : RoutineCode g t (length k.instrs) = routine_code g t (length k.instrs) ok.fits in
       let n : TextsCode ts (text_made g t k) = texts_code ts (text_made g t k) (λ r u at. ready (suc r) u at) in
       let here : (text_made g t k).instrs ≡ k.instrs ++ m.code = m.made k.instrs refl in
       let long_here : length (text_made g t k).instrs ≡ length k.instrs + length m.code = ap length here ∙ length_more k.instrs m.code in
-      let long_m : length m.code ≡ routine_length g (routine_names g t) t =
-      made_long (text_made g t k).instrs k.instrs m.code (routine_length g (routine_names g t) t) here (routine_long g few (λ y. IsBelow g ok.below y) t ok.fits ok.sound k.instrs) in
       record {
         code = m.code ++ n.code;
         made = n.made ∙ ap (λ z. z ++ n.code) here ∙ append_assoc k.instrs m.code n.code;
-        long = length_more m.code n.code ∙ ap (λ z. z + length n.code) long_m ∙ ap (λ z. routine_length g (routine_names g t) t + z) n.long;
         emits = λ all rs small h holds. one_more t ts k all rs ok m n long_here small h holds;
       }
 
@@ -131,7 +157,6 @@ module _ (g : Prog) (few : (t : Text) → number_of g t ≤ 65535) where
   record ProcessesCode (n : ℕ) (ts : List Process) (k : Code) : Type 0 where
     code : List Instr
     made : (processes_made g n ts k).instrs ≡ k.instrs ++ code
-    long : length code ≡ processes_length g n ts
     emits : (all : List Instr) (ips : List image.Process) → length k.instrs + length code ≤ 65535 → Has all (length k.instrs) code → HoldProcesses g ts (new_processes n ts k) ips
         → EmitsProcesses g all n (length k.instrs) (length k.instrs + length code) ts ips
 
@@ -156,7 +181,7 @@ module _ (g : Prog) (few : (t : Text) → number_of g t ≤ 65535) where
   no_next n k all (x ∷ xs) holds = absurd holds
 
   processes_code : (n : ℕ) (ts : List Process) (k : Code) → ((r : ℕ) (t : Process) → slice_get ts r ≡ Some t → ReadyProcess (n + r) t) → ProcessesCode n ts k
-  processes_code n [] k ready = record { code = []; made = sym (append-nil k.instrs); long = refl; emits = λ all ips small h holds. no_next n k all ips holds }
+  processes_code n [] k ready = record { code = []; made = sym (append-nil k.instrs); emits = λ all ips small h holds. no_next n k all ips holds }
   processes_code n (t ∷ ts) k ready =
       let first : n + 0 ≡ n = omega arith in
       let ok : ReadyProcess n t = subst (λ i. ReadyProcess i t) first (ready 0 t refl) in
@@ -165,11 +190,9 @@ module _ (g : Prog) (few : (t : Text) → number_of g t ≤ 65535) where
       let j : ProcessesCode (suc n) ts (after n t k) = processes_code (suc n) ts (after n t k) (λ r u at. let e : n + suc r ≡ suc n + r = omega arith in subst (λ i. ReadyProcess i u) e (ready (suc r) u at)) in
       let here : (after n t k).instrs ≡ k.instrs ++ m.code = m.made k.instrs refl in
       let long_here : length (after n t k).instrs ≡ length k.instrs + length m.code = ap length here ∙ length_more k.instrs m.code in
-      let long_m : length m.code ≡ process_length g (process_names g n t) t = made_long (after n t k).instrs k.instrs m.code (process_length g (process_names g n t) t) here (process_long g few may n t ok.fits ok.sound k.instrs) in
       record {
         code = m.code ++ j.code;
         made = j.made ∙ ap (λ z. z ++ j.code) here ∙ append_assoc k.instrs m.code j.code;
-        long = length_more m.code j.code ∙ ap (λ z. z + length j.code) long_m ∙ ap (λ z. process_length g (process_names g n t) t + z) j.long;
         emits = λ all ips small h holds. next_more n t ts k all ips may m j long_here small h holds;
       }
 
@@ -185,8 +208,8 @@ made_is_code g m sound fits holds =
     let all : m.code ≡ a.code ++ b.code = holds.code ∙ b.made ∙ ap (λ z. z ++ b.code) a.made in
     let long_k : length k.instrs ≡ length a.code = ap length a.made in
     let long_all : length m.code ≡ length a.code + length b.code = ap length all ∙ length_more a.code b.code in
-    let long_a : length a.code ≡ routines_length g (numbered g) = a.long in
-    let long_b : length b.code ≡ processes_length g 0 (processes g) = b.long in
+    let whole : length (program_made g).instrs ≡ code_length g = made_has_its_length g sound in
+    let held : length m.code ≡ length (program_made g).instrs = ap length holds.code in
     let short : code_length g ≤ 65535 = fits.code in
     let low_a : 0 + length a.code ≤ 65535 = omega arith in
     let low_b : length k.instrs + length b.code ≤ 65535 = omega arith in

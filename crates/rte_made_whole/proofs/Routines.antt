@@ -47,11 +47,11 @@ abbrev answer_tail : Prog → Scope → Option Answers → Segs → Segs
 answer_tail g c None k = k
 answer_tail g c (Some a) k = expr_segs g c a.value (line (length (range_code (range_of g a.kind))) k)
 
-answer_grows : (g : Prog) → ((t : Text) → number_of g t ≤ 65535) → (c : Scope) (a : Option Answers) → Grows (answer_out g c a) (answer_tail g c a) (answers_length g (names_of g c) a)
-answer_grows g few c None = none
-answer_grows g few c (Some a) =
+answer_grows : (g : Prog) (S : Type 0) → (S → (t : Text) → number_of g t ≤ 65535) → (c : Scope) (a : Option Answers) → Grows S (answer_out g c a) (answer_tail g c a) (answers_length g (names_of g c) a)
+answer_grows g S few c None = none
+answer_grows g S few c (Some a) =
     both (expr_out g c a.value) (range_out (range_told g a.kind)) (expr_segs g c a.value) (λ k. line (length (range_code (range_of g a.kind))) k) (expr_length g c.owner a.value) (check_length (range_of g a.kind))
-    (expr_grows g few c c c.owner refl refl a.value) (range_grows (range_of g a.kind))
+    (expr_grows g S few c c c.owner refl refl a.value) (range_grows (range_of g a.kind))
 
 answer_segs : (g : Prog) (c : Scope) (a : Option Answers) → answer_tail g c a Nil ≡ answers_segs g c a
 answer_segs g c None = refl
@@ -101,7 +101,7 @@ four a b c d = simp append_assoc
 abbrev pub whole_out : Prog → Text → List Instr → Out
 whole_out g t k = routine_out g (routine_scope g t) t.owner t.routine (opened (routine_vars_words g t.routine) k)
 
-module _ (g : Prog) (few : (t : Text) → number_of g t ≤ 65535) (c : Scope) (r : Routine) (w p : ℕ) (m : StmtsMade g c r.body false p w) (a : LineMade (answer_out g c r.answers) (λ y. answer_code g (aiming c y) r.answers)) where
+module _ (g : Prog) (c : Scope) (r : Routine) (w p : ℕ) (m : StmtsMade g c r.body false p w) (a : LineMade (answer_out g c r.answers) (λ y. answer_code g (aiming c y) r.answers)) where
   inner_made : (o : Out) → length o.code ≡ p → o.word ≡ w → (inner_out g c r o).code ≡ (o.code ++ m.code) ++ a.code
   inner_made o long at = a.made (stmts_out g c r.body o) ∙ ap (λ z. z ++ a.code) (m.made o long at)
 
@@ -132,8 +132,8 @@ pub record RoutineCode (g : Prog) (t : Text) (p : ℕ) : Type 0 where
   pub made : (k : List Instr) → length k ≡ p → (push (whole_out g t k) (return_of t.routine.answers)).code ≡ k ++ code
   pub emits : (all : List Instr) → p + length code ≤ 2147483647 → Has all p code → EmitsRoutine g all t p (p + length code)
 
-pub routine_code : (g : Prog) → ((t : Text) → number_of g t ≤ 65535) → (t : Text) (p : ℕ) → RoutineFits g t → RoutineCode g t p
-routine_code g few t p fits =
+pub routine_code : (g : Prog) (t : Text) (p : ℕ) → RoutineFits g t → RoutineCode g t p
+routine_code g t p fits =
     let c : Scope = routine_scope g t in
     let w : ℕ = routine_vars_words g t.routine in
     let before : List Instr = enter_code t.owner in
@@ -143,7 +143,7 @@ routine_code g few t p fits =
     let rest : List Instr = a.code ++ leave_code t.owner (return_of t.routine.answers) in
     record {
       code = before ++ (m.code ++ rest);
-      made = λ k long. framed g few c t.routine w inside m a t.owner k fits.owner (ap (λ n. n + length before) long);
+      made = λ k long. framed g c t.routine w inside m a t.owner k fits.owner (ap (λ n. n + length before) long);
       emits = λ all small h.
           let l1 : length (before ++ (m.code ++ rest)) ≡ length before + length (m.code ++ rest) = length_more before (m.code ++ rest) in
           let l2 : length (m.code ++ rest) ≡ length m.code + length rest = length_more m.code rest in
@@ -166,13 +166,13 @@ routine_code g few t p fits =
 
 -- ---- the tree
 
-module _ (g : Prog) (few : (t : Text) → number_of g t ≤ 65535) (c : Scope) (r : Routine) (w l : ℕ) (body : Grows (stmts_out g c r.body) (stmts_segs g c r.body) l) where
-  inner_grows : Grows (inner_out g c r) (λ k. stmts_segs g c r.body (answer_tail g c r.answers k)) (l + answers_length g (names_of g c) r.answers)
-  inner_grows = both (stmts_out g c r.body) (answer_out g c r.answers) (stmts_segs g c r.body) (answer_tail g c r.answers) l (answers_length g (names_of g c) r.answers) body (answer_grows g few c r.answers)
+module _ (g : Prog) (S : Type 0) (few : S → (t : Text) → number_of g t ≤ 65535) (c : Scope) (r : Routine) (w l : ℕ) (body : Grows S (stmts_out g c r.body) (stmts_segs g c r.body) l) where
+  inner_grows : Grows S (inner_out g c r) (λ k. stmts_segs g c r.body (answer_tail g c r.answers k)) (l + answers_length g (names_of g c) r.answers)
+  inner_grows = both (stmts_out g c r.body) (answer_out g c r.answers) (stmts_segs g c r.body) (answer_tail g c r.answers) l (answers_length g (names_of g c) r.answers) body (answer_grows g S few c r.answers)
 
-  inner_tree : (o : Out) → o.segs ≡ [] → o.from ≡ length o.code → length (inner_out g c r o).code ≤ 4294967295 → views (closed (inner_out g c r o)) ≡ stmts_segs g c r.body (answers_segs g c r.answers)
-  inner_tree o none here small =
-      part_tree (inner_out g c r) (λ k. stmts_segs g c r.body (answer_tail g c r.answers k)) (l + answers_length g (names_of g c) r.answers) inner_grows o none here small
+  inner_tree : S → (o : Out) → o.segs ≡ [] → o.from ≡ length o.code → length (inner_out g c r o).code ≤ 4294967295 → views (closed (inner_out g c r o)) ≡ stmts_segs g c r.body (answers_segs g c r.answers)
+  inner_tree z o none here small =
+      part_tree (inner_out g c r) (λ k. stmts_segs g c r.body (answer_tail g c r.answers k)) (l + answers_length g (names_of g c) r.answers) inner_grows z o none here small
       ∙ ap (λ k. stmts_segs g c r.body k) (answer_segs g c r.answers)
 
   framed_long : (o : Owner) (k : List Instr) → length (routine_out g c o r (opened w k)).code ≡ length k + (l + answers_length g (names_of g c) r.answers) + monitor_length o
@@ -183,33 +183,33 @@ module _ (g : Prog) (few : (t : Text) → number_of g t ≤ 65535) (c : Scope) (
       let d : length (k ++ i.Enter (fit (pos n)) ∷ []) ≡ length k + 1 = length_more k (i.Enter (fit (pos n)) ∷ []) in
       length_more (inner_out g c r (entered n (opened w k))).code (i.Leave (fit (pos n)) ∷ []) ∙ omega arith
 
-  framed_tree : (o : Owner) (k : List Instr) → OwnerFits o → length (routine_out g c o r (opened w k)).code ≤ 4294967295 → views (closed (routine_out g c o r (opened w k))) ≡ routine_segs g c o r
-  framed_tree by_program k h small = inner_tree (opened w k) refl refl small
-  framed_tree (by_process n) k h small = inner_tree (opened w k) refl refl small
-  framed_tree (by_monitor n) k h small =
-      let z : Out = inner_out g c r (entered n (opened w k)) in
-      let all : List Instr = z.code ++ i.Leave (fit (pos n)) ∷ [] in
-      let l1 : length all ≡ length z.code + 1 = length_more z.code (i.Leave (fit (pos n)) ∷ []) in
-      let less : length z.code ≤ 4294967295 = omega arith in
+  framed_tree : S → (o : Owner) (k : List Instr) → OwnerFits o → length (routine_out g c o r (opened w k)).code ≤ 4294967295 → views (closed (routine_out g c o r (opened w k))) ≡ routine_segs g c o r
+  framed_tree z by_program k h small = inner_tree z (opened w k) refl refl small
+  framed_tree z (by_process n) k h small = inner_tree z (opened w k) refl refl small
+  framed_tree z (by_monitor n) k h small =
+      let o : Out = inner_out g c r (entered n (opened w k)) in
+      let all : List Instr = o.code ++ i.Leave (fit (pos n)) ∷ [] in
+      let l1 : length all ≡ length o.code + 1 = length_more o.code (i.Leave (fit (pos n)) ∷ []) in
+      let less : length o.code ≤ 4294967295 = omega arith in
       let nothing : length all - length all ≡ 0 = omega arith in
       let same : min n 65535 ≡ n = omega arith in
-      ap (λ x. tree_of (map view (seg.Stay (min n 65535) (closed z) ∷ line_of x))) nothing
-      ∙ ap (λ s. Cons s Nil) (view_stay (min n 65535) (closed z) ∙ ap (λ x. tree.Stay x (views (closed z))) same ∙ ap (λ x. tree.Stay n x) (inner_tree (entered n (opened w k)) refl refl less))
+      ap (λ x. tree_of (map view (seg.Stay (min n 65535) (closed o) ∷ line_of x))) nothing
+      ∙ ap (λ s. Cons s Nil) (view_stay (min n 65535) (closed o) ∙ ap (λ x. tree.Stay x (views (closed o))) same ∙ ap (λ x. tree.Stay n x) (inner_tree z (entered n (opened w k)) refl refl less))
 
-pub body_grows : (g : Prog) → ((t : Text) → number_of g t ≤ 65535) → (may : Text → Type 0) (t : Text) → RoutineFits g t → SoundRoutine g may t
-    → Grows (stmts_out g (routine_scope g t) t.routine.body) (stmts_segs g (routine_scope g t) t.routine.body) (stmts_length g (routine_names g t) t.routine.body)
-body_grows g few may t fits sound =
+pub body_grows : (g : Prog) (S : Type 0) → (S → (t : Text) → number_of g t ≤ 65535) → (may : Text → Type 0) (t : Text) → (S → RoutineFits g t) → SoundRoutine g may t
+    → Grows S (stmts_out g (routine_scope g t) t.routine.body) (stmts_segs g (routine_scope g t) t.routine.body) (stmts_length g (routine_names g t) t.routine.body)
+body_grows g S few may t fits sound =
     let c : Scope = routine_scope g t in
-    stmts_grows g few may t.routine.body c c None (routine_names g t) (alike g c) (sees g c) (all_bounds_fit g c false (routine_vars_words g t.routine) t.routine.body fits.body) sound.0
+    stmts_grows g S few may t.routine.body c c None (routine_names g t) (alike g c) (sees g c) (λ z. all_bounds_fit g c false (routine_vars_words g t.routine) t.routine.body (fits z).body) sound.0
 
-pub routine_long : (g : Prog) → ((t : Text) → number_of g t ≤ 65535) → (may : Text → Type 0) (t : Text) → RoutineFits g t → SoundRoutine g may t → (k : List Instr)
-    → length (push (whole_out g t k) (return_of t.routine.answers)).code ≡ length k + routine_length g (routine_names g t) t
-routine_long g few may t fits sound k =
+-- the length does not ask how large anything is
+pub routine_long : (g : Prog) (may : Text → Type 0) (t : Text) → SoundRoutine g may t → (k : List Instr) → length (push (whole_out g t k) (return_of t.routine.answers)).code ≡ length k + routine_length g (routine_names g t) t
+routine_long g may t sound k =
     let e : length (whole_out g t k).code ≡ length k + (stmts_length g (routine_names g t) t.routine.body + answers_length g (routine_names g t) t.routine.answers) + monitor_length t.owner =
-    framed_long g few (routine_scope g t) t.routine (routine_vars_words g t.routine) (stmts_length g (routine_names g t) t.routine.body) (body_grows g few may t fits sound) t.owner k in
+    framed_long g ⊥ (λ z. absurd z) (routine_scope g t) t.routine (routine_vars_words g t.routine) (stmts_length g (routine_names g t) t.routine.body) (body_grows g ⊥ (λ z. absurd z) may t (λ z. absurd z) sound) t.owner k in
     length_more (whole_out g t k).code (return_of t.routine.answers ∷ []) ∙ omega arith
 
 pub routine_tree : (g : Prog) → ((t : Text) → number_of g t ≤ 65535) → (may : Text → Type 0) (t : Text) → RoutineFits g t → SoundRoutine g may t → (k : List Instr)
     → length (whole_out g t k).code ≤ 4294967295 → views (closed (whole_out g t k)) ≡ routine_segs g (routine_scope g t) t.owner t.routine
 routine_tree g few may t fits sound k small =
-    framed_tree g few (routine_scope g t) t.routine (routine_vars_words g t.routine) (stmts_length g (routine_names g t) t.routine.body) (body_grows g few may t fits sound) t.owner k fits.owner small
+    framed_tree g (Unit {0}) (λ z. few) (routine_scope g t) t.routine (routine_vars_words g t.routine) (stmts_length g (routine_names g t) t.routine.body) (body_grows g (Unit {0}) (λ z. few) may t (λ z. fits) sound) tt t.owner k fits.owner small

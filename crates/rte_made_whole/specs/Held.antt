@@ -30,7 +30,9 @@ HoldRoutines g ts xs rs = ⊥
 -- the handler of a process, if it has one
 abbrev pub HoldsHandler : Prog → Option Handler → Option Part → image.Process → Type 0
 HoldsHandler g None None p = (p.handler ≡ 0) × (p.numbers ≡ []) × (p.handler_tree ≡ None)
-HoldsHandler g (Some h) (Some x) p = (p.handler ≡ x.start) × (p.numbers ≡ ascending (map (λ n. count_value g n) h.numbers)) × (p.handler_tree ≡ Some (views x.tree))
+HoldsHandler g (Some h) (Some x) p =
+    (p.handler ≡ x.start) × (p.numbers ≡ ascending (map (λ n. count_value g n) h.numbers))
+    × (p.handler_tree ≡ Some (views x.tree))
 HoldsHandler g h x p = ⊥
 
 pub record HoldsProcess (g : Prog) (t : Process) (x : ProcessParts) (p : image.Process) : Type 0 where
@@ -48,7 +50,8 @@ HoldProcesses g [] [] [] = Unit {0}
 HoldProcesses g (t ∷ ts) (x ∷ xs) (p ∷ ps) = HoldsProcess g t x p × HoldProcesses g ts xs ps
 HoldProcesses g ts xs ps = ⊥
 
--- The image has this code, the parts of it with what their texts say, and the words and the tables of monitors, conditions and devices.
+-- The image has this code, the parts of it with what their texts say, and the words and the tables
+-- of monitors, conditions and devices.
 pub record Holds (g : Prog) (k : Code) (m : image.Image) : Type 0 where
   pub code : m.code ≡ k.instrs
   pub routines : HoldRoutines g (numbered g) k.routines m.routines
