@@ -1,16 +1,16 @@
 -- Each call in a text that fits finds a routine or an entry.
-use Rattle.std.specs.Prelude.{◌≡◌, ◌⊎◌, ◌++◌, Bool, true, List, [], ◌∷◌, Option, Some, None, IsSome, option_map, Contains}
+use Rattle.std.specs.Prelude.{◌≡◌, ◌++◌, Bool, true, List, [], ◌∷◌, Option, Some, None, IsSome, option_map, Contains}
 use Rattle.std.proofs.Common.{inl, inr, refl, subst, ℕ, zero, suc, ◌<◌, length, slice_index_or, arith}
 use Rattle.rte_tree.specs.Plain.{Name, Param, Expr, literal, truth, variable, element, call, minus, negation, paren, row, Exprs, no_exprs, exprs, Operands, no_operands, operand, Ref, whole, part, Stmt, assign, assign_entry, assign_empty, perform, perform_entry, when, when_else, loop, exit_when, get, put, wait, signal, broadcast, except, assert, Stmts, no_stmts, stmts, Answers, Process, Prog}
 use Rattle.rte_declarations.specs.declared.sort.Sort.{Sort}
 use Rattle.rte_declarations.specs.declared.sort.Sort.TheVariants as sort_is
 use Rattle.rte_source_meaning.specs.Run.{Found, routine_named, entry_named}
-use Rattle.rte_emits.specs.Numbering.{Called, calls_routine, calls_entry, expr_calls, exprs_calls, row_calls, ref_calls, stmt_calls, stmts_calls, answers_calls}
+use Rattle.rte_emits.specs.Numbering.{Called, calls_entry, expr_calls, exprs_calls, row_calls, ref_calls, stmt_calls, stmts_calls, answers_calls}
 use Rattle.rte_wellformed.specs.Here.{Here, in_loop, sort_of}
 use Rattle.rte_wellformed.specs.Typed.{answer_sort, params_of, IsOf, IsRow, AreArguments, IsTarget}
 use Rattle.rte_wellformed.specs.Statements.{Fits, AllFit, may_call}
 use Rattle.rte_wellformed.specs.WellFormed.{AnswersFit}
-use Rattle.rte_called.specs.Called.{AllCalled, FindsRoutine, FindsEntry, Finds, TextFinds, TextsCallWhatIsFound}
+use Rattle.rte_called.specs.Called.{AllCalled, FindsRoutine, FindsEntry, Finds, TextsCallWhatIsFound}
 
 -- ---- lists of calls
 

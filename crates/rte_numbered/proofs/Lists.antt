@@ -1,9 +1,9 @@
 -- Where texts stand in a list.
-use Rattle.std.specs.Prelude.{◌≡◌, ◌+◌, ◌<◌, ◌≤◌, ◌⊎◌, ◌||◌, ℕ, zero, suc, Bool, true, false, cond, List, [], ◌∷◌, ◌++◌, Option, Some, None, slice_get, length, count_by, Contains, slice_index_or}
-use Rattle.std.proofs.Common.{inl, inr, refl, sym, ◌∙◌, ap, subst, arith}
+use Rattle.std.specs.Prelude.{◌≡◌, ◌+◌, ◌<◌, ◌≤◌, ◌⊎◌, ◌||◌, ℕ, zero, suc, Bool, true, false, cond, List, [], ◌∷◌, ◌++◌, Some, slice_get, length, count_by, Contains, slice_index_or}
+use Rattle.std.proofs.Common.{inl, inr, refl, sym, ◌∙◌, ap, arith}
 use Rattle.std.proofs.lemmas.List.Sums.{sum_by-cons}
 use Rattle.rte_emits.specs.Numbering.{Text, same_text, is_among, place_among}
-use Rattle.rte_linked.proofs.Numbers.{none_some, some_same, not_true, or_either, text_is, among_front}
+use Rattle.rte_linked.proofs.Numbers.{none_some, some_same, not_true, or_either, text_is}
 
 -- ---- members
 

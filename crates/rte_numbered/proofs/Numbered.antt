@@ -1,17 +1,17 @@
 -- The law: each routine and entry stands once in the list by number, behind all that it calls.
-use Rattle.std.specs.Prelude.{◌≡◌, ◌+◌, ◌<◌, ◌≤◌, ◌⊎◌, ◌||◌, ℕ, zero, suc, Bool, true, false, cond, List, [], ◌∷◌, ◌++◌, Option, Some, None, slice_get, length, map, count_by, sum_by, Contains, option_map}
-use Rattle.std.proofs.Common.{inl, inr, refl, sym, ◌∙◌, ap, subst, arith, length-append}
+use Rattle.std.specs.Prelude.{◌≡◌, ◌+◌, ◌⊎◌, ◌||◌, ℕ, suc, Bool, true, false, List, [], ◌∷◌, Option, Some, None, slice_get, length, sum_by, Contains}
+use Rattle.std.proofs.Common.{inl, inr, refl, sym, subst, arith, length-append}
 use Rattle.std.proofs.lemmas.List.{length-map}
 use Rattle.std.proofs.lemmas.List.Sums.{sum_by-cons, count_by-le-length}
-use Rattle.rte_tree.specs.Plain.{Name, Routine, Monitor, Process, Decl, constant, device, event, routine, monitor, process, Prog}
-use Rattle.rte_source_meaning.specs.Names.{named, routines, monitors, processes, routines_in, routine_count}
+use Rattle.rte_tree.specs.Plain.{Monitor, Process, Decl, constant, device, event, routine, monitor, process, Prog}
+use Rattle.rte_source_meaning.specs.Names.{routines, monitors, processes, routines_in, routine_count}
 use Rattle.rte_emits.specs.Layout.{Owner, by_program, by_process, by_monitor}
-use Rattle.rte_emits.specs.Numbering.{Text, same_text, routine_of, process_routines, entry_of, Called, called_text, is_among, place_among, texts_of, texts_from, numbered, number_of}
+use Rattle.rte_emits.specs.Numbering.{Text, same_text, routine_of, process_routines, entry_of, is_among, texts_of, texts_from, numbered, number_of}
 use Rattle.rte_linked.specs.Kept.{NamesDiffer}
-use Rattle.rte_linked.proofs.Numbers.{none_some, some_same, not_true, text_named, IsText, AllTexts, of_list, called_is_text}
+use Rattle.rte_linked.proofs.Numbers.{none_some, not_true, text_named, IsText, AllTexts, of_list}
 use Rattle.rte_linked.proofs.Rows.{program_texts, numbered_texts, numbered_at, text_at, text_same, among_program, among_process, among_monitor}
-use Rattle.rte_numbered.specs.Numbered.{texts, CallsText, AreLevels, AreNumbered, RoutinesAreNumbered}
-use Rattle.rte_numbered.proofs.Lists.{contains_here, contains_later, contains_cases, nothing_in, among_at}
+use Rattle.rte_numbered.specs.Numbered.{texts, RoutinesAreNumbered}
+use Rattle.rte_numbered.proofs.Lists.{contains_here, contains_later, contains_cases, nothing_in}
 use Rattle.rte_numbered.proofs.Visits.{Good, nothing_done, all_good}
 
 -- ---- texts are those of the declarations

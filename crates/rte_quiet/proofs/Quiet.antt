@@ -1,23 +1,20 @@
 -- Routines that reach no wait call only such, and do not wait.
-use Rattle.std.specs.Prelude.{◌≡◌, ◌⊎◌, ℕ, zero, suc, Bool, true, false, not, ◌&&◌, ◌||◌, List, [], ◌∷◌, Option, Some, None, slice_get, length, Contains}
-use Rattle.std.proofs.Common.{inl, inr, refl, sym, ◌∙◌, ap, subst, arith}
+use Rattle.std.specs.Prelude.{◌≡◌, ◌⊎◌, ℕ, zero, suc, Bool, true, false, not, ◌||◌, List, [], ◌∷◌, Option, Some, None, slice_get, length, Contains}
+use Rattle.std.proofs.Common.{inl, inr, refl, sym, ◌∙◌, ap, subst}
 use Rattle.std.proofs.lemmas.Bool.{and_parts, and_from}
 use Rattle.rte_tree.specs.Plain.{Stmt, assign, assign_entry, assign_empty, perform, perform_entry, when, when_else, loop, exit_when, get, put, wait, signal, broadcast, except, assert, Stmts, no_stmts, stmts, Handler, Process, Prog}
 use Rattle.rte_source_meaning.specs.Names.{processes, routine_count}
 use Rattle.rte_emits.specs.Layout.{by_process}
-use Rattle.rte_emits.specs.Numbering.{Text, Called, called_text, routine_calls, stmts_calls, numbered}
-use Rattle.rte_emits.specs.Compiled.{process_scope}
-use Rattle.rte_wellformed.specs.Here.{in_process}
+use Rattle.rte_emits.specs.Numbering.{Text, Called, called_text, routine_calls, numbered}
 use Rattle.rte_wellformed.specs.WellFormed.{IsWellFormed, OptionalFits}
 use Rattle.rte_ruled.specs.Ruled.{NamesApart}
-use Rattle.rte_measured.specs.Sound.{SoundAll, SoundRoutine}
 use Rattle.rte_whole.specs.Quiet.{NoWait, NoWaits, IsQuietBelow, QuietHandler, AreQuiet}
 use Rattle.rte_numbered.specs.Numbered.{CallsText}
 use Rattle.rte_numbered.proofs.Lists.{contains_here, contains_later, contains_cases, nothing_in}
 use Rattle.rte_numbered.proofs.Numbered.{listed_text}
 use Rattle.rte_sound.proofs.Owners.{process_fits}
 use Rattle.rte_sound.proofs.Sound.{are_numbered, text_sound, part_sound, below, below_all}
-use Rattle.rte_quiet.specs.Quiet.{stmt_waits, stmts_wait, quiet_some, all_quiet, quiet_within, reaches_no_wait, HandlerQuiet, HandlersQuiet, QuietProgramsAreQuiet}
+use Rattle.rte_quiet.specs.Quiet.{stmt_waits, stmts_wait, quiet_some, all_quiet, quiet_within, reaches_no_wait, HandlersQuiet, QuietProgramsAreQuiet}
 
 no_true : false ≡ true → ⊥
 no_true e = cc

@@ -1,14 +1,14 @@
 -- Levels of all routines and entries: functions of the program, then entries, then procedures of the program, then routines of processes.
-use Rattle.std.specs.Prelude.{◌≡◌, ◌+◌, ◌<◌, ◌≤◌, ◌⊎◌, ℕ, zero, suc, Bool, true, false, cond, not, List, [], ◌∷◌, ◌++◌, Option, Some, None, IsSome, slice_get, length, option_map, is_some, count_by, Contains}
+use Rattle.std.specs.Prelude.{◌≡◌, ◌+◌, ◌<◌, ◌⊎◌, ℕ, Bool, true, false, cond, not, List, ◌∷◌, ◌++◌, Option, Some, None, IsSome, slice_get, option_map, is_some, count_by, Contains}
 use Rattle.std.proofs.Common.{inl, inr, refl, sym, ◌∙◌, ap, subst, arith, ltb}
 use Rattle.std.proofs.lemmas.Bool.{lt-ltb, ltb-true}
 use Rattle.std.proofs.lemmas.List.Sums.{count_by-le-length}
 use Rattle.rte_tree.specs.Plain.{Name, Answers, Expr, literal, truth, variable, element, call, minus, negation, paren, row, Exprs, no_exprs, exprs, Operands, no_operands, operand, Ref, whole, part, Stmt, assign, assign_entry, assign_empty, perform, perform_entry, when, when_else, loop, exit_when, get, put, wait, signal, broadcast, except, assert, Stmts, no_stmts, stmts, Routine, Monitor, Process, Prog}
 use Rattle.rte_source_meaning.specs.Names.{named, routines, monitors, processes, monitor_number, routine_count}
-use Rattle.rte_source_meaning.specs.Run.{Found, Home, of_program, of_process, of_monitor, or_else, entry_name, routine_named}
+use Rattle.rte_source_meaning.specs.Run.{Home, of_program, of_process, of_monitor, or_else, entry_name, routine_named}
 use Rattle.rte_source_meaning.specs.Nesting.{ExprBelow, ExprsBelow, OperandsBelow, RefBelow, StmtBelow, StmtsBelow, AnswersBelow, Levels}
-use Rattle.rte_emits.specs.Layout.{Owner, by_program, by_process, by_monitor, home_of}
-use Rattle.rte_emits.specs.Numbering.{Text, routine_of, process_routines, routine_in, entry_of, Called, calls_routine, calls_entry, called_text, expr_calls, exprs_calls, row_calls, ref_calls, stmt_calls, stmts_calls, answers_calls, routine_calls}
+use Rattle.rte_emits.specs.Layout.{Owner, by_program, by_process, by_monitor}
+use Rattle.rte_emits.specs.Numbering.{Text, routine_of, process_routines, entry_of, Called, calls_routine, calls_entry, called_text, expr_calls, exprs_calls, row_calls, ref_calls, stmt_calls, stmts_calls, answers_calls, routine_calls}
 use Rattle.rte_wellformed.specs.Here.{in_routine}
 use Rattle.rte_wellformed.specs.Statements.{may_call}
 use Rattle.rte_wellformed.specs.WellFormed.{IsWellFormed, RoutineFits}
@@ -17,7 +17,7 @@ use Rattle.rte_ruled.specs.Ruled.{NamesApart}
 use Rattle.rte_numbered.specs.Numbered.{texts, CallsText, AreLevels}
 use Rattle.rte_numbered.proofs.Lists.{count_lt}
 use Rattle.rte_numbered.proofs.Numbered.{text_listed, listed_text, texts_counted}
-use Rattle.rte_called.specs.Called.{AllCalled, FindsRoutine, FindsEntry, Finds}
+use Rattle.rte_called.specs.Called.{AllCalled, FindsRoutine, Finds}
 use Rattle.rte_called.proofs.Finding.{called_both, called_one, text_finds}
 use Rattle.rte_sound.proofs.Owners.{process_fits, first_process, program_fits, entry_fits, Listed, of_the_program, of_a_process, of_a_monitor, is_listed}
 

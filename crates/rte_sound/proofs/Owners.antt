@@ -1,20 +1,20 @@
 -- Where the texts of a program stand: the process that runs each as well-formedness sees it, and what its calls find.
-use Rattle.std.specs.Prelude.{◌≡◌, ◌<◌, ◌≤◌, ◌⊎◌, ℕ, zero, suc, Bool, true, false, not, List, [], ◌∷◌, ◌++◌, Option, Some, None, slice_get, length, option_map, is_some, All}
-use Rattle.std.proofs.Common.{inl, inr, refl, sym, ◌∙◌, ap, subst, arith}
-use Rattle.rte_tree.specs.Plain.{Name, Answers, Routine, Monitor, Process, Prog}
+use Rattle.std.specs.Prelude.{◌≡◌, ◌≤◌, ℕ, true, List, [], ◌∷◌, Option, Some, None, slice_get, length, option_map}
+use Rattle.std.proofs.Common.{refl, sym, ◌∙◌, ap, subst, arith}
+use Rattle.rte_tree.specs.Plain.{Name, Routine, Monitor, Process, Prog}
 use Rattle.rte_source_meaning.specs.Names.{named, routines, monitors, processes, monitor_number}
 use Rattle.rte_source_meaning.specs.Run.{Found, of_program, of_process, of_monitor, or_else, entry_name, routine_named, entry_named}
 use Rattle.rte_source_meaning.specs.Run.{entry_of as source_entry}
 use Rattle.rte_emits.specs.Layout.{Owner, by_program, by_process, by_monitor, home_of}
-use Rattle.rte_emits.specs.Numbering.{Text, routine_of, process_routines, routine_in, entry_of, entry_in, Called, calls_routine, calls_entry, called_text, routine_calls}
+use Rattle.rte_emits.specs.Numbering.{Text, routine_of, process_routines, routine_in, entry_of, entry_in, Called, calls_routine, calls_entry, routine_calls}
 use Rattle.rte_stands.specs.Memory.{Setting}
 use Rattle.rte_stands.specs.Proper.{found_of}
 use Rattle.rte_wellformed.specs.WellFormed.{IsWellFormed, RoutineFits, ProcessFits}
-use Rattle.rte_linked.proofs.Numbers.{none_some, some_same, text_named, IsText, found_there, of_list, monitor_there}
-use Rattle.rte_ruled.specs.Ruled.{OfProgram, AllOfProgram, NamesApart}
+use Rattle.rte_linked.proofs.Numbers.{none_some, some_same, IsText, found_there, of_list}
+use Rattle.rte_ruled.specs.Ruled.{AllOfProgram, NamesApart}
 use Rattle.rte_ruled.proofs.Mirror.{OwnerKnown}
 use Rattle.rte_ruled.proofs.Rules.{one_of}
-use Rattle.rte_called.specs.Called.{AllCalled, FindsRoutine, FindsEntry, Finds}
+use Rattle.rte_called.specs.Called.{AllCalled}
 
 -- what a call finds by the meaning is what it names in the code
 pub record Named (in_code : Option Text) (found : Found) : Type 0 where

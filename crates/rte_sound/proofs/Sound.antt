@@ -1,27 +1,25 @@
 -- Well-formed programs whose names stand apart are sound.
-use Rattle.std.specs.Prelude.{◌≡◌, ◌<◌, ◌++◌, ℕ, zero, suc, Bool, List, [], ◌∷◌, Option, Some, None, slice_get, length, Contains}
-use Rattle.std.proofs.Common.{refl, sym, ◌∙◌, ap, subst, arith}
+use Rattle.std.specs.Prelude.{◌≡◌, ◌<◌, ℕ, zero, suc, Bool, List, [], ◌∷◌, Option, Some, None, slice_get, length, Contains}
+use Rattle.std.proofs.Common.{sym, ◌∙◌, ap, subst, arith}
 use Rattle.rte_tree.specs.Plain.{Routine, Stmts, Handler, Process, Prog}
 use Rattle.rte_source_meaning.specs.Names.{processes}
-use Rattle.rte_source_meaning.specs.Run.{Found, of_process}
 use Rattle.rte_emits.specs.Layout.{Owner, by_process, home_of}
 use Rattle.rte_emits.specs.Numbering.{Text, Called, calls_routine, calls_entry, called_text, stmts_calls, answers_calls, routine_calls, numbered, number_of}
 use Rattle.rte_emits.specs.Compiled.{process_scope}
-use Rattle.rte_stands.specs.Proper.{found_of}
 use Rattle.rte_wellformed.specs.Here.{in_routine, in_process}
 use Rattle.rte_wellformed.specs.Statements.{AllFit, may_call}
 use Rattle.rte_wellformed.specs.WellFormed.{IsWellFormed, OptionalFits}
 use Rattle.rte_linked.proofs.Numbers.{none_some, IsText, called_is_text}
-use Rattle.rte_measured.specs.Sound.{SoundAll, SoundRoutine, SoundHandler, SoundProcess}
+use Rattle.rte_measured.specs.Sound.{SoundAll, SoundRoutine, SoundHandler}
 use Rattle.rte_whole.specs.Declared.{IsBelow, IsSound}
 use Rattle.rte_ruled.specs.Ruled.{NamesApart}
-use Rattle.rte_numbered.specs.Numbered.{texts, CallsText, AreNumbered}
+use Rattle.rte_numbered.specs.Numbered.{CallsText, AreNumbered}
 use Rattle.rte_numbered.proofs.Numbered.{text_listed, listed_text, routines_are_numbered}
 use Rattle.rte_called.specs.Called.{AllCalled, Finds}
 use Rattle.rte_called.proofs.Finding.{called_both, called_one, called_all, text_finds, stmts_find}
 use Rattle.rte_sound.specs.Sound.{RoutinesHaveNumbers, WellFormedProgramsAreSound}
-use Rattle.rte_sound.proofs.Texts.{Agrees, CallAgrees, routine_sound, own_sound}
-use Rattle.rte_sound.proofs.Owners.{Named, Means, Stands, setting_at, process_fits, text_stands, own_means}
+use Rattle.rte_sound.proofs.Texts.{CallAgrees, routine_sound, own_sound}
+use Rattle.rte_sound.proofs.Owners.{Means, setting_at, process_fits, text_stands, own_means}
 use Rattle.rte_sound.proofs.Levels.{level, are_levels}
 
 -- what a call finds is what it names, and may be called

@@ -1,7 +1,7 @@
 -- A text that fits where it stands is sound, where what it calls is what the meaning finds.
-use Rattle.std.specs.Prelude.{◌≡◌, ◌<◌, ◌++◌, ℕ, suc, false, List, [], ◌∷◌, Option, Some, None, slice_get, option_map, Contains}
+use Rattle.std.specs.Prelude.{◌≡◌, ◌<◌, ◌++◌, ℕ, List, [], ◌∷◌, Option, Some, None, slice_get, option_map, Contains}
 use Rattle.std.proofs.Common.{refl, sym, ◌∙◌, ap, subst, arith}
-use Rattle.rte_tree.specs.Plain.{Name, Param, Answers, Var, Routine, Monitor, Expr, literal, truth, variable, element, call, minus, negation, paren, row, Exprs, no_exprs, exprs, Operands, no_operands, operand, Ref, whole, part, Stmt, assign, assign_entry, assign_empty, perform, perform_entry, when, when_else, loop, exit_when, get, put, wait, signal, broadcast, except, assert, Stmts, no_stmts, stmts, Handler, Process, Prog}
+use Rattle.rte_tree.specs.Plain.{Name, Param, Answers, Var, Routine, Expr, literal, truth, variable, element, call, minus, negation, paren, row, Exprs, no_exprs, exprs, Operands, no_operands, operand, Ref, whole, part, Stmt, assign, assign_entry, assign_empty, perform, perform_entry, when, when_else, loop, exit_when, get, put, wait, signal, broadcast, except, assert, Stmts, no_stmts, stmts, Process, Prog}
 use Rattle.rte_source_meaning.specs.Names.{processes}
 use Rattle.rte_source_meaning.specs.Run.{Found, routine_named, entry_named}
 use Rattle.rte_emits.specs.Layout.{Owner, by_program, by_process, by_monitor, home_of, Spot, Scope, spot_of}
@@ -14,11 +14,11 @@ use Rattle.rte_stands.specs.Proper.{found_of}
 use Rattle.rte_stands.specs.Proper.{IsFree as IsFreeAs}
 use Rattle.rte_declarations.specs.declared.sort.Sort.{Sort}
 use Rattle.rte_declarations.specs.declared.sort.Sort.TheVariants as sort_is
-use Rattle.rte_wellformed.specs.Here.{meant, sort_of, own_of, in_routine, in_process, conditions_here}
+use Rattle.rte_wellformed.specs.Here.{meant, sort_of, own_of, in_process, conditions_here}
 use Rattle.rte_wellformed.specs.Typed.{answer_sort, params_of, IsOf, IsRow, AreArguments, IsTarget}
 use Rattle.rte_wellformed.specs.Statements.{Fits, AllFit}
-use Rattle.rte_wellformed.specs.WellFormed.{AnswersFit, RoutineFits, ProcessFits, OptionalFits}
-use Rattle.rte_measured.specs.Sound.{IsFree, SoundExpr, SoundRow, SoundArgs, SoundIndex, SoundRef, Sound, SoundAll, SoundAnswers, SoundRoutine, SoundHandler, SoundProcess}
+use Rattle.rte_wellformed.specs.WellFormed.{AnswersFit, RoutineFits}
+use Rattle.rte_measured.specs.Sound.{IsFree, SoundExpr, SoundRow, SoundArgs, SoundIndex, SoundRef, Sound, SoundAll, SoundAnswers, SoundRoutine}
 use Rattle.rte_ruled.proofs.Mirror.{here_of, OwnAt, OwnerKnown, SpotOf, routine_at, spot_meant, array_meant, free_meant, single_meant}
 use Rattle.rte_ruled.proofs.Turns.{turns_count}
 use Rattle.rte_called.specs.Called.{AllCalled}
@@ -53,7 +53,6 @@ module _ (e : Setting) (at : slice_get (processes e.program) e.number ≡ Some e
   Agree o c = CallAgrees e.program e.text may o c
 
   -- ---- what is called
-
 
   answers_some : (x : Option Found) (t : Text) (s : Sort) → x ≡ Some (found_of t) → answer_sort x ≡ Some s → (a : Answers) × (t.routine.answers ≡ Some a)
   answers_some x t s is h = by t.routine.answers (ap (λ y. answer_sort y) (sym is) ∙ h)
