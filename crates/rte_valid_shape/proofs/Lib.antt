@@ -1,0 +1,5 @@
+pub mod Rows
+pub mod Alike
+pub mod Shaping
+pub mod Kept
+pub mod Bodies
