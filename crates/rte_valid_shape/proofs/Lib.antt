@@ -3,3 +3,4 @@ pub mod Alike
 pub mod Shaping
 pub mod Kept
 pub mod Bodies
+pub mod Needs

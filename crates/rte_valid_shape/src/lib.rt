@@ -5,6 +5,10 @@
 //! of trees; what it comes to is kept in `Parts`, which the later tests read.
 #![tactic(auto)]
 
+mod costs;
 mod parts;
+mod sizes;
 
+pub use costs::cost_fault;
 pub use parts::{Parts, ProcessFound, shape_fault};
+pub use sizes::size_fault;
