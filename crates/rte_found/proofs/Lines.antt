@@ -1,10 +1,9 @@
 -- One more instruction of a Line.
-use Rattle.std.proofs.Common.{◌≡◌, ◌<◌, ◌+◌, ◌-◌, ℕ, zero, suc, Bool, true, false, List, Option, Some, None, arith, refl, ap, sym, ◌∙◌}
-use Rattle.std.specs.Prelude.{max, min, ◌&&◌, nat_le, slice_get}
+use Rattle.std.proofs.Common.{◌≡◌, ◌<◌, ◌+◌, ◌-◌, ℕ, suc, Bool, true, false, List, Option, Some, None, arith, refl, ap, sym, ◌∙◌}
+use Rattle.std.specs.Prelude.{◌&&◌, nat_le, slice_get}
 use Rattle.rte_isa.specs.declared.instr.Instr.{Instr}
 use Rattle.rte_isa.specs.Operands.{takes, gives}
 use Rattle.rte_isa.specs.Ticks.{ticks}
-use Rattle.rte_num.specs.Capped.{cap}
 use Rattle.rte_valid.specs.Found.{Found, amount, in_line, guard, joined, chain, plain_step, line}
 use Rattle.rte_valid_held.specs.Held.{held, hold, before}
 use Rattle.rte_valid_held.proofs.Holding.{holding_changes_nothing}

@@ -4,7 +4,7 @@ use Rattle.rte_isa.specs.declared.instr.Instr.{Instr}
 use Rattle.rte_isa.specs.Operands.{takes, gives}
 use Rattle.rte_isa.specs.Ticks.{ticks}
 use Rattle.rte_found.specs.declared.instructions.Effect.{Effect}
-use Rattle.rte_valid.specs.Found.{Found, amount, guard, in_line}
+use Rattle.rte_valid.specs.Found.{Found, amount, chain, guard, in_line}
 
 -- what an instruction of a Line takes and gives
 abbrev pub effect_of : Instr → Option Effect
@@ -16,3 +16,7 @@ step None h = None
 step (Some instr) h =
     guard (in_line instr && nat_le (takes instr) h)
     (Some (record { height = gives instr + (h - takes instr); cost = amount (ticks instr) 0 0; depth = gives instr + (h - takes instr) }))
+
+-- what is done inside a monitor, with ENTER and LEAVE
+abbrev pub stays_in : Option Found → Option Found
+stays_in x = chain x (λ h. Some (record { height = h; cost = amount 8 0 0; depth = 0 }))

@@ -3,6 +3,7 @@ use Rattle.std.specs.Prelude.{◌≡◌, ◌≤◌, ℕ, List, length, Option, S
 use Rattle.rte_isa.specs.declared.instr.Instr.{Instr}
 use Rattle.rte_found.specs.declared.known.Found.{Found}
 use Rattle.rte_found.specs.declared.known.Known.{Known}
+use Rattle.rte_found.specs.declared.known.PartFound.{PartFound}
 use Rattle.rte_valid.specs.Found as valid
 use Rattle.rte_valid.specs.Tables.{count}
 
@@ -13,6 +14,10 @@ found_of f = record { height = f.height; cost = f.cost; depth = f.depth }
 abbrev pub told : Option Found → Option valid.Found
 told None = None
 told (Some f) = Some (found_of f)
+
+abbrev pub told_part : Option PartFound → Option valid.Found
+told_part None = None
+told_part (Some f) = Some (found_of f.found)
 
 -- what is known of a routine
 abbrev pub known_of : Known → valid.Known

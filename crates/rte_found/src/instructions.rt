@@ -1,9 +1,9 @@
 //! Single instructions.
 
 ghost use Rattle.std.specs.Prelude.{◌≡◌, ◌≤◌, ◌<◌, IfSome, OnSome, length, slice_get};
-
 ghost use Rattle.rte_found.specs.Steps.{effect_of as defined_effect};
 ghost use Rattle.rte_valid.specs.Found.{is_pos};
+ghost use Rattle.rte_valid.specs.Tables.{count};
 
 use rte_isa::Instr;
 
@@ -43,7 +43,9 @@ pub fn effect_of(instr: Instr) -> Option<Effect>
         | Instr::Neg
         | Instr::Not
         | Instr::Range { .. } => plain(1, 1),
-        Instr::StoreLocalAt { .. } | Instr::StoreOwnAt { .. } | Instr::StoreMonAt { .. } => plain(2, 0),
+        Instr::StoreLocalAt { .. } | Instr::StoreOwnAt { .. } | Instr::StoreMonAt { .. } => plain(
+            2, 0,
+        ),
         Instr::And
         | Instr::Or
         | Instr::Add
@@ -88,3 +90,9 @@ pub fn is_number(operand: i32, number: usize) -> bool
     operand >= 0 && operand as usize == number
 }
 
+/// How many numbers a routine gives back.
+pub fn results(gives: bool) -> usize
+    ensures { result ≡ count gives }
+{
+    usize::from(gives)
+}

@@ -41,3 +41,11 @@ pub struct Found {
     /// The greatest height in it, held at 4,097.
     pub depth: u32,
 }
+
+/// What the code of a whole part comes to.
+#[derive(Clone, Copy, Debug, PartialEq, Eq)]
+pub struct PartFound {
+    pub found: Found,
+    /// The ticks from entering the monitor of an entry to leaving it, capped; 0 for other code.
+    pub stay: u64,
+}

@@ -9,10 +9,13 @@
 
 mod instructions;
 mod known;
+mod parts;
 mod seams;
 mod steps;
 mod trees;
+mod whole;
 
-pub use known::{Around, Found, Known, TOO_DEEP};
+pub use known::{Around, Found, Known, PartFound, TOO_DEEP};
+pub use parts::{entry_found, part_found, part_tree_found, routine_found};
 pub use trees::{line_found, seg_found, tree_end, tree_found};
-
+pub use whole::{depth, fits, worst};

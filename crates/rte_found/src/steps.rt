@@ -9,9 +9,11 @@ ghost use Rattle.rte_valid.specs.Found.{is_jump_zero as jumps_at_zero, is_reente
 ghost use Rattle.rte_valid.specs.Found.{limit_at as limits, loop as loops, wait};
 ghost use Rattle.rte_valid_held.specs.Held.{before, held, hold};
 
-use crate::instructions::{Effect, effect_of, instr_at};
+use crate::instructions::{Effect, effect_of, instr_at, results};
 use crate::known::{Found, Known, TOO_DEEP};
-use crate::seams::{is_call, is_exit, is_jump, is_jump_zero, is_reenter, is_repeat, is_repeats, limit_at};
+use crate::seams::{
+    is_call, is_exit, is_jump, is_jump_zero, is_reenter, is_repeat, is_repeats, limit_at,
+};
 use rte_isa::{Instr, ticks};
 use rte_num::{Cost, OVER, cap_add};
 
@@ -118,7 +120,14 @@ pub fn forked(jump_zero: Instr, jump: Instr, first: &Found, second: &Found) -> O
 }
 
 /// A loop: REPS, a turn from the address on, REP.
-pub fn repeated(turns: u32, first: Instr, last: Instr, start: usize, height: usize, turn: &Found) -> Option<Found>
+pub fn repeated(
+    turns: u32,
+    first: Instr,
+    last: Instr,
+    start: usize,
+    height: usize,
+    turn: &Found,
+) -> Option<Found>
     requires held { IsHeld turn.now }
     requires room { turn.now.next + 1 ≤ usize.MAX }
     ensures value { told result ≡ hold (guard (nat_lt 0 turns && (begins turns (Some first) && repeats start (Some last))) (loops turns height (Some (found_of turn.now)))) }
@@ -143,7 +152,13 @@ pub fn repeated(turns: u32, first: Instr, last: Instr, start: usize, height: usi
 }
 
 /// The call of a routine, with what is known of it.
-pub fn called(known: &[Known], routine: u16, instr: Instr, next: usize, height: usize) -> Option<Found>
+pub fn called(
+    known: &[Known],
+    routine: u16,
+    instr: Instr,
+    next: usize,
+    height: usize,
+) -> Option<Found>
     requires { height + 1 ≤ next }
     ensures value { told result ≡ hold (guard (calls routine (Some instr)) (call height (slice_get (map known_of known.now) routine))) }
     ensures ends { IfSome result (λ f. (f.next ≡ next) × (f.height ≤ next) × IsHeld f) }
@@ -153,7 +168,7 @@ pub fn called(known: &[Known], routine: u16, instr: Instr, next: usize, height: 
     }
     let known = known_at(known, routine as usize)?;
     let below = height.checked_sub(known.params as usize)?;
-    let height = below + usize::from(known.result);
+    let height = below + results(known.result);
     let inside = u64::from(depth_of(below)) + 2 + u64::from(known.locals) + u64::from(known.depth);
     Some(Found {
         next,
@@ -174,7 +189,13 @@ fn known_at(known: &[Known], routine: usize) -> Option<Known>
 }
 
 /// WAIT, and REENT of the monitor held.
-pub fn waited(monitor: Option<u16>, first: Instr, second: Instr, next: usize, height: usize) -> Option<Found>
+pub fn waited(
+    monitor: Option<u16>,
+    first: Instr,
+    second: Instr,
+    next: usize,
+    height: usize,
+) -> Option<Found>
     ensures value { told result ≡ hold (guard (reenters monitor (Some second)) (wait height (limits (Some first)))) }
     ensures ends { IfSome result (Reaches next height) }
 {

@@ -77,7 +77,14 @@ pub fn line_found(code: &[Instr], count: u32, at: usize, height: usize) -> Optio
 
 /// What a segment comes to.
 #[cycle(trees)]
-pub fn seg_found(code: &[Instr], known: &[Known], around: Around, seg: &Seg, at: usize, height: usize) -> Option<Found>
+pub fn seg_found(
+    code: &[Instr],
+    known: &[Known],
+    around: Around,
+    seg: &Seg,
+    at: usize,
+    height: usize,
+) -> Option<Found>
     requires low { height ≤ at }
     ensures value { told result ≡ hold (found code.now (map known_of known.now) around.out around.held (view seg.now) at height) }
     ensures ends { IfSome result (EndsAt code.now (at + size_of (view seg.now))) }
@@ -120,7 +127,14 @@ pub fn seg_found(code: &[Instr], known: &[Known], around: Around, seg: &Seg, at:
 
 /// What segments side by side come to.
 #[cycle(trees)]
-pub fn tree_found(code: &[Instr], known: &[Known], around: Around, tree: &[Seg], at: usize, height: usize) -> Option<Found>
+pub fn tree_found(
+    code: &[Instr],
+    known: &[Known],
+    around: Around,
+    tree: &[Seg],
+    at: usize,
+    height: usize,
+) -> Option<Found>
     requires low { height ≤ at }
     requires within { at ≤ length code.now }
     ensures value { told result ≡ hold (founds code.now (map known_of known.now) around.out around.held (views tree.now) at height) }

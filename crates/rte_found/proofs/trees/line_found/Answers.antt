@@ -1,5 +1,5 @@
 use Rattle.std.proofs.Common.{◌≡◌, ℕ, ◌+◌, ◌-◌, arith, ap, sym, ◌∙◌}
-use Rattle.rte_found.specs.Told.{IsHeld, found_of}
+use Rattle.rte_found.specs.Told.{found_of}
 use Rattle.rte_valid.specs.Found.{joined, line}
 use Rattle.rte_valid_held.specs.Held.{hold}
 use Rattle.rte_found.proofs.Lines.{on}
