@@ -4,7 +4,7 @@ use Rattle.std.specs.Prelude.{cond, nat_eq, option_map, slice_get}
 use Rattle.std.proofs.lemmas.Bool.{cases_lt}
 use Rattle.std.proofs.lemmas.Grind.{common_steps}
 use Rattle.std.proofs.lemmas.List.{length-map, map-append, take_all}
-use Rattle.std.proofs.Math.ListN.{get_or-append}
+use Rattle.std.proofs.Math.ListN.{get_or-append, length-append}
 use Rattle.std.proofs.Math.Seq.{get_or-append_seam}
 use Rattle.std.specs.Option.{option_or}
 use Rattle.rte_isa.specs.declared.instr.Instr.{Instr}
@@ -170,3 +170,8 @@ owner_found image starts marks held n a owner next s m h low o is =
 
 pub owner_on : (image : Image) (a : ℕ) (next : Option ℕ) → next ≡ owner_at image a → next ≡ owner_before image (a + 1)
 owner_on image a next is = let e : suc a ≡ a + 1 = omega arith in is ∙ ap (λ b. owner_before image b) e
+
+pub pieces_long : (image : Image) → length (pieces image) ≡ length image.routines + length image.processes
+pieces_long image =
+    let a = length-append (map piece_of_routine image.routines) (map piece_of_process image.processes) in
+    omega (arith, a, length-map image.routines piece_of_routine, length-map image.processes piece_of_process)

@@ -88,3 +88,11 @@ pub fn addresses_by_piece(alloc: Global, image: &RawImage) -> Result<Vec<List<us
     }
     Ok(all)
 }
+
+/// The numbers of a piece, by its number.
+pub fn of_piece(all: &[List<usize>], piece: usize) -> &[usize]
+    requires { piece < length all.now }
+    ensures { result.now ≡ slice_index_or all.now piece [] }
+{
+    all[piece].as_slice()
+}
