@@ -1,7 +1,7 @@
 -- The deadlines of an image as it stands in a file.
-use Rattle.std.proofs.Common.{◌≡◌, ◌<◌, ◌+◌, ◌++◌, ℕ, zero, suc, List, [], ◌∷◌, drop, length, Option, Some, None, arith, refl, ap, sym, ◌∙◌, map, get_or}
+use Rattle.std.proofs.Common.{◌≡◌, ◌≤◌, ◌<◌, ◌+◌, ◌++◌, ℕ, zero, suc, List, [], ◌∷◌, drop, length, Option, Some, None, arith, refl, ap, sym, ◌∙◌, map, get_or}
 use Rattle.std.specs.Prelude.{◌&&◌, ◌||◌, nat_eq, nat_lt, nat_le, cond, slice_get}
-use Rattle.std.proofs.lemmas.List.{length-map, drop_more}
+use Rattle.std.proofs.lemmas.List.{length-map, drop_more, get_or_past}
 use Rattle.std.proofs.lemmas.Option.{slice_get-map, slice_get-get_or}
 use Rattle.rte_image.specs.declared.raw.RawImage.{RawImage}
 use Rattle.rte_image.specs.declared.raw.RawMon.{RawMon}
@@ -53,10 +53,8 @@ pub enters_is : (image : Image) (k m : ℕ) (o : Option ℕ) → o ≡ stay_of_p
 enters_is image k m o is = ap (λ x. is_some x) (sym is)
 
 -- nothing is told of a monitor that is not there
-pub stay_past : (rows : List (List (Option ℕ))) (k m : ℕ) → None ≡ slice_get rows m → None ≡ stay_in rows k m
-stay_past [] k m is = refl
-stay_past (row ∷ rows) k zero is = absurd cc
-stay_past (row ∷ rows) k (suc m) is = stay_past rows k m is
+pub stay_past : (rows : List (List (Option ℕ))) (k m : ℕ) → length rows ≤ m → None ≡ stay_in rows k m
+stay_past rows k m past = sym (ap (λ row. get_or row k None) (get_or_past rows m [] past))
 
 -- ---- rows
 

@@ -37,6 +37,7 @@ impl Stays {
 }
 
 /// What the rows say of the process and the monitor; nothing past their ends.
+#[tactic(auto, using(crate::proofs::Deadlines::stay_past))]
 fn stay_at(rows: &[List<Option<u32>>], process: usize, monitor: usize) -> Option<u32>
     ensures { result ≡ stay_in rows.now process monitor }
 {
