@@ -32,12 +32,7 @@ fn some_is_bound(bounds: &[bool], called: &[usize]) -> bool
 
 /// Whether the next routine reaches such code, by the rows of those before it: where it is one of a process or an entry,
 /// or calls one that does.
-fn next_is_bound(
-    image: &RawImage,
-    bounds: &[bool],
-    calls: &[List<usize>],
-    number: usize,
-) -> bool
+fn next_is_bound(image: &RawImage, bounds: &[bool], calls: &[List<usize>], number: usize) -> bool
     requires calls { AreCalls (image_of image.now) calls.now }
     requires rows { AreFirstBounds (image_of image.now) number bounds.now }
     requires there { number < length image.now.routines }

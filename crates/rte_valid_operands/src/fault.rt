@@ -67,11 +67,7 @@ fn fault_in_piece(
 }
 
 /// The first fault in the code of routines.
-fn routines_fault(
-    image: &RawImage,
-    bounds: &[bool],
-    addresses: &[List<usize>],
-) -> Option<Shown>
+fn routines_fault(image: &RawImage, bounds: &[bool], addresses: &[List<usize>]) -> Option<Shown>
     requires bounds { AreBounds (image_of image.now) bounds.now }
     requires addresses { AreOwned (image_of image.now) addresses.now }
     ensures { told result ≡ routines_operand_fault (image_of image.now) }
@@ -94,11 +90,7 @@ fn routines_fault(
 }
 
 /// The first fault in the code of processes.
-fn processes_fault(
-    image: &RawImage,
-    bounds: &[bool],
-    addresses: &[List<usize>],
-) -> Option<Shown>
+fn processes_fault(image: &RawImage, bounds: &[bool], addresses: &[List<usize>]) -> Option<Shown>
     requires bounds { AreBounds (image_of image.now) bounds.now }
     requires addresses { AreOwned (image_of image.now) addresses.now }
     requires few { length image.now.processes ≤ 64 }

@@ -6,7 +6,9 @@ ghost use Rattle.rte_num.specs.Words.{is_word};
 ghost use Rattle.rte_valid.specs.Operands as defined;
 ghost use Rattle.rte_valid_operands.specs.Seen.{area_of, natural_of, whose_of, AreBounds};
 
-use crate::words::{Area, Whose, in_area, is_between, local_words, monitor_words, natural, own_words};
+use crate::words::{
+    Area, Whose, in_area, is_between, local_words, monitor_words, natural, own_words,
+};
 use rte_image::RawImage;
 use rte_isa::Instr;
 
@@ -125,8 +127,7 @@ fn may_call(image: &RawImage, bounds: &[bool], whose: Whose, routine: i32) -> bo
     let number = number as usize;
     match image.routines.get(number) {
         Some(found) => {
-            let is_open =
-                found.kind != 1 || (whose.kind == 1 && found.owner == whose.owner);
+            let is_open = found.kind != 1 || (whose.kind == 1 && found.owner == whose.owner);
             let is_bound = number < bounds.len() && bounds[number];
             number < whose.number && is_open && !(whose.kind == 2 && is_bound)
         }

@@ -101,7 +101,7 @@ start_below (x ∷ xs) k n a long = below_or n (last_start xs (suc k) a) _ (star
 
 next_below : (image : Image) (a : ℕ) → IsBelow (length (pieces image)) (owner_before image a) → IsBelow (length (pieces image)) (owner_at image a)
 next_below image a earlier = subst (λ o. IsBelow (length (pieces image)) o) (sym (owner_next image a)) (below_or (length (pieces image)) (last_start (map start_of (pieces image)) 0 a) (owner_before image a)
-  (start_below (map start_of (pieces image)) 0 (length (pieces image)) a (omega (arith, length-map (pieces image) start_of))) earlier)
+    (start_below (map start_of (pieces image)) 0 (length (pieces image)) a (omega (arith, length-map (pieces image) start_of))) earlier)
 
 before_below : (image : Image) (a : ℕ) → IsBelow (length (pieces image)) (owner_before image a)
 before_below image zero = tt

@@ -51,11 +51,7 @@ fn no_addresses(alloc: Global, count: usize) -> Result<Vec<List<usize>>, AllocEr
 }
 
 /// Gives the address to the piece that it belongs to, if it belongs to one.
-fn give(
-    all: &mut Vec<List<usize>>,
-    owner: Option<usize>,
-    address: usize,
-) -> Result<(), AllocError>
+fn give(all: &mut Vec<List<usize>>, owner: Option<usize>, address: usize) -> Result<(), AllocError>
     requires { IsBelow (length all.old.items) owner }
     ensures { OnOk result (IsGiven owner address all.old.items all.new.items) }
 {

@@ -51,7 +51,11 @@ fn stay_at(rows: &[List<Option<u32>>], process: usize, monitor: usize) -> Option
 fn row_at(row: &[Option<u32>], number: usize) -> Option<u32>
     ensures { result ≡ slice_index_or row.now number None }
 {
-    if number < row.len() { row[number] } else { None }
+    if number < row.len() {
+        row[number]
+    } else {
+        None
+    }
 }
 
 /// The longer of two stays, where there are any.

@@ -9,5 +9,5 @@ pub loop-monitor-preserved : goal.loop-monitor-preserved
 loop-monitor-preserved c = record {
   one_each = grind (arith, common_steps);
   each = one_more (λ m row. AreStaysOfProcesses (image_of c.args.image.now) m row) c.loop-monitor.by_monitor c.push.new.self c.in_ok-of_processes.field-0 [] c.loop-monitor.monitor c.loop-monitor.invariant.one_each c.in_ok-push.ensures.ok
-  c.loop-monitor.invariant.each c.in_ok-of_processes.ensures;
+      c.loop-monitor.invariant.each c.in_ok-of_processes.ensures;
 }
