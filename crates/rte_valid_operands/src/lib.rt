@@ -11,3 +11,6 @@ mod operand;
 mod words;
 
 pub use fault::operand_fault;
+
+#[cfg(test)]
+mod tests;
