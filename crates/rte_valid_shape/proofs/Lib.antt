@@ -1,0 +1,6 @@
+pub mod Rows
+pub mod Alike
+pub mod Shaping
+pub mod Kept
+pub mod Bodies
+pub mod Needs
