@@ -8,10 +8,9 @@ use Rattle.rte_image.specs.declared.raw.RawProc.{RawProc}
 use Rattle.rte_image.specs.Raw.{image_of, routine_of, process_of}
 use Rattle.rte_machine_meaning.specs.Trees.{Segs, size}
 use Rattle.rte_machine_meaning.specs.Image.{Process}
-use Rattle.rte_isa.specs.declared.instr.Instr.{Instr}
 use Rattle.rte_seg.specs.View.{views}
 use Rattle.rte_valid.specs.Fault.{Fault, unless, first_of, of_some, first_in}
-use Rattle.rte_valid.specs.Found.{Known, Found}
+use Rattle.rte_valid.specs.Found.{Found}
 use Rattle.rte_valid.specs.Pieces.{pieces, piece_of_routine, piece_of_process, due_start, end_of_piece, handler_length, piece_number}
 use Rattle.rte_valid.specs.Shape.{is_found, process_shape_fault}
 use Rattle.rte_valid.specs.Tables.{known, part_found, body_found, handler_found, handler_start}
@@ -22,7 +21,7 @@ use Rattle.rte_found.specs.Told.{known_of}
 use Rattle.rte_valid_shape.specs.declared.parts.Parts.{Parts}
 use Rattle.rte_valid_shape.specs.declared.parts.ProcessFound.{ProcessFound}
 use Rattle.rte_valid_shape.specs.Found.{AreAlike, Two, two, guard_two, told_process, handler_in}
-use Rattle.rte_valid_shape.specs.Parts.{IsKept, AreRoutines, AreProcesses, AreParts}
+use Rattle.rte_valid_shape.specs.Parts.{IsKept, AreRoutines, AreParts}
 use Rattle.rte_valid_shape.proofs.Rows.{append_back}
 use Rattle.rte_valid_shape.proofs.Alike.{part_alike}
 use Rattle.rte_valid_shape.proofs.Shaping.{cases, pushed_before, pushed_last}

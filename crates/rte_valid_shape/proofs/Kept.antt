@@ -1,28 +1,26 @@
 -- The next routine is kept, and all of them.
-use Rattle.std.proofs.Common.{◌≡◌, ◌≤◌, ◌<◌, ◌+◌, ◌-◌, ◌++◌, inl, inr, ℕ, suc, Bool, true, false, List, [], ◌∷◌, length, Option, Some, None, arith, refl, ap, sym, subst, ◌∙◌, map}
-use Rattle.std.specs.Prelude.{◌&&◌, nat_eq, IfSome, option_map, take, slice_get}
+use Rattle.std.proofs.Common.{◌≡◌, ◌<◌, ◌+◌, ◌-◌, ◌++◌, inl, inr, ℕ, true, List, [], ◌∷◌, length, Some, None, arith, ap, sym, subst, ◌∙◌, map}
+use Rattle.std.specs.Prelude.{◌&&◌, nat_eq, option_map, take, slice_get}
 use Rattle.std.proofs.lemmas.Bool.{cases_lt}
 use Rattle.std.proofs.lemmas.List.{length-map, length-append}
-use Rattle.std.proofs.lemmas.Option.{slice_get-map, slice_get_past, slice_get_within}
+use Rattle.std.proofs.lemmas.Option.{slice_get_past, slice_get_within}
 use Rattle.rte_num.specs.Capped.{cap}
 use Rattle.rte_image.specs.declared.raw.RawImage.{RawImage}
 use Rattle.rte_image.specs.declared.raw.RawRoutine.{RawRoutine}
 use Rattle.rte_image.specs.Raw.{image_of, routine_of}
 use Rattle.rte_machine_meaning.specs.Trees.{size}
-use Rattle.rte_machine_meaning.specs.Image.{Routine}
 use Rattle.rte_seg.specs.View.{views}
 use Rattle.rte_valid.specs.Fault.{unless, first_of, first_in}
-use Rattle.rte_valid.specs.Found.{Found, guard}
+use Rattle.rte_valid.specs.Found.{guard}
 use Rattle.rte_valid.specs.Pieces.{pieces, due_start}
 use Rattle.rte_valid.specs.Shape.{is_found, routine_shape_fault}
-use Rattle.rte_valid.specs.Sizes.{needed_stay}
 use Rattle.rte_valid.specs.Tables as tables
 use Rattle.rte_valid.specs.Tables.{known, monitor_of, routine_found, found_or_nothing}
 use Rattle.rte_valid_code.proofs.Searching.{none_here, none_left, of_element}
-use Rattle.rte_valid_held.specs.Held.{held, hold, held_known}
+use Rattle.rte_valid_held.specs.Held.{hold, held_known}
 use Rattle.rte_found.specs.declared.known.Known as code
 use Rattle.rte_found.specs.declared.known.PartFound.{PartFound}
-use Rattle.rte_found.specs.Told.{found_of, known_of, told_part}
+use Rattle.rte_found.specs.Told.{found_of, known_of}
 use Rattle.rte_found.specs.Whole.{stay_in}
 use Rattle.rte_valid_shape.specs.declared.parts.Parts.{Parts}
 use Rattle.rte_valid_shape.specs.Found.{AreAlike}
@@ -30,7 +28,6 @@ use Rattle.rte_valid_shape.specs.Parts.{IsKept, AreRoutines}
 use Rattle.rte_valid_shape.proofs.Rows.{take_get, table_length, row_is}
 use Rattle.rte_valid_shape.proofs.Alike.{routine_alike, needed}
 use Rattle.rte_valid_shape.proofs.Shaping.{Before, test_at, here, same_due, shape_some, both_true, piece_here, cases, pushed_before, pushed_last, row_of, row_held, rows_on}
-
 
 pub on : (raw : RawImage) (parts new : Parts) (r : ℕ) (x : RawRoutine) (part : PartFound) (row : code.Known) → Before raw parts r → slice_get raw.routines r ≡ Some x
     → Some (found_of part.found) ≡ hold (guard (nat_eq x.start parts.end) (routine_found raw.code (map known_of parts.known) (routine_of x)))
@@ -53,7 +50,7 @@ on raw parts new r x part row before is some next within stays row-is known-is r
       due = omega (arith, end-is, next, piece_here raw r x is);
       within = omega (arith, end-is, within);
       known_rows = (let P : List code.Known → Type 0 = λ ks. AreAlike (map known_of ks) (take (r + 1) (known (image_of raw))) in
-        subst P (sym known-is) (rows_on parts.known row (known (image_of raw)) r _ before.known_count before.known_rows here-row same-row));
+          subst P (sym known-is) (rows_on parts.known row (known (image_of raw)) r _ before.known_count before.known_rows here-row same-row));
       known_count = ap length known-is ∙ length-append parts.known (row ∷ []) ∙ ap (λ n. n + 1) before.known_count;
       count = ap length routines-is ∙ length-append parts.routines (part ∷ []) ∙ ap (λ n. n + 1) before.count;
       kept = λ j y less at. elim (cases j r) [

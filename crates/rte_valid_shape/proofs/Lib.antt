@@ -4,3 +4,4 @@ pub mod Shaping
 pub mod Kept
 pub mod Bodies
 pub mod Needs
+pub mod Waiting

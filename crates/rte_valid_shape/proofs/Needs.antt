@@ -11,7 +11,7 @@ use Rattle.rte_image.specs.declared.raw.RawRoutine.{RawRoutine}
 use Rattle.rte_image.specs.Raw.{image_of, process_of, routine_of}
 use Rattle.rte_machine_meaning.specs.Image.{Routine, Process}
 use Rattle.rte_valid.specs.Fault.{Fault, or_else, first_of, of_some, first_in}
-use Rattle.rte_valid.specs.Found.{Found, amount, longer, plus}
+use Rattle.rte_valid.specs.Found.{Found, longer, plus}
 use Rattle.rte_valid.specs.Sizes.{below, with_dispatch, needed_stay, needed_stack, routine_cost_fault, process_cost_fault}
 use Rattle.rte_valid.specs.Tables.{known, routine_found, body_found, handler_found, found_or_nothing}
 use Rattle.rte_valid_code.proofs.Searching.{none_here, one_here, none_left, of_element, at_image}
@@ -93,8 +93,8 @@ run_told over run waits b h run-is waits-is =
     let dispatch : cap (2 * over * (1 + waits)) ≡ cap (2 * over * (1 + (b.waits + h.waits))) = dispatched over waits (b.waits + h.waits) (omega (arith, waits-is)) in
     let twice : cap (cap (2 * over * (1 + waits))) ≡ cap (2 * over * (1 + (b.waits + h.waits))) = (let i : cap (cap (2 * over * (1 + waits))) ≡ cap (2 * over * (1 + waits)) = again (2 * over * (1 + waits)) in i ∙ dispatch) in
     sums run (cap (2 * over * (1 + waits))) (4 + (b.run + h.run)) (2 * over * (1 + (b.waits + h.waits))) more twice where
-  again : (n : ℕ) → cap (cap n) ≡ cap n
-  again n = omega arith
+      again : (n : ℕ) → cap (cap n) ≡ cap n
+      again n = omega arith
 
 both_found : (x y : Option Found) (t : Two) → Some t ≡ two (hold x) (hold y) → (t.body ≡ held (found_or_nothing x)) × (t.handler ≡ held (found_or_nothing y))
 both_found None y t is = absurd cc

@@ -1,34 +1,28 @@
 -- One routine after the other: what is kept, and what is due.
-use Rattle.std.proofs.Common.{◌≡◌, ◌≤◌, ◌<◌, ◌+◌, ◌-◌, ◌++◌, ◌⊎◌, inl, inr, ℕ, zero, suc, Bool, true, false, List, [], ◌∷◌, length, Option, Some, None, arith, refl, ap, sym, subst, ◌∙◌, map, cond}
-use Rattle.std.specs.Prelude.{◌&&◌, min, nat_eq, nat_le, IfSome, option_map, take, slice_get}
+use Rattle.std.proofs.Common.{◌≡◌, ◌≤◌, ◌<◌, ◌+◌, ◌-◌, ◌++◌, ◌⊎◌, inl, inr, ℕ, suc, Bool, true, false, List, [], ◌∷◌, length, Option, Some, None, arith, refl, ap, sym, ◌∙◌, map}
+use Rattle.std.specs.Prelude.{◌&&◌, min, nat_eq, option_map, take, slice_get}
 use Rattle.std.proofs.lemmas.Bool.{cases_lt}
-use Rattle.std.proofs.lemmas.List.{length-map, map-append, length-append}
+use Rattle.std.proofs.lemmas.List.{length-map, length-append}
 use Rattle.std.proofs.lemmas.Option.{slice_get-map, slice_get_past, slice_get_within}
-use Rattle.rte_isa.specs.declared.instr.Instr.{Instr}
 use Rattle.rte_num.specs.Capped.{cap}
 use Rattle.rte_image.specs.declared.raw.RawImage.{RawImage}
 use Rattle.rte_image.specs.declared.raw.RawRoutine.{RawRoutine}
-use Rattle.rte_image.specs.Raw.{image_of, routine_of, process_of}
+use Rattle.rte_image.specs.Raw.{image_of, routine_of}
 use Rattle.rte_machine_meaning.specs.Trees.{size}
-use Rattle.rte_machine_meaning.specs.Image.{Routine}
 use Rattle.rte_seg.specs.View.{views}
 use Rattle.rte_valid.specs.Fault.{Fault, unless, first_of, of_some, first_in}
 use Rattle.rte_valid.specs.Found.{Known, Found, amount, guard}
 use Rattle.rte_valid.specs.Pieces.{pieces, piece_of_routine, piece_of_process, due_start, end_of_piece}
 use Rattle.rte_valid.specs.Shape.{is_found, routine_shape_fault}
-use Rattle.rte_valid.specs.Sizes.{needed_stay}
-use Rattle.rte_valid.specs.Tables as tables
-use Rattle.rte_valid.specs.Tables.{table, count, known, monitor_of, routine_found, found_or_nothing}
-use Rattle.rte_valid_code.proofs.Searching.{none_here, one_here, none_left, of_element, at_image}
+use Rattle.rte_valid.specs.Tables.{count, known, routine_found, found_or_nothing}
+use Rattle.rte_valid_code.proofs.Searching.{one_here, of_element, at_image}
 use Rattle.rte_valid_held.specs.Held.{held, hold, held_known}
 use Rattle.rte_found.specs.declared.known.Known as code
-use Rattle.rte_found.specs.declared.known.PartFound.{PartFound}
-use Rattle.rte_found.specs.Told.{found_of, known_of, told_part}
-use Rattle.rte_found.specs.Whole.{stay_in}
+use Rattle.rte_found.specs.Told.{known_of}
 use Rattle.rte_valid_shape.specs.declared.parts.Parts.{Parts}
 use Rattle.rte_valid_shape.specs.Found.{AreAlike}
-use Rattle.rte_valid_shape.specs.Parts.{IsKept, AreRoutines}
-use Rattle.rte_valid_shape.proofs.Rows.{take_get, take_past, append_front, append_back, table_length, row_is}
+use Rattle.rte_valid_shape.specs.Parts.{IsKept}
+use Rattle.rte_valid_shape.proofs.Rows.{take_get, take_past, append_front, append_back}
 use Rattle.rte_valid_shape.proofs.Alike.{routine_alike}
 
 abbrev pub test_at : RawImage → ℕ → Option Fault
@@ -146,5 +140,6 @@ rows_on ks k rows r row long alike at same j = elim (cases j r) [
 ] where
   slice : (i : ℕ) → option_map held_known (slice_get (map known_of (ks ++ k ∷ [])) i) ≡ option_map held_known (option_map known_of (slice_get (ks ++ k ∷ []) i))
   slice i = ap (option_map held_known) (slice_get-map known_of (ks ++ k ∷ []) i)
+
   whole : (i : ℕ) → option_map held_known (slice_get (map known_of ks) i) ≡ option_map held_known (option_map known_of (slice_get ks i))
   whole i = ap (option_map held_known) (slice_get-map known_of ks i)

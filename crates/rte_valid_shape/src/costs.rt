@@ -61,8 +61,14 @@ fn routine_fault(routine: &RawRoutine, part: &PartFound) -> Option<Shown>
     ensures { shown result ≡ routine_needs (routine_of routine.now) (found_of part.now.found) part.now.stay }
 {
     let cost = &part.found.cost;
-    let times = first_fault(below(u64::from(routine.run), cap_sum(4, cost.run)), below(u64::from(routine.susp), cost.susp.min(OVER)));
-    let stays = first_fault(below(u64::from(routine.waits), cost.waits.min(OVER)), below(u64::from(routine.stay), part.stay));
+    let times = first_fault(
+        below(u64::from(routine.run), cap_sum(4, cost.run)),
+        below(u64::from(routine.susp), cost.susp.min(OVER)),
+    );
+    let stays = first_fault(
+        below(u64::from(routine.waits), cost.waits.min(OVER)),
+        below(u64::from(routine.stay), part.stay),
+    );
     first_fault(times, stays)
 }
 
@@ -82,7 +88,10 @@ fn process_fault(over: u16, process: &RawProc, found: &ProcessFound) -> Option<S
     let handler = &found.handler.cost;
     let susp = below(u64::from(process.susp), cap_sum(body.susp, handler.susp));
     let waits = below(u64::from(process.waits), cap_sum(body.waits, handler.waits));
-    first_fault(below(u64::from(process.run), process_run(over, body, handler)), first_fault(susp, waits))
+    first_fault(
+        below(u64::from(process.run), process_run(over, body, handler)),
+        first_fault(susp, waits),
+    )
 }
 
 fn routines_fault(raw: &RawImage, parts: &Parts) -> Option<Shown>

@@ -6,9 +6,11 @@
 #![tactic(auto)]
 
 mod costs;
+mod handlers;
 mod parts;
 mod sizes;
 
 pub use costs::cost_fault;
+pub use handlers::{handler_fault, tree_waits, waits_table};
 pub use parts::{Parts, ProcessFound, shape_fault};
 pub use sizes::size_fault;

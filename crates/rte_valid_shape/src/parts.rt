@@ -82,7 +82,12 @@ fn known_routine(routine: &RawRoutine, depth: u32) -> Known
 }
 
 /// The code of a routine, which has to start at an address.
-fn routine_due(code: &[Instr], known: &[Known], routine: &RawRoutine, due: usize) -> Option<PartFound>
+fn routine_due(
+    code: &[Instr],
+    known: &[Known],
+    routine: &RawRoutine,
+    due: usize,
+) -> Option<PartFound>
     requires { due ≤ length code.now }
     ensures value { told_part result ≡ hold (guard (nat_eq routine.now.start due) (defined_routine code.now (map known_of known.now) (routine_of routine.now))) }
     ensures ends { IfSome result (λ f. f.found.next ≡ routine.now.start + size (views routine.now.tree)) }
@@ -117,7 +122,12 @@ fn handler_found(code: &[Instr], known: &[Known], tree: &Option<Segs>, at: usize
 }
 
 /// The code of a process, which has to start at an address.
-fn process_due(code: &[Instr], known: &[Known], process: &RawProc, due: usize) -> Option<ProcessFound>
+fn process_due(
+    code: &[Instr],
+    known: &[Known],
+    process: &RawProc,
+    due: usize,
+) -> Option<ProcessFound>
     requires { due ≤ length code.now }
     ensures value { told_process result ≡ guard_two (nat_eq process.now.start due) (two (hold (defined_part code.now (map known_of known.now) (views process.now.body) process.now.start)) (hold (handler_in code.now (map known_of known.now) (option_map views process.now.handler_tree) (handler_start (process_of process.now))))) }
     ensures ends { IfSome result (λ f. f.end ≡ handler_start (process_of process.now) + handler_length (option_map views process.now.handler_tree)) }
@@ -156,7 +166,12 @@ fn routines_fault(raw: &RawImage, parts: &mut Parts) -> Result<Option<Shown>, Al
     ensures processes { parts.new.processes ≡ parts.old.processes }
 {
     for routine in raw.routines.as_slice() {
-        let part = match routine_due(raw.code.as_slice(), parts.known.as_slice(), routine, parts.end) {
+        let part = match routine_due(
+            raw.code.as_slice(),
+            parts.known.as_slice(),
+            routine,
+            parts.end,
+        ) {
             Some(part) => part,
             None => return Ok(Some(wrong_from(routine.start))),
         };
@@ -178,7 +193,12 @@ fn processes_fault(raw: &RawImage, parts: &mut Parts) -> Result<Option<Shown>, A
     ensures end { IfOk result (λ o. IfNone o (parts.new.end ≡ due_start (pieces (image_of raw.now)) (length (pieces (image_of raw.now))))) }
 {
     for process in raw.processes.as_slice() {
-        let found = match process_due(raw.code.as_slice(), parts.known.as_slice(), process, parts.end) {
+        let found = match process_due(
+            raw.code.as_slice(),
+            parts.known.as_slice(),
+            process,
+            parts.end,
+        ) {
             Some(found) => found,
             None => return Ok(Some(wrong_from(process.start))),
         };

@@ -33,7 +33,10 @@ fn process_stack(process: &RawProc, found: &ProcessFound) -> Option<Shown>
     ensures { shown result ≡ stack_needs (process_of process.now) (found_of found.now.body) (found_of found.now.handler) }
 {
     let depth = found.body.depth.max(found.handler.depth).min(TOO_DEEP);
-    below(u64::from(process.stack), u64::from(process.locals) + u64::from(depth))
+    below(
+        u64::from(process.stack),
+        u64::from(process.locals) + u64::from(depth),
+    )
 }
 
 fn stack_fault(raw: &RawImage, parts: &Parts) -> Option<Shown>
@@ -83,7 +86,10 @@ fn words_fault(raw: &RawImage) -> Option<Shown>
     requires processes { length raw.now.processes ≤ 65535 }
     ensures { shown result ≡ defined_words (image_of raw.now) }
 {
-    below(1_048_576, monitor_words(raw.monitors.as_slice()) + process_words(raw.processes.as_slice()))
+    below(
+        1_048_576,
+        monitor_words(raw.monitors.as_slice()) + process_words(raw.processes.as_slice()),
+    )
 }
 
 /// The first routine with fewer locals than parameters; else the first process whose stack is too

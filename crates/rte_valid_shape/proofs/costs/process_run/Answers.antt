@@ -1,4 +1,4 @@
-use Rattle.std.proofs.Common.{◌≡◌, ◌+◌, ap, ◌∙◌}
+use Rattle.std.proofs.Common.{◌+◌, ap, ◌∙◌}
 use Rattle.rte_num.specs.Capped.{cap}
 use Rattle.rte_valid_shape.proofs.Needs.{run_told}
 use Rattle.rte_valid_shape.proofs.costs.process_run.Goals as goal

@@ -46,7 +46,7 @@ loop-routine-preserved c =
     let inside : part.found.next < length raw.code = omega (arith, c.in-Some.ensures.within, ap length c.as_slice.ensures) in
     record {
       before = on raw parts (record { known = c.push.new.self; routines = c.push-in-loop-routine.new.self; processes = parts.processes; end = part.found.next + 1 }) r x part c.known_routine.result c.loop-routine.invariant.before is some
-      c.in-Some.ensures.ends inside stay c.known_routine.ensures c.in_ok-push.ensures.ok c.in_ok-push-2.ensures.ok refl;
+          c.in-Some.ensures.ends inside stay c.known_routine.ensures c.in_ok-push.ensures.ok c.in_ok-push-2.ensures.ok refl;
       processes = c.loop-routine.invariant.processes;
     }
 

@@ -4,7 +4,7 @@ use Rattle.rte_image.specs.Raw.{routine_of}
 use Rattle.rte_machine_meaning.specs.Image.{Routine}
 use Rattle.rte_valid.specs.Fault.{of_some}
 use Rattle.rte_valid.specs.Sizes.{below}
-use Rattle.rte_valid_shape.proofs.Needs.{search_starts, search_on, search_ends, read, params_at}
+use Rattle.rte_valid_shape.proofs.Needs.{search_starts, search_on, read, params_at}
 use Rattle.rte_valid_shape.proofs.sizes.params_fault.Goals as goal
 
 pub loop-routine-init : goal.loop-routine-init

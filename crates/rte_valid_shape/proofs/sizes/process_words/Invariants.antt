@@ -1,7 +1,7 @@
 use Rattle.std.proofs.Common.{◌≡◌, ◌≤◌, ◌+◌, ◌*◌, drop, map}
 use Rattle.std.specs.Prelude.{sum_by}
 use Rattle.rte_image.specs.Raw.{process_of}
-use Rattle.rte_machine_meaning.specs.Image.{Process, Monitor}
+use Rattle.rte_machine_meaning.specs.Image.{Process}
 use Rattle.rte_valid_shape.proofs.sizes.process_words.Given as goal
 
 abbrev pub invariant-loop-process : goal.invariant-loop-process

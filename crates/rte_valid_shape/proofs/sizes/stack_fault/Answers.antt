@@ -1,7 +1,7 @@
-use Rattle.std.proofs.Common.{◌≡◌, ◌<◌, length, Some, None, arith, ap, sym, ◌∙◌, map}
+use Rattle.std.proofs.Common.{◌≡◌, ◌<◌, length, Some, arith, ap, sym, ◌∙◌, map}
 use Rattle.std.specs.Prelude.{slice_get}
 use Rattle.rte_image.specs.Raw.{image_of, process_of}
-use Rattle.rte_valid.specs.Fault.{of_some, first_in}
+use Rattle.rte_valid.specs.Fault.{of_some}
 use Rattle.rte_valid.specs.Sizes.{below, needed_stack}
 use Rattle.rte_valid_shape.proofs.Needs.{search_starts, search_stops, search_on, search_ends, read, copied, process_stacks}
 use Rattle.rte_valid_shape.proofs.sizes.stack_fault.Goals as goal
