@@ -1,5 +1,5 @@
 -- What the calls answer.
-use Rattle.std.specs.Prelude.{◌≡◌, ℕ, Option, Some, None, Result, Ok, Err}
+use Rattle.std.specs.Prelude.{◌≡◌, Some, Result, Ok, Err}
 use Rattle.rte_image.specs.declared.raw.RawImage.{RawImage}
 use Rattle.rte_image.specs.Raw.{image_of, named_of}
 use Rattle.rte_image.specs.Named.{NamedImage}

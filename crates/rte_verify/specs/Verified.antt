@@ -1,5 +1,5 @@
 -- Verified images, and what the calls answer.
-use Rattle.std.specs.Prelude.{◌≤◌, ℕ, Option, Some, None, length}
+use Rattle.std.specs.Prelude.{◌≤◌, Option, Some, None, length}
 use Rattle.rte_machine_meaning.specs.Image.{Image}
 use Rattle.rte_image.specs.declared.raw.RawImage.{RawImage}
 use Rattle.rte_image.specs.Raw.{image_of}
