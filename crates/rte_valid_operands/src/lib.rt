@@ -5,9 +5,12 @@
 //! routines before processes, with its address and the operand, and none exactly where no instruction breaks one.
 #![tactic(auto)]
 
-
-
+mod bound;
+mod fault;
 mod operand;
 mod words;
 
+pub use fault::operand_fault;
 
+#[cfg(test)]
+mod tests;

@@ -6,7 +6,9 @@ ghost use Rattle.rte_num.specs.Words.{is_word};
 ghost use Rattle.rte_valid.specs.Operands as defined;
 ghost use Rattle.rte_valid_operands.specs.Seen.{area_of, natural_of, whose_of, AreBounds};
 
-use crate::words::{Area, Whose, in_area, is_between, local_words, monitor_words, natural, own_words};
+use crate::words::{
+    Area, Whose, in_area, is_between, local_words, monitor_words, natural, own_words,
+};
 use rte_image::RawImage;
 use rte_isa::Instr;
 
@@ -30,16 +32,25 @@ fn ends_in(area: Area, word: i32, len: i32) -> bool
     }
 }
 
-/// Whether the last index of an array is a word.
+/// Whether the number is a word.
 #[tactic(auto, using(crate::proofs::Ranges::word_within, crate::proofs::Ranges::word_low, crate::proofs::Ranges::word_high))]
-fn has_last_index(low: i32, len: i32) -> bool
-    ensures { result ≡ is_word ((low +ℤ len) -ℤ pos 1) }
+fn is_word(number: i64) -> bool
+    ensures { result ≡ is_word number }
 {
-    let last = low as i64 + len as i64 - 1;
-    if last < -2_147_483_648 {
+    if number < -2_147_483_648 {
         return false;
     }
-    last <= 2_147_483_647
+    if 2_147_483_647 < number {
+        return false;
+    }
+    true
+}
+
+/// The last index of an array.
+fn last_index(low: i32, len: i32) -> i64
+    ensures { result ≡ (low +ℤ len) -ℤ pos 1 }
+{
+    low as i64 + len as i64 - 1
 }
 
 /// The operand of an array's instruction that breaks a rule.
@@ -55,7 +66,7 @@ fn bad_array(area: Area, word: i32, low: i32, len: i32) -> Option<i32>
     if !ends_in(area, word, len) {
         return Some(word);
     }
-    bad(has_last_index(low, len), word)
+    bad(is_word(last_index(low, len)), word)
 }
 
 /// The word, unless it is one of the area.
@@ -116,8 +127,7 @@ fn may_call(image: &RawImage, bounds: &[bool], whose: Whose, routine: i32) -> bo
     let number = number as usize;
     match image.routines.get(number) {
         Some(found) => {
-            let is_open =
-                found.kind != 1 || (whose.kind == 1 && found.owner == whose.owner);
+            let is_open = found.kind != 1 || (whose.kind == 1 && found.owner == whose.owner);
             let is_bound = number < bounds.len() && bounds[number];
             number < whose.number && is_open && !(whose.kind == 2 && is_bound)
         }

@@ -4,7 +4,7 @@ use Rattle.std.specs.Prelude.{cond, nat_eq, option_map, slice_get}
 use Rattle.std.proofs.lemmas.Bool.{cases_lt}
 use Rattle.std.proofs.lemmas.Grind.{common_steps}
 use Rattle.std.proofs.lemmas.List.{length-map, map-append, take_all}
-use Rattle.std.proofs.Math.ListN.{get_or-append}
+use Rattle.std.proofs.Math.ListN.{get_or-append, length-append}
 use Rattle.std.proofs.Math.Seq.{get_or-append_seam}
 use Rattle.std.specs.Option.{option_or}
 use Rattle.rte_isa.specs.declared.instr.Instr.{Instr}
@@ -101,7 +101,7 @@ start_below (x ∷ xs) k n a long = below_or n (last_start xs (suc k) a) _ (star
 
 next_below : (image : Image) (a : ℕ) → IsBelow (length (pieces image)) (owner_before image a) → IsBelow (length (pieces image)) (owner_at image a)
 next_below image a earlier = subst (λ o. IsBelow (length (pieces image)) o) (sym (owner_next image a)) (below_or (length (pieces image)) (last_start (map start_of (pieces image)) 0 a) (owner_before image a)
-  (start_below (map start_of (pieces image)) 0 (length (pieces image)) a (omega (arith, length-map (pieces image) start_of))) earlier)
+    (start_below (map start_of (pieces image)) 0 (length (pieces image)) a (omega (arith, length-map (pieces image) start_of))) earlier)
 
 before_below : (image : Image) (a : ℕ) → IsBelow (length (pieces image)) (owner_before image a)
 before_below image zero = tt
@@ -170,3 +170,8 @@ owner_found image starts marks held n a owner next s m h low o is =
 
 pub owner_on : (image : Image) (a : ℕ) (next : Option ℕ) → next ≡ owner_at image a → next ≡ owner_before image (a + 1)
 owner_on image a next is = let e : suc a ≡ a + 1 = omega arith in is ∙ ap (λ b. owner_before image b) e
+
+pub pieces_long : (image : Image) → length (pieces image) ≡ length image.routines + length image.processes
+pieces_long image =
+    let a = length-append (map piece_of_routine image.routines) (map piece_of_process image.processes) in
+    omega (arith, a, length-map image.routines piece_of_routine, length-map image.processes piece_of_process)

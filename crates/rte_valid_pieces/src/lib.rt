@@ -10,4 +10,4 @@ mod calls;
 mod sweep;
 
 pub use calls::calls_by_piece;
-pub use sweep::addresses_by_piece;
+pub use sweep::{addresses_by_piece, of_piece};

@@ -51,11 +51,7 @@ fn no_addresses(alloc: Global, count: usize) -> Result<Vec<List<usize>>, AllocEr
 }
 
 /// Gives the address to the piece that it belongs to, if it belongs to one.
-fn give(
-    all: &mut Vec<List<usize>>,
-    owner: Option<usize>,
-    address: usize,
-) -> Result<(), AllocError>
+fn give(all: &mut Vec<List<usize>>, owner: Option<usize>, address: usize) -> Result<(), AllocError>
     requires { IsBelow (length all.old.items) owner }
     ensures { OnOk result (IsGiven owner address all.old.items all.new.items) }
 {
@@ -87,4 +83,12 @@ pub fn addresses_by_piece(alloc: Global, image: &RawImage) -> Result<Vec<List<us
         give(&mut all, owner, address)?;
     }
     Ok(all)
+}
+
+/// The numbers of a piece, by its number.
+pub fn of_piece(all: &[List<usize>], piece: usize) -> &[usize]
+    requires { piece < length all.now }
+    ensures { result.now ≡ slice_index_or all.now piece [] }
+{
+    all[piece].as_slice()
 }

@@ -19,6 +19,6 @@ loop-address-preserved c =
       one_each = c.in_ok-give.ensures.one_each ∙ c.loop-address.invariant.one_each;
       owner = owner_on image c.loop-address.address c.next_owner-owner.result is;
       each = λ k low.
-        let there : k < length c.loop-address.all.items = omega (arith, low, c.in_ok-give.ensures.one_each) in
-        swept image k c.loop-address.address c.next_owner-owner.result (get_or c.loop-address.all.items k []) (get_or c.give.new.all.items k []) (omega arith) is (c.loop-address.invariant.each k there) (c.in_ok-give.ensures.each k there);
+          let there : k < length c.loop-address.all.items = omega (arith, low, c.in_ok-give.ensures.one_each) in
+          swept image k c.loop-address.address c.next_owner-owner.result (get_or c.loop-address.all.items k []) (get_or c.give.new.all.items k []) (omega arith) is (c.loop-address.invariant.each k there) (c.in_ok-give.ensures.each k there);
     }
