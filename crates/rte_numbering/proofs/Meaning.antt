@@ -1,9 +1,9 @@
 -- The routines that names mean, found among all of a program.
 use Rattle.std.proofs.Common.{◌≡◌, ◌∙◌, sym, ap, refl, ℕ, zero, suc, ◌+◌, Bool, true, false, cond, ◌&&◌, List, [], ◌∷◌, ◌++◌, Option, Some, None, map, length, subst, arith}
-use Rattle.std.specs.Prelude.{option_map, bytes_eq, nat_eq, find, filter_map, slice_get, unwrap_or}
+use Rattle.std.specs.Prelude.{option_map, bytes_eq, nat_eq, filter_map, slice_get, unwrap_or}
 use Rattle.std.specs.Borrow.{Bor}
 use Rattle.std.proofs.lemmas.Cmp.{nat_eq_equiv}
-use Rattle.rte_tree.specs.Plain.{Name, Routine, Monitor, Decl, constant, device, event, routine, monitor, process, Prog}
+use Rattle.rte_tree.specs.Plain.{Name, Routine, Decl, constant, device, event, routine, monitor, process, Prog}
 use Rattle.rte_source_meaning.specs.Names.{named, routine_in, monitor_in, process_in, monitors, processes, monitor_number}
 use Rattle.rte_source_meaning.specs.Run.{or_else}
 use Rattle.rte_emits.specs.Layout.{Owner, by_program, by_process, by_monitor}

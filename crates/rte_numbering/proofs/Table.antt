@@ -1,6 +1,6 @@
 -- What the table of a list of texts says once more is kept in it.
-use Rattle.std.proofs.Common.{◌≡◌, ◌∙◌, sym, ap, refl, ℕ, suc, ◌+◌, Bool, true, false, cond, ◌&&◌, List, [], ◌∷◌, ◌++◌, Option, Some, None, if◌then◌else◌, map, length, arith}
-use Rattle.std.specs.Prelude.{option_map, bytes_eq, nat_eq, is_some, slice_get}
+use Rattle.std.proofs.Common.{◌≡◌, ◌∙◌, sym, ap, refl, ℕ, suc, Bool, true, false, cond, ◌&&◌, List, [], ◌∷◌, ◌++◌, Option, Some, None, if◌then◌else◌, length}
+use Rattle.std.specs.Prelude.{option_map, bytes_eq, is_some, slice_get}
 use Rattle.std.specs.Borrow.{Bor}
 use Rattle.std.specs.Map.{lookup}
 use Rattle.std.proofs.lemmas.Bool.{eqb-true}
@@ -109,11 +109,11 @@ index-append o f (u ∷ us) t = by-test (index-append o f us t) (is_text o f u)
     by-test rest true = refl
     by-test rest false = ap (option_map (λ k. suc k)) rest ∙ next-index (text_index o f us) (is_text o f t) (length us)
 
-texts-append : (ts : List code_text.Text) (t : code_text.Text) → texts_of (ts ++ t ∷ []) ≡ texts_of ts ++ text_of t ∷ []
+pub texts-append : (ts : List code_text.Text) (t : code_text.Text) → texts_of (ts ++ t ∷ []) ≡ texts_of ts ++ text_of t ∷ []
 texts-append [] t = refl
 texts-append (u ∷ us) t = ap (λ ts. text_of u ∷ ts) (texts-append us t)
 
-texts-length : (ts : List code_text.Text) → length (texts_of ts) ≡ length ts
+pub texts-length : (ts : List code_text.Text) → length (texts_of ts) ≡ length ts
 texts-length [] = refl
 texts-length (t ∷ ts) = ap (λ n. suc n) (texts-length ts)
 

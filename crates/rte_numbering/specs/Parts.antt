@@ -2,11 +2,12 @@
 use Rattle.std.specs.Prelude.{◌≡◌, List, map, filter_map}
 use Rattle.std.specs.Borrow.{Bor}
 use Rattle.rte_tree.specs.Plain.{Name, Monitor, Process, Decl, Prog}
-use Rattle.rte_tree.specs.Placed.{placed_monitor, placed_process, plain_monitor, plain_process}
+use Rattle.rte_tree.specs.Placed.{placed_monitor, placed_process, placed, plain, plain_monitor, plain_process}
+use Rattle.rte_tree.specs.declared.decl.Prog as code_prog
 use Rattle.rte_tree.specs.declared.decl.Mon as code_monitor
 use Rattle.rte_tree.specs.declared.decl.Proc as code_process
 use Rattle.rte_source_meaning.specs.Names.{monitor_in, process_in, monitors, processes}
-use Rattle.rte_emits.specs.Numbering.{Text, texts_from, called_text, routine_calls}
+use Rattle.rte_emits.specs.Numbering.{Text, texts_from, called_text, routine_calls, numbered}
 use Rattle.rte_numbering.specs.declared.text.Text as code_text
 use Rattle.rte_numbering.specs.Texts.{texts_of}
 
@@ -42,3 +43,7 @@ pub record IsDirectory (g : Prog) (texts : List code_text.Text) (ms : List (Bor 
 -- what a text calls, in the order of the calls
 abbrev pub callees_of : Prog → Text → List Text
 callees_of g t = filter_map (called_text g t.owner) (routine_calls t.routine)
+
+-- the list is that of the program's routines by number
+pub record IsNumbered (program : code_prog.Prog) (order : List code_text.Text) : Type 0 where
+  pub order_is : texts_of order ≡ numbered (plain (placed program))

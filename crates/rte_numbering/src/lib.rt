@@ -6,9 +6,14 @@
 
 mod calls;
 mod directory;
+mod numbering;
+mod order;
 mod parts;
 mod text;
 mod text_list;
 
+pub use calls::{Called, routine_calls};
+pub use directory::Directory;
+pub use numbering::Numbering;
 pub use text::{Owner, Text};
 pub use text_list::TextList;

@@ -68,6 +68,12 @@ impl<'a> TextList<'a> {
         self.texts.len()
     }
 
+    pub fn as_slice(&self) -> &[Text<'a>]
+        ensures { result.now ≡ self.now }
+    {
+        self.texts.as_slice()
+    }
+
     pub fn get(&self, index: usize) -> Option<Text<'a>>
         ensures { result ≡ slice_get self.now index }
     {

@@ -1,4 +1,4 @@
-use Rattle.std.proofs.Common.{◌≡◌, ◌∙◌, sym, ap, subst}
+use Rattle.std.proofs.Common.{◌∙◌, sym, ap, subst}
 use Rattle.std.specs.Prelude.{is_some}
 use Rattle.rte_numbering.proofs.Table.{first-put, first-kept, Key, Puts, keys-are, found-by}
 use Rattle.rte_numbering.proofs.text_list.keep.Goals as goal
