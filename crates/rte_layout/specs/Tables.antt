@@ -1,6 +1,6 @@
 -- Where variables lie, as the code's tables have it.
-use Rattle.std.specs.Prelude.{◌≡◌, ℕ, List, map, Option, option_map, pos, filter_map}
-use Rattle.rte_tree.specs.Plain.{Name, Prog, Var, Param, Member}
+use Rattle.std.specs.Prelude.{List, map, Option, option_map, pos}
+use Rattle.rte_tree.specs.Plain.{Name}
 use Rattle.rte_name_list.specs.First.{index_of}
 use Rattle.rte_name_list.proofs.Table.{get_some}
 use Rattle.rte_emits.specs.Layout.{Place}

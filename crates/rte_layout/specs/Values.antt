@@ -1,5 +1,5 @@
 -- What the table of constants says.
-use Rattle.std.specs.Prelude.{◌≡◌, List, [], ◌∷◌, map, Option, ℤ, pos, bytes_eq, if◌then◌else◌, option_map, unwrap_or}
+use Rattle.std.specs.Prelude.{◌≡◌, List, [], ◌∷◌, map, ℤ, pos, bytes_eq, if◌then◌else◌, option_map, unwrap_or}
 use Rattle.std.specs.Map.{lookup}
 use Rattle.std.specs.Borrow.{Bor}
 use Rattle.rte_tree.specs.Plain.{Name, Constant, literal_constant, named_constant, Decl, constant, device, event, routine, monitor, process}
