@@ -87,12 +87,7 @@ impl<'a> Laying<'a> {
 }
 
 /// One more variable of so many words.
-fn lay<'a>(
-    laying: &mut Laying<'a>,
-    name: &'a Name,
-    spot: Spot,
-    size: u64,
-) -> Result<(), AllocError>
+fn lay<'a>(laying: &mut Laying<'a>, name: &'a Name, spot: Spot, size: u64) -> Result<(), AllocError>
     ensures names { OnOk result (names_of laying.new.names.items ≡ names_of laying.old.names.items ++ name.now ∷ []) }
     ensures spots { OnOk result (laying.new.spots.items ≡ laying.old.spots.items ++ spot ∷ []) }
     ensures word { OnOk result (laying.new.word ≡ laying.old.word + size) }

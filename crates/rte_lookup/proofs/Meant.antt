@@ -1,9 +1,8 @@
 -- What the tables tell of a name is what the relation of code and text says of it.
-use Rattle.std.proofs.Common.{◌≡◌, ◌∙◌, sym, ap, refl, ℕ, Bool, true, false, cond, List, [], ◌∷◌, Option, Some, None, map}
-use Rattle.std.specs.Prelude.{ℤ, pos, option_map, unwrap_or, bytes_eq, slice_get}
+use Rattle.std.proofs.Common.{◌≡◌, ◌∙◌, ap, refl, ℕ, Bool, true, false, cond, List, [], ◌∷◌, Option, Some, None, map}
+use Rattle.std.specs.Prelude.{ℤ, pos, option_map, unwrap_or, bytes_eq}
 use Rattle.std.proofs.lemmas.Option.{slice_get-map}
 use Rattle.rte_tree.specs.Plain.{Name, Prog}
-use Rattle.rte_source_meaning.specs.Names.{named}
 use Rattle.rte_source_meaning.specs.Run.{or_else}
 use Rattle.rte_emits.specs.Layout as layout
 use Rattle.rte_emits.specs.Layout.{Place, Scope, in_frame, in_area, place_named, outer_spot, spot_of}

@@ -4,12 +4,14 @@
 //! lay the variables of a text, and `variable` finds the variable that a name means in it.
 #![tactic(auto)]
 
-mod callee;
+mod callees;
 mod frames;
+mod law;
 mod tables;
-mod variable;
+mod variables;
 
-pub use callee::callee;
+pub use callees::callee;
 pub use frames::{laid_monitor, laid_process, laid_routine};
+pub use law::{tables_tell, variables_are_told};
 pub use tables::{Tables, number};
-pub use variable::{in_loops, variable};
+pub use variables::{in_loops, variable};

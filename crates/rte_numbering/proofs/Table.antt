@@ -122,13 +122,13 @@ pub firsts-pushed : (old new : List ((Owner × Bor Name) × ℕ)) (ts : List cod
     → first_text new ≡ with_first (first_text old) t.owner (text_of t).routine.name (length ts) → HasFirsts new (texts_of (ts ++ t ∷ []))
 firsts-pushed old new ts t has kept = record {
   finds = λ o n.
-    let m = (text_of t).routine.name in
-    ap (λ f. f o n) kept
-    ∙ ap (λ x. or_else x (if same_key o n t.owner m then Some (length ts) else None)) (has.finds o n)
-    ∙ ap (λ b. or_else (text_index (owner_of o) n (texts_of ts)) (if b then Some (length ts) else None)) (key-symm o n t.owner m)
-    ∙ ap (λ k. or_else (text_index (owner_of o) n (texts_of ts)) (if same_key t.owner m o n then Some k else None)) (sym (texts-length ts))
-    ∙ sym (index-append (owner_of o) n (texts_of ts) (text_of t))
-    ∙ ap (text_index (owner_of o) n) (sym (texts-append ts t));
+      let m = (text_of t).routine.name in
+      ap (λ f. f o n) kept
+      ∙ ap (λ x. or_else x (if same_key o n t.owner m then Some (length ts) else None)) (has.finds o n)
+      ∙ ap (λ b. or_else (text_index (owner_of o) n (texts_of ts)) (if b then Some (length ts) else None)) (key-symm o n t.owner m)
+      ∙ ap (λ k. or_else (text_index (owner_of o) n (texts_of ts)) (if same_key t.owner m o n then Some k else None)) (sym (texts-length ts))
+      ∙ sym (index-append (owner_of o) n (texts_of ts) (text_of t))
+      ∙ ap (text_index (owner_of o) n) (sym (texts-append ts t));
 }
 
 -- ---- keys as the map compares them

@@ -131,14 +131,33 @@ fn stmt<'a>(calls: &mut Vec<Called<'a>>, s: &'a Stmt) -> Result<(), AllocError>
             ..
         } => {
             target(calls, to)?;
-            call_with(calls, Called::Entry { monitor: mon, name: entry }, args.as_slice())
+            call_with(
+                calls,
+                Called::Entry {
+                    monitor: mon,
+                    name: entry,
+                },
+                args.as_slice(),
+            )
         }
         Stmt::AssignEmpty { target: to, .. } | Stmt::Get { target: to, .. } => target(calls, to),
         Stmt::Call { name, args, .. } => {
             call_with(calls, Called::Routine(name), args.as_slice())
         }
-        Stmt::CallEntry { mon, entry, args, .. } => {
-            call_with(calls, Called::Entry { monitor: mon, name: entry }, args.as_slice())
+        Stmt::CallEntry {
+            mon,
+            entry,
+            args,
+            ..
+        } => {
+            call_with(
+                calls,
+                Called::Entry {
+                    monitor: mon,
+                    name: entry,
+                },
+                args.as_slice(),
+            )
         }
         Stmt::Put { value, .. } => expr(calls, value),
         Stmt::ExitWhen { test, .. } | Stmt::Assert { test, .. } => expr(calls, test),
@@ -162,10 +181,7 @@ fn answer<'a>(
 }
 
 /// What a routine calls, in the order of the calls.
-pub fn routine_calls<'a>(
-    alloc: Global,
-    routine: &'a Routine,
-) -> Result<Vec<Called<'a>>, AllocError>
+pub fn routine_calls<'a>(alloc: Global, routine: &'a Routine) -> Result<Vec<Called<'a>>, AllocError>
     ensures { IfOk result (λ calls. calls_told calls.items ≡ calls_of (plain_routine (placed_routine routine.now))) }
 {
     let mut calls = Vec::new(alloc);

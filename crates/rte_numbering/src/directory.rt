@@ -45,10 +45,7 @@ impl<'a> Model for Directory<'a> {
 }
 
 /// The names of monitors.
-fn monitor_names<'a>(
-    alloc: Global,
-    monitors: &[&'a Mon],
-) -> Result<NameList<'a>, AllocError>
+fn monitor_names<'a>(alloc: Global, monitors: &[&'a Mon]) -> Result<NameList<'a>, AllocError>
     ensures { IfOk result (λ names. names ≡ map (λ m. (monitor_of m).name) monitors.now) }
 {
     let mut names = Vec::new(alloc);

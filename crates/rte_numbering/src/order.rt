@@ -36,10 +36,7 @@ fn visit<'a>(
 }
 
 /// All routines and entries by number.
-pub fn ordered<'a>(
-    alloc: Global,
-    directory: &Directory<'a>,
-) -> Result<TextList<'a>, AllocError>
+pub fn ordered<'a>(alloc: Global, directory: &Directory<'a>) -> Result<TextList<'a>, AllocError>
     ensures { IfOk result (λ order. texts_of order ≡ numbered (plain (placed directory.now))) }
 {
     let texts = directory.texts();

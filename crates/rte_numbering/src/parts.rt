@@ -44,7 +44,10 @@ fn list_decl<'a>(parts: &mut Parts<'a>, decl: &'a Decl) -> Result<(), AllocError
     match decl {
         Decl::Const { .. } | Decl::Device { .. } | Decl::Event { .. } => Ok(()),
         Decl::Routine(routine) => {
-            parts.texts.push(Text { owner: Owner::Program, routine })?;
+            parts.texts.push(Text {
+                owner: Owner::Program,
+                routine,
+            })?;
             Ok(())
         }
         Decl::Mon(monitor) => {

@@ -12,5 +12,5 @@ abbrev pub invariant-loop-member : goal.invariant-loop-member
 invariant-loop-member l = record {
   names : names_of l.laying.names.items ++ place_names (places_from (plain (placed l.values)) l.laying.word (filter_map variable_in (map plain_member (map placed_member (drop l.member-index l.members))))) ≡ names_of l.fn.laying.names.items ++ place_names (places_from (plain (placed l.values)) l.fn.laying.word (filter_map variable_in (map plain_member (map placed_member l.members))));
   spots : l.laying.spots.items ++ told_all in_area.Monitor (places_from (plain (placed l.values)) l.laying.word (filter_map variable_in (map plain_member (map placed_member (drop l.member-index l.members))))) ≡ l.fn.laying.spots.items ++ told_all in_area.Monitor (places_from (plain (placed l.values)) l.fn.laying.word (filter_map variable_in (map plain_member (map placed_member l.members))));
-  word : l.laying.word + words_of (plain (placed l.values)) (filter_map variable_in (map plain_member (map placed_member (drop l.member-index l.members)))) ≡ l.fn.laying.word + words_of (plain (placed l.values)) (filter_map variable_in (map plain_member (map placed_member l.members)))
+  word : l.laying.word + words_of (plain (placed l.values)) (filter_map variable_in (map plain_member (map placed_member (drop l.member-index l.members)))) ≡ l.fn.laying.word + words_of (plain (placed l.values)) (filter_map variable_in (map plain_member (map placed_member l.members)));
 }

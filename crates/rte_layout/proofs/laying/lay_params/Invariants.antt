@@ -10,5 +10,5 @@ abbrev pub invariant-loop-param : goal.invariant-loop-param
 invariant-loop-param l = record {
   names : names_of l.laying.names.items ++ place_names (param_places (plain (placed l.values)) l.laying.word (map plain_param (map placed_param (drop l.param-index l.params)))) ≡ names_of l.fn.laying.names.items ++ place_names (param_places (plain (placed l.values)) l.fn.laying.word (map plain_param (map placed_param l.params)));
   spots : l.laying.spots.items ++ told_all in_area.Frame (param_places (plain (placed l.values)) l.laying.word (map plain_param (map placed_param (drop l.param-index l.params)))) ≡ l.fn.laying.spots.items ++ told_all in_area.Frame (param_places (plain (placed l.values)) l.fn.laying.word (map plain_param (map placed_param l.params)));
-  word : l.laying.word ≡ l.fn.laying.word + l.param-index
+  word : l.laying.word ≡ l.fn.laying.word + l.param-index;
 }

@@ -28,6 +28,6 @@ returns t c =
     let visited = visit_texts (c.args.depth - 1) g in
     ap texts_of c.in_ok-push.ensures ∙ texts-append c.loop-callee.done c.args.text
     ∙ ap (λ l. l ++ u ∷ [])
-      (ap (λ l. visited (texts_of c.loop-callee.done) (texts_of l)) (sym (drop_all c.loop-callee.callee-index items all)) ∙ c.loop-callee.invariant
-      ∙ ap (λ l. visited before (texts_of l)) c.as_slice-callee-items.ensures.value ∙ ap (visited before) c.in_ok-callees.ensures)
+    (ap (λ l. visited (texts_of c.loop-callee.done) (texts_of l)) (sym (drop_all c.loop-callee.callee-index items all)) ∙ c.loop-callee.invariant
+    ∙ ap (λ l. visited before (texts_of l)) c.as_slice-callee-items.ensures.value ∙ ap (visited before) c.in_ok-callees.ensures)
     ∙ visit-next c.args.depth (c.args.depth - 1) g before u deep (ap is_some (sym c.index.ensures) ∙ sym c.is_some.ensures ∙ c.if-is_some.false)

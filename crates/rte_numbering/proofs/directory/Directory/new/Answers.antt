@@ -11,6 +11,6 @@ invariant_of-result c =
       monitors_are = parts.monitors;
       processes_are = parts.processes;
       names_are =
-        c.in_ok-monitor_names.ensures ∙ ap (map (λ m. (monitor_of m).name)) c.as_slice.ensures.value
-        ∙ names-seen c.in_ok-parts.parts.monitors.items ∙ ap (map (λ m. m.name)) parts.monitors;
+          c.in_ok-monitor_names.ensures ∙ ap (map (λ m. (monitor_of m).name)) c.as_slice.ensures.value
+          ∙ names-seen c.in_ok-parts.parts.monitors.items ∙ ap (map (λ m. m.name)) parts.monitors;
     }

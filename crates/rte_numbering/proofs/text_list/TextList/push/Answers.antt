@@ -18,10 +18,10 @@ pub invariant_of-self-in-Err : goal.invariant_of-self-in-Err
 invariant_of-self-in-Err c =
     let old = c.self.inside.texts.items in
     let back : c.truncate.new.self.items ≡ old =
-        c.truncate.ensures.items ∙ ap (λ ts. take (length ts) c.push.new.self.items) c.as_slice-index.ensures.value
-        ∙ ap (take (length old)) c.in_ok-push.ensures.items ∙ take-append_seam old (c.args.text ∷ [])
+    c.truncate.ensures.items ∙ ap (λ ts. take (length ts) c.push.new.self.items) c.as_slice-index.ensures.value
+    ∙ ap (take (length old)) c.in_ok-push.ensures.items ∙ take-append_seam old (c.args.text ∷ [])
     in
     record {
       finds = λ o n.
-        ap (λ f. f o n) c.in-Err.ensures.err ∙ c.self.invariant.finds o n ∙ ap (λ ts. text_index (owner_of o) n (texts_of ts)) (sym back);
+          ap (λ f. f o n) c.in-Err.ensures.err ∙ c.self.invariant.finds o n ∙ ap (λ ts. text_index (owner_of o) n (texts_of ts)) (sym back);
     }
