@@ -4,3 +4,4 @@ pub mod Moving
 pub mod Counting
 pub mod Leading
 pub mod Parting
+pub mod Setting

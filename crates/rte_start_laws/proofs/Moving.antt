@@ -45,7 +45,7 @@ due_are_released image script t done k s slots p tick has at slot = is_due_now t
 is_periodic : (t : ℕ) (p : Process) → is_periodic_due t p ≡ true → p.kind ≡ 0
 is_periodic t p is = grind (arith, nat_tests, is)
 
-next_release : (t : ℕ) (p : Process) (tick : Option ℕ) → (p.kind ≡ 0 → 0 < p.frame) → IsReleaseFrom t p tick → IsNextRelease t p (moved_on t (Some (t + p.frame)) tick)
+pub next_release : (t : ℕ) (p : Process) (tick : Option ℕ) → (p.kind ≡ 0 → 0 < p.frame) → IsReleaseFrom t p tick → IsNextRelease t p (moved_on t (Some (t + p.frame)) tick)
 next_release t p None some first = λ u low. first u (omega arith)
 next_release t p (Some r) some first = by (nat_eq r t) refl where
   by : (b : Bool) → nat_eq r t ≡ b → IsNextRelease t p (cond b (Some (t + p.frame)) (Some r))

@@ -1,9 +1,9 @@
 -- What the slots tell of the start events of a tick, and that they are right again after them.
-use Rattle.std.specs.Prelude.{◌≡◌, ◌≢◌, ◌≤◌, ◌<◌, ℕ, true, false, List, Option, Some, length, slice_get}
+use Rattle.std.specs.Prelude.{◌+◌, ◌≡◌, ◌≢◌, ◌≤◌, ◌<◌, ℕ, true, false, List, Option, Some, length, slice_get, slice_set}
 use Rattle.rte_machine_meaning.specs.Image.{Image, Process, Script}
-use Rattle.rte_machine_meaning.specs.State.{State}
+use Rattle.rte_machine_meaning.specs.State.{State, Thread}
 use Rattle.rte_machine_meaning.specs.Starts.{is_periodic_due, starts}
-use Rattle.rte_stretch.specs.Due.{HasSlots, NoneBefore}
+use Rattle.rte_stretch.specs.Due.{HasSlots, NoneBefore, time_out_of}
 use Rattle.rte_start_laws.specs.Due.{AreDone, AreMoved, HasDue, HasFrames, HasOwnRanks}
 
 -- The law: up to the least of the slots they are right before each tick.
@@ -23,3 +23,9 @@ MovedAreSlots = (image : Image) (script : Script) (t done done' : ℕ) (s : Stat
 -- The law: no more start events fall than there are processes.
 abbrev pub StartsAreFew : Type 0
 StartsAreFew = (image : Image) (script : Script) (t : ℕ) (s : State) → length (starts image script t s).events ≤ length s.threads
+
+-- The law: as a process begins to wait, or waits no more, its slot alone is set, and the slots are right again.
+abbrev pub WaitKeepsSlots : Type 0
+WaitKeepsSlots = (image : Image) (script : Script) (t done k : ℕ) (s s' : State) (slots : List (Option ℕ)) → HasSlots image script t done s slots → k < length image.processes
+    → ((j : ℕ) → j ≢ k → time_out_of (slice_get s'.threads j) ≡ time_out_of (slice_get s.threads j)) → ((j : ℕ) (x : Thread) → slice_get s'.threads j ≡ Some x → j < length image.processes)
+    → HasSlots image script t done s' (slice_set slots (length image.processes + k) (time_out_of (slice_get s'.threads k)))

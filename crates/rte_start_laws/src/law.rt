@@ -1,6 +1,6 @@
 //! The laws, for every image, every script and every state.
 
-ghost use Rattle.rte_start_laws.specs.Laws.{DueAreReleased, MovedAreSlots, SlotsAreDue, StartsAreFew};
+ghost use Rattle.rte_start_laws.specs.Laws.{DueAreReleased, MovedAreSlots, SlotsAreDue, StartsAreFew, WaitKeepsSlots};
 
 /// Up to the least of the slots they are right before each tick.
 pub fn slots_are_due()
@@ -20,4 +20,9 @@ pub fn moved_are_slots()
 /// No more start events fall than there are processes.
 pub fn starts_are_few()
     ensures { StartsAreFew }
+{}
+
+/// As a process begins to wait, or waits no more, its slot alone is set.
+pub fn wait_keeps_slots()
+    ensures { WaitKeepsSlots }
 {}
