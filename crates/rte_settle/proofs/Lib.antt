@@ -1,2 +1,4 @@
 pub mod Doing
 pub mod Seeing
+pub mod Settling
+pub mod Turning

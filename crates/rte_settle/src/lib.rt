@@ -1,10 +1,14 @@
 //! A turn of the process that runs.
 #![tactic(auto)]
 
+mod cell;
 mod outcome;
 mod own;
 mod seen;
+mod turn;
 
+pub use cell::pass_cell;
 pub use outcome::Outcome;
 pub use own::pass_own;
 pub use seen::see;
+pub use turn::pass;
