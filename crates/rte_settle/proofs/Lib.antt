@@ -2,3 +2,4 @@ pub mod Doing
 pub mod Seeing
 pub mod Settling
 pub mod Turning
+pub mod Room

@@ -21,7 +21,9 @@ use Rattle.rte_state.specs.Plan.{AreProcesses, IsOf, IsProcess}
 use Rattle.rte_state.specs.Board.{IsBoardOf, rows_of, state_of}
 use Rattle.rte_settle.specs.declared.outcome.Outcome.{Outcome as Come}
 use Rattle.rte_settle.specs.Own.{Around, CanCome, IsEarly}
-use Rattle.rte_settle.specs.Settled.{CanPass, IsAround, SettlesAs, after, with_thread}
+use Rattle.rte_settle.proofs.Room.{room_of}
+use Rattle.rte_safe_terms.specs.Queues.{AreQueued}
+use Rattle.rte_settle.specs.Settled.{CanPass, HaveRoom, IsAround, SettlesAs, after, with_thread}
 
 -- ---- elements of lists
 
@@ -163,3 +165,12 @@ keeps image b new k c c' v board below is room cells owned queues devices = reco
   queues = ap (λ (qs : List (List ℕ)). length qs) queues ∙ board.queues;
   devices = ap (λ (ds : List ℤ). length ds) devices ∙ board.devices;
 }
+
+-- the queues have room while process k runs
+pub room_for : (image : Image) (plan : Plan) (b new : Board) (k n : ℕ) → IsOf image plan → IsBoardOf image b → AreQueued (state_of b) → CanPass image n k (state_of b) → new.queues ≡ b.queues → (cells : ℕ) → cells ≡ length b.cells.items → HaveRoom cells new.queues
+room_for image plan b new k n is board queued can same cells count =
+    let rooms = ap (λ (ns : List ℕ). length ns) board.rooms in
+    let left = length_map (λ (c : Cell). c.job.frames.room) b.cells.items in
+    let right = length_map (λ (p : Process). p.stack) image.processes in
+    subst (λ (qs : List (List ℕ)). HaveRoom cells qs) (sym same)
+    (room_of (threads_of b.cells.items) b.queues k cells (Ready can.job) queued can.ready (λ c. refl) (length_map thread_of b.cells.items ∙ sym count) (omega (arith, count, rooms, left, right, is.few)))
