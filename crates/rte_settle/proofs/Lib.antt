@@ -3,3 +3,4 @@ pub mod Seeing
 pub mod Settling
 pub mod Turning
 pub mod Room
+pub mod Safely

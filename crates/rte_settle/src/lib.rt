@@ -2,6 +2,7 @@
 #![tactic(auto)]
 
 mod cell;
+pub mod law;
 mod outcome;
 mod own;
 mod seen;
