@@ -4,3 +4,4 @@ pub mod Settling
 pub mod Turning
 pub mod Room
 pub mod Safely
+pub mod Choosing

@@ -1,3 +1,4 @@
 pub mod Own
 pub mod Settled
 pub mod Laws
+pub mod Chosen

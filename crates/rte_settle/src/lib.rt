@@ -2,6 +2,7 @@
 #![tactic(auto)]
 
 mod cell;
+mod choice;
 pub mod law;
 mod outcome;
 mod own;
@@ -9,6 +10,7 @@ mod seen;
 mod turn;
 
 pub use cell::pass_cell;
+pub use choice::{choose, left, room_for_choice};
 pub use outcome::Outcome;
 pub use own::pass_own;
 pub use seen::see;
