@@ -5,3 +5,4 @@ pub mod Turning
 pub mod Room
 pub mod Safely
 pub mod Choosing
+pub mod Rowed

@@ -21,7 +21,7 @@ use Rattle.rte_settle.specs.declared.outcome.Outcome.TheVariants as come
 use Rattle.rte_settle.specs.Own.{Around, ComesAs}
 use Rattle.rte_settle.specs.Settled.{StandsAfter, after, with_thread}
 
-ready : (c : Cell) → c.stand ≡ stand.Ready → thread_of c ≡ Ready (job_of c.job)
+pub ready : (c : Cell) → c.stand ≡ stand.Ready → thread_of c ≡ Ready (job_of c.job)
 ready c is = ap (λ (s : Stand). thread_by s c.job) is
 
 same_ready : (new mid : Cell) → mid.stand ≡ stand.Ready → new ≡ mid → thread_of new ≡ Ready (job_of mid.job)

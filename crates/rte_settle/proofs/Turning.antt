@@ -72,14 +72,16 @@ pub record Placed (plan : Plan) (b : Board) (k : ℕ) : Type 0 where
   pub owned : k < length b.owned.items
   pub cells : length b.cells.items ≡ length plan.processes.items
 
-pub placed : (image : Image) (plan : Plan) (b : Board) (k n : ℕ) → IsOf image plan → IsBoardOf image b → CanPass image n k (state_of b) → Placed plan b k
-placed image plan b k n is board can =
-    let there : k < length image.processes = slice_get_within image.processes k can.p can.process in
+pub placed_at : (image : Image) (plan : Plan) (b : Board) (k : ℕ) → IsOf image plan → IsBoardOf image b → k < length image.processes → Placed plan b k
+placed_at image plan b k is board there =
     let same = many image.processes plan.processes.items is.processes in
     let rooms = ap (λ (ns : List ℕ). length ns) board.rooms in
     let left = length_map (λ (c : Cell). c.job.frames.room) b.cells.items in
     let right = length_map (λ (p : Process). p.stack) image.processes in
     record { process = omega (arith, there, same); cell = omega (arith, there, rooms, left, right); owned = omega (arith, there, board.owned); cells = omega (arith, same, rooms, left, right) }
+
+pub placed : (image : Image) (plan : Plan) (b : Board) (k n : ℕ) → IsOf image plan → IsBoardOf image b → CanPass image n k (state_of b) → Placed plan b k
+placed image plan b k n is board can = placed_at image plan b k is board (slice_get_within image.processes k can.p can.process)
 
 -- the process that is read is ready
 pub record Reads (job : Job) (c : Cell) : Type 0 where
@@ -103,7 +105,7 @@ pub record Needs (at : Around) (n : ℕ) (c : Cell) : Type 0 where
   pub early : IsEarly at.image (job_of c.job)
   pub can : CanCome c.job.frames.room (outcomes at.image at.state (job_of c.job) at.owned n c.job.burn)
 
-room_is : (image : Image) (b : Board) (k : ℕ) (p : Process) (c : Cell) → IsBoardOf image b → slice_get image.processes k ≡ Some p → slice_get b.cells.items k ≡ Some c → c.job.frames.room ≡ p.stack
+pub room_is : (image : Image) (b : Board) (k : ℕ) (p : Process) (c : Cell) → IsBoardOf image b → slice_get image.processes k ≡ Some p → slice_get b.cells.items k ≡ Some c → c.job.frames.room ≡ p.stack
 room_is image b k p c board at_p at_c = cc (map_at (λ (x : Cell). x.job.frames.room) b.cells.items k c at_c, map_at (λ (x : Process). x.stack) image.processes k p at_p, ap (λ (ns : List ℕ). slice_get ns k) board.rooms)
 
 can_moved : (image : Image) (n room room' : ℕ) (s s' : State) (job job' : Job) (ow ow' : List ℤ) → room ≡ room' → s ≡ s' → job ≡ job' → ow ≡ ow' → CanCome room (outcomes image s job ow n job.burn) → CanCome room' (outcomes image s' job' ow' n job'.burn)
@@ -125,7 +127,7 @@ needs at b k n c board around can at_c =
       can = can_moved at.image n can.p.stack c.job.frames.room (state_of b) at.state can.job (job_of c.job) (owned_of (slice_get (state_of b).owned k)) at.owned (sym room) (sym around.state) (sym r.same) (sym words) can.can;
     }
 
-row_is : (vs : List (Vec ℤ)) (k : ℕ) (v : Vec ℤ) → slice_get vs k ≡ Some v → owned_of (slice_get (rows_of vs) k) ≡ v.items
+pub row_is : (vs : List (Vec ℤ)) (k : ℕ) (v : Vec ℤ) → slice_get vs k ≡ Some v → owned_of (slice_get (rows_of vs) k) ≡ v.items
 row_is vs k v at = ap (λ (o : Option (List ℤ)). owned_of o) (map_at (λ (w : Vec ℤ). w.items) vs k v at)
 
 pub words_are : (at : Around) (b : Board) (k : ℕ) (v : Vec ℤ) → IsAround at k b → slice_get b.owned.items k ≡ Some v → at.owned ≡ v.items

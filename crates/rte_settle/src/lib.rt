@@ -6,6 +6,7 @@ mod choice;
 pub mod law;
 mod outcome;
 mod own;
+mod rows;
 mod seen;
 mod turn;
 
@@ -13,5 +14,6 @@ pub use cell::pass_cell;
 pub use choice::{choose, left, room_for_choice};
 pub use outcome::Outcome;
 pub use own::pass_own;
+pub use rows::run_row;
 pub use seen::see;
 pub use turn::pass;
