@@ -4,6 +4,7 @@
 mod cell;
 mod choice;
 pub mod law;
+mod ending;
 mod outcome;
 mod own;
 mod rows;
@@ -12,6 +13,7 @@ mod turn;
 
 pub use cell::pass_cell;
 pub use choice::{choose, left, room_for_choice};
+pub use ending::end_cell;
 pub use outcome::Outcome;
 pub use own::pass_own;
 pub use rows::run_row;

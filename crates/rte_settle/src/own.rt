@@ -50,7 +50,7 @@ fn effect_of(
 
 /// The instruction at an address.
 #[inline(always)]
-fn fetch(code: &[Instr], place: usize) -> Instr
+pub fn fetch(code: &[Instr], place: usize) -> Instr
     requires { place < length code.now }
     ensures { slice_get code.now place ≡ Some result }
 {
