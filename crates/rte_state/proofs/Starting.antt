@@ -6,11 +6,11 @@ use Rattle.rte_state.specs.declared.plan.Process.{Process}
 use Rattle.std.specs.Global.{Vec}
 use Rattle.rte_machine_meaning.specs.Run as run
 use Rattle.rte_machine_meaning.specs.Run.{words_of}
-use Rattle.rte_cells.specs.Threads.{threads_of}
+use Rattle.rte_cells.specs.Threads.{rooms_of, threads_of}
 use Rattle.rte_state.specs.declared.plan.Plan.{Plan}
 use Rattle.rte_state.specs.declared.board.Board.{Board}
 use Rattle.rte_state.specs.Plan.{AreProcesses, IsProcess}
-use Rattle.rte_state.specs.Board.{Begins, rooms_of, rows_of}
+use Rattle.rte_state.specs.Board.{Begins, rows_of}
 
 pub zeros_are : (n : ℕ) → replicate n (pos 0) ≡ zeros n
 zeros_are zero = refl

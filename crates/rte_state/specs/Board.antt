@@ -5,7 +5,7 @@ use Rattle.rte_machine_meaning.specs.Image.{Image, Process}
 use Rattle.rte_machine_meaning.specs.State.{State}
 use Rattle.rte_machine_meaning.specs.Run.{at_start}
 use Rattle.rte_cells.specs.declared.threads.Cell.{Cell}
-use Rattle.rte_cells.specs.Threads.{threads_of}
+use Rattle.rte_cells.specs.Threads.{rooms_of, threads_of}
 use Rattle.rte_state.specs.declared.plan.Plan.{Plan}
 use Rattle.rte_state.specs.declared.board.Board.{Board}
 use Rattle.rte_state.specs.Plan.{IsOf}
@@ -13,10 +13,6 @@ use Rattle.rte_state.specs.Plan.{IsOf}
 -- by process the words that it keeps
 abbrev pub rows_of : List (Vec ℤ) → List (List ℤ)
 rows_of vs = map (λ (v : Vec ℤ). v.items) vs
-
--- by process the words of stack that there are
-abbrev pub rooms_of : List Cell → List ℕ
-rooms_of cells = map (λ (c : Cell). c.job.frames.room) cells
 
 -- where the machine stands
 abbrev pub state_of : Board → State

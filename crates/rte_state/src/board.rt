@@ -2,9 +2,9 @@
 
 ghost use Rattle.std.specs.Prelude.{◌≡◌, IfOk, length, map, replicate};
 ghost use Rattle.rte_cells.specs.declared.threads.Stand.TheVariants as stand;
-ghost use Rattle.rte_cells.specs.Threads.{threads_of};
+ghost use Rattle.rte_cells.specs.Threads.{rooms_of, threads_of};
 ghost use Rattle.rte_machine_meaning.specs.State.{Idle, zeros};
-ghost use Rattle.rte_state.specs.Board.{Begins, rooms_of, rows_of};
+ghost use Rattle.rte_state.specs.Board.{Begins, rows_of};
 
 use crate::plan::{Plan, Process};
 use rte_cells::{Cell, Stand};

@@ -1,7 +1,6 @@
 use Rattle.std.proofs.Common.{◌≡◌, map, take}
-use Rattle.rte_cells.specs.Threads.{threads_of}
+use Rattle.rte_cells.specs.Threads.{rooms_of, threads_of}
 use Rattle.rte_machine_meaning.specs.State.{Idle}
-use Rattle.rte_state.specs.Board.{rooms_of}
 use Rattle.rte_state.proofs.board.idle_cells.Given as goal
 
 abbrev pub invariant-loop-process : goal.invariant-loop-process

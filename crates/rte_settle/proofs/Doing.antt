@@ -1,0 +1,47 @@
+-- The ticks of a process, as far as its own goes.
+use Rattle.std.proofs.Common.{rules, ◌≡◌, ◌≤◌, ◌<◌, ◌+◌, ◌-◌, ◌∙◌, ℕ, zero, suc, Bool, true, false, List, [], ◌∷◌, Option, Some, None, length, refl, ap, sym, subst, arith}
+use Rattle.std.specs.Prelude.{ℤ, nat_lt, cond, slice_get}
+use Rattle.std.proofs.lemmas.Option.{slice_get_within}
+use Rattle.std.proofs.lemmas.Bool.Decides.{nat_tests}
+use Rattle.rte_isa.specs.declared.instr.Instr.{Instr}
+use Rattle.rte_isa.specs.Ticks.{ticks}
+use Rattle.rte_machine_meaning.specs.Image.{Image}
+use Rattle.rte_machine_meaning.specs.State.{Job, State}
+use Rattle.rte_machine_meaning.specs.Effect.{Own, Outcome, Goes, Does, Signals, Broadcasts, Waits, Raises, Ends, Stuck, effect}
+use Rattle.rte_machine_meaning.specs.Tick.{at_next}
+use Rattle.rte_steps.specs.declared.calls.Routine.{Routine as Called}
+use Rattle.rte_steps.specs.declared.came.Came.TheVariants as came
+use Rattle.rte_silent.specs.declared.job.Job.{Job as Kept}
+use Rattle.rte_silent.specs.Silent.{HasDone, RaisesAs, job_of, own_of, IsOf as HasCode}
+use Rattle.rte_stretch.specs.Silent.{IsWithin, is_silent, nowhere}
+use Rattle.rte_stretch.specs.Stretch.{left, outcome_at_once, outcomes}
+use Rattle.rte_stretch.proofs.Rowing.{silent_anywhere}
+use Rattle.rte_state.specs.declared.plan.Plan.{Plan}
+use Rattle.rte_state.specs.Plan.{HasNumbers, IsOf}
+use Rattle.rte_settle.specs.declared.outcome.Outcome.{Outcome as Come}
+use Rattle.rte_settle.specs.declared.outcome.Outcome.TheVariants as come
+use Rattle.rte_settle.specs.Own.{CanCome, ComesAs, IsEarly}
+
+-- ---- one instruction
+
+within : (room : ℕ) (out : Outcome) → CanCome room out → IsWithin room out
+within room (Goes o) can = can
+within room (Does a o) can = tt
+within room (Signals c o) can = tt
+within room (Broadcasts c o) can = tt
+within room (Waits c limit e o) can = tt
+within room (Raises e) can = tt
+within room Ends can = tt
+within room Stuck can = can
+
+own_same : (job : Kept) (owned shared owned' shared' : List ℤ) → owned ≡ owned' → shared ≡ shared' → own_of job owned shared ≡ own_of job owned' shared'
+own_same job owned shared owned' shared' a b = rw (a, b) refl
+
+pub safe_of : (image : Image) (s : State) (instr : Instr) (job : Kept) (owned shared owned' shared' : List ℤ) → owned ≡ owned' → shared ≡ shared' → CanCome job.frames.room (effect image s instr (own_of job owned shared))
+    → is_silent instr ≡ true → IsWithin job.frames.room (effect image nowhere instr (own_of job owned' shared'))
+safe_of image s instr job owned shared owned' shared' a b can silent =
+    subst (λ (o : Own). IsWithin job.frames.room (effect image nowhere instr o)) (own_same job owned shared owned' shared' a b)
+    (subst (λ (out : Outcome). IsWithin job.frames.room out) (silent_anywhere image s instr (own_of job owned shared) silent) (within job.frames.room (effect image s instr (own_of job owned shared)) can))
+
+pub code_of : (image : Image) (plan : Plan) (code : List Instr) (routines : List Called) → IsOf image plan → code ≡ plan.code.items → routines ≡ plan.routines.items → HasCode image code routines
+code_of image plan code routines is a b = subst (λ (c : List Instr). HasCode image c routines) (sym a) (subst (λ (r : List Called). HasCode image plan.code.items r) (sym b) is.code)

@@ -1,0 +1,91 @@
+//! Which process runs, and how long it stays at what it is at.
+
+ghost use Rattle.std.specs.Prelude.{◌≡◌, ◌<◌, IfOk, length, vec_len};
+ghost use Rattle.rte_settle.specs.Chosen.{IsCeiling, IsLeft, IsLeftOf, IsPick, StandsIn};
+
+use rte_cells::{Cell, Stand};
+use rte_dispatch::{Standing, pick};
+use rte_isa::{Instr, ticks};
+use rte_silent::Job;
+use rte_state::{Board, Plan, Process};
+use std::alloc::{AllocError, Global};
+
+/// The ticks left of what an activation is at: of its burn, where it has one, else of its
+/// instruction.
+fn left_of(code: &[Instr], job: &Job) -> u32
+    ensures { IsLeftOf code.now job.now result }
+{
+    if job.burn > 0 {
+        return job.burn;
+    }
+    if job.place >= code.len() {
+        return 1;
+    }
+    ticks(&code[job.place]).saturating_sub(job.done)
+}
+
+/// The ticks left of what a process that is ready is at.
+pub fn left(plan: &Plan, board: &Board, who: usize) -> u32
+    requires { who < vec_len board.now.cells }
+    ensures { IsLeft plan.now board.now who result }
+{
+    left_of(&plan.code, &board.cells[who].job)
+}
+
+/// The ceiling of a monitor; 0 where there is none.
+fn ceiling_of(ceilings: &[u16], monitor: u16) -> u16
+    ensures { IsCeiling ceilings.now monitor result }
+{
+    let place = usize::from(monitor);
+    if place < ceilings.len() {
+        return ceilings[place];
+    }
+    0
+}
+
+/// How a process stands in the choice.
+fn standing_of(plan: &Plan, process: &Process, cell: &Cell) -> Standing
+    ensures { StandsIn plan.now process.now cell.now result }
+{
+    let ready = matches!(cell.stand, Stand::Ready);
+    match cell.job.inside {
+        Some(monitor) => Standing {
+            ready,
+            active: ceiling_of(&plan.ceilings, monitor),
+            inside: true,
+        },
+        None => Standing {
+            ready,
+            active: process.rank,
+            inside: false,
+        },
+    }
+}
+
+/// Room for how all processes stand in the choice.
+pub fn room_for_choice(alloc: Global, plan: &Plan) -> Result<Vec<Standing>, AllocError>
+    ensures { IfOk result (λ room. vec_len room ≡ vec_len plan.now.processes) }
+{
+    let idle = Standing {
+        ready: false,
+        active: 0,
+        inside: false,
+    };
+    let room = vec![in alloc; idle; plan.processes.len()]?;
+    Ok(room)
+}
+
+/// The process that is picked: the one of the least active rank of those that are ready, of two
+/// alike one inside a monitor before one outside, then the first; `None` where none is ready. The
+/// room is overwritten.
+pub fn choose(plan: &Plan, board: &Board, room: &mut Vec<Standing>) -> Option<usize>
+    requires room { vec_len room.old ≡ vec_len plan.now.processes }
+    requires cells { vec_len board.now.cells ≡ vec_len plan.now.processes }
+    ensures pick { IsPick plan.now board.now result }
+    ensures len { vec_len room.new ≡ vec_len room.old }
+{
+    for k in 0..board.cells.len() {
+        room[k] = standing_of(plan, &plan.processes[k], &board.cells[k]);
+    }
+    pick(room)
+}
