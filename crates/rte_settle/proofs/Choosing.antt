@@ -21,6 +21,7 @@ all_stand image plan [] (p ∷ ps) cs ss is are a b each = absurd are
 all_stand image plan (w ∷ ws) [] cs ss is are a b each = absurd are
 all_stand image plan (w ∷ ws) (p ∷ ps) [] ss is are a b each = absurd cc
 all_stand image plan (w ∷ ws) (p ∷ ps) (c ∷ cs) [] is are a b each = absurd cc
-all_stand image plan (w ∷ ws) (p ∷ ps) (c ∷ cs) (s ∷ ss) is are a b each =
-    (each 0 p c s refl refl refl image w is are.0,
-     all_stand image plan ws ps cs ss is are.1 (omega (arith, a)) (omega (arith, b)) (λ j known cell st at_p at_c at_s. each (suc j) known cell st at_p at_c at_s))
+all_stand image plan (w ∷ ws) (p ∷ ps) (c ∷ cs) (s ∷ ss) is are a b each = (
+  each 0 p c s refl refl refl image w is are.0,
+  all_stand image plan ws ps cs ss is are.1 (omega (arith, a)) (omega (arith, b)) (λ j known cell st at_p at_c at_s. each (suc j) known cell st at_p at_c at_s),
+)

@@ -34,7 +34,8 @@ pub has_run : (image : Image) (b new : Board) (k budget : ℕ) (c c' : Cell) (ow
     → owned_of (slice_get (state_of b).owned k) ≡ ow → b.shared.items ≡ sh → c'.stand ≡ c.stand → Runs image (own_of c.job ow sh) budget halt (own_of c'.job ow' sh') → with_thread k (thread_of c') ow' sh' (state_of b) ≡ state_of new
     → (o : Own) × Runs image (own_at k job (state_of b)) budget halt o × (state_of new ≡ with_process k o (state_of b))
 has_run image b new k budget c c' ow sh ow' sh' halt job is_ready at_c words others same runs anew =
-    let r = reads b.cells.items k job c is_ready at_c in
-    (own_of c'.job ow' sh',
-     subst (λ (o : Own). Runs image o budget halt (own_of c'.job ow' sh')) (sym (own_is b k c ow sh job r.same words others)) runs,
-     sym anew ∙ ap (λ (th : Thread). with_thread k th ow' sh' (state_of b)) (ready c' (same ∙ r.stands)))
+    let r = reads b.cells.items k job c is_ready at_c in (
+      own_of c'.job ow' sh',
+      subst (λ (o : Own). Runs image o budget halt (own_of c'.job ow' sh')) (sym (own_is b k c ow sh job r.same words others)) runs,
+      sym anew ∙ ap (λ (th : Thread). with_thread k th ow' sh' (state_of b)) (ready c' (same ∙ r.stands)),
+    )

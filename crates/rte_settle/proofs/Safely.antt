@@ -83,9 +83,9 @@ turn_can_pass image script t n k safe it picks =
     let u : ℕ = t + (n - 1) in
     let stays = turn_stays_in_run image script safe.unstuck t n it in
     let all : turn image script t n (state_at image script t) ≡ settle image u k f.p f.job s (outcomes image s f.job (owned_of (slice_get s.owned k)) n f.job.burn) =
-        ap (λ (c : Option ℕ). pass image t n s c) picks
-        ∙ ap (λ (x : Option Process). pass_thread image t n k s x (slice_get s.threads k)) process
-        ∙ ap (λ (x : Option Thread). pass_thread image t n k s (Some f.p) x) ready in
+    ap (λ (c : Option ℕ). pass image t n s c) picks
+    ∙ ap (λ (x : Option Process). pass_thread image t n k s x (slice_get s.threads k)) process
+    ∙ ap (λ (x : Option Thread). pass_thread image t n k s (Some f.p) x) ready in
     record {
       p = f.p;
       process = process;

@@ -51,7 +51,7 @@ settles at t k p whole old mid new ow sh out (come.Waits w) is words shared stil
 settles at t k p whole old mid new ow sh out (come.Raises e) is words shared still comes stands =
     ap (λ (o : Outcome). settle at.image t k whole (job_of old.job) at.state o) comes.0
     ∙ ap (λ (s : State). tell t k (act.Raise e) s) (unchanged_words at.state k (thread_of new) (Ready (raised whole e (job_of old.job))) ow sh at.owned at.shared
-        (stands whole is still ∙ ap (λ (j : _). Ready j) (comes.1.0 whole e)) comes.1.1 comes.1.2 words shared)
+    (stands whole is still ∙ ap (λ (j : _). Ready j) (comes.1.0 whole e)) comes.1.1 comes.1.2 words shared)
 settles at t k p whole old mid new ow sh out come.Ends is words shared still comes stands =
     ap (λ (o : Outcome). settle at.image t k whole (job_of old.job) at.state o) comes.0
     ∙ ap (λ (s : State). tell t k act.End s) (unchanged_words at.state k (thread_of new) Idle ow sh at.owned at.shared stands comes.1 comes.2 words shared)

@@ -3,8 +3,8 @@
 
 mod cell;
 mod choice;
-pub mod law;
 mod ending;
+pub mod law;
 mod outcome;
 mod own;
 mod rows;

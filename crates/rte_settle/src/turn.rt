@@ -111,14 +111,7 @@ fn tell_after(
 /// So many ticks at once from a tick on, whose start events are done, of the process that is
 /// picked, which has no fewer left of what it is at: the state after them, and their event, if
 /// they have one, which falls at the last of them.
-pub fn pass(
-    plan: &Plan,
-    board: &mut Board,
-    who: usize,
-    tick: u64,
-    ticks: u32,
-    fired: &mut Fired,
-)
+pub fn pass(plan: &Plan, board: &mut Board, who: usize, tick: u64, ticks: u32, fired: &mut Fired)
     ghost image: { Image }
     requires plan { IsOf image plan.now }
     requires board { IsBoardOf image board.old }

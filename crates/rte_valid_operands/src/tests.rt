@@ -62,8 +62,17 @@ fn operands_are_tested(rt: HostRuntime) -> Result<(), Fail> {
     let ends = lone(rt.alloc(), Instr::End)?;
     assert_eq!(rt; operand_fault(rt.alloc(), &ends)?, None);
     let raises = lone(rt.alloc(), Instr::Raise { number: 0 })?;
-    assert_eq!(rt; operand_fault(rt.alloc(), &raises)?, Some(Shown { a: 0, b: 0 }));
+    assert_eq!(rt;
+        operand_fault(rt.alloc(), &raises)?,
+        Some(Shown { a: 0, b: 0 })
+    );
     let stores = lone(rt.alloc(), Instr::StoreOwn { word: -1 })?;
-    assert_eq!(rt; operand_fault(rt.alloc(), &stores)?, Some(Shown { a: 0, b: 4_294_967_295 }));
+    assert_eq!(rt;
+        operand_fault(rt.alloc(), &stores)?,
+        Some(Shown {
+            a: 0,
+            b: 4_294_967_295
+        })
+    );
     Ok(())
 }
