@@ -70,7 +70,8 @@ impl Agenda {
         requires lines { AreInOrder (lines_of script.now.lines) }
         ensures order { IfOk result (λ agenda. IsOrderOf image agenda.order) }
         ensures done { IfOk result (λ agenda. agenda.done ≡ 0) }
-        ensures due { IfOk result (λ agenda. HasDue image (script_of script.now) 0 0 (at_start image) agenda.slots) }
+        ensures due { IfOk result (λ agenda.
+            HasDue image (script_of script.now) 0 0 (at_start image) agenda.slots) }
     {
         let order = Order::new(alloc, plan)?;
         let slots = first_slots(alloc, plan, script.lines().as_slice())?;
@@ -114,15 +115,19 @@ impl Agenda {
         requires plan { IsOf image plan.now }
         requires order { IsOrderOf image self.old.order }
         requires board { IsBoardOf image board.old }
-        requires due { HasDue image (script_of script.now) tick self.old.done (state_of board.old) self.old.slots }
+        requires due { HasDue image (script_of script.now) tick self.old.done
+            (state_of board.old) self.old.slots }
         requires within { self.old.done ≤ length script.now.lines }
         requires queues { HaveQueues (state_of board.old) }
         requires fits { NextFits image tick }
         requires calm { (starts image (script_of script.now) tick (state_of board.old)).overrun ≡ false }
         requires fired { fired.old.items ≡ [] }
-        ensures state { state_of board.new ≡ (starts image (script_of script.now) tick (state_of board.old)).state }
-        ensures events { fired.new.items ≡ (starts image (script_of script.now) tick (state_of board.old)).events }
-        ensures slots { HasSlots image (script_of script.now) tick self.new.done (state_of board.new) self.new.slots }
+        ensures state { state_of board.new ≡
+            (starts image (script_of script.now) tick (state_of board.old)).state }
+        ensures events { fired.new.items ≡
+            (starts image (script_of script.now) tick (state_of board.old)).events }
+        ensures slots { HasSlots image (script_of script.now) tick self.new.done
+            (state_of board.new) self.new.slots }
         ensures within { self.new.done ≤ length script.now.lines }
         ensures order { IsOrderOf image self.new.order }
         ensures board { IsBoardOf image board.new }

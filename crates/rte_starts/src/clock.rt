@@ -74,7 +74,8 @@ pub(crate) fn do_releases(
     requires tell { TellReleases image tick slots.old }
     requires fits { NextFits image tick }
     requires calm { (periodic image tick 0 image.processes (state_of board.old)).overrun ≡ false }
-    requires room { array_vec_len fired.old + length (periodic image tick 0 image.processes (state_of board.old)).events ≤ 64 }
+    requires room { array_vec_len fired.old +
+        length (periodic image tick 0 image.processes (state_of board.old)).events ≤ 64 }
     ensures started { HasStarted (periodic image tick 0 image.processes) (state_of board.old)
         fired.old.items (state_of board.new) fired.new.items }
     ensures board { IsBoardOf image board.new }
@@ -134,7 +135,8 @@ pub(crate) fn do_time_outs(
     requires queues { HaveQueues (state_of board.old) }
     requires waits { HasWaits (length image.processes) (state_of board.old) slots.old }
     requires calm { (time_outs image tick 1 (length image.processes) (state_of board.old)).overrun ≡ false }
-    requires room { array_vec_len fired.old + length (time_outs image tick 1 (length image.processes) (state_of board.old)).events ≤ 64 }
+    requires room { array_vec_len fired.old +
+        length (time_outs image tick 1 (length image.processes) (state_of board.old)).events ≤ 64 }
     ensures started { HasStarted (time_outs image tick 1 (length image.processes))
         (state_of board.old) fired.old.items (state_of board.new) fired.new.items }
     ensures board { IsBoardOf image board.new }

@@ -51,7 +51,8 @@ fn do_line(
     requires board { IsBoardOf image board.old }
     requires now { line_tick (line_of said.now) ≡ tick }
     requires calm { (line image tick (line_of said.now) (state_of board.old)).overrun ≡ false }
-    requires room { array_vec_len fired.old + length (line image tick (line_of said.now) (state_of board.old)).events ≤ 64 }
+    requires room { array_vec_len fired.old +
+        length (line image tick (line_of said.now) (state_of board.old)).events ≤ 64 }
     ensures started { HasStarted (line image tick (line_of said.now)) (state_of board.old)
         fired.old.items (state_of board.new) fired.new.items }
     ensures board { IsBoardOf image board.new }
@@ -86,7 +87,8 @@ pub(crate) fn do_lines(
     requires board { IsBoardOf image board.old }
     requires come { AreToCome tick done.old (lines_of script.now) }
     requires calm { (lines image tick (lines_of script.now) (state_of board.old)).overrun ≡ false }
-    requires room { array_vec_len fired.old + length (lines image tick (lines_of script.now) (state_of board.old)).events ≤ 64 }
+    requires room { array_vec_len fired.old +
+        length (lines image tick (lines_of script.now) (state_of board.old)).events ≤ 64 }
     ensures started { HasStarted (lines image tick (lines_of script.now)) (state_of board.old)
         fired.old.items (state_of board.new) fired.new.items }
     ensures board { IsBoardOf image board.new }

@@ -50,7 +50,8 @@ pub(crate) fn release_row(plan: &Plan, row: &[u16], board: &mut Board, fired: &m
     requires board { IsBoardOf image board.old }
     requires row { AreBelow (length image.processes) row.now }
     requires calm { (releases image tick row.now (state_of board.old)).overrun ≡ false }
-    requires room { array_vec_len fired.old + length (releases image tick row.now (state_of board.old)).events ≤ 64 }
+    requires room { array_vec_len fired.old +
+        length (releases image tick row.now (state_of board.old)).events ≤ 64 }
     ensures started { HasStarted (releases image tick row.now) (state_of board.old) fired.old.items
         (state_of board.new) fired.new.items }
     ensures board { IsBoardOf image board.new }
