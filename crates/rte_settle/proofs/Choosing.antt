@@ -1,5 +1,5 @@
 -- How all processes stand in the choice.
-use Rattle.std.proofs.Common.{◌≡◌, ◌<◌, ℕ, zero, suc, List, [], ◌∷◌, Some, length, refl, arith}
+use Rattle.std.proofs.Common.{◌≡◌, ℕ, suc, List, [], ◌∷◌, Some, length, refl, arith}
 use Rattle.std.specs.Prelude.{slice_get}
 use Rattle.rte_dispatch.specs.declared.choice.Standing.{Standing}
 use Rattle.rte_machine_meaning.specs.Image.{Image, Process}
@@ -21,6 +21,7 @@ all_stand image plan [] (p ∷ ps) cs ss is are a b each = absurd are
 all_stand image plan (w ∷ ws) [] cs ss is are a b each = absurd are
 all_stand image plan (w ∷ ws) (p ∷ ps) [] ss is are a b each = absurd cc
 all_stand image plan (w ∷ ws) (p ∷ ps) (c ∷ cs) [] is are a b each = absurd cc
-all_stand image plan (w ∷ ws) (p ∷ ps) (c ∷ cs) (s ∷ ss) is are a b each =
-    (each 0 p c s refl refl refl image w is are.0,
-     all_stand image plan ws ps cs ss is are.1 (omega (arith, a)) (omega (arith, b)) (λ j known cell st at_p at_c at_s. each (suc j) known cell st at_p at_c at_s))
+all_stand image plan (w ∷ ws) (p ∷ ps) (c ∷ cs) (s ∷ ss) is are a b each = (
+  each 0 p c s refl refl refl image w is are.0,
+  all_stand image plan ws ps cs ss is are.1 (omega (arith, a)) (omega (arith, b)) (λ j known cell st at_p at_c at_s. each (suc j) known cell st at_p at_c at_s),
+)

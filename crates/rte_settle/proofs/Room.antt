@@ -57,14 +57,14 @@ few zero (x ∷ xs) once below = absurd (omega (arith, below x (omega (arith, he
 few (suc m) q once below =
     let rest = few m (without m q) (λ j. omega (arith, fewer m j q, once j)) (λ j some. lower j some) in
     omega (arith, rest, length_without m q, once m) where
-  lower : (j : ℕ) → 0 < times j (without m q) → j < m
-  lower j some = elim (cases_lt j m) [
-      | inl lt ↦ lt
-      | inr ge ↦
-          let e : j ≡ m = omega (arith, ge, below j (omega (arith, some, fewer m j q))) in
-          let none = subst (λ (i : ℕ). times i (without m q) ≡ 0) (sym e) (gone m q) in
-          absurd (omega (arith, some, none))
-    ]
+      lower : (j : ℕ) → 0 < times j (without m q) → j < m
+      lower j some = elim (cases_lt j m) [
+        | inl lt ↦ lt
+        | inr ge ↦
+            let e : j ≡ m = omega (arith, ge, below j (omega (arith, some, fewer m j q))) in
+            let none = subst (λ (i : ℕ). times i (without m q) ≡ 0) (sym e) (gone m q) in
+            absurd (omega (arith, some, none))
+      ]
 
 below_all : (n : ℕ) (q : List ℕ) → ((j : ℕ) → 0 < times j q → j < n) → AreBelow n q
 below_all n [] below = tt
@@ -101,7 +101,8 @@ room_of threads queues k n thread fit at ready many small c inside =
     let none : times k (queue_of queues c) ≡ 0 = fit c k ∙ ap (λ (th : Option Thread). waits_on c th) at ∙ ready c in
     let count = few n (k ∷ queue_of queues c) (λ j. once_more j k (queue_of queues c) (nat_eq k j) refl none (once_at j)) (λ j some. below_more j k n (queue_of queues c) (nat_eq k j) refl (omega (arith, many, slice_get_within threads k thread at)) (low_at j) some) in
     (below_all n (queue_of queues c) (λ j some. low_at j some), omega (arith, count, small)) where
-  once_at : (j : ℕ) → times j (queue_of queues c) ≤ 1
-  once_at j = subst (λ (m : ℕ). m ≤ 1) (sym (fit c j)) (once_waits c (slice_get threads j))
-  low_at : (j : ℕ) → 0 < times j (queue_of queues c) → j < n
-  low_at j some = let h = there c j threads (subst (λ (m : ℕ). 0 < m) (fit c j) some) in omega (arith, h, many)
+      once_at : (j : ℕ) → times j (queue_of queues c) ≤ 1
+      once_at j = subst (λ (m : ℕ). m ≤ 1) (sym (fit c j)) (once_waits c (slice_get threads j))
+
+      low_at : (j : ℕ) → 0 < times j (queue_of queues c) → j < n
+      low_at j some = let h = there c j threads (subst (λ (m : ℕ). 0 < m) (fit c j) some) in omega (arith, h, many)

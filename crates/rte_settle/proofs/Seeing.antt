@@ -1,16 +1,16 @@
 -- What an instruction that others see finds, and what its code has done.
-use Rattle.std.proofs.Common.{rules, ◌≡◌, ◌<◌, ◌∙◌, ℕ, zero, suc, Bool, true, false, List, [], ◌∷◌, Option, Some, None, length, refl, ap, sym, subst, arith}
+use Rattle.std.proofs.Common.{rules, ◌≡◌, ◌<◌, ◌∙◌, ℕ, Bool, true, false, List, [], ◌∷◌, Option, Some, None, length, refl, ap, sym, subst, arith}
 use Rattle.std.specs.Prelude.{ℤ, pos, negsuc, nat_eq, slice_get, unsigned_abs}
 use Rattle.std.proofs.lemmas.Option.{slice_get_within}
 use Rattle.rte_isa.specs.declared.instr.Instr.{Instr}
 use Rattle.rte_isa.specs.declared.instr.Instr.TheVariants as i
 use Rattle.rte_event.specs.declared.event.Act.{Act}
 use Rattle.rte_machine_meaning.specs.Image.{Image}
-use Rattle.rte_machine_meaning.specs.State.{Operand, Value, Counter, State, is_free, is_inside, stack_of}
-use Rattle.rte_machine_meaning.specs.Effect.{Own, Outcome, Does, Signals, Broadcasts, Waits, Stuck, effect, enter, enters, leave, leaves, wait, waits, monitor_of, queue, signal, broadcast, empty, get, put, take_one, one, holding, word_at}
+use Rattle.rte_machine_meaning.specs.State.{Operand, Value, Counter, State, is_free, is_inside}
+use Rattle.rte_machine_meaning.specs.Effect.{Own, Outcome, Does, Signals, Broadcasts, Waits, effect, enter, enters, leave, leaves, wait, waits, monitor_of, queue, signal, broadcast, empty, get, put, take_one, holding, word_at}
 use Rattle.rte_frames.specs.Frames.{Frames, IsValueFirst, used}
 use Rattle.rte_seen.specs.declared.seen.Waited.{Waited}
-use Rattle.rte_seen.specs.Seen.{DoesEmpty, DoesEnter, DoesGet, DoesLeave, DoesPut, DoesWait, IsSmall, with_inside}
+use Rattle.rte_seen.specs.Seen.{DoesEmpty, DoesEnter, DoesGet, DoesLeave, DoesPut, DoesWait, with_inside}
 use Rattle.rte_steps.specs.Steps.{HasWord, with_frames}
 use Rattle.rte_silent.specs.declared.job.Job.{Job as Kept}
 use Rattle.rte_silent.specs.Silent.{own_of}
@@ -37,6 +37,7 @@ inside_of (pos m) o room can = by o.job.inside refl (λ b. is_true_of b) can whe
   is_true_of : (b : Bool) → CanCome room (leaves b m o) → b ≡ true
   is_true_of true can' = refl
   is_true_of false can' = absurd can'
+
   by : (inside : Option ℕ) → o.job.inside ≡ inside → ((b : Bool) → CanCome room (leaves b m o) → b ≡ true) → CanCome room (leaves (is_inside m inside) m o) → o.job.inside ≡ Some m
   by None is left can' = absurd can'
   by (Some n) is left can' = let e : m ≡ n = search (rules, left _ can') in is ∙ ap (λ (k : ℕ). Some k) (sym e)
@@ -175,6 +176,7 @@ waits_is image c limit number o room can = by (monitor_of image c) can where
   now : (b : Bool) → CanCome room (waits b c limit number o) → waits b c limit number o ≡ Waits (unsigned_abs c) (unsigned_abs limit) (unsigned_abs number) (with_inside None o)
   now true can' = refl
   now false can' = absurd can'
+
   by : (m : Option ℕ) → CanCome room (wait m c limit number o) → wait m c limit number o ≡ Waits (unsigned_abs c) (unsigned_abs limit) (unsigned_abs number) (with_inside None o)
   by None can' = absurd can'
   by (Some m) can' = now (is_inside m o.job.inside) can'
@@ -187,11 +189,11 @@ wait_among image s given c limit number job owned shared w inside n is does coun
     let o : Own = own_of job owned shared in
     subst (λ (x : Instr). CanCome job.frames.room (effect image s x o) → w.condition < n) (sym is)
     (λ can.
-      let h = waits_in image c limit number o job.frames.room can in
-      let a = waits_is image c limit number o job.frames.room can in
-      let b = does image s o h.m h.monitor h.inside in
-      let e : w.condition ≡ unsigned_abs c = cc (a, b) in
-      omega (arith, e, below_conditions image c o h, count))
+    let h = waits_in image c limit number o job.frames.room can in
+    let a = waits_is image c limit number o job.frames.room can in
+    let b = does image s o h.m h.monitor h.inside in
+    let e : w.condition ≡ unsigned_abs c = cc (a, b) in
+    omega (arith, e, below_conditions image c o h, count))
 
 pub signal_among : (image : Image) (s : State) (given : Instr) (c : ℤ) (o : Own) (room n : ℕ) → given ≡ i.Signal c → length s.queues ≡ n → CanCome room (effect image s given o) → unsigned_abs c < n
 signal_among image s given c o room n is count =

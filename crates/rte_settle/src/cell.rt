@@ -63,15 +63,7 @@ pub fn pass_cell(
     ensures among { IsAmong (length queues.now) result }
     ensures room { cell.new.job.frames.room ≡ cell.old.job.frames.room }
 {
-    let outcome = pass_own(
-        plan,
-        &mut cell.job,
-        owned,
-        shared,
-        queues,
-        devices,
-        ticks,
-    );
+    let outcome = pass_own(plan, &mut cell.job, owned, shared, queues, devices, ticks);
     stand_after(process, cell, outcome, tick);
     outcome
 }

@@ -48,7 +48,7 @@ fn turn(plan: &Plan, board: &mut Board, who: usize, ticks: u32, tick: u64) -> Ou
 
 /// Does what is left to do once a process stands as its turn leaves it: wakes others, joins it to a
 /// queue, and tells its event at the tick.
-fn tell_after(
+pub fn tell_after(
     plan: &Plan,
     board: &mut Board,
     who: u16,
@@ -111,14 +111,7 @@ fn tell_after(
 /// So many ticks at once from a tick on, whose start events are done, of the process that is
 /// picked, which has no fewer left of what it is at: the state after them, and their event, if
 /// they have one, which falls at the last of them.
-pub fn pass(
-    plan: &Plan,
-    board: &mut Board,
-    who: usize,
-    tick: u64,
-    ticks: u32,
-    fired: &mut Fired,
-)
+pub fn pass(plan: &Plan, board: &mut Board, who: usize, tick: u64, ticks: u32, fired: &mut Fired)
     ghost image: { Image }
     requires plan { IsOf image plan.now }
     requires board { IsBoardOf image board.old }

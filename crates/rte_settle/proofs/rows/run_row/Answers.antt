@@ -1,5 +1,5 @@
 -- The process is read, and has run.
-use Rattle.std.proofs.Common.{◌≡◌, ◌∙◌, ◌<◌, List, length, arith, refl, ap, sym}
+use Rattle.std.proofs.Common.{◌∙◌, List, length, arith, refl, ap, sym}
 use Rattle.std.specs.Prelude.{ℤ}
 use Rattle.std.specs.Vec.{with_item, with_items}
 use Rattle.std.proofs.lemmas.Option.{slice_get_within}
@@ -36,9 +36,9 @@ returns-clause-ran g c job is_ready =
     has_run g.image c.args.board.now new c.args.who c.args.budget c.index_mut-cell.result.now c.run_cell.new.cell c.deref_mut.result.now c.deref_mut-2.result.now c.run_cell.new.owned c.run_cell.new.shared c.run_cell.result job is_ready cell
     (row_is c.args.board.now.owned.items c.args.who c.index_mut-owned.result.now words ∙ sym c.deref_mut.ensures.value) (sym c.deref_mut-2.ensures.value) c.run_cell.ensures.stand c.run_cell.ensures.runs
     (stands_anew c.args.board.now new c.args.who c.run_cell.new.cell row c.run_cell.new.owned c.run_cell.new.shared refl refl
-      (items_are c.index_mut-owned.result.now c.run_cell.new.owned (omega (arith, c.run_cell.auto.owned, c.deref_mut.ensures.len, ap (λ (xs : List ℤ). length xs) c.deref_mut.ensures.value)))
-      (items_are c.args.board.now.shared c.run_cell.new.shared (omega (arith, c.run_cell.auto.shared, ap (λ (xs : List ℤ). length xs) c.deref_mut-2.ensures.value)))
-      refl refl)
+    (items_are c.index_mut-owned.result.now c.run_cell.new.owned (omega (arith, c.run_cell.auto.owned, c.deref_mut.ensures.len, ap (λ (xs : List ℤ). length xs) c.deref_mut.ensures.value)))
+    (items_are c.args.board.now.shared c.run_cell.new.shared (omega (arith, c.run_cell.auto.shared, ap (λ (xs : List ℤ). length xs) c.deref_mut-2.ensures.value)))
+    refl refl)
 
 pub returns-clause-kept : goal.returns-clause-kept
 returns-clause-kept g c =
