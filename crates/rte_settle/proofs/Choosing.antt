@@ -1,5 +1,5 @@
 -- How all processes stand in the choice.
-use Rattle.std.proofs.Common.{◌≡◌, ◌<◌, ℕ, zero, suc, List, [], ◌∷◌, Some, length, refl, arith}
+use Rattle.std.proofs.Common.{◌≡◌, ℕ, suc, List, [], ◌∷◌, Some, length, refl, arith}
 use Rattle.std.specs.Prelude.{slice_get}
 use Rattle.rte_dispatch.specs.declared.choice.Standing.{Standing}
 use Rattle.rte_machine_meaning.specs.Image.{Image, Process}

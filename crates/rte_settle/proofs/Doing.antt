@@ -1,26 +1,18 @@
 -- The ticks of a process, as far as its own goes.
-use Rattle.std.proofs.Common.{rules, ◌≡◌, ◌≤◌, ◌<◌, ◌+◌, ◌-◌, ◌∙◌, ℕ, zero, suc, Bool, true, false, List, [], ◌∷◌, Option, Some, None, length, refl, ap, sym, subst, arith}
-use Rattle.std.specs.Prelude.{ℤ, nat_lt, cond, slice_get}
-use Rattle.std.proofs.lemmas.Option.{slice_get_within}
-use Rattle.std.proofs.lemmas.Bool.Decides.{nat_tests}
+use Rattle.std.proofs.Common.{◌≡◌, ℕ, true, List, refl, sym, subst}
+use Rattle.std.specs.Prelude.{ℤ}
 use Rattle.rte_isa.specs.declared.instr.Instr.{Instr}
-use Rattle.rte_isa.specs.Ticks.{ticks}
 use Rattle.rte_machine_meaning.specs.Image.{Image}
-use Rattle.rte_machine_meaning.specs.State.{Job, State}
+use Rattle.rte_machine_meaning.specs.State.{State}
 use Rattle.rte_machine_meaning.specs.Effect.{Own, Outcome, Goes, Does, Signals, Broadcasts, Waits, Raises, Ends, Stuck, effect}
-use Rattle.rte_machine_meaning.specs.Tick.{at_next}
 use Rattle.rte_steps.specs.declared.calls.Routine.{Routine as Called}
-use Rattle.rte_steps.specs.declared.came.Came.TheVariants as came
 use Rattle.rte_silent.specs.declared.job.Job.{Job as Kept}
-use Rattle.rte_silent.specs.Silent.{HasDone, RaisesAs, job_of, own_of, IsOf as HasCode}
+use Rattle.rte_silent.specs.Silent.{own_of, IsOf as HasCode}
 use Rattle.rte_stretch.specs.Silent.{IsWithin, is_silent, nowhere}
-use Rattle.rte_stretch.specs.Stretch.{left, outcome_at_once, outcomes}
 use Rattle.rte_stretch.proofs.Rowing.{silent_anywhere}
 use Rattle.rte_state.specs.declared.plan.Plan.{Plan}
-use Rattle.rte_state.specs.Plan.{HasNumbers, IsOf}
-use Rattle.rte_settle.specs.declared.outcome.Outcome.{Outcome as Come}
-use Rattle.rte_settle.specs.declared.outcome.Outcome.TheVariants as come
-use Rattle.rte_settle.specs.Own.{CanCome, ComesAs, IsEarly}
+use Rattle.rte_state.specs.Plan.{IsOf}
+use Rattle.rte_settle.specs.Own.{CanCome}
 
 -- ---- one instruction
 

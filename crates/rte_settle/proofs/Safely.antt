@@ -1,21 +1,18 @@
 -- What the run promises of a turn.
-use Rattle.std.proofs.Common.{◌≡◌, ◌≤◌, ◌<◌, ◌+◌, ◌-◌, ◌∙◌, ℕ, zero, suc, Bool, true, false, List, [], ◌∷◌, Option, Some, None, refl, ap, sym, subst, arith}
-use Rattle.std.specs.Prelude.{cond, slice_get, slice_set}
-use Rattle.rte_isa.specs.declared.instr.Instr.{Instr}
-use Rattle.rte_isa.specs.Ticks.{ticks}
-use Rattle.rte_machine_meaning.specs.Image.{Image, Process, Script}
-use Rattle.rte_machine_meaning.specs.State.{Job, Thread, Idle, Ready, Waiting, State, stack_of}
+use Rattle.std.proofs.Common.{◌≡◌, ◌≤◌, ◌+◌, ◌-◌, ◌∙◌, ℕ, suc, Bool, true, false, List, [], ◌∷◌, Option, Some, None, refl, ap, sym, subst, arith}
+use Rattle.std.specs.Prelude.{cond, slice_get}
+use Rattle.rte_machine_meaning.specs.Image.{Image, Process}
+use Rattle.rte_machine_meaning.specs.State.{Job, Thread, Idle, Ready, Waiting, State}
 use Rattle.rte_machine_meaning.specs.Effect.{Outcome, Goes, Does, Signals, Broadcasts, Waits, Raises, Ends, Stuck}
 use Rattle.rte_machine_meaning.specs.Tick as t
 use Rattle.rte_machine_meaning.specs.Tick.{Candidate, Ticked, active_rank, first_of_two, is_before, least, outside, owned_of, pick, settle}
 use Rattle.rte_machine_meaning.specs.Run.{state_at}
 use Rattle.rte_stretch.specs.Stretch.{FitsIn, FitsThread, left, outcomes, pass, pass_thread, place_of}
-use Rattle.rte_stretch.specs.Laws.{IsTurnOfRun, turn}
-use Rattle.rte_stretch.specs.RowLaws.{IsInStack, IsSafeRun, begun}
+use Rattle.rte_stretch.specs.Laws.{turn}
+use Rattle.rte_stretch.specs.RowLaws.{IsInStack, begun}
 use Rattle.rte_stretch.proofs.Moving.{get_set}
 use Rattle.rte_stretch.proofs.Runs.{turn_stays_in_run}
 use Rattle.rte_settle.specs.Own.{CanCome}
-use Rattle.rte_settle.specs.Settled.{CanPass}
 use Rattle.rte_settle.specs.Laws.{TurnCanPass}
 
 -- ---- who is picked is ready

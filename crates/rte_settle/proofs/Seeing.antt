@@ -1,16 +1,16 @@
 -- What an instruction that others see finds, and what its code has done.
-use Rattle.std.proofs.Common.{rules, ◌≡◌, ◌<◌, ◌∙◌, ℕ, zero, suc, Bool, true, false, List, [], ◌∷◌, Option, Some, None, length, refl, ap, sym, subst, arith}
+use Rattle.std.proofs.Common.{rules, ◌≡◌, ◌<◌, ◌∙◌, ℕ, Bool, true, false, List, [], ◌∷◌, Option, Some, None, length, refl, ap, sym, subst, arith}
 use Rattle.std.specs.Prelude.{ℤ, pos, negsuc, nat_eq, slice_get, unsigned_abs}
 use Rattle.std.proofs.lemmas.Option.{slice_get_within}
 use Rattle.rte_isa.specs.declared.instr.Instr.{Instr}
 use Rattle.rte_isa.specs.declared.instr.Instr.TheVariants as i
 use Rattle.rte_event.specs.declared.event.Act.{Act}
 use Rattle.rte_machine_meaning.specs.Image.{Image}
-use Rattle.rte_machine_meaning.specs.State.{Operand, Value, Counter, State, is_free, is_inside, stack_of}
-use Rattle.rte_machine_meaning.specs.Effect.{Own, Outcome, Does, Signals, Broadcasts, Waits, Stuck, effect, enter, enters, leave, leaves, wait, waits, monitor_of, queue, signal, broadcast, empty, get, put, take_one, one, holding, word_at}
+use Rattle.rte_machine_meaning.specs.State.{Operand, Value, Counter, State, is_free, is_inside}
+use Rattle.rte_machine_meaning.specs.Effect.{Own, Outcome, Does, Signals, Broadcasts, Waits, effect, enter, enters, leave, leaves, wait, waits, monitor_of, queue, signal, broadcast, empty, get, put, take_one, holding, word_at}
 use Rattle.rte_frames.specs.Frames.{Frames, IsValueFirst, used}
 use Rattle.rte_seen.specs.declared.seen.Waited.{Waited}
-use Rattle.rte_seen.specs.Seen.{DoesEmpty, DoesEnter, DoesGet, DoesLeave, DoesPut, DoesWait, IsSmall, with_inside}
+use Rattle.rte_seen.specs.Seen.{DoesEmpty, DoesEnter, DoesGet, DoesLeave, DoesPut, DoesWait, with_inside}
 use Rattle.rte_steps.specs.Steps.{HasWord, with_frames}
 use Rattle.rte_silent.specs.declared.job.Job.{Job as Kept}
 use Rattle.rte_silent.specs.Silent.{own_of}

@@ -1,18 +1,17 @@
 -- What an outcome leaves of the state.
-use Rattle.std.proofs.Common.{◌≡◌, ◌+◌, ◌∙◌, ℕ, List, refl, ap, sym}
+use Rattle.std.proofs.Common.{◌≡◌, ◌∙◌, ℕ, List, refl, ap, sym}
 use Rattle.std.specs.Prelude.{ℤ, slice_get, slice_set}
 use Rattle.rte_event.specs.declared.event.Act.TheVariants as act
-use Rattle.rte_machine_meaning.specs.Image.{Image, Process}
-use Rattle.rte_machine_meaning.specs.State.{Thread, Idle, Ready, Waiting, State}
+use Rattle.rte_machine_meaning.specs.Image.{Process}
+use Rattle.rte_machine_meaning.specs.State.{Thread, Idle, Ready, State}
 use Rattle.rte_machine_meaning.specs.Effect.{Outcome}
-use Rattle.rte_machine_meaning.specs.Starts.{queue_of, raised}
-use Rattle.rte_machine_meaning.specs.Tick.{Ticked, owned_of, settle, tell}
+use Rattle.rte_machine_meaning.specs.Starts.{raised}
+use Rattle.rte_machine_meaning.specs.Tick.{owned_of, settle, tell}
 use Rattle.rte_stretch.proofs.Moving.{set_owned}
 use Rattle.rte_cells.specs.declared.threads.Cell.{Cell}
 use Rattle.rte_cells.specs.declared.threads.Stand.{Stand}
 use Rattle.rte_cells.specs.declared.threads.Stand.TheVariants as stand
 use Rattle.rte_cells.specs.Threads.{thread_by, thread_of}
-use Rattle.rte_silent.specs.declared.job.Job.{Job as Kept}
 use Rattle.rte_silent.specs.Silent.{job_of, own_of}
 use Rattle.rte_state.specs.declared.plan.Process.{Process as Known}
 use Rattle.rte_state.specs.Plan.{IsProcess}

@@ -1,10 +1,10 @@
 -- A turn of one process of many.
-use Rattle.std.proofs.Common.{◌≡◌, ◌≤◌, ◌<◌, ◌∙◌, ℕ, zero, suc, List, [], ◌∷◌, Option, Some, None, length, map, get_or, refl, ap, sym, subst, arith}
+use Rattle.std.proofs.Common.{◌≡◌, ◌≤◌, ◌<◌, ◌∙◌, ℕ, zero, suc, List, [], ◌∷◌, Option, Some, length, map, get_or, refl, ap, sym, subst, arith}
 use Rattle.std.specs.Prelude.{ℤ, slice_get, slice_set}
 use Rattle.std.specs.Global.{Vec}
 use Rattle.std.proofs.lemmas.Option.{slice_get-get_or, slice_get_within}
 use Rattle.rte_machine_meaning.specs.Image.{Image, Process}
-use Rattle.rte_machine_meaning.specs.State.{Job, Thread, Idle, Ready, Waiting, State}
+use Rattle.rte_machine_meaning.specs.State.{Job, Ready, State}
 use Rattle.rte_machine_meaning.specs.Tick.{owned_of, settle}
 use Rattle.rte_stretch.specs.Stretch.{left, outcomes}
 use Rattle.rte_cells.specs.declared.threads.Cell.{Cell}
@@ -168,11 +168,14 @@ keeps image b new k c c' v board below is room cells owned queues devices = reco
   devices = ap (λ (ds : List ℤ). length ds) devices ∙ board.devices;
 }
 
--- the queues have room while process k runs
-pub room_for : (image : Image) (plan : Plan) (b new : Board) (k n : ℕ) → IsOf image plan → IsBoardOf image b → AreQueued (state_of b) → CanPass image n k (state_of b) → new.queues ≡ b.queues → (cells : ℕ) → cells ≡ length b.cells.items → HaveRoom cells new.queues
-room_for image plan b new k n is board queued can same cells count =
+-- the queues have room while process k, which is ready, runs
+pub room_while : (image : Image) (plan : Plan) (b new : Board) (k : ℕ) (job : Job) → IsOf image plan → IsBoardOf image b → AreQueued (state_of b) → slice_get (threads_of b.cells.items) k ≡ Some (Ready job) → new.queues ≡ b.queues → (cells : ℕ) → cells ≡ length b.cells.items → HaveRoom cells new.queues
+room_while image plan b new k job is board queued ready same cells count =
     let rooms = ap (λ (ns : List ℕ). length ns) board.rooms in
     let left = length_map (λ (c : Cell). c.job.frames.room) b.cells.items in
     let right = length_map (λ (p : Process). p.stack) image.processes in
     subst (λ (qs : List (List ℕ)). HaveRoom cells qs) (sym same)
-    (room_of (threads_of b.cells.items) b.queues k cells (Ready can.job) queued can.ready (λ c. refl) (length_map thread_of b.cells.items ∙ sym count) (omega (arith, count, rooms, left, right, is.few)))
+    (room_of (threads_of b.cells.items) b.queues k cells (Ready job) queued ready (λ c. refl) (length_map thread_of b.cells.items ∙ sym count) (omega (arith, count, rooms, left, right, is.few)))
+
+pub room_for : (image : Image) (plan : Plan) (b new : Board) (k n : ℕ) → IsOf image plan → IsBoardOf image b → AreQueued (state_of b) → CanPass image n k (state_of b) → new.queues ≡ b.queues → (cells : ℕ) → cells ≡ length b.cells.items → HaveRoom cells new.queues
+room_for image plan b new k n is board queued can same cells count = room_while image plan b new k can.job is board queued can.ready same cells count

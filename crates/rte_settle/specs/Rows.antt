@@ -1,6 +1,7 @@
 -- A row of instructions of one process of many.
-use Rattle.std.specs.Prelude.{◌≡◌, ◌<◌, ◌-◌, ℕ, false, Option, Some, None, slice_get}
+use Rattle.std.specs.Prelude.{◌≡◌, ◌<◌, ◌-◌, ◌++◌, ℕ, List, false, Option, Some, None, slice_get}
 use Rattle.rte_isa.specs.declared.instr.Instr.{Instr}
+use Rattle.rte_event.specs.declared.event.Event.{Event}
 use Rattle.rte_machine_meaning.specs.Image.{Image, Process}
 use Rattle.rte_machine_meaning.specs.State.{Job, Ready, State}
 use Rattle.rte_machine_meaning.specs.Effect.{Own, Outcome, Goes, Raises, Stuck, effect}
@@ -64,3 +65,16 @@ abbrev pub EndsAs : Around → (t k : ℕ) → Known → Cell → Halt → Come 
 EndsAs at t k known old h come new =
     (whole : Process) → IsProcess whole known → at.owned ≡ owned_of (slice_get at.state.owned k) → at.shared ≡ at.state.shared
     → settle at.image t k whole (job_of old.job) at.state (outcome_of at.image at.state h (own_of old.job at.owned at.shared)) ≡ after at.image t k come (with_thread k (thread_of new) at.owned at.shared at.state)
+
+-- the last tick t of a row of process k comes to what is left to do in the new state
+abbrev pub HasEnded : Image → (t k : ℕ) → State → Halt → Come → State → Type 0
+HasEnded image t k old h come new =
+    (p : Process) (job : Job) → slice_get image.processes k ≡ Some p → slice_get old.threads k ≡ Some (Ready job)
+    → settle image t k p job old (outcome_of image old h (own_at k job old)) ≡ after image t k come new
+
+-- the last tick t of a row of process k leads to the new state, and has these events
+abbrev pub EndsIn : Image → (t k : ℕ) → State → Halt → State → List Event → List Event → Type 0
+EndsIn image t k old h new before events =
+    (p : Process) (job : Job) → slice_get image.processes k ≡ Some p → slice_get old.threads k ≡ Some (Ready job)
+    → (new ≡ (settle image t k p job old (outcome_of image old h (own_at k job old))).state)
+    × (events ≡ before ++ (settle image t k p job old (outcome_of image old h (own_at k job old))).events)

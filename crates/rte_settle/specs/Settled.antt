@@ -1,5 +1,5 @@
 -- What a turn leaves of the state.
-use Rattle.std.specs.Prelude.{◌≡◌, ◌≤◌, ◌<◌, ◌+◌, ◌-◌, ◌++◌, ℕ, ℤ, false, List, [], ◌∷◌, Some, length, slice_get, slice_set}
+use Rattle.std.specs.Prelude.{◌≡◌, ◌≤◌, ◌<◌, ◌+◌, ◌++◌, ℕ, ℤ, false, List, [], ◌∷◌, Some, length, slice_get, slice_set}
 use Rattle.rte_event.specs.declared.event.Act.TheVariants as act
 use Rattle.rte_machine_meaning.specs.Image.{Image, Process}
 use Rattle.rte_machine_meaning.specs.State.{Job, Thread, Idle, Ready, Waiting, State}

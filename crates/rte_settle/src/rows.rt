@@ -1,17 +1,24 @@
 //! A row of instructions of one process of many.
 
-ghost use Rattle.std.specs.Prelude.{◌≡◌, vec_len};
+ghost use Rattle.std.specs.Prelude.{◌≡◌, ◌<◌, ◌≤◌, ◌+◌, ◌^◌, length, vec_len};
 ghost use Rattle.rte_machine_meaning.specs.Image.{Image};
 ghost use Rattle.rte_silent.specs.Rows.{Runs};
 ghost use Rattle.rte_silent.specs.Silent.{own_of};
 ghost use Rattle.rte_stretch.specs.Silent.{IsSafeFor};
 ghost use Rattle.rte_state.specs.Plan.{IsOf};
 ghost use Rattle.rte_state.specs.Board.{IsBoardOf, state_of};
-ghost use Rattle.rte_settle.specs.Rows.{CanRun, HasRun};
+ghost use Rattle.arrayvec.specs.ArrayVec.{array_vec_len};
+ghost use Rattle.rte_safe_terms.specs.Queues.{AreQueued};
+ghost use Rattle.rte_settle.specs.Own.{Around, IsAmong};
+ghost use Rattle.rte_settle.specs.Settled.{IsAround};
+ghost use Rattle.rte_settle.specs.Rows.{CanEnd, CanRun, EndsIn, HasEnded, HasRun};
 
+use crate::ending::end_cell;
+use crate::outcome::Outcome;
+use crate::turn::tell_after;
 use rte_cells::Cell;
 use rte_silent::{Halt, run};
-use rte_state::{Board, Plan};
+use rte_state::{Board, Fired, Plan};
 
 /// Runs a process for so many ticks, up to an instruction that others see or an exception.
 fn run_cell(
@@ -53,4 +60,49 @@ pub fn run_row(plan: &Plan, board: &mut Board, who: usize, budget: u64) -> Halt
     let cell = &mut board.cells[who];
     let owned = &mut board.owned[who];
     run_cell(plan, cell, owned, &mut board.shared, budget)
+}
+
+/// The last tick of a row, up to where its process stands anew.
+fn end_turn(plan: &Plan, board: &mut Board, who: usize, halt: Halt, tick: u64) -> Outcome
+    ghost at: { Around }
+    requires plan { IsOf at.image plan.now }
+    requires board { IsBoardOf at.image board.old }
+    requires at { IsAround at who board.old }
+    requires can { CanEnd at.image who (state_of board.old) halt }
+    requires tick { tick < 2 ^ 63 }
+    ensures ended { HasEnded at.image tick who (state_of board.old) halt result (state_of board.new) }
+    ensures among { IsAmong (length board.old.queues) result }
+    ensures kept { IsBoardOf at.image board.new }
+    ensures queues { board.new.queues ≡ board.old.queues }
+    ensures len { vec_len board.new.cells ≡ vec_len board.old.cells }
+{
+    let process = &plan.processes[who];
+    let cell = &mut board.cells[who];
+    end_cell(
+        plan,
+        process,
+        cell,
+        &board.queues,
+        &board.devices,
+        halt,
+        tick,
+    )
+}
+
+/// Does what a row halted at, in the last of the ticks that passed: the instruction that others
+/// see, or the raise.
+pub fn end_row(plan: &Plan, board: &mut Board, who: usize, halt: Halt, tick: u64, fired: &mut Fired)
+    ghost image: { Image }
+    requires plan { IsOf image plan.now }
+    requires board { IsBoardOf image board.old }
+    requires queues { AreQueued (state_of board.old) }
+    requires can { CanEnd image who (state_of board.old) halt }
+    requires tick { tick < 2 ^ 63 }
+    requires fired { array_vec_len fired.old < 65 }
+    ensures ends { EndsIn image tick who (state_of board.old) halt (state_of board.new) fired.old.items fired.new.items }
+    ensures len { array_vec_len fired.new ≤ array_vec_len fired.old + 1 }
+    ensures kept { IsBoardOf image board.new }
+{
+    let outcome = end_turn(plan, board, who, halt, tick);
+    tell_after(plan, board, who as u16, outcome, tick, fired);
 }

@@ -1,5 +1,5 @@
 -- The foremost of them is picked.
-use Rattle.std.proofs.Common.{◌≡◌, ◌∙◌, List, arith, ap, sym}
+use Rattle.std.proofs.Common.{◌∙◌, List, arith, ap, sym}
 use Rattle.std.proofs.lemmas.Option.{slice_get_within}
 use Rattle.rte_dispatch.specs.declared.choice.Standing.{Standing}
 use Rattle.rte_dispatch.specs.Pick.{foremost}

@@ -1,5 +1,5 @@
 -- The process is read, and has run.
-use Rattle.std.proofs.Common.{◌≡◌, ◌∙◌, ◌<◌, List, length, arith, refl, ap, sym}
+use Rattle.std.proofs.Common.{◌∙◌, List, length, arith, refl, ap, sym}
 use Rattle.std.specs.Prelude.{ℤ}
 use Rattle.std.specs.Vec.{with_item, with_items}
 use Rattle.std.proofs.lemmas.Option.{slice_get_within}

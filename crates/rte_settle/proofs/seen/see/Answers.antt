@@ -1,12 +1,8 @@
 -- Each arm does what its instruction does.
-use Rattle.std.proofs.Common.{◌≡◌, ◌<◌, ◌∙◌, ℕ, ℤ, List, length, w32, rules, ap, sym, subst}
-use Rattle.std.specs.Prelude.{FitsSigned, unsigned_abs}
+use Rattle.std.proofs.Common.{ℕ, List, length, w32, rules, ap}
+use Rattle.std.specs.Prelude.{FitsSigned}
 use Rattle.std.proofs.lemmas.Int.{to_z-of_z}
-use Rattle.rte_isa.specs.declared.instr.Instr.{Instr}
-use Rattle.rte_isa.specs.declared.instr.Instr.TheVariants as i
-use Rattle.rte_machine_meaning.specs.Effect.{Own, effect}
 use Rattle.rte_silent.specs.Silent.{own_of}
-use Rattle.rte_settle.specs.Own.{CanCome}
 use Rattle.rte_settle.proofs.Seeing.{broadcast_among, empty_comes, enter_comes, get_comes, leave_comes, puts_comes, reenter_comes, signal_among, wait_among, wait_comes}
 use Rattle.rte_settle.proofs.seen.see.Goals as goal
 

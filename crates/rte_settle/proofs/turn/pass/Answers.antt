@@ -1,6 +1,5 @@
 -- Its turn, and what is left to do after it.
-use Rattle.std.proofs.Common.{◌≡◌, ◌∙◌, List, ℕ, arith, ap, sym, subst, length}
-use Rattle.rte_settle.specs.declared.outcome.Outcome.{Outcome as Come}
+use Rattle.std.proofs.Common.{List, ℕ, arith, ap, sym, subst, length}
 use Rattle.rte_settle.specs.Own.{IsAmong}
 use Rattle.rte_settle.proofs.Turning.{room_for}
 use Rattle.rte_settle.proofs.turn.pass.Goals as goal

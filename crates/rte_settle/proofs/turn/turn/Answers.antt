@@ -1,5 +1,5 @@
 -- The process is read, and stands anew.
-use Rattle.std.proofs.Common.{◌≡◌, ◌∙◌, ◌<◌, List, length, arith, refl, ap, sym}
+use Rattle.std.proofs.Common.{◌∙◌, List, length, arith, refl, ap, sym}
 use Rattle.std.specs.Prelude.{ℤ}
 use Rattle.rte_cells.proofs.Items.{items_are}
 use Rattle.std.specs.Vec.{with_item, with_items}
