@@ -1,5 +1,8 @@
 //! Scripts and logs, read for the names of a small program.
 
+ghost use Rattle.std.specs.Prelude.{◌≡◌, ◌≤◌, ◌^◌, IfOk, length};
+ghost use Rattle.rte_log_reading.specs.Logs.{AreFew};
+
 use rte_event::{Act, Event};
 use rte_image::{DevName, EventName, ImageNames};
 use rte_log_reading::{LogFault, read_log};
@@ -9,24 +12,49 @@ use std::alloc::{AllocError, Global};
 use std::process::Abort;
 use std::test::Fail;
 
-/// A process `p` that the event `e` releases, with frame 15, an out device and an in device.
-fn some_names(alloc: Global) -> Result<ImageNames, AllocError> {
-    let mut processes = List::new(alloc);
-    processes.push(Name::new(alloc, b"p")?)?;
+/// An out device and an in device.
+fn some_devices(alloc: Global) -> Result<List<DevName>, AllocError>
+    ensures { IfOk result (λ devices. length devices ≡ 2) }
+{
     let mut devices = List::new(alloc);
     let name = Name::new(alloc, b"valve")?;
     devices.push(DevName { name, out: true })?;
     let name = Name::new(alloc, b"gauge")?;
     devices.push(DevName { name, out: false })?;
+    Ok(devices)
+}
+
+/// The event `e`, whose process has frame 15.
+fn some_events(alloc: Global) -> Result<List<EventName>, AllocError>
+    ensures { IfOk result (λ events. length events ≡ 1) }
+{
     let mut events = List::new(alloc);
     let name = Name::new(alloc, b"e")?;
     events.push(EventName { name, frame: 15 })?;
+    Ok(events)
+}
+
+/// The process `p`.
+fn some_processes(alloc: Global) -> Result<List<Name>, AllocError>
+    ensures { IfOk result (λ processes. length processes ≡ 1) }
+{
+    let mut processes = List::new(alloc);
+    processes.push(Name::new(alloc, b"p")?)?;
+    Ok(processes)
+}
+
+/// A process that an event releases, an out device and an in device.
+fn some_names(alloc: Global) -> Result<ImageNames, AllocError>
+    ensures devices { IfOk result (λ names. length names.devices ≤ 2 ^ 16) }
+    ensures events { IfOk result (λ names. length names.events ≤ 2 ^ 16) }
+    ensures few { IfOk result AreFew }
+{
     Ok(ImageNames {
-        processes,
+        processes: some_processes(alloc)?,
         monitors: List::new(alloc),
         conditions: List::new(alloc),
-        devices,
-        events,
+        devices: some_devices(alloc)?,
+        events: some_events(alloc)?,
     })
 }
 
