@@ -44,4 +44,4 @@ CheckedCodeIsFaithful = (g : Prog Place) (m : image.Image) (c : Compiled)
     → IsSmallEnough g → HoldsMade g m → IsProcessOf g m c
     → (level : Name → ℕ)
     × IsFaithful c (λ o v. StandsFor c (record { level = level; runs = runs_of c.program c.text }) o v)
-      (λ k shared vars. FreeHolds c k shared vars) (λ owned vars. RestHolds c owned vars)
+    (λ k shared vars. FreeHolds c k shared vars) (λ owned vars. RestHolds c owned vars)
