@@ -8,4 +8,6 @@ mod commands;
 #[cfg(test)]
 mod runs;
 #[cfg(test)]
+mod scripts;
+#[cfg(test)]
 mod texts;

@@ -12,4 +12,3 @@ pub mod ProcessesFit
 pub mod EventsFit
 pub mod CountsFit
 pub mod WellFormed
-pub mod Formed

@@ -1,5 +1,5 @@
 -- The processes of a program fit with all text that they may run, and so do its monitors.
-use Rattle.std.proofs.Common.{◌≡◌, ℕ, true, false, List, [], ◌∷◌, ◌++◌, map, None, ◌⊎◌, inl, inr, refl, subst}
+use Rattle.std.proofs.Common.{◌≡◌, ℕ, true, false, List, [], ◌∷◌, ◌++◌, map, Some, None, ◌⊎◌, inl, inr, refl, subst}
 use Rattle.std.specs.Prelude.{Contains, All, filter_map}
 use Rattle.std.proofs.lemmas.List.Elements.{All-contains}
 use Rattle.rte_tree.specs.Plain as plain_of
@@ -7,15 +7,15 @@ use Rattle.rte_tree.specs.Placed.{Routine, Member, variable_member, condition_me
 use Rattle.rte_tree.specs.Parts.{program_routines, processes, monitors}
 use Rattle.rte_tree.specs.declared.place.Place.{Place}
 use Rattle.rte_names.specs.declared.kind.Kind.TheVariants as kind_is
-use Rattle.rte_names.specs.Reach.{Site}
-use Rattle.rte_names.specs.Occurrences.{Occurrence, closes, names, activation_names, vars_names, routines_names, stmts_names, optional_names, handler_names, process_scope, process_inner, monitor_scope, monitor_inner, var_name, routine_name, member_name, entry_name}
+use Rattle.rte_names.specs.Reach.{Site, inside}
+use Rattle.rte_names.specs.Occurrences.{Occurrence, closes, names, activation_names, vars_names, routines_names, stmts_names, optional_names, handler_names, routine_scope, process_scope, process_inner, monitor_scope, monitor_inner, var_name, routine_name, member_name, entry_name}
 use Rattle.rte_declarations.specs.Parts.{parts, stmts_parts, handler_parts, outside_loops}
 use Rattle.rte_declarations.specs.declared.home.Home.TheVariants as home_is
 use Rattle.rte_rules_declarations.specs.Types.{Bounds, decls_bounds, decl_bounds, routines_bounds}
 use Rattle.rte_rules_declarations.specs.Processes.{handler_numbers, all_handled}
 use Rattle.rte_source_meaning.specs.Names.{constants, routine_in, monitor_in, process_in}
 use Rattle.rte_source_meaning.specs.Run.{of_program, of_process, of_monitor}
-use Rattle.rte_wellformed.specs.Here.{in_process}
+use Rattle.rte_wellformed.specs.Here.{in_routine, in_process}
 use Rattle.rte_wellformed.specs.WellFormed.{RoutineFits, ProcessFits, MonitorFits}
 use Rattle.rte_wellformed_terms.specs.Written.{DeclWritten, RoutineWritten, ProcessWritten, MonitorWritten}
 use Rattle.rte_wellformed_terms.specs.Mirrors.{Mirrors, program_site, process_site, monitor_site, monitors_in}
@@ -124,19 +124,28 @@ module _ (g : Prog Place) (l : Laws g) where
       w : ProcessWritten p
       w = All-contains DeclWritten g.decls (process p) l.written h
 
-  shared_fit : (p : Process Place) → Contains g.decls (process p) → All (RoutineFits (plain g) (plain_process p) of_program) (map plain_routine (program_routines g.decls))
-  shared_fit p h = each_map (RoutineFits (plain g) (plain_process p) of_program) plain_routine (program_routines g.decls) (λ r m. one r (routine_declared g.decls r m))
+  -- of every process as which the program's routines mirror themselves
+  abbrev pub ProgramMirrors : Process Place → Type 0
+  ProgramMirrors p = (before after : List (Decl Place)) (r : Routine Place) → g.decls ≡ before ++ routine r ∷ after
+      → Mirrors g p (Some r.place) (inside (routine_scope r) (program_site g before (routine r ∷ after))) (in_routine (plain g) (plain_process p) of_program (plain_routine r))
+
+  abbrev pub EntryMirrors : Process Place → Type 0
+  EntryMirrors p = (before after : List (Decl Place)) (m : Monitor Place) (r : Routine Place) → g.decls ≡ before ++ monitor m ∷ after → Contains m.entries r
+      → Mirrors g p (Some r.place) (inside (routine_scope r) (monitor_site g before m after)) (in_routine (plain g) (plain_process p) (of_monitor (monitors_in before)) (plain_routine r))
+
+  pub shared_fit : (p : Process Place) → ProgramMirrors p → All (RoutineFits (plain g) (plain_process p) of_program) (map plain_routine (program_routines g.decls))
+  shared_fit p mirrors = each_map (RoutineFits (plain g) (plain_process p) of_program) plain_routine (program_routines g.decls) (λ r m. one r (routine_declared g.decls r m))
     where
       one : (r : Routine Place) → Contains g.decls (routine r) → RoutineFits (plain g) (plain_process p) of_program (plain_routine r)
       one r m = let s = split g.decls (routine r) m in
-          routine_fits g l p of_program (program_site g s.before (routine r ∷ s.after)) r ((l.mirrored p h).routines_of_program s.before s.after r s.is)
+          routine_fits g l p of_program (program_site g s.before (routine r ∷ s.after)) r (mirrors s.before s.after r s.is)
           (reaches_program g s.before (routine r ∷ s.after) s.is) (All-contains DeclWritten g.decls (routine r) l.written m)
           (l.all_names s.before (routine r) s.after s.is) (l.all_parts s.before (routine r) s.after s.is) (bounds_listed (routine r) m)
 
-  entries_fit : (p : Process Place) → Contains g.decls (process p) → (before : List (Decl Place)) (m : Monitor Place) (after : List (Decl Place)) → g.decls ≡ before ++ monitor m ∷ after
+  pub entries_fit : (p : Process Place) → EntryMirrors p → (before : List (Decl Place)) (m : Monitor Place) (after : List (Decl Place)) → g.decls ≡ before ++ monitor m ∷ after
       → All (RoutineFits (plain g) (plain_process p) (of_monitor (monitors_in before))) (map plain_routine m.entries)
-  entries_fit p h before m after is = each_map (RoutineFits (plain g) (plain_process p) (of_monitor (monitors_in before))) plain_routine m.entries
-      (λ r c. routine_fits g l p (of_monitor (monitors_in before)) (monitor_site g before m after) r ((l.mirrored p h).entries before after m r is c)
+  entries_fit p mirrors before m after is = each_map (RoutineFits (plain g) (plain_process p) (of_monitor (monitors_in before))) plain_routine m.entries
+      (λ r c. routine_fits g l p (of_monitor (monitors_in before)) (monitor_site g before m after) r (mirrors before after m r is c)
       (reaches_monitor (constants (plain g)) m.place (monitor_scope m) (program_site g before (monitor m ∷ after)) (no_constant_in_monitor m) (reaches_program g before (monitor m ∷ after) is))
       (All-contains RoutineWritten m.entries r w.entries c)
       (names_of_routine (monitor_site g before m after) m.entries (names g) (front (names g) (routines_add (monitor_site g before m after) m.entries) (closes m.close m.close_place m.name ∷ []) below_members) r c)
@@ -175,7 +184,7 @@ module _ (g : Prog Place) (l : Laws g) where
         (front (parts g) (stmts_parts_add (outside_loops home_is.Free) p.body) (handler_parts p.handler []) below_routines);
     handler = handler_fits g l p site mirrors reaches p.handler w.handler inside.handler (rest (parts g) (stmts_parts_add (outside_loops home_is.Free) p.body) (handler_parts p.handler []) below_routines) (numbers_of_handler (processes g.decls) p listed);
     own = own_fit s.before p s.after s.is h;
-    shared = same_members (RoutineFits (plain g) (plain_process p) of_program) (filter_map routine_in (map plain_decl g.decls)) (map plain_routine (program_routines g.decls)) (plain_routines g.decls) (shared_fit p h);
+    shared = same_members (RoutineFits (plain g) (plain_process p) of_program) (filter_map routine_in (map plain_decl g.decls)) (map plain_routine (program_routines g.decls)) (plain_routines g.decls) (shared_fit p (l.mirrored p h).routines_of_program);
     entries = λ k m e. entries_at k m (monitor_at g.decls k m e);
     levels = l.levels p h;
   }
@@ -206,7 +215,7 @@ module _ (g : Prog Place) (l : Laws g) where
 
       entries_at : (k : ℕ) (m : plain_of.Monitor) → MonitorAt g.decls k m → All (RoutineFits (plain g) (plain_process p) (of_monitor k)) m.entries
       entries_at k m a = subst (λ n. All (RoutineFits (plain g) (plain_process p) (of_monitor n)) m.entries) a.number
-          (subst (λ z. All (RoutineFits (plain g) (plain_process p) (of_monitor (monitors_in a.before))) z.entries) a.same (entries_fit p h a.before a.one a.after a.is))
+          (subst (λ z. All (RoutineFits (plain g) (plain_process p) (of_monitor (monitors_in a.before))) z.entries) a.same (entries_fit p (l.mirrored p h).entries a.before a.one a.after a.is))
 
   pub all_processes_fit : All (ProcessFits (plain g)) (filter_map process_in (map plain_decl g.decls))
   all_processes_fit = same_members (ProcessFits (plain g)) (filter_map process_in (map plain_decl g.decls)) (map plain_process (processes g.decls)) (plain_processes g.decls)

@@ -1,5 +1,5 @@
 -- Programs that keep to all static rules are well formed.
-use Rattle.std.proofs.Common.{inl, refl}
+use Rattle.std.proofs.Common.{inl, inr, refl}
 use Rattle.std.specs.Prelude.{ℕ, Option, [], Contains}
 use Rattle.rte_tree.specs.Plain.{Name}
 use Rattle.rte_tree.specs.Placed.{Scalar, Expr, Stmts, Process, process, Prog, plain, plain_scalar, plain_expr, plain_process, plain_stmts}
@@ -9,9 +9,8 @@ use Rattle.rte_names.specs.Occurrences.{expr_names, stmts_names}
 use Rattle.rte_names.specs.Resolved.{IsRead, IsNamed}
 use Rattle.rte_declarations.specs.declared.home.Where.{Where}
 use Rattle.rte_declarations.specs.Parts.{answer, stmts_parts, parts}
-use Rattle.rte_rules_statements.specs.Rules.{StatementFails}
-use Rattle.rte_rules_declarations.specs.Rules.{LimitFails}
-use Rattle.rte_rules_calls.specs.Reaching.{ReachesItself, ReachFails}
+use Rattle.rte_rules_calls.specs.Reaching.{ReachesItself}
+use Rattle.rte_static.specs.Static.{IsChecked}
 use Rattle.rte_wellformed_calls.specs.Levels.{HasPlaceLevels}
 use Rattle.rte_source_meaning.specs.Nesting.{Levels}
 use Rattle.rte_wellformed.specs.Here.{Here, sort_of}
@@ -40,34 +39,43 @@ well_formed g l = record {
 }
 
 -- what the laws below give
-pub laws_hold : ((g : Prog Place) → IsRead g → StandApart g) → ((g : Prog Place) → IsRead g → IsWritten g) → ((g : Prog Place) → IsRead g → IsNamed g → NamesFound g)
-    → ((g : Prog Place) → StandApart g → ThingsKnown g) → ((g : Prog Place) → NamesListed g) → ((g : Prog Place) → PartsListed g)
-    → ((g : Prog Place) → StandApart g → IsWritten g → NamesFound g → NamesListed g → ThingsKnown g → (p : Process Place) → Contains g.decls (process p) → AreMirrored g p)
-    → ((g : Prog Place) (p : Process Place) (at : Option Place) (site : Site) (c : Here) (name : Place) (s : Scalar Place) (e : Expr Place) → IsKept g → Mirrors g p at site c
-    → ExprWritten e → AreNames g (expr_names site e []) → Contains (parts g) (answer name s e) → IsOf c (sort_of (plain_scalar s)) (plain_expr e))
-    → ((g : Prog Place) (p : Process Place) (at : Option Place) (site : Site) (c : Here) (w : Where) (ss : Stmts Place) → IsKept g → Mirrors g p at site c → IsPlaced w at c
-    → StmtsWritten ss → AreNames g (stmts_names site ss []) → AreParts g (stmts_parts w ss []) → AllFit c (plain_stmts ss))
-    → ((g : Prog Place) → ((place : Place) → ¬ ReachesItself g place) → HasPlaceLevels g)
-    → ((g : Prog Place) → NamesFound g → NamesListed g → HasPlaceLevels g → (p : Process Place) → Contains g.decls (process p) → AreMirrored g p → (level : Name → ℕ) × Levels (plain g) (plain_process p) level)
-    → (g : Prog Place) → IsRead g → IsNamed g → ((number : ℕ) (place : Place) → ¬ StatementFails g number place) → ((number : ℕ) (place : Place) → ¬ LimitFails g number place)
-    → ((number : ℕ) (place : Place) → ¬ ReachFails g number place) → IsWellFormed (plain g)
-laws_hold apart written found things all_names all_parts mirrored answers bodies falling levels g read named statements limits reach = well_formed g (record {
-  apart = apart g read;
-  written = written g read;
+pub record RuleLaws : Type 0 where
+  pub apart : (g : Prog Place) → IsRead g → StandApart g
+  pub written : (g : Prog Place) → IsRead g → IsWritten g
+  pub found : (g : Prog Place) → IsRead g → IsNamed g → NamesFound g
+  pub things : (g : Prog Place) → StandApart g → ThingsKnown g
+  pub all_names : (g : Prog Place) → NamesListed g
+  pub all_parts : (g : Prog Place) → PartsListed g
+  pub mirrored : (g : Prog Place) → StandApart g → IsWritten g → NamesFound g → NamesListed g → ThingsKnown g → (p : Process Place) → Contains g.decls (process p) → AreMirrored g p
+  pub answers : (g : Prog Place) (p : Process Place) (at : Option Place) (site : Site) (c : Here) (name : Place) (s : Scalar Place) (e : Expr Place) → IsKept g → Mirrors g p at site c
+      → ExprWritten e → AreNames g (expr_names site e []) → Contains (parts g) (answer name s e) → IsOf c (sort_of (plain_scalar s)) (plain_expr e)
+  pub bodies : (g : Prog Place) (p : Process Place) (at : Option Place) (site : Site) (c : Here) (w : Where) (ss : Stmts Place) → IsKept g → Mirrors g p at site c → IsPlaced w at c
+      → StmtsWritten ss → AreNames g (stmts_names site ss []) → AreParts g (stmts_parts w ss []) → AllFit c (plain_stmts ss)
+  pub falling : (g : Prog Place) → ((place : Place) → ¬ ReachesItself g place) → HasPlaceLevels g
+  pub levels : (g : Prog Place) → NamesFound g → NamesListed g → HasPlaceLevels g → (p : Process Place) → Contains g.decls (process p) → AreMirrored g p → (level : Name → ℕ) × Levels (plain g) (plain_process p) level
+
+-- all that is known of a checked program
+pub laws_of : RuleLaws → (g : Prog Place) → IsChecked g → Laws g
+laws_of laws g is = record {
+  apart = laws.apart g is.read;
+  written = laws.written g is.read;
   found = is_found;
-  things = things g (apart g read);
-  all_names = all_names g;
-  all_parts = all_parts g;
+  things = laws.things g (laws.apart g is.read);
+  all_names = laws.all_names g;
+  all_parts = laws.all_parts g;
   mirrored = mirrors;
-  answers = answers g;
-  bodies = bodies g;
-  levels = λ p h. levels g is_found (all_names g) (falling g (λ place round. reach 31 place (inl (refl, round)))) p h (mirrors p h);
-  statements = statements;
-  limits = limits_hold g limits;
-})
+  answers = laws.answers g;
+  bodies = laws.bodies g;
+  levels = λ p h. laws.levels g is_found (laws.all_names g) (laws.falling g (λ place round. is.checked 31 place (inr (inr (inl (refl, round)))))) p h (mirrors p h);
+  statements = λ n p f. is.checked n p (inl f);
+  limits = limits_hold g (λ n p f. is.checked n p (inr (inl f)));
+}
   where
     is_found : NamesFound g
-    is_found = found g read named
+    is_found = laws.found g is.read is.named
 
     mirrors : (p : Process Place) → Contains g.decls (process p) → AreMirrored g p
-    mirrors = mirrored g (apart g read) (written g read) is_found (all_names g) (things g (apart g read))
+    mirrors = laws.mirrored g (laws.apart g is.read) (laws.written g is.read) is_found (laws.all_names g) (laws.things g (laws.apart g is.read))
+
+pub checked_is_well_formed : RuleLaws → (g : Prog Place) → IsChecked g → IsWellFormed (plain g)
+checked_is_well_formed laws g is = well_formed g (laws_of laws g is)

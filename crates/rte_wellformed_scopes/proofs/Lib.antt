@@ -2,12 +2,12 @@ mod Appends
 mod Listed
 mod Counts
 mod Things
-mod Members
-mod Lookups
-mod NamesAfter
+pub mod Members
+pub mod Lookups
+pub mod NamesAfter
 mod ThingsListed
-mod ProgramScope
+pub mod ProgramScope
 mod ProgramNames
-mod EntryNames
+pub mod EntryNames
 mod ScopeNames
-mod Mirrored
+pub mod Mirrored

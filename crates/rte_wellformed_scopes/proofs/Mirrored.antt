@@ -2,7 +2,7 @@
 use Rattle.std.proofs.Common.{◌≡◌, ◌⊎◌, inl, inr, Bool, true, false, cond, List, [], ◌∷◌, ◌++◌, map, Some, None, refl, ap, sym, subst, ◌∙◌}
 use Rattle.std.specs.Prelude.{Contains}
 use Rattle.rte_tree.specs.Plain.{Name}
-use Rattle.rte_tree.specs.Placed.{Routine, Member, variable_member, condition_member, Monitor, Process, Decl, routine, monitor, process, Prog, plain_routine}
+use Rattle.rte_tree.specs.Placed.{Routine, Member, variable_member, condition_member, Monitor, Process, Decl, routine, monitor, process, Prog, plain, plain_process, plain_routine}
 use Rattle.rte_tree.specs.declared.place.Place.{Place}
 use Rattle.rte_names.specs.declared.kind.Declared.{Declared}
 use Rattle.rte_names.specs.declared.kind.Kind.TheVariants as kind_is
@@ -11,11 +11,11 @@ use Rattle.rte_names.specs.Reach.{Names, Reach, Site, first, inside}
 use Rattle.rte_names.specs.Occurrences.{var_name, param_name, routine_name, entry_name, member_name, routine_scope, process_scope, monitor_scope, program_name, entries_at}
 use Rattle.rte_source_meaning.specs.Names.{named}
 use Rattle.rte_source_meaning.specs.Run.{of_program, of_process, of_monitor}
-use Rattle.rte_wellformed.specs.Here.{own_of, is_function_at}
+use Rattle.rte_wellformed.specs.Here.{own_of, is_function_at, in_routine}
 use Rattle.rte_wellformed_terms.specs.Written.{IsWritten}
 use Rattle.rte_wellformed_terms.specs.Things.{ThingsKnown}
 use Rattle.rte_wellformed_terms.specs.Places.{StandApart, NamesFound}
-use Rattle.rte_wellformed_terms.specs.Mirrors.{NamesListed, AreMirrored, program_site, process_site, monitor_site, monitors_in}
+use Rattle.rte_wellformed_terms.specs.Mirrors.{NamesListed, Mirrors, AreMirrored, program_site, process_site, monitor_site, monitors_in}
 use Rattle.rte_wellformed_scopes.proofs.Members.{In, contains-in, in-middle}
 use Rattle.rte_wellformed_scopes.proofs.Lookups.{first-append, found-by, Either, in_first, in_second, either}
 use Rattle.rte_wellformed_scopes.proofs.ThingsListed.{process_routine-always, entry-always}
@@ -43,27 +43,27 @@ no-member : (m : Member Place) → (member_name m).1.kind ≡ kind_is.Monitor �
 no-member (variable_member v) e = cc
 no-member (condition_member n q) e = cc
 
-in-routine : (r : Routine Place) → NoMonitors (routine_scope r)
+pub in-routine : (r : Routine Place) → NoMonitors (routine_scope r)
 in-routine r = no-monitors-append _ _ (no-monitors-map param_name (λ v e. cc) r.params) (no-monitors-map var_name (λ v e. cc) r.vars)
 
-in-process : (p : Process Place) → NoMonitors (process_scope p)
+pub in-process : (p : Process Place) → NoMonitors (process_scope p)
 in-process p = no-monitors-append _ _ (no-monitors-map var_name (λ v e. cc) p.vars) (no-monitors-map routine_name (λ v e. cc) p.routines)
 
-in-monitor : (m : Monitor Place) → NoMonitors (monitor_scope m)
+pub in-monitor : (m : Monitor Place) → NoMonitors (monitor_scope m)
 in-monitor m = no-monitors-append _ _ (no-monitors-map member_name no-member m.members) (no-monitors-map entry_name (λ v e. cc) m.entries)
 
 -- the names of monitors that are in reach are those of the program's monitors
 abbrev pub Reaches : Prog Place → Reach → Type 0
 Reaches g means = (m : Name) (d : Declared) → means m ≡ Some d → d.kind ≡ kind_is.Monitor → MonitorOf g m d
 
-reaches-inside : (g : Prog Place) (scope : Names) (outer : Site) → NoMonitors scope → Reaches g outer.means → Reaches g (inside scope outer).means
+pub reaches-inside : (g : Prog Place) (scope : Names) (outer : Site) → NoMonitors scope → Reaches g outer.means → Reaches g (inside scope outer).means
 reaches-inside g scope outer none around m d e kind = by (either _ _ d e)
   where
     by : Either (first scope m) (outer.means m) d → MonitorOf g m d
     by (in_first i) = absurd (none m d i kind)
     by (in_second n i) = around m d i kind
 
-reaches-program : (g : Prog Place) (before rest : List (Decl Place)) → g.decls ≡ before ++ rest → Reaches g (program_site g before rest).means
+pub reaches-program : (g : Prog Place) (before rest : List (Decl Place)) → g.decls ≡ before ++ rest → Reaches g (program_site g before rest).means
 reaches-program g before rest is m d e kind = by (program-means g before rest is m d e)
   where
     no-program : kind_is.Program ≡ kind_is.Monitor → ⊥
@@ -78,7 +78,7 @@ reaches-program g before rest is m d e kind = by (program-means g before rest is
 abbrev pub HasEntries : Prog Place → (Place → Reach) → Type 0
 HasEntries g members = (one : Monitor Place) (place : Place) (x : Name) (d : Declared) → In g.decls (monitor one) → one.place ≡ place → members place x ≡ Some d → d.kind ≡ kind_is.Entry → first (map entry_name one.entries) x ≡ Some d
 
-entries-program : (g : Prog Place) → MonitorsApart g → HasEntries g (λ place. first (entries_at g.decls place))
+pub entries-program : (g : Prog Place) → MonitorsApart g → HasEntries g (λ place. first (entries_at g.decls place))
 entries-program g apart one place x d i is e kind = entries-of g.decls place one x d (λ k j s. sym (apart one k i j (ap (λ q. same_place q k.place) is ∙ s))) e
 
 entry-member : (m : Member Place) → (member_name m).1.kind ≡ kind_is.Entry → ⊥
@@ -92,7 +92,7 @@ entries-scope m x d e kind = by (either _ _ d (sym (first-append (map member_nam
     by (in_first i) = let l = found-by member_name m.members x d i in absurd (entry-member l.one (ap (λ c. c.kind) l.is ∙ kind))
     by (in_second n i) = i
 
-entries-monitor : (g : Prog Place) → MonitorsApart g → (before : List (Decl Place)) (m : Monitor Place) (after : List (Decl Place)) → g.decls ≡ before ++ monitor m ∷ after → HasEntries g (monitor_site g before m after).members
+pub entries-monitor : (g : Prog Place) → MonitorsApart g → (before : List (Decl Place)) (m : Monitor Place) (after : List (Decl Place)) → g.decls ≡ before ++ monitor m ∷ after → HasEntries g (monitor_site g before m after).members
 entries-monitor g apart before m after split one place x d i is e kind = by (same_place place m.place) refl e
   where
     listed : In g.decls (monitor m)
@@ -101,6 +101,31 @@ entries-monitor g apart before m after split one place x d i is e kind = by (sam
     by : (b : Bool) → same_place place m.place ≡ b → (cond b (first (monitor_scope m)) (first (entries_at g.decls place))) x ≡ Some d → first (map entry_name one.entries) x ≡ Some d
     by true s f = subst (λ k. first (map entry_name k.entries) x ≡ Some d) (sym (apart one m i listed (ap (λ q. same_place q m.place) is ∙ s))) (entries-scope m x d f kind)
     by false s f = entries-program g apart one place x d i is f kind
+
+-- ---- texts that every process may run
+
+module _ (g : Prog Place) (written : IsWritten g) (apart : MonitorsApart g) (known : ThingsKnown g) (p : Process Place) (hidden : (r : Routine Place) → In g.decls (routine r) → named routine_called r.name p.routines ≡ None) where
+  pub program_routine_mirrors : (before after : List (Decl Place)) (r : Routine Place) → g.decls ≡ before ++ routine r ∷ after
+      → Mirrors g p (Some r.place) (inside (routine_scope r) (program_site g before (routine r ∷ after))) (in_routine (plain g) (plain_process p) of_program (plain_routine r))
+  program_routine_mirrors before after r is = record {
+    program = refl;
+    process = refl;
+    names = routine-stands g written known p hidden (routine r) (subst (λ ds. In ds (routine r)) (sym is) (in-middle before (routine r) after)) false r (λ t a. a) of_program (is_function_at of_program (plain_routine r)) (program_site g before (routine r ∷ after))
+        (λ x d none e. program-stands g written known p hidden of_program (is_function_at of_program (plain_routine r)) (own_of (plain_routine r)) (Some r.place) x d (program-means g before (routine r ∷ after) is x d e) none refl);
+    entries = entries-stand g written known p (inside (routine_scope r) (program_site g before (routine r ∷ after))) of_program (is_function_at of_program (plain_routine r)) (own_of (plain_routine r))
+        (reaches-inside g (routine_scope r) (program_site g before (routine r ∷ after)) (in-routine r) (reaches-program g before _ is)) (entries-program g apart);
+  }
+
+  pub entry_mirrors : (before after : List (Decl Place)) (m : Monitor Place) (r : Routine Place) → g.decls ≡ before ++ monitor m ∷ after → Contains m.entries r
+      → Mirrors g p (Some r.place) (inside (routine_scope r) (monitor_site g before m after)) (in_routine (plain g) (plain_process p) (of_monitor (monitors_in before)) (plain_routine r))
+  entry_mirrors before after m r is i = record {
+    program = refl;
+    process = refl;
+    names = routine-stands g written known p hidden (monitor m) (subst (λ ds. In ds (monitor m)) (sym is) (in-middle before (monitor m) after)) true r (λ t a. entry-always m r t (contains-in _ _ i) a) (of_monitor (monitors_in before)) false (monitor_site g before m after)
+        (λ x d none e. monitor-stands g written known p hidden false (own_of (plain_routine r)) (Some r.place) before m after is x d none e);
+    entries = entries-stand g written known p (inside (routine_scope r) (monitor_site g before m after)) (of_monitor (monitors_in before)) false (own_of (plain_routine r))
+        (reaches-inside g (routine_scope r) (monitor_site g before m after) (in-routine r) (reaches-inside g (monitor_scope m) (program_site g before (monitor m ∷ after)) (in-monitor m) (reaches-program g before _ is))) (entries-monitor g apart before m after is);
+  }
 
 -- ---- all texts
 
@@ -120,22 +145,8 @@ mirrored g written apart found names_listed known p contained = record {
     entries = entries-stand g written known p (inside (routine_scope r) (process_site g before p after)) of_process (is_function_at of_process (plain_routine r)) (own_of (plain_routine r))
         (reaches-inside g (routine_scope r) (process_site g before p after) (in-routine r) (reaches-inside g (process_scope p) (program_site g before (process p ∷ after)) (in-process p) (reaches-program g before _ is))) (entries-program g apart);
   };
-  routines_of_program = λ before after r is. record {
-    program = refl;
-    process = refl;
-    names = routine-stands g written known p hidden (routine r) (subst (λ ds. In ds (routine r)) (sym is) (in-middle before (routine r) after)) false r (λ t a. a) of_program (is_function_at of_program (plain_routine r)) (program_site g before (routine r ∷ after))
-        (λ x d none e. program-stands g written known p hidden of_program (is_function_at of_program (plain_routine r)) (own_of (plain_routine r)) (Some r.place) x d (program-means g before (routine r ∷ after) is x d e) none refl);
-    entries = entries-stand g written known p (inside (routine_scope r) (program_site g before (routine r ∷ after))) of_program (is_function_at of_program (plain_routine r)) (own_of (plain_routine r))
-        (reaches-inside g (routine_scope r) (program_site g before (routine r ∷ after)) (in-routine r) (reaches-program g before _ is)) (entries-program g apart);
-  };
-  entries = λ before after m r is i. record {
-    program = refl;
-    process = refl;
-    names = routine-stands g written known p hidden (monitor m) (subst (λ ds. In ds (monitor m)) (sym is) (in-middle before (monitor m) after)) true r (λ t a. entry-always m r t (contains-in _ _ i) a) (of_monitor (monitors_in before)) false (monitor_site g before m after)
-        (λ x d none e. monitor-stands g written known p hidden false (own_of (plain_routine r)) (Some r.place) before m after is x d none e);
-    entries = entries-stand g written known p (inside (routine_scope r) (monitor_site g before m after)) (of_monitor (monitors_in before)) false (own_of (plain_routine r))
-        (reaches-inside g (routine_scope r) (monitor_site g before m after) (in-routine r) (reaches-inside g (monitor_scope m) (program_site g before (monitor m ∷ after)) (in-monitor m) (reaches-program g before _ is))) (entries-monitor g apart before m after is);
-  };
+  routines_of_program = program_routine_mirrors g written apart known p hidden;
+  entries = entry_mirrors g written apart known p hidden;
 }
   where
     listed : In g.decls (process p)

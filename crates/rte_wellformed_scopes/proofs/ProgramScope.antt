@@ -139,7 +139,7 @@ others-in [] r i = i
 others-in (c ∷ ds) r (inl e) = subst (λ z. In (others (z ∷ ds)) (routine_name r)) (sym e) (inl refl)
 others-in (c ∷ ds) r (inr i) = others-more c ds (routine_name r) (others-in ds r i)
 
-reach-in : (before rest : List (Decl Place)) (r : Routine Place) → In (before ++ rest) (routine r) → In (map decl_name before ++ others rest) (routine_name r)
+pub reach-in : (before rest : List (Decl Place)) (r : Routine Place) → In (before ++ rest) (routine r) → In (map decl_name before ++ others rest) (routine_name r)
 reach-in [] rest r i = others-in rest r i
 reach-in (c ∷ before) rest r (inl e) = inl (ap decl_name e)
 reach-in (c ∷ before) rest r (inr i) = inr (reach-in before rest r i)

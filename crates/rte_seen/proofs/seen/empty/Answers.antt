@@ -12,4 +12,4 @@ returns-clause-does c image s o same =
     let g : FitsSigned w32 c.from.result = search rules in
     let waiting = simp to_z-of_z at c.waiting.ensures in
     simp to_z-of_z (empties image s o c.args.condition c.args.queues.now c.args.frames.now c.give.new.self c.is_empty-answer.result c.from.result
-        c.requires.condition c.requires.there same (c.is_empty-answer.ensures ∙ no_one c.waiting.result.now ∙ ap (λ (q : List ℕ). is_none_waiting q) waiting) c.from.ensures (simp to_z-of_z at c.give.ensures))
+    c.requires.condition c.requires.there same (c.is_empty-answer.ensures ∙ no_one c.waiting.result.now ∙ ap (λ (q : List ℕ). is_none_waiting q) waiting) c.from.ensures (simp to_z-of_z at c.give.ensures))

@@ -1,0 +1,4 @@
+pub mod Differ
+pub mod Standing
+pub mod Shared
+pub mod Apart

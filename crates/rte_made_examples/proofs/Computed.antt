@@ -1,0 +1,21 @@
+-- What is made of the examples, by computing.
+use Rattle.std.proofs.Common.{refl, rules}
+use Rattle.rte_seg.specs.declared.seg.Seg.{the_lemmas}
+use Rattle.rte_emits.specs.Numbering.{numbered, visit, number_of}
+use Rattle.rte_machine_laws.specs.Example.{waiter_and_signaller}
+use Rattle.rte_source_laws.specs.Example.{signalled_wait}
+use Rattle.rte_mine.specs.Mine.{mine, mine_image}
+use Rattle.rte_made_examples.specs.Forms.{FormsAreMade}
+use Rattle.rte_made_examples.specs.Like.{IsMadeAs}
+
+pub mine_is_made : IsMadeAs mine mine_image
+unfolding numbered visit number_of
+mine_is_made = record { code = refl; starts = refl; trees = search (rules, the_lemmas); bodies = refl; body_trees = search (rules, the_lemmas); handlers = refl; handler_trees = search (rules, the_lemmas) }
+
+pub wait_is_made : IsMadeAs signalled_wait (waiter_and_signaller 0 31)
+unfolding numbered visit number_of
+wait_is_made = record { code = refl; starts = refl; trees = search (rules, the_lemmas); bodies = refl; body_trees = search (rules, the_lemmas); handlers = refl; handler_trees = search (rules, the_lemmas) }
+
+pub forms_are_made : FormsAreMade
+unfolding numbered visit number_of
+forms_are_made = record { code = refl; starts = refl; ends = refl; trees = search (rules, the_lemmas); bodies = refl; body_trees = search (rules, the_lemmas) }

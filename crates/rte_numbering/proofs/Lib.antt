@@ -1,0 +1,4 @@
+pub mod Table
+pub mod Listing
+pub mod Meaning
+pub mod Visiting

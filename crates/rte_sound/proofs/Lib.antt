@@ -1,0 +1,5 @@
+pub mod Texts
+pub mod Owners
+pub mod Levels
+pub mod Sound
+pub mod Example

@@ -1,0 +1,5 @@
+pub mod Found
+pub mod Parts
+pub mod Costs
+pub mod Waits
+pub mod Handlers

@@ -1,0 +1,33 @@
+-- Verified images, and what the calls answer.
+use Rattle.std.specs.Prelude.{◌≤◌, Option, Some, None, length}
+use Rattle.rte_machine_meaning.specs.Image.{Image}
+use Rattle.rte_image.specs.declared.raw.RawImage.{RawImage}
+use Rattle.rte_image.specs.Raw.{image_of}
+use Rattle.rte_valid.specs.Fault.{or_else}
+use Rattle.rte_valid.specs.Valid.{Shown, Shape, Handlers, Costs, Sizes, Ranks, Bounds, HasLimits, IsValid, shown}
+use Rattle.rte_verify.specs.declared.tests_in_order.Numbered.{Numbered}
+
+-- an image whose numbers are in their ranges, and of which no part of validity has a fault
+pub record IsVerified (image : Image) : Type 0 where
+  pub limits : HasLimits image
+  pub valid : IsValid image
+
+-- numbers in the ranges of their fields, as far as the tests ask
+pub record HasRanges (raw : RawImage) : Type 0 where
+  pub limits : HasLimits (image_of raw)
+  pub monitors : length raw.monitors ≤ 64
+
+-- a fault as the code holds it
+abbrev pub shown_by : Option Numbered → Option Shown
+shown_by None = None
+shown_by (Some n) = Some (record { number = n.number; a = n.a; b = n.b })
+
+-- the first fault of trees, handlers, costs and sizes; that of costs and sizes; and that of ranks and bounds
+abbrev pub code_fault_of : Image → Option Shown
+code_fault_of image = or_else (shown image Shape) (or_else (shown image Handlers) (or_else (shown image Costs) (shown image Sizes)))
+
+abbrev pub time_fault_of : Image → Option Shown
+time_fault_of image = or_else (shown image Ranks) (shown image Bounds)
+
+abbrev pub declared_fault_of : Image → Option Shown
+declared_fault_of image = or_else (shown image Costs) (shown image Sizes)

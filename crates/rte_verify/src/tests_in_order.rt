@@ -1,0 +1,125 @@
+//! The tests of validity, in their order.
+
+ghost use Rattle.std.specs.Prelude.{◌≡◌, None, IfOk};
+ghost use Rattle.rte_image.specs.Raw.{image_of};
+ghost use Rattle.rte_valid.specs.Operands.{operand_fault};
+ghost use Rattle.rte_valid.specs.Shape.{shape_fault};
+ghost use Rattle.rte_valid.specs.Times.{rank_fault};
+ghost use Rattle.rte_valid_shape.specs.Parts.{AreParts};
+ghost use Rattle.rte_valid.specs.Valid.{HasLimits, fault_of};
+ghost use Rattle.rte_verify.specs.Verified.{shown_by, code_fault_of, declared_fault_of, time_fault_of, HasRanges};
+
+use rte_image::RawImage;
+use rte_valid_code::Shown;
+use rte_valid_operands::operand_fault;
+use rte_valid_shape::{Parts, cost_fault, handler_fault, shape_fault, size_fault, waits_table};
+use rte_valid_times::{bound_fault, longest_stays, rank_fault, task_set};
+use std::alloc::{AllocError, Global};
+
+/// A fault, with the number of its part.
+#[derive(Clone, Copy)]
+pub(crate) struct Numbered {
+    pub number: u8,
+    pub a: u64,
+    pub b: u64,
+}
+
+/// The fault of the part.
+fn of_part(number: u8, shown: Shown) -> Numbered
+    ensures { result ≡ record { number = number; a = shown.a; b = shown.b } }
+{
+    Numbered {
+        number,
+        a: shown.a,
+        b: shown.b,
+    }
+}
+
+/// The first fault of bounds, of an image whose ranks, ceilings and blocks have none.
+fn bounds_fault(alloc: Global, raw: &RawImage) -> Result<Option<Numbered>, AllocError>
+    requires limits { HasLimits (image_of raw.now) }
+    requires ranks { rank_fault (image_of raw.now) ≡ None }
+    ensures { IfOk result (λ found. shown_by found ≡ time_fault_of (image_of raw.now)) }
+{
+    let set = task_set(alloc, raw)?;
+    match bound_fault(raw, &set) {
+        Some(shown) => Ok(Some(of_part(5, shown))),
+        None => Ok(None),
+    }
+}
+
+/// The first fault of ranks, ceilings, blocks and bounds.
+fn time_fault(alloc: Global, raw: &RawImage) -> Result<Option<Numbered>, AllocError>
+    requires { HasLimits (image_of raw.now) }
+    ensures { IfOk result (λ found. shown_by found ≡ time_fault_of (image_of raw.now)) }
+{
+    let stays = longest_stays(alloc, raw)?;
+    match rank_fault(raw, &stays) {
+        Some(shown) => Ok(Some(of_part(4, shown))),
+        None => bounds_fault(alloc, raw),
+    }
+}
+
+/// The first fault of the parts after operands.
+fn later_fault(alloc: Global, raw: &RawImage) -> Result<Option<Numbered>, AllocError>
+    requires ranges { HasRanges raw.now }
+    requires operands { operand_fault (image_of raw.now) ≡ None }
+    ensures { IfOk result (λ found. shown_by found ≡ fault_of (image_of raw.now)) }
+{
+    match code_fault(alloc, raw)? {
+        Some(found) => Ok(Some(found)),
+        None => time_fault(alloc, raw),
+    }
+}
+
+/// The first fault, or None exactly where the image is valid; or that memory is short.
+pub(crate) fn first_fault(alloc: Global, raw: &RawImage) -> Result<Option<Numbered>, AllocError>
+    requires { HasRanges raw.now }
+    ensures { IfOk result (λ found. shown_by found ≡ fault_of (image_of raw.now)) }
+{
+    match operand_fault(alloc, raw)? {
+        Some(shown) => Ok(Some(of_part(6, shown))),
+        None => later_fault(alloc, raw),
+    }
+}
+
+/// The first fault of declared costs and sizes.
+fn declared_fault(raw: &RawImage, parts: &Parts) -> Option<Numbered>
+    requires ranges { HasRanges raw.now }
+    requires parts { AreParts raw.now parts.now }
+    ensures { shown_by result ≡ declared_fault_of (image_of raw.now) }
+{
+    match cost_fault(raw, parts) {
+        Some(shown) => Some(of_part(2, shown)),
+        None => match size_fault(raw, parts) {
+            Some(shown) => Some(of_part(3, shown)),
+            None => None,
+        },
+    }
+}
+
+/// The first fault of an image whose code is of its trees.
+fn after_trees(alloc: Global, raw: &RawImage, parts: &Parts) -> Result<Option<Numbered>, AllocError>
+    requires ranges { HasRanges raw.now }
+    requires parts { AreParts raw.now parts.now }
+    requires shape { shape_fault (image_of raw.now) ≡ None }
+    ensures { IfOk result (λ found. shown_by found ≡ code_fault_of (image_of raw.now)) }
+{
+    let waits = waits_table(alloc, raw)?;
+    match handler_fault(raw, waits.as_slice()) {
+        Some(shown) => Ok(Some(of_part(7, shown))),
+        None => Ok(declared_fault(raw, parts)),
+    }
+}
+
+/// The first fault of trees, handlers, declared costs and sizes.
+fn code_fault(alloc: Global, raw: &RawImage) -> Result<Option<Numbered>, AllocError>
+    requires { HasRanges raw.now }
+    ensures { IfOk result (λ found. shown_by found ≡ code_fault_of (image_of raw.now)) }
+{
+    let mut parts = Parts::new(alloc);
+    match shape_fault(raw, &mut parts)? {
+        Some(shown) => Ok(Some(of_part(1, shown))),
+        None => after_trees(alloc, raw, &parts),
+    }
+}
