@@ -9,10 +9,9 @@ use Rattle.rte_machine_meaning.specs.State.{Thread, Idle, Ready, Waiting, State}
 use Rattle.rte_machine_meaning.specs.Starts.{Started, release_thread, released, raised, without, queue_of, time_out, unchanged}
 use Rattle.rte_stretch.specs.Due.{time_out_of}
 use Rattle.rte_cells.specs.declared.threads.Cell.{Cell}
-use Rattle.rte_cells.specs.Threads.{thread_of, threads_of}
+use Rattle.rte_cells.specs.Threads.{rooms_of, thread_of, threads_of}
 use Rattle.rte_state.specs.declared.plan.Process.{Process}
 use Rattle.rte_state.specs.Plan.{AreProcesses, IsProcess}
-use Rattle.rte_state.specs.Board.{rooms_of}
 use Rattle.rte_start_laws.specs.Steps.{HasStarted, release_of}
 use Rattle.rte_starts.specs.Begin.{HaveQueues, expiry_at, expiry_of, release_at}
 use Rattle.rte_starts.specs.Expired.{EndsAs, timed_out}
