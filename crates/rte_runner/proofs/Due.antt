@@ -5,11 +5,11 @@ use Rattle.std.proofs.lemmas.Bool.{cases_lt}
 use Rattle.std.proofs.lemmas.Bool.Decides.{nat_tests}
 use Rattle.std.proofs.lemmas.Option.{slice_get_within}
 use Rattle.rte_dispatch.specs.Due.{earlier, least}
-use Rattle.rte_machine_meaning.specs.Image.{Image, Process, Script, Line}
+use Rattle.rte_machine_meaning.specs.Image.{Image, Script, Line}
 use Rattle.rte_machine_meaning.specs.State.{State}
 use Rattle.rte_machine_meaning.specs.Starts.{starts}
 use Rattle.rte_stretch.specs.Quiet.{line_tick}
-use Rattle.rte_stretch.specs.Due.{HasSlots, IsNextRelease, NoneBefore, first_tick, time_out_of}
+use Rattle.rte_stretch.specs.Due.{HasSlots, IsNextRelease, NoneBefore, first_tick}
 use Rattle.rte_start_laws.specs.Due.{AreDone, HasDue, HasOwnRanks, moved_on}
 use Rattle.rte_start_laws.proofs.Lists.{there_is}
 use Rattle.rte_start_laws.proofs.Waiting.{StartsEnd, due_of, starts_end}
@@ -102,27 +102,27 @@ starts_later image script t done done' s slots slots' ranks has new lines i r at
           let after : t < r = next.1 in
           omega (arith, after)
       | inr above ↦ elim (cases_lt i (2 * n)) [
-          | inl wait ↦
-              let k : ℕ = i - n in
-              let here : i ≡ n + k = omega (arith, above) in
-              let below : k < n = omega (arith, wait, above) in
-              let p = there_is image.processes k below in
-              let ends : StartsEnd t image s (starts image script t s).state = starts_end image script t s ranks in
-              let at' : slice_get slots' (n + k) ≡ Some (Some r) = subst (λ (x : ℕ). slice_get slots' x ≡ Some (Some r)) here at in
-              let is : Some r ≡ moved_on t None (due_of k s) = new.waits k (Some r) below at' ∙ ends.waits k p.0 p.1 in
-              let moved = moved_later t r (due_of k s) is in
-              let old = there_is slots (n + k) (omega (arith, has.count, below)) in
-              let was : slice_get slots (n + k) ≡ Some (Some r) = old.1 ∙ ap (λ (x : Option ℕ). Some x) (has.waits k old.0 below old.1 ∙ moved.0) in
-              let le : t ≤ r = has.none_late (n + k) r was in
-              let apart : r ≢ t = moved.1 in
-              omega (arith, le, apart)
-          | inr line ↦
-              let here : i ≡ 2 * n = omega (arith, within, line) in
-              let both : Some (first_tick (drop done' script.lines)) ≡ Some (Some r) = sym new.line ∙ subst (λ (x : ℕ). slice_get slots' x ≡ Some (Some r)) here at in
-              let is : first_tick (drop done' script.lines) ≡ Some r = cc in
-              let first = first_there script.lines done' r is in
-              let after : t < line_tick first.0 = lines.coming done' first.0 first.1.0 (omega arith) in
-              let same : line_tick first.0 ≡ r = first.1.1 in
-              omega (arith, after, same)
-        ]
+        | inl wait ↦
+            let k : ℕ = i - n in
+            let here : i ≡ n + k = omega (arith, above) in
+            let below : k < n = omega (arith, wait, above) in
+            let p = there_is image.processes k below in
+            let ends : StartsEnd t image s (starts image script t s).state = starts_end image script t s ranks in
+            let at' : slice_get slots' (n + k) ≡ Some (Some r) = subst (λ (x : ℕ). slice_get slots' x ≡ Some (Some r)) here at in
+            let is : Some r ≡ moved_on t None (due_of k s) = new.waits k (Some r) below at' ∙ ends.waits k p.0 p.1 in
+            let moved = moved_later t r (due_of k s) is in
+            let old = there_is slots (n + k) (omega (arith, has.count, below)) in
+            let was : slice_get slots (n + k) ≡ Some (Some r) = old.1 ∙ ap (λ (x : Option ℕ). Some x) (has.waits k old.0 below old.1 ∙ moved.0) in
+            let le : t ≤ r = has.none_late (n + k) r was in
+            let apart : r ≢ t = moved.1 in
+            omega (arith, le, apart)
+        | inr line ↦
+            let here : i ≡ 2 * n = omega (arith, within, line) in
+            let both : Some (first_tick (drop done' script.lines)) ≡ Some (Some r) = sym new.line ∙ subst (λ (x : ℕ). slice_get slots' x ≡ Some (Some r)) here at in
+            let is : first_tick (drop done' script.lines) ≡ Some r = cc in
+            let first = first_there script.lines done' r is in
+            let after : t < line_tick first.0 = lines.coming done' first.0 first.1.0 (omega arith) in
+            let same : line_tick first.0 ≡ r = first.1.1 in
+            omega (arith, after, same)
+      ]
     ]

@@ -1,13 +1,12 @@
 -- A turn of the process that is picked.
-use Rattle.std.proofs.Common.{◌≡◌, ◌≤◌, ◌<◌, ◌+◌, ◌-◌, ◌⊎◌, inl, inr, ℕ, zero, suc, false, List, Option, Some, None, length, arith, refl, ap, sym, subst, ◌∙◌}
+use Rattle.std.proofs.Common.{◌≡◌, ◌≤◌, ◌<◌, ◌+◌, ◌-◌, ℕ, zero, suc, false, Option, Some, None, length, arith, refl, ap, sym, subst, ◌∙◌}
 use Rattle.std.specs.Prelude.{slice_get}
 use Rattle.std.proofs.lemmas.Option.{slice_get_within}
 use Rattle.rte_isa.specs.declared.instr.Instr.{Instr}
 use Rattle.rte_machine_meaning.specs.Image.{Image, Process, Script}
-use Rattle.rte_machine_meaning.specs.State.{Job, Thread, Ready, Waiting, State}
+use Rattle.rte_machine_meaning.specs.State.{Job, Thread, Ready, State}
 use Rattle.rte_machine_meaning.specs.Tick.{Ticked, owned_of, pick, settle}
-use Rattle.rte_machine_meaning.specs.Run.{state_at}
-use Rattle.rte_stretch.specs.Stretch.{FitsIn, FitsThread, left, left_at, left_of, outcomes, pass, pass_thread, place_of}
+use Rattle.rte_stretch.specs.Stretch.{FitsIn, FitsThread, left, left_of, outcomes, pass, pass_thread, place_of}
 use Rattle.rte_stretch.specs.Due.{time_out_of}
 use Rattle.rte_stretch.specs.Quiet.{AreQuiet}
 use Rattle.rte_stretch.specs.RowLaws.{IsSafeRun, begun}

@@ -1,25 +1,24 @@
 -- Slots before and after a turn, and the machine in its run.
-use Rattle.std.proofs.Common.{◌≡◌, ◌≤◌, ◌<◌, ◌+◌, ◌-◌, ◌*◌, ◌++◌, ◌⊎◌, inl, inr, ℕ, zero, suc, false, List, [], Option, Some, None, length, get_or, arith, refl, ap, sym, subst, ◌∙◌}
+use Rattle.std.proofs.Common.{◌≡◌, ◌≤◌, ◌<◌, ◌+◌, ◌-◌, ◌*◌, ◌++◌, inl, inr, ℕ, false, List, [], Option, Some, length, get_or, arith, refl, ap, sym, subst, ◌∙◌}
 use Rattle.std.specs.Prelude.{slice_get, slice_set}
 use Rattle.std.proofs.lemmas.Bool.{cases_lt}
 use Rattle.std.proofs.lemmas.List.{append-nil, length-set}
 use Rattle.std.proofs.lemmas.Option.{slice_get_within}
 use Rattle.rte_event.specs.declared.event.Event.{Event}
-use Rattle.rte_machine_meaning.specs.Image.{Image, Process, Script}
-use Rattle.rte_machine_meaning.specs.State.{Job, Thread, Waiting, State}
-use Rattle.rte_machine_meaning.specs.Starts.{Started, starts}
+use Rattle.rte_machine_meaning.specs.Image.{Image, Script}
+use Rattle.rte_machine_meaning.specs.State.{Thread, State}
+use Rattle.rte_machine_meaning.specs.Starts.{starts}
 use Rattle.rte_machine_meaning.specs.Tick.{tick}
 use Rattle.rte_machine_meaning.specs.Run.{at_start, events_from, state_at}
-use Rattle.rte_stretch.specs.Due.{HasSlots, IsNextRelease, NoneBefore, time_out_of}
+use Rattle.rte_stretch.specs.Due.{HasSlots, NoneBefore, time_out_of}
 use Rattle.rte_stretch.specs.Laws.{turn_events, turned}
-use Rattle.rte_stretch.specs.RowLaws.{IsSafeRun, begun}
+use Rattle.rte_stretch.specs.RowLaws.{IsSafeRun}
 use Rattle.rte_stretch.proofs.Runs.{turn_keeps_events, turn_stays_in_run}
 use Rattle.rte_start_laws.specs.Steps.{HasWaits}
 use Rattle.rte_start_laws.proofs.Lists.{get_other, get_set, same_or_not, there_is}
 use Rattle.rte_cells.specs.declared.threads.Cell.{Cell}
 use Rattle.rte_cells.specs.Threads.{thread_of, threads_of}
 use Rattle.rte_starts.proofs.Boards.{thread_at}
-use Rattle.rte_stretch.specs.Quiet.{AreQuiet}
 use Rattle.rte_starts.specs.Begin.{WaitsAlone}
 use Rattle.rte_runner.specs.Turn.{IsTurn, Run, turn_of}
 use Rattle.rte_runner.specs.Standing.{events_between}
@@ -54,24 +53,24 @@ still_none image script t done v most s s' slots slots' has alone waits none low
     elim (cases_lt i n) [
       | inl release ↦ (let le = none i r (sym (alone.releases i release) ∙ at) in omega (arith, le, low))
       | inr above ↦ elim (cases_lt i (2 * n)) [
-          | inl wait ↦
-              let k : ℕ = i - n in
-              let here : i ≡ n + k = omega (arith, above) in
-              let below : k < n = omega (arith, wait, above) in
-              let at' : slice_get slots' (n + k) ≡ Some (Some r) = subst (λ (x : ℕ). slice_get slots' x ≡ Some (Some r)) here at in
-              let w = is_waiting (slice_get s'.threads k) r (sym (waits k (Some r) below at')) in
-              elim (from k w.0 r w.1.0 w.1.1.0 w.1.1.1) [
-                | inl old ↦
-                    let was = there_is slots (n + k) (omega (arith, has.count, below)) in
-                    let slot : slice_get slots (n + k) ≡ Some (Some r) = was.1 ∙ ap (λ (x : Option ℕ). Some x) (has.waits k was.0 below was.1 ∙ ap (λ (o : Option Thread). time_out_of o) old) in
-                    let le = none (n + k) r slot in omega (arith, le, low)
-                | inr later ↦ later
-              ]
-          | inr line ↦
-              let here : i ≡ 2 * n = omega (arith, within, line) in
-              let at' : slice_get slots' (2 * n) ≡ Some (Some r) = subst (λ (x : ℕ). slice_get slots' x ≡ Some (Some r)) here at in
-              let le = none (2 * n) r (sym alone.line ∙ at') in omega (arith, le, low)
-        ]
+        | inl wait ↦
+            let k : ℕ = i - n in
+            let here : i ≡ n + k = omega (arith, above) in
+            let below : k < n = omega (arith, wait, above) in
+            let at' : slice_get slots' (n + k) ≡ Some (Some r) = subst (λ (x : ℕ). slice_get slots' x ≡ Some (Some r)) here at in
+            let w = is_waiting (slice_get s'.threads k) r (sym (waits k (Some r) below at')) in
+            elim (from k w.0 r w.1.0 w.1.1.0 w.1.1.1) [
+              | inl old ↦
+                  let was = there_is slots (n + k) (omega (arith, has.count, below)) in
+                  let slot : slice_get slots (n + k) ≡ Some (Some r) = was.1 ∙ ap (λ (x : Option ℕ). Some x) (has.waits k was.0 below was.1 ∙ ap (λ (o : Option Thread). time_out_of o) old) in
+                  let le = none (n + k) r slot in omega (arith, le, low)
+              | inr later ↦ later
+            ]
+        | inr line ↦
+            let here : i ≡ 2 * n = omega (arith, within, line) in
+            let at' : slice_get slots' (2 * n) ≡ Some (Some r) = subst (λ (x : ℕ). slice_get slots' x ≡ Some (Some r)) here at in
+            let le = none (2 * n) r (sym alone.line ∙ at') in omega (arith, le, low)
+      ]
     ]
 
 -- the waits of the first m processes are noted

@@ -1,6 +1,5 @@
 -- A turn of a run.
-use Rattle.std.specs.Prelude.{◌≡◌, ◌≤◌, ◌+◌, ◌++◌, ℕ, List, Option, Some, slice_get}
-use Rattle.rte_event.specs.declared.event.Event.{Event}
+use Rattle.std.specs.Prelude.{◌≡◌, ℕ, Some, slice_get}
 use Rattle.rte_machine_meaning.specs.Image.{Image, Script}
 use Rattle.rte_machine_meaning.specs.State.{Job, Ready, State}
 use Rattle.rte_machine_meaning.specs.Run.{state_at}

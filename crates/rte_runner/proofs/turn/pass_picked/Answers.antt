@@ -1,5 +1,4 @@
-use Rattle.std.proofs.Common.{◌≡◌, ◌∙◌, ◌++◌, List, arith, ap, sym, subst}
-use Rattle.rte_event.specs.declared.event.Event.{Event}
+use Rattle.std.proofs.Common.{◌∙◌, ◌++◌, arith, ap, sym, subst}
 use Rattle.rte_machine_meaning.specs.State.{State}
 use Rattle.rte_machine_meaning.specs.Tick.{Ticked}
 use Rattle.rte_safe_terms.specs.Queues.{AreQueued}

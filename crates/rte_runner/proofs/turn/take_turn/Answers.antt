@@ -1,6 +1,5 @@
-use Rattle.std.proofs.Common.{◌≡◌, ◌≤◌, ◌+◌, ◌∙◌, ◌++◌, ℕ, List, Option, Some, None, false, length, arith, ap, sym, subst}
+use Rattle.std.proofs.Common.{◌≡◌, ◌≤◌, ◌+◌, ◌∙◌, ◌++◌, ℕ, List, None, arith, ap, sym, subst}
 use Rattle.rte_event.specs.declared.event.Event.{Event}
-use Rattle.rte_machine_meaning.specs.State.{State}
 use Rattle.rte_machine_meaning.specs.Tick.{Ticked}
 use Rattle.rte_state.specs.Board.{state_of}
 use Rattle.rte_stretch.specs.Due.{HasSlots}
@@ -69,7 +68,7 @@ note_waits-requires g c =
         (
           c.requires.1.1.1.1.0.count,
           λ quiet. same_waits g.run.image g.run.script c.args.tick c.args.agenda.now.done s s' c.args.agenda.now.slots c.requires.1.1.1.1.0
-          (kept.same (later_quiet c.args.fired.now.items (turn_of g.run c.args.tick c.pass_picked-ticks.result).events (sym (ap (λ (xs : List Event). is_some_at_queue xs) told) ∙ quiet))),
+              (kept.same (later_quiet c.args.fired.now.items (turn_of g.run c.args.tick c.pass_picked-ticks.result).events (sym (ap (λ (xs : List Event). is_some_at_queue xs) told) ∙ quiet))),
         ),
       ),
     )

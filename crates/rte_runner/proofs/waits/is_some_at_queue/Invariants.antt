@@ -1,4 +1,4 @@
-use Rattle.std.proofs.Common.{◌≡◌, false, take, drop}
+use Rattle.std.proofs.Common.{◌≡◌, drop}
 use Rattle.rte_runner.specs.Waits.{is_some_at_queue}
 use Rattle.rte_runner.proofs.waits.is_some_at_queue.Given as goal
 

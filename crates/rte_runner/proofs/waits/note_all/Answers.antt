@@ -1,6 +1,6 @@
 use Rattle.std.proofs.Common.{◌∙◌, ◌≡◌, length, arith}
 use Rattle.rte_starts.proofs.Boards.{cells_count}
-use Rattle.rte_runner.proofs.Turning.{OneNoted, note_one}
+use Rattle.rte_runner.proofs.Turning.{note_one}
 use Rattle.rte_runner.proofs.waits.note_all.Goals as goal
 
 pub loop-place-preserved : goal.loop-place-preserved

@@ -1,5 +1,4 @@
-use Rattle.std.proofs.Common.{◌≡◌, ◌<◌, ◌+◌, ◌∙◌, ◌++◌, ℕ, List, false, length, arith, ap, sym, subst}
-use Rattle.rte_event.specs.declared.event.Event.{Event}
+use Rattle.std.proofs.Common.{◌≡◌, ◌<◌, ◌+◌, ◌∙◌, false, length, arith, ap, sym, subst}
 use Rattle.rte_machine_meaning.specs.Image.{Script}
 use Rattle.rte_machine_meaning.specs.State.{State}
 use Rattle.rte_machine_meaning.specs.Starts.{starts}
