@@ -1,5 +1,5 @@
 -- By the laws of safety, of queues and of time.
-use Rattle.std.proofs.Common.{◌≡◌, ◌≤◌, ◌<◌, ◌+◌, ℕ, arith, subst}
+use Rattle.std.proofs.Common.{◌≤◌, ◌<◌, ℕ, arith, subst}
 use Rattle.std.specs.Prelude.{◌^◌}
 use Rattle.rte_machine_meaning.specs.Image.{Image, Script}
 use Rattle.rte_machine_meaning.specs.Run.{state_at}
