@@ -17,7 +17,7 @@ use Rattle.rte_settle.specs.Laws.{TurnCanPass}
 
 -- ---- who is picked is ready
 
-record Found (ps : List Process) (ts : List Thread) (from place : ℕ) : Type 0 where
+pub record Found (ps : List Process) (ts : List Thread) (from place : ℕ) : Type 0 where
   pub i : ℕ
   pub place_is : place ≡ from + i
   pub p : Process
@@ -47,7 +47,7 @@ found image from (p ∷ ps) (Ready job ∷ ts) c is =
     (record { i = 0; place_is = omega arith; p = p; process = refl; job = job; ready = refl })
     (λ x at_x. later p ps (Ready job) ts from x.place (found image (from + 1) ps ts x at_x))
 
-picked : (image : Image) (ts : List Thread) (k : ℕ) → place_of (pick image ts) ≡ Some k → Found image.processes ts 0 k
+pub picked : (image : Image) (ts : List Thread) (k : ℕ) → place_of (pick image ts) ≡ Some k → Found image.processes ts 0 k
 unfolding t.pick
 picked image ts k is = by (least image 0 image.processes ts) refl is where
   by : (o : Option Candidate) → least image 0 image.processes ts ≡ o → place_of o ≡ Some k → Found image.processes ts 0 k

@@ -6,7 +6,7 @@ ghost use Rattle.rte_machine_meaning.specs.Run.{at_start};
 ghost use Rattle.rte_machine_meaning.specs.Starts.{starts};
 ghost use Rattle.rte_dispatch.specs.Due.{least};
 ghost use Rattle.rte_stretch.specs.Due.{AreInOrder, HasSlots, first_tick};
-ghost use Rattle.rte_start_laws.specs.Due.{HasDue, HasOwnRanks};
+ghost use Rattle.rte_start_laws.specs.Due.{AreDone, HasDue, HasOwnRanks};
 ghost use Rattle.rte_state.specs.Board.{IsBoardOf, state_of};
 ghost use Rattle.rte_state.specs.Plan.{IsOf};
 ghost use Rattle.rte_starts.specs.Begin.{AreFirst, HaveQueues, NextFits, lines_of, script_of};
@@ -129,6 +129,7 @@ impl Agenda {
         ensures slots { HasSlots image (script_of script.now) tick self.new.done
             (state_of board.new) self.new.slots }
         ensures within { self.new.done ≤ length script.now.lines }
+        ensures lines { AreDone tick self.new.done (lines_of script.now.lines) }
         ensures order { IsOrderOf image self.new.order }
         ensures board { IsBoardOf image board.new }
         ensures queues { HaveQueues (state_of board.new) }

@@ -196,3 +196,8 @@ returns-clause-slots g c =
     slots_again g.image (script_of c.args.script.now) t c.args.self.now.done c.do_lines.new.done s (state_of c.do_time_outs.new.board) c.args.plan.now.processes.items c.args.self.now.slots c.set.new.self c.do_releases.new.slots c.do_time_outs.new.slots
     c.requires.0.processes c.requires.1.1.1.0 set c.do_releases.ensures.moved c.do_time_outs.ensures.others c.do_time_outs.ensures.waits done
     (threads_count c.do_time_outs.new.board.cells.items ∙ cells_count g.image c.do_time_outs.new.board.cells.items c.do_time_outs.ensures.board.rooms)
+
+pub returns-clause-lines : goal.returns-clause-lines
+returns-clause-lines g c =
+    let same : c.as_slice-lines.result.now ≡ c.args.script.now.lines = c.as_slice-lines.ensures ∙ c.lines.ensures in
+    subst (λ (xs : List ScriptLine). AreDone c.args.tick c.do_lines.new.done (lines_of xs)) same c.do_lines.ensures.done

@@ -1,0 +1,4 @@
+pub mod Due
+pub mod Waiting
+pub mod Passing
+pub mod Turning

@@ -1,0 +1,118 @@
+-- A turn of the process that is picked.
+use Rattle.std.proofs.Common.{◌≡◌, ◌≤◌, ◌<◌, ◌+◌, ◌-◌, ℕ, zero, suc, false, Option, Some, None, length, arith, refl, ap, sym, subst, ◌∙◌}
+use Rattle.std.specs.Prelude.{slice_get}
+use Rattle.std.proofs.lemmas.Option.{slice_get_within}
+use Rattle.rte_isa.specs.declared.instr.Instr.{Instr}
+use Rattle.rte_machine_meaning.specs.Image.{Image, Process, Script}
+use Rattle.rte_machine_meaning.specs.State.{Job, Thread, Ready, State}
+use Rattle.rte_machine_meaning.specs.Tick.{Ticked, owned_of, pick, settle}
+use Rattle.rte_stretch.specs.Stretch.{FitsIn, FitsThread, left, left_of, outcomes, pass, pass_thread, place_of}
+use Rattle.rte_stretch.specs.Due.{time_out_of}
+use Rattle.rte_stretch.specs.Quiet.{AreQuiet}
+use Rattle.rte_stretch.specs.RowLaws.{IsSafeRun, begun}
+use Rattle.rte_settle.specs.Own.{IsEarly}
+use Rattle.rte_settle.specs.Settled.{CanPass}
+use Rattle.rte_settle.proofs.Safely.{Found, picked, turn_can_pass}
+use Rattle.rte_runner.specs.Turn.{AreEarly, IsTurn, Run, turn_of}
+use Rattle.rte_runner.specs.Waits.{is_some_at_queue}
+use Rattle.rte_runner.proofs.Waiting.{WaitsFrom, settle_from, settle_same}
+
+-- ---- who is picked, and how long
+
+-- the process that is picked is there, and ready
+pub record IsReady (image : Image) (s : State) (k : ℕ) : Type 0 where
+  pub job : Job
+  pub ready : slice_get s.threads k ≡ Some (Ready job)
+  pub below : k < length s.threads
+
+pub is_ready : (image : Image) (s : State) (k : ℕ) → place_of (pick image s.threads) ≡ Some k → IsReady image s k
+is_ready image s k is =
+    let f : Found image.processes s.threads 0 k = picked image s.threads k is in
+    let same : f.i ≡ k = omega (arith, f.place_is) in
+    let ready : slice_get s.threads k ≡ Some (Ready f.job) = subst (λ (m : ℕ). slice_get s.threads m ≡ Some (Ready f.job)) same f.ready in
+    record { job = f.job; ready = ready; below = slice_get_within s.threads k (Ready f.job) ready }
+
+-- of what is early some is left
+pub some_left : (image : Image) (job : Job) → IsEarly image job → 1 ≤ left image job
+some_left image job early = by job.burn (slice_get image.code job.place) refl where
+  by : (b : ℕ) (o : Option Instr) → slice_get image.code job.place ≡ o → 1 ≤ left_of b job.done o
+  by (suc b) o at = omega arith
+  by zero None at = omega arith
+  by zero (Some instr) at = let below = early instr at in omega (arith, below)
+
+pub fits_in : (image : Image) (n k : ℕ) (s : State) (job : Job) → slice_get s.threads k ≡ Some (Ready job) → n ≤ left image job → FitsIn image n s (Some k)
+fits_in image n k s job ready fits = subst (λ (x : Option Thread). FitsThread image n x) (sym ready) fits
+
+pub are_early : (image : Image) (script : Script) (t : ℕ) (s : State) → IsSafeRun image script → s ≡ begun image script t → AreEarly image s
+are_early image script t s safe is k job at instr at_instr = safe.early t k job instr (ap (λ (x : State). slice_get x.threads k) (sym is) ∙ at) at_instr
+
+-- ---- the turn
+
+pub turn_is : (run : Run) (t n : ℕ) (who : Option ℕ) → place_of (pick run.image (begun run.image run.script t).threads) ≡ who → turn_of run t n ≡ pass run.image t n (begun run.image run.script t) who
+turn_is run t n who is = ap (λ (c : Option ℕ). pass run.image t n (begun run.image run.script t) c) is
+
+pub may_turn : (run : Run) (t n : ℕ) (who : Option ℕ) → place_of (pick run.image (begun run.image run.script t).threads) ≡ who → 1 ≤ n → FitsIn run.image n (begun run.image run.script t) who → AreQuiet run.image run.script t n (begun run.image run.script t) → IsTurn run t n
+may_turn run t n who is some fits quiet = record {
+  some = some;
+  fits = subst (λ (c : Option ℕ). FitsIn run.image n (begun run.image run.script t) c) (sym is) fits;
+  quiet = quiet;
+}
+
+-- the turn of process k
+settled : (run : Run) (t n k : ℕ) (can : CanPass run.image n k (begun run.image run.script t)) → place_of (pick run.image (begun run.image run.script t).threads) ≡ Some k
+    → turn_of run t n ≡ settle run.image (t + (n - 1)) k can.p can.job (begun run.image run.script t) (outcomes run.image (begun run.image run.script t) can.job (owned_of (slice_get (begun run.image run.script t).owned k)) n can.job.burn)
+settled run t n k can is =
+    let s : State = begun run.image run.script t in
+    turn_is run t n (Some k) is
+    ∙ ap (λ (x : Option Process). pass_thread run.image t n k s x (slice_get s.threads k)) can.process
+    ∙ ap (λ (x : Option Thread). pass_thread run.image t n k s (Some can.p) x) can.ready
+
+-- what the turn leaves of the waits
+pub record KeepsWaits (run : Run) (t n : ℕ) : Type 0 where
+  pub later : WaitsFrom (t + n) (begun run.image run.script t).threads (turn_of run t n).state.threads
+  pub same : is_some_at_queue (turn_of run t n).events ≡ false → (j : ℕ) → time_out_of (slice_get (turn_of run t n).state.threads j) ≡ time_out_of (slice_get (begun run.image run.script t).threads j)
+
+pub keeps_waits : (run : Run) (t n k : ℕ) → IsSafeRun run.image run.script → IsTurn run t n → place_of (pick run.image (begun run.image run.script t).threads) ≡ Some k → KeepsWaits run t n
+keeps_waits run t n k safe it is =
+    let s : State = begun run.image run.script t in
+    let can : CanPass run.image n k s = turn_can_pass run.image run.script t n k safe it is in
+    let out = outcomes run.image s can.job (owned_of (slice_get s.owned k)) n can.job.burn in
+    let all = settled run t n k can is in
+    let last : t + n ≤ (t + (n - 1)) + 1 = (let some = it.some in omega (arith, some)) in
+    record {
+      later = subst (λ (x : Ticked). WaitsFrom (t + n) s.threads x.state.threads) (sym all) (settle_from run.image (t + (n - 1)) k can.p can.job s out (t + n) last);
+      same = λ quiet j.
+          ap (λ (x : Ticked). time_out_of (slice_get x.state.threads j)) all
+          ∙ settle_same run.image (t + (n - 1)) k can.p can.job s out j (sym (ap (λ (x : Ticked). is_some_at_queue x.events) all) ∙ quiet) can.ready;
+    }
+
+pub picked_at : (run : Run) (t : ℕ) (who : Option ℕ) (s : State) → s ≡ begun run.image run.script t → place_of (pick run.image s.threads) ≡ who → place_of (pick run.image (begun run.image run.script t).threads) ≡ who
+picked_at run t who s is at = sym (ap (λ (x : State). place_of (pick run.image x.threads)) is) ∙ at
+
+-- the process that is picked has a turn of as many ticks as are left of what it is at, while nothing starts
+pub picked_turn : (run : Run) (t n most k : ℕ) (s : State) → s ≡ begun run.image run.script t → place_of (pick run.image s.threads) ≡ Some k → 1 ≤ n → n ≤ most → FitsIn run.image n s (Some k) → AreQuiet run.image run.script t most s → IsTurn run t n
+picked_turn run t n most k s is who some within fits quiet =
+    may_turn run t n (Some k) (picked_at run t (Some k) s is who) some (subst (λ (x : State). FitsIn run.image n x (Some k)) is fits)
+    (subst (λ (x : State). AreQuiet run.image run.script t n x) is (λ u low high. quiet u low (omega (arith, high, within))))
+
+-- where none is picked, ticks in which nothing starts are a turn
+pub idle_turn : (run : Run) (t n : ℕ) (s : State) → s ≡ begun run.image run.script t → place_of (pick run.image s.threads) ≡ None → 1 ≤ n → AreQuiet run.image run.script t n s → IsTurn run t n
+idle_turn run t n s is who some quiet = may_turn run t n None (picked_at run t None s is who) some tt (subst (λ (x : State). AreQuiet run.image run.script t n x) is quiet)
+
+-- what it comes to
+pub turn_from : (run : Run) (t n : ℕ) (who : Option ℕ) (s : State) → s ≡ begun run.image run.script t → place_of (pick run.image s.threads) ≡ who → pass run.image t n s who ≡ turn_of run t n
+turn_from run t n who s is at = ap (λ (x : State). pass run.image t n x who) is ∙ sym (turn_is run t n who (picked_at run t who s is at))
+
+pub can_pass : (run : Run) (t n k : ℕ) (s : State) → IsSafeRun run.image run.script → s ≡ begun run.image run.script t → place_of (pick run.image s.threads) ≡ Some k → IsTurn run t n → CanPass run.image n k s
+can_pass run t n k s safe is at it = subst (λ (x : State). CanPass run.image n k x) (sym is) (turn_can_pass run.image run.script t n k safe it (picked_at run t (Some k) s is at))
+
+-- what the turn from one state to the other leaves of the waits
+pub record TurnKeeps (run : Run) (t n : ℕ) (s s' : State) : Type 0 where
+  pub later : WaitsFrom (t + n) s.threads s'.threads
+  pub same : is_some_at_queue (turn_of run t n).events ≡ false → (j : ℕ) → time_out_of (slice_get s'.threads j) ≡ time_out_of (slice_get s.threads j)
+
+pub turn_keeps : (run : Run) (t n k : ℕ) (s s' : State) → IsSafeRun run.image run.script → IsTurn run t n → s ≡ begun run.image run.script t → s' ≡ (turn_of run t n).state → place_of (pick run.image s.threads) ≡ Some k → TurnKeeps run t n s s'
+turn_keeps run t n k s s' safe it is is' at =
+    let kept : KeepsWaits run t n = keeps_waits run t n k safe it (picked_at run t (Some k) s is at) in
+    let all : TurnKeeps run t n (begun run.image run.script t) (turn_of run t n).state = record { later = kept.later; same = kept.same } in
+    subst (λ (x : State). TurnKeeps run t n x s') (sym is) (subst (λ (x : State). TurnKeeps run t n (begun run.image run.script t) x) (sym is') all)

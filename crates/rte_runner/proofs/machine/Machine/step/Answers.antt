@@ -1,0 +1,127 @@
+use Rattle.std.proofs.Common.{◌≡◌, ◌<◌, ◌+◌, ◌∙◌, false, length, arith, ap, sym, subst}
+use Rattle.rte_machine_meaning.specs.Image.{Script}
+use Rattle.rte_machine_meaning.specs.State.{State}
+use Rattle.rte_machine_meaning.specs.Starts.{starts}
+use Rattle.rte_safe_terms.specs.Queues.{AreQueued}
+use Rattle.rte_start_laws.specs.Due.{HasDue}
+use Rattle.rte_start_laws.proofs.Counting.{starts_are_few}
+use Rattle.rte_start_laws.proofs.Moving.{slots_are_due}
+use Rattle.rte_state.specs.Board.{state_of}
+use Rattle.rte_stretch.specs.Due.{HasSlots}
+use Rattle.rte_starts.specs.Begin.{script_of}
+use Rattle.rte_starts.specs.Order.{IsOrderOf}
+use Rattle.rte_starts.specs.declared.order.Order.{Order}
+use Rattle.rte_starts.proofs.Boards.{cells_count}
+use Rattle.rte_starts.proofs.Joining.{threads_count}
+use Rattle.rte_starts.proofs.Saying.{as_many_lines}
+use Rattle.rte_runner.proofs.Due.{starts_later}
+use Rattle.rte_runner.proofs.Turning.{starts_calm, stays, told}
+use Rattle.rte_runner.proofs.Waiting.{queued_have}
+use Rattle.rte_runner.proofs.machine.Machine.step.Goals as goal
+
+pub begin-requires : goal.begin-requires
+begin-requires g c =
+    let image = g.run.image in
+    let same = c.requires.1.0 in
+    let runs = c.requires.1.1.0 in
+    let stands = c.requires.1.1.1.0 in
+    let t = c.args.self.now.tick in
+    let s = state_of c.args.self.now.board in
+    let end : g.run.script.end_tick ≡ c.args.script.now.end = ap (λ (x : Script). x.end_tick) same in
+    let before : t < g.run.script.end_tick = omega (arith, end, c.requires.1.1.1.1) in
+    let many : length g.run.script.lines ≡ length c.args.script.now.lines = ap (λ (x : Script). length x.lines) same ∙ as_many_lines c.args.script.now.lines in (
+      c.requires.0,
+      (
+        stands.order,
+        (
+          stands.board,
+          (
+            subst (λ (x : Script). HasDue image x t c.args.self.now.agenda.done s c.args.self.now.agenda.slots) same stands.due,
+            (
+              omega (arith, stands.done, many),
+              (
+                queued_have s (subst (λ (x : State). AreQueued x) (sym stands.state) (runs.queued t)),
+                (runs.fits t before, (subst (λ (x : Script). (starts image x t s).overrun ≡ false) same (starts_calm image g.run.script t s runs.calm before stands.state), c.clear.ensures)),
+              ),
+            ),
+          ),
+        ),
+      ),
+    )
+
+pub span-most-requires-clause-later : goal.span-most-requires-clause-later
+span-most-requires-clause-later g c =
+    let image = g.run.image in
+    let stands = c.requires.1.1.1.0 in
+    let t = c.args.self.now.tick in
+    let s = state_of c.args.self.now.board in
+    let script = script_of c.args.script.now in
+    starts_later image script t c.args.self.now.agenda.done c.begin.new.self.done s c.args.self.now.agenda.slots c.begin.new.self.slots c.requires.1.1.0.ranks
+    (subst (λ (x : Script). HasDue image x t c.args.self.now.agenda.done s c.args.self.now.agenda.slots) c.requires.1.0 stands.due)
+    (subst (λ (x : State). HasSlots image script t c.begin.new.self.done x c.begin.new.self.slots) c.begin.ensures.state c.begin.ensures.slots) c.begin.ensures.lines
+
+pub take_turn-ticks-requires : goal.take_turn-ticks-requires
+take_turn-ticks-requires g c =
+    let image = g.run.image in
+    let same = c.requires.1.0 in
+    let runs = c.requires.1.1.0 in
+    let stands = c.requires.1.1.1.0 in
+    let t = c.args.self.now.tick in
+    let s = state_of c.args.self.now.board in
+    let script = script_of c.args.script.now in
+    let end : g.run.script.end_tick ≡ c.args.script.now.end = ap (λ (x : Script). x.end_tick) same in
+    let few = starts_are_few image script t s in
+    let threads : length s.threads ≡ length image.processes = threads_count c.args.self.now.board.cells.items ∙ cells_count image c.args.self.now.board.cells.items stands.board.rooms in
+    let filled : length c.begin.new.fired.items ≡ length (starts image script t s).events = ap length c.begin.ensures.events in (
+      c.requires.0,
+      (
+        runs,
+        (
+          c.begin.ensures.board,
+          (
+            c.begin.ensures.state ∙ ap (λ (x : Script). (starts image x t s).state) (sym same) ∙ ap (λ (x : State). (starts image g.run.script t x).state) stands.state,
+            (
+              subst (λ (x : Script). HasSlots image x t c.begin.new.self.done (state_of c.begin.new.board) c.begin.new.self.slots) (sym same) c.begin.ensures.slots,
+              (
+                c.span-most.ensures.clear,
+                (stands.room, (c.span-most.ensures.some, (omega (arith, c.span-most.ensures.within, c.end.ensures, end, runs.short), omega (arith, few, threads, filled, c.requires.0.few)))),
+              ),
+            ),
+          ),
+        ),
+      ),
+    )
+
+pub returns-clause-stands : goal.returns-clause-stands
+returns-clause-stands g c =
+    let image = g.run.image in
+    let same = c.requires.1.0 in
+    let runs = c.requires.1.1.0 in
+    let stands = c.requires.1.1.1.0 in
+    let t = c.args.self.now.tick in
+    let n = c.take_turn-ticks.result in
+    let e = c.take_turn-ticks.ensures in
+    let s = state_of c.take_turn-ticks.new.board in
+    let end : g.run.script.end_tick ≡ c.args.script.now.end = ap (λ (x : Script). x.end_tick) same in
+    let many : length g.run.script.lines ≡ length c.args.script.now.lines = ap (λ (x : Script). length x.lines) same ∙ as_many_lines c.args.script.now.lines in
+    let some = e.turn.some in
+    record {
+      within = omega (arith, c.span-most.ensures.within, c.end.ensures, end, e.most);
+      state = stays g.run t n s runs.safe e.turn e.state;
+      board = e.board;
+      due = slots_are_due image g.run.script t (t + n) c.take_turn-ticks.new.agenda.done s c.take_turn-ticks.new.agenda.slots e.slots (omega (arith, some)) e.clear;
+      done = omega (arith, e.done, c.begin.ensures.within, many);
+      order = subst (λ (o : Order). IsOrderOf image o) (sym e.order) c.begin.ensures.order;
+      room = e.room ∙ stands.room;
+    }
+
+pub returns-clause-events : goal.returns-clause-events
+returns-clause-events g c =
+    let stands = c.requires.1.1.1.0 in
+    let t = c.args.self.now.tick in
+    let s = state_of c.args.self.now.board in
+    told g.run t c.take_turn-ticks.result c.begin.new.fired.items c.take_turn-ticks.new.fired.items s c.requires.1.1.0.safe c.take_turn-ticks.ensures.turn stands.state
+    (c.begin.ensures.events ∙ ap (λ (x : Script). (starts g.run.image x t s).events) (sym c.requires.1.0)) c.take_turn-ticks.ensures.events
+
+pub returns-clause-passed : goal.returns-clause-passed
+returns-clause-passed g c = let some = c.take_turn-ticks.ensures.turn.some in omega (arith, some)

@@ -1,0 +1,4 @@
+pub mod Waits
+pub mod Runnable
+pub mod Turn
+pub mod Standing

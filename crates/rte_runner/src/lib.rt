@@ -1,0 +1,17 @@
+//! The machine over every verified image.
+//!
+//! `Machine` stands in the run of an image under a script (`StandsIn` in `specs/Standing.antt`): its
+//! board is the state of the machine's meaning before its tick. `advance` takes one turn: the start
+//! events of the tick, and then as many ticks at once as no start event falls in and the process
+//! that is picked stays at what it is at. Its promise: the machine then stands in the run, and its
+//! events are those of the ticks that passed. What is asked of the run is `IsRunnable` in
+//! `specs/Runnable.antt`, and holds of each valid image under a script that respects its frames.
+//! Nothing but `Machine::new` takes memory.
+#![tactic(auto)]
+
+mod machine;
+mod span;
+mod turn;
+mod waits;
+
+pub use machine::{Machine, Turn};

@@ -1,0 +1,129 @@
+//! The machine over whole runs.
+
+ghost use Rattle.std.specs.Prelude.{◌≡◌, ◌≢◌, ◌<◌, ◌↔◌, [], IfOk};
+ghost use Rattle.rte_machine_meaning.specs.Image.{Image};
+ghost use Rattle.rte_starts.specs.Begin.{script_of};
+ghost use Rattle.rte_state.specs.Plan.{IsOf};
+ghost use Rattle.rte_runner.specs.Runnable.{IsRunnable};
+ghost use Rattle.rte_runner.specs.Standing.{StandsIn, events_between};
+ghost use Rattle.rte_runner.specs.Turn.{Run};
+
+use crate::span::span;
+use crate::turn::take_turn;
+use rte_dispatch::Standing;
+use rte_event::Event;
+use rte_script::Script;
+use rte_settle::room_for_choice;
+use rte_starts::Agenda;
+use rte_state::{Board, Fired, Plan};
+use std::alloc::{AllocError, Global};
+
+/// What a call of `advance` came to.
+#[derive(Clone, Copy, Debug, PartialEq, Eq)]
+pub enum Turn {
+    /// Ticks passed, in which events fell.
+    Events,
+    /// Ticks passed, in which none fell.
+    Quiet,
+    /// The run was at its end.
+    Done,
+}
+
+/// The simulated machine. Once made, it takes no memory.
+#[derive(Drop)]
+pub struct Machine {
+    tick: u64,
+    board: Board,
+    agenda: Agenda,
+    room: Vec<Standing>,
+    fired: Fired,
+}
+
+impl Machine {
+    /// A machine before tick 0 of the run. It takes all the memory that the run needs; an error
+    /// says that memory is short.
+    pub fn new(alloc: Global, plan: &Plan, script: &Script) -> Result<Machine, AllocError>
+        ghost image: { Image }
+        requires plan { IsOf image plan.now }
+        requires runnable { IsRunnable image (script_of script.now) }
+        ensures start { IfOk result (λ machine. machine.tick ≡ 0) }
+        ensures stands { IfOk result (λ machine. StandsIn image (script_of script.now) machine) }
+    {
+        Ok(Machine {
+            tick: 0,
+            board: Board::new(alloc, plan)?,
+            agenda: Agenda::new(alloc, plan, script)?,
+            room: room_for_choice(alloc, plan)?,
+            fired: Fired::new(),
+        })
+    }
+
+    /// One turn: the start events of the tick, and then ticks at once.
+    fn step(&mut self, plan: &Plan, script: &Script)
+        ghost run: { Run }
+        requires plan { IsOf run.image plan.now }
+        requires script { run.script ≡ script_of script.now }
+        requires runnable { IsRunnable run.image run.script }
+        requires stands { StandsIn run.image run.script self.old }
+        requires before { self.old.tick < script.now.end }
+        ensures passed { self.old.tick < self.new.tick }
+        ensures stands { StandsIn run.image run.script self.new }
+        ensures events { self.new.fired.items ≡
+            events_between run.image run.script self.old.tick self.new.tick }
+    {
+        self.fired.clear();
+        self.agenda
+            .begin(plan, script, &mut self.board, &mut self.fired, self.tick);
+        let most = span(&self.agenda, self.tick, script.end());
+        let ticks = take_turn(
+            plan,
+            &mut self.board,
+            &mut self.agenda,
+            &mut self.room,
+            &mut self.fired,
+            self.tick,
+            most,
+        );
+        self.tick += ticks;
+    }
+
+    /// One turn, up to the end of the script.
+    pub fn advance(&mut self, plan: &Plan, script: &Script) -> Turn
+        ghost image: { Image }
+        requires plan { IsOf image plan.now }
+        requires runnable { IsRunnable image (script_of script.now) }
+        requires stands { StandsIn image (script_of script.now) self.old }
+        ensures done { (result ≡ Turn.Done) ↔ (self.old.tick ≡ script.now.end) }
+        ensures stays { result ≡ Turn.Done → self.new ≡ self.old }
+        ensures passed { result ≢ Turn.Done → self.old.tick < self.new.tick }
+        ensures stands { StandsIn image (script_of script.now) self.new }
+        ensures fell { result ≢ Turn.Done → self.new.fired.items ≡
+            events_between image (script_of script.now) self.old.tick self.new.tick }
+        ensures quiet { result ≡ Turn.Quiet → self.new.fired.items ≡ [] }
+        ensures events { result ≡ Turn.Events → self.new.fired.items ≢ [] }
+    {
+        if self.tick >= script.end() {
+            return Turn::Done;
+        }
+        self.step(plan, script);
+        if self.fired.is_empty() {
+            Turn::Quiet
+        } else {
+            Turn::Events
+        }
+    }
+
+    /// The events of the last turn, in order.
+    pub fn events(&self) -> &[Event]
+        ensures { result.now ≡ self.now.fired.items }
+    {
+        self.fired.as_slice()
+    }
+
+    /// The tick that comes next.
+    pub fn tick(&self) -> u64
+        ensures { result ≡ self.now.tick }
+    {
+        self.tick
+    }
+}

@@ -1,0 +1,107 @@
+//! A turn, once the start events of its tick are done.
+
+ghost use Rattle.std.specs.Prelude.{◌≡◌, ◌≤◌, ◌<◌, ◌+◌, ◌++◌, ◌^◌, false, Some, length, vec_len};
+ghost use Rattle.arrayvec.specs.ArrayVec.{array_vec_len};
+ghost use Rattle.rte_machine_meaning.specs.Image.{Image};
+ghost use Rattle.rte_machine_meaning.specs.Tick.{pick};
+ghost use Rattle.rte_state.specs.Board.{IsBoardOf, state_of};
+ghost use Rattle.rte_state.specs.Plan.{IsOf};
+ghost use Rattle.rte_stretch.specs.Due.{HasSlots, NoneBefore};
+ghost use Rattle.rte_stretch.specs.Quiet.{AreQuiet};
+ghost use Rattle.rte_stretch.specs.RowLaws.{begun};
+ghost use Rattle.rte_stretch.specs.Stretch.{FitsIn, place_of};
+ghost use Rattle.rte_runner.specs.Runnable.{IsRunnable};
+ghost use Rattle.rte_runner.specs.Turn.{AreEarly, IsTurn, Run, turn_of};
+
+use crate::waits::note_waits;
+use rte_dispatch::Standing;
+use rte_settle::{choose, left, pass};
+use rte_starts::Agenda;
+use rte_state::{Board, Fired, Plan};
+
+/// The ticks left of what the process that is picked is at, or as many as are asked for.
+fn ticks_left(plan: &Plan, board: &Board, who: usize, most: u64) -> u32
+    ghost image: { Image }
+    requires plan { IsOf image plan.now }
+    requires board { IsBoardOf image board.now }
+    requires picked { place_of (pick image (state_of board.now).threads) ≡ Some who }
+    requires early { AreEarly image (state_of board.now) }
+    requires some { 1 ≤ most }
+    ensures fits { FitsIn image result (state_of board.now) (Some who) }
+    ensures some { 1 ≤ result }
+    ensures most { result ≤ most }
+{
+    most.min(u64::from(left(plan, board, who))) as u32
+}
+
+/// A turn of the process that is picked, of so many ticks at most: how many it took.
+fn pass_picked(
+    plan: &Plan,
+    board: &mut Board,
+    who: usize,
+    tick: u64,
+    most: u64,
+    fired: &mut Fired,
+) -> u32
+    ghost run: { Run }
+    requires plan { IsOf run.image plan.now }
+    requires runnable { IsRunnable run.image run.script }
+    requires board { IsBoardOf run.image board.old }
+    requires begun { state_of board.old ≡ begun run.image run.script tick }
+    requires picked { place_of (pick run.image (state_of board.old).threads) ≡ Some who }
+    requires quiet { AreQuiet run.image run.script tick most (state_of board.old) }
+    requires some { 1 ≤ most }
+    requires end { tick + most < 2 ^ 63 }
+    requires fired { array_vec_len fired.old < 65 }
+    ensures turn { IsTurn run tick result }
+    ensures most { result ≤ most }
+    ensures state { state_of board.new ≡ (turn_of run tick result).state }
+    ensures events { fired.new.items ≡ fired.old.items ++ (turn_of run tick result).events }
+    ensures board { IsBoardOf run.image board.new }
+{
+    let ticks = ticks_left(plan, board, who, most);
+    pass(plan, board, who, tick, ticks, fired);
+    ticks
+}
+
+/// A turn of so many ticks at most: how many it took.
+pub(crate) fn take_turn(
+    plan: &Plan,
+    board: &mut Board,
+    agenda: &mut Agenda,
+    room: &mut Vec<Standing>,
+    fired: &mut Fired,
+    tick: u64,
+    most: u64,
+) -> u64
+    ghost run: { Run }
+    requires plan { IsOf run.image plan.now }
+    requires runnable { IsRunnable run.image run.script }
+    requires board { IsBoardOf run.image board.old }
+    requires begun { state_of board.old ≡ begun run.image run.script tick }
+    requires slots { HasSlots run.image run.script tick agenda.old.done
+        (state_of board.old) agenda.old.slots }
+    requires clear { NoneBefore (tick + most) agenda.old.slots }
+    requires room { vec_len room.old ≡ length run.image.processes }
+    requires some { 1 ≤ most }
+    requires end { tick + most < 2 ^ 63 }
+    requires fired { array_vec_len fired.old < 65 }
+    ensures turn { IsTurn run tick result }
+    ensures most { result ≤ most }
+    ensures state { state_of board.new ≡ (turn_of run tick result).state }
+    ensures events { fired.new.items ≡ fired.old.items ++ (turn_of run tick result).events }
+    ensures board { IsBoardOf run.image board.new }
+    ensures slots { HasSlots run.image run.script tick agenda.new.done
+        (state_of board.new) agenda.new.slots }
+    ensures clear { NoneBefore (tick + result) agenda.new.slots }
+    ensures done { agenda.new.done ≡ agenda.old.done }
+    ensures order { agenda.new.order ≡ agenda.old.order }
+    ensures room { vec_len room.new ≡ vec_len room.old }
+{
+    let Some(who) = choose(plan, board, room) else {
+        return most;
+    };
+    let ticks = pass_picked(plan, board, who, tick, most, fired);
+    note_waits(plan, board, agenda, fired.as_slice());
+    u64::from(ticks)
+}
