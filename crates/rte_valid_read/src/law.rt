@@ -7,6 +7,6 @@ ghost use Rattle.rte_valid_read.specs.Law.{EveryValidImageReadIsSafeAndInTime};
 pub fn every_valid_image_that_is_read_is_safe_and_in_time()
     ensures { EveryValidImageReadIsSafeAndInTime }
 {
-    rte_valid_limits::law::images_read_are_in_their_ranges();
+    rte_valid_limits::images_read_are_in_their_ranges();
     rte_valid_law::law::every_valid_image_is_safe_and_in_time();
 }
