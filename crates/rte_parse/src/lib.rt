@@ -16,6 +16,3 @@ mod types;
 
 pub use fault::SynFault;
 pub use program::parse;
-
-#[cfg(test)]
-mod tests;
