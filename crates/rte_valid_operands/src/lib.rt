@@ -11,6 +11,3 @@ mod operand;
 mod words;
 
 pub use fault::operand_fault;
-
-#[cfg(test)]
-mod tests;

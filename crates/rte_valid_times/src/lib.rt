@@ -16,6 +16,3 @@ pub use bounds::{bound_fault, task_set};
 pub use due::{ceiling_of, needed_block, rank_of};
 pub use ranks::rank_fault;
 pub use reached::{Stays, longest_stays};
-
-#[cfg(test)]
-mod tests;
