@@ -1,5 +1,5 @@
 -- Which parts there are, and which of them fail.
-use Rattle.std.proofs.Common.{◌≡◌, ◌<◌, ◌+◌, ◌⊎◌, ℕ, zero, suc, List, [], ◌∷◌, ◌++◌, Option, Some, None, length, map, refl, ap, sym, subst, ◌∙◌, inl, inr, arith}
+use Rattle.std.proofs.Common.{◌≡◌, ◌<◌, ◌+◌, ◌⊎◌, ℕ, zero, suc, List, [], ◌∷◌, ◌++◌, Some, None, length, map, refl, ap, sym, subst, ◌∙◌, inl, inr, arith}
 use Rattle.std.proofs.lemmas.List.{map-append}
 use Rattle.std.proofs.lemmas.List.Elements.{Contains-append_left, Contains-append_right, Contains-append_cases}
 use Rattle.std.specs.Prelude.{Contains, filter_map, slice_get, slice_index_or}
@@ -13,7 +13,7 @@ use Rattle.rte_emits.specs.Layout.{Owner, by_program, by_process, by_monitor}
 use Rattle.rte_emits.specs.Numbering as numbering
 use Rattle.rte_cost.specs.declared.program.Measures.{Measures}
 use Rattle.rte_size_rules.specs.Rules.{Text, texts_of, texts_from}
-use Rattle.rte_too_large.specs.Told.{plain_text, routine_over, process_over, Part, routine_part, process_part, stack_rules, routine_parts, parts_from}
+use Rattle.rte_too_large.specs.Told.{plain_text, routine_over, process_over, Part, stack_rules, routine_parts, parts_from}
 
 -- ---- members
 

@@ -1,5 +1,5 @@
 -- What the measures tell is where the rules of size fail.
-use Rattle.std.proofs.Common.{◌≡◌, ◌<◌, ◌≤◌, ◌+◌, ◌⊎◌, ℕ, zero, suc, List, [], ◌∷◌, Option, Some, None, Bool, true, false, if◌then◌else◌, length, map, refl, ap, sym, subst, ◌∙◌, inl, inr, arith}
+use Rattle.std.proofs.Common.{◌≡◌, ◌<◌, ◌≤◌, ◌+◌, ◌⊎◌, ℕ, suc, List, [], ◌∷◌, Some, None, Bool, true, false, if◌then◌else◌, length, refl, ap, sym, subst, ◌∙◌, inl, inr, arith}
 use Rattle.std.proofs.lemmas.Bool.Decides.{nat_tests}
 use Rattle.std.proofs.lemmas.List.Sums.{sum_by-cons}
 use Rattle.std.specs.Prelude.{Contains, slice_get, sum_by, nat_lt}
@@ -7,19 +7,18 @@ use Rattle.rte_tree.specs.Placed.{Process, Prog, plain, plain_process, plain_rou
 use Rattle.rte_tree.specs.Parts.{processes}
 use Rattle.rte_tree.specs.Plain as plain_of
 use Rattle.rte_tree.specs.declared.place.Place.{Place}
-use Rattle.rte_rules.specs.declared.broken.Broken.{Broken}
 use Rattle.rte_rules.specs.First.{Before, IsFirstOf, sooner}
 use Rattle.rte_rules.specs.Parts.{FailsAmong, noted}
 use Rattle.rte_rules.proofs.Soonest.{both, same, noted-is-first}
 use Rattle.rte_source_meaning.specs.Names as names
 use Rattle.rte_emits.specs.Numbering as numbering
-use Rattle.rte_costs.specs.Levels.{routine_names, process_names, routines_length, processes_length, code_length, stack_of_process}
-use Rattle.rte_costs.specs.Lengths.{routine_length, process_length}
+use Rattle.rte_costs.specs.Levels.{process_names, routines_length, processes_length, code_length, stack_of_process}
+use Rattle.rte_costs.specs.Lengths.{process_length}
 use Rattle.rte_cost.specs.Sums.{held}
 use Rattle.rte_cost.specs.declared.measure.Known.{Known}
 use Rattle.rte_cost.specs.declared.program.ProcessMeasure.{ProcessMeasure}
 use Rattle.rte_cost.specs.declared.program.Measures.{Measures}
-use Rattle.rte_sizes.specs.Sizes.{IsRowOf, IsSizeOf, AreDefined}
+use Rattle.rte_sizes.specs.Sizes.{IsRowOf, AreDefined}
 use Rattle.rte_size_rules.specs.Rules.{Text, texts_from, routine_stack, CodeTooLong, RoutineTooLarge, ProcessTooLarge, SizeFails}
 use Rattle.rte_too_large.specs.Numbers.{HaveNumbers}
 use Rattle.rte_too_large.specs.Told.{length_told, code_broken, over_stack, row_over, size_over, plain_text, routine_over, process_over, stack_rules, parts_from}
