@@ -1,0 +1,5 @@
+pub mod Levels
+pub mod Parts
+pub mod Rows
+pub mod Sizes
+pub mod Total
