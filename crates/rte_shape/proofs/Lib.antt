@@ -1,0 +1,4 @@
+pub mod Loaded
+pub mod Decided
+pub mod Kept
+pub mod Runs
