@@ -1,4 +1,3 @@
 pub mod Loaded
 pub mod Decided
-pub mod Kept
 pub mod Runs
