@@ -4,7 +4,7 @@ use Rattle.rte_machine_meaning.specs.Image.{Image}
 use Rattle.rte_image.specs.declared.raw.RawImage.{RawImage}
 use Rattle.rte_image.specs.Raw.{image_of}
 use Rattle.rte_valid.specs.Fault.{or_else}
-use Rattle.rte_valid.specs.Valid.{Shown, Shape, Handlers, Costs, Sizes, Ranks, Bounds, HasLimits, IsValid, shown}
+use Rattle.rte_valid.specs.Valid.{Shown, Operands, Shape, Handlers, Costs, Sizes, Ranks, HasLimits, IsValid, shown}
 use Rattle.rte_verify.specs.declared.tests_in_order.Numbered.{Numbered}
 
 -- an image whose numbers are in their ranges, and of which no part of validity has a fault
@@ -22,12 +22,18 @@ abbrev pub shown_by : Option Numbered → Option Shown
 shown_by None = None
 shown_by (Some n) = Some (record { number = n.number; a = n.a; b = n.b })
 
--- the first fault of trees, handlers, costs and sizes; that of costs and sizes; and that of ranks and bounds
+-- the first fault of trees, handlers, costs and sizes; and that of costs and sizes
 abbrev pub code_fault_of : Image → Option Shown
 code_fault_of image = or_else (shown image Shape) (or_else (shown image Handlers) (or_else (shown image Costs) (shown image Sizes)))
 
-abbrev pub time_fault_of : Image → Option Shown
-time_fault_of image = or_else (shown image Ranks) (shown image Bounds)
-
 abbrev pub declared_fault_of : Image → Option Shown
 declared_fault_of image = or_else (shown image Costs) (shown image Sizes)
+
+-- the fault of an image before its bounds: that of the first other part that fails, in the order of the tests
+abbrev pub fault_before_bounds : Image → Option Shown
+fault_before_bounds image =
+    or_else (shown image Operands)
+    (or_else (shown image Shape)
+    (or_else (shown image Handlers)
+    (or_else (shown image Costs)
+    (or_else (shown image Sizes) (shown image Ranks)))))

@@ -6,8 +6,8 @@ ghost use Rattle.rte_valid.specs.Operands.{operand_fault};
 ghost use Rattle.rte_valid.specs.Shape.{shape_fault};
 ghost use Rattle.rte_valid.specs.Times.{rank_fault};
 ghost use Rattle.rte_valid_shape.specs.Parts.{AreParts};
-ghost use Rattle.rte_valid.specs.Valid.{HasLimits, fault_of};
-ghost use Rattle.rte_verify.specs.Verified.{shown_by, code_fault_of, declared_fault_of, time_fault_of, HasRanges};
+ghost use Rattle.rte_valid.specs.Valid.{Bounds, Ranks, HasLimits, fault_of, shown as shown_of_part};
+ghost use Rattle.rte_verify.specs.Verified.{shown_by, code_fault_of, declared_fault_of, fault_before_bounds as first_before_bounds, HasRanges};
 
 use rte_image::RawImage;
 use rte_valid_code::Shown;
@@ -16,9 +16,9 @@ use rte_valid_shape::{Parts, cost_fault, handler_fault, shape_fault, size_fault,
 use rte_valid_times::{bound_fault, longest_stays, rank_fault, task_set};
 use std::alloc::{AllocError, Global};
 
-/// A fault, with the number of its part.
-#[derive(Clone, Copy)]
-pub(crate) struct Numbered {
+/// A fault, with the number of its part, from 1 to 7, and the two numbers that it shows.
+#[derive(Clone, Copy, Debug, PartialEq, Eq)]
+pub struct Numbered {
     pub number: u8,
     pub a: u64,
     pub b: u64,
@@ -39,7 +39,7 @@ fn of_part(number: u8, shown: Shown) -> Numbered
 fn bounds_fault(alloc: Global, raw: &RawImage) -> Result<Option<Numbered>, AllocError>
     requires limits { HasLimits (image_of raw.now) }
     requires ranks { rank_fault (image_of raw.now) ≡ None }
-    ensures { IfOk result (λ found. shown_by found ≡ time_fault_of (image_of raw.now)) }
+    ensures { IfOk result (λ found. shown_by found ≡ shown_of_part (image_of raw.now) Bounds) }
 {
     let set = task_set(alloc, raw)?;
     match bound_fault(raw, &set) {
@@ -48,27 +48,39 @@ fn bounds_fault(alloc: Global, raw: &RawImage) -> Result<Option<Numbered>, Alloc
     }
 }
 
-/// The first fault of ranks, ceilings, blocks and bounds.
-fn time_fault(alloc: Global, raw: &RawImage) -> Result<Option<Numbered>, AllocError>
+/// The first fault of ranks, ceilings and blocks.
+fn ranks_fault(alloc: Global, raw: &RawImage) -> Result<Option<Numbered>, AllocError>
     requires { HasLimits (image_of raw.now) }
-    ensures { IfOk result (λ found. shown_by found ≡ time_fault_of (image_of raw.now)) }
+    ensures { IfOk result (λ found. shown_by found ≡ shown_of_part (image_of raw.now) Ranks) }
 {
     let stays = longest_stays(alloc, raw)?;
     match rank_fault(raw, &stays) {
         Some(shown) => Ok(Some(of_part(4, shown))),
-        None => bounds_fault(alloc, raw),
+        None => Ok(None),
     }
 }
 
-/// The first fault of the parts after operands.
+/// The first fault of the parts between operands and bounds.
 fn later_fault(alloc: Global, raw: &RawImage) -> Result<Option<Numbered>, AllocError>
     requires ranges { HasRanges raw.now }
     requires operands { operand_fault (image_of raw.now) ≡ None }
-    ensures { IfOk result (λ found. shown_by found ≡ fault_of (image_of raw.now)) }
+    ensures { IfOk result (λ found. shown_by found ≡ first_before_bounds (image_of raw.now)) }
 {
     match code_fault(alloc, raw)? {
         Some(found) => Ok(Some(found)),
-        None => time_fault(alloc, raw),
+        None => ranks_fault(alloc, raw),
+    }
+}
+
+/// The first fault of all parts but bounds, in the order of the tests: operands, trees, handlers, declared costs, sizes, and
+/// ranks with ceilings and blocks. None exactly where none of them has a fault; or that memory is short.
+pub fn fault_before_bounds(alloc: Global, raw: &RawImage) -> Result<Option<Numbered>, AllocError>
+    requires { HasRanges raw.now }
+    ensures { IfOk result (λ found. shown_by found ≡ first_before_bounds (image_of raw.now)) }
+{
+    match operand_fault(alloc, raw)? {
+        Some(shown) => Ok(Some(of_part(6, shown))),
+        None => later_fault(alloc, raw),
     }
 }
 
@@ -77,9 +89,9 @@ pub(crate) fn first_fault(alloc: Global, raw: &RawImage) -> Result<Option<Number
     requires { HasRanges raw.now }
     ensures { IfOk result (λ found. shown_by found ≡ fault_of (image_of raw.now)) }
 {
-    match operand_fault(alloc, raw)? {
-        Some(shown) => Ok(Some(of_part(6, shown))),
-        None => later_fault(alloc, raw),
+    match fault_before_bounds(alloc, raw)? {
+        Some(found) => Ok(Some(found)),
+        None => bounds_fault(alloc, raw),
     }
 }
 

@@ -1,0 +1,4 @@
+pub mod Brings
+pub mod Trees
+pub mod Parts
+pub mod Written

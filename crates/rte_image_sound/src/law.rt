@@ -1,0 +1,18 @@
+//! The laws.
+
+ghost use Rattle.rte_image_sound.specs.Law.{CutImagesEndInsideAField, ImagesReadAreWritten, ImagesWrittenAreRead};
+
+/// The bytes of a file are those of the image that it holds, in its version.
+pub fn images_read_are_written()
+    ensures { ImagesReadAreWritten }
+{}
+
+/// The bytes of an image whose fields are in their ranges are read as that image, in its version.
+pub fn images_written_are_read()
+    ensures { ImagesWrittenAreRead }
+{}
+
+/// The first bytes of an image, but not all, are no image's: they end inside a field.
+pub fn cut_images_end_inside_a_field()
+    ensures { CutImagesEndInsideAField }
+{}

@@ -1,0 +1,29 @@
+-- Shapes: images that are valid but for their bounds.
+use Rattle.std.specs.Prelude.{◌≡◌, ◌≤◌, ℕ, List, [], None, Ok, length}
+use Rattle.rte_image.specs.Bytes.{Version, Second, bytes_of}
+use Rattle.rte_image.specs.InRange.{IsInRange}
+use Rattle.rte_image.specs.Named.{NamedImage}
+use Rattle.rte_image_reading.specs.File.{Parts, image_with, read_file}
+use Rattle.rte_response.specs.declared.tasks.Task.{Task}
+use Rattle.rte_tasks.specs.Tasks.{tasks_of}
+use Rattle.rte_valid.specs.Valid.{HasLimits}
+use Rattle.rte_verify.specs.Verified.{fault_before_bounds}
+
+-- the bytes are a file of the image, in one of the versions
+pub record AreOf (bytes : List ℕ) (named : NamedImage) : Type 0 where
+  pub version : Version
+  pub parts : Parts
+  pub is_read : read_file bytes ≡ Ok ((version, parts), [])
+  pub image : named ≡ image_with parts
+
+-- an image whose numbers are in the ranges of their fields, and of which no part of validity before bounds has a fault
+pub record IsShape (named : NamedImage) : Type 0 where
+  pub limits : HasLimits named.image
+  pub written : IsInRange named
+  pub valid : fault_before_bounds named.image ≡ None
+
+-- what is kept of a shape: the bytes of its image, in version 2, and its declared tasks
+pub record IsKept (bytes : List ℕ) (named : NamedImage) (tasks : List Task) : Type 0 where
+  pub shape : IsShape named
+  pub bytes_are : bytes ≡ bytes_of Second named
+  pub tasks_are : tasks ≡ tasks_of named.image
