@@ -1,0 +1,4 @@
+pub mod Standing
+pub mod Calls
+pub mod Unbound
+pub mod Whole
