@@ -1,0 +1,11 @@
+//! The run of a machine to the end of its script, put as a log.
+//!
+//! `run` lets the machine of `rte_runner` take its turns, and puts the line of each event, one put
+//! a line. `specs/Coming.antt` says which log is still to come. What is put is just that log, or a
+//! front of it where a put failed; then nothing more is put. It takes no memory.
+#![tactic(auto)]
+
+mod put;
+mod to_end;
+
+pub use to_end::run;

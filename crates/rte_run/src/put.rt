@@ -1,0 +1,46 @@
+//! Events put as lines.
+
+ghost use Rattle.std.specs.Prelude.{◌≡◌, ◌≤◌, All, OnOk, OnErr};
+ghost use Rattle.rte_io.specs.Outside.{Appends, AppendsFront, Rose};
+ghost use Rattle.rte_log.specs.InRange.{AreIn};
+ghost use Rattle.rte_log.specs.Line.{line_of, log_of};
+
+use rte_event::Event;
+use rte_image::ImageNames;
+use rte_io::{Sink, SinkFailed};
+use rte_log::line;
+
+/// Puts the line of an event.
+fn put_line<O: Sink>(names: &ImageNames, event: &Event, out: &mut O) -> Result<(), SinkFailed>
+    requires { AreIn names.now event.now }
+    ensures whole { OnOk result
+        (Appends (O.state out.old).taken (O.state out.new).taken (line_of names.now event.now)) }
+    ensures front { OnErr result
+        (AppendsFront (O.state out.old).taken (O.state out.new).taken (line_of names.now event.now)) }
+    ensures failed { OnErr result (Rose (O.state out.old).faults (O.state out.new).faults) }
+    ensures count { (O.state out.old).faults ≤ (O.state out.new).faults }
+    ensures quiet { OnOk result ((O.state out.new).faults ≡ (O.state out.old).faults) }
+{
+    out.put(line(names, event).as_slice())
+}
+
+/// Puts the line of each event, one put a line, up to the first put that fails.
+pub(crate) fn put_all<O: Sink>(
+    names: &ImageNames,
+    events: &[Event],
+    out: &mut O,
+) -> Result<(), SinkFailed>
+    requires { All (AreIn names.now) events.now }
+    ensures whole { OnOk result
+        (Appends (O.state out.old).taken (O.state out.new).taken (log_of names.now events.now)) }
+    ensures front { OnErr result
+        (AppendsFront (O.state out.old).taken (O.state out.new).taken (log_of names.now events.now)) }
+    ensures failed { OnErr result (Rose (O.state out.old).faults (O.state out.new).faults) }
+    ensures count { (O.state out.old).faults ≤ (O.state out.new).faults }
+    ensures quiet { OnOk result ((O.state out.new).faults ≡ (O.state out.old).faults) }
+{
+    for event in events {
+        put_line(names, event, out)?;
+    }
+    Ok(())
+}
