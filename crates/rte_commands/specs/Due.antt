@@ -12,7 +12,6 @@ use Rattle.rte_valid.specs.Valid.{Shown, IsValid, fault_of}
 use Rattle.rte_machine_meaning.specs.Run.{events}
 use Rattle.rte_log.specs.Line.{log_of}
 use Rattle.rte_report.specs.Report.{report_text}
-use Rattle.rte_report.specs.Json.{report_json}
 use Rattle.rte_script.specs.declared.script.ScriptLine.{ScriptLine}
 use Rattle.rte_script.specs.declared.fault.ScriptFault.{ScriptFault}
 use Rattle.rte_script.specs.declared.fault.ScriptFault.TheVariants as script_fault
