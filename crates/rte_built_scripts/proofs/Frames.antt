@@ -89,7 +89,7 @@ of_activation g m k t p formed at kind (at_event e frame deadline) is released t
     let there : slice_get events (place_of e events) ≡ Some e = event_stands e g.decls fits.0 in
     let here : slice_get events p.event ≡ Some e = ap (λ (n : ℕ). slice_get events n) released.2 ∙ there in
     let name : slice_get (map (λ (x : Name). named_event g x) events) p.event ≡ Some (named_event g e)
-        = slice_get-map (λ (x : Name). named_event g x) events p.event ∙ ap (λ (o : Option Name). option_map (λ (x : Name). named_event g x) o) here in
+    = slice_get-map (λ (x : Name). named_event g x) events p.event ∙ ap (λ (o : Option Name). option_map (λ (x : Name). named_event g x) o) here in
     let hit : tests e t ≡ true = ap (λ (x : Activation). is_event_of e x) is ∙ name_is e in
     let own : frame_released g e (processes g) ≡ frame_of g t.activation = one_released g e (processes g) k t at hit (formed.events_fit e fits.0) in
     ap (λ (o : Option EventName). unwrap_or (option_map (λ (y : EventName). y.frame) o) 0) name
@@ -99,6 +99,6 @@ pub names_have_frames : NamesHaveFrames
 names_have_frames g m formed code k p at kind =
     let r : Emitted g m.code (processes g) k p = emitted g m.code 0 code.between (length m.code) (processes g) m.processes code.process_code k p at in
     let fits : ProcessFits g r.text =
-        subst (ProcessFits g) (get_or_from_slice_get (processes g) k r.text r.text r.there)
-        (formed.processes_fit k r.text (slice_get_within (processes g) k r.text r.there)) in
+    subst (ProcessFits g) (get_or_from_slice_get (processes g) k r.text r.text r.there)
+    (formed.processes_fit k r.text (slice_get_within (processes g) k r.text r.there)) in
     of_activation g m k r.text p formed r.there kind r.text.activation refl r.emits.released r.emits.frame fits.activation
