@@ -1,0 +1,6 @@
+pub mod Stays
+pub mod Stacks
+pub mod Numbers
+pub mod Owners
+pub mod Activations
+pub mod Joined

@@ -1,0 +1,33 @@
+//! The laws.
+
+ghost use Rattle.rte_built_limits.specs.Limits.{BlocksAreInLimits, BuiltImagesAreInLimits, EntriesHaveOwners, HandlersTakeNumbers, StacksAreInLimits};
+
+/// A block is at most 1,000,000,001 ticks.
+pub fn blocks_are_in_limits()
+    ensures { BlocksAreInLimits }
+{}
+
+/// The stack of each process of a program that keeps the rules of size has at most 4,096 words.
+pub fn stacks_are_in_limits()
+    ensures { StacksAreInLimits }
+{}
+
+/// The handlers of a program that is the tree of a text take some number.
+pub fn handlers_take_numbers()
+    ensures { HandlersTakeNumbers }
+{}
+
+/// The monitor of each entry is there.
+pub fn entries_have_owners()
+    ensures { EntriesHaveOwners }
+{}
+
+/// The image that is built of a well-formed program that is written is in the limits of validity.
+pub fn built_images_are_in_limits()
+    ensures { BuiltImagesAreInLimits }
+{
+    blocks_are_in_limits();
+    stacks_are_in_limits();
+    handlers_take_numbers();
+    entries_have_owners();
+}

@@ -1,0 +1,8 @@
+//! Law: what the generator makes of a checked program that keeps the rules of size is its code.
+//!
+//! `specs/Small.antt` has it: where none of the rules of size fails, a checked program is small
+//! enough for the generator. So an image that holds what is made of it is its code, and the code of
+//! each process does, step by step, what the meaning of programs says. Nothing here can run.
+#![tactic(auto)]
+
+pub mod law;
