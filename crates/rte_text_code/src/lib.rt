@@ -6,7 +6,5 @@
 #![tactic(auto)]
 
 mod texts;
-mod whole;
 
 pub use texts::ProgramTexts;
-pub use whole::{generate, measure};
