@@ -26,7 +26,8 @@ use Rattle.rte_cost_laws.specs.Measured.{measured, IsRow, AllBoundsFit}
 use Rattle.rte_cost_laws.proofs.Sums.{same, joined_is, of_is, measured_same}
 use Rattle.rte_cost_laws.proofs.Exprs.{check_is}
 use Rattle.rte_cost_laws.proofs.Stmts.{expressions, statements}
-use Rattle.rte_cost_table.specs.Defined.{HandlerLoopsFit, IsRowOf, IsSizeOf}
+use Rattle.rte_sizes.specs.Sizes.{IsRowOf, IsSizeOf}
+use Rattle.rte_cost_table.specs.Defined.{HandlerLoopsFit}
 
 -- ---- ends
 

@@ -12,7 +12,8 @@ use Rattle.rte_cost.specs.declared.measure.Known.{Known}
 use Rattle.rte_cost.specs.Sums.{held, row_or}
 use Rattle.rte_cost.specs.Parts.{rows_from, rows_of}
 use Rattle.rte_cost_laws.specs.Measured.{IsRow}
-use Rattle.rte_cost_table.specs.Defined.{LoopsFit, IsRowOf}
+use Rattle.rte_sizes.specs.Sizes.{IsRowOf}
+use Rattle.rte_cost_table.specs.Defined.{LoopsFit}
 use Rattle.rte_cost_table.proofs.Levels.{known_as}
 use Rattle.rte_cost_table.proofs.Parts.{next_row, row_is_of}
 

@@ -12,7 +12,8 @@ use Rattle.rte_cost.specs.declared.measure.Known.{Known}
 use Rattle.rte_cost.specs.declared.program.ProcessMeasure.{ProcessMeasure}
 use Rattle.rte_cost.specs.Parts.{rows_of, process_size, sizes_from}
 use Rattle.rte_cost_laws.specs.Measured.{IsRow}
-use Rattle.rte_cost_table.specs.Defined.{LoopsFit, IsRowOf, IsSizeOf, MeasuresAreDefined}
+use Rattle.rte_sizes.specs.Sizes.{IsRowOf, IsSizeOf}
+use Rattle.rte_cost_table.specs.Defined.{LoopsFit, MeasuresAreDefined}
 use Rattle.rte_cost_table.proofs.Parts.{size_is_of}
 use Rattle.rte_cost_table.proofs.Rows.{as_many_rows, row_of, told}
 

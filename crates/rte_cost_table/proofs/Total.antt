@@ -11,7 +11,8 @@ use Rattle.rte_cost.specs.declared.measure.Known.{Known}
 use Rattle.rte_cost.specs.declared.program.ProcessMeasure.{ProcessMeasure}
 use Rattle.rte_cost.specs.declared.program.Measures.{Measures}
 use Rattle.rte_cost.specs.Sums.{held}
-use Rattle.rte_cost_table.specs.Defined.{AreDefined, total, TotalIsDefined}
+use Rattle.rte_sizes.specs.Sizes.{AreDefined}
+use Rattle.rte_cost_table.specs.Defined.{total, TotalIsDefined}
 
 sum_held : (a b c d : ℕ) → a ≡ held b → held c ≡ held d → held (a + c) ≡ held (b + d)
 sum_held a b c d e f = omega (arith, e, f)
