@@ -1,0 +1,101 @@
+-- The parts of an image, told of texts, of the parts of the code and of measures.
+use Rattle.std.specs.Prelude.{ℕ, ◌+◌, List, [], ◌∷◌, Option, Some, None, is_some, map, option_map}
+use Rattle.rte_tree.specs.Plain.{Name, Monitor, Activation, periodic, at_event, Handler, Process, Prog}
+use Rattle.rte_num.specs.Capped.{cap}
+use Rattle.rte_source_meaning.specs.Names.{count_value, deadline_of, frame_of, place_of}
+use Rattle.rte_source_meaning.specs.Starts.{first_of}
+use Rattle.rte_machine_meaning.specs.Image as image
+use Rattle.rte_seg.specs.View.{views}
+use Rattle.rte_valid.specs.Sizes.{with_dispatch}
+use Rattle.rte_emits.specs.Layout.{count, frame_words, monitor_vars, words_of}
+use Rattle.rte_emits.specs.Numbering.{Text}
+use Rattle.rte_emits.specs.Compiled.{ascending, kind_number, owner_number}
+use Rattle.rte_cost.specs.declared.measure.Known.{Known}
+use Rattle.rte_cost.specs.declared.program.ProcessMeasure.{ProcessMeasure}
+use Rattle.rte_made.specs.declared.code.Part.{Part}
+use Rattle.rte_made.specs.declared.code.ProcessParts.{ProcessParts}
+use Rattle.rte_assemble.specs.declared.releases.Release.{Release}
+
+-- ---- routines
+
+abbrev pub routine_told : Text → Part → Known → image.Routine
+routine_told t x row = record {
+  kind = kind_number t.owner;
+  owner = owner_number t.owner;
+  params = count t.routine.params;
+  locals = row.words;
+  gives = is_some t.routine.answers;
+  start = x.start;
+  run = row.cost.run;
+  susp = row.cost.susp;
+  waits = row.cost.waits;
+  stay = row.stay;
+  tree = views x.tree;
+}
+
+abbrev pub routines_told : List Text → List Part → List Known → List image.Routine
+routines_told (t ∷ ts) (x ∷ xs) (row ∷ rows) = routine_told t x row ∷ routines_told ts xs rows
+routines_told ts xs rows = []
+
+-- ---- processes
+
+-- how a process is released, where the events of the program are these
+abbrev pub release_told : Prog → List Name → Activation → Release
+release_told g events (periodic frame deadline first) = record {
+  kind = 0;
+  frame = frame_of g (periodic frame deadline first);
+  deadline = deadline_of g (periodic frame deadline first);
+  first = first_of g first;
+  event = 0;
+}
+release_told g events (at_event e frame deadline) = record {
+  kind = 1;
+  frame = frame_of g (at_event e frame deadline);
+  deadline = deadline_of g (at_event e frame deadline);
+  first = 0;
+  event = place_of e events;
+}
+
+abbrev pub start_told : Option Part → ℕ
+start_told None = 0
+start_told (Some x) = x.start
+
+-- the exception numbers of a handler, from the least to the greatest
+abbrev pub numbers_told : Prog → Option Handler → List ℕ
+numbers_told g None = []
+numbers_told g (Some h) = ascending (map (λ n. count_value g n) h.numbers)
+
+abbrev pub process_told : Prog → List Name → (over : ℕ) → Process → ProcessParts → ProcessMeasure → image.Process
+process_told g events over p x size = record {
+  kind = (release_told g events p.activation).kind;
+  frame = (release_told g events p.activation).frame;
+  deadline = (release_told g events p.activation).deadline;
+  first = (release_told g events p.activation).first;
+  event = (release_told g events p.activation).event;
+  rank = 0;
+  run = cap (with_dispatch over size.cost);
+  susp = size.cost.susp;
+  waits = size.cost.waits;
+  block = 0;
+  bound = 0;
+  words = words_of g p.vars;
+  stack = size.stack;
+  locals = frame_words p;
+  start = x.body.start;
+  handler = start_told x.handler;
+  numbers = numbers_told g p.handler;
+  body = views x.body.tree;
+  handler_tree = option_map (λ y. views y.tree) x.handler;
+}
+
+abbrev pub processes_told : Prog → List Name → ℕ → List Process → List ProcessParts → List ProcessMeasure → List image.Process
+processes_told g events over (p ∷ ps) (x ∷ xs) (size ∷ sizes) = process_told g events over p x size ∷ processes_told g events over ps xs sizes
+processes_told g events over ps xs sizes = []
+
+-- ---- monitors, from a word on
+
+abbrev pub monitors_told : Prog → ℕ → List Monitor → List image.Monitor
+monitors_told g base [] = []
+monitors_told g base (m ∷ ms) =
+    record { base = base; words = words_of g (monitor_vars m); ceiling = 0 }
+    ∷ monitors_told g (base + words_of g (monitor_vars m)) ms

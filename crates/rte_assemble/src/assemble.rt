@@ -1,0 +1,145 @@
+//! The whole image.
+
+ghost use Rattle.std.specs.Prelude.{◌≡◌, ◌≤◌, ◌++◌, ◌∷◌, IfOk, OnOk, List, filter_map, length, map};
+ghost use Rattle.rte_tree.specs.Plain.{Decl as SpecDecl};
+ghost use Rattle.rte_tree.specs.Placed.{placed, placed_decl, plain, plain_decl};
+ghost use Rattle.rte_source_meaning.specs.Names.{event_in, monitors, processes};
+ghost use Rattle.rte_image.specs.Raw.{image_of, monitor_of, process_of, routine_of};
+ghost use Rattle.rte_emits.specs.Numbering.{numbered};
+ghost use Rattle.rte_made_whole.specs.Held.{Holds};
+ghost use Rattle.rte_whole.specs.Declared.{Declares};
+ghost use Rattle.rte_sizes.specs.Sizes.{AreDefined};
+ghost use Rattle.rte_built.specs.Named.{names_of};
+ghost use Rattle.rte_name_list.specs.First.{names_of as names_seen};
+ghost use Rattle.rte_assemble.specs.Fields.{FitsFields, HasParts, monitors_words};
+ghost use Rattle.rte_assemble.specs.Rows.{FitRows, FitSizes};
+ghost use Rattle.rte_assemble.specs.Told.{monitors_told, processes_told, routines_told};
+
+use crate::monitors::raw_monitors;
+use crate::processes::raw_processes;
+use crate::routines::raw_routines;
+use rte_cost::Measures;
+use rte_image::{RawImage, RawMon, RawProc, RawRoutine};
+use rte_image_names::image_names;
+use rte_lookup::Tables;
+use rte_made::Code;
+use rte_name_list::NameList;
+use rte_tree::{Decl, List, Name, Prog};
+use std::alloc::{AllocError, Global};
+
+/// Lists what is declared, if it is an event.
+fn list_event<'a>(names: &mut Vec<&'a [u8]>, decl: &'a Decl) -> Result<(), AllocError>
+    ensures { OnOk result ((rest : List SpecDecl) → names_seen names.new.items ++ filter_map event_in rest ≡ names_seen names.old.items ++ filter_map event_in (plain_decl (placed_decl decl.now) ∷ rest)) }
+{
+    if let Decl::Event { name, .. } = decl {
+        names.push(name.as_bytes())?;
+    }
+    Ok(())
+}
+
+/// The events of a program.
+fn event_names<'a>(alloc: Global, decls: &'a [Decl]) -> Result<NameList<'a>, AllocError>
+    ensures { IfOk result (λ names. names ≡ filter_map event_in (map plain_decl (map placed_decl decls.now))) }
+{
+    let mut names = Vec::new(alloc);
+    for decl in decls {
+        list_event(&mut names, decl)?;
+    }
+    let list = NameList::new(alloc, names)?;
+    Ok(list)
+}
+
+/// The monitors of a program.
+fn all_monitors(alloc: Global, tables: &Tables<'_>) -> Result<List<RawMon>, AllocError>
+    requires { monitors_words (plain (placed tables.now)) (monitors (plain (placed tables.now))) ≤ 1048576 }
+    ensures { IfOk result (λ list. map monitor_of list ≡ monitors_told (plain (placed tables.now)) 0 (monitors (plain (placed tables.now)))) }
+{
+    let directory = tables.numbering().directory();
+    raw_monitors(alloc, tables.values(), directory.monitors())
+}
+
+/// The routines of a program by number.
+fn all_routines(
+    alloc: Global,
+    tables: &Tables<'_>,
+    code: &Code,
+    measures: &Measures,
+) -> Result<List<RawRoutine>, AllocError>
+    requires parts { length code.now.routines ≡ length (numbered (plain (placed tables.now))) }
+    requires rows { length measures.now.routines ≡ length (numbered (plain (placed tables.now))) }
+    requires fits { FitRows (numbered (plain (placed tables.now))) code.now.routines measures.now.routines }
+    ensures { IfOk result (λ list. map routine_of list ≡ routines_told (numbered (plain (placed tables.now))) code.now.routines measures.now.routines) }
+{
+    raw_routines(
+        alloc,
+        tables.numbering().order().as_slice(),
+        code.routines.as_slice(),
+        measures.routines.as_slice(),
+    )
+}
+
+/// The processes of a program in the order of the text, where these are its events.
+fn all_processes(
+    alloc: Global,
+    tables: &Tables<'_>,
+    events: &NameList<'_>,
+    over: u16,
+    code: &Code,
+    measures: &Measures,
+) -> Result<List<RawProc>, AllocError>
+    requires over { over ≤ 1000 }
+    requires events { length events.now ≤ 64 }
+    requires parts { length code.now.processes ≡ length (processes (plain (placed tables.now))) }
+    requires sizes { length measures.now.processes ≡ length (processes (plain (placed tables.now))) }
+    requires fits { FitSizes (plain (placed tables.now)) (processes (plain (placed tables.now))) code.now.processes measures.now.processes }
+    ensures { IfOk result (λ list. map process_of list ≡ processes_told (plain (placed tables.now)) events.now over (processes (plain (placed tables.now))) code.now.processes measures.now.processes) }
+{
+    let directory = tables.numbering().directory();
+    raw_processes(
+        alloc,
+        tables.values(),
+        events,
+        over,
+        directory.processes(),
+        code.processes.as_slice(),
+        measures.processes.as_slice(),
+    )
+}
+
+/// The image of a program with an overhead of at most 1,000 ticks, put together from its code and
+/// its measures; its ranks, ceilings, blocks and bounds are 0. It takes time in proportion to the
+/// text and its code, and fails only where memory is wanting.
+pub fn assemble(
+    alloc: Global,
+    program: &Prog,
+    over: u16,
+    code: Code,
+    measures: &Measures,
+) -> Result<RawImage, AllocError>
+    requires over { over ≤ 1000 }
+    requires defined { AreDefined (plain (placed program.now)) measures.now }
+    requires parts { HasParts (plain (placed program.now)) code.entry }
+    requires fits { FitsFields (plain (placed program.now)) code.entry }
+    ensures program { IfOk result (λ raw. raw.program ≡ (placed program.now).name) }
+    ensures names { IfOk result (λ raw. raw.names ≡ names_of (plain (placed program.now))) }
+    ensures over { IfOk result (λ raw. raw.overhead ≡ over) }
+    ensures holds { IfOk result (λ raw. Holds (plain (placed program.now)) code.entry (image_of raw)) }
+    ensures declares { IfOk result (λ raw. Declares (plain (placed program.now)) (image_of raw)) }
+{
+    let tables = Tables::new(alloc, program)?;
+    let events = event_names(alloc, program.decls.as_slice())?;
+    let monitors = all_monitors(alloc, &tables)?;
+    let routines = all_routines(alloc, &tables, &code, measures)?;
+    let processes = all_processes(alloc, &tables, &events, over, &code, measures)?;
+    let names = image_names(alloc, program)?;
+    let name = Name::new(alloc, program.name.as_bytes())?;
+    Ok(RawImage {
+        overhead: over,
+        program: name,
+        names,
+        monitors,
+        routines,
+        processes,
+        code: code.instrs,
+    })
+}

@@ -1,0 +1,82 @@
+//! When processes are released.
+
+ghost use Rattle.std.specs.Prelude.{◌≡◌, ◌≤◌, length};
+ghost use Rattle.rte_tree.specs.Placed.{optional, placed, placed_activation, placed_constant, plain, plain_activation, plain_constant};
+ghost use Rattle.rte_source_meaning.specs.Names.{deadline_or};
+ghost use Rattle.rte_source_meaning.specs.Starts.{first_of};
+ghost use Rattle.rte_assemble.specs.Told.{release_told};
+
+use rte_image_names::count;
+use rte_layout::Values;
+use rte_lookup::number;
+use rte_name_list::NameList;
+use rte_tree::{Activation, Constant};
+
+/// When a process is released: kind 0 every `frame` ticks from `first` on, kind 1 at an event, and
+/// within how many ticks an activation has to end.
+#[derive(Clone, Copy, Debug)]
+pub struct Release {
+    pub kind: u8,
+    pub frame: u32,
+    pub deadline: u32,
+    pub first: u32,
+    pub event: u16,
+}
+
+/// The deadline, which is the frame where none is told.
+fn deadline(values: &Values<'_>, frame: u32, told: &Option<Constant>) -> u32
+    ensures { result ≡ deadline_or (plain (placed values.now)) frame (optional plain_constant (optional placed_constant told.now)) }
+{
+    match told {
+        None => frame,
+        Some(constant) => count(values, constant),
+    }
+}
+
+/// The tick of the first release, 0 where none is told.
+fn first(values: &Values<'_>, told: &Option<Constant>) -> u32
+    ensures { result ≡ first_of (plain (placed values.now)) (optional plain_constant (optional placed_constant told.now)) }
+{
+    match told {
+        None => 0,
+        Some(constant) => count(values, constant),
+    }
+}
+
+/// When a process is released, where these are the events of the program.
+pub fn released(values: &Values<'_>, events: &NameList<'_>, activation: &Activation) -> Release
+    requires { length events.now ≤ 64 }
+    ensures { result ≡ release_told (plain (placed values.now)) events.now (plain_activation (placed_activation activation.now)) }
+{
+    match activation {
+        Activation::Periodic {
+            frame,
+            deadline: told,
+            first: start,
+        } => {
+            let frame = count(values, frame);
+            Release {
+                kind: 0,
+                frame,
+                deadline: deadline(values, frame, told),
+                first: first(values, start),
+                event: 0,
+            }
+        }
+        Activation::AtEvent {
+            event,
+            frame,
+            deadline: told,
+            ..
+        } => {
+            let frame = count(values, frame);
+            Release {
+                kind: 1,
+                frame,
+                deadline: deadline(values, frame, told),
+                first: 0,
+                event: number(events, event) as u16,
+            }
+        }
+    }
+}

@@ -1,0 +1,22 @@
+-- An image with its ranks, ceilings and blocks has no fault there.
+use Rattle.std.specs.Prelude.{◌≡◌, ◌≤◌, ℕ, Some, None, slice_get}
+use Rattle.std.proofs.Common.{ap, arith}
+use Rattle.rte_machine_meaning.specs.Image.{Image}
+use Rattle.rte_valid.specs.Fault.{unless}
+use Rattle.rte_valid.specs.Sizes.{below, other}
+use Rattle.rte_valid.specs.Times.{rank_of, ceiling_of, needed_block, rank_fault}
+use Rattle.rte_measured.proofs.Seen.{equal_numbers}
+use Rattle.rte_whole.specs.Whole.{HasRanks}
+use Rattle.rte_whole.proofs.CostPart.{none_all, both_none, enough}
+
+same_none : (d n : ℕ) → d ≡ n → other d n ≡ None
+same_none d n e = ap (λ b. unless b d n) (equal_numbers d n e)
+
+pub no_rank_fault : (m : Image) → HasRanks m → rank_fault m ≡ None
+no_rank_fault m h =
+    both_none _ _ (none_all (λ k p. other p.rank (rank_of m k)) m.processes (λ k p at. same_none p.rank (rank_of m k) (h.ranks k p at)))
+    (both_none _ _ (none_all (λ j x. other x.ceiling (ceiling_of m j)) m.monitors (λ j x at. same_none x.ceiling (ceiling_of m j) (h.ceilings j x at)))
+    (none_all (λ k p. below p.block (needed_block m p.rank)) m.processes (λ k p at. enough p.block (needed_block m p.rank) (no_less (h.blocks k p at)))))
+  where
+    no_less : {a b : ℕ} → a ≡ b → b ≤ a
+    no_less e = omega (arith, e)

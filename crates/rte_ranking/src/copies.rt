@@ -1,0 +1,114 @@
+//! Processes once more, with other ranks, blocks and bounds.
+
+ghost use Rattle.std.specs.Prelude.{◌≡◌, IfOk, option_map};
+ghost use Rattle.rte_image.specs.Raw.{process_of};
+ghost use Rattle.rte_ranking.specs.Ranking.{timed};
+ghost use Rattle.rte_seg.specs.View.{view, views};
+
+use rte_image::RawProc;
+use rte_seg::{Seg, Segs};
+use rte_tree::List;
+use std::alloc::{AllocError, Global};
+
+/// What is filled in last of a process: its rank, from 1, which is the highest, and its block and its
+/// bound, in ticks.
+#[derive(Clone, Copy, Debug, PartialEq, Eq)]
+pub struct Times {
+    pub rank: u16,
+    pub block: u32,
+    pub bound: u32,
+}
+
+/// A segment once more.
+#[cycle(trees)]
+fn copied_seg(alloc: Global, seg: &Seg) -> Result<Seg, AllocError>
+    ensures { IfOk result (λ copy. view copy ≡ view seg.now) }
+{
+    match seg {
+        Seg::Line(count) => Ok(Seg::Line(*count)),
+        Seg::Fork(first, second) => {
+            let first = copied_tree(alloc, first.as_slice())?;
+            let second = copied_tree(alloc, second.as_slice())?;
+            Ok(Seg::Fork(first, second))
+        }
+        Seg::Rep(turns, body) => {
+            let body = copied_tree(alloc, body.as_slice())?;
+            Ok(Seg::Rep(*turns, body))
+        }
+        Seg::Call(routine) => Ok(Seg::Call(*routine)),
+        Seg::Stay(monitor, body) => {
+            let body = copied_tree(alloc, body.as_slice())?;
+            Ok(Seg::Stay(*monitor, body))
+        }
+        Seg::Wait => Ok(Seg::Wait),
+        Seg::Exit => Ok(Seg::Exit),
+    }
+}
+
+/// A tree once more.
+#[cycle(trees)]
+fn copied_tree(alloc: Global, tree: &[Seg]) -> Result<Segs, AllocError>
+    ensures { IfOk result (λ copy. views copy ≡ views tree.now) }
+{
+    let mut copy = List::new(alloc);
+    for seg in tree {
+        let next = copied_seg(alloc, seg)?;
+        copy.push(next)?;
+    }
+    Ok(copy)
+}
+
+/// The tree of a handler once more, if it is there.
+fn copied_handler(alloc: Global, tree: &Option<Segs>) -> Result<Option<Segs>, AllocError>
+    ensures { IfOk result (λ copy. option_map views copy ≡ option_map views tree.now) }
+{
+    match tree {
+        None => Ok(None),
+        Some(segs) => {
+            let copy = copied_tree(alloc, segs.as_slice())?;
+            Ok(Some(copy))
+        }
+    }
+}
+
+/// Numbers once more.
+fn copied_numbers(alloc: Global, numbers: &[u16]) -> Result<List<u16>, AllocError>
+    ensures { IfOk result (λ copy. copy ≡ numbers.now) }
+{
+    let mut copy = List::new(alloc);
+    for number in numbers {
+        copy.push(*number)?;
+    }
+    Ok(copy)
+}
+
+/// The process once more, with this rank, this block and this bound. It takes time and memory in
+/// proportion to its segment trees, and fails only where memory is wanting.
+pub fn with_times(alloc: Global, process: &RawProc, times: Times) -> Result<RawProc, AllocError>
+    ensures { IfOk result (λ now. process_of now ≡ timed times (process_of process.now)) }
+{
+    let numbers = copied_numbers(alloc, process.numbers.as_slice())?;
+    let body = copied_tree(alloc, process.body.as_slice())?;
+    let handler_tree = copied_handler(alloc, &process.handler_tree)?;
+    Ok(RawProc {
+        kind: process.kind,
+        frame: process.frame,
+        deadline: process.deadline,
+        first: process.first,
+        event: process.event,
+        rank: times.rank,
+        run: process.run,
+        susp: process.susp,
+        waits: process.waits,
+        block: times.block,
+        bound: times.bound,
+        words: process.words,
+        stack: process.stack,
+        locals: process.locals,
+        start: process.start,
+        handler: process.handler,
+        numbers,
+        body,
+        handler_tree,
+    })
+}
