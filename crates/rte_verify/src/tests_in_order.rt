@@ -85,7 +85,7 @@ pub fn fault_before_bounds(alloc: Global, raw: &RawImage) -> Result<Option<Numbe
 }
 
 /// The first fault, or None exactly where the image is valid; or that memory is short.
-pub(crate) fn first_fault(alloc: Global, raw: &RawImage) -> Result<Option<Numbered>, AllocError>
+pub fn first_fault(alloc: Global, raw: &RawImage) -> Result<Option<Numbered>, AllocError>
     requires { HasRanges raw.now }
     ensures { IfOk result (λ found. shown_by found ≡ fault_of (image_of raw.now)) }
 {

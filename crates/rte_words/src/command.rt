@@ -1,31 +1,29 @@
 //! Commands.
 
-use rte_tree::Text;
-
-/// A command, with the names of the files that its words give.
-#[derive(Debug, Drop)]
-pub enum Command {
+/// A command, with the names of the files that its words give, and its overhead in ticks, 0 where no word gives one.
+#[derive(Clone, Copy, Debug, PartialEq, Eq)]
+pub enum Command<'a> {
     /// Runs a program over a script, and stores its image.
     Go {
-        program: Text,
-        image: Text,
-        script: Text,
+        program: &'a str,
+        image: &'a str,
+        script: &'a str,
+        overhead: u16,
     },
     /// Reports on a program.
-    Check {
-        program: Text,
+    Check { program: &'a str, overhead: u16 },
+    /// Stores the image of a program, and reports on it.
+    Compile {
+        program: &'a str,
+        image: &'a str,
+        overhead: u16,
     },
+    /// Reports on a program in JSON.
+    Json { program: &'a str, overhead: u16 },
     /// Prints the canonical text of a program.
-    Print {
-        program: Text,
-    },
-}
-
-/// Why words were refused.
-#[derive(Debug, Drop, PartialEq, Eq)]
-pub enum WordFault {
-    /// They are in no row of the table.
-    Usage,
-    /// Memory was short.
-    Memory,
+    Print { program: &'a str },
+    /// Runs a stored image over a script.
+    Run { image: &'a str, script: &'a str },
+    /// Stores an image anew, in the present version of images.
+    Migrate { image: &'a str, target: &'a str },
 }

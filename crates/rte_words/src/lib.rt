@@ -7,5 +7,5 @@
 mod command;
 mod reading;
 
-pub use command::{Command, WordFault};
+pub use command::Command;
 pub use reading::read_words;

@@ -1,72 +1,18 @@
 //! Reading words.
 
-ghost use Rattle.std.specs.Prelude.{◌≡◌, ◌↔◌, Some, None, map, string_bytes, IfOk, IfErr, All, IsTrue};
-ghost use Rattle.rte_words.specs.Words.{is_word, row_of, IsCommand, IsWord};
-ghost use Rattle.rte_words.specs.declared.command.Command.{Command};
-ghost use Rattle.rte_words.specs.declared.command.WordFault.TheVariants as fault;
+ghost use Rattle.std.specs.Prelude.{IfNone, IfSome};
+ghost use Rattle.rte_words.specs.Calls.{Call};
+ghost use Rattle.rte_words.specs.Words.{IsCommand, call_of};
 
-use crate::command::{Command, WordFault};
-use rte_tree::Text;
-use std::alloc::{AllocError, Global};
+use crate::command::Command;
 
-/// Whether the word is not empty, and begins with no dash.
-fn is_word(word: &String) -> bool
-    ensures { result ≡ is_word (string_bytes word.now) }
+/// The command that the words are, spelled exactly:
+/// `go P I S [K]`, `check P [K]`, `compile P I [K]`, `json P [K]`, `print P`, `run I S`, `migrate I J`.
+/// An overhead K is decimal, 0 to 1000, without leading zeros. `None` exactly where the words are in no row, or one is empty
+/// or begins with `-`.
+pub fn read_words(words: &[String]) -> Option<Command<'_>>
+    ensures some { IfSome result (λ c. IsCommand words.now (call_of c)) }
+    ensures none { IfNone result ((call : Call) → ¬ IsCommand words.now call) }
 {
-    match word.as_bytes() {
-        [] => false,
-        [first, ..] => *first != b'-',
-    }
-}
-
-/// Whether no word is empty or begins with a dash.
-fn are_words(words: &[String]) -> bool
-    ensures { IsTrue result ↔ All IsWord words.now }
-{
-    words.iter().all(is_word)
-}
-
-/// A copy of the word.
-fn text(alloc: Global, word: &String) -> Result<Text, AllocError>
-    ensures { IfOk result (λ text. text ≡ string_bytes word.now) }
-{
-    Text::from_bytes(alloc, word.as_bytes())
-}
-
-/// The row of the table that the words are in, if any.
-fn row(alloc: Global, words: &[String]) -> Result<Option<Command>, AllocError>
-    ensures { IfOk result (λ row. row ≡ row_of (map string_bytes words.now)) }
-{
-    match words {
-        [word, program, image, script] if word.as_str() == "go" => Ok(Some(Command::Go {
-            program: text(alloc, program)?,
-            image: text(alloc, image)?,
-            script: text(alloc, script)?,
-        })),
-        [word, program] if word.as_str() == "check" => Ok(Some(Command::Check {
-            program: text(alloc, program)?,
-        })),
-        [word, program] if word.as_str() == "print" => Ok(Some(Command::Print {
-            program: text(alloc, program)?,
-        })),
-        _ => Ok(None),
-    }
-}
-
-/// The command that the words are: `go P I S`, `check P` or `print P`, spelled exactly.
-///
-/// `Usage` comes exactly where they are in no row, or a word is empty or begins with `-`; `Memory` only where memory is
-/// short.
-pub fn read_words(alloc: Global, words: &[String]) -> Result<Command, WordFault>
-    ensures ok { IfOk result (IsCommand words.now) }
-    ensures usage { IfErr result (λ why. why ≡ fault.Usage → (c : Command) → ¬ IsCommand words.now c) }
-{
-    if !are_words(words) {
-        return Err(WordFault::Usage);
-    }
-    match row(alloc, words) {
-        Ok(Some(command)) => Ok(command),
-        Ok(None) => Err(WordFault::Usage),
-        Err(_) => Err(WordFault::Memory),
-    }
+    None
 }

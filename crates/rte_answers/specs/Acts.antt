@@ -1,0 +1,53 @@
+-- What an act comes to, and when its run can be made.
+use Rattle.std.specs.Prelude.{◌≡◌, ◌++◌, ℕ, List, [], Option, Some, None, IfSome, option_map}
+use Rattle.rte_image.specs.declared.raw.RawImage.{RawImage}
+use Rattle.rte_image.specs.Raw.{image_of, named_of}
+use Rattle.rte_valid.specs.Valid.{HasLimits, IsValid}
+use Rattle.rte_plan.specs.HasPlan.{HasPlan}
+use Rattle.rte_logged.specs.Laws.{AreNamesOf}
+use Rattle.rte_script_suits.specs.Suits.{Suits}
+use Rattle.rte_starts.specs.Begin.{script_of}
+use Rattle.rte_commands.specs.Due.{Outcome, log}
+use Rattle.rte_words.specs.Calls.{Call}
+use Rattle.rte_answers.specs.declared.status.Status.{Status}
+use Rattle.rte_answers.specs.declared.status.Status.TheVariants as status
+use Rattle.rte_answers.specs.declared.act.Store.{Store}
+use Rattle.rte_answers.specs.declared.act.Run.{Run}
+use Rattle.rte_answers.specs.declared.act.Act.{Act}
+use Rattle.rte_answers.specs.Files.{target_of}
+
+abbrev pub number_of : Status → ℕ
+number_of status.Done = 0
+number_of status.Usage = 1
+number_of status.Text = 2
+number_of status.Late = 3
+number_of status.Image = 4
+number_of status.Script = 5
+number_of status.Unread = 6
+number_of status.Unwritten = 7
+number_of status.Memory = 8
+
+-- the log of a run, if there is one
+abbrev pub log_due : Option Run → List ℕ
+log_due None = []
+log_due (Some run) = log (named_of run.image) run.script.lines run.script.end
+
+-- the bytes that are stored, if any are
+abbrev pub bytes_due : Option Store → Option (List ℕ)
+bytes_due store = option_map (λ s. s.bytes.items) store
+
+-- what the act comes to, if nothing fails
+abbrev pub outcome_of : Act → Outcome
+outcome_of act = record { status = number_of act.status; text = act.text ++ log_due act.run; image = bytes_due act.store }
+
+-- what is stored is stored in the file that the call writes
+abbrev pub IsAtTarget : Call → Option Store → Type 0
+IsAtTarget call store = IfSome store (λ s. target_of call ≡ Some s.name.now)
+
+-- the machine can run the image over the script
+pub record CanRun (run : Run) : Type 0 where
+  pub limits : HasLimits (image_of run.image)
+  pub valid : IsValid (image_of run.image)
+  pub plan : HasPlan (image_of run.image)
+  pub names : AreNamesOf run.image.names (image_of run.image)
+  pub script : Suits (image_of run.image) (script_of run.script)

@@ -1,0 +1,55 @@
+-- Which files a call reads and writes, and what is due of it by what they hold.
+use Rattle.std.specs.Prelude.{◌≡◌, ℕ, List, Option, Some, None, IsSomeAnd}
+use Rattle.rte_image.specs.Named.{NamedImage}
+use Rattle.rte_image.specs.declared.raw.RawImage.{RawImage}
+use Rattle.rte_report.specs.Report.{report_text}
+use Rattle.rte_report.specs.Json.{report_json}
+use Rattle.rte_words.specs.Calls.{Call, go, check, compile, json, print, run, migrate}
+use Rattle.rte_commands.specs.Source.{IsTimelyText}
+use Rattle.rte_commands.specs.Due.{Outcome, IsReportDue, IsPrintDue, IsCompileDue, IsGoDue, IsImageFile, IsRunDue, IsMigrateDue}
+
+-- what each name holds, if anything
+abbrev pub Held : Type 0
+Held = List ℕ → Option (List ℕ)
+
+-- ---- which files
+
+-- the file that is read first: that of the program or of the image
+abbrev pub source_of : Call → List ℕ
+source_of (go program image script over) = program
+source_of (check program over) = program
+source_of (compile program image over) = program
+source_of (json program over) = program
+source_of (print program) = program
+source_of (run image script) = image
+source_of (migrate image target) = image
+
+-- the file of the script, if one is read
+abbrev pub script_of : Call → Option (List ℕ)
+script_of (go program image script over) = Some script
+script_of (run image script) = Some script
+script_of call = None
+
+-- the file that is written, if any is
+abbrev pub target_of : Call → Option (List ℕ)
+target_of (go program image script over) = Some image
+target_of (compile program image over) = Some image
+target_of (migrate image target) = Some target
+target_of call = None
+
+-- ---- what is due
+
+abbrev pub IsDue : Call → Held → Outcome → Type 0
+IsDue (go program image script over) held outcome = IsGoDue over (held program) (held script) outcome
+IsDue (check program over) held outcome = IsSomeAnd (held program) (λ text. IsReportDue report_text over text outcome)
+IsDue (compile program image over) held outcome = IsSomeAnd (held program) (λ text. IsCompileDue over text outcome)
+IsDue (json program over) held outcome = IsSomeAnd (held program) (λ text. IsReportDue report_json over text outcome)
+IsDue (print program) held outcome = IsSomeAnd (held program) (λ text. IsPrintDue text outcome)
+IsDue (run image script) held outcome = IsRunDue (held image) (held script) outcome
+IsDue (migrate image target) held outcome = IsSomeAnd (held image) (λ bytes. IsMigrateDue bytes outcome)
+
+-- the script is read: the program is timely, or the image is a valid one
+abbrev pub ReachesScript : Call → Held → Type 0
+ReachesScript (go program image script over) held = IsSomeAnd (held program) (λ text. (n : NamedImage) × IsTimelyText over text n)
+ReachesScript (run image script) held = IsSomeAnd (held image) (λ bytes. (raw : RawImage) × IsImageFile bytes raw)
+ReachesScript call held = ⊥

@@ -1,0 +1,11 @@
+//! What a call of the command is due, what it did, and what is left of it when all is read and judged.
+//!
+//! Definitions alone. `specs/Files.antt` says which files a call reads and writes and what is due of it by what they hold,
+//! `specs/Went.antt` what each status says of the call, `specs/Acts.antt` what an act comes to.
+#![tactic(auto)]
+
+mod act;
+mod status;
+
+pub use act::{Act, Run, Store};
+pub use status::Status;

@@ -1,0 +1,8 @@
+//! The lines that refusals put: of a text, of an image, of a script.
+//!
+//! `rte_commands` says which line is that of which fault. The calls promise exactly these lines.
+#![tactic(auto)]
+
+mod lines;
+
+pub use lines::{fault_line, image_fault_line, script_fault_line, valid_fault_line};

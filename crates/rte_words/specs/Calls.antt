@@ -1,0 +1,12 @@
+-- What words ask for.
+use Rattle.std.specs.Prelude.{ℕ, List, [], ◌∷◌}
+
+-- a command with the names of its files, and with an overhead in ticks where it has one
+pub data Call : Type 0 where
+  go : (program image script : List ℕ) (over : ℕ) → Call
+  check : (program : List ℕ) (over : ℕ) → Call
+  compile : (program image : List ℕ) (over : ℕ) → Call
+  json : (program : List ℕ) (over : ℕ) → Call
+  print : (program : List ℕ) → Call
+  run : (image script : List ℕ) → Call
+  migrate : (image target : List ℕ) → Call
