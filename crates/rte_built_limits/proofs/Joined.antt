@@ -10,17 +10,16 @@ use Rattle.rte_isa.specs.declared.instr.Instr.{Instr}
 use Rattle.rte_num.specs.Capped.{cap}
 use Rattle.rte_source_meaning.specs.Names.{count_value, processes}
 use Rattle.rte_machine_meaning.specs.Image as image
-use Rattle.rte_image.specs.Named.{NamedImage}
 use Rattle.rte_valid.specs.Times.{needed_block}
 use Rattle.rte_valid.specs.Valid.{HasHandler, HasLimits, IsInLimits}
 use Rattle.rte_emits.specs.Compiled.{inserted, ascending, EmitsHandler, EmitsProcesses, IsCodeOf}
 use Rattle.rte_costs.specs.Levels.{stack_of_process}
 use Rattle.rte_whole.specs.Declared.{DeclaresProcess}
 use Rattle.rte_wellformed.specs.WellFormed.{ProcessFits, IsWellFormed}
-use Rattle.rte_built.specs.Built.{IsBuilt}
+use Rattle.rte_built.specs.Built.{IsShaped}
 use Rattle.rte_commands.specs.Source.{IsWritten}
 use Rattle.rte_built_scripts.proofs.Texts.{Emitted, emitted}
-use Rattle.rte_built_limits.specs.Limits.{BlocksAreInLimits, StacksAreInLimits, TakesSome, HandlersTakeNumbers, EntriesHaveOwners, BuiltImagesAreInLimits}
+use Rattle.rte_built_limits.specs.Limits.{BlocksAreInLimits, StacksAreInLimits, TakesSome, HandlersTakeNumbers, EntriesHaveOwners, ShapedImagesAreInLimits, BuiltImagesAreInLimits}
 use Rattle.rte_built_limits.proofs.Activations.{InLimits, in_limits}
 
 -- ---- handlers
@@ -51,14 +50,15 @@ as_many g code k a b (t ∷ ts) [] h = absurd h
 as_many g code k a b (t ∷ ts) (p ∷ ps) h = ap (λ (n : ℕ). suc n) (as_many g code (suc k) h.0 b ts ps h.2)
 
 module _ (blocks : BlocksAreInLimits) (stacks : StacksAreInLimits) (handlers : HandlersTakeNumbers) (owners : EntriesHaveOwners)
-    (text : List ℕ) (g : placed.Prog Place) (over : ℕ) (n : NamedImage) (written : IsWritten text g) (formed : IsWellFormed (plain g)) (built : IsBuilt (plain g) over n) (code : IsCodeOf (plain g) n.image) where
-  many : length n.image.processes ≡ length (processes (plain g))
-  many = as_many (plain g) n.image.code 0 code.between (length n.image.code) (processes (plain g)) n.image.processes code.process_code
+    (text : List ℕ) (g : placed.Prog Place) (over : ℕ) (m : image.Image) (written : IsWritten text g) (formed : IsWellFormed (plain g)) (shaped : IsShaped (plain g) over m) (code : IsCodeOf (plain g) m)
+    (bounds : (k : ℕ) (p : image.Process) → slice_get m.processes k ≡ Some p → 1 ≤ p.bound) where
+  many : length m.processes ≡ length (processes (plain g))
+  many = as_many (plain g) m.code 0 code.between (length m.code) (processes (plain g)) m.processes code.process_code
 
-  block_low : (k : ℕ) (p : image.Process) → slice_get n.image.processes k ≡ Some p → p.block ≤ 1000000001
+  block_low : (k : ℕ) (p : image.Process) → slice_get m.processes k ≡ Some p → p.block ≤ 1000000001
   block_low k p at =
-      let low : needed_block n.image p.rank ≤ 1000000001 = blocks (plain g) n.image p.rank code built.shaped.declares in
-      let is : p.block ≡ needed_block n.image p.rank = built.shaped.ranks.blocks k p at in
+      let low : needed_block m p.rank ≤ 1000000001 = blocks (plain g) m p.rank code shaped.declares in
+      let is : p.block ≡ needed_block m p.rank = shaped.ranks.blocks k p at in
       omega (arith, low, is)
 
   stack_low : (k : ℕ) (t : Process) (p : image.Process) → slice_get (processes (plain g)) k ≡ Some t → p.stack ≡ stack_of_process (plain g) k t → p.stack ≤ 4096
@@ -67,36 +67,39 @@ module _ (blocks : BlocksAreInLimits) (stacks : StacksAreInLimits) (handlers : H
   capped : (x y : ℕ) → x ≡ cap y → x ≤ 1000000001
   capped x y is = omega (arith, is)
 
-  each : (k : ℕ) (p : image.Process) → slice_get n.image.processes k ≡ Some p → IsInLimits p
+  each : (k : ℕ) (p : image.Process) → slice_get m.processes k ≡ Some p → IsInLimits p
   each k p at =
-      let e : Emitted (plain g) n.image.code (processes (plain g)) k p =
-      emitted (plain g) n.image.code 0 code.between (length n.image.code) (processes (plain g)) n.image.processes code.process_code k p at in
+      let e : Emitted (plain g) m.code (processes (plain g)) k p =
+      emitted (plain g) m.code 0 code.between (length m.code) (processes (plain g)) m.processes code.process_code k p at in
       let fits : ProcessFits (plain g) e.text =
       subst (ProcessFits (plain g)) (get_or_from_slice_get (processes (plain g)) k e.text e.text e.there)
       (formed.processes_fit k e.text (slice_get_within (processes (plain g)) k e.text e.there)) in
       let l : InLimits (plain g) e.text.activation = in_limits (plain g) e.text.activation fits.activation in
-      let d : DeclaresProcess (plain g) n.image.over k e.text p = built.shaped.declares.bodies k e.text p e.there at in
+      let d : DeclaresProcess (plain g) m.over k e.text p = shaped.declares.bodies k e.text p e.there at in
       record {
         frame_low = omega (arith, l.frame_low, e.emits.frame);
         frame_high = omega (arith, l.frame_high, e.emits.frame);
         deadline_low = omega (arith, l.deadline_low, e.emits.deadline);
         deadline_high = omega (arith, l.deadline_high, e.emits.deadline, e.emits.frame);
-        bound = (built.bounds k p at).solves.above;
+        bound = bounds k p at;
         run = capped p.run _ d.run;
         susp = capped p.susp _ d.susp;
         waits = capped p.waits _ d.waits;
         block = block_low k p at;
         stack = stack_low k e.text p e.there d.stack;
-        handler = handler_there (plain g) n.image.code e.number e.text e.text.handler _ _ p e.emits.handler (handlers text g written.program.tree k e.text e.there);
+        handler = handler_there (plain g) m.code e.number e.text e.text.handler _ _ p e.emits.handler (handlers text g written.program.tree k e.text e.there);
       }
 
-  has_limits : HasLimits n.image
+  has_limits : HasLimits m
   has_limits = record {
     some = omega (arith, many, formed.counts_fit.one_process);
     few = omega (arith, many, formed.counts_fit.few_processes);
     processes = each;
-    owners = owners (plain g) n.image code;
+    owners = owners (plain g) m code;
   }
 
-pub in_limits_all : BlocksAreInLimits → StacksAreInLimits → HandlersTakeNumbers → EntriesHaveOwners → BuiltImagesAreInLimits
-in_limits_all = has_limits
+pub shaped_in_limits : BlocksAreInLimits → StacksAreInLimits → HandlersTakeNumbers → EntriesHaveOwners → ShapedImagesAreInLimits
+shaped_in_limits = has_limits
+
+pub in_limits_all : ShapedImagesAreInLimits → BuiltImagesAreInLimits
+in_limits_all law text g over n written formed built code = law text g over n.image written formed built.shaped code (λ k p at. (built.bounds k p at).solves.above)

@@ -15,7 +15,7 @@ use Rattle.rte_costs.specs.Levels.{stack_of_process}
 use Rattle.rte_whole.specs.Declared.{Declares}
 use Rattle.rte_program.specs.Source.{IsTreeOf}
 use Rattle.rte_size_rules.specs.Rules.{SizeFails}
-use Rattle.rte_built.specs.Built.{IsBuilt}
+use Rattle.rte_built.specs.Built.{IsShaped, IsBuilt}
 use Rattle.rte_commands.specs.Source.{IsWritten}
 
 -- The law: no block of an image that declares what its text says is longer than this.
@@ -43,6 +43,12 @@ HandlersTakeNumbers = (text : List ℕ) (g : placed.Prog Place) → IsTreeOf tex
 abbrev pub EntriesHaveOwners : Type 0
 EntriesHaveOwners = (g : Prog) (m : image.Image) → IsCodeOf g m
     → (r : ℕ) (x : image.Routine) → slice_get m.routines r ≡ Some x → HasOwner m x
+
+-- The law: so a shaped image of a well-formed program that is written, which is its code, has the limits, where no bound is 0.
+abbrev pub ShapedImagesAreInLimits : Type 0
+ShapedImagesAreInLimits = (text : List ℕ) (g : placed.Prog Place) (over : ℕ) (m : image.Image) → IsWritten text g
+    → IsWellFormed (plain g) → IsShaped (plain g) over m → IsCodeOf (plain g) m
+    → ((k : ℕ) (p : image.Process) → slice_get m.processes k ≡ Some p → 1 ≤ p.bound) → HasLimits m
 
 -- The law: so an image that is the code of a well-formed program that is written, and built of it, has the limits.
 abbrev pub BuiltImagesAreInLimits : Type 0

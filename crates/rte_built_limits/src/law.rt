@@ -1,6 +1,6 @@
 //! The laws.
 
-ghost use Rattle.rte_built_limits.specs.Limits.{BlocksAreInLimits, BuiltImagesAreInLimits, EntriesHaveOwners, HandlersTakeNumbers, StacksAreInLimits};
+ghost use Rattle.rte_built_limits.specs.Limits.{BlocksAreInLimits, BuiltImagesAreInLimits, EntriesHaveOwners, HandlersTakeNumbers, ShapedImagesAreInLimits, StacksAreInLimits};
 
 /// A block is at most 1,000,000,001 ticks.
 pub fn blocks_are_in_limits()
@@ -22,12 +22,19 @@ pub fn entries_have_owners()
     ensures { EntriesHaveOwners }
 {}
 
-/// The image that is built of a well-formed program that is written is in the limits of validity.
-pub fn built_images_are_in_limits()
-    ensures { BuiltImagesAreInLimits }
+/// A shaped image of a well-formed program that is written is in the limits of validity, where no bound is 0.
+pub fn shaped_images_are_in_limits()
+    ensures { ShapedImagesAreInLimits }
 {
     blocks_are_in_limits();
     stacks_are_in_limits();
     handlers_take_numbers();
     entries_have_owners();
+}
+
+/// The image that is built of a well-formed program that is written is in the limits of validity.
+pub fn built_images_are_in_limits()
+    ensures { BuiltImagesAreInLimits }
+{
+    shaped_images_are_in_limits();
 }
