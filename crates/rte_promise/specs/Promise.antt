@@ -1,0 +1,81 @@
+-- What a call that answers 0 has read, stored and put, and when one answers 3.
+use Rattle.std.specs.Prelude.{◌≡◌, ◌<◌, ◌↔◌, ℕ, Bool, List, Option, Some, None, IfSome, String}
+use Rattle.std.specs.Bool.{OnTrue}
+use Rattle.std.specs.Global.{Global}
+use Rattle.rte_tree.specs.declared.place.Place.{Place}
+use Rattle.rte_tree.specs.Placed.{Prog}
+use Rattle.rte_io.specs.Outside.{Outside, Appends}
+use Rattle.rte_image.specs.Named.{NamedImage}
+use Rattle.rte_image.specs.Raw.{image_of, named_of}
+use Rattle.rte_image.specs.declared.raw.RawImage.{RawImage}
+use Rattle.rte_report.specs.Report.{report_text}
+use Rattle.rte_report.specs.Json.{report_json}
+use Rattle.rte_script.specs.declared.script.ScriptLine.{ScriptLine}
+use Rattle.rte_script.specs.Scripts.{IsScript}
+use Rattle.rte_words.specs.Calls.{Call, go, check, compile, json, print, run, migrate}
+use Rattle.rte_commands.specs.Source.{Style, report_of}
+use Rattle.rte_commands.specs.Due.{IsImageFile, stored, log}
+use Rattle.rte_commands.specs.Runs.{KeepsItsWord, IsAccepted, IsUnsolved, IsDone}
+
+-- `go`: a program and a script are accepted, the image is stored, the report and the log are put
+pub record HasGone (over : ℕ) (program image script : List ℕ) (before now : Outside) : Type 0 where
+  pub text : List ℕ
+  pub put : Appends before.out.taken now.out.taken text
+  pub done : IsDone over (before.files.held program) (before.files.held script) text (now.files.held image)
+
+-- `compile`: a program is accepted, its image is stored, its report is put
+pub record HasCompiled (over : ℕ) (program image : List ℕ) (before now : Outside) : Type 0 where
+  pub tree : Prog Place
+  pub built : NamedImage
+  pub accepted : IsAccepted over (before.files.held program) tree built
+  pub is_stored : now.files.held image ≡ Some (stored built)
+  pub put : Appends before.out.taken now.out.taken (report_of report_text built)
+
+-- `check` and `json`: a program is accepted, its report is put
+pub record HasReported (show : Style) (over : ℕ) (program : List ℕ) (before now : Outside) : Type 0 where
+  pub tree : Prog Place
+  pub built : NamedImage
+  pub accepted : IsAccepted over (before.files.held program) tree built
+  pub put : Appends before.out.taken now.out.taken (report_of show built)
+
+-- `run`: an image is valid, whoever made it, and its log over the script is put; every run of it over a script for its names is in
+-- time and size
+pub record HasRun (image script : List ℕ) (before now : Outside) : Type 0 where
+  pub bytes : List ℕ
+  pub held : before.files.held image ≡ Some bytes
+  pub raw : RawImage
+  pub valid : IsImageFile bytes raw
+  pub text : List ℕ
+  pub script_held : before.files.held script ≡ Some text
+  pub lines : List ScriptLine
+  pub end : ℕ
+  pub script_written : IsScript raw.names text lines end
+  pub put : Appends before.out.taken now.out.taken (log (named_of raw) lines end)
+  pub keeps : KeepsItsWord raw.names (image_of raw)
+
+-- `migrate`: an image is valid, and the same image is stored in the present version
+pub record HasMigrated (image target : List ℕ) (before now : Outside) : Type 0 where
+  pub bytes : List ℕ
+  pub held : before.files.held image ≡ Some bytes
+  pub raw : RawImage
+  pub valid : IsImageFile bytes raw
+  pub is_stored : now.files.held target ≡ Some (stored (named_of raw))
+
+-- what a call that answers 0 has done; what `print` puts is told by what is due of it
+abbrev pub HasDone : Call → (before now : Outside) → Type 0
+HasDone (go program image script over) before now = HasGone over program image script before now
+HasDone (check program over) before now = HasReported report_text over program before now
+HasDone (compile program image over) before now = HasCompiled over program image before now
+HasDone (json program over) before now = HasReported report_json over program before now
+HasDone (print program) before now = Unit {0}
+HasDone (run image script) before now = HasRun image script before now
+HasDone (migrate image target) before now = HasMigrated image target before now
+
+-- the call answers 3 exactly where the recurrence of some process of the program has no solution within its deadline; a call that
+-- asks no program for its time never does
+abbrev pub IsRefusedForTime : Call → Outside → Type 0
+IsRefusedForTime (go program image script over) before = IsUnsolved over (before.files.held program)
+IsRefusedForTime (check program over) before = IsUnsolved over (before.files.held program)
+IsRefusedForTime (compile program image over) before = IsUnsolved over (before.files.held program)
+IsRefusedForTime (json program over) before = IsUnsolved over (before.files.held program)
+IsRefusedForTime call before = ⊥
