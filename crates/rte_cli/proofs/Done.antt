@@ -1,89 +1,185 @@
--- What status 0 says follows from what is due.
-use Rattle.std.proofs.Common.{◌≡◌, ℕ, List, Option, Some, None, Bool, true, false, ap, sym, subst, ◌∙◌, refl, arith}
-use Rattle.std.specs.Prelude.{cond, nat_le, length, IfSome}
+-- What a call that answers 0 has done.
+use Rattle.std.proofs.Common.{◌≡◌, ◌<◌, ◌⊎◌, ◌∙◌, ◌++◌, inl, inr, ℕ, List, [], ◌∷◌, Option, Some, None, Bool, true, false, refl, sym, subst, ap, arith, map}
+use Rattle.std.specs.Prelude.{IsSomeAnd, slice_get}
 use Rattle.std.specs.Bool.{OnTrue}
-use Rattle.rte_form.specs.Script.{IsEndText, end_of}
-use Rattle.rte_form.specs.Target.{cost_of}
-use Rattle.rte_form.specs.Kept.{IsPutProg, IsTimely}
 use Rattle.rte_io.specs.Outside.{Outside, Appends}
-use Rattle.rte_puts.specs.Recurrence.{tasks_of}
-use Rattle.rte_response.specs.Demand.{IsBound}
-use Rattle.rte_source_meaning.specs.Puts.{PutProg}
-use Rattle.rte_cli.specs.Answers.{IsWhole, due_for, Went, Stores}
-use Rattle.rte_accept.specs.Accept.{IsProgramText}
-use Rattle.rte_cli.specs.Due.{Outcome, longest_script, end_in, done, due_by_end, IsDueByScript, IsDue, source_fault, no_form, untimely, timely, log_text}
-use Rattle.rte_cli.specs.Headline.{IsFaithful, IsDone}
-use Rattle.rte_cli.specs.Words.{Row}
+use Rattle.rte_tree.specs.declared.place.Place.{Place}
+use Rattle.rte_tree.specs.Placed.{Prog, plain}
+use Rattle.rte_machine_meaning.specs.Image.{Image, Script, Line}
+use Rattle.rte_image.specs.Named.{NamedImage}
+use Rattle.rte_image.specs.Raw.{image_of, named_of}
+use Rattle.rte_image.specs.declared.raw.RawImage.{RawImage}
+use Rattle.rte_image_reading.specs.Answer.{Holds}
+use Rattle.rte_valid.specs.Valid.{HasLimits, IsValid}
+use Rattle.rte_valid_limits.specs.Law.{ImagesReadHaveLimits}
+use Rattle.rte_valid_law.specs.Laws.{EveryValidImageIsSafeAndInTime}
+use Rattle.rte_timed.specs.Timed.{RespectsFrames}
+use Rattle.rte_script.specs.declared.script.ScriptLine.{ScriptLine}
+use Rattle.rte_script.specs.declared.script.ScriptLine.TheVariants.{Set, Occur}
+use Rattle.rte_script.specs.Scripts.{IsScript}
+use Rattle.rte_script_suits.specs.Laws.{ScriptsForImagesReadSuit, script_with}
+use Rattle.rte_starts.specs.Begin.{lines_of}
+use Rattle.rte_lifted.specs.Compiled.{line_of as machine_line}
+use Rattle.rte_report.specs.Report.{report_text}
+use Rattle.rte_report.specs.Json.{report_json}
+use Rattle.rte_built.specs.Built.{IsBuilt, IsTimely}
+use Rattle.rte_words.specs.Calls.{Call, go, check, compile, json, print, run, migrate}
+use Rattle.rte_commands.specs.Source.{IsTimelyText, Style, report_of}
+use Rattle.rte_commands.specs.Script.{line_said, run_of}
+use Rattle.rte_commands.specs.Due.{Outcome, stored, log, IsRefused, faulty, late, IsReportDue, report_refused, report_timely, IsCompileDue, compile_refused, compiled, IsGoDue, go_refused, go_bad_script, went, IsImageFile, IsImageRefused, misread, invalid, IsRunDue, run_refused, run_bad_script, ran, IsMigrateDue, migrate_refused, migrated}
+use Rattle.rte_commands.specs.Runs.{IsKept, KeepsItsWord, BuiltImagesAreFaithful, IsAccepted, IsDone}
+use Rattle.rte_answers.specs.Files.{IsDue, target_of}
+use Rattle.rte_answers.specs.Went.{IsWhole, Stores, Went}
+use Rattle.rte_promise.specs.Promise.{HasGone, HasCompiled, HasReported, HasRun, HasMigrated, HasDone}
 
--- what is due with status 0
-record DueDone (p s : Option (List ℕ)) (o : Outcome) : Type 0 where
-  text : List ℕ
-  held : p ≡ Some text
-  program : PutProg
-  written : IsProgramText text program
-  in_time : IsTimely program
-  script : List ℕ
-  script_held : s ≡ Some script
-  end_tick : ℕ
-  script_written : end_in script ≡ Some end_tick
-  is : o ≡ done program end_tick
+status_of : (o p : Outcome) → o ≡ p → o.status ≡ p.status
+status_of o p same = ap (λ (x : Outcome). x.status) same
 
-the_status : {a b : Outcome} → Some a ≡ Some b → b.status ≡ 0 → a.status ≡ 0
-the_status {a} {b} same zero = let e : a ≡ b = cc in ap (λ (x : Outcome). x.status) e ∙ zero
+text_of : (o p : Outcome) → o ≡ p → o.text ≡ p.text
+text_of o p same = ap (λ (x : Outcome). x.text) same
 
-by_end : (text : List ℕ) (f : PutProg) (script : List ℕ) (end : Option ℕ) (o : Outcome) → IsProgramText text f → IsTimely f → end_in script ≡ end
-    → Some (due_by_end f script end) ≡ Some o → o.status ≡ 0 → DueDone (Some text) (Some script) o
-by_end text f script None o written in_time ends is zero = let five : 5 ≡ 0 = the_status is zero in absurd (omega (arith, five))
-by_end text f script (Some end_tick) o written in_time ends is zero =
-    record { text = text; held = refl; program = f; written = written; in_time = in_time; script = script; script_held = refl; end_tick = end_tick; script_written = ends; is = cc (sym is) }
+image_is : (o p : Outcome) → o ≡ p → o.image ≡ p.image
+image_is o p same = ap (λ (x : Outcome). x.image) same
 
-by_script : (text : List ℕ) (f : PutProg) (s : Option (List ℕ)) (o : Outcome) → IsProgramText text f → IsTimely f → IsDueByScript f s o → o.status ≡ 0
-    → DueDone (Some text) s o
-by_script text f None o written in_time is zero = absurd (cc)
-by_script text f (Some script) o written in_time is zero = by_end text f script (end_in script) o written in_time refl is zero
+-- ---- programs that are accepted
 
-other_status : {o wanted : Outcome} {n : ℕ} → o ≡ wanted → wanted.status ≡ n → o.status ≡ 0 → n ≡ 0
-other_status same status zero = sym status ∙ sym (ap (λ (x : Outcome). x.status) same) ∙ zero
+timely : (g : Prog Place) (over : ℕ) (n : NamedImage) → IsBuilt (plain g) over n → IsTimely (plain g) over
+timely g over n built = record { image = n.image; shaped = built.shaped; each = λ k p at. (p.bound, (built.bounds k p at).solves) }
 
-due_done : (p s : Option (List ℕ)) (o : Outcome) → IsDue p s o → o.status ≡ 0 → DueDone p s o
-due_done p s o (source_fault text number place held fault outcome) zero = let two : 2 ≡ 0 = other_status outcome refl zero in absurd (omega (arith, two))
-due_done p s o (no_form text held none outcome) zero = let two : 2 ≡ 0 = other_status outcome refl zero in absurd (omega (arith, two))
-due_done p s o (untimely text f held written not_timely outcome) zero = let three : 3 ≡ 0 = other_status outcome refl zero in absurd (omega (arith, three))
-due_done p s o (timely text f held written in_time due) zero = subst (λ (h : Option (List ℕ)). DueDone h s o) (sym held) (by_script text f s o written in_time due zero)
+accepted : BuiltImagesAreFaithful → (over : ℕ) (held : Option (List ℕ)) (text : List ℕ) (n : NamedImage) → held ≡ Some text → (t : IsTimelyText over text n) → IsAccepted over held t.tree n
+accepted law over held text n is t =
+    record { text = text; is_held = is; written = t.written; timely = timely t.tree over n t.built; built = t.built; faithful = law text t.tree over n t.written t.built }
 
-within_limit : {A : Type 0} (b : Bool) (o : Option A) (x : A) → cond b o None ≡ Some x → o ≡ Some x
-within_limit true o x is = is
-within_limit false o x is = absurd (cc)
+-- no refusal has status 0
+refused_zero : (show : Style) (over : ℕ) (text : List ℕ) (o : Outcome) → IsRefused show over text o → o.status ≡ 0 → ⊥
+refused_zero show over text o (faulty number place fault same) zero = let two = status_of o _ same in absurd (omega (arith, two, zero))
+refused_zero show over text o (late report l same) zero = let three = status_of o _ same in absurd (omega (arith, three, zero))
 
-pub is_done : ((text : List ℕ) (end_tick : ℕ) → end_of text ≡ Some end_tick → IsEndText text end_tick)
-    → ((f : PutProg) (end_tick : ℕ) → IsPutProg f → IsTimely f → IsFaithful f end_tick) → ((f : PutProg) → IsPutProg f → IsTimely f → IsBound (tasks_of f) 0 (cost_of f.puts))
-    → (row : Row) (before now : Outside) → Went true row before now 0 → IsDone row before now
-unfolding log_text
-is_done ends faithful bound row before now w =
-    let whole : IsWhole (due_for row before) 0 before.out.taken now.out.taken (now.files.held row.image) = w.whole (omega arith) in
-    let d : DueDone (before.files.held row.program) (before.files.held row.script) whole.outcome = due_done (before.files.held row.program) (before.files.held row.script) whole.outcome whole.is_due (sym whole.status_is) in
-    let keeps : IsPutProg d.program = d.written.formed.kept in
-    record {
-      text = d.text;
-      held = d.held;
-      program = d.program;
-      written = d.written;
-      kept = keeps;
-      timely = d.in_time;
-      bound = bound d.program keeps d.in_time;
-      script = d.script;
-      script_held = d.script_held;
-      end_tick = d.end_tick;
-      script_written = ends d.script d.end_tick (within_limit (nat_le (length d.script) longest_script) (end_of d.script) d.end_tick d.script_written);
-      stored = subst (λ (o : Outcome). Stores o.image (now.files.held row.image)) d.is whole.image;
-      put = subst (λ (o : Outcome). Appends before.out.taken now.out.taken o.text) d.is whole.put;
-      faithful = λ other within. faithful d.program other keeps d.in_time;
+image_zero : (bytes : List ℕ) (o : Outcome) → IsImageRefused bytes o → o.status ≡ 0 → ⊥
+image_zero bytes o (misread number offset fault same) zero = let four = status_of o _ same in absurd (omega (arith, four, zero))
+image_zero bytes o (invalid raw fault held first same) zero = let four = status_of o _ same in absurd (omega (arith, four, zero))
+
+-- ---- the run of a script is one to both
+
+same_lines : (lines : List ScriptLine) → map machine_line (map line_said lines) ≡ lines_of lines
+same_lines [] = refl
+same_lines (Set tick dev value ∷ lines) = ap (λ ls. machine_line (line_said (Set tick dev value)) ∷ ls) (same_lines lines)
+same_lines (Occur tick event ∷ lines) = ap (λ ls. machine_line (line_said (Occur tick event)) ∷ ls) (same_lines lines)
+
+same_run : (lines : List ScriptLine) (end : ℕ) → run_of lines end ≡ script_with lines end
+same_run lines end = ap (λ ls. record { lines = ls; end_tick = end }) (same_lines lines)
+
+-- ---- valid images
+
+keeps : ImagesReadHaveLimits → EveryValidImageIsSafeAndInTime → ScriptsForImagesReadSuit → (bytes : List ℕ) (raw : RawImage) → IsImageFile bytes raw → KeepsItsWord raw.names (image_of raw)
+keeps limits safe suit bytes raw file text lines end script =
+    let both = safe (image_of raw) (limits bytes raw file.held) file.valid in
+    let frames : RespectsFrames (image_of raw) (run_of lines end) =
+    subst (RespectsFrames (image_of raw)) (sym (same_run lines end)) (suit bytes raw text lines end file.held script).frames in
+    record { in_time = both.1 (run_of lines end) frames; safe = both.0 (run_of lines end) }
+
+-- ---- what was due was done
+
+stored_bytes : (o : Option (List ℕ)) (bytes : List ℕ) (name : List ℕ) (held held' : List ℕ → Option (List ℕ)) → o ≡ Some bytes → Stores o (Some name) held held' → held' name ≡ Some bytes
+stored_bytes o bytes name held held' is kept = subst (λ (x : Option (List ℕ)). Stores x (Some name) held held') is kept
+
+put_is : (before now : Outside) (o : Outcome) (text : List ℕ) → o.text ≡ text → Appends before.out.taken now.out.taken o.text → Appends before.out.taken now.out.taken text
+put_is before now o text same put = subst (λ (x : List ℕ). Appends before.out.taken now.out.taken x) same put
+
+module _ (faithful : BuiltImagesAreFaithful) (before now : Outside) (o : Outcome) (zero : o.status ≡ 0) (put : Appends before.out.taken now.out.taken o.text) where
+  reported : (show : Style) (over : ℕ) (program : List ℕ) (text : List ℕ) → before.files.held program ≡ Some text → IsReportDue show over text o → HasReported show over program before now
+  reported show over program text is (report_refused r) = absurd (refused_zero show over text o r zero)
+  reported show over program text is (report_timely n t same) = record {
+    tree = t.tree;
+    built = n;
+    accepted = accepted faithful over (before.files.held program) text n is t;
+    put = put_is before now o (report_of show n) (text_of o _ same) put;
+  }
+
+  compiled_whole : (over : ℕ) (program image : List ℕ) (text : List ℕ) → before.files.held program ≡ Some text → Stores o.image (Some image) before.files.held now.files.held
+      → IsCompileDue over text o → HasCompiled over program image before now
+  compiled_whole over program image text is kept (compile_refused r) = absurd (refused_zero report_text over text o r zero)
+  compiled_whole over program image text is kept (compiled n t same) = record {
+    tree = t.tree;
+    built = n;
+    accepted = accepted faithful over (before.files.held program) text n is t;
+    is_stored = stored_bytes o.image (stored n) image before.files.held now.files.held (image_is o _ same) kept;
+    put = put_is before now o (report_of report_text n) (text_of o _ same) put;
+  }
+
+  gone : (over : ℕ) (program image script : List ℕ) → Stores o.image (Some image) before.files.held now.files.held
+      → IsGoDue over (before.files.held program) (before.files.held script) o → HasGone over program image script before now
+  gone over program image script kept (go_refused text is r) = absurd (refused_zero report_text over text o r zero)
+  gone over program image script kept (go_bad_script text other n fault is t that f same) = absurd (let five = status_of o _ same in omega (arith, five, zero))
+  gone over program image script kept (went text other n lines end is t that s same) = record {
+    text = report_of report_text n ++ log n lines end;
+    put = put_is before now o (report_of report_text n ++ log n lines end) (text_of o _ same) put;
+    done = record {
+      tree = t.tree;
+      built = n;
+      accepted = accepted faithful over (before.files.held program) text n is t;
+      text = other;
+      script_held = that;
+      lines = lines;
+      end = end;
+      script_written = s;
+      is_stored = stored_bytes o.image (stored n) image before.files.held now.files.held (image_is o _ same) kept;
+      is_put = refl;
+    };
+  }
+
+  module _ (limits : ImagesReadHaveLimits) (safe : EveryValidImageIsSafeAndInTime) (suit : ScriptsForImagesReadSuit) where
+    run_whole : (image script : List ℕ) → IsRunDue (before.files.held image) (before.files.held script) o → HasRun image script before now
+    run_whole image script (run_refused bytes is r) = absurd (image_zero bytes o r zero)
+    run_whole image script (run_bad_script bytes other raw fault is file that f same) = absurd (let five = status_of o _ same in omega (arith, five, zero))
+    run_whole image script (ran bytes other raw lines end is file that s same) = record {
+      bytes = bytes;
+      held = is;
+      raw = raw;
+      valid = file;
+      text = other;
+      script_held = that;
+      lines = lines;
+      end = end;
+      script_written = s;
+      put = put_is before now o (log (named_of raw) lines end) (text_of o _ same) put;
+      keeps = keeps limits safe suit bytes raw file;
     }
 
-pub if_done : ((text : List ℕ) (end_tick : ℕ) → end_of text ≡ Some end_tick → IsEndText text end_tick)
-    → ((f : PutProg) (end_tick : ℕ) → IsPutProg f → IsTimely f → IsFaithful f end_tick) → ((f : PutProg) → IsPutProg f → IsTimely f → IsBound (tasks_of f) 0 (cost_of f.puts))
-    → (tells : Bool) (row : Option Row) (before now : Outside) (status : ℕ) → IfSome row (λ r. Went tells r before now status)
-    → IfSome row (λ r. OnTrue tells (status ≡ 0 → IsDone r before now))
-if_done ends faithful bound true (Some row) before now status w = λ zero. is_done ends faithful bound row before now (subst (Went true row before now) zero w)
-if_done ends faithful bound false (Some row) before now status w = tt
-if_done ends faithful bound tells None before now status w = tt
+  migrated_whole : (image target : List ℕ) (bytes : List ℕ) → before.files.held image ≡ Some bytes → Stores o.image (Some target) before.files.held now.files.held
+      → IsMigrateDue bytes o → HasMigrated image target before now
+  migrated_whole image target bytes is kept (migrate_refused r) = absurd (image_zero bytes o r zero)
+  migrated_whole image target bytes is kept (migrated raw file same) = record {
+    bytes = bytes;
+    held = is;
+    raw = raw;
+    valid = file;
+    is_stored = stored_bytes o.image (stored (named_of raw)) target before.files.held now.files.held (image_is o _ same) kept;
+  }
+
+-- what is due of what a file holds
+of_held : (Due : List ℕ → Outcome → Type 0) (A : Type 0) (held : Option (List ℕ)) (o : Outcome) → ((text : List ℕ) → held ≡ Some text → Due text o → A) → IsSomeAnd held (λ text. Due text o) → A
+of_held Due A None o by due = absurd due
+of_held Due A (Some text) o by due = by text refl due
+
+module _ (faithful : BuiltImagesAreFaithful) (limits : ImagesReadHaveLimits) (safe : EveryValidImageIsSafeAndInTime) (suit : ScriptsForImagesReadSuit) (before now : Outside) (o : Outcome) (zero : o.status ≡ 0)
+    (put : Appends before.out.taken now.out.taken o.text) where
+  done : (call : Call) → IsDue call before.files.held o → Stores o.image (target_of call) before.files.held now.files.held → HasDone call before now
+  done (go program image script over) due kept = gone faithful before now o zero put over program image script kept due
+  done (check program over) due kept =
+      of_held (IsReportDue report_text over) (HasReported report_text over program before now) (before.files.held program) o (λ text is d. reported faithful before now o zero put report_text over program text is d) due
+  done (compile program image over) due kept =
+      of_held (IsCompileDue over) (HasCompiled over program image before now) (before.files.held program) o (λ text is d. compiled_whole faithful before now o zero put over program image text is kept d) due
+  done (json program over) due kept =
+      of_held (IsReportDue report_json over) (HasReported report_json over program before now) (before.files.held program) o (λ text is d. reported faithful before now o zero put report_json over program text is d) due
+  done (print program) due kept = tt
+  done (run image script) due kept = run_whole faithful before now o zero put limits safe suit image script due
+  done (migrate image target) due kept =
+      of_held IsMigrateDue (HasMigrated image target before now) (before.files.held image) o (λ bytes is d. migrated_whole faithful before now o zero put image target bytes is kept d) due
+
+pub has_done : BuiltImagesAreFaithful → ImagesReadHaveLimits → EveryValidImageIsSafeAndInTime → ScriptsForImagesReadSuit → (tells : Bool) (call : Call) (before now : Outside) (status : ℕ)
+    → Went tells call before now status → OnTrue tells (status ≡ 0 → HasDone call before now)
+has_done faithful limits safe suit true call before now status w = λ zero.
+    let whole : IsWhole call before now status = w.whole (omega (arith, zero)) in
+    done faithful limits safe suit before now whole.outcome (sym whole.is ∙ zero) whole.put call whole.due whole.stored
+has_done faithful limits safe suit false call before now status w = tt

@@ -1,69 +1,134 @@
--- A program text is refused for time exactly where its recurrence has no solution.
-use Rattle.std.proofs.Common.{◌≡◌, ◌<◌, ℕ, List, Option, Some, None, Bool, true, false, ap, sym, subst, ◌∙◌, refl, arith}
-use Rattle.std.specs.Prelude.{◌↔◌, IfSome}
+-- Status 3 comes exactly where a recurrence has no solution.
+use Rattle.std.proofs.Common.{◌≡◌, ◌<◌, ◌⊎◌, ◌∙◌, inl, inr, ℕ, List, Option, Some, None, Bool, true, false, refl, sym, subst, ap, arith}
+use Rattle.std.specs.Prelude.{◌↔◌, IsSomeAnd}
 use Rattle.std.specs.Bool.{OnTrue}
-use Rattle.rte_form.specs.Target.{cost_of}
-use Rattle.rte_form.specs.Kept.{IsPutProg, IsTimely}
-use Rattle.rte_puts.specs.Recurrence.{tasks_of}
-use Rattle.rte_response.specs.Demand.{IsBound, Solves}
-use Rattle.rte_source_meaning.specs.Puts.{PutProg}
 use Rattle.rte_io.specs.Outside.{Outside}
-use Rattle.rte_cli.specs.Answers.{IsWhole, due_for, Went}
-use Rattle.rte_cli.specs.Due.{Outcome, end_in, bad_script, done, due_by_end, IsDueByScript, IsDue, source_fault, no_form, untimely, timely}
-use Rattle.rte_cli.specs.Headline.{IsUnsolved}
-use Rattle.rte_cli.specs.Words.{Row}
-use Rattle.rte_cli.proofs.Texts.{TextLaws, due_late}
+use Rattle.rte_tree.specs.declared.place.Place.{Place}
+use Rattle.rte_tree.specs.Placed.{Prog, plain}
+use Rattle.rte_image.specs.Named.{NamedImage}
+use Rattle.rte_report.specs.Report.{report_text}
+use Rattle.rte_report.specs.Json.{report_json}
+use Rattle.rte_built.specs.Built.{IsBuilt, IsLate}
+use Rattle.rte_built_once.specs.Once.{TimelyOrLate}
+use Rattle.rte_words.specs.Calls.{Call, go, check, compile, json, print, run, migrate}
+use Rattle.rte_commands.specs.Source.{IsWritten, IsTextFault, IsTimelyText, Style}
+use Rattle.rte_commands.specs.Due.{Outcome, IsRefused, faulty, late, IsReportDue, report_refused, report_timely, IsPrintDue, print_faulty, printed, IsCompileDue, compile_refused, compiled, IsGoDue, go_refused, go_bad_script, went, IsImageRefused, misread, invalid, IsRunDue, run_refused, run_bad_script, ran, IsMigrateDue, migrate_refused, migrated}
+use Rattle.rte_commands.specs.Runs.{IsUnsolved}
+use Rattle.rte_due_once.specs.Once.{WrittenOrFaulty, WrittenOnce}
+use Rattle.rte_answers.specs.Files.{IsDue}
+use Rattle.rte_answers.specs.Went.{IsWhole, Went}
+use Rattle.rte_promise.specs.Promise.{IsRefusedForTime}
 
--- the laws: of texts, and that a program is timely where its recurrence has a solution, and has the bound where it is timely
-record Laws : Type 0 where
-  texts : TextLaws
-  bound : (f : PutProg) → IsPutProg f → IsTimely f → IsBound (tasks_of f) 0 (cost_of f.puts)
-  timely : (f : PutProg) (r : ℕ) → IsPutProg f → Solves (tasks_of f) 0 r → IsTimely f
+status_of : (o p : Outcome) → o ≡ p → o.status ≡ p.status
+status_of o p same = ap (λ (x : Outcome). x.status) same
 
--- ---- status 3 is due for such a text alone
+-- ---- a refusal with 3 is one for time
 
-other_status : {o wanted : Outcome} {n : ℕ} → o ≡ wanted → wanted.status ≡ n → o.status ≡ 3 → n ≡ 3
-other_status same status three = sym status ∙ sym (ap (λ (x : Outcome). x.status) same) ∙ three
+refused_late : (show : Style) (over : ℕ) (text : List ℕ) (o : Outcome) → IsRefused show over text o → o.status ≡ 3 → IsUnsolved over (Some text)
+refused_late show over text o (faulty number place fault same) three = absurd (let two = status_of o _ same in omega (arith, two, three))
+refused_late show over text o (late report l same) three = record { text = text; is_held = refl; tree = l.tree; written = l.written; late = l.late }
 
-by_end : (f : PutProg) (script : List ℕ) (end : Option ℕ) (o : Outcome) → Some (due_by_end f script end) ≡ Some o → o.status ≡ 3 → ⊥
-by_end f script None o is three = let same : o ≡ bad_script script = cc in let five : 5 ≡ 3 = other_status same refl three in omega (arith, five)
-by_end f script (Some end_tick) o is three = let same : o ≡ done f end_tick = cc in let zero : 0 ≡ 3 = other_status same refl three in omega (arith, zero)
+report_late : (show : Style) (over : ℕ) (text : List ℕ) (o : Outcome) → IsReportDue show over text o → o.status ≡ 3 → IsUnsolved over (Some text)
+report_late show over text o (report_refused r) three = refused_late show over text o r three
+report_late show over text o (report_timely n t same) three = absurd (let zero = status_of o _ same in omega (arith, zero, three))
 
-by_script : (f : PutProg) (s : Option (List ℕ)) (o : Outcome) → IsDueByScript f s o → o.status ≡ 3 → ⊥
-by_script f None o is three = cc
-by_script f (Some script) o is three = by_end f script (end_in script) o is three
+compile_late : (over : ℕ) (text : List ℕ) (o : Outcome) → IsCompileDue over text o → o.status ≡ 3 → IsUnsolved over (Some text)
+compile_late over text o (compile_refused r) three = refused_late report_text over text o r three
+compile_late over text o (compiled n t same) three = absurd (let zero = status_of o _ same in omega (arith, zero, three))
 
-late_unsolved : Laws → (p s : Option (List ℕ)) (o : Outcome) → IsDue p s o → o.status ≡ 3 → IsUnsolved p
-late_unsolved laws p s o (source_fault text number place held fault outcome) three = let two : 2 ≡ 3 = other_status outcome refl three in absurd (omega (arith, two))
-late_unsolved laws p s o (no_form text held none outcome) three = let two : 2 ≡ 3 = other_status outcome refl three in absurd (omega (arith, two))
-late_unsolved laws p s o (untimely text f held written not_timely outcome) three = record {
-  text = text;
-  is_held = held;
-  short = written.grown.tree.listed.short;
-  program = f;
-  written = written;
-  unsolved = λ r solves. not_timely (laws.timely f r written.formed.kept solves);
-}
-late_unsolved laws p s o (timely text f held written in_time due) three = absurd (by_script f s o due three)
+print_late : (text : List ℕ) (o : Outcome) → IsPrintDue text o → o.status ≡ 3 → ⊥
+print_late text o (print_faulty number place fault same) three = let two = status_of o _ same in absurd (omega (arith, two, three))
+print_late text o (printed tree w same) three = let zero = status_of o _ same in absurd (omega (arith, zero, three))
 
--- ---- and always for such a text
+go_late : (over : ℕ) (program script : Option (List ℕ)) (o : Outcome) → IsGoDue over program script o → o.status ≡ 3 → IsUnsolved over program
+go_late over program script o (go_refused text is r) three = subst (IsUnsolved over) (sym is) (refused_late report_text over text o r three)
+go_late over program script o (go_bad_script text other n fault is t that f same) three = absurd (let five = status_of o _ same in omega (arith, five, three))
+go_late over program script o (went text other n lines end is t that s same) three = absurd (let zero = status_of o _ same in omega (arith, zero, three))
 
-unsolved_late : Laws → (p s : Option (List ℕ)) (o : Outcome) → IsDue p s o → IsUnsolved p → o.status ≡ 3
-unsolved_late laws p s o is u =
-    let not_timely : ¬ IsTimely u.program = λ in_time. u.unsolved (cost_of u.program.puts) (laws.bound u.program u.written.formed.kept in_time).solves in
-    ap (λ (x : Outcome). x.status) (due_late laws.texts u.text u.program s o u.written not_timely (subst (λ (h : Option (List ℕ)). IsDue h s o) u.is_held is))
+image_late : (bytes : List ℕ) (o : Outcome) → IsImageRefused bytes o → o.status ≡ 3 → ⊥
+image_late bytes o (misread number offset fault same) three = let four = status_of o _ same in absurd (omega (arith, four, three))
+image_late bytes o (invalid raw fault held first same) three = let four = status_of o _ same in absurd (omega (arith, four, three))
 
-exactly : Laws → (row : Row) (before now : Outside) (status : ℕ) → Went true row before now status → status < 6 → (status ≡ 3) ↔ IsUnsolved (before.files.held row.program)
-exactly laws row before now status w below =
-    let whole : IsWhole (due_for row before) status before.out.taken now.out.taken (now.files.held row.image) = w.whole below in (
-      λ three. late_unsolved laws (before.files.held row.program) (before.files.held row.script) whole.outcome whole.is_due (sym whole.status_is ∙ three),
-      λ u. whole.status_is ∙ unsolved_late laws (before.files.held row.program) (before.files.held row.script) whole.outcome whole.is_due u,
-    )
+run_late : (image script : Option (List ℕ)) (o : Outcome) → IsRunDue image script o → o.status ≡ 3 → ⊥
+run_late image script o (run_refused bytes is r) three = image_late bytes o r three
+run_late image script o (run_bad_script bytes other raw fault is file that f same) three = let five = status_of o _ same in absurd (omega (arith, five, three))
+run_late image script o (ran bytes other raw lines end is file that s same) three = let zero = status_of o _ same in absurd (omega (arith, zero, three))
 
-pub refused_for_time : TextLaws → ((f : PutProg) → IsPutProg f → IsTimely f → IsBound (tasks_of f) 0 (cost_of f.puts))
-    → ((f : PutProg) (r : ℕ) → IsPutProg f → Solves (tasks_of f) 0 r → IsTimely f)
-    → (tells : Bool) (row : Option Row) (before now : Outside) (status : ℕ) → IfSome row (λ r. Went tells r before now status)
-    → IfSome row (λ r. OnTrue tells (status < 6 → (status ≡ 3) ↔ IsUnsolved (before.files.held r.program)))
-refused_for_time texts bound solved true (Some row) before now status w = exactly (record { texts = texts; bound = bound; timely = solved }) row before now status w
-refused_for_time texts bound solved false (Some row) before now status w = tt
-refused_for_time texts bound solved tells None before now status w = tt
+migrate_late : (bytes : List ℕ) (o : Outcome) → IsMigrateDue bytes o → o.status ≡ 3 → ⊥
+migrate_late bytes o (migrate_refused r) three = image_late bytes o r three
+migrate_late bytes o (migrated raw file same) three = let zero = status_of o _ same in absurd (omega (arith, zero, three))
+
+-- what is due of what is held, if anything is
+held_late : (over : ℕ) (Due : List ℕ → Outcome → Type 0) (held : Option (List ℕ)) (o : Outcome) → ((text : List ℕ) → Due text o → IsUnsolved over (Some text))
+    → IsSomeAnd held (λ text. Due text o) → IsUnsolved over held
+held_late over Due None o by due = absurd due
+held_late over Due (Some text) o by due = by text due
+
+held_never : (Due : List ℕ → Outcome → Type 0) (held : Option (List ℕ)) (o : Outcome) → ((text : List ℕ) → Due text o → ⊥) → IsSomeAnd held (λ text. Due text o) → ⊥
+held_never Due None o by due = due
+held_never Due (Some text) o by due = by text due
+
+due_late : (call : Call) (b : Outside) (o : Outcome) → IsDue call b.files.held o → o.status ≡ 3 → IsRefusedForTime call b
+due_late (go program image script over) b o due three = go_late over (b.files.held program) (b.files.held script) o due three
+due_late (check program over) b o due three = held_late over (IsReportDue report_text over) (b.files.held program) o (λ text d. report_late report_text over text o d three) due
+due_late (compile program image over) b o due three = held_late over (IsCompileDue over) (b.files.held program) o (λ text d. compile_late over text o d three) due
+due_late (json program over) b o due three = held_late over (IsReportDue report_json over) (b.files.held program) o (λ text d. report_late report_json over text o d three) due
+due_late (print program) b o due three = held_never IsPrintDue (b.files.held program) o (λ text d. print_late text o d three) due
+due_late (run image script) b o due three = run_late (b.files.held image) (b.files.held script) o due three
+due_late (migrate image target) b o due three = held_never IsMigrateDue (b.files.held image) o (λ bytes d. migrate_late bytes o d three) due
+
+-- ---- a program that is late is refused with 3
+
+module _ (faults : WrittenOrFaulty) (one : WrittenOnce) (apart : TimelyOrLate) (over : ℕ) where
+  module _ (text : List ℕ) (u : IsUnsolved over (Some text)) where
+    written : IsWritten text u.tree
+    written = let same : u.text ≡ text = cc in subst (λ (t : List ℕ). IsWritten t u.tree) same u.written
+
+    no_fault : (number : ℕ) (place : Place) → IsTextFault text number place → ⊥
+    no_fault number place fault = faults text u.tree number place written fault
+
+    not_timely : (n : NamedImage) → IsTimelyText over text n → ⊥
+    not_timely n t =
+        let same : t.tree ≡ u.tree = one text t.tree u.tree t.written written in
+        apart (plain u.tree) over n (subst (λ (g : Prog Place). IsBuilt (plain g) over n) same t.built) u.late
+
+    refused_three : (show : Style) (o : Outcome) → IsRefused show over text o → o.status ≡ 3
+    refused_three show o (faulty number place fault same) = absurd (no_fault number place fault)
+    refused_three show o (late report l same) = status_of o _ same
+
+    report_three : (show : Style) (o : Outcome) → IsReportDue show over text o → o.status ≡ 3
+    report_three show o (report_refused r) = refused_three show o r
+    report_three show o (report_timely n t same) = absurd (not_timely n t)
+
+    compile_three : (o : Outcome) → IsCompileDue over text o → o.status ≡ 3
+    compile_three o (compile_refused r) = refused_three report_text o r
+    compile_three o (compiled n t same) = absurd (not_timely n t)
+
+  go_three : (program script : Option (List ℕ)) (o : Outcome) → IsUnsolved over program → IsGoDue over program script o → o.status ≡ 3
+  go_three program script o u (go_refused text is r) = refused_three text (subst (IsUnsolved over) is u) report_text o r
+  go_three program script o u (go_bad_script text other n fault is t that f same) = absurd (not_timely text (subst (IsUnsolved over) is u) n t)
+  go_three program script o u (went text other n lines end is t that s same) = absurd (not_timely text (subst (IsUnsolved over) is u) n t)
+
+  held_three : (Due : List ℕ → Outcome → Type 0) (held : Option (List ℕ)) (o : Outcome) → ((text : List ℕ) → IsUnsolved over (Some text) → Due text o → o.status ≡ 3)
+      → IsUnsolved over held → IsSomeAnd held (λ text. Due text o) → o.status ≡ 3
+  held_three Due None o by u due = absurd due
+  held_three Due (Some text) o by u due = by text u due
+
+module _ (faults : WrittenOrFaulty) (one : WrittenOnce) (apart : TimelyOrLate) where
+  due_three : (call : Call) (b : Outside) (o : Outcome) → IsRefusedForTime call b → IsDue call b.files.held o → o.status ≡ 3
+  due_three (go program image script over) b o u due = go_three faults one apart over (b.files.held program) (b.files.held script) o u due
+  due_three (check program over) b o u due = held_three faults one apart over (IsReportDue report_text over) (b.files.held program) o (λ text v d. report_three faults one apart over text v report_text o d) u due
+  due_three (compile program image over) b o u due = held_three faults one apart over (IsCompileDue over) (b.files.held program) o (λ text v d. compile_three faults one apart over text v o d) u due
+  due_three (json program over) b o u due = held_three faults one apart over (IsReportDue report_json over) (b.files.held program) o (λ text v d. report_three faults one apart over text v report_json o d) u due
+  due_three (print program) b o u due = absurd u
+  due_three (run image script) b o u due = absurd u
+  due_three (migrate image target) b o u due = absurd u
+
+  refused : (call : Call) (before now : Outside) (status : ℕ) → IsWhole call before now status → (status ≡ 3) ↔ IsRefusedForTime call before
+  refused call before now status w =
+      ((λ three. due_late call before w.outcome w.due (sym w.is ∙ three)), (λ u. w.is ∙ due_three call before w.outcome u w.due))
+
+  pub refused_for_time : (tells : Bool) (call : Call) (before now : Outside) (status : ℕ) → Went tells call before now status
+      → OnTrue tells (status < 6 → (status ≡ 3) ↔ IsRefusedForTime call before)
+  refused_for_time true call before now status w = λ below. refused call before now status (w.whole below)
+  refused_for_time false call before now status w = tt

@@ -1,8 +1,4 @@
-pub mod Checks
+pub mod Went
 pub mod Complete
-pub mod Cuts
-pub mod Done
-pub mod Four
 pub mod Late
-pub mod Returns
-pub mod Texts
+pub mod Done

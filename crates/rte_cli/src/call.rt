@@ -1,65 +1,67 @@
 //! The top call.
 
-ghost use Rattle.std.specs.Prelude.{◌≡◌, ◌≢◌, ◌<◌, ◌⊎◌, ◌↔◌, ℕ, List, IfSome};
+ghost use Rattle.std.specs.Prelude.{◌≡◌, ◌<◌, ◌↔◌};
 ghost use Rattle.std.specs.Bool.{OnTrue};
-ghost use Rattle.rte_io.specs.Outside.{outside, AllStay};
-ghost use Rattle.rte_cli.specs.Answers.{Carried};
-ghost use Rattle.rte_cli.specs.Headline.{IsDone, IsUnsolved};
-ghost use Rattle.rte_cli.specs.Words.{Writes, row_of, check_of};
+ghost use Rattle.rte_io.specs.Outside.{outside};
+ghost use Rattle.rte_words.specs.Calls.{Call};
+ghost use Rattle.rte_words.specs.Words.{IsCommand};
+ghost use Rattle.rte_answers.specs.Acts.{number_of};
+ghost use Rattle.rte_answers.specs.Went.{Went, Completes, IsUsage};
+ghost use Rattle.rte_promise.specs.Promise.{HasDone, IsRefusedForTime};
 
-use crate::command::carry_out;
-use rte_accept::one_program;
-use rte_form::law::ends_are_written;
+use crate::carry::carry_out;
+use rte_answers::Status;
+use rte_built_laws::law::built_images_are_faithful;
+use rte_built_once::law::timely_or_late;
+use rte_due_once::law::{written_once, written_or_faulty};
 use rte_io::{Files, Sink};
-use rte_puts::law::{
-    activations_end_within_their_bound, cost_is_the_least_bound, events_are_a_source_run,
-    images_keep_their_word, solved_programs_are_timely,
-};
+use rte_script_suits::law::scripts_suit;
+use rte_valid_law::law::every_valid_image_is_safe_and_in_time;
+use rte_valid_limits::images_read_are_in_their_ranges;
 use std::alloc::Global;
 
-/// Does what the words ask. `go P I S` runs the program text in file P with the script in file S,
-/// stores its image in file I, and puts the report and the log. `check P` puts the report on the
-/// program text in file P, `print P` its canonical text. All other words are refused, as is a name
-/// that is empty or begins with `-`.
+/// Does what the words ask:
 ///
-/// The answer is the status. 0: done whole. 1: the words are no command; `usage` is put. 2: P holds
-/// no program text; its fault line is put. 3: the program is not timely; its report is put. 5: S
-/// holds no script; its fault line is put. 6: a read failed. 7: the store or a put failed. 8: out
-/// of memory. The first that is due in the order of the steps is the answer: the words, reading P,
-/// its faults, its time, reading S, its faults, storing I, the report, the log; `check` puts the
-/// report before it asks for the time.
-pub fn rte<F: Files, O: Sink>(alloc: Global, words: &[String], files: &mut F, out: &mut O) -> u8
-    // A row went as is due, `check` and `print` told what is due, other words are refused.
-    ensures carried { Carried F.tells words.now
+/// - `go P I S [K]` stores the image of the program text in file P in file I, and puts the report on it and the log of its run
+///   over the script in file S; K is the overhead, the ticks of one dispatch, from 0 to 1000, and 0 where it is left out;
+/// - `compile P I [K]` stores the image, and puts the report;
+/// - `check P [K]` puts the report, `json P [K]` the same as JSON, `print P` the canonical text of the program;
+/// - `run I S` puts the log of the image in file I over the script in file S, and `migrate I J` stores the image in the
+///   present version in file J.
+///
+/// All other words are refused, as is a word that is empty or begins with `-`.
+///
+/// The answer is the first status that is due in the order of the steps: the words, reading P or I, its faults, its time,
+/// reading S, its faults, storing, putting.
+pub fn rte<F: Files, O: Sink>(alloc: Global, words: &[String], files: &mut F, out: &mut O) -> Status
+    // A call of a command went as is due, by what its files hold.
+    ensures went { (call : Call) → IsCommand words.now call → Went F.tells call
         (outside (F.state files.old) (O.state out.old))
-        (outside (F.state files.new) (O.state out.new)) result }
-    // With every status but 0 and 7 no file has changed, and with these none but the image.
-    ensures kept { 0 < result → result ≢ 7 → AllStay (F.state files.old).held (F.state files.new).held }
-    ensures others { (name : List ℕ) → ¬ Writes words.now name →
-        (F.state files.new).held name ≡ (F.state files.old).held name }
-    // So once a file has changed, the status is 0 or 7.
-    ensures stored { (name : List ℕ) →
-        (F.state files.new).held name ≢ (F.state files.old).held name → (result ≡ 0) ⊎ (result ≡ 7) }
-    // A failed put always gives 7.
-    ensures quiet { result ≢ 7 → (O.state out.new).faults ≡ (O.state out.old).faults }
-    // Status 0: the text is a timely program text and the script one, what is stored is the image of
-    // the program, what was put is its report and the log of that image over the script; and over
-    // every script, that log is a run of the program, in time, within its sizes, never stuck.
-    ensures done { IfSome (row_of words.now) (λ row. OnTrue F.tells (result ≡ 0 → IsDone row
+        (outside (F.state files.new) (O.state out.new)) (number_of result) }
+    // Without a failure, what is due is done whole, or memory was wanting.
+    ensures complete { (call : Call) → IsCommand words.now call → OnTrue F.tells (Completes call
         (outside (F.state files.old) (O.state out.old))
-        (outside (F.state files.new) (O.state out.new)))) }
-    // Status 3 comes exactly where the recurrence of the program has no solution within its deadline.
-    ensures untimely { IfSome (check_of words.now) (λ name. OnTrue F.tells (result < 6 →
-        (result ≡ 3) ↔ IsUnsolved ((F.state files.old).held name))) }
-    ensures late { IfSome (row_of words.now) (λ row. OnTrue F.tells (result < 6 →
-        (result ≡ 3) ↔ IsUnsolved ((F.state files.old).held row.program))) }
+        (outside (F.state files.new) (O.state out.new)) (number_of result)) }
+    // All other words are refused.
+    ensures usage { ((call : Call) → ¬ IsCommand words.now call) → IsUsage
+        (outside (F.state files.old) (O.state out.old))
+        (outside (F.state files.new) (O.state out.new)) (number_of result) }
+    // Status 0: of `go`, the text is that of a timely program and the script one, what is stored is the image of the program,
+    // what was put is its report and the log of that image over the script; and over every script for its names, that log is
+    // that of a run of the program, in time, within its sizes, never stuck. Of the other commands likewise.
+    ensures done { (call : Call) → IsCommand words.now call → OnTrue F.tells (number_of result ≡ 0 → HasDone call
+        (outside (F.state files.old) (O.state out.old))
+        (outside (F.state files.new) (O.state out.new))) }
+    // Status 3 comes exactly where the recurrence of some process of the program has no solution within its deadline.
+    ensures late { (call : Call) → IsCommand words.now call → OnTrue F.tells (number_of result < 6 →
+        (number_of result ≡ 3) ↔ IsRefusedForTime call (outside (F.state files.old) (O.state out.old))) }
 {
-    one_program();
-    ends_are_written();
-    events_are_a_source_run();
-    activations_end_within_their_bound();
-    images_keep_their_word();
-    cost_is_the_least_bound();
-    solved_programs_are_timely();
+    built_images_are_faithful();
+    every_valid_image_is_safe_and_in_time();
+    images_read_are_in_their_ranges();
+    scripts_suit();
+    written_or_faulty();
+    written_once();
+    timely_or_late();
     carry_out(alloc, words, files, out)
 }

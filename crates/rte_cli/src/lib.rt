@@ -1,21 +1,14 @@
-//! The command: reads a program text and a script, stores the image of the program, and puts the
-//! report and the log.
+//! The command: `go`, `check`, `compile`, `json`, `print`, `run` and `migrate`, from their words to their status.
 //!
-//! `specs/Due.antt` says what a call comes to, by cases of what the files hold, and
-//! `specs/Answers.antt` what each status says of the call. The promise of `rte` is that a call of
-//! a row went so, whatever the files and the sink do.
+//! `rte_answers` says what is due of a call by what its files hold (`IsDue`), and what each status says of the call (`Went`);
+//! `rte_promise` what statuses 0 and 3 say of texts, images and scripts. The promise of `rte` is that every call went so,
+//! whatever the files and the sink do.
 #![tactic(auto)]
 
 mod call;
-mod command;
-mod go;
-mod run;
-mod steps;
+mod carry;
 mod system;
-mod words;
 
 pub use call::rte;
+pub use rte_answers::Status;
 pub use system::system_words;
-
-/// The status for want of memory.
-pub const MEMORY: u8 = 8;

@@ -13,6 +13,8 @@ use Rattle.rte_prepare.specs.declared.prepare.Unready.TheVariants as unready
 pub record IsPrepared (tells : Bool) (call : Call) (before : FilesState) (act : Act) : Type 0 where
   pub due : OnTrue tells (IsDue call before.held (outcome_of act))
   pub at : IsAtTarget call act.store
+  -- an image is stored with status 0 alone
+  pub stored : IfSome act.store (λ s. number_of act.status ≡ 0)
   pub runs : IfSome act.run CanRun
   pub answered : number_of act.status < 6
   pub is_command : number_of act.status ≢ 1

@@ -1,4 +1,0 @@
-pub mod Answers
-pub mod Due
-pub mod Words
-pub mod Headline

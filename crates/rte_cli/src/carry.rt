@@ -1,0 +1,65 @@
+//! The call, without what the laws say of it.
+
+ghost use Rattle.std.specs.Prelude.{◌≡◌, IfSome, IfNone};
+ghost use Rattle.std.specs.Bool.{OnTrue};
+ghost use Rattle.rte_io.specs.Outside.{outside};
+ghost use Rattle.rte_words.specs.Calls.{Call};
+ghost use Rattle.rte_words.specs.Words.{call_of, IsCommand};
+ghost use Rattle.rte_answers.specs.Acts.{number_of};
+ghost use Rattle.rte_answers.specs.Went.{Went, Completes, IsUsage};
+
+use rte_answers::Status;
+use rte_io::{Files, Sink};
+use rte_perform::perform;
+use rte_prepare::{Unready, prepare};
+use rte_words::{Command, read_words};
+use std::alloc::Global;
+
+/// Puts the usage.
+fn usage<O: Sink>(out: &mut O) -> Status
+    ghost before: { FilesState }
+    ensures { IsUsage (outside before (O.state out.old)) (outside before (O.state out.new)) (number_of result) }
+{
+    match out.put(b"usage\n") {
+        Ok(()) => Status::Usage,
+        Err(_) => Status::Unwritten,
+    }
+}
+
+/// Prepares what is due of a command, and performs it.
+fn carry<F: Files, O: Sink>(
+    alloc: Global,
+    command: &Command<'_>,
+    files: &mut F,
+    out: &mut O,
+) -> Status
+    ensures { Went F.tells (call_of command.now)
+        (outside (F.state files.old) (O.state out.old))
+        (outside (F.state files.new) (O.state out.new)) (number_of result) }
+{
+    match prepare(alloc, command, files) {
+        Ok(act) => perform(alloc, &act, files, out),
+        Err(Unready::Unread) => Status::Unread,
+        Err(Unready::Memory) => Status::Memory,
+    }
+}
+
+/// Does what the words ask.
+pub fn carry_out<F: Files, O: Sink>(
+    alloc: Global,
+    words: &[String],
+    files: &mut F,
+    out: &mut O,
+) -> Status
+    ensures went { (call : Call) → IsCommand words.now call → Went F.tells call
+        (outside (F.state files.old) (O.state out.old))
+        (outside (F.state files.new) (O.state out.new)) (number_of result) }
+    ensures usage { ((call : Call) → ¬ IsCommand words.now call) → IsUsage
+        (outside (F.state files.old) (O.state out.old))
+        (outside (F.state files.new) (O.state out.new)) (number_of result) }
+{
+    match read_words(words) {
+        Some(command) => carry(alloc, &command, files, out),
+        None => usage(out),
+    }
+}
