@@ -1,5 +1,5 @@
 -- What words ask for.
-use Rattle.std.specs.Prelude.{ℕ, List, [], ◌∷◌}
+use Rattle.std.specs.Prelude.{ℕ, List}
 
 -- a command with the names of its files, and with an overhead in ticks where it has one
 pub data Call : Type 0 where
@@ -10,3 +10,11 @@ pub data Call : Type 0 where
   print : (program : List ℕ) → Call
   run : (image script : List ℕ) → Call
   migrate : (image target : List ℕ) → Call
+
+-- the overhead, 0 where a call has none
+abbrev pub over_of : Call → ℕ
+over_of (go program image script over) = over
+over_of (check program over) = over
+over_of (compile program image over) = over
+over_of (json program over) = over
+over_of call = 0

@@ -1,5 +1,6 @@
--- The table of the commands: which words ask for what.
-use Rattle.std.specs.Prelude.{◌≡◌, ◌≤◌, ℕ, All, IsTrue, Bool, false, not, ◌==◌, List, [], ◌∷◌, codes, decimal, map, String, string_bytes}
+-- The table of the commands, with the words that each takes.
+use Rattle.std.specs.Prelude.{◌≡◌, ℕ, ◌+◌, All, IsTrue, Bool, false, not, ◌==◌, List, [], ◌∷◌, Option, Some, None, if◌then◌else◌, map, option_map, find, String, string_bytes, bytes_eq, codes, decimal}
+use Rattle.std.specs.List.{range_with_len}
 use Rattle.std.specs.Global.{Global}
 use Rattle.rte_words.specs.Calls.{Call, go, check, compile, json, print, run, migrate}
 use Rattle.rte_words.specs.declared.command.Command.{Command}
@@ -10,32 +11,68 @@ abbrev pub is_word : List ℕ → Bool
 is_word [] = false
 is_word (first ∷ rest) = not (first == 45)
 
+-- the number from 0 to this one whose decimal text the word is
+unfoldable pub number_up_to : ℕ → List ℕ → Option ℕ
+number_up_to most word = find (λ number. bytes_eq word (decimal number)) (range_with_len 0 (most + 1))
+
+-- the overhead whose decimal text the word is: a number from 0 to 1000
+abbrev pub overhead_of : List ℕ → Option ℕ
+overhead_of word = number_up_to 1000 word
+
+-- the overhead that the last words of a row give: 0 where there are none
+abbrev pub last_overhead : List (List ℕ) → Option ℕ
+last_overhead [] = Some 0
+last_overhead (word ∷ []) = overhead_of word
+last_overhead words = None
+
+-- the rows of the table, by what stands behind the word of the command
+abbrev pub go_row : List (List ℕ) → Option Call
+go_row (program ∷ image ∷ script ∷ rest) = option_map (go program image script) (last_overhead rest)
+go_row words = None
+
+abbrev pub check_row : List (List ℕ) → Option Call
+check_row (program ∷ rest) = option_map (check program) (last_overhead rest)
+check_row words = None
+
+abbrev pub compile_row : List (List ℕ) → Option Call
+compile_row (program ∷ image ∷ rest) = option_map (compile program image) (last_overhead rest)
+compile_row words = None
+
+abbrev pub json_row : List (List ℕ) → Option Call
+json_row (program ∷ rest) = option_map (json program) (last_overhead rest)
+json_row words = None
+
+abbrev pub print_row : List (List ℕ) → Option Call
+print_row (program ∷ []) = Some (print program)
+print_row words = None
+
+abbrev pub run_row : List (List ℕ) → Option Call
+run_row (image ∷ script ∷ []) = Some (run image script)
+run_row words = None
+
+abbrev pub migrate_row : List (List ℕ) → Option Call
+migrate_row (image ∷ target ∷ []) = Some (migrate image target)
+migrate_row words = None
+
+-- the table: the word of each command, and its row
+abbrev pub row_of : List (List ℕ) → Option Call
+row_of [] = None
+row_of (word ∷ words) =
+    if bytes_eq word (codes "go") then go_row words else
+    (if bytes_eq word (codes "check") then check_row words else
+    (if bytes_eq word (codes "compile") then compile_row words else
+    (if bytes_eq word (codes "json") then json_row words else
+    (if bytes_eq word (codes "print") then print_row words else
+    (if bytes_eq word (codes "run") then run_row words else
+    (if bytes_eq word (codes "migrate") then migrate_row words else None))))))
+
 abbrev pub IsWord : String Global → Type 0
 IsWord word = IsTrue (is_word (string_bytes word))
 
--- an overhead: decimal, from 0 to 1,000, without leading zeros
-pub record IsOverhead (word : List ℕ) (over : ℕ) : Type 0 where
-  pub most : over ≤ 1000
-  pub is : word ≡ decimal over
-
--- the table
-pub data IsRow : List (List ℕ) → Call → Type 0 where
-  row_go : (p i s : List ℕ) → IsRow (codes "go" ∷ p ∷ i ∷ s ∷ []) (go p i s 0)
-  row_go_over : (p i s k : List ℕ) (over : ℕ) → IsOverhead k over → IsRow (codes "go" ∷ p ∷ i ∷ s ∷ k ∷ []) (go p i s over)
-  row_check : (p : List ℕ) → IsRow (codes "check" ∷ p ∷ []) (check p 0)
-  row_check_over : (p k : List ℕ) (over : ℕ) → IsOverhead k over → IsRow (codes "check" ∷ p ∷ k ∷ []) (check p over)
-  row_compile : (p i : List ℕ) → IsRow (codes "compile" ∷ p ∷ i ∷ []) (compile p i 0)
-  row_compile_over : (p i k : List ℕ) (over : ℕ) → IsOverhead k over → IsRow (codes "compile" ∷ p ∷ i ∷ k ∷ []) (compile p i over)
-  row_json : (p : List ℕ) → IsRow (codes "json" ∷ p ∷ []) (json p 0)
-  row_json_over : (p k : List ℕ) (over : ℕ) → IsOverhead k over → IsRow (codes "json" ∷ p ∷ k ∷ []) (json p over)
-  row_print : (p : List ℕ) → IsRow (codes "print" ∷ p ∷ []) (print p)
-  row_run : (i s : List ℕ) → IsRow (codes "run" ∷ i ∷ s ∷ []) (run i s)
-  row_migrate : (i j : List ℕ) → IsRow (codes "migrate" ∷ i ∷ j ∷ []) (migrate i j)
-
--- the words are in the row of the call, and none is empty or begins with a dash
-pub record IsCommand (words : List (String Global)) (call : Call) : Type 0 where
+-- the words are in the row of the command, and none is empty or begins with a dash
+pub record IsCommand (words : List (String Global)) (c : Call) : Type 0 where
   pub each : All IsWord words
-  pub row : IsRow (map string_bytes words) call
+  pub row : row_of (map string_bytes words) ≡ Some c
 
 -- what a command asks for
 abbrev pub call_of : Command → Call

@@ -1,0 +1,17 @@
+-- What the table of commands keeps.
+use Rattle.std.specs.Prelude.{◌≡◌, ◌≤◌, ◌↔◌, ℕ, List, Some, String, decimal}
+use Rattle.std.specs.Global.{Global}
+use Rattle.rte_words.specs.Calls.{Call}
+use Rattle.rte_words.specs.Words.{overhead_of, IsCommand}
+
+-- words are at most one command
+abbrev pub WordsAreOneCommand : Type 0
+WordsAreOneCommand = (words : List (String Global)) (c other : Call) → IsCommand words c → IsCommand words other → c ≡ other
+
+-- the word is the decimal text of a number from 0 to 1000
+abbrev pub IsOverhead : List ℕ → ℕ → Type 0
+IsOverhead word overhead = (overhead ≤ 1000) × (word ≡ decimal overhead)
+
+-- a word gives exactly the overhead whose decimal text it is
+abbrev pub OverheadsAreDecimal : Type 0
+OverheadsAreDecimal = (word : List ℕ) (overhead : ℕ) → (overhead_of word ≡ Some overhead) ↔ IsOverhead word overhead

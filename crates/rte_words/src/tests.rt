@@ -1,0 +1,110 @@
+//! Rows of words, with the commands that they are.
+
+use crate::{Command, read_words};
+use rte_tree::Text;
+use std::alloc::Global;
+use std::test::Fail;
+
+/// The words of a row, which has one space between them.
+fn words_of(alloc: Global, row: &str) -> Result<Vec<String>, Fail> {
+    let mut words = Vec::new(alloc);
+    for word in row.split(' ') {
+        words.push(String::from_str(alloc, word)?)?;
+    }
+    Ok(words)
+}
+
+/// The name of a command, with its files and its overhead behind it.
+fn line(alloc: Global, name: &str, files: &[&str], overhead: Option<u16>) -> Result<Text, Fail> {
+    let mut line = Text::from_bytes(alloc, name.as_bytes())?;
+    for file in files {
+        line.extend(b" ")?;
+        line.extend(file.as_bytes())?;
+    }
+    if let Some(overhead) = overhead {
+        line.extend(format!(in alloc; " {overhead}")?.as_bytes())?;
+    }
+    Ok(line)
+}
+
+/// What the row is.
+fn told(alloc: Global, row: &str) -> Result<Text, Fail> {
+    let words = words_of(alloc, row)?;
+    match read_words(words.as_slice()) {
+        Some(Command::Go {
+                program,
+                image,
+                script,
+                overhead,
+            }) => line(alloc, "Go", &[program, image, script], Some(overhead)),
+        Some(Command::Check { program, overhead }) => {
+            line(alloc, "Check", &[program], Some(overhead))
+        }
+        Some(Command::Compile {
+                program,
+                image,
+                overhead,
+            }) => line(alloc, "Compile", &[program, image], Some(overhead)),
+        Some(Command::Json { program, overhead }) => line(alloc, "Json", &[program], Some(overhead)),
+        Some(Command::Print { program }) => line(alloc, "Print", &[program], None),
+        Some(Command::Run { image, script }) => line(alloc, "Run", &[image, script], None),
+        Some(Command::Migrate { image, target }) => {
+            line(alloc, "Migrate", &[image, target], None)
+        }
+        None => line(alloc, "Usage", &[], None),
+    }
+}
+
+#[test]
+fn rows_and_their_commands(rt: HostRuntime) -> Result<(), Fail> {
+    for (row, answer) in [
+        ("go p i s", "Go p i s 0"),
+        ("go p i s 0", "Go p i s 0"),
+        ("go p i s 1000", "Go p i s 1000"),
+        ("go p i s 1001", "Usage"),
+        ("go p i s 007", "Usage"),
+        ("go p i s 00", "Usage"),
+        ("go p i s 7 7", "Usage"),
+        ("go p i", "Usage"),
+        ("check p", "Check p 0"),
+        ("check p 42", "Check p 42"),
+        ("check p -1", "Usage"),
+        ("check p +1", "Usage"),
+        ("check p 4294967296", "Usage"),
+        ("check p 1x", "Usage"),
+        ("check 7", "Check 7 0"),
+        ("compile p i", "Compile p i 0"),
+        ("compile p i 9", "Compile p i 9"),
+        ("compile p", "Usage"),
+        ("json p", "Json p 0"),
+        ("json p 999", "Json p 999"),
+        ("print p", "Print p"),
+        ("print p 1", "Usage"),
+        ("run i s", "Run i s"),
+        ("run i s 1", "Usage"),
+        ("migrate i j", "Migrate i j"),
+        ("migrate i", "Usage"),
+        ("check", "Usage"),
+        ("check ", "Usage"),
+        ("check p ", "Usage"),
+        ("go  i s", "Usage"),
+        ("run -i s", "Usage"),
+        ("print -", "Usage"),
+        ("Check p", "Usage"),
+        ("checks p", "Usage"),
+        ("-check p", "Usage"),
+        ("", "Usage"),
+    ] {
+        assert_eq!(rt;
+            told(rt.alloc(), row)?.as_bytes(),
+            answer.as_bytes(),
+            "at {row}"
+        );
+    }
+    Ok(())
+}
+
+#[test]
+fn no_words(rt: HostRuntime) {
+    assert!(rt; read_words(&[]).is_none());
+}
