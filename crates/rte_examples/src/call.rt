@@ -8,13 +8,14 @@ use std::test::Fail;
 /// The bytes that the sink of a call takes.
 const ROOM: usize = 1_048_576;
 
-/// What a call came to: its status, the bytes and the pieces that it put, and what I holds.
+/// What a call came to: its status, the bytes and the pieces that it put, and what I and J hold.
 #[derive(Drop)]
 pub struct Outcome {
     pub status: u8,
     pub put: Vec<u8>,
     pub puts: u64,
     pub image: Option<Vec<u8>>,
+    pub migrated: Option<Vec<u8>>,
 }
 
 /// Which reads, writes and puts fail, by their numbers from 1; 0 is none.
@@ -58,24 +59,55 @@ pub fn call_with(
     script: Option<&str>,
     failures: Failures,
 ) -> Result<Outcome, Fail> {
-    let reads = vec![in alloc; failures.read]?;
-    let writes = vec![in alloc; failures.write]?;
-    let mut files = MemFiles::new(alloc, reads, writes);
+    let mut files = failing(alloc, failures)?;
     files.place("P", program)?;
     if let Some(text) = script {
         files.place("S", text.as_bytes())?;
     }
+    outcome(alloc, line, files, failures)
+}
+
+/// A call where I holds the image and S the script.
+pub fn call_on_image(
+    alloc: Global,
+    line: &str,
+    image: &[u8],
+    script: &str,
+) -> Result<Outcome, Fail> {
+    let mut files = failing(alloc, NO_FAILURES)?;
+    files.place("I", image)?;
+    files.place("S", script.as_bytes())?;
+    outcome(alloc, line, files, NO_FAILURES)
+}
+
+fn failing(alloc: Global, failures: Failures) -> Result<MemFiles, Fail> {
+    let reads = vec![in alloc; failures.read]?;
+    let writes = vec![in alloc; failures.write]?;
+    Ok(MemFiles::new(alloc, reads, writes))
+}
+
+/// What the file of this name holds.
+fn held(alloc: Global, files: &MemFiles, name: &str) -> Result<Option<Vec<u8>>, Fail> {
+    match files.held(name) {
+        Some(bytes) => Ok(Some(Vec::from_slice(alloc, bytes)?)),
+        None => Ok(None),
+    }
+}
+
+fn outcome(
+    alloc: Global,
+    line: &str,
+    mut files: MemFiles,
+    failures: Failures,
+) -> Result<Outcome, Fail> {
     let words = words_of(alloc, line)?;
     let mut out = MemSink::new(alloc, ROOM, vec![in alloc; failures.put]?)?;
     let status = rte(alloc, words.as_slice(), &mut files, &mut out);
-    let image = match files.held("I") {
-        Some(bytes) => Some(Vec::from_slice(alloc, bytes)?),
-        None => None,
-    };
     Ok(Outcome {
-        status,
+        status: status.code(),
         put: Vec::from_slice(alloc, out.bytes())?,
         puts: out.puts(),
-        image,
+        image: held(alloc, &files, "I")?,
+        migrated: held(alloc, &files, "J")?,
     })
 }

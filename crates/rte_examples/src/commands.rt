@@ -50,6 +50,12 @@ const TOO_SOON_REPORT: &str =
 const TWO: &str =
     "program b process p : periodic frame 10 begin end p process q : periodic frame 20 begin if true then else end if end q end b";
 
+const VALVE_JSON: &str =
+    "{\"code\":3,\"monitors\":[],\"processes\":[{\"block\":0,\"bound\":15,\"cost\":15,\"data\":0,\"frame\":15,\"name\":\"p\",\"rank\":1,\"stack\":1,\"suspend\":0,\"waits\":0}],\"program\":\"a\",\"timely\":true}\n";
+
+const LATE_JSON: &str =
+    "{\"code\":3,\"monitors\":[],\"processes\":[{\"block\":0,\"bound\":\"none\",\"cost\":17,\"data\":0,\"frame\":15,\"name\":\"p\",\"rank\":1,\"stack\":1,\"suspend\":0,\"waits\":0}],\"program\":\"a\",\"timely\":false}\n";
+
 const TWO_PRINTED: &str =
     "program b\nprocess p : periodic frame 10\nbegin\nend p\nprocess q : periodic frame 20\nbegin\nif true then\nelse\nend if\nend q\nend b\n";
 
@@ -94,7 +100,8 @@ fn checks_and_prints(rt: HostRuntime) -> Result<(), Fail> {
         ("check P", TIGHT, 0, TIGHT_REPORT),
         ("check P", SOONER, 0, SOONER_REPORT),
         ("check P", TOO_SOON, 3, TOO_SOON_REPORT),
-        ("check P", TWO, 2, "E9 1:1\n"),
+        ("json P", VALVE, 0, VALVE_JSON),
+        ("json P 1", VALVE, 3, LATE_JSON),
         ("check P", "program a ;", 2, "E1 1:11\n"),
         ("print P", VALVE, 0, VALVE_PRINTED),
         ("print P", VALVE_PRINTED, 0, VALVE_PRINTED),
@@ -110,6 +117,8 @@ fn checks_and_prints(rt: HostRuntime) -> Result<(), Fail> {
         ("Go P I S", VALVE, 1, "usage\n"),
         ("print", VALVE, 1, "usage\n"),
         ("check -P", VALVE, 1, "usage\n"),
+        ("check P 1001", VALVE, 1, "usage\n"),
+        ("go P I S 01", VALVE, 1, "usage\n"),
     ];
     for (line, program, want, text) in rows {
         let Outcome {

@@ -6,8 +6,12 @@ mod call;
 #[cfg(test)]
 mod commands;
 #[cfg(test)]
+mod images;
+#[cfg(test)]
 mod runs;
 #[cfg(test)]
 mod scripts;
 #[cfg(test)]
 mod texts;
+#[cfg(test)]
+mod worked;

@@ -1,0 +1,99 @@
+//! Stored images, run and migrated.
+
+use crate::call::{Outcome, call, call_on_image};
+use std::alloc::Global;
+use std::test::Fail;
+
+const VALVE: &str =
+    "program a device valve : out process p : periodic frame 15 begin put valve 7 end p end a";
+
+/// The image of an idle program in the first version of images, in hexadecimal, and in the second.
+const FIRST: &str =
+    "52544555 0001 0001 0000 0000 0000 0000 0000 00000001 0161 0170 00 0000000a 00000000 0000 0001 00000004 00000000 00000000 00000000 00000004 00000000 00000000 00000000 00000000 00000000 0000 00000000 30 00000000 00000000 00000000";
+
+const SECOND: &str =
+    "52544555 0002 0000 0001 0000 0000 0000 0000 0000 00000001 0161 0170 00 0000000a 0000000a 00000000 0000 0001 00000004 00000000 00000000 00000000 00000004 00000000 00000000 00000000 00000000 00000000 0000 00000000 30 00000000 00000000 00000000";
+
+/// The bytes that are written in hexadecimal, with spaces between.
+fn bytes_of(alloc: Global, digits: &str) -> Result<Vec<u8>, Fail> {
+    let packed = digits.replace(alloc, " ", "")?;
+    let text = packed.as_str();
+    let mut bytes = Vec::new(alloc);
+    for place in 0..text.len() / 2 {
+        bytes.push(u8::from_str_radix(&text[2 * place..2 * place + 2], 16)?)?;
+    }
+    Ok(bytes)
+}
+
+/// The image of a program text with an overhead.
+fn image_of(alloc: Global, line: &str, program: &str) -> Result<Vec<u8>, Fail> {
+    let Outcome { image, .. } = call(alloc, line, program.as_bytes(), Some("end 0\n"))?;
+    Ok(image.ok_or("no image")?)
+}
+
+#[test]
+fn runs_stored_images(rt: HostRuntime) -> Result<(), Fail> {
+    let alloc = rt.alloc();
+    let rows: &[(usize, u8, u8, &str)] = &[
+        (49, 15, 0, "0 p release\n10 p put valve 7\n14 p end\n"),
+        (55, 14, 4, "V2 14 15\n"),
+        (71, 14, 4, "V5 14 15\n"),
+    ];
+    for (place, byte, want, text) in rows {
+        let mut image = image_of(alloc, "go P I S", VALVE)?;
+        image[*place] = *byte;
+        let Outcome { status, put, .. } =
+            call_on_image(alloc, "run I S", image.as_slice(), "end 15\n")?;
+        assert_eq!(rt; status, *want, "{place}");
+        assert!(rt; put.as_slice() == text.as_bytes(), "{place}");
+    }
+    Ok(())
+}
+
+#[test]
+fn refuses_bytes_that_are_no_image(rt: HostRuntime) -> Result<(), Fail> {
+    let alloc = rt.alloc();
+    let whole = image_of(alloc, "go P I S", VALVE)?;
+    let cut = call_on_image(alloc, "run I S", &whole.as_slice()[..141], "end 15\n")?;
+    assert_eq!(rt; cut.status, 4);
+    assert!(rt; cut.put.as_slice() == b"I2 141\n".as_slice());
+    let mut longer = image_of(alloc, "go P I S", VALVE)?;
+    longer.push(0)?;
+    let more = call_on_image(alloc, "migrate I J", longer.as_slice(), "")?;
+    assert_eq!(rt; more.status, 4);
+    assert!(rt; more.put.as_slice() == b"I3 142\n".as_slice());
+    assert!(rt; more.migrated.is_none());
+    Ok(())
+}
+
+#[test]
+fn an_overhead_is_part_of_the_image(rt: HostRuntime) -> Result<(), Fail> {
+    let alloc = rt.alloc();
+    let program =
+        "program a device valve : out process p : periodic frame 17 begin put valve 7 end p end a";
+    let mut image = image_of(alloc, "compile P I 1", program)?;
+    image[7] = 2;
+    let Outcome { status, put, .. } =
+        call_on_image(alloc, "run I S", image.as_slice(), "end 17\n")?;
+    assert_eq!(rt; status, 4);
+    assert!(rt; put.as_slice() == b"V2 17 19\n".as_slice());
+    Ok(())
+}
+
+#[test]
+fn migrates_the_first_version(rt: HostRuntime) -> Result<(), Fail> {
+    let alloc = rt.alloc();
+    let first = bytes_of(alloc, FIRST)?;
+    let second = bytes_of(alloc, SECOND)?;
+    assert_eq!(rt; first.len(), 98);
+    let Outcome {
+        status,
+        puts,
+        migrated,
+        ..
+    } = call_on_image(alloc, "migrate I J", first.as_slice(), "")?;
+    assert_eq!(rt; status, 0);
+    assert_eq!(rt; puts, 0);
+    assert!(rt; migrated.ok_or("no image")?.as_slice() == second.as_slice());
+    Ok(())
+}

@@ -1,9 +1,0 @@
-pub mod Jobs
-pub mod Settles
-pub mod Places
-pub mod Stands
-pub mod Passes
-pub mod Steps
-pub mod Logs
-pub mod Built
-pub mod Counted

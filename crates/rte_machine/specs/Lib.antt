@@ -1,5 +1,0 @@
-pub mod PutImage
-pub mod Standing
-pub mod Move
-pub mod TreeCode
-pub mod Count
