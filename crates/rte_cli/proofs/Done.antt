@@ -4,7 +4,11 @@ use Rattle.std.specs.Prelude.{IsSomeAnd, slice_get}
 use Rattle.std.specs.Bool.{OnTrue}
 use Rattle.rte_io.specs.Outside.{Outside, Appends}
 use Rattle.rte_tree.specs.declared.place.Place.{Place}
-use Rattle.rte_tree.specs.Placed.{Prog, plain}
+use Rattle.rte_tree.specs.Placed.{Prog, plain, bare}
+use Rattle.rte_lex.specs.declared.token.Token.{Token}
+use Rattle.rte_lex.specs.Tokens.{tokens}
+use Rattle.rte_print.specs.Canonical.{canonical}
+use Rattle.rte_print.specs.ReadBack.{AreSpelled, HasTree, IsPrinted}
 use Rattle.rte_machine_meaning.specs.Image.{Image, Script, Line}
 use Rattle.rte_image.specs.Named.{NamedImage}
 use Rattle.rte_image.specs.Raw.{image_of, named_of}
@@ -24,13 +28,13 @@ use Rattle.rte_report.specs.Report.{report_text}
 use Rattle.rte_report.specs.Json.{report_json}
 use Rattle.rte_built.specs.Built.{IsBuilt, IsTimely}
 use Rattle.rte_words.specs.Calls.{Call, go, check, compile, json, print, run, migrate}
-use Rattle.rte_commands.specs.Source.{IsTimelyText, Style, report_of}
+use Rattle.rte_commands.specs.Source.{IsWritten, IsTimelyText, Style, report_of}
 use Rattle.rte_commands.specs.Script.{line_said, run_of}
-use Rattle.rte_commands.specs.Due.{Outcome, stored, log, IsRefused, faulty, late, IsReportDue, report_refused, report_timely, IsCompileDue, compile_refused, compiled, IsGoDue, go_refused, go_bad_script, went, IsImageFile, IsImageRefused, misread, invalid, IsRunDue, run_refused, run_bad_script, ran, IsMigrateDue, migrate_refused, migrated}
+use Rattle.rte_commands.specs.Due.{Outcome, stored, log, IsRefused, faulty, late, IsReportDue, report_refused, report_timely, IsPrintDue, print_faulty, printed, IsCompileDue, compile_refused, compiled, IsGoDue, go_refused, go_bad_script, went, IsImageFile, IsImageRefused, misread, invalid, IsRunDue, run_refused, run_bad_script, ran, IsMigrateDue, migrate_refused, migrated}
 use Rattle.rte_commands.specs.Runs.{IsKept, KeepsItsWord, BuiltImagesAreFaithful, IsAccepted, IsDone}
 use Rattle.rte_answers.specs.Files.{IsDue, target_of}
 use Rattle.rte_answers.specs.Went.{IsWhole, Stores, Went}
-use Rattle.rte_promise.specs.Promise.{HasGone, HasCompiled, HasReported, HasRun, HasMigrated, HasDone}
+use Rattle.rte_promise.specs.Promise.{HasGone, HasCompiled, HasReported, ReadsBack, HasPrinted, HasRun, HasMigrated, HasDone}
 
 status_of : (o p : Outcome) → o ≡ p → o.status ≡ p.status
 status_of o p same = ap (λ (x : Outcome). x.status) same
@@ -78,6 +82,21 @@ keeps limits safe suit bytes raw file text lines end script =
     subst (RespectsFrames (image_of raw)) (sym (same_run lines end)) (suit bytes raw text lines end file.held script).frames in
     record { in_time = both.1 (run_of lines end) frames; safe = both.0 (run_of lines end) }
 
+-- ---- canonical texts
+
+-- the laws of the printer
+pub record Printing : Type 0 where
+  pub spelled : (text : List ℕ) (toks : List Token) → tokens text toks → AreSpelled text toks
+  pub tokens_of : (g : Prog Place) → IsPrinted g → (toks : List Token) × tokens (canonical (bare g)) toks
+  pub tree_of : (g : Prog Place) → IsPrinted g → (toks : List Token) → tokens (canonical (bare g)) toks → HasTree (canonical (bare g)) toks g
+
+reads_back : Printing → (text : List ℕ) (g : Prog Place) → IsWritten text g → ReadsBack g
+reads_back laws text g w short =
+    let is = w.program in
+    let printed_is : IsPrinted g = record { text = text; toks = is.tree.toks; spelled = laws.spelled text is.tree.toks is.tree.listed; reads = is.tree.grown; short = short } in
+    let found = laws.tokens_of g printed_is in
+    (found.0, found.1, laws.tree_of g printed_is found.0 found.1)
+
 -- ---- what was due was done
 
 stored_bytes : (o : Option (List ℕ)) (bytes : List ℕ) (name : List ℕ) (held held' : List ℕ → Option (List ℕ)) → o ≡ Some bytes → Stores o (Some name) held held' → held' name ≡ Some bytes
@@ -86,7 +105,12 @@ stored_bytes o bytes name held held' is kept = subst (λ (x : Option (List ℕ))
 put_is : (before now : Outside) (o : Outcome) (text : List ℕ) → o.text ≡ text → Appends before.out.taken now.out.taken o.text → Appends before.out.taken now.out.taken text
 put_is before now o text same put = subst (λ (x : List ℕ). Appends before.out.taken now.out.taken x) same put
 
-module _ (faithful : BuiltImagesAreFaithful) (before now : Outside) (o : Outcome) (zero : o.status ≡ 0) (put : Appends before.out.taken now.out.taken o.text) where
+module _ (laws : Printing) (faithful : BuiltImagesAreFaithful) (before now : Outside) (o : Outcome) (zero : o.status ≡ 0) (put : Appends before.out.taken now.out.taken o.text) where
+  printed_whole : (program : List ℕ) (text : List ℕ) → before.files.held program ≡ Some text → IsPrintDue text o → HasPrinted program before now
+  printed_whole program text is (print_faulty number place fault same) = absurd (let two = status_of o _ same in omega (arith, two, zero))
+  printed_whole program text is (printed tree w same) =
+      record { text = text; held = is; tree = tree; written = w; put = put_is before now o (canonical (bare tree)) (text_of o _ same) put; back = reads_back laws text tree w }
+
   reported : (show : Style) (over : ℕ) (program : List ℕ) (text : List ℕ) → before.files.held program ≡ Some text → IsReportDue show over text o → HasReported show over program before now
   reported show over program text is (report_refused r) = absurd (refused_zero show over text o r zero)
   reported show over program text is (report_timely n t same) = record {
@@ -162,24 +186,25 @@ of_held : (Due : List ℕ → Outcome → Type 0) (A : Type 0) (held : Option (L
 of_held Due A None o by due = absurd due
 of_held Due A (Some text) o by due = by text refl due
 
-module _ (faithful : BuiltImagesAreFaithful) (limits : ImagesReadHaveLimits) (safe : EveryValidImageIsSafeAndInTime) (suit : ScriptsForImagesReadSuit) (before now : Outside) (o : Outcome) (zero : o.status ≡ 0)
+module _ (laws : Printing) (faithful : BuiltImagesAreFaithful) (limits : ImagesReadHaveLimits) (safe : EveryValidImageIsSafeAndInTime) (suit : ScriptsForImagesReadSuit) (before now : Outside) (o : Outcome) (zero : o.status ≡ 0)
     (put : Appends before.out.taken now.out.taken o.text) where
   done : (call : Call) → IsDue call before.files.held o → Stores o.image (target_of call) before.files.held now.files.held → HasDone call before now
-  done (go program image script over) due kept = gone faithful before now o zero put over program image script kept due
+  done (go program image script over) due kept = gone laws faithful before now o zero put over program image script kept due
   done (check program over) due kept =
-      of_held (IsReportDue report_text over) (HasReported report_text over program before now) (before.files.held program) o (λ text is d. reported faithful before now o zero put report_text over program text is d) due
+      of_held (IsReportDue report_text over) (HasReported report_text over program before now) (before.files.held program) o (λ text is d. reported laws faithful before now o zero put report_text over program text is d) due
   done (compile program image over) due kept =
-      of_held (IsCompileDue over) (HasCompiled over program image before now) (before.files.held program) o (λ text is d. compiled_whole faithful before now o zero put over program image text is kept d) due
+      of_held (IsCompileDue over) (HasCompiled over program image before now) (before.files.held program) o (λ text is d. compiled_whole laws faithful before now o zero put over program image text is kept d) due
   done (json program over) due kept =
-      of_held (IsReportDue report_json over) (HasReported report_json over program before now) (before.files.held program) o (λ text is d. reported faithful before now o zero put report_json over program text is d) due
-  done (print program) due kept = tt
-  done (run image script) due kept = run_whole faithful before now o zero put limits safe suit image script due
+      of_held (IsReportDue report_json over) (HasReported report_json over program before now) (before.files.held program) o (λ text is d. reported laws faithful before now o zero put report_json over program text is d) due
+  done (print program) due kept =
+      of_held IsPrintDue (HasPrinted program before now) (before.files.held program) o (λ text is d. printed_whole laws faithful before now o zero put program text is d) due
+  done (run image script) due kept = run_whole laws faithful before now o zero put limits safe suit image script due
   done (migrate image target) due kept =
-      of_held IsMigrateDue (HasMigrated image target before now) (before.files.held image) o (λ bytes is d. migrated_whole faithful before now o zero put image target bytes is kept d) due
+      of_held IsMigrateDue (HasMigrated image target before now) (before.files.held image) o (λ bytes is d. migrated_whole laws faithful before now o zero put image target bytes is kept d) due
 
-pub has_done : BuiltImagesAreFaithful → ImagesReadHaveLimits → EveryValidImageIsSafeAndInTime → ScriptsForImagesReadSuit → (tells : Bool) (call : Call) (before now : Outside) (status : ℕ)
+pub has_done : Printing → BuiltImagesAreFaithful → ImagesReadHaveLimits → EveryValidImageIsSafeAndInTime → ScriptsForImagesReadSuit → (tells : Bool) (call : Call) (before now : Outside) (status : ℕ)
     → Went tells call before now status → OnTrue tells (status ≡ 0 → HasDone call before now)
-has_done faithful limits safe suit true call before now status w = λ zero.
+has_done laws faithful limits safe suit true call before now status w = λ zero.
     let whole : IsWhole call before now status = w.whole (omega (arith, zero)) in
-    done faithful limits safe suit before now whole.outcome (sym whole.is ∙ zero) whole.put call whole.due whole.stored
-has_done faithful limits safe suit false call before now status w = tt
+    done laws faithful limits safe suit before now whole.outcome (sym whole.is ∙ zero) whole.put call whole.due whole.stored
+has_done laws faithful limits safe suit false call before now status w = tt

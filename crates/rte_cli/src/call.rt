@@ -1,11 +1,12 @@
 //! The top call.
 
-ghost use Rattle.std.specs.Prelude.{◌≡◌, ◌<◌, ◌↔◌};
+ghost use Rattle.std.specs.Prelude.{◌≡◌, ◌≢◌, ◌<◌, ◌↔◌, ◌⊎◌, ℕ, List, Some};
 ghost use Rattle.std.specs.Bool.{OnTrue};
-ghost use Rattle.rte_io.specs.Outside.{outside};
+ghost use Rattle.rte_io.specs.Outside.{outside, AllStay};
 ghost use Rattle.rte_words.specs.Calls.{Call};
 ghost use Rattle.rte_words.specs.Words.{IsCommand};
 ghost use Rattle.rte_answers.specs.Acts.{number_of};
+ghost use Rattle.rte_answers.specs.Files.{target_of};
 ghost use Rattle.rte_answers.specs.Went.{Went, Completes, IsUsage};
 ghost use Rattle.rte_promise.specs.Promise.{HasDone, IsRefusedForTime};
 
@@ -15,6 +16,7 @@ use rte_built_laws::law::built_images_are_faithful;
 use rte_built_once::law::timely_or_late;
 use rte_due_once::law::{written_once, written_or_faulty};
 use rte_io::{Files, Sink};
+use rte_print::{reads_back, tokens_are_spelled};
 use rte_script_suits::law::scripts_suit;
 use rte_valid_law::law::every_valid_image_is_safe_and_in_time;
 use rte_valid_limits::images_read_are_in_their_ranges;
@@ -46,6 +48,15 @@ pub fn rte<F: Files, O: Sink>(alloc: Global, words: &[String], files: &mut F, ou
     ensures usage { ((call : Call) → ¬ IsCommand words.now call) → IsUsage
         (outside (F.state files.old) (O.state out.old))
         (outside (F.state files.new) (O.state out.new)) (number_of result) }
+    // With every status but 0 and 7 no file has changed, and with these none but the one that is written.
+    ensures kept { 0 < number_of result → number_of result ≢ 7 → AllStay (F.state files.old).held (F.state files.new).held }
+    ensures others { (name : List ℕ) → ((call : Call) → IsCommand words.now call → target_of call ≢ Some name) →
+        (F.state files.new).held name ≡ (F.state files.old).held name }
+    // So once a file has changed, the status is 0 or 7.
+    ensures stored { (name : List ℕ) → (F.state files.new).held name ≢ (F.state files.old).held name →
+        (number_of result ≡ 0) ⊎ (number_of result ≡ 7) }
+    // A failed put always gives 7.
+    ensures quiet { number_of result ≢ 7 → (O.state out.new).faults ≡ (O.state out.old).faults }
     // Status 0: of `go`, the text is that of a timely program and the script one, what is stored is the image of the program,
     // what was put is its report and the log of that image over the script; and over every script for its names, that log is
     // that of a run of the program, in time, within its sizes, never stuck. Of the other commands likewise.
@@ -63,5 +74,7 @@ pub fn rte<F: Files, O: Sink>(alloc: Global, words: &[String], files: &mut F, ou
     written_or_faulty();
     written_once();
     timely_or_late();
+    reads_back();
+    tokens_are_spelled();
     carry_out(alloc, words, files, out)
 }

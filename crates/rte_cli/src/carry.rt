@@ -1,17 +1,18 @@
 //! The call, without what the laws say of it.
 
-ghost use Rattle.std.specs.Prelude.{◌≡◌, IfSome, IfNone};
-ghost use Rattle.std.specs.Bool.{OnTrue};
-ghost use Rattle.rte_io.specs.Outside.{outside};
-ghost use Rattle.rte_words.specs.Calls.{Call};
+ghost use Rattle.std.specs.Prelude.{◌≡◌, ◌≢◌, ◌≤◌, ◌<◌, ℕ, List, Some};
+ghost use Rattle.rte_io.specs.Outside.{outside, AllStay, FilesState};
+ghost use Rattle.rte_words.specs.Calls.{Call, over_of};
 ghost use Rattle.rte_words.specs.Words.{call_of, IsCommand};
 ghost use Rattle.rte_answers.specs.Acts.{number_of};
-ghost use Rattle.rte_answers.specs.Went.{Went, Completes, IsUsage};
+ghost use Rattle.rte_answers.specs.Files.{target_of};
+ghost use Rattle.rte_answers.specs.Went.{Went, IsUsage};
 
 use rte_answers::Status;
 use rte_io::{Files, Sink};
 use rte_perform::perform;
 use rte_prepare::{Unready, prepare};
+use rte_words::law::one_command;
 use rte_words::{Command, read_words};
 use std::alloc::Global;
 
@@ -33,6 +34,7 @@ fn carry<F: Files, O: Sink>(
     files: &mut F,
     out: &mut O,
 ) -> Status
+    requires { over_of (call_of command.now) ≤ 1000 }
     ensures { Went F.tells (call_of command.now)
         (outside (F.state files.old) (O.state out.old))
         (outside (F.state files.new) (O.state out.new)) (number_of result) }
@@ -57,7 +59,12 @@ pub fn carry_out<F: Files, O: Sink>(
     ensures usage { ((call : Call) → ¬ IsCommand words.now call) → IsUsage
         (outside (F.state files.old) (O.state out.old))
         (outside (F.state files.new) (O.state out.new)) (number_of result) }
+    ensures kept { 0 < number_of result → number_of result ≢ 7 → AllStay (F.state files.old).held (F.state files.new).held }
+    ensures others { (name : List ℕ) → ((call : Call) → IsCommand words.now call → target_of call ≢ Some name) →
+        (F.state files.new).held name ≡ (F.state files.old).held name }
+    ensures quiet { number_of result ≢ 7 → (O.state out.new).faults ≡ (O.state out.old).faults }
 {
+    one_command();
     match read_words(words) {
         Some(command) => carry(alloc, &command, files, out),
         None => usage(out),

@@ -1,9 +1,11 @@
 -- What a call that answers 0 has read, stored and put, and when one answers 3.
-use Rattle.std.specs.Prelude.{◌≡◌, ◌<◌, ◌↔◌, ℕ, Bool, List, Option, Some, None, IfSome, String}
-use Rattle.std.specs.Bool.{OnTrue}
-use Rattle.std.specs.Global.{Global}
+use Rattle.std.specs.Prelude.{◌≡◌, ◌≤◌, ℕ, List, Some, length}
 use Rattle.rte_tree.specs.declared.place.Place.{Place}
-use Rattle.rte_tree.specs.Placed.{Prog}
+use Rattle.rte_tree.specs.Placed.{Prog, bare}
+use Rattle.rte_lex.specs.declared.token.Token.{Token}
+use Rattle.rte_lex.specs.Tokens.{tokens, longest_text}
+use Rattle.rte_print.specs.Canonical.{canonical}
+use Rattle.rte_print.specs.ReadBack.{HasTree}
 use Rattle.rte_io.specs.Outside.{Outside, Appends}
 use Rattle.rte_image.specs.Named.{NamedImage}
 use Rattle.rte_image.specs.Raw.{image_of, named_of}
@@ -13,7 +15,7 @@ use Rattle.rte_report.specs.Json.{report_json}
 use Rattle.rte_script.specs.declared.script.ScriptLine.{ScriptLine}
 use Rattle.rte_script.specs.Scripts.{IsScript}
 use Rattle.rte_words.specs.Calls.{Call, go, check, compile, json, print, run, migrate}
-use Rattle.rte_commands.specs.Source.{Style, report_of}
+use Rattle.rte_commands.specs.Source.{IsWritten, Style, report_of}
 use Rattle.rte_commands.specs.Due.{IsImageFile, stored, log}
 use Rattle.rte_commands.specs.Runs.{KeepsItsWord, IsAccepted, IsUnsolved, IsDone}
 
@@ -38,6 +40,19 @@ pub record HasReported (show : Style) (over : ℕ) (program : List ℕ) (before 
   pub accepted : IsAccepted over (before.files.held program) tree built
   pub put : Appends before.out.taken now.out.taken (report_of show built)
 
+-- the canonical text of the tree, where it is no longer than a text may be, has tokens, and these have that tree, apart from places
+abbrev pub ReadsBack : Prog Place → Type 0
+ReadsBack tree = length (canonical (bare tree)) ≤ longest_text → (toks : List Token) × tokens (canonical (bare tree)) toks × HasTree (canonical (bare tree)) toks tree
+
+-- `print`: the canonical text of a program is put, and reads back
+pub record HasPrinted (program : List ℕ) (before now : Outside) : Type 0 where
+  pub text : List ℕ
+  pub held : before.files.held program ≡ Some text
+  pub tree : Prog Place
+  pub written : IsWritten text tree
+  pub put : Appends before.out.taken now.out.taken (canonical (bare tree))
+  pub back : ReadsBack tree
+
 -- `run`: an image is valid, whoever made it, and its log over the script is put; every run of it over a script for its names is in
 -- time and size
 pub record HasRun (image script : List ℕ) (before now : Outside) : Type 0 where
@@ -61,13 +76,13 @@ pub record HasMigrated (image target : List ℕ) (before now : Outside) : Type 0
   pub valid : IsImageFile bytes raw
   pub is_stored : now.files.held target ≡ Some (stored (named_of raw))
 
--- what a call that answers 0 has done; what `print` puts is told by what is due of it
+-- what a call that answers 0 has done
 abbrev pub HasDone : Call → (before now : Outside) → Type 0
 HasDone (go program image script over) before now = HasGone over program image script before now
 HasDone (check program over) before now = HasReported report_text over program before now
 HasDone (compile program image over) before now = HasCompiled over program image before now
 HasDone (json program over) before now = HasReported report_json over program before now
-HasDone (print program) before now = Unit {0}
+HasDone (print program) before now = HasPrinted program before now
 HasDone (run image script) before now = HasRun image script before now
 HasDone (migrate image target) before now = HasMigrated image target before now
 

@@ -1,3 +1,6 @@
+use Rattle.std.proofs.Common.{inl, inr, arith}
+use Rattle.std.proofs.lemmas.Bool.{cases_eq}
+use Rattle.rte_answers.specs.Acts.{number_of}
 use Rattle.rte_cli.proofs.Complete.{completes}
 use Rattle.rte_cli.proofs.Done.{has_done}
 use Rattle.rte_cli.proofs.Late.{refused_for_time}
@@ -9,7 +12,8 @@ returns-clause-complete g c = λ call is. completes g.F.Files.tells call _ _ _ (
 -- status 0, by what is due and the laws of images
 pub returns-clause-done : goal.returns-clause-done
 returns-clause-done g c = λ call is.
-    has_done c.built_images_are_faithful.ensures c.images_read_are_in_their_ranges.ensures.limits c.every_valid_image_is_safe_and_in_time.ensures c.scripts_suit.ensures.held
+    has_done (record { spelled = c.tokens_are_spelled.ensures; tokens_of = c.reads_back.ensures.tokens; tree_of = c.reads_back.ensures.tree })
+    c.built_images_are_faithful.ensures c.images_read_are_in_their_ranges.ensures.limits c.every_valid_image_is_safe_and_in_time.ensures c.scripts_suit.ensures.held
     g.F.Files.tells call _ _ _ (c.carry_out.ensures.went call is)
 
 -- status 3, by what is due
@@ -17,3 +21,13 @@ pub returns-clause-late : goal.returns-clause-late
 returns-clause-late g c = λ call is.
     refused_for_time c.written_or_faulty.ensures c.written_once.ensures c.timely_or_late.ensures
     g.F.Files.tells call _ _ _ (c.carry_out.ensures.went call is)
+
+-- a file that has changed
+pub returns-clause-stored : goal.returns-clause-stored
+returns-clause-stored g c = λ name changed. elim (cases_eq (number_of c.carry_out.result) 7) [
+  | inl seven ↦ inr seven
+  | inr other ↦ elim (cases_eq (number_of c.carry_out.result) 0) [
+    | inl zero ↦ inl zero
+    | inr more ↦ absurd (changed (c.carry_out.ensures.kept (omega (arith, more)) other name))
+  ]
+]
