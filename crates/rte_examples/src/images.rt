@@ -97,3 +97,18 @@ fn migrates_the_first_version(rt: HostRuntime) -> Result<(), Fail> {
     assert!(rt; migrated.ok_or("no image")?.as_slice() == second.as_slice());
     Ok(())
 }
+
+#[test]
+fn runs_the_first_version(rt: HostRuntime) -> Result<(), Fail> {
+    let alloc = rt.alloc();
+    let first = bytes_of(alloc, FIRST)?;
+    let Outcome { status, put, .. } = call_on_image(alloc, "run I S", first.as_slice(), "end 10\n")?;
+    assert_eq!(rt; status, 0);
+    assert!(rt; put.as_slice() == b"0 p release\n3 p end\n".as_slice());
+    let mut late = bytes_of(alloc, SECOND)?;
+    late[36] = 11;
+    let wrong = call_on_image(alloc, "run I S", late.as_slice(), "end 10\n")?;
+    assert_eq!(rt; wrong.status, 4);
+    assert!(rt; wrong.put.as_slice() == b"I4 33\n".as_slice());
+    Ok(())
+}

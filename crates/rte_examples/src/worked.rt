@@ -173,6 +173,13 @@ const ROWS: &[Row] = &[
     },
     Row {
         line: "check P",
+        program: "program a procedure f() var t : array 1 .. 4097 of int begin end f process p : periodic frame 30 begin f() end p end a",
+        script: "end 1",
+        status: 2,
+        put: Put::All("E47 1:21"),
+    },
+    Row {
+        line: "check P",
         program: MINE,
         script: "end 1",
         status: 0,
@@ -273,5 +280,36 @@ fn the_mine_goes_on(rt: HostRuntime) -> Result<(), Fail> {
     assert_eq!(rt; status, 0);
     let first = format!(in alloc; "{}{}", report.as_str(), log.as_str())?;
     assert!(rt; put.as_slice().starts_with(first.as_bytes()));
+    Ok(())
+}
+
+/// So many puts, in a program whose frame is long.
+fn many_puts(alloc: Global, puts: u64) -> Result<String, Fail> {
+    let mut body = String::new(alloc);
+    for _ in 0..puts {
+        body.push_str(" put valve 1")?;
+    }
+    Ok(format!(in alloc;
+        "program a device valve : out process p : periodic frame 1000000 begin{body} end p end a"
+    )?)
+}
+
+#[test]
+fn as_long_as_may_be(rt: HostRuntime) -> Result<(), Fail> {
+    let alloc = rt.alloc();
+    let rows = [
+        (
+            32_767,
+            0,
+            "program a|process p frame 1000000 rank 1 cost 360441 suspend 0 waits 0 block 0 bound 360441 data 0 stack 1|code 65535|timely",
+        ),
+        (32_768, 2, "E46 1:9"),
+    ];
+    for (puts, want, bars) in rows {
+        let program = many_puts(alloc, puts)?;
+        let Outcome { status, put, .. } = call(alloc, "check P", program.as_bytes(), None)?;
+        assert_eq!(rt; status, want, "{puts}");
+        assert!(rt; put.as_slice() == lines(alloc, bars)?.as_bytes(), "{puts}");
+    }
     Ok(())
 }
