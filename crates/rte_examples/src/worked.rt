@@ -179,6 +179,24 @@ const ROWS: &[Row] = &[
         put: Put::All("E47 1:21"),
     },
     Row {
+        line: "go P I S",
+        program: "program b device a : out process p : periodic frame 100 begin put a 1 end p process q : periodic frame 200 deadline 20 begin put a 2 end q end b",
+        script: "end 60",
+        status: 0,
+        put: Put::All(
+            "program b|process p frame 100 rank 2 cost 15 suspend 0 waits 0 block 0 bound 30 data 0 stack 1|process q frame 200 deadline 20 rank 1 cost 15 suspend 0 waits 0 block 0 bound 15 data 0 stack 1|code 6|timely|0 p release|0 q release|10 q put a 2|14 q end|25 p put a 1|29 p end",
+        ),
+    },
+    Row {
+        line: "check P",
+        program: "program b device a : out process p : periodic frame 100 begin put a 1 end p process q : periodic frame 200 deadline 14 begin put a 2 end q end b",
+        script: "end 60",
+        status: 3,
+        put: Put::All(
+            "program b|process p frame 100 rank 2 cost 15 suspend 0 waits 0 block 0 bound 30 data 0 stack 1|process q frame 200 deadline 14 rank 1 cost 15 suspend 0 waits 0 block 0 bound none data 0 stack 1|code 6|untimely q",
+        ),
+    },
+    Row {
         line: "check P",
         program: MINE,
         script: "end 1",
