@@ -1,0 +1,59 @@
+#!/usr/bin/env bash
+# Time and memory of the whole command. Run by hand on a built program:   bench/whole.sh crates/rte/out/rte
+#
+#   puts       32,767 puts compiled, and run for 1,000,000 ticks
+#   text       1 MiB of program text, of long names, compiled
+#   idle       one process, run to tick 1,000,000,000
+#   loops      280 million ticks of loops
+#   events     6 million log lines of one process
+#   processes  64 processes with 3 million log lines
+#   script     1,000,000 lines of a script
+#   image      the image of 65,535 instructions, loaded, tested and run to tick 0
+#
+# The aims, in seconds, are those of a plain native program for the same rules on a machine of this kind.
+set -euo pipefail
+rte=$(realpath "${1:?the built program}")
+folder=$(mktemp -d)
+trap 'rm -rf "$folder"' EXIT
+cd "$folder"
+
+awk 'BEGIN { print "program bench device valve : out process p : periodic frame 360441 begin"
+    for (i = 0; i < 32767; i++) print "put valve 1"
+    print "end p end bench" }' > puts
+awk 'BEGIN { for (i = 0; i < 60; i++) name = name "a"
+    print "program bench process p : periodic frame 1000000000"
+    for (i = 0; i < 8; i++) printf "var %s%d : int\n", name, i
+    print "begin"
+    for (i = 0; i < 5400; i++) printf "%s%d := %s%d + %s%d\n", name, i % 8, name, (i + 1) % 8, name, (i + 3) % 8
+    print "end p end bench" }' > text
+echo 'program bench process p : periodic frame 1000000000 begin end p end bench' > idle
+echo 'program bench process p : periodic frame 1000000000 var x : int begin for i : 1 .. 1000 do for j : 1 .. 10000 do x := i + j end for end for end p end bench' > loops
+echo 'program bench device valve : out process p : periodic frame 26 begin put valve 1 put valve 2 end p end bench' > events
+awk 'BEGIN { print "program bench device valve : out"
+    for (i = 0; i < 64; i++) printf "process p%d : periodic frame 960 begin put valve %d end p%d\n", i, i, i
+    print "end bench" }' > processes
+echo 'program bench device gauge : in process p : periodic frame 1000000000 begin end p end bench' > reader
+awk 'BEGIN { for (i = 0; i < 999999; i++) printf "%d set gauge %d\n", i, i; print "end 1000000" }' > lines
+
+# measure NAME AIM WORD..
+measure() {
+    local name=$1 aim=$2
+    shift 2
+    /usr/bin/time -f '%e s, %M KiB' -o told "$rte" "$@" > put || true
+    printf '%-12s %s, %s bytes put (aim %s s)\n' "$name" "$(cat told)" "$(wc -c < put)" "$aim"
+}
+
+echo 'end 1000000' > script
+measure puts 0.04 go puts image script
+measure text 0.12 compile text image2
+echo 'end 1000000000' > script
+measure idle 0.002 go idle image3 script
+echo 'end 280000000' > script
+measure loops 0.58 go loops image4 script
+echo 'end 39000000' > script
+measure events 0.36 go events image5 script
+echo 'end 15000000' > script
+measure processes 0.67 go processes image6 script
+measure script 0.11 go reader image7 lines
+echo 'end 0' > script
+measure image 0.1 run image script
