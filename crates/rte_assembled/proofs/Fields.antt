@@ -1,6 +1,6 @@
 -- The numbers of a checked program that keeps to the rules of size fit their fields.
 use Rattle.std.specs.Prelude.{All, Contains, slice_get, sum_by, int_le}
-use Rattle.std.proofs.Common.{◌≡◌, ◌≤◌, ◌<◌, ◌+◌, ◌⊎◌, ◌||◌, ◌&&◌, ◌∙◌, inl, inr, refl, sym, ap, subst, ℕ, zero, suc, Bool, true, false, ℤ, pos, negsuc, List, [], ◌∷◌, Option, Some, None, length, map, filter_map, get_or, arith}
+use Rattle.std.proofs.Common.{◌≡◌, ◌≤◌, ◌<◌, ◌+◌, ◌⊎◌, ◌||◌, ◌&&◌, inl, inr, refl, subst, ℕ, zero, suc, Bool, true, false, ℤ, pos, negsuc, List, [], ◌∷◌, Option, Some, None, map, filter_map, arith}
 use Rattle.std.proofs.lemmas.Bool.{cases_lt, leb-true}
 use Rattle.std.proofs.lemmas.Option.{get_or_from_slice_get, slice_get_within}
 use Rattle.std.proofs.lemmas.List.Sums.{sum_by-cons}
@@ -9,24 +9,24 @@ use Rattle.rte_tree.specs.Placed.{Prog, Process, Decl, constant, device, event, 
 use Rattle.rte_tree.specs.Parts.{processes as placed_processes}
 use Rattle.rte_tree.specs.Plain as plain_of
 use Rattle.rte_tree.specs.declared.place.Place.{Place}
-use Rattle.rte_source_meaning.specs.Names.{as_count, count_value, monitors, process_in, processes, variable_in}
+use Rattle.rte_source_meaning.specs.Names.{as_count, constant_value, monitors, process_in, processes, variable_in}
 use Rattle.rte_emits.specs.Layout.{monitor_vars, routine_words, words_of}
-use Rattle.rte_emits.specs.Numbering.{Text, texts_from, numbered}
+use Rattle.rte_emits.specs.Numbering.{Text, texts_from}
 use Rattle.rte_costs.specs.Levels.{code_length, stack_of_process}
-use Rattle.rte_wellformed.specs.WellFormed.{HandlerFits, IsHandled, IsWellFormed, OptionalFits, ProcessFits, vars_words}
+use Rattle.rte_wellformed.specs.WellFormed.{IsHandled, IsWellFormed, OptionalFits, ProcessFits, vars_words}
 use Rattle.rte_size_rules.specs.Rules.{routine_stack, texts_from as placed_texts}
 use Rattle.rte_too_large.specs.Told.{plain_text}
 use Rattle.rte_too_large.proofs.Parts.{none_some, plain_texts, some_same}
 use Rattle.rte_numbered.proofs.Lists.{contains_cases, contains_here, contains_later, nothing_in}
 use Rattle.rte_made_fits.proofs.Counts.{one_low, words_same}
 use Rattle.rte_checked.specs.Ready.{CheckedProgramsAreReady, IsReady}
-use Rattle.rte_assemble.specs.Fields.{AreExceptions, FitsHandler, FitsProcess, monitors_words}
+use Rattle.rte_assemble.specs.Fields.{AreExceptions, FitsHandler, monitors_words}
 use Rattle.rte_assembled.specs.Assembled.{CheckedProgramsFitFields, KeepsToSizes}
 use Rattle.rte_assembled.proofs.Made.{routine_parts, process_parts}
 use Rattle.rte_assembled.proofs.Owners.{owners-low}
 
 not-over : (m n : ℕ) → (m < n → ⊥) → n ≤ m
-not-over m n h = elim cases_lt m n [ inl less ↦ absurd (h less) | inr low ↦ low ]
+not-over m n h = elim (cases_lt m n) [ inl less ↦ absurd (h less) | inr low ↦ low ]
 
 -- ---- texts
 
@@ -76,14 +76,14 @@ either false false false false h = absurd cc
 few-count : (v : ℤ) → within (pos 1) (pos 4) v || within (pos 10) (pos 999) v ≡ true → as_count v ≤ 999
 few-count (negsuc n) h = omega arith
 few-count (pos n) h =
-    elim either (int_le (pos 1) (pos n)) (int_le (pos n) (pos 4)) (int_le (pos 10) (pos n)) (int_le (pos n) (pos 999)) h
+    elim (either (int_le (pos 1) (pos n)) (int_le (pos n) (pos 4)) (int_le (pos 10) (pos n)) (int_le (pos n) (pos 999)) h)
     [ inl e ↦ let low : n ≤ 4 = leb-true n 4 e in omega arith | inr e ↦ leb-true n 999 e ]
 
 exceptions : (g : plain_of.Prog) (ns : List plain_of.Constant) → All (IsHandled g) ns → AreExceptions g ns
 exceptions g [] h = tt
 exceptions g (n ∷ ns) h =
     let first : IsHandled g n = h 0 n (omega arith) in
-    (few-count _ first.limits, exceptions g ns (λ k d low. h (suc k) d (omega arith)))
+    (few-count (constant_value g n) first.limits, exceptions g ns (λ k d low. h (suc k) d (omega arith)))
 
 handler-fits : (g : plain_of.Prog) (p : plain_of.Process) (h : Option plain_of.Handler) → OptionalFits g p h → FitsHandler g h
 handler-fits g p None fits = tt
@@ -121,7 +121,7 @@ fits-fields all_ready g checked sizes =
       processes = λ n q there. record {
         words =
             let same = words_same p q.vars in
-            let one = one_low (λ x. vars_words p x.vars) (processes p) n q there in
+            let one = one_low (λ (x : plain_of.Process). vars_words p x.vars) (processes p) n q there in
             let few = formed.counts_fit.few_words in
             omega arith;
         stack = process-small g sizes n q there;

@@ -18,8 +18,8 @@ use Rattle.rte_whole.specs.Declared.{IsBelow, IsSound}
 use Rattle.rte_made.specs.declared.code.Part.{Part}
 use Rattle.rte_made.specs.declared.code.ProcessParts.{ProcessParts}
 use Rattle.rte_made.specs.declared.code.Code.{Code}
-use Rattle.rte_made.specs.Made.{Out, begun, push, stmts_out}
-use Rattle.rte_made.specs.Parts.{ended, handler_out, part_of, return_of, text_made, texts_made, process_made, processes_made, nothing_made, program_made}
+use Rattle.rte_made.specs.Made.{push, stmts_out}
+use Rattle.rte_made.specs.Parts.{opened, ended, handler_out, part_of, return_of, text_made, texts_made, process_made, processes_made, nothing_made, program_made}
 use Rattle.rte_made_right.proofs.Lists.{length_more}
 use Rattle.rte_made_right.proofs.Growth.{Grows}
 use Rattle.rte_made_right.proofs.Segments.{stmts_grows}
@@ -114,7 +114,7 @@ module _ (g : Prog) where
       let c : Scope = process_scope g n p in
       let grows : Grows ⊥ (stmts_out g c p.body) (stmts_segs g c p.body) (stmts_length g (process_names g n p) p.body) =
       stmts_grows g ⊥ (λ z. absurd z) may p.body c c None (process_names g n p) (alike g c) (sees g c) (λ z. absurd z) sound.0 in
-      length_more (body_of g n p k).code (i.End ∷ []) ∙ ap (λ l. l + 1) (grows.longer _)
+      length_more (body_of g n p k).code (i.End ∷ []) ∙ ap (λ l. l + 1) (grows.longer (opened 0 k))
 
   handler_begins : (may : Text → Type 0) (n : ℕ) (p : Process) (k : List Instr) → SoundProcess g may n p → length k + process_length g (process_names g n p) p ≤ 65535 → HandlerBegins (parts_of g n p k).handler
   handler_begins may n p k sound low = by p.handler
@@ -136,12 +136,17 @@ module _ (g : Prog) where
       let first : n + 0 ≡ n = omega arith in
       let ok : (below : ℕ) × SoundProcess g (λ y. IsBelow g below y) n p = subst (λ j. (below : ℕ) × SoundProcess g (λ y. IsBelow g below y) j p) first (sound 0 p refl) in
       let a : length (next n p k).instrs ≡ length k.instrs + process_length g (process_names g n p) p = process_long g (λ y. IsBelow g ok.0 y) n p ok.1 k.instrs in
-      at r there ok.0 ok.1 a
+      let rest : (q : ℕ) → slice_get (new_processes (suc n) ps (next n p k)) q ≡ Some x → Begin x =
+      λ q is.
+      processes_begin (suc n) ps (next n p k)
+      (λ s u here. let e : n + suc s ≡ suc n + s = omega arith in subst (λ j. (below : ℕ) × SoundProcess g (λ y. IsBelow g below y) j u) e (sound (suc s) u here))
+      (omega arith) q x is in
+      at r there rest ok.0 ok.1
     where
-      at : (q : ℕ) → slice_get (parts_of g n p k.instrs ∷ new_processes (suc n) ps (next n p k)) q ≡ Some x → (below : ℕ) → SoundProcess g (λ y. IsBelow g below y) n p → length (next n p k).instrs ≡ length k.instrs + process_length g (process_names g n p) p → Begin x
-      at zero here below ok a = subst (λ y. Begin y) (same (parts_of g n p k.instrs) x here) (parts_begin (λ y. IsBelow g below y) n p k.instrs ok (omega arith))
-      at (suc q) later below ok a =
-          processes_begin (suc n) ps (next n p k) (λ s u is. let e : n + suc s ≡ suc n + s = omega arith in subst (λ j. (below : ℕ) × SoundProcess g (λ y. IsBelow g below y) j u) e (sound (suc s) u is)) (omega arith) q x later
+      at : (q : ℕ) → slice_get (parts_of g n p k.instrs ∷ new_processes (suc n) ps (next n p k)) q ≡ Some x
+          → ((q : ℕ) → slice_get (new_processes (suc n) ps (next n p k)) q ≡ Some x → Begin x) → (below : ℕ) → SoundProcess g (λ y. IsBelow g below y) n p → Begin x
+      at zero here rest below ok = subst (λ y. Begin y) (same (parts_of g n p k.instrs) x here) (parts_begin (λ y. IsBelow g below y) n p k.instrs ok (omega arith))
+      at (suc q) later rest below ok = rest q later
 
   pub routine_parts : IsSound g → code_length g ≤ 65535 → (r : ℕ) (x : Part) → slice_get (program_made g).routines r ≡ Some x → Begins x
   routine_parts sound low r x there =

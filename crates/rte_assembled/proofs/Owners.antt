@@ -1,9 +1,9 @@
 -- The numbers of the owners of routines are those of processes and monitors.
 use Rattle.std.specs.Prelude.{Contains}
-use Rattle.std.proofs.Common.{◌≡◌, ◌≤◌, ◌+◌, ◌⊎◌, inl, inr, refl, sym, ap, subst, ℕ, zero, suc, List, [], ◌∷◌, ◌++◌, length, filter_map, arith}
+use Rattle.std.proofs.Common.{◌≡◌, ◌≤◌, ◌+◌, ◌⊎◌, inl, inr, subst, ℕ, suc, List, [], ◌∷◌, ◌++◌, length, filter_map, arith}
 use Rattle.rte_tree.specs.Plain.{Routine, Decl, constant, device, event, routine, monitor, process, Prog}
 use Rattle.rte_source_meaning.specs.Names.{monitor_in, monitors, process_in, processes}
-use Rattle.rte_emits.specs.Layout.{Owner, by_program, by_process, by_monitor}
+use Rattle.rte_emits.specs.Layout.{Owner, by_process, by_monitor}
 use Rattle.rte_emits.specs.Numbering.{Text, texts_of, texts_from}
 use Rattle.rte_emits.specs.Compiled.{owner_number}
 use Rattle.rte_numbered.proofs.Lists.{contains_cases, nothing_in}
