@@ -1,6 +1,6 @@
 -- The frame of an event that is found is that of the first process that the event releases.
-use Rattle.std.proofs.Common.{◌≡◌, ◌∙◌, sym, ap, refl, ℕ, suc, Bool, true, false, cond, List, [], ◌∷◌, map}
-use Rattle.std.specs.Prelude.{Option, Some, None, bytes_eq, filter_map, option_map, slice_get, unwrap_or}
+use Rattle.std.proofs.Common.{◌≡◌, ◌∙◌, ap, refl, ℕ, suc, Bool, true, false, cond, List, [], ◌∷◌, map}
+use Rattle.std.specs.Prelude.{Option, Some, None, bytes_eq, filter_map, option_map}
 use Rattle.rte_tree.specs.Plain.{Name, Activation, periodic, at_event, Process, Decl, Prog}
 use Rattle.rte_source_meaning.specs.Names.{monitors, processes, event_in, count_value}
 use Rattle.rte_image.specs.declared.names.ImageNames.{ImageNames}
@@ -15,17 +15,20 @@ past : (f : ℕ) (fs : List ℕ) (o : Option ℕ) → frame_found (f ∷ fs) (op
 past f fs None = refl
 past f fs (Some k) = refl
 
+-- at the first of the processes, where the rest of them is known
+at-event : (g : Prog) (e : Name) (n : ℕ) (ps : List Process) (b : Bool) → frame_found (released_frames g ps) (index_of e (released_events ps)) ≡ frame_released g e ps
+    → frame_found (n ∷ released_frames g ps) (cond b (Some 0) (option_map (λ k. suc k) (index_of e (released_events ps)))) ≡ cond b n (frame_released g e ps)
+at-event g e n ps true rest = refl
+at-event g e n ps false rest = past n (released_frames g ps) (index_of e (released_events ps)) ∙ rest
+
+at-first : (g : Prog) (e : Name) (p : Process) (ps : List Process) (a : Activation) → p.activation ≡ a → frame_found (released_frames g ps) (index_of e (released_events ps)) ≡ frame_released g e ps
+    → frame_found (released_frames g (p ∷ ps)) (index_of e (released_events (p ∷ ps))) ≡ frame_released g e (p ∷ ps)
+at-first g e p ps (periodic frame deadline first) is rest = rw is rest
+at-first g e p ps (at_event x frame deadline) is rest = rw is (at-event g e (count_value g frame) ps (bytes_eq x e) rest)
+
 pub frame-found : (g : Prog) (e : Name) (ps : List Process) → frame_found (released_frames g ps) (index_of e (released_events ps)) ≡ frame_released g e ps
 frame-found g e [] = refl
-frame-found g e (p ∷ ps) = by p.activation refl
-  where
-    by : (a : Activation) → p.activation ≡ a → frame_found (released_frames g (p ∷ ps)) (index_of e (released_events (p ∷ ps))) ≡ frame_released g e (p ∷ ps)
-    by (periodic frame deadline first) is = rw is (frame-found g e ps)
-    by (at_event x frame deadline) is = rw is (test (bytes_eq x e))
-      where
-        test : (b : Bool) → frame_found (count_value g frame ∷ released_frames g ps) (cond b (Some 0) (option_map (λ k. suc k) (index_of e (released_events ps)))) ≡ cond b (count_value g frame) (frame_released g e ps)
-        test true = refl
-        test false = past (count_value g frame) (released_frames g ps) (index_of e (released_events ps)) ∙ frame-found g e ps
+frame-found g e (p ∷ ps) = at-first g e p ps p.activation refl (frame-found g e ps)
 
 named : (g : Prog) (es : List Name) → map (event_found (released_frames g (processes g)) (released_events (processes g))) es ≡ map (λ e. named_event g e) es
 named g [] = refl

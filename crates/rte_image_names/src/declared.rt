@@ -13,11 +13,7 @@ use rte_tree::{Decl, List};
 use std::alloc::{AllocError, Global};
 
 /// Lists what is declared, if it is a device.
-fn list_device(
-    alloc: Global,
-    devices: &mut List<DevName>,
-    decl: &Decl,
-) -> Result<(), AllocError>
+fn list_device(alloc: Global, devices: &mut List<DevName>, decl: &Decl) -> Result<(), AllocError>
     ensures { OnOk result ((rest : List SpecDecl) → devices.new ++ filter_map named_device rest ≡ devices.old ++ filter_map named_device (plain_decl (placed_decl decl.now) ∷ rest)) }
 {
     if let Decl::Device { name, is_out, .. } = decl {

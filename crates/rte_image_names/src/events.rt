@@ -2,8 +2,8 @@
 
 ghost use Rattle.std.specs.Prelude.{◌≡◌, ◌++◌, ◌∷◌, IfOk, OnOk, List};
 ghost use Rattle.rte_tree.specs.Plain.{Process as SpecProcess};
-ghost use Rattle.rte_tree.specs.Placed.{placed, plain};
-ghost use Rattle.rte_numbering.specs.Parts.{process_of, seen_processes};
+ghost use Rattle.rte_tree.specs.Placed.{placed, placed_process, plain, plain_process};
+ghost use Rattle.rte_numbering.specs.Parts.{seen_processes};
 ghost use Rattle.rte_name_list.specs.First.{index_of, names_of};
 ghost use Rattle.rte_image_names.specs.Released.{frame_found, released_events, released_frames};
 
@@ -28,8 +28,8 @@ fn list_event<'a>(
     frames: &mut List<u32>,
     process: &'a Proc,
 ) -> Result<(), AllocError>
-    ensures events { OnOk result ((rest : List SpecProcess) → names_of events.new.items ++ released_events rest ≡ names_of events.old.items ++ released_events (process_of process ∷ rest)) }
-    ensures frames { OnOk result ((rest : List SpecProcess) → frames.new ++ released_frames (plain (placed values.now)) rest ≡ frames.old ++ released_frames (plain (placed values.now)) (process_of process ∷ rest)) }
+    ensures events { OnOk result ((rest : List SpecProcess) → names_of events.new.items ++ released_events rest ≡ names_of events.old.items ++ released_events (plain_process (placed_process process.now) ∷ rest)) }
+    ensures frames { OnOk result ((rest : List SpecProcess) → frames.new ++ released_frames (plain (placed values.now)) rest ≡ frames.old ++ released_frames (plain (placed values.now)) (plain_process (placed_process process.now) ∷ rest)) }
 {
     if let Activation::AtEvent { event, frame, .. } = &process.activation {
         events.push(event.as_bytes())?;

@@ -40,8 +40,8 @@ fn with_parts(
     ensures processes { IfOk result (λ names. names.processes ≡ map (λ p. p.name) (processes_in (plain (placed directory.now)))) }
     ensures monitors { IfOk result (λ names. names.monitors ≡ map (λ m. m.name) (monitors_in (plain (placed directory.now)))) }
     ensures conditions { IfOk result (λ names. names.conditions ≡ named_conditions 0 (monitors_in (plain (placed directory.now)))) }
-    ensures devices { IfOk result (λ names. names.devices ≡ devices.entry) }
-    ensures events { IfOk result (λ names. names.events ≡ events.entry) }
+    ensures devices { IfOk result (λ names. names.devices ≡ devices) }
+    ensures events { IfOk result (λ names. names.events ≡ events) }
 {
     let all = directory.monitors();
     let processes = process_names(alloc, directory.processes())?;

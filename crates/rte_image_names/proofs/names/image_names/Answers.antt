@@ -1,4 +1,4 @@
-use Rattle.std.proofs.Common.{◌≡◌, ◌≤◌, ◌∙◌, sym, ap, subst, length, map}
+use Rattle.std.proofs.Common.{◌≤◌, ◌∙◌, sym, ap, subst, length, map}
 use Rattle.std.specs.Prelude.{filter_map}
 use Rattle.rte_tree.specs.Placed.{placed, placed_decl, plain, plain_decl}
 use Rattle.rte_source_meaning.specs.Names.{monitors, processes}
@@ -7,7 +7,7 @@ use Rattle.rte_image_names.proofs.Frames.{names-are}
 use Rattle.rte_image_names.proofs.names.image_names.Goals as goal
 
 pub with_parts-requires : goal.with_parts-requires
-with_parts-requires c = subst (λ t. length (monitors (plain (placed t))) ≤ 64) (sym c.in_ok-directory.ensures) c.requires
+with_parts-requires c = subst (λ t. length (monitors (plain (placed t))) ≤ 64) (sym c.in_ok-directory.ensures) c.requires.few
 
 pub returns : goal.returns
 returns c =

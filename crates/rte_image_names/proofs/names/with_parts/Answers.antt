@@ -8,4 +8,4 @@ use Rattle.rte_image_names.proofs.names.with_parts.Goals as goal
 pub condition_names-requires : goal.condition_names-requires
 condition_names-requires c =
     let all : length (seen_monitors c.monitors-all.result.now) ≡ length (monitors (plain (placed c.args.directory.now))) = ap length c.monitors-all.ensures in
-    omega (arith, c.requires, all, length-map c.monitors-all.result.now monitor_of)
+    record { few = omega (arith, c.requires, all, length-map c.monitors-all.result.now monitor_of) }
