@@ -1,0 +1,3 @@
+mod Bounds
+mod Images
+mod Tables

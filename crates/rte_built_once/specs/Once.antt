@@ -1,0 +1,25 @@
+-- With an overhead a program has one image and one table, and it is timely or late.
+use Rattle.std.specs.Prelude.{◌≡◌, ℕ}
+use Rattle.rte_tree.specs.Plain.{Prog}
+use Rattle.rte_machine_meaning.specs.Image.{Image}
+use Rattle.rte_image.specs.Named.{NamedImage}
+use Rattle.rte_table.specs.declared.table.Table.{Table}
+use Rattle.rte_built.specs.Built.{IsShaped, IsBuilt, IsLate}
+use Rattle.rte_built.specs.Filled.{without_bounds}
+use Rattle.rte_built.specs.Shown.{IsTableOf}
+
+-- The law: with its ranks, the image of a program is one but for its bounds.
+abbrev pub ShapedImagesAreOne : Type 0
+ShapedImagesAreOne = (g : Prog) (over : ℕ) (m n : Image) → IsShaped g over m → IsShaped g over n → without_bounds m ≡ without_bounds n
+
+-- The law: and with its bounds it is one.
+abbrev pub BuiltImagesAreOne : Type 0
+BuiltImagesAreOne = (g : Prog) (over : ℕ) (m n : NamedImage) → IsBuilt g over m → IsBuilt g over n → m ≡ n
+
+-- The law: the table of a program is one.
+abbrev pub TablesAreOne : Type 0
+TablesAreOne = (g : Prog) (over : ℕ) (t u : Table) → IsTableOf g over t → IsTableOf g over u → t ≡ u
+
+-- The law: a program that has an image in time is not late.
+abbrev pub TimelyOrLate : Type 0
+TimelyOrLate = (g : Prog) (over : ℕ) (n : NamedImage) → IsBuilt g over n → IsLate g over → ⊥
