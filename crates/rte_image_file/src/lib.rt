@@ -4,6 +4,6 @@
 //! `load` means: a fault of the bytes, or else of validity, is the first one.
 #![tactic(auto)]
 
-mod load;
+mod loading;
 
-pub use load::{FileFault, load};
+pub use loading::{FileFault, load};
