@@ -1,28 +1,23 @@
 -- What is filled in, step by step.
-use Rattle.std.specs.Prelude.{◌≡◌, ◌<◌, ◌≤◌, ◌+◌, ◌++◌, ℕ, List, [], ◌∷◌, Option, Some, length, map}
-use Rattle.std.proofs.Common.{refl, sym, ap, subst, ◌∙◌, arith, take, get_or}
+use Rattle.std.specs.Prelude.{◌≡◌, ◌<◌, ◌≤◌, ◌+◌, ◌++◌, ℕ, List, [], ◌∷◌, Option, length, map}
+use Rattle.std.proofs.Common.{refl, sym, ap, subst, ◌∙◌, take, get_or}
 use Rattle.std.proofs.lemmas.List.{take_all}
-use Rattle.std.proofs.lemmas.Option.{slice_get-get_or}
 use Rattle.std.proofs.Math.ListN.{length-append}
-use Rattle.rte_machine_meaning.specs.Image.{Image, Monitor, Process}
+use Rattle.rte_machine_meaning.specs.Image.{Image, Process}
 use Rattle.rte_image.specs.declared.raw.RawImage.{RawImage}
 use Rattle.rte_image.specs.declared.raw.RawMon.{RawMon}
 use Rattle.rte_image.specs.declared.raw.RawProc.{RawProc}
 use Rattle.rte_image.specs.Raw.{image_of, monitor_of, process_of, named_of}
 use Rattle.rte_valid.specs.Times.{rank_of, ceiling_of, needed_block}
-use Rattle.rte_valid_times.specs.Stays.{AreStays, AreStaysOfProcesses}
+use Rattle.rte_valid_times.specs.Stays.{AreStays}
 use Rattle.rte_whole.specs.Whole.{HasRanks}
 use Rattle.rte_built.specs.Filled.{without_rank, without_ranks, without_ceiling, DiffersInRanks}
-use Rattle.rte_filled.specs.Filled.{Each, without_block, without_blocks}
+use Rattle.rte_filled.specs.Filled.{Each, without_block}
 use Rattle.rte_filled.proofs.Lists.{as_many, through, each_mapped, each_more, none_yet, same_more}
 use Rattle.rte_filled.proofs.Reached.{stays_agree}
 use Rattle.rte_filled.proofs.Ranked.{ranks_aside, ranks_are_filled}
 use Rattle.rte_ranking.specs.declared.copies.Times.{Times}
 use Rattle.rte_ranking.specs.Ranking.{timed, but_rank, but_ceiling, but_block, AreRanked, AreCeiled, AreBlocked, IsRanked, IsBlocked}
-
--- an element within a list is the same by any default
-pub any_default : {A : Type 0} (xs : List A) (i : ℕ) (d e : A) → i < length xs → get_or xs i d ≡ get_or xs i e
-any_default xs i d e low = let same : Some (get_or xs i d) ≡ Some (get_or xs i e) = sym (slice_get-get_or xs i d low) ∙ slice_get-get_or xs i e low in cc
 
 -- ---- one more of a list
 

@@ -1,5 +1,5 @@
 -- What is filled in of processes and monitors, one step after the other.
-use Rattle.std.specs.Prelude.{◌≡◌, ℕ, List, length, map}
+use Rattle.std.specs.Prelude.{◌≡◌, List, map}
 use Rattle.rte_machine_meaning.specs.Image.{Image, Monitor, Process}
 use Rattle.rte_image.specs.declared.raw.RawImage.{RawImage}
 use Rattle.rte_image.specs.declared.raw.RawMon.{RawMon}

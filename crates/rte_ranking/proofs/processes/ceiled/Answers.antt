@@ -1,7 +1,8 @@
 use Rattle.std.proofs.Common.{◌<◌, ◌≤◌, ◌∙◌, ℕ, List, length, get_or, ap, subst, refl}
+use Rattle.std.proofs.lemmas.List.{get_or_default}
 use Rattle.rte_image.specs.declared.raw.RawMon.{RawMon}
 use Rattle.rte_image.specs.Raw.{image_of}
-use Rattle.rte_ranking.proofs.Filling.{any_default, none_ceiled, one_ceiled, all_ceiled}
+use Rattle.rte_ranking.proofs.Filling.{none_ceiled, one_ceiled, all_ceiled}
 use Rattle.rte_ranking.proofs.processes.ceiled.Goals as goal
 
 abbrev nothing : RawMon
@@ -20,7 +21,7 @@ loop-number-preserved c =
     let x = here ms k in
     one_ceiled (image_of c.args.image.now) c.args.image.now.monitors c.loop-number.all c.push.new.self k x (record { base = x.base; words = x.words; ceiling = c.ceiling_of-ceiling.result })
     (subst (λ (xs : List RawMon). k < length xs) c.as_slice-monitors.ensures c.loop-number-test.true)
-    (any_default ms k nothing x c.loop-number-test.true ∙ ap (λ (xs : List RawMon). get_or xs k x) c.as_slice-monitors.ensures) c.loop-number.invariant c.in_ok-push.ensures.ok refl c.ceiling_of-ceiling.ensures
+    (get_or_default ms k nothing x c.loop-number-test.true ∙ ap (λ (xs : List RawMon). get_or xs k x) c.as_slice-monitors.ensures) c.loop-number.invariant c.in_ok-push.ensures.ok refl c.ceiling_of-ceiling.ensures
 
 pub returns : goal.returns
 returns c =

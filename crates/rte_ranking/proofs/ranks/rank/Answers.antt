@@ -2,7 +2,7 @@ use Rattle.rte_image.specs.Raw.{image_of}
 use Rattle.rte_ranking.proofs.Filling.{stays_stand, differs, has_ranks}
 use Rattle.rte_ranking.proofs.ranks.rank.Goals as goal
 
-pub with_blocks-requires : goal.with_blocks-filled-requires
+pub with_blocks-requires : goal.with_blocks-requires
 with_blocks-requires c = stays_stand (image_of c.args.image) (image_of c.in_ok-numbered.numbered) _ c.in_ok-numbered.ensures.same c.in_ok-stays.ensures
 
 pub returns : goal.returns
