@@ -42,8 +42,12 @@ fn runs_stored_images(rt: HostRuntime) -> Result<(), Fail> {
     for (place, byte, want, text) in rows {
         let mut image = image_of(alloc, "go P I S", VALVE)?;
         image[*place] = *byte;
-        let Outcome { status, put, .. } =
-            call_on_image(alloc, "run I S", image.as_slice(), "end 15\n")?;
+        let Outcome { status, put, .. } = call_on_image(
+            alloc,
+            "run I S",
+            image.as_slice(),
+            "end 15\n",
+        )?;
         assert_eq!(rt; status, *want, "{place}");
         assert!(rt; put.as_slice() == text.as_bytes(), "{place}");
     }
@@ -73,8 +77,12 @@ fn an_overhead_is_part_of_the_image(rt: HostRuntime) -> Result<(), Fail> {
         "program a device valve : out process p : periodic frame 17 begin put valve 7 end p end a";
     let mut image = image_of(alloc, "compile P I 1", program)?;
     image[7] = 2;
-    let Outcome { status, put, .. } =
-        call_on_image(alloc, "run I S", image.as_slice(), "end 17\n")?;
+    let Outcome { status, put, .. } = call_on_image(
+        alloc,
+        "run I S",
+        image.as_slice(),
+        "end 17\n",
+    )?;
     assert_eq!(rt; status, 4);
     assert!(rt; put.as_slice() == b"V2 17 19\n".as_slice());
     Ok(())
@@ -102,7 +110,12 @@ fn migrates_the_first_version(rt: HostRuntime) -> Result<(), Fail> {
 fn runs_the_first_version(rt: HostRuntime) -> Result<(), Fail> {
     let alloc = rt.alloc();
     let first = bytes_of(alloc, FIRST)?;
-    let Outcome { status, put, .. } = call_on_image(alloc, "run I S", first.as_slice(), "end 10\n")?;
+    let Outcome { status, put, .. } = call_on_image(
+        alloc,
+        "run I S",
+        first.as_slice(),
+        "end 10\n",
+    )?;
     assert_eq!(rt; status, 0);
     assert!(rt; put.as_slice() == b"0 p release\n3 p end\n".as_slice());
     let mut late = bytes_of(alloc, SECOND)?;

@@ -213,8 +213,7 @@ const ROWS: &[Row] = &[
 ];
 
 /// Control of a mine's pump.
-const MINE: &str =
-    "program mine
+const MINE: &str = "program mine
 device level : in  device methane : in  device air : in
 device pump : out  device alarm : out  device panel : out
 event high
@@ -274,8 +273,12 @@ fn worked_programs(rt: HostRuntime) -> Result<(), Fail> {
     for row in ROWS {
         let program = row.program;
         let script = lines(alloc, row.script)?;
-        let Outcome { status, put, .. } =
-            call(alloc, row.line, program.as_bytes(), Some(script.as_str()))?;
+        let Outcome { status, put, .. } = call(
+            alloc,
+            row.line,
+            program.as_bytes(),
+            Some(script.as_str()),
+        )?;
         let text = String::from_utf8(put)?;
         assert_eq!(rt; status, row.status, "{program}");
         let (found, want) = match &row.put {

@@ -11,7 +11,10 @@ pub enum Command<'a> {
         overhead: u16,
     },
     /// Reports on a program.
-    Check { program: &'a str, overhead: u16 },
+    Check {
+        program: &'a str,
+        overhead: u16,
+    },
     /// Stores the image of a program, and reports on it.
     Compile {
         program: &'a str,
@@ -19,11 +22,22 @@ pub enum Command<'a> {
         overhead: u16,
     },
     /// Reports on a program in JSON.
-    Json { program: &'a str, overhead: u16 },
+    Json {
+        program: &'a str,
+        overhead: u16,
+    },
     /// Prints the canonical text of a program.
-    Print { program: &'a str },
+    Print {
+        program: &'a str,
+    },
     /// Runs a stored image over a script.
-    Run { image: &'a str, script: &'a str },
+    Run {
+        image: &'a str,
+        script: &'a str,
+    },
     /// Stores an image anew, in the present version of images.
-    Migrate { image: &'a str, target: &'a str },
+    Migrate {
+        image: &'a str,
+        target: &'a str,
+    },
 }

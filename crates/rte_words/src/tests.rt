@@ -31,21 +31,30 @@ fn line(alloc: Global, name: &str, files: &[&str], overhead: Option<u16>) -> Res
 fn told(alloc: Global, row: &str) -> Result<Text, Fail> {
     let words = words_of(alloc, row)?;
     match read_words(words.as_slice()) {
-        Some(Command::Go {
+        Some(
+            Command::Go {
                 program,
                 image,
                 script,
                 overhead,
-            }) => line(alloc, "Go", &[program, image, script], Some(overhead)),
+            },
+        ) => line(alloc, "Go", &[program, image, script], Some(overhead)),
         Some(Command::Check { program, overhead }) => {
             line(alloc, "Check", &[program], Some(overhead))
         }
-        Some(Command::Compile {
+        Some(
+            Command::Compile {
                 program,
                 image,
                 overhead,
-            }) => line(alloc, "Compile", &[program, image], Some(overhead)),
-        Some(Command::Json { program, overhead }) => line(alloc, "Json", &[program], Some(overhead)),
+            },
+        ) => line(alloc, "Compile", &[program, image], Some(overhead)),
+        Some(Command::Json { program, overhead }) => line(
+            alloc,
+            "Json",
+            &[program],
+            Some(overhead),
+        ),
         Some(Command::Print { program }) => line(alloc, "Print", &[program], None),
         Some(Command::Run { image, script }) => line(alloc, "Run", &[image, script], None),
         Some(Command::Migrate { image, target }) => {
