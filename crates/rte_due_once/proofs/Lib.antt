@@ -1,0 +1,5 @@
+mod Firsts
+mod Texts
+mod Images
+mod Scripts
+mod Commands

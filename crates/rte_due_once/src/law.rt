@@ -1,0 +1,168 @@
+//! The laws.
+
+ghost use Rattle.rte_due_once.specs.Once.{
+  CompileIsOne,
+  GoIsOne,
+  ImageFilesAreNotRefused,
+  ImageRefusalsAreOne,
+  ImagesHeldAreOne,
+  LateReportsAreOne,
+  MigrateIsOne,
+  PrintIsOne,
+  RefusalsAreOne,
+  ReportsAreOne,
+  RunIsOne,
+  TextsHaveOneFault,
+  TimelyTextsAreNotLate,
+  TimelyTextsAreNotRefused,
+  TimelyTextsHaveOneImage,
+  WrittenOnce,
+  WrittenOrFaulty,
+};
+
+use rte_built_once::law::{built_images_are_one, tables_are_one, timely_or_late};
+use rte_program::{one_program, program_or_fault};
+use rte_program_laws::one_fault;
+use rte_script::one_script;
+use rte_script_laws::one_answer;
+use rte_valid_law::law::valid_is_without_fault;
+
+/// A text is that of one program that keeps to all rules and is not too large.
+pub fn written_once()
+    ensures { WrittenOnce }
+{
+    one_program();
+}
+
+/// A text that is that of such a program has no fault.
+pub fn written_or_faulty()
+    ensures { WrittenOrFaulty }
+{
+    one_program();
+    program_or_fault();
+}
+
+/// A text has one fault.
+pub fn texts_have_one_fault()
+    ensures { TextsHaveOneFault }
+{
+    one_program();
+    program_or_fault();
+    one_fault();
+}
+
+/// A text whose program is timely has one image.
+pub fn timely_texts_have_one_image()
+    ensures { TimelyTextsHaveOneImage }
+{
+    written_once();
+    built_images_are_one();
+}
+
+/// A text whose program is timely is not late.
+pub fn timely_texts_are_not_late()
+    ensures { TimelyTextsAreNotLate }
+{
+    written_once();
+    timely_or_late();
+}
+
+/// The report of a text that is late is one.
+pub fn late_reports_are_one()
+    ensures { LateReportsAreOne }
+{
+    written_once();
+    tables_are_one();
+}
+
+/// What is due of a text that is refused is one.
+pub fn refusals_are_one()
+    ensures { RefusalsAreOne }
+{
+    written_or_faulty();
+    texts_have_one_fault();
+    late_reports_are_one();
+}
+
+/// A text whose program is timely is not refused.
+pub fn timely_texts_are_not_refused()
+    ensures { TimelyTextsAreNotRefused }
+{
+    written_or_faulty();
+    timely_texts_are_not_late();
+}
+
+/// Bytes are those of one valid image.
+pub fn images_held_are_one()
+    ensures { ImagesHeldAreOne }
+{}
+
+/// Bytes that are those of a valid image are not refused.
+pub fn image_files_are_not_refused()
+    ensures { ImageFilesAreNotRefused }
+{
+    valid_is_without_fault();
+}
+
+/// What is due of bytes that are refused is one.
+pub fn image_refusals_are_one()
+    ensures { ImageRefusalsAreOne }
+{}
+
+/// What is due of `check` and of `json` is one.
+pub fn reports_are_one()
+    ensures { ReportsAreOne }
+{
+    refusals_are_one();
+    timely_texts_are_not_refused();
+    timely_texts_have_one_image();
+}
+
+/// What is due of `print` is one.
+pub fn print_is_one()
+    ensures { PrintIsOne }
+{
+    written_once();
+    written_or_faulty();
+    texts_have_one_fault();
+}
+
+/// What is due of `compile` is one.
+pub fn compile_is_one()
+    ensures { CompileIsOne }
+{
+    refusals_are_one();
+    timely_texts_are_not_refused();
+    timely_texts_have_one_image();
+}
+
+/// What is due of `go` is one.
+pub fn go_is_one()
+    ensures { GoIsOne }
+{
+    refusals_are_one();
+    timely_texts_are_not_refused();
+    timely_texts_have_one_image();
+    one_script();
+    one_answer();
+}
+
+/// What is due of `run` is one.
+pub fn run_is_one()
+    ensures { RunIsOne }
+{
+    images_held_are_one();
+    image_files_are_not_refused();
+    image_refusals_are_one();
+    one_script();
+    one_answer();
+}
+
+/// What is due of `migrate` is one.
+pub fn migrate_is_one()
+    ensures { MigrateIsOne }
+{
+    images_held_are_one();
+    image_files_are_not_refused();
+    image_refusals_are_one();
+}
