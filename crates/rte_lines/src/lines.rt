@@ -1,38 +1,89 @@
 //! Lines.
 
-ghost use Rattle.std.specs.Prelude.{◌≡◌, IfOk};
-ghost use Rattle.rte_commands.specs.Source.{fault_line};
-ghost use Rattle.rte_commands.specs.Script.{script_fault_line};
-ghost use Rattle.rte_commands.specs.Due.{image_fault_line, valid_fault_line};
+ghost use Rattle.std.specs.Prelude.{◌≡◌, ◌++◌, decimal, IfOk, OnOk};
+ghost use Rattle.rte_commands.specs.Due as due;
+ghost use Rattle.rte_commands.specs.Script as script;
+ghost use Rattle.rte_commands.specs.Source as source;
+ghost use Rattle.rte_script.specs.declared.fault.ScriptFault.TheVariants as bad;
 
+use itoa::Buffer;
 use rte_script::ScriptFault;
 use rte_tree::{Place, Text};
 use std::alloc::{AllocError, Global};
 
+/// Puts some words and a number at the end of a text.
+fn add_number(text: &mut Text, words: &str, number: u64) -> Result<(), AllocError>
+    ensures { OnOk result (text.new ≡ text.old ++ (words.now ++ decimal number)) }
+{
+    let mut buffer = Buffer::new();
+    text.extend(words.as_bytes())?;
+    text.extend(buffer.format(number).as_bytes())
+}
+
 /// The line of a fault of a text: its number, and the line and the byte of that line where it stands.
 pub fn fault_line(alloc: Global, number: u8, place: Place) -> Result<Text, AllocError>
-    ensures { IfOk result (λ text. text ≡ fault_line number place) }
+    ensures { IfOk result (λ text. text ≡ source.fault_line number place) }
 {
-    Err(AllocError)
+    let mut text = Text::new(alloc);
+    add_number(&mut text, "E", u64::from(number))?;
+    add_number(&mut text, " ", u64::from(place.line))?;
+    add_number(&mut text, ":", u64::from(place.col))?;
+    text.extend(b"\n")?;
+    Ok(text)
 }
 
 /// The line of a fault of bytes that are no image: its number, and the place from 0 on.
 pub fn image_fault_line(alloc: Global, number: u8, offset: u32) -> Result<Text, AllocError>
-    ensures { IfOk result (λ text. text ≡ image_fault_line number offset) }
+    ensures { IfOk result (λ text. text ≡ due.image_fault_line number offset) }
 {
-    Err(AllocError)
+    let mut text = Text::new(alloc);
+    add_number(&mut text, "I", u64::from(number))?;
+    add_number(&mut text, " ", u64::from(offset))?;
+    text.extend(b"\n")?;
+    Ok(text)
 }
 
 /// The line of a fault of validity: its number, and the two numbers that it shows.
 pub fn valid_fault_line(alloc: Global, number: u8, a: u64, b: u64) -> Result<Text, AllocError>
-    ensures { IfOk result (λ text. text ≡ valid_fault_line (record { number = number; a = a; b = b })) }
+    ensures { IfOk result (λ text. text ≡ due.valid_fault_line (record { number = number; a = a; b = b })) }
 {
-    Err(AllocError)
+    let mut text = Text::new(alloc);
+    add_number(&mut text, "V", u64::from(number))?;
+    add_number(&mut text, " ", a)?;
+    add_number(&mut text, " ", b)?;
+    text.extend(b"\n")?;
+    Ok(text)
+}
+
+/// Puts the two ticks of a script's fault that has some at the end of a text.
+fn add_ticks(text: &mut Text, number: u8, a: u64, b: u64) -> Result<(), AllocError>
+    ensures { OnOk result (text.new ≡ text.old ++ script.ticks_line number a b) }
+{
+    if number != 4 {
+        return Ok(());
+    }
+    add_number(text, " ", a)?;
+    add_number(text, " ", b)
+}
+
+/// The line of a script's fault on this line of its text.
+fn bad_line(alloc: Global, number: u8, line: u32, a: u64, b: u64) -> Result<Text, AllocError>
+    ensures { IfOk result (λ text. text ≡ script.script_fault_line (bad.Bad number line a b)) }
+{
+    let mut text = Text::new(alloc);
+    add_number(&mut text, "S", u64::from(number))?;
+    add_number(&mut text, " ", u64::from(line))?;
+    add_ticks(&mut text, number, a, b)?;
+    text.extend(b"\n")?;
+    Ok(text)
 }
 
 /// The line of a fault of a script; nothing for want of memory.
 pub fn script_fault_line(alloc: Global, fault: &ScriptFault) -> Result<Text, AllocError>
-    ensures { IfOk result (λ text. text ≡ script_fault_line fault.now) }
+    ensures { IfOk result (λ text. text ≡ script.script_fault_line fault.now) }
 {
-    Err(AllocError)
+    match fault {
+        ScriptFault::Bad { number, line, a, b } => bad_line(alloc, *number, *line, *a, *b),
+        ScriptFault::Memory => Ok(Text::new(alloc)),
+    }
 }
