@@ -1,4 +1,5 @@
 pub mod Went
 pub mod Complete
+pub mod One
 pub mod Late
 pub mod Done

@@ -1,20 +1,24 @@
 //! The top call.
 
-ghost use Rattle.std.specs.Prelude.{◌≡◌, ◌≢◌, ◌<◌, ◌↔◌, ◌⊎◌, ℕ, List, Some};
+ghost use Rattle.std.specs.Prelude.{◌≡◌, ◌≢◌, ◌<◌, ◌↔◌, ◌⊎◌, ℕ, List, Some, None};
 ghost use Rattle.std.specs.Bool.{OnTrue};
 ghost use Rattle.rte_io.specs.Outside.{outside, AllStay};
 ghost use Rattle.rte_words.specs.Calls.{Call};
 ghost use Rattle.rte_words.specs.Words.{IsCommand};
 ghost use Rattle.rte_answers.specs.Acts.{number_of};
-ghost use Rattle.rte_answers.specs.Files.{target_of};
+ghost use Rattle.rte_answers.specs.Files.{IsDue, target_of};
 ghost use Rattle.rte_answers.specs.Went.{Went, Completes, IsUsage};
+ghost use Rattle.rte_commands.specs.Due.{Outcome};
 ghost use Rattle.rte_promise.specs.Promise.{HasDone, IsRefusedForTime};
 
 use crate::carry::carry_out;
 use rte_answers::Status;
 use rte_built_laws::law::built_images_are_faithful;
 use rte_built_once::law::timely_or_late;
-use rte_due_once::law::{written_once, written_or_faulty};
+use rte_due_once::law::{
+    compile_is_one, go_is_one, migrate_is_one, print_is_one, reports_are_one, run_is_one, written_once,
+    written_or_faulty,
+};
 use rte_io::{Files, Sink};
 use rte_print::{reads_back, tokens_are_spelled};
 use rte_script_suits::law::scripts_suit;
@@ -52,6 +56,10 @@ pub fn rte<F: Files, O: Sink>(alloc: Global, words: &[String], files: &mut F, ou
     ensures kept { 0 < number_of result → number_of result ≢ 7 → AllStay (F.state files.old).held (F.state files.new).held }
     ensures others { (name : List ℕ) → ((call : Call) → IsCommand words.now call → target_of call ≢ Some name) →
         (F.state files.new).held name ≡ (F.state files.old).held name }
+    // Where no image is due no file changes.
+    ensures refused { (call : Call) → IsCommand words.now call → OnTrue F.tells ((outcome : Outcome) →
+        IsDue call (F.state files.old).held outcome → outcome.image ≡ None →
+        AllStay (F.state files.old).held (F.state files.new).held) }
     // So once a file has changed, the status is 0 or 7.
     ensures stored { (name : List ℕ) → (F.state files.new).held name ≢ (F.state files.old).held name →
         (number_of result ≡ 0) ⊎ (number_of result ≡ 7) }
@@ -71,6 +79,12 @@ pub fn rte<F: Files, O: Sink>(alloc: Global, words: &[String], files: &mut F, ou
     every_valid_image_is_safe_and_in_time();
     images_read_are_in_their_ranges();
     scripts_suit();
+    reports_are_one();
+    print_is_one();
+    compile_is_one();
+    go_is_one();
+    run_is_one();
+    migrate_is_one();
     written_or_faulty();
     written_once();
     timely_or_late();

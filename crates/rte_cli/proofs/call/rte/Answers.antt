@@ -4,6 +4,7 @@ use Rattle.rte_answers.specs.Acts.{number_of}
 use Rattle.rte_cli.proofs.Complete.{completes}
 use Rattle.rte_cli.proofs.Done.{has_done}
 use Rattle.rte_cli.proofs.Late.{refused_for_time}
+use Rattle.rte_cli.proofs.One.{refused}
 use Rattle.rte_cli.proofs.call.rte.Goals as goal
 
 pub returns-clause-complete : goal.returns-clause-complete
@@ -31,3 +32,17 @@ returns-clause-stored g c = λ name changed. elim (cases_eq (number_of c.carry_o
     | inr more ↦ absurd (changed (c.carry_out.ensures.kept (omega (arith, more)) other name))
   ]
 ]
+
+-- where no image is due
+pub returns-clause-refused : goal.returns-clause-refused
+returns-clause-refused g c = λ call is.
+    refused
+    (record {
+      reports = c.reports_are_one.ensures;
+      print = c.print_is_one.ensures;
+      compile = c.compile_is_one.ensures;
+      go = c.go_is_one.ensures;
+      run = c.run_is_one.ensures;
+      migrate = c.migrate_is_one.ensures;
+    })
+    g.F.Files.tells call _ _ _ (c.carry_out.ensures.went call is)
