@@ -1,6 +1,5 @@
 -- What an act comes to, and when its run can be made.
 use Rattle.std.specs.Prelude.{◌≡◌, ◌++◌, ℕ, List, [], Option, Some, None, IfSome, option_map}
-use Rattle.rte_image.specs.declared.raw.RawImage.{RawImage}
 use Rattle.rte_image.specs.Raw.{image_of, named_of}
 use Rattle.rte_valid.specs.Valid.{HasLimits, IsValid}
 use Rattle.rte_plan.specs.HasPlan.{HasPlan}

@@ -1,5 +1,5 @@
 -- Which files a call reads and writes, and what is due of it by what they hold.
-use Rattle.std.specs.Prelude.{◌≡◌, ℕ, List, Option, Some, None, IsSomeAnd}
+use Rattle.std.specs.Prelude.{ℕ, List, Option, Some, None, IsSomeAnd}
 use Rattle.rte_image.specs.Named.{NamedImage}
 use Rattle.rte_image.specs.declared.raw.RawImage.{RawImage}
 use Rattle.rte_report.specs.Report.{report_text}

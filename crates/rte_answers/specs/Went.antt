@@ -1,5 +1,5 @@
 -- What a call did, by the status that it answers. What is said of bytes is said where the files tell theirs.
-use Rattle.std.specs.Prelude.{◌≡◌, ◌≢◌, ◌<◌, ◌≤◌, ◌⊎◌, ℕ, Bool, List, Option, Some, None, IfSome, IsSomeAnd, codes}
+use Rattle.std.specs.Prelude.{◌≡◌, ◌≢◌, ◌<◌, ◌≤◌, ◌⊎◌, ℕ, Bool, List, Option, Some, None, IsSomeAnd, codes}
 use Rattle.std.specs.Bool.{OnTrue}
 use Rattle.rte_io.specs.Outside.{Outside, Rose, AllStay, Appends, AppendsFront}
 use Rattle.rte_words.specs.Calls.{Call}

@@ -22,3 +22,25 @@ pub enum Status {
     /// 8: there was not enough memory.
     Memory,
 }
+
+impl Status {
+    ghost use Rattle.std.specs.Prelude.{◌≡◌};
+    ghost use Rattle.rte_answers.specs.Acts.{number_of};
+
+    /// The exit status of the process.
+    pub fn code(self) -> u8
+        ensures { result ≡ number_of self }
+    {
+        match self {
+            Status::Done => 0,
+            Status::Usage => 1,
+            Status::Text => 2,
+            Status::Late => 3,
+            Status::Image => 4,
+            Status::Script => 5,
+            Status::Unread => 6,
+            Status::Unwritten => 7,
+            Status::Memory => 8,
+        }
+    }
+}
