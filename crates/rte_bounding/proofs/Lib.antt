@@ -1,3 +1,3 @@
-pub mod Ranks
-pub mod Bounds
-pub mod Table
+pub mod NoFault
+pub mod Growing
+pub mod Listing

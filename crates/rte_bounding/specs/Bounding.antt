@@ -12,9 +12,9 @@ abbrev pub but_bound : RawProc → Process
 but_bound p = without_bound (process_of p)
 
 -- the same processes, each with its bound, where it has one
-pub record AreBounded (bounds : List (Option ℕ)) (before now : List RawProc) : Type 0 where
+pub record AreBounded (found : List (Option ℕ)) (before now : List RawProc) : Type 0 where
   pub same : map but_bound now ≡ map but_bound before
-  pub bounds : Each (λ k p. (b : ℕ) → slice_get bounds k ≡ Some (Some b) → p.bound ≡ b) now
+  pub bounds : Each (λ k p. (b : ℕ) → slice_get found k ≡ Some (Some b) → p.bound ≡ b) now
 
 -- each process has its bound, where it has one
 abbrev pub HasBounds : Image → List (Option ℕ) → Type 0

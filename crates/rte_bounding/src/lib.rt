@@ -5,10 +5,10 @@
 //! `with_bounds` fills them in, and `table` lists them with what the image declares: `table_of`.
 #![tactic(auto)]
 
-mod bounds;
 mod filled;
-mod table;
+mod least;
+mod shown;
 
-pub use bounds::bounds;
 pub use filled::with_bounds;
-pub use table::table;
+pub use least::bounds;
+pub use shown::table;

@@ -1,5 +1,5 @@
 use Rattle.std.proofs.Common.{refl}
-use Rattle.rte_bounding.proofs.Bounds.{none_bounded, one_bounded, all_bounded}
+use Rattle.rte_bounding.proofs.Growing.{none_bounded, one_bounded, all_bounded}
 use Rattle.rte_bounding.proofs.filled.bounded.Goals as goal
 
 pub loop-number-init : goal.loop-number-init

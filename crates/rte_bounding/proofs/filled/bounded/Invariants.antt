@@ -1,4 +1,4 @@
-use Rattle.rte_bounding.proofs.Bounds.{BoundedSoFar}
+use Rattle.rte_bounding.proofs.Growing.{BoundedSoFar}
 use Rattle.rte_bounding.proofs.filled.bounded.Given as goal
 
 abbrev pub invariant-loop-number : goal.invariant-loop-number

@@ -1,9 +1,9 @@
-use Rattle.std.proofs.Common.{◌≡◌, ℕ, List, Option, refl, subst}
+use Rattle.std.proofs.Common.{ℕ, List, Option, refl, subst}
 use Rattle.rte_image.specs.declared.raw.RawImage.{RawImage}
 use Rattle.rte_image.specs.declared.raw.RawProc.{RawProc}
 use Rattle.rte_image.specs.Raw.{image_of}
 use Rattle.rte_bounding.specs.Bounding.{AreBounded}
-use Rattle.rte_bounding.proofs.Bounds.{image_bounded, bounds_set, least_set}
+use Rattle.rte_bounding.proofs.Growing.{image_bounded, bounds_set, least_set}
 use Rattle.rte_bounding.proofs.filled.with_bounds.Goals as goal
 
 pub returns : goal.returns

@@ -1,5 +1,5 @@
 -- An image with its ranks, ceilings and blocks has no fault there.
-use Rattle.std.specs.Prelude.{◌≡◌, ◌≤◌, ℕ, Some, None, slice_get}
+use Rattle.std.specs.Prelude.{◌≡◌, ◌≤◌, ℕ, None}
 use Rattle.std.proofs.Common.{ap, arith}
 use Rattle.rte_machine_meaning.specs.Image.{Image}
 use Rattle.rte_valid.specs.Fault.{unless}

@@ -2,9 +2,9 @@ use Rattle.std.proofs.Common.{◌≡◌, ◌<◌, ◌∙◌, List, length, get_o
 use Rattle.rte_image.specs.declared.raw.RawProc.{RawProc}
 use Rattle.rte_image.specs.Raw.{image_of}
 use Rattle.rte_valid_times.proofs.InOrder.{level_there}
-use Rattle.rte_bounding.proofs.Ranks.{no_rank_fault}
-use Rattle.rte_bounding.proofs.Bounds.{none_bounds, one_bound, all_bounds}
-use Rattle.rte_bounding.proofs.bounds.bounds.Goals as goal
+use Rattle.rte_bounding.proofs.NoFault.{no_rank_fault}
+use Rattle.rte_bounding.proofs.Growing.{none_bounds, one_bound, all_bounds}
+use Rattle.rte_bounding.proofs.least.bounds.Goals as goal
 
 pub task_set-requires-clause-ranks : goal.task_set-requires-clause-ranks
 task_set-requires-clause-ranks c = no_rank_fault (image_of c.args.image.now) c.requires.ranks

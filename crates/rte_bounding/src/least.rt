@@ -15,7 +15,7 @@ use rte_valid_times::task_set;
 use std::alloc::{AllocError, Global};
 
 /// The least bound of the level, which is at most its limit; none where there is none within the deadline.
-#[tactic(auto, using(crate::proofs::Bounds::within_limit))]
+#[tactic(auto, using(crate::proofs::Growing::within_limit))]
 fn level_bound(set: &TaskSet, level: usize) -> Option<u32>
     requires { level < length set.now }
     ensures { IsBoundAt set.now level result }

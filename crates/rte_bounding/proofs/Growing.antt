@@ -1,5 +1,5 @@
 -- Bounds, one more of a list at a time.
-use Rattle.std.specs.Prelude.{◌≡◌, ◌<◌, ◌≤◌, ◌+◌, ◌-◌, ◌++◌, ℕ, List, [], ◌∷◌, Option, Some, None, All, IsSome, length, map, min, slice_get, unwrap_or}
+use Rattle.std.specs.Prelude.{◌≡◌, ◌<◌, ◌≤◌, ◌+◌, ◌-◌, ◌++◌, ℕ, List, [], ◌∷◌, Option, Some, None, IsSome, length, map, min, slice_get, unwrap_or}
 use Rattle.std.proofs.Common.{refl, sym, ap, subst, ◌∙◌, arith, take, get_or}
 use Rattle.std.proofs.lemmas.List.{take_all, length-map}
 use Rattle.std.proofs.lemmas.Option.{slice_get-get_or, slice_get_within, get_or_from_slice_get}
@@ -9,16 +9,15 @@ use Rattle.rte_response.specs.Demand.{deadline_at, IsBound}
 use Rattle.rte_machine_meaning.specs.Image.{Image, Process}
 use Rattle.rte_image.specs.declared.raw.RawImage.{RawImage}
 use Rattle.rte_image.specs.declared.raw.RawProc.{RawProc}
-use Rattle.rte_image.specs.Raw.{image_of, process_of, named_of}
+use Rattle.rte_image.specs.Raw.{image_of, process_of}
 use Rattle.rte_tasks.specs.Tasks.{tasks_of}
 use Rattle.rte_table.specs.Table.{IsBoundAt}
-use Rattle.rte_built.specs.Built.{HasLeastBounds}
-use Rattle.rte_built.specs.Filled.{without_bound, without_bounds, DiffersInBounds}
+use Rattle.rte_built.specs.Filled.{without_bound, without_bounds}
 use Rattle.rte_built.specs.Shown.{AreLeast}
 use Rattle.rte_ranking.specs.declared.copies.Times.{Times}
 use Rattle.rte_ranking.specs.Ranking.{timed}
 use Rattle.rte_filled.specs.Filled.{Each}
-use Rattle.rte_filled.proofs.Lists.{through, became, came_from, each_mapped, each_more, none_yet, same_more}
+use Rattle.rte_filled.proofs.Lists.{through, became, each_mapped, each_more, none_yet, same_more}
 use Rattle.rte_filled.proofs.Tasks.{least_is_kept}
 use Rattle.rte_bounding.specs.Bounding.{but_bound, AreBounded, HasBounds, KeepsLeast}
 
@@ -66,10 +65,10 @@ all_bounds image i bounds past so_far = record {
 
 -- ---- bounds filled in
 
-pub record BoundedSoFar (bounds : List (Option ℕ)) (before : List RawProc) (i : ℕ) (now : List RawProc) : Type 0 where
+pub record BoundedSoFar (found : List (Option ℕ)) (before : List RawProc) (i : ℕ) (now : List RawProc) : Type 0 where
   pub long : length now ≡ i
   pub same : map but_bound now ≡ map but_bound (take i before)
-  pub bounds : Each (λ k p. (b : ℕ) → slice_get bounds k ≡ Some (Some b) → p.bound ≡ b) now
+  pub bounds : Each (λ k p. (b : ℕ) → slice_get found k ≡ Some (Some b) → p.bound ≡ b) now
 
 pub one_bounded : (bounds : List (Option ℕ)) (before old new : List RawProc) (i : ℕ) (t : Times) (p q : RawProc) (o : Option ℕ) → i < length before → p ≡ get_or before i p → BoundedSoFar bounds before i old
     → new ≡ old ++ q ∷ [] → process_of q ≡ timed t (process_of p) → t.rank ≡ p.rank → t.block ≡ p.block → o ≡ get_or bounds i None → t.bound ≡ unwrap_or o p.bound → BoundedSoFar bounds before (i + 1) new
