@@ -1,0 +1,58 @@
+-- The image that is built of a program can be run and stored.
+use Rattle.std.proofs.Common.{◌≡◌, ◌≤◌, ℕ, length, arith, sym, subst}
+use Rattle.rte_tree.specs.Placed.{plain}
+use Rattle.rte_tree.specs.Plain.{Prog}
+use Rattle.rte_machine_meaning.specs.Image.{Image}
+use Rattle.rte_image.specs.Named.{NamedImage}
+use Rattle.rte_valid.specs.Valid.{HasLimits, IsValid}
+use Rattle.rte_valid_law.specs.Laws.{ValidMeetsPremises}
+use Rattle.rte_named.specs.Operands.{ValidOperandsAreThere}
+use Rattle.rte_costs.specs.Levels.{code_length}
+use Rattle.rte_whole.specs.Whole.{CodeHasItsLength}
+use Rattle.rte_checked.specs.Ready as checked_of
+use Rattle.rte_checked.specs.Ready.{CheckedProgramsAreReady, IsImageMade}
+use Rattle.rte_checked_valid.specs.Checked.{CheckedImagesAreValid}
+use Rattle.rte_generated_runs.specs.Runs.{IsSmallEnough}
+use Rattle.rte_small.specs.Small.{ProgramsThatKeepSizesAreSmall}
+use Rattle.rte_built.specs.Built.{IsBuilt}
+use Rattle.rte_built.specs.Named.{names_of}
+use Rattle.rte_built_made.specs.Made.{BuiltImagesAreMade}
+use Rattle.rte_built_limits.specs.Limits.{BuiltImagesAreInLimits}
+use Rattle.rte_built_scripts.specs.Suits.{NamesHaveFrames}
+use Rattle.rte_script_suits.specs.Suits.{HasFrames}
+use Rattle.rte_short_names.specs.Short.{NamesAreShort, NamesOfTextsAreShort}
+use Rattle.rte_built_ready.specs.Ready.{BuiltImagesAreReady, IsReady}
+use Rattle.rte_built_ready.proofs.Counts.{Counted, counted}
+use Rattle.rte_built_ready.proofs.Plans.{has_plan}
+use Rattle.rte_built_ready.proofs.Names.{are_names}
+use Rattle.rte_built_ready.proofs.Ranges.{in_range}
+
+-- the image that is built of a program is its image, with its names
+same_image : (g : Prog) (over : ℕ) (n : NamedImage) → IsBuilt g over n → ◌≡◌ {A = NamedImage} (record { program = g.name; names = names_of g; image = n.image }) n
+same_image g over n built = λ i. record { program = sym built.program i; names = sym built.names i; image = n.image }
+
+pub built_images_are_ready : CheckedProgramsAreReady → ProgramsThatKeepSizesAreSmall → BuiltImagesAreMade → BuiltImagesAreInLimits → CheckedImagesAreValid
+    → ValidOperandsAreThere → ValidMeetsPremises → CodeHasItsLength → NamesOfTextsAreShort → NamesHaveFrames → BuiltImagesAreReady
+built_images_are_ready ready_law small_law made_law limits_law valid_law operands_law premises_law length_law short_law frames_law text g over n written built =
+    let p : Prog = plain g in
+    let m : Image = n.image in
+    let ready : checked_of.IsReady p = ready_law g written.program.checked in
+    let small : IsSmallEnough g = small_law g written.program.checked written.fits in
+    let made : IsImageMade p m = made_law g over n small built in
+    let limits : HasLimits m = limits_law text g over n written ready.formed built made.code in
+    let valid : IsValid m = valid_law g m written.program.checked made in
+    let many : length m.code ≡ code_length p = length_law p m made.code ready.sound in
+    let short : length m.code ≤ 65535 = omega (arith, many, small.code) in
+    let names : NamesAreShort p = short_law text g written.program.tree in
+    let counts : Counted p m = counted p m ready.formed.counts_fit ready.sound.few made.code in
+    let frames : HasFrames (names_of p) m = frames_law p m ready.formed made.code in
+    let of_program : IsReady (record { program = p.name; names = names_of p; image = m }) = record {
+      limits = limits;
+      plan = has_plan p m counts made.code limits valid (operands_law m limits valid) (premises_law m limits valid);
+      names = are_names p m counts names;
+      range = in_range p m ready.formed made.code valid short counts names;
+      frames = frames;
+      devices = omega (arith, counts.device_names, counts.devices);
+      events = omega (arith, counts.events);
+    } in
+    subst (λ (x : NamedImage). IsReady x) (same_image p over n built) of_program
