@@ -76,7 +76,7 @@ module _ (call : Call) (b m n : FilesState) (o o' : SinkState) (act : Act) (stat
   cut_told true p d = cut p d
   cut_told false p d = tt
 
-  range : (tells : Bool) → IsPrepared tells call b act → Performed tells act (outside m o) (outside n o') status → (status ≤ 8) × ((status ≢ 1) × (status ≢ 6))
+  range : (tells : Bool) → IsPrepared tells call b act → Performed tells act (outside m o) (outside n o') status → (status ≤ 8) × (status ≢ 1) × (status ≢ 6)
   range tells p d = elim d.range [
     | inl same ↦ (let low = p.answered in omega (arith, same, low), (λ one. p.is_command (sym same ∙ one)), (λ six. let low = p.answered in absurd (omega (arith, same, low, six))))
     | inr more ↦ elim more [
