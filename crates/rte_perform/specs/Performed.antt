@@ -1,5 +1,5 @@
 -- What has been done of an act.
-use Rattle.std.specs.Prelude.{◌≡◌, ◌≢◌, ◌⊎◌, ℕ, Bool, List, Option, Some, None, IfSome}
+use Rattle.std.specs.Prelude.{◌≡◌, ◌≢◌, ◌⊎◌, ℕ, Bool, Option, Some, None}
 use Rattle.std.specs.Bool.{OnTrue}
 use Rattle.rte_io.specs.Outside.{Outside, Rose, AllStay, OthersStay, Appends, AppendsFront}
 use Rattle.rte_answers.specs.declared.act.Store.{Store}

@@ -5,6 +5,7 @@
 //! run itself takes no memory, and has no answer for a stuck instruction, an overrun or a full stack: none ever comes.
 #![tactic(auto)]
 
-mod perform;
+mod performing;
+mod ready;
 
-pub use perform::perform;
+pub use performing::perform;

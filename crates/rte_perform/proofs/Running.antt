@@ -1,0 +1,48 @@
+-- What a run that can be made promises to the machine and to the log.
+use Rattle.std.proofs.Common.{◌≡◌, ◌-◌, ◌∙◌, ℕ, List, Some, arith, ap, sym, subst}
+use Rattle.std.specs.Prelude.{All}
+use Rattle.rte_answers.specs.declared.act.Run.{Run}
+use Rattle.rte_answers.specs.Acts.{CanRun, log_due}
+use Rattle.rte_event.specs.declared.event.Event.{Event}
+use Rattle.rte_image.specs.Raw.{image_of}
+use Rattle.rte_log.specs.InRange.{AreIn}
+use Rattle.rte_log.specs.Line.{log_of}
+use Rattle.rte_logged.proofs.Ticking.{valid_runs_have_lines}
+use Rattle.rte_machine_meaning.specs.Image.{Image, Script}
+use Rattle.rte_machine_meaning.specs.Run.{events, events_from, state_at}
+use Rattle.rte_run.specs.Coming.{coming, log_to_come}
+use Rattle.rte_runner.specs.Runnable.{IsRunnable}
+use Rattle.rte_runner_laws.proofs.Runnable.{valid_runs_are_runnable}
+use Rattle.rte_starts.specs.Begin.{script_of}
+use Rattle.rte_perform.proofs.Scripts.{same_script}
+
+-- what is to come at tick 0 is all
+all_coming : (image : Image) (script : Script) → coming image script 0 ≡ events image script
+unfolding events state_at
+all_coming image script =
+    let all : script.end_tick - 0 ≡ script.end_tick = omega arith in
+    ap (λ (n : ℕ). events_from image script n 0 (state_at image script 0)) all
+
+coming_first : (image : Image) (script : Script) (t : ℕ) → t ≡ 0 → coming image script t ≡ events image script
+coming_first image script t first = ap (λ (u : ℕ). coming image script u) first ∙ all_coming image script
+
+module _ (run : Run) (image : Image) (same : image ≡ image_of run.image) where
+  pub is_runnable : CanRun run → IsRunnable image (script_of run.script)
+  is_runnable can =
+      subst (λ (x : Image). IsRunnable x (script_of run.script)) (sym same)
+      (valid_runs_are_runnable (image_of run.image) (script_of run.script) can.limits can.valid can.script.frames can.script.order (let end = can.script.end in omega (arith, end)))
+
+  -- each event that is to come at tick 0 has a line
+  pub lines_first : (t : ℕ) → CanRun run → t ≡ 0 → All (AreIn run.image.names) (coming image (script_of run.script) t)
+  lines_first t can first =
+      let have : All (AreIn run.image.names) (events (image_of run.image) (script_of run.script)) =
+      valid_runs_have_lines run.image.names (image_of run.image) (script_of run.script) can.limits can.valid can.names can.script.end in
+      subst (λ (es : List Event). All (AreIn run.image.names) es) (sym (coming_first image (script_of run.script) t first))
+      (subst (λ (x : Image). All (AreIn run.image.names) (events x (script_of run.script))) (sym same) have)
+
+  -- the log that is to come at tick 0 is the one that is due
+  pub log_first : (t : ℕ) → t ≡ 0 → log_to_come image (script_of run.script) run.image.names t ≡ log_due (Some run)
+  log_first t first =
+      ap (λ (es : List Event). log_of run.image.names es) (coming_first image (script_of run.script) t first)
+      ∙ (ap (λ (x : Image). log_of run.image.names (events x (script_of run.script))) same
+      ∙ ap (λ (script : Script). log_of run.image.names (events (image_of run.image) script)) (sym (same_script run.script)))

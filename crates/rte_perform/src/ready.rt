@@ -1,0 +1,61 @@
+//! Runs made ready.
+
+ghost use Rattle.std.specs.Prelude.{◌≡◌, Some, IfOk, OnOk, OnErr};
+ghost use Rattle.rte_answers.specs.Acts.{CanRun, log_due};
+ghost use Rattle.rte_image.specs.Raw.{image_of};
+ghost use Rattle.rte_io.specs.Outside.{Appends, AppendsFront, Rose};
+ghost use Rattle.rte_machine_meaning.specs.Image.{Image};
+ghost use Rattle.rte_perform.specs.Ready.{IsReady};
+
+use rte_answers::Run;
+use rte_io::{Sink, SinkFailed};
+use rte_plan::plan_of;
+use rte_run::run;
+use rte_runner::Machine;
+use rte_state::Plan;
+use std::alloc::{AllocError, Global};
+
+/// A run whose machine stands before tick 0. It takes no more memory.
+#[derive(Drop)]
+pub(crate) struct Ready<'a> {
+    run: &'a Run,
+    plan: Plan,
+    machine: Machine,
+}
+
+impl<'a> Ready<'a> {
+    /// Makes the plan of the image and the machine; an error says that memory is short.
+    pub(crate) fn new(alloc: Global, run: &'a Run) -> Result<Ready<'a>, AllocError>
+        ghost image: { Image }
+        requires image { image ≡ image_of run.now.image }
+        requires can { CanRun run.now }
+        ensures run { IfOk result (λ ready. ready.run.now ≡ run.now) }
+        ensures ready { IfOk result (λ ready. IsReady ready) }
+    {
+        let plan = plan_of(alloc, &run.image)?;
+        let machine = Machine::new(alloc, &plan, &run.script)?;
+        Ok(Ready { run, plan, machine })
+    }
+
+    /// Runs to the end of the script, and puts the log, one put a line. After a failed put nothing
+    /// more is put.
+    pub(crate) fn put_log<O: Sink>(&mut self, out: &mut O) -> Result<(), SinkFailed>
+        ghost image: { Image }
+        requires image { image ≡ image_of self.old.run.now.image }
+        requires ready { IsReady self.old }
+        ensures whole { OnOk result (Appends (O.state out.old).taken (O.state out.new).taken
+            (log_due (Some self.old.run.now))) }
+        ensures front { OnErr result (AppendsFront (O.state out.old).taken (O.state out.new).taken
+            (log_due (Some self.old.run.now))) }
+        ensures failed { OnErr result (Rose (O.state out.old).faults (O.state out.new).faults) }
+        ensures quiet { OnOk result ((O.state out.new).faults ≡ (O.state out.old).faults) }
+    {
+        run(
+            &mut self.machine,
+            &self.plan,
+            &self.run.script,
+            &self.run.image.names,
+            out,
+        )
+    }
+}
