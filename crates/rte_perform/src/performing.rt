@@ -39,6 +39,19 @@ fn store<F: Files>(image: &Option<Store<'_>>, files: &mut F) -> Result<(), Write
     }
 }
 
+/// Puts a text, unless it is empty.
+fn put_text<O: Sink>(text: &[u8], out: &mut O) -> Result<(), SinkFailed>
+    ensures whole { OnOk result (Appends (O.state out.old).taken (O.state out.new).taken text.now) }
+    ensures front { OnErr result (AppendsFront (O.state out.old).taken (O.state out.new).taken text.now) }
+    ensures failed { OnErr result (Rose (O.state out.old).faults (O.state out.new).faults) }
+    ensures quiet { OnOk result ((O.state out.new).faults ≡ (O.state out.old).faults) }
+{
+    if text.is_empty() {
+        return Ok(());
+    }
+    out.put(text)
+}
+
 /// Puts the text, and then the log of the run, one put a line. After a failed put nothing more is
 /// put.
 fn tell<O: Sink>(text: &[u8], run: Option<Ready<'_>>, out: &mut O) -> Result<(), SinkFailed>
@@ -50,14 +63,14 @@ fn tell<O: Sink>(text: &[u8], run: Option<Ready<'_>>, out: &mut O) -> Result<(),
     ensures failed { OnErr result (Rose (O.state out.old).faults (O.state out.new).faults) }
     ensures quiet { OnOk result ((O.state out.new).faults ≡ (O.state out.old).faults) }
 {
-    out.put(text)?;
+    put_text(text, out)?;
     match run {
         Some(mut run) => run.put_log(out),
         None => Ok(()),
     }
 }
 
-/// Stores the image of the act, puts its text, and then the log of its run, one put a line. The answer is the act's
+/// Stores the image of the act, puts its text, unless it is empty, and then the log of its run, one put a line. The answer is the act's
 /// status; `Unwritten` where the write or a put failed, and nothing is put after that; `Memory` where there is not enough
 /// memory for the machine or for the write, and then nothing was stored or put.
 pub fn perform<F: Files, O: Sink>(
