@@ -6,21 +6,21 @@ use Rattle.rte_perform.specs.Ready.{run_of}
 use Rattle.rte_perform.proofs.Ends.{on_err, all_told, front_told}
 use Rattle.rte_perform.proofs.performing.tell.Goals as goal
 
-pub returns-in_err-put-clause-front : goal.returns-in_err-put-clause-front
-returns-in_err-put-clause-front g c =
+pub returns-in_err-put_text-clause-front : goal.returns-in_err-put_text-clause-front
+returns-in_err-put_text-clause-front g c =
     on_err c.from_residual.result _
-    (AppendsFront-more (g.O.Sink.state c.args.out.now).taken (g.O.Sink.state c.put.new.self).taken c.args.text.now (log_due (run_of c.args.run)) c.in_err-put.ensures.front)
+    (AppendsFront-more (g.O.Sink.state c.args.out.now).taken (g.O.Sink.state c.put_text.new.out).taken c.args.text.now (log_due (run_of c.args.run)) c.in_err-put_text.ensures.front)
 
 pub returns-in-Some-clause-whole : goal.returns-in-Some-clause-whole
 returns-in-Some-clause-whole g c =
     let same : c.args.run ≡ Some c.in-Some.run' = cc in
     subst (λ (run : Option Ready). OnOk c.put_log.result (Appends (g.O.Sink.state c.args.out.now).taken (g.O.Sink.state c.put_log.new.out).taken (c.args.text.now ++ log_due (run_of run)))) (sym same)
-    (all_told c.put_log.result (g.O.Sink.state c.args.out.now).taken (g.O.Sink.state c.put.new.self).taken (g.O.Sink.state c.put_log.new.out).taken c.args.text.now (log_due (run_of (Some c.in-Some.run')))
-    c.in_ok-put.ensures.whole c.put_log.ensures.whole)
+    (all_told c.put_log.result (g.O.Sink.state c.args.out.now).taken (g.O.Sink.state c.put_text.new.out).taken (g.O.Sink.state c.put_log.new.out).taken c.args.text.now (log_due (run_of (Some c.in-Some.run')))
+    c.in_ok-put_text.ensures.whole c.put_log.ensures.whole)
 
 pub returns-in-Some-clause-front : goal.returns-in-Some-clause-front
 returns-in-Some-clause-front g c =
     let same : c.args.run ≡ Some c.in-Some.run' = cc in
     subst (λ (run : Option Ready). OnErr c.put_log.result (AppendsFront (g.O.Sink.state c.args.out.now).taken (g.O.Sink.state c.put_log.new.out).taken (c.args.text.now ++ log_due (run_of run)))) (sym same)
-    (front_told c.put_log.result (g.O.Sink.state c.args.out.now).taken (g.O.Sink.state c.put.new.self).taken (g.O.Sink.state c.put_log.new.out).taken c.args.text.now (log_due (run_of (Some c.in-Some.run')))
-    c.in_ok-put.ensures.whole c.put_log.ensures.front)
+    (front_told c.put_log.result (g.O.Sink.state c.args.out.now).taken (g.O.Sink.state c.put_text.new.out).taken (g.O.Sink.state c.put_log.new.out).taken c.args.text.now (log_due (run_of (Some c.in-Some.run')))
+    c.in_ok-put_text.ensures.whole c.put_log.ensures.front)
