@@ -1,5 +1,5 @@
 -- Without a failure what is due is done.
-use Rattle.std.proofs.Common.{◌≡◌, ◌<◌, ◌⊎◌, inl, inr, ℕ, Bool, true, false, arith}
+use Rattle.std.proofs.Common.{inl, inr, ℕ, Bool, true, false, arith}
 use Rattle.std.specs.Bool.{OnTrue}
 use Rattle.std.proofs.lemmas.Bool.{cases_lt, cases_eq}
 use Rattle.rte_io.specs.Outside.{Outside}

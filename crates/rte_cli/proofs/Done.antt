@@ -1,6 +1,6 @@
 -- What a call that answers 0 has done.
-use Rattle.std.proofs.Common.{◌≡◌, ◌<◌, ◌⊎◌, ◌∙◌, ◌++◌, inl, inr, ℕ, List, [], ◌∷◌, Option, Some, None, Bool, true, false, refl, sym, subst, ap, arith, map}
-use Rattle.std.specs.Prelude.{IsSomeAnd, slice_get}
+use Rattle.std.proofs.Common.{◌≡◌, ◌∙◌, ◌++◌, ℕ, List, [], ◌∷◌, Option, Some, None, Bool, true, false, refl, sym, subst, ap, arith, map}
+use Rattle.std.specs.Prelude.{IsSomeAnd}
 use Rattle.std.specs.Bool.{OnTrue}
 use Rattle.rte_io.specs.Outside.{Outside, Appends}
 use Rattle.rte_tree.specs.declared.place.Place.{Place}
@@ -9,18 +9,14 @@ use Rattle.rte_lex.specs.declared.token.Token.{Token}
 use Rattle.rte_lex.specs.Tokens.{tokens}
 use Rattle.rte_print.specs.Canonical.{canonical}
 use Rattle.rte_print.specs.ReadBack.{AreSpelled, HasTree, IsPrinted}
-use Rattle.rte_machine_meaning.specs.Image.{Image, Script, Line}
 use Rattle.rte_image.specs.Named.{NamedImage}
 use Rattle.rte_image.specs.Raw.{image_of, named_of}
 use Rattle.rte_image.specs.declared.raw.RawImage.{RawImage}
-use Rattle.rte_image_reading.specs.Answer.{Holds}
-use Rattle.rte_valid.specs.Valid.{HasLimits, IsValid}
 use Rattle.rte_valid_limits.specs.Law.{ImagesReadHaveLimits}
 use Rattle.rte_valid_law.specs.Laws.{EveryValidImageIsSafeAndInTime}
 use Rattle.rte_timed.specs.Timed.{RespectsFrames}
 use Rattle.rte_script.specs.declared.script.ScriptLine.{ScriptLine}
 use Rattle.rte_script.specs.declared.script.ScriptLine.TheVariants.{Set, Occur}
-use Rattle.rte_script.specs.Scripts.{IsScript}
 use Rattle.rte_script_suits.specs.Laws.{ScriptsForImagesReadSuit, script_with}
 use Rattle.rte_starts.specs.Begin.{lines_of}
 use Rattle.rte_lifted.specs.Compiled.{line_of as machine_line}
@@ -31,7 +27,7 @@ use Rattle.rte_words.specs.Calls.{Call, go, check, compile, json, print, run, mi
 use Rattle.rte_commands.specs.Source.{IsWritten, IsTimelyText, Style, report_of}
 use Rattle.rte_commands.specs.Script.{line_said, run_of}
 use Rattle.rte_commands.specs.Due.{Outcome, stored, log, IsRefused, faulty, late, IsReportDue, report_refused, report_timely, IsPrintDue, print_faulty, printed, IsCompileDue, compile_refused, compiled, IsGoDue, go_refused, go_bad_script, went, IsImageFile, IsImageRefused, misread, invalid, IsRunDue, run_refused, run_bad_script, ran, IsMigrateDue, migrate_refused, migrated}
-use Rattle.rte_commands.specs.Runs.{IsKept, KeepsItsWord, BuiltImagesAreFaithful, IsAccepted, IsDone}
+use Rattle.rte_commands.specs.Runs.{KeepsItsWord, BuiltImagesAreFaithful, IsAccepted}
 use Rattle.rte_answers.specs.Files.{IsDue, target_of}
 use Rattle.rte_answers.specs.Went.{IsWhole, Stores, Went}
 use Rattle.rte_promise.specs.Promise.{HasGone, HasCompiled, HasReported, ReadsBack, HasPrinted, HasRun, HasMigrated, HasDone}

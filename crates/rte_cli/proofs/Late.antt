@@ -1,5 +1,5 @@
 -- Status 3 comes exactly where a recurrence has no solution.
-use Rattle.std.proofs.Common.{◌≡◌, ◌<◌, ◌⊎◌, ◌∙◌, inl, inr, ℕ, List, Option, Some, None, Bool, true, false, refl, sym, subst, ap, arith}
+use Rattle.std.proofs.Common.{◌≡◌, ◌<◌, ◌∙◌, ℕ, List, Option, Some, None, Bool, true, false, refl, sym, subst, ap, arith}
 use Rattle.std.specs.Prelude.{◌↔◌, IsSomeAnd}
 use Rattle.std.specs.Bool.{OnTrue}
 use Rattle.rte_io.specs.Outside.{Outside}
@@ -8,7 +8,7 @@ use Rattle.rte_tree.specs.Placed.{Prog, plain}
 use Rattle.rte_image.specs.Named.{NamedImage}
 use Rattle.rte_report.specs.Report.{report_text}
 use Rattle.rte_report.specs.Json.{report_json}
-use Rattle.rte_built.specs.Built.{IsBuilt, IsLate}
+use Rattle.rte_built.specs.Built.{IsBuilt}
 use Rattle.rte_built_once.specs.Once.{TimelyOrLate}
 use Rattle.rte_words.specs.Calls.{Call, go, check, compile, json, print, run, migrate}
 use Rattle.rte_commands.specs.Source.{IsWritten, IsTextFault, IsTimelyText, Style}

@@ -1,14 +1,12 @@
 -- What is prepared and performed went as is due.
 use Rattle.std.proofs.Common.{◌≡◌, ◌≢◌, ◌≤◌, ◌<◌, ◌⊎◌, ◌∙◌, ℕ, List, Option, Some, None, Bool, true, false, inl, inr, refl, sym, subst, ap, arith}
-use Rattle.std.specs.Prelude.{IsSomeAnd, IfSome, option_map}
+use Rattle.std.specs.Prelude.{IsSomeAnd, IfSome}
 use Rattle.std.specs.Bool.{OnTrue}
-use Rattle.std.proofs.lemmas.Bool.{cases_eq}
-use Rattle.rte_io.specs.Outside.{FilesState, SinkState, Outside, outside, Rose, AllStay, OthersStay, NoneFell, Appends, AppendsFront}
+use Rattle.rte_io.specs.Outside.{FilesState, SinkState, Outside, outside, Rose, AllStay, NoneFell}
 use Rattle.rte_words.specs.Calls.{Call}
-use Rattle.rte_commands.specs.Due.{Outcome}
 use Rattle.rte_answers.specs.declared.act.Act.{Act}
 use Rattle.rte_answers.specs.declared.act.Store.{Store}
-use Rattle.rte_answers.specs.Files.{Held, IsDue, target_of}
+use Rattle.rte_answers.specs.Files.{Held, target_of}
 use Rattle.rte_answers.specs.Acts.{number_of, outcome_of, bytes_due, IsAtTarget}
 use Rattle.rte_answers.specs.Went.{IsStored, Stores, IsWhole, WriteFailed, PutFailed, IsCut, Went}
 use Rattle.rte_prepare.specs.Prepared.{IsPrepared, ReadsFailed}

@@ -16,8 +16,8 @@ use rte_answers::Status;
 use rte_built_laws::law::built_images_are_faithful;
 use rte_built_once::law::timely_or_late;
 use rte_due_once::law::{
-    compile_is_one, go_is_one, migrate_is_one, print_is_one, reports_are_one, run_is_one, written_once,
-    written_or_faulty,
+    compile_is_one, go_is_one, migrate_is_one, print_is_one, reports_are_one, run_is_one,
+    written_once, written_or_faulty,
 };
 use rte_io::{Files, Sink};
 use rte_print::{reads_back, tokens_are_spelled};

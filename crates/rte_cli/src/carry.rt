@@ -1,7 +1,7 @@
 //! The call, without what the laws say of it.
 
-ghost use Rattle.std.specs.Prelude.{◌≡◌, ◌≢◌, ◌≤◌, ◌<◌, ℕ, List, Some};
-ghost use Rattle.rte_io.specs.Outside.{outside, AllStay, FilesState};
+ghost use Rattle.std.specs.Prelude.{◌≡◌, ◌≢◌, ◌≤◌, ◌<◌, ◌⊎◌, ℕ, List, Some, codes};
+ghost use Rattle.rte_io.specs.Outside.{outside, AllStay, Appends, AppendsFront, Rose};
 ghost use Rattle.rte_words.specs.Calls.{Call, over_of};
 ghost use Rattle.rte_words.specs.Words.{call_of, IsCommand};
 ghost use Rattle.rte_answers.specs.Acts.{number_of};
@@ -18,8 +18,10 @@ use std::alloc::Global;
 
 /// Puts the usage.
 fn usage<O: Sink>(out: &mut O) -> Status
-    ghost before: { FilesState }
-    ensures { IsUsage (outside before (O.state out.old)) (outside before (O.state out.new)) (number_of result) }
+    ensures answer { ((number_of result ≡ 1) × Appends (O.state out.old).taken (O.state out.new).taken (codes "usage\n"))
+        ⊎ ((number_of result ≡ 7) × Rose (O.state out.old).faults (O.state out.new).faults
+        × AppendsFront (O.state out.old).taken (O.state out.new).taken (codes "usage\n")) }
+    ensures quiet { number_of result ≢ 7 → (O.state out.new).faults ≡ (O.state out.old).faults }
 {
     match out.put(b"usage\n") {
         Ok(()) => Status::Usage,
