@@ -1,1 +1,6 @@
 pub mod Prepared
+pub mod Contents
+pub mod Acting
+pub mod Formats
+pub mod Runnable
+pub mod Scripted

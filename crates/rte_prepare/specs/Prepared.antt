@@ -6,8 +6,8 @@ use Rattle.rte_words.specs.Calls.{Call}
 use Rattle.rte_answers.specs.declared.act.Act.{Act}
 use Rattle.rte_answers.specs.Files.{IsDue, ReachesScript, source_of, script_of}
 use Rattle.rte_answers.specs.Acts.{number_of, outcome_of, IsAtTarget, CanRun}
-use Rattle.rte_prepare.specs.declared.prepare.Unready.{Unready}
-use Rattle.rte_prepare.specs.declared.prepare.Unready.TheVariants as unready
+use Rattle.rte_prepare.specs.declared.unready.Unready.{Unready}
+use Rattle.rte_prepare.specs.declared.unready.Unready.TheVariants as unready
 
 -- the act comes to what is due of the call
 pub record IsPrepared (tells : Bool) (call : Call) (before : FilesState) (act : Act) : Type 0 where

@@ -1,0 +1,4 @@
+pub mod Acts
+pub mod Ready
+pub mod Refused
+pub mod Read

@@ -1,0 +1,163 @@
+-- What is due of texts and bytes, by what was answered of them.
+use Rattle.std.proofs.Common.{◌≡◌, ◌≢◌, ◌<◌, ◌-◌, ℕ, List, [], ◌++◌, length, Option, Some, Ok, Err, Bool, true, ◌⊎◌, inl, inr, refl, sym, subst, ap, ◌∙◌, arith}
+use Rattle.std.specs.Prelude.{Result, IfOk, cond, nat_lt}
+use Rattle.std.proofs.lemmas.Bool.Decides.{nat_tests}
+use Rattle.std.proofs.lemmas.List.{append-nil}
+use Rattle.rte_tree.specs.declared.place.Place.{Place}
+use Rattle.rte_tree.specs.Placed.{Prog, bare}
+use Rattle.rte_image.specs.Raw.{named_of}
+use Rattle.rte_image.specs.declared.raw.RawImage.{RawImage}
+use Rattle.rte_image.specs.Bytes.{Version}
+use Rattle.rte_image_reading.specs.Answer.{HasFault}
+use Rattle.rte_image_reading.specs.File.{Parts, longest, read_file, whole_read}
+use Rattle.rte_image_reading.specs.Format.{Read, fault}
+use Rattle.rte_image_file.specs.Loading.{IsInvalid, Loads}
+use Rattle.rte_image_file.specs.declared.loading.FileFault.{FileFault}
+use Rattle.rte_image_file.specs.declared.loading.FileFault.TheVariants as file_fault
+use Rattle.rte_print.specs.Canonical.{canonical}
+use Rattle.rte_report.specs.Report.{report_text}
+use Rattle.rte_script.specs.declared.fault.ScriptFault.{ScriptFault}
+use Rattle.rte_script.specs.declared.fault.ScriptFault.TheVariants as script_fault
+use Rattle.rte_script.specs.declared.script.Script.{Script}
+use Rattle.rte_script.specs.Faults.{IsFault}
+use Rattle.rte_script.specs.Scripts.{IsScript}
+use Rattle.rte_image.specs.Named.{NamedImage}
+use Rattle.rte_build.specs.declared.built.Built.{Built}
+use Rattle.rte_build.specs.declared.built.Late.{Late}
+use Rattle.rte_commands.specs.Source.{Style, IsWritten, IsTextFault, fault_line}
+use Rattle.rte_commands.specs.Script.{script_fault_line}
+use Rattle.rte_commands.specs.Due.{Outcome, told, IsRefused, faulty, late, IsReportDue, report_refused, report_timely, IsPrintDue, print_faulty, printed, IsCompileDue, compile_refused, compiled, image_fault_line, valid_fault_line, IsImageFile, IsImageRefused, misread, invalid, IsMigrateDue, migrate_refused, migrated, stored}
+use Rattle.rte_compile.specs.Compile.{Compiles, IsImageOf, IsLateWith}
+use Rattle.rte_compile.specs.declared.compiling.CompileFault.{CompileFault}
+use Rattle.rte_compile.specs.declared.compiling.CompileFault.TheVariants as compile_fault
+use Rattle.rte_compile.specs.Written.{ReadsWritten}
+use Rattle.rte_compile.specs.declared.written.TextFault.{TextFault}
+use Rattle.rte_compile.specs.declared.written.TextFault.TheVariants as text_fault
+use Rattle.rte_answers.specs.declared.act.Act.{Act}
+use Rattle.rte_answers.specs.declared.status.Status.TheVariants as status
+use Rattle.rte_answers.specs.Acts.{outcome_of}
+use Rattle.rte_prepare.specs.Acting.{CanBeDone, IsQuiet, puts}
+use Rattle.rte_prepare.specs.Acting as acting
+use Rattle.rte_prepare.specs.Scripted.{IsRunOver, misspelled, is_run, ran}
+use Rattle.rte_prepare.proofs.Acts.{outcome_of_puts, put_comes_to}
+
+-- what is known of what was made
+pub of_made : {A E : Type 0} (made : Result A E) (it : A) (P : A → Type 0) → IfOk made (λ x. x ≡ it) → P it → IfOk made P
+of_made (Ok x) it P is then = subst P (sym is) then
+of_made (Err why) it P is then = tt
+
+abbrev comes_to : ℕ → List ℕ → Option (List ℕ) → Outcome
+comes_to status text image = record { status = status; text = text; image = image }
+
+-- ---- texts
+
+pub faulty_text : (show : Style) (why : CompileFault) (number : ℕ) (place : Place) → why ≡ compile_fault.Text number place → (over : ℕ) (text : List ℕ) → Compiles over text (Err why)
+    → IsRefused show over text (outcome_of (puts status.Text (fault_line number place)))
+faulty_text show why number place is over text answer =
+    faulty number place (subst (λ (w : CompileFault). Compiles over text (Err w)) is answer) (outcome_of_puts status.Text (fault_line number place))
+
+pub late_text : (show : Style) (why : CompileFault) (l : Late) → why ≡ compile_fault.Untimely l → (over : ℕ) (text : List ℕ) → Compiles over text (Err why)
+    → IsRefused show over text (outcome_of (puts status.Late (show l.names l.program l.table)))
+late_text show why l is over text answer =
+    let told_late : IsLateWith over text l = subst (λ (w : CompileFault). Compiles over text (Err w)) is answer in
+    late (show l.names l.program l.table) (told_late.late show) (outcome_of_puts status.Late (show l.names l.program l.table))
+
+pub timely_report : (show : Style) (over : ℕ) (text : List ℕ) (b : Built) → IsImageOf over text b
+    → IsReportDue show over text (outcome_of (puts status.Done (show b.image.names b.image.program b.table)))
+timely_report show over text b image =
+    report_timely (named_of b.image) image.timely (outcome_of_puts status.Done (show b.image.names b.image.program b.table) ∙ ap (told 0) (image.report show))
+
+pub refused_report : {E : Type 0} (show : Style) (over : ℕ) (why : CompileFault) (P : List ℕ → Type 0) (made : Result Act E) → ((text : List ℕ) → P text → Compiles over text (Err why))
+    → IfOk made (λ act. (k : ℕ) (text : List ℕ) → Compiles k text (Err why) → IsRefused show k text (outcome_of act))
+    → IfOk made (λ act. (text : List ℕ) → P text → IsReportDue show over text (outcome_of act))
+refused_report show over why P (Ok act) answer due = λ text p. report_refused (due over text (answer text p))
+refused_report show over why P (Err e) answer due = tt
+
+faulty_print : (text : List ℕ) (number : ℕ) (place : Place) → IsTextFault text number place → IsPrintDue text (outcome_of (puts status.Text (fault_line number place)))
+faulty_print text number place is = print_faulty number place is (outcome_of_puts status.Text (fault_line number place))
+
+pub faulty_read : (why : TextFault) (number : ℕ) (place : Place) → why ≡ text_fault.Text number place → (text : List ℕ) → ReadsWritten text (Err why)
+    → IsPrintDue text (outcome_of (puts status.Text (fault_line number place)))
+faulty_read why number place is text answer = faulty_print text number place (subst (λ (w : TextFault). ReadsWritten text (Err w)) is answer)
+
+pub written_print : (text : List ℕ) (g : Prog Place) → IsWritten text g → IsPrintDue text (outcome_of (puts status.Done (canonical (bare g))))
+written_print text g is = printed g is (outcome_of_puts status.Done (canonical (bare g)))
+
+-- ---- images
+
+pub long_image : (bytes : List ℕ) → longest < length bytes → HasFault bytes 9 8388608
+unfolding read_file
+long_image bytes long =
+    let test : nat_lt longest (length bytes) ≡ true = grind (arith, nat_tests) in
+    record {
+      left = length bytes - longest;
+      is_read = ap (λ (b : Bool). cond {A = Read (Version × Parts)} b (Err (fault 9 (length bytes - longest))) (whole_read bytes)) test;
+      place = omega (arith, long);
+    }
+
+pub misread_image : (why : FileFault) (number offset : ℕ) → why ≡ file_fault.Image number offset → (bytes : List ℕ) → Loads bytes (Err why) → IsImageRefused bytes (told 4 (image_fault_line number offset))
+misread_image why number offset is bytes answer = misread number offset (subst (λ (w : FileFault). Loads bytes (Err w)) is answer) refl
+
+pub invalid_image : (why : FileFault) (number a b : ℕ) → why ≡ file_fault.Invalid number a b → (bytes : List ℕ) → Loads bytes (Err why)
+    → IsImageRefused bytes (told 4 (valid_fault_line (record { number = number; a = a; b = b })))
+invalid_image why number a b is bytes answer =
+    let found : IsInvalid bytes number a b = subst (λ (w : FileFault). Loads bytes (Err w)) is answer in
+    invalid found.raw (record { number = number; a = a; b = b }) found.held found.first refl
+
+pub refused_line : (line : List ℕ) (bytes : List ℕ) → IsImageRefused bytes (told 4 line) → IsImageRefused bytes (outcome_of (puts status.Image line))
+refused_line line bytes is = subst (λ (o : Outcome). IsImageRefused bytes o) (sym (outcome_of_puts status.Image line)) is
+
+pub migrated_image : {E : Type 0} (raw : RawImage) (P : List ℕ → Type 0) (made : Result Act E) → ((bytes : List ℕ) → P bytes → IsImageFile bytes raw)
+    → IfOk made (λ act. outcome_of act ≡ acting.migrated raw) → IfOk made (λ act. (bytes : List ℕ) → P bytes → IsMigrateDue bytes (outcome_of act))
+migrated_image raw P (Ok act) loads is = λ bytes p. migrated raw (loads bytes p) is
+migrated_image raw P (Err e) loads is = tt
+
+pub refused_migrate : {E : Type 0} (why : FileFault) (P : List ℕ → Type 0) (made : Result Act E) → ((bytes : List ℕ) → P bytes → Loads bytes (Err why))
+    → IfOk made (λ act. (bytes : List ℕ) → Loads bytes (Err why) → IsImageRefused bytes (outcome_of act)) → IfOk made (λ act. (bytes : List ℕ) → P bytes → IsMigrateDue bytes (outcome_of act))
+refused_migrate why P (Ok act) answer due = λ bytes p. migrate_refused (due bytes (answer bytes p))
+refused_migrate why P (Err e) answer due = tt
+
+-- ---- scripts
+
+pub ran_over : {E : Type 0} (front : List ℕ) (image : Option (List ℕ)) (n : NamedImage) (script : Script) (P : List ℕ → Type 0) (made : Result Act E)
+    → ((text : List ℕ) → P text → IsScript n.names text script.lines script.end) → IfOk made (λ act. outcome_of act ≡ ran front image n script.lines script.end)
+    → IfOk made (λ act. (text : List ℕ) → P text → IsRunOver front image n text (outcome_of act))
+ran_over front image n script P (Ok act) is_script is = λ text p. is_run script.lines script.end (is_script text p) is
+ran_over front image n script P (Err e) is_script is = tt
+
+pub bad_over : {E : Type 0} (front : List ℕ) (image : Option (List ℕ)) (n : NamedImage) (why : ScriptFault) (P : List ℕ → Type 0) (made : Result Act E)
+    → ((text : List ℕ) → P text → (why ≡ script_fault.Memory) ⊎ IsFault n.names text why)
+    → IfOk made (λ act. act ≡ puts status.Script (script_fault_line why)) → IfOk made (λ act. why ≢ script_fault.Memory)
+    → IfOk made (λ act. (text : List ℕ) → P text → IsRunOver front image n text (outcome_of act))
+bad_over front image n why P (Ok act) answer is other = λ text p. elim (answer text p) [
+  | inl memory ↦ absurd (other memory)
+  | inr found ↦ misspelled why (record { is = found; is_fault = other }) (put_comes_to status.Script (script_fault_line why) act is)
+]
+bad_over front image n why P (Err e) answer is other = tt
+
+-- ---- acts that stand for others
+
+pub quiet_for : {E : Type 0} (target : Option (List ℕ)) (made : Result Act E) → IfOk made IsQuiet → IfOk made (CanBeDone target)
+quiet_for target (Ok act) quiet = quiet target
+quiet_for target (Err e) quiet = tt
+
+pub stored_outcome : (text report bytes kept : List ℕ) → text ≡ report → bytes ≡ kept → comes_to 0 (text ++ []) (Some bytes) ≡ comes_to 0 report (Some kept)
+stored_outcome text report bytes kept text_is bytes_are =
+    ap (λ (t : List ℕ). comes_to 0 t (Some bytes)) (append-nil text ∙ text_is) ∙ ap (λ (b : List ℕ). comes_to 0 report (Some b)) bytes_are
+
+pub stored_compile : {E : Type 0} (over : ℕ) (b : Built) (P : List ℕ → Type 0) (made : Result Act E) → ((text : List ℕ) → P text → IsImageOf over text b)
+    → IfOk made (λ act. (k : ℕ) (text : List ℕ) → IsImageOf k text b → IsCompileDue k text (outcome_of act))
+    → IfOk made (λ act. (text : List ℕ) → P text → IsCompileDue over text (outcome_of act))
+stored_compile over b P (Ok act) image due = λ text p. due over text (image text p)
+stored_compile over b P (Err e) image due = tt
+
+pub compiled_text : (over : ℕ) (text : List ℕ) (b : Built) (outcome : Outcome) → IsImageOf over text b
+    → outcome ≡ comes_to 0 (report_text b.image.names b.image.program b.table) (Some (stored (named_of b.image))) → IsCompileDue over text outcome
+compiled_text over text b outcome image is =
+    compiled (named_of b.image) image.timely (is ∙ ap (λ (shown : List ℕ). comes_to 0 shown (Some (stored (named_of b.image)))) (image.report report_text))
+
+pub refused_compile : {E : Type 0} (over : ℕ) (why : CompileFault) (P : List ℕ → Type 0) (made : Result Act E) → ((text : List ℕ) → P text → Compiles over text (Err why))
+    → IfOk made (λ act. (k : ℕ) (text : List ℕ) → Compiles k text (Err why) → IsRefused report_text k text (outcome_of act))
+    → IfOk made (λ act. (text : List ℕ) → P text → IsCompileDue over text (outcome_of act))
+refused_compile over why P (Ok act) answer due = λ text p. compile_refused (due over text (answer text p))
+refused_compile over why P (Err e) answer due = tt

@@ -1,0 +1,59 @@
+//! Preparing.
+
+ghost use Rattle.std.specs.Prelude.{◌≤◌};
+ghost use Rattle.rte_io.specs.Outside.{AllStay, NoneFell};
+ghost use Rattle.rte_words.specs.Calls.{over_of};
+ghost use Rattle.rte_words.specs.Words.{call_of};
+ghost use Rattle.rte_prepare.specs.Prepared.{Prepares};
+
+use crate::going::prepare_go;
+use crate::images::prepare_migrate;
+use crate::programs::{Format, prepare_compile, prepare_print, prepare_report};
+use crate::running::prepare_run;
+use crate::unready::Unready;
+use rte_answers::Act;
+use rte_io::Files;
+use rte_words::Command;
+use std::alloc::Global;
+
+/// Reads what the command names, judges it, and makes what is left to be done: what is stored, what is put, and what is
+/// run. An overhead is at most 1,000 ticks.
+///
+/// # Errors
+///
+/// `Unread` only where a read failed, that of the script only where what comes before has no fault. `Memory` where there is
+/// not enough memory.
+pub fn prepare<'a, F: Files>(
+    alloc: Global,
+    command: &Command<'a>,
+    files: &mut F,
+) -> Result<Act<'a>, Unready>
+    requires overhead { over_of (call_of command.now) ≤ 1000 }
+    ensures prepared { Prepares F.tells (call_of command.now) (F.state files.old) (F.state files.new) result }
+    ensures files { AllStay (F.state files.old).held (F.state files.new).held }
+    ensures read_counts { NoneFell (F.state files.old).read_faults (F.state files.new).read_faults }
+    ensures write_counts { NoneFell (F.state files.old).write_faults (F.state files.new).write_faults }
+{
+    match *command {
+        Command::Go {
+            program,
+            image,
+            script,
+            overhead,
+        } => prepare_go(alloc, program, image, script, overhead, files),
+        Command::Check { program, overhead } => {
+            prepare_report(alloc, Format::Text, program, overhead, files)
+        }
+        Command::Compile {
+            program,
+            image,
+            overhead,
+        } => prepare_compile(alloc, program, image, overhead, files),
+        Command::Json { program, overhead } => {
+            prepare_report(alloc, Format::Json, program, overhead, files)
+        }
+        Command::Print { program } => prepare_print(alloc, program, files),
+        Command::Run { image, script } => prepare_run(alloc, image, script, files),
+        Command::Migrate { image, target } => prepare_migrate(alloc, image, target, files),
+    }
+}
