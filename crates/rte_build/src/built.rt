@@ -3,6 +3,7 @@
 use rte_image::{ImageNames, RawImage};
 use rte_table::Table;
 use rte_tree::{Name, Place};
+use std::alloc::AllocError;
 
 /// A program that is timely: its image, whose bounds are the least, and the table that is shown of it.
 #[derive(Drop)]
@@ -28,4 +29,15 @@ pub enum BuildFault {
     Untimely(Late),
     /// There was not enough memory.
     Memory,
+}
+
+impl From<AllocError> for BuildFault {
+    ghost use Rattle.std.specs.Prelude.{◌≡◌};
+    ghost use Rattle.rte_build.specs.declared.built.BuildFault.TheVariants.{Memory};
+
+    ghost from_gives = { λ _ fault. fault ≡ Memory };
+
+    fn from(_: AllocError) -> BuildFault {
+        BuildFault::Memory
+    }
 }

@@ -3,11 +3,16 @@
 //! `rte_built` says what the image of a program with an overhead is (`IsBuilt`), when its recurrences have no solution
 //! (`IsLate`), and what table is shown of it. `specs/Build.antt` says what each answer of `build` means: too large exactly by
 //! the two rules of size, late exactly where some recurrence has no solution within its deadline, else built. The code is
-//! made of every program that is not too large: no answer is left for what the generator could not do.
+//! made of every program that is not too large: no answer is left for what the generator could not do. `specs/Steps.antt`
+//! says what each step on the way promises.
 #![tactic(auto)]
 
-mod build;
+mod building;
 mod built;
+mod finish;
+mod parts;
+mod shape;
 
-pub use build::build;
+pub use building::build;
 pub use built::{BuildFault, Built, Late};
+pub use parts::refuse_too_large;

@@ -5,8 +5,8 @@ use Rattle.rte_report.specs.Late.{IsNamed}
 use Rattle.rte_build.specs.declared.built.Built.{Built}
 use Rattle.rte_build.specs.declared.built.Late.{Late}
 use Rattle.rte_commands.specs.Source.{Style, IsTextFault, IsTimelyText, IsLateText, report_of}
-use Rattle.rte_compile.specs.declared.compile.CompileFault.{CompileFault}
-use Rattle.rte_compile.specs.declared.compile.CompileFault.TheVariants as fault
+use Rattle.rte_compile.specs.declared.compiling.CompileFault.{CompileFault}
+use Rattle.rte_compile.specs.declared.compiling.CompileFault.TheVariants as fault
 
 -- the text is that of a timely program, and this is its image, with the table of its report
 pub record IsImageOf (over : ℕ) (text : List ℕ) (b : Built) : Type 0 where

@@ -1,1 +1,3 @@
 pub mod Compile
+pub mod Told
+pub mod Written

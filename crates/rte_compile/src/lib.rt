@@ -1,9 +1,12 @@
 //! From a program text to its image.
 //!
 //! `rte_commands` says what a text comes to: the image of a timely program (`IsTimelyText`), the report of a late one
-//! (`IsLateText`), or a fault of the text (`IsTextFault`). `specs/Compile.antt` says which answer of `compile` is which.
+//! (`IsLateText`), or a fault of the text (`IsTextFault`). `specs/Compile.antt` says which answer of `compile` is which, and
+//! `specs/Written.antt` the same of `read_written`, which asks no time and makes no image.
 #![tactic(auto)]
 
-mod compile;
+mod compiling;
+mod written;
 
-pub use compile::{CompileFault, compile};
+pub use compiling::{CompileFault, compile};
+pub use written::{TextFault, read_written};

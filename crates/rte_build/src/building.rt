@@ -6,6 +6,11 @@ ghost use Rattle.rte_program.specs.Program.{IsProgramOf};
 ghost use Rattle.rte_build.specs.Build.{Builds};
 
 use crate::built::{BuildFault, Built};
+use crate::finish::{all_there, filled, reported};
+use crate::shape::ranked;
+use rte_bounding::bounds;
+use rte_built_tables::law::tables_are_named;
+use rte_filled::law::{bounded_images_are_built, late_where_one_is_none};
 use rte_static::Checked;
 use std::alloc::Global;
 
@@ -22,5 +27,16 @@ pub fn build(alloc: Global, program: &Checked, over: u16) -> Result<Built, Build
     requires over { over ≤ 1000 }
     ensures { Builds (placed program.now) over result }
 {
-    Err(BuildFault::Memory)
+    bounded_images_are_built();
+    late_where_one_is_none();
+    tables_are_named();
+    let image = ranked(alloc, program.prog(), over)?;
+    let least = bounds(alloc, &image)?;
+    if all_there(&least) {
+        let built = filled(alloc, image, &least)?;
+        Ok(built)
+    } else {
+        let late = reported(alloc, image, &least)?;
+        Err(BuildFault::Untimely(late))
+    }
 }

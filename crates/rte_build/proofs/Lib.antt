@@ -1,0 +1,4 @@
+pub mod Measuring
+pub mod Shaping
+pub mod Filling
+pub mod Answered

@@ -1,0 +1,4 @@
+use Rattle.rte_compile.proofs.compiling.compiled.Given as goal
+
+abbrev pub ghost-build : goal.ghost-build
+ghost-build g a = g.bytes
