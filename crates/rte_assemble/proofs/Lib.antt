@@ -1,6 +1,8 @@
-pub mod Inserted
 pub mod Rows
+pub mod Inserted
+pub mod Copied
+pub mod Counted
 pub mod Costs
-pub mod Routines
-pub mod Processes
+pub mod RoutineTable
+pub mod ProcessTable
 pub mod Tables

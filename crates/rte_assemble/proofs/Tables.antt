@@ -1,6 +1,6 @@
 -- The tables of monitors, conditions and devices, and the whole image.
-use Rattle.std.proofs.Common.{◌≡◌, ◌∙◌, sym, ap, subst, refl, ℕ, zero, suc, ◌+◌, ◌++◌, List, [], ◌∷◌, length, map, replicate}
-use Rattle.std.specs.Prelude.{Option, Some, None, filter_map, slice_get}
+use Rattle.std.proofs.Common.{◌≡◌, ◌∙◌, sym, ap, subst, refl, ℕ, suc, ◌+◌, ◌++◌, List, [], ◌∷◌, length, map, replicate}
+use Rattle.std.specs.Prelude.{filter_map, slice_get}
 use Rattle.std.proofs.lemmas.List.{map-append}
 use Rattle.rte_tree.specs.Plain.{Name, Monitor, Decl, constant, device, event, routine, monitor, process, Prog}
 use Rattle.rte_source_meaning.specs.Names.{conditions_of, event_in, monitors, processes}
@@ -15,16 +15,18 @@ use Rattle.rte_built.specs.Named.{named_conditions, named_device, names_of}
 use Rattle.rte_cost.specs.declared.program.Measures.{Measures}
 use Rattle.rte_made.specs.declared.code.Code.{Code}
 use Rattle.rte_made_whole.specs.Held.{Holds, HoldRoutines, HoldProcesses}
-use Rattle.rte_whole.specs.Declared.{Declares}
+use Rattle.rte_whole.specs.Declared.{Declares, DeclaresProcess}
 use Rattle.rte_sizes.specs.Sizes.{AreDefined}
 use Rattle.rte_assemble.specs.Fields.{FitsFields, HasParts}
-use Rattle.rte_assemble.specs.Told.{monitors_told, processes_told, routines_told}
-use Rattle.rte_assemble.proofs.Routines.{routines-held, routine-declares}
-use Rattle.rte_assemble.proofs.Processes.{processes-held, process-declares}
+use Rattle.rte_assemble.specs.Rows.{FitAll}
+use Rattle.rte_assemble.specs.Told.{IsTold, monitors_told, processes_told, routines_told}
+use Rattle.rte_assemble.proofs.Rows.{handlers-long}
+use Rattle.rte_assemble.proofs.RoutineTable.{routines-held, routine-declares, rows-fit}
+use Rattle.rte_assemble.proofs.ProcessTable.{processes-held, process-declares, sizes-fit}
 
 are-monitors : (g : Prog) (base : ℕ) (ms : List Monitor) → AreMonitors g base ms (monitors_told g base ms)
 are-monitors g base [] = tt
-are-monitors g base (m ∷ ms) = (refl, (refl, are-monitors g (base + words_of g (monitor_vars m)) ms))
+are-monitors g base (m ∷ ms) = (refl, refl, are-monitors g (base + words_of g (monitor_vars m)) ms)
 
 one-monitor : (m : ℕ) (cs : List Name) → map (λ (c : CondName). c.mon) (map (λ c. record { name = c; mon = m }) cs) ≡ replicate (length cs) m
 one-monitor m [] = refl
@@ -47,30 +49,33 @@ devices-told (routine r ∷ ds) = devices-told ds
 devices-told (monitor m ∷ ds) = devices-told ds
 devices-told (process p ∷ ds) = devices-told ds
 
--- what stands in the image
-pub record IsTold (g : Prog) (over : ℕ) (k : Code) (m : Measures) (i : image.Image) : Type 0 where
-  pub overhead : i.over ≡ over
-  pub monitor_table : i.monitors ≡ monitors_told g 0 (monitors g)
-  pub conditions : i.conditions ≡ map (λ c. c.mon) (names_of g).conditions
-  pub devices : i.devices ≡ map (λ d. d.out) (names_of g).devices
-  pub routines : i.routines ≡ routines_told (numbered g) k.routines m.routines
-  pub bodies : i.processes ≡ processes_told g (filter_map event_in g.decls) over (processes g) k.processes m.processes
-  pub code : i.code ≡ k.instrs
-
 -- an image as it stands in a file, whose parts are told so
-pub assembled : (g : Prog) (over : ℕ) (k : Code) (m : Measures) (events : List Name) (raw : RawImage) → events ≡ filter_map event_in g.decls → raw.overhead ≡ over → raw.names ≡ names_of g
+pub assembled : (g : Prog) (over : ℕ) (k : Code) (m : Measures) (raw : RawImage) → raw.overhead ≡ over → raw.names ≡ names_of g
     → map monitor_of raw.monitors ≡ monitors_told g 0 (monitors g)
     → map routine_of raw.routines ≡ routines_told (numbered g) k.routines m.routines
-    → map process_of raw.processes ≡ processes_told g events over (processes g) k.processes m.processes
+    → map process_of raw.processes ≡ processes_told g (filter_map event_in g.decls) over (processes g) k.processes m.processes
     → raw.code ≡ k.instrs → IsTold g over k m (image_of raw)
-assembled g over k m events raw is overhead names mons routines bodies code = record {
+assembled g over k m raw overhead names mons routines bodies code = record {
   overhead = overhead;
   monitor_table = mons;
   conditions = ap (λ n. map (λ c. c.mon) n.conditions) names;
   devices = ap (λ n. map (λ d. d.out) n.devices) names;
   routines = routines;
-  bodies = bodies ∙ ap (λ es. processes_told g es over (processes g) k.processes m.processes) is;
+  bodies = bodies;
   code = code;
+}
+
+pub all-fit : (g : Prog) (k : Code) (m : Measures) → HasParts g k → FitsFields g k → AreDefined g m → FitAll g k m
+all-fit g k m parts fits is = record {
+  few_monitors = fits.few_monitors;
+  few_events = fits.few_events;
+  monitor_words = fits.monitor_words;
+  routine_parts = parts.routines;
+  rows = is.rows;
+  fit_rows = rows-fit g k m parts fits is;
+  process_parts = handlers-long (processes g) k.processes parts.processes;
+  sizes = is.sizes;
+  fit_sizes = sizes-fit g k m parts fits is;
 }
 
 pub told-holds : (g : Prog) (over : ℕ) (k : Code) (m : Measures) (i : image.Image) → HasParts g k → FitsFields g k → AreDefined g m → IsTold g over k m i → Holds g k i
@@ -87,5 +92,6 @@ pub told-declares : (g : Prog) (over : ℕ) (k : Code) (m : Measures) (i : image
 told-declares g over k m i parts fits is told = record {
   routines = λ r t y there found. routine-declares g k m parts fits is r t y there (ap (λ ys. slice_get ys r) (sym told.routines) ∙ found);
   bodies = λ n p y there found.
-      rw told.overhead (process-declares g (filter_map event_in g.decls) over k m parts fits is n p y there (ap (λ ys. slice_get ys n) (sym told.bodies) ∙ found));
+      subst (λ o. DeclaresProcess g o n p y) (sym told.overhead)
+      (process-declares g (filter_map event_in g.decls) over k m parts fits is n p y there (ap (λ ys. slice_get ys n) (sym told.bodies) ∙ found));
 }

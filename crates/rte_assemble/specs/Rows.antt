@@ -1,15 +1,18 @@
 -- Texts, parts and measures that fit their fields, one by one, and as many of each.
-use Rattle.std.specs.Prelude.{◌≤◌, ℕ, List, [], ◌∷◌}
+use Rattle.std.specs.Prelude.{◌≡◌, ◌≤◌, List, [], ◌∷◌, filter_map, length}
 use Rattle.rte_tree.specs.Plain.{Process, Prog}
+use Rattle.rte_source_meaning.specs.Names.{event_in, monitors, processes}
 use Rattle.rte_num.specs.declared.capped.Cost.{Cost}
 use Rattle.rte_emits.specs.Layout.{count, frame_words, words_of}
-use Rattle.rte_emits.specs.Numbering.{Text}
+use Rattle.rte_emits.specs.Numbering.{Text, numbered}
 use Rattle.rte_emits.specs.Compiled.{owner_number}
 use Rattle.rte_cost.specs.declared.measure.Known.{Known}
 use Rattle.rte_cost.specs.declared.program.ProcessMeasure.{ProcessMeasure}
+use Rattle.rte_cost.specs.declared.program.Measures.{Measures}
 use Rattle.rte_made.specs.declared.code.Part.{Part}
 use Rattle.rte_made.specs.declared.code.ProcessParts.{ProcessParts}
-use Rattle.rte_assemble.specs.Fields.{Begins, Begin, FitsHandler}
+use Rattle.rte_made.specs.declared.code.Code.{Code}
+use Rattle.rte_assemble.specs.Fields.{Begins, Begin, FitsHandler, monitors_words}
 
 -- each component is one that is counted up to 1,000,000,001
 pub record IsCapped (c : Cost) : Type 0 where
@@ -42,3 +45,15 @@ abbrev pub FitSizes : Prog → List Process → List ProcessParts → List Proce
 FitSizes g [] [] [] = Unit {0}
 FitSizes g (p ∷ ps) (x ∷ xs) (size ∷ sizes) = FitsSize g p x size × FitSizes g ps xs sizes
 FitSizes g ps xs sizes = ⊥
+
+-- each part of the image fits its fields, and there is one for each part of the program
+pub record FitAll (g : Prog) (k : Code) (m : Measures) : Type 0 where
+  pub few_monitors : length (monitors g) ≤ 64
+  pub few_events : length (filter_map event_in g.decls) ≤ 64
+  pub monitor_words : monitors_words g (monitors g) ≤ 1048576
+  pub routine_parts : length k.routines ≡ length (numbered g)
+  pub rows : length m.routines ≡ length (numbered g)
+  pub fit_rows : FitRows (numbered g) k.routines m.routines
+  pub process_parts : length k.processes ≡ length (processes g)
+  pub sizes : length m.processes ≡ length (processes g)
+  pub fit_sizes : FitSizes g (processes g) k.processes m.processes

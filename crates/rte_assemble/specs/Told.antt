@@ -1,19 +1,22 @@
 -- The parts of an image, told of texts, of the parts of the code and of measures.
-use Rattle.std.specs.Prelude.{ℕ, ◌+◌, List, [], ◌∷◌, Option, Some, None, is_some, map, option_map}
+use Rattle.std.specs.Prelude.{◌≡◌, ℕ, suc, ◌+◌, List, [], ◌∷◌, Option, Some, None, cond, filter_map, is_some, map, nat_le, option_map}
 use Rattle.rte_tree.specs.Plain.{Name, Monitor, Activation, periodic, at_event, Handler, Process, Prog}
 use Rattle.rte_num.specs.Capped.{cap}
-use Rattle.rte_source_meaning.specs.Names.{count_value, deadline_of, frame_of, place_of}
+use Rattle.rte_source_meaning.specs.Names.{count_value, deadline_of, event_in, frame_of, monitors, place_of, processes}
 use Rattle.rte_source_meaning.specs.Starts.{first_of}
 use Rattle.rte_machine_meaning.specs.Image as image
 use Rattle.rte_seg.specs.View.{views}
 use Rattle.rte_valid.specs.Sizes.{with_dispatch}
 use Rattle.rte_emits.specs.Layout.{count, frame_words, monitor_vars, words_of}
-use Rattle.rte_emits.specs.Numbering.{Text}
+use Rattle.rte_emits.specs.Numbering.{Text, numbered}
 use Rattle.rte_emits.specs.Compiled.{ascending, kind_number, owner_number}
 use Rattle.rte_cost.specs.declared.measure.Known.{Known}
+use Rattle.rte_built.specs.Named.{names_of}
 use Rattle.rte_cost.specs.declared.program.ProcessMeasure.{ProcessMeasure}
+use Rattle.rte_cost.specs.declared.program.Measures.{Measures}
 use Rattle.rte_made.specs.declared.code.Part.{Part}
 use Rattle.rte_made.specs.declared.code.ProcessParts.{ProcessParts}
+use Rattle.rte_made.specs.declared.code.Code.{Code}
 use Rattle.rte_assemble.specs.declared.releases.Release.{Release}
 
 -- ---- routines
@@ -60,6 +63,11 @@ abbrev pub start_told : Option Part → ℕ
 start_told None = 0
 start_told (Some x) = x.start
 
+-- how many numbers stand before the first that is not less
+abbrev pub place_for : ℕ → List ℕ → ℕ
+place_for k [] = 0
+place_for k (n ∷ ns) = cond (nat_le k n) 0 (suc (place_for k ns))
+
 -- the exception numbers of a handler, from the least to the greatest
 abbrev pub numbers_told : Prog → Option Handler → List ℕ
 numbers_told g None = []
@@ -94,8 +102,21 @@ processes_told g events over ps xs sizes = []
 
 -- ---- monitors, from a word on
 
+abbrev pub monitor_told : Prog → ℕ → Monitor → image.Monitor
+monitor_told g base m = record { base = base; words = words_of g (monitor_vars m); ceiling = 0 }
+
 abbrev pub monitors_told : Prog → ℕ → List Monitor → List image.Monitor
 monitors_told g base [] = []
-monitors_told g base (m ∷ ms) =
-    record { base = base; words = words_of g (monitor_vars m); ceiling = 0 }
-    ∷ monitors_told g (base + words_of g (monitor_vars m)) ms
+monitors_told g base (m ∷ ms) = monitor_told g base m ∷ monitors_told g (base + words_of g (monitor_vars m)) ms
+
+-- ---- the whole image
+
+-- what stands in the image, where these are the code and the measures
+pub record IsTold (g : Prog) (over : ℕ) (k : Code) (m : Measures) (i : image.Image) : Type 0 where
+  pub overhead : i.over ≡ over
+  pub monitor_table : i.monitors ≡ monitors_told g 0 (monitors g)
+  pub conditions : i.conditions ≡ map (λ c. c.mon) (names_of g).conditions
+  pub devices : i.devices ≡ map (λ d. d.out) (names_of g).devices
+  pub routines : i.routines ≡ routines_told (numbered g) k.routines m.routines
+  pub bodies : i.processes ≡ processes_told g (filter_map event_in g.decls) over (processes g) k.processes m.processes
+  pub code : i.code ≡ k.instrs

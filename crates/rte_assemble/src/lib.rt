@@ -7,13 +7,14 @@
 //! (`Declares`), and has the name, the names and the overhead.
 #![tactic(auto)]
 
-mod assemble;
 mod handlers;
 mod loops;
 mod monitors;
+mod parts;
 mod processes;
 mod releases;
 mod routines;
 mod trees;
+mod whole;
 
-pub use assemble::assemble;
+pub use whole::assemble;

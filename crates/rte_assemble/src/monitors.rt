@@ -1,17 +1,38 @@
 //! The monitors of an image.
 
-ghost use Rattle.std.specs.Prelude.{◌≡◌, ◌≤◌, IfOk, map};
-ghost use Rattle.rte_tree.specs.Placed.{placed, plain};
+ghost use Rattle.std.specs.Prelude.{◌≡◌, ◌+◌, ◌≤◌, IfOk, map};
+ghost use Rattle.rte_tree.specs.Placed.{placed, placed_monitor, plain, plain_monitor};
 ghost use Rattle.rte_image.specs.Raw.{monitor_of};
+ghost use Rattle.rte_emits.specs.Layout.{monitor_vars, words_of};
 ghost use Rattle.rte_numbering.specs.Parts.{seen_monitors};
 ghost use Rattle.rte_assemble.specs.Fields.{monitors_words};
-ghost use Rattle.rte_assemble.specs.Told.{monitors_told};
+ghost use Rattle.rte_assemble.specs.Told.{monitor_told, monitors_told};
 
 use rte_image::RawMon;
 use rte_layout::Values;
 use rte_lookup::laid_monitor;
 use rte_tree::{List, Mon};
 use std::alloc::{AllocError, Global};
+
+/// A monitor whose words begin at this one.
+fn raw_monitor(
+    alloc: Global,
+    values: &Values<'_>,
+    base: u32,
+    monitor: &Mon,
+) -> Result<RawMon, AllocError>
+    requires { base + words_of (plain (placed values.now)) (monitor_vars (plain_monitor (placed_monitor monitor.now))) ≤ 1048576 }
+    ensures told { IfOk result (λ raw. monitor_of raw ≡ monitor_told (plain (placed values.now)) base (plain_monitor (placed_monitor monitor.now))) }
+    ensures words { IfOk result (λ raw. raw.words ≡ words_of (plain (placed values.now)) (monitor_vars (plain_monitor (placed_monitor monitor.now)))) }
+{
+    let laid = laid_monitor(alloc, values, u64::from(base), monitor)?;
+    let end = laid.word as u32;
+    Ok(RawMon {
+        base,
+        words: end - base,
+        ceiling: 0,
+    })
+}
 
 /// The monitors, the words of each right behind those of the one before.
 pub fn raw_monitors(
@@ -25,14 +46,9 @@ pub fn raw_monitors(
     let mut list = List::new(alloc);
     let mut base = 0;
     for monitor in monitors {
-        let laid = laid_monitor(alloc, values, base, monitor)?;
-        let end = laid.word;
-        list.push(RawMon {
-            base: base as u32,
-            words: (end - base) as u32,
-            ceiling: 0,
-        })?;
-        base = end;
+        let raw = raw_monitor(alloc, values, base, monitor)?;
+        base += raw.words;
+        list.push(raw)?;
     }
     Ok(list)
 }

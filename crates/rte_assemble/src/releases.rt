@@ -2,7 +2,7 @@
 
 ghost use Rattle.std.specs.Prelude.{◌≡◌, ◌≤◌, length};
 ghost use Rattle.rte_tree.specs.Placed.{optional, placed, placed_activation, placed_constant, plain, plain_activation, plain_constant};
-ghost use Rattle.rte_source_meaning.specs.Names.{deadline_or};
+ghost use Rattle.rte_source_meaning.specs.Names.{deadline_or, place_of};
 ghost use Rattle.rte_source_meaning.specs.Starts.{first_of};
 ghost use Rattle.rte_assemble.specs.Told.{release_told};
 
@@ -10,7 +10,7 @@ use rte_image_names::count;
 use rte_layout::Values;
 use rte_lookup::number;
 use rte_name_list::NameList;
-use rte_tree::{Activation, Constant};
+use rte_tree::{Activation, Constant, Name};
 
 /// When a process is released: kind 0 every `frame` ticks from `first` on, kind 1 at an event, and
 /// within how many ticks an activation has to end.
@@ -41,6 +41,15 @@ fn first(values: &Values<'_>, told: &Option<Constant>) -> u32
         None => 0,
         Some(constant) => count(values, constant),
     }
+}
+
+/// The number of an event among the events of a program.
+fn event_number(events: &NameList<'_>, event: &Name) -> u16
+    requires { length events.now ≤ 64 }
+    ensures { result ≡ place_of event.now events.now }
+{
+    let place = number(events, event);
+    place as u16
 }
 
 /// When a process is released, where these are the events of the program.
@@ -75,7 +84,7 @@ pub fn released(values: &Values<'_>, events: &NameList<'_>, activation: &Activat
                 frame,
                 deadline: deadline(values, frame, told),
                 first: 0,
-                event: number(events, event) as u16,
+                event: event_number(events, event),
             }
         }
     }

@@ -61,7 +61,7 @@ fn raw_routine(
     part: &Part,
     row: Known,
 ) -> Result<RawRoutine, AllocError>
-    requires { FitsRow (text_of text.entry) part.now row }
+    requires { FitsRow (text_of text) part.now row }
     ensures { IfOk result (λ raw. routine_of raw ≡ routine_told (text_of text.entry) part.now row) }
 {
     let tree = copied_tree(alloc, part.tree.as_slice())?;

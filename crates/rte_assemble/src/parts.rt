@@ -1,35 +1,38 @@
-//! The whole image.
+//! The monitors, routines and processes of an image.
 
 ghost use Rattle.std.specs.Prelude.{◌≡◌, ◌≤◌, ◌++◌, ◌∷◌, IfOk, OnOk, List, filter_map, length, map};
 ghost use Rattle.rte_tree.specs.Plain.{Decl as SpecDecl};
 ghost use Rattle.rte_tree.specs.Placed.{placed, placed_decl, plain, plain_decl};
 ghost use Rattle.rte_source_meaning.specs.Names.{event_in, monitors, processes};
-ghost use Rattle.rte_image.specs.Raw.{image_of, monitor_of, process_of, routine_of};
+ghost use Rattle.rte_image.specs.Raw.{monitor_of, process_of, routine_of};
 ghost use Rattle.rte_emits.specs.Numbering.{numbered};
-ghost use Rattle.rte_made_whole.specs.Held.{Holds};
-ghost use Rattle.rte_whole.specs.Declared.{Declares};
-ghost use Rattle.rte_sizes.specs.Sizes.{AreDefined};
-ghost use Rattle.rte_built.specs.Named.{names_of};
-ghost use Rattle.rte_name_list.specs.First.{names_of as names_seen};
-ghost use Rattle.rte_assemble.specs.Fields.{FitsFields, HasParts, monitors_words};
-ghost use Rattle.rte_assemble.specs.Rows.{FitRows, FitSizes};
+ghost use Rattle.rte_name_list.specs.First.{names_of};
+ghost use Rattle.rte_assemble.specs.Fields.{monitors_words};
+ghost use Rattle.rte_assemble.specs.Rows.{FitAll, FitRows, FitSizes};
 ghost use Rattle.rte_assemble.specs.Told.{monitors_told, processes_told, routines_told};
 
 use crate::monitors::raw_monitors;
 use crate::processes::raw_processes;
 use crate::routines::raw_routines;
 use rte_cost::Measures;
-use rte_image::{RawImage, RawMon, RawProc, RawRoutine};
-use rte_image_names::image_names;
+use rte_image::{RawMon, RawProc, RawRoutine};
 use rte_lookup::Tables;
 use rte_made::Code;
 use rte_name_list::NameList;
-use rte_tree::{Decl, List, Name, Prog};
+use rte_tree::{Decl, List, Prog};
 use std::alloc::{AllocError, Global};
+
+/// The parts of an image, each list in the order of the numbers.
+#[derive(Drop)]
+pub struct Parts {
+    pub monitors: List<RawMon>,
+    pub routines: List<RawRoutine>,
+    pub processes: List<RawProc>,
+}
 
 /// Lists what is declared, if it is an event.
 fn list_event<'a>(names: &mut Vec<&'a [u8]>, decl: &'a Decl) -> Result<(), AllocError>
-    ensures { OnOk result ((rest : List SpecDecl) → names_seen names.new.items ++ filter_map event_in rest ≡ names_seen names.old.items ++ filter_map event_in (plain_decl (placed_decl decl.now) ∷ rest)) }
+    ensures { OnOk result ((rest : List SpecDecl) → names_of names.new.items ++ filter_map event_in rest ≡ names_of names.old.items ++ filter_map event_in (plain_decl (placed_decl decl.now) ∷ rest)) }
 {
     if let Decl::Event { name, .. } = decl {
         names.push(name.as_bytes())?;
@@ -55,7 +58,8 @@ fn all_monitors(alloc: Global, tables: &Tables<'_>) -> Result<List<RawMon>, Allo
     ensures { IfOk result (λ list. map monitor_of list ≡ monitors_told (plain (placed tables.now)) 0 (monitors (plain (placed tables.now)))) }
 {
     let directory = tables.numbering().directory();
-    raw_monitors(alloc, tables.values(), directory.monitors())
+    let list = raw_monitors(alloc, tables.values(), directory.monitors())?;
+    Ok(list)
 }
 
 /// The routines of a program by number.
@@ -70,12 +74,13 @@ fn all_routines(
     requires fits { FitRows (numbered (plain (placed tables.now))) code.now.routines measures.now.routines }
     ensures { IfOk result (λ list. map routine_of list ≡ routines_told (numbered (plain (placed tables.now))) code.now.routines measures.now.routines) }
 {
-    raw_routines(
+    let list = raw_routines(
         alloc,
         tables.numbering().order().as_slice(),
         code.routines.as_slice(),
         measures.routines.as_slice(),
-    )
+    )?;
+    Ok(list)
 }
 
 /// The processes of a program in the order of the text, where these are its events.
@@ -95,7 +100,7 @@ fn all_processes(
     ensures { IfOk result (λ list. map process_of list ≡ processes_told (plain (placed tables.now)) events.now over (processes (plain (placed tables.now))) code.now.processes measures.now.processes) }
 {
     let directory = tables.numbering().directory();
-    raw_processes(
+    let list = raw_processes(
         alloc,
         tables.values(),
         events,
@@ -103,43 +108,52 @@ fn all_processes(
         directory.processes(),
         code.processes.as_slice(),
         measures.processes.as_slice(),
-    )
+    )?;
+    Ok(list)
 }
 
-/// The image of a program with an overhead of at most 1,000 ticks, put together from its code and
-/// its measures; its ranks, ceilings, blocks and bounds are 0. It takes time in proportion to the
-/// text and its code, and fails only where memory is wanting.
-pub fn assemble(
+/// All parts, where these are the events of the program.
+fn all_parts(
     alloc: Global,
-    program: &Prog,
+    tables: &Tables<'_>,
+    events: &NameList<'_>,
     over: u16,
-    code: Code,
+    code: &Code,
     measures: &Measures,
-) -> Result<RawImage, AllocError>
+) -> Result<Parts, AllocError>
     requires over { over ≤ 1000 }
-    requires defined { AreDefined (plain (placed program.now)) measures.now }
-    requires parts { HasParts (plain (placed program.now)) code.entry }
-    requires fits { FitsFields (plain (placed program.now)) code.entry }
-    ensures program { IfOk result (λ raw. raw.program ≡ (placed program.now).name) }
-    ensures names { IfOk result (λ raw. raw.names ≡ names_of (plain (placed program.now))) }
-    ensures over { IfOk result (λ raw. raw.overhead ≡ over) }
-    ensures holds { IfOk result (λ raw. Holds (plain (placed program.now)) code.entry (image_of raw)) }
-    ensures declares { IfOk result (λ raw. Declares (plain (placed program.now)) (image_of raw)) }
+    requires events { length events.now ≤ 64 }
+    requires fits { FitAll (plain (placed tables.now)) code.now measures.now }
+    ensures monitors { IfOk result (λ parts. map monitor_of parts.monitors ≡ monitors_told (plain (placed tables.now)) 0 (monitors (plain (placed tables.now)))) }
+    ensures routines { IfOk result (λ parts. map routine_of parts.routines ≡ routines_told (numbered (plain (placed tables.now))) code.now.routines measures.now.routines) }
+    ensures processes { IfOk result (λ parts. map process_of parts.processes ≡ processes_told (plain (placed tables.now)) events.now over (processes (plain (placed tables.now))) code.now.processes measures.now.processes) }
 {
-    let tables = Tables::new(alloc, program)?;
-    let events = event_names(alloc, program.decls.as_slice())?;
-    let monitors = all_monitors(alloc, &tables)?;
-    let routines = all_routines(alloc, &tables, &code, measures)?;
-    let processes = all_processes(alloc, &tables, &events, over, &code, measures)?;
-    let names = image_names(alloc, program)?;
-    let name = Name::new(alloc, program.name.as_bytes())?;
-    Ok(RawImage {
-        overhead: over,
-        program: name,
-        names,
+    let monitors = all_monitors(alloc, tables)?;
+    let routines = all_routines(alloc, tables, code, measures)?;
+    let processes = all_processes(alloc, tables, events, over, code, measures)?;
+    Ok(Parts {
         monitors,
         routines,
         processes,
-        code: code.instrs,
     })
+}
+
+/// The parts of the image of a program.
+pub fn parts_of(
+    alloc: Global,
+    program: &Prog,
+    over: u16,
+    code: &Code,
+    measures: &Measures,
+) -> Result<Parts, AllocError>
+    requires over { over ≤ 1000 }
+    requires fits { FitAll (plain (placed program.now)) code.now measures.now }
+    ensures monitors { IfOk result (λ parts. map monitor_of parts.monitors ≡ monitors_told (plain (placed program.now)) 0 (monitors (plain (placed program.now)))) }
+    ensures routines { IfOk result (λ parts. map routine_of parts.routines ≡ routines_told (numbered (plain (placed program.now))) code.now.routines measures.now.routines) }
+    ensures processes { IfOk result (λ parts. map process_of parts.processes ≡ processes_told (plain (placed program.now)) (filter_map event_in (plain (placed program.now)).decls) over (processes (plain (placed program.now))) code.now.processes measures.now.processes) }
+{
+    let tables = Tables::new(alloc, program)?;
+    let events = event_names(alloc, program.decls.as_slice())?;
+    let parts = all_parts(alloc, &tables, &events, over, code, measures)?;
+    Ok(parts)
 }

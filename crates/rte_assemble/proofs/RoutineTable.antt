@@ -1,34 +1,33 @@
 -- The routines that are put into an image.
-use Rattle.std.proofs.Common.{◌≡◌, ◌≤◌, ◌<◌, ◌∙◌, sym, ap, subst, refl, ℕ, zero, suc, ◌+◌, List, [], ◌∷◌, length, map, min, arith}
-use Rattle.std.specs.Prelude.{Option, Some, None, slice_get, unwrap_or}
-use Rattle.rte_tree.specs.Plain.{Param, Prog}
-use Rattle.rte_num.specs.Capped.{cap}
+use Rattle.std.proofs.Common.{◌≡◌, ◌∙◌, sym, ap, subst, refl, ℕ, zero, suc, List, [], ◌∷◌, length}
+use Rattle.std.specs.Prelude.{Some, slice_get}
+use Rattle.rte_tree.specs.Plain.{Prog}
 use Rattle.rte_machine_meaning.specs.Image as image
 use Rattle.rte_emits.specs.Layout.{count, routine_words, words_of, loops}
 use Rattle.rte_emits.specs.Numbering.{Text, numbered}
-use Rattle.rte_emits.specs.Compiled.{owner_number}
-use Rattle.rte_cost.specs.Sums.{held}
 use Rattle.rte_cost.specs.declared.measure.Known.{Known}
 use Rattle.rte_cost.specs.declared.program.Measures.{Measures}
 use Rattle.rte_made.specs.declared.code.Part.{Part}
 use Rattle.rte_made.specs.declared.code.Code.{Code}
-use Rattle.rte_made_whole.specs.Held.{HoldsRoutine, HoldRoutines}
+use Rattle.rte_made_whole.specs.Held.{HoldRoutines}
+use Rattle.rte_costs.specs.Levels.{cost_of_routine, stay_of_entry}
 use Rattle.rte_whole.specs.Declared.{DeclaresRoutine}
 use Rattle.rte_sizes.specs.Sizes.{AreDefined, IsRowOf}
 use Rattle.rte_assemble.specs.Fields.{Begins, FitsFields, FitsText, HasParts}
-use Rattle.rte_assemble.specs.Rows.{FitsRow, FitRows}
+use Rattle.rte_assemble.specs.Rows.{FitsRow, FitRows, IsCapped}
 use Rattle.rte_assemble.specs.Told.{routine_told, routines_told}
-use Rattle.rte_assemble.proofs.Costs.{is-capped}
+use Rattle.rte_assemble.proofs.Rows.{same}
+use Rattle.rte_assemble.proofs.Costs.{exact-held, first-of-three-low, is-capped, low-cap, low-held, none-left, none-there, same-rest}
 
 -- a row that is defined of a text that fits
 row-fits : (g : Prog) (t : Text) (x : Part) (row : Known) → FitsText g t → Begins x → IsRowOf g t row → FitsRow t x row
 row-fits g t x row fits begins is = record {
   owner = fits.owner;
-  params = let low : count t.routine.params ≤ routine_words g t.routine = omega arith in omega (arith, fits.words, low);
+  params = first-of-three-low (count t.routine.params) (words_of g t.routine.vars) (loops t.routine.body) fits.words;
   start = begins;
-  words = omega (arith, is.words, fits.words);
-  cost = rw is.cost (is-capped _);
-  stay = omega (arith, is.stay);
+  words = low-held row.words (routine_words g t.routine) is.words fits.words;
+  cost = subst (λ c. IsCapped c) (sym is.cost) (is-capped (cost_of_routine g t));
+  stay = low-cap row.stay (stay_of_entry g t) is.stay;
 }
 
 -- texts, parts and rows of a list, one by one
@@ -38,13 +37,14 @@ all-fit : (g : Prog) (ts : List Text) (xs : List Part) (rows : List Known) → l
     → ((r : ℕ) (t : Text) (row : Known) → slice_get ts r ≡ Some t → slice_get rows r ≡ Some row → IsRowOf g t row)
     → FitRows ts xs rows
 all-fit g [] [] [] a b fits begins is = tt
-all-fit g [] [] (k ∷ ks) a b fits begins is = omega arith
-all-fit g [] (x ∷ xs) rows a b fits begins is = omega arith
-all-fit g (t ∷ ts) [] rows a b fits begins is = omega arith
-all-fit g (t ∷ ts) (x ∷ xs) [] a b fits begins is = omega arith
-all-fit g (t ∷ ts) (x ∷ xs) (k ∷ ks) a b fits begins is =
-    (row-fits g t x k (fits 0 t refl) (begins 0 x refl) (is 0 t k refl refl),
-    all-fit g ts xs ks (omega arith) (omega arith) (λ r. fits (suc r)) (λ r. begins (suc r)) (λ r. is (suc r)))
+all-fit g [] [] (k ∷ ks) a b fits begins is = none-left (length ks) b
+all-fit g [] (x ∷ xs) rows a b fits begins is = none-left (length xs) a
+all-fit g (t ∷ ts) [] rows a b fits begins is = none-there (length ts) a
+all-fit g (t ∷ ts) (x ∷ xs) [] a b fits begins is = none-there (length ts) b
+all-fit g (t ∷ ts) (x ∷ xs) (k ∷ ks) a b fits begins is = (
+  row-fits g t x k (fits 0 t refl) (begins 0 x refl) (is 0 t k refl refl),
+  all-fit g ts xs ks (same-rest (length xs) (length ts) a) (same-rest (length ks) (length ts) b) (λ r. fits (suc r)) (λ r. begins (suc r)) (λ r. is (suc r)),
+)
 
 pub rows-fit : (g : Prog) (k : Code) (m : Measures) → HasParts g k → FitsFields g k → AreDefined g m → FitRows (numbered g) k.routines m.routines
 rows-fit g k m parts fits is = all-fit g (numbered g) k.routines m.routines parts.routines is.rows fits.texts fits.routine_parts is.routines
@@ -59,12 +59,13 @@ all-held g [] [] (k ∷ ks) fit words = absurd fit
 all-held g [] (x ∷ xs) rows fit words = absurd fit
 all-held g (t ∷ ts) [] rows fit words = absurd fit
 all-held g (t ∷ ts) (x ∷ xs) [] fit words = absurd fit
-all-held g (t ∷ ts) (x ∷ xs) (k ∷ ks) fit words =
-    (record { kind = refl; owner = refl; params = refl; locals = words 0 t k refl refl; gives = refl; start = refl; tree = refl },
-    all-held g ts xs ks fit.1 (λ r. words (suc r)))
+all-held g (t ∷ ts) (x ∷ xs) (k ∷ ks) fit words = (
+  record { kind = refl; owner = refl; params = refl; locals = words 0 t k refl refl; gives = refl; start = refl; tree = refl },
+  all-held g ts xs ks fit.1 (λ r. words (suc r)),
+)
 
 exact : (g : Prog) (t : Text) (row : Known) → FitsText g t → IsRowOf g t row → row.words ≡ routine_words g t.routine
-exact g t row fits is = omega (arith, is.words, fits.words)
+exact g t row fits is = exact-held row.words (routine_words g t.routine) is.words fits.words
 
 pub routines-held : (g : Prog) (k : Code) (m : Measures) → HasParts g k → FitsFields g k → AreDefined g m → HoldRoutines g (numbered g) k.routines (routines_told (numbered g) k.routines m.routines)
 routines-held g k m parts fits is =
@@ -80,12 +81,9 @@ record Found (t : Text) (rows : List Known) (r : ℕ) (y : image.Routine) : Type
   known : slice_get rows r ≡ Some row
   is : routine_told t part row ≡ y
 
-same : {A : Type 0} (x y : A) → Some x ≡ Some y → x ≡ y
-same x y e = ap (λ o. unwrap_or o x) e
-
 found : (ts : List Text) (xs : List Part) (rows : List Known) → FitRows ts xs rows → (r : ℕ) (t : Text) (y : image.Routine) → slice_get ts r ≡ Some t
     → slice_get (routines_told ts xs rows) r ≡ Some y → Found t rows r y
-found [] [] [] fit r t y there is = absurd cc
+found [] [] [] fit r t y there is = absurd (cc)
 found [] [] (k ∷ ks) fit r t y there is = absurd fit
 found [] (x ∷ xs) rows fit r t y there is = absurd fit
 found (u ∷ ts) [] rows fit r t y there is = absurd fit

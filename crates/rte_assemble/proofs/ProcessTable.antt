@@ -1,6 +1,6 @@
 -- The processes that are put into an image.
-use Rattle.std.proofs.Common.{◌≡◌, ◌≤◌, ◌<◌, ◌∙◌, sym, ap, subst, refl, ℕ, zero, suc, ◌+◌, List, [], ◌∷◌, length, map, min, arith}
-use Rattle.std.specs.Prelude.{Option, Some, None, filter_map, is_some, option_map, slice_get, unwrap_or}
+use Rattle.std.proofs.Common.{◌≡◌, ◌∙◌, sym, ap, subst, refl, ℕ, zero, suc, List, [], ◌∷◌, length}
+use Rattle.std.specs.Prelude.{Option, Some, None, filter_map, is_some, option_map, slice_get}
 use Rattle.rte_tree.specs.Plain.{Name, Activation, periodic, at_event, Handler, Process, Prog}
 use Rattle.rte_num.specs.Capped.{cap}
 use Rattle.rte_source_meaning.specs.Names.{deadline_of, event_in, frame_of, processes}
@@ -10,7 +10,6 @@ use Rattle.rte_valid.specs.Sizes.{with_dispatch}
 use Rattle.rte_emits.specs.Layout.{frame_words}
 use Rattle.rte_emits.specs.Compiled.{IsReleased}
 use Rattle.rte_costs.specs.Levels.{cost_of_process, stack_of_process}
-use Rattle.rte_cost.specs.Sums.{held}
 use Rattle.rte_cost.specs.declared.program.ProcessMeasure.{ProcessMeasure}
 use Rattle.rte_cost.specs.declared.program.Measures.{Measures}
 use Rattle.rte_made.specs.declared.code.Part.{Part}
@@ -20,21 +19,19 @@ use Rattle.rte_made_whole.specs.Held.{HoldsHandler, HoldsProcess, HoldProcesses}
 use Rattle.rte_whole.specs.Declared.{DeclaresProcess}
 use Rattle.rte_sizes.specs.Sizes.{AreDefined, IsSizeOf}
 use Rattle.rte_assemble.specs.Fields.{Begin, FitsFields, FitsProcess, HasParts, HaveHandlers}
-use Rattle.rte_assemble.specs.Rows.{FitsSize, FitSizes}
+use Rattle.rte_assemble.specs.Rows.{FitsSize, FitSizes, IsCapped}
 use Rattle.rte_assemble.specs.Told.{numbers_told, process_told, processes_told, release_told, start_told}
-use Rattle.rte_assemble.proofs.Costs.{dispatched, is-capped}
-
-frame-low : (g : Prog) (k : ℕ) (p : Process) → frame_words p ≤ stack_of_process g k p
-frame-low g k p = omega arith
+use Rattle.rte_assemble.proofs.Rows.{same}
+use Rattle.rte_assemble.proofs.Costs.{dispatched, exact-held, first-low, is-capped, low-held, none-left, none-there, same-rest}
 
 size-fits : (g : Prog) (k : ℕ) (p : Process) (x : ProcessParts) (size : ProcessMeasure) → FitsProcess g k p → Begin x → IsSizeOf g k p size → FitsSize g p x size
 size-fits g k p x size fits begins is = record {
   words = fits.words;
-  locals = omega (arith, frame-low g k p, fits.stack);
-  stack = omega (arith, is.stack, fits.stack);
+  locals = first-low (frame_words p) _ fits.stack;
+  stack = low-held size.stack (stack_of_process g k p) is.stack fits.stack;
   handler = fits.handler;
   starts = begins;
-  cost = rw is.cost (is-capped _);
+  cost = subst (λ c. IsCapped c) (sym is.cost) (is-capped (cost_of_process g k p));
 }
 
 -- what holds of a process by its number, in lists of which this is the beginning
@@ -44,13 +41,14 @@ all-fit : (g : Prog) (number : ℕ → ℕ) (ps : List Process) (xs : List Proce
     → ((k : ℕ) (p : Process) (size : ProcessMeasure) → slice_get ps k ≡ Some p → slice_get sizes k ≡ Some size → IsSizeOf g (number k) p size)
     → FitSizes g ps xs sizes
 all-fit g number [] [] [] a b fits begins is = tt
-all-fit g number [] [] (s ∷ ss) a b fits begins is = omega arith
+all-fit g number [] [] (s ∷ ss) a b fits begins is = none-left (length ss) b
 all-fit g number [] (x ∷ xs) sizes a b fits begins is = absurd a
 all-fit g number (p ∷ ps) [] sizes a b fits begins is = absurd a
-all-fit g number (p ∷ ps) (x ∷ xs) [] a b fits begins is = omega arith
-all-fit g number (p ∷ ps) (x ∷ xs) (s ∷ ss) a b fits begins is =
-    (size-fits g (number 0) p x s (fits 0 p refl) (begins 0 x refl) (is 0 p s refl refl),
-    all-fit g (λ k. number (suc k)) ps xs ss a.1 (omega arith) (λ k. fits (suc k)) (λ k. begins (suc k)) (λ k. is (suc k)))
+all-fit g number (p ∷ ps) (x ∷ xs) [] a b fits begins is = none-there (length ps) b
+all-fit g number (p ∷ ps) (x ∷ xs) (s ∷ ss) a b fits begins is = (
+  size-fits g (number 0) p x s (fits 0 p refl) (begins 0 x refl) (is 0 p s refl refl),
+  all-fit g (λ k. number (suc k)) ps xs ss a.1 (same-rest (length ss) (length ps) b) (λ k. fits (suc k)) (λ k. begins (suc k)) (λ k. is (suc k)),
+)
 
 pub sizes-fit : (g : Prog) (k : Code) (m : Measures) → HasParts g k → FitsFields g k → AreDefined g m → FitSizes g (processes g) k.processes m.processes
 sizes-fit g k m parts fits is = all-fit g (λ n. n) (processes g) k.processes m.processes parts.processes is.sizes fits.processes fits.process_parts is.bodies
@@ -59,10 +57,10 @@ sizes-fit g k m parts fits is = all-fit g (λ n. n) (processes g) k.processes m.
 
 handler-held : (g : Prog) (h : Option Handler) (x : Option Part) (p : image.Process) → is_some x ≡ is_some h → p.handler ≡ start_told x → p.numbers ≡ numbers_told g h
     → p.handler_tree ≡ option_map (λ y. views y.tree) x → HoldsHandler g h x p
-handler-held g None None p same start numbers tree = (start, (numbers, tree))
-handler-held g None (Some x) p same start numbers tree = cc
-handler-held g (Some h) None p same start numbers tree = cc
-handler-held g (Some h) (Some x) p same start numbers tree = (start, (numbers, tree))
+handler-held g None None p same start numbers tree = (start, numbers, tree)
+handler-held g None (Some x) p same start numbers tree = absurd (cc)
+handler-held g (Some h) None p same start numbers tree = absurd (cc)
+handler-held g (Some h) (Some x) p same start numbers tree = (start, numbers, tree)
 
 frame-told : (g : Prog) (events : List Name) (a : Activation) → (release_told g events a).frame ≡ frame_of g a
 frame-told g events (periodic frame deadline first) = refl
@@ -74,8 +72,8 @@ deadline-told g events (at_event e frame deadline) = refl
 
 released : (g : Prog) (a : Activation) (p : image.Process) → p.kind ≡ (release_told g (filter_map event_in g.decls) a).kind → p.first ≡ (release_told g (filter_map event_in g.decls) a).first
     → p.event ≡ (release_told g (filter_map event_in g.decls) a).event → IsReleased g a p
-released g (periodic frame deadline first) p kind start event = (kind, (start, event))
-released g (at_event e frame deadline) p kind start event = (kind, (start, event))
+released g (periodic frame deadline first) p kind start event = (kind, start, event)
+released g (at_event e frame deadline) p kind start event = (kind, start, event)
 
 process-held : (g : Prog) (over : ℕ) (p : Process) (x : ProcessParts) (size : ProcessMeasure) → is_some x.handler ≡ is_some p.handler → HoldsProcess g p x (process_told g (filter_map event_in g.decls) over p x size)
 process-held g over p x size same =
@@ -112,12 +110,9 @@ record Found (g : Prog) (events : List Name) (over : ℕ) (p : Process) (sizes :
   known : slice_get sizes n ≡ Some size
   is : process_told g events over p parts size ≡ y
 
-same : {A : Type 0} (x y : A) → Some x ≡ Some y → x ≡ y
-same x y e = ap (λ o. unwrap_or o x) e
-
 found : (g : Prog) (events : List Name) (over : ℕ) (ps : List Process) (xs : List ProcessParts) (sizes : List ProcessMeasure) → FitSizes g ps xs sizes
     → (n : ℕ) (p : Process) (y : image.Process) → slice_get ps n ≡ Some p → slice_get (processes_told g events over ps xs sizes) n ≡ Some y → Found g events over p sizes n y
-found g events over [] [] [] fit n p y there is = absurd cc
+found g events over [] [] [] fit n p y there is = absurd (cc)
 found g events over [] [] (s ∷ ss) fit n p y there is = absurd fit
 found g events over [] (x ∷ xs) sizes fit n p y there is = absurd fit
 found g events over (q ∷ ps) [] sizes fit n p y there is = absurd fit
@@ -138,7 +133,7 @@ size-declares g events over k p x size y fits of is = record {
 }
   where
     exact : size.stack ≡ stack_of_process g k p
-    exact = omega (arith, of.stack, fits.stack)
+    exact = exact-held size.stack (stack_of_process g k p) of.stack fits.stack
 
 pub process-declares : (g : Prog) (events : List Name) (over : ℕ) (k : Code) (m : Measures) → HasParts g k → FitsFields g k → AreDefined g m
     → (n : ℕ) (p : Process) (y : image.Process) → slice_get (processes g) n ≡ Some p → slice_get (processes_told g events over (processes g) k.processes m.processes) n ≡ Some y
