@@ -106,11 +106,7 @@ pub fn parts_of(alloc: Global, program: &Prog) -> Result<Parts, BuildFault>
 }
 
 /// Refuses a checked program that is too large, from its names.
-fn sized_by_names(
-    alloc: Global,
-    program: &Prog,
-    names: &ProgramNames<'_>,
-) -> Result<(), BuildFault>
+fn sized_by_names(alloc: Global, program: &Prog, names: &ProgramNames<'_>) -> Result<(), BuildFault>
     requires checked { IsChecked (placed program.now) }
     requires names { names.now ≡ program.now }
     ensures fits { OnOk result (KeepsSizes (placed program.now)) }
