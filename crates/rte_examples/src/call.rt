@@ -64,7 +64,7 @@ pub fn call_with(
     if let Some(text) = script {
         files.place("S", text.as_bytes())?;
     }
-    outcome(alloc, line, files, failures)
+    made_call(alloc, line, files, failures)
 }
 
 /// A call where I holds the image and S the script.
@@ -77,7 +77,7 @@ pub fn call_on_image(
     let mut files = failing(alloc, NO_FAILURES)?;
     files.place("I", image)?;
     files.place("S", script.as_bytes())?;
-    outcome(alloc, line, files, NO_FAILURES)
+    made_call(alloc, line, files, NO_FAILURES)
 }
 
 fn failing(alloc: Global, failures: Failures) -> Result<MemFiles, Fail> {
@@ -94,7 +94,7 @@ fn held(alloc: Global, files: &MemFiles, name: &str) -> Result<Option<Vec<u8>>, 
     }
 }
 
-fn outcome(
+fn made_call(
     alloc: Global,
     line: &str,
     mut files: MemFiles,

@@ -77,6 +77,7 @@ fn goes_whole(rt: HostRuntime) -> Result<(), Fail> {
             put,
             puts,
             image,
+            ..
         } = call(alloc, "go P I S", program.as_bytes(), Some(script))?;
         let text = format!(in alloc; "{report}{log}")?;
         assert_eq!(rt; status, want, "{program}");
@@ -126,6 +127,7 @@ fn checks_and_prints(rt: HostRuntime) -> Result<(), Fail> {
             put,
             puts,
             image,
+            ..
         } = call(alloc, line, program.as_bytes(), Some("end 15\n"))?;
         assert_eq!(rt; status, want, "{line}");
         assert!(rt; put.as_slice() == text.as_bytes(), "{line}");

@@ -35,7 +35,7 @@ fn image_of(alloc: Global, line: &str, program: &str) -> Result<Vec<u8>, Fail> {
 fn runs_stored_images(rt: HostRuntime) -> Result<(), Fail> {
     let alloc = rt.alloc();
     let rows: &[(usize, u8, u8, &str)] = &[
-        (49, 15, 0, "0 p release\n10 p put valve 7\n14 p end\n"),
+        (55, 15, 0, "0 p release\n10 p put valve 7\n14 p end\n"),
         (55, 14, 4, "V2 14 15\n"),
         (71, 14, 4, "V5 14 15\n"),
     ];
