@@ -32,8 +32,8 @@ echo 'program bench device valve : out process p : periodic frame 26 begin put v
 awk 'BEGIN { print "program bench device valve : out"
     for (i = 0; i < 64; i++) printf "process p%d : periodic frame 960 begin put valve %d end p%d\n", i, i, i
     print "end bench" }' > processes
-echo 'program bench device gauge : in process p : periodic frame 1000000000 begin end p end bench' > reader
-awk 'BEGIN { for (i = 0; i < 999999; i++) printf "%d set gauge %d\n", i, i; print "end 1000000" }' > lines
+echo 'program bench device g : in process p : periodic frame 1000000000 begin end p end bench' > reader
+awk 'BEGIN { for (i = 0; i < 999999; i++) printf "%d set g 1\n", i; print "end 1000000" }' > lines
 
 # measure NAME AIM WORD..
 measure() {
