@@ -14,15 +14,40 @@ const FIRST: &str =
 const SECOND: &str =
     "52544555 0002 0000 0001 0000 0000 0000 0000 0000 00000001 0161 0170 00 0000000a 0000000a 00000000 0000 0001 00000004 00000000 00000000 00000000 00000004 00000000 00000000 00000000 00000000 00000000 0000 00000000 30 00000000 00000000 00000000";
 
+/// What a hexadecimal digit is worth.
+fn worth(digit: u8) -> u8 {
+    match digit {
+        b'0'..=b'9' => digit.wrapping_sub(b'0'),
+        _ => digit.wrapping_sub(b'a').wrapping_add(10),
+    }
+}
+
 /// The bytes that are written in hexadecimal, with spaces between.
 fn bytes_of(alloc: Global, digits: &str) -> Result<Vec<u8>, Fail> {
-    let packed = digits.replace(alloc, " ", "")?;
-    let text = packed.as_str();
     let mut bytes = Vec::new(alloc);
-    for place in 0..text.len() / 2 {
-        bytes.push(u8::from_str_radix(&text[2 * place..2 * place + 2], 16)?)?;
+    let mut first = None;
+    for digit in digits.as_bytes() {
+        if *digit == b' ' {
+            continue;
+        }
+        match first {
+            None => first = Some(worth(*digit)),
+            Some(high) => {
+                bytes.push(u8::wrapping_mul(high, 16).wrapping_add(worth(*digit)))?;
+                first = None;
+            }
+        }
     }
     Ok(bytes)
+}
+
+/// The same bytes but for one.
+fn with_byte(alloc: Global, bytes: &[u8], place: usize, byte: u8) -> Result<Vec<u8>, Fail> {
+    let mut changed = Vec::new(alloc);
+    for (at, old) in bytes.iter().enumerate() {
+        changed.push(if at == place { byte } else { *old })?;
+    }
+    Ok(changed)
 }
 
 /// The image of a program text with an overhead.
@@ -40,8 +65,8 @@ fn runs_stored_images(rt: HostRuntime) -> Result<(), Fail> {
         (71, 14, 4, "V5 14 15\n"),
     ];
     for (place, byte, want, text) in rows {
-        let mut image = image_of(alloc, "go P I S", VALVE)?;
-        image[*place] = *byte;
+        let image = image_of(alloc, "go P I S", VALVE)?;
+        let image = with_byte(alloc, image.as_slice(), *place, *byte)?;
         let Outcome { status, put, .. } = call_on_image(
             alloc,
             "run I S",
@@ -57,8 +82,9 @@ fn runs_stored_images(rt: HostRuntime) -> Result<(), Fail> {
 #[test]
 fn refuses_bytes_that_are_no_image(rt: HostRuntime) -> Result<(), Fail> {
     let alloc = rt.alloc();
-    let whole = image_of(alloc, "go P I S", VALVE)?;
-    let cut = call_on_image(alloc, "run I S", &whole.as_slice()[..141], "end 15\n")?;
+    let mut shorter = image_of(alloc, "go P I S", VALVE)?;
+    shorter.truncate(141);
+    let cut = call_on_image(alloc, "run I S", shorter.as_slice(), "end 15\n")?;
     assert_eq!(rt; cut.status, 4);
     assert!(rt; cut.put.as_slice() == b"I2 141\n".as_slice());
     let mut longer = image_of(alloc, "go P I S", VALVE)?;
@@ -75,8 +101,8 @@ fn an_overhead_is_part_of_the_image(rt: HostRuntime) -> Result<(), Fail> {
     let alloc = rt.alloc();
     let program =
         "program a device valve : out process p : periodic frame 17 begin put valve 7 end p end a";
-    let mut image = image_of(alloc, "compile P I 1", program)?;
-    image[7] = 2;
+    let image = image_of(alloc, "compile P I 1", program)?;
+    let image = with_byte(alloc, image.as_slice(), 7, 2)?;
     let Outcome { status, put, .. } = call_on_image(
         alloc,
         "run I S",
@@ -118,8 +144,8 @@ fn runs_the_first_version(rt: HostRuntime) -> Result<(), Fail> {
     )?;
     assert_eq!(rt; status, 0);
     assert!(rt; put.as_slice() == b"0 p release\n3 p end\n".as_slice());
-    let mut late = bytes_of(alloc, SECOND)?;
-    late[36] = 11;
+    let second = bytes_of(alloc, SECOND)?;
+    let late = with_byte(alloc, second.as_slice(), 36, 11)?;
     let wrong = call_on_image(alloc, "run I S", late.as_slice(), "end 10\n")?;
     assert_eq!(rt; wrong.status, 4);
     assert!(rt; wrong.put.as_slice() == b"I4 33\n".as_slice());
