@@ -1,4 +1,5 @@
 pub mod Due
 pub mod Waiting
 pub mod Passing
+pub mod Rowing
 pub mod Turning

@@ -1,21 +1,35 @@
 -- A turn of the process that is picked.
-use Rattle.std.proofs.Common.{◌≡◌, ◌≤◌, ◌<◌, ◌+◌, ◌-◌, ℕ, zero, suc, false, Option, Some, None, length, arith, refl, ap, sym, subst, ◌∙◌}
+use Rattle.std.proofs.Common.{◌≡◌, ◌≤◌, ◌<◌, ◌+◌, ◌-◌, ◌++◌, ℕ, zero, suc, false, List, [], Option, Some, None, inl, length, arith, refl, ap, sym, subst, ◌∙◌}
 use Rattle.std.specs.Prelude.{slice_get}
+use Rattle.std.proofs.lemmas.List.{append-nil}
 use Rattle.std.proofs.lemmas.Option.{slice_get_within}
+use Rattle.rte_event.specs.declared.event.Event.{Event}
 use Rattle.rte_isa.specs.declared.instr.Instr.{Instr}
 use Rattle.rte_machine_meaning.specs.Image.{Image, Process, Script}
 use Rattle.rte_machine_meaning.specs.State.{Job, Thread, Ready, State}
+use Rattle.rte_machine_meaning.specs.Starts.{starts}
 use Rattle.rte_machine_meaning.specs.Tick.{Ticked, owned_of, pick, settle}
+use Rattle.rte_machine_meaning.specs.Run.{events_from, state_at}
 use Rattle.rte_stretch.specs.Stretch.{FitsIn, FitsThread, left, left_of, outcomes, pass, pass_thread, place_of}
 use Rattle.rte_stretch.specs.Due.{time_out_of}
+use Rattle.rte_stretch.specs.Laws.{IsTurnOfRun, turn, turn_events, turned}
 use Rattle.rte_stretch.specs.Quiet.{AreQuiet}
 use Rattle.rte_stretch.specs.RowLaws.{IsSafeRun, begun}
+use Rattle.rte_stretch.proofs.Runs.{turn_keeps_events, turn_stays_in_run}
 use Rattle.rte_settle.specs.Own.{IsEarly}
 use Rattle.rte_settle.specs.Settled.{CanPass}
 use Rattle.rte_settle.proofs.Safely.{Found, picked, turn_can_pass}
-use Rattle.rte_runner.specs.Turn.{AreEarly, IsTurn, Run, turn_of}
-use Rattle.rte_runner.specs.Waits.{is_some_at_queue}
-use Rattle.rte_runner.proofs.Waiting.{WaitsFrom, settle_from, settle_same}
+use Rattle.rte_runner.specs.Turn.{AreEarly, HasPassed, Run}
+use Rattle.rte_runner.specs.Waits.{WaitsFrom, is_some_at_queue}
+use Rattle.rte_runner.proofs.Waiting.{settle_from, settle_same}
+
+-- the turn of n ticks from tick t on in the run, after the start events of t
+abbrev pub turn_of : Run → ℕ → ℕ → Ticked
+turn_of run t n = turn run.image run.script t n (state_at run.image run.script t)
+
+-- it may be taken at once
+abbrev pub IsTurn : Run → ℕ → ℕ → Type 0
+IsTurn run t n = IsTurnOfRun run.image run.script t n
 
 -- ---- who is picked, and how long
 
@@ -106,13 +120,49 @@ turn_from run t n who s is at = ap (λ (x : State). pass run.image t n x who) is
 pub can_pass : (run : Run) (t n k : ℕ) (s : State) → IsSafeRun run.image run.script → s ≡ begun run.image run.script t → place_of (pick run.image s.threads) ≡ Some k → IsTurn run t n → CanPass run.image n k s
 can_pass run t n k s safe is at it = subst (λ (x : State). CanPass run.image n k x) (sym is) (turn_can_pass run.image run.script t n k safe it (picked_at run t (Some k) s is at))
 
--- what the turn from one state to the other leaves of the waits
-pub record TurnKeeps (run : Run) (t n : ℕ) (s s' : State) : Type 0 where
-  pub later : WaitsFrom (t + n) s.threads s'.threads
-  pub same : is_some_at_queue (turn_of run t n).events ≡ false → (j : ℕ) → time_out_of (slice_get s'.threads j) ≡ time_out_of (slice_get s.threads j)
+-- ---- what has passed
 
-pub turn_keeps : (run : Run) (t n k : ℕ) (s s' : State) → IsSafeRun run.image run.script → IsTurn run t n → s ≡ begun run.image run.script t → s' ≡ (turn_of run t n).state → place_of (pick run.image s.threads) ≡ Some k → TurnKeeps run t n s s'
-turn_keeps run t n k s s' safe it is is' at =
+pub none_from : (image : Image) (script : Script) (t : ℕ) (s : State) → events_from image script 0 t s ≡ []
+unfolding events_from
+none_from image script t s = refl
+
+-- the events of a turn and no more
+pub turn_alone : (image : Image) (script : Script) (t n : ℕ) → IsSafeRun image script → IsTurnOfRun image script t n → events_from image script n t (state_at image script t) ≡ turn_events image script t n (state_at image script t)
+turn_alone image script t n safe it =
+    let at : State = state_at image script t in
+    let free = (turn_stays_in_run image script safe.unstuck t n it).0 in
+    let count : n ≡ n + 0 = omega arith in
+    ap (λ (k : ℕ). events_from image script k t at) count
+    ∙ turn_keeps_events image script t n 0 at it free
+    ∙ ap (λ (xs : List Event). turn_events image script t n at ++ xs) (none_from image script (t + n) (turned image script t n at))
+    ∙ append-nil (turn_events image script t n at)
+
+-- a turn of the process that is picked
+pub picked_passes : (run : Run) (t n k : ℕ) (s s' : State) (es es' : List Event) → IsSafeRun run.image run.script → IsTurn run t n → s ≡ begun run.image run.script t → place_of (pick run.image s.threads) ≡ Some k → s' ≡ (turn_of run t n).state → es' ≡ es ++ (turn_of run t n).events
+    → HasPassed run t n s' es es'
+picked_passes run t n k s s' es es' safe it is at is' told =
     let kept : KeepsWaits run t n = keeps_waits run t n k safe it (picked_at run t (Some k) s is at) in
-    let all : TurnKeeps run t n (begun run.image run.script t) (turn_of run t n).state = record { later = kept.later; same = kept.same } in
-    subst (λ (x : State). TurnKeeps run t n x s') (sym is) (subst (λ (x : State). TurnKeeps run t n (begun run.image run.script t) x) (sym is') all)
+    record {
+      some = it.some;
+      state = is' ∙ sym (turn_stays_in_run run.image run.script safe.unstuck t n it).1;
+      fell = (turn_of run t n).events;
+      told = told;
+      events = turn_alone run.image run.script t n safe it;
+      waits = subst (λ (x : State). WaitsFrom (t + n) (begun run.image run.script t).threads x.threads) (sym is') kept.later;
+      same = λ quiet j. ap (λ (x : State). time_out_of (slice_get x.threads j)) is' ∙ kept.same quiet j;
+    }
+
+-- a turn in which nobody runs
+pub idle_passes : (run : Run) (t n : ℕ) (s : State) (es : List Event) → IsSafeRun run.image run.script → s ≡ begun run.image run.script t → place_of (pick run.image s.threads) ≡ None → 1 ≤ n → AreQuiet run.image run.script t n s → HasPassed run t n s es es
+idle_passes run t n s es safe is none some quiet =
+    let it : IsTurn run t n = idle_turn run t n s is none some quiet in
+    let all : turn_of run t n ≡ record { state = s; events = []; stuck = false } = sym (turn_from run t n None s is none) in
+    record {
+      some = some;
+      state = ap (λ (x : Ticked). x.state) (sym all) ∙ sym (turn_stays_in_run run.image run.script safe.unstuck t n it).1;
+      fell = [];
+      told = sym (append-nil es);
+      events = turn_alone run.image run.script t n safe it ∙ ap (λ (x : Ticked). (starts run.image run.script t (state_at run.image run.script t)).events ++ x.events) all;
+      waits = λ j c d e job at. inl (ap (λ (x : State). slice_get x.threads j) (sym is) ∙ at);
+      same = λ quiet j. ap (λ (x : State). time_out_of (slice_get x.threads j)) is;
+    }

@@ -2,7 +2,7 @@
 use Rattle.std.proofs.Common.{◌≡◌, ◌≤◌, ◌<◌, ◌+◌, ◌-◌, ◌*◌, ◌++◌, inl, inr, ℕ, false, List, [], Option, Some, length, get_or, arith, refl, ap, sym, subst, ◌∙◌}
 use Rattle.std.specs.Prelude.{slice_get, slice_set}
 use Rattle.std.proofs.lemmas.Bool.{cases_lt}
-use Rattle.std.proofs.lemmas.List.{append-nil, length-set}
+use Rattle.std.proofs.lemmas.List.{length-set}
 use Rattle.std.proofs.lemmas.Option.{slice_get_within}
 use Rattle.rte_event.specs.declared.event.Event.{Event}
 use Rattle.rte_machine_meaning.specs.Image.{Image, Script}
@@ -11,19 +11,17 @@ use Rattle.rte_machine_meaning.specs.Starts.{starts}
 use Rattle.rte_machine_meaning.specs.Tick.{tick}
 use Rattle.rte_machine_meaning.specs.Run.{at_start, events_from, state_at}
 use Rattle.rte_stretch.specs.Due.{HasSlots, NoneBefore, time_out_of}
-use Rattle.rte_stretch.specs.Laws.{turn_events, turned}
-use Rattle.rte_stretch.specs.RowLaws.{IsSafeRun}
-use Rattle.rte_stretch.proofs.Runs.{turn_keeps_events, turn_stays_in_run}
 use Rattle.rte_start_laws.specs.Steps.{HasWaits}
 use Rattle.rte_start_laws.proofs.Lists.{get_other, get_set, same_or_not, there_is}
 use Rattle.rte_cells.specs.declared.threads.Cell.{Cell}
 use Rattle.rte_cells.specs.Threads.{thread_of, threads_of}
 use Rattle.rte_starts.proofs.Boards.{thread_at}
 use Rattle.rte_starts.specs.Begin.{WaitsAlone}
-use Rattle.rte_runner.specs.Turn.{IsTurn, Run, turn_of}
+use Rattle.rte_runner.specs.Turn.{HasPassed, Run}
+use Rattle.rte_runner.specs.Waits.{WaitsFrom}
 use Rattle.rte_runner.specs.Standing.{events_between}
 use Rattle.rte_runner.specs.Runnable.{HasNoOverrun}
-use Rattle.rte_runner.proofs.Waiting.{WaitsFrom, is_waiting}
+use Rattle.rte_runner.proofs.Waiting.{is_waiting}
 
 -- ---- slots
 
@@ -117,25 +115,13 @@ tick_overrun image script t s = refl
 pub starts_calm : (image : Image) (script : Script) (t : ℕ) (s : State) → HasNoOverrun image script → t < script.end_tick → s ≡ state_at image script t → (starts image script t s).overrun ≡ false
 starts_calm image script t s calm before is = ap (λ (x : State). (starts image script t x).overrun) is ∙ sym (tick_overrun image script t (state_at image script t)) ∙ calm t before
 
--- after the turn the state is that of the run
-pub stays : (run : Run) (t n : ℕ) (s : State) → IsSafeRun run.image run.script → IsTurn run t n → s ≡ (turn_of run t n).state → s ≡ state_at run.image run.script (t + n)
-stays run t n s safe it is = is ∙ sym (turn_stays_in_run run.image run.script safe.unstuck t n it).1
-
-none_from : (image : Image) (script : Script) (t : ℕ) (s : State) → events_from image script 0 t s ≡ []
-unfolding events_from
-none_from image script t s = refl
-
--- the start events and those of the turn are those of the ticks that passed
-pub told : (run : Run) (t n : ℕ) (es es' : List Event) (s : State) → IsSafeRun run.image run.script → IsTurn run t n → s ≡ state_at run.image run.script t → es ≡ (starts run.image run.script t s).events → es' ≡ es ++ (turn_of run t n).events
-    → es' ≡ events_between run.image run.script t (t + n)
-told run t n es es' s safe it is begins is' =
+-- the start events and what fell after them are the events of the ticks that passed
+pub told : (run : Run) (t n : ℕ) (s s' : State) (es es' : List Event) → HasPassed run t n s' es es' → s ≡ state_at run.image run.script t → es ≡ (starts run.image run.script t s).events → es' ≡ events_between run.image run.script t (t + n)
+told run t n s s' es es' has is begins =
     let image = run.image in
     let script = run.script in
     let at : State = state_at image script t in
-    let free = (turn_stays_in_run image script safe.unstuck t n it).0 in
-    let count : n + 0 ≡ (t + n) - t = omega arith in
-    is' ∙ ap (λ (xs : List Event). xs ++ (turn_of run t n).events) (begins ∙ ap (λ (x : State). (starts image script t x).events) is)
-    ∙ sym (append-nil (turn_events image script t n at))
-    ∙ ap (λ (xs : List Event). turn_events image script t n at ++ xs) (sym (none_from image script (t + n) (turned image script t n at)))
-    ∙ sym (turn_keeps_events image script t n 0 at it free)
+    let count : n ≡ (t + n) - t = omega arith in
+    has.told ∙ ap (λ (xs : List Event). xs ++ has.fell) (begins ∙ ap (λ (x : State). (starts image script t x).events) is)
+    ∙ sym has.events
     ∙ ap (λ (k : ℕ). events_from image script k t at) count

@@ -13,15 +13,11 @@ use Rattle.rte_start_laws.proofs.Lists.{get_other, get_set, same_or_not}
 use Rattle.rte_starts.specs.Begin.{HaveQueues}
 use Rattle.rte_stretch.specs.Due.{time_out_of}
 use Rattle.rte_stretch.proofs.Moving.{get_of_set}
-use Rattle.rte_runner.specs.Waits.{is_at_queue, is_some_at_queue}
+use Rattle.rte_runner.specs.Waits.{WaitsFrom, is_at_queue, is_some_at_queue}
 
 -- ---- waits that begin
 
--- each wait is an old one, or times out no earlier than v
-abbrev pub WaitsFrom : ℕ → List Thread → List Thread → Type 0
-WaitsFrom v old new = (j c d e : ℕ) (job : Job) → slice_get new j ≡ Some (Waiting c d e job) → (slice_get old j ≡ Some (Waiting c d e job)) ⊎ (v ≤ d)
-
-from_then : (v : ℕ) (a b c : List Thread) → WaitsFrom v a b → WaitsFrom v b c → WaitsFrom v a c
+pub from_then : (v : ℕ) (a b c : List Thread) → WaitsFrom v a b → WaitsFrom v b c → WaitsFrom v a c
 from_then v a b c one two j k d e job at = elim (two j k d e job at) [ inl old ↦ one j k d e job old | inr later ↦ inr later ]
 
 set_from : (v : ℕ) (ts : List Thread) (k : ℕ) (x : Thread) → ((c d e : ℕ) (job : Job) → x ≡ Waiting c d e job → v ≤ d) → WaitsFrom v ts (slice_set ts k x)
@@ -44,7 +40,7 @@ wake_first_from : (v : ℕ) (image : Image) (o : Option ℕ) (ts : List Thread) 
 wake_first_from v image None ts = λ j c d e job at. inl at
 wake_first_from v image (Some k) ts = wake_from v image k ts
 
-ready_from : (v : ℕ) (ts : List Thread) (k : ℕ) (job : Job) → WaitsFrom v ts (slice_set ts k (Ready job))
+pub ready_from : (v : ℕ) (ts : List Thread) (k : ℕ) (job : Job) → WaitsFrom v ts (slice_set ts k (Ready job))
 ready_from v ts k job = set_from v ts k (Ready job) (λ c d e job' is. absurd cc)
 
 -- after the tick u of a process each wait is an old one, or times out later
@@ -63,7 +59,7 @@ settle_from image u k p job s Stuck v low = λ j c d e job' at. inl at
 
 -- ---- waits that stay
 
-set_same : (ts : List Thread) (k j : ℕ) (x y : Thread) → slice_get ts k ≡ Some y → time_out_of (Some x) ≡ None → time_out_of (Some y) ≡ None → time_out_of (slice_get (slice_set ts k x) j) ≡ time_out_of (slice_get ts j)
+pub set_same : (ts : List Thread) (k j : ℕ) (x y : Thread) → slice_get ts k ≡ Some y → time_out_of (Some x) ≡ None → time_out_of (Some y) ≡ None → time_out_of (slice_get (slice_set ts k x) j) ≡ time_out_of (slice_get ts j)
 set_same ts k j x y at none_x none_y =
     elim (same_or_not k j) [
       | inl same ↦ subst (λ (i : ℕ). time_out_of (slice_get (slice_set ts k x) i) ≡ time_out_of (slice_get ts i)) same

@@ -1,8 +1,9 @@
 -- Waits that begin or end in a turn.
-use Rattle.std.specs.Prelude.{◌||◌, Bool, true, false, List, [], ◌∷◌}
+use Rattle.std.specs.Prelude.{◌≡◌, ◌≤◌, ◌⊎◌, ◌||◌, ℕ, Bool, true, false, List, [], ◌∷◌, Some, slice_get}
 use Rattle.rte_event.specs.declared.event.Event.{Event}
 use Rattle.rte_event.specs.declared.event.Act.{Act}
 use Rattle.rte_event.specs.declared.event.Act.TheVariants as act
+use Rattle.rte_machine_meaning.specs.State.{Job, Thread, Waiting}
 
 -- in the act a process begins to wait, or others may wait no more
 abbrev pub is_at_queue : Act → Bool
@@ -15,3 +16,7 @@ is_at_queue _ = false
 abbrev pub is_some_at_queue : List Event → Bool
 is_some_at_queue [] = false
 is_some_at_queue (e ∷ es) = is_at_queue e.act || is_some_at_queue es
+
+-- each wait is an old one, or times out no earlier than v
+abbrev pub WaitsFrom : ℕ → List Thread → List Thread → Type 0
+WaitsFrom v old new = (j c d e : ℕ) (job : Job) → slice_get new j ≡ Some (Waiting c d e job) → (slice_get old j ≡ Some (Waiting c d e job)) ⊎ (v ≤ d)

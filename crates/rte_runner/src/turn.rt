@@ -1,6 +1,6 @@
 //! A turn, once the start events of its tick are done.
 
-ghost use Rattle.std.specs.Prelude.{◌≡◌, ◌≤◌, ◌<◌, ◌+◌, ◌++◌, ◌^◌, false, Some, length, vec_len};
+ghost use Rattle.std.specs.Prelude.{◌≡◌, ◌≤◌, ◌<◌, ◌+◌, ◌^◌, false, Some, length, vec_len};
 ghost use Rattle.arrayvec.specs.ArrayVec.{array_vec_len};
 ghost use Rattle.rte_machine_meaning.specs.Image.{Image};
 ghost use Rattle.rte_machine_meaning.specs.Tick.{pick};
@@ -11,11 +11,12 @@ ghost use Rattle.rte_stretch.specs.Quiet.{AreQuiet};
 ghost use Rattle.rte_stretch.specs.RowLaws.{begun};
 ghost use Rattle.rte_stretch.specs.Stretch.{FitsIn, place_of};
 ghost use Rattle.rte_runner.specs.Runnable.{IsRunnable};
-ghost use Rattle.rte_runner.specs.Turn.{AreEarly, IsTurn, Run, turn_of};
+ghost use Rattle.rte_runner.specs.Turn.{AreEarly, BurnsNothing, HasPassed, Run, unspent};
 
 use crate::waits::note_waits;
 use rte_dispatch::Standing;
-use rte_settle::{choose, left, pass};
+use rte_settle::{choose, end_row, left, pass, run_row};
+use rte_silent::Halt;
 use rte_starts::Agenda;
 use rte_state::{Board, Fired, Plan};
 
@@ -34,15 +35,15 @@ fn ticks_left(plan: &Plan, board: &Board, who: usize, most: u64) -> u32
     most.min(u64::from(left(plan, board, who))) as u32
 }
 
-/// A turn of the process that is picked, of so many ticks at most: how many it took.
-fn pass_picked(
+/// Ticks at once of what the process that is picked is at, so many at most: how many passed.
+fn pass_one(
     plan: &Plan,
     board: &mut Board,
     who: usize,
     tick: u64,
     most: u64,
     fired: &mut Fired,
-) -> u32
+) -> u64
     ghost run: { Run }
     requires plan { IsOf run.image plan.now }
     requires runnable { IsRunnable run.image run.script }
@@ -53,15 +54,90 @@ fn pass_picked(
     requires some { 1 ≤ most }
     requires end { tick + most < 2 ^ 63 }
     requires fired { array_vec_len fired.old < 65 }
-    ensures turn { IsTurn run tick result }
+    ensures passed { HasPassed run tick result (state_of board.new) fired.old.items fired.new.items }
     ensures most { result ≤ most }
-    ensures state { state_of board.new ≡ (turn_of run tick result).state }
-    ensures events { fired.new.items ≡ fired.old.items ++ (turn_of run tick result).events }
     ensures board { IsBoardOf run.image board.new }
 {
     let ticks = ticks_left(plan, board, who, most);
     pass(plan, board, who, tick, ticks, fired);
+    u64::from(ticks)
+}
+
+/// The ticks that a row left of those that it had.
+fn unspent(halt: Halt) -> u64
+    ensures { result ≡ unspent halt }
+{
+    match halt {
+        Halt::Spent => 0,
+        Halt::Raises { left, .. } | Halt::Sees { left } => left,
+    }
+}
+
+/// A row of instructions of the process that is picked, so many ticks at most: how many passed.
+fn pass_row(
+    plan: &Plan,
+    board: &mut Board,
+    who: usize,
+    tick: u64,
+    most: u64,
+    fired: &mut Fired,
+) -> u64
+    ghost run: { Run }
+    requires plan { IsOf run.image plan.now }
+    requires runnable { IsRunnable run.image run.script }
+    requires board { IsBoardOf run.image board.old }
+    requires begun { state_of board.old ≡ begun run.image run.script tick }
+    requires picked { place_of (pick run.image (state_of board.old).threads) ≡ Some who }
+    requires quiet { AreQuiet run.image run.script tick most (state_of board.old) }
+    requires some { 1 ≤ most }
+    requires end { tick + most < 2 ^ 63 }
+    requires fired { array_vec_len fired.old < 65 }
+    requires burnt { BurnsNothing (state_of board.old) who }
+    ensures passed { HasPassed run tick result (state_of board.new) fired.old.items fired.new.items }
+    ensures most { result ≤ most }
+    ensures board { IsBoardOf run.image board.new }
+{
+    let halt = run_row(plan, board, who, most);
+    let ticks = most - unspent(halt);
+    end_row(plan, board, who, halt, tick + (ticks - 1), fired);
     ticks
+}
+
+/// Whether a process has ticks of dispatch to burn.
+fn burns(board: &Board, who: usize) -> bool
+    requires { who < vec_len board.now.cells }
+    ensures { result ≡ false → BurnsNothing (state_of board.now) who }
+{
+    board.cells[who].job.burn > 0
+}
+
+/// Ticks of the process that is picked, so many at most: how many passed.
+fn pass_picked(
+    plan: &Plan,
+    board: &mut Board,
+    who: usize,
+    tick: u64,
+    most: u64,
+    fired: &mut Fired,
+) -> u64
+    ghost run: { Run }
+    requires plan { IsOf run.image plan.now }
+    requires runnable { IsRunnable run.image run.script }
+    requires board { IsBoardOf run.image board.old }
+    requires begun { state_of board.old ≡ begun run.image run.script tick }
+    requires picked { place_of (pick run.image (state_of board.old).threads) ≡ Some who }
+    requires quiet { AreQuiet run.image run.script tick most (state_of board.old) }
+    requires some { 1 ≤ most }
+    requires end { tick + most < 2 ^ 63 }
+    requires fired { array_vec_len fired.old < 65 }
+    ensures passed { HasPassed run tick result (state_of board.new) fired.old.items fired.new.items }
+    ensures most { result ≤ most }
+    ensures board { IsBoardOf run.image board.new }
+{
+    if burns(board, who) {
+        return pass_one(plan, board, who, tick, most, fired);
+    }
+    pass_row(plan, board, who, tick, most, fired)
 }
 
 /// A turn of so many ticks at most: how many it took.
@@ -86,10 +162,8 @@ pub(crate) fn take_turn(
     requires some { 1 ≤ most }
     requires end { tick + most < 2 ^ 63 }
     requires fired { array_vec_len fired.old < 65 }
-    ensures turn { IsTurn run tick result }
+    ensures passed { HasPassed run tick result (state_of board.new) fired.old.items fired.new.items }
     ensures most { result ≤ most }
-    ensures state { state_of board.new ≡ (turn_of run tick result).state }
-    ensures events { fired.new.items ≡ fired.old.items ++ (turn_of run tick result).events }
     ensures board { IsBoardOf run.image board.new }
     ensures slots { HasSlots run.image run.script tick agenda.new.done
         (state_of board.new) agenda.new.slots }
@@ -103,5 +177,5 @@ pub(crate) fn take_turn(
     };
     let ticks = pass_picked(plan, board, who, tick, most, fired);
     note_waits(plan, board, agenda, fired.as_slice());
-    u64::from(ticks)
+    ticks
 }

@@ -1,14 +1,14 @@
+use Rattle.std.specs.Prelude.{slice_get}
 use Rattle.std.proofs.Common.{◌≡◌, ◌≤◌, ◌+◌, ◌∙◌, ◌++◌, ℕ, List, None, arith, ap, sym, subst}
 use Rattle.rte_event.specs.declared.event.Event.{Event}
-use Rattle.rte_machine_meaning.specs.Tick.{Ticked}
+use Rattle.rte_machine_meaning.specs.State.{State}
 use Rattle.rte_state.specs.Board.{state_of}
-use Rattle.rte_stretch.specs.Due.{HasSlots}
+use Rattle.rte_stretch.specs.Due.{HasSlots, time_out_of}
 use Rattle.rte_stretch.proofs.Jumping.{slots_are_quiet}
 use Rattle.rte_starts.proofs.Boards.{as_many, cells_count}
 use Rattle.rte_starts.proofs.Joining.{threads_count}
-use Rattle.rte_runner.specs.Turn.{turn_of}
-use Rattle.rte_runner.specs.Waits.{is_some_at_queue}
-use Rattle.rte_runner.proofs.Passing.{TurnKeeps, idle_turn, turn_from, turn_keeps}
+use Rattle.rte_runner.specs.Waits.{WaitsFrom, is_some_at_queue}
+use Rattle.rte_runner.proofs.Passing.{idle_passes}
 use Rattle.rte_runner.proofs.Turning.{noted_slots, same_waits, still_none}
 use Rattle.rte_runner.proofs.Waiting.{later_quiet}
 use Rattle.rte_runner.proofs.turn.take_turn.Goals as goal
@@ -21,17 +21,12 @@ pub choose-requires-clause-cells : goal.choose-requires-clause-cells
 choose-requires-clause-cells g c =
     omega (arith, as_many g.run.image.processes c.args.plan.now.processes.items c.requires.0.processes, cells_count g.run.image c.args.board.now.cells.items c.requires.1.1.0.rooms, c.args.plan.now.processes.ok.0, c.args.board.now.cells.ok.0)
 
-pub returns-in_default-clause-turn : goal.returns-in_default-clause-turn
-returns-in_default-clause-turn g c =
+pub returns-in_default-clause-passed : goal.returns-in_default-clause-passed
+returns-in_default-clause-passed g c =
     let none : c.choose.result ≡ None = cc in
     let s = state_of c.args.board.now in
-    idle_turn g.run c.args.tick c.args.most s c.requires.1.1.1.0 (sym (c.choose.ensures.pick g.run.image c.requires.0 c.requires.1.1.0) ∙ none) c.requires.1.1.1.1.1.1.1.0
+    idle_passes g.run c.args.tick c.args.most s c.args.fired.now.items c.requires.1.0.safe c.requires.1.1.1.0 (sym (c.choose.ensures.pick g.run.image c.requires.0 c.requires.1.1.0) ∙ none) c.requires.1.1.1.1.1.1.1.0
     (slots_are_quiet g.run.image g.run.script c.args.tick c.args.most c.args.agenda.now.done s c.args.agenda.now.slots c.requires.1.1.1.1.0 c.requires.1.1.1.1.1.0)
-
-pub returns-in_default-clause-state : goal.returns-in_default-clause-state
-returns-in_default-clause-state g c =
-    let none : c.choose.result ≡ None = cc in
-    ap (λ (x : Ticked). x.state) (turn_from g.run c.args.tick c.args.most None (state_of c.args.board.now) c.requires.1.1.1.0 (sym (c.choose.ensures.pick g.run.image c.requires.0 c.requires.1.1.0) ∙ none))
 
 pub pass_picked-ticks-requires : goal.pass_picked-ticks-requires
 pass_picked-ticks-requires g c = (
@@ -58,17 +53,15 @@ pub note_waits-requires : goal.note_waits-requires
 note_waits-requires g c =
     let s = state_of c.args.board.now in
     let s' = state_of c.pass_picked-ticks.new.board in
-    let e = c.pass_picked-ticks.ensures in
-    let kept : TurnKeeps g.run c.args.tick c.pass_picked-ticks.result s s' =
-    turn_keeps g.run c.args.tick c.pass_picked-ticks.result c.in-Some.who s s' c.requires.1.0.safe e.turn c.requires.1.1.1.0 e.state (sym (c.in-Some.ensures.pick g.run.image c.requires.0 c.requires.1.1.0)) in
-    let told : c.as_slice.result.now ≡ c.args.fired.now.items ++ (turn_of g.run c.args.tick c.pass_picked-ticks.result).events = c.as_slice.ensures.value ∙ e.events in (
+    let has = c.pass_picked-ticks.ensures.passed in
+    let told : c.as_slice.result.now ≡ c.args.fired.now.items ++ has.fell = c.as_slice.ensures.value ∙ has.told in (
       c.requires.0,
       (
-        e.board,
+        c.pass_picked-ticks.ensures.board,
         (
           c.requires.1.1.1.1.0.count,
           λ quiet. same_waits g.run.image g.run.script c.args.tick c.args.agenda.now.done s s' c.args.agenda.now.slots c.requires.1.1.1.1.0
-              (kept.same (later_quiet c.args.fired.now.items (turn_of g.run c.args.tick c.pass_picked-ticks.result).events (sym (ap (λ (xs : List Event). is_some_at_queue xs) told) ∙ quiet))),
+              (λ j. has.same (later_quiet c.args.fired.now.items has.fell (sym (ap (λ (xs : List Event). is_some_at_queue xs) told) ∙ quiet)) j ∙ ap (λ (x : State). time_out_of (slice_get x.threads j)) (sym c.requires.1.1.1.0)),
         ),
       ),
     )
@@ -88,10 +81,6 @@ returns-clause-clear g c i r at =
     let s' = state_of c.pass_picked-ticks.new.board in
     let n = c.pass_picked-ticks.result in
     let e = c.pass_picked-ticks.ensures in
-    let kept : TurnKeeps g.run c.args.tick n s s' =
-    turn_keeps g.run c.args.tick n c.in-Some.who s s' c.requires.1.0.safe e.turn c.requires.1.1.1.0 e.state (sym (c.in-Some.ensures.pick g.run.image c.requires.0 c.requires.1.1.0)) in
     let low : c.args.tick + n ≤ c.args.tick + c.args.most = omega (arith, e.most) in
-    let le : c.args.tick + n ≤ r =
     still_none g.run.image g.run.script c.args.tick c.args.agenda.now.done (c.args.tick + n) (c.args.tick + c.args.most) s s' c.args.agenda.now.slots c.note_waits.new.agenda.slots c.requires.1.1.1.1.0 c.note_waits.ensures.others c.note_waits.ensures.waits
-    c.requires.1.1.1.1.1.0 low kept.later i r at in
-    omega (arith, le, c.from.ensures)
+    c.requires.1.1.1.1.1.0 low (subst (λ (x : State). WaitsFrom (c.args.tick + n) x.threads s'.threads) (sym c.requires.1.1.1.0) e.passed.waits) i r at

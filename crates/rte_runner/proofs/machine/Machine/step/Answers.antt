@@ -15,7 +15,7 @@ use Rattle.rte_starts.proofs.Boards.{cells_count}
 use Rattle.rte_starts.proofs.Joining.{threads_count}
 use Rattle.rte_starts.proofs.Saying.{as_many_lines}
 use Rattle.rte_runner.proofs.Due.{starts_later}
-use Rattle.rte_runner.proofs.Turning.{starts_calm, stays, told}
+use Rattle.rte_runner.proofs.Turning.{starts_calm, told}
 use Rattle.rte_runner.proofs.Waiting.{queued_have}
 use Rattle.rte_runner.proofs.machine.Machine.step.Goals as goal
 
@@ -104,10 +104,10 @@ returns-clause-stands g c =
     let s = state_of c.take_turn-ticks.new.board in
     let end : g.run.script.end_tick ≡ c.args.script.now.end = ap (λ (x : Script). x.end_tick) same in
     let many : length g.run.script.lines ≡ length c.args.script.now.lines = ap (λ (x : Script). length x.lines) same ∙ as_many_lines c.args.script.now.lines in
-    let some = e.turn.some in
+    let some = e.passed.some in
     record {
       within = omega (arith, c.span-most.ensures.within, c.end.ensures, end, e.most);
-      state = stays g.run t n s runs.safe e.turn e.state;
+      state = e.passed.state;
       board = e.board;
       due = slots_are_due image g.run.script t (t + n) c.take_turn-ticks.new.agenda.done s c.take_turn-ticks.new.agenda.slots e.slots (omega (arith, some)) e.clear;
       done = omega (arith, e.done, c.begin.ensures.within, many);
@@ -120,8 +120,8 @@ returns-clause-events g c =
     let stands = c.requires.1.1.1.0 in
     let t = c.args.self.now.tick in
     let s = state_of c.args.self.now.board in
-    told g.run t c.take_turn-ticks.result c.begin.new.fired.items c.take_turn-ticks.new.fired.items s c.requires.1.1.0.safe c.take_turn-ticks.ensures.turn stands.state
-    (c.begin.ensures.events ∙ ap (λ (x : Script). (starts g.run.image x t s).events) (sym c.requires.1.0)) c.take_turn-ticks.ensures.events
+    told g.run t c.take_turn-ticks.result s (state_of c.take_turn-ticks.new.board) c.begin.new.fired.items c.take_turn-ticks.new.fired.items c.take_turn-ticks.ensures.passed stands.state
+    (c.begin.ensures.events ∙ ap (λ (x : Script). (starts g.run.image x t s).events) (sym c.requires.1.0))
 
 pub returns-clause-passed : goal.returns-clause-passed
-returns-clause-passed g c = let some = c.take_turn-ticks.ensures.turn.some in omega (arith, some)
+returns-clause-passed g c = let some = c.take_turn-ticks.ensures.passed.some in omega (arith, some)
