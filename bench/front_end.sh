@@ -9,6 +9,7 @@
 #   statements  149,000 times `x := 1`
 #   uses        262,000 uses of names, in `x := yy + x`
 #
+# rows, terms, statements and uses are programs of more than 65,535 instructions: they are read, checked and refused.
 # The aims, in millions of instructions, are those of a plain native program for the same rules.
 set -euo pipefail
 rte=$(realpath "${1:?the built program}")
