@@ -2,7 +2,7 @@
 use Rattle.rte_tree.specs.declared.place.Place.{Place}
 use Rattle.rte_tree.specs.Placed.{Prog, plain}
 use Rattle.rte_static.specs.Static.{IsChecked}
-use Rattle.rte_checked.specs.Ready.{CheckedProgramsAreReady}
+use Rattle.rte_small.specs.Checked.{CheckedProgramsAreReady}
 use Rattle.rte_cost.specs.Parts.{measures_of}
 use Rattle.rte_cost_table.specs.Defined.{MeasuresAreDefined}
 use Rattle.rte_loops_fit.specs.Loops.{CheckedLoopsFit}

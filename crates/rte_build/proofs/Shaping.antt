@@ -18,8 +18,8 @@ use Rattle.rte_emits.specs.Compiled.{IsCodeOf}
 use Rattle.rte_costs.specs.Levels.{code_length}
 use Rattle.rte_whole.specs.Whole.{HasRanks, CodeHasItsLength}
 use Rattle.rte_wellformed.specs.WellFormed.{ProcessFits, IsWellFormed}
-use Rattle.rte_checked.specs.Ready.{IsReady, CheckedProgramsAreReady}
-use Rattle.rte_generated_runs.specs.Runs.{IsSmallEnough}
+use Rattle.rte_small.specs.Checked.{IsReady, CheckedProgramsAreReady}
+use Rattle.rte_small.specs.Checked.{IsSmallEnough}
 use Rattle.rte_small.specs.Small.{GeneratedCodeIsCode, ProgramsThatKeepSizesAreSmall}
 use Rattle.rte_program.specs.Program.{IsProgramOf}
 use Rattle.rte_built.specs.Built.{IsShaped}

@@ -9,11 +9,11 @@ ghost use Rattle.rte_build.specs.Build.{KeepsSizes};
 ghost use Rattle.rte_build.specs.Steps.{AreParts, IsSizeFault};
 
 use crate::built::BuildFault;
-use rte_checked::law::checked_programs_are_ready;
 use rte_cost::Measures;
 use rte_cost_table::law::measures_are_defined;
 use rte_loops_fit::law::loops_of_checked_programs_fit;
 use rte_made::Code;
+use rte_small::checked_programs_are_ready;
 use rte_text_code::ProgramTexts;
 use rte_text_names::ProgramNames;
 use rte_too_large::too_large;

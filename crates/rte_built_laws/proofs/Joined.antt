@@ -12,10 +12,10 @@ use Rattle.rte_valid_law.specs.Laws.{MeetsPremises, ValidMeetsPremises, EveryVal
 use Rattle.rte_timed.specs.Timed.{RespectsFrames}
 use Rattle.rte_static.specs.Static.{IsChecked}
 use Rattle.rte_compiled.specs.Image.{IsImageOf, whole}
-use Rattle.rte_checked.specs.Ready.{IsImageMade, CheckedProgramsAreReady, CheckedProgramsRun}
+use Rattle.rte_small.specs.Checked.{IsImageMade, CheckedProgramsAreReady, CheckedProgramsRun}
 use Rattle.rte_checked_valid.specs.Checked.{CheckedImagesAreValid}
 use Rattle.rte_made_image.specs.Images.{CheckedImagesAreImages}
-use Rattle.rte_generated_runs.specs.Runs.{IsSmallEnough}
+use Rattle.rte_small.specs.Checked.{IsSmallEnough}
 use Rattle.rte_small.specs.Small.{ProgramsThatKeepSizesAreSmall}
 use Rattle.rte_script.specs.declared.script.ScriptLine.{ScriptLine}
 use Rattle.rte_script.specs.Scripts.{IsScript}

@@ -5,7 +5,7 @@ use Rattle.rte_tree.specs.declared.place.Place.{Place}
 use Rattle.rte_image.specs.Named.{NamedImage}
 use Rattle.rte_valid.specs.Valid.{HasLimits}
 use Rattle.rte_static.specs.Static.{IsChecked}
-use Rattle.rte_checked.specs.Ready.{IsImageMade}
+use Rattle.rte_small.specs.Checked.{IsImageMade}
 use Rattle.rte_built.specs.Named.{names_of}
 use Rattle.rte_commands.specs.Runs.{IsFaithful}
 

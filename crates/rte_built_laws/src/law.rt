@@ -6,10 +6,10 @@ ghost use Rattle.rte_commands.specs.Runs.{BuiltImagesAreFaithful};
 use rte_built_limits::law::built_images_are_in_limits;
 use rte_built_made::law::built_images_are_made;
 use rte_built_scripts::law::scripts_for_the_names_suit;
-use rte_checked::law::{checked_programs_are_ready, checked_programs_run};
 use rte_checked_valid::law::checked_images_are_valid;
 use rte_made_image::law::checked_images_are_images;
 use rte_small::law::programs_that_keep_sizes_are_small;
+use rte_small::{checked_programs_are_ready, checked_programs_run};
 use rte_valid_law::law::{every_valid_image_is_safe_and_in_time, valid_meets_premises};
 
 /// An image that is made of a checked program, and in its limits, is faithful to it.

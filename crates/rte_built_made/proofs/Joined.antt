@@ -1,7 +1,7 @@
 -- What is built is made.
 use Rattle.rte_tree.specs.Placed.{plain}
 use Rattle.rte_emits.specs.Compiled.{IsCodeOf}
-use Rattle.rte_checked.specs.Ready.{CheckedProgramsAreReady}
+use Rattle.rte_generated_runs.specs.Checked.{CheckedProgramsAreReady}
 use Rattle.rte_generated_runs.specs.Runs.{CheckedCodeIsCode}
 use Rattle.rte_built_made.specs.Made.{BuiltImagesAreMade, LeastBoundsAreBounds, WordsAreFew}
 

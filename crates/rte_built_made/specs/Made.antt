@@ -10,7 +10,7 @@ use Rattle.rte_valid.specs.Sizes.{words_over_all}
 use Rattle.rte_emits.specs.Compiled.{IsCodeOf}
 use Rattle.rte_wellformed.specs.WellFormed.{IsWellFormed}
 use Rattle.rte_whole.specs.Whole.{HasRanks, IsBound}
-use Rattle.rte_checked.specs.Ready.{IsImageMade}
+use Rattle.rte_generated_runs.specs.Checked.{IsImageMade}
 use Rattle.rte_generated_runs.specs.Runs.{IsSmallEnough}
 use Rattle.rte_built.specs.Built.{HasLeastBounds, IsBuilt}
 

@@ -2,7 +2,7 @@
 
 ghost use Rattle.rte_built_made.specs.Made.{BuiltImagesAreMade, LeastBoundsAreBounds, WordsAreFew};
 
-use rte_checked::law::checked_programs_are_ready;
+use rte_generated_runs::checked_programs_are_ready;
 use rte_generated_runs::law::what_is_made_of_a_checked_program_is_its_code;
 
 /// The least bounds of an image with ranks by deadlines are its bounds.

@@ -9,10 +9,10 @@ use Rattle.rte_valid_law.specs.Laws.{ValidMeetsPremises}
 use Rattle.rte_named.specs.Operands.{ValidOperandsAreThere}
 use Rattle.rte_costs.specs.Levels.{code_length}
 use Rattle.rte_whole.specs.Whole.{CodeHasItsLength}
-use Rattle.rte_checked.specs.Ready as checked_of
-use Rattle.rte_checked.specs.Ready.{CheckedProgramsAreReady, IsImageMade}
+use Rattle.rte_small.specs.Checked as checked_of
+use Rattle.rte_small.specs.Checked.{CheckedProgramsAreReady, IsImageMade}
 use Rattle.rte_checked_valid.specs.Checked.{CheckedImagesAreValid}
-use Rattle.rte_generated_runs.specs.Runs.{IsSmallEnough}
+use Rattle.rte_small.specs.Checked.{IsSmallEnough}
 use Rattle.rte_small.specs.Small.{ProgramsThatKeepSizesAreSmall}
 use Rattle.rte_built.specs.Built.{IsBuilt}
 use Rattle.rte_built.specs.Named.{names_of}

@@ -4,7 +4,8 @@ use Rattle.std.specs.Prelude.{IsSomeAnd}
 use Rattle.std.specs.Bool.{OnTrue}
 use Rattle.rte_io.specs.Outside.{Outside, Appends}
 use Rattle.rte_tree.specs.declared.place.Place.{Place}
-use Rattle.rte_tree.specs.Placed.{Prog, plain, bare}
+use Rattle.rte_tree.specs.Placed.{Prog, plain}
+use Rattle.rte_tree.specs.Bare.{bare}
 use Rattle.rte_lex.specs.declared.token.Token.{Token}
 use Rattle.rte_lex.specs.Tokens.{tokens}
 use Rattle.rte_print.specs.Canonical.{canonical}

@@ -13,13 +13,13 @@ ghost use Rattle.rte_promise.specs.Promise.{HasDone, IsRefusedForTime};
 
 use crate::carry::carry_out;
 use rte_answers::Status;
-use rte_built_laws::law::built_images_are_faithful;
 use rte_built_once::law::timely_or_late;
 use rte_due_once::law::{
     compile_is_one, go_is_one, migrate_is_one, print_is_one, reports_are_one, run_is_one,
     written_once, written_or_faulty,
 };
 use rte_io::{Files, Sink};
+use rte_prepare::built_images_are_faithful;
 use rte_print::{reads_back, tokens_are_spelled};
 use rte_script_suits::law::scripts_suit;
 use rte_valid_law::law::every_valid_image_is_safe_and_in_time;

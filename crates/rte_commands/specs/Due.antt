@@ -1,7 +1,8 @@
 -- What is due of each command, by what the files that it reads hold.
 use Rattle.std.specs.Prelude.{◌≡◌, ◌++◌, ℕ, List, [], Option, Some, None, codes, decimal}
 use Rattle.rte_tree.specs.declared.place.Place.{Place}
-use Rattle.rte_tree.specs.Placed.{Prog, bare}
+use Rattle.rte_tree.specs.Placed.{Prog}
+use Rattle.rte_tree.specs.Bare.{bare}
 use Rattle.rte_print.specs.Canonical.{canonical}
 use Rattle.rte_image.specs.Named.{NamedImage}
 use Rattle.rte_image.specs.Raw.{image_of, named_of}

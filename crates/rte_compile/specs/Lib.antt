@@ -1,3 +1,4 @@
+pub mod Built
 pub mod Compile
 pub mod Told
 pub mod Written

@@ -9,4 +9,5 @@ mod compiling;
 mod written;
 
 pub use compiling::{CompileFault, compile};
+pub use rte_build::Built;
 pub use written::{TextFault, read_written};

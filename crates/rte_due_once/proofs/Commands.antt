@@ -1,7 +1,8 @@
 -- What is due of each command is one.
 use Rattle.std.proofs.Common.{◌≡◌, ℕ, List, [], Option, Some, ap, sym, subst, ◌∙◌}
 use Rattle.rte_tree.specs.declared.place.Place.{Place}
-use Rattle.rte_tree.specs.Placed.{Prog, bare}
+use Rattle.rte_tree.specs.Placed.{Prog}
+use Rattle.rte_tree.specs.Bare.{bare}
 use Rattle.rte_print.specs.Canonical.{canonical}
 use Rattle.rte_image.specs.Named.{NamedImage}
 use Rattle.rte_image.specs.Raw.{named_of}

@@ -10,7 +10,7 @@ use Rattle.rte_report.specs.Report.{report_text}
 use Rattle.rte_report.specs.Json.{report_json}
 use Rattle.rte_words.specs.Calls.{Call}
 use Rattle.rte_words.specs.Calls as call
-use Rattle.rte_build.specs.declared.built.Built.{Built}
+use Rattle.rte_compile.specs.Built.{Built}
 use Rattle.rte_commands.specs.Source.{IsTimelyText}
 use Rattle.rte_commands.specs.Due.{Outcome, IsRefused, IsReportDue, IsGoDue, go_refused, go_bad_script, went, IsImageFile, IsImageRefused, IsRunDue, run_refused, run_bad_script, ran}
 use Rattle.rte_compile.specs.Compile.{IsImageOf}

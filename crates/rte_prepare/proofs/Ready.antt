@@ -10,7 +10,7 @@ use Rattle.rte_plan_laws.specs.Laws.{ValidImagesReadAreReady}
 use Rattle.rte_script.specs.declared.script.Script.{Script}
 use Rattle.rte_script.specs.Scripts.{IsScript}
 use Rattle.rte_script_suits.specs.Laws.{ScriptsSuit, ScriptsForImagesReadSuit}
-use Rattle.rte_build.specs.declared.built.Built.{Built}
+use Rattle.rte_compile.specs.Built.{Built}
 use Rattle.rte_built_ready.specs.Ready.{BuiltImagesAreReady}
 use Rattle.rte_commands.specs.Due.{IsImageFile}
 use Rattle.rte_commands.specs.Runs.{BuiltImagesAreFaithful}

@@ -4,7 +4,8 @@ use Rattle.std.specs.Prelude.{Result, IfOk, cond, nat_lt}
 use Rattle.std.proofs.lemmas.Bool.Decides.{nat_tests}
 use Rattle.std.proofs.lemmas.List.{append-nil}
 use Rattle.rte_tree.specs.declared.place.Place.{Place}
-use Rattle.rte_tree.specs.Placed.{Prog, bare}
+use Rattle.rte_tree.specs.Placed.{Prog}
+use Rattle.rte_tree.specs.Bare.{bare}
 use Rattle.rte_image.specs.Raw.{named_of}
 use Rattle.rte_image.specs.declared.raw.RawImage.{RawImage}
 use Rattle.rte_image.specs.Bytes.{Version}
@@ -22,8 +23,8 @@ use Rattle.rte_script.specs.declared.script.Script.{Script}
 use Rattle.rte_script.specs.Faults.{IsFault}
 use Rattle.rte_script.specs.Scripts.{IsScript}
 use Rattle.rte_image.specs.Named.{NamedImage}
-use Rattle.rte_build.specs.declared.built.Built.{Built}
-use Rattle.rte_build.specs.declared.built.Late.{Late}
+use Rattle.rte_compile.specs.Built.{Built}
+use Rattle.rte_compile.specs.Built.{Late}
 use Rattle.rte_commands.specs.Source.{Style, IsWritten, IsTextFault, fault_line}
 use Rattle.rte_commands.specs.Script.{script_fault_line}
 use Rattle.rte_commands.specs.Due.{Outcome, told, IsRefused, faulty, late, IsReportDue, report_refused, report_timely, IsPrintDue, print_faulty, printed, IsCompileDue, compile_refused, compiled, image_fault_line, valid_fault_line, IsImageFile, IsImageRefused, misread, invalid, IsMigrateDue, migrate_refused, migrated, stored}

@@ -12,7 +12,7 @@ use Rattle.rte_script.specs.Scripts.{IsScript}
 use Rattle.rte_script_suits.specs.Laws.{script_with}
 use Rattle.rte_script_suits.specs.Suits.{Suits}
 use Rattle.rte_report.specs.Late.{IsNamed}
-use Rattle.rte_build.specs.declared.built.Built.{Built}
+use Rattle.rte_compile.specs.Built.{Built}
 use Rattle.rte_compile.specs.declared.compiling.CompileFault.{CompileFault}
 use Rattle.rte_compile.specs.declared.compiling.CompileFault.TheVariants as fault
 use Rattle.rte_answers.specs.Acts.{CanRun}

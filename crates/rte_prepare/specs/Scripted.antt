@@ -8,7 +8,7 @@ use Rattle.rte_script.specs.declared.script.Script.{Script}
 use Rattle.rte_script.specs.declared.script.ScriptLine.{ScriptLine}
 use Rattle.rte_script.specs.declared.fault.ScriptFault.{ScriptFault}
 use Rattle.rte_script.specs.Scripts.{IsScript}
-use Rattle.rte_build.specs.declared.built.Built.{Built}
+use Rattle.rte_compile.specs.Built.{Built}
 use Rattle.rte_commands.specs.Due.{Outcome, IsScriptFault, bad_script, log, stored}
 
 -- what a run comes to, where this text stands before its log, and these bytes are stored, if any are

@@ -18,7 +18,7 @@ use crate::scripts::{judge_script, refuse_script};
 use crate::sources::compile_content;
 use crate::unready::Unready;
 use rte_answers::{Act, Run, Status, Store};
-use rte_build::Built;
+use rte_compile::Built;
 use rte_image::write_image;
 use rte_io::Files;
 use rte_script::Script;

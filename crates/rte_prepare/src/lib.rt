@@ -6,7 +6,7 @@
 //!
 //! Judging is apart from reading: what is promised of a content (`specs/Contents.antt`) holds for each text that it can be, so
 //! for the one in the file. `specs/Runnable.antt` says what a run asks of an image, `specs/Scripted.antt` what is due of a
-//! script's text.
+//! script's text. The law on built images is passed on.
 #![tactic(auto)]
 
 mod going;
@@ -20,4 +20,5 @@ mod sources;
 mod unready;
 
 pub use preparing::prepare;
+pub use rte_built_laws::law::built_images_are_faithful;
 pub use unready::Unready;

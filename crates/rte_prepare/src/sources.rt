@@ -8,10 +8,9 @@ ghost use Rattle.rte_prepare.specs.Contents.{IsContent};
 ghost use Rattle.rte_prepare.specs.Runnable.{Readies};
 
 use crate::reading::Content;
-use rte_build::Built;
 use rte_built_laws::law::built_images_are_faithful;
 use rte_built_ready::law::built_images_are_ready;
-use rte_compile::{CompileFault, TextFault, compile, read_written};
+use rte_compile::{Built, CompileFault, TextFault, compile, read_written};
 use rte_script_suits::law::scripts_suit;
 use rte_static::Checked;
 use rte_tree::Place;

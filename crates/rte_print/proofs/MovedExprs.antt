@@ -1,7 +1,8 @@
 -- The tokens of expressions, in other places.
 use Rattle.std.proofs.Common.{◌≡◌, ℕ, zero, suc, true, false, refl}
 use Rattle.rte_tree.specs.Plain.{Op}
-use Rattle.rte_tree.specs.Placed.{Constant, literal_constant, named_constant, Expr, literal, truth, variable, element, call, minus, negation, paren, row, Exprs, no_exprs, exprs, Operands, no_operands, operand, Ref, whole, part, bare_constant, bare_expr, bare_exprs, bare_operands, bare_ref}
+use Rattle.rte_tree.specs.Placed.{Constant, literal_constant, named_constant, Expr, literal, truth, variable, element, call, minus, negation, paren, row, Exprs, no_exprs, exprs, Operands, no_operands, operand, Ref, whole, part}
+use Rattle.rte_tree.specs.Bare.{bare_constant, bare_expr, bare_exprs, bare_operands, bare_ref}
 use Rattle.rte_grammar.specs.Words as w
 use Rattle.rte_grammar.specs.Words.{Word, named, number, Tok, words_of}
 use Rattle.rte_grammar.specs.ExprGrammar.{IsRow, OfLevel, IsConstant, op_word, IsExpr, AreOperands, AreArgs, AreMoreArgs, InParens}

@@ -1,6 +1,7 @@
 -- The tokens of declarations and programs, in other places.
 use Rattle.std.proofs.Common.{◌≡◌, Option, Some, None, refl}
-use Rattle.rte_tree.specs.Placed.{Constant, Scalar, int, boolean, subrange, Kind, scalar, array, Var, Param, Expr, RoutineKind, procedure, function, Routine, Member, variable_member, condition_member, Monitor, Activation, periodic, at_event, Handler, Process, Decl, constant, device, event, routine, monitor, process, Prog, optional, bare_constant, bare_scalar, bare_kind, bare_var, bare_param, bare_expr, bare_routine, bare_member, bare_monitor, bare_activation, bare_handler, bare_process, bare_decl, bare}
+use Rattle.rte_tree.specs.Placed.{Constant, Scalar, int, boolean, subrange, Kind, scalar, array, Var, Param, Expr, RoutineKind, procedure, function, Routine, Member, variable_member, condition_member, Monitor, Activation, periodic, at_event, Handler, Process, Decl, constant, device, event, routine, monitor, process, Prog, optional}
+use Rattle.rte_tree.specs.Bare.{bare_constant, bare_scalar, bare_kind, bare_var, bare_param, bare_expr, bare_routine, bare_member, bare_monitor, bare_activation, bare_handler, bare_process, bare_decl, bare}
 use Rattle.rte_grammar.specs.Words as w
 use Rattle.rte_grammar.specs.Words.{Word, named, number, Tok, words_of}
 use Rattle.rte_grammar.specs.ExprGrammar.{IsConstant}

@@ -1,6 +1,7 @@
 -- The tokens of statements, in other places.
 use Rattle.std.proofs.Common.{◌≡◌, ℕ, zero, suc, refl}
-use Rattle.rte_tree.specs.Placed.{Stmt, assign, assign_entry, assign_empty, perform, perform_entry, when, when_else, loop, exit_when, get, put, wait, signal, broadcast, except, assert, Stmts, no_stmts, stmts, bare_stmt, bare_stmts}
+use Rattle.rte_tree.specs.Placed.{Stmt, assign, assign_entry, assign_empty, perform, perform_entry, when, when_else, loop, exit_when, get, put, wait, signal, broadcast, except, assert, Stmts, no_stmts, stmts}
+use Rattle.rte_tree.specs.Bare.{bare_stmt, bare_stmts}
 use Rattle.rte_grammar.specs.Words as w
 use Rattle.rte_grammar.specs.Words.{Word, named, number, Tok, words_of}
 use Rattle.rte_grammar.specs.StmtGrammar.{IsStmt, AreStmts}

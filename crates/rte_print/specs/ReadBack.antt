@@ -1,7 +1,8 @@
 -- What is read of a canonical text.
 use Rattle.std.specs.Prelude.{◌≡◌, ℕ, ◌≤◌, List, length, All}
 use Rattle.rte_tree.specs.declared.place.Place.{Place}
-use Rattle.rte_tree.specs.Placed.{Prog, bare}
+use Rattle.rte_tree.specs.Placed.{Prog}
+use Rattle.rte_tree.specs.Bare.{bare}
 use Rattle.rte_lex.specs.declared.token.Token.{Token}
 use Rattle.rte_lex.specs.Spellings.{HasKind}
 use Rattle.rte_lex.specs.Tokens.{bytes_of, longest_text}

@@ -2,7 +2,8 @@
 
 ghost use Rattle.std.specs.Prelude.{ℕ, List};
 ghost use Rattle.rte_tree.specs.declared.place.Place.{Place};
-ghost use Rattle.rte_tree.specs.Placed.{Prog, bare};
+ghost use Rattle.rte_tree.specs.Placed.{Prog};
+ghost use Rattle.rte_tree.specs.Bare.{bare};
 ghost use Rattle.rte_lex.specs.declared.token.Token.{Token};
 ghost use Rattle.rte_lex.specs.Tokens.{tokens};
 ghost use Rattle.rte_print.specs.Canonical.{canonical};

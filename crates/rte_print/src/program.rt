@@ -1,7 +1,8 @@
 //! Printing a program.
 
 ghost use Rattle.std.specs.Prelude.{◌≡◌, IfOk};
-ghost use Rattle.rte_tree.specs.Placed.{bare, placed};
+ghost use Rattle.rte_tree.specs.Placed.{placed};
+ghost use Rattle.rte_tree.specs.Bare.{bare};
 ghost use Rattle.rte_print.specs.Canonical.{canonical};
 
 use crate::page::Page;

@@ -1,7 +1,8 @@
 -- What a call that answers 0 has read, stored and put, and when one answers 3.
 use Rattle.std.specs.Prelude.{◌≡◌, ◌≤◌, ℕ, List, Some, length}
 use Rattle.rte_tree.specs.declared.place.Place.{Place}
-use Rattle.rte_tree.specs.Placed.{Prog, bare}
+use Rattle.rte_tree.specs.Placed.{Prog}
+use Rattle.rte_tree.specs.Bare.{bare}
 use Rattle.rte_lex.specs.declared.token.Token.{Token}
 use Rattle.rte_lex.specs.Tokens.{tokens, longest_text}
 use Rattle.rte_print.specs.Canonical.{canonical}

@@ -6,6 +6,7 @@ pub mod Shorter
 pub mod AgainBasics
 pub mod ExprAgain
 pub mod StmtAgain
+pub mod AgainParts
 pub mod Again
 pub mod TreeWords
 pub mod OpenBasics

@@ -11,7 +11,8 @@ use Rattle.rte_reading.specs.StmtReading.{stmts}
 use Rattle.rte_reading.specs.Reading.{vars, params, block, routine_kind, result, value, routine_decl, begins_routine, routines, begins_member, members, entry_decl, entries, monitor_decl, activation, numbers, handler, process_decl, decl, begins_decl, decls, prog, whole}
 use Rattle.rte_reading.proofs.AgainBasics.{step, if-true, if-false, expect_again, name_again}
 use Rattle.rte_reading.proofs.StmtAgain.{stmt_list}
-use Rattle.rte_reading.proofs.Again.{each-begins, a-begins, params_again, result_again, vars_again, routine_kind_again, block_again, routine-shorter, routines_again, entry_again, entry-shorter, members_again, activation_again, numbers_again, routine_again, end-routine, decl_again, decl-begins, decl-shorter, routine-begins}
+use Rattle.rte_reading.proofs.Again.{result_again, routine_kind_again, block_again, routine-shorter, routines_again, entry_again, entry-shorter, members_again, activation_again, numbers_again, routine_again, end-routine, decl_again, decl-begins, decl-shorter, routine-begins}
+use Rattle.rte_reading.proofs.AgainParts.{each-begins, a-begins, params_again, vars_again}
 use Rattle.rte_reading.proofs.OpenTails.{some-at, routine-at, decl-at}
 use Rattle.rte_reading.proofs.Shorter.{a-shorter}
 use Rattle.rte_reading.proofs.DeepBasics.{at-fault, Finds, many_finds}

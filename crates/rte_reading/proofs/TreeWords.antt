@@ -1,6 +1,7 @@
 -- The words of a list of tokens are those of its tree, whatever the places.
 use Rattle.std.proofs.Common.{◌≡◌, ℕ, zero, suc, true, false, List, [], ◌∷◌, map, Option, Some, None, ap, sym, ◌∙◌}
-use Rattle.rte_tree.specs.Placed.{Constant, literal_constant, named_constant, Scalar, int, boolean, subrange, Kind, scalar, array, Var, Param, Expr, literal, truth, variable, element, call, minus, negation, paren, row, Exprs, no_exprs, exprs, Operands, no_operands, operand, Ref, whole, part, Stmt, assign, assign_entry, assign_empty, perform, perform_entry, when, when_else, loop, exit_when, get, put, wait, signal, broadcast, except, assert, Stmts, no_stmts, stmts, RoutineKind, procedure, function, Routine, Member, variable_member, condition_member, Monitor, Activation, periodic, at_event, Handler, Process, Decl, constant, device, event, routine, monitor, process, Prog, optional, bare_constant, bare_scalar, bare_kind, bare_var, bare_param, bare_expr, bare_exprs, bare_operands, bare_ref, bare_stmt, bare_stmts, bare_routine, bare_member, bare_monitor, bare_activation, bare_handler, bare_process, bare_decl, bare}
+use Rattle.rte_tree.specs.Placed.{Constant, literal_constant, named_constant, Scalar, int, boolean, subrange, Kind, scalar, array, Var, Param, Expr, literal, truth, variable, element, call, minus, negation, paren, row, Exprs, no_exprs, exprs, Operands, no_operands, operand, Ref, whole, part, Stmt, assign, assign_entry, assign_empty, perform, perform_entry, when, when_else, loop, exit_when, get, put, wait, signal, broadcast, except, assert, Stmts, no_stmts, stmts, RoutineKind, procedure, function, Routine, Member, variable_member, condition_member, Monitor, Activation, periodic, at_event, Handler, Process, Decl, constant, device, event, routine, monitor, process, Prog, optional}
+use Rattle.rte_tree.specs.Bare.{bare_constant, bare_scalar, bare_kind, bare_var, bare_param, bare_expr, bare_exprs, bare_operands, bare_ref, bare_stmt, bare_stmts, bare_routine, bare_member, bare_monitor, bare_activation, bare_handler, bare_process, bare_decl, bare}
 use Rattle.rte_grammar.specs.Words as w
 use Rattle.rte_grammar.specs.Words.{Word, named, number, Tok, words_of}
 use Rattle.rte_grammar.specs.ExprGrammar.{a, ◌▷◌, Each, Listed, SomeListed, IsConstant, op_word, IsExpr, AreOperands, AreArgs, AreMoreArgs, InParens}

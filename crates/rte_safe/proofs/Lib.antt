@@ -1,6 +1,7 @@
 pub mod Plain
 pub mod Lists
 pub mod Frames
+pub mod JobBasics
 pub mod Jobs
 pub mod Ticking
 pub mod Whole

@@ -6,7 +6,7 @@ ghost use Rattle.rte_small.specs.Small.{GeneratedCodeIsCode, GeneratedCodeIsFait
 pub fn programs_that_keep_sizes_are_small()
     ensures { ProgramsThatKeepSizesAreSmall }
 {
-    rte_checked::law::checked_programs_are_ready();
+    rte_generated_runs::checked_programs_are_ready();
 }
 
 /// An image that holds what is made of it is its code.

@@ -8,7 +8,8 @@ use Rattle.rte_source_meaning.specs.Starts.{due}
 use Rattle.rte_source_meaning.specs.Source.{IsSourceRun, first_end}
 use Rattle.rte_source_laws.proofs.Replays.{no_run, other_run}
 use Rattle.rte_source_laws.specs.ByDeadline.{by_deadline, by_deadline_script, shorter_frame_first_log}
-use Rattle.rte_source_laws.specs.Example.{at, before_occupant_log, ends_early_log, last_signalled_log, late_signal, one_put, out_of_order_log, overrun_log, raise_inside, release_missing_log, released_twice_log, signal_late_log, time_out_late_log, two_waiters, until}
+use Rattle.rte_source_laws.specs.Example.{at, late_signal, one_put, raise_inside, two_waiters}
+use Rattle.rte_source_laws.specs.NoRun.{before_occupant_log, ends_early_log, last_signalled_log, out_of_order_log, overrun_log, release_missing_log, released_twice_log, signal_late_log, time_out_late_log, until}
 
 pub ends_early_is_none : IsSourceRun one_put (until 15) ends_early_log → ⊥
 unfolding due calls_to reached

@@ -1,2 +1,3 @@
 pub mod ByDeadline
 pub mod Example
+pub mod NoRun

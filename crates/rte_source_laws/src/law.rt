@@ -1,15 +1,14 @@
 //! Laws of the meaning.
 
-ghost use Rattle.std.specs.Prelude.{◌≡◌, ◌≤◌, ◌+◌, ℕ, List, false};
+ghost use Rattle.std.specs.Prelude.{◌≡◌, ◌≤◌, ◌+◌, ℕ, List};
 ghost use Rattle.rte_event.specs.declared.event.Event.{Event};
 ghost use Rattle.rte_tree.specs.Plain.{Name, Prog, Process};
 ghost use Rattle.rte_source_meaning.specs.Names.{routine_count};
 ghost use Rattle.rte_source_meaning.specs.Config.{Config};
 ghost use Rattle.rte_source_meaning.specs.Next.{calls_to, Next};
 ghost use Rattle.rte_source_meaning.specs.Starts.{Script};
-ghost use Rattle.rte_source_meaning.specs.Source.{Step, IsSourceRun, Stays, acts};
+ghost use Rattle.rte_source_meaning.specs.Source.{Step, Stays, acts};
 ghost use Rattle.rte_source_meaning.specs.Nesting.{Levels, Agree};
-ghost use Rattle.rte_source_meaning.specs.Puts.{PutProg, PutRun, put_prog, put_script, resting};
 
 /// From a configuration an event leads to at most one configuration.
 pub fn steps_are_determined()
@@ -20,11 +19,6 @@ pub fn steps_are_determined()
 pub fn values_are_defined()
     ensures { (g : Prog) (p : Process) (level : Name → ℕ) → Levels g p level → (more : ℕ)
         → Agree g p level (routine_count g) (calls_to g p (routine_count g)) (calls_to g p (routine_count g + more)) }
-{}
-
-/// A run of the smallest form of program is a run by the whole meaning.
-pub fn put_runs_are_source_runs()
-    ensures { (f : PutProg) (end_tick : ℕ) (es : List Event) → PutRun f end_tick 0 false resting es → IsSourceRun (put_prog f) (put_script end_tick) es }
 {}
 
 /// An event that is allowed is not before the tick reached.

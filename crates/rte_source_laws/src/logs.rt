@@ -2,7 +2,8 @@
 
 ghost use Rattle.rte_source_laws.specs.ByDeadline.{by_deadline, by_deadline_script, shorter_frame_first_log};
 ghost use Rattle.rte_source_laws.specs.Example.{late_signal, late_signal_script, one_put, one_put_script, raise_inside, raise_inside_script, signalled_wait, signalled_wait_script, three_ranks, three_ranks_script};
-ghost use Rattle.rte_source_laws.specs.Example.{before_occupant_log, ends_early_log, last_signalled_log, out_of_order_log, overrun_log, release_missing_log, released_twice_log, signal_late_log, time_out_late_log, two_waiters, until};
+ghost use Rattle.rte_source_laws.specs.Example.{two_waiters};
+ghost use Rattle.rte_source_laws.specs.NoRun.{before_occupant_log, ends_early_log, last_signalled_log, out_of_order_log, overrun_log, release_missing_log, released_twice_log, signal_late_log, time_out_late_log, until};
 ghost use Rattle.rte_source_meaning.specs.Source.{IsSourceRun};
 
 use rte_event::{Act, Event};

@@ -7,5 +7,4 @@ pub mod Config
 pub mod Ranks
 pub mod Starts
 pub mod Source
-pub mod Puts
 pub mod Nesting

@@ -1,4 +1,5 @@
 pub mod Plain
 pub mod Placed
+pub mod Bare
 pub mod Parts
 pub mod formers

@@ -1,6 +1,7 @@
 use Rattle.std.proofs.Common.{ℕ, List, sym, subst, ap, ◌∙◌}
 use Rattle.rte_tree.specs.declared.decl.Prog.{Prog}
-use Rattle.rte_tree.specs.Placed.{bare, placed}
+use Rattle.rte_tree.specs.Placed.{placed}
+use Rattle.rte_tree.specs.Bare.{bare}
 use Rattle.rte_print.specs.Canonical.{canonical}
 use Rattle.rte_commands.specs.Due.{IsPrintDue}
 use Rattle.rte_commands.specs.Source.{fault_line}
