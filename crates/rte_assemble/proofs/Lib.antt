@@ -1,6 +1,5 @@
 pub mod Rows
 pub mod Inserted
-pub mod Copied
 pub mod Counted
 pub mod Costs
 pub mod RoutineTable

@@ -14,7 +14,6 @@ mod parts;
 mod processes;
 mod releases;
 mod routines;
-mod trees;
 mod whole;
 
 pub use whole::assemble;

@@ -13,7 +13,6 @@ ghost use Rattle.rte_assemble.specs.Told.{process_told, processes_told};
 use crate::handlers::{handler_numbers, handler_start, handler_tree};
 use crate::loops::frame;
 use crate::releases::released;
-use crate::trees::copied_tree;
 use rte_cost::ProcessMeasure;
 use rte_image::RawProc;
 use rte_layout::Values;
@@ -21,6 +20,7 @@ use rte_lookup::laid_process;
 use rte_made::ProcessParts;
 use rte_name_list::NameList;
 use rte_num::{Cost, OVER};
+use rte_seg_copy::copied_tree;
 use rte_tree::{List, Proc};
 use std::alloc::{AllocError, Global};
 

@@ -9,11 +9,11 @@ ghost use Rattle.rte_numbering.specs.Texts.{owner_of, text_of, texts_of};
 ghost use Rattle.rte_assemble.specs.Rows.{FitRows, FitsRow};
 ghost use Rattle.rte_assemble.specs.Told.{routine_told, routines_told};
 
-use crate::trees::copied_tree;
 use rte_cost::Known;
 use rte_image::RawRoutine;
 use rte_made::Part;
 use rte_numbering::{Owner, Text};
+use rte_seg_copy::copied_tree;
 use rte_tree::{List, Routine};
 use std::alloc::{AllocError, Global};
 

@@ -6,7 +6,8 @@ use Rattle.rte_tasks.specs.Tasks.{tasks_of}
 use Rattle.rte_built.specs.Built.{HasLeastBounds}
 use Rattle.rte_built.specs.Filled.{without_bound, without_bounds}
 use Rattle.rte_filled.proofs.Lists.{as_many, same_at}
-use Rattle.rte_built_once.specs.Once.{ShapedImagesAreOne, BuiltImagesAreOne, TimelyOrLate}
+use Rattle.rte_filled.specs.Laws.{ShapesAgree}
+use Rattle.rte_built_once.specs.Once.{BuiltImagesAreOne, TimelyOrLate}
 use Rattle.rte_built_once.proofs.Bounds.{same_elements, one_bound, same_responses, same_bound}
 
 one_process : (p q : Process) → without_bound p ≡ without_bound q → p.bound ≡ q.bound → p ≡ q
@@ -31,15 +32,15 @@ module _ (m n : Image) (same : without_bounds m ≡ without_bounds n) (least : H
       ∙ ap (λ (ps : List Process). record n { processes = ps })
       (same_elements m.processes n.processes (as_many without_bound m.processes n.processes become_same) each_is_one)
 
-pub built_images_are_one : ShapedImagesAreOne → BuiltImagesAreOne
+pub built_images_are_one : ShapesAgree → BuiltImagesAreOne
 built_images_are_one shapes g over m n one two =
     let programs : m.program ≡ n.program = one.program ∙ sym two.program in
     let names : m.names ≡ n.names = one.names ∙ sym two.names in
-    let images : m.image ≡ n.image = one_image m.image n.image (shapes g over m.image n.image one.shaped two.shaped) one.bounds two.bounds in
+    let images : m.image ≡ n.image = one_image m.image n.image (shapes g over n.image m.image two.shaped one.shaped) one.bounds two.bounds in
     λ i. record { program = programs i; names = names i; image = images i }
 
-pub timely_or_late : ShapedImagesAreOne → TimelyOrLate
+pub timely_or_late : ShapesAgree → TimelyOrLate
 timely_or_late shapes g over n built late =
-    let same : without_bounds n.image ≡ without_bounds late.image = shapes g over n.image late.image built.shaped late.shaped in
+    let same : without_bounds n.image ≡ without_bounds late.image = shapes g over late.image n.image late.shaped built.shaped in
     let x = same_at without_bound n.image.processes late.image.processes late.number late.process (ap (λ (i : Image). i.processes) same) late.there in
     late.unsolved x.0.bound (same_responses n.image late.image same x.0 late.process x.2 x.0.bound (built.bounds late.number x.0 x.1).solves)

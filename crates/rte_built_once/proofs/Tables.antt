@@ -8,7 +8,8 @@ use Rattle.rte_table.specs.declared.table.Row.{Row}
 use Rattle.rte_built.specs.Filled.{without_bound, without_bounds}
 use Rattle.rte_built.specs.Shown.{row_of, rows_of, table_of, AreLeast}
 use Rattle.rte_filled.proofs.Tasks.{least_is_kept}
-use Rattle.rte_built_once.specs.Once.{ShapedImagesAreOne, TablesAreOne}
+use Rattle.rte_filled.specs.Laws.{ShapesAgree}
+use Rattle.rte_built_once.specs.Once.{TablesAreOne}
 use Rattle.rte_built_once.proofs.Bounds.{same_elements, one_bound_or_none}
 
 some_at : {A : Type 0} (xs : List A) (k : ℕ) → k < length xs → (x : A) × (slice_get xs k ≡ Some x)
@@ -37,8 +38,8 @@ table_same m bs = ap (λ (rows : List Row). record (table_of m bs) { rows = rows
 tables_agree : (m n : Image) → without_bounds m ≡ without_bounds n → (bs : List (Option ℕ)) → table_of m bs ≡ table_of n bs
 tables_agree m n same bs = sym (table_same m bs) ∙ (ap (λ (i : Image). table_of i bs) same ∙ table_same n bs)
 
-pub tables_are_one : ShapedImagesAreOne → TablesAreOne
+pub tables_are_one : ShapesAgree → TablesAreOne
 tables_are_one shapes g over t u one two =
-    let same : without_bounds one.image ≡ without_bounds two.image = shapes g over one.image two.image one.shaped two.shaped in
+    let same : without_bounds one.image ≡ without_bounds two.image = shapes g over two.image one.image two.shaped one.shaped in
     let bounds : one.bounds ≡ two.bounds = least_are_one one.image one.bounds two.bounds one.least (least_is_kept one.image two.image two.bounds same two.least) in
     one.is ∙ (tables_agree one.image two.image same one.bounds ∙ (ap (λ (bs : List (Option ℕ)). table_of two.image bs) bounds ∙ sym two.is))

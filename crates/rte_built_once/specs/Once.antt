@@ -1,18 +1,12 @@
 -- With an overhead a program has one image and one table, and it is timely or late.
 use Rattle.std.specs.Prelude.{◌≡◌, ℕ}
 use Rattle.rte_tree.specs.Plain.{Prog}
-use Rattle.rte_machine_meaning.specs.Image.{Image}
 use Rattle.rte_image.specs.Named.{NamedImage}
 use Rattle.rte_table.specs.declared.table.Table.{Table}
-use Rattle.rte_built.specs.Built.{IsShaped, IsBuilt, IsLate}
-use Rattle.rte_built.specs.Filled.{without_bounds}
+use Rattle.rte_built.specs.Built.{IsBuilt, IsLate}
 use Rattle.rte_built.specs.Shown.{IsTableOf}
 
--- The law: with its ranks, the image of a program is one but for its bounds.
-abbrev pub ShapedImagesAreOne : Type 0
-ShapedImagesAreOne = (g : Prog) (over : ℕ) (m n : Image) → IsShaped g over m → IsShaped g over n → without_bounds m ≡ without_bounds n
-
--- The law: and with its bounds it is one.
+-- The law: with its bounds, the image of a program is one.
 abbrev pub BuiltImagesAreOne : Type 0
 BuiltImagesAreOne = (g : Prog) (over : ℕ) (m n : NamedImage) → IsBuilt g over m → IsBuilt g over n → m ≡ n
 

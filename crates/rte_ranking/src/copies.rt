@@ -3,10 +3,11 @@
 ghost use Rattle.std.specs.Prelude.{◌≡◌, IfOk, option_map};
 ghost use Rattle.rte_image.specs.Raw.{process_of};
 ghost use Rattle.rte_ranking.specs.Ranking.{timed};
-ghost use Rattle.rte_seg.specs.View.{view, views};
+ghost use Rattle.rte_seg.specs.View.{views};
 
 use rte_image::RawProc;
-use rte_seg::{Seg, Segs};
+use rte_seg::Segs;
+use rte_seg_copy::copied_tree;
 use rte_tree::List;
 use std::alloc::{AllocError, Global};
 
@@ -17,45 +18,6 @@ pub struct Times {
     pub rank: u16,
     pub block: u32,
     pub bound: u32,
-}
-
-/// A segment once more.
-#[cycle(trees)]
-fn copied_seg(alloc: Global, seg: &Seg) -> Result<Seg, AllocError>
-    ensures { IfOk result (λ copy. view copy ≡ view seg.now) }
-{
-    match seg {
-        Seg::Line(count) => Ok(Seg::Line(*count)),
-        Seg::Fork(first, second) => {
-            let first = copied_tree(alloc, first.as_slice())?;
-            let second = copied_tree(alloc, second.as_slice())?;
-            Ok(Seg::Fork(first, second))
-        }
-        Seg::Rep(turns, body) => {
-            let body = copied_tree(alloc, body.as_slice())?;
-            Ok(Seg::Rep(*turns, body))
-        }
-        Seg::Call(routine) => Ok(Seg::Call(*routine)),
-        Seg::Stay(monitor, body) => {
-            let body = copied_tree(alloc, body.as_slice())?;
-            Ok(Seg::Stay(*monitor, body))
-        }
-        Seg::Wait => Ok(Seg::Wait),
-        Seg::Exit => Ok(Seg::Exit),
-    }
-}
-
-/// A tree once more.
-#[cycle(trees)]
-fn copied_tree(alloc: Global, tree: &[Seg]) -> Result<Segs, AllocError>
-    ensures { IfOk result (λ copy. views copy ≡ views tree.now) }
-{
-    let mut copy = List::new(alloc);
-    for seg in tree {
-        let next = copied_seg(alloc, seg)?;
-        copy.push(next)?;
-    }
-    Ok(copy)
 }
 
 /// The tree of a handler once more, if it is there.

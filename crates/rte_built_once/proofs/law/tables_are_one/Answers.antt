@@ -2,4 +2,4 @@ use Rattle.rte_built_once.proofs.Tables.{tables_are_one}
 use Rattle.rte_built_once.proofs.law.tables_are_one.Goals as goal
 
 pub returns : goal.returns
-returns c = tables_are_one c.shaped_images_are_one.ensures
+returns c = tables_are_one c.shapes_agree.ensures

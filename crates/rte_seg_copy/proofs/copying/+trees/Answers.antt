@@ -1,6 +1,6 @@
 use Rattle.rte_seg.specs.View.{view}
-use Rattle.rte_assemble.proofs.Copied.{copied-more, tree-copied}
-use Rattle.rte_assemble.proofs.trees.+trees.Goals as goal
+use Rattle.rte_seg_copy.proofs.Copied.{copied-more, tree-copied}
+use Rattle.rte_seg_copy.proofs.copying.+trees.Goals as goal
 
 pub copied_tree-loop-seg-preserved : goal.copied_tree-loop-seg-preserved
 copied_tree-loop-seg-preserved t c =

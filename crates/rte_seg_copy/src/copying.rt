@@ -1,4 +1,4 @@
-//! Segment trees once more.
+//! Copying.
 
 ghost use Rattle.std.specs.Prelude.{◌≡◌, IfOk};
 ghost use Rattle.rte_seg.specs.View.{view, views};
