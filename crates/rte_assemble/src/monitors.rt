@@ -21,9 +21,12 @@ fn raw_monitor(
     base: u32,
     monitor: &Mon,
 ) -> Result<RawMon, AllocError>
-    requires { base + words_of (plain (placed values.now)) (monitor_vars (plain_monitor (placed_monitor monitor.now))) ≤ 1048576 }
-    ensures told { IfOk result (λ raw. monitor_of raw ≡ monitor_told (plain (placed values.now)) base (plain_monitor (placed_monitor monitor.now))) }
-    ensures words { IfOk result (λ raw. raw.words ≡ words_of (plain (placed values.now)) (monitor_vars (plain_monitor (placed_monitor monitor.now)))) }
+    requires { base + words_of (plain (placed values.now))
+        (monitor_vars (plain_monitor (placed_monitor monitor.now))) ≤ 1048576 }
+    ensures told { IfOk result (λ raw. monitor_of raw ≡
+        monitor_told (plain (placed values.now)) base (plain_monitor (placed_monitor monitor.now))) }
+    ensures words { IfOk result (λ raw. raw.words ≡ words_of (plain (placed values.now))
+        (monitor_vars (plain_monitor (placed_monitor monitor.now)))) }
 {
     let laid = laid_monitor(alloc, values, u64::from(base), monitor)?;
     let end = laid.word as u32;
@@ -41,7 +44,8 @@ pub fn raw_monitors(
     monitors: &[&Mon],
 ) -> Result<List<RawMon>, AllocError>
     requires { monitors_words (plain (placed values.now)) (seen_monitors monitors.now) ≤ 1048576 }
-    ensures { IfOk result (λ list. map monitor_of list ≡ monitors_told (plain (placed values.now)) 0 (seen_monitors monitors.now)) }
+    ensures { IfOk result (λ list. map monitor_of list ≡
+        monitors_told (plain (placed values.now)) 0 (seen_monitors monitors.now)) }
 {
     let mut list = List::new(alloc);
     let mut base = 0;

@@ -32,7 +32,9 @@ pub struct Parts {
 
 /// Lists what is declared, if it is an event.
 fn list_event<'a>(names: &mut Vec<&'a [u8]>, decl: &'a Decl) -> Result<(), AllocError>
-    ensures { OnOk result ((rest : List SpecDecl) → names_of names.new.items ++ filter_map event_in rest ≡ names_of names.old.items ++ filter_map event_in (plain_decl (placed_decl decl.now) ∷ rest)) }
+    ensures { OnOk result ((rest : List SpecDecl) → names_of names.new.items ++
+        filter_map event_in rest ≡ names_of names.old.items ++
+        filter_map event_in (plain_decl (placed_decl decl.now) ∷ rest)) }
 {
     if let Decl::Event { name, .. } = decl {
         names.push(name.as_bytes())?;
@@ -42,7 +44,8 @@ fn list_event<'a>(names: &mut Vec<&'a [u8]>, decl: &'a Decl) -> Result<(), Alloc
 
 /// The events of a program.
 fn event_names<'a>(alloc: Global, decls: &'a [Decl]) -> Result<NameList<'a>, AllocError>
-    ensures { IfOk result (λ names. names ≡ filter_map event_in (map plain_decl (map placed_decl decls.now))) }
+    ensures { IfOk result (λ names. names ≡ filter_map event_in
+        (map plain_decl (map placed_decl decls.now))) }
 {
     let mut names = Vec::new(alloc);
     for decl in decls {
@@ -54,8 +57,10 @@ fn event_names<'a>(alloc: Global, decls: &'a [Decl]) -> Result<NameList<'a>, All
 
 /// The monitors of a program.
 fn all_monitors(alloc: Global, tables: &Tables<'_>) -> Result<List<RawMon>, AllocError>
-    requires { monitors_words (plain (placed tables.now)) (monitors (plain (placed tables.now))) ≤ 1048576 }
-    ensures { IfOk result (λ list. map monitor_of list ≡ monitors_told (plain (placed tables.now)) 0 (monitors (plain (placed tables.now)))) }
+    requires { monitors_words (plain (placed tables.now)) (monitors (plain (placed tables.now))) ≤
+        1048576 }
+    ensures { IfOk result (λ list. map monitor_of list ≡
+        monitors_told (plain (placed tables.now)) 0 (monitors (plain (placed tables.now)))) }
 {
     let directory = tables.numbering().directory();
     let list = raw_monitors(alloc, tables.values(), directory.monitors())?;
@@ -71,8 +76,11 @@ fn all_routines(
 ) -> Result<List<RawRoutine>, AllocError>
     requires parts { length code.now.routines ≡ length (numbered (plain (placed tables.now))) }
     requires rows { length measures.now.routines ≡ length (numbered (plain (placed tables.now))) }
-    requires fits { FitRows (numbered (plain (placed tables.now))) code.now.routines measures.now.routines }
-    ensures { IfOk result (λ list. map routine_of list ≡ routines_told (numbered (plain (placed tables.now))) code.now.routines measures.now.routines) }
+    requires fits { FitRows (numbered (plain (placed tables.now))) code.now.routines
+        measures.now.routines }
+    ensures { IfOk result (λ list. map routine_of list ≡
+        routines_told (numbered (plain (placed tables.now))) code.now.routines
+        measures.now.routines) }
 {
     let list = raw_routines(
         alloc,
@@ -95,9 +103,13 @@ fn all_processes(
     requires over { over ≤ 1000 }
     requires events { length events.now ≤ 64 }
     requires parts { length code.now.processes ≡ length (processes (plain (placed tables.now))) }
-    requires sizes { length measures.now.processes ≡ length (processes (plain (placed tables.now))) }
-    requires fits { FitSizes (plain (placed tables.now)) (processes (plain (placed tables.now))) code.now.processes measures.now.processes }
-    ensures { IfOk result (λ list. map process_of list ≡ processes_told (plain (placed tables.now)) events.now over (processes (plain (placed tables.now))) code.now.processes measures.now.processes) }
+    requires sizes { length measures.now.processes ≡ length
+        (processes (plain (placed tables.now))) }
+    requires fits { FitSizes (plain (placed tables.now))
+        (processes (plain (placed tables.now))) code.now.processes measures.now.processes }
+    ensures { IfOk result (λ list. map process_of list ≡
+        processes_told (plain (placed tables.now)) events.now over
+        (processes (plain (placed tables.now))) code.now.processes measures.now.processes) }
 {
     let directory = tables.numbering().directory();
     let list = raw_processes(
@@ -124,9 +136,14 @@ fn all_parts(
     requires over { over ≤ 1000 }
     requires events { length events.now ≤ 64 }
     requires fits { FitAll (plain (placed tables.now)) code.now measures.now }
-    ensures monitors { IfOk result (λ parts. map monitor_of parts.monitors ≡ monitors_told (plain (placed tables.now)) 0 (monitors (plain (placed tables.now)))) }
-    ensures routines { IfOk result (λ parts. map routine_of parts.routines ≡ routines_told (numbered (plain (placed tables.now))) code.now.routines measures.now.routines) }
-    ensures processes { IfOk result (λ parts. map process_of parts.processes ≡ processes_told (plain (placed tables.now)) events.now over (processes (plain (placed tables.now))) code.now.processes measures.now.processes) }
+    ensures monitors { IfOk result (λ parts. map monitor_of parts.monitors ≡
+        monitors_told (plain (placed tables.now)) 0 (monitors (plain (placed tables.now)))) }
+    ensures routines { IfOk result (λ parts. map routine_of parts.routines ≡
+        routines_told (numbered (plain (placed tables.now))) code.now.routines
+        measures.now.routines) }
+    ensures processes { IfOk result (λ parts. map process_of parts.processes ≡
+        processes_told (plain (placed tables.now)) events.now over
+        (processes (plain (placed tables.now))) code.now.processes measures.now.processes) }
 {
     let monitors = all_monitors(alloc, tables)?;
     let routines = all_routines(alloc, tables, code, measures)?;
@@ -148,9 +165,15 @@ pub fn parts_of(
 ) -> Result<Parts, AllocError>
     requires over { over ≤ 1000 }
     requires fits { FitAll (plain (placed program.now)) code.now measures.now }
-    ensures monitors { IfOk result (λ parts. map monitor_of parts.monitors ≡ monitors_told (plain (placed program.now)) 0 (monitors (plain (placed program.now)))) }
-    ensures routines { IfOk result (λ parts. map routine_of parts.routines ≡ routines_told (numbered (plain (placed program.now))) code.now.routines measures.now.routines) }
-    ensures processes { IfOk result (λ parts. map process_of parts.processes ≡ processes_told (plain (placed program.now)) (filter_map event_in (plain (placed program.now)).decls) over (processes (plain (placed program.now))) code.now.processes measures.now.processes) }
+    ensures monitors { IfOk result (λ parts. map monitor_of parts.monitors ≡
+        monitors_told (plain (placed program.now)) 0 (monitors (plain (placed program.now)))) }
+    ensures routines { IfOk result (λ parts. map routine_of parts.routines ≡
+        routines_told (numbered (plain (placed program.now))) code.now.routines
+        measures.now.routines) }
+    ensures processes { IfOk result (λ parts. map process_of parts.processes ≡
+        processes_told (plain (placed program.now)) (filter_map event_in
+        (plain (placed program.now)).decls) over (processes
+        (plain (placed program.now))) code.now.processes measures.now.processes) }
 {
     let tables = Tables::new(alloc, program)?;
     let events = event_names(alloc, program.decls.as_slice())?;

@@ -38,8 +38,10 @@ fn with_dispatches(over: u16, cost: Cost) -> u32
 
 /// The words of a process's variables.
 fn data_words(alloc: Global, values: &Values<'_>, process: &Proc) -> Result<u32, AllocError>
-    requires { words_of (plain (placed values.now)) (plain_process (placed_process process.now)).vars ≤ 1048576 }
-    ensures { IfOk result (λ words. words ≡ words_of (plain (placed values.now)) (plain_process (placed_process process.now)).vars) }
+    requires { words_of (plain (placed values.now)) (plain_process
+        (placed_process process.now)).vars ≤ 1048576 }
+    ensures { IfOk result (λ words. words ≡ words_of (plain (placed values.now))
+        (plain_process (placed_process process.now)).vars) }
 {
     let laid = laid_process(alloc, values, process)?;
     Ok(laid.word as u32)
@@ -57,8 +59,11 @@ fn raw_process(
 ) -> Result<RawProc, AllocError>
     requires over { over ≤ 1000 }
     requires events { length events.now ≤ 64 }
-    requires fits { FitsSize (plain (placed values.now)) (plain_process (placed_process process.now)) parts.now size }
-    ensures { IfOk result (λ raw. process_of raw ≡ process_told (plain (placed values.now)) events.now over (plain_process (placed_process process.now)) parts.now size) }
+    requires fits { FitsSize (plain (placed values.now))
+        (plain_process (placed_process process.now)) parts.now size }
+    ensures { IfOk result (λ raw. process_of raw ≡ process_told
+        (plain (placed values.now)) events.now over (plain_process
+        (placed_process process.now)) parts.now size) }
 {
     let release = released(values, events, &process.activation);
     let words = data_words(alloc, values, process)?;
@@ -102,8 +107,11 @@ pub fn raw_processes(
     requires events { length events.now ≤ 64 }
     requires parts { length parts.now ≡ length processes.now }
     requires sizes { length sizes.now ≡ length processes.now }
-    requires fits { FitSizes (plain (placed values.now)) (seen_processes processes.now) parts.now sizes.now }
-    ensures { IfOk result (λ list. map process_of list ≡ processes_told (plain (placed values.now)) events.now over (seen_processes processes.now) parts.now sizes.now) }
+    requires fits { FitSizes (plain (placed values.now))
+        (seen_processes processes.now) parts.now sizes.now }
+    ensures { IfOk result (λ list. map process_of list ≡
+        processes_told (plain (placed values.now)) events.now over
+        (seen_processes processes.now) parts.now sizes.now) }
 {
     let mut list = List::new(alloc);
     for (number, process) in processes.iter().enumerate() {

@@ -25,7 +25,8 @@ pub struct Release {
 
 /// The deadline, which is the frame where none is told.
 fn deadline(values: &Values<'_>, frame: u32, told: &Option<Constant>) -> u32
-    ensures { result ≡ deadline_or (plain (placed values.now)) frame (optional plain_constant (optional placed_constant told.now)) }
+    ensures { result ≡ deadline_or (plain (placed values.now)) frame
+        (optional plain_constant (optional placed_constant told.now)) }
 {
     match told {
         None => frame,
@@ -35,7 +36,8 @@ fn deadline(values: &Values<'_>, frame: u32, told: &Option<Constant>) -> u32
 
 /// The tick of the first release, 0 where none is told.
 fn first(values: &Values<'_>, told: &Option<Constant>) -> u32
-    ensures { result ≡ first_of (plain (placed values.now)) (optional plain_constant (optional placed_constant told.now)) }
+    ensures { result ≡ first_of (plain (placed values.now))
+        (optional plain_constant (optional placed_constant told.now)) }
 {
     match told {
         None => 0,
@@ -55,7 +57,8 @@ fn event_number(events: &NameList<'_>, event: &Name) -> u16
 /// When a process is released, where these are the events of the program.
 pub fn released(values: &Values<'_>, events: &NameList<'_>, activation: &Activation) -> Release
     requires { length events.now ≤ 64 }
-    ensures { result ≡ release_told (plain (placed values.now)) events.now (plain_activation (placed_activation activation.now)) }
+    ensures { result ≡ release_told (plain (placed values.now)) events.now
+        (plain_activation (placed_activation activation.now)) }
 {
     match activation {
         Activation::Periodic {

@@ -90,7 +90,8 @@ pub fn raw_routines(
     requires parts { length parts.now ≡ length texts.now }
     requires rows { length rows.now ≡ length texts.now }
     requires fits { FitRows (texts_of texts.now) parts.now rows.now }
-    ensures { IfOk result (λ list. map routine_of list ≡ routines_told (texts_of texts.now) parts.now rows.now) }
+    ensures { IfOk result (λ list. map routine_of list ≡
+        routines_told (texts_of texts.now) parts.now rows.now) }
 {
     let mut list = List::new(alloc);
     for (number, text) in texts.iter().enumerate() {

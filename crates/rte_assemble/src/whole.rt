@@ -60,7 +60,8 @@ fn put_together(
     requires fits { FitAll (plain (placed program.now)) code measures.now }
     ensures program { IfOk result (λ raw. raw.program ≡ (placed program.now).name) }
     ensures names { IfOk result (λ raw. raw.names ≡ names_of (plain (placed program.now))) }
-    ensures told { IfOk result (λ raw. IsTold (plain (placed program.now)) over code measures.now (image_of raw)) }
+    ensures told { IfOk result (λ raw. IsTold (plain (placed program.now)) over code measures.now
+        (image_of raw)) }
 {
     let parts = parts_of(alloc, program, over, &code, measures)?;
     let names = image_names(alloc, program)?;

@@ -57,7 +57,8 @@ pub fn rank(alloc: Global, image: RawImage) -> Result<RawImage, AllocError>
     requires few { length image.processes ≤ 64 }
     ensures same { IfOk result (λ now. DiffersInRanks (named_of image) (named_of now)) }
     ensures ranks { IfOk result (λ now. HasRanks (image_of now)) }
-    ensures bounds { IfOk result (λ now. Each (λ k p. p.bound ≡ p.deadline) (image_of now).processes) }
+    ensures bounds { IfOk result (λ now. Each (λ k p. p.bound ≡
+        p.deadline) (image_of now).processes) }
 {
     let stays = longest_stays(alloc, &image)?;
     let numbered = with_ranks(alloc, image, &stays)?;
