@@ -132,10 +132,53 @@ function sight(model) {
   }
 }
 
+/** A stand-in for an element of the page: it keeps what is set, and takes any call of its canvas. */
+function element(calls) {
+  const pen = new Proxy({}, {
+    get: (held, name) => (name in held ? held[name] : (...words) => { calls.push([name, ...words]); }),
+    set: (held, name, value) => { held[name] = value; return true; },
+  });
+  return { style: {}, clientWidth: 1000, clientHeight: 600, cells: [], children: [], className: "", classList: { toggle() {} },
+           getContext: () => pen, setPointerCapture() {}, append() {}, replaceChildren(...all) { this.children = all; },
+           insertRow() { const row = element(calls); this.children.push(row); return row; },
+           insertCell() { const cell = element(calls); this.cells.push(cell); return cell; } };
+}
+
+/** Both scripts over stand-ins: opens the mine pump, paints, zooms, drags, points, and asks for the longest activation. */
+function wholePage() {
+  const calls = [], elements = {}, frames = [];
+  const document = { getElementById: (id) => elements[id] || (elements[id] = element(calls)), createElement: () => element(calls) };
+  const scripts = [...page.matchAll(/<script[^>]*>([\s\S]*?)<\/script>/g)].map((it) => it[1]).join("\n");
+  new Function("document", "window", "requestAnimationFrame", scripts)(document, { devicePixelRatio: 2 }, (call) => frames.push(call));
+  const painted = () => { const before = calls.length; while (frames.length) frames.shift()(); return calls.slice(before); };
+  painted();
+  elements.paste.oninput({ target: { value: readFileSync(path.join(examples, "mine", "output.txt"), "utf8") } });
+  const whole = painted();
+  assert.ok(whole.some(([name, text]) => name === "fillText" && text === "gasWatch"));
+  assert.ok(/^mine: timely, 115 events, 5153 ticks$/.test(elements.said.textContent), elements.said.textContent);
+  const rows = elements.below.children[0].children;
+  assert.strictEqual(rows.length, 7);
+  assert.deepStrictEqual(rows[1].cells.slice(0, 4).map((it) => it.textContent), ["gasWatch", "1", "7", "104"]);
+  const event = { preventDefault() {}, offsetX: 180, offsetY: 60, deltaY: -2400, deltaX: 0, shiftKey: false, buttons: 0, movementX: 5, movementY: 5 };
+  elements.canvas.onwheel({ ...event, offsetX: logic.GUTTER });
+  const near = painted();
+  assert.ok(near.some(([name, text]) => name === "fillText" && text === "get methane 40"));
+  elements.canvas.onwheel({ ...event, shiftKey: true });
+  elements.canvas.onpointerdown(event);
+  elements.canvas.onpointermove({ ...event, buttons: 1 });
+  for (let x = 170; x < 1000; x++) elements.canvas.onpointermove({ ...event, offsetX: x });
+  assert.ok(/^[0-9]+ [A-Za-z]+ [a-z]+/.test(elements.told.textContent), elements.told.textContent);
+  rows[1].cells[4].children[0].onclick();
+  assert.ok(painted().some(([name, text]) => name === "fillText" && text === "put pump 0"));
+  for (const id of ["fit", "in", "out", "open"]) elements[id].onclick();
+  painted();
+}
+
 small();
 told();
 const model = mine();
 sight(model);
+wholePage();
 for (let scale = 0.001; scale < 50; scale *= 3) assert.ok(logic.stepOf(scale) * scale >= 90);
 console.log("small runs, the mine pump and what is in sight: right");
 if (built) {
