@@ -85,13 +85,14 @@ function compare(text, model) {
   }
 }
 
-/** Milliseconds of a call: the least, the middle and the greatest of so many. */
+/** Milliseconds of the processor for a call: the least, the middle and the greatest of so many. */
 function timed(times, call) {
   const all = [];
   for (let turn = 0; turn < times; turn++) {
-    const start = process.hrtime.bigint();
+    const start = process.cpuUsage();
     call(turn);
-    all.push(Number(process.hrtime.bigint() - start) / 1e6);
+    const { user, system } = process.cpuUsage(start);
+    all.push((user + system) / 1000);
   }
   all.sort((a, b) => a - b);
   return [all[0], all[times >> 1], all[times - 1]].map((it) => it.toFixed(2)).join(" / ");
