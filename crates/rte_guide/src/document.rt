@@ -69,7 +69,7 @@ pub fn run<R: std::rt::Files + Print + AllocGlobal>(rt: &R, text: &str) -> io::R
         status: 0,
         told,
     };
-    let mut command = "";
+    let mut command = String::new(alloc);
     let mut shown = String::new(alloc);
     let mut in_block = false;
     for line in text.lines() {
@@ -80,10 +80,10 @@ pub fn run<R: std::rt::Files + Print + AllocGlobal>(rt: &R, text: &str) -> io::R
             None
         };
         if is_fence || next.is_some() {
-            if command != "" {
-                compare(rt, &mut standing, command, shown.as_str())?;
+            if command.as_str() != "" {
+                compare(rt, &mut standing, command.as_str(), shown.as_str())?;
             }
-            command = next.unwrap_or("");
+            command = String::from_str(alloc, next.unwrap_or(""))?;
             shown = String::new(alloc);
         } else if in_block {
             shown.push_str(line)?;
