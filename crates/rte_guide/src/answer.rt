@@ -32,7 +32,13 @@ pub fn of_rte<R: std::rt::Files + AllocGlobal>(
 }
 
 /// The lines of a text that the call keeps, each with its end.
-fn kept(alloc: Global, text: &str, least: usize, most: usize, word: &str) -> Result<String, AllocError> {
+fn kept(
+    alloc: Global,
+    text: &str,
+    least: usize,
+    most: usize,
+    word: &str,
+) -> Result<String, AllocError> {
     let mut all = String::new(alloc);
     for line in text.lines().skip(least).take(most) {
         if line.contains(word) {
@@ -59,7 +65,11 @@ fn filtered<R: fs::Files + AllocGlobal>(rt: &R, text: &str, filter: &str) -> io:
     }
     if let Some(name) = filter.strip_prefix("diff - ") {
         let held = fs::read_to_string(rt, name)?;
-        let answer = if held.as_str() == text { "" } else { "differs\n" };
+        let answer = if held.as_str() == text {
+            ""
+        } else {
+            "differs\n"
+        };
         return Ok(String::from_str(alloc, answer)?);
     }
     Ok(format!(in alloc; "no such filter: {filter}\n")?)
