@@ -13,6 +13,8 @@ use Rattle.rte_starts.proofs.Boards.{as_many, cells_count}
 use Rattle.rte_starts.proofs.Joining.{all_started, lines_to_come, parts, slots_again, tell_releases, threads_count, waits_after_lines, waits_after_releases}
 use Rattle.rte_starts.proofs.Queueing.{lines_keep, periodic_keeps}
 use Rattle.rte_starts.proofs.Saying.{as_many_lines}
+use Rattle.rte_starts.proofs.Least.{none_up_to}
+use Rattle.rte_starts.proofs.Resting.{Rests, rests}
 use Rattle.rte_starts.proofs.agenda.Agenda.begin.Goals as goal
 
 pub do_lines-requires : goal.do_lines-requires
