@@ -18,11 +18,11 @@ use Rattle.rte_starts.proofs.Joining.{lines_to_come}
 -- what is not released at a tick is released from the next on
 release_later : (t : ℕ) (p : Process) (tick : Option ℕ) → IsReleaseFrom t p tick → ((r : ℕ) → tick ≡ Some r → t + 1 ≤ r) → IsReleaseFrom (t + 1) p tick
 release_later t p None is low = λ u from. is u (omega (arith, from))
-release_later t p (Some r) is low = (is.0, (low r refl, λ u from before. is.1.1 u (omega (arith, from)) before))
+release_later t p (Some r) is low = (is.0, low r refl, λ u from before. is.2 u (omega (arith, from)) before)
 
 next_from : (t : ℕ) (p : Process) (tick : Option ℕ) → IsReleaseFrom (t + 1) p tick → IsNextRelease t p tick
 next_from t p None is = λ u after. is u (omega (arith, after))
-next_from t p (Some r) is = let from : t + 1 ≤ r = is.1.0 in (is.0, (omega (arith, from), λ u after before. is.1.1 u (omega (arith, after)) before))
+next_from t p (Some r) is = let from : t + 1 ≤ r = is.1 in (is.0, omega (arith, from), λ u after before. is.2 u (omega (arith, after)) before)
 
 -- the slots are right before the next tick too
 due_later : (image : Image) (script : Script) (t done : ℕ) (s : State) (slots : List (Option ℕ)) → HasDue image script t done s slots → NoneBefore (t + 1) slots → HasDue image script (t + 1) done s slots
@@ -40,7 +40,7 @@ due_later image script t done s slots has none = record {
 -- what holds of such a tick
 pub record Rests (image : Image) (script : Script) (t done : ℕ) (s : State) (slots : List (Option ℕ)) : Type 0 where
   pub starts : starts image script t s ≡ unchanged s
-  pub slots : HasSlots image script t done s slots
+  pub next : HasSlots image script t done s slots
   pub lines : AreDone t done script.lines
 
 pub rests : (image : Image) (script : Script) (t done : ℕ) (s : State) (slots : List (Option ℕ)) → HasDue image script t done s slots → done ≤ length script.lines → NoneBefore (t + 1) slots → Rests image script t done s slots
@@ -65,7 +65,7 @@ rests image script t done s slots has within none =
     } in
     record {
       starts = quiet_starts_nothing image script t s quiet;
-      slots = record {
+      next = record {
         count = has.count;
         releases = λ k p tick at slot. next_from t p tick (later.releases k p tick at slot);
         waits = has.waits;

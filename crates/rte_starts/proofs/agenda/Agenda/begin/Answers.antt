@@ -42,7 +42,7 @@ returns-then-not-is_due-clause-slots g c =
     let none = none_up_to c.args.self.now.slots t c.requires.1.1.1.0.none_late (c.is_due.ensures c.if-not-is_due.true) in
     let all : Rests g.image (script_of c.args.script.now) t c.args.self.now.done s c.args.self.now.slots =
     rests g.image (script_of c.args.script.now) t c.args.self.now.done s c.args.self.now.slots c.requires.1.1.1.0 (omega (arith, c.requires.1.1.1.1.0, as_many_lines c.args.script.now.lines)) none in
-    all.slots
+    all.next
 
 pub returns-then-not-is_due-clause-lines : goal.returns-then-not-is_due-clause-lines
 returns-then-not-is_due-clause-lines g c =
