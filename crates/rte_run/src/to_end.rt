@@ -45,7 +45,7 @@ pub fn run<O: Sink>(
 {
     let end = script.end();
     while machine.tick() < end {
-        machine.advance(plan, script);
+        machine.advance_row(plan, script);
         put_all(names, machine.events(), out)?;
     }
     Ok(())

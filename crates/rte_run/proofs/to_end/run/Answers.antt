@@ -18,26 +18,26 @@ pub put_all-requires : goal.put_all-requires
 put_all-requires g c =
     let script = script_of c.args.script.now in
     let t = c.loop-machine.machine.tick in
-    let u = c.advance.new.self.tick in
-    let later : t < u = c.advance.ensures.passed (λ e. absurd (omega (arith, c.advance.ensures.done.0 e))) in
-    let told = c.events.ensures ∙ c.advance.ensures.fell (λ e. absurd (omega (arith, c.advance.ensures.done.0 e))) in
+    let u = c.advance_row.new.self.tick in
+    let later : t < u = c.advance_row.ensures.passed (λ e. absurd (omega (arith, c.advance_row.ensures.done.0 e))) in
+    let told = c.events.ensures ∙ c.advance_row.ensures.fell (λ e. absurd (omega (arith, c.advance_row.ensures.done.0 e))) in
     subst (λ (es : List Event). All (AreIn c.args.names.now) es) (sym told)
-    (lines_now g.image script c.args.names.now t u (omega (arith, later)) c.advance.ensures.stands.within c.loop-machine.invariant.lines)
+    (lines_now g.image script c.args.names.now t u (omega (arith, later)) c.advance_row.ensures.stands.within c.loop-machine.invariant.lines)
 
 pub loop-machine-preserved : goal.loop-machine-preserved
 loop-machine-preserved g c =
     let script = script_of c.args.script.now in
     let names = c.args.names.now in
     let t = c.loop-machine.machine.tick in
-    let u = c.advance.new.self.tick in
-    let later : t < u = c.advance.ensures.passed (λ e. absurd (omega (arith, c.advance.ensures.done.0 e))) in
-    let told = c.events.ensures ∙ c.advance.ensures.fell (λ e. absurd (omega (arith, c.advance.ensures.done.0 e))) in
+    let u = c.advance_row.new.self.tick in
+    let later : t < u = c.advance_row.ensures.passed (λ e. absurd (omega (arith, c.advance_row.ensures.done.0 e))) in
+    let told = c.events.ensures ∙ c.advance_row.ensures.fell (λ e. absurd (omega (arith, c.advance_row.ensures.done.0 e))) in
     let taken = c.loop-machine.invariant.taken in
     let all : log_to_come g.image script names c.args.machine.now.tick ≡ taken.0 ++ (log_of names c.events.result.now ++ log_to_come g.image script names u) =
-    split g.image script names c.args.machine.now.tick t u taken.0 c.events.result.now (omega (arith, later)) c.advance.ensures.stands.within told taken.2 in
+    split g.image script names c.args.machine.now.tick t u taken.0 c.events.result.now (omega (arith, later)) c.advance_row.ensures.stands.within told taken.2 in
     record {
-      stands = c.advance.ensures.stands;
-      lines = lines_later g.image script names t u (omega (arith, later)) c.advance.ensures.stands.within c.loop-machine.invariant.lines;
+      stands = c.advance_row.ensures.stands;
+      lines = lines_later g.image script names t u (omega (arith, later)) c.advance_row.ensures.stands.within c.loop-machine.invariant.lines;
       end = c.loop-machine.invariant.end;
       taken = (taken.0 ++ log_of names c.events.result.now, Appends-append _ _ _ _ _ taken.1 c.in_ok-put_all.ensures.whole, all ∙ sym (append_assoc taken.0 (log_of names c.events.result.now) (log_to_come g.image script names u)));
       count = omega (arith, c.loop-machine.invariant.count, c.put_all.ensures.count);
@@ -49,12 +49,12 @@ returns-in_err-put_all-clause-front g c =
     let script = script_of c.args.script.now in
     let names = c.args.names.now in
     let t = c.loop-machine.machine.tick in
-    let u = c.advance.new.self.tick in
-    let later : t < u = c.advance.ensures.passed (λ e. absurd (omega (arith, c.advance.ensures.done.0 e))) in
-    let told = c.events.ensures ∙ c.advance.ensures.fell (λ e. absurd (omega (arith, c.advance.ensures.done.0 e))) in
+    let u = c.advance_row.new.self.tick in
+    let later : t < u = c.advance_row.ensures.passed (λ e. absurd (omega (arith, c.advance_row.ensures.done.0 e))) in
+    let told = c.events.ensures ∙ c.advance_row.ensures.fell (λ e. absurd (omega (arith, c.advance_row.ensures.done.0 e))) in
     let taken = c.loop-machine.invariant.taken in
     let all : log_to_come g.image script names c.args.machine.now.tick ≡ taken.0 ++ (log_of names c.events.result.now ++ log_to_come g.image script names u) =
-    split g.image script names c.args.machine.now.tick t u taken.0 c.events.result.now (omega (arith, later)) c.advance.ensures.stands.within told taken.2 in
+    split g.image script names c.args.machine.now.tick t u taken.0 c.events.result.now (omega (arith, later)) c.advance_row.ensures.stands.within told taken.2 in
     on_err c.from_residual.result _
     (rw all (AppendsFront-append _ _ _ taken.0 _ taken.1 (AppendsFront-more _ _ (log_of names c.events.result.now) (log_to_come g.image script names u) c.in_err-put_all.ensures.front)))
 

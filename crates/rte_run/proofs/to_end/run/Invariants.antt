@@ -7,8 +7,8 @@ use Rattle.rte_starts.specs.Begin.{script_of}
 use Rattle.rte_run.specs.Coming.{coming, log_to_come}
 use Rattle.rte_run.proofs.to_end.run.Given as goal
 
-abbrev pub ghost-advance : goal.ghost-advance
-ghost-advance g a = g.image
+abbrev pub ghost-advance_row : goal.ghost-advance_row
+ghost-advance_row g a = g.image
 
 abbrev pub invariant-loop-machine : goal.invariant-loop-machine
 invariant-loop-machine g l = record {
