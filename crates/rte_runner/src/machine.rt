@@ -1,6 +1,6 @@
 //! The machine over whole runs.
 
-ghost use Rattle.std.specs.Prelude.{◌≡◌, ◌≢◌, ◌≤◌, ◌<◌, ◌↔◌, [], IfOk};
+ghost use Rattle.std.specs.Prelude.{◌≡◌, ◌≢◌, ◌≤◌, ◌<◌, ◌↔◌, [], IfOk, min};
 ghost use Rattle.rte_machine_meaning.specs.Image.{Image};
 ghost use Rattle.rte_starts.specs.Begin.{script_of};
 ghost use Rattle.rte_state.specs.Plan.{IsOf};
@@ -138,6 +138,27 @@ impl Machine {
             IsTurnEnd image (script_of script.now) script.now.end self.old.tick self.new.tick }
     {
         self.go_on(plan, script, script.end(), Reach::Turn)
+    }
+
+    /// As `advance`, except that the turn ends at the limit at the latest, which is above the tick.
+    pub fn advance_to(&mut self, plan: &Plan, script: &Script, limit: u64) -> Turn
+        ghost image: { Image }
+        requires plan { IsOf image plan.now }
+        requires runnable { IsRunnable image (script_of script.now) }
+        requires stands { StandsIn image (script_of script.now) self.old }
+        requires limit { self.old.tick < limit }
+        ensures done { (result ≡ Turn.Done) ↔ (self.old.tick ≡ script.now.end) }
+        ensures stays { result ≡ Turn.Done → self.new ≡ self.old }
+        ensures passed { result ≢ Turn.Done → self.old.tick < self.new.tick }
+        ensures stands { StandsIn image (script_of script.now) self.new }
+        ensures fell { result ≢ Turn.Done → self.new.fired.items ≡
+            events_between image (script_of script.now) self.old.tick self.new.tick }
+        ensures quiet { result ≡ Turn.Quiet → self.new.fired.items ≡ [] }
+        ensures events { result ≡ Turn.Events → self.new.fired.items ≢ [] }
+        ensures ends { result ≢ Turn.Done → IsTurnEnd image (script_of script.now)
+            (min limit script.now.end) self.old.tick self.new.tick }
+    {
+        self.go_on(plan, script, limit.min(script.end()), Reach::Turn)
     }
 
     /// As many turns at once as end before anything is due, and before any event falls but those at
