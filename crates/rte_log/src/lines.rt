@@ -11,6 +11,9 @@ use itoa::Buffer;
 use rte_event::{Act, Event};
 use rte_image::{CondName, ImageNames};
 
+/// Room for a line.
+pub type Line = ArrayVec<u8, 320>;
+
 /// The name of a process.
 fn process_of(names: &ImageNames, number: u16) -> &[u8]
     requires sound { AreSound names.now }
@@ -74,7 +77,7 @@ fn truth_of(answer: bool) -> &'static [u8]
 }
 
 /// Adds bytes that fit.
-fn add(text: &mut ArrayVec<u8, 320>, bytes: &[u8])
+fn add(text: &mut Line, bytes: &[u8])
     requires { array_vec_len text.old + length bytes.now ≤ 320 }
     ensures items { text.new.items ≡ text.old.items ++ bytes.now }
     ensures len { array_vec_len text.new ≡ array_vec_len text.old + length bytes.now }
@@ -83,7 +86,7 @@ fn add(text: &mut ArrayVec<u8, 320>, bytes: &[u8])
 }
 
 /// Adds a tick, which has at most 9 digits.
-fn add_tick(text: &mut ArrayVec<u8, 320>, tick: u64)
+fn add_tick(text: &mut Line, tick: u64)
     requires tick { tick < 1000000000 }
     requires room { array_vec_len text.old ≤ 100 }
     ensures items { text.new.items ≡ text.old.items ++ decimal tick }
@@ -94,7 +97,7 @@ fn add_tick(text: &mut ArrayVec<u8, 320>, tick: u64)
 }
 
 /// Adds what an act does, with the monitor and the name of a condition.
-fn add_condition(text: &mut ArrayVec<u8, 320>, names: &ImageNames, does: &[u8], number: u16)
+fn add_condition(text: &mut Line, names: &ImageNames, does: &[u8], number: u16)
     requires sound { AreSound names.now }
     requires condition { number < length names.now.conditions }
     requires does { length does.now ≤ 11 }
@@ -110,7 +113,7 @@ fn add_condition(text: &mut ArrayVec<u8, 320>, names: &ImageNames, does: &[u8], 
 }
 
 /// Adds the last word of a line.
-fn add_last(text: &mut ArrayVec<u8, 320>, word: &[u8])
+fn add_last(text: &mut Line, word: &[u8])
     requires { array_vec_len text.old + length word.now ≤ 318 }
     ensures items { text.new.items ≡ text.old.items ++ (codes " " ++ (word.now ++ codes "\n")) }
     ensures len { array_vec_len text.new ≡ array_vec_len text.old + length word.now + 2 }
@@ -121,7 +124,7 @@ fn add_last(text: &mut ArrayVec<u8, 320>, word: &[u8])
 }
 
 /// Adds the last word of a line, a number.
-fn add_number(text: &mut ArrayVec<u8, 320>, number: u16)
+fn add_number(text: &mut Line, number: u16)
     requires { array_vec_len text.old ≤ 313 }
     ensures items { text.new.items ≡ text.old.items ++ (codes " " ++ (decimal number ++ codes "\n")) }
     ensures len { array_vec_len text.new ≤ array_vec_len text.old + 7 }
@@ -131,7 +134,7 @@ fn add_number(text: &mut ArrayVec<u8, 320>, number: u16)
 }
 
 /// Adds what an act does with a device and a value.
-fn add_transfer(text: &mut ArrayVec<u8, 320>, names: &ImageNames, does: &[u8], dev: u16, value: i32)
+fn add_transfer(text: &mut Line, names: &ImageNames, does: &[u8], dev: u16, value: i32)
     requires sound { AreSound names.now }
     requires device { dev < length names.now.devices }
     requires does { length does.now ≤ 11 }
@@ -147,7 +150,7 @@ fn add_transfer(text: &mut ArrayVec<u8, 320>, names: &ImageNames, does: &[u8], d
 }
 
 /// Adds what an act does with a monitor.
-fn add_passage(text: &mut ArrayVec<u8, 320>, names: &ImageNames, does: &[u8], mon: u16)
+fn add_passage(text: &mut Line, names: &ImageNames, does: &[u8], mon: u16)
     requires sound { AreSound names.now }
     requires monitor { mon < length names.now.monitors }
     requires does { length does.now ≤ 11 }
@@ -161,7 +164,7 @@ fn add_passage(text: &mut ArrayVec<u8, 320>, names: &ImageNames, does: &[u8], mo
 }
 
 /// Adds what a process does, and with what.
-fn add_act(text: &mut ArrayVec<u8, 320>, names: &ImageNames, act: Act)
+fn add_act(text: &mut Line, names: &ImageNames, act: Act)
     requires sound { AreSound names.now }
     requires act { ActIsIn names.now act }
     requires room { array_vec_len text.old ≤ 100 }
@@ -202,18 +205,28 @@ fn add_act(text: &mut ArrayVec<u8, 320>, names: &ImageNames, act: Act)
     }
 }
 
-/// The line of an event in the log, with its LF: at most 273 bytes. The numbers of the event are in
-/// range of the names, which have at most 63 bytes, and its tick is below 1,000,000,000. It takes no
-/// memory.
-pub fn line(names: &ImageNames, event: &Event) -> ArrayVec<u8, 320>
+/// Makes the text the line of an event in the log, with its LF: at most 273 bytes. The numbers of
+/// the event are in range of the names, which have at most 63 bytes, and its tick is below
+/// 1,000,000,000. It takes no memory.
+pub fn write_line(text: &mut Line, names: &ImageNames, event: &Event)
+    requires { AreIn names.now event.now }
+    ensures text { text.new.items ≡ line_of names.now event.now }
+    ensures short { array_vec_len text.new ≤ 273 }
+{
+    text.clear();
+    add_tick(text, event.tick);
+    add(text, b" ");
+    add(text, process_of(names, event.proc));
+    add_act(text, names, event.act);
+}
+
+/// The line of an event, as `write_line` makes it.
+pub fn line(names: &ImageNames, event: &Event) -> Line
     requires { AreIn names.now event.now }
     ensures text { result.items ≡ line_of names.now event.now }
     ensures short { array_vec_len result ≤ 273 }
 {
-    let mut text = ArrayVec::new();
-    add_tick(&mut text, event.tick);
-    add(&mut text, b" ");
-    add(&mut text, process_of(names, event.proc));
-    add_act(&mut text, names, event.act);
+    let mut text = Line::new();
+    write_line(&mut text, names, event);
     text
 }

@@ -8,10 +8,15 @@ ghost use Rattle.rte_log.specs.Line.{line_of, log_of};
 use rte_event::Event;
 use rte_image::ImageNames;
 use rte_io::{Sink, SinkFailed};
-use rte_log::line;
+use rte_log::{Line, write_line};
 
-/// Puts the line of an event.
-fn put_line<O: Sink>(names: &ImageNames, event: &Event, out: &mut O) -> Result<(), SinkFailed>
+/// Puts the line of an event, which is written over the text.
+fn put_line<O: Sink>(
+    text: &mut Line,
+    names: &ImageNames,
+    event: &Event,
+    out: &mut O,
+) -> Result<(), SinkFailed>
     requires { AreIn names.now event.now }
     ensures whole { OnOk result
         (Appends (O.state out.old).taken (O.state out.new).taken (line_of names.now event.now)) }
@@ -21,11 +26,14 @@ fn put_line<O: Sink>(names: &ImageNames, event: &Event, out: &mut O) -> Result<(
     ensures count { (O.state out.old).faults ≤ (O.state out.new).faults }
     ensures quiet { OnOk result ((O.state out.new).faults ≡ (O.state out.old).faults) }
 {
-    out.put(line(names, event).as_slice())
+    write_line(text, names, event);
+    out.put(text.as_slice())
 }
 
-/// Puts the line of each event, one put a line, up to the first put that fails.
+/// Puts the line of each event, one put a line, up to the first put that fails; the lines are
+/// written over the text.
 pub(crate) fn put_all<O: Sink>(
+    text: &mut Line,
     names: &ImageNames,
     events: &[Event],
     out: &mut O,
@@ -40,7 +48,7 @@ pub(crate) fn put_all<O: Sink>(
     ensures quiet { OnOk result ((O.state out.new).faults ≡ (O.state out.old).faults) }
 {
     for event in events {
-        put_line(names, event, out)?;
+        put_line(text, names, event, out)?;
     }
     Ok(())
 }

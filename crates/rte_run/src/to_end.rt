@@ -13,6 +13,7 @@ ghost use Rattle.rte_run.specs.Coming.{coming, log_to_come};
 use crate::put::put_all;
 use rte_image::ImageNames;
 use rte_io::{Sink, SinkFailed};
+use rte_log::Line;
 use rte_runner::Machine;
 use rte_script::Script;
 use rte_state::Plan;
@@ -44,9 +45,10 @@ pub fn run<O: Sink>(
     ensures stands { StandsIn image (script_of script.now) machine.new }
 {
     let end = script.end();
+    let mut text = Line::new();
     while machine.tick() < end {
-        machine.advance(plan, script);
-        put_all(names, machine.events(), out)?;
+        machine.advance_row(plan, script);
+        put_all(&mut text, names, machine.events(), out)?;
     }
     Ok(())
 }

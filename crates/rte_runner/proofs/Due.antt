@@ -1,10 +1,10 @@
 -- The least of the slots, and that nothing is due again at a tick whose start events are done.
-use Rattle.std.proofs.Common.{◌≡◌, ◌≢◌, ◌≤◌, ◌<◌, ◌+◌, ◌-◌, ◌*◌, ◌⊎◌, inl, inr, ℕ, zero, suc, Bool, true, false, List, [], ◌∷◌, Option, Some, None, length, drop, arith, refl, ap, sym, subst, ◌∙◌}
-use Rattle.std.specs.Prelude.{slice_get, cond, nat_eq, min}
+use Rattle.std.proofs.Common.{◌≡◌, ◌≢◌, ◌≤◌, ◌<◌, ◌+◌, ◌-◌, ◌*◌, inl, inr, ℕ, zero, suc, Bool, true, false, List, [], ◌∷◌, Option, Some, None, length, drop, arith, refl, ap, sym, subst, ◌∙◌}
+use Rattle.std.specs.Prelude.{slice_get, cond, nat_eq}
 use Rattle.std.proofs.lemmas.Bool.{cases_lt}
 use Rattle.std.proofs.lemmas.Bool.Decides.{nat_tests}
 use Rattle.std.proofs.lemmas.Option.{slice_get_within}
-use Rattle.rte_dispatch.specs.Due.{earlier, least}
+use Rattle.rte_dispatch.specs.Due.{least}
 use Rattle.rte_machine_meaning.specs.Image.{Image, Script, Line}
 use Rattle.rte_machine_meaning.specs.State.{State}
 use Rattle.rte_machine_meaning.specs.Starts.{starts}
@@ -13,47 +13,9 @@ use Rattle.rte_stretch.specs.Due.{HasSlots, IsNextRelease, NoneBefore, first_tic
 use Rattle.rte_start_laws.specs.Due.{AreDone, HasDue, HasOwnRanks, moved_on}
 use Rattle.rte_start_laws.proofs.Lists.{there_is}
 use Rattle.rte_start_laws.proofs.Waiting.{StartsEnd, due_of, starts_end}
+use Rattle.rte_starts.proofs.Least.{at_least, least_there}
 
 -- ---- the least of the slots
-
-first_most : (r : ℕ) (o : Option ℕ) → (d : ℕ) × ((earlier (Some r) o ≡ Some d) × (d ≤ r))
-first_most r None = (r, (refl, omega arith))
-first_most r (Some s) = (min r s, (refl, omega arith))
-
-rest_most : (t : Option ℕ) (d : ℕ) → (e : ℕ) × ((earlier t (Some d) ≡ Some e) × (e ≤ d))
-rest_most None d = (d, (refl, omega arith))
-rest_most (Some s) d = (min s d, (refl, omega arith))
-
-at_least : (slots : List (Option ℕ)) (i r : ℕ) → slice_get slots i ≡ Some (Some r) → (d : ℕ) × ((least slots ≡ Some d) × (d ≤ r))
-at_least [] i r at = absurd cc
-at_least (t ∷ ts) zero r at =
-    let same : t ≡ Some r = cc in
-    let f = first_most r (least ts) in
-    (f.0, (ap (λ (x : Option ℕ). earlier x (least ts)) same ∙ f.1.0, f.1.1))
-at_least (t ∷ ts) (suc i) r at =
-    let d = at_least ts i r at in
-    let e = rest_most t d.0 in
-    let le : e.0 ≤ d.0 = e.1.1 in
-    let most : d.0 ≤ r = d.1.1 in
-    (e.0, (ap (λ (x : Option ℕ). earlier t x) d.1.0 ∙ e.1.0, omega (arith, le, most)))
-
-one_of : (t o : Option ℕ) (d : ℕ) → earlier t o ≡ Some d → (t ≡ Some d) ⊎ (o ≡ Some d)
-one_of None o d is = inr is
-one_of (Some s) None d is = inl is
-one_of (Some s) (Some u) d is =
-    let e : min s u ≡ d = cc in
-    elim (cases_lt s u) [
-      | inl low ↦ inl (let same : s ≡ d = omega (arith, e, low) in ap (λ (x : ℕ). Some x) same)
-      | inr high ↦ inr (let same : u ≡ d = omega (arith, e, high) in ap (λ (x : ℕ). Some x) same)
-    ]
-
-least_there : (slots : List (Option ℕ)) (d : ℕ) → least slots ≡ Some d → (i : ℕ) × (slice_get slots i ≡ Some (Some d))
-least_there [] d is = absurd cc
-least_there (t ∷ ts) d is =
-    elim (one_of t (least ts) d is) [
-      | inl here ↦ (0, ap (λ (x : Option ℕ). Some x) here)
-      | inr later ↦ (let rest = least_there ts d later in (suc rest.0, rest.1))
-    ]
 
 -- the least of slots of which none is due before v is not before v
 pub due_later : (slots : List (Option ℕ)) (v due : ℕ) → NoneBefore v slots → Some due ≡ least slots → v ≤ due
@@ -74,7 +36,7 @@ none_due slots v is i r at = let d = at_least slots i r at in absurd (let both :
 
 -- ---- after the start events of a tick
 
-first_there : (ls : List Line) (k r : ℕ) → first_tick (drop k ls) ≡ Some r → (l : Line) × ((slice_get ls k ≡ Some l) × (line_tick l ≡ r))
+pub first_there : (ls : List Line) (k r : ℕ) → first_tick (drop k ls) ≡ Some r → (l : Line) × ((slice_get ls k ≡ Some l) × (line_tick l ≡ r))
 first_there [] zero r is = absurd cc
 first_there [] (suc k) r is = absurd cc
 first_there (l ∷ ls) zero r is = (l, (refl, cc))

@@ -3,3 +3,4 @@ pub mod Waiting
 pub mod Passing
 pub mod Rowing
 pub mod Turning
+pub mod Ending

@@ -73,7 +73,7 @@ may_turn run t n who is some fits quiet = record {
 }
 
 -- the turn of process k
-settled : (run : Run) (t n k : ℕ) (can : CanPass run.image n k (begun run.image run.script t)) → place_of (pick run.image (begun run.image run.script t).threads) ≡ Some k
+pub settled : (run : Run) (t n k : ℕ) (can : CanPass run.image n k (begun run.image run.script t)) → place_of (pick run.image (begun run.image run.script t).threads) ≡ Some k
     → turn_of run t n ≡ settle run.image (t + (n - 1)) k can.p can.job (begun run.image run.script t) (outcomes run.image (begun run.image run.script t) can.job (owned_of (slice_get (begun run.image run.script t).owned k)) n can.job.burn)
 settled run t n k can is =
     let s : State = begun run.image run.script t in

@@ -2,3 +2,4 @@ pub mod Waits
 pub mod Runnable
 pub mod Turn
 pub mod Standing
+pub mod Ends

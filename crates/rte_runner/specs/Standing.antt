@@ -1,5 +1,5 @@
 -- Where a machine stands in a run.
-use Rattle.std.specs.Prelude.{◌≡◌, ◌≤◌, ◌-◌, ℕ, List, length, vec_len}
+use Rattle.std.specs.Prelude.{◌≡◌, ◌≤◌, ◌-◌, ℕ, List, length}
 use Rattle.rte_event.specs.declared.event.Event.{Event}
 use Rattle.rte_machine_meaning.specs.Image.{Image, Script}
 use Rattle.rte_machine_meaning.specs.Run.{events_from, state_at}
@@ -16,7 +16,6 @@ pub record StandsIn (image : Image) (script : Script) (m : Machine) : Type 0 whe
   pub due : HasDue image script m.tick m.agenda.done (state_of m.board) m.agenda.slots
   pub done : m.agenda.done ≤ length script.lines
   pub order : IsOrderOf image m.agenda.order
-  pub room : vec_len m.room ≡ length image.processes
 
 -- the events of the run from one tick up to before another
 abbrev pub events_between : Image → Script → ℕ → ℕ → List Event

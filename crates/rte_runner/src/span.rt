@@ -1,6 +1,7 @@
 //! How long nothing starts.
 
-ghost use Rattle.std.specs.Prelude.{◌≤◌, ◌<◌, ◌+◌};
+ghost use Rattle.std.specs.Prelude.{◌≡◌, ◌≤◌, ◌<◌, ◌+◌, ◌⊎◌, Some};
+ghost use Rattle.rte_dispatch.specs.Due.{least};
 ghost use Rattle.rte_stretch.specs.Due.{NoneBefore};
 
 use rte_starts::Agenda;
@@ -12,6 +13,7 @@ pub(crate) fn span(agenda: &Agenda, tick: u64, end: u64) -> u64
     ensures some { 1 ≤ result }
     ensures within { tick + result ≤ end }
     ensures clear { NoneBefore (tick + result) agenda.now.slots }
+    ensures reach { (tick + result ≡ end) ⊎ (least agenda.now.slots ≡ Some (tick + result)) }
 {
     match agenda.next_due() {
         Some(due) => due.min(end) - tick,

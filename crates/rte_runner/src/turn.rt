@@ -1,6 +1,6 @@
 //! A turn, once the start events of its tick are done.
 
-ghost use Rattle.std.specs.Prelude.{◌≡◌, ◌≤◌, ◌<◌, ◌+◌, ◌^◌, false, Some, length, vec_len};
+ghost use Rattle.std.specs.Prelude.{◌≡◌, ◌≤◌, ◌<◌, ◌+◌, ◌^◌, false, Some, slice_get, vec_len};
 ghost use Rattle.arrayvec.specs.ArrayVec.{array_vec_len};
 ghost use Rattle.rte_machine_meaning.specs.Image.{Image};
 ghost use Rattle.rte_machine_meaning.specs.Tick.{pick};
@@ -10,15 +10,24 @@ ghost use Rattle.rte_stretch.specs.Due.{HasSlots, NoneBefore};
 ghost use Rattle.rte_stretch.specs.Quiet.{AreQuiet};
 ghost use Rattle.rte_stretch.specs.RowLaws.{begun};
 ghost use Rattle.rte_stretch.specs.Stretch.{FitsIn, place_of};
+ghost use Rattle.rte_runner.specs.Ends.{lasts, lasts_thread};
 ghost use Rattle.rte_runner.specs.Runnable.{IsRunnable};
 ghost use Rattle.rte_runner.specs.Turn.{AreEarly, BurnsNothing, HasPassed, Run, unspent};
 
 use crate::waits::note_waits;
-use rte_dispatch::Standing;
 use rte_settle::{choose, end_row, left, pass, run_row};
 use rte_silent::Halt;
 use rte_starts::Agenda;
 use rte_state::{Board, Fired, Plan};
+
+/// How far a call goes.
+#[derive(Clone, Copy, PartialEq, Eq)]
+pub(crate) enum Reach {
+    /// To the end of what the process that is picked is at.
+    Turn,
+    /// Over a whole row of instructions that nobody sees.
+    Row,
+}
 
 /// The ticks left of what the process that is picked is at, or as many as are asked for.
 fn ticks_left(plan: &Plan, board: &Board, who: usize, most: u64) -> u32
@@ -31,6 +40,7 @@ fn ticks_left(plan: &Plan, board: &Board, who: usize, most: u64) -> u32
     ensures fits { FitsIn image result (state_of board.now) (Some who) }
     ensures some { 1 ≤ result }
     ensures most { result ≤ most }
+    ensures lasts { result ≡ lasts_thread image most (slice_get (state_of board.now).threads who) }
 {
     most.min(u64::from(left(plan, board, who))) as u32
 }
@@ -57,6 +67,7 @@ fn pass_one(
     ensures passed { HasPassed run tick result (state_of board.new) fired.old.items fired.new.items }
     ensures most { result ≤ most }
     ensures board { IsBoardOf run.image board.new }
+    ensures lasts { result ≡ lasts_thread run.image most (slice_get (state_of board.old).threads who) }
 {
     let ticks = ticks_left(plan, board, who, most);
     pass(plan, board, who, tick, ticks, fired);
@@ -140,15 +151,47 @@ fn pass_picked(
     pass_row(plan, board, who, tick, most, fired)
 }
 
+/// Ticks of the process that is picked, so many at most, as far as the call goes: how many passed.
+fn pass_ticks(
+    plan: &Plan,
+    board: &mut Board,
+    who: usize,
+    tick: u64,
+    most: u64,
+    fired: &mut Fired,
+    reach: Reach,
+) -> u64
+    ghost run: { Run }
+    requires plan { IsOf run.image plan.now }
+    requires runnable { IsRunnable run.image run.script }
+    requires board { IsBoardOf run.image board.old }
+    requires begun { state_of board.old ≡ begun run.image run.script tick }
+    requires picked { place_of (pick run.image (state_of board.old).threads) ≡ Some who }
+    requires quiet { AreQuiet run.image run.script tick most (state_of board.old) }
+    requires some { 1 ≤ most }
+    requires end { tick + most < 2 ^ 63 }
+    requires fired { array_vec_len fired.old < 65 }
+    ensures passed { HasPassed run tick result (state_of board.new) fired.old.items fired.new.items }
+    ensures most { result ≤ most }
+    ensures board { IsBoardOf run.image board.new }
+    ensures lasts { reach ≡ Reach.Turn →
+        result ≡ lasts_thread run.image most (slice_get (state_of board.old).threads who) }
+{
+    match reach {
+        Reach::Turn => pass_one(plan, board, who, tick, most, fired),
+        Reach::Row => pass_picked(plan, board, who, tick, most, fired),
+    }
+}
+
 /// A turn of so many ticks at most: how many it took.
 pub(crate) fn take_turn(
     plan: &Plan,
     board: &mut Board,
     agenda: &mut Agenda,
-    room: &mut Vec<Standing>,
     fired: &mut Fired,
     tick: u64,
     most: u64,
+    reach: Reach,
 ) -> u64
     ghost run: { Run }
     requires plan { IsOf run.image plan.now }
@@ -158,7 +201,6 @@ pub(crate) fn take_turn(
     requires slots { HasSlots run.image run.script tick agenda.old.done
         (state_of board.old) agenda.old.slots }
     requires clear { NoneBefore (tick + most) agenda.old.slots }
-    requires room { vec_len room.old ≡ length run.image.processes }
     requires some { 1 ≤ most }
     requires end { tick + most < 2 ^ 63 }
     requires fired { array_vec_len fired.old < 65 }
@@ -170,12 +212,12 @@ pub(crate) fn take_turn(
     ensures clear { NoneBefore (tick + result) agenda.new.slots }
     ensures done { agenda.new.done ≡ agenda.old.done }
     ensures order { agenda.new.order ≡ agenda.old.order }
-    ensures room { vec_len room.new ≡ vec_len room.old }
+    ensures lasts { reach ≡ Reach.Turn → result ≡ lasts run.image (state_of board.old) most }
 {
-    let Some(who) = choose(plan, board, room) else {
+    let Some(who) = choose(plan, board) else {
         return most;
     };
-    let ticks = pass_picked(plan, board, who, tick, most, fired);
+    let ticks = pass_ticks(plan, board, who, tick, most, fired, reach);
     note_waits(plan, board, agenda, fired.as_slice());
     ticks
 }

@@ -35,7 +35,7 @@ map_at f [] k x at = absurd cc
 map_at f (y ∷ xs) zero x at = let e : y ≡ x = cc in ap (λ (z : _). Some (f z)) e
 map_at f (y ∷ xs) (suc k) x at = map_at f xs k x at
 
-length_map : {X Y : Type 0} (f : X → Y) (xs : List X) → length (map f xs) ≡ length xs
+pub length_map : {X Y : Type 0} (f : X → Y) (xs : List X) → length (map f xs) ≡ length xs
 length_map f [] = refl
 length_map f (x ∷ xs) = ap suc (length_map f xs)
 
@@ -51,7 +51,7 @@ rows_set (w ∷ vs) (suc k) v = ap (λ (xs : List (List ℤ)). w.items ∷ xs) (
 
 -- ---- what is found
 
-many : (ws : List Process) (ps : List Known) → AreProcesses ws ps → length ws ≡ length ps
+pub many : (ws : List Process) (ps : List Known) → AreProcesses ws ps → length ws ≡ length ps
 many [] [] are = refl
 many [] (p ∷ ps) are = absurd are
 many (w ∷ ws) [] are = absurd are

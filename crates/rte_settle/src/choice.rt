@@ -1,14 +1,13 @@
 //! Which process runs, and how long it stays at what it is at.
 
-ghost use Rattle.std.specs.Prelude.{◌≡◌, ◌<◌, IfOk, length, vec_len};
+ghost use Rattle.std.specs.Prelude.{◌≡◌, ◌<◌, length, vec_len};
 ghost use Rattle.rte_settle.specs.Chosen.{IsCeiling, IsLeft, IsLeftOf, IsPick, StandsIn};
 
 use rte_cells::{Cell, Stand};
-use rte_dispatch::{Standing, pick};
+use rte_dispatch::{Standing, foremost_with, place_found};
 use rte_isa::{Instr, ticks};
 use rte_silent::Job;
 use rte_state::{Board, Plan, Process};
-use std::alloc::{AllocError, Global};
 
 /// The ticks left of what an activation is at: of its burn, where it has one, else of its
 /// instruction.
@@ -33,6 +32,7 @@ pub fn left(plan: &Plan, board: &Board, who: usize) -> u32
 }
 
 /// The ceiling of a monitor; 0 where there is none.
+#[inline(always)]
 fn ceiling_of(ceilings: &[u16], monitor: u16) -> u16
     ensures { IsCeiling ceilings.now monitor result }
 {
@@ -44,6 +44,7 @@ fn ceiling_of(ceilings: &[u16], monitor: u16) -> u16
 }
 
 /// How a process stands in the choice.
+#[inline(always)]
 fn standing_of(plan: &Plan, process: &Process, cell: &Cell) -> Standing
     ensures { StandsIn plan.now process.now cell.now result }
 {
@@ -62,30 +63,16 @@ fn standing_of(plan: &Plan, process: &Process, cell: &Cell) -> Standing
     }
 }
 
-/// Room for how all processes stand in the choice.
-pub fn room_for_choice(alloc: Global, plan: &Plan) -> Result<Vec<Standing>, AllocError>
-    ensures { IfOk result (λ room. vec_len room ≡ vec_len plan.now.processes) }
-{
-    let idle = Standing {
-        ready: false,
-        active: 0,
-        inside: false,
-    };
-    let room = vec![in alloc; idle; plan.processes.len()]?;
-    Ok(room)
-}
-
 /// The process that is picked: the one of the least active rank of those that are ready, of two
-/// alike one inside a monitor before one outside, then the first; `None` where none is ready. The
-/// room is overwritten.
-pub fn choose(plan: &Plan, board: &Board, room: &mut Vec<Standing>) -> Option<usize>
-    requires room { vec_len room.old ≡ vec_len plan.now.processes }
-    requires cells { vec_len board.now.cells ≡ vec_len plan.now.processes }
-    ensures pick { IsPick plan.now board.now result }
-    ensures len { vec_len room.new ≡ vec_len room.old }
+/// alike one inside a monitor before one outside, then the first; `None` where none is ready.
+pub fn choose(plan: &Plan, board: &Board) -> Option<usize>
+    requires { vec_len board.now.cells ≡ vec_len plan.now.processes }
+    ensures { IsPick plan.now board.now result }
 {
+    let mut best = None;
     for k in 0..board.cells.len() {
-        room[k] = standing_of(plan, &plan.processes[k], &board.cells[k]);
+        let standing = standing_of(plan, &plan.processes[k], &board.cells[k]);
+        best = foremost_with(best, k, &standing);
     }
-    pick(room)
+    place_found(best)
 }

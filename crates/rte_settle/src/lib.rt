@@ -5,7 +5,7 @@
 //! where the process can take them (`CanPass` in `specs/Settled.antt`), which `law` shows of every
 //! turn of a run that is never stuck. `run_row` runs a process over whole instructions that nobody
 //! sees (`HasRun` in `specs/Rows.antt`), and `end_row` does what the row halted at. `choose` tells
-//! the process that is picked (`specs/Chosen.antt`). Nothing but `room_for_choice` takes memory.
+//! the process that is picked (`specs/Chosen.antt`). Nothing takes memory.
 #![tactic(auto)]
 
 mod cell;
@@ -19,7 +19,7 @@ mod seen;
 mod turn;
 
 pub use cell::pass_cell;
-pub use choice::{choose, left, room_for_choice};
+pub use choice::{choose, left};
 pub use ending::end_cell;
 pub use outcome::Outcome;
 pub use own::pass_own;

@@ -6,3 +6,5 @@ pub mod Expiring
 pub mod Joining
 pub mod Ordering
 pub mod Firsts
+pub mod Least
+pub mod Resting

@@ -1,6 +1,6 @@
 //! What comes when.
 
-ghost use Rattle.std.specs.Prelude.{◌≡◌, ◌≤◌, ◌<◌, ◌+◌, ◌*◌, [], IfOk, false, drop, length, slice_set};
+ghost use Rattle.std.specs.Prelude.{◌≡◌, ◌≢◌, ◌≤◌, ◌<◌, ◌+◌, ◌*◌, [], IfOk, Some, false, drop, length, slice_set};
 ghost use Rattle.rte_machine_meaning.specs.Image.{Image};
 ghost use Rattle.rte_machine_meaning.specs.Run.{at_start};
 ghost use Rattle.rte_machine_meaning.specs.Starts.{starts};
@@ -102,6 +102,13 @@ impl Agenda {
         self.slots.next()
     }
 
+    /// Whether something is due at the tick, before which nothing is.
+    fn is_due(&self, tick: u64) -> bool
+        ensures { result ≡ false → least self.now.slots ≢ Some tick }
+    {
+        self.slots.next() == Some(tick)
+    }
+
     /// Begins a tick: does its lines, its periodic releases and its time-outs.
     pub fn begin(
         &mut self,
@@ -134,6 +141,9 @@ impl Agenda {
         ensures board { IsBoardOf image board.new }
         ensures queues { HaveQueues (state_of board.new) }
     {
+        if !self.is_due(tick) {
+            return;
+        }
         let lines = script.lines().as_slice();
         do_lines(plan, &self.order, lines, &mut self.done, board, fired, tick);
         let line_slot = 2 * plan.processes.len();

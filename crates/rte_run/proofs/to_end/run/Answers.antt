@@ -17,44 +17,44 @@ on_err (Err e) P p = p
 pub put_all-requires : goal.put_all-requires
 put_all-requires g c =
     let script = script_of c.args.script.now in
-    let t = c.loop-machine.machine.tick in
-    let u = c.advance.new.self.tick in
-    let later : t < u = c.advance.ensures.passed (λ e. absurd (omega (arith, c.advance.ensures.done.0 e))) in
-    let told = c.events.ensures ∙ c.advance.ensures.fell (λ e. absurd (omega (arith, c.advance.ensures.done.0 e))) in
+    let t = c.loop-text.machine.tick in
+    let u = c.advance_row.new.self.tick in
+    let later : t < u = c.advance_row.ensures.passed (λ e. absurd (omega (arith, c.advance_row.ensures.done.0 e))) in
+    let told = c.events.ensures ∙ c.advance_row.ensures.fell (λ e. absurd (omega (arith, c.advance_row.ensures.done.0 e))) in
     subst (λ (es : List Event). All (AreIn c.args.names.now) es) (sym told)
-    (lines_now g.image script c.args.names.now t u (omega (arith, later)) c.advance.ensures.stands.within c.loop-machine.invariant.lines)
+    (lines_now g.image script c.args.names.now t u (omega (arith, later)) c.advance_row.ensures.stands.within c.loop-text.invariant.lines)
 
-pub loop-machine-preserved : goal.loop-machine-preserved
-loop-machine-preserved g c =
+pub loop-text-preserved : goal.loop-text-preserved
+loop-text-preserved g c =
     let script = script_of c.args.script.now in
     let names = c.args.names.now in
-    let t = c.loop-machine.machine.tick in
-    let u = c.advance.new.self.tick in
-    let later : t < u = c.advance.ensures.passed (λ e. absurd (omega (arith, c.advance.ensures.done.0 e))) in
-    let told = c.events.ensures ∙ c.advance.ensures.fell (λ e. absurd (omega (arith, c.advance.ensures.done.0 e))) in
-    let taken = c.loop-machine.invariant.taken in
+    let t = c.loop-text.machine.tick in
+    let u = c.advance_row.new.self.tick in
+    let later : t < u = c.advance_row.ensures.passed (λ e. absurd (omega (arith, c.advance_row.ensures.done.0 e))) in
+    let told = c.events.ensures ∙ c.advance_row.ensures.fell (λ e. absurd (omega (arith, c.advance_row.ensures.done.0 e))) in
+    let taken = c.loop-text.invariant.taken in
     let all : log_to_come g.image script names c.args.machine.now.tick ≡ taken.0 ++ (log_of names c.events.result.now ++ log_to_come g.image script names u) =
-    split g.image script names c.args.machine.now.tick t u taken.0 c.events.result.now (omega (arith, later)) c.advance.ensures.stands.within told taken.2 in
+    split g.image script names c.args.machine.now.tick t u taken.0 c.events.result.now (omega (arith, later)) c.advance_row.ensures.stands.within told taken.2 in
     record {
-      stands = c.advance.ensures.stands;
-      lines = lines_later g.image script names t u (omega (arith, later)) c.advance.ensures.stands.within c.loop-machine.invariant.lines;
-      end = c.loop-machine.invariant.end;
+      stands = c.advance_row.ensures.stands;
+      lines = lines_later g.image script names t u (omega (arith, later)) c.advance_row.ensures.stands.within c.loop-text.invariant.lines;
+      end = c.loop-text.invariant.end;
       taken = (taken.0 ++ log_of names c.events.result.now, Appends-append _ _ _ _ _ taken.1 c.in_ok-put_all.ensures.whole, all ∙ sym (append_assoc taken.0 (log_of names c.events.result.now) (log_to_come g.image script names u)));
-      count = omega (arith, c.loop-machine.invariant.count, c.put_all.ensures.count);
-      quiet = c.in_ok-put_all.ensures.quiet ∙ c.loop-machine.invariant.quiet;
+      count = omega (arith, c.loop-text.invariant.count, c.put_all.ensures.count);
+      quiet = c.in_ok-put_all.ensures.quiet ∙ c.loop-text.invariant.quiet;
     }
 
 pub returns-in_err-put_all-clause-front : goal.returns-in_err-put_all-clause-front
 returns-in_err-put_all-clause-front g c =
     let script = script_of c.args.script.now in
     let names = c.args.names.now in
-    let t = c.loop-machine.machine.tick in
-    let u = c.advance.new.self.tick in
-    let later : t < u = c.advance.ensures.passed (λ e. absurd (omega (arith, c.advance.ensures.done.0 e))) in
-    let told = c.events.ensures ∙ c.advance.ensures.fell (λ e. absurd (omega (arith, c.advance.ensures.done.0 e))) in
-    let taken = c.loop-machine.invariant.taken in
+    let t = c.loop-text.machine.tick in
+    let u = c.advance_row.new.self.tick in
+    let later : t < u = c.advance_row.ensures.passed (λ e. absurd (omega (arith, c.advance_row.ensures.done.0 e))) in
+    let told = c.events.ensures ∙ c.advance_row.ensures.fell (λ e. absurd (omega (arith, c.advance_row.ensures.done.0 e))) in
+    let taken = c.loop-text.invariant.taken in
     let all : log_to_come g.image script names c.args.machine.now.tick ≡ taken.0 ++ (log_of names c.events.result.now ++ log_to_come g.image script names u) =
-    split g.image script names c.args.machine.now.tick t u taken.0 c.events.result.now (omega (arith, later)) c.advance.ensures.stands.within told taken.2 in
+    split g.image script names c.args.machine.now.tick t u taken.0 c.events.result.now (omega (arith, later)) c.advance_row.ensures.stands.within told taken.2 in
     on_err c.from_residual.result _
     (rw all (AppendsFront-append _ _ _ taken.0 _ taken.1 (AppendsFront-more _ _ (log_of names c.events.result.now) (log_to_come g.image script names u) c.in_err-put_all.ensures.front)))
 
@@ -62,7 +62,7 @@ pub returns-clause-whole : goal.returns-clause-whole
 returns-clause-whole g c =
     let script = script_of c.args.script.now in
     let names = c.args.names.now in
-    let taken = c.loop-machine.invariant.taken in
+    let taken = c.loop-text.invariant.taken in
     let all : log_to_come g.image script names c.args.machine.now.tick ≡ taken.0 =
-    taken.2 ∙ (ap (λ (bytes : List ℕ). taken.0 ++ bytes) (log_ends g.image script names c.loop-machine.machine.tick (omega arith)) ∙ append-nil taken.0) in
+    taken.2 ∙ (ap (λ (bytes : List ℕ). taken.0 ++ bytes) (log_ends g.image script names c.loop-text.machine.tick (omega arith)) ∙ append-nil taken.0) in
     rw all taken.1

@@ -7,11 +7,11 @@ use Rattle.rte_starts.specs.Begin.{script_of}
 use Rattle.rte_run.specs.Coming.{coming, log_to_come}
 use Rattle.rte_run.proofs.to_end.run.Given as goal
 
-abbrev pub ghost-advance : goal.ghost-advance
-ghost-advance g a = g.image
+abbrev pub ghost-advance_row : goal.ghost-advance_row
+ghost-advance_row g a = g.image
 
-abbrev pub invariant-loop-machine : goal.invariant-loop-machine
-invariant-loop-machine g l = record {
+abbrev pub invariant-loop-text : goal.invariant-loop-text
+invariant-loop-text g l = record {
   stands : StandsIn g.image (script_of l.script) l.machine;
   lines : All (AreIn l.names) (coming g.image (script_of l.script) l.machine.tick);
   end : l.end ≡ l.script.end;
@@ -20,5 +20,5 @@ invariant-loop-machine g l = record {
   quiet : (g.O.Sink.state l.out).faults ≡ (g.O.Sink.state l.fn.out).faults;
 }
 
-abbrev pub decreases-loop-machine : goal.decreases-loop-machine
-decreases-loop-machine g l = l.end - l.machine.tick
+abbrev pub decreases-loop-text : goal.decreases-loop-text
+decreases-loop-text g l = l.end - l.machine.tick

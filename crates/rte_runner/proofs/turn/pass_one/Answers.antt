@@ -51,3 +51,6 @@ returns-clause-passed g c =
     subst (λ (m : ℕ). HasPassed g.run c.args.tick m (state_of c.pass.new.board) c.args.fired.now.items c.pass.new.fired.items) (sym c.from.ensures)
     (picked_passes g.run c.args.tick n c.args.who s (state_of c.pass.new.board) c.args.fired.now.items c.pass.new.fired.items c.requires.1.0.safe turn is at
     (c.pass.ensures.state ∙ ap (λ (x : Ticked). x.state) all) (c.pass.ensures.events ∙ ap (λ (x : Ticked). c.args.fired.now.items ++ x.events) all))
+
+pub returns-clause-lasts : goal.returns-clause-lasts
+returns-clause-lasts g c = c.from.ensures ∙ c.ticks_left-ticks.ensures.lasts

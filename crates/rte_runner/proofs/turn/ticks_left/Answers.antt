@@ -1,7 +1,10 @@
-use Rattle.std.proofs.Common.{◌≡◌, ◌≤◌, arith}
+use Rattle.std.proofs.Common.{◌≡◌, ◌≤◌, Option, arith, ap, sym, ◌∙◌}
+use Rattle.std.specs.Prelude.{min}
+use Rattle.rte_machine_meaning.specs.State.{Thread}
 use Rattle.rte_stretch.specs.Stretch.{left}
 use Rattle.rte_state.specs.Board.{state_of}
 use Rattle.rte_starts.proofs.Joining.{threads_count}
+use Rattle.rte_runner.specs.Ends.{lasts_thread}
 use Rattle.rte_runner.proofs.Passing.{is_ready, some_left}
 use Rattle.rte_runner.proofs.turn.ticks_left.Goals as goal
 
@@ -16,3 +19,10 @@ returns-clause-some g c =
     let is : c.left.result ≡ left g.image r.job = c.left.ensures g.image r.job c.requires.0 r.ready in
     let some : 1 ≤ left g.image r.job = some_left g.image r.job (c.requires.1.1.1.0 c.args.who r.job r.ready) in
     omega (arith, is, some, c.from.ensures, c.min.ensures, c.requires.1.1.1.1)
+
+pub returns-clause-lasts : goal.returns-clause-lasts
+returns-clause-lasts g c =
+    let r = is_ready g.image (state_of c.args.board.now) c.args.who c.requires.1.1.0 in
+    let is : c.left.result ≡ left g.image r.job = c.left.ensures g.image r.job c.requires.0 r.ready in
+    let bound : c.min.result ≡ min c.args.most (left g.image r.job) = omega (arith, is, c.from.ensures, c.min.ensures) in
+    bound ∙ sym (ap (λ (o : Option Thread). lasts_thread g.image c.args.most o) r.ready)

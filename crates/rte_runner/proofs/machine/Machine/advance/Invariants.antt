@@ -1,5 +1,4 @@
-use Rattle.rte_starts.specs.Begin.{script_of}
 use Rattle.rte_runner.proofs.machine.Machine.advance.Given as goal
 
-abbrev pub ghost-step : goal.ghost-step
-ghost-step g a = record { image = g.image; script = script_of a.script.now }
+abbrev pub ghost-go_on : goal.ghost-go_on
+ghost-go_on g a = g.image

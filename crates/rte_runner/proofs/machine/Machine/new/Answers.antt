@@ -2,7 +2,6 @@ use Rattle.std.proofs.Common.{◌∙◌, ℕ, arith, sym, subst}
 use Rattle.rte_machine_meaning.specs.State.{State}
 use Rattle.rte_start_laws.specs.Due.{HasDue}
 use Rattle.rte_starts.specs.Begin.{script_of}
-use Rattle.rte_starts.proofs.Boards.{as_many}
 use Rattle.rte_state.specs.Board.{state_of}
 use Rattle.rte_runner.proofs.Turning.{at_start_is}
 use Rattle.rte_runner.proofs.machine.Machine.new.Goals as goal
@@ -20,5 +19,4 @@ returns-clause-stands g c =
       due = subst (λ (d : ℕ). HasDue g.image script 0 d (state_of c.in_ok-new.field-0) agenda.slots) (sym e.done) (subst (λ (s : State). HasDue g.image script 0 0 s agenda.slots) (sym begins.0) e.due);
       done = omega (arith, e.done);
       order = e.order;
-      room = omega (arith, c.in_ok-room_for_choice.ensures, as_many g.image.processes c.args.plan.now.processes.items c.requires.0.processes, c.args.plan.now.processes.ok.0);
     }

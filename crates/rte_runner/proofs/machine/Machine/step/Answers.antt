@@ -8,13 +8,16 @@ use Rattle.rte_start_laws.proofs.Counting.{starts_are_few}
 use Rattle.rte_start_laws.proofs.Moving.{slots_are_due}
 use Rattle.rte_state.specs.Board.{state_of}
 use Rattle.rte_stretch.specs.Due.{HasSlots}
+use Rattle.rte_stretch.specs.RowLaws.{begun}
 use Rattle.rte_starts.specs.Begin.{script_of}
 use Rattle.rte_starts.specs.Order.{IsOrderOf}
 use Rattle.rte_starts.specs.declared.order.Order.{Order}
 use Rattle.rte_starts.proofs.Boards.{cells_count}
 use Rattle.rte_starts.proofs.Joining.{threads_count}
 use Rattle.rte_starts.proofs.Saying.{as_many_lines}
+use Rattle.rte_runner.specs.Ends.{lasts}
 use Rattle.rte_runner.proofs.Due.{starts_later}
+use Rattle.rte_runner.proofs.Ending.{turn_end}
 use Rattle.rte_runner.proofs.Turning.{starts_calm, told}
 use Rattle.rte_runner.proofs.Waiting.{queued_have}
 use Rattle.rte_runner.proofs.machine.Machine.step.Goals as goal
@@ -28,7 +31,7 @@ begin-requires g c =
     let t = c.args.self.now.tick in
     let s = state_of c.args.self.now.board in
     let end : g.run.script.end_tick ≡ c.args.script.now.end = ap (λ (x : Script). x.end_tick) same in
-    let before : t < g.run.script.end_tick = omega (arith, end, c.requires.1.1.1.1) in
+    let before : t < g.run.script.end_tick = omega (arith, end, c.requires.1.1.1.1.0, c.requires.1.1.1.1.1) in
     let many : length g.run.script.lines ≡ length c.args.script.now.lines = ap (λ (x : Script). length x.lines) same ∙ as_many_lines c.args.script.now.lines in (
       c.requires.0,
       (
@@ -84,7 +87,7 @@ take_turn-ticks-requires g c =
               subst (λ (x : Script). HasSlots image x t c.begin.new.self.done (state_of c.begin.new.board) c.begin.new.self.slots) (sym same) c.begin.ensures.slots,
               (
                 c.span-most.ensures.clear,
-                (stands.room, (c.span-most.ensures.some, (omega (arith, c.span-most.ensures.within, c.end.ensures, end, runs.short), omega (arith, few, threads, filled, c.requires.0.few)))),
+                (c.span-most.ensures.some, (omega (arith, c.span-most.ensures.within, c.requires.1.1.1.1.0, end, runs.short), omega (arith, few, threads, filled, c.requires.0.few))),
               ),
             ),
           ),
@@ -106,13 +109,12 @@ returns-clause-stands g c =
     let many : length g.run.script.lines ≡ length c.args.script.now.lines = ap (λ (x : Script). length x.lines) same ∙ as_many_lines c.args.script.now.lines in
     let some = e.passed.some in
     record {
-      within = omega (arith, c.span-most.ensures.within, c.end.ensures, end, e.most);
+      within = omega (arith, c.span-most.ensures.within, c.requires.1.1.1.1.0, end, e.most);
       state = e.passed.state;
       board = e.board;
       due = slots_are_due image g.run.script t (t + n) c.take_turn-ticks.new.agenda.done s c.take_turn-ticks.new.agenda.slots e.slots (omega (arith, some)) e.clear;
       done = omega (arith, e.done, c.begin.ensures.within, many);
       order = subst (λ (o : Order). IsOrderOf image o) (sym e.order) c.begin.ensures.order;
-      room = e.room ∙ stands.room;
     }
 
 pub returns-clause-events : goal.returns-clause-events
@@ -125,3 +127,28 @@ returns-clause-events g c =
 
 pub returns-clause-passed : goal.returns-clause-passed
 returns-clause-passed g c = let some = c.take_turn-ticks.ensures.passed.some in omega (arith, some)
+
+pub returns-clause-ends : goal.returns-clause-ends
+returns-clause-ends g c turn =
+    let image = g.run.image in
+    let same = c.requires.1.0 in
+    let stands = c.requires.1.1.1.0 in
+    let t = c.args.self.now.tick in
+    let n = c.take_turn-ticks.result in
+    let most = c.span-most.result in
+    let slots = c.begin.new.self.slots in
+    let is : state_of c.begin.new.board ≡ begun image g.run.script t =
+    c.begin.ensures.state ∙ ap (λ (x : Script). (starts image x t (state_of c.args.self.now.board)).state) (sym same) ∙ ap (λ (x : State). (starts image g.run.script t x).state) stands.state in
+    let has : HasSlots image g.run.script t c.begin.new.self.done (begun image g.run.script t) slots =
+    subst (λ (x : State). HasSlots image g.run.script t c.begin.new.self.done x slots) is (subst (λ (x : Script). HasSlots image x t c.begin.new.self.done (state_of c.begin.new.board) slots) (sym same) c.begin.ensures.slots) in
+    turn_end g.run c.args.limit t most n c.begin.new.self.done slots
+    (record {
+      safe = c.requires.1.1.0.safe;
+      has = has;
+      clear = c.span-most.ensures.clear;
+      reach = c.span-most.ensures.reach;
+      within = c.span-most.ensures.within;
+      some = c.take_turn-ticks.ensures.passed.some;
+      n_most = c.take_turn-ticks.ensures.most;
+    })
+    (c.take_turn-ticks.ensures.lasts turn ∙ ap (λ (x : State). lasts image x most) is)

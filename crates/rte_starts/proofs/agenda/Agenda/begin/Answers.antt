@@ -13,7 +13,45 @@ use Rattle.rte_starts.proofs.Boards.{as_many, cells_count}
 use Rattle.rte_starts.proofs.Joining.{all_started, lines_to_come, parts, slots_again, tell_releases, threads_count, waits_after_lines, waits_after_releases}
 use Rattle.rte_starts.proofs.Queueing.{lines_keep, periodic_keeps}
 use Rattle.rte_starts.proofs.Saying.{as_many_lines}
+use Rattle.rte_starts.proofs.Least.{none_up_to}
+use Rattle.rte_starts.proofs.Resting.{Rests, rests}
 use Rattle.rte_starts.proofs.agenda.Agenda.begin.Goals as goal
+
+pub returns-then-not-is_due-clause-state : goal.returns-then-not-is_due-clause-state
+returns-then-not-is_due-clause-state g c =
+    let t = c.args.tick in
+    let s = state_of c.args.board.now in
+    let none = none_up_to c.args.self.now.slots t c.requires.1.1.1.0.none_late (c.is_due.ensures c.if-not-is_due.true) in
+    let all : Rests g.image (script_of c.args.script.now) t c.args.self.now.done s c.args.self.now.slots =
+    rests g.image (script_of c.args.script.now) t c.args.self.now.done s c.args.self.now.slots c.requires.1.1.1.0 (omega (arith, c.requires.1.1.1.1.0, as_many_lines c.args.script.now.lines)) none in
+    sym (ap (λ (a : Started). a.state) all.starts)
+
+pub returns-then-not-is_due-clause-events : goal.returns-then-not-is_due-clause-events
+returns-then-not-is_due-clause-events g c =
+    let t = c.args.tick in
+    let s = state_of c.args.board.now in
+    let none = none_up_to c.args.self.now.slots t c.requires.1.1.1.0.none_late (c.is_due.ensures c.if-not-is_due.true) in
+    let all : Rests g.image (script_of c.args.script.now) t c.args.self.now.done s c.args.self.now.slots =
+    rests g.image (script_of c.args.script.now) t c.args.self.now.done s c.args.self.now.slots c.requires.1.1.1.0 (omega (arith, c.requires.1.1.1.1.0, as_many_lines c.args.script.now.lines)) none in
+    c.requires.1.1.1.1.1.1.1.1 ∙ sym (ap (λ (a : Started). a.events) all.starts)
+
+pub returns-then-not-is_due-clause-slots : goal.returns-then-not-is_due-clause-slots
+returns-then-not-is_due-clause-slots g c =
+    let t = c.args.tick in
+    let s = state_of c.args.board.now in
+    let none = none_up_to c.args.self.now.slots t c.requires.1.1.1.0.none_late (c.is_due.ensures c.if-not-is_due.true) in
+    let all : Rests g.image (script_of c.args.script.now) t c.args.self.now.done s c.args.self.now.slots =
+    rests g.image (script_of c.args.script.now) t c.args.self.now.done s c.args.self.now.slots c.requires.1.1.1.0 (omega (arith, c.requires.1.1.1.1.0, as_many_lines c.args.script.now.lines)) none in
+    all.next
+
+pub returns-then-not-is_due-clause-lines : goal.returns-then-not-is_due-clause-lines
+returns-then-not-is_due-clause-lines g c =
+    let t = c.args.tick in
+    let s = state_of c.args.board.now in
+    let none = none_up_to c.args.self.now.slots t c.requires.1.1.1.0.none_late (c.is_due.ensures c.if-not-is_due.true) in
+    let all : Rests g.image (script_of c.args.script.now) t c.args.self.now.done s c.args.self.now.slots =
+    rests g.image (script_of c.args.script.now) t c.args.self.now.done s c.args.self.now.slots c.requires.1.1.1.0 (omega (arith, c.requires.1.1.1.1.0, as_many_lines c.args.script.now.lines)) none in
+    all.lines
 
 pub do_lines-requires : goal.do_lines-requires
 do_lines-requires g c =
