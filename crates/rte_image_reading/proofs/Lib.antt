@@ -8,3 +8,4 @@ pub mod SoundFields
 pub mod TreeLoop
 pub mod Words
 pub mod Zips
+pub mod Among

@@ -7,3 +7,4 @@ pub mod Versions
 pub mod Law
 pub mod Answer
 pub mod Held
+pub mod Taken

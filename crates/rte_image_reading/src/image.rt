@@ -12,9 +12,10 @@ ghost use Rattle.rte_image_reading.specs.Held.{guarded_of, parts_with};
 use crate::counts::{Counts, counts_at};
 use crate::fault::{Fault, ImageFault, ReadError};
 use crate::fields::{u16_at, u16_within};
-use crate::lists::{conditions_at, devices_at, events_at, instrs_at, routines_at, take};
+use crate::lists::{conditions_at, devices_at, events_at, instrs_at, routines_at};
 use crate::named::{Monitors, Processes, monitors_at, processes_at};
 use crate::names::{bytes_at, name_at};
+use crate::taken::Taken;
 use rte_image::{CondName, DevName, EventName, ImageNames, RawImage, RawProc, RawRoutine};
 use rte_isa::Instr;
 use rte_tree::{List, Name};
@@ -111,7 +112,7 @@ fn work_at<'a>(
     bytes: &'a [u8],
     has_deadlines: bool,
     counts: &Counts,
-    taken: &mut List<Name>,
+    taken: &mut Taken,
 ) -> Result<(Work, &'a [u8]), ReadError>
     ensures read { Gives (λ x. ((map routine_of x.0.routines, (zip x.0.processes.names (map process_of x.0.processes.things), x.0.code)), x.1.now)) result ((work_format (in_version has_deadlines) counts.now taken.old).read bytes.now) }
     ensures each { IfOk result (λ x. length x.0.processes.names ≡ length x.0.processes.things) }
@@ -143,14 +144,14 @@ fn guarded_at<'a>(
     bytes: &'a [u8],
     has_deadlines: bool,
     counts: &Counts,
-    taken: &mut List<Name>,
+    taken: &mut Taken,
 ) -> Result<(Guarded, &'a [u8]), ReadError>
     ensures read { Gives (λ x. (guarded_of x.0, x.1.now)) result ((guarded_format (in_version has_deadlines) counts.now taken.old).read bytes.now) }
     ensures each_monitor { IfOk result (λ x. length x.0.monitors.names ≡ length x.0.monitors.things) }
     ensures each_process { IfOk result (λ x. length x.0.work.processes.names ≡ length x.0.work.processes.things) }
 {
     let (monitors, rest) = monitors_at(alloc, bytes, counts, taken)?;
-    let (conditions, rest) = conditions_at(alloc, rest, counts, taken.as_slice())?;
+    let (conditions, rest) = conditions_at(alloc, rest, counts, taken)?;
     let (work, rest) = work_at(alloc, rest, has_deadlines, counts, taken)?;
     Ok((
         Guarded {
@@ -181,8 +182,8 @@ fn named_at<'a>(
     ensures each_monitor { IfOk result (λ x. length x.0.guarded.monitors.names ≡ length x.0.guarded.monitors.things) }
     ensures each_process { IfOk result (λ x. length x.0.guarded.work.processes.names ≡ length x.0.guarded.work.processes.things) }
 {
-    let mut taken = List::new(alloc);
-    take(alloc, &mut taken, program)?;
+    let mut taken = Taken::new(alloc);
+    taken.take(alloc, program)?;
     let (devices, rest) = devices_at(alloc, bytes, counts, &mut taken)?;
     let (events, rest) = events_at(alloc, rest, counts, &mut taken)?;
     let (guarded, rest) = guarded_at(alloc, rest, has_deadlines, counts, &mut taken)?;
@@ -282,7 +283,7 @@ fn parts_at(
 {
     let (overhead, rest) = overhead_at(bytes, has_deadlines)?;
     let (counts, rest) = counts_at(rest)?;
-    let (program, rest) = name_at(alloc, rest, &[])?;
+    let (program, rest) = name_at(alloc, rest, &Taken::new(alloc))?;
     let (named, rest) = named_at(alloc, rest, has_deadlines, &counts, &program)?;
     let image = assemble(alloc, overhead, program, named)?;
     Ok((image, rest))

@@ -16,7 +16,8 @@ mod named;
 mod names;
 mod parts;
 mod process;
+mod taken;
 mod trees;
 
-pub use fault::ImageFault;
+pub use fault::{Fault, ImageFault};
 pub use image::read_image;

@@ -1,6 +1,6 @@
 //! Lists of parts that the bytes begin with. Each has as many as the counts say.
 
-ghost use Rattle.std.specs.Prelude.{◌≡◌, ◌++◌, ◌∷◌, [], map, IfOk, OnOk};
+ghost use Rattle.std.specs.Prelude.{◌≡◌, ◌++◌, [], map, IfOk};
 ghost use Rattle.rte_image.specs.Raw.{routine_of};
 ghost use Rattle.rte_image_reading.specs.Gives.{Gives};
 ghost use Rattle.rte_image_reading.specs.Format.{each};
@@ -12,26 +12,18 @@ use crate::fault::ReadError;
 use crate::instr::instr_at;
 use crate::names::name_at;
 use crate::parts::{condition_at, device_at, routine_at};
+use crate::taken::{Earlier, Taken};
 use rte_image::{CondName, DevName, RawRoutine};
 use rte_isa::Instr;
 use rte_tree::{List, Name};
-use std::alloc::{AllocError, Global};
-
-/// Takes a name, so that no later part may have it.
-pub fn take(alloc: Global, taken: &mut List<Name>, name: &Name) -> Result<(), AllocError>
-    ensures { OnOk result (taken.new ≡ taken.old ++ name.now ∷ []) }
-{
-    let copy = Name::new(alloc, name.as_bytes())?;
-    taken.push(copy)?;
-    Ok(())
-}
+use std::alloc::Global;
 
 /// The devices, whose names are taken.
 pub fn devices_at<'a>(
     alloc: Global,
     bytes: &'a [u8],
     counts: &Counts,
-    taken: &mut List<Name>,
+    taken: &mut Taken,
 ) -> Result<(List<DevName>, &'a [u8]), ReadError>
     ensures read { Gives (λ x. (x.0, x.1.now)) result ((devices_format counts.now taken.old).read bytes.now) }
     ensures taken { IfOk result (λ x. taken.new ≡ taken.old ++ map (λ d. d.name) x.0) }
@@ -39,8 +31,8 @@ pub fn devices_at<'a>(
     let mut devices = List::new(alloc);
     let mut rest = bytes;
     for _ in 0..counts.devices {
-        let (device, after) = device_at(alloc, rest, taken.as_slice())?;
-        take(alloc, taken, &device.name)?;
+        let (device, after) = device_at(alloc, rest, taken)?;
+        taken.take(alloc, &device.name)?;
         devices.push(device)?;
         rest = after;
     }
@@ -52,7 +44,7 @@ pub fn events_at<'a>(
     alloc: Global,
     bytes: &'a [u8],
     counts: &Counts,
-    taken: &mut List<Name>,
+    taken: &mut Taken,
 ) -> Result<(List<Name>, &'a [u8]), ReadError>
     ensures read { Gives (λ x. (x.0, x.1.now)) result ((events_format counts.now taken.old).read bytes.now) }
     ensures taken { IfOk result (λ x. taken.new ≡ taken.old ++ x.0) }
@@ -60,8 +52,8 @@ pub fn events_at<'a>(
     let mut events = List::new(alloc);
     let mut rest = bytes;
     for _ in 0..counts.events {
-        let (event, after) = name_at(alloc, rest, taken.as_slice())?;
-        take(alloc, taken, &event)?;
+        let (event, after) = name_at(alloc, rest, taken)?;
+        taken.take(alloc, &event)?;
         events.push(event)?;
         rest = after;
     }
@@ -73,20 +65,16 @@ pub fn conditions_at<'a>(
     alloc: Global,
     bytes: &'a [u8],
     counts: &Counts,
-    taken: &[Name],
+    taken: &Taken,
 ) -> Result<(List<CondName>, &'a [u8]), ReadError>
     ensures { Gives (λ x. (x.0, x.1.now)) result ((conditions_format counts.now taken.now).read bytes.now) }
 {
     let mut conditions = List::new(alloc);
+    let mut earlier = Earlier::new(alloc);
     let mut rest = bytes;
     for _ in 0..counts.conditions {
-        let (condition, after) = condition_at(
-            alloc,
-            rest,
-            taken,
-            counts.monitors,
-            conditions.as_slice(),
-        )?;
+        let (condition, after) = condition_at(alloc, rest, taken, counts.monitors, &earlier)?;
+        earlier.note(alloc, &condition)?;
         conditions.push(condition)?;
         rest = after;
     }

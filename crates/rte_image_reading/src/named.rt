@@ -1,19 +1,19 @@
 //! Monitors and processes that the bytes begin with, each after its name.
 
-ghost use Rattle.std.specs.Prelude.{◌≡◌, ◌++◌, length, map, IfOk, OnOk};
+ghost use Rattle.std.specs.Prelude.{◌≡◌, ◌++◌, false, length, map, IfOk, OnOk};
 ghost use Rattle.std.specs.List.{zip};
 ghost use Rattle.rte_image.specs.Raw.{monitor_of, process_of};
 ghost use Rattle.rte_image_reading.specs.Versions.{in_version};
 ghost use Rattle.rte_image_reading.specs.Gives.{Gives};
-ghost use Rattle.rte_image_reading.specs.Grammar.{event_of, named_monitor_format, named_process_format};
+ghost use Rattle.rte_image_reading.specs.Grammar.{event_of, has, named_monitor_format, named_process_format};
 ghost use Rattle.rte_image_reading.specs.File.{monitors_format, processes_format, used_by, with_monitors};
 
 use crate::counts::Counts;
 use crate::fault::ReadError;
-use crate::lists::take;
 use crate::names::name_at;
 use crate::parts::monitor_at;
 use crate::process::process_at;
+use crate::taken::Taken;
 use rte_image::{RawMon, RawProc};
 use rte_tree::{List, Name};
 use std::alloc::{AllocError, Global};
@@ -29,9 +29,10 @@ pub struct Monitors {
 fn named_monitor_at<'a>(
     alloc: Global,
     bytes: &'a [u8],
-    taken: &[Name],
+    taken: &Taken,
 ) -> Result<((Name, RawMon), &'a [u8]), ReadError>
-    ensures { Gives (λ x. ((x.0.0, monitor_of x.0.1), x.1.now)) result ((named_monitor_format taken.now).read bytes.now) }
+    ensures read { Gives (λ x. ((x.0.0, monitor_of x.0.1), x.1.now)) result ((named_monitor_format taken.now).read bytes.now) }
+    ensures fresh { IfOk result (λ x. has taken.now x.0.0 ≡ false) }
 {
     let (name, rest) = name_at(alloc, bytes, taken)?;
     let (monitor, rest) = monitor_at(rest)?;
@@ -43,7 +44,7 @@ pub fn monitors_at<'a>(
     alloc: Global,
     bytes: &'a [u8],
     counts: &Counts,
-    taken: &mut List<Name>,
+    taken: &mut Taken,
 ) -> Result<(Monitors, &'a [u8]), ReadError>
     ensures read { Gives (λ x. (zip x.0.names (map monitor_of x.0.things), x.1.now)) result ((monitors_format counts.now taken.old).read bytes.now) }
     ensures taken { IfOk result (λ x. taken.new ≡ with_monitors taken.old (zip x.0.names (map monitor_of x.0.things))) }
@@ -53,8 +54,8 @@ pub fn monitors_at<'a>(
     let mut things = List::new(alloc);
     let mut rest = bytes;
     for _ in 0..counts.monitors {
-        let ((name, monitor), after) = named_monitor_at(alloc, rest, taken.as_slice())?;
-        take(alloc, taken, &name)?;
+        let ((name, monitor), after) = named_monitor_at(alloc, rest, taken)?;
+        taken.take(alloc, &name)?;
         names.push(name)?;
         things.push(monitor)?;
         rest = after;
@@ -68,10 +69,11 @@ fn named_process_at<'a>(
     bytes: &'a [u8],
     has_deadlines: bool,
     counts: &Counts,
-    taken: &[Name],
+    taken: &Taken,
     used: &[u16],
 ) -> Result<((Name, RawProc), &'a [u8]), ReadError>
-    ensures { Gives (λ x. ((x.0.0, process_of x.0.1), x.1.now)) result ((named_process_format (in_version has_deadlines) counts.now taken.now used.now).read bytes.now) }
+    ensures read { Gives (λ x. ((x.0.0, process_of x.0.1), x.1.now)) result ((named_process_format (in_version has_deadlines) counts.now taken.now used.now).read bytes.now) }
+    ensures fresh { IfOk result (λ x. has taken.now x.0.0 ≡ false) }
 {
     let (name, rest) = name_at(alloc, bytes, taken)?;
     let (process, rest) = process_at(alloc, rest, has_deadlines, counts, used)?;
@@ -102,7 +104,7 @@ pub fn processes_at<'a>(
     bytes: &'a [u8],
     has_deadlines: bool,
     counts: &Counts,
-    taken: &mut List<Name>,
+    taken: &mut Taken,
 ) -> Result<(Processes, &'a [u8]), ReadError>
     ensures read { Gives (λ x. (zip x.0.names (map process_of x.0.things), x.1.now)) result ((processes_format (in_version has_deadlines) counts.now taken.old).read bytes.now) }
     ensures used { IfOk result (λ x. x.0.used ≡ used_by (zip x.0.names (map process_of x.0.things))) }
@@ -118,10 +120,10 @@ pub fn processes_at<'a>(
             rest,
             has_deadlines,
             counts,
-            taken.as_slice(),
+            taken,
             used.as_slice(),
         )?;
-        take(alloc, taken, &name)?;
+        taken.take(alloc, &name)?;
         use_event(&mut used, &process)?;
         names.push(name)?;
         things.push(process)?;

@@ -1,18 +1,20 @@
 //! Names that the bytes begin with.
 
-ghost use Rattle.std.specs.Prelude.{◌≡◌, ◌&&◌, not};
+ghost use Rattle.std.specs.Prelude.{◌≡◌, ◌&&◌, false, not, IfOk};
 ghost use Rattle.std.specs.List.{list_all};
 ghost use Rattle.rte_lex.specs.Spellings.{is_identifier as identifier_test, is_letter as letter_test, is_word as word_test, keywords};
 ghost use Rattle.rte_image_reading.specs.Gives.{Gives};
 ghost use Rattle.rte_image_reading.specs.Format.{bytes_as_are, both, checked, u8 as one_byte};
 ghost use Rattle.rte_image_reading.specs.TreeFormat.{within};
 ghost use Rattle.rte_image_reading.specs.Grammar.{has, name_format};
+ghost use Rattle.rte_image_reading.specs.Taken.{Names};
 
 use crate::fault::{Fault, ReadError};
 use crate::fields::u8_at;
+use crate::taken::Taken;
 use rte_lex::keyword_at;
 use rte_tree::Name;
-use std::alloc::Global;
+use std::alloc::{AllocError, Global};
 
 fn is_letter(byte: u8) -> bool
     ensures { result ≡ letter_test byte }
@@ -53,13 +55,6 @@ fn is_keyword(name: &[u8]) -> bool
     }
 }
 
-/// Whether the name is one of these.
-pub fn is_one_of(name: &[u8], taken: &[Name]) -> bool
-    ensures { result ≡ has taken.now name.now }
-{
-    taken.iter().any(|other| other.as_bytes() == name)
-}
-
 /// So many bytes as they are.
 pub fn bytes_at(bytes: &[u8], size: usize) -> Result<(&[u8], &[u8]), ReadError>
     ensures { Gives (λ x. (x.0.now, x.1.now)) result ((bytes_as_are size).read bytes.now) }
@@ -86,29 +81,43 @@ fn length_at(bytes: &[u8]) -> Result<(u8, &[u8]), ReadError>
     }
 }
 
-/// Whether the bytes may be a name where these are taken.
-fn is_fresh(name: &[u8], taken: &[Name]) -> bool
-    ensures { result ≡ (identifier_test name.now && not (has keywords name.now) && not (has taken.now name.now)) }
+/// Whether the bytes are an identifier and no keyword.
+fn is_plain(name: &[u8]) -> bool
+    ensures { result ≡ (identifier_test name.now && not (has keywords name.now)) }
 {
-    is_identifier(name) && !is_keyword(name) && !is_one_of(name, taken)
+    is_identifier(name) && !is_keyword(name)
+}
+
+/// The name of these bytes, where they are an identifier, no keyword, and not taken; else nothing.
+fn fresh_name(alloc: Global, bytes: &[u8], taken: &Taken) -> Result<Option<Name>, AllocError>
+    ensures { IfOk result (Names taken.now bytes.now) }
+{
+    if !is_plain(bytes) {
+        return Ok(None);
+    }
+    let name = Name::new(alloc, bytes)?;
+    if taken.has(&name) {
+        return Ok(None);
+    }
+    Ok(Some(name))
 }
 
 /// A name that is not taken.
 pub fn name_at<'a>(
     alloc: Global,
     bytes: &'a [u8],
-    taken: &[Name],
+    taken: &Taken,
 ) -> Result<(Name, &'a [u8]), ReadError>
-    ensures { Gives (λ x. (x.0, x.1.now)) result ((name_format taken.now).read bytes.now) }
+    ensures read { Gives (λ x. (x.0, x.1.now)) result ((name_format taken.now).read bytes.now) }
+    ensures fresh { IfOk result (λ x. has taken.now x.0 ≡ false) }
 {
     let (length, rest) = length_at(bytes)?;
     let (name, rest) = bytes_at(rest, usize::from(length))?;
-    if is_fresh(name, taken) {
-        Ok((Name::new(alloc, name)?, rest))
-    } else {
-        Err(ReadError::Fault(Fault {
+    match fresh_name(alloc, name, taken)? {
+        Some(name) => Ok((name, rest)),
+        None => Err(ReadError::Fault(Fault {
             number: 5,
             left: bytes.len(),
-        }))
+        })),
     }
 }

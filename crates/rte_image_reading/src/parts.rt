@@ -1,20 +1,20 @@
 //! The parts of an image that the bytes begin with.
 
-ghost use Rattle.std.specs.Prelude.{◌≡◌, ◌&&◌, ◌||◌, ◌==◌, not, nat_eq, nat_le};
+ghost use Rattle.std.specs.Prelude.{◌≡◌, ◌&&◌, ◌||◌, ◌==◌, not, nat_eq, nat_le, false, IfOk};
 ghost use Rattle.rte_image.specs.Raw.{monitor_of, process_of, routine_of};
 ghost use Rattle.rte_seg.specs.View.{views};
 ghost use Rattle.rte_image_reading.specs.Gives.{Gives};
 ghost use Rattle.rte_image_reading.specs.Format.{both, checked, u16 as two_bytes, u8 as one_byte, unless};
-ghost use Rattle.rte_image_reading.specs.Grammar.{condition_format, cost, cost_format, deadline_format, device_format, handler_format, handler_tree_format, is_again, monitor_format, owner_format, release_format, room_format, routine_format, time_format, wrong_event, wrong_first, wrong_owner, wrong_stay};
+ghost use Rattle.rte_image_reading.specs.Grammar.{condition_format, cost, cost_format, deadline_format, device_format, handler_format, handler_tree_format, has, is_again, monitor_format, owner_format, release_format, room_format, routine_format, time_format, wrong_event, wrong_first, wrong_owner, wrong_stay};
 
 use crate::counts::Counts;
 use crate::fault::{Fault, ReadError};
 use crate::fields::{cost_at, flag_at, u8_at, u16_at, u16_below, u16_within, u32_at, u32_within};
 use crate::names::name_at;
+use crate::taken::{Earlier, Taken};
 use crate::trees::tree_at;
 use rte_image::{CondName, DevName, RawMon, RawRoutine};
 use rte_seg::Segs;
-use rte_tree::Name;
 use std::alloc::Global;
 
 /// How deep trees nest at most.
@@ -24,9 +24,10 @@ pub const DEEPEST: u32 = 130;
 pub fn device_at<'a>(
     alloc: Global,
     bytes: &'a [u8],
-    taken: &[Name],
+    taken: &Taken,
 ) -> Result<(DevName, &'a [u8]), ReadError>
-    ensures { Gives (λ x. (x.0, x.1.now)) result ((device_format taken.now).read bytes.now) }
+    ensures read { Gives (λ x. (x.0, x.1.now)) result ((device_format taken.now).read bytes.now) }
+    ensures fresh { IfOk result (λ x. has taken.now x.0.name ≡ false) }
 {
     let (name, rest) = name_at(alloc, bytes, taken)?;
     let (out, rest) = flag_at(rest, 6)?;
@@ -50,33 +51,25 @@ pub fn monitor_at(bytes: &[u8]) -> Result<(RawMon, &[u8]), ReadError>
     ))
 }
 
-/// Whether an earlier condition of the same monitor has the name.
-fn is_again_in(condition: &CondName, earlier: &[CondName]) -> bool
-    ensures { result ≡ is_again earlier.now condition.now }
-{
-    earlier.iter().any(|other| condition.mon == other.mon && condition.name == other.name)
-}
-
 /// A condition.
 pub fn condition_at<'a>(
     alloc: Global,
     bytes: &'a [u8],
-    taken: &[Name],
+    taken: &Taken,
     monitors: u16,
-    earlier: &[CondName],
+    earlier: &Earlier,
 ) -> Result<(CondName, &'a [u8]), ReadError>
-    ensures { Gives (λ x. (x.0, x.1.now)) result ((condition_format taken.now monitors earlier.now).read bytes.now) }
+    ensures read { Gives (λ x. (x.0, x.1.now)) result ((condition_format taken.now monitors earlier.now).read bytes.now) }
+    ensures new { IfOk result (λ x. is_again earlier.now x.0 ≡ false) }
 {
     let (name, rest) = name_at(alloc, bytes, taken)?;
     let (mon, rest) = u16_below(rest, monitors)?;
-    let condition = CondName { name, mon };
-    if is_again_in(&condition, earlier) {
-        Err(ReadError::Fault(Fault {
+    match earlier.unless_again(name, mon) {
+        Some(condition) => Ok((condition, rest)),
+        None => Err(ReadError::Fault(Fault {
             number: 5,
             left: bytes.len(),
-        }))
-    } else {
-        Ok((condition, rest))
+        })),
     }
 }
 

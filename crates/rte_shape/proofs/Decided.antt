@@ -9,13 +9,12 @@ use Rattle.rte_valid.specs.Fault.{Fault, or_else}
 use Rattle.rte_valid.specs.Times.{bound_fault}
 use Rattle.rte_valid.specs.Valid as valid
 use Rattle.rte_valid.specs.Valid.{IsValid, Shown, fault_of, shown, shown_of}
-use Rattle.rte_verify.specs.Answers.{Answers}
 use Rattle.rte_verify.specs.Verified.{IsVerified, fault_before_bounds}
-use Rattle.rte_verify.specs.declared.fault.ValidFault.{ValidFault}
-use Rattle.rte_verify.specs.declared.fault.ValidFault.TheVariants as faults
+use Rattle.rte_shape.specs.declared.fault.ValidFault.{ValidFault}
+use Rattle.rte_shape.specs.declared.fault.ValidFault.TheVariants as faults
 use Rattle.rte_verify.proofs.Order.{bounds_come_last, is_valid_with_bounds}
 use Rattle.rte_shape.specs.Shape.{IsShape}
-use Rattle.rte_shape.specs.Answers.{Bounds, Shapes, fault}
+use Rattle.rte_shape.specs.Answers.{Answers, Bounds, Shapes, fault}
 
 -- a shape of which no bound has a fault is valid
 pub verified : (shape : NamedImage) → IsShape shape → bound_fault shape.image ≡ None → IsVerified shape.image

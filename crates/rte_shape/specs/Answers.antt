@@ -2,7 +2,7 @@
 use Rattle.std.specs.Prelude.{◌≡◌, ℕ, List, Some, Result, Ok, Err}
 use Rattle.rte_image.specs.InRange.{IsInRange}
 use Rattle.rte_image.specs.Named.{NamedImage}
-use Rattle.rte_image.specs.Raw.{named_of}
+use Rattle.rte_image.specs.Raw.{image_of, named_of}
 use Rattle.rte_image.specs.declared.raw.RawImage.{RawImage}
 use Rattle.rte_image_reading.specs.Answer.{HasFault, Holds}
 use Rattle.rte_image_reading.specs.declared.fault.ImageFault.{ImageFault}
@@ -11,10 +11,10 @@ use Rattle.rte_shape.specs.Shape.{AreOf, IsShape}
 use Rattle.rte_shape.specs.declared.fault.LoadFault.{LoadFault}
 use Rattle.rte_shape.specs.declared.fault.LoadFault.TheVariants as load
 use Rattle.rte_valid.specs.Valid as valid
-use Rattle.rte_valid.specs.Valid.{IsValid, Shown, shown}
+use Rattle.rte_valid.specs.Valid.{IsValid, Shown, fault_of, shown}
 use Rattle.rte_verify.specs.Verified.{HasRanges, fault_before_bounds}
-use Rattle.rte_verify.specs.declared.fault.ValidFault.{ValidFault}
-use Rattle.rte_verify.specs.declared.fault.ValidFault.TheVariants as faults
+use Rattle.rte_shape.specs.declared.fault.ValidFault.{ValidFault}
+use Rattle.rte_shape.specs.declared.fault.ValidFault.TheVariants as faults
 
 abbrev pub fault : (number a b : ℕ) → Shown
 fault number a b = record { number = number; a = a; b = b }
@@ -46,6 +46,12 @@ abbrev pub Bounds : NamedImage → Result NamedImage ValidFault → Type 0
 Bounds shape (Ok image) = (image ≡ shape) × IsValid image.image
 Bounds shape (Err (faults.Bad number a b)) = shown shape.image valid.Bounds ≡ Some (fault number a b)
 Bounds shape (Err faults.Memory) = ⊥
+
+-- Ok exactly of the same numbers, which are valid; each fault exactly the first one; want of memory says nothing
+abbrev pub Answers : RawImage → Result NamedImage ValidFault → Type 0
+Answers raw (Ok image) = (image ≡ named_of raw) × IsValid (image_of raw)
+Answers raw (Err (faults.Bad number a b)) = fault_of (image_of raw) ≡ Some (fault number a b)
+Answers raw (Err faults.Memory) = Unit {0}
 
 -- what is read has its numbers in the ranges of their fields
 pub record IsRead (bytes : List ℕ) (raw : RawImage) : Type 0 where

@@ -4,16 +4,15 @@ ghost use Rattle.std.specs.Prelude.{◌≡◌};
 ghost use Rattle.rte_image.specs.InRange.{IsInRange};
 ghost use Rattle.rte_image.specs.Raw.{named_of};
 ghost use Rattle.rte_machine_meaning.specs.Image.{Script};
-ghost use Rattle.rte_shape.specs.Answers.{Bounds};
+ghost use Rattle.rte_shape.specs.Answers.{Answers, Bounds};
 ghost use Rattle.rte_timed.specs.Timed.{IsInTime, RespectsFrames};
 ghost use Rattle.rte_valid_law.specs.Laws.{IsSafe};
-ghost use Rattle.rte_verify.specs.Answers.{Answers};
 ghost use Rattle.rte_verify.specs.Verified.{HasRanges, IsVerified};
 
+use crate::fault::ValidFault;
 use crate::shape::Shape;
 use rte_image::RawImage;
 use rte_valid_law::law::every_valid_image_is_safe_and_in_time;
-use rte_verify::ValidFault;
 use std::alloc::Global;
 use std::marker::Model;
 
@@ -25,7 +24,7 @@ pub struct Image {
 
 impl Model for Image {
     ghost use Rattle.rte_image.specs.Named.{NamedImage};
-    ghost use Rattle.rte_verify.specs.TreeCode.{coded_segs};
+    ghost use Rattle.rte_shape.specs.TreeCode.{coded_segs};
     ghost use Rattle.rte_verify.specs.Verified.{IsVerified};
     ghost use Rattle.std.specs.Coded.{codes};
 

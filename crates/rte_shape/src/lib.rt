@@ -15,6 +15,6 @@ mod fault;
 mod image;
 mod shape;
 
-pub use fault::LoadFault;
+pub use fault::{LoadFault, ValidFault};
 pub use image::{Image, verify};
 pub use shape::Shape;

@@ -10,7 +10,7 @@ ghost use Rattle.rte_valid.specs.Times.{bound_fault as first_of_bounds};
 ghost use Rattle.rte_valid_code.specs.Told.{told};
 ghost use Rattle.rte_verify.specs.Verified.{HasRanges, fault_before_bounds as first_before_bounds};
 
-use crate::fault::LoadFault;
+use crate::fault::{LoadFault, ValidFault};
 use rte_image::{ImageNames, RawImage, RawMon, RawProc, RawRoutine, write_image};
 use rte_image_ranges::images_read_can_be_written;
 use rte_image_reading::{ImageFault, read_image};
@@ -19,7 +19,7 @@ use rte_response::TaskSet;
 use rte_valid_code::Shown;
 use rte_valid_limits::images_read_are_in_their_ranges;
 use rte_valid_times::{bound_fault, task_set};
-use rte_verify::{ValidFault, fault_before_bounds};
+use rte_verify::fault_before_bounds;
 use std::alloc::{AllocError, Global};
 use std::marker::Model;
 
@@ -35,7 +35,7 @@ impl Model for Shape {
     ghost use Rattle.rte_image.specs.Named.{NamedImage};
     ghost use Rattle.rte_image.specs.Raw.{named_of};
     ghost use Rattle.rte_shape.specs.Shape.{IsKept};
-    ghost use Rattle.rte_verify.specs.TreeCode.{coded_segs};
+    ghost use Rattle.rte_shape.specs.TreeCode.{coded_segs};
     ghost use Rattle.std.specs.Coded.{codes};
 
     ghost Value = { NamedImage };

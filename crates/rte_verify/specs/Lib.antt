@@ -1,3 +1,1 @@
 pub mod Verified
-pub mod Answers
-pub mod TreeCode

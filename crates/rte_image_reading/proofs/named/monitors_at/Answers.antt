@@ -17,8 +17,8 @@ returns-in_err-name-clause-read c =
     let e = c.in_err-name.field-0.0 in
     let q = err_from_is_err_and c.from_residual.result c.from_residual.ensures.1 in
     let same_length : length c.loop.names ≡ length (map monitor_of c.loop.things) = c.loop.invariant.each ∙ sym (length-map c.loop.things monitor_of) in
-    let names_are : c.as_slice.result.now ≡ c.args.taken.now ++ map (λ p. p.0) (zip c.loop.names (map monitor_of c.loop.things)) = c.as_slice.ensures ∙ c.loop.invariant.taken ∙ ap (λ (ns : List (List ℕ)). c.args.taken.now ++ ns) (sym (firsts c.loop.names (map monitor_of c.loop.things) same_length)) in
-    let failed : Fails e ((f (zip c.loop.names (map monitor_of c.loop.things))).read c.loop.rest.now) = subst (λ ns. Fails e ((named_monitor_format ns).read c.loop.rest.now)) names_are c.in_err-name.ensures in
+    let names_are : c.loop.taken ≡ c.args.taken.now ++ map (λ p. p.0) (zip c.loop.names (map monitor_of c.loop.things)) = c.loop.invariant.taken ∙ ap (λ (ns : List (List ℕ)). c.args.taken.now ++ ns) (sym (firsts c.loop.names (map monitor_of c.loop.things) same_length)) in
+    let failed : Fails e ((f (zip c.loop.names (map monitor_of c.loop.things))).read c.loop.rest.now) = subst (λ ns. Fails e ((named_monitor_format ns).read c.loop.rest.now)) names_are c.in_err-name.ensures.read in
     rw (q.1, q.2) (ends f e (zip c.loop.names (map monitor_of c.loop.things)) c.args.counts.now.monitors c.loop.counter c.loop.rest.now (each_read f [] c.args.counts.now.monitors c.args.bytes.now) c.loop-test.true failed c.loop.invariant.so_far)
 
 pub loop-preserved : goal.loop-preserved
@@ -27,8 +27,8 @@ loop-preserved c =
     let n = c.in_ok-name.name in
     let m = c.in_ok-name.monitor in
     let same_length : length c.loop.names ≡ length (map monitor_of c.loop.things) = c.loop.invariant.each ∙ sym (length-map c.loop.things monitor_of) in
-    let names_are : c.as_slice.result.now ≡ c.args.taken.now ++ map (λ p. p.0) (zip c.loop.names (map monitor_of c.loop.things)) = c.as_slice.ensures ∙ c.loop.invariant.taken ∙ ap (λ (ns : List (List ℕ)). c.args.taken.now ++ ns) (sym (firsts c.loop.names (map monitor_of c.loop.things) same_length)) in
-    let read : (f (zip c.loop.names (map monitor_of c.loop.things))).read c.loop.rest.now ≡ Ok ((n, monitor_of m), c.in_ok-name.after.now) = subst (λ ns. (named_monitor_format ns).read c.loop.rest.now ≡ Ok ((n, monitor_of m), c.in_ok-name.after.now)) names_are c.in_ok-name.ensures in
+    let names_are : c.loop.taken ≡ c.args.taken.now ++ map (λ p. p.0) (zip c.loop.names (map monitor_of c.loop.things)) = c.loop.invariant.taken ∙ ap (λ (ns : List (List ℕ)). c.args.taken.now ++ ns) (sym (firsts c.loop.names (map monitor_of c.loop.things) same_length)) in
+    let read : (f (zip c.loop.names (map monitor_of c.loop.things))).read c.loop.rest.now ≡ Ok ((n, monitor_of m), c.in_ok-name.after.now) = subst (λ ns. (named_monitor_format ns).read c.loop.rest.now ≡ Ok ((n, monitor_of m), c.in_ok-name.after.now)) names_are c.in_ok-name.ensures.read in
     let longer : zip (c.loop.names ++ n ∷ []) (map monitor_of (c.loop.things ++ m ∷ [])) ≡ (zip c.loop.names (map monitor_of c.loop.things)) ++ (n, monitor_of m) ∷ [] =
     ap (zip (c.loop.names ++ n ∷ [])) (map_push monitor_of c.loop.things m) ∙ zip_push c.loop.names (map monitor_of c.loop.things) n (monitor_of m) same_length in
     rw (c.in_ok-push.ensures.ok, c.in_ok-push-2.ensures.ok, c.in_ok-take.ensures) (record {

@@ -20,9 +20,9 @@ returns-in_err-name-clause-read c =
     let e = c.in_err-name.field-0.0 in
     let q = err_from_is_err_and c.from_residual.result c.from_residual.ensures.1 in
     let same_length : length c.loop.names ≡ length (map process_of c.loop.things) = c.loop.invariant.each ∙ sym (length-map c.loop.things process_of) in
-    let names_are : c.as_slice.result.now ≡ c.args.taken.now ++ map (λ p. p.0) (zip c.loop.names (map process_of c.loop.things)) = c.as_slice.ensures ∙ c.loop.invariant.taken ∙ ap (λ (ns : List (List ℕ)). c.args.taken.now ++ ns) (sym (firsts c.loop.names (map process_of c.loop.things) same_length)) in
-    let used_are : c.as_slice-in-loop.result.now ≡ used_by (zip c.loop.names (map process_of c.loop.things)) = c.as_slice-in-loop.ensures ∙ c.loop.invariant.used in
-    let failed : Fails e ((f (zip c.loop.names (map process_of c.loop.things))).read c.loop.rest.now) = subst (λ us. Fails e ((named_process_format (in_version c.args.has_deadlines) c.args.counts.now (c.args.taken.now ++ map (λ p. p.0) (zip c.loop.names (map process_of c.loop.things))) us).read c.loop.rest.now)) used_are (subst (λ ns. Fails e ((named_process_format (in_version c.args.has_deadlines) c.args.counts.now ns c.as_slice-in-loop.result.now).read c.loop.rest.now)) names_are c.in_err-name.ensures) in
+    let names_are : c.loop.taken ≡ c.args.taken.now ++ map (λ p. p.0) (zip c.loop.names (map process_of c.loop.things)) = c.loop.invariant.taken ∙ ap (λ (ns : List (List ℕ)). c.args.taken.now ++ ns) (sym (firsts c.loop.names (map process_of c.loop.things) same_length)) in
+    let used_are : c.as_slice.result.now ≡ used_by (zip c.loop.names (map process_of c.loop.things)) = c.as_slice.ensures ∙ c.loop.invariant.used in
+    let failed : Fails e ((f (zip c.loop.names (map process_of c.loop.things))).read c.loop.rest.now) = subst (λ us. Fails e ((named_process_format (in_version c.args.has_deadlines) c.args.counts.now (c.args.taken.now ++ map (λ p. p.0) (zip c.loop.names (map process_of c.loop.things))) us).read c.loop.rest.now)) used_are (subst (λ ns. Fails e ((named_process_format (in_version c.args.has_deadlines) c.args.counts.now ns c.as_slice.result.now).read c.loop.rest.now)) names_are c.in_err-name.ensures.read) in
     rw (q.1, q.2) (ends f e (zip c.loop.names (map process_of c.loop.things)) c.args.counts.now.processes c.loop.counter c.loop.rest.now (each_read f [] c.args.counts.now.processes c.args.bytes.now) c.loop-test.true failed c.loop.invariant.so_far)
 
 pub loop-preserved : goal.loop-preserved
@@ -31,9 +31,9 @@ loop-preserved c =
     let n = c.in_ok-name.name in
     let m = c.in_ok-name.process in
     let same_length : length c.loop.names ≡ length (map process_of c.loop.things) = c.loop.invariant.each ∙ sym (length-map c.loop.things process_of) in
-    let names_are : c.as_slice.result.now ≡ c.args.taken.now ++ map (λ p. p.0) (zip c.loop.names (map process_of c.loop.things)) = c.as_slice.ensures ∙ c.loop.invariant.taken ∙ ap (λ (ns : List (List ℕ)). c.args.taken.now ++ ns) (sym (firsts c.loop.names (map process_of c.loop.things) same_length)) in
-    let used_are : c.as_slice-in-loop.result.now ≡ used_by (zip c.loop.names (map process_of c.loop.things)) = c.as_slice-in-loop.ensures ∙ c.loop.invariant.used in
-    let read : (f (zip c.loop.names (map process_of c.loop.things))).read c.loop.rest.now ≡ Ok ((n, process_of m), c.in_ok-name.after.now) = subst (λ us. (named_process_format (in_version c.args.has_deadlines) c.args.counts.now (c.args.taken.now ++ map (λ p. p.0) (zip c.loop.names (map process_of c.loop.things))) us).read c.loop.rest.now ≡ Ok ((n, process_of m), c.in_ok-name.after.now)) used_are (subst (λ ns. (named_process_format (in_version c.args.has_deadlines) c.args.counts.now ns c.as_slice-in-loop.result.now).read c.loop.rest.now ≡ Ok ((n, process_of m), c.in_ok-name.after.now)) names_are c.in_ok-name.ensures) in
+    let names_are : c.loop.taken ≡ c.args.taken.now ++ map (λ p. p.0) (zip c.loop.names (map process_of c.loop.things)) = c.loop.invariant.taken ∙ ap (λ (ns : List (List ℕ)). c.args.taken.now ++ ns) (sym (firsts c.loop.names (map process_of c.loop.things) same_length)) in
+    let used_are : c.as_slice.result.now ≡ used_by (zip c.loop.names (map process_of c.loop.things)) = c.as_slice.ensures ∙ c.loop.invariant.used in
+    let read : (f (zip c.loop.names (map process_of c.loop.things))).read c.loop.rest.now ≡ Ok ((n, process_of m), c.in_ok-name.after.now) = subst (λ us. (named_process_format (in_version c.args.has_deadlines) c.args.counts.now (c.args.taken.now ++ map (λ p. p.0) (zip c.loop.names (map process_of c.loop.things))) us).read c.loop.rest.now ≡ Ok ((n, process_of m), c.in_ok-name.after.now)) used_are (subst (λ ns. (named_process_format (in_version c.args.has_deadlines) c.args.counts.now ns c.as_slice.result.now).read c.loop.rest.now ≡ Ok ((n, process_of m), c.in_ok-name.after.now)) names_are c.in_ok-name.ensures.read) in
     let longer : zip (c.loop.names ++ n ∷ []) (map process_of (c.loop.things ++ m ∷ [])) ≡ (zip c.loop.names (map process_of c.loop.things)) ++ (n, process_of m) ∷ [] =
     ap (zip (c.loop.names ++ n ∷ [])) (map_push process_of c.loop.things m) ∙ zip_push c.loop.names (map process_of c.loop.things) n (process_of m) same_length in
     rw (c.in_ok-push.ensures.ok, c.in_ok-push-2.ensures.ok, c.in_ok-take.ensures, c.in_ok-use_event.ensures) (record {

@@ -1,0 +1,20 @@
+-- Segments side by side, as bytes are read by the format of images.
+use Rattle.std.specs.Prelude.{ℕ, List, Ok, Err, Result}
+use Rattle.rte_machine_meaning.specs.Trees.{Segs, Nil}
+use Rattle.rte_image_reading.specs.declared.fault.Fault.{Fault}
+use Rattle.rte_image_reading.specs.Format.{Read}
+use Rattle.rte_image_reading.specs.TreeFormat.{seg_format, segs_read, tree_format}
+
+-- so many segments, whose inner trees nest at most so deep
+abbrev pub row_read : (monitors depth count : ℕ) → List ℕ → Read Segs
+row_read monitors depth count bytes = segs_read (seg_format monitors (tree_format monitors depth)) count bytes
+
+-- the segments that were read
+abbrev pub row_in : Read Segs → Segs
+row_in (Ok x) = x.0
+row_in (Err e) = Nil
+
+-- the bytes left after what was read
+abbrev pub left_of : {A : Type 0} → Read A → Result (List ℕ) Fault
+left_of (Ok x) = Ok x.1
+left_of (Err e) = Err e

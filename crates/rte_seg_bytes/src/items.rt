@@ -1,0 +1,94 @@
+//! The segments of a view, from left to right.
+
+ghost use Rattle.std.specs.Prelude.{◌≡◌, ◌≤◌, ◌+◌, MatchOption};
+ghost use Rattle.rte_machine_meaning.specs.Trees.{Cons, Nil};
+ghost use Rattle.rte_seg_bytes.specs.Items.{items_left, segments_of};
+ghost use Rattle.rte_seg_bytes.specs.Stands.{inner_nesting, item_in, nesting, segments_left, tree_in};
+
+use crate::reading::item_at;
+use crate::view::{SegBytes, SegItem};
+
+impl<'a> SegBytes<'a> {
+    /// The first segment and the segments after it; none where there is none.
+    pub fn split_first(self) -> Option<(SegItem<'a>, SegBytes<'a>)>
+        ensures tree { MatchOption result (tree_in self.entry ≡ Nil) (λ x. tree_in self.entry ≡ Cons (item_in x.0) (tree_in x.1)) }
+        ensures nests { MatchOption result (segments_left self.entry ≡ 0) (λ x. (inner_nesting x.0 ≤ nesting self.entry) × (nesting x.1 ≡ nesting self.entry) × (segments_left x.1 + 1 ≡ segments_left self.entry)) }
+    {
+        if self.count == 0 {
+            return None;
+        }
+        match item_at(self.monitors, self.depth, self.bytes) {
+            Ok((item, bytes)) => {
+                let rest = SegBytes {
+                    monitors: self.monitors,
+                    depth: self.depth,
+                    count: self.count - 1,
+                    bytes,
+                };
+                Some((item, rest))
+            }
+            Err(_) => unreachable!(),
+        }
+    }
+}
+
+/// The segments of a view, from left to right.
+#[derive(Clone, Copy)]
+pub struct SegItems<'a> {
+    rest: SegBytes<'a>,
+}
+
+impl<'a> Iterator for SegItems<'a> {
+    ghost use Rattle.std.specs.Iterator.{YieldsFirstBy, item_count};
+    ghost use Rattle.rte_seg_bytes.specs.Items.{items_left};
+    ghost use Rattle.rte_seg_bytes.specs.Stands.{item_in};
+
+    type Item = SegItem<'a>;
+
+    ghost next_gives = { YieldsFirstBy item_in items_left };
+
+    ghost remaining = { item_count items_left };
+
+    fn next(&mut self) -> Option<SegItem<'a>> {
+        let (item, rest) = self.rest.split_first()?;
+        self.rest = rest;
+        Some(item)
+    }
+}
+
+impl<'a> SegBytes<'a> {
+    /// Its segments, from left to right.
+    pub fn items(&self) -> SegItems<'a>
+        ensures { items_left result ≡ segments_of (tree_in self.now) }
+    {
+        SegItems { rest: *self }
+    }
+}
+
+#[cfg(test)]
+mod tests {
+    use super::*;
+    use crate::reading::{DEEPEST, tree_at};
+    use std::test::Fail;
+
+    #[test]
+    fn a_loop_and_a_line(rt: HostRuntime) -> Result<(), Fail> {
+        let bytes = [
+            0, 0, 0, 2, 3, 0, 0, 0, 3, 0, 0, 0, 2, 1, 0, 0, 0, 2, 7, 1, 0, 0, 0, 1, 9,
+        ];
+        let (tree, rest) = tree_at(0, DEEPEST, &bytes)?;
+        assert_eq!(rt; rest.len(), 1);
+        let mut items = tree.items();
+        let Some(SegItem::Rep(3, turn)) = items.next() else {
+            return Err(Fail::from("no loop of three turns"));
+        };
+        assert!(rt; matches!(items.next(), Some(SegItem::Line(1))));
+        assert!(rt; items.next().is_none());
+        let mut items = turn.items();
+        assert!(rt; matches!(items.next(), Some(SegItem::Line(2))));
+        assert!(rt; matches!(items.next(), Some(SegItem::Exit)));
+        assert!(rt; items.next().is_none());
+        assert!(rt; tree_at(0, 1, &bytes).is_err());
+        Ok(())
+    }
+}
