@@ -8,12 +8,15 @@ use std::test::Fail;
 /// The bytes that the sink of a call takes.
 const ROOM: usize = 1_048_576;
 
-/// What a call came to: its status, the bytes and the pieces that it put, and what I and J hold.
+/// What a call came to: its status, the bytes and the pieces that it put, and what P, S, I and J
+/// hold.
 #[derive(Drop)]
 pub struct Outcome {
     pub status: u8,
     pub put: Vec<u8>,
     pub puts: u64,
+    pub program: Option<Vec<u8>>,
+    pub script: Option<Vec<u8>>,
     pub image: Option<Vec<u8>>,
     pub migrated: Option<Vec<u8>>,
 }
@@ -80,6 +83,23 @@ pub fn call_on_image(
     made_call(alloc, line, files, NO_FAILURES)
 }
 
+/// A call where P holds the program, S the script, and the file of this name the bytes, with failures.
+pub fn call_beside(
+    alloc: Global,
+    line: &str,
+    program: &str,
+    script: &str,
+    name: &str,
+    bytes: &[u8],
+    failures: Failures,
+) -> Result<Outcome, Fail> {
+    let mut files = failing(alloc, failures)?;
+    files.place("P", program.as_bytes())?;
+    files.place("S", script.as_bytes())?;
+    files.place(name, bytes)?;
+    made_call(alloc, line, files, failures)
+}
+
 fn failing(alloc: Global, failures: Failures) -> Result<MemFiles, Fail> {
     let reads = vec![in alloc; failures.read]?;
     let writes = vec![in alloc; failures.write]?;
@@ -107,7 +127,15 @@ fn made_call(
         status: status.code(),
         put: Vec::from_slice(alloc, out.bytes())?,
         puts: out.puts(),
+        program: held(alloc, &files, "P")?,
+        script: held(alloc, &files, "S")?,
         image: held(alloc, &files, "I")?,
         migrated: held(alloc, &files, "J")?,
     })
+}
+
+/// Lines that are parted by bars, each with its end.
+pub fn lines(alloc: Global, bars: &str) -> Result<String, Fail> {
+    let parted = bars.replace(alloc, "|", "\n")?;
+    Ok(format!(in alloc; "{parted}\n")?)
 }

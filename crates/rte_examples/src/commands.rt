@@ -1,13 +1,11 @@
 //! Worked calls of each command, and a call with each read, write and put failing in turn.
 
 use crate::call::{Failures, NO_FAILURES, Outcome, call, call_with};
+use crate::known::VALVE;
 use std::alloc::Global;
 use std::test::Fail;
 
-const VALVE: &str =
-    "program a device valve : out process p : periodic frame 15 begin put valve 7 end p end a";
-
-/// The same with a comment and other blanks, and numbers with leading zeros.
+/// The valve with a comment and other blanks, and numbers with leading zeros.
 const COMMENTED: &str =
     "program a %x\n device valve:out\tprocess p : periodic\r\nframe 0000000000000015 begin put valve 007 end p end a%y";
 

@@ -1,54 +1,9 @@
 //! Stored images, run and migrated.
 
 use crate::call::{Outcome, call, call_on_image};
+use crate::known::{IDLE_FIRST, IDLE_SECOND, VALVE, with_byte};
 use std::alloc::Global;
 use std::test::Fail;
-
-const VALVE: &str =
-    "program a device valve : out process p : periodic frame 15 begin put valve 7 end p end a";
-
-/// The image of an idle program in the first version of images, in hexadecimal, and in the second.
-const FIRST: &str =
-    "52544555 0001 0001 0000 0000 0000 0000 0000 00000001 0161 0170 00 0000000a 00000000 0000 0001 00000004 00000000 00000000 00000000 00000004 00000000 00000000 00000000 00000000 00000000 0000 00000000 30 00000000 00000000 00000000";
-
-const SECOND: &str =
-    "52544555 0002 0000 0001 0000 0000 0000 0000 0000 00000001 0161 0170 00 0000000a 0000000a 00000000 0000 0001 00000004 00000000 00000000 00000000 00000004 00000000 00000000 00000000 00000000 00000000 0000 00000000 30 00000000 00000000 00000000";
-
-/// What a hexadecimal digit is worth.
-fn worth(digit: u8) -> u8 {
-    match digit {
-        b'0'..=b'9' => digit.wrapping_sub(b'0'),
-        _ => digit.wrapping_sub(b'a').wrapping_add(10),
-    }
-}
-
-/// The bytes that are written in hexadecimal, with spaces between.
-fn bytes_of(alloc: Global, digits: &str) -> Result<Vec<u8>, Fail> {
-    let mut bytes = Vec::new(alloc);
-    let mut first = None;
-    for digit in digits.as_bytes() {
-        if *digit == b' ' {
-            continue;
-        }
-        match first {
-            None => first = Some(worth(*digit)),
-            Some(high) => {
-                bytes.push(u8::wrapping_mul(high, 16).wrapping_add(worth(*digit)))?;
-                first = None;
-            }
-        }
-    }
-    Ok(bytes)
-}
-
-/// The same bytes but for one.
-fn with_byte(alloc: Global, bytes: &[u8], place: usize, byte: u8) -> Result<Vec<u8>, Fail> {
-    let mut changed = Vec::new(alloc);
-    for (at, old) in bytes.iter().enumerate() {
-        changed.push(if at == place { byte } else { *old })?;
-    }
-    Ok(changed)
-}
 
 /// The image of a program text with an overhead.
 fn image_of(alloc: Global, line: &str, program: &str) -> Result<Vec<u8>, Fail> {
@@ -117,8 +72,8 @@ fn an_overhead_is_part_of_the_image(rt: HostRuntime) -> Result<(), Fail> {
 #[test]
 fn migrates_the_first_version(rt: HostRuntime) -> Result<(), Fail> {
     let alloc = rt.alloc();
-    let first = bytes_of(alloc, FIRST)?;
-    let second = bytes_of(alloc, SECOND)?;
+    let first = hex::decode(alloc, IDLE_FIRST)?;
+    let second = hex::decode(alloc, IDLE_SECOND)?;
     assert_eq!(rt; first.len(), 98);
     let Outcome {
         status,
@@ -135,7 +90,7 @@ fn migrates_the_first_version(rt: HostRuntime) -> Result<(), Fail> {
 #[test]
 fn runs_the_first_version(rt: HostRuntime) -> Result<(), Fail> {
     let alloc = rt.alloc();
-    let first = bytes_of(alloc, FIRST)?;
+    let first = hex::decode(alloc, IDLE_FIRST)?;
     let Outcome { status, put, .. } = call_on_image(
         alloc,
         "run I S",
@@ -144,7 +99,7 @@ fn runs_the_first_version(rt: HostRuntime) -> Result<(), Fail> {
     )?;
     assert_eq!(rt; status, 0);
     assert!(rt; put.as_slice() == b"0 p release\n3 p end\n".as_slice());
-    let second = bytes_of(alloc, SECOND)?;
+    let second = hex::decode(alloc, IDLE_SECOND)?;
     let late = with_byte(alloc, second.as_slice(), 36, 11)?;
     let wrong = call_on_image(alloc, "run I S", late.as_slice(), "end 10\n")?;
     assert_eq!(rt; wrong.status, 4);

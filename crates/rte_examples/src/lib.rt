@@ -6,7 +6,15 @@ mod call;
 #[cfg(test)]
 mod commands;
 #[cfg(test)]
+mod devices;
+#[cfg(test)]
+mod hostile;
+#[cfg(test)]
 mod images;
+#[cfg(test)]
+mod known;
+#[cfg(test)]
+mod limits;
 #[cfg(test)]
 mod runs;
 #[cfg(test)]

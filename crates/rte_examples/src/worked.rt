@@ -1,6 +1,6 @@
 //! Worked programs through the whole command: reports, logs and bounds that were found by hand.
 
-use crate::call::{Outcome, call};
+use crate::call::{Outcome, call, lines};
 use std::alloc::Global;
 use std::test::Fail;
 
@@ -251,13 +251,6 @@ const MINE_REPORT: &str =
 
 const MINE_LOG: &str =
     "0 gasWatch release|0 airWatch release|0 shower release|0 tally release|0 selfTest release|9 gasWatch get methane 40|30 gasWatch enter motor|43 gasWatch leave motor|63 gasWatch enter box|76 gasWatch broadcast box fresh 0|79 gasWatch leave box|87 gasWatch end";
-
-/// Lines that are parted by bars, each with its end.
-fn lines(alloc: Global, bars: &str) -> Result<String, Fail> {
-    let parted = bars.replace(alloc, "|", "\n")?;
-    let text = parted.as_str();
-    Ok(format!(in alloc; "{text}\n")?)
-}
 
 /// What is put behind the report of a timely program.
 fn behind_report(put: &str) -> &str {
