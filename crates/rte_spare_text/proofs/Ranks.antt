@@ -1,9 +1,14 @@
 -- Each rank of a valid image has a bound.
-use Rattle.std.proofs.Common.{◌≡◌, ◌≤◌, ◌<◌, ◌+◌, ◌-◌, ◌∙◌, ℕ, suc, List, length, Option, Some, None, refl, sym, ap, subst, arith}
+use Rattle.std.proofs.Common.{◌≡◌, ◌≤◌, ◌<◌, ◌+◌, ◌-◌, ◌∙◌, ℕ, suc, List, length, Option, Some, None, get_or, refl, sym, ap, subst, arith}
 use Rattle.std.specs.Prelude.{slice_get}
 use Rattle.std.proofs.lemmas.List.{get_or-set_same}
 use Rattle.std.proofs.lemmas.List.Elements.{All-get_or}
+use Rattle.std.proofs.lemmas.Option.{slice_get-get_or}
 use Rattle.rte_machine_meaning.specs.Image.{Image, Process}
+use Rattle.rte_image.specs.Raw.{image_of, process_of}
+use Rattle.rte_image.specs.declared.raw.RawImage.{RawImage}
+use Rattle.rte_image.specs.declared.raw.RawProc.{RawProc}
+use Rattle.rte_filled.proofs.Lists.{became}
 use Rattle.rte_response.specs.declared.tasks.Task.{Task}
 use Rattle.rte_response.specs.Demand.{task_at, deadline_at, AreTasks, IsTask, Solves}
 use Rattle.rte_slack.specs.Slack.{with_more, IsTimely}
@@ -75,3 +80,32 @@ more_within ts level extra below sound timely =
 
 pub levels_more : (ps : List Process) (ts : List Task) (level extra : ℕ) → HaveLevels ps ts → HaveLevels ps (with_more ts level extra)
 levels_more ps ts level extra levels k p at = omega (arith, levels k p at, length_more ts level extra)
+
+-- ---- the process of a number
+
+pub process_there : (image : RawImage) (ps : List RawProc) (k : ℕ) (p : RawProc) → ps ≡ image.processes → k < length ps → p ≡ get_or ps k p → slice_get (image_of image).processes k ≡ Some (process_of p)
+process_there image ps k p same low at =
+    let there : k < length image.processes = omega (arith, low, ap (λ (xs : List RawProc). length xs) same) in
+    became process_of image.processes k p (slice_get-get_or image.processes k p there ∙ ap (λ (x : RawProc). Some x) (sym (at ∙ ap (λ (xs : List RawProc). get_or xs k p) same)))
+
+-- ---- what is asked of the set, once it is as before
+
+module _ (m : Image) (old now : List Task) (kept : now ≡ old) (tasks : AreTimelyTasks m old) (level : ℕ) (below : level < length old) where
+  pub level_kept : level < length now
+  level_kept = omega (arith, below, ap (λ (us : List Task). length us) kept)
+
+  pub room_kept : (extra : ℕ) → IsTimely (with_more old level extra) → (task_at now level).run + extra ≤ 1000000001
+  room_kept extra fits = subst (λ (us : List Task). (task_at us level).run + extra ≤ 1000000001) (sym kept) (more_within old level extra below tasks.sound fits)
+
+pub timely_kept : (old now : List Task) → now ≡ old → (level extra : ℕ) → IsTimely (with_more old level extra) → IsTimely (with_more now level extra)
+timely_kept old now kept level extra fits = subst (λ (us : List Task). IsTimely (with_more us level extra)) (sym kept) fits
+
+pub levels_kept : (m : Image) (old now : List Task) → now ≡ old → AreTimelyTasks m old → (ps : List Process) → ps ≡ m.processes → HaveLevels ps now
+levels_kept m old now kept tasks ps same = subst (λ (us : List Task). HaveLevels ps us) (sym kept) (subst (λ (qs : List Process). HaveLevels qs old) (sym same) tasks.levels)
+
+pub level_there : (image : RawImage) (ts : List Task) (ps : List RawProc) (k level : ℕ) (p : RawProc) → AreTimelyTasks (image_of image) ts → ps ≡ image.processes → k < length image.processes → p ≡ get_or ps k p
+    → level ≡ p.rank - 1 → level < length ts
+level_there image ts ps k level p tasks same low at rank =
+    let here = process_there image ps k p same (omega (arith, low, ap (λ (xs : List RawProc). length xs) same)) at in
+    let there : p.rank - 1 < length ts = tasks.levels k (process_of p) here in
+    omega (arith, there, rank)
