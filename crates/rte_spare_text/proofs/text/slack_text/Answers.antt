@@ -1,7 +1,9 @@
-use Rattle.std.proofs.Common.{◌≡◌, ◌<◌, ◌∙◌, ℕ, length, ap, sym, arith}
+use Rattle.std.proofs.Common.{◌≡◌, ◌∙◌, List, length, subst, sym, arith}
 use Rattle.std.proofs.lemmas.List.{length-map}
 use Rattle.rte_image.specs.Raw.{image_of, named_of, process_of}
+use Rattle.rte_response.specs.declared.tasks.Task.{Task}
 use Rattle.rte_valid.specs.Valid.{Ranks}
+use Rattle.rte_spare_text.specs.Levels.{AreTimelyTasks}
 use Rattle.rte_spare_text.proofs.Growing.{all_lines, no_lines, one_line}
 use Rattle.rte_spare_text.proofs.Ranks.{timely_tasks}
 use Rattle.rte_spare_text.proofs.text.slack_text.Goals as goal
@@ -16,7 +18,10 @@ loop-number-init c = record {
 }
 
 pub loop-number-preserved : goal.loop-number-preserved
-loop-number-preserved c = ?
+loop-number-preserved c = record {
+  tasks = subst (λ (us : List Task). AreTimelyTasks (image_of c.args.image.now) us) (sym c.in_ok-add_process.ensures.kept) c.loop-number.invariant.tasks;
+  told = one_line (named_of c.args.image.now) c.loop-number.number c.loop-number.text c.add_process.new.text c.in_ok-add_process.ensures.line c.loop-number.invariant.told;
+}
 
 pub returns : goal.returns
 returns c =
