@@ -1,5 +1,5 @@
 -- Each rank of a valid image has a bound.
-use Rattle.std.proofs.Common.{◌≡◌, ◌≤◌, ◌<◌, ◌+◌, ◌-◌, ◌∙◌, ℕ, suc, List, length, Option, Some, None, get_or, refl, sym, ap, subst, arith}
+use Rattle.std.proofs.Common.{◌≡◌, ◌≤◌, ◌<◌, ◌+◌, ◌-◌, ◌∙◌, ℕ, suc, List, length, Option, Some, None, get_or, map, refl, sym, ap, subst, arith}
 use Rattle.std.specs.Prelude.{slice_get}
 use Rattle.std.proofs.lemmas.List.{get_or-set_same}
 use Rattle.std.proofs.lemmas.List.Elements.{All-get_or}
@@ -82,6 +82,14 @@ pub levels_more : (ps : List Process) (ts : List Task) (level extra : ℕ) → H
 levels_more ps ts level extra levels k p at = omega (arith, levels k p at, length_more ts level extra)
 
 -- ---- the process of a number
+
+pub became_at : (ps : List RawProc) (k : ℕ) (p : RawProc) → k < length ps → p ≡ get_or ps k p → slice_get (map process_of ps) k ≡ Some (process_of p)
+became_at ps k p low at = became process_of ps k p (slice_get-get_or ps k p low ∙ ap (λ (x : RawProc). Some x) (sym at))
+
+pub level_at : (ps : List RawProc) (ts : List Task) (k level : ℕ) (p : RawProc) → HaveLevels (map process_of ps) ts → k < length ps → p ≡ get_or ps k p → level ≡ p.rank - 1 → level < length ts
+level_at ps ts k level p levels low at rank =
+    let there : p.rank - 1 < length ts = levels k (process_of p) (became_at ps k p low at) in
+    omega (arith, there, rank)
 
 pub process_there : (image : RawImage) (ps : List RawProc) (k : ℕ) (p : RawProc) → ps ≡ image.processes → k < length ps → p ≡ get_or ps k p → slice_get (image_of image).processes k ≡ Some (process_of p)
 process_there image ps k p same low at =

@@ -57,8 +57,8 @@ fn least_bounds(
     ensures { IfOk result (AreLeastBounds (map process_of processes.now) set.now) }
 {
     let mut all = List::new(alloc);
-    for process in processes {
-        let bound = least_bound(set, level_of(process));
+    for number in 0..processes.len() {
+        let bound = least_bound(set, level_of(&processes[number]));
         all.push(bound)?;
     }
     Ok(all)

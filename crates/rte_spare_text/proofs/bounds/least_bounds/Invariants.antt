@@ -3,5 +3,5 @@ use Rattle.rte_image.specs.Raw.{process_of}
 use Rattle.rte_spare_text.proofs.Growing.{LeastSoFar}
 use Rattle.rte_spare_text.proofs.bounds.least_bounds.Given as goal
 
-abbrev pub invariant-loop-process : goal.invariant-loop-process
-invariant-loop-process l = LeastSoFar (map process_of l.processes) l.set l.process-index l.all
+abbrev pub invariant-loop-number : goal.invariant-loop-number
+invariant-loop-number l = LeastSoFar (map process_of l.processes) l.set l.number l.all
