@@ -4,9 +4,10 @@ use Rattle.rte_image.specs.Named.{NamedImage}
 use Rattle.rte_image.specs.declared.raw.RawImage.{RawImage}
 use Rattle.rte_report.specs.Report.{report_text}
 use Rattle.rte_report.specs.Json.{report_json}
-use Rattle.rte_words.specs.Calls.{Call, go, check, compile, json, print, run, migrate}
+use Rattle.rte_words.specs.Calls.{Call, go, check, compile, json, slack, print, run, migrate}
 use Rattle.rte_commands.specs.Source.{IsTimelyText}
 use Rattle.rte_commands.specs.Due.{Outcome, IsReportDue, IsPrintDue, IsCompileDue, IsGoDue, IsImageFile, IsRunDue, IsMigrateDue}
+use Rattle.rte_spare.specs.Due.{IsSlackDue}
 
 -- what each name holds, if anything
 abbrev pub Held : Type 0
@@ -20,6 +21,7 @@ source_of (go program image script over) = program
 source_of (check program over) = program
 source_of (compile program image over) = program
 source_of (json program over) = program
+source_of (slack program over) = program
 source_of (print program) = program
 source_of (run image script) = image
 source_of (migrate image target) = image
@@ -44,6 +46,7 @@ IsDue (go program image script over) held outcome = IsGoDue over (held program) 
 IsDue (check program over) held outcome = IsSomeAnd (held program) (λ text. IsReportDue report_text over text outcome)
 IsDue (compile program image over) held outcome = IsSomeAnd (held program) (λ text. IsCompileDue over text outcome)
 IsDue (json program over) held outcome = IsSomeAnd (held program) (λ text. IsReportDue report_json over text outcome)
+IsDue (slack program over) held outcome = IsSomeAnd (held program) (λ text. IsSlackDue over text outcome)
 IsDue (print program) held outcome = IsSomeAnd (held program) (λ text. IsPrintDue text outcome)
 IsDue (run image script) held outcome = IsRunDue (held image) (held script) outcome
 IsDue (migrate image target) held outcome = IsSomeAnd (held image) (λ bytes. IsMigrateDue bytes outcome)

@@ -24,14 +24,15 @@ use Rattle.rte_lifted.specs.Compiled.{line_of as machine_line}
 use Rattle.rte_report.specs.Report.{report_text}
 use Rattle.rte_report.specs.Json.{report_json}
 use Rattle.rte_built.specs.Built.{IsBuilt, IsTimely}
-use Rattle.rte_words.specs.Calls.{Call, go, check, compile, json, print, run, migrate}
+use Rattle.rte_words.specs.Calls.{Call, go, check, compile, json, slack, print, run, migrate}
 use Rattle.rte_commands.specs.Source.{IsWritten, IsTimelyText, Style, report_of}
 use Rattle.rte_commands.specs.Script.{line_said, run_of}
 use Rattle.rte_commands.specs.Due.{Outcome, stored, log, IsRefused, faulty, late, IsReportDue, report_refused, report_timely, IsPrintDue, print_faulty, printed, IsCompileDue, compile_refused, compiled, IsGoDue, go_refused, go_bad_script, went, IsImageFile, IsImageRefused, misread, invalid, IsRunDue, run_refused, run_bad_script, ran, IsMigrateDue, migrate_refused, migrated}
+use Rattle.rte_spare.specs.Due.{IsSlackDue, slack_refused, slack_told}
 use Rattle.rte_commands.specs.Runs.{KeepsItsWord, BuiltImagesAreFaithful, IsAccepted}
 use Rattle.rte_answers.specs.Files.{IsDue, target_of}
 use Rattle.rte_answers.specs.Went.{IsWhole, Stores, Went}
-use Rattle.rte_promise.specs.Promise.{HasGone, HasCompiled, HasReported, ReadsBack, HasPrinted, HasRun, HasMigrated, HasDone}
+use Rattle.rte_promise.specs.Promise.{HasGone, HasCompiled, HasReported, HasSpared, ReadsBack, HasPrinted, HasRun, HasMigrated, HasDone}
 
 status_of : (o p : Outcome) → o ≡ p → o.status ≡ p.status
 status_of o p same = ap (λ (x : Outcome). x.status) same
@@ -117,6 +118,17 @@ module _ (laws : Printing) (faithful : BuiltImagesAreFaithful) (before now : Out
     put = put_is before now o (report_of show n) (text_of o _ same) put;
   }
 
+  spared : (over : ℕ) (program : List ℕ) (text : List ℕ) → before.files.held program ≡ Some text → IsSlackDue over text o → HasSpared over program before now
+  spared over program text is (slack_refused r) = absurd (refused_zero report_text over text o r zero)
+  spared over program text is (slack_told n lines t told_is same) = record {
+    tree = t.tree;
+    built = n;
+    accepted = accepted faithful over (before.files.held program) text n is t;
+    lines = lines;
+    told = told_is;
+    put = put_is before now o lines (text_of o _ same) put;
+  }
+
   compiled_whole : (over : ℕ) (program image : List ℕ) (text : List ℕ) → before.files.held program ≡ Some text → Stores o.image (Some image) before.files.held now.files.held
       → IsCompileDue over text o → HasCompiled over program image before now
   compiled_whole over program image text is kept (compile_refused r) = absurd (refused_zero report_text over text o r zero)
@@ -193,6 +205,8 @@ module _ (laws : Printing) (faithful : BuiltImagesAreFaithful) (limits : ImagesR
       of_held (IsCompileDue over) (HasCompiled over program image before now) (before.files.held program) o (λ text is d. compiled_whole laws faithful before now o zero put over program image text is kept d) due
   done (json program over) due kept =
       of_held (IsReportDue report_json over) (HasReported report_json over program before now) (before.files.held program) o (λ text is d. reported laws faithful before now o zero put report_json over program text is d) due
+  done (slack program over) due kept =
+      of_held (IsSlackDue over) (HasSpared over program before now) (before.files.held program) o (λ text is d. spared laws faithful before now o zero put over program text is d) due
   done (print program) due kept =
       of_held IsPrintDue (HasPrinted program before now) (before.files.held program) o (λ text is d. printed_whole laws faithful before now o zero put program text is d) due
   done (run image script) due kept = run_whole laws faithful before now o zero put limits safe suit image script due

@@ -10,9 +10,10 @@ use Rattle.rte_report.specs.Report.{report_text}
 use Rattle.rte_report.specs.Json.{report_json}
 use Rattle.rte_built.specs.Built.{IsBuilt}
 use Rattle.rte_built_once.specs.Once.{TimelyOrLate}
-use Rattle.rte_words.specs.Calls.{Call, go, check, compile, json, print, run, migrate}
+use Rattle.rte_words.specs.Calls.{Call, go, check, compile, json, slack, print, run, migrate}
 use Rattle.rte_commands.specs.Source.{IsWritten, IsTextFault, IsTimelyText, Style}
 use Rattle.rte_commands.specs.Due.{Outcome, IsRefused, faulty, late, IsReportDue, report_refused, report_timely, IsPrintDue, print_faulty, printed, IsCompileDue, compile_refused, compiled, IsGoDue, go_refused, go_bad_script, went, IsImageRefused, misread, invalid, IsRunDue, run_refused, run_bad_script, ran, IsMigrateDue, migrate_refused, migrated}
+use Rattle.rte_spare.specs.Due.{IsSlackDue, slack_refused, slack_told}
 use Rattle.rte_commands.specs.Runs.{IsUnsolved}
 use Rattle.rte_due_once.specs.Once.{WrittenOrFaulty, WrittenOnce}
 use Rattle.rte_answers.specs.Files.{IsDue}
@@ -31,6 +32,10 @@ refused_late show over text o (late report l same) three = record { text = text;
 report_late : (show : Style) (over : ℕ) (text : List ℕ) (o : Outcome) → IsReportDue show over text o → o.status ≡ 3 → IsUnsolved over (Some text)
 report_late show over text o (report_refused r) three = refused_late show over text o r three
 report_late show over text o (report_timely n t same) three = absurd (let zero = status_of o _ same in omega (arith, zero, three))
+
+slack_late : (over : ℕ) (text : List ℕ) (o : Outcome) → IsSlackDue over text o → o.status ≡ 3 → IsUnsolved over (Some text)
+slack_late over text o (slack_refused r) three = refused_late report_text over text o r three
+slack_late over text o (slack_told n lines t told_is same) three = absurd (let zero = status_of o _ same in omega (arith, zero, three))
 
 compile_late : (over : ℕ) (text : List ℕ) (o : Outcome) → IsCompileDue over text o → o.status ≡ 3 → IsUnsolved over (Some text)
 compile_late over text o (compile_refused r) three = refused_late report_text over text o r three
@@ -73,6 +78,7 @@ due_late (go program image script over) b o due three = go_late over (b.files.he
 due_late (check program over) b o due three = held_late over (IsReportDue report_text over) (b.files.held program) o (λ text d. report_late report_text over text o d three) due
 due_late (compile program image over) b o due three = held_late over (IsCompileDue over) (b.files.held program) o (λ text d. compile_late over text o d three) due
 due_late (json program over) b o due three = held_late over (IsReportDue report_json over) (b.files.held program) o (λ text d. report_late report_json over text o d three) due
+due_late (slack program over) b o due three = held_late over (IsSlackDue over) (b.files.held program) o (λ text d. slack_late over text o d three) due
 due_late (print program) b o due three = held_never IsPrintDue (b.files.held program) o (λ text d. print_late text o d three) due
 due_late (run image script) b o due three = run_late (b.files.held image) (b.files.held script) o due three
 due_late (migrate image target) b o due three = held_never IsMigrateDue (b.files.held image) o (λ bytes d. migrate_late bytes o d three) due
@@ -100,6 +106,10 @@ module _ (faults : WrittenOrFaulty) (one : WrittenOnce) (apart : TimelyOrLate) (
     report_three show o (report_refused r) = refused_three show o r
     report_three show o (report_timely n t same) = absurd (not_timely n t)
 
+    slack_three : (o : Outcome) → IsSlackDue over text o → o.status ≡ 3
+    slack_three o (slack_refused r) = refused_three report_text o r
+    slack_three o (slack_told n lines t told_is same) = absurd (not_timely n t)
+
     compile_three : (o : Outcome) → IsCompileDue over text o → o.status ≡ 3
     compile_three o (compile_refused r) = refused_three report_text o r
     compile_three o (compiled n t same) = absurd (not_timely n t)
@@ -120,6 +130,7 @@ module _ (faults : WrittenOrFaulty) (one : WrittenOnce) (apart : TimelyOrLate) w
   due_three (check program over) b o u due = held_three faults one apart over (IsReportDue report_text over) (b.files.held program) o (λ text v d. report_three faults one apart over text v report_text o d) u due
   due_three (compile program image over) b o u due = held_three faults one apart over (IsCompileDue over) (b.files.held program) o (λ text v d. compile_three faults one apart over text v o d) u due
   due_three (json program over) b o u due = held_three faults one apart over (IsReportDue report_json over) (b.files.held program) o (λ text v d. report_three faults one apart over text v report_json o d) u due
+  due_three (slack program over) b o u due = held_three faults one apart over (IsSlackDue over) (b.files.held program) o (λ text v d. slack_three faults one apart over text v o d) u due
   due_three (print program) b o u due = absurd u
   due_three (run image script) b o u due = absurd u
   due_three (migrate image target) b o u due = absurd u

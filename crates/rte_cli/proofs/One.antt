@@ -6,15 +6,17 @@ use Rattle.std.proofs.lemmas.Bool.{cases_lt, cases_eq}
 use Rattle.rte_io.specs.Outside.{Outside, AllStay}
 use Rattle.rte_report.specs.Report.{report_text}
 use Rattle.rte_report.specs.Json.{report_json}
-use Rattle.rte_words.specs.Calls.{Call, go, check, compile, json, print, run, migrate}
+use Rattle.rte_words.specs.Calls.{Call, go, check, compile, json, slack, print, run, migrate}
 use Rattle.rte_commands.specs.Due.{Outcome, IsReportDue, IsPrintDue, IsCompileDue, IsMigrateDue}
-use Rattle.rte_due_once.specs.Once.{ReportsAreOne, PrintIsOne, CompileIsOne, GoIsOne, RunIsOne, MigrateIsOne}
+use Rattle.rte_spare.specs.Due.{IsSlackDue}
+use Rattle.rte_due_once.specs.Once.{ReportsAreOne, SlackIsOne, PrintIsOne, CompileIsOne, GoIsOne, RunIsOne, MigrateIsOne}
 use Rattle.rte_answers.specs.Files.{Held, IsDue, target_of}
 use Rattle.rte_answers.specs.Went.{Stores, IsWhole, IsCut, Went}
 
 -- the laws of the commands
 pub record Laws : Type 0 where
   pub reports : ReportsAreOne
+  pub slack : SlackIsOne
   pub print : PrintIsOne
   pub compile : CompileIsOne
   pub go : GoIsOne
@@ -31,6 +33,7 @@ due_is_one laws (go program image script over) held o p d e = laws.go over (held
 due_is_one laws (check program over) held o p d e = of_held (IsReportDue report_text over) (held program) o p (λ text. laws.reports report_text over text o p) d e
 due_is_one laws (compile program image over) held o p d e = of_held (IsCompileDue over) (held program) o p (λ text. laws.compile over text o p) d e
 due_is_one laws (json program over) held o p d e = of_held (IsReportDue report_json over) (held program) o p (λ text. laws.reports report_json over text o p) d e
+due_is_one laws (slack program over) held o p d e = of_held (IsSlackDue over) (held program) o p (λ text. laws.slack over text o p) d e
 due_is_one laws (print program) held o p d e = of_held IsPrintDue (held program) o p (λ text. laws.print text o p) d e
 due_is_one laws (run image script) held o p d e = laws.run (held image) (held script) o p d e
 due_is_one laws (migrate image target) held o p d e = of_held IsMigrateDue (held image) o p (λ bytes. laws.migrate bytes o p) d e

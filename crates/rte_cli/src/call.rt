@@ -16,7 +16,7 @@ use rte_answers::Status;
 use rte_built_once::law::timely_or_late;
 use rte_due_once::law::{
     compile_is_one, go_is_one, migrate_is_one, print_is_one, reports_are_one, run_is_one,
-    written_once, written_or_faulty,
+    slack_is_one, written_once, written_or_faulty,
 };
 use rte_io::{Files, Sink};
 use rte_prepare::built_images_are_faithful;
@@ -31,7 +31,8 @@ use std::alloc::Global;
 /// - `go P I S [K]` stores the image of the program text in file P in file I, and puts the report on it and the log of its run
 ///   over the script in file S; K is the overhead, the ticks of one dispatch, from 0 to 1000, and 0 where it is left out;
 /// - `compile P I [K]` stores the image, and puts the report;
-/// - `check P [K]` puts the report, `json P [K]` the same as JSON, `print P` the canonical text of the program;
+/// - `check P [K]` puts the report, `json P [K]` the same as JSON, `slack P [K]` how many ticks each process can spare,
+///   `print P` the canonical text of the program;
 /// - `run I S` puts the log of the image in file I over the script in file S, and `migrate I J` stores the image in the
 ///   present version in file J.
 ///
@@ -80,6 +81,7 @@ pub fn rte<F: Files, O: Sink>(alloc: Global, words: &[String], files: &mut F, ou
     images_read_are_in_their_ranges();
     scripts_suit();
     reports_are_one();
+    slack_is_one();
     print_is_one();
     compile_is_one();
     go_is_one();

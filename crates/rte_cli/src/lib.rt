@@ -1,4 +1,4 @@
-//! The command: `go`, `check`, `compile`, `json`, `print`, `run` and `migrate`, from their words to their status.
+//! The command: `go`, `check`, `compile`, `json`, `slack`, `print`, `run` and `migrate`, from their words to their status.
 //!
 //! `rte_answers` says what is due of a call by what its files hold (`IsDue`), and what each status says of the call (`Went`);
 //! `rte_promise` what statuses 0 and 3 say of texts, images and scripts. The promise of `rte` is that every call went so,

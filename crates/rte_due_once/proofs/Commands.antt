@@ -12,7 +12,9 @@ use Rattle.rte_script.specs.Laws.{IsOneScript}
 use Rattle.rte_script_laws.specs.OneAnswer.{NoScriptIsFaulty, FaultsAreOne}
 use Rattle.rte_commands.specs.Source.{report_of, Style, IsTimelyText}
 use Rattle.rte_commands.specs.Due.{Outcome, told, stored, log, done, IsRefused, IsReportDue, report_refused, report_timely, IsPrintDue, print_faulty, printed, IsCompileDue, compile_refused, compiled, IsGoDue, go_refused, go_bad_script, went, IsImageFile, IsImageRefused, IsRunDue, run_refused, run_bad_script, ran, IsMigrateDue, migrate_refused, migrated}
-use Rattle.rte_due_once.specs.Once.{WrittenOnce, WrittenOrFaulty, TextsHaveOneFault, TimelyTextsHaveOneImage, RefusalsAreOne, TimelyTextsAreNotRefused, ImagesHeldAreOne, ImageFilesAreNotRefused, ImageRefusalsAreOne, ReportsAreOne, PrintIsOne, CompileIsOne, GoIsOne, RunIsOne, MigrateIsOne}
+use Rattle.rte_spare.specs.Due.{IsSlackDue, slack_refused, slack_told}
+use Rattle.rte_spare.specs.Lines.{IsSlackText}
+use Rattle.rte_due_once.specs.Once.{WrittenOnce, WrittenOrFaulty, TextsHaveOneFault, TimelyTextsHaveOneImage, RefusalsAreOne, TimelyTextsAreNotRefused, ImagesHeldAreOne, ImageFilesAreNotRefused, ImageRefusalsAreOne, ReportsAreOne, SlackTextsAreOne, SlackIsOne, PrintIsOne, CompileIsOne, GoIsOne, RunIsOne, MigrateIsOne}
 use Rattle.rte_due_once.proofs.Texts.{same_line}
 use Rattle.rte_due_once.proofs.Scripts.{text_once, Played, faulty_script, played, played_once}
 
@@ -27,6 +29,10 @@ ReportComes show n o = o ≡ told 0 (report_of show n)
 -- a report is put and the image is stored
 abbrev ImageComes : NamedImage → Outcome → Type 0
 ImageComes n o = o ≡ record { status = 0; text = report_of report_text n; image = Some (stored n) }
+
+-- what the processes can spare is put
+abbrev SlackComes : NamedImage → Outcome → Type 0
+SlackComes n o = (lines : List ℕ) × IsSlackText n lines × (o ≡ told 0 lines)
 
 -- nothing is put and the image is stored
 abbrev BytesCome : NamedImage → Outcome → Type 0
@@ -63,6 +69,14 @@ module _ (refusals : RefusalsAreOne) (apart : TimelyTextsAreNotRefused) (images 
       tried : (o : Outcome) → IsReportDue show over text o → Tried show over text (ReportComes show) o
       tried o (report_refused is) = refused is
       tried o (report_timely n is was) = timely n is was
+
+  pub slack_is_one : SlackTextsAreOne → SlackIsOne
+  slack_is_one texts over text outcome other first second =
+      tried_once report_text over text SlackComes (λ n o p one two. one.2 ∙ (ap (told 0) (texts n one.0 two.0 one.1 two.1) ∙ sym two.2)) outcome other (tried outcome first) (tried other second)
+    where
+      tried : (o : Outcome) → IsSlackDue over text o → Tried report_text over text SlackComes o
+      tried o (slack_refused is) = refused is
+      tried o (slack_told n lines is told_is was) = timely n is (lines, told_is, was)
 
   pub compile_is_one : CompileIsOne
   compile_is_one over text outcome other first second =

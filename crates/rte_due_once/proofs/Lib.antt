@@ -3,3 +3,4 @@ mod Texts
 mod Images
 mod Scripts
 mod Commands
+mod Spares

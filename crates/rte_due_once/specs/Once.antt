@@ -7,6 +7,8 @@ use Rattle.rte_image.specs.Raw.{named_of}
 use Rattle.rte_image.specs.declared.raw.RawImage.{RawImage}
 use Rattle.rte_commands.specs.Source.{IsWritten, IsTextFault, Style, IsTimelyText, IsLateText}
 use Rattle.rte_commands.specs.Due.{Outcome, IsRefused, IsReportDue, IsPrintDue, IsCompileDue, IsGoDue, IsImageFile, IsImageRefused, IsRunDue, IsMigrateDue}
+use Rattle.rte_spare.specs.Due.{IsSlackDue}
+use Rattle.rte_spare.specs.Lines.{IsSlackText}
 
 -- ---- a program text
 
@@ -65,6 +67,14 @@ ImageRefusalsAreOne = (bytes : List ℕ) (outcome other : Outcome) → IsImageRe
 -- The law: what is due of `check` and of `json` is one.
 abbrev pub ReportsAreOne : Type 0
 ReportsAreOne = (show : Style) (over : ℕ) (text : List ℕ) (outcome other : Outcome) → IsReportDue show over text outcome → IsReportDue show over text other → outcome ≡ other
+
+-- The law: what the processes of an image can spare is told by one text.
+abbrev pub SlackTextsAreOne : Type 0
+SlackTextsAreOne = (n : NamedImage) (lines other : List ℕ) → IsSlackText n lines → IsSlackText n other → lines ≡ other
+
+-- The law: what is due of `slack` is one.
+abbrev pub SlackIsOne : Type 0
+SlackIsOne = (over : ℕ) (text : List ℕ) (outcome other : Outcome) → IsSlackDue over text outcome → IsSlackDue over text other → outcome ≡ other
 
 -- The law: what is due of `print` is one.
 abbrev pub PrintIsOne : Type 0

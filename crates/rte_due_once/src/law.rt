@@ -12,6 +12,8 @@ ghost use Rattle.rte_due_once.specs.Once.{
   RefusalsAreOne,
   ReportsAreOne,
   RunIsOne,
+  SlackIsOne,
+  SlackTextsAreOne,
   TextsHaveOneFault,
   TimelyTextsAreNotLate,
   TimelyTextsAreNotRefused,
@@ -116,6 +118,21 @@ pub fn reports_are_one()
     refusals_are_one();
     timely_texts_are_not_refused();
     timely_texts_have_one_image();
+}
+
+/// What the processes of an image can spare is told by one text.
+pub fn slack_texts_are_one()
+    ensures { SlackTextsAreOne }
+{}
+
+/// What is due of `slack` is one.
+pub fn slack_is_one()
+    ensures { SlackIsOne }
+{
+    refusals_are_one();
+    timely_texts_are_not_refused();
+    timely_texts_have_one_image();
+    slack_texts_are_one();
 }
 
 /// What is due of `print` is one.

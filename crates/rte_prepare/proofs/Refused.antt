@@ -28,6 +28,8 @@ use Rattle.rte_compile.specs.Built.{Late}
 use Rattle.rte_commands.specs.Source.{Style, IsWritten, IsTextFault, fault_line}
 use Rattle.rte_commands.specs.Script.{script_fault_line}
 use Rattle.rte_commands.specs.Due.{Outcome, told, IsRefused, faulty, late, IsReportDue, report_refused, report_timely, IsPrintDue, print_faulty, printed, IsCompileDue, compile_refused, compiled, image_fault_line, valid_fault_line, IsImageFile, IsImageRefused, misread, invalid, IsMigrateDue, migrate_refused, migrated, stored}
+use Rattle.rte_spare.specs.Due.{IsSlackDue, slack_refused, slack_told}
+use Rattle.rte_spare.specs.Lines.{IsSlackText}
 use Rattle.rte_compile.specs.Compile.{Compiles, IsImageOf, IsLateWith}
 use Rattle.rte_compile.specs.declared.compiling.CompileFault.{CompileFault}
 use Rattle.rte_compile.specs.declared.compiling.CompileFault.TheVariants as compile_fault
@@ -73,6 +75,21 @@ pub refused_report : {E : Type 0} (show : Style) (over : ℕ) (why : CompileFaul
     → IfOk made (λ act. (text : List ℕ) → P text → IsReportDue show over text (outcome_of act))
 refused_report show over why P (Ok act) answer due = λ text p. report_refused (due over text (answer text p))
 refused_report show over why P (Err e) answer due = tt
+
+pub told_slack : (over : ℕ) (text : List ℕ) (b : Built) (lines : List ℕ) → IsImageOf over text b → IsSlackText (named_of b.image) lines → IsSlackDue over text (outcome_of (puts status.Done lines))
+told_slack over text b lines image is = slack_told (named_of b.image) lines image.timely is (outcome_of_puts status.Done lines)
+
+pub told_over : {E : Type 0} (over : ℕ) (b : Built) (P : List ℕ → Type 0) (made : Result Act E) → ((text : List ℕ) → P text → IsImageOf over text b)
+    → IfOk made (λ act. (k : ℕ) (text : List ℕ) → IsImageOf k text b → IsSlackDue k text (outcome_of act))
+    → IfOk made (λ act. (text : List ℕ) → P text → IsSlackDue over text (outcome_of act))
+told_over over b P (Ok act) image due = λ text p. due over text (image text p)
+told_over over b P (Err e) image due = tt
+
+pub refused_slack : {E : Type 0} (over : ℕ) (why : CompileFault) (P : List ℕ → Type 0) (made : Result Act E) → ((text : List ℕ) → P text → Compiles over text (Err why))
+    → IfOk made (λ act. (k : ℕ) (text : List ℕ) → Compiles k text (Err why) → IsRefused report_text k text (outcome_of act))
+    → IfOk made (λ act. (text : List ℕ) → P text → IsSlackDue over text (outcome_of act))
+refused_slack over why P (Ok act) answer due = λ text p. slack_refused (due over text (answer text p))
+refused_slack over why P (Err e) answer due = tt
 
 faulty_print : (text : List ℕ) (number : ℕ) (place : Place) → IsTextFault text number place → IsPrintDue text (outcome_of (puts status.Text (fault_line number place)))
 faulty_print text number place is = print_faulty number place is (outcome_of_puts status.Text (fault_line number place))

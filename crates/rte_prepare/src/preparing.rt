@@ -8,7 +8,7 @@ ghost use Rattle.rte_prepare.specs.Prepared.{Prepares};
 
 use crate::going::prepare_go;
 use crate::images::prepare_migrate;
-use crate::programs::{Format, prepare_compile, prepare_print, prepare_report};
+use crate::programs::{Format, prepare_compile, prepare_print, prepare_report, prepare_slack};
 use crate::running::prepare_run;
 use crate::unready::Unready;
 use rte_answers::Act;
@@ -52,6 +52,7 @@ pub fn prepare<'a, F: Files>(
         Command::Json { program, overhead } => {
             prepare_report(alloc, Format::Json, program, overhead, files)
         }
+        Command::Slack { program, overhead } => prepare_slack(alloc, program, overhead, files),
         Command::Print { program } => prepare_print(alloc, program, files),
         Command::Run { image, script } => prepare_run(alloc, image, script, files),
         Command::Migrate { image, target } => prepare_migrate(alloc, image, target, files),

@@ -1,9 +1,10 @@
-//! `check`, `json`, `print` and `compile`.
+//! `check`, `json`, `slack`, `print` and `compile`.
 
 ghost use Rattle.std.specs.Prelude.{◌≡◌, ◌≤◌, ℕ, List, Some, Ok, Err, IfOk};
 ghost use Rattle.rte_lex.specs.Tokens.{longest_text};
 ghost use Rattle.rte_commands.specs.Due.{IsRefused, IsReportDue, IsPrintDue, IsCompileDue};
 ghost use Rattle.rte_commands.specs.Source.{fault_line};
+ghost use Rattle.rte_spare.specs.Due.{IsSlackDue};
 ghost use Rattle.rte_compile.specs.Compile.{Compiles};
 ghost use Rattle.rte_answers.specs.Acts.{outcome_of};
 ghost use Rattle.rte_io.specs.Outside.{AllStay, NoneFell};
@@ -23,6 +24,7 @@ use rte_compile::{Built, CompileFault, TextFault};
 use rte_image::{ImageNames, write_image};
 use rte_io::Files;
 use rte_lines::fault_line;
+use rte_spare_text::slack_text;
 use rte_table::Table;
 use rte_tree::{Name, Place, Text};
 use std::alloc::{AllocError, Global};
@@ -115,6 +117,28 @@ fn report_act<'a>(
     }
 }
 
+/// The act that puts what the processes of a program that is timely can spare.
+fn put_slack<'a>(alloc: Global, built: &Built) -> Result<Act<'a>, AllocError>
+    requires { IsRunnableBuilt built.now }
+    ensures due { IfOk result (λ act. (over : ℕ) (text : List ℕ) → Compiles over text (Ok built.now) → IsSlackDue over text (outcome_of act)) }
+    ensures quiet { IfOk result IsQuiet }
+{
+    let text = slack_text(alloc, &built.image)?;
+    Ok(put(Status::Done, text))
+}
+
+/// The act of `slack` for what the program's file holds.
+fn slack_act<'a>(alloc: Global, content: &Content, over: u16) -> Result<Act<'a>, AllocError>
+    requires { over ≤ 1000 }
+    ensures due { IfOk result (λ act. (text : List ℕ) → IsContent longest_text content.now text → IsSlackDue over text (outcome_of act)) }
+    ensures quiet { IfOk result IsQuiet }
+{
+    match compile_content(alloc, content, over) {
+        Ok(built) => put_slack(alloc, &built),
+        Err(fault) => refuse(alloc, Format::Text, fault),
+    }
+}
+
 /// The act of `print` for what the program's file holds.
 fn print_act<'a>(alloc: Global, content: &Content) -> Result<Act<'a>, AllocError>
     ensures due { IfOk result (λ act. (text : List ℕ) → IsContent longest_text content.now text → IsPrintDue text (outcome_of act)) }
@@ -177,6 +201,26 @@ pub fn prepare_report<'a, F: Files>(
 {
     let content = read(files, program, LONGEST_PROGRAM)?;
     match report_act(alloc, format, &content, over) {
+        Ok(act) => Ok(act),
+        Err(_) => Err(Unready::Memory),
+    }
+}
+
+/// `slack`.
+pub fn prepare_slack<'a, F: Files>(
+    alloc: Global,
+    program: &str,
+    over: u16,
+    files: &mut F,
+) -> Result<Act<'a>, Unready>
+    requires { over ≤ 1000 }
+    ensures prepared { Prepares F.tells (call.slack program.now over) (F.state files.old) (F.state files.new) result }
+    ensures files { AllStay (F.state files.old).held (F.state files.new).held }
+    ensures read_counts { NoneFell (F.state files.old).read_faults (F.state files.new).read_faults }
+    ensures write_counts { NoneFell (F.state files.old).write_faults (F.state files.new).write_faults }
+{
+    let content = read(files, program, LONGEST_PROGRAM)?;
+    match slack_act(alloc, &content, over) {
         Ok(act) => Ok(act),
         Err(_) => Err(Unready::Memory),
     }

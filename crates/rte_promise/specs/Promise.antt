@@ -15,10 +15,11 @@ use Rattle.rte_report.specs.Report.{report_text}
 use Rattle.rte_report.specs.Json.{report_json}
 use Rattle.rte_script.specs.declared.script.ScriptLine.{ScriptLine}
 use Rattle.rte_script.specs.Scripts.{IsScript}
-use Rattle.rte_words.specs.Calls.{Call, go, check, compile, json, print, run, migrate}
+use Rattle.rte_words.specs.Calls.{Call, go, check, compile, json, slack, print, run, migrate}
 use Rattle.rte_commands.specs.Source.{IsWritten, Style, report_of}
 use Rattle.rte_commands.specs.Due.{IsImageFile, stored, log}
 use Rattle.rte_commands.specs.Runs.{KeepsItsWord, IsAccepted, IsUnsolved, IsDone}
+use Rattle.rte_spare.specs.Lines.{IsSlackText}
 
 -- `go`: a program and a script are accepted, the image is stored, the report and the log are put
 pub record HasGone (over : ℕ) (program image script : List ℕ) (before now : Outside) : Type 0 where
@@ -40,6 +41,15 @@ pub record HasReported (show : Style) (over : ℕ) (program : List ℕ) (before 
   pub built : NamedImage
   pub accepted : IsAccepted over (before.files.held program) tree built
   pub put : Appends before.out.taken now.out.taken (report_of show built)
+
+-- `slack`: a program is accepted, what each of its processes can spare is put
+pub record HasSpared (over : ℕ) (program : List ℕ) (before now : Outside) : Type 0 where
+  pub tree : Prog Place
+  pub built : NamedImage
+  pub accepted : IsAccepted over (before.files.held program) tree built
+  pub lines : List ℕ
+  pub told : IsSlackText built lines
+  pub put : Appends before.out.taken now.out.taken lines
 
 -- the canonical text of the tree, where it is no longer than a text may be, has tokens, and these have that tree, apart from places
 abbrev pub ReadsBack : Prog Place → Type 0
@@ -83,6 +93,7 @@ HasDone (go program image script over) before now = HasGone over program image s
 HasDone (check program over) before now = HasReported report_text over program before now
 HasDone (compile program image over) before now = HasCompiled over program image before now
 HasDone (json program over) before now = HasReported report_json over program before now
+HasDone (slack program over) before now = HasSpared over program before now
 HasDone (print program) before now = HasPrinted program before now
 HasDone (run image script) before now = HasRun image script before now
 HasDone (migrate image target) before now = HasMigrated image target before now
@@ -94,4 +105,5 @@ IsRefusedForTime (go program image script over) before = IsUnsolved over (before
 IsRefusedForTime (check program over) before = IsUnsolved over (before.files.held program)
 IsRefusedForTime (compile program image over) before = IsUnsolved over (before.files.held program)
 IsRefusedForTime (json program over) before = IsUnsolved over (before.files.held program)
+IsRefusedForTime (slack program over) before = IsUnsolved over (before.files.held program)
 IsRefusedForTime call before = ⊥

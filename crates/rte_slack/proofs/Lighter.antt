@@ -60,7 +60,7 @@ asked_lighter b r (suc n) ss ts light =
     let last = term_lighter b r (task_at ss n) (task_at ts n) (light.each n (omega arith)) in
     omega (arith, rest, last, asked_more b r n ss (omega (arith, light.fit)), asked_more b r n ts (omega (arith, light.fit_too)))
 
-starts_lighter : (r n : ℕ) (ss ts : List Task) → AreLighter n ss ts → starts_in r (take n ss) ≡ starts_in r (take n ts)
+pub starts_lighter : (r n : ℕ) (ss ts : List Task) → AreLighter n ss ts → starts_in r (take n ss) ≡ starts_in r (take n ts)
 starts_lighter r zero ss ts light = refl
 starts_lighter r (suc n) ss ts light =
     let rest = starts_lighter r n ss ts (fewer (suc n) n ss ts (omega arith) light) in

@@ -1,12 +1,13 @@
 -- A level that runs for some ticks more.
-use Rattle.std.proofs.Common.{◌≡◌, ◌≤◌, ◌<◌, ◌+◌, inl, inr, ℕ, suc, List, length, ap, sym, subst, ◌∙◌, arith, refl, add-zero}
-use Rattle.std.specs.Prelude.{slice_set}
+use Rattle.std.proofs.Common.{◌≡◌, ◌≤◌, ◌<◌, ◌+◌, inl, inr, ℕ, zero, suc, List, length, ap, sym, subst, ◌∙◌, arith, refl, add-zero}
+use Rattle.std.specs.Prelude.{slice_set, take}
 use Rattle.std.proofs.lemmas.Bool.{cases_eq, cases_lt}
 use Rattle.std.proofs.lemmas.List.{get_or-set_same, get_or-set_other, set-get_or, set-set, length-set}
 use Rattle.rte_response.specs.declared.tasks.Task.{Task}
-use Rattle.rte_response.specs.Demand.{task_at, deadline_at, with_run}
-use Rattle.rte_slack.specs.Slack.{evaluations, with_more, IsFirstFailing, IsSlack, IsTimely}
-use Rattle.rte_slack.proofs.Lighter.{nobody, IsLighter, AreLighter, fewer, solves_lighter, run_within, evaluations_lighter}
+use Rattle.rte_response.specs.Demand.{task_at, deadline_at, starts_in, with_run}
+use Rattle.rte_slack.specs.declared.spare.Spare.{Spare}
+use Rattle.rte_slack.specs.Slack.{evaluations, evaluations_at, with_more, IsFirstFailing, IsSlack, IsSpare, IsSpareFrom, IsTimely, Responds}
+use Rattle.rte_slack.proofs.Lighter.{nobody, IsLighter, AreLighter, fewer, solves_lighter, starts_lighter, run_within, evaluations_lighter}
 
 pub length_more : (ts : List Task) (level x : ℕ) → length (with_more ts level x) ≡ length ts
 length_more ts level x = length-set ts level (record (task_at ts level) { run = (task_at ts level).run + x })
@@ -104,3 +105,95 @@ pub run_within_deadline : (ts : List Task) (level : ℕ) → level < length ts �
 run_within_deadline ts level below low timely =
     let solved = timely level below in
     omega (arith, run_within ts level solved.0 low solved.1, solved.1.within)
+
+-- ---- level by level
+
+-- with fewer ticks a level responds too
+pub responds_falls : (ts : List Task) (level x y other : ℕ) → level < length ts → x ≤ y → other < length ts → Responds (with_more ts level y) other → Responds (with_more ts level x) other
+responds_falls ts level x y other below low fits solved =
+    let light = fewer (length ts) (suc other) (with_more ts level x) (with_more ts level y) (omega arith) (are_lighter ts level x y below low) in
+    (solved.0, solves_lighter (with_more ts level x) (with_more ts level y) other solved.0 light solved.1)
+
+-- the levels above are not touched
+pub responds_above : (ts : List Task) (level x other : ℕ) → level < length ts → other < level → IsTimely ts → Responds (with_more ts level x) other
+responds_above ts level x other below above timely =
+    let solved = timely_as_it_is ts level timely other (omega (arith, above, below, length_more ts level 0)) in
+    let light = fewer level (suc other) (with_more ts level x) (with_more ts level 0) (omega arith) (before_lighter ts level x 0 below) in
+    (solved.0, solves_lighter (with_more ts level x) (with_more ts level 0) other solved.0 light solved.1)
+
+pub responds_as_it_is : (ts : List Task) (level other : ℕ) → other < length ts → IsTimely ts → Responds (with_more ts level 0) other
+responds_as_it_is ts level other fits timely = timely_as_it_is ts level timely other (omega (arith, fits, length_more ts level 0))
+
+pub evaluations_at_same : (ts : List Task) (level x other : ℕ) → level < length ts → other < length ts → evaluations_at (with_more ts level x) other ≡ evaluations_at ts other
+evaluations_at_same ts level x other below fits =
+    let ss : List Task = with_more ts level 0 in
+    let us : List Task = with_more ts level x in
+    let light = are_lighter ts level 0 x below (omega arith) in
+    let due : starts_in (deadline_at ss other) (take (other + 1) ss) ≡ starts_in (deadline_at us other) (take (other + 1) ss) =
+    ap (λ (d : ℕ). starts_in d (take (other + 1) ss)) (light.each other fits).deadline in
+    let starts : starts_in (deadline_at us other) (take (other + 1) ss) ≡ starts_in (deadline_at us other) (take (other + 1) us) =
+    starts_lighter (deadline_at us other) (other + 1) ss us (fewer (length ts) (other + 1) ss us (omega (arith, fits)) light) in
+    sym (ap (λ (n : ℕ). 2 + n) (due ∙ starts)) ∙ ap (λ (vs : List Task). evaluations_at vs other) (more_none ts level)
+
+pub some_between : (ts : List Task) (level other x : ℕ) → Responds (with_more ts level 0) other → ¬ Responds (with_more ts level x) other → 0 < x
+some_between ts level other zero fits fails = absurd (fails fits)
+some_between ts level other (suc x) fits fails = omega arith
+
+-- ---- what a level can spare, by the levels from one on
+
+pub spare_at_first : (ts : List Task) (level extra : ℕ) → level < length ts → deadline_at ts level ≤ 1000000000 → deadline_at ts level ≡ (task_at ts level).run + extra → IsTimely ts
+    → IsSpareFrom ts level (length ts) (record { extra = extra; fails = level })
+spare_at_first ts level extra below low full timely = record {
+  fits = λ other from within. absurd (omega (arith, from, within));
+  within = below;
+  fails = λ solved. (fails_past_deadline ts level (extra + 1) below low (omega (arith, full)) timely).fails solved.0 solved.1;
+}
+
+pub spare_stays : (ts : List Task) (level other : ℕ) (least : Spare) → IsSpareFrom ts level (other + 1) least → Responds (with_more ts level least.extra) other → IsSpareFrom ts level other least
+spare_stays ts level other least after solved = record {
+  fits = λ k from within. elim (cases_eq k other) [
+    | inl e ↦ subst (λ (n : ℕ). Responds (with_more ts level least.extra) n) (sym e) solved
+    | inr differs ↦ after.fits k (omega (arith, from, differs)) within
+  ];
+  within = after.within;
+  fails = after.fails;
+}
+
+pub spare_falls : (ts : List Task) (level other x : ℕ) (least : Spare) → level < length ts → other < length ts → IsSpareFrom ts level (other + 1) least → x ≤ least.extra
+    → Responds (with_more ts level x) other → ¬ Responds (with_more ts level (x + 1)) other → IsSpareFrom ts level other (record { extra = x; fails = other })
+spare_falls ts level other x least below there after low solved fails = record {
+  fits = λ k from within. elim (cases_eq k other) [
+    | inl e ↦ subst (λ (n : ℕ). Responds (with_more ts level x) n) (sym e) solved
+    | inr differs ↦ responds_falls ts level x least.extra k below low within (after.fits k (omega (arith, from, differs)) within)
+  ];
+  within = there;
+  fails = fails;
+}
+
+-- the level that fails is not above the level
+pub fails_below : (ts : List Task) (level : ℕ) (least : Spare) → level < length ts → IsTimely ts → IsSpareFrom ts level level least → level ≤ least.fails
+fails_below ts level least below timely from = elim (cases_lt least.fails level) [
+  | inl above ↦ absurd (from.fails (responds_above ts level (least.extra + 1) least.fails below above timely))
+  | inr le ↦ le
+]
+
+pub is_spare : (ts : List Task) (level fails : ℕ) (least : Spare) → level < length ts → IsTimely ts → IsSpareFrom ts level level least → IsFirstFailing (with_more ts level (least.extra + 1)) fails
+    → IsSpare ts level (record { extra = least.extra; fails = fails })
+is_spare ts level fails least below timely from first = record {
+  timely = timely;
+  extra = is_slack ts level least.extra fails below all_fit first;
+  fails = first;
+} where
+  all_fit : IsTimely (with_more ts level least.extra)
+  all_fit other within =
+      let fits : other < length ts = omega (arith, within, length_more ts level least.extra) in
+      elim (cases_lt other level) [ inl above ↦ responds_above ts level least.extra other below above timely | inr on ↦ from.fits other on fits ]
+
+-- the first that fails, where each from the level up to it responds
+pub first_is : (ts : List Task) (level x fails : ℕ) → level < length ts → IsTimely ts → fails < length ts → ¬ Responds (with_more ts level x) fails
+    → ((other : ℕ) → level ≤ other → other < fails → Responds (with_more ts level x) other) → IsFirstFailing (with_more ts level x) fails
+first_is ts level x fails below timely within failing before = record {
+  within = omega (arith, within, length_more ts level x);
+  fails = λ r solves. failing (r, solves);
+  before = λ other less. elim (cases_lt other level) [ inl above ↦ responds_above ts level x other below above timely | inr on ↦ before other on less ];
+}

@@ -29,7 +29,23 @@ pub record IsSpare (ts : List Task) (level : ℕ) (spare : Spare) : Type 0 where
   pub extra : IsSlack ts level spare.extra
   pub fails : IsFirstFailing (with_more ts level (spare.extra + 1)) spare.fails
 
--- the most evaluations of the demand that it takes to find a bound at each of the first n levels
+-- the most evaluations of the demand that it takes to find the bound of a level
+abbrev pub evaluations_at : List Task → ℕ → ℕ
+evaluations_at ts level = 2 + starts_in (deadline_at ts level) (take (level + 1) ts)
+
+-- and at each of the first n levels
 abbrev pub evaluations : List Task → ℕ → ℕ
 evaluations ts zero = 0
-evaluations ts (suc n) = evaluations ts n + (2 + starts_in (deadline_at ts n) (take (n + 1) ts))
+evaluations ts (suc n) = evaluations ts n + evaluations_at ts n
+
+-- ---- what is found level by level
+
+-- the level has a response within its deadline that meets the recurrence
+abbrev pub Responds : List Task → ℕ → Type 0
+Responds ts level = (r : ℕ) × Solves ts level r
+
+-- with so many ticks more each level from this one on has a response; with one more some level has none
+pub record IsSpareFrom (ts : List Task) (level from : ℕ) (spare : Spare) : Type 0 where
+  pub fits : (other : ℕ) → from ≤ other → other < length ts → Responds (with_more ts level spare.extra) other
+  pub within : spare.fails < length ts
+  pub fails : ¬ Responds (with_more ts level (spare.extra + 1)) spare.fails

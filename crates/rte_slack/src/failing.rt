@@ -1,8 +1,8 @@
-//! Whether each level has a bound, and the first that has none.
+//! Which levels have a bound.
 
 ghost use Rattle.std.specs.Prelude.{◌≡◌, ◌+◌, ◌≤◌, ◌<◌, length, IfSome, IfNone};
-ghost use Rattle.rte_response.specs.Demand.{task_at};
-ghost use Rattle.rte_slack.specs.Slack.{evaluations, with_more, IsFirstFailing, IsTimely};
+ghost use Rattle.rte_response.specs.Demand.{task_at, IsBound};
+ghost use Rattle.rte_slack.specs.Slack.{evaluations, evaluations_at, with_more, IsFirstFailing, IsTimely, Responds};
 
 use rte_block::bound;
 use rte_response::{Steps, TaskSet};
@@ -24,23 +24,26 @@ pub fn first_failing<L: Ledger>(set: &TaskSet, steps: &mut Steps<L>) -> Option<u
     None
 }
 
-/// The same where the task of the level runs for so many ticks more. The set is afterwards as before.
-pub(crate) fn failing_with<L: Ledger>(
+/// The least bound of a level where the task of a level, perhaps another, runs for so many ticks more. The set is
+/// afterwards as before.
+pub(crate) fn bound_with<L: Ledger>(
     set: &mut TaskSet,
     level: usize,
     more: u64,
+    other: usize,
     steps: &mut Steps<L>,
-) -> Option<usize>
+) -> Option<u64>
     requires level { level < length set.old }
     requires more { (task_at set.old level).run + more ≤ 1000000001 }
+    requires other { other < length set.old }
     ensures kept { set.new ≡ set.old }
-    ensures none { IfNone result (IsTimely (with_more set.old level more)) }
-    ensures some { IfSome result (IsFirstFailing (with_more set.old level more)) }
-    ensures cost { steps.new ≤ steps.old + evaluations set.old (length set.old) }
+    ensures some { IfSome result (IsBound (with_more set.old level more) other) }
+    ensures none { IfNone result (¬ Responds (with_more set.old level more) other) }
+    ensures cost { steps.new ≤ steps.old + evaluations_at set.old other }
 {
     let run = set.run(level);
     set.set_run(level, run + more);
-    let failing = first_failing(set, steps);
+    let found = bound(set, other, steps);
     set.set_run(level, run);
-    failing
+    found
 }

@@ -7,6 +7,7 @@ pub data Call : Type 0 where
   check : (program : List ℕ) (over : ℕ) → Call
   compile : (program image : List ℕ) (over : ℕ) → Call
   json : (program : List ℕ) (over : ℕ) → Call
+  slack : (program : List ℕ) (over : ℕ) → Call
   print : (program : List ℕ) → Call
   run : (image script : List ℕ) → Call
   migrate : (image target : List ℕ) → Call
@@ -17,4 +18,5 @@ over_of (go program image script over) = over
 over_of (check program over) = over
 over_of (compile program image over) = over
 over_of (json program over) = over
+over_of (slack program over) = over
 over_of call = 0

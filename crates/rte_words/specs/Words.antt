@@ -2,7 +2,7 @@
 use Rattle.std.specs.Prelude.{◌≡◌, ℕ, ◌+◌, All, IsTrue, Bool, false, not, ◌==◌, List, [], ◌∷◌, Option, Some, None, if◌then◌else◌, map, option_map, find, String, string_bytes, bytes_eq, codes, decimal}
 use Rattle.std.specs.List.{range_with_len}
 use Rattle.std.specs.Global.{Global}
-use Rattle.rte_words.specs.Calls.{Call, go, check, compile, json, print, run, migrate}
+use Rattle.rte_words.specs.Calls.{Call, go, check, compile, json, slack, print, run, migrate}
 use Rattle.rte_words.specs.declared.command.Command.{Command}
 use Rattle.rte_words.specs.declared.command.Command.TheVariants as command
 
@@ -42,6 +42,10 @@ abbrev pub json_row : List (List ℕ) → Option Call
 json_row (program ∷ rest) = option_map (json program) (last_overhead rest)
 json_row words = None
 
+abbrev pub slack_row : List (List ℕ) → Option Call
+slack_row (program ∷ rest) = option_map (slack program) (last_overhead rest)
+slack_row words = None
+
 abbrev pub print_row : List (List ℕ) → Option Call
 print_row (program ∷ []) = Some (print program)
 print_row words = None
@@ -62,9 +66,10 @@ row_of (word ∷ words) =
     (if bytes_eq word (codes "check") then check_row words else
     (if bytes_eq word (codes "compile") then compile_row words else
     (if bytes_eq word (codes "json") then json_row words else
+    (if bytes_eq word (codes "slack") then slack_row words else
     (if bytes_eq word (codes "print") then print_row words else
     (if bytes_eq word (codes "run") then run_row words else
-    (if bytes_eq word (codes "migrate") then migrate_row words else None))))))
+    (if bytes_eq word (codes "migrate") then migrate_row words else None)))))))
 
 abbrev pub IsWord : String Global → Type 0
 IsWord word = IsTrue (is_word (string_bytes word))
@@ -80,6 +85,7 @@ call_of (command.Go program image script overhead) = go program.now image.now sc
 call_of (command.Check program overhead) = check program.now overhead
 call_of (command.Compile program image overhead) = compile program.now image.now overhead
 call_of (command.Json program overhead) = json program.now overhead
+call_of (command.Slack program overhead) = slack program.now overhead
 call_of (command.Print program) = print program.now
 call_of (command.Run image script) = run image.now script.now
 call_of (command.Migrate image target) = migrate image.now target.now

@@ -26,6 +26,11 @@ pub enum Command<'a> {
         program: &'a str,
         overhead: u16,
     },
+    /// Tells how many ticks each process of a program can spare.
+    Slack {
+        program: &'a str,
+        overhead: u16,
+    },
     /// Prints the canonical text of a program.
     Print {
         program: &'a str,

@@ -2,7 +2,7 @@
 
 ghost use Rattle.std.specs.Prelude.{◌≡◌, ◌≤◌, map, option_map, string_bytes, IfSome};
 ghost use Rattle.rte_words.specs.Calls.{over_of};
-ghost use Rattle.rte_words.specs.Words.{overhead_of, last_overhead, go_row, check_row, compile_row, json_row, print_row, run_row, migrate_row, row_of, call_of};
+ghost use Rattle.rte_words.specs.Words.{overhead_of, last_overhead, go_row, check_row, compile_row, json_row, slack_row, print_row, run_row, migrate_row, row_of, call_of};
 
 use crate::command::Command;
 use rte_fields::unsigned;
@@ -104,6 +104,23 @@ fn json(words: &[String]) -> Option<Command<'_>>
     })
 }
 
+/// What `slack` is with these words behind it.
+fn slack(words: &[String]) -> Option<Command<'_>>
+    ensures row { option_map call_of result ≡ slack_row (map string_bytes words.now) }
+    ensures over { IfSome result (λ c. over_of (call_of c) ≤ 1000) }
+{
+    let [program, rest @ ..] = words else {
+        return None;
+    };
+    let Some(overhead) = last_overhead(rest) else {
+        return None;
+    };
+    Some(Command::Slack {
+        program: program.as_str(),
+        overhead,
+    })
+}
+
 /// What `print` is with these words behind it.
 fn print(words: &[String]) -> Option<Command<'_>>
     ensures row { option_map call_of result ≡ print_row (map string_bytes words.now) }
@@ -162,6 +179,8 @@ pub fn row(words: &[String]) -> Option<Command<'_>>
         compile(rest)
     } else if word == "json" {
         json(rest)
+    } else if word == "slack" {
+        slack(rest)
     } else if word == "print" {
         print(rest)
     } else if word == "run" {

@@ -39,6 +39,7 @@ returns-clause-refused g c = λ call is.
     refused
     (record {
       reports = c.reports_are_one.ensures;
+      slack = c.slack_is_one.ensures;
       print = c.print_is_one.ensures;
       compile = c.compile_is_one.ensures;
       go = c.go_is_one.ensures;

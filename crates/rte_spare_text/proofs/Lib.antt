@@ -1,0 +1,3 @@
+mod Growing
+mod Joined
+mod Ranks
