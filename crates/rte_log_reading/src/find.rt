@@ -5,6 +5,7 @@ ghost use Rattle.rte_log.specs.Line.{condition_name, device_name, monitor_name, 
 ghost use Rattle.rte_log_reading.specs.Finding.{AreFound};
 
 use crate::numbers::{Numbers, find};
+use rte_fields::is_same;
 use rte_image::ImageNames;
 
 /// Names, and their numbers by name. A condition's name stands behind that of its monitor.
@@ -26,6 +27,22 @@ pub fn find_process(names: &Named<'_, '_>, word: &[u8]) -> Option<u16>
         process_name names.now.names.now k ≢ word.now) }
 {
     find(&names.processes, word)
+}
+
+/// The same, which tries the process of this number first: lines of one process often stand together.
+pub fn find_near(names: &Named<'_, '_>, word: &[u8], near: u16) -> Option<u16>
+    requires { AreFound names.now }
+    ensures within { IfSome result (λ k. k < length names.now.names.now.processes) }
+    ensures found { IfSome result (λ k. process_name names.now.names.now k ≡ word.now) }
+    ensures none { IfNone result ((k : ℕ) → k < length names.now.names.now.processes →
+        process_name names.now.names.now k ≢ word.now) }
+{
+    if let Some(name) = names.names.processes.get(usize::from(near)) {
+        if is_same(name.as_bytes(), word) {
+            return Some(near);
+        }
+    }
+    find_process(names, word)
 }
 
 /// The number of the monitor of this name.

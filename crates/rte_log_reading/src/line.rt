@@ -6,15 +6,16 @@ ghost use Rattle.rte_log_reading.specs.Finding.{AreFound};
 ghost use Rattle.rte_log_reading.specs.Logs.{AreWords, Tells};
 
 use crate::act::read_act;
-use crate::find::{Named, find_process};
+use crate::find::{Named, find_near};
 use rte_event::Event;
 use rte_fields::{cut_at, unsigned};
 
 /// The greatest tick of a line.
 const LAST_TICK: u64 = 999_999_999;
 
-/// The event that a line tells, which is given without its LF; None where it tells none.
-pub fn read_line(line: &[u8], names: &Named<'_, '_>) -> Option<Event>
+/// The event that a line tells, which is given without its LF; None where it tells none. The process of the number is tried
+/// first.
+pub fn read_line(line: &[u8], names: &Named<'_, '_>, near: u16) -> Option<Event>
     requires words { AreWords names.now.names.now }
     requires found { AreFound names.now }
     ensures found { IfSome result (λ event. Tells names.now.names.now line.now event) }
@@ -27,7 +28,7 @@ pub fn read_line(line: &[u8], names: &Named<'_, '_>) -> Option<Event>
             None => None,
             Some(tick) => match cut_at(front.after, b' ') {
                 None => None,
-                Some(parts) => match find_process(names, parts.before) {
+                Some(parts) => match find_near(names, parts.before, near) {
                     None => None,
                     Some(proc) => match read_act(names, parts.after) {
                         None => None,

@@ -30,13 +30,15 @@ fn read_lines(alloc: Global, text: &[u8], names: &Named<'_, '_>) -> Result<List<
 {
     let mut events = List::new(alloc);
     let mut rest = text;
+    let mut near = 0;
     while !rest.is_empty() {
         let number = events.len() as u32 + 1;
         match cut_at(rest, b'\n') {
             None => return Err(LogFault::Line(number)),
-            Some(parts) => match read_line(parts.before, names) {
+            Some(parts) => match read_line(parts.before, names, near) {
                 None => return Err(LogFault::Line(number)),
                 Some(event) => {
+                    near = event.proc;
                     events.push(event)?;
                     rest = parts.after;
                 }

@@ -23,7 +23,7 @@ pub enum Verb {
     End,
 }
 
-/// The verb that the word is.
+/// The verb that the word is. Those that stand most often in a log are tried first.
 pub fn verb_named(word: &[u8]) -> Option<Verb>
     ensures found { IfSome result (λ verb. word.now ≡ verb_text verb) }
     ensures none { IfNone result ((verb : Verb) → word.now ≢ verb_text verb) }
@@ -31,11 +31,8 @@ pub fn verb_named(word: &[u8]) -> Option<Verb>
     if is_same(word, b"release") {
         return Some(Verb::Release);
     }
-    if is_same(word, b"timeout") {
-        return Some(Verb::TimeOut);
-    }
-    if is_same(word, b"get") {
-        return Some(Verb::Get);
+    if is_same(word, b"end") {
+        return Some(Verb::End);
     }
     if is_same(word, b"put") {
         return Some(Verb::Put);
@@ -46,11 +43,17 @@ pub fn verb_named(word: &[u8]) -> Option<Verb>
     if is_same(word, b"leave") {
         return Some(Verb::Leave);
     }
+    if is_same(word, b"get") {
+        return Some(Verb::Get);
+    }
     if is_same(word, b"wait") {
         return Some(Verb::Wait);
     }
     if is_same(word, b"signal") {
         return Some(Verb::Signal);
+    }
+    if is_same(word, b"timeout") {
+        return Some(Verb::TimeOut);
     }
     if is_same(word, b"broadcast") {
         return Some(Verb::Broadcast);
@@ -60,9 +63,6 @@ pub fn verb_named(word: &[u8]) -> Option<Verb>
     }
     if is_same(word, b"raise") {
         return Some(Verb::Raise);
-    }
-    if is_same(word, b"end") {
-        return Some(Verb::End);
     }
     None
 }

@@ -10,9 +10,9 @@ returns-in-None-unsigned-clause-none c = untold_tick c.args.names.now.names.now 
 pub returns-in-None-cut_at-clause-none : goal.returns-in-None-cut_at-clause-none
 returns-in-None-cut_at-clause-none c = untold_process c.args.names.now.names.now c.args.line.now c.in-Some.front.before.now c.in-Some.front.after.now c.in-Some.ensures.found c.in-None-cut_at.ensures.none
 
-pub returns-in-None-find_process-clause-none : goal.returns-in-None-find_process-clause-none
-returns-in-None-find_process-clause-none c =
-    untold_name c.args.names.now.names.now c.args.line.now c.in-Some.front.before.now c.in-Some.front.after.now c.in-Some-cut_at.parts.before.now c.in-Some-cut_at.parts.after.now c.requires.words c.in-Some.ensures.found c.in-Some-cut_at.ensures.found c.in-None-find_process.ensures.none
+pub returns-in-None-find_near-clause-none : goal.returns-in-None-find_near-clause-none
+returns-in-None-find_near-clause-none c =
+    untold_name c.args.names.now.names.now c.args.line.now c.in-Some.front.before.now c.in-Some.front.after.now c.in-Some-cut_at.parts.before.now c.in-Some-cut_at.parts.after.now c.requires.words c.in-Some.ensures.found c.in-Some-cut_at.ensures.found c.in-None-find_near.ensures.none
 
 pub returns-in-None-read_act-clause-none : goal.returns-in-None-read_act-clause-none
 returns-in-None-read_act-clause-none c =
