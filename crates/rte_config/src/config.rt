@@ -1,0 +1,32 @@
+//! The configuration.
+
+use crate::call::Call;
+use crate::doing::Doing;
+use crate::variables::Slot;
+
+/// A process: its variables, what it is doing, its calls in progress, the innermost first, and whether its handler runs.
+#[derive(Drop)]
+pub struct Job<'a> {
+    pub vars: Vec<Slot<'a>>,
+    pub doing: Doing,
+    pub calls: Vec<Call<'a>>,
+    pub handling: bool,
+}
+
+/// A monitor: its variables, and the process inside it.
+#[derive(Drop)]
+pub struct Hold<'a> {
+    pub vars: Vec<Slot<'a>>,
+    pub occupant: Option<usize>,
+}
+
+/// The tick reached, whether somebody has acted in it, and processes, monitors and queues by number.
+#[derive(Drop)]
+pub struct Config<'a> {
+    pub tick: u64,
+    pub acted: bool,
+    pub jobs: Vec<Job<'a>>,
+    pub holds: Vec<Hold<'a>>,
+    /// By condition the processes that wait, the first to be taken out first.
+    pub queues: Vec<Vec<usize>>,
+}

@@ -1,0 +1,48 @@
+//! The configuration of a running program, in code: what each process is doing, each monitor, and each condition's queue.
+//!
+//! `specs/View.antt` says which configuration of the source meaning a `Config` stands for (`config_of`): one value for one value, with
+//! nothing left out. What remains of a call are the items of the meaning, in their order, whose statements are borrowed from the
+//! program's tree, so none is ever copied.
+//!
+//! Each change here is one of the meaning's own: its contract is an equation between what is seen before and after.
+#![tactic(auto)]
+
+mod call;
+mod config;
+mod doing;
+mod moves;
+mod variables;
+
+pub use call::{Action, Answering, Call, Home, Item, Next, Target};
+pub use config::{Config, Hold, Job};
+pub use doing::{Doing, Wait};
+pub use moves::{beginning, set_doing, set_job, set_occupant};
+pub use variables::{Held, Range, Slot, Words};
+
+#[cfg(test)]
+mod tests {
+    use super::*;
+    use std::test::Fail;
+
+    #[test]
+    fn a_process_enters_and_leaves(rt: HostRuntime) -> Result<(), Fail> {
+        let alloc = rt.alloc();
+        let mut holds = Vec::new(alloc);
+        holds.push(Hold {
+            vars: Vec::new(alloc),
+            occupant: None,
+        })?;
+        let mut config = Config {
+            tick: 0,
+            acted: false,
+            jobs: Vec::new(alloc),
+            holds,
+            queues: Vec::new(alloc),
+        };
+        config.enter(3, 0);
+        assert_eq!(rt; config.inside(3), Some(0));
+        config.leave(3);
+        assert_eq!(rt; config.inside(3), None);
+        Ok(())
+    }
+}

@@ -1,0 +1,64 @@
+//! The lines of segment trees.
+
+ghost use Rattle.std.specs.Prelude.{◌≡◌, ◌++◌, OnOk};
+ghost use Rattle.rte_seg.specs.View.{view, views};
+ghost use Rattle.rte_image_text.specs.TreeText.{seg_text, segs_text, tree_line};
+
+use crate::numbers::put_field;
+use rte_seg::Seg;
+use rte_tree::Text;
+use std::alloc::AllocError;
+
+/// Puts a segment: its name, its number and its trees between parentheses.
+#[cycle(trees)]
+fn put_seg(text: &mut Text, seg: &Seg) -> Result<(), AllocError>
+    ensures { OnOk result (text.new ≡ text.old ++ seg_text (view seg.now)) }
+{
+    match seg {
+        Seg::Line(count) => put_field(text, b" line ", *count)?,
+        Seg::Fork(first, second) => {
+            text.extend(b" fork (")?;
+            put_segs(text, first.as_slice())?;
+            text.extend(b" ) (")?;
+            put_segs(text, second.as_slice())?;
+            text.extend(b" )")?;
+        }
+        Seg::Rep(turns, body) => {
+            put_field(text, b" rep ", *turns)?;
+            text.extend(b" (")?;
+            put_segs(text, body.as_slice())?;
+            text.extend(b" )")?;
+        }
+        Seg::Call(routine) => put_field(text, b" call ", u32::from(*routine))?,
+        Seg::Stay(monitor, body) => {
+            put_field(text, b" stay ", u32::from(*monitor))?;
+            text.extend(b" (")?;
+            put_segs(text, body.as_slice())?;
+            text.extend(b" )")?;
+        }
+        Seg::Wait => text.extend(b" wait")?,
+        Seg::Exit => text.extend(b" exit")?,
+    }
+    Ok(())
+}
+
+/// Puts segments one after the other.
+#[cycle(trees)]
+fn put_segs(text: &mut Text, segs: &[Seg]) -> Result<(), AllocError>
+    ensures { OnOk result (text.new ≡ text.old ++ segs_text (views segs.now)) }
+{
+    for seg in segs {
+        put_seg(text, seg)?;
+    }
+    Ok(())
+}
+
+/// Puts the line of a tree.
+pub fn put_tree(text: &mut Text, tree: &[Seg]) -> Result<(), AllocError>
+    ensures { OnOk result (text.new ≡ text.old ++ tree_line (views tree.now)) }
+{
+    text.extend(b"tree")?;
+    put_segs(text, tree)?;
+    text.extend(b"\n")?;
+    Ok(())
+}
