@@ -1,5 +1,5 @@
 #!/usr/bin/env bash
-# Images, texts and files that are hostile: each is loaded or refused in time in proportion to its bytes.
+# Images, texts and files that are hostile: whether each is loaded or refused in time in proportion to its bytes.
 # Run by hand on a built program:   bench/hostile.sh crates/rte/out/rte
 #
 #   trees 130, trees 131     loops of one turn in one another: the deepest tree that there may be, and one that is deeper
@@ -17,10 +17,11 @@
 #   idle 64                  64 processes released at one tick, again and again, up to tick 1,000,000
 #   events 64                64 events at one tick, again and again, 896,000 in all
 #   image, text, script 1 G  files of 1 GiB; `endless`: one that never ends
-#   full                     a text of 64 processes, the first three of which use the whole processor
+#   full                     a text of 64 processes, the first three of which use the whole processor: the one that takes minutes, since
+#                            the iterates of its recurrences go up to a deadline of 1,000,000,000 ticks in small steps
 #
-# Each line tells the bytes of what is read, seconds, KiB, and the first line that was put; the status is 1 where that is not
-# the one that is due.
+# Each line tells the bytes of what is read, seconds of the processor, KiB, and the first line that was put; the status is 1
+# where that is not the one that is due.
 set -euo pipefail
 rte=$(realpath "${1:?the built program}")
 folder=$(mktemp -d)
@@ -162,7 +163,7 @@ wrong=0
 measure() {
     local file=$1 due=$2 first bytes
     shift 2
-    /usr/bin/time -q -f '%e s, %M KiB' -o told "$rte" "$@" > put || true
+    /usr/bin/time -q -f '%U s, %M KiB' -o told "$rte" "$@" > put || true
     first=$(head -n 1 put)
     bytes=endless
     [ -c "$file" ] || bytes=$(stat -c %s "$file")
