@@ -1,0 +1,4 @@
+pub mod Lasts
+pub mod Cutting
+pub mod SegLoop
+pub mod MoreLoop
