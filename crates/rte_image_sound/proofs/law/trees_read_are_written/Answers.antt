@@ -11,9 +11,8 @@ written monitors zero tree = refl
 written monitors (suc depth) tree = refl
 
 pub returns : goal.returns
-returns c monitors depth bytes tree rest are =
-    (
-      (λ read. let back = (tree_sound monitors depth).back bytes (tree, rest) are read in
+returns c monitors depth bytes tree rest are = (
+  (λ read. let back = (tree_sound monitors depth).back bytes (tree, rest) are read in
       record { are = back.0 ∙ ap (λ (front : List ℕ). front ++ rest) (written monitors depth tree); in_range = back.1 }),
-      (λ b. ap (λ (all : List ℕ). (tree_format monitors depth).read all) (b.are ∙ ap (λ (front : List ℕ). front ++ rest) (sym (written monitors depth tree))) ∙ (tree_sound monitors depth).again tree rest b.in_range),
-    )
+  (λ b. ap (λ (all : List ℕ). (tree_format monitors depth).read all) (b.are ∙ ap (λ (front : List ℕ). front ++ rest) (sym (written monitors depth tree))) ∙ (tree_sound monitors depth).again tree rest b.in_range),
+)
