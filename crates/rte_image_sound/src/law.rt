@@ -1,6 +1,6 @@
 //! The laws.
 
-ghost use Rattle.rte_image_sound.specs.Law.{CutImagesEndInsideAField, ImagesReadAreWritten, ImagesWrittenAreRead};
+ghost use Rattle.rte_image_sound.specs.Law.{CutImagesEndInsideAField, ImagesReadAreWritten, ImagesWrittenAreRead, TreesReadAreWritten};
 
 /// The bytes of a file are those of the image that it holds, in its version.
 pub fn images_read_are_written()
@@ -15,4 +15,10 @@ pub fn images_written_are_read()
 /// The first bytes of an image, but not all, are no image's: they end inside a field.
 pub fn cut_images_end_inside_a_field()
     ensures { CutImagesEndInsideAField }
+{}
+
+/// Bytes are read as a tree exactly where they begin with the bytes of that tree, so what is read in place stands for the one
+/// tree whose bytes it borrows.
+pub fn trees_read_are_written()
+    ensures { TreesReadAreWritten }
 {}

@@ -7,4 +7,7 @@
 
 mod law;
 
-pub use law::{cut_images_end_inside_a_field, images_read_are_written, images_written_are_read};
+pub use law::{
+    cut_images_end_inside_a_field, images_read_are_written, images_written_are_read,
+    trees_read_are_written,
+};
