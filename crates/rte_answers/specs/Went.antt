@@ -1,4 +1,5 @@
--- What a call did, by the status that it answers. What is said of bytes is said where the files tell theirs.
+-- What a call did, by the status that it answers. What is said of bytes is said where the files
+-- tell theirs.
 use Rattle.std.specs.Prelude.{◌≡◌, ◌≢◌, ◌<◌, ◌≤◌, ◌⊎◌, ℕ, Bool, List, Option, Some, None, IsSomeAnd, codes}
 use Rattle.std.specs.Bool.{OnTrue}
 use Rattle.rte_io.specs.Outside.{Outside, Rose, AllStay, Appends, AppendsFront}
@@ -10,7 +11,8 @@ use Rattle.rte_answers.specs.Files.{Held, IsDue, ReachesScript, source_of, scrip
 abbrev pub IsStored : Held → List ℕ → List ℕ → Type 0
 IsStored held bytes name = held name ≡ Some bytes
 
--- the bytes that are due, if any are, stand in the file that is written; where none are, no file has changed
+-- the bytes that are due, if any are, stand in the file that is written; where none are, no file
+-- has changed
 abbrev pub Stores : Option (List ℕ) → Option (List ℕ) → (held held' : Held) → Type 0
 Stores None target held held' = AllStay held held'
 Stores (Some bytes) target held held' = IsSomeAnd target (IsStored held' bytes)
@@ -31,8 +33,8 @@ WriteFailed call before now = IsSomeAnd (target_of call) (λ name. Rose (before.
 abbrev pub PutFailed : (before now : Outside) → Type 0
 PutFailed before now = Rose before.out.faults now.out.faults
 
--- what is due was cut off: an image was to be stored, its write failed, and nothing was put; or a put failed behind a front of the
--- text, and the image that is due is stored
+-- what is due was cut off: an image was to be stored, its write failed, and nothing was put; or a
+-- put failed behind a front of the text, and the image that is due is stored
 pub record IsCut (call : Call) (before now : Outside) : Type 0 where
   pub outcome : Outcome
   pub due : IsDue call before.files.held outcome

@@ -19,8 +19,9 @@ pub struct Run {
     pub script: Script,
 }
 
-/// What is left of a call when all is read and judged: an image is stored, a text is put, and then the log of a run, each
-/// as far as there is one. The status is that of a call in which nothing fails from here on.
+/// What is left of a call when all is read and judged: an image is stored, a text is put, and then
+/// the log of a run, each as far as there is one. The status is that of a call in which nothing
+/// fails from here on.
 #[derive(Drop)]
 pub struct Act<'a> {
     pub status: Status,

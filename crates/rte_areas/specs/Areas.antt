@@ -1,4 +1,5 @@
--- The variables of a well-formed program lie in their areas, and its devices go the way that they are declared.
+-- The variables of a well-formed program lie in their areas, and its devices go the way that they
+-- are declared.
 use Rattle.std.specs.Prelude.{◌≡◌, ◌≤◌, ◌+◌, ℕ, Bool, true, pos, List, Some, slice_get, filter_map, All, Contains}
 use Rattle.rte_tree.specs.Plain.{Name, Constant, Var, Param, Monitor, device, Prog}
 use Rattle.rte_source_meaning.specs.Names.{constant_value, device_number}

@@ -5,7 +5,8 @@ use Rattle.rte_machine_meaning.specs.Image.{Image}
 use Rattle.rte_valid.specs.Operands.{Area, Whose, in_area, bad_array, local_words, own_words, monitor_words}
 use Rattle.rte_emits.specs.Layout.{Shape, single, array, Place, Area as KindOfArea, in_frame, in_process, in_monitor, Spot}
 
--- one word is of the area; an array ends in it, has as many words as an instruction may name, and a word as its last index
+-- one word is of the area; an array ends in it, has as many words as an instruction may name, and a
+-- word as its last index
 abbrev pub ShapeLies : Area → (word : ℕ) → Shape → Type 0
 ShapeLies x w single = in_area x (pos w) ≡ true
 ShapeLies x w (array low len) = bad_array x (pos w) low (pos len) ≡ None

@@ -11,7 +11,8 @@ use Rattle.rte_asm_lines.specs.Names.{named_read}
 use Rattle.rte_asm_lines.specs.Trees.{tree_line_read}
 use Rattle.rte_asm_lines.specs.Routines.{cost_read}
 
--- ---- what releases a process, and within what it ends: kind, frame, deadline, first activation and event
+-- ---- what releases a process, and within what it ends: kind, frame, deadline, first activation
+-- and event
 
 unfoldable pub periodic_frame_read : Front → Read ℕ
 periodic_frame_read s = field_read (codes " periodic frame ") 10 1000000000 s

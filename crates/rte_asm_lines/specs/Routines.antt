@@ -11,7 +11,8 @@ use Rattle.rte_asm_lines.specs.Trees.{tree_line_read}
 abbrev pub owned_read : (kind : ℕ) → (label : List ℕ) → (count : ℕ) → Front → Read (ℕ × ℕ)
 owned_read kind label count s = field_read label 0 65535 s >>= λ owner. Ok ((kind, owner.0), noted owner.1 (nat_lt owner.0 count))
 
--- whose a routine is: its kind and the owner's number, where there are so many processes and monitors
+-- whose a routine is: its kind and the owner's number, where there are so many processes and
+-- monitors
 unfoldable pub owner_read : (processes monitors : ℕ) → Front → Read (ℕ × ℕ)
 owner_read processes monitors s =
     if begins (codes "routine process ") s.rest then owned_read 1 (codes "routine process ") processes s

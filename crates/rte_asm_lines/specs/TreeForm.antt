@@ -1,4 +1,5 @@
--- Whether a line has the form of a tree: words with one space between them, numbers of any size, parentheses that are closed.
+-- Whether a line has the form of a tree: words with one space between them, numbers of any size,
+-- parentheses that are closed.
 use Rattle.std.specs.Prelude.{◌&&◌, ◌==◌, not, ℕ, Bool, true, false, List, [], ◌∷◌, ◌++◌, length, take, fold, Option, Some, None, option_map, codes, nat_eq, nat_lt, if◌then◌else◌}
 use Rattle.std.specs.List.{list_all, prefix_len}
 use Rattle.std.specs.Cmp.Lexicographic.{pointwise}
@@ -12,7 +13,8 @@ is word other = pointwise nat_eq word other
 abbrev pub is_number : List ℕ → Bool
 is_number word = list_all is_digit word && is_numeral word
 
--- what is awaited after these words, and which parentheses are open; of each, whether the first arm of a fork stands in it
+-- what is awaited after these words, and which parentheses are open; of each, whether the first arm
+-- of a fork stands in it
 pub record Shape : Type 0 where
   pub awaits : Awaits
   pub arms : List Bool

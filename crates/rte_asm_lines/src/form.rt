@@ -138,7 +138,8 @@ impl Form {
 
     /// Goes on to what is awaited, where the word is what was; else no word may follow.
     fn go_on(&mut self, holds: bool, awaits: Awaits)
-        ensures { shape_of self.new ≡ when holds (record { awaits = awaits; arms = self.old.arms.items }) }
+        ensures { shape_of self.new ≡ when holds
+            (record { awaits = awaits; arms = self.old.arms.items }) }
     {
         if holds {
             self.awaits = awaits;

@@ -114,7 +114,8 @@ pub fn named<'a>(
     label: &[u8],
     taken: &[Name],
 ) -> Result<(Name, At<'a>), ReadError>
-    ensures { Gives (λ x. (x.0, front x.1)) result (named_read label.now taken.now (front at.entry)) }
+    ensures { Gives (λ x. (x.0, front x.1)) result
+        (named_read label.now taken.now (front at.entry)) }
 {
     let at = skip(at, label)?;
     name_at(alloc, at, taken)
@@ -215,7 +216,8 @@ pub fn monitor_line<'a>(
     at: At<'a>,
     taken: &[Name],
 ) -> Result<((Name, RawMon), At<'a>), ReadError>
-    ensures { Gives (λ x. ((x.0.0, monitor_of x.0.1), front x.1)) result (monitor_read taken.now (front at.entry)) }
+    ensures { Gives (λ x. ((x.0.0, monitor_of x.0.1), front x.1)) result
+        (monitor_read taken.now (front at.entry)) }
 {
     let (name, at) = named(alloc, at, b"monitor ", taken)?;
     let (base, at) = field(at, b" base ", 0, 4_294_967_295)?;
@@ -245,7 +247,8 @@ fn placed_condition<'a>(
     earlier: &[CondName],
     at: At<'a>,
 ) -> Result<(CondName, At<'a>), ReadError>
-    ensures { Gives (λ x. (x.0, front x.1)) result (placed monitors earlier.now name (mon, front at.entry)) }
+    ensures { Gives (λ x. (x.0, front x.1)) result
+        (placed monitors earlier.now name (mon, front at.entry)) }
 {
     let condition = CondName { name, mon };
     let at = note(at, usize::from(mon) < monitors);
@@ -263,7 +266,8 @@ pub fn condition_line<'a>(
     monitors: usize,
     earlier: &[CondName],
 ) -> Result<(CondName, At<'a>), ReadError>
-    ensures { Gives (λ x. (x.0, front x.1)) result (condition_read taken.now monitors earlier.now (front at.entry)) }
+    ensures { Gives (λ x. (x.0, front x.1)) result
+        (condition_read taken.now monitors earlier.now (front at.entry)) }
 {
     let (name, at) = named(alloc, at, b"condition ", taken)?;
     let (mon, at) = short_field(at, b" ", 0, 65_535)?;

@@ -40,7 +40,11 @@ fn periodic_frame(at: At<'_>) -> Result<(u32, At<'_>), ReadError>
 
 /// What releases a periodic process.
 fn periodic(at: At<'_>) -> Result<(Release, At<'_>), ReadError>
-    ensures { Gives (λ x. ((x.0.kind, (x.0.frame, (x.0.deadline, (x.0.first, x.0.event)))), front x.1)) result (periodic_read (front at.entry)) }
+    ensures { Gives (λ x. (
+      (x.0.kind, (x.0.frame, (x.0.deadline, (x.0.first, x.0.event)))),
+      front
+          x.1,
+    )) result (periodic_read (front at.entry)) }
 {
     let (frame, at) = periodic_frame(at)?;
     let (deadline, at) = field(at, b" deadline ", 10, frame)?;
@@ -64,7 +68,11 @@ fn is_free(events: usize, used: &[u16], event: u16) -> bool
 
 /// What releases a process of an event.
 fn evented<'a>(at: At<'a>, events: usize, used: &[u16]) -> Result<(Release, At<'a>), ReadError>
-    ensures { Gives (λ x. ((x.0.kind, (x.0.frame, (x.0.deadline, (x.0.first, x.0.event)))), front x.1)) result (evented_read events used.now (front at.entry)) }
+    ensures { Gives (λ x. (
+      (x.0.kind, (x.0.frame, (x.0.deadline, (x.0.first, x.0.event)))),
+      front
+          x.1,
+    )) result (evented_read events used.now (front at.entry)) }
 {
     let (event, at) = short_field(at, b" event ", 0, 65_535)?;
     let at = note(at, is_free(events, used, event));
@@ -83,7 +91,11 @@ fn evented<'a>(at: At<'a>, events: usize, used: &[u16]) -> Result<(Release, At<'
 /// What releases a process, and within what it ends.
 #[tactic(auto, unfolding(crate::specs::Processes::release_read))]
 fn release_at<'a>(at: At<'a>, events: usize, used: &[u16]) -> Result<(Release, At<'a>), ReadError>
-    ensures { Gives (λ x. ((x.0.kind, (x.0.frame, (x.0.deadline, (x.0.first, x.0.event)))), front x.1)) result (release_read events used.now (front at.entry)) }
+    ensures { Gives (λ x. (
+      (x.0.kind, (x.0.frame, (x.0.deadline, (x.0.first, x.0.event)))),
+      front
+          x.1,
+    )) result (release_read events used.now (front at.entry)) }
 {
     if begins_with(at.rest, b" event ") {
         evented(at, events, used)
@@ -105,7 +117,10 @@ struct Time {
 
 #[tactic(auto, unfolding(crate::specs::Processes::time_read))]
 fn time_at(at: At<'_>) -> Result<(Time, At<'_>), ReadError>
-    ensures { Gives (λ x. ((x.0.rank, (x.0.run, (x.0.susp, (x.0.waits, (x.0.block, x.0.bound))))), front x.1)) result (time_read (front at.entry)) }
+    ensures { Gives (λ x. (
+      (x.0.rank, (x.0.run, (x.0.susp, (x.0.waits, (x.0.block, x.0.bound))))),
+      front x.1,
+    )) result (time_read (front at.entry)) }
 {
     let (rank, at) = short_field(at, b" rank ", 0, 65_535)?;
     let (run, at) = cost(at, b" run ")?;
@@ -135,7 +150,8 @@ struct Room {
 
 #[tactic(auto, unfolding(crate::specs::Processes::room_read))]
 fn room_at(at: At<'_>) -> Result<(Room, At<'_>), ReadError>
-    ensures { Gives (λ x. ((x.0.words, (x.0.stack, (x.0.locals, x.0.start))), front x.1)) result (room_read (front at.entry)) }
+    ensures { Gives (λ x. ((x.0.words, (x.0.stack, (x.0.locals, x.0.start))), front x.1)) result
+        (room_read (front at.entry)) }
 {
     let (words, at) = field(at, b" data ", 0, 4_294_967_295)?;
     let (stack, at) = field(at, b" stack ", 0, 4096)?;
@@ -213,7 +229,8 @@ struct Handler {
 /// The handler, where there is one.
 #[tactic(auto, unfolding(crate::specs::Processes::handler_read))]
 fn handler_at(alloc: Global, at: At<'_>) -> Result<(Handler, At<'_>), ReadError>
-    ensures { Gives (λ x. ((x.0.start, x.0.numbers), front x.1)) result (handler_read (front at.entry)) }
+    ensures { Gives (λ x. ((x.0.start, x.0.numbers), front x.1)) result
+        (handler_read (front at.entry)) }
 {
     if begins_with(at.rest, b"\n") {
         let none = Handler {
@@ -235,7 +252,8 @@ fn handler_tree<'a>(
     numbers: &[u16],
     at: At<'a>,
 ) -> Result<(Option<Segs>, At<'a>), ReadError>
-    ensures { Gives (λ x. (option_map views x.0, front x.1)) result (handler_tree_read monitors numbers.now (front at.entry)) }
+    ensures { Gives (λ x. (option_map views x.0, front x.1)) result
+        (handler_tree_read monitors numbers.now (front at.entry)) }
 {
     match numbers {
         [] => Ok((None, at)),
@@ -263,7 +281,8 @@ fn fields<'a>(
     events: usize,
     used: &[u16],
 ) -> Result<(ProcessLine, At<'a>), ReadError>
-    ensures { Gives (λ x. (line_of x.0, front x.1)) result (fields_read events used.now (front at.entry)) }
+    ensures { Gives (λ x. (line_of x.0, front x.1)) result
+        (fields_read events used.now (front at.entry)) }
 {
     let (release, at) = release_at(at, events, used)?;
     let (time, at) = time_at(at)?;
@@ -288,7 +307,8 @@ pub fn process_line<'a>(
     taken: &[Name],
     used: &[u16],
 ) -> Result<((Name, ProcessLine), At<'a>), ReadError>
-    ensures { Gives (λ x. ((x.0.0, line_of x.0.1), front x.1)) result (process_line_read events taken.now used.now (front at.entry)) }
+    ensures { Gives (λ x. ((x.0.0, line_of x.0.1), front x.1)) result
+        (process_line_read events taken.now used.now (front at.entry)) }
 {
     let (name, at) = named(alloc, at, b"process ", taken)?;
     let (line, at) = fields(alloc, at, events, used)?;
@@ -297,7 +317,8 @@ pub fn process_line<'a>(
 
 /// The process of the line and these trees.
 fn process_of_line(line: ProcessLine, body: Segs, handler_tree: Option<Segs>) -> RawProc
-    ensures { process_of result ≡ process_with (line_of line) (views body) (option_map views handler_tree) }
+    ensures { process_of result ≡ process_with (line_of line) (views body)
+        (option_map views handler_tree) }
 {
     let ProcessLine {
         release,
@@ -338,7 +359,8 @@ pub fn process_at<'a>(
     taken: &[Name],
     used: &[u16],
 ) -> Result<((Name, RawProc), At<'a>), ReadError>
-    ensures { Gives (λ x. ((x.0.0, process_of x.0.1), front x.1)) result (process_read monitors events taken.now used.now (front at.entry)) }
+    ensures { Gives (λ x. ((x.0.0, process_of x.0.1), front x.1)) result
+        (process_read monitors events taken.now used.now (front at.entry)) }
 {
     let ((name, line), at) = process_line(alloc, at, events, taken, used)?;
     let (body, at) = tree_line(alloc, monitors, at)?;

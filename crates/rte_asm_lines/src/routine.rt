@@ -29,7 +29,8 @@ struct Owner {
 
 /// The owner of a kind, one of so many, behind these bytes.
 fn owned<'a>(kind: u8, at: At<'a>, label: &[u8], count: usize) -> Result<(Owner, At<'a>), ReadError>
-    ensures { Gives (λ x. ((x.0.kind, x.0.number), front x.1)) result (owned_read kind label.now count (front at.entry)) }
+    ensures { Gives (λ x. ((x.0.kind, x.0.number), front x.1)) result
+        (owned_read kind label.now count (front at.entry)) }
 {
     let (number, at) = short_field(at, label, 0, 65_535)?;
     let at = note(at, usize::from(number) < count);
@@ -39,7 +40,8 @@ fn owned<'a>(kind: u8, at: At<'a>, label: &[u8], count: usize) -> Result<(Owner,
 /// Whose a routine is, where there are so many processes and monitors.
 #[tactic(auto, unfolding(crate::specs::Routines::owner_read))]
 fn owner_at(at: At<'_>, processes: usize, monitors: usize) -> Result<(Owner, At<'_>), ReadError>
-    ensures { Gives (λ x. ((x.0.kind, x.0.number), front x.1)) result (owner_read processes monitors (front at.entry)) }
+    ensures { Gives (λ x. ((x.0.kind, x.0.number), front x.1)) result
+        (owner_read processes monitors (front at.entry)) }
 {
     if begins_with(at.rest, b"routine process ") {
         return owned(1, at, b"routine process ", processes);
@@ -62,7 +64,8 @@ struct Room {
 
 #[tactic(auto, unfolding(crate::specs::Routines::place_read))]
 fn room_at(at: At<'_>) -> Result<(Room, At<'_>), ReadError>
-    ensures { Gives (λ x. ((x.0.params, (x.0.locals, (x.0.result, x.0.start))), front x.1)) result (place_read (front at.entry)) }
+    ensures { Gives (λ x. ((x.0.params, (x.0.locals, (x.0.result, x.0.start))), front x.1)) result
+        (place_read (front at.entry)) }
 {
     let (params, at) = short_field(at, b" params ", 0, 65_535)?;
     let (locals, at) = field(at, b" locals ", 0, 4096)?;
@@ -100,7 +103,8 @@ struct Time {
 
 #[tactic(auto, unfolding(crate::specs::Routines::cost_fields_read))]
 fn time_at(at: At<'_>, kind: u8) -> Result<(Time, At<'_>), ReadError>
-    ensures { Gives (λ x. ((x.0.run, (x.0.susp, (x.0.waits, x.0.stay))), front x.1)) result (cost_fields_read kind (front at.entry)) }
+    ensures { Gives (λ x. ((x.0.run, (x.0.susp, (x.0.waits, x.0.stay))), front x.1)) result
+        (cost_fields_read kind (front at.entry)) }
 {
     let (run, at) = cost(at, b" run ")?;
     let (susp, at) = cost(at, b" suspend ")?;
@@ -130,7 +134,16 @@ pub fn routine_line(
     processes: usize,
     monitors: usize,
 ) -> Result<(RoutineLine, At<'_>), ReadError>
-    ensures { Gives (λ x. (((x.0.owner.kind, x.0.owner.number), ((x.0.room.params, (x.0.room.locals, (x.0.room.result, x.0.room.start))), (x.0.time.run, (x.0.time.susp, (x.0.time.waits, x.0.time.stay))))), front x.1))
+    ensures { Gives (λ x. (
+      (
+        (x.0.owner.kind, x.0.owner.number),
+        (
+          (x.0.room.params, (x.0.room.locals, (x.0.room.result, x.0.room.start))),
+          (x.0.time.run, (x.0.time.susp, (x.0.time.waits, x.0.time.stay))),
+        ),
+      ),
+      front x.1,
+    ))
         result (routine_line_read processes monitors (front at.entry)) }
 {
     let (owner, at) = owner_at(at, processes, monitors)?;
@@ -148,7 +161,8 @@ pub fn routine_at(
     processes: usize,
     monitors: usize,
 ) -> Result<(RawRoutine, At<'_>), ReadError>
-    ensures { Gives (λ x. (routine_of x.0, front x.1)) result (routine_read processes monitors (front at.entry)) }
+    ensures { Gives (λ x. (routine_of x.0, front x.1)) result
+        (routine_read processes monitors (front at.entry)) }
 {
     let (line, at) = routine_line(at, processes, monitors)?;
     let (tree, at) = tree_line(alloc, monitors, at)?;

@@ -46,7 +46,8 @@ fn arm_at(
     depth: u32,
     at: At<'_>,
 ) -> Result<(Segs, At<'_>), ReadError>
-    ensures { Gives (λ x. (views x.0, front x.1)) result (arm_read (tree_read monitors depth) (front at.entry)) }
+    ensures { Gives (λ x. (views x.0, front x.1)) result
+        (arm_read (tree_read monitors depth) (front at.entry)) }
 {
     let at = skip(at, b" (")?;
     let (tree, at) = tree_at(alloc, monitors, depth, at)?;
@@ -62,7 +63,8 @@ fn fork_at(
     depth: u32,
     at: At<'_>,
 ) -> Result<(Seg, At<'_>), ReadError>
-    ensures { Gives (λ x. (view x.0, front x.1)) result (fork_read (tree_read monitors depth) (front at.entry)) }
+    ensures { Gives (λ x. (view x.0, front x.1)) result
+        (fork_read (tree_read monitors depth) (front at.entry)) }
 {
     let at = skip(at, b" fork")?;
     let (first, at) = arm_at(alloc, monitors, depth, at)?;
@@ -78,7 +80,8 @@ fn rep_at(
     depth: u32,
     at: At<'_>,
 ) -> Result<(Seg, At<'_>), ReadError>
-    ensures { Gives (λ x. (view x.0, front x.1)) result (rep_read (tree_read monitors depth) (front at.entry)) }
+    ensures { Gives (λ x. (view x.0, front x.1)) result
+        (rep_read (tree_read monitors depth) (front at.entry)) }
 {
     let (turns, at) = field(at, b" rep ", 1, 1_000_000)?;
     let (body, at) = arm_at(alloc, monitors, depth, at)?;
@@ -93,7 +96,8 @@ fn stay_at(
     depth: u32,
     at: At<'_>,
 ) -> Result<(Seg, At<'_>), ReadError>
-    ensures { Gives (λ x. (view x.0, front x.1)) result (stay_read monitors (tree_read monitors depth) (front at.entry)) }
+    ensures { Gives (λ x. (view x.0, front x.1)) result
+        (stay_read monitors (tree_read monitors depth) (front at.entry)) }
 {
     let (monitor, at) = short_field(at, b" stay ", 0, 65_535)?;
     let at = note(at, usize::from(monitor) < monitors);
@@ -110,7 +114,8 @@ fn seg_at(
     depth: u32,
     at: At<'_>,
 ) -> Result<(Seg, At<'_>), ReadError>
-    ensures { Gives (λ x. (view x.0, front x.1)) result (seg_read monitors (tree_read monitors depth) (front at.entry)) }
+    ensures { Gives (λ x. (view x.0, front x.1)) result
+        (seg_read monitors (tree_read monitors depth) (front at.entry)) }
 {
     if begins_with(at.rest, b" line ") {
         return line_at(at);
@@ -144,7 +149,8 @@ fn segs_at(
     most: usize,
     at: At<'_>,
 ) -> Result<(Segs, At<'_>), ReadError>
-    ensures { Gives (λ x. (views x.0, front x.1)) result (segs_read (seg_read monitors (tree_read monitors depth)) most (front at.entry)) }
+    ensures { Gives (λ x. (views x.0, front x.1)) result
+        (segs_read (seg_read monitors (tree_read monitors depth)) most (front at.entry)) }
 {
     let mut segs = Segs::new(alloc);
     let mut place = at;
@@ -171,7 +177,8 @@ fn tree_at(
     depth: u32,
     at: At<'_>,
 ) -> Result<(Segs, At<'_>), ReadError>
-    ensures { Gives (λ x. (views x.0, front x.1)) result (tree_read monitors depth (front at.entry)) }
+    ensures { Gives (λ x. (views x.0, front x.1)) result
+        (tree_read monitors depth (front at.entry)) }
 {
     if depth == 0 {
         return Err(ReadError::Fault(Fault {
@@ -185,7 +192,8 @@ fn tree_at(
 /// The line of a tree.
 #[tactic(auto, unfolding(crate::specs::Trees::tree_line_read))]
 pub fn tree_line(alloc: Global, monitors: usize, at: At<'_>) -> Result<(Segs, At<'_>), ReadError>
-    ensures { Gives (λ x. (views x.0, front x.1)) result (tree_line_read monitors (front at.entry)) }
+    ensures { Gives (λ x. (views x.0, front x.1)) result
+        (tree_line_read monitors (front at.entry)) }
 {
     let has_form = is_tree_first(alloc, at.rest)?;
     if !has_form {

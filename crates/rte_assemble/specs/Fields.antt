@@ -18,7 +18,8 @@ HaveHandlers [] [] = Unit {0}
 HaveHandlers (p ∷ ps) (x ∷ xs) = (is_some x.handler ≡ is_some p.handler) × HaveHandlers ps xs
 HaveHandlers ps xs = ⊥
 
--- A part for each routine, and for the body and the handler of each process. What is made of the program has them.
+-- A part for each routine, and for the body and the handler of each process. What is made of the
+-- program has them.
 pub record HasParts (g : Prog) (k : Code) : Type 0 where
   pub routines : length k.routines ≡ length (numbered g)
   pub processes : HaveHandlers (processes g) k.processes
@@ -61,7 +62,8 @@ pub record Begin (x : ProcessParts) : Type 0 where
   pub body : Begins x.body
   pub handler : HandlerBegins x.handler
 
--- What is asked of the numbers of a program and its code. It follows from the static rules, and from the two rules of size.
+-- What is asked of the numbers of a program and its code. It follows from the static rules, and
+-- from the two rules of size.
 pub record FitsFields (g : Prog) (k : Code) : Type 0 where
   pub few_monitors : length (monitors g) ≤ 64
   pub few_events : length (filter_map event_in g.decls) ≤ 64

@@ -24,7 +24,8 @@ fn raw_monitor(
     requires { base + words_of (plain (placed values.now))
         (monitor_vars (plain_monitor (placed_monitor monitor.now))) ≤ 1048576 }
     ensures told { IfOk result (λ raw. monitor_of raw ≡
-        monitor_told (plain (placed values.now)) base (plain_monitor (placed_monitor monitor.now))) }
+        monitor_told (plain (placed values.now)) base
+        (plain_monitor (placed_monitor monitor.now))) }
     ensures words { IfOk result (λ raw. raw.words ≡ words_of (plain (placed values.now))
         (monitor_vars (plain_monitor (placed_monitor monitor.now)))) }
 {

@@ -1,4 +1,5 @@
--- The law: what is made of a checked program that keeps to the rules of size can be put into an image.
+-- The law: what is made of a checked program that keeps to the rules of size can be put into an
+-- image.
 use Rattle.std.specs.Prelude.{ℕ}
 use Rattle.rte_tree.specs.Placed.{Prog, plain}
 use Rattle.rte_tree.specs.Plain as plain_of

@@ -13,7 +13,8 @@ BeginsWithin {P} depth ts = (us : List (Tok P)) × (g : Prog P) × IsProgWithin 
 abbrev pub BeginsProg : {P : Type 0} → List (Tok P) → Type 0
 BeginsProg ts = (more : ℕ) × BeginsWithin (MOST_LEVELS + more) ts
 
--- the token with which the tokens read no longer begin a program: those before it do, and with it they do not
+-- the token with which the tokens read no longer begin a program: those before it do, and with it
+-- they do not
 pub record Stop (text : List ℕ) (toks : List Token) : Type 0 where
   pub before : List Token
   pub token : Token

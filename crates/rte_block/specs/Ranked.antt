@@ -1,4 +1,5 @@
--- The ranks of processes, the ceilings of monitors, and how long a lower process can keep a higher one from running.
+-- The ranks of processes, the ceilings of monitors, and how long a lower process can keep a higher
+-- one from running.
 use Rattle.std.specs.Prelude.{◌≡◌, ◌<◌, ◌≤◌, ◌+◌, ◌==◌, ◌&&◌, ◌||◌, ◌⊎◌, ℕ, Bool, nat_lt, List, [], length, Option, Some, None, IsTrue, IsSomeAnd, slice_index, slice_index_or, min, Any}
 use Rattle.rte_block.specs.Counts.{count_below}
 use Rattle.rte_block.specs.declared.uses.Stay.{Stay}
@@ -66,6 +67,7 @@ pub record IsGreatest (P : ℕ → Type 0) (b : ℕ) : Type 0 where
   pub most : (n : ℕ) → P n → n ≤ b
   pub one : (b ≡ 0) ⊎ P b
 
--- how long a process of lower rank can keep this rank from running: its longest stay in a monitor whose ceiling is at most the rank
+-- how long a process of lower rank can keep this rank from running: its longest stay in a monitor
+-- whose ceiling is at most the rank
 abbrev pub IsBlocking : List Use → List ℕ → List (Option ℕ) → ℕ → ℕ → Type 0
 IsBlocking us ranks ceilings rank b = IsGreatest (IsLowerStay (length us) us ranks ceilings rank) b

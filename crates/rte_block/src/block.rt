@@ -29,8 +29,9 @@ fn longest(stays: &[Stay], ceilings: &[Option<u16>], rank: u16) -> u64
     most
 }
 
-/// The blocking of a rank: the longest stay of a process ranked below in a monitor whose ceiling is at most that rank
-/// as a number, and 0 where there is none. The ranks and the ceilings are those of the uses.
+/// The blocking of a rank: the longest stay of a process ranked below in a monitor whose ceiling is
+/// at most that rank as a number, and 0 where there is none. The ranks and the ceilings are those
+/// of the uses.
 pub fn blocking(uses: &List<Use>, ranks: &List<u16>, ceilings: &List<Option<u16>>, rank: u16) -> u64
     requires { length ranks.now ≡ length uses.now }
     ensures { IsBlocking uses.now ranks.now ceilings.now rank result }

@@ -38,8 +38,8 @@ fn ceiling(uses: &[Use], ranks: &[u16], mon: u16) -> Option<u16>
     found
 }
 
-/// The ceiling of each monitor, in the order of their numbers: the least rank among the processes that reach it, and
-/// None for a monitor that no process reaches. The ranks are those of the uses.
+/// The ceiling of each monitor, in the order of their numbers: the least rank among the processes
+/// that reach it, and None for a monitor that no process reaches. The ranks are those of the uses.
 pub fn ceilings(
     alloc: Global,
     uses: &List<Use>,

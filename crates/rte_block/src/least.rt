@@ -6,15 +6,17 @@ ghost use Rattle.rte_response.specs.Demand.{Solves, IsBound, starts_in, deadline
 use rte_response::{Steps, TaskSet, demand};
 use std::sync::ledger::Ledger;
 
-/// The least response of 1 tick up to the deadline that meets the recurrence of the level, iterated from below.
+/// The least response of 1 tick up to the deadline that meets the recurrence of the level, iterated
+/// from below.
 ///
-/// None exactly where there is none. The evaluations of the demand are at most two more than the activations that the
-/// tasks up to the level start within the deadline of the level.
+/// None exactly where there is none. The evaluations of the demand are at most two more than the
+/// activations that the tasks up to the level start within the deadline of the level.
 pub fn bound<L: Ledger>(set: &TaskSet, level: usize, steps: &mut Steps<L>) -> Option<u64>
     requires { level < length set.now }
     ensures some { IfSome result (IsBound set.now level) }
     ensures none { IfNone result ((r : ℕ) → ¬ Solves set.now level r) }
-    ensures cost { steps.new ≤ steps.old + (2 + starts_in (deadline_at set.now level) (take (level + 1) set.now)) }
+    ensures cost { steps.new ≤ steps.old + (2 +
+        starts_in (deadline_at set.now level) (take (level + 1) set.now)) }
 {
     let limit = set.limit(level);
     let mut response = 1;

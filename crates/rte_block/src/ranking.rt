@@ -13,7 +13,8 @@ use std::alloc::{AllocError, Global};
 fn higher(uses: &[Use], place: usize) -> u16
     requires few { length uses.now ≤ 64 }
     requires place { place < length uses.now }
-    ensures value { result ≡ count_below (λ other. outranks uses.now other place) (length uses.now) }
+    ensures value { result ≡ count_below (λ other. outranks uses.now other place)
+        (length uses.now) }
     ensures few { result ≤ 64 }
 {
     let deadline = uses[place].deadline;
@@ -26,8 +27,8 @@ fn higher(uses: &[Use], place: usize) -> u16
     count
 }
 
-/// The rank of each of at most 64 processes, from 1, in the order of the text: the shorter deadline has the smaller
-/// number, and of equal deadlines the earlier process (Leung and Whitehead).
+/// The rank of each of at most 64 processes, from 1, in the order of the text: the shorter deadline
+/// has the smaller number, and of equal deadlines the earlier process (Leung and Whitehead).
 pub fn ranks(alloc: Global, uses: &List<Use>) -> Result<List<u16>, AllocError>
     requires { length uses.now ≤ 64 }
     ensures { IfOk result (AreRanks uses.now) }
@@ -39,8 +40,8 @@ pub fn ranks(alloc: Global, uses: &List<Use>) -> Result<List<u16>, AllocError>
     Ok(all)
 }
 
-/// The law of ranks: where they are 1 up to the number of processes, and who ranks higher has the smaller number, the
-/// rank of each process is one more than the number of those that rank higher.
+/// The law of ranks: where they are 1 up to the number of processes, and who ranks higher has the
+/// smaller number, the rank of each process is one more than the number of those that rank higher.
 pub fn ranks_are_counted()
     ensures { (us : List Use) (ranks : List ℕ) → AreRanks us ranks → AreCounted us ranks }
 {}

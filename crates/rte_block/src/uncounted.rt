@@ -20,8 +20,8 @@ fn with_count<L: Ledger>(blank: Blank, set: &TaskSet, level: usize) -> Option<u6
     bound(set, level, &mut Steps::<L>::open(blank))
 }
 
-/// The least response of 1 tick up to the deadline that meets the recurrence of the level, and None exactly where there
-/// is none.
+/// The least response of 1 tick up to the deadline that meets the recurrence of the level, and None
+/// exactly where there is none.
 pub fn bound_of(set: &TaskSet, level: usize) -> Option<u64>
     requires { level < length set.now }
     ensures some { IfSome result (IsBound set.now level) }

@@ -14,7 +14,8 @@ use rte_tree::List;
 use rte_valid_times::task_set;
 use std::alloc::{AllocError, Global};
 
-/// The least bound of the level, which is at most its limit; none where there is none within the deadline.
+/// The least bound of the level, which is at most its limit; none where there is none within the
+/// deadline.
 #[tactic(auto, using(crate::proofs::Growing::within_limit))]
 fn level_bound(set: &TaskSet, level: usize) -> Option<u32>
     requires { level < length set.now }
@@ -35,8 +36,8 @@ fn process_bound(set: &TaskSet, process: &RawProc) -> Option<u32>
     level_bound(set, (process.rank as usize).saturating_sub(1))
 }
 
-/// The least bound of each process within its deadline (Burns and Wellings), none where its recurrence
-/// has no solution there. It fails only where memory is wanting.
+/// The least bound of each process within its deadline (Burns and Wellings), none where its
+/// recurrence has no solution there. It fails only where memory is wanting.
 pub fn bounds(alloc: Global, image: &RawImage) -> Result<List<Option<u32>>, AllocError>
     requires limits { HasLimits (image_of image.now) }
     requires ranks { HasRanks (image_of image.now) }

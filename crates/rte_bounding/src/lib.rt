@@ -1,7 +1,8 @@
 //! The least bounds of an image whose ranks are set, and the table that is shown of it.
 //!
 //! A bound is the least number of ticks that meets the recurrence of the rank within the deadline
-//! (Burns and Wellings), and none where no number does: `AreLeast` of `rte_built`. `bounds` finds them,
+//! (Burns and Wellings), and none where no number does: `AreLeast` of `rte_built`. `bounds` finds
+//! them,
 //! `with_bounds` fills them in, and `table` lists them with what the image declares: `table_of`.
 #![tactic(auto)]
 

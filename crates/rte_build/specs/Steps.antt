@@ -43,7 +43,8 @@ pub record IsAssembled (g : Prog Place) (over : ℕ) (raw : RawImage) : Type 0 w
   pub holds : Holds (plain g) (program_made (plain g)) (image_of raw)
   pub declares : Declares (plain g) (image_of raw)
 
--- the image of the program, in the limits of validity; nothing is said of its bounds but that none is 0
+-- the image of the program, in the limits of validity; nothing is said of its bounds but that none
+-- is 0
 pub record IsRanked (g : Prog Place) (over : ℕ) (raw : RawImage) : Type 0 where
   pub fits : KeepsSizes g
   pub program : raw.program ≡ g.name

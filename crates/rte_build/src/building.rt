@@ -14,13 +14,15 @@ use rte_filled::law::{bounded_images_are_built, late_where_one_is_none};
 use rte_static::Checked;
 use std::alloc::Global;
 
-/// The image of the program of a text with an overhead of at most 1,000 ticks: the ticks of one dispatch.
+/// The image of the program of a text with an overhead of at most 1,000 ticks: the ticks of one
+/// dispatch.
 ///
 /// # Errors
 ///
-/// `TooLarge` exactly where a rule of size fails, with the first that does. `Untimely` exactly where none fails, and the
-/// recurrence (Burns and Wellings) of some process has no solution within its deadline; ranks are by deadlines (Leung and
-/// Whitehead), blocks by immediate ceilings. `Memory` where there is not enough memory.
+/// `TooLarge` exactly where a rule of size fails, with the first that does. `Untimely` exactly
+/// where none fails, and the recurrence (Burns and Wellings) of some process has no solution within
+/// its deadline; ranks are by deadlines (Leung and Whitehead), blocks by immediate ceilings.
+/// `Memory` where there is not enough memory.
 pub fn build(alloc: Global, program: &Checked, over: u16) -> Result<Built, BuildFault>
     ghost text: { List ℕ }
     requires written { IsProgramOf text (placed program.now) }

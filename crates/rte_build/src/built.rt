@@ -5,7 +5,8 @@ use rte_table::Table;
 use rte_tree::{Name, Place};
 use std::alloc::AllocError;
 
-/// A program that is timely: its image, whose bounds are the least, and the table that is shown of it.
+/// A program that is timely: its image, whose bounds are the least, and the table that is shown of
+/// it.
 #[derive(Drop)]
 pub struct Built {
     pub image: RawImage,

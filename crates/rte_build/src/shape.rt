@@ -33,7 +33,8 @@ fn assembled(alloc: Global, program: &Prog, over: u16, parts: Parts) -> Result<R
     assemble(alloc, program, over, code, &measures)
 }
 
-/// The image of the program of a text, with its ranks, ceilings and blocks; each bound is the deadline.
+/// The image of the program of a text, with its ranks, ceilings and blocks; each bound is the
+/// deadline.
 pub fn ranked(alloc: Global, program: &Prog, over: u16) -> Result<RawImage, BuildFault>
     ghost text: { List ℕ }
     requires over { over ≤ 1000 }

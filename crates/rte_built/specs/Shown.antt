@@ -37,7 +37,8 @@ table_of m bounds = record {
   code = length m.code;
 }
 
--- for each process the least solution of its recurrence within its deadline, none exactly where there is none
+-- for each process the least solution of its recurrence within its deadline, none exactly where
+-- there is none
 pub record AreLeast (m : Image) (bounds : List (Option ℕ)) : Type 0 where
   pub one_each : length bounds ≡ length m.processes
   pub each : (k : ℕ) (p : Process) (b : Option ℕ) → slice_get m.processes k ≡ Some p → slice_get bounds k ≡ Some b

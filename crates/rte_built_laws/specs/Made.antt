@@ -9,7 +9,8 @@ use Rattle.rte_small.specs.Checked.{IsImageMade}
 use Rattle.rte_built.specs.Named.{names_of}
 use Rattle.rte_commands.specs.Runs.{IsFaithful}
 
--- The law: where it has the names of the program and is in its limits, it is faithful to the program.
+-- The law: where it has the names of the program and is in its limits, it is faithful to the
+-- program.
 abbrev pub MadeImagesAreFaithful : Type 0
 MadeImagesAreFaithful = (g : Prog Place) (n : NamedImage) → IsChecked g → n.names ≡ names_of (plain g)
     → IsImageMade (plain g) n.image → HasLimits n.image → IsFaithful (plain g) n

@@ -44,13 +44,15 @@ abbrev pub EntriesHaveOwners : Type 0
 EntriesHaveOwners = (g : Prog) (m : image.Image) → IsCodeOf g m
     → (r : ℕ) (x : image.Routine) → slice_get m.routines r ≡ Some x → HasOwner m x
 
--- The law: so a shaped image of a well-formed program that is written, which is its code, has the limits, where no bound is 0.
+-- The law: so a shaped image of a well-formed program that is written, which is its code, has the
+-- limits, where no bound is 0.
 abbrev pub ShapedImagesAreInLimits : Type 0
 ShapedImagesAreInLimits = (text : List ℕ) (g : placed.Prog Place) (over : ℕ) (m : image.Image) → IsWritten text g
     → IsWellFormed (plain g) → IsShaped (plain g) over m → IsCodeOf (plain g) m
     → ((k : ℕ) (p : image.Process) → slice_get m.processes k ≡ Some p → 1 ≤ p.bound) → HasLimits m
 
--- The law: so an image that is the code of a well-formed program that is written, and built of it, has the limits.
+-- The law: so an image that is the code of a well-formed program that is written, and built of it,
+-- has the limits.
 abbrev pub BuiltImagesAreInLimits : Type 0
 BuiltImagesAreInLimits = (text : List ℕ) (g : placed.Prog Place) (over : ℕ) (n : NamedImage) → IsWritten text g
     → IsWellFormed (plain g) → IsBuilt (plain g) over n → IsCodeOf (plain g) n.image → HasLimits n.image

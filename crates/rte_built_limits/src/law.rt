@@ -22,7 +22,8 @@ pub fn entries_have_owners()
     ensures { EntriesHaveOwners }
 {}
 
-/// A shaped image of a well-formed program that is written is in the limits of validity, where no bound is 0.
+/// A shaped image of a well-formed program that is written is in the limits of validity, where no
+/// bound is 0.
 pub fn shaped_images_are_in_limits()
     ensures { ShapedImagesAreInLimits }
 {

@@ -11,8 +11,9 @@ use Rattle.rte_script_suits.specs.Suits.{HasFrames}
 use Rattle.rte_built.specs.Built.{IsBuilt}
 use Rattle.rte_commands.specs.Source.{IsWritten}
 
--- what a run and a store ask of an image beside that it is valid: numbers are in the ranges of their fields, it has a plan, its names
--- are those of its parts, counts fit their fields, and the frames that stand at its events are those of its processes
+-- what a run and a store ask of an image beside that it is valid: numbers are in the ranges of
+-- their fields, it has a plan, its names are those of its parts, counts fit their fields, and the
+-- frames that stand at its events are those of its processes
 pub record IsReady (n : NamedImage) : Type 0 where
   pub limits : HasLimits n.image
   pub plan : HasPlan n.image

@@ -14,8 +14,8 @@ use rte_valid_law::law::valid_meets_premises;
 use rte_whole::law::code_has_its_length;
 
 /// The image that is built of a program that is written can be run and stored: its numbers are in
-/// the ranges of their fields, it has a plan, its names are those of its parts, its counts fit their
-/// fields, and at each event stands the frame of its process.
+/// the ranges of their fields, it has a plan, its names are those of its parts, its counts fit
+/// their fields, and at each event stands the frame of its process.
 pub fn built_images_are_ready()
     ensures { BuiltImagesAreReady }
 {

@@ -12,7 +12,8 @@ use Rattle.rte_script_suits.specs.Suits.{HasFrames}
 use Rattle.rte_built.specs.Named.{names_of}
 use Rattle.rte_commands.specs.Script.{said, run_of}
 
--- The law: in the names of a well-formed program, the frame that stands at an event is that of each process that it releases.
+-- The law: in the names of a well-formed program, the frame that stands at an event is that of each
+-- process that it releases.
 abbrev pub NamesHaveFrames : Type 0
 NamesHaveFrames = (g : Prog) (m : Image) → IsWellFormed g → IsCodeOf g m → HasFrames (names_of g) m
 

@@ -7,7 +7,8 @@ use Rattle.rte_built.specs.Named.{names_of}
 use Rattle.rte_built.specs.Shown.{table_of}
 use Rattle.rte_report.specs.Late.{IsNamed}
 
--- The law: the table of a shaped image has a row for each process and a ceiling for each monitor that is named.
+-- The law: the table of a shaped image has a row for each process and a ceiling for each monitor
+-- that is named.
 abbrev pub TablesAreNamed : Type 0
 TablesAreNamed = (g : Prog) (over : ℕ) (m : Image) (bounds : List (Option ℕ)) → IsShaped g over m
     → length bounds ≡ length m.processes → IsNamed (names_of g) (table_of m bounds)

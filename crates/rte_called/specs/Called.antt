@@ -28,7 +28,8 @@ abbrev pub Finds : Prog → Process → Bool → Called → Type 0
 Finds g p may (calls_routine f) = FindsRoutine g p may f
 Finds g p may (calls_entry m e) = FindsEntry g may m e
 
--- each call of a text finds what it names; `may` says whether the text may call procedures and entries
+-- each call of a text finds what it names; `may` says whether the text may call procedures and
+-- entries
 pub record TextFinds (h : Here) (body : Stmts) (answers : Option Answers) : Type 0 where
   pub body_finds : AllCalled (Finds h.program h.process (may_call h)) (stmts_calls body)
   pub answers_find : AllCalled (Finds h.program h.process (may_call h)) (answers_calls answers)

@@ -18,7 +18,7 @@ use Rattle.rte_numbered.specs.Numbered.{AreNumbered}
 use Rattle.rte_whole.specs.Declared.{IsSound, Declares}
 use Rattle.rte_whole.specs.Quiet.{AreQuiet}
 use Rattle.rte_whole.specs.Whole.{HasRanks, IsBound, IsMade}
-use Rattle.rte_quiet.specs.Quiet.{reaches_no_wait}
+use Rattle.rte_checked_quiet.specs.Passed.{reaches_no_wait}
 use Rattle.rte_lifted.specs.Compiled.{IsFrom, script_of}
 use Rattle.rte_compiled.specs.Image.{IsImageOf, whole}
 use Rattle.rte_timed.specs.Timed.{ImageIsTimed, RespectsFrames, IsInTime}
@@ -35,7 +35,8 @@ pub record IsReady (g : plain_of.Prog) : Type 0 where
 abbrev pub CheckedProgramsAreReady : Type 0
 CheckedProgramsAreReady = (g : Prog Place) → IsChecked g → IsReady (plain g)
 
--- what is asked of an image beside a checked program: its code, what it declares, ranks and ceilings, bounds, and that its words are not too many
+-- what is asked of an image beside a checked program: its code, what it declares, ranks and
+-- ceilings, bounds, and that its words are not too many
 pub record IsImageMade (g : plain_of.Prog) (m : image.Image) : Type 0 where
   pub code : IsCodeOf g m
   pub declares : Declares g m
@@ -47,7 +48,8 @@ pub record IsImageMade (g : plain_of.Prog) (m : image.Image) : Type 0 where
 abbrev pub CheckedImagesAreMade : Type 0
 CheckedImagesAreMade = (g : Prog Place) (m : image.Image) → IsChecked g → IsImageMade (plain g) m → IsMade (plain g) m
 
--- The law: each run of the image of a checked program, over a script that respects its frames, is a run of the program, and in time.
+-- The law: each run of the image of a checked program, over a script that respects its frames, is a
+-- run of the program, and in time.
 abbrev pub CheckedProgramsRun : Type 0
 CheckedProgramsRun = (e : Where) (ps : ℕ → Parts) (g : Prog Place) (script : Script) → ImageFits e ps → ImageIsTimed e ps → IsImageOf (whole e.image (plain g)) → IsChecked g
     → IsFrom 0 script.lines → RespectsFrames e.image (script_of script)

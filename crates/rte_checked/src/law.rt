@@ -2,10 +2,10 @@
 
 ghost use Rattle.rte_checked.specs.Ready.{CheckedProgramsAreReady, CheckedImagesAreMade, CheckedProgramsRun};
 
-use rte_checked_names::names_are_apart;
-use rte_checked_quiet::handlers_are_quiet;
+use rte_checked_quiet::{
+    handlers_are_quiet, names_are_apart, routines_have_numbers, well_formed_programs_are_sound,
+};
 use rte_headline::law::well_formed_programs_run;
-use rte_sound::law::{routines_have_numbers, well_formed_programs_are_sound};
 use rte_wellformed_law::checked_programs_are_well_formed;
 
 /// The plain tree of a checked program has all that the laws ask of a program.
@@ -26,7 +26,8 @@ pub fn checked_images_are_made()
     checked_programs_are_ready();
 }
 
-/// Every run of the image of a checked program, over a script that respects its frames, is a run of the program, and in time.
+/// Every run of the image of a checked program, over a script that respects its frames, is a run of
+/// the program, and in time.
 pub fn checked_programs_run()
     ensures { CheckedProgramsRun }
 {

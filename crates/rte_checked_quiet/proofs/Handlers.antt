@@ -27,7 +27,7 @@ use Rattle.rte_ruled.specs.Ruled.{NamesApart}
 use Rattle.rte_whole.specs.Quiet.{AreQuiet}
 use Rattle.rte_numbered.proofs.Numbered.{text_listed}
 use Rattle.rte_called.proofs.Finding.{called_one}
-use Rattle.rte_sound.proofs.Levels.{level, are_levels}
+use Rattle.rte_quiet.proofs.Passed.{level, are_levels}
 use Rattle.rte_checked_names.proofs.Apart.{names_apart}
 use Rattle.rte_quiet.specs.Quiet.{stmt_waits, all_quiet, quiet_within, reaches_no_wait, HandlerQuiet}
 use Rattle.rte_quiet.specs.Quiet.{stmts_wait as plain_wait}

@@ -11,7 +11,8 @@ use rte_wellformed_names::{names_are_found, names_stand_apart, trees_are_written
 use rte_wellformed_scopes::{declarations_are_listed, texts_are_mirrored, things_are_known};
 use rte_wellformed_statements::{answers_fit, bodies_fit};
 
-/// The routines of a checked program that reach no wait are quiet, and its handlers call only those.
+/// The routines of a checked program that reach no wait are quiet, and its handlers call only
+/// those.
 pub fn handlers_are_quiet()
     ensures { (g : Prog Place) → IsChecked g → AreQuiet (plain g) (reaches_no_wait (plain g)) }
 {

@@ -64,7 +64,8 @@ impl Ranks {
         requires ranks { AreRanksOf program self.now }
         requires fits { Fits program (config_of config.now) }
         requires process { process < length config.now.jobs.items }
-        ensures { result ≡ is_empty (before program (config_of config.now) process (ready_from 0 (config_of config.now).jobs)) }
+        ensures { result ≡ is_empty (before program (config_of config.now) process
+            (ready_from 0 (config_of config.now).jobs)) }
     {
         let jobs = config.jobs.as_slice();
         for (other, job) in jobs.iter().enumerate() {

@@ -28,18 +28,20 @@ use std::alloc::Global;
 
 /// Does what the words ask:
 ///
-/// - `go P I S [K]` stores the image of the program text in file P in file I, and puts the report on it and the log of its run
-///   over the script in file S; K is the overhead, the ticks of one dispatch, from 0 to 1000, and 0 where it is left out;
+/// - `go P I S [K]` stores the image of the program text in file P in file I, and puts the report
+///   on it and the log of its run over the script in file S; K is the overhead, the ticks of one
+///   dispatch, from 0 to 1000, and 0 where it is left out;
 /// - `compile P I [K]` stores the image, and puts the report;
-/// - `check P [K]` puts the report, `json P [K]` the same as JSON, `slack P [K]` how many ticks each process can spare,
+/// - `check P [K]` puts the report, `json P [K]` the same as JSON, `slack P [K]` how many ticks
+///   each process can spare,
 ///   `print P` the canonical text of the program;
-/// - `run I S` puts the log of the image in file I over the script in file S, and `migrate I J` stores the image in the
-///   present version in file J.
+/// - `run I S` puts the log of the image in file I over the script in file S, and `migrate I J`
+///   stores the image in the present version in file J.
 ///
 /// All other words are refused, as is a word that is empty or begins with `-`.
 ///
-/// The answer is the first status that is due in the order of the steps: the words, reading P or I, its faults, its time,
-/// reading S, its faults, storing, putting.
+/// The answer is the first status that is due in the order of the steps: the words, reading P or I,
+/// its faults, its time, reading S, its faults, storing, putting.
 pub fn rte<F: Files, O: Sink>(alloc: Global, words: &[String], files: &mut F, out: &mut O) -> Status
     // A call of a command went as is due, by what its files hold.
     ensures went { (call : Call) → IsCommand words.now call → Went F.tells call
@@ -53,28 +55,37 @@ pub fn rte<F: Files, O: Sink>(alloc: Global, words: &[String], files: &mut F, ou
     ensures usage { ((call : Call) → ¬ IsCommand words.now call) → IsUsage
         (outside (F.state files.old) (O.state out.old))
         (outside (F.state files.new) (O.state out.new)) (number_of result) }
-    // With every status but 0 and 7 no file has changed, and with these none but the one that is written.
-    ensures kept { 0 < number_of result → number_of result ≢ 7 → AllStay (F.state files.old).held (F.state files.new).held }
-    ensures others { (name : List ℕ) → ((call : Call) → IsCommand words.now call → target_of call ≢ Some name) →
+    // With every status but 0 and 7 no file has changed, and with these none but the one that is
+    // written.
+    ensures kept { 0 < number_of result → number_of result ≢ 7 →
+        AllStay (F.state files.old).held (F.state files.new).held }
+    ensures others { (name : List ℕ) → ((call : Call) → IsCommand words.now call →
+        target_of call ≢ Some name) →
         (F.state files.new).held name ≡ (F.state files.old).held name }
     // Where no image is due no file changes.
-    ensures refused { (call : Call) → IsCommand words.now call → OnTrue F.tells ((outcome : Outcome) →
+    ensures refused { (call : Call) → IsCommand words.now call →
+        OnTrue F.tells ((outcome : Outcome) →
         IsDue call (F.state files.old).held outcome → outcome.image ≡ None →
         AllStay (F.state files.old).held (F.state files.new).held) }
     // So once a file has changed, the status is 0 or 7.
-    ensures stored { (name : List ℕ) → (F.state files.new).held name ≢ (F.state files.old).held name →
+    ensures stored { (name : List ℕ) → (F.state files.new).held name ≢
+        (F.state files.old).held name →
         (number_of result ≡ 0) ⊎ (number_of result ≡ 7) }
     // A failed put always gives 7.
     ensures quiet { number_of result ≢ 7 → (O.state out.new).faults ≡ (O.state out.old).faults }
-    // Status 0: of `go`, the text is that of a timely program and the script one, what is stored is the image of the program,
-    // what was put is its report and the log of that image over the script; and over every script for its names, that log is
-    // that of a run of the program, in time, within its sizes, never stuck. Of the other commands likewise.
-    ensures done { (call : Call) → IsCommand words.now call → OnTrue F.tells (number_of result ≡ 0 → HasDone call
+    // Status 0: of `go`, the text is that of a timely program and the script one, what is stored is
+    // the image of the program, what was put is its report and the log of that image over the
+    // script; and over every script for its names, that log is that of a run of the program, in
+    // time, within its sizes, never stuck. Of the other commands likewise.
+    ensures done { (call : Call) → IsCommand words.now call →
+        OnTrue F.tells (number_of result ≡ 0 → HasDone call
         (outside (F.state files.old) (O.state out.old))
         (outside (F.state files.new) (O.state out.new))) }
-    // Status 3 comes exactly where the recurrence of some process of the program has no solution within its deadline.
+    // Status 3 comes exactly where the recurrence of some process of the program has no solution
+    // within its deadline.
     ensures late { (call : Call) → IsCommand words.now call → OnTrue F.tells (number_of result < 6 →
-        (number_of result ≡ 3) ↔ IsRefusedForTime call (outside (F.state files.old) (O.state out.old))) }
+        (number_of result ≡ 3) ↔ IsRefusedForTime call
+        (outside (F.state files.old) (O.state out.old))) }
 {
     built_images_are_faithful();
     every_valid_image_is_safe_and_in_time();

@@ -18,7 +18,8 @@ use std::alloc::Global;
 
 /// Puts the usage.
 fn usage<O: Sink>(out: &mut O) -> Status
-    ensures answer { ((number_of result ≡ 1) × Appends (O.state out.old).taken (O.state out.new).taken (codes "usage\n"))
+    ensures answer { ((number_of result ≡ 1) ×
+        Appends (O.state out.old).taken (O.state out.new).taken (codes "usage\n"))
         ⊎ ((number_of result ≡ 7) × Rose (O.state out.old).faults (O.state out.new).faults
         × AppendsFront (O.state out.old).taken (O.state out.new).taken (codes "usage\n")) }
     ensures quiet { number_of result ≢ 7 → (O.state out.new).faults ≡ (O.state out.old).faults }
@@ -61,8 +62,10 @@ pub fn carry_out<F: Files, O: Sink>(
     ensures usage { ((call : Call) → ¬ IsCommand words.now call) → IsUsage
         (outside (F.state files.old) (O.state out.old))
         (outside (F.state files.new) (O.state out.new)) (number_of result) }
-    ensures kept { 0 < number_of result → number_of result ≢ 7 → AllStay (F.state files.old).held (F.state files.new).held }
-    ensures others { (name : List ℕ) → ((call : Call) → IsCommand words.now call → target_of call ≢ Some name) →
+    ensures kept { 0 < number_of result → number_of result ≢ 7 →
+        AllStay (F.state files.old).held (F.state files.new).held }
+    ensures others { (name : List ℕ) → ((call : Call) → IsCommand words.now call →
+        target_of call ≢ Some name) →
         (F.state files.new).held name ≡ (F.state files.old).held name }
     ensures quiet { number_of result ≢ 7 → (O.state out.new).faults ≡ (O.state out.old).faults }
 {

@@ -38,7 +38,8 @@ fn answer<L: Lookup>(out: &mut Out, names: &L, routine: &Routine) -> Result<(), 
 
 /// The statements of a routine and its result.
 fn inner<L: Lookup>(out: &mut Out, names: &L, routine: &Routine) -> Result<(), AllocError>
-    ensures { OnOk result (out.new ≡ inner_out (L.program names.now) (L.scope names.now) (plain_routine (placed_routine routine.now)) out.old) }
+    ensures { OnOk result (out.new ≡ inner_out (L.program names.now) (L.scope names.now)
+        (plain_routine (placed_routine routine.now)) out.old) }
 {
     out.statements(names, routine.body.as_slice())?;
     answer(out, names, routine)
@@ -51,7 +52,9 @@ fn stay<L: Lookup>(
     number: usize,
     routine: &Routine,
 ) -> Result<(), AllocError>
-    ensures { OnOk result (out.new ≡ left number (inner_out (L.program names.now) (L.scope names.now) (plain_routine (placed_routine routine.now)) (entered number out.old))) }
+    ensures { OnOk result (out.new ≡ left number
+        (inner_out (L.program names.now) (L.scope names.now)
+        (plain_routine (placed_routine routine.now)) (entered number out.old))) }
 {
     out.push(Instr::Enter {
         monitor: fit(number),
@@ -71,7 +74,8 @@ fn stay<L: Lookup>(
 
 /// A routine or entry but for its return.
 pub fn text<L: Lookup>(out: &mut Out, names: &L, routine: &Routine) -> Result<(), AllocError>
-    ensures { OnOk result (out.new ≡ routine_out (L.program names.now) (L.scope names.now) (L.scope names.now).owner (plain_routine (placed_routine routine.now)) out.old) }
+    ensures { OnOk result (out.new ≡ routine_out (L.program names.now) (L.scope names.now)
+        (L.scope names.now).owner (plain_routine (placed_routine routine.now)) out.old) }
 {
     match names.owner() {
         Owner::Monitor { number } => stay(out, names, number, routine),
@@ -81,8 +85,12 @@ pub fn text<L: Lookup>(out: &mut Out, names: &L, routine: &Routine) -> Result<()
 
 /// The handler of a process, behind its body.
 fn handler_of<L: Lookup>(out: &mut Out, names: &L, handler: &Handler) -> Result<Part, AllocError>
-    ensures code { OnOk result (out.new.code ≡ (process_out (L.program names.now) (L.scope names.now) (Some (plain_handler (placed_handler handler.now))) out.old).code) }
-    ensures part { IfOk result (λ part. part ≡ handler_part (L.program names.now) (L.scope names.now) out.old (plain_handler (placed_handler handler.now))) }
+    ensures code { OnOk result (out.new.code ≡
+        (process_out (L.program names.now) (L.scope names.now)
+        (Some (plain_handler (placed_handler handler.now))) out.old).code) }
+    ensures part { IfOk result (λ part. part ≡
+        handler_part (L.program names.now) (L.scope names.now) out.old
+        (plain_handler (placed_handler handler.now))) }
 {
     let start = out.address();
     out.begin();
@@ -96,8 +104,12 @@ pub fn handler<L: Lookup>(
     names: &L,
     handler: &Option<Handler>,
 ) -> Result<Option<Part>, AllocError>
-    ensures code { OnOk result (out.new.code ≡ (process_out (L.program names.now) (L.scope names.now) (optional plain_handler (optional placed_handler handler.now)) out.old).code) }
-    ensures part { IfOk result (λ part. part ≡ option_map (λ h. handler_part (L.program names.now) (L.scope names.now) out.old h) (optional plain_handler (optional placed_handler handler.now))) }
+    ensures code { OnOk result (out.new.code ≡
+        (process_out (L.program names.now) (L.scope names.now)
+        (optional plain_handler (optional placed_handler handler.now)) out.old).code) }
+    ensures part { IfOk result (λ part. part ≡
+        option_map (λ h. handler_part (L.program names.now) (L.scope names.now) out.old h)
+        (optional plain_handler (optional placed_handler handler.now))) }
 {
     match handler {
         None => Ok(None),

@@ -63,7 +63,8 @@ impl Maker {
         words: usize,
         routine: &Routine,
     ) -> Result<(), AllocError>
-        ensures { OnOk result (self.new ≡ routine_made (L.program names.now) (L.scope names.now) words (plain_routine (placed_routine routine.now)) self.old) }
+        ensures { OnOk result (self.new ≡ routine_made (L.program names.now)
+            (L.scope names.now) words (plain_routine (placed_routine routine.now)) self.old) }
     {
         let start = self.out.address();
         self.out.begin_part(words);
@@ -74,7 +75,8 @@ impl Maker {
 
     /// One process more.
     fn process<L: Lookup>(&mut self, names: &L, process: &Proc) -> Result<(), AllocError>
-        ensures { OnOk result (self.new ≡ process_made (L.program names.now) (L.scope names.now) (plain_process (placed_process process.now)) self.old) }
+        ensures { OnOk result (self.new ≡ process_made (L.program names.now) (L.scope names.now)
+            (plain_process (placed_process process.now)) self.old) }
     {
         let start = self.out.address();
         self.out.begin_part(0);
@@ -86,7 +88,8 @@ impl Maker {
 
     /// All routines, by number.
     fn routines<P: Lookups>(&mut self, program: &P) -> Result<(), AllocError>
-        ensures { OnOk result (self.new ≡ texts_made (P.program program.now) (numbered (P.program program.now)) self.old) }
+        ensures { OnOk result (self.new ≡ texts_made (P.program program.now)
+            (numbered (P.program program.now)) self.old) }
     {
         for number in 0..program.routines() {
             self.routine(
@@ -100,7 +103,8 @@ impl Maker {
 
     /// All processes, in the order of the text.
     fn processes<P: Lookups>(&mut self, program: &P) -> Result<(), AllocError>
-        ensures { OnOk result (self.new ≡ processes_made (P.program program.now) 0 (processes_of (P.program program.now)) self.old) }
+        ensures { OnOk result (self.new ≡ processes_made (P.program program.now) 0
+            (processes_of (P.program program.now)) self.old) }
     {
         for number in 0..program.processes() {
             self.process(program.process_names(number), program.process(number))?;
@@ -119,8 +123,8 @@ impl Maker {
     }
 }
 
-/// The code of a program: all routines and entries by number, then all processes in the order of the text, each with its
-/// addresses and trees. It fails only where memory is wanting.
+/// The code of a program: all routines and entries by number, then all processes in the order of
+/// the text, each with its addresses and trees. It fails only where memory is wanting.
 pub fn generate<P: Lookups>(alloc: Global, program: &P) -> Result<Code, AllocError>
     ensures { IfOk result (λ code. code ≡ program_made (P.program program.now)) }
 {

@@ -32,7 +32,8 @@ told status text = record { status = status; text = text; image = None }
 
 -- ---- a program
 
--- what is due of a text but where its program is timely: the line of its fault, or the report of a program that is late
+-- what is due of a text but where its program is timely: the line of its fault, or the report of a
+-- program that is late
 pub data IsRefused (show : Style) (over : ℕ) (text : List ℕ) (outcome : Outcome) : Type 0 where
   faulty : (number : ℕ) (place : Place) → IsTextFault text number place → outcome ≡ told 2 (fault_line number place) → IsRefused show over text outcome
   late : (report : List ℕ) → IsLateText show over text report → outcome ≡ told 3 report → IsRefused show over text outcome

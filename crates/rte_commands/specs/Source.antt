@@ -18,7 +18,8 @@ pub record IsWritten (text : List ℕ) (g : Prog Place) : Type 0 where
   pub program : IsProgramOf text g
   pub fits : (number : ℕ) (place : Place) → ¬ SizeFails g number place
 
--- the fault of a text: of its spelling, grammar, names and rules, or else that its program is too large
+-- the fault of a text: of its spelling, grammar, names and rules, or else that its program is too
+-- large
 pub data IsTextFault (text : List ℕ) (number : ℕ) (place : Place) : Type 0 where
   of_program : IsProgramFault text number place → IsTextFault text number place
   of_size : (g : Prog Place) → IsProgramOf text g → IsFirst (SizeFails g) (record { number = number; place = place }) → IsTextFault text number place
@@ -49,7 +50,8 @@ pub record IsTimelyText (over : ℕ) (text : List ℕ) (n : NamedImage) : Type 0
   pub written : IsWritten text tree
   pub built : IsBuilt (plain tree) over n
 
--- the text is that of a program of which the recurrence of some process has no solution within its deadline, and this is its report
+-- the text is that of a program of which the recurrence of some process has no solution within its
+-- deadline, and this is its report
 pub record IsLateText (show : Style) (over : ℕ) (text report : List ℕ) : Type 0 where
   pub tree : Prog Place
   pub written : IsWritten text tree

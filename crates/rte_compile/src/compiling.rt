@@ -62,8 +62,9 @@ fn compiled(alloc: Global, text: &[u8], over: u16) -> Result<Built, CompileFault
 ///
 /// # Errors
 ///
-/// `Text` exactly where the text is no program text, or its program is too large, with its first fault; `Untimely` exactly
-/// where its program is not timely with the overhead. `Memory` where there is not enough memory.
+/// `Text` exactly where the text is no program text, or its program is too large, with its first
+/// fault; `Untimely` exactly where its program is not timely with the overhead. `Memory` where
+/// there is not enough memory.
 pub fn compile(alloc: Global, text: &[u8], over: u16) -> Result<Built, CompileFault>
     requires { over ≤ 1000 }
     ensures { Compiles over text.now result }

@@ -21,8 +21,8 @@ pub enum TextFault {
 ///
 /// # Errors
 ///
-/// `Text` exactly where the text is no program text, or its program is too large, with its first fault. `Memory` where
-/// there is not enough memory.
+/// `Text` exactly where the text is no program text, or its program is too large, with its first
+/// fault. `Memory` where there is not enough memory.
 pub fn read_written(alloc: Global, text: &[u8]) -> Result<Checked, TextFault>
     ensures { ReadsWritten text.now result }
 {

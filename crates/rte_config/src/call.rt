@@ -101,8 +101,8 @@ pub enum Action {
     Ends,
 }
 
-/// The next action of a process, its calls in progress after it, the innermost first, and the variables of the process and of the monitor
-/// that it is inside.
+/// The next action of a process, its calls in progress after it, the innermost first, and the
+/// variables of the process and of the monitor that it is inside.
 #[derive(Drop)]
 pub struct Next<'a> {
     pub action: Action,

@@ -4,7 +4,8 @@ use crate::call::Call;
 use crate::doing::Doing;
 use crate::variables::Slot;
 
-/// A process: its variables, what it is doing, its calls in progress, the innermost first, and whether its handler runs.
+/// A process: its variables, what it is doing, its calls in progress, the innermost first, and
+/// whether its handler runs.
 #[derive(Drop)]
 pub struct Job<'a> {
     pub vars: Vec<Slot<'a>>,
@@ -20,7 +21,8 @@ pub struct Hold<'a> {
     pub occupant: Option<usize>,
 }
 
-/// The tick reached, whether somebody has acted in it, and processes, monitors and queues by number.
+/// The tick reached, whether somebody has acted in it, and processes, monitors and queues by
+/// number.
 #[derive(Drop)]
 pub struct Config<'a> {
     pub tick: u64,

@@ -15,7 +15,8 @@ use std::alloc::{AllocError, Global};
 
 /// The process does this now.
 pub fn set_doing(jobs: &mut Vec<Job<'_>>, process: usize, doing: Doing)
-    ensures { jobs_of jobs.new.items ≡ changed (job_doing (doing_of doing)) process (jobs_of jobs.old.items) }
+    ensures { jobs_of jobs.new.items ≡ changed (job_doing (doing_of doing)) process
+        (jobs_of jobs.old.items) }
 {
     if process < jobs.len() {
         jobs[process].doing = doing;
@@ -30,7 +31,13 @@ pub fn set_job<'a>(
     calls: Vec<Call<'a>>,
     handling: bool,
 )
-    ensures { jobs_of jobs.new.items ≡ changed (λ j. record { vars = j.vars; doing = doing_of doing; calls = calls_of calls.entry.items; handling = handling }) process (jobs_of jobs.old.items) }
+    ensures { jobs_of jobs.new.items ≡ changed
+        (λ j. record {
+          vars = j.vars;
+          doing = doing_of doing;
+          calls = calls_of calls.entry.items;
+          handling = handling;
+        }) process (jobs_of jobs.old.items) }
 {
     if process < jobs.len() {
         let job = &mut jobs[process];
@@ -42,7 +49,8 @@ pub fn set_job<'a>(
 
 /// The one call in progress before the first of these statements of a process.
 pub fn beginning<'a>(alloc: Global, body: &'a [Stmt]) -> Result<Vec<Call<'a>>, AllocError>
-    ensures { IfOk result (λ calls. calls_of calls.items ≡ call_before (plain_stmts (placed_stmts body.now)) ∷ []) }
+    ensures { IfOk result (λ calls. calls_of calls.items ≡
+        call_before (plain_stmts (placed_stmts body.now)) ∷ []) }
 {
     let mut rest = Vec::new(alloc);
     rest.push(Item::DoAll(body))?;
@@ -58,7 +66,8 @@ pub fn beginning<'a>(alloc: Global, body: &'a [Stmt]) -> Result<Vec<Call<'a>>, A
 
 /// This process is inside the monitor, or none.
 pub fn set_occupant(holds: &mut Vec<Hold<'_>>, mon: usize, occupant: Option<usize>)
-    ensures { holds_of holds.new.items ≡ changed (occupied occupant) mon (holds_of holds.old.items) }
+    ensures { holds_of holds.new.items ≡ changed (occupied occupant) mon
+        (holds_of holds.old.items) }
 {
     if mon < holds.len() {
         holds[mon].occupant = occupant;

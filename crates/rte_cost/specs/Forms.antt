@@ -1,4 +1,5 @@
--- The measure of each form, from the names in reach and from what is known of the routines that it calls.
+-- The measure of each form, from the names in reach and from what is known of the routines that it
+-- calls.
 use Rattle.std.specs.Prelude.{ℕ, ◌+◌, List, [], Option, Some, None, slice_get}
 use Rattle.rte_tree.specs.Plain.{Expr, literal, truth, variable, element, call, minus, negation, paren, row, Exprs, no_exprs, exprs, Operands, no_operands, operand, Ref, whole, part, Stmt, assign, assign_entry, assign_empty, perform, perform_entry, when, when_else, loop, exit_when, get, put, wait, signal, broadcast, except, assert, Stmts, no_stmts, stmts, Prog}
 use Rattle.rte_num.specs.Capped.{cap}

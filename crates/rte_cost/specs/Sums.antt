@@ -44,7 +44,8 @@ forked a b = record {
   length = held (2 + held (a.length + b.length));
 }
 
--- so many turns of a body: PUSH, STL and REPS once, then each turn the body, LDL, PUSH, ADD, STL and REP
+-- so many turns of a body: PUSH, STL and REPS once, then each turn the body, LDL, PUSH, ADD, STL
+-- and REP
 abbrev pub looped : (turns : ℕ) → Measure → Measure
 looped t a = record {
   cost = amount (cap (5 + cap (cap t * cap (a.cost.run + 10)))) (cap (cap t * a.cost.susp)) (cap (cap t * a.cost.waits));
@@ -63,7 +64,8 @@ row_or (Some k) = k
 abbrev pub row_at : List Known → ℕ → Known
 row_at rows n = row_or (slice_get rows n)
 
--- the arguments, and the call of a routine of which this is known: CALL, two words, its locals, and what it takes itself
+-- the arguments, and the call of a routine of which this is known: CALL, two words, its locals, and
+-- what it takes itself
 abbrev pub called : Known → Measure → Measure
 called k a = record {
   cost = added a.cost (added (running 6) k.cost);

@@ -109,7 +109,9 @@ fn args<L: Lookup>(
     args: &[Expr],
     ranges: &[Option<Range>],
 ) -> Measure
-    ensures { result ≡ args_size (L.program names.now) (inside loops.now (L.scope names.now)) rows.now 0 nothing (plain_exprs (placed_exprs args.now)) ranges.now }
+    ensures { result ≡ args_size (L.program names.now)
+        (inside loops.now (L.scope names.now)) rows.now 0 nothing
+        (plain_exprs (placed_exprs args.now)) ranges.now }
 {
     let mut sum = Measure::nothing();
     let mut number: usize = 0;
@@ -130,7 +132,10 @@ pub fn call<L: Lookup>(
     callee: Option<&Callee>,
     given: &[Expr],
 ) -> Measure
-    ensures { result ≡ call_size rows.now (option_copied callee.entry) (λ rs. args_size (L.program names.now) (inside loops.now (L.scope names.now)) rows.now 0 nothing (plain_exprs (placed_exprs given.now)) rs) }
+    ensures { result ≡ call_size rows.now (option_copied callee.entry)
+        (λ rs. args_size (L.program names.now)
+        (inside loops.now (L.scope names.now)) rows.now 0 nothing
+        (plain_exprs (placed_exprs given.now)) rs) }
 {
     match callee {
         None => args(names, rows, loops, given, &[]).no_call(),
@@ -151,7 +156,11 @@ pub fn routine_call<L: Lookup>(
     name: &Name,
     given: &[Expr],
 ) -> Measure
-    ensures { result ≡ call_size rows.now (told_callee (L.program names.now) (routine_in (L.program names.now) (inside loops.now (L.scope names.now)).owner name.now)) (λ rs. args_size (L.program names.now) (inside loops.now (L.scope names.now)) rows.now 0 nothing (plain_exprs (placed_exprs given.now)) rs) }
+    ensures { result ≡ call_size rows.now (told_callee (L.program names.now)
+        (routine_in (L.program names.now) (inside loops.now (L.scope names.now)).owner name.now))
+        (λ rs. args_size (L.program names.now)
+        (inside loops.now (L.scope names.now)) rows.now 0 nothing
+        (plain_exprs (placed_exprs given.now)) rs) }
 {
     call(names, rows, loops, names.routine(name), given)
 }
@@ -165,7 +174,9 @@ fn operands<L: Lookup>(
     first: Measure,
     operands: &[(Op, Expr)],
 ) -> Measure
-    ensures { result ≡ row_size (L.program names.now) (inside loops.now (L.scope names.now)) rows.now first (plain_operands (placed_operands operands.now)) }
+    ensures { result ≡ row_size (L.program names.now)
+        (inside loops.now (L.scope names.now)) rows.now first
+        (plain_operands (placed_operands operands.now)) }
 {
     let mut sum = first;
     for operand in operands {
@@ -178,7 +189,8 @@ fn operands<L: Lookup>(
 /// The measure of an expression, which leaves its value on the stack.
 #[cycle(expr)]
 pub fn expr<L: Lookup>(names: &L, rows: &[Known], loops: &[Loop], expr: &Expr) -> Measure
-    ensures { result ≡ expr_size (L.program names.now) (inside loops.now (L.scope names.now)) rows.now (plain_expr (placed_expr expr.now)) }
+    ensures { result ≡ expr_size (L.program names.now)
+        (inside loops.now (L.scope names.now)) rows.now (plain_expr (placed_expr expr.now)) }
 {
     match expr {
         Expr::Literal { .. } | Expr::True { .. } | Expr::False { .. } => Measure::of(1, 1, 1),

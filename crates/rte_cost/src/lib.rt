@@ -5,8 +5,8 @@
 //! known of the routines that it calls, `specs/Sums.antt` how measures are put together, and
 //! `specs/Parts.antt` the measures of routines, each from those before it, and of processes.
 //!
-//! Promised: where there is memory, `measure_program` gives just these of a whole program, each routine
-//! and each process once.
+//! Promised: where there is memory, `measure_program` gives just these of a whole program, each
+//! routine and each process once.
 #![tactic(auto)]
 
 mod expressions;

@@ -49,7 +49,8 @@ fn range_of<L: Lookup>(names: &L, kind: &Scalar) -> Option<Range>
 
 /// The result of a function, with the check of its range.
 fn answer<L: Lookup>(names: &L, rows: &[Known], routine: &Routine) -> Measure
-    ensures { result ≡ answers_size (L.program names.now) (L.scope names.now) rows.now (plain_routine (placed_routine routine.now)).answers }
+    ensures { result ≡ answers_size (L.program names.now) (L.scope names.now) rows.now
+        (plain_routine (placed_routine routine.now)).answers }
 {
     match (&routine.result, &routine.value) {
         (Some(kind), Some(value)) => {
@@ -66,7 +67,8 @@ fn inner<L: Lookup>(
     rows: &[Known],
     routine: &Routine,
 ) -> Result<Measure, AllocError>
-    ensures { IfOk result (λ m. m ≡ inner_size (L.program names.now) (L.scope names.now) rows.now (plain_routine (placed_routine routine.now))) }
+    ensures { IfOk result (λ m. m ≡ inner_size (L.program names.now) (L.scope names.now) rows.now
+        (plain_routine (placed_routine routine.now))) }
 {
     let mut loops = Vec::new(alloc);
     let body = stmts(alloc, names, rows, &mut loops, routine.body.as_slice())?;
@@ -82,7 +84,8 @@ fn row<L: Lookup>(
     rows: &[Known],
     routine: &Routine,
 ) -> Result<Known, AllocError>
-    ensures { IfOk result (λ k. k ≡ known_of (L.program names.now) (L.scope names.now) words rows.now (plain_routine (placed_routine routine.now))) }
+    ensures { IfOk result (λ k. k ≡ known_of (L.program names.now)
+        (L.scope names.now) words rows.now (plain_routine (placed_routine routine.now))) }
 {
     let inner = inner(alloc, names, rows, routine)?;
     let (frame, stay) = match names.owner() {
@@ -126,7 +129,8 @@ fn handler<L: Lookup>(
     rows: &[Known],
     handler: &Option<Handler>,
 ) -> Result<Measure, AllocError>
-    ensures { IfOk result (λ m. m ≡ handler_size (L.program names.now) (L.scope names.now) rows.now (optional plain_handler (optional placed_handler handler.now))) }
+    ensures { IfOk result (λ m. m ≡ handler_size (L.program names.now) (L.scope names.now) rows.now
+        (optional plain_handler (optional placed_handler handler.now))) }
 {
     match handler {
         None => Ok(Measure::nothing()),
@@ -156,7 +160,8 @@ fn process<L: Lookup>(
     rows: &[Known],
     process: &Proc,
 ) -> Result<ProcessMeasure, AllocError>
-    ensures { IfOk result (λ m. m ≡ process_size (L.program names.now) (L.scope names.now) rows.now (plain_process (placed_process process.now))) }
+    ensures { IfOk result (λ m. m ≡ process_size (L.program names.now) (L.scope names.now) rows.now
+        (plain_process (placed_process process.now))) }
 {
     let mut loops = Vec::new(alloc);
     let body = stmts(alloc, names, rows, &mut loops, process.body.as_slice())?;

@@ -50,7 +50,9 @@ fn assign<L: Lookup>(
     value: Measure,
     store: Measure,
 ) -> Measure
-    ensures { result ≡ assigned (L.program names.now) (inside loops.now (L.scope names.now)) rows.now (plain_ref (placed_ref target.now)) value store }
+    ensures { result ≡ assigned (L.program names.now)
+        (inside loops.now (L.scope names.now)) rows.now
+        (plain_ref (placed_ref target.now)) value store }
 {
     match &target.index {
         None => Measure::nothing().then(value.above(0)).then(store),
@@ -81,7 +83,11 @@ fn limit<L: Lookup>(names: &L, limit: &Constant) -> u64
 }
 
 fn wait(ticks: u64) -> Measure
-    ensures { result ≡ record { cost = record { run = 10; susp = ticks; waits = 1 }; height = 0; length = 2 } }
+    ensures { result ≡ record {
+      cost = record { run = 10; susp = ticks; waits = 1 };
+      height = 0;
+      length = 2;
+    } }
 {
     Measure {
         cost: Cost {
@@ -105,7 +111,9 @@ fn body<L: Lookup>(
     name: &Name,
     body: &[Stmt],
 ) -> Result<Measure, AllocError>
-    ensures size { IfOk result (λ m. m ≡ stmts_size (L.program names.now) (within (inside loops.old.items (L.scope names.now)) name.now 0) rows.now nothing (plain_stmts (placed_stmts body.now))) }
+    ensures size { IfOk result (λ m. m ≡ stmts_size (L.program names.now)
+        (within (inside loops.old.items (L.scope names.now)) name.now 0) rows.now nothing
+        (plain_stmts (placed_stmts body.now))) }
     ensures loops { OnOk result (loops.new.items ≡ loops.old.items) }
 {
     loops.push(Loop {
@@ -126,7 +134,8 @@ pub fn stmt<L: Lookup>(
     loops: &mut Vec<Loop>,
     stmt: &Stmt,
 ) -> Result<Measure, AllocError>
-    ensures size { IfOk result (λ m. m ≡ stmt_size (L.program names.now) (inside loops.old.items (L.scope names.now)) rows.now (plain_stmt (placed_stmt stmt.now))) }
+    ensures size { IfOk result (λ m. m ≡ stmt_size (L.program names.now)
+        (inside loops.old.items (L.scope names.now)) rows.now (plain_stmt (placed_stmt stmt.now))) }
     ensures loops { OnOk result (loops.new.items ≡ loops.old.items) }
 {
     let size = match stmt {
@@ -235,7 +244,9 @@ pub fn stmts<L: Lookup>(
     loops: &mut Vec<Loop>,
     stmts: &[Stmt],
 ) -> Result<Measure, AllocError>
-    ensures size { IfOk result (λ m. m ≡ stmts_size (L.program names.now) (inside loops.old.items (L.scope names.now)) rows.now nothing (plain_stmts (placed_stmts stmts.now))) }
+    ensures size { IfOk result (λ m. m ≡ stmts_size (L.program names.now)
+        (inside loops.old.items (L.scope names.now)) rows.now nothing
+        (plain_stmts (placed_stmts stmts.now))) }
     ensures loops { OnOk result (loops.new.items ≡ loops.old.items) }
 {
     let mut sum = Measure::nothing();

@@ -1,4 +1,5 @@
--- What the measures of a program's texts are: their defined costs, heights and lengths, as far as they are counted.
+-- What the measures of a program's texts are: their defined costs, heights and lengths, as far as
+-- they are counted.
 use Rattle.std.specs.Prelude.{◌≡◌, ℕ, List}
 use Rattle.rte_tree.specs.Plain.{Expr, Stmt, no_stmts, when, when_else, loop, Stmts, stmts, Prog}
 use Rattle.rte_num.specs.Capped.{cap}
@@ -42,7 +43,8 @@ abbrev mutual
   AllBoundsFit g no_stmts = Unit {0}
   AllBoundsFit g (stmts s ss) = BoundsFit g s × AllBoundsFit g ss
 
--- The law: the measure of an expression that means what it should, where the rows tell of all that it calls.
+-- The law: the measure of an expression that means what it should, where the rows tell of all that
+-- it calls.
 abbrev pub ExpressionsAreMeasured : Type 0
 ExpressionsAreMeasured = (g : Prog) (rows : List Known) (k : Calls) (c : Scope) (e : Expr) → SoundExpr g (λ t. IsRow g rows k t) c e
     → expr_size g c rows e ≡ measured (expr_cost g (names_of g c) k e) (expr_height g c.owner k e) (expr_length g c.owner e)

@@ -20,8 +20,9 @@ abbrev pub shape_of : {P : Type 0} → Kind P → Shape
 shape_of (scalar s) = shape_is.One (sort_of s)
 shape_of (array low high s) = shape_is.Many (sort_of s)
 
--- what a name is declared as: a variable belongs to the routine whose name stands at its owner's place, to a monitor or
--- process where there is none; programs, events, monitors, processes and conditions have nothing that the rules ask for
+-- what a name is declared as: a variable belongs to the routine whose name stands at its owner's
+-- place, to a monitor or process where there is none; programs, events, monitors, processes and
+-- conditions have nothing that the rules ask for
 pub data Thing : Type 0 where
   constant_thing : Thing
   device_thing : (is_out : Bool) → Thing
@@ -73,7 +74,8 @@ abbrev pub learn : (Place → Option Thing) → List (Place × Thing) → Place 
 learn known [] = known
 learn known (d ∷ ds) = learn (λ p. if same_place p d.0 then Some d.1 else known p) ds
 
--- the declaration whose name stands at the place: what stands in no declaration is the variable of a loop
+-- the declaration whose name stands at the place: what stands in no declaration is the variable of
+-- a loop
 abbrev pub thing_at : Prog Place → Place → Thing
 thing_at g place = unwrap_or (learn (λ p. None) (decls_things g.decls ((g.place, other_thing) ∷ [])) place) loop_thing
 

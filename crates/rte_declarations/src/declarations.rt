@@ -89,7 +89,8 @@ impl<'a> Declarations<'a> {
         value_of(&self.values, constant).get()
     }
 
-    /// The value of the constant of that name, 0 where there is none, from -4,294,967,295 to 4,294,967,295.
+    /// The value of the constant of that name, 0 where there is none, from -4,294,967,295 to
+    /// 4,294,967,295.
     pub fn constant(&self, name: &Name) -> i64
         ensures exact { result ≡ value_among (constants (plain (placed self.now))) name.now }
         ensures within { (negsuc 4294967294 ≤ℤ result) × (result ≤ℤ pos 4294967295) }
@@ -99,7 +100,8 @@ impl<'a> Declarations<'a> {
 
     /// The place of a constant whose value is not within the limits.
     pub fn out_of(&self, low: u32, high: u32, constant: &Constant) -> Option<Place>
-        ensures { result ≡ out_of_limits (value (placed self.now)) low high (placed_constant constant.now) }
+        ensures { result ≡ out_of_limits (value (placed self.now)) low high
+            (placed_constant constant.now) }
     {
         let value = self.value(constant);
         if i64::from(low) <= value && value <= i64::from(high) {

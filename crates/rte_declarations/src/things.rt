@@ -18,7 +18,8 @@ pub type Things<'a> = PlaceMap<Thing<'a>>;
 
 /// Keeps one more declaration.
 fn keep<'a>(things: &mut Things<'a>, place: Place, thing: Thing<'a>) -> Result<(), AllocError>
-    ensures { OnOk result ((more : List Declared) → learn (known_things things.new.entries) more ≡ learn (known_things things.old.entries) ((place, seen thing.entry) ∷ more)) }
+    ensures { OnOk result ((more : List Declared) → learn (known_things things.new.entries) more ≡
+        learn (known_things things.old.entries) ((place, seen thing.entry) ∷ more)) }
 {
     things.insert((place.line, place.col), thing)?;
     Ok(())
@@ -29,7 +30,9 @@ fn vars<'a>(
     owner: Option<Place>,
     list: &'a [Var],
 ) -> Result<(), AllocError>
-    ensures { OnOk result ((more : List Declared) → learn (known_things things.new.entries) more ≡ learn (known_things things.old.entries) (vars_things owner (map placed_var list.now) more)) }
+    ensures { OnOk result ((more : List Declared) → learn (known_things things.new.entries) more ≡
+        learn (known_things things.old.entries)
+        (vars_things owner (map placed_var list.now) more)) }
 {
     for var in list {
         let shape = shape_of(&var.kind);
@@ -43,7 +46,9 @@ fn params<'a>(
     owner: Option<Place>,
     list: &'a [Param],
 ) -> Result<(), AllocError>
-    ensures { OnOk result ((more : List Declared) → learn (known_things things.new.entries) more ≡ learn (known_things things.old.entries) (params_things owner (map placed_param list.now) more)) }
+    ensures { OnOk result ((more : List Declared) → learn (known_things things.new.entries) more ≡
+        learn (known_things things.old.entries)
+        (params_things owner (map placed_param list.now) more)) }
 {
     for param in list {
         let shape = Shape::One(sort_of(&param.kind));
@@ -58,7 +63,9 @@ fn routine<'a>(
     is_entry: bool,
     routine: &'a Routine,
 ) -> Result<(), AllocError>
-    ensures { OnOk result ((more : List Declared) → learn (known_things things.new.entries) more ≡ learn (known_things things.old.entries) (routine_things is_entry (placed_routine routine.now) more)) }
+    ensures { OnOk result ((more : List Declared) → learn (known_things things.new.entries) more ≡
+        learn (known_things things.old.entries)
+        (routine_things is_entry (placed_routine routine.now) more)) }
 {
     keep(things, routine.place, Thing::Routine { is_entry, routine })?;
     params(things, Some(routine.place), routine.params.as_slice())?;
@@ -71,7 +78,9 @@ fn routines<'a>(
     is_entry: bool,
     list: &'a [Routine],
 ) -> Result<(), AllocError>
-    ensures { OnOk result ((more : List Declared) → learn (known_things things.new.entries) more ≡ learn (known_things things.old.entries) (routines_things is_entry (map placed_routine list.now) more)) }
+    ensures { OnOk result ((more : List Declared) → learn (known_things things.new.entries) more ≡
+        learn (known_things things.old.entries)
+        (routines_things is_entry (map placed_routine list.now) more)) }
 {
     for one in list {
         routine(things, is_entry, one)?;
@@ -80,7 +89,8 @@ fn routines<'a>(
 }
 
 fn member<'a>(things: &mut Things<'a>, member: &'a Member) -> Result<(), AllocError>
-    ensures { OnOk result ((more : List Declared) → learn (known_things things.new.entries) more ≡ learn (known_things things.old.entries) (member_things (placed_member member.now) more)) }
+    ensures { OnOk result ((more : List Declared) → learn (known_things things.new.entries) more ≡
+        learn (known_things things.old.entries) (member_things (placed_member member.now) more)) }
 {
     match member {
         Member::Var(var) => {
@@ -95,7 +105,9 @@ fn member<'a>(things: &mut Things<'a>, member: &'a Member) -> Result<(), AllocEr
 }
 
 fn members<'a>(things: &mut Things<'a>, list: &'a [Member]) -> Result<(), AllocError>
-    ensures { OnOk result ((more : List Declared) → learn (known_things things.new.entries) more ≡ learn (known_things things.old.entries) (members_things (map placed_member list.now) more)) }
+    ensures { OnOk result ((more : List Declared) → learn (known_things things.new.entries) more ≡
+        learn (known_things things.old.entries)
+        (members_things (map placed_member list.now) more)) }
 {
     for one in list {
         member(things, one)?;
@@ -104,7 +116,8 @@ fn members<'a>(things: &mut Things<'a>, list: &'a [Member]) -> Result<(), AllocE
 }
 
 fn decl<'a>(things: &mut Things<'a>, decl: &'a Decl) -> Result<(), AllocError>
-    ensures { OnOk result ((more : List Declared) → learn (known_things things.new.entries) more ≡ learn (known_things things.old.entries) (decl_things (placed_decl decl.now) more)) }
+    ensures { OnOk result ((more : List Declared) → learn (known_things things.new.entries) more ≡
+        learn (known_things things.old.entries) (decl_things (placed_decl decl.now) more)) }
 {
     match decl {
         Decl::Const { place, .. } => keep(things, *place, Thing::Constant)?,
@@ -129,7 +142,8 @@ fn decl<'a>(things: &mut Things<'a>, decl: &'a Decl) -> Result<(), AllocError>
 
 /// All that stands declared outside of statements, in declarations.
 fn decls<'a>(things: &mut Things<'a>, list: &'a [Decl]) -> Result<(), AllocError>
-    ensures { OnOk result ((more : List Declared) → learn (known_things things.new.entries) more ≡ learn (known_things things.old.entries) (decls_things (map placed_decl list.now) more)) }
+    ensures { OnOk result ((more : List Declared) → learn (known_things things.new.entries) more ≡
+        learn (known_things things.old.entries) (decls_things (map placed_decl list.now) more)) }
 {
     for one in list {
         decl(things, one)?;
@@ -139,7 +153,9 @@ fn decls<'a>(things: &mut Things<'a>, list: &'a [Decl]) -> Result<(), AllocError
 
 /// All that a program declares outside of statements, its own name included.
 pub fn things<'a>(alloc: Global, program: &'a Prog) -> Result<Things<'a>, AllocError>
-    ensures { IfOk result (λ things. known_things things.entries ≡ learn nothing (decls_things (map placed_decl program.now.decls) ((program.now.place, other_thing) ∷ []))) }
+    ensures { IfOk result (λ things. known_things things.entries ≡
+        learn nothing (decls_things (map placed_decl program.now.decls)
+        ((program.now.place, other_thing) ∷ []))) }
 {
     let mut things = Things::with_hasher(alloc, BuildHasherDefault::new());
     decls(&mut things, program.decls.as_slice())?;

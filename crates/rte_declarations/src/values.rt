@@ -52,7 +52,8 @@ pub fn named(values: &Values<'_>, name: &[u8]) -> Number
 
 /// The value of a constant.
 pub fn value_of(values: &Values<'_>, constant: &Constant) -> Number
-    ensures { number_value result ≡ amount (kept_worth values.now.entries) (plain_constant (placed_constant constant.now)) }
+    ensures { number_value result ≡ amount (kept_worth values.now.entries)
+        (plain_constant (placed_constant constant.now)) }
 {
     match &constant.value {
         Value::Literal(size) => Number {
@@ -65,7 +66,8 @@ pub fn value_of(values: &Values<'_>, constant: &Constant) -> Number
 
 /// Keeps the value of one more constant.
 fn keep<'a>(values: &mut Values<'a>, name: &'a [u8], number: Number) -> Result<(), AllocError>
-    ensures { OnOk result (kept_worth values.new.entries ≡ with_constant (kept_worth values.old.entries) name.now (number_value number)) }
+    ensures { OnOk result (kept_worth values.new.entries ≡
+        with_constant (kept_worth values.old.entries) name.now (number_value number)) }
 {
     values.insert(name, number)?;
     Ok(())
@@ -73,7 +75,8 @@ fn keep<'a>(values: &mut Values<'a>, name: &'a [u8], number: Number) -> Result<(
 
 /// One more declaration.
 fn next<'a>(values: &mut Values<'a>, decl: &'a Decl) -> Result<(), AllocError>
-    ensures { OnOk result (kept_worth values.new.entries ≡ with_decl (kept_worth values.old.entries) (plain_decl (placed_decl decl.now))) }
+    ensures { OnOk result (kept_worth values.new.entries ≡
+        with_decl (kept_worth values.old.entries) (plain_decl (placed_decl decl.now))) }
 {
     if let Decl::Const { name, value, .. } = decl {
         let number = value_of(values, value);
@@ -84,7 +87,8 @@ fn next<'a>(values: &mut Values<'a>, decl: &'a Decl) -> Result<(), AllocError>
 
 /// The constants of declarations, each with its value, which names those before it alone.
 pub fn values<'a>(alloc: Global, decls: &'a [Decl]) -> Result<Values<'a>, AllocError>
-    ensures { IfOk result (λ values. kept_worth values.entries ≡ with_decls no_worth (map plain_decl (map placed_decl decls.now))) }
+    ensures { IfOk result (λ values. kept_worth values.entries ≡
+        with_decls no_worth (map plain_decl (map placed_decl decls.now))) }
 {
     let mut values = Values::new(alloc);
     for decl in decls {

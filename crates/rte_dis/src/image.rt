@@ -38,7 +38,8 @@ fn put_events(text: &mut Text, events: &[EventName]) -> Result<(), AllocError>
 /// Puts the lines of the monitors, each with its name.
 fn put_monitors(text: &mut Text, names: &[Name], monitors: &[RawMon]) -> Result<(), AllocError>
     requires { length names.now ≡ length monitors.now }
-    ensures { OnOk result (text.new ≡ text.old ++ monitors_text names.now (map monitor_of monitors.now)) }
+    ensures { OnOk result (text.new ≡ text.old ++
+        monitors_text names.now (map monitor_of monitors.now)) }
 {
     for (at, monitor) in monitors.iter().enumerate() {
         put_monitor(text, &names[at], monitor)?;
@@ -58,7 +59,8 @@ fn put_conditions(text: &mut Text, conditions: &[CondName]) -> Result<(), AllocE
 
 /// Puts the lines of the routines and their trees.
 fn put_routines(text: &mut Text, routines: &[RawRoutine]) -> Result<(), AllocError>
-    ensures { OnOk result (text.new ≡ text.old ++ flat_map routine_lines (map routine_of routines.now)) }
+    ensures { OnOk result (text.new ≡ text.old ++
+        flat_map routine_lines (map routine_of routines.now)) }
 {
     for routine in routines {
         put_routine(text, routine)?;
@@ -69,7 +71,8 @@ fn put_routines(text: &mut Text, routines: &[RawRoutine]) -> Result<(), AllocErr
 /// Puts the lines of the processes and their trees, each with its name.
 fn put_processes(text: &mut Text, names: &[Name], processes: &[RawProc]) -> Result<(), AllocError>
     requires { length names.now ≡ length processes.now }
-    ensures { OnOk result (text.new ≡ text.old ++ processes_text names.now (map process_of processes.now)) }
+    ensures { OnOk result (text.new ≡ text.old ++
+        processes_text names.now (map process_of processes.now)) }
 {
     for (at, process) in processes.iter().enumerate() {
         put_process(text, &names[at], process)?;
@@ -90,7 +93,8 @@ fn put_code(text: &mut Text, code: &[Instr]) -> Result<(), AllocError>
 /// Puts the lines of the devices, the events, the monitors and the conditions.
 fn put_named(text: &mut Text, image: &RawImage) -> Result<(), AllocError>
     requires { length image.now.names.monitors ≡ length image.now.monitors }
-    ensures { OnOk result (text.new ≡ text.old ++ names_text image.now.names (map monitor_of image.now.monitors)) }
+    ensures { OnOk result (text.new ≡ text.old ++
+        names_text image.now.names (map monitor_of image.now.monitors)) }
 {
     let names = &image.names;
     put_devices(text, names.devices.as_slice())?;

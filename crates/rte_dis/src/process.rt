@@ -34,7 +34,8 @@ fn put_evented(text: &mut Text, process: &RawProc) -> Result<(), AllocError>
 
 /// Puts what releases a process, and within what it ends.
 fn put_release(text: &mut Text, process: &RawProc) -> Result<(), AllocError>
-    ensures { OnOk result (text.new ≡ text.old ++ release_text (process_of process.now) process.now.kind) }
+    ensures { OnOk result (text.new ≡ text.old ++
+        release_text (process_of process.now) process.now.kind) }
 {
     match process.kind {
         0 => put_periodic(text, process),
@@ -83,7 +84,8 @@ fn put_handler(text: &mut Text, handler: u32, numbers: &[u16]) -> Result<(), All
 
 /// Puts the line of the handler's tree, where there are numbers that it takes.
 fn put_handler_tree(text: &mut Text, numbers: &[u16], tree: &Option<Segs>) -> Result<(), AllocError>
-    ensures { OnOk result (text.new ≡ text.old ++ handler_line numbers.now (option_map views tree.now)) }
+    ensures { OnOk result (text.new ≡ text.old ++
+        handler_line numbers.now (option_map views tree.now)) }
 {
     match (numbers, tree) {
         ([_, ..], Some(tree)) => put_tree(text, tree.as_slice())?,

@@ -1,4 +1,5 @@
--- What is due of a text, of an image's bytes and of a script is one, and so is what is due of each command.
+-- What is due of a text, of an image's bytes and of a script is one, and so is what is due of each
+-- command.
 use Rattle.std.specs.Prelude.{◌≡◌, ℕ, List, Option}
 use Rattle.rte_tree.specs.declared.place.Place.{Place}
 use Rattle.rte_tree.specs.Placed.{Prog}

@@ -36,6 +36,7 @@ after_put (Some a) k c = with_jobs c (changed (raised_job a) k c.jobs)
 abbrev pub handling_at : ℕ → Config → Option Bool
 handling_at k c = option_map (λ j. j.handling) (slice_get c.jobs k)
 
--- what process k does after the exception is this, in each configuration where its handler runs, or not, as in the one at hand
+-- what process k does after the exception is this, in each configuration where its handler runs, or
+-- not, as in the one at hand
 abbrev pub IsPrepared : Prog → ℕ → (number : ℕ) → Config → Option After → Type 0
 IsPrepared g k n c a = (d : Config) → handling_at k d ≡ handling_at k c → on_job (λ p j. job_after_raise g n p.handler j) g k d ≡ after_put a k d

@@ -36,7 +36,8 @@ fn leave_queue(queue: &mut Vec<usize>, process: usize)
 
 /// The process stands at the queue's end; an error leaves the queue as it was.
 fn join_queue(queue: &mut Vec<usize>, process: usize) -> Result<(), AllocError>
-    ensures { queue.new.items ≡ cond (is_ok result) (queue.old.items ++ process ∷ []) queue.old.items }
+    ensures { queue.new.items ≡ cond (is_ok result)
+        (queue.old.items ++ process ∷ []) queue.old.items }
 {
     queue.push(process)?;
     Ok(())
@@ -53,7 +54,8 @@ fn drop_head(queue: &mut Vec<usize>)
 
 /// Takes the process out of the condition's queue, if it stands there.
 pub fn take_out(queues: &mut Vec<Vec<usize>>, condition: usize, process: usize)
-    ensures { queues_of queues.new.items ≡ changed (without process) condition (queues_of queues.old.items) }
+    ensures { queues_of queues.new.items ≡ changed (without process) condition
+        (queues_of queues.old.items) }
 {
     if condition < queues.len() {
         leave_queue(&mut queues[condition], process);
@@ -66,7 +68,8 @@ pub fn join(
     condition: usize,
     process: usize,
 ) -> Result<(), AllocError>
-    ensures { queues_of queues.new.items ≡ changed (λ q. cond (is_ok result) (q ++ process ∷ []) q) condition (queues_of queues.old.items) }
+    ensures { queues_of queues.new.items ≡ changed
+        (λ q. cond (is_ok result) (q ++ process ∷ []) q) condition (queues_of queues.old.items) }
 {
     if condition < queues.len() {
         join_queue(&mut queues[condition], process)
@@ -127,7 +130,8 @@ pub fn drop_first(queues: &mut Vec<Vec<usize>>, condition: usize)
 
 /// Takes all out of the condition's queue.
 pub fn drop_all(queues: &mut Vec<Vec<usize>>, condition: usize)
-    ensures { queues_of queues.new.items ≡ changed (λ q. []) condition (queues_of queues.old.items) }
+    ensures { queues_of queues.new.items ≡ changed (λ q. []) condition
+        (queues_of queues.old.items) }
 {
     if condition < queues.len() {
         queues[condition].clear();

@@ -24,7 +24,8 @@ pub struct Text<'a> {
 
 /// The value of a constant as a number of ticks or of an exception.
 pub fn count(declarations: &Declarations<'_>, constant: &Constant) -> u32
-    ensures { result ≡ count_value (plain (placed declarations.now)) (plain_constant (placed_constant constant.now)) }
+    ensures { result ≡ count_value (plain (placed declarations.now))
+        (plain_constant (placed_constant constant.now)) }
 {
     let value = declarations.value(constant);
     if value < 0 { 0 } else { value as u32 }
@@ -32,7 +33,8 @@ pub fn count(declarations: &Declarations<'_>, constant: &Constant) -> u32
 
 /// Whether one of the constants is the number.
 fn is_listed(declarations: &Declarations<'_>, number: u32, constants: &[Constant]) -> bool
-    ensures { result ≡ lists (plain (placed declarations.now)) number (map plain_constant (map placed_constant constants.now)) }
+    ensures { result ≡ lists (plain (placed declarations.now)) number
+        (map plain_constant (map placed_constant constants.now)) }
 {
     for constant in constants {
         if count(declarations, constant) == number {
@@ -51,7 +53,8 @@ pub struct After<'a> {
 
 /// Whether the handler begins: it lists the number, and does not run yet.
 fn begins(declarations: &Declarations<'_>, number: u32, handler: &Handler, handling: bool) -> bool
-    ensures { result ≡ (lists (plain (placed declarations.now)) number (map plain_constant (map placed_constant handler.now.numbers)) && not handling) }
+    ensures { result ≡ (lists (plain (placed declarations.now)) number
+        (map plain_constant (map placed_constant handler.now.numbers)) && not handling) }
 {
     is_listed(declarations, number, handler.numbers.as_slice()) && !handling
 }
@@ -63,7 +66,8 @@ fn what_follows<'a>(
     number: u32,
     handling: bool,
 ) -> Result<After<'a>, AllocError>
-    ensures { IfOk result (λ a. IsAfter (plain (placed text.now.declarations.now)) (plain_process (placed_process process.now)) number handling (after_of a)) }
+    ensures { IfOk result (λ a. IsAfter (plain (placed text.now.declarations.now))
+        (plain_process (placed_process process.now)) number handling (after_of a)) }
 {
     match &process.handler {
         None => Ok(After {
@@ -95,7 +99,9 @@ pub fn prepare<'a>(
     number: u32,
 ) -> Result<Option<After<'a>>, AllocError>
     requires { IsText text.now }
-    ensures { IfOk result (λ after. IsPrepared (plain (placed text.now.declarations.now)) process number (config_of config.now) (option_map after_of after)) }
+    ensures { IfOk result (λ after. IsPrepared
+        (plain (placed text.now.declarations.now)) process number (config_of config.now)
+        (option_map after_of after)) }
 {
     match text.processes.get(process) {
         None => Ok(None),
@@ -111,7 +117,8 @@ pub fn prepare<'a>(
 
 /// The process is at work with these calls, since its release.
 fn set_after<'a>(jobs: &mut Vec<Job<'a>>, process: usize, after: After<'a>)
-    ensures { jobs_of jobs.new.items ≡ changed (raised_job (after_of after.entry)) process (jobs_of jobs.old.items) }
+    ensures { jobs_of jobs.new.items ≡ changed (raised_job (after_of after.entry)) process
+        (jobs_of jobs.old.items) }
 {
     let After { calls, handling } = after;
     if process < jobs.len() {
@@ -125,7 +132,8 @@ fn set_after<'a>(jobs: &mut Vec<Job<'a>>, process: usize, after: After<'a>)
 
 /// The process leaves its monitor and its calls, and begins what it does after the exception.
 pub fn raise<'a>(config: &mut Config<'a>, process: usize, after: Option<After<'a>>)
-    ensures { config_of config.new ≡ after_put (option_map after_of after.entry) process (left (config_of config.old) process) }
+    ensures { config_of config.new ≡ after_put (option_map after_of after.entry) process
+        (left (config_of config.old) process) }
 {
     config.leave(process);
     if let Some(after) = after {

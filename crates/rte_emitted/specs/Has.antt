@@ -23,7 +23,8 @@ pub record EachBranch (P : Instr → Type 0) : Type 0 where
   pub repeat : (n : ℕ) → P (i.Repeat (pos n))
   pub exit : (n : ℕ) → P (i.Exit (pos n))
 
--- each instruction of a statement but its branches; its first loop in the text, if it has one, has its variable at word w
+-- each instruction of a statement but its branches; its first loop in the text, if it has one, has
+-- its variable at word w
 abbrev mutual
   pub StmtHas : (Instr → Type 0) → Prog → Scope → (w : ℕ) → Stmt → Type 0
   StmtHas P g c w (assign r e) = AllOf P (index_code g c r ++ (code_of g c e ++ put_code g c r))

@@ -67,7 +67,8 @@ ProcessesOwnTheirCode = (g : Prog) (m : image.Image) → IsCodeOf g m
 abbrev pub PieceKeeps : image.Image → (Instr → Type 0) → ℕ → Type 0
 PieceKeeps m P k = (a : ℕ) (i : Instr) → belongs m k a ≡ true → slice_get m.code a ≡ Some i → P i
 
--- The law: each instruction that belongs to the piece of a routine passes the test that its text passes.
+-- The law: each instruction that belongs to the piece of a routine passes the test that its text
+-- passes.
 abbrev pub RoutinePiecesKeep : Type 0
 RoutinePiecesKeep = (test : Instr → Bool) (g : Prog) (m : image.Image) → IsCodeOf g m → (r : ℕ) (t : Text) → slice_get (numbered g) r ≡ Some t
     → RoutineHas (Passes test) g t → PieceKeeps m (Passes test) r

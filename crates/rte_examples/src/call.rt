@@ -83,7 +83,8 @@ pub fn call_on_image(
     made_call(alloc, line, files, NO_FAILURES)
 }
 
-/// A call where P holds the program, S the script, and the file of this name the bytes, with failures.
+/// A call where P holds the program, S the script, and the file of this name the bytes, with
+/// failures.
 pub fn call_beside(
     alloc: Global,
     line: &str,

@@ -1,4 +1,5 @@
--- What is left when ranks and bounds are filled in: the shape of the image, and what it is built of.
+-- What is left when ranks and bounds are filled in: the shape of the image, and what it is built
+-- of.
 use Rattle.std.specs.Prelude.{◌≡◌, ◌↔◌, ℕ, List, Option, Some, None, All, IsSome, slice_get}
 use Rattle.rte_tree.specs.Plain.{Prog}
 use Rattle.rte_image.specs.Named.{NamedImage}

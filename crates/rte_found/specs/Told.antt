@@ -36,7 +36,8 @@ pub record Reaches (address low : ℕ) (f : Found) : Type 0 where
   pub height : f.height ≡ low
   pub held : IsHeld f
 
--- it ends at the address, which is in the code or right behind it, and no height is above the address
+-- it ends at the address, which is in the code or right behind it, and no height is above the
+-- address
 pub record EndsAt (code : List Instr) (address : ℕ) (f : Found) : Type 0 where
   pub next : f.next ≡ address
   pub within : f.next ≤ length code

@@ -1,4 +1,5 @@
--- What the code of a part comes to whatever its owner is: an entry is known by its tree, which is one Stay.
+-- What the code of a part comes to whatever its owner is: an entry is known by its tree, which is
+-- one Stay.
 use Rattle.std.specs.Prelude.{◌-◌, ℕ, Bool, List, Option, Some, None}
 use Rattle.rte_isa.specs.declared.instr.Instr.{Instr}
 use Rattle.rte_machine_meaning.specs.Trees.{Segs, Stay, Nil, Cons}

@@ -1,10 +1,10 @@
 //! What the code of a part comes to: its height, its worst cost and its depth, or nothing where the
 //! code is not of its segment tree or a rule of heights fails.
 //!
-//! The definition is `founds` of `rte_valid`: one computation over tree and code. Each call promises
-//! just what that says, with costs held at one more than a thousand million and depths at 4,097
-//! (`specs/Told.antt`). No memory is taken, and the time is in proportion to the code; below a loop a
-//! tree's sizes are counted once more for each loop around it.
+//! The definition is `founds` of `rte_valid`: one computation over tree and code. Each call
+//! promises just what that says, with costs held at one more than a thousand million and depths at
+//! 4,097 (`specs/Told.antt`). No memory is taken, and the time is in proportion to the code; below
+//! a loop a tree's sizes are counted once more for each loop around it.
 #![tactic(auto)]
 
 mod instructions;

@@ -25,7 +25,9 @@ use rte_seg::Seg;
 fn stayed(owner: u16, monitor: u16, enter: Instr, leave: Instr, inside: &Found) -> Option<PartFound>
     requires held { IsHeld inside.now }
     requires room { inside.now.next + 1 ≤ usize.MAX }
-    ensures value { told_part result ≡ hold (guard (nat_eq monitor owner && (enters owner (Some enter) && leaves owner (Some leave))) (stays_in (Some (found_of inside.now)))) }
+    ensures value { told_part result ≡ hold (guard
+        (nat_eq monitor owner && (enters owner (Some enter) && leaves owner (Some leave)))
+        (stays_in (Some (found_of inside.now)))) }
     ensures ends { IfSome result (λ f. Reaches (inside.now.next + 1) inside.now.height f.found) }
     ensures stay { IfSome result (λ f. f.stay ≡ cap (inside.now.cost.run + 3)) }
 {
@@ -60,9 +62,12 @@ fn stay_found(
     at: usize,
 ) -> Option<PartFound>
     requires { at ≤ length code.now }
-    ensures value { told_part result ≡ hold (entry code.now (map known_of known.now) owner (Cons (Stay monitor (views body.now)) Nil) at) }
+    ensures value { told_part result ≡ hold (entry code.now (map known_of known.now) owner
+        (Cons (Stay monitor (views body.now)) Nil) at) }
     ensures ends { IfSome result (λ f. EndsAt code.now (at + size (views body.now) + 2) f.found) }
-    ensures stay { IfSome result (λ f. f.stay ≡ cap ((found_or_nothing (entry code.now (map known_of known.now) owner (Cons (Stay monitor (views body.now)) Nil) at)).cost.run - 5)) }
+    ensures stay { IfSome result (λ f. f.stay ≡
+        cap ((found_or_nothing (entry code.now (map known_of known.now) owner
+        (Cons (Stay monitor (views body.now)) Nil) at)).cost.run - 5)) }
 {
     let enter = instr_at(code, at)?;
     let around = Around {
@@ -83,9 +88,12 @@ pub fn entry_found(
     at: usize,
 ) -> Option<PartFound>
     requires { at ≤ length code.now }
-    ensures value { told_part result ≡ hold (entry code.now (map known_of known.now) owner (views tree.now) at) }
+    ensures value { told_part result ≡ hold (entry code.now (map known_of known.now) owner
+        (views tree.now) at) }
     ensures ends { IfSome result (λ f. EndsAt code.now (at + size (views tree.now)) f.found) }
-    ensures stay { IfSome result (λ f. f.stay ≡ cap ((found_or_nothing (entry code.now (map known_of known.now) owner (views tree.now) at)).cost.run - 5)) }
+    ensures stay { IfSome result (λ f. f.stay ≡
+        cap ((found_or_nothing (entry code.now (map known_of known.now) owner
+        (views tree.now) at)).cost.run - 5)) }
 {
     match tree {
         [Seg::Stay(monitor, body)] => stay_found(code, known, owner, *monitor, body.as_slice(), at),
@@ -102,9 +110,12 @@ pub fn part_tree_found(
     at: usize,
 ) -> Option<PartFound>
     requires { at ≤ length code.now }
-    ensures value { told_part result ≡ hold (part_tree code.now (map known_of known.now) monitor (views tree.now) at) }
+    ensures value { told_part result ≡ hold (part_tree code.now (map known_of known.now) monitor
+        (views tree.now) at) }
     ensures ends { IfSome result (λ f. EndsAt code.now (at + size (views tree.now)) f.found) }
-    ensures stay { IfSome result (λ f. f.stay ≡ cap (stay_in monitor (part_tree code.now (map known_of known.now) monitor (views tree.now) at))) }
+    ensures stay { IfSome result (λ f. f.stay ≡
+        cap (stay_in monitor (part_tree code.now (map known_of known.now) monitor
+        (views tree.now) at))) }
 {
     match monitor {
         Some(owner) => entry_found(code, known, owner, tree, at),
@@ -133,10 +144,14 @@ fn monitor_of(routine: &RawRoutine) -> Option<u16>
 /// The code of a routine up to its RET or RETV.
 pub fn routine_found(code: &[Instr], known: &[Known], routine: &RawRoutine) -> Option<PartFound>
     requires { routine.now.start ≤ length code.now }
-    ensures value { told_part result ≡ hold (defined_routine code.now (map known_of known.now) (routine_of routine.now)) }
-    ensures ends { IfSome result (λ f. EndsAt code.now (routine.now.start + size (views routine.now.tree)) f.found) }
+    ensures value { told_part result ≡ hold (defined_routine code.now (map known_of known.now)
+        (routine_of routine.now)) }
+    ensures ends { IfSome result (λ f. EndsAt code.now
+        (routine.now.start + size (views routine.now.tree)) f.found) }
     ensures within { IfSome result (λ f. f.found.next < length code.now) }
-    ensures stay { IfSome result (λ f. f.stay ≡ cap (stay_in (owner_of (routine_of routine.now)) (defined_routine code.now (map known_of known.now) (routine_of routine.now)))) }
+    ensures stay { IfSome result (λ f. f.stay ≡
+        cap (stay_in (owner_of (routine_of routine.now))
+        (defined_routine code.now (map known_of known.now) (routine_of routine.now)))) }
 {
     let part = part_tree_found(
         code,
@@ -155,7 +170,8 @@ pub fn routine_found(code: &[Instr], known: &[Known], routine: &RawRoutine) -> O
 /// The code of the body or the handler of a process up to its END.
 pub fn part_found(code: &[Instr], known: &[Known], tree: &[Seg], at: usize) -> Option<Found>
     requires { at ≤ length code.now }
-    ensures value { told result ≡ hold (defined_part code.now (map known_of known.now) (views tree.now) at) }
+    ensures value { told result ≡ hold (defined_part code.now (map known_of known.now)
+        (views tree.now) at) }
     ensures ends { IfSome result (EndsAt code.now (at + size (views tree.now))) }
     ensures within { IfSome result (λ f. f.next < length code.now) }
 {

@@ -36,7 +36,8 @@ impl Found {
     /// Nothing yet, at an address and a height.
     pub fn nothing(at: usize, height: usize) -> Found
         ensures next { result.next ≡ at }
-        ensures value { found_of result ≡ record { height = height; cost = amount 0 0 0; depth = 0 } }
+        ensures value { found_of result ≡ record
+            { height = height; cost = amount 0 0 0; depth = 0 } }
         ensures held { IsHeld result }
     {
         Found {
@@ -98,7 +99,9 @@ pub fn forked(jump_zero: Instr, jump: Instr, first: &Found, second: &Found) -> O
     requires first_held { IsHeld first.now }
     requires second_held { IsHeld second.now }
     requires room { first.now.next < second.now.next }
-    ensures value { told result ≡ hold (guard (jumps_at_zero (first.now.next + 1) (Some jump_zero) && jumps second.now.next (Some jump)) (arms (Some (found_of first.now)) (Some (found_of second.now)))) }
+    ensures value { told result ≡ hold (guard
+        (jumps_at_zero (first.now.next + 1) (Some jump_zero) && jumps second.now.next (Some jump))
+        (arms (Some (found_of first.now)) (Some (found_of second.now)))) }
     ensures ends { IfSome result (Reaches second.now.next second.now.height) }
 {
     if !is_jump_zero(Some(jump_zero), first.next + 1) || !is_jump(Some(jump), second.next) {
@@ -130,7 +133,9 @@ pub fn repeated(
 ) -> Option<Found>
     requires held { IsHeld turn.now }
     requires room { turn.now.next + 1 ≤ usize.MAX }
-    ensures value { told result ≡ hold (guard (nat_lt 0 turns && (begins turns (Some first) && repeats start (Some last))) (loops turns height (Some (found_of turn.now)))) }
+    ensures value { told result ≡ hold (guard
+        (nat_lt 0 turns && (begins turns (Some first) && repeats start (Some last)))
+        (loops turns height (Some (found_of turn.now)))) }
     ensures ends { IfSome result (Reaches (turn.now.next + 1) height) }
 {
     if turns == 0 || !is_repeats(Some(first), turns as usize) || !is_repeat(Some(last), start) {
@@ -160,7 +165,8 @@ pub fn called(
     height: usize,
 ) -> Option<Found>
     requires { height + 1 ≤ next }
-    ensures value { told result ≡ hold (guard (calls routine (Some instr)) (call height (slice_get (map known_of known.now) routine))) }
+    ensures value { told result ≡ hold (guard (calls routine (Some instr))
+        (call height (slice_get (map known_of known.now) routine))) }
     ensures ends { IfSome result (λ f. (f.next ≡ next) × (f.height ≤ next) × IsHeld f) }
 {
     if !is_call(Some(instr), routine as usize) {
@@ -196,7 +202,8 @@ pub fn waited(
     next: usize,
     height: usize,
 ) -> Option<Found>
-    ensures value { told result ≡ hold (guard (reenters monitor (Some second)) (wait height (limits (Some first)))) }
+    ensures value { told result ≡ hold (guard (reenters monitor (Some second))
+        (wait height (limits (Some first)))) }
     ensures ends { IfSome result (Reaches next height) }
 {
     if !is_reenter(Some(second), monitor) {
@@ -217,7 +224,8 @@ pub fn waited(
 
 /// EXIT to the end of the innermost loop.
 pub fn exited(out: Option<usize>, instr: Instr, next: usize, height: usize) -> Option<Found>
-    ensures value { told result ≡ hold (guard (nat_eq height 1 && exits out (Some instr)) (Some (record { height = 0; cost = amount 3 0 0; depth = 0 }))) }
+    ensures value { told result ≡ hold (guard (nat_eq height 1 && exits out (Some instr))
+        (Some (record { height = 0; cost = amount 3 0 0; depth = 0 }))) }
     ensures ends { IfSome result (Reaches next 0) }
 {
     if height != 1 || !is_exit(Some(instr), out) {

@@ -29,7 +29,8 @@ fn past(at: usize, count: usize, limit: usize) -> Option<usize>
 #[cycle(ends)]
 fn seg_end(seg: &Seg, at: usize, limit: usize) -> Option<usize>
     requires { at ≤ limit }
-    ensures { MatchOption result (limit < at + size_of (view seg.now)) (λ end. (end ≡ at + size_of (view seg.now)) × (end ≤ limit)) }
+    ensures { MatchOption result (limit < at + size_of (view seg.now))
+        (λ end. (end ≡ at + size_of (view seg.now)) × (end ≤ limit)) }
 {
     match seg {
         Seg::Line(count) => past(at, *count as usize, limit),
@@ -51,7 +52,8 @@ fn seg_end(seg: &Seg, at: usize, limit: usize) -> Option<usize>
 #[cycle(ends)]
 pub fn tree_end(tree: &[Seg], at: usize, limit: usize) -> Option<usize>
     requires { at ≤ limit }
-    ensures { MatchOption result (limit < at + size (views tree.now)) (λ end. (end ≡ at + size (views tree.now)) × (end ≤ limit)) }
+    ensures { MatchOption result (limit < at + size (views tree.now))
+        (λ end. (end ≡ at + size (views tree.now)) × (end ≤ limit)) }
 {
     let mut end = at;
     for seg in tree {
@@ -86,7 +88,8 @@ pub fn seg_found(
     height: usize,
 ) -> Option<Found>
     requires low { height ≤ at }
-    ensures value { told result ≡ hold (found code.now (map known_of known.now) around.out around.held (view seg.now) at height) }
+    ensures value { told result ≡ hold (found code.now
+        (map known_of known.now) around.out around.held (view seg.now) at height) }
     ensures ends { IfSome result (EndsAt code.now (at + size_of (view seg.now))) }
 {
     let first = instr_at(code, at)?;
@@ -137,7 +140,8 @@ pub fn tree_found(
 ) -> Option<Found>
     requires low { height ≤ at }
     requires within { at ≤ length code.now }
-    ensures value { told result ≡ hold (founds code.now (map known_of known.now) around.out around.held (views tree.now) at height) }
+    ensures value { told result ≡ hold (founds code.now
+        (map known_of known.now) around.out around.held (views tree.now) at height) }
     ensures ends { IfSome result (EndsAt code.now (at + size (views tree.now))) }
 {
     let mut so_far = Found::nothing(at, height);

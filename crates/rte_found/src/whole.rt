@@ -28,14 +28,15 @@ fn monitor_in(tree: &[Seg]) -> Option<u16>
 
 fn whole_found(code: &[Instr], known: &[Known], tree: &[Seg], base: u32) -> Option<Found>
     requires { base ≤ length code.now }
-    ensures { told result ≡ hold (defined_whole code.now (map known_of known.now) (views tree.now) base) }
+    ensures { told result ≡ hold (defined_whole code.now (map known_of known.now)
+        (views tree.now) base) }
 {
     let part = part_tree_found(code, known, monitor_in(tree), tree, base as usize)?;
     Some(part.found)
 }
 
-/// Whether the code from an address on is of the tree, and no rule of heights fails. A part that gives
-/// a value back ends in RETV.
+/// Whether the code from an address on is of the tree, and no rule of heights fails. A part that
+/// gives a value back ends in RETV.
 pub fn fits(code: &[Instr], base: u32, tree: &Segs, known: &[Known], gives: bool) -> bool
     requires { base ≤ length code.now }
     ensures { result ≡ is_fitting code.now (map known_of known.now) gives (views tree.now) base }
@@ -49,8 +50,10 @@ pub fn fits(code: &[Instr], base: u32, tree: &Segs, known: &[Known], gives: bool
 /// What code that fits costs at most, each number capped.
 pub fn worst(code: &[Instr], base: u32, tree: &Segs, known: &[Known]) -> Cost
     requires base { base ≤ length code.now }
-    requires fits { IsTrue (is_found (defined_whole code.now (map known_of known.now) (views tree.now) base)) }
-    ensures { result ≡ held_cost (found_or_nothing (defined_whole code.now (map known_of known.now) (views tree.now) base)).cost }
+    requires fits { IsTrue (is_found (defined_whole code.now (map known_of known.now)
+        (views tree.now) base)) }
+    ensures { result ≡ held_cost (found_or_nothing
+        (defined_whole code.now (map known_of known.now) (views tree.now) base)).cost }
 {
     match whole_found(code, known, tree.as_slice(), base) {
         Some(found) => found.cost,
@@ -61,8 +64,10 @@ pub fn worst(code: &[Instr], base: u32, tree: &Segs, known: &[Known]) -> Cost
 /// The greatest height in code that fits, with those of the routines that it calls, held at 4,097.
 pub fn depth(code: &[Instr], base: u32, tree: &Segs, known: &[Known]) -> u32
     requires base { base ≤ length code.now }
-    requires fits { IsTrue (is_found (defined_whole code.now (map known_of known.now) (views tree.now) base)) }
-    ensures { result ≡ min (found_or_nothing (defined_whole code.now (map known_of known.now) (views tree.now) base)).depth 4097 }
+    requires fits { IsTrue (is_found (defined_whole code.now (map known_of known.now)
+        (views tree.now) base)) }
+    ensures { result ≡ min (found_or_nothing (defined_whole code.now (map known_of known.now)
+        (views tree.now) base)).depth 4097 }
 {
     match whole_found(code, known, tree.as_slice(), base) {
         Some(found) => found.depth,

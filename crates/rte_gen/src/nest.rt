@@ -80,7 +80,8 @@ impl Out {
         self.aim_all(start, end, end);
     }
 
-    /// A choice begins behind its condition, with the address of its jump and the segments before it.
+    /// A choice begins behind its condition, with the address of its jump and the segments before
+    /// it.
     pub fn begin_choice(&mut self) -> Result<Segs, AllocError>
         ensures out { OnOk result (self.new ≡ choice self.old) }
         ensures segs { IfOk result (λ segs. segs ≡ closed self.old) }

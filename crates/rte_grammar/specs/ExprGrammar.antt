@@ -1,4 +1,5 @@
--- The grammar: one case for each production. Each says that a tree takes its tokens from the front of a list and leaves the others.
+-- The grammar: one case for each production. Each says that a tree takes its tokens from the front
+-- of a list and leaves the others.
 use Rattle.std.specs.Prelude.{◌≡◌, ℕ, zero, suc, ◌≤◌, true, false, List, [], ◌∷◌}
 use Rattle.rte_tree.specs.Plain.{Op, or, and, equal, unequal, less, less_equal, greater, greater_equal, add, sub, mul, div, remainder}
 use Rattle.rte_tree.specs.Placed.{Constant, literal_constant, named_constant, Expr, literal, truth, variable, element, call, minus, negation, paren, row, Exprs, no_exprs, exprs, Operands, no_operands, operand}

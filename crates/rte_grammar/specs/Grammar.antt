@@ -38,7 +38,8 @@ IsResult procedure (Some s) = never
 IsResult function None = never
 IsResult function (Some s) = a w.RETURNS ▷ IsScalar s
 
--- a function has an expression of its result, a procedure none; with this many levels of nesting, here and below
+-- a function has an expression of its result, a procedure none; with this many levels of nesting,
+-- here and below
 abbrev pub IsValueWithin : {P : Type 0} → (depth : ℕ) → RoutineKind → Option (Expr P) → List (Tok P) → List (Tok P) → Type 0
 IsValueWithin depth procedure None = nothing
 IsValueWithin depth procedure (Some e) = never

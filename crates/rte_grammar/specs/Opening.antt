@@ -1,6 +1,7 @@
--- Where a token opens a level of nesting and none is left: the tokens before it are the beginning of a program, and all levels are open there.
--- A level is opened by `if` and `for`, by `-` and `not` before a factor, by parentheses, by index brackets and by argument lists.
--- The parts that are whole before it keep within the levels, so it is the first such token.
+-- Where a token opens a level of nesting and none is left: the tokens before it are the beginning
+-- of a program, and all levels are open there. A level is opened by `if` and `for`, by `-` and
+-- `not` before a factor, by parentheses, by index brackets and by argument lists. The parts that
+-- are whole before it keep within the levels, so it is the first such token.
 use Rattle.std.specs.Prelude.{◌≡◌, ℕ, zero, suc, ◌≤◌, ◌⊎◌, List, length}
 use Rattle.rte_tree.specs.Plain.{Op}
 use Rattle.rte_tree.specs.Placed.{Expr, RoutineKind, function}
@@ -35,11 +36,13 @@ a_name = Whole (λ n. a (named n))
 
 -- ---- expressions, with this many levels left
 
--- operands of this level, each with an operator of one level up behind it; a comparison has one operator
+-- operands of this level, each with an operator of one level up behind it; a comparison has one
+-- operator
 abbrev pub HaveOperators : {P : Type 0} → (level depth : ℕ) → List (Expr P × Op) → Part P
 HaveOperators level depth rs ts us = (suc level ≡ 3 → length rs ≤ 1) × Each (λ r. IsExpr level depth r.0 ▷ OfLevel (suc level) r.1) rs ts us
 
--- from an expression of at most this level to one of its factors: past operands of each level, from the top down
+-- from an expression of at most this level to one of its factors: past operands of each level, from
+-- the top down
 unfoldable pub UpToFactor : {P : Type 0} → (level depth : ℕ) → Part P
 UpToFactor zero depth = nothing
 UpToFactor (suc level) depth = Whole (HaveOperators level depth) ▷ UpToFactor level depth
@@ -57,7 +60,8 @@ IntoFactor depth =
     ∪ a_name ▷ a w.LEFT_BRACKET ▷ UpToFactor 5 depth
     ∪ a_name ▷ a w.LEFT_PAREN ▷ UpToArg depth ▷ UpToFactor 5 depth
 
--- in a factor a token opens a level where none is left: by its own first opening, or in a factor inside it
+-- in a factor a token opens a level where none is left: by its own first opening, or in a factor
+-- inside it
 unfoldable pub OpensFactor : {P : Type 0} → (depth : ℕ) → Part P
 OpensFactor zero = here w.MINUS ∪ here w.NOT ∪ here w.LEFT_PAREN ∪ a_name ▷ here w.LEFT_BRACKET ∪ a_name ▷ here w.LEFT_PAREN
 OpensFactor (suc depth) = IntoFactor depth ▷ OpensFactor depth
@@ -102,7 +106,8 @@ IntoStmt depth =
     ∪ a w.IF ▷ Whole (IsExpr 5 depth) ▷ a w.THEN ▷ Whole (AreStmts depth) ▷ a w.ELSE ▷ Whole (AreStmts depth)
     ∪ a w.FOR ▷ a_name ▷ a w.COLON ▷ Whole IsConstant ▷ a w.RANGE ▷ Whole IsConstant ▷ a w.DO ▷ Whole (AreStmts depth)
 
--- a statement does, by its `if` or `for`, in its test, in a statement inside it, or in its expressions
+-- a statement does, by its `if` or `for`, in its test, in a statement inside it, or in its
+-- expressions
 unfoldable pub OpensStmt : {P : Type 0} → (depth : ℕ) → Part P
 OpensStmt zero = here w.IF ∪ here w.FOR ∪ OpensSimple zero
 OpensStmt (suc depth) = a w.IF ▷ OpensExpr depth ∪ IntoStmt depth ▷ OpensStmt depth ∪ OpensSimple (suc depth)
@@ -144,6 +149,7 @@ OpensProcess =
 abbrev pub OpensDecl : {P : Type 0} → Part P
 OpensDecl = OpensRoutine ∪ OpensMonitor ∪ OpensProcess
 
--- from the first list the tokens up to the second begin a program, and the first token of the second opens a level beyond the last
+-- from the first list the tokens up to the second begin a program, and the first token of the
+-- second opens a level beyond the last
 abbrev pub OpensProg : {P : Type 0} → Part P
 OpensProg = a w.PROGRAM ▷ a_name ▷ Whole (Each IsDecl) ▷ OpensDecl

@@ -1,4 +1,5 @@
--- The tokens of a text as words: names with their bytes, literals with their values, keywords and signs.
+-- The tokens of a text as words: names with their bytes, literals with their values, keywords and
+-- signs.
 use Rattle.std.specs.Prelude.{ℕ, List, map, codes}
 use Rattle.rte_tree.specs.Plain.{Name}
 use Rattle.rte_tree.specs.declared.place.Place.{Place}

@@ -52,7 +52,8 @@ fn rises(numbers: &[usize], least: usize, row: &[usize]) -> bool
 
 /// Whether no edge of the graph leads to a lesser number.
 fn all_rise(graph: &Graph, numbers: &[usize]) -> bool
-    ensures { IsTrue result → ((a b : ℕ) → HasEdge graph.now a b → slice_index numbers.now a ≤ slice_index numbers.now b) }
+    ensures { IsTrue result → ((a b : ℕ) → HasEdge graph.now a b → slice_index numbers.now a ≤
+        slice_index numbers.now b) }
 {
     for node in 0..graph.size() {
         if !rises(numbers, number(numbers, node), graph.row(node)) {

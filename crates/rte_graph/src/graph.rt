@@ -89,8 +89,10 @@ impl Graph {
 
     /// The edges, each turned round.
     fn turned_edges(&self, alloc: Global) -> Result<Vec<(usize, usize)>, AllocError>
-        ensures within { IfOk result (λ edges. All (λ e. (e.0 < length self.now) × (e.1 < length self.now)) edges.items) }
-        ensures turned { IfOk result (λ edges. (a b : ℕ) → Contains edges.items (b, a) ↔ HasEdge self.now a b) }
+        ensures within { IfOk result (λ edges.
+            All (λ e. (e.0 < length self.now) × (e.1 < length self.now)) edges.items) }
+        ensures turned { IfOk result (λ edges. (a b : ℕ) →
+            Contains edges.items (b, a) ↔ HasEdge self.now a b) }
     {
         let mut edges = Vec::new(alloc);
         for node in 0..self.size() {

@@ -20,7 +20,8 @@ pub fn is_marked(marks: &[bool], node: usize) -> bool
 /// Marks a node and lists it, unless it is marked.
 fn mark(marks: &mut [bool], found: &mut Vec<usize>, node: usize) -> Result<(), AllocError>
     requires { node < length marks.old }
-    ensures { OnOk result (AreMarked marks.old found.old.items (node ∷ []) marks.new found.new.items) }
+    ensures { OnOk result (AreMarked marks.old found.old.items
+        (node ∷ []) marks.new found.new.items) }
 {
     if !marks[node] {
         marks[node] = true;
@@ -32,7 +33,8 @@ fn mark(marks: &mut [bool], found: &mut Vec<usize>, node: usize) -> Result<(), A
 /// Marks nodes and lists them, apart from those that are marked.
 fn mark_all(marks: &mut [bool], found: &mut Vec<usize>, nodes: &[usize]) -> Result<(), AllocError>
     requires { All (λ node. node < length marks.old) nodes.now }
-    ensures { OnOk result (AreMarked marks.old found.old.items nodes.now marks.new found.new.items) }
+    ensures { OnOk result (AreMarked marks.old found.old.items nodes.now marks.new
+        found.new.items) }
 {
     for node in nodes {
         mark(marks, found, *node)?;
@@ -60,7 +62,8 @@ impl Graph {
     pub fn reached(&self, alloc: Global, starts: &[usize]) -> Result<Vec<bool>, AllocError>
         requires { All (λ start. start < length self.now) starts.now }
         ensures size { IfOk result (λ marks. length marks.items ≡ length self.now) }
-        ensures reached { IfOk result (λ marks. (node : ℕ) → (marked marks.items node ≡ true) ↔ IsReached self.now starts.now node) }
+        ensures reached { IfOk result (λ marks. (node : ℕ) →
+            (marked marks.items node ≡ true) ↔ IsReached self.now starts.now node) }
     {
         let mut marks = vec![in alloc; false; self.size()]?;
         let mut found = Vec::new(alloc);
@@ -73,7 +76,8 @@ impl Graph {
     pub fn reaching(&self, alloc: Global, ends: &[usize]) -> Result<Vec<bool>, AllocError>
         requires { All (λ end. end < length self.now) ends.now }
         ensures size { IfOk result (λ marks. length marks.items ≡ length self.now) }
-        ensures reaching { IfOk result (λ marks. (node : ℕ) → (marked marks.items node ≡ true) ↔ ReachesOne self.now ends.now node) }
+        ensures reaching { IfOk result (λ marks. (node : ℕ) →
+            (marked marks.items node ≡ true) ↔ ReachesOne self.now ends.now node) }
     {
         let turned = self.turned(alloc)?;
         let marks = turned.reached(alloc, ends)?;

@@ -3,7 +3,8 @@
 use crate::{answer, row};
 use std::io;
 
-/// What a document came to: its commands, its rows with a fault, and how many of both are not as shown.
+/// What a document came to: its commands, its rows with a fault, and how many of both are not as
+/// shown.
 #[derive(Clone, Copy)]
 pub struct Told {
     pub commands: u64,

@@ -32,7 +32,8 @@ fn put<R: std::rt::Files + AllocGlobal>(
     answer::of_rte(rt, words.as_str(), &mut status)
 }
 
-/// Whether a row's wrong line has its fault and the mended one has none. None where it is no row of a fault.
+/// Whether a row's wrong line has its fault and the mended one has none. None where it is no row of
+/// a fault.
 pub fn stands<R: std::rt::Files + Print + AllocGlobal>(
     rt: &R,
     frame: &str,

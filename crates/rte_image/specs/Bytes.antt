@@ -1,5 +1,5 @@
--- The bytes of an image, in each of two versions: a head with all counts, the names of devices, events, monitors and conditions, the routines,
--- the processes, the code.
+-- The bytes of an image, in each of two versions: a head with all counts, the names of devices,
+-- events, monitors and conditions, the routines, the processes, the code.
 use Rattle.std.specs.Prelude.{◌≡◌, ◌++◌, ℕ, All, List, [], ◌∷◌, Option, Some, length, codes}
 use Rattle.std.specs.List.{flat_map}
 use Rattle.rte_isa.specs.Bytes.{instr_bytes}

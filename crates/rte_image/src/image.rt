@@ -18,7 +18,8 @@ use std::alloc::{AllocError, Global};
 /// Puts how many parts of each kind there are.
 fn put_counts(out: &mut Vec<u8>, image: &RawImage) -> Result<(), AllocError>
     requires { AreCounted image.now.names (image_of image.now) }
-    ensures { OnOk result (out.new.items ≡ out.old.items ++ counts_bytes image.now.names (image_of image.now)) }
+    ensures { OnOk result (out.new.items ≡ out.old.items ++
+        counts_bytes image.now.names (image_of image.now)) }
 {
     put_u16(out, image.processes.len() as u16)?;
     put_u16(out, image.monitors.len() as u16)?;
@@ -43,7 +44,8 @@ fn put_version(out: &mut Vec<u8>, overhead: u16) -> Result<(), AllocError>
 fn put_head(out: &mut Vec<u8>, image: &RawImage) -> Result<(), AllocError>
     requires counts { AreCounted image.now.names (image_of image.now) }
     requires program { IsShort image.now.program }
-    ensures { OnOk result (out.new.items ≡ out.old.items ++ head_bytes Second (named_of image.now)) }
+    ensures { OnOk result (out.new.items ≡ out.old.items ++
+        head_bytes Second (named_of image.now)) }
 {
     out.extend_from_slice(b"RTEU")?;
     put_version(out, image.overhead)?;
@@ -77,7 +79,8 @@ fn put_events(out: &mut Vec<u8>, events: &[EventName]) -> Result<(), AllocError>
 /// Puts the conditions.
 fn put_conditions(out: &mut Vec<u8>, conditions: &[CondName]) -> Result<(), AllocError>
     requires { All (λ c. IsShort c.name) conditions.now }
-    ensures { OnOk result (out.new.items ≡ out.old.items ++ flat_map condition_bytes conditions.now) }
+    ensures { OnOk result (out.new.items ≡ out.old.items ++
+        flat_map condition_bytes conditions.now) }
 {
     for condition in conditions {
         put_condition(out, condition)?;
@@ -89,7 +92,8 @@ fn put_conditions(out: &mut Vec<u8>, conditions: &[CondName]) -> Result<(), Allo
 fn put_monitors(out: &mut Vec<u8>, names: &[Name], monitors: &[RawMon]) -> Result<(), AllocError>
     requires each { length names.now ≡ length monitors.now }
     requires short { All IsShort names.now }
-    ensures { OnOk result (out.new.items ≡ out.old.items ++ monitors_bytes names.now (map monitor_of monitors.now)) }
+    ensures { OnOk result (out.new.items ≡ out.old.items ++
+        monitors_bytes names.now (map monitor_of monitors.now)) }
 {
     for (at, monitor) in monitors.iter().enumerate() {
         put_monitor(out, &names[at], monitor)?;
@@ -100,7 +104,8 @@ fn put_monitors(out: &mut Vec<u8>, names: &[Name], monitors: &[RawMon]) -> Resul
 /// Puts the routines.
 fn put_routines(out: &mut Vec<u8>, routines: &[RawRoutine]) -> Result<(), AllocError>
     requires { All (λ r. IsSmall r.tree) (map routine_of routines.now) }
-    ensures { OnOk result (out.new.items ≡ out.old.items ++ flat_map routine_bytes (map routine_of routines.now)) }
+    ensures { OnOk result (out.new.items ≡ out.old.items ++
+        flat_map routine_bytes (map routine_of routines.now)) }
 {
     for routine in routines {
         put_routine(out, routine)?;
@@ -113,7 +118,8 @@ fn put_processes(out: &mut Vec<u8>, names: &[Name], processes: &[RawProc]) -> Re
     requires each { length names.now ≡ length processes.now }
     requires short { All IsShort names.now }
     requires in_range { All IsProcessInRange (map process_of processes.now) }
-    ensures { OnOk result (out.new.items ≡ out.old.items ++ processes_bytes Second names.now (map process_of processes.now)) }
+    ensures { OnOk result (out.new.items ≡ out.old.items ++
+        processes_bytes Second names.now (map process_of processes.now)) }
 {
     for (at, process) in processes.iter().enumerate() {
         put_process(out, &names[at], process)?;
@@ -134,7 +140,8 @@ fn put_code(out: &mut Vec<u8>, code: &[Instr]) -> Result<(), AllocError>
 /// Puts the devices, the events, the monitors and the conditions.
 fn put_named(out: &mut Vec<u8>, image: &RawImage) -> Result<(), AllocError>
     requires { AreNamed image.now.names (image_of image.now) }
-    ensures { OnOk result (out.new.items ≡ out.old.items ++ names_bytes image.now.names (map monitor_of image.now.monitors)) }
+    ensures { OnOk result (out.new.items ≡ out.old.items ++
+        names_bytes image.now.names (map monitor_of image.now.monitors)) }
 {
     let names = &image.names;
     put_devices(out, names.devices.as_slice())?;

@@ -1,7 +1,8 @@
 //! Images: the names of their parts, their declared numbers and their code, and the bytes that a
 //! file holds of them.
 //!
-//! `specs/Raw.antt` says what an image is to the machine, and `specs/Bytes.antt` which bytes it has.
+//! `specs/Raw.antt` says what an image is to the machine, and `specs/Bytes.antt` which bytes it
+//! has.
 //! `write_image` gives exactly these bytes of every image whose counts fit their fields.
 #![tactic(auto)]
 

@@ -45,7 +45,8 @@ pub fn put_condition(out: &mut Vec<u8>, condition: &CondName) -> Result<(), Allo
 /// Puts a monitor after its name.
 pub fn put_monitor(out: &mut Vec<u8>, name: &Name, monitor: &RawMon) -> Result<(), AllocError>
     requires { IsShort name.now }
-    ensures { OnOk result (out.new.items ≡ out.old.items ++ monitor_bytes name.now (monitor_of monitor.now)) }
+    ensures { OnOk result (out.new.items ≡ out.old.items ++
+        monitor_bytes name.now (monitor_of monitor.now)) }
 {
     put_name(out, name)?;
     put_u32(out, monitor.base)?;
@@ -81,7 +82,8 @@ fn put_cost(out: &mut Vec<u8>, routine: &RawRoutine) -> Result<(), AllocError>
 /// Puts a routine.
 pub fn put_routine(out: &mut Vec<u8>, routine: &RawRoutine) -> Result<(), AllocError>
     requires { IsSmall (views routine.now.tree) }
-    ensures { OnOk result (out.new.items ≡ out.old.items ++ routine_bytes (routine_of routine.now)) }
+    ensures { OnOk result (out.new.items ≡ out.old.items ++
+        routine_bytes (routine_of routine.now)) }
 {
     put_owner(out, routine)?;
     put_cost(out, routine)?;
@@ -91,7 +93,8 @@ pub fn put_routine(out: &mut Vec<u8>, routine: &RawRoutine) -> Result<(), AllocE
 
 /// Puts when a process is released, within what it has to end, and its rank.
 fn put_release(out: &mut Vec<u8>, process: &RawProc) -> Result<(), AllocError>
-    ensures { OnOk result (out.new.items ≡ out.old.items ++ release_bytes Second (process_of process.now)) }
+    ensures { OnOk result (out.new.items ≡ out.old.items ++
+        release_bytes Second (process_of process.now)) }
 {
     put_u8(out, process.kind)?;
     put_u32(out, process.frame)?;
@@ -141,7 +144,8 @@ fn put_numbers(out: &mut Vec<u8>, numbers: &[u16]) -> Result<(), AllocError>
 /// Puts the tree of the handler of a process that has one.
 fn put_handler(out: &mut Vec<u8>, process: &RawProc) -> Result<(), AllocError>
     requires { IsSmallHandler (process_of process.now).handler_tree }
-    ensures { OnOk result (out.new.items ≡ out.old.items ++ handler_bytes process.now.numbers (process_of process.now).handler_tree) }
+    ensures { OnOk result (out.new.items ≡ out.old.items ++
+        handler_bytes process.now.numbers (process_of process.now).handler_tree) }
 {
     match &process.handler_tree {
         Some(tree) if !process.numbers.is_empty() => put_tree(out, tree.as_slice())?,
@@ -154,7 +158,8 @@ fn put_handler(out: &mut Vec<u8>, process: &RawProc) -> Result<(), AllocError>
 pub fn put_process(out: &mut Vec<u8>, name: &Name, process: &RawProc) -> Result<(), AllocError>
     requires named { IsShort name.now }
     requires in_range { IsProcessInRange (process_of process.now) }
-    ensures { OnOk result (out.new.items ≡ out.old.items ++ process_bytes Second name.now (process_of process.now)) }
+    ensures { OnOk result (out.new.items ≡ out.old.items ++
+        process_bytes Second name.now (process_of process.now)) }
 {
     put_name(out, name)?;
     put_release(out, process)?;

@@ -36,8 +36,9 @@ pub struct RawRoutine {
 
 /// A process. Its kind is 0 for a periodic one, 1 for one that an event releases. Ranks go from 1,
 /// which is the highest. `frame`, `deadline`, `first`, `run`, `susp`, `block` and `bound` are in
-/// ticks; an activation has to end within its deadline, at most the frame. `words` are its data words; `start` and `handler` are addresses; `numbers` are those that its handler
-/// takes, and `handler_tree` is there exactly where these are.
+/// ticks; an activation has to end within its deadline, at most the frame. `words` are its data
+/// words; `start` and `handler` are addresses; `numbers` are those that its handler takes, and
+/// `handler_tree` is there exactly where these are.
 #[derive(Debug, Drop)]
 pub struct RawProc {
     pub kind: u8,

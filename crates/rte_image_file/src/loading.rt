@@ -48,9 +48,9 @@ fn judge(alloc: Global, raw: RawImage) -> Result<RawImage, FileFault>
 ///
 /// # Errors
 ///
-/// `Image` exactly where the bytes are no image, with their first fault; `Invalid` exactly where they are one that is not
-/// valid, with the first part that fails in the order of the parts 6, 1, 7, 2, 3, 4, 5. `Memory` where there is not enough
-/// memory.
+/// `Image` exactly where the bytes are no image, with their first fault; `Invalid` exactly where
+/// they are one that is not valid, with the first part that fails in the order of the parts 6, 1,
+/// 7, 2, 3, 4, 5. `Memory` where there is not enough memory.
 pub fn load(alloc: Global, bytes: &[u8]) -> Result<RawImage, FileFault>
     ensures { Loads bytes.now result }
 {

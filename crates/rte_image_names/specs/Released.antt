@@ -1,4 +1,5 @@
--- The conditions of a monitor, and the frames of events, by the list of the events that release processes.
+-- The conditions of a monitor, and the frames of events, by the list of the events that release
+-- processes.
 use Rattle.std.specs.Prelude.{ℕ, List, Option, Some, None, filter_map, map, unwrap_or}
 use Rattle.rte_tree.specs.Plain.{Name, Member, Activation, periodic, at_event, Process, Decl, Prog}
 use Rattle.rte_source_meaning.specs.Names.{condition_in, event_in, count_value}

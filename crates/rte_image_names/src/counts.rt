@@ -9,7 +9,8 @@ use rte_tree::Constant;
 
 /// What a constant is worth as a number of ticks or as an exception number: 0 where it is negative.
 pub fn count(values: &Values<'_>, constant: &Constant) -> u32
-    ensures { result ≡ count_value (plain (placed values.now)) (plain_constant (placed_constant constant.now)) }
+    ensures { result ≡ count_value (plain (placed values.now))
+        (plain_constant (placed_constant constant.now)) }
 {
     let value = values.value(constant);
     if value < 0 { 0 } else { value as u32 }

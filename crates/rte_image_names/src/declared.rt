@@ -14,7 +14,8 @@ use std::alloc::{AllocError, Global};
 
 /// Lists what is declared, if it is a device.
 fn list_device(alloc: Global, devices: &mut List<DevName>, decl: &Decl) -> Result<(), AllocError>
-    ensures { OnOk result ((rest : List SpecDecl) → devices.new ++ filter_map named_device rest ≡ devices.old ++ filter_map named_device (plain_decl (placed_decl decl.now) ∷ rest)) }
+    ensures { OnOk result ((rest : List SpecDecl) → devices.new ++ filter_map named_device rest ≡
+        devices.old ++ filter_map named_device (plain_decl (placed_decl decl.now) ∷ rest)) }
 {
     if let Decl::Device { name, is_out, .. } = decl {
         let name = copied(alloc, name)?;
@@ -25,7 +26,8 @@ fn list_device(alloc: Global, devices: &mut List<DevName>, decl: &Decl) -> Resul
 
 /// The devices with their directions.
 pub fn device_names(alloc: Global, decls: &[Decl]) -> Result<List<DevName>, AllocError>
-    ensures { IfOk result (λ devices. devices ≡ filter_map named_device (map plain_decl (map placed_decl decls.now))) }
+    ensures { IfOk result (λ devices. devices ≡
+        filter_map named_device (map plain_decl (map placed_decl decls.now))) }
 {
     let mut devices = List::new(alloc);
     for decl in decls {
@@ -41,7 +43,10 @@ fn list_event(
     events: &mut List<EventName>,
     decl: &Decl,
 ) -> Result<(), AllocError>
-    ensures { OnOk result ((rest : List SpecDecl) → events.new ++ events_found released.now.frames released.now.events rest ≡ events.old ++ events_found released.now.frames released.now.events (plain_decl (placed_decl decl.now) ∷ rest)) }
+    ensures { OnOk result ((rest : List SpecDecl) → events.new ++
+        events_found released.now.frames released.now.events rest ≡ events.old ++
+        events_found released.now.frames released.now.events
+        (plain_decl (placed_decl decl.now) ∷ rest)) }
 {
     if let Decl::Event { name, .. } = decl {
         let frame = released.frame(name);
@@ -57,7 +62,9 @@ pub fn event_names(
     released: &Released<'_>,
     decls: &[Decl],
 ) -> Result<List<EventName>, AllocError>
-    ensures { IfOk result (λ events. events ≡ events_found released.now.frames released.now.events (map plain_decl (map placed_decl decls.now))) }
+    ensures { IfOk result (λ events. events ≡
+        events_found released.now.frames released.now.events
+        (map plain_decl (map placed_decl decls.now))) }
 {
     let mut events = List::new(alloc);
     for decl in decls {

@@ -28,8 +28,13 @@ fn list_event<'a>(
     frames: &mut List<u32>,
     process: &'a Proc,
 ) -> Result<(), AllocError>
-    ensures events { OnOk result ((rest : List SpecProcess) → names_of events.new.items ++ released_events rest ≡ names_of events.old.items ++ released_events (plain_process (placed_process process.now) ∷ rest)) }
-    ensures frames { OnOk result ((rest : List SpecProcess) → frames.new ++ released_frames (plain (placed values.now)) rest ≡ frames.old ++ released_frames (plain (placed values.now)) (plain_process (placed_process process.now) ∷ rest)) }
+    ensures events { OnOk result ((rest : List SpecProcess) → names_of events.new.items ++
+        released_events rest ≡ names_of events.old.items ++
+        released_events (plain_process (placed_process process.now) ∷ rest)) }
+    ensures frames { OnOk result ((rest : List SpecProcess) → frames.new ++
+        released_frames (plain (placed values.now)) rest ≡ frames.old ++
+        released_frames (plain (placed values.now))
+        (plain_process (placed_process process.now) ∷ rest)) }
 {
     if let Activation::AtEvent { event, frame, .. } = &process.activation {
         events.push(event.as_bytes())?;
@@ -45,7 +50,8 @@ pub fn released_by_events<'a>(
     processes: &[&'a Proc],
 ) -> Result<Released<'a>, AllocError>
     ensures events { IfOk result (λ r. r.events ≡ released_events (seen_processes processes.now)) }
-    ensures frames { IfOk result (λ r. r.frames ≡ released_frames (plain (placed values.now)) (seen_processes processes.now)) }
+    ensures frames { IfOk result (λ r. r.frames ≡
+        released_frames (plain (placed values.now)) (seen_processes processes.now)) }
 {
     let mut events = Vec::new(alloc);
     let mut frames = List::new(alloc);

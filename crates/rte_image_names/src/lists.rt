@@ -47,7 +47,9 @@ fn list_condition(
     conditions: &mut List<CondName>,
     member: &Member,
 ) -> Result<(), AllocError>
-    ensures { OnOk result ((rest : List SpecMember) → conditions.new ++ conditions_named monitor rest ≡ conditions.old ++ conditions_named monitor (plain_member (placed_member member.now) ∷ rest)) }
+    ensures { OnOk result ((rest : List SpecMember) → conditions.new ++
+        conditions_named monitor rest ≡ conditions.old ++
+        conditions_named monitor (plain_member (placed_member member.now) ∷ rest)) }
 {
     if let Member::Condition { name, .. } = member {
         let name = copied(alloc, name)?;
@@ -63,7 +65,8 @@ fn list_conditions(
     conditions: &mut List<CondName>,
     members: &[Member],
 ) -> Result<(), AllocError>
-    ensures { OnOk result (conditions.new ≡ conditions.old ++ conditions_named monitor (map plain_member (map placed_member members.now))) }
+    ensures { OnOk result (conditions.new ≡ conditions.old ++
+        conditions_named monitor (map plain_member (map placed_member members.now))) }
 {
     for member in members {
         list_condition(alloc, monitor, conditions, member)?;
@@ -74,7 +77,8 @@ fn list_conditions(
 /// The conditions of all monitors, each with the number of its monitor.
 pub fn condition_names(alloc: Global, monitors: &[&Mon]) -> Result<List<CondName>, AllocError>
     requires few { length monitors.now ≤ 64 }
-    ensures { IfOk result (λ conditions. conditions ≡ named_conditions 0 (seen_monitors monitors.now)) }
+    ensures { IfOk result (λ conditions. conditions ≡
+        named_conditions 0 (seen_monitors monitors.now)) }
 {
     let mut conditions = List::new(alloc);
     for (number, monitor) in monitors.iter().enumerate() {

@@ -21,7 +21,9 @@ fn all_events(
     directory: &Directory<'_>,
 ) -> Result<List<EventName>, AllocError>
     requires { directory.now ≡ program.now }
-    ensures { IfOk result (λ events. events ≡ map (λ e. named_event (plain (placed program.now)) e) (filter_map event_in (plain (placed program.now)).decls)) }
+    ensures { IfOk result (λ events. events ≡
+        map (λ e. named_event (plain (placed program.now)) e)
+        (filter_map event_in (plain (placed program.now)).decls)) }
 {
     let values = Values::new(alloc, program)?;
     let released = released_by_events(alloc, &values, directory.processes())?;
@@ -37,9 +39,12 @@ fn with_parts(
     events: List<EventName>,
 ) -> Result<ImageNames, AllocError>
     requires { length (monitors_in (plain (placed directory.now))) ≤ 64 }
-    ensures processes { IfOk result (λ names. names.processes ≡ map (λ p. p.name) (processes_in (plain (placed directory.now)))) }
-    ensures monitors { IfOk result (λ names. names.monitors ≡ map (λ m. m.name) (monitors_in (plain (placed directory.now)))) }
-    ensures conditions { IfOk result (λ names. names.conditions ≡ named_conditions 0 (monitors_in (plain (placed directory.now)))) }
+    ensures processes { IfOk result (λ names. names.processes ≡
+        map (λ p. p.name) (processes_in (plain (placed directory.now)))) }
+    ensures monitors { IfOk result (λ names. names.monitors ≡
+        map (λ m. m.name) (monitors_in (plain (placed directory.now)))) }
+    ensures conditions { IfOk result (λ names. names.conditions ≡
+        named_conditions 0 (monitors_in (plain (placed directory.now)))) }
     ensures devices { IfOk result (λ names. names.devices ≡ devices) }
     ensures events { IfOk result (λ names. names.events ≡ events) }
 {

@@ -87,7 +87,8 @@ abbrev pub all_used : (used : List ℕ) → (at count : ℕ) → Bool
 all_used used at zero = true
 all_used used at (suc n) = list_any (λ e. nat_eq e at) used && all_used used (at + 1) n
 
--- I4 at the first byte after the processes where an event is of no process; there a lesser number comes first
+-- I4 at the first byte after the processes where an event is of no process; there a lesser number
+-- comes first
 abbrev pub unused_fault : (count : ℕ) → List ℕ → ℕ
 unused_fault zero [] = 4
 unused_fault zero (b ∷ bs) = 3
@@ -98,7 +99,8 @@ abbrev pub code_format : (is_used : Bool) → (count : ℕ) → Format (List Ins
 code_format true count = each (λ earlier. instr_format) [] count
 code_format false count = record { write = λ code. []; is = λ code. false; read = λ bytes. Err (fault (unused_fault count bytes) (length bytes)) }
 
--- the devices and the events, the monitors and the conditions; names are compared with all before them
+-- the devices and the events, the monitors and the conditions; names are compared with all before
+-- them
 abbrev pub devices_format : Counts → (taken : List (List ℕ)) → Format (List DevName)
 devices_format counts taken = each (λ earlier. device_format (taken ++ map (λ d. d.name) earlier)) [] counts.devices
 
@@ -193,6 +195,7 @@ whole_read bytes = image_format.read bytes >>= ended
 abbrev pub longest : ℕ
 longest = 8388608
 
--- what a file of these bytes holds, or its first fault; more bytes than an image may have are I9 after the last of those
+-- what a file of these bytes holds, or its first fault; more bytes than an image may have are I9
+-- after the last of those
 unfoldable pub read_file : List ℕ → Read (Version × Parts)
 read_file bytes = if nat_lt longest (length bytes) then Err (fault 9 (length bytes - longest)) else whole_read bytes

@@ -1,5 +1,6 @@
--- Formats: what the bytes of a thing are, and what is wrong with bytes that are none of it. A format is made of fields, which stand
--- one after the other; each has its range, and may depend on those before it.
+-- Formats: what the bytes of a thing are, and what is wrong with bytes that are none of it. A
+-- format is made of fields, which stand one after the other; each has its range, and may depend on
+-- those before it.
 use Rattle.std.specs.Prelude.{◌++◌, ◌^◌, ◌&&◌, ◌==◌, ℕ, zero, suc, Bool, true, false, List, [], ◌∷◌, length, take, drop, Result, Ok, Err, Option, Some, None, nat_lt, slice_index, if◌then◌else◌}
 use Rattle.std.specs.Int.{w16, w32, from_be_bytes}
 use Rattle.rte_image.specs.Numbers as written
@@ -26,7 +27,8 @@ pub record Format (A : Type 0) : Type 0 where
 
 -- ---- fields
 
--- a field of so many bytes; the only fault is that the bytes end inside it, and its place is their end
+-- a field of so many bytes; the only fault is that the bytes end inside it, and its place is their
+-- end
 abbrev pub field_at : {A : Type 0} → (size : ℕ) → (List ℕ → A) → List ℕ → Read A
 field_at size value bytes = if nat_lt (length bytes) size then Err (fault 2 0) else Ok (value (take size bytes), drop size bytes)
 

@@ -1,4 +1,5 @@
--- The fields of an image, in the order of its bytes: each with its range, and the number of the fault where it is outside.
+-- The fields of an image, in the order of its bytes: each with its range, and the number of the
+-- fault where it is outside.
 use Rattle.std.specs.Prelude.{◌&&◌, ◌||◌, ◌==◌, not, ℕ, ℤ, pos, zero, suc, Bool, true, false, List, [], ◌∷◌, length, Ok, Option, Some, None, nat_lt, nat_le, nat_eq, if◌then◌else◌}
 use Rattle.std.specs.List.{list_any}
 use Rattle.std.specs.Int.{w32, cast_signed, cast_unsigned, from_be_bytes}
@@ -57,7 +58,8 @@ named_monitor_format taken = both (name_format taken) (λ name. monitor_format)
 abbrev pub is_again : (earlier : List CondName) → CondName → Bool
 is_again earlier c = list_any (λ e. nat_eq c.mon e.mon && pointwise nat_eq c.name e.name) earlier
 
--- I5 where the name is taken, also by an earlier condition of the same monitor; I4 where there is no such monitor
+-- I5 where the name is taken, also by an earlier condition of the same monitor; I4 where there is
+-- no such monitor
 abbrev pub condition_format : (taken : List (List ℕ)) → (monitors : ℕ) → (earlier : List CondName) → Format CondName
 condition_format taken monitors earlier =
     checked (via (λ x. record { name = x.0; mon = x.1 }) (λ c. (c.name, c.mon)) (both (name_format taken) (λ name. u16_below monitors))) (λ c. unless (not (is_again earlier c)) 5)
@@ -77,7 +79,8 @@ counts_format =
 abbrev pub cost : Format ℕ
 cost = u32_within 0 1000000001
 
--- the owner of a routine: none of a program's, which is 0, else I7; a process or a monitor that there is, else I4
+-- the owner of a routine: none of a program's, which is 0, else I7; a process or a monitor that
+-- there is, else I4
 abbrev pub wrong_owner : Counts → (kind : ℕ) → (owner : ℕ) → Option ℕ
 wrong_owner counts zero owner = unless (owner == 0) 7
 wrong_owner counts (suc zero) owner = unless (nat_lt owner counts.processes) 4
@@ -129,7 +132,8 @@ deadline_format Second frame = u32_within 10 frame
 abbrev pub wrong_first : (kind : ℕ) → (first : ℕ) → Option ℕ
 wrong_first kind first = unless (kind == 0 || first == 0) 7
 
--- the event of a periodic process is 0, else I7; an event's process has one that there is, and that no earlier process has, else I4
+-- the event of a periodic process is 0, else I7; an event's process has one that there is, and that
+-- no earlier process has, else I4
 abbrev pub wrong_event : (events : ℕ) → (used : List ℕ) → (kind : ℕ) → (event : ℕ) → Option ℕ
 wrong_event events used zero event = unless (event == 0) 7
 wrong_event events used (suc kind) event = unless (nat_lt event events && not (list_any (λ e. nat_eq e event) used)) 4
@@ -148,7 +152,8 @@ time_format = both cost (λ run. both cost (λ susp. both cost (λ waits. both c
 abbrev pub room_format : Format (ℕ × (ℕ × (ℕ × ℕ)))
 room_format = both u32 (λ words. both (u32_within 0 4096) (λ stack. both (u32_within 0 4096) (λ locals. u32)))
 
--- the address of the handler, and how many numbers it takes; without numbers the address is 0, else I7 there
+-- the address of the handler, and how many numbers it takes; without numbers the address is 0, else
+-- I7 there
 abbrev pub handler_format : Format (ℕ × ℕ)
 handler_format = checked (both u32 (λ handler. u16)) (λ x. unless (nat_lt 0 x.1 || x.0 == 0) 7)
 

@@ -53,7 +53,8 @@ fn version_at(bytes: &[u8]) -> Result<(bool, &[u8]), ReadError>
 
 /// The overhead, where it stands; else 0.
 fn overhead_at(bytes: &[u8], has_deadlines: bool) -> Result<(u16, &[u8]), ReadError>
-    ensures { Gives (λ x. (x.0, x.1.now)) result ((over_format (in_version has_deadlines)).read bytes.now) }
+    ensures { Gives (λ x. (x.0, x.1.now)) result
+        ((over_format (in_version has_deadlines)).read bytes.now) }
 {
     if has_deadlines {
         u16_within(bytes, 0, 1000)
@@ -114,7 +115,14 @@ fn work_at<'a>(
     counts: &Counts,
     taken: &mut Taken,
 ) -> Result<(Work, &'a [u8]), ReadError>
-    ensures read { Gives (λ x. ((map routine_of x.0.routines, (zip x.0.processes.names (map process_of x.0.processes.things), x.0.code)), x.1.now)) result ((work_format (in_version has_deadlines) counts.now taken.old).read bytes.now) }
+    ensures read { Gives (λ x. (
+      (
+        map routine_of x.0.routines,
+        (zip x.0.processes.names (map process_of x.0.processes.things), x.0.code),
+      ),
+      x.1.now,
+    )) result
+        ((work_format (in_version has_deadlines) counts.now taken.old).read bytes.now) }
     ensures each { IfOk result (λ x. length x.0.processes.names ≡ length x.0.processes.things) }
 {
     let (routines, rest) = routines_at(alloc, bytes, counts)?;
@@ -146,9 +154,12 @@ fn guarded_at<'a>(
     counts: &Counts,
     taken: &mut Taken,
 ) -> Result<(Guarded, &'a [u8]), ReadError>
-    ensures read { Gives (λ x. (guarded_of x.0, x.1.now)) result ((guarded_format (in_version has_deadlines) counts.now taken.old).read bytes.now) }
-    ensures each_monitor { IfOk result (λ x. length x.0.monitors.names ≡ length x.0.monitors.things) }
-    ensures each_process { IfOk result (λ x. length x.0.work.processes.names ≡ length x.0.work.processes.things) }
+    ensures read { Gives (λ x. (guarded_of x.0, x.1.now)) result
+        ((guarded_format (in_version has_deadlines) counts.now taken.old).read bytes.now) }
+    ensures each_monitor { IfOk result (λ x. length x.0.monitors.names ≡
+        length x.0.monitors.things) }
+    ensures each_process { IfOk result (λ x. length x.0.work.processes.names ≡
+        length x.0.work.processes.things) }
 {
     let (monitors, rest) = monitors_at(alloc, bytes, counts, taken)?;
     let (conditions, rest) = conditions_at(alloc, rest, counts, taken)?;
@@ -178,9 +189,12 @@ fn named_at<'a>(
     counts: &Counts,
     program: &Name,
 ) -> Result<(Named, &'a [u8]), ReadError>
-    ensures read { Gives (λ x. ((x.0.devices, (x.0.events, guarded_of x.0.guarded)), x.1.now)) result ((named_format (in_version has_deadlines) counts.now program.now).read bytes.now) }
-    ensures each_monitor { IfOk result (λ x. length x.0.guarded.monitors.names ≡ length x.0.guarded.monitors.things) }
-    ensures each_process { IfOk result (λ x. length x.0.guarded.work.processes.names ≡ length x.0.guarded.work.processes.things) }
+    ensures read { Gives (λ x. ((x.0.devices, (x.0.events, guarded_of x.0.guarded)), x.1.now))
+        result ((named_format (in_version has_deadlines) counts.now program.now).read bytes.now) }
+    ensures each_monitor { IfOk result (λ x. length x.0.guarded.monitors.names ≡
+        length x.0.guarded.monitors.things) }
+    ensures each_process { IfOk result (λ x. length x.0.guarded.work.processes.names ≡
+        length x.0.guarded.work.processes.things) }
 {
     let mut taken = Taken::new(alloc);
     taken.take(alloc, program)?;
@@ -215,7 +229,8 @@ fn framed(
     events: &[Name],
     processes: &[RawProc],
 ) -> Result<List<EventName>, AllocError>
-    ensures { IfOk result (λ framed. framed ≡ framed_events 0 events.now (map process_of processes.now)) }
+    ensures { IfOk result (λ framed. framed ≡
+        framed_events 0 events.now (map process_of processes.now)) }
 {
     let mut framed = List::new(alloc);
     for (at, event) in events.iter().enumerate() {
@@ -234,9 +249,12 @@ fn assemble(
     program: Name,
     named: Named,
 ) -> Result<RawImage, AllocError>
-    requires each_monitor { length named.guarded.monitors.names ≡ length named.guarded.monitors.things }
-    requires each_process { length named.guarded.work.processes.names ≡ length named.guarded.work.processes.things }
-    ensures parts { IfOk result (λ raw. parts_of raw ≡ parts_with overhead program named.devices named.events (guarded_of named.guarded)) }
+    requires each_monitor { length named.guarded.monitors.names ≡
+        length named.guarded.monitors.things }
+    requires each_process { length named.guarded.work.processes.names ≡
+        length named.guarded.work.processes.things }
+    ensures parts { IfOk result (λ raw. parts_of raw ≡
+        parts_with overhead program named.devices named.events (guarded_of named.guarded)) }
     ensures image { IfOk result (λ raw. named_of raw ≡ image_with (parts_of raw)) }
 {
     let Named {
@@ -278,7 +296,8 @@ fn parts_at(
     bytes: &[u8],
     has_deadlines: bool,
 ) -> Result<(RawImage, &[u8]), ReadError>
-    ensures read { Gives (λ x. (parts_of x.0, x.1.now)) result ((parts_format (in_version has_deadlines)).read bytes.now) }
+    ensures read { Gives (λ x. (parts_of x.0, x.1.now)) result
+        ((parts_format (in_version has_deadlines)).read bytes.now) }
     ensures image { IfOk result (λ x. named_of x.0 ≡ image_with (parts_of x.0)) }
 {
     let (overhead, rest) = overhead_at(bytes, has_deadlines)?;

@@ -51,7 +51,8 @@ fn operand_at(bytes: &[u8], is_named: bool) -> Result<(i32, &[u8]), ReadError>
 
 /// The number of an instruction.
 fn number_at(bytes: &[u8]) -> Result<(u8, &[u8]), ReadError>
-    ensures { Gives (λ x. (x.0, x.1.now)) result ((checked one_byte (λ n. unless (nat_le 1 n && nat_le n 48) 6)).read bytes.now) }
+    ensures { Gives (λ x. (x.0, x.1.now)) result
+        ((checked one_byte (λ n. unless (nat_le 1 n && nat_le n 48) 6)).read bytes.now) }
 {
     let (number, rest) = u8_at(bytes)?;
     if 1 <= number && number <= 48 {

@@ -25,7 +25,8 @@ pub fn devices_at<'a>(
     counts: &Counts,
     taken: &mut Taken,
 ) -> Result<(List<DevName>, &'a [u8]), ReadError>
-    ensures read { Gives (λ x. (x.0, x.1.now)) result ((devices_format counts.now taken.old).read bytes.now) }
+    ensures read { Gives (λ x. (x.0, x.1.now)) result
+        ((devices_format counts.now taken.old).read bytes.now) }
     ensures taken { IfOk result (λ x. taken.new ≡ taken.old ++ map (λ d. d.name) x.0) }
 {
     let mut devices = List::new(alloc);
@@ -46,7 +47,8 @@ pub fn events_at<'a>(
     counts: &Counts,
     taken: &mut Taken,
 ) -> Result<(List<Name>, &'a [u8]), ReadError>
-    ensures read { Gives (λ x. (x.0, x.1.now)) result ((events_format counts.now taken.old).read bytes.now) }
+    ensures read { Gives (λ x. (x.0, x.1.now)) result
+        ((events_format counts.now taken.old).read bytes.now) }
     ensures taken { IfOk result (λ x. taken.new ≡ taken.old ++ x.0) }
 {
     let mut events = List::new(alloc);
@@ -67,7 +69,8 @@ pub fn conditions_at<'a>(
     counts: &Counts,
     taken: &Taken,
 ) -> Result<(List<CondName>, &'a [u8]), ReadError>
-    ensures { Gives (λ x. (x.0, x.1.now)) result ((conditions_format counts.now taken.now).read bytes.now) }
+    ensures { Gives (λ x. (x.0, x.1.now)) result
+        ((conditions_format counts.now taken.now).read bytes.now) }
 {
     let mut conditions = List::new(alloc);
     let mut earlier = Earlier::new(alloc);
@@ -87,7 +90,8 @@ pub fn routines_at<'a>(
     bytes: &'a [u8],
     counts: &Counts,
 ) -> Result<(List<RawRoutine>, &'a [u8]), ReadError>
-    ensures { Gives (λ x. (map routine_of x.0, x.1.now)) result ((routines_format counts.now).read bytes.now) }
+    ensures { Gives (λ x. (map routine_of x.0, x.1.now)) result
+        ((routines_format counts.now).read bytes.now) }
 {
     let mut routines = List::new(alloc);
     let mut rest = bytes;
@@ -101,7 +105,8 @@ pub fn routines_at<'a>(
 
 /// The instructions.
 pub fn instrs_at(alloc: Global, bytes: &[u8], count: u32) -> Result<(List<Instr>, &[u8]), ReadError>
-    ensures { Gives (λ x. (x.0, x.1.now)) result ((each (λ earlier. instr_format) [] count).read bytes.now) }
+    ensures { Gives (λ x. (x.0, x.1.now)) result
+        ((each (λ earlier. instr_format) [] count).read bytes.now) }
 {
     let mut code = List::new(alloc);
     let mut rest = bytes;

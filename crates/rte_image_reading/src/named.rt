@@ -31,7 +31,8 @@ fn named_monitor_at<'a>(
     bytes: &'a [u8],
     taken: &Taken,
 ) -> Result<((Name, RawMon), &'a [u8]), ReadError>
-    ensures read { Gives (λ x. ((x.0.0, monitor_of x.0.1), x.1.now)) result ((named_monitor_format taken.now).read bytes.now) }
+    ensures read { Gives (λ x. ((x.0.0, monitor_of x.0.1), x.1.now)) result
+        ((named_monitor_format taken.now).read bytes.now) }
     ensures fresh { IfOk result (λ x. has taken.now x.0.0 ≡ false) }
 {
     let (name, rest) = name_at(alloc, bytes, taken)?;
@@ -46,8 +47,10 @@ pub fn monitors_at<'a>(
     counts: &Counts,
     taken: &mut Taken,
 ) -> Result<(Monitors, &'a [u8]), ReadError>
-    ensures read { Gives (λ x. (zip x.0.names (map monitor_of x.0.things), x.1.now)) result ((monitors_format counts.now taken.old).read bytes.now) }
-    ensures taken { IfOk result (λ x. taken.new ≡ with_monitors taken.old (zip x.0.names (map monitor_of x.0.things))) }
+    ensures read { Gives (λ x. (zip x.0.names (map monitor_of x.0.things), x.1.now)) result
+        ((monitors_format counts.now taken.old).read bytes.now) }
+    ensures taken { IfOk result (λ x. taken.new ≡
+        with_monitors taken.old (zip x.0.names (map monitor_of x.0.things))) }
     ensures each { IfOk result (λ x. length x.0.names ≡ length x.0.things) }
 {
     let mut names = List::new(alloc);
@@ -72,7 +75,9 @@ fn named_process_at<'a>(
     taken: &Taken,
     used: &[u16],
 ) -> Result<((Name, RawProc), &'a [u8]), ReadError>
-    ensures read { Gives (λ x. ((x.0.0, process_of x.0.1), x.1.now)) result ((named_process_format (in_version has_deadlines) counts.now taken.now used.now).read bytes.now) }
+    ensures read { Gives (λ x. ((x.0.0, process_of x.0.1), x.1.now)) result
+        ((named_process_format (in_version has_deadlines) counts.now taken.now used.now).read
+        bytes.now) }
     ensures fresh { IfOk result (λ x. has taken.now x.0.0 ≡ false) }
 {
     let (name, rest) = name_at(alloc, bytes, taken)?;
@@ -106,8 +111,10 @@ pub fn processes_at<'a>(
     counts: &Counts,
     taken: &mut Taken,
 ) -> Result<(Processes, &'a [u8]), ReadError>
-    ensures read { Gives (λ x. (zip x.0.names (map process_of x.0.things), x.1.now)) result ((processes_format (in_version has_deadlines) counts.now taken.old).read bytes.now) }
-    ensures used { IfOk result (λ x. x.0.used ≡ used_by (zip x.0.names (map process_of x.0.things))) }
+    ensures read { Gives (λ x. (zip x.0.names (map process_of x.0.things), x.1.now)) result
+        ((processes_format (in_version has_deadlines) counts.now taken.old).read bytes.now) }
+    ensures used { IfOk result (λ x. x.0.used ≡
+        used_by (zip x.0.names (map process_of x.0.things))) }
     ensures each { IfOk result (λ x. length x.0.names ≡ length x.0.things) }
 {
     let mut names = List::new(alloc);

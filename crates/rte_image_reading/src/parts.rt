@@ -59,7 +59,8 @@ pub fn condition_at<'a>(
     monitors: u16,
     earlier: &Earlier,
 ) -> Result<(CondName, &'a [u8]), ReadError>
-    ensures read { Gives (λ x. (x.0, x.1.now)) result ((condition_format taken.now monitors earlier.now).read bytes.now) }
+    ensures read { Gives (λ x. (x.0, x.1.now)) result
+        ((condition_format taken.now monitors earlier.now).read bytes.now) }
     ensures new { IfOk result (λ x. is_again earlier.now x.0 ≡ false) }
 {
     let (name, rest) = name_at(alloc, bytes, taken)?;
@@ -75,7 +76,8 @@ pub fn condition_at<'a>(
 
 /// A number of one byte that is at most the given one.
 pub fn kind_at(bytes: &[u8], last: u8) -> Result<(u8, &[u8]), ReadError>
-    ensures { Gives (λ x. (x.0, x.1.now)) result ((checked one_byte (λ kind. unless (nat_le kind last) 6)).read bytes.now) }
+    ensures { Gives (λ x. (x.0, x.1.now)) result
+        ((checked one_byte (λ kind. unless (nat_le kind last) 6)).read bytes.now) }
 {
     let (kind, rest) = u8_at(bytes)?;
     if kind <= last {
@@ -106,7 +108,8 @@ fn owner_number_at<'a>(
     counts: &Counts,
     kind: u8,
 ) -> Result<(u16, &'a [u8]), ReadError>
-    ensures { Gives (λ x. (x.0, x.1.now)) result ((checked two_bytes (wrong_owner counts.now kind)).read bytes.now) }
+    ensures { Gives (λ x. (x.0, x.1.now)) result
+        ((checked two_bytes (wrong_owner counts.now kind)).read bytes.now) }
 {
     let (owner, rest) = u16_at(bytes)?;
     match owner_fault(counts, kind, owner) {
@@ -129,7 +132,10 @@ struct Owner {
 }
 
 fn owner_at<'a>(bytes: &'a [u8], counts: &Counts) -> Result<(Owner, &'a [u8]), ReadError>
-    ensures { Gives (λ x. ((x.0.kind, (x.0.owner, (x.0.params, (x.0.locals, x.0.result)))), x.1.now)) result ((owner_format counts.now).read bytes.now) }
+    ensures { Gives (λ x. (
+      (x.0.kind, (x.0.owner, (x.0.params, (x.0.locals, x.0.result)))),
+      x.1.now,
+    )) result ((owner_format counts.now).read bytes.now) }
 {
     let (kind, rest) = kind_at(bytes, 2)?;
     let (owner, rest) = owner_number_at(rest, counts, kind)?;
@@ -174,7 +180,8 @@ struct Time {
 }
 
 fn routine_time_at(bytes: &[u8], kind: u8) -> Result<(Time, &[u8]), ReadError>
-    ensures { Gives (λ x. ((x.0.start, (x.0.run, (x.0.susp, (x.0.waits, x.0.stay)))), x.1.now)) result ((cost_format kind).read bytes.now) }
+    ensures { Gives (λ x. ((x.0.start, (x.0.run, (x.0.susp, (x.0.waits, x.0.stay)))), x.1.now))
+        result ((cost_format kind).read bytes.now) }
 {
     let (start, rest) = u32_at(bytes)?;
     let (run, rest) = cost_at(rest)?;
@@ -199,7 +206,8 @@ pub fn routine_at<'a>(
     bytes: &'a [u8],
     counts: &Counts,
 ) -> Result<(RawRoutine, &'a [u8]), ReadError>
-    ensures { Gives (λ x. (routine_of x.0, x.1.now)) result ((routine_format counts.now).read bytes.now) }
+    ensures { Gives (λ x. (routine_of x.0, x.1.now)) result
+        ((routine_format counts.now).read bytes.now) }
 {
     let (owner, rest) = owner_at(bytes, counts)?;
     let (time, rest) = routine_time_at(rest, owner.kind)?;

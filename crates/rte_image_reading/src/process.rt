@@ -26,7 +26,8 @@ const LONGEST_FRAME: u32 = 1_000_000_000;
 /// Within how many ticks an activation has to end, where that stands, in bytes with deadlines; else
 /// the frame.
 fn deadline_at(bytes: &[u8], has_deadlines: bool, frame: u32) -> Result<(u32, &[u8]), ReadError>
-    ensures { Gives (λ x. (x.0, x.1.now)) result ((deadline_format (in_version has_deadlines) frame).read bytes.now) }
+    ensures { Gives (λ x. (x.0, x.1.now)) result
+        ((deadline_format (in_version has_deadlines) frame).read bytes.now) }
 {
     if has_deadlines {
         u32_within(bytes, 10, frame)
@@ -37,7 +38,8 @@ fn deadline_at(bytes: &[u8], has_deadlines: bool, frame: u32) -> Result<(u32, &[
 
 /// The first activation of a process of the kind.
 fn first_at(bytes: &[u8], kind: u8) -> Result<(u32, &[u8]), ReadError>
-    ensures { Gives (λ x. (x.0, x.1.now)) result ((checked (long_within 0 1000000000) (wrong_first kind)).read bytes.now) }
+    ensures { Gives (λ x. (x.0, x.1.now)) result
+        ((checked (long_within 0 1000000000) (wrong_first kind)).read bytes.now) }
 {
     let (first, rest) = u32_within(bytes, 0, LONGEST_FRAME)?;
     if kind == 0 || first == 0 {
@@ -68,7 +70,8 @@ fn event_at<'a>(
     used: &[u16],
     kind: u8,
 ) -> Result<(u16, &'a [u8]), ReadError>
-    ensures { Gives (λ x. (x.0, x.1.now)) result ((checked two_bytes (wrong_event events used.now kind)).read bytes.now) }
+    ensures { Gives (λ x. (x.0, x.1.now)) result
+        ((checked two_bytes (wrong_event events used.now kind)).read bytes.now) }
 {
     let (event, rest) = u16_at(bytes)?;
     match event_fault(events, used, kind, event) {
@@ -97,7 +100,17 @@ fn release_at<'a>(
     events: u16,
     used: &[u16],
 ) -> Result<(Release, &'a [u8]), ReadError>
-    ensures { Gives (λ x. ((x.0.kind, (x.0.frame, (x.0.deadline, (x.0.first, (x.0.event, x.0.rank))))), x.1.now)) result ((release_format (in_version has_deadlines) events used.now).read bytes.now) }
+    ensures { Gives (λ x. (
+      (
+        x.0.kind,
+        (
+          x.0.frame,
+          (x.0.deadline, (x.0.first, (x.0.event, x.0.rank))),
+        ),
+      ),
+      x.1.now,
+    )) result
+        ((release_format (in_version has_deadlines) events used.now).read bytes.now) }
 {
     let (kind, rest) = kind_at(bytes, 1)?;
     let (frame, rest) = u32_within(rest, 10, LONGEST_FRAME)?;
@@ -129,7 +142,8 @@ struct Time {
 }
 
 fn time_at(bytes: &[u8]) -> Result<(Time, &[u8]), ReadError>
-    ensures { Gives (λ x. ((x.0.run, (x.0.susp, (x.0.waits, (x.0.block, x.0.bound)))), x.1.now)) result (time_format.read bytes.now) }
+    ensures { Gives (λ x. ((x.0.run, (x.0.susp, (x.0.waits, (x.0.block, x.0.bound)))), x.1.now))
+        result (time_format.read bytes.now) }
 {
     let (run, rest) = cost_at(bytes)?;
     let (susp, rest) = cost_at(rest)?;
@@ -158,7 +172,8 @@ struct Room {
 }
 
 fn room_at(bytes: &[u8]) -> Result<(Room, &[u8]), ReadError>
-    ensures { Gives (λ x. ((x.0.words, (x.0.stack, (x.0.locals, x.0.start))), x.1.now)) result (room_format.read bytes.now) }
+    ensures { Gives (λ x. ((x.0.words, (x.0.stack, (x.0.locals, x.0.start))), x.1.now)) result
+        (room_format.read bytes.now) }
 {
     let (words, rest) = u32_at(bytes)?;
     let (stack, rest) = u32_within(rest, 0, 4096)?;
@@ -200,7 +215,8 @@ fn may_be_taken(number: u16) -> bool
 
 /// A number of a handler, after the last one or after 0.
 fn number_at(bytes: &[u8], last: u16) -> Result<(u16, &[u8]), ReadError>
-    ensures { Gives (λ x. (x.0, x.1.now)) result ((checked two_bytes (λ n. unless (nat_lt last n && is_taken n) 8)).read bytes.now) }
+    ensures { Gives (λ x. (x.0, x.1.now)) result
+        ((checked two_bytes (λ n. unless (nat_lt last n && is_taken n) 8)).read bytes.now) }
 {
     let (number, rest) = u16_at(bytes)?;
     if last < number && may_be_taken(number) {
@@ -236,7 +252,8 @@ fn handler_tree_at(
     monitors: u16,
     count: u16,
 ) -> Result<(Option<Segs>, &[u8]), ReadError>
-    ensures { Gives (λ x. (option_map views x.0, x.1.now)) result ((handler_tree_format monitors count).read bytes.now) }
+    ensures { Gives (λ x. (option_map views x.0, x.1.now)) result
+        ((handler_tree_format monitors count).read bytes.now) }
 {
     if count == 0 {
         return Ok((None, bytes));
@@ -253,7 +270,8 @@ pub fn process_at<'a>(
     counts: &Counts,
     used: &[u16],
 ) -> Result<(RawProc, &'a [u8]), ReadError>
-    ensures { Gives (λ x. (process_of x.0, x.1.now)) result ((process_format (in_version has_deadlines) counts.now used.now).read bytes.now) }
+    ensures { Gives (λ x. (process_of x.0, x.1.now)) result
+        ((process_format (in_version has_deadlines) counts.now used.now).read bytes.now) }
 {
     let (release, rest) = release_at(bytes, has_deadlines, counts.events, used)?;
     let (time, rest) = time_at(rest)?;

@@ -36,7 +36,8 @@ fn tagged_at(
     left: usize,
     bytes: &[u8],
 ) -> Result<(Seg, &[u8]), ReadError>
-    ensures { Gives (λ x. (view x.0, x.1.now)) result (tagged monitors (tree_format monitors depth) tag left bytes.now) }
+    ensures { Gives (λ x. (view x.0, x.1.now)) result
+        (tagged monitors (tree_format monitors depth) tag left bytes.now) }
 {
     match tag {
         1 => {
@@ -72,7 +73,8 @@ fn tagged_at(
 #[cycle(trees)]
 #[tactic(auto, unfolding(crate::specs::TreeFormat::seg_read))]
 fn seg_at(alloc: Global, monitors: u16, depth: u32, bytes: &[u8]) -> Result<(Seg, &[u8]), ReadError>
-    ensures { Gives (λ x. (view x.0, x.1.now)) result ((seg_format monitors (tree_format monitors depth)).read bytes.now) }
+    ensures { Gives (λ x. (view x.0, x.1.now)) result
+        ((seg_format monitors (tree_format monitors depth)).read bytes.now) }
 {
     let (tag, rest) = u8_at(bytes)?;
     tagged_at(alloc, monitors, depth, tag, bytes.len(), rest)
@@ -87,7 +89,8 @@ fn segs_at(
     count: u32,
     bytes: &[u8],
 ) -> Result<(Segs, &[u8]), ReadError>
-    ensures { Gives (λ x. (views x.0, x.1.now)) result (segs_read (seg_format monitors (tree_format monitors depth)) count bytes.now) }
+    ensures { Gives (λ x. (views x.0, x.1.now)) result
+        (segs_read (seg_format monitors (tree_format monitors depth)) count bytes.now) }
 {
     let mut segs = Segs::new(alloc);
     let mut rest = bytes;
@@ -108,7 +111,8 @@ pub fn tree_at(
     depth: u32,
     bytes: &[u8],
 ) -> Result<(Segs, &[u8]), ReadError>
-    ensures { Gives (λ x. (views x.0, x.1.now)) result ((tree_format monitors depth).read bytes.now) }
+    ensures { Gives (λ x. (views x.0, x.1.now)) result
+        ((tree_format monitors depth).read bytes.now) }
 {
     if depth == 0 {
         return Err(ReadError::Fault(Fault {

@@ -14,7 +14,8 @@ ImagesReadAreWritten =
     (bytes : List ℕ) (version : Version) (parts : Parts) → AreBytes bytes
     → read_file bytes ≡ Ok ((version, parts), []) → bytes ≡ bytes_of version (image_with parts)
 
--- what is written of an image is read, where each of its fields is in its range and it is no longer than an image may be
+-- what is written of an image is read, where each of its fields is in its range and it is no longer
+-- than an image may be
 abbrev pub ImagesWrittenAreRead : Type 0
 ImagesWrittenAreRead =
     (version : Version) (parts : Parts) → image_format.is (version, parts) ≡ true
@@ -27,7 +28,8 @@ CutImagesEndInsideAField =
     (bytes : List ℕ) (version : Version) (parts : Parts) (k : ℕ) → AreBytes bytes
     → read_file bytes ≡ Ok ((version, parts), []) → k < length bytes → HasFault (take k bytes) 2 k
 
--- the bytes begin with those of the tree, and these bytes are left; its numbers are in the ranges of their fields, and it nests at most so deep
+-- the bytes begin with those of the tree, and these bytes are left; its numbers are in the ranges
+-- of their fields, and it nests at most so deep
 pub record BeginsWith (monitors depth : ℕ) (bytes : List ℕ) (tree : Segs) (rest : List ℕ) : Type 0 where
   pub are : bytes ≡ tree_bytes tree ++ rest
   pub in_range : (tree_format monitors depth).is tree ≡ true

@@ -17,8 +17,8 @@ pub fn cut_images_end_inside_a_field()
     ensures { CutImagesEndInsideAField }
 {}
 
-/// Bytes are read as a tree exactly where they begin with the bytes of that tree, so what is read in place stands for the one
-/// tree whose bytes it borrows.
+/// Bytes are read as a tree exactly where they begin with the bytes of that tree, so what is read
+/// in place stands for the one tree whose bytes it borrows.
 pub fn trees_read_are_written()
     ensures { TreesReadAreWritten }
 {}

@@ -1,4 +1,5 @@
--- The text of an image: lines of words with one space between them, each ended by a line feed; numbers are decimal.
+-- The text of an image: lines of words with one space between them, each ended by a line feed;
+-- numbers are decimal.
 use Rattle.std.specs.Prelude.{◌++◌, ◌==◌, ℕ, zero, suc, Bool, true, false, List, [], ◌∷◌, Option, Some, None, codes, decimal, if◌then◌else◌}
 use Rattle.std.specs.List.{flat_map}
 use Rattle.rte_machine_meaning.specs.Image.{Monitor, Routine, Process}
@@ -97,7 +98,8 @@ abbrev pub numbers_text : List ℕ → List ℕ
 numbers_text [] = codes "\n"
 numbers_text (n ∷ ns) = field (codes " ") n ++ numbers_text ns
 
--- the address of the handler and the numbers that it takes, where there are any, to the end of the line
+-- the address of the handler and the numbers that it takes, where there are any, to the end of the
+-- line
 abbrev pub handler_text : (handler : ℕ) → (numbers : List ℕ) → List ℕ
 handler_text handler [] = codes "\n"
 handler_text handler (n ∷ ns) = field (codes " handler ") handler ++ numbers_text (n ∷ ns)

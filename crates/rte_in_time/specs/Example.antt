@@ -68,7 +68,8 @@ pub record Blocks (r : Run) : Type 0 where
   pub runs : (dispatch_of r).picked tick ≡ Some lower
   pub held_up : IsReady ((trace_of r).after tick higher)
 
--- a process begins to wait in a tick in which it runs, and its wait ends with the start events of a later tick
+-- a process begins to wait in a tick in which it runs, and its wait ends with the start events of a
+-- later tick
 pub record Waits (r : Run) : Type 0 where
   pub place : ℕ
   pub begins : ℕ
@@ -78,7 +79,8 @@ pub record Waits (r : Run) : Type 0 where
   pub last : ((trace_of r).before ends place).waiting ≡ 1
   pub goes_on : IsReady ((trace_of r).after ends place)
 
--- what the run shows: each process is inside a monitor in some tick, a lower one blocks a higher one, and one waits
+-- what the run shows: each process is inside a monitor in some tick, a lower one blocks a higher
+-- one, and one waits
 pub record ShowsEach (r : Run) : Type 0 where
   pub both : (p : ℕ) → p < 2 → (k : ℕ) × (s : Stay) × ((dispatch_of r).inside k p ≡ Some s)
   pub blocks : Blocks r

@@ -1,4 +1,5 @@
--- A run under immediate priority ceilings whose processes stand in any order of places, each with its rank: the boundary between a machine and the timing argument.
+-- A run under immediate priority ceilings whose processes stand in any order of places, each with
+-- its rank: the boundary between a machine and the timing argument.
 use Rattle.std.specs.Prelude.{◌≡◌, ◌≤◌, ◌<◌, ◌+◌, ◌⊎◌, ℕ, suc, true, List, length, Option, Some, None}
 use Rattle.rte_response.specs.declared.tasks.Task.{Task}
 use Rattle.rte_in_time.specs.Stretches.{Life, Trace, IsLife, Opens, Acts, Spaced, IsStretch}
@@ -13,7 +14,8 @@ pub record AreRanks (n : ℕ) (rank place : ℕ → ℕ) : Type 0 where
   pub there : (j : ℕ) → j < n → rank (place j) ≡ j
   pub back : (p : ℕ) → p < n → place (rank p) ≡ p
 
--- the process of place p is of least active rank, as a number, among those that are ready, and runs for the tick: a is before it, b after it
+-- the process of place p is of least active rank, as a number, among those that are ready, and runs
+-- for the tick: a is before it, b after it
 pub record RunsLeastAt (n : ℕ) (rank : ℕ → ℕ) (inside : ℕ → Option Stay) (a b : ℕ → Life) (p : ℕ) : Type 0 where
   pub of_these : p < n
   pub least : (q : ℕ) → q < n → IsReady (a q) → active_rank (rank p) (inside p) ≤ active_rank (rank q) (inside q)
@@ -28,12 +30,15 @@ PicksAt n rank inside a b (Some p) = RunsLeastAt n rank inside a b p
 pub record AreStaysAt (ts : List Task) (rank : ℕ → ℕ) (inside : ℕ → Option Stay) : Type 0 where
   -- no ceiling is, as a number, above the rank of who is inside
   pub above : (p : ℕ) (s : Stay) → p < length ts → inside p ≡ Some s → s.ceiling ≤ rank p
-  -- of two processes inside monitors, one has a rank that is, as a number, below the ceiling of the other's monitor
+  -- of two processes inside monitors, one has a rank that is, as a number, below the ceiling of the
+  -- other's monitor
   pub apart : (p q : ℕ) (s t : Stay) → p < length ts → q < length ts → (p ≡ q → ⊥) → inside p ≡ Some s → inside q ≡ Some t → (rank p < t.ceiling) ⊎ (rank q < s.ceiling)
-  -- the stay of a process below a level, in a monitor whose ceiling is the level's or a higher rank, is no longer than the level's block
+  -- the stay of a process below a level, in a monitor whose ceiling is the level's or a higher
+  -- rank, is no longer than the level's block
   pub short : (level p : ℕ) (s : Stay) → level < rank p → p < length ts → inside p ≡ Some s → s.ceiling ≤ level → s.left ≤ (task_at ts level).block
 
--- a run by places, while the tasks stand in the order of ranks, in facts of one tick each, but for the frames
+-- a run by places, while the tasks stand in the order of ranks, in facts of one tick each, but for
+-- the frames
 pub record IsPlaced (ts : List Task) (rank : ℕ → ℕ) (end : ℕ) (t : Trace) (d : Dispatch) : Type 0 where
   -- at first all are idle
   pub idle_first : (p : ℕ) → p < length ts → (t.before 0 p).run_left ≡ 0
@@ -41,7 +46,8 @@ pub record IsPlaced (ts : List Task) (rank : ℕ → ℕ) (end : ℕ) (t : Trace
   pub whole : (k p : ℕ) → k ≤ end → p < length ts → IsLife (t.before k p)
   -- the start events of a tick: a release gives at most the cost of an activation, and nobody ends
   pub opens : (k p : ℕ) → k < end → p < length ts → Opens (t.released k p) (cost_at ts (rank p)) (t.before k p) (t.after k p)
-  -- the rest of a tick: who waits has a tick of suspension fewer after it, and who begins to wait a wait fewer
+  -- the rest of a tick: who waits has a tick of suspension fewer after it, and who begins to wait a
+  -- wait fewer
   pub acts : (k p : ℕ) → k < end → p < length ts → Acts (t.after k p) (t.before (suc k) p)
   -- two releases of a process stand at least its frame apart
   pub spaced : (p : ℕ) → p < length ts → Spaced (task_at ts (rank p)).frame end (λ k. t.released k p)

@@ -1,4 +1,5 @@
--- A run of processes in the order of their ranks, in which each busy tick of each level has a charge.
+-- A run of processes in the order of their ranks, in which each busy tick of each level has a
+-- charge.
 use Rattle.std.specs.Prelude.{◌≡◌, ◌≤◌, ◌<◌, ◌+◌, ℕ, suc, List, length}
 use Rattle.rte_response.specs.declared.tasks.Task.{Task}
 use Rattle.rte_response.specs.Demand.{task_at}
@@ -9,7 +10,8 @@ use Rattle.rte_in_time.specs.Stretches.{Trace, IsRun, AreCharged, Spaced}
 abbrev pub cost_at : List Task → ℕ → Cost
 cost_at ts j = record { run = (task_at ts j).run; susp = (task_at ts j).susp; waits = (task_at ts j).waits }
 
--- at first all are idle, releases stand a frame apart, and at each level each busy tick has a charge; `stay level k` is what is left before tick k of the stay that holds up the level
+-- at first all are idle, releases stand a frame apart, and at each level each busy tick has a
+-- charge; `stay level k` is what is left before tick k of the stay that holds up the level
 pub record IsRanked (ts : List Task) (end : ℕ) (t : Trace) (stay : ℕ → ℕ → ℕ) : Type 0 where
   pub idle_first : (j : ℕ) → j < length ts → (t.before 0 j).run_left ≡ 0
   pub run : IsRun (length ts) (cost_at ts) end t
@@ -21,7 +23,8 @@ pub record EndsAt (t : Trace) (j tick : ℕ) : Type 0 where
   pub active : 1 ≤ (t.after tick j).run_left
   pub idle : (t.before (suc tick) j).run_left ≡ 0
 
--- the activation that is released at a tick goes on until it ends, within so many ticks, the tick of the release counted
+-- the activation that is released at a tick goes on until it ends, within so many ticks, the tick
+-- of the release counted
 pub record EndsWithin (t : Trace) (j release bound : ℕ) : Type 0 where
   pub tick : ℕ
   pub since : release ≤ tick

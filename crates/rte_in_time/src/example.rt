@@ -1,5 +1,5 @@
-//! A run that meets the premises of the timing argument, as data, so that none of them is empty: two processes share a
-//! monitor, and the lower one also waits.
+//! A run that meets the premises of the timing argument, as data, so that none of them is empty:
+//! two processes share a monitor, and the lower one also waits.
 
 ghost use Rattle.rte_in_time.specs.Example.{
   bound_of,
@@ -68,7 +68,8 @@ pub struct Tick {
 pub struct Run {
     /// What the processes may take, by rank.
     pub tasks: [Task; 2],
-    /// The ticks from a release to the end of its activation, the last one counted, at most, by rank.
+    /// The ticks from a release to the end of its activation, the last one counted, at most, by
+    /// rank.
     pub bounds: [u64; 2],
     /// The rank of the process of each place.
     pub ranks: [usize; 2],
@@ -98,7 +99,8 @@ const TASKS: [Task; 2] = [
     },
 ];
 
-/// What is left of an activation that does not wait, as ticks of execution, ticks of suspension, and waits.
+/// What is left of an activation that does not wait, as ticks of execution, ticks of suspension,
+/// and waits.
 macro_rules! left {
     ($run:expr, $susp:expr, $waits:expr) => {
         Activation { run_left: $run, susp_left: $susp, waits_left: $waits, waiting: false }
@@ -171,9 +173,10 @@ macro_rules! tick {
 
 /// Two tasks and a run of theirs that meets each premise of `placed_runs_are_in_time`.
 ///
-/// The process of place 0 has the lower rank. It is inside the monitor twice, for two ticks each time, and waits in
-/// between until it times out. The process of place 1 is released twice, each time while the other is inside the
-/// monitor, and so it is blocked. Each of the two has an activation that ends in the last tick of its bound.
+/// The process of place 0 has the lower rank. It is inside the monitor twice, for two ticks each
+/// time, and waits in between until it times out. The process of place 1 is released twice, each
+/// time while the other is inside the monitor, and so it is blocked. Each of the two has an
+/// activation that ends in the last tick of its bound.
 pub fn example() -> Run
     ensures tasks { AreTasks result.tasks }
     ensures bounds { AreBounds result.tasks (bound_of result) }
@@ -188,7 +191,8 @@ pub fn example() -> Run
         ranks: [1, 0],
         places: [1, 0],
         ticks: [
-            // The place of who runs, and what is left of each: execution, suspension, waits; before them that of a stay.
+            // The place of who runs, and what is left of each: execution, suspension, waits; before
+            // them that of a stay.
             tick!(Some(0), released!(8, 4, 1), idle!()),
             tick!(Some(0), inside!(2; 7, 4, 1), idle!()),
             tick!(Some(0), inside!(1; 6, 4, 1), released!(3, 0, 0)),
@@ -211,10 +215,12 @@ pub fn example() -> Run
     }
 }
 
-/// The example again, which is in time by `placed_runs_are_in_time`: no stretch of a level is longer than its bound, no
-/// release finds its process unfinished, and each activation ends within its bound and so within its deadline.
+/// The example again, which is in time by `placed_runs_are_in_time`: no stretch of a level is
+/// longer than its bound, no release finds its process unfinished, and each activation ends within
+/// its bound and so within its deadline.
 pub fn example_is_in_time() -> Run
-    ensures in_time { IsInTimeAt result.tasks (rank_of result) (place_of result) (bound_of result) 18
+    ensures in_time { IsInTimeAt result.tasks (rank_of result) (place_of result)
+        (bound_of result) 18
         (trace_of result) }
     ensures deadlines { MeetsDeadlinesAt result.tasks (rank_of result) (bound_of result) 18
         (trace_of result) }

@@ -1,8 +1,10 @@
-//! The laws of the timing argument. Each is a function that does nothing, and its contract is the law.
+//! The laws of the timing argument. Each is a function that does nothing, and its contract is the
+//! law.
 //!
-//! First charges, stretches and releases, as in response-time analysis; then what they give of a run, in three forms:
-//! where each busy tick has a charge, where the run is dispatched under immediate priority ceilings with the processes
-//! in the order of their ranks, and the same with the processes in any order.
+//! First charges, stretches and releases, as in response-time analysis; then what they give of a
+//! run, in three forms: where each busy tick has a charge, where the run is dispatched under
+//! immediate priority ceilings with the processes in the order of their ranks, and the same with
+//! the processes in any order.
 
 ghost use Rattle.rte_in_time.specs.Charges.{claim, claims, Charge, Cost, Paid};
 ghost use Rattle.rte_in_time.specs.Deadlines.{AsksMore, IsDueBy};
@@ -27,22 +29,25 @@ ghost use Rattle.rte_in_time.specs.Limited.{AreLimited};
 ghost use Rattle.std.specs.Int.{div_ceil};
 ghost use Rattle.std.specs.Prelude.{◌+◌, ◌<◌, ◌≡◌, ◌≤◌, length, suc, true, Bool, List, Option, Some, ℕ};
 
-/// Charges that are paid for, with the execution that is left, are no more than one stay and what the activations
-/// claim.
+/// Charges that are paid for, with the execution that is left, are no more than one stay and what
+/// the activations claim.
 ///
-/// Suspension is counted as execution. Blocking is counted once for each piece, and the pieces between waits are at most
-/// one more than the waits: each wait claims one stay, and one is left over.
+/// Suspension is counted as execution. Blocking is counted once for each piece, and the pieces
+/// between waits are at most one more than the waits: each wait claims one stay, and one is left
+/// over.
 pub fn charges_are_claimed()
-    ensures { (n : ℕ) (count : ℕ → ℕ) (cost : ℕ → Cost) (stay pieces left : ℕ) (charges : List Charge)
+    ensures { (n : ℕ) (count : ℕ → ℕ) (cost : ℕ → Cost) (stay pieces left : ℕ)
+        (charges : List Charge)
         → Paid n count cost stay pieces left charges
         → length charges + left ≤ stay + claims n count cost stay }
 {}
 
-/// A stretch is no longer than a number of ticks that covers one stay and what the activations released in so many
-/// ticks claim.
+/// A stretch is no longer than a number of ticks that covers one stay and what the activations
+/// released in so many ticks claim.
 ///
-/// This is the step of response-time analysis from the recurrence to the length of a busy period. `counts j` is any
-/// number that the releases of rank j in these ticks do not pass, where the run goes on for so long.
+/// This is the step of response-time analysis from the recurrence to the length of a busy period.
+/// `counts j` is any number that the releases of rank j in these ticks do not pass, where the run
+/// goes on for so long.
 pub fn stretches_are_claimed()
     ensures { (n : ℕ) (cost : ℕ → Cost) (most end : ℕ) (t : Trace) (stay : ℕ → ℕ)
         (start ticks bound : ℕ) (counts : ℕ → ℕ)
@@ -67,7 +72,8 @@ pub fn busy_ticks_are_in_stretches()
         → Began n t tick }
 {}
 
-/// Releases that stand at least a frame apart are no more, in so many ticks, than the ticks by the frame, rounded up.
+/// Releases that stand at least a frame apart are no more, in so many ticks, than the ticks by the
+/// frame, rounded up.
 pub fn releases_are_few()
     ensures { (frame end : ℕ) (released : ℕ → Bool) (start ticks : ℕ)
         → 0 < frame
@@ -76,10 +82,11 @@ pub fn releases_are_few()
         → releases released start ticks ≤ div_ceil ticks frame }
 {}
 
-/// Where somebody is active at the tick by which all deadlines fall, the demand by then of the stretch up to it passes
-/// its length.
+/// Where somebody is active at the tick by which all deadlines fall, the demand by then of the
+/// stretch up to it passes its length.
 ///
-/// This is the step of the processor-demand test for earliest deadline first: a missed deadline asks for more.
+/// This is the step of the processor-demand test for earliest deadline first: a missed deadline
+/// asks for more.
 pub fn missed_deadlines_ask_more()
     ensures { (n : ℕ) (cost : ℕ → Cost) (frame deadline : ℕ → ℕ) (most end due : ℕ)
         (t : Trace) (stay : ℕ → ℕ)
@@ -92,7 +99,8 @@ pub fn missed_deadlines_ask_more()
         → AsksMore n cost frame deadline most due t }
 {}
 
-/// A run in which each busy tick of each level has a charge is in time, where each level has a bound.
+/// A run in which each busy tick of each level has a charge is in time, where each level has a
+/// bound.
 pub fn ranked_runs_are_in_time()
     ensures { (ts : List Task) (bounds : ℕ → ℕ) (end : ℕ) (t : Trace) (stay : ℕ → ℕ → ℕ)
         → AreLimited ts
@@ -101,11 +109,12 @@ pub fn ranked_runs_are_in_time()
         → IsInTime ts bounds end t }
 {}
 
-/// A run that is dispatched under immediate priority ceilings is in time, where each level has a bound.
+/// A run that is dispatched under immediate priority ceilings is in time, where each level has a
+/// bound.
 ///
-/// In a piece, that is a row of ticks of a stretch in which nobody of the level waits, a lower process runs only inside a
-/// monitor that it entered before the piece, and there is at most one such process: so a piece is blocked for at most
-/// one stay.
+/// In a piece, that is a row of ticks of a stretch in which nobody of the level waits, a lower
+/// process runs only inside a monitor that it entered before the piece, and there is at most one
+/// such process: so a piece is blocked for at most one stay.
 pub fn dispatched_runs_are_in_time()
     ensures { (ts : List Task) (bounds : ℕ → ℕ) (end : ℕ) (t : Trace) (d : Dispatch)
         → AreLimited ts
@@ -114,7 +123,8 @@ pub fn dispatched_runs_are_in_time()
         → IsInTime ts bounds end t }
 {}
 
-/// The same where the processes stand in any order of places, and have their ranks by a numbering of its own.
+/// The same where the processes stand in any order of places, and have their ranks by a numbering
+/// of its own.
 pub fn placed_runs_are_in_time()
     ensures { (ts : List Task) (rank place bounds : ℕ → ℕ) (end : ℕ) (t : Trace) (d : Dispatch)
         → AreLimited ts
@@ -124,8 +134,9 @@ pub fn placed_runs_are_in_time()
         → IsInTimeAt ts rank place bounds end t }
 {}
 
-/// Where each level has a bound, which is within its deadline, and a run is in time, each activation ends within its
-/// deadline: so it is for processes in the order of their ranks, and for those in any order of places.
+/// Where each level has a bound, which is within its deadline, and a run is in time, each
+/// activation ends within its deadline: so it is for processes in the order of their ranks, and for
+/// those in any order of places.
 pub fn activations_meet_deadlines()
     ensures ranked { (ts : List Task) (bounds : ℕ → ℕ) (end : ℕ) (t : Trace)
         → AreBounds ts bounds
@@ -138,8 +149,8 @@ pub fn activations_meet_deadlines()
         → MeetsDeadlinesAt ts rank bounds end t }
 {}
 
-/// A bound of a level covers one activation of each rank up to the level, with the level's block for each of its waits,
-/// and so no run cost or suspension of theirs passes it.
+/// A bound of a level covers one activation of each rank up to the level, with the level's block
+/// for each of its waits, and so no run cost or suspension of theirs passes it.
 pub fn bounds_cover_activations()
     ensures { (ts : List Task) (level bound j : ℕ)
         → AreLimited ts
@@ -149,8 +160,8 @@ pub fn bounds_cover_activations()
         → claim (task_at ts level).block (cost_at ts j) ≤ bound }
 {}
 
-/// Processes inside monitors stay apart in a tick in which one runs that ranks, where it is outside monitors, above
-/// each ceiling of those inside.
+/// Processes inside monitors stay apart in a tick in which one runs that ranks, where it is outside
+/// monitors, above each ceiling of those inside.
 ///
 /// This is what immediate priority ceilings keep from tick to tick; no run is spoken of.
 pub fn processes_stay_apart()

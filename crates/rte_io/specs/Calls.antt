@@ -25,7 +25,8 @@ next_fails calls = list_any (λ number. number == (next calls).made) calls.faili
 abbrev pub HasFailed : Result (Vec ℕ Global) ReadFault → Type 0
 HasFailed answer = (answer ≡ Err read.Failed) ⊎ (answer ≡ Err read.Memory)
 
--- the answer of a read that does not fail: the bytes where they are at most `most`, and Long where they are more
+-- the answer of a read that does not fail: the bytes where they are at most `most`, and Long where
+-- they are more
 abbrev pub ReadsAs : List ℕ → (most : ℕ) → Result (Vec ℕ Global) ReadFault → Type 0
 ReadsAs bytes most (Ok got) = (got.items ≡ bytes) × (length bytes ≤ most)
 ReadsAs bytes most (Err read.Failed) = ⊥
@@ -38,7 +39,8 @@ ReadAnswers true held most answer = HasFailed answer
 ReadAnswers false None most answer = HasFailed answer
 ReadAnswers false (Some bytes) most answer = ReadsAs bytes most answer
 
--- the answer of a write: Failed comes where it is to fail, and Ok where it is not, but for want of memory
+-- the answer of a write: Failed comes where it is to fail, and Ok where it is not, but for want of
+-- memory
 abbrev pub WriteAnswers : (fails : Bool) → Result (Unit {0}) WriteFault → Type 0
 WriteAnswers true answer = (answer ≡ Err write.Failed) ⊎ (answer ≡ Err write.Memory)
 WriteAnswers false answer = (answer ≡ Ok tt) ⊎ (answer ≡ Err write.Memory)

@@ -29,7 +29,8 @@ impl MemSink {
     pub fn new(alloc: Global, room: usize, bad_puts: Vec<u64>) -> Result<MemSink, AllocError>
         ensures bytes { IfOk result (λ sink. bytes_of sink ≡ []) }
         ensures room { IfOk result (λ sink. room_of sink ≡ room) }
-        ensures puts { IfOk result (λ sink. puts_of sink ≡ record { made = 0; failing = bad_puts.items }) }
+        ensures puts { IfOk result (λ sink. puts_of sink ≡
+            record { made = 0; failing = bad_puts.items }) }
         ensures faults { IfOk result (λ sink. faults_of sink ≡ 0) }
     {
         let bytes = Vec::with_capacity(alloc, room)?;
@@ -65,7 +66,8 @@ impl Sink for MemSink {
 
     fn put(&mut self, piece: &[u8]) -> Result<(), SinkFailed>
         ensures listed { OnTrue (next_fails (puts_of self.old)) (IsErr result) }
-        ensures full { room_of self.old < length (bytes_of self.old) + length piece.now → IsErr result }
+        ensures full { room_of self.old < length (bytes_of self.old) + length piece.now →
+            IsErr result }
         ensures fits { OnFalse (next_fails (puts_of self.old)) (
             length (bytes_of self.old) + length piece.now ≤ room_of self.old → IsOk result) }
         ensures taken { OnOk result (bytes_of self.new ≡ bytes_of self.old ++ piece.now) }

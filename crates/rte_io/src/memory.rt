@@ -27,7 +27,8 @@ pub struct MemFiles {
 
 /// Keeps the name of a failed call.
 fn keep(alloc: Global, names: &mut Vec<String>, name: &str) -> Result<(), AllocError>
-    ensures kept { OnOk result (OneMore (count_of names.old.items) (count_of names.new.items) name.now) }
+    ensures kept { OnOk result (OneMore (count_of names.old.items)
+        (count_of names.new.items) name.now) }
     ensures err { OnErr result (SameCounts (count_of names.old.items) (count_of names.new.items)) }
     ensures counts { NoneFell (count_of names.old.items) (count_of names.new.items) }
 {
@@ -40,7 +41,8 @@ fn refuse(alloc: Global, names: &mut Vec<String>, name: &str) -> Result<Vec<u8>,
     ensures refused { HasFailed result }
     ensures failed { result ≡ Err ReadFault.Failed →
         Rose (count_of names.old.items name.now) (count_of names.new.items name.now) }
-    ensures faults { CountsFailure (read_failed result) (count_of names.old.items) (count_of names.new.items) name.now }
+    ensures faults { CountsFailure (read_failed result) (count_of names.old.items)
+        (count_of names.new.items) name.now }
     ensures counts { NoneFell (count_of names.old.items) (count_of names.new.items) }
 {
     match keep(alloc, names, name) {
@@ -117,10 +119,12 @@ impl Files for MemFiles {
     ghost state = { state_of };
 
     fn read(&mut self, name: &str, most: usize) -> Result<Vec<u8>, ReadFault>
-        ensures answer { ReadAnswers (next_fails (reads_of self.old)) (held_of self.old name.now) most result }
+        ensures answer { ReadAnswers (next_fails (reads_of self.old))
+            (held_of self.old name.now) most result }
         ensures reads { reads_of self.new ≡ next (reads_of self.old) }
         ensures writes { writes_of self.new ≡ writes_of self.old }
-        ensures read_faults { CountsFailure (read_failed result) (read_faults_of self.old) (read_faults_of self.new) name.now }
+        ensures read_faults { CountsFailure (read_failed result) (read_faults_of self.old)
+            (read_faults_of self.new) name.now }
         ensures write_faults { SameCounts (write_faults_of self.old) (write_faults_of self.new) }
         ensures failed { result ≡ Err ReadFault.Failed →
             Rose (read_faults_of self.old name.now) (read_faults_of self.new name.now) }
@@ -144,7 +148,8 @@ impl Files for MemFiles {
         ensures reads { reads_of self.new ≡ reads_of self.old }
         ensures writes { writes_of self.new ≡ next (writes_of self.old) }
         ensures read_faults { SameCounts (read_faults_of self.old) (read_faults_of self.new) }
-        ensures write_faults { CountsFailure (write_failed result) (write_faults_of self.old) (write_faults_of self.new) name.now }
+        ensures write_faults { CountsFailure (write_failed result) (write_faults_of self.old)
+            (write_faults_of self.new) name.now }
         ensures failed { result ≡ Err WriteFault.Failed →
             Rose (write_faults_of self.old name.now) (write_faults_of self.new name.now) }
         ensures others { OthersStay (held_of self.old) (held_of self.new) name.now }

@@ -49,9 +49,11 @@ pub trait Files {
     /// and the read did not fail. No file changes.
     fn read(&mut self, name: &str, most: usize) -> Result<Vec<u8>, ReadFault>
         ensures within { IfOk result (λ bytes. vec_len bytes ≤ most) }
-        ensures whole { IfOk result (λ bytes. OnTrue tells ((state self.old).held name.now ≡ Some bytes.items)) }
+        ensures whole { IfOk result (λ bytes.
+            OnTrue tells ((state self.old).held name.now ≡ Some bytes.items)) }
         ensures long { result ≡ Err ReadFault.Long →
-            OnTrue tells (IsSomeAnd ((state self.old).held name.now) (λ bytes. most < length bytes)) }
+            OnTrue tells (IsSomeAnd ((state self.old).held name.now)
+            (λ bytes. most < length bytes)) }
         ensures longer { OnTrue tells (
             IsSomeAnd ((state self.old).held name.now) (λ bytes. most < length bytes) →
             (result ≡ Err ReadFault.Long) ⊎
@@ -60,19 +62,23 @@ pub trait Files {
             Rose ((state self.old).read_faults name.now) ((state self.new).read_faults name.now) }
         ensures files { AllStay (state self.old).held (state self.new).held }
         ensures read_counts { NoneFell (state self.old).read_faults (state self.new).read_faults }
-        ensures write_counts { NoneFell (state self.old).write_faults (state self.new).write_faults };
+        ensures write_counts { NoneFell (state self.old).write_faults
+            (state self.new).write_faults };
 
     /// Makes the name hold the bytes, and leaves the other names as they were. After `Memory` the
     /// name holds what it held, after `Failed` anything. `Failed` comes only where the name's count
     /// of faults rose.
     fn write(&mut self, name: &str, bytes: &[u8]) -> Result<(), WriteFault>
-        ensures stored { OnOk result (OnTrue tells ((state self.new).held name.now ≡ Some bytes.now)) }
+        ensures stored { OnOk result (OnTrue tells
+            ((state self.new).held name.now ≡ Some bytes.now)) }
         ensures failed { result ≡ Err WriteFault.Failed →
             Rose ((state self.old).write_faults name.now) ((state self.new).write_faults name.now) }
         ensures others { OthersStay (state self.old).held (state self.new).held name.now }
-        ensures kept { result ≡ Err WriteFault.Memory → AllStay (state self.old).held (state self.new).held }
+        ensures kept { result ≡ Err WriteFault.Memory →
+            AllStay (state self.old).held (state self.new).held }
         ensures read_counts { NoneFell (state self.old).read_faults (state self.new).read_faults }
-        ensures write_counts { NoneFell (state self.old).write_faults (state self.new).write_faults };
+        ensures write_counts { NoneFell (state self.old).write_faults
+            (state self.new).write_faults };
 }
 
 /// A taker of bytes.
@@ -85,8 +91,10 @@ pub trait Sink {
     /// Takes the piece whole; or takes some first bytes of it, counts a failure and answers Err.
     /// It takes no memory.
     fn put(&mut self, piece: &[u8]) -> Result<(), SinkFailed>
-        ensures whole { OnOk result (Appends (state self.old).taken (state self.new).taken piece.now) }
-        ensures front { OnErr result (AppendsFront (state self.old).taken (state self.new).taken piece.now) }
+        ensures whole { OnOk result (Appends (state self.old).taken
+            (state self.new).taken piece.now) }
+        ensures front { OnErr result (AppendsFront (state self.old).taken
+            (state self.new).taken piece.now) }
         ensures failed { OnErr result (Rose (state self.old).faults (state self.new).faults) }
         ensures count { (state self.old).faults ≤ (state self.new).faults }
         ensures quiet { OnOk result ((state self.new).faults ≡ (state self.old).faults) };

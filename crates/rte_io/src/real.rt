@@ -51,8 +51,10 @@ fn read_up_to<F: Read>(alloc: Global, file: &mut F, most: usize) -> Result<Vec<u
 impl<'a, R: rt::Files> RealFiles<'a, R> {
     /// No faults yet. It takes no memory.
     pub fn new(alloc: Global, rt: &'a R) -> RealFiles<'a, R>
-        ensures reads { (name : List ℕ) → (⟦<RealFiles<'a, R> as Files>⟧.state result).read_faults name ≡ 0 }
-        ensures writes { (name : List ℕ) → (⟦<RealFiles<'a, R> as Files>⟧.state result).write_faults name ≡ 0 }
+        ensures reads { (name : List ℕ) → (⟦<RealFiles<'a, R> as Files>⟧.state result).read_faults
+            name ≡ 0 }
+        ensures writes { (name : List ℕ) → (⟦<RealFiles<'a, R> as Files>⟧.state result).write_faults
+            name ≡ 0 }
     {
         RealFiles {
             rt,
@@ -84,9 +86,11 @@ impl<'a, R: rt::Files> Files for RealFiles<'a, R> {
     fn read(&mut self, name: &str, most: usize) -> Result<Vec<u8>, ReadFault>
         ensures within { IfOk result (λ bytes. vec_len bytes ≤ most) }
         ensures raised { let state = ⟦<RealFiles<'a, R> as Files>⟧.state in
-            OnErr result ((state self.new).read_faults name.now ≡ next_count ((state self.old).read_faults name.now)) }
+            OnErr result ((state self.new).read_faults name.now ≡
+            next_count ((state self.old).read_faults name.now)) }
         ensures quiet { let state = ⟦<RealFiles<'a, R> as Files>⟧.state in
-            OnOk result ((state self.new).read_faults name.now ≡ (state self.old).read_faults name.now) }
+            OnOk result ((state self.new).read_faults name.now ≡
+            (state self.old).read_faults name.now) }
         ensures count { let state = ⟦<RealFiles<'a, R> as Files>⟧.state in
             (state self.old).read_faults name.now ≤ (state self.new).read_faults name.now }
     {
@@ -102,9 +106,11 @@ impl<'a, R: rt::Files> Files for RealFiles<'a, R> {
 
     fn write(&mut self, name: &str, bytes: &[u8]) -> Result<(), WriteFault>
         ensures raised { let state = ⟦<RealFiles<'a, R> as Files>⟧.state in
-            OnErr result ((state self.new).write_faults name.now ≡ next_count ((state self.old).write_faults name.now)) }
+            OnErr result ((state self.new).write_faults name.now ≡
+            next_count ((state self.old).write_faults name.now)) }
         ensures quiet { let state = ⟦<RealFiles<'a, R> as Files>⟧.state in
-            OnOk result ((state self.new).write_faults name.now ≡ (state self.old).write_faults name.now) }
+            OnOk result ((state self.new).write_faults name.now ≡
+            (state self.old).write_faults name.now) }
         ensures count { let state = ⟦<RealFiles<'a, R> as Files>⟧.state in
             (state self.old).write_faults name.now ≤ (state self.new).write_faults name.now }
     {

@@ -1,5 +1,5 @@
--- The 13 bytes of each instruction: its number, and three signed numbers of 32 bits with the highest byte first, of which those
--- that it does not name are 0.
+-- The 13 bytes of each instruction: its number, and three signed numbers of 32 bits with the
+-- highest byte first, of which those that it does not name are 0.
 use Rattle.std.specs.Prelude.{◌≡◌, ℕ, ℤ, pos, List, [], ◌∷◌, flat_map, FitsSigned}
 use Rattle.std.specs.Int.{w32, cast_unsigned}
 use Rattle.byteorder.specs.Endian.{big_bytes}

@@ -1,5 +1,5 @@
--- How many operands an instruction takes from the stack, and how many it gives to it: of all but jumps, loops, calls, returns, END, and ENTER, LEAVE,
--- WAIT and REENT.
+-- How many operands an instruction takes from the stack, and how many it gives to it: of all but
+-- jumps, loops, calls, returns, END, and ENTER, LEAVE, WAIT and REENT.
 use Rattle.std.specs.Prelude.{ℕ}
 use Rattle.rte_isa.specs.declared.instr.Instr.{Instr}
 use Rattle.rte_isa.specs.declared.instr.Instr.TheVariants as i

@@ -187,11 +187,12 @@ fn instr_at(bytes: &[u8]) -> Option<Instr>
     instr_of(bytes[0], first, second, third)
 }
 
-/// The instruction that has these bytes: None where they are not the 13 bytes of one, as where their
-/// first is no number of an instruction or an operand that it does not name is not 0.
+/// The instruction that has these bytes: None where they are not the 13 bytes of one, as where
+/// their first is no number of an instruction or an operand that it does not name is not 0.
 pub fn read_instr(bytes: &[u8]) -> Option<Instr>
     ensures found { IfSome result (λ instr. bytes.now ≡ instr_bytes instr) }
-    ensures only { (instr : Instr) → HasWords instr → bytes.now ≡ instr_bytes instr → result ≡ Some instr }
+    ensures only { (instr : Instr) → HasWords instr → bytes.now ≡ instr_bytes instr → result ≡
+        Some instr }
 {
     if bytes.len() != 13 {
         return None;

@@ -31,8 +31,8 @@ pub enum Instr {
     StoreMon {
         word: i32,
     },
-    /// Takes an index, and puts the local word of that element of an array on the stack. Raises 3 where
-    /// the index less `low` is not in `0..len`.
+    /// Takes an index, and puts the local word of that element of an array on the stack. Raises 3
+    /// where the index less `low` is not in `0..len`.
     LoadLocalAt {
         word: i32,
         low: i32,
@@ -129,7 +129,8 @@ pub enum Instr {
     Leave {
         monitor: i32,
     },
-    /// Leaves the monitor and joins the queue of a condition, for at most `limit` ticks; then raises
+    /// Leaves the monitor and joins the queue of a condition, for at most `limit` ticks; then
+    /// raises
     /// `number`.
     Wait {
         condition: i32,

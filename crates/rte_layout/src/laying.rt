@@ -28,7 +28,8 @@ pub struct Laying<'a> {
 
 /// The range that values of a type keep to, if any.
 pub fn range_of(values: &Values<'_>, kind: &Scalar) -> Option<Range>
-    ensures { result ≡ option_map told_range (range_of_kind (plain (placed values.now)) (plain_scalar (placed_scalar kind.now))) }
+    ensures { result ≡ option_map told_range (range_of_kind (plain (placed values.now))
+        (plain_scalar (placed_scalar kind.now))) }
 {
     match kind {
         Scalar::Int | Scalar::Boolean => None,
@@ -41,7 +42,8 @@ pub fn range_of(values: &Values<'_>, kind: &Scalar) -> Option<Range>
 
 /// How many words a variable of a type takes.
 fn size(values: &Values<'_>, kind: &Type) -> u64
-    ensures { result ≡ size_of (shape_of (plain (placed values.now)) (plain_kind (placed_kind kind.now))) }
+    ensures { result ≡ size_of (shape_of (plain (placed values.now))
+        (plain_kind (placed_kind kind.now))) }
 {
     match kind {
         Type::Scalar(_) => 1,
@@ -50,7 +52,8 @@ fn size(values: &Values<'_>, kind: &Type) -> u64
 }
 
 fn shape(values: &Values<'_>, kind: &Type) -> Shape
-    ensures { result ≡ told_shape (shape_of (plain (placed values.now)) (plain_kind (placed_kind kind.now))) }
+    ensures { result ≡ told_shape (shape_of (plain (placed values.now))
+        (plain_kind (placed_kind kind.now))) }
 {
     match kind {
         Type::Scalar(_) => Shape::Single,
@@ -63,7 +66,8 @@ fn shape(values: &Values<'_>, kind: &Type) -> Shape
 
 /// The range that the values of a variable keep to, if any.
 fn kind_range(values: &Values<'_>, kind: &Type) -> Option<Range>
-    ensures { result ≡ option_map told_range (range_of_type (plain (placed values.now)) (plain_kind (placed_kind kind.now))) }
+    ensures { result ≡ option_map told_range (range_of_type (plain (placed values.now))
+        (plain_kind (placed_kind kind.now))) }
 {
     match kind {
         Type::Scalar(kind) => range_of(values, kind),
@@ -88,7 +92,8 @@ impl<'a> Laying<'a> {
 
 /// One more variable of so many words.
 fn lay<'a>(laying: &mut Laying<'a>, name: &'a Name, spot: Spot, size: u64) -> Result<(), AllocError>
-    ensures names { OnOk result (names_of laying.new.names.items ≡ names_of laying.old.names.items ++ name.now ∷ []) }
+    ensures names { OnOk result (names_of laying.new.names.items ≡
+        names_of laying.old.names.items ++ name.now ∷ []) }
     ensures spots { OnOk result (laying.new.spots.items ≡ laying.old.spots.items ++ spot ∷ []) }
     ensures word { OnOk result (laying.new.word ≡ laying.old.word + size) }
 {
@@ -108,9 +113,19 @@ fn lay_var<'a>(
     laying: &mut Laying<'a>,
     var: &'a Var,
 ) -> Result<(), AllocError>
-    ensures names { OnOk result ((rest : List SpecVar) → names_of laying.new.names.items ++ place_names (places_from (plain (placed values.now)) laying.new.word rest) ≡ names_of laying.old.names.items ++ place_names (places_from (plain (placed values.now)) laying.old.word (plain_var (placed_var var.now) ∷ rest))) }
-    ensures spots { OnOk result ((rest : List SpecVar) → laying.new.spots.items ++ told_all area (places_from (plain (placed values.now)) laying.new.word rest) ≡ laying.old.spots.items ++ told_all area (places_from (plain (placed values.now)) laying.old.word (plain_var (placed_var var.now) ∷ rest))) }
-    ensures word { OnOk result ((rest : List SpecVar) → laying.new.word + words_of (plain (placed values.now)) rest ≡ laying.old.word + words_of (plain (placed values.now)) (plain_var (placed_var var.now) ∷ rest)) }
+    ensures names { OnOk result ((rest : List SpecVar) → names_of laying.new.names.items ++
+        place_names (places_from (plain (placed values.now)) laying.new.word rest) ≡
+        names_of laying.old.names.items ++ place_names
+        (places_from (plain (placed values.now)) laying.old.word
+        (plain_var (placed_var var.now) ∷ rest))) }
+    ensures spots { OnOk result ((rest : List SpecVar) → laying.new.spots.items ++
+        told_all area (places_from (plain (placed values.now)) laying.new.word rest) ≡
+        laying.old.spots.items ++ told_all area
+        (places_from (plain (placed values.now)) laying.old.word
+        (plain_var (placed_var var.now) ∷ rest))) }
+    ensures word { OnOk result ((rest : List SpecVar) → laying.new.word +
+        words_of (plain (placed values.now)) rest ≡ laying.old.word +
+        words_of (plain (placed values.now)) (plain_var (placed_var var.now) ∷ rest)) }
 {
     let spot = Spot {
         area,
@@ -129,9 +144,15 @@ pub fn lay_vars<'a>(
     laying: &mut Laying<'a>,
     vars: &'a [Var],
 ) -> Result<(), AllocError>
-    ensures names { OnOk result (names_of laying.new.names.items ≡ names_of laying.old.names.items ++ place_names (places_from (plain (placed values.now)) laying.old.word (map plain_var (map placed_var vars.now)))) }
-    ensures spots { OnOk result (laying.new.spots.items ≡ laying.old.spots.items ++ told_all area (places_from (plain (placed values.now)) laying.old.word (map plain_var (map placed_var vars.now)))) }
-    ensures word { OnOk result (laying.new.word ≡ laying.old.word + words_of (plain (placed values.now)) (map plain_var (map placed_var vars.now))) }
+    ensures names { OnOk result (names_of laying.new.names.items ≡
+        names_of laying.old.names.items ++ place_names
+        (places_from (plain (placed values.now)) laying.old.word
+        (map plain_var (map placed_var vars.now)))) }
+    ensures spots { OnOk result (laying.new.spots.items ≡ laying.old.spots.items ++
+        told_all area (places_from (plain (placed values.now)) laying.old.word
+        (map plain_var (map placed_var vars.now)))) }
+    ensures word { OnOk result (laying.new.word ≡ laying.old.word +
+        words_of (plain (placed values.now)) (map plain_var (map placed_var vars.now))) }
 {
     for var in vars {
         lay_var(values, area, laying, var)?;
@@ -145,9 +166,20 @@ fn lay_member<'a>(
     laying: &mut Laying<'a>,
     member: &'a Member,
 ) -> Result<(), AllocError>
-    ensures names { OnOk result ((rest : List SpecMember) → names_of laying.new.names.items ++ place_names (places_from (plain (placed values.now)) laying.new.word (filter_map variable_in rest)) ≡ names_of laying.old.names.items ++ place_names (places_from (plain (placed values.now)) laying.old.word (filter_map variable_in (plain_member (placed_member member.now) ∷ rest)))) }
-    ensures spots { OnOk result ((rest : List SpecMember) → laying.new.spots.items ++ told_all in_area.Monitor (places_from (plain (placed values.now)) laying.new.word (filter_map variable_in rest)) ≡ laying.old.spots.items ++ told_all in_area.Monitor (places_from (plain (placed values.now)) laying.old.word (filter_map variable_in (plain_member (placed_member member.now) ∷ rest)))) }
-    ensures word { OnOk result ((rest : List SpecMember) → laying.new.word + words_of (plain (placed values.now)) (filter_map variable_in rest) ≡ laying.old.word + words_of (plain (placed values.now)) (filter_map variable_in (plain_member (placed_member member.now) ∷ rest))) }
+    ensures names { OnOk result ((rest : List SpecMember) → names_of laying.new.names.items ++
+        place_names (places_from (plain (placed values.now)) laying.new.word
+        (filter_map variable_in rest)) ≡ names_of laying.old.names.items ++
+        place_names (places_from (plain (placed values.now)) laying.old.word
+        (filter_map variable_in (plain_member (placed_member member.now) ∷ rest)))) }
+    ensures spots { OnOk result ((rest : List SpecMember) → laying.new.spots.items ++
+        told_all in_area.Monitor (places_from (plain (placed values.now)) laying.new.word
+        (filter_map variable_in rest)) ≡ laying.old.spots.items ++
+        told_all in_area.Monitor (places_from (plain (placed values.now)) laying.old.word
+        (filter_map variable_in (plain_member (placed_member member.now) ∷ rest)))) }
+    ensures word { OnOk result ((rest : List SpecMember) → laying.new.word +
+        words_of (plain (placed values.now)) (filter_map variable_in rest) ≡ laying.old.word +
+        words_of (plain (placed values.now)) (filter_map variable_in
+        (plain_member (placed_member member.now) ∷ rest))) }
 {
     match member {
         Member::Var(var) => {
@@ -164,9 +196,16 @@ pub fn lay_members<'a>(
     laying: &mut Laying<'a>,
     members: &'a [Member],
 ) -> Result<(), AllocError>
-    ensures names { OnOk result (names_of laying.new.names.items ≡ names_of laying.old.names.items ++ place_names (places_from (plain (placed values.now)) laying.old.word (filter_map variable_in (map plain_member (map placed_member members.now))))) }
-    ensures spots { OnOk result (laying.new.spots.items ≡ laying.old.spots.items ++ told_all in_area.Monitor (places_from (plain (placed values.now)) laying.old.word (filter_map variable_in (map plain_member (map placed_member members.now))))) }
-    ensures word { OnOk result (laying.new.word ≡ laying.old.word + words_of (plain (placed values.now)) (filter_map variable_in (map plain_member (map placed_member members.now)))) }
+    ensures names { OnOk result (names_of laying.new.names.items ≡
+        names_of laying.old.names.items ++ place_names
+        (places_from (plain (placed values.now)) laying.old.word
+        (filter_map variable_in (map plain_member (map placed_member members.now))))) }
+    ensures spots { OnOk result (laying.new.spots.items ≡ laying.old.spots.items ++
+        told_all in_area.Monitor (places_from (plain (placed values.now)) laying.old.word
+        (filter_map variable_in (map plain_member (map placed_member members.now))))) }
+    ensures word { OnOk result (laying.new.word ≡ laying.old.word +
+        words_of (plain (placed values.now)) (filter_map variable_in
+        (map plain_member (map placed_member members.now)))) }
 {
     for member in members {
         lay_member(values, laying, member)?;
@@ -180,8 +219,16 @@ fn lay_param<'a>(
     laying: &mut Laying<'a>,
     param: &'a Param,
 ) -> Result<(), AllocError>
-    ensures names { OnOk result ((rest : List SpecParam) → names_of laying.new.names.items ++ place_names (param_places (plain (placed values.now)) laying.new.word rest) ≡ names_of laying.old.names.items ++ place_names (param_places (plain (placed values.now)) laying.old.word (plain_param (placed_param param.now) ∷ rest))) }
-    ensures spots { OnOk result ((rest : List SpecParam) → laying.new.spots.items ++ told_all in_area.Frame (param_places (plain (placed values.now)) laying.new.word rest) ≡ laying.old.spots.items ++ told_all in_area.Frame (param_places (plain (placed values.now)) laying.old.word (plain_param (placed_param param.now) ∷ rest))) }
+    ensures names { OnOk result ((rest : List SpecParam) → names_of laying.new.names.items ++
+        place_names (param_places (plain (placed values.now)) laying.new.word rest) ≡
+        names_of laying.old.names.items ++ place_names
+        (param_places (plain (placed values.now)) laying.old.word
+        (plain_param (placed_param param.now) ∷ rest))) }
+    ensures spots { OnOk result ((rest : List SpecParam) → laying.new.spots.items ++
+        told_all in_area.Frame (param_places (plain (placed values.now)) laying.new.word rest) ≡
+        laying.old.spots.items ++ told_all in_area.Frame
+        (param_places (plain (placed values.now)) laying.old.word
+        (plain_param (placed_param param.now) ∷ rest))) }
     ensures word { OnOk result (laying.new.word ≡ laying.old.word + 1) }
 {
     let spot = Spot {
@@ -200,8 +247,13 @@ pub fn lay_params<'a>(
     laying: &mut Laying<'a>,
     params: &'a [Param],
 ) -> Result<(), AllocError>
-    ensures names { OnOk result (names_of laying.new.names.items ≡ names_of laying.old.names.items ++ place_names (param_places (plain (placed values.now)) laying.old.word (map plain_param (map placed_param params.now)))) }
-    ensures spots { OnOk result (laying.new.spots.items ≡ laying.old.spots.items ++ told_all in_area.Frame (param_places (plain (placed values.now)) laying.old.word (map plain_param (map placed_param params.now)))) }
+    ensures names { OnOk result (names_of laying.new.names.items ≡
+        names_of laying.old.names.items ++ place_names
+        (param_places (plain (placed values.now)) laying.old.word
+        (map plain_param (map placed_param params.now)))) }
+    ensures spots { OnOk result (laying.new.spots.items ≡ laying.old.spots.items ++
+        told_all in_area.Frame (param_places (plain (placed values.now)) laying.old.word
+        (map plain_param (map placed_param params.now)))) }
     ensures word { OnOk result (laying.new.word ≡ laying.old.word + length params.now) }
 {
     for param in params {

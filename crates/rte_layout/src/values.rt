@@ -75,7 +75,8 @@ fn named(kept: &Kept<'_>, name: &[u8]) -> Number
 
 /// The value of a constant.
 fn value_of(kept: &Kept<'_>, constant: &Constant) -> Number
-    ensures { number_value result ≡ amount (kept_worth kept.now.entries) (plain_constant (placed_constant constant.now)) }
+    ensures { number_value result ≡ amount (kept_worth kept.now.entries)
+        (plain_constant (placed_constant constant.now)) }
 {
     match &constant.value {
         Value::Literal(size) => Number {
@@ -88,7 +89,8 @@ fn value_of(kept: &Kept<'_>, constant: &Constant) -> Number
 
 /// Keeps the value of one more constant.
 fn keep<'a>(kept: &mut Kept<'a>, name: &'a [u8], number: Number) -> Result<(), AllocError>
-    ensures { OnOk result (kept_worth kept.new.entries ≡ with_constant (kept_worth kept.old.entries) name.now (number_value number)) }
+    ensures { OnOk result (kept_worth kept.new.entries ≡
+        with_constant (kept_worth kept.old.entries) name.now (number_value number)) }
 {
     kept.insert(name, number)?;
     Ok(())
@@ -96,7 +98,8 @@ fn keep<'a>(kept: &mut Kept<'a>, name: &'a [u8], number: Number) -> Result<(), A
 
 /// One more declaration.
 fn next<'a>(kept: &mut Kept<'a>, decl: &'a Decl) -> Result<(), AllocError>
-    ensures { OnOk result (kept_worth kept.new.entries ≡ with_decl (kept_worth kept.old.entries) (plain_decl (placed_decl decl.now))) }
+    ensures { OnOk result (kept_worth kept.new.entries ≡
+        with_decl (kept_worth kept.old.entries) (plain_decl (placed_decl decl.now))) }
 {
     if let Decl::Const { name, value, .. } = decl {
         let number = value_of(kept, value);
@@ -107,7 +110,8 @@ fn next<'a>(kept: &mut Kept<'a>, decl: &'a Decl) -> Result<(), AllocError>
 
 /// The constants of declarations, each with its value, which names those before it alone.
 fn kept_values<'a>(alloc: Global, decls: &'a [Decl]) -> Result<Kept<'a>, AllocError>
-    ensures { IfOk result (λ kept. kept_worth kept.entries ≡ with_decls no_worth (map plain_decl (map placed_decl decls.now))) }
+    ensures { IfOk result (λ kept. kept_worth kept.entries ≡
+        with_decls no_worth (map plain_decl (map placed_decl decls.now))) }
 {
     let mut kept = Kept::new(alloc);
     for decl in decls {
@@ -127,7 +131,8 @@ impl<'a> Values<'a> {
 
     /// The value of a constant, from -4,294,967,295 to 4,294,967,295.
     pub fn value(&self, constant: &Constant) -> i64
-        ensures exact { result ≡ constant_value (plain (placed self.now)) (plain_constant (placed_constant constant.now)) }
+        ensures exact { result ≡ constant_value (plain (placed self.now))
+            (plain_constant (placed_constant constant.now)) }
         ensures within { (negsuc 4294967294 ≤ℤ result) × (result ≤ℤ pos 4294967295) }
     {
         value_of(&self.kept, constant).get()

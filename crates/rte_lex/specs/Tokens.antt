@@ -1,4 +1,5 @@
--- The tokens of a text: the text is blanks, comments and tokens in turn, and each token is the longest spelling at its place.
+-- The tokens of a text: the text is blanks, comments and tokens in turn, and each token is the
+-- longest spelling at its place.
 use Rattle.std.specs.Prelude.{◌≡◌, ℕ, ◌+◌, ◌<◌, ◌≤◌, Bool, not, ◌||◌, ◌==◌, List, [], ◌∷◌, length, take, drop, count_by, IsTrue}
 use Rattle.std.specs.List.{prefix_len, suffix_len}
 use Rattle.rte_tree.specs.declared.place.Place.{Place}
@@ -56,7 +57,8 @@ pub record IsLongest (bytes : List ℕ) (n : ℕ) : Type 0 where
 abbrev pub bytes_of : List ℕ → Token → List ℕ
 bytes_of text t = take t.len (drop t.start text)
 
--- the token is the longest spelling at its place in the text, with its kind, its line and its byte of that line
+-- the token is the longest spelling at its place in the text, with its kind, its line and its byte
+-- of that line
 pub record StandsIn (text : List ℕ) (t : Token) : Type 0 where
   pub longest : IsLongest (drop t.start text) t.len
   pub kind : HasKind (bytes_of text t) t.kind

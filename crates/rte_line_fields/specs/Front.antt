@@ -6,8 +6,8 @@ use Rattle.rte_line_fields.specs.declared.fault.Fault.{Fault}
 use Rattle.rte_line_fields.specs.declared.fault.ReadError.{ReadError}
 use Rattle.rte_line_fields.specs.declared.fault.ReadError.TheVariants as errors
 
--- a place in a line: whether all before it in the line is in its range, how many bytes of the text were left where the line begins, and
--- the text from the place on
+-- a place in a line: whether all before it in the line is in its range, how many bytes of the text
+-- were left where the line begins, and the text from the place on
 pub record Front : Type 0 where
   pub fine : Bool
   pub start : ℕ

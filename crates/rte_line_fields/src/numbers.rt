@@ -98,7 +98,8 @@ pub fn number(at: At<'_>, low: u32, high: u32) -> Result<(u32, At<'_>), ReadErro
 /// A number within a range behind these bytes.
 #[tactic(auto, unfolding(crate::specs::Fields::field_read))]
 pub fn field<'a>(at: At<'a>, label: &[u8], low: u32, high: u32) -> Result<(u32, At<'a>), ReadError>
-    ensures read { Gives (λ x. (x.0, front x.1)) result (field_read label.now low high (front at.entry)) }
+    ensures read { Gives (λ x. (x.0, front x.1)) result
+        (field_read label.now low high (front at.entry)) }
     ensures within { IfOk result (λ x. x.0 ≤ high) }
 {
     let at = skip(at, label)?;
@@ -112,7 +113,8 @@ pub fn short_field<'a>(
     low: u16,
     high: u16,
 ) -> Result<(u16, At<'a>), ReadError>
-    ensures { Gives (λ x. (x.0, front x.1)) result (field_read label.now low high (front at.entry)) }
+    ensures { Gives (λ x. (x.0, front x.1)) result
+        (field_read label.now low high (front at.entry)) }
 {
     let (number, at) = field(at, label, u32::from(low), u32::from(high))?;
     Ok((number as u16, at))

@@ -20,7 +20,8 @@ fn add_number(text: &mut Text, words: &str, number: u64) -> Result<(), AllocErro
     text.extend(buffer.format(number).as_bytes())
 }
 
-/// The line of a fault of a text: its number, and the line and the byte of that line where it stands.
+/// The line of a fault of a text: its number, and the line and the byte of that line where it
+/// stands.
 pub fn fault_line(alloc: Global, number: u8, place: Place) -> Result<Text, AllocError>
     ensures { IfOk result (λ text. text ≡ source.fault_line number place) }
 {
@@ -45,7 +46,8 @@ pub fn image_fault_line(alloc: Global, number: u8, offset: u32) -> Result<Text, 
 
 /// The line of a fault of validity: its number, and the two numbers that it shows.
 pub fn valid_fault_line(alloc: Global, number: u8, a: u64, b: u64) -> Result<Text, AllocError>
-    ensures { IfOk result (λ text. text ≡ due.valid_fault_line (record { number = number; a = a; b = b })) }
+    ensures { IfOk result (λ text. text ≡ due.valid_fault_line
+        (record { number = number; a = a; b = b })) }
 {
     let mut text = Text::new(alloc);
     add_number(&mut text, "V", u64::from(number))?;

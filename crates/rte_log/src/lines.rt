@@ -102,7 +102,8 @@ fn add_condition(text: &mut Line, names: &ImageNames, does: &[u8], number: u16)
     requires condition { number < length names.now.conditions }
     requires does { length does.now ≤ 11 }
     requires room { array_vec_len text.old ≤ 100 }
-    ensures items { text.new.items ≡ text.old.items ++ (does.now ++ condition_name names.now number) }
+    ensures items { text.new.items ≡ text.old.items ++
+        (does.now ++ condition_name names.now number) }
     ensures len { array_vec_len text.new ≤ array_vec_len text.old + length does.now + 127 }
 {
     let condition = condition_of(names, number);
@@ -126,7 +127,8 @@ fn add_last(text: &mut Line, word: &[u8])
 /// Adds the last word of a line, a number.
 fn add_number(text: &mut Line, number: u16)
     requires { array_vec_len text.old ≤ 313 }
-    ensures items { text.new.items ≡ text.old.items ++ (codes " " ++ (decimal number ++ codes "\n")) }
+    ensures items { text.new.items ≡ text.old.items ++
+        (codes " " ++ (decimal number ++ codes "\n")) }
     ensures len { array_vec_len text.new ≤ array_vec_len text.old + 7 }
 {
     let mut digits = Buffer::new();
@@ -140,7 +142,8 @@ fn add_transfer(text: &mut Line, names: &ImageNames, does: &[u8], dev: u16, valu
     requires does { length does.now ≤ 11 }
     requires room { array_vec_len text.old ≤ 100 }
     ensures items { text.new.items ≡
-        text.old.items ++ (does.now ++ (device_name names.now dev ++ (codes " " ++ (signed_decimal value ++ codes "\n")))) }
+        text.old.items ++ (does.now ++ (device_name names.now dev ++
+        (codes " " ++ (signed_decimal value ++ codes "\n")))) }
     ensures len { array_vec_len text.new ≤ array_vec_len text.old + 100 }
 {
     let mut digits = Buffer::new();
@@ -155,7 +158,8 @@ fn add_passage(text: &mut Line, names: &ImageNames, does: &[u8], mon: u16)
     requires monitor { mon < length names.now.monitors }
     requires does { length does.now ≤ 11 }
     requires room { array_vec_len text.old ≤ 100 }
-    ensures items { text.new.items ≡ text.old.items ++ (does.now ++ (monitor_name names.now mon ++ codes "\n")) }
+    ensures items { text.new.items ≡ text.old.items ++
+        (does.now ++ (monitor_name names.now mon ++ codes "\n")) }
     ensures len { array_vec_len text.new ≤ array_vec_len text.old + 100 }
 {
     add(text, does);

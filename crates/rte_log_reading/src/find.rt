@@ -29,7 +29,8 @@ pub fn find_process(names: &Named<'_, '_>, word: &[u8]) -> Option<u16>
     find(&names.processes, word)
 }
 
-/// The same, which tries the process of this number first: lines of one process often stand together.
+/// The same, which tries the process of this number first: lines of one process often stand
+/// together.
 pub fn find_near(names: &Named<'_, '_>, word: &[u8], near: u16) -> Option<u16>
     requires { AreFound names.now }
     ensures within { IfSome result (λ k. k < length names.now.names.now.processes) }

@@ -13,8 +13,8 @@ use rte_fields::{cut_at, unsigned};
 /// The greatest tick of a line.
 const LAST_TICK: u64 = 999_999_999;
 
-/// The event that a line tells, which is given without its LF; None where it tells none. The process of the number is tried
-/// first.
+/// The event that a line tells, which is given without its LF; None where it tells none. The
+/// process of the number is tried first.
 pub fn read_line(line: &[u8], names: &Named<'_, '_>, near: u16) -> Option<Event>
     requires words { AreWords names.now.names.now }
     requires found { AreFound names.now }

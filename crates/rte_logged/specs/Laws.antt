@@ -6,7 +6,8 @@ use Rattle.rte_machine_meaning.specs.Image.{Image, Script}
 use Rattle.rte_machine_meaning.specs.Run.{events}
 use Rattle.rte_valid.specs.Valid.{HasLimits, IsValid}
 
--- the names are those of the parts of the image: there are as many of each, and they can stand in a line
+-- the names are those of the parts of the image: there are as many of each, and they can stand in a
+-- line
 pub record AreNamesOf (names : ImageNames) (image : Image) : Type 0 where
   pub sound : AreSound names
   pub processes : length names.processes ≡ length image.processes

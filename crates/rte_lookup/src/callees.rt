@@ -18,7 +18,9 @@ fn ranges(
     values: &Values<'_>,
     params: &[Param],
 ) -> Result<List<Option<Range>>, AllocError>
-    ensures { IfOk result (λ ranges. ranges ≡ map (λ p. range_told (plain (placed values.now)) p.kind) (map plain_param (map placed_param params.now))) }
+    ensures { IfOk result (λ ranges. ranges ≡
+        map (λ p. range_told (plain (placed values.now)) p.kind)
+        (map plain_param (map placed_param params.now))) }
 {
     let mut ranges = List::new(alloc);
     for param in params {
@@ -29,7 +31,8 @@ fn ranges(
 
 /// A routine that is called: its number, and the range of each of its parameters.
 pub fn callee(alloc: Global, tables: &Tables<'_>, text: Text<'_>) -> Result<Callee, AllocError>
-    ensures { IfOk result (λ callee. callee ≡ callee_of (plain (placed tables.now)) (text_of text.entry)) }
+    ensures { IfOk result (λ callee. callee ≡
+        callee_of (plain (placed tables.now)) (text_of text.entry)) }
 {
     let number = tables.numbering().number(text);
     let ranges = ranges(alloc, tables.values(), text.routine.params.as_slice())?;

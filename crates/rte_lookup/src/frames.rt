@@ -18,8 +18,12 @@ pub fn laid_routine<'a>(
     values: &Values<'_>,
     routine: &'a Routine,
 ) -> Result<Laying<'a>, AllocError>
-    ensures places { IfOk result (λ laid. IsLaid in_area.Frame (routine_places (plain (placed values.now)) (plain_routine (placed_routine routine.now))) laid.names.items laid.spots.items) }
-    ensures words { IfOk result (λ laid. laid.word ≡ routine_vars_words (plain (placed values.now)) (plain_routine (placed_routine routine.now))) }
+    ensures places { IfOk result (λ laid. IsLaid in_area.Frame
+        (routine_places (plain (placed values.now)) (plain_routine (placed_routine routine.now)))
+        laid.names.items laid.spots.items) }
+    ensures words { IfOk result (λ laid. laid.word ≡
+        routine_vars_words (plain (placed values.now))
+        (plain_routine (placed_routine routine.now))) }
 {
     let mut laid = Laying::new(alloc, 0);
     lay_params(values, &mut laid, routine.params.as_slice())?;
@@ -33,8 +37,11 @@ pub fn laid_process<'a>(
     values: &Values<'_>,
     process: &'a Proc,
 ) -> Result<Laying<'a>, AllocError>
-    ensures places { IfOk result (λ laid. IsLaid in_area.Process (places_from (plain (placed values.now)) 0 (plain_process (placed_process process.now)).vars) laid.names.items laid.spots.items) }
-    ensures words { IfOk result (λ laid. laid.word ≡ words_of (plain (placed values.now)) (plain_process (placed_process process.now)).vars) }
+    ensures places { IfOk result (λ laid. IsLaid in_area.Process
+        (places_from (plain (placed values.now)) 0
+        (plain_process (placed_process process.now)).vars) laid.names.items laid.spots.items) }
+    ensures words { IfOk result (λ laid. laid.word ≡
+        words_of (plain (placed values.now)) (plain_process (placed_process process.now)).vars) }
 {
     let mut laid = Laying::new(alloc, 0);
     lay_vars(values, Area::Process, &mut laid, process.vars.as_slice())?;
@@ -48,8 +55,13 @@ pub fn laid_monitor<'a>(
     base: u64,
     monitor: &'a Mon,
 ) -> Result<Laying<'a>, AllocError>
-    ensures places { IfOk result (λ laid. IsLaid in_area.Monitor (places_from (plain (placed values.now)) base (monitor_vars (plain_monitor (placed_monitor monitor.now)))) laid.names.items laid.spots.items) }
-    ensures words { IfOk result (λ laid. laid.word ≡ base + words_of (plain (placed values.now)) (monitor_vars (plain_monitor (placed_monitor monitor.now)))) }
+    ensures places { IfOk result (λ laid. IsLaid in_area.Monitor
+        (places_from (plain (placed values.now)) base
+        (monitor_vars (plain_monitor (placed_monitor monitor.now)))) laid.names.items
+        laid.spots.items) }
+    ensures words { IfOk result (λ laid. laid.word ≡ base +
+        words_of (plain (placed values.now)) (monitor_vars
+        (plain_monitor (placed_monitor monitor.now)))) }
 {
     let mut laid = Laying::new(alloc, base);
     lay_members(values, &mut laid, monitor.members.as_slice())?;

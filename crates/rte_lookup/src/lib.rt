@@ -1,7 +1,7 @@
 //! What the generator asks of names, in constant expected time.
 //!
-//! `Tables` answers what is the same in all texts of a program: constants, devices, callees. `laid_*`
-//! lay the variables of a text, and `variable` finds the variable that a name means in it.
+//! `Tables` answers what is the same in all texts of a program: constants, devices, callees.
+//! `laid_*` lay the variables of a text, and `variable` finds the variable that a name means in it.
 #![tactic(auto)]
 
 mod callees;

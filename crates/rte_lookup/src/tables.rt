@@ -40,7 +40,9 @@ impl<'a> Model for Tables<'a> {
 
 /// Lists the device that a declaration declares, if it does.
 fn list_device<'a>(names: &mut Vec<&'a [u8]>, decl: &'a Decl) -> Result<(), AllocError>
-    ensures { OnOk result ((rest : List SpecDecl) → names_of names.new.items ++ filter_map device_in rest ≡ names_of names.old.items ++ filter_map device_in (plain_decl (placed_decl decl.now) ∷ rest)) }
+    ensures { OnOk result ((rest : List SpecDecl) → names_of names.new.items ++
+        filter_map device_in rest ≡ names_of names.old.items ++
+        filter_map device_in (plain_decl (placed_decl decl.now) ∷ rest)) }
 {
     if let Decl::Device { name, .. } = decl {
         names.push(name.as_bytes())?;
@@ -50,7 +52,8 @@ fn list_device<'a>(names: &mut Vec<&'a [u8]>, decl: &'a Decl) -> Result<(), Allo
 
 /// The names of the devices.
 fn device_names<'a>(alloc: Global, decls: &'a [Decl]) -> Result<NameList<'a>, AllocError>
-    ensures { IfOk result (λ names. names ≡ filter_map device_in (map plain_decl (map placed_decl decls.now))) }
+    ensures { IfOk result (λ names. names ≡ filter_map device_in
+        (map plain_decl (map placed_decl decls.now))) }
 {
     let mut names = Vec::new(alloc);
     for decl in decls {
@@ -101,7 +104,8 @@ impl<'a> Tables<'a> {
 
     /// What a constant is worth.
     pub fn value(&self, constant: &Constant) -> i32
-        ensures { result ≡ fit (constant_value (plain (placed self.now)) (plain_constant (placed_constant constant.now))) }
+        ensures { result ≡ fit (constant_value (plain (placed self.now))
+            (plain_constant (placed_constant constant.now))) }
     {
         fit_value(self.values.value(constant))
     }

@@ -44,7 +44,8 @@ pub fn variable(
     loops: &[Loop],
     name: &Name,
 ) -> Option<Spot>
-    ensures { result ≡ loop_told (or_else (spot_in own.now name.now) (outer_in outer.entry name.now)) loops.now name.now }
+    ensures { result ≡ loop_told (or_else (spot_in own.now name.now)
+        (outer_in outer.entry name.now)) loops.now name.now }
 {
     let outside = match own.find(name) {
         Some(spot) => Some(spot),

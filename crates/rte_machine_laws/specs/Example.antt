@@ -103,7 +103,8 @@ handled = at 0 0 act.Release ∷ at 3 0 (act.Raise 3) ∷ at 14 0 (act.Put 0 (po
 
 -- ---- several processes and a monitor
 
--- process 0 calls an entry that waits up to 30 ticks, process 1, released first at a tick, one that signals
+-- process 0 calls an entry that waits up to 30 ticks, process 1, released first at a tick, one that
+-- signals
 abbrev pub waiter_and_signaller : ℕ → ℕ → Image
 waiter_and_signaller over first = record {
   over = over;
@@ -243,7 +244,8 @@ abbrev pub raised_inside : List Event
 raised_inside =
     at 0 0 act.Release ∷ at 0 1 act.Release ∷ at 10 0 (act.Enter 0) ∷ at 14 0 (act.Raise 12) ∷ at 18 0 act.End ∷ at 29 1 (act.Enter 0) ∷ at 32 1 (act.Leave 0) ∷ at 40 1 act.End ∷ []
 
--- process 0 raises inside the monitor, and its handler is still to put when process 1, of a higher rank, enters the monitor
+-- process 0 raises inside the monitor, and its handler is still to put when process 1, of a higher
+-- rank, enters the monitor
 abbrev pub raiser_with_handler : Image
 raiser_with_handler = record raiser {
   devices = true ∷ [];
@@ -298,7 +300,8 @@ raiser_with_handler = record raiser {
       ∷ i.Call (pos 1) ∷ i.End ∷ [];
 }
 
--- three processes; the first two add to a monitor's word, the third, of the highest rank, puts to a device
+-- three processes; the first two add to a monitor's word, the third, of the highest rank, puts to a
+-- device
 abbrev pub adders : Image
 adders = record {
   over = 0;
@@ -382,6 +385,7 @@ added =
     at 0 0 act.Release ∷ at 10 0 (act.Enter 0) ∷ at 12 1 act.Release ∷ at 14 2 act.Release ∷ at 24 2 (act.Put 0 (pos 1)) ∷ at 28 2 act.End ∷ at 37 0 (act.Leave 0)
     ∷ at 48 1 (act.Enter 0) ∷ at 60 1 (act.Leave 0) ∷ at 68 1 act.End ∷ at 76 0 act.End ∷ []
 
--- the same with a ceiling that is no high enough rank for the second process: it runs while the first is inside
+-- the same with a ceiling that is no high enough rank for the second process: it runs while the
+-- first is inside
 abbrev pub low_ceiling : Image
 low_ceiling = record adders { monitors = record { base = 0; words = 1; ceiling = 3 } ∷ [] }

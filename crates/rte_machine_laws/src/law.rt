@@ -18,7 +18,8 @@ pub fn one_put()
 
 /// An event releases the process whenever it occurs.
 pub fn an_event_twice()
-    ensures { events (putter (record (alone 15 15 0 1 (Cons (Line 2) Nil)) { kind = 1 })) twice ≡ put_twice }
+    ensures { events (putter (record (alone 15 15 0 1 (Cons (Line 2) Nil)) { kind = 1 })) twice ≡
+        put_twice }
 {}
 
 /// A get answers what is set while it is under way.
@@ -31,7 +32,8 @@ pub fn a_handled_raise()
     ensures { events out_of_range (until 30) ≡ handled }
 {}
 
-/// The waiting process is signalled, and comes back in; each dispatch takes three ticks in and three out.
+/// The waiting process is signalled, and comes back in; each dispatch takes three ticks in and
+/// three out.
 pub fn a_wait_with_overhead()
     ensures { events (waiter_and_signaller 3 31) (until 100) ≡ signalled }
 {}

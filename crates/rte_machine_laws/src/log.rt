@@ -73,7 +73,8 @@ pub fn signalled_at_last() -> [Event; 11]
     ]
 }
 
-/// The log of a process that raises inside a monitor, and of one that enters it while the first one's handler is still to put.
+/// The log of a process that raises inside a monitor, and of one that enters it while the first
+/// one's handler is still to put.
 pub fn entered_while_handled() -> [Event; 9]
     ensures { events raiser_with_handler (until 60) ≡ result }
 {
@@ -126,7 +127,8 @@ pub fn entered_while_handled() -> [Event; 9]
     ]
 }
 
-/// Whether tick 37 is stuck, in which a process is to enter a monitor that a lower one is inside, since the ceiling let it run.
+/// Whether tick 37 is stuck, in which a process is to enter a monitor that a lower one is inside,
+/// since the ceiling let it run.
 pub fn occupied() -> bool
     ensures { (tick low_ceiling (until 90) 37 (state_at low_ceiling (until 90) 37)).stuck ≡ result }
 {

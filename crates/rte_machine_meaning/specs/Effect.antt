@@ -1,9 +1,11 @@
 -- The table of the instructions: the effect of each.
 --
--- An instruction is stuck where an operand is missing or of the wrong kind (a counter for a value, or a value for a counter), where there is
--- no such word, routine, condition, device or address (a negative number names nothing, a monitor neither), where there is no call to come back from, where a word of a monitor is touched or a
--- monitor left by a process that is not inside that monitor, and where a monitor is entered that somebody is inside, or by a process that is
--- inside one. In every other case it has the effect that its row says, or raises an exception.
+-- An instruction is stuck where an operand is missing or of the wrong kind (a counter for a value,
+-- or a value for a counter), where there is no such word, routine, condition, device or address (a
+-- negative number names nothing, a monitor neither), where there is no call to come back from,
+-- where a word of a monitor is touched or a monitor left by a process that is not inside that
+-- monitor, and where a monitor is entered that somebody is inside, or by a process that is inside
+-- one. In every other case it has the effect that its row says, or raises an exception.
 use Rattle.std.specs.Prelude.{◌+◌, ◌-◌, ◌++◌, ◌&&◌, ◌||◌, ℕ, zero, suc, Bool, true, false, not, ℤ, pos, negsuc, ◌+ℤ◌, ◌-ℤ◌, int_lt, int_le, nat_lt, nat_le, List, [], ◌∷◌, Option, Some, None, if◌then◌else◌, slice_get, slice_set, unsigned_abs}
 use Rattle.rte_isa.specs.declared.instr.Instr.{Instr}
 use Rattle.rte_isa.specs.declared.instr.Instr.TheVariants as i
@@ -13,7 +15,8 @@ use Rattle.rte_num.specs.Words.{Answer, word, raised, sum, difference, product, 
 use Rattle.rte_machine_meaning.specs.Image.{Image, Monitor, Routine}
 use Rattle.rte_machine_meaning.specs.State.{Operand, Value, Counter, Caller, Job, State, is_free, is_inside, zeros}
 
--- what an instruction changes: the activation, the words that its process keeps, and the words of all monitors
+-- what an instruction changes: the activation, the words that its process keeps, and the words of
+-- all monitors
 pub record Own : Type 0 where
   pub job : Job
   pub owned : List ℤ
@@ -28,7 +31,8 @@ pub data Outcome : Type 0 where
   -- takes the first process, or all, out of the condition's queue
   Signals : (condition : ℕ) (own : Own) → Outcome
   Broadcasts : (condition : ℕ) (own : Own) → Outcome
-  -- has left the monitor, and waits on the condition with a limit in ticks and the number that a time-out raises
+  -- has left the monitor, and waits on the condition with a limit in ticks and the number that a
+  -- time-out raises
   Waits : (condition limit number : ℕ) (own : Own) → Outcome
   -- raises an exception: no word is changed
   Raises : (number : ℕ) → Outcome
@@ -121,8 +125,8 @@ load_mon image w o = if is_reached image o.job.inside w then load (word_at o.sha
 abbrev pub store_mon : Image → ℤ → ℤ → Own → Outcome
 store_mon image w z o = if is_reached image o.job.inside w then store (word_at o.shared w) (set_shared w z o) else Stuck
 
--- goes on with the word of an element of an array, which stands from word w on and whose indices are low, low + 1 and so on, len of them;
--- an index outside raises 3
+-- goes on with the word of an element of an array, which stands from word w on and whose indices
+-- are low, low + 1 and so on, len of them; an index outside raises 3
 abbrev pub element : ℤ → ℤ → ℤ → ℤ → (ℤ → Outcome) → Outcome
 element w low len index go = if int_le (pos 0) (index -ℤ low) && int_lt (index -ℤ low) len then go (w +ℤ (index -ℤ low)) else Raises 3
 
@@ -152,7 +156,8 @@ drop_counter (Counter n ∷ rest) t o = go_to t (holding rest o)
 drop_counter (Value x ∷ rest) t o = Stuck
 drop_counter [] t o = Stuck
 
--- takes n values, and puts each before those taken so far, so that they stand in the order in which they were given; with the operands left
+-- takes n values, and puts each before those taken so far, so that they stand in the order in which
+-- they were given; with the operands left
 abbrev pub arguments : ℕ → List Operand → List ℤ → Option (List ℤ × List Operand)
 arguments zero operands taken = Some (taken, operands)
 arguments (suc n) (Value x ∷ operands) taken = arguments n operands (x ∷ taken)
@@ -215,7 +220,8 @@ abbrev pub monitor_of : Image → ℤ → Option ℕ
 monitor_of image (pos c) = slice_get image.conditions c
 monitor_of image (negsuc n) = None
 
--- waits outside the condition's monitor, which the process was inside, or was not; limit and number are not negative
+-- waits outside the condition's monitor, which the process was inside, or was not; limit and number
+-- are not negative
 abbrev pub waits : Bool → ℤ → ℤ → ℤ → Own → Outcome
 waits true c limit number o = Waits (unsigned_abs c) (unsigned_abs limit) (unsigned_abs number) (record o { job = record (o.job) { inside = None } })
 waits false c limit number o = Stuck
@@ -262,7 +268,8 @@ put None device value o = Stuck
 
 -- ---- the table
 
--- the effect of an instruction, in its last tick; its process stands at the next instruction already
+-- the effect of an instruction, in its last tick; its process stands at the next instruction
+-- already
 abbrev pub effect : Image → State → Instr → Own → Outcome
 effect image s (i.Push value) o = Goes (give value o)
 effect image s (i.LoadLocal w) o = load (word_at o.job.locals w) o

@@ -1,4 +1,5 @@
--- A whole run of the machine under a script: the states, and the events of the ticks before the script's end.
+-- A whole run of the machine under a script: the states, and the events of the ticks before the
+-- script's end.
 use Rattle.std.specs.Prelude.{◌+◌, ◌++◌, ℕ, zero, suc, pos, List, [], ◌∷◌, map, Bool}
 use Rattle.rte_event.specs.declared.event.Event.{Event}
 use Rattle.rte_machine_meaning.specs.Image.{Image, Process, Monitor, Script}

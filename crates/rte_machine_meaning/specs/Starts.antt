@@ -1,5 +1,6 @@
--- What comes at the start of a tick, before a process runs: the script's lines in their order, so what devices are set to and the releases
--- by events; the periodic releases in the order of the text; the time-outs in the order of ranks.
+-- What comes at the start of a tick, before a process runs: the script's lines in their order, so
+-- what devices are set to and the releases by events; the periodic releases in the order of the
+-- text; the time-outs in the order of ranks.
 use Rattle.std.specs.Prelude.{◌+◌, ◌-◌, ◌*◌, ◌%◌, ◌++◌, ◌&&◌, ℕ, zero, suc, Bool, true, false, not, List, [], ◌∷◌, Option, Some, None, if◌then◌else◌, slice_get, slice_set, nat_le, nat_eq, length}
 use Rattle.rte_event.specs.declared.event.Event.{Event}
 use Rattle.rte_event.specs.declared.event.Act.{Act}
@@ -7,7 +8,8 @@ use Rattle.rte_event.specs.declared.event.Act.TheVariants as act
 use Rattle.rte_machine_meaning.specs.Image.{Image, Process, Script, Line, Sets, Occurs, end_of}
 use Rattle.rte_machine_meaning.specs.State.{Job, Thread, Idle, Ready, Waiting, State, zeros, own_locals}
 
--- the state after some start events, these events, and whether there was an overrun: a release that found its process unfinished
+-- the state after some start events, these events, and whether there was an overrun: a release that
+-- found its process unfinished
 pub record Started : Type 0 where
   pub state : State
   pub events : List Event
@@ -27,11 +29,13 @@ followed first go =
     let second = go first.state in
     record { state = second.state; events = first.events ++ second.events; overrun = elim first.overrun [ true ↦ true | false ↦ second.overrun ] }
 
--- an activation at the start of its process: locals that are 0, no operands, no calls, and a dispatch in and one out to burn
+-- an activation at the start of its process: locals that are 0, no operands, no calls, and a
+-- dispatch in and one out to burn
 abbrev pub released : Image → Process → Job
 released image p = record { place = p.start; done = 0; burn = 2 * image.over; locals = zeros p.locals; operands = []; callers = []; handling = false; inside = None }
 
--- the process begins an activation if it is idle; if it is not, that is an overrun, and nothing changes
+-- the process begins an activation if it is idle; if it is not, that is an overrun, and nothing
+-- changes
 abbrev pub release_thread : Image → ℕ → ℕ → Process → State → Option Thread → Started
 release_thread image t k p s (Some Idle) = told t k act.Release s (Ready (released image p))
 release_thread image t k p s (Some (Ready job)) = record { state = s; events = []; overrun = true }
@@ -72,8 +76,9 @@ abbrev pub lists : List ℕ → ℕ → Bool
 lists [] e = false
 lists (n ∷ ns) e = if nat_eq n e then true else lists ns e
 
--- after a raise: the handler is next if it lists the number and the process is not in it, else the END of the part that the process is in;
--- no call is in progress, its own frame has its locals and no operand, and the process is inside no monitor
+-- after a raise: the handler is next if it lists the number and the process is not in it, else the
+-- END of the part that the process is in; no call is in progress, its own frame has its locals and
+-- no operand, and the process is inside no monitor
 abbrev pub raised : Process → ℕ → Job → Job
 raised p e job =
     let handled = not job.handling && lists p.numbers e in
@@ -90,7 +95,8 @@ queue_of [] c = []
 queue_of (q ∷ qs) zero = q
 queue_of (q ∷ qs) (suc c) = queue_of qs c
 
--- a wait that ends at this tick: the process leaves the queue, its number is raised, and it has a dispatch in and one out to burn
+-- a wait that ends at this tick: the process leaves the queue, its number is raised, and it has a
+-- dispatch in and one out to burn
 abbrev pub time_out : Image → ℕ → ℕ → Process → State → Option Thread → Started
 time_out image t k p s (Some (Waiting c due e job)) =
     if nat_eq due t

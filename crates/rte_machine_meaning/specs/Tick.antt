@@ -1,4 +1,5 @@
--- One tick of the machine: its start events, then one tick of the process that comes first among those that are ready.
+-- One tick of the machine: its start events, then one tick of the process that comes first among
+-- those that are ready.
 use Rattle.std.specs.Prelude.{◌+◌, ◌*◌, ◌++◌, ◌&&◌, ◌||◌, ℕ, zero, suc, Bool, true, false, ℤ, List, [], ◌∷◌, Option, Some, None, if◌then◌else◌, slice_get, slice_set, nat_lt, nat_eq, length}
 use Rattle.rte_event.specs.declared.event.Event.{Event}
 use Rattle.rte_isa.specs.declared.instr.Instr.{Instr}
@@ -56,7 +57,8 @@ pick image ts = least image 0 image.processes ts
 
 -- ---- the tick of the process that runs
 
--- the state after the tick of the process that runs, its event if it has one, and whether its instruction was stuck
+-- the state after the tick of the process that runs, its event if it has one, and whether its
+-- instruction was stuck
 pub record Ticked : Type 0 where
   pub state : State
   pub events : List Event
@@ -123,7 +125,8 @@ settle image t k p job s Stuck = record { state = s; events = []; stuck = true }
 abbrev pub at_next : Job → Job
 at_next job = record job { place = job.place + 1; done = 0 }
 
--- one tick of its instruction, whose effect comes in the last of its ticks; stuck where there is no instruction
+-- one tick of its instruction, whose effect comes in the last of its ticks; stuck where there is no
+-- instruction
 abbrev pub outcome_at : Image → State → Job → List ℤ → Option Instr → Outcome
 outcome_at image s job owned None = Stuck
 outcome_at image s job owned (Some instr) =
@@ -151,7 +154,8 @@ abbrev pub run_picked : Image → ℕ → State → Option Candidate → Ticked
 run_picked image t s None = record { state = s; events = []; stuck = false }
 run_picked image t s (Some c) = run_thread image t c.place s (slice_get image.processes c.place) (slice_get s.threads c.place)
 
--- the state after a tick, its events in order, whether its instruction was stuck, and whether there was an overrun
+-- the state after a tick, its events in order, whether its instruction was stuck, and whether there
+-- was an overrun
 pub record Passed : Type 0 where
   pub state : State
   pub events : List Event

@@ -13,7 +13,8 @@ use Rattle.rte_made.specs.declared.code.Code.{Code}
 use Rattle.rte_made.specs.Told.{fit, range_told}
 use Rattle.rte_made.specs.Made.{Out, begun, closed, expr_out, joined, push, range_out, stmts_out}
 
--- a part begins behind the code that there is; its first loop has its variable at this word of the frame
+-- a part begins behind the code that there is; its first loop has its variable at this word of the
+-- frame
 abbrev pub opened : ℕ → List Instr → Out
 opened w code = record { code = code; segs = []; from = length code; word = w }
 

@@ -4,7 +4,8 @@ use rte_isa::Instr;
 use rte_seg::Segs;
 use rte_tree::List;
 
-/// A part of the code: from the address of its first instruction to the one behind its last, with its segment tree.
+/// A part of the code: from the address of its first instruction to the one behind its last, with
+/// its segment tree.
 ///
 /// The tree leaves out what ends the part: the return of a routine, or END.
 #[derive(Debug, Drop)]
@@ -21,7 +22,8 @@ pub struct ProcessParts {
     pub handler: Option<Part>,
 }
 
-/// The code of a program: all routines and entries in the order of their numbers, then all processes in the order of the text.
+/// The code of a program: all routines and entries in the order of their numbers, then all
+/// processes in the order of the text.
 #[derive(Debug, Drop)]
 pub struct Code {
     pub instrs: List<Instr>,

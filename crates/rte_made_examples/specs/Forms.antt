@@ -9,7 +9,8 @@ use Rattle.rte_made.specs.Parts.{program_made}
 
 -- function lim(a : 0 .. 9) : int = a
 -- monitor m: var n : array 2 .. 4 of boolean, condition c; procedure e = n(3) := empty c; signal c
--- process p: var b : int; procedure idle =; for k : 1 .. 2 do exit when lim(k) = b; if b < 2 then assert true else except 7; m.e; idle
+-- process p: var b : int; procedure idle =; for k : 1 .. 2 do exit when lim(k) = b; if b < 2 then
+-- assert true else except 7; m.e; idle
 abbrev pub forms : Prog
 forms = record {
   name = codes "forms";

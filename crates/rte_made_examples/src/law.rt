@@ -16,7 +16,8 @@ pub fn the_signalled_wait_is_made()
     ensures { IsMadeAs signalled_wait (waiter_and_signaller 0 31) }
 {}
 
-/// A loop with an exit, a function, an assertion, an exception, a choice with two arms, an element and an empty condition.
+/// A loop with an exit, a function, an assertion, an exception, a choice with two arms, an element
+/// and an empty condition.
 pub fn each_other_form_is_made()
     ensures { FormsAreMade }
 {}

@@ -1,6 +1,8 @@
-//! Examples of what the generator makes: the mine pump, a wait that is signalled, and a program with each other form.
+//! Examples of what the generator makes: the mine pump, a wait that is signalled, and a program
+//! with each other form.
 //!
-//! Promised: what `rte_made` says of each program is the code that was written by hand for it, with the same addresses and trees.
+//! Promised: what `rte_made` says of each program is the code that was written by hand for it, with
+//! the same addresses and trees.
 #![tactic(auto)]
 
 mod law;

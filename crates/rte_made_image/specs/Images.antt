@@ -8,7 +8,8 @@ use Rattle.rte_whole.specs.Whole.{HasRanks}
 use Rattle.rte_compiled.specs.Image.{IsImageOf, whole}
 use Rattle.rte_checked.specs.Ready.{IsImageMade}
 
--- The law: the code of a checked program, with the ranks and ceilings that validity asks, is an image of the program.
+-- The law: the code of a checked program, with the ranks and ceilings that validity asks, is an
+-- image of the program.
 abbrev pub CheckedCodeIsAnImage : Type 0
 CheckedCodeIsAnImage = (g : Prog Place) (m : Image) → IsChecked g → IsCodeOf (plain g) m → HasRanks m → IsImageOf (whole m (plain g))
 

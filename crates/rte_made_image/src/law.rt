@@ -5,7 +5,8 @@ ghost use Rattle.rte_made_image.specs.Images.{CheckedCodeIsAnImage, CheckedImage
 use rte_checked::law::checked_programs_are_ready;
 use rte_made_ranks::law::{ceilings_are_of_the_meaning, ranks_are_of_the_meaning};
 
-/// An image that is the code of a checked program, with the ranks and ceilings that validity asks, is its image.
+/// An image that is the code of a checked program, with the ranks and ceilings that validity asks,
+/// is its image.
 pub fn checked_code_is_an_image()
     ensures { CheckedCodeIsAnImage }
 {

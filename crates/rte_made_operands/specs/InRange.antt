@@ -8,6 +8,7 @@ use Rattle.rte_wellformed.specs.WellFormed.{IsWellFormed}
 use Rattle.rte_ruled.specs.Ruled.{NamesApart}
 use Rattle.rte_areas.specs.Areas.{DevicesGoOneWay}
 
--- The law: so it is where the program is well formed, its names stand apart, and devices of one name go one way.
+-- The law: so it is where the program is well formed, its names stand apart, and devices of one
+-- name go one way.
 abbrev pub OperandsAreInRange : Type 0
 OperandsAreInRange = (g : Prog) (m : Image) → IsWellFormed g → NamesApart g → DevicesGoOneWay g → IsCodeOf g m → fault_of_part m Operands ≡ None

@@ -23,7 +23,8 @@ unfoldable pub touches : (depth : ℕ) → Prog → (monitor : ℕ) → Text →
 touches zero g j t = is_entry_of j t.owner
 touches (suc n) g j t = is_entry_of j t.owner || some_called (touches n g j) (called_text g t.owner) (routine_calls t.routine)
 
--- the body or the handler of process k comes to an entry of the monitor; calls are nested at most as deep as there are routines
+-- the body or the handler of process k comes to an entry of the monitor; calls are nested at most
+-- as deep as there are routines
 abbrev pub process_touches : Prog → (monitor k : ℕ) → Process → Bool
 process_touches g j k p = some_called (touches (routine_count g) g j) (called_text g (by_process k)) (process_calls p)
 
@@ -32,7 +33,8 @@ abbrev pub CodeEntersWhatTextsTouch : Type 0
 CodeEntersWhatTextsTouch = (g : Prog) (m : Image) → IsWellFormed g → NamesApart g → IsCodeOf g m
     → (k : ℕ) (p : Process) → slice_get (processes g) k ≡ Some p → (j : ℕ) → enters m k j ≡ process_touches g j k p
 
--- The law: a monitor is among those that a process uses just where its text comes to an entry of it.
+-- The law: a monitor is among those that a process uses just where its text comes to an entry of
+-- it.
 abbrev pub TextsUseWhatTheyTouch : Type 0
 TextsUseWhatTheyTouch = (g : Prog) → IsWellFormed g → NamesApart g
     → (k : ℕ) (p : Process) → slice_get (processes g) k ≡ Some p → (j : ℕ) → includes j (monitors_of g p) ≡ process_touches g j k p

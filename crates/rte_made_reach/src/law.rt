@@ -12,7 +12,8 @@ pub fn code_enters_what_texts_touch()
     processes_call_their_texts();
 }
 
-/// The monitors that a process uses, by the meaning of programs, are those whose entries its text comes to.
+/// The monitors that a process uses, by the meaning of programs, are those whose entries its text
+/// comes to.
 pub fn texts_use_what_they_touch()
     ensures { TextsUseWhatTheyTouch }
 {}

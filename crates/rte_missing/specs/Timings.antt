@@ -1,4 +1,5 @@
--- How the processes of a program are released, by number, and the start events that are due by that.
+-- How the processes of a program are released, by number, and the start events that are due by
+-- that.
 use Rattle.std.specs.Prelude.{◌≡◌, ℕ, suc, ◌+◌, ◌-◌, ◌%◌, ◌<◌, Bool, false, cond, ◌&&◌, List, [], ◌∷◌, ◌++◌, Option, Some, None, nat_eq, nat_le, map, slice_get, flat_map, All}
 use Rattle.rte_event.specs.declared.event.Event.{Event}
 use Rattle.rte_event.specs.declared.event.Act.TheVariants as act

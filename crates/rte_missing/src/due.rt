@@ -37,7 +37,8 @@ pub fn is_released_at(tick: u64, doing: Doing) -> bool
 
 /// Whether the release of a process at the tick has not come.
 fn is_missing(tick: u64, process: usize, jobs: &[Job<'_>]) -> bool
-    ensures { release_missing tick process (slice_get (jobs_of jobs.now) process) ≡ cond result (release_of tick process ∷ []) [] }
+    ensures { release_missing tick process (slice_get (jobs_of jobs.now) process) ≡
+        cond result (release_of tick process ∷ []) [] }
 {
     match jobs.get(process) {
         None => false,
@@ -57,7 +58,8 @@ fn is_by(timing: Timing, event: usize) -> bool
 
 /// The first process whose release by the event at the tick has not come.
 pub fn by_event(timings: &[Timing], jobs: &[Job<'_>], tick: u64, event: usize) -> Option<usize>
-    ensures { option_map (release_of tick) result ≡ first_in (released_by (jobs_of jobs.now) tick event 0 timings.now) }
+    ensures { option_map (release_of tick) result ≡
+        first_in (released_by (jobs_of jobs.now) tick event 0 timings.now) }
 {
     for (process, timing) in timings.iter().enumerate() {
         if is_by(*timing, event) && is_missing(tick, process, jobs) {
@@ -69,7 +71,8 @@ pub fn by_event(timings: &[Timing], jobs: &[Job<'_>], tick: u64, event: usize) -
 
 /// The first process whose release by a line at the tick has not come.
 fn by_lines(timings: &[Timing], jobs: &[Job<'_>], tick: u64, lines: &[ScriptLine]) -> Option<usize>
-    ensures { option_map (release_of tick) result ≡ first_in (released_in (jobs_of jobs.now) timings.now tick lines.now) }
+    ensures { option_map (release_of tick) result ≡
+        first_in (released_in (jobs_of jobs.now) timings.now tick lines.now) }
 {
     for line in lines {
         if let ScriptLine::Occur { tick: at, event } = *line {
@@ -100,7 +103,8 @@ fn is_clocked_at(tick: u64, timing: Timing) -> bool
 /// The first process whose periodic release at the tick has not come.
 fn by_clock(timings: &[Timing], jobs: &[Job<'_>], tick: u64) -> Option<usize>
     requires { FramesCount timings.now }
-    ensures { option_map (release_of tick) result ≡ first_in (clocked (jobs_of jobs.now) tick 0 timings.now) }
+    ensures { option_map (release_of tick) result ≡
+        first_in (clocked (jobs_of jobs.now) tick 0 timings.now) }
 {
     for (process, timing) in timings.iter().enumerate() {
         if is_clocked_at(tick, *timing) && is_missing(tick, process, jobs) {
@@ -119,7 +123,8 @@ fn is_over(since: u64, limit: u32, tick: u64) -> bool
 
 /// The time-out of the process, if it comes at the tick.
 fn time_out_at(tick: u64, process: usize, jobs: &[Job<'_>]) -> Option<Start>
-    ensures { option_map (event_of tick) result ≡ first_in (time_out tick process (slice_get (jobs_of jobs.now) process)) }
+    ensures { option_map (event_of tick) result ≡
+        first_in (time_out tick process (slice_get (jobs_of jobs.now) process)) }
 {
     let Doing::Waiting(wait) = jobs.get(process)?.doing else {
         return None;
@@ -137,7 +142,8 @@ fn time_out_at(tick: u64, process: usize, jobs: &[Job<'_>]) -> Option<Start>
 
 /// The first time-out at the tick, in the order of ranks.
 fn by_waits(by_rank: &[usize], jobs: &[Job<'_>], tick: u64) -> Option<Start>
-    ensures { option_map (event_of tick) result ≡ first_in (expired (jobs_of jobs.now) tick by_rank.now) }
+    ensures { option_map (event_of tick) result ≡
+        first_in (expired (jobs_of jobs.now) tick by_rank.now) }
 {
     for process in by_rank {
         if let Some(start) = time_out_at(tick, *process, jobs) {
@@ -160,7 +166,8 @@ impl Timetable {
         ghost program: { Prog }
         requires table { IsTimetableOf program self.now }
         requires frames { FramesCount self.now.timings.items }
-        ensures { (end : ℕ) → option_map (event_of tick) result ≡ first_in (due program (script_of lines.now end) (config_of config.now) tick) }
+        ensures { (end : ℕ) → option_map (event_of tick) result ≡
+            first_in (due program (script_of lines.now end) (config_of config.now) tick) }
     {
         if has_acted(config, tick) {
             return None;

@@ -31,7 +31,8 @@ impl<'a> Model for NameList<'a> {
 
 /// Keeps the index of a name, unless one is kept.
 fn keep<'a>(first: &mut Indexes<'a>, name: &'a [u8], index: usize) -> Result<(), AllocError>
-    ensures { OnOk result (first_index first.new.entries ≡ with_first (first_index first.old.entries) name.now index) }
+    ensures { OnOk result (first_index first.new.entries ≡
+        with_first (first_index first.old.entries) name.now index) }
 {
     if first.contains_key(name) {
         return Ok(());

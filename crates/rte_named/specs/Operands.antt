@@ -6,8 +6,8 @@ use Rattle.rte_machine_meaning.specs.Image.{Image}
 use Rattle.rte_safe_terms.specs.Part.{IsBelow}
 use Rattle.rte_valid.specs.Valid.{HasLimits, IsValid}
 
--- the monitor, the condition or the device that an instruction numbers is there; no limit of a wait is above 1,000,000,000, and no exception
--- number above 999
+-- the monitor, the condition or the device that an instruction numbers is there; no limit of a wait
+-- is above 1,000,000,000, and no exception number above 999
 abbrev pub IsThere : Image → Instr → Type 0
 IsThere image (i.Enter m) = IsBelow m (length image.monitors)
 IsThere image (i.Leave m) = IsBelow m (length image.monitors)

@@ -1,4 +1,5 @@
--- What the walk over a tree keeps of the names that it meets: the first rule that fails, and where each used name is declared.
+-- What the walk over a tree keeps of the names that it meets: the first rule that fails, and where
+-- each used name is declared.
 use Rattle.std.specs.Prelude.{ℕ, Bool, ◌&&◌, List, [], ◌∷◌, Option, Some, None, if◌then◌else◌, nat_eq}
 use Rattle.indexmap.specs.IndexMap.{insert_entry}
 use Rattle.rte_tree.specs.declared.place.Place.{Place}

@@ -1,5 +1,6 @@
--- The names of a program: each name that stands in the tree, with what it does there. It declares, it closes, or it is used.
--- Each definition gives the names of its part, and then `more`. Their order has no meaning: each has its place.
+-- The names of a program: each name that stands in the tree, with what it does there. It declares,
+-- it closes, or it is used. Each definition gives the names of its part, and then `more`. Their
+-- order has no meaning: each has its place.
 use Rattle.std.specs.Prelude.{Bool, false, ◌||◌, List, [], ◌∷◌, ◌++◌, map, Option, Some, None, is_some, if◌then◌else◌}
 use Rattle.rte_tree.specs.Plain.{Name}
 use Rattle.rte_tree.specs.Placed.{Constant, literal_constant, named_constant, Scalar, int, boolean, subrange, Kind, scalar, array, Var, Param, Expr, literal, truth, variable, element, call, minus, negation, paren, row, Exprs, no_exprs, exprs, Operands, no_operands, operand, Ref, whole, part, Stmt, assign, assign_entry, assign_empty, perform, perform_entry, when, when_else, loop, exit_when, get, put, wait, signal, broadcast, except, assert, Stmts, no_stmts, stmts, Routine, Member, variable_member, condition_member, Monitor, Activation, periodic, at_event, Handler, Process, Decl, constant, device, event, routine, monitor, process, Prog}
@@ -11,14 +12,16 @@ use Rattle.rte_names.specs.declared.kind.Want.TheVariants as want_is
 use Rattle.rte_tree.specs.Parts.{same_place}
 use Rattle.rte_names.specs.Reach.{Names, Reach, first, or_else, Site, inside, inside_monitor, through}
 
--- a name that is declared, and whether the same name is in reach there already; a name that closes, and the name that it has
--- to repeat; or a name that is used, with what it is used as and what it means there
+-- a name that is declared, and whether the same name is in reach there already; a name that closes,
+-- and the name that it has to repeat; or a name that is used, with what it is used as and what it
+-- means there
 pub data Occurrence : Type 0 where
   declares : Name → Place → (taken : Bool) → Occurrence
   closes : Name → Place → (opening : Name) → Occurrence
   used : Name → Place → Want → (means : Option Declared) → Occurrence
 
--- where a name that is used at the place is declared, as far as these names tell; a later one counts before an earlier one
+-- where a name that is used at the place is declared, as far as these names tell; a later one
+-- counts before an earlier one
 abbrev pub declared_at : List Occurrence → Place → Option Place
 declared_at [] p = None
 declared_at (declares name q taken ∷ os) p = declared_at os p
@@ -30,8 +33,8 @@ declared_at (used name q want (Some d) ∷ os) p = or_else (declared_at os p) (i
 abbrev pub uses : Site → Name → Place → Want → Occurrence
 uses here name place want = used name place want (here.means name)
 
--- the names of one scope, those before it in the scope being `earlier`: each is taken where it is in reach from outside, or
--- is declared earlier in the scope
+-- the names of one scope, those before it in the scope being `earlier`: each is taken where it is
+-- in reach from outside, or is declared earlier in the scope
 abbrev pub declarations : (outside : Reach) → (earlier : Names) → Names → List Occurrence → List Occurrence
 declarations outside earlier [] more = more
 declarations outside earlier (d ∷ ds) more = declares d.0 d.1.place (is_some (first earlier d.0) || is_some (outside d.0)) ∷ declarations outside (earlier ++ d ∷ []) ds more
@@ -232,8 +235,8 @@ inner_names here (routine r) more = routine_names here r more
 inner_names here (monitor m) more = monitor_names here m more
 inner_names here (process p) more = process_names here p more
 
--- the names of declarations, those before them being `earlier`. In each reach all names that stand before it, and of those
--- from it on all but constants.
+-- the names of declarations, those before them being `earlier`. In each reach all names that stand
+-- before it, and of those from it on all but constants.
 abbrev pub decls_names : (members : Place → Reach) → (earlier : Names) → List (Decl Place) → List Occurrence → List Occurrence
 decls_names members earlier [] more = more
 decls_names members earlier (d ∷ ds) more = let here : Site = record { means = first (earlier ++ others (d ∷ ds)); members = members } in

@@ -13,7 +13,8 @@ use Rattle.rte_names.specs.declared.kind.Want.TheVariants as want_is
 abbrev pub same : Name → Name → Bool
 same = pointwise nat_eq
 
--- the declarations of one scope, in the order of the text: each name with where and as what it is declared
+-- the declarations of one scope, in the order of the text: each name with where and as what it is
+-- declared
 abbrev pub Names : Type 0
 Names = List (Name × Declared)
 
@@ -37,8 +38,8 @@ or_else None other = other
 abbrev pub within : Reach → Reach → Reach
 within inner outer name = or_else (inner name) (outer name)
 
--- what is in reach where a name stands: what names mean, and what they mean as members of the monitor whose name stands at
--- a place
+-- what is in reach where a name stands: what names mean, and what they mean as members of the
+-- monitor whose name stands at a place
 pub record Site : Type 0 where
   pub means : Reach
   pub members : Place → Reach
@@ -47,7 +48,8 @@ pub record Site : Type 0 where
 abbrev pub inside : Names → Site → Site
 inside scope outer = record { means = within (first scope) outer.means; members = outer.members }
 
--- inside the monitor at this place each of its names counts as its member, elsewhere those are that the site around gives
+-- inside the monitor at this place each of its names counts as its member, elsewhere those are that
+-- the site around gives
 abbrev pub inside_monitor : Place → Names → Site → Site
 inside_monitor place scope outer = record {
   means = within (first scope) outer.means;

@@ -1,4 +1,5 @@
--- A program whose names are resolved: it was read from a text, no rule fails, and for the place of each use it is known where the name is declared.
+-- A program whose names are resolved: it was read from a text, no rule fails, and for the place of
+-- each use it is known where the name is declared.
 use Rattle.std.specs.Prelude.{◌≡◌, ℕ, List, Some, None}
 use Rattle.std.specs.Map.{lookup}
 use Rattle.rte_lex.specs.declared.token.Token.{Token}

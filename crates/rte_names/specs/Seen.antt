@@ -103,7 +103,8 @@ site a loops = record {
 abbrev pub AroundValue : Type 0
 AroundValue = Around
 
--- With what is noted in f and the scope s, the names ds are to be declared; with g and t, es are left of them.
+-- With what is noted in f and the scope s, the names ds are to be declared; with g and t, es are
+-- left of them.
 pub record Scoped (outside : Reach) (f : Found) (s : Reach) (ds : Names) (g : Found) (t : Reach) (es : Names) : Type 0 where
   pub notes : (rest : Names) (more : List Occurrence) → noted g (declared_after outside t (es ++ rest) more) ≡ noted f (declared_after outside s (ds ++ rest) more)
   pub scope : (rest : Names) → add_all t (es ++ rest) ≡ add_all s (ds ++ rest)
@@ -112,8 +113,8 @@ pub record Scoped (outside : Reach) (f : Found) (s : Reach) (ds : Names) (g : Fo
 abbrev pub put : Reach → Name × Declared → Reach
 put reach d name = if same name d.0 then Some d.1 else reach name
 
--- With f noted, the program's names being in the map p and those before in the map s, the declarations ds are to be gone
--- through; with g, q and t, es are left of them.
+-- With f noted, the program's names being in the map p and those before in the map s, the
+-- declarations ds are to be gone through; with g, q and t, es are left of them.
 pub record Next (members : Place → Reach) (f : Found) (p s : Reach) (ds : List (Decl Place)) (g : Found) (q t : Reach) (es : List (Decl Place)) : Type 0 where
   pub notes : (more : List Occurrence) → noted g (decls_after members t es more) ≡ noted f (decls_after members s ds more)
   pub scope : q ≡ add_all t (others es)

@@ -73,7 +73,8 @@ impl<'s, 'a> Outer<'s, 'a> {
 impl<'s, 'a> Around<'s, 'a> {
     /// What a name means that is no loop variable.
     fn outside_loops(&self, name: &[u8]) -> Option<Declared>
-        ensures { result ≡ or_else (meaning_in self.now.locals name.now) ((outer_site self.now.outer).means name.now) }
+        ensures { result ≡ or_else (meaning_in self.now.locals name.now)
+            ((outer_site self.now.outer).means name.now) }
     {
         match find_in(self.locals, name) {
             Some(declared) => Some(declared),
@@ -114,7 +115,8 @@ impl<'s, 'a> Around<'s, 'a> {
         place: Place,
         want: Want,
     ) -> Result<(), AllocError>
-        ensures { OnOk result (findings.new ≡ note findings.old (uses (site self.now loops.now) name.now place want)) }
+        ensures { OnOk result (findings.new ≡
+            note findings.old (uses (site self.now loops.now) name.now place want)) }
     {
         findings.use_name(place, want, self.means(loops, name.as_bytes()))
     }
@@ -127,7 +129,9 @@ impl<'s, 'a> Around<'s, 'a> {
         monitor: (&Name, Place),
         entry: (&Name, Place),
     ) -> Result<(), AllocError>
-        ensures { OnOk result ((more : List Occurrence) → noted findings.new more ≡ noted findings.old (entry_names (site self.now loops.now) monitor.entry.0.now monitor.entry.1 entry.entry.0.now entry.entry.1 more)) }
+        ensures { OnOk result ((more : List Occurrence) → noted findings.new more ≡
+            noted findings.old (entry_names (site self.now loops.now) monitor.entry.0.now
+            monitor.entry.1 entry.entry.0.now entry.entry.1 more)) }
     {
         self.use_name(findings, loops, monitor.0, monitor.1, Want::Monitor)?;
         let member = self.member(loops, monitor.0.as_bytes(), entry.0.as_bytes());

@@ -20,7 +20,9 @@ fn declare<'a>(
     name: &'a Name,
     declared: Declared,
 ) -> Result<(), AllocError>
-    ensures { OnOk result (Scoped (outer_site outer.now).means findings.old (meaning scope.old.entries) ((name.now, declared) ∷ []) findings.new (meaning scope.new.entries) []) }
+    ensures { OnOk result (Scoped (outer_site outer.now).means findings.old
+        (meaning scope.old.entries) ((name.now, declared) ∷ []) findings.new
+        (meaning scope.new.entries) []) }
 {
     let taken = find(scope, name.as_bytes()).is_some() || outer.means(name.as_bytes()).is_some();
     findings.declare(declared.place, taken);
@@ -34,7 +36,9 @@ fn params<'a>(
     outer: &Outer<'_, 'a>,
     list: &'a [Param],
 ) -> Result<(), AllocError>
-    ensures { OnOk result (Scoped (outer_site outer.now).means findings.old (meaning scope.old.entries) (map param_name (map placed_param list.now)) findings.new (meaning scope.new.entries) []) }
+    ensures { OnOk result (Scoped (outer_site outer.now).means findings.old
+        (meaning scope.old.entries) (map param_name (map placed_param list.now)) findings.new
+        (meaning scope.new.entries) []) }
 {
     for param in list {
         let declared = Declared {
@@ -52,7 +56,9 @@ fn vars<'a>(
     outer: &Outer<'_, 'a>,
     list: &'a [Var],
 ) -> Result<(), AllocError>
-    ensures { OnOk result (Scoped (outer_site outer.now).means findings.old (meaning scope.old.entries) (map var_name (map placed_var list.now)) findings.new (meaning scope.new.entries) []) }
+    ensures { OnOk result (Scoped (outer_site outer.now).means findings.old
+        (meaning scope.old.entries) (map var_name (map placed_var list.now)) findings.new
+        (meaning scope.new.entries) []) }
 {
     for var in list {
         let declared = Declared {
@@ -70,7 +76,9 @@ fn member<'a>(
     outer: &Outer<'_, 'a>,
     member: &'a Member,
 ) -> Result<(), AllocError>
-    ensures { OnOk result (Scoped (outer_site outer.now).means findings.old (meaning scope.old.entries) (member_name (placed_member member.now) ∷ []) findings.new (meaning scope.new.entries) []) }
+    ensures { OnOk result (Scoped (outer_site outer.now).means findings.old
+        (meaning scope.old.entries) (member_name (placed_member member.now) ∷ []) findings.new
+        (meaning scope.new.entries) []) }
 {
     match member {
         Member::Var(var) => {
@@ -97,7 +105,9 @@ fn members<'a>(
     outer: &Outer<'_, 'a>,
     list: &'a [Member],
 ) -> Result<(), AllocError>
-    ensures { OnOk result (Scoped (outer_site outer.now).means findings.old (meaning scope.old.entries) (map member_name (map placed_member list.now)) findings.new (meaning scope.new.entries) []) }
+    ensures { OnOk result (Scoped (outer_site outer.now).means findings.old
+        (meaning scope.old.entries) (map member_name (map placed_member list.now)) findings.new
+        (meaning scope.new.entries) []) }
 {
     for one in list {
         member(findings, scope, outer, one)?;
@@ -111,7 +121,9 @@ fn entries<'a>(
     outer: &Outer<'_, 'a>,
     list: &'a [Routine],
 ) -> Result<(), AllocError>
-    ensures { OnOk result (Scoped (outer_site outer.now).means findings.old (meaning scope.old.entries) (map name_of_entry (map placed_routine list.now)) findings.new (meaning scope.new.entries) []) }
+    ensures { OnOk result (Scoped (outer_site outer.now).means findings.old
+        (meaning scope.old.entries) (map name_of_entry (map placed_routine list.now)) findings.new
+        (meaning scope.new.entries) []) }
 {
     for entry in list {
         let declared = Declared {
@@ -129,7 +141,9 @@ fn routines<'a>(
     outer: &Outer<'_, 'a>,
     list: &'a [Routine],
 ) -> Result<(), AllocError>
-    ensures { OnOk result (Scoped (outer_site outer.now).means findings.old (meaning scope.old.entries) (map name_of_routine (map placed_routine list.now)) findings.new (meaning scope.new.entries) []) }
+    ensures { OnOk result (Scoped (outer_site outer.now).means findings.old
+        (meaning scope.old.entries) (map name_of_routine (map placed_routine list.now)) findings.new
+        (meaning scope.new.entries) []) }
 {
     for routine in list {
         let declared = Declared {
@@ -148,7 +162,9 @@ pub fn routine<'a>(
     outer: &Outer<'_, 'a>,
     routine: &'a Routine,
 ) -> Result<(), AllocError>
-    ensures { OnOk result (Scoped (outer_site outer.now).means findings.old (meaning scope.old.entries) (routine_scope (placed_routine routine.now)) findings.new (meaning scope.new.entries) []) }
+    ensures { OnOk result (Scoped (outer_site outer.now).means findings.old
+        (meaning scope.old.entries) (routine_scope (placed_routine routine.now)) findings.new
+        (meaning scope.new.entries) []) }
 {
     params(findings, scope, outer, routine.params.as_slice())?;
     vars(findings, scope, outer, routine.vars.as_slice())?;
@@ -162,7 +178,8 @@ pub fn monitor<'a>(
     top: &Top<'_, 'a>,
     monitor: &'a Mon,
 ) -> Result<(), AllocError>
-    ensures { OnOk result (Scoped (top_site top.now).means findings.old (meaning scope.old.entries) (monitor_scope (placed_monitor monitor.now)) findings.new (meaning scope.new.entries) []) }
+    ensures { OnOk result (Scoped (top_site top.now).means findings.old (meaning scope.old.entries)
+        (monitor_scope (placed_monitor monitor.now)) findings.new (meaning scope.new.entries) []) }
 {
     let outer = top.outside();
     members(findings, scope, &outer, monitor.members.as_slice())?;
@@ -177,7 +194,8 @@ pub fn process<'a>(
     top: &Top<'_, 'a>,
     process: &'a Proc,
 ) -> Result<(), AllocError>
-    ensures { OnOk result (Scoped (top_site top.now).means findings.old (meaning scope.old.entries) (process_scope (placed_process process.now)) findings.new (meaning scope.new.entries) []) }
+    ensures { OnOk result (Scoped (top_site top.now).means findings.old (meaning scope.old.entries)
+        (process_scope (placed_process process.now)) findings.new (meaning scope.new.entries) []) }
 {
     let outer = top.outside();
     vars(findings, scope, &outer, process.vars.as_slice())?;

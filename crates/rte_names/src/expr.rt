@@ -19,7 +19,9 @@ pub fn constant<'a>(
     loops: &[Local<'a>],
     constant: &Constant,
 ) -> Result<(), AllocError>
-    ensures { OnOk result ((more : List Occurrence) → noted findings.new more ≡ noted findings.old (constant_names (site around.now loops.now) (placed_constant constant.now) more)) }
+    ensures { OnOk result ((more : List Occurrence) → noted findings.new more ≡
+        noted findings.old (constant_names (site around.now loops.now)
+        (placed_constant constant.now) more)) }
 {
     if let Value::Name(name) = &constant.value {
         around.use_name(findings, loops, name, constant.value_place, Want::Constant)?;
@@ -33,7 +35,9 @@ pub fn scalar<'a>(
     loops: &[Local<'a>],
     kind: &Scalar,
 ) -> Result<(), AllocError>
-    ensures { OnOk result ((more : List Occurrence) → noted findings.new more ≡ noted findings.old (scalar_names (site around.now loops.now) (placed_scalar kind.now) more)) }
+    ensures { OnOk result ((more : List Occurrence) → noted findings.new more ≡
+        noted findings.old (scalar_names (site around.now loops.now)
+        (placed_scalar kind.now) more)) }
 {
     if let Scalar::Subrange { low, high } = kind {
         constant(findings, around, loops, low)?;
@@ -48,7 +52,8 @@ pub fn kind<'a>(
     loops: &[Local<'a>],
     kind: &Type,
 ) -> Result<(), AllocError>
-    ensures { OnOk result ((more : List Occurrence) → noted findings.new more ≡ noted findings.old (kind_names (site around.now loops.now) (placed_kind kind.now) more)) }
+    ensures { OnOk result ((more : List Occurrence) → noted findings.new more ≡
+        noted findings.old (kind_names (site around.now loops.now) (placed_kind kind.now) more)) }
 {
     match kind {
         Type::Scalar(kind) => scalar(findings, around, loops, kind)?,
@@ -67,7 +72,8 @@ pub fn expr<'a>(
     loops: &[Local<'a>],
     e: &Expr,
 ) -> Result<(), AllocError>
-    ensures { OnOk result ((more : List Occurrence) → noted findings.new more ≡ noted findings.old (expr_names (site around.now loops.now) (placed_expr e.now) more)) }
+    ensures { OnOk result ((more : List Occurrence) → noted findings.new more ≡
+        noted findings.old (expr_names (site around.now loops.now) (placed_expr e.now) more)) }
 {
     match e {
         Expr::Literal { .. } | Expr::True { .. } | Expr::False { .. } => Ok(()),
@@ -111,7 +117,8 @@ pub fn exprs<'a>(
     loops: &[Local<'a>],
     list: &[Expr],
 ) -> Result<(), AllocError>
-    ensures { OnOk result ((more : List Occurrence) → noted findings.new more ≡ noted findings.old (exprs_names (site around.now loops.now) (placed_exprs list.now) more)) }
+    ensures { OnOk result ((more : List Occurrence) → noted findings.new more ≡
+        noted findings.old (exprs_names (site around.now loops.now) (placed_exprs list.now) more)) }
 {
     for e in list {
         expr(findings, around, loops, e)?;
@@ -126,7 +133,8 @@ pub fn target<'a>(
     loops: &[Local<'a>],
     target: &Ref,
 ) -> Result<(), AllocError>
-    ensures { OnOk result ((more : List Occurrence) → noted findings.new more ≡ noted findings.old (ref_names (site around.now loops.now) (placed_ref target.now) more)) }
+    ensures { OnOk result ((more : List Occurrence) → noted findings.new more ≡
+        noted findings.old (ref_names (site around.now loops.now) (placed_ref target.now) more)) }
 {
     around.use_name(findings, loops, &target.name, target.place, Want::Target)?;
     if let Some(index) = &target.index {

@@ -23,7 +23,8 @@ fn params<'a>(
     around: &Around<'_, 'a>,
     list: &[Param],
 ) -> Result<(), AllocError>
-    ensures { OnOk result ((more : List Occurrence) → noted findings.new more ≡ noted findings.old (params_names (site around.now []) (map placed_param list.now) more)) }
+    ensures { OnOk result ((more : List Occurrence) → noted findings.new more ≡
+        noted findings.old (params_names (site around.now []) (map placed_param list.now) more)) }
 {
     for param in list {
         scalar(findings, around, &[], &param.kind)?;
@@ -36,7 +37,8 @@ fn vars<'a>(
     around: &Around<'_, 'a>,
     list: &[Var],
 ) -> Result<(), AllocError>
-    ensures { OnOk result ((more : List Occurrence) → noted findings.new more ≡ noted findings.old (vars_names (site around.now []) (map placed_var list.now) more)) }
+    ensures { OnOk result ((more : List Occurrence) → noted findings.new more ≡
+        noted findings.old (vars_names (site around.now []) (map placed_var list.now) more)) }
 {
     for var in list {
         kind(findings, around, &[], &var.kind)?;
@@ -49,7 +51,8 @@ fn member<'a>(
     around: &Around<'_, 'a>,
     member: &Member,
 ) -> Result<(), AllocError>
-    ensures { OnOk result ((more : List Occurrence) → noted findings.new more ≡ noted findings.old (member_inner (site around.now []) (placed_member member.now) more)) }
+    ensures { OnOk result ((more : List Occurrence) → noted findings.new more ≡
+        noted findings.old (member_inner (site around.now []) (placed_member member.now) more)) }
 {
     if let Member::Var(var) = member {
         kind(findings, around, &[], &var.kind)?;
@@ -62,7 +65,8 @@ fn members<'a>(
     around: &Around<'_, 'a>,
     list: &[Member],
 ) -> Result<(), AllocError>
-    ensures { OnOk result ((more : List Occurrence) → noted findings.new more ≡ noted findings.old (members_names (site around.now []) (map placed_member list.now) more)) }
+    ensures { OnOk result ((more : List Occurrence) → noted findings.new more ≡
+        noted findings.old (members_names (site around.now []) (map placed_member list.now) more)) }
 {
     for one in list {
         member(findings, around, one)?;
@@ -75,7 +79,9 @@ fn constants<'a>(
     around: &Around<'_, 'a>,
     list: &[Constant],
 ) -> Result<(), AllocError>
-    ensures { OnOk result ((more : List Occurrence) → noted findings.new more ≡ noted findings.old (constants_names (site around.now []) (map placed_constant list.now) more)) }
+    ensures { OnOk result ((more : List Occurrence) → noted findings.new more ≡
+        noted findings.old (constants_names (site around.now [])
+        (map placed_constant list.now) more)) }
 {
     for number in list {
         constant(findings, around, &[], number)?;
@@ -89,7 +95,9 @@ fn result<'a>(
     around: &Around<'_, 'a>,
     kind: &Option<Scalar>,
 ) -> Result<(), AllocError>
-    ensures { OnOk result ((more : List Occurrence) → noted findings.new more ≡ noted findings.old (optional_names (scalar_names (site around.now [])) (optional placed_scalar kind.now) more)) }
+    ensures { OnOk result ((more : List Occurrence) → noted findings.new more ≡
+        noted findings.old (optional_names (scalar_names (site around.now []))
+        (optional placed_scalar kind.now) more)) }
 {
     if let Some(kind) = kind {
         scalar(findings, around, &[], kind)?;
@@ -103,7 +111,9 @@ fn value<'a>(
     around: &Around<'_, 'a>,
     value: &Option<Expr>,
 ) -> Result<(), AllocError>
-    ensures { OnOk result ((more : List Occurrence) → noted findings.new more ≡ noted findings.old (optional_names (expr_names (site around.now [])) (optional placed_expr value.now) more)) }
+    ensures { OnOk result ((more : List Occurrence) → noted findings.new more ≡
+        noted findings.old (optional_names (expr_names (site around.now []))
+        (optional placed_expr value.now) more)) }
 {
     if let Some(value) = value {
         expr(findings, around, &[], value)?;
@@ -118,7 +128,8 @@ fn routine_parts<'a>(
     around: &Around<'_, 'a>,
     routine: &'a Routine,
 ) -> Result<(), AllocError>
-    ensures { OnOk result ((more : List Occurrence) → noted findings.new more ≡ noted findings.old (routine_inner (site around.now []) (placed_routine routine.now) more)) }
+    ensures { OnOk result ((more : List Occurrence) → noted findings.new more ≡
+        noted findings.old (routine_inner (site around.now []) (placed_routine routine.now) more)) }
 {
     let mut loops = Vec::new(alloc);
     params(findings, around, routine.params.as_slice())?;
@@ -136,7 +147,9 @@ fn routine<'a>(
     outer: &Outer<'_, 'a>,
     routine: &'a Routine,
 ) -> Result<(), AllocError>
-    ensures { OnOk result ((more : List Occurrence) → noted findings.new more ≡ noted findings.old (routine_names (outer_site outer.now) (placed_routine routine.now) more)) }
+    ensures { OnOk result ((more : List Occurrence) → noted findings.new more ≡
+        noted findings.old (routine_names (outer_site outer.now)
+        (placed_routine routine.now) more)) }
 {
     let mut locals = Scope::new(alloc);
     declare::routine(findings, &mut locals, outer, routine)?;
@@ -154,7 +167,9 @@ fn routines<'a>(
     outer: &Outer<'_, 'a>,
     list: &'a [Routine],
 ) -> Result<(), AllocError>
-    ensures { OnOk result ((more : List Occurrence) → noted findings.new more ≡ noted findings.old (routines_names (outer_site outer.now) (map placed_routine list.now) more)) }
+    ensures { OnOk result ((more : List Occurrence) → noted findings.new more ≡
+        noted findings.old (routines_names (outer_site outer.now)
+        (map placed_routine list.now) more)) }
 {
     for one in list {
         routine(alloc, findings, outer, one)?;
@@ -169,7 +184,9 @@ fn monitor_parts<'a>(
     outer: &Outer<'_, 'a>,
     monitor: &'a Mon,
 ) -> Result<(), AllocError>
-    ensures { OnOk result ((more : List Occurrence) → noted findings.new more ≡ noted findings.old (monitor_inner (outer_site outer.now) (placed_monitor monitor.now) more)) }
+    ensures { OnOk result ((more : List Occurrence) → noted findings.new more ≡
+        noted findings.old (monitor_inner (outer_site outer.now)
+        (placed_monitor monitor.now) more)) }
 {
     let around = outer.around();
     members(findings, &around, monitor.members.as_slice())?;
@@ -184,7 +201,8 @@ fn monitor<'a>(
     top: &Top<'_, 'a>,
     monitor: &'a Mon,
 ) -> Result<(), AllocError>
-    ensures { OnOk result ((more : List Occurrence) → noted findings.new more ≡ noted findings.old (monitor_names (top_site top.now) (placed_monitor monitor.now) more)) }
+    ensures { OnOk result ((more : List Occurrence) → noted findings.new more ≡
+        noted findings.old (monitor_names (top_site top.now) (placed_monitor monitor.now) more)) }
 {
     let mut names = Scope::new(alloc);
     declare::monitor(findings, &mut names, top, monitor)?;
@@ -203,7 +221,9 @@ fn limit<'a>(
     around: &Around<'_, 'a>,
     limit: &Option<Constant>,
 ) -> Result<(), AllocError>
-    ensures { OnOk result ((more : List Occurrence) → noted findings.new more ≡ noted findings.old (optional_names (constant_names (site around.now [])) (optional placed_constant limit.now) more)) }
+    ensures { OnOk result ((more : List Occurrence) → noted findings.new more ≡
+        noted findings.old (optional_names (constant_names (site around.now []))
+        (optional placed_constant limit.now) more)) }
 {
     if let Some(limit) = limit {
         constant(findings, around, &[], limit)?;
@@ -216,7 +236,9 @@ fn activation<'a>(
     around: &Around<'_, 'a>,
     activation: &Activation,
 ) -> Result<(), AllocError>
-    ensures { OnOk result ((more : List Occurrence) → noted findings.new more ≡ noted findings.old (activation_names (site around.now []) (placed_activation activation.now) more)) }
+    ensures { OnOk result ((more : List Occurrence) → noted findings.new more ≡
+        noted findings.old (activation_names (site around.now [])
+        (placed_activation activation.now) more)) }
 {
     match activation {
         Activation::Periodic {
@@ -248,7 +270,9 @@ fn handler<'a>(
     around: &Around<'_, 'a>,
     handler: &'a Option<Handler>,
 ) -> Result<(), AllocError>
-    ensures { OnOk result ((more : List Occurrence) → noted findings.new more ≡ noted findings.old (optional_names (handler_names (site around.now [])) (optional placed_handler handler.now) more)) }
+    ensures { OnOk result ((more : List Occurrence) → noted findings.new more ≡
+        noted findings.old (optional_names (handler_names (site around.now []))
+        (optional placed_handler handler.now) more)) }
 {
     if let Some(handler) = handler {
         let mut loops = Vec::new(alloc);
@@ -265,7 +289,9 @@ fn process_parts<'a>(
     outer: &Outer<'_, 'a>,
     process: &'a Proc,
 ) -> Result<(), AllocError>
-    ensures { OnOk result ((more : List Occurrence) → noted findings.new more ≡ noted findings.old (process_inner (outer_site outer.now) (placed_process process.now) more)) }
+    ensures { OnOk result ((more : List Occurrence) → noted findings.new more ≡
+        noted findings.old (process_inner (outer_site outer.now)
+        (placed_process process.now) more)) }
 {
     let mut loops = Vec::new(alloc);
     let around = outer.around();
@@ -284,7 +310,8 @@ fn process<'a>(
     top: &Top<'_, 'a>,
     process: &'a Proc,
 ) -> Result<(), AllocError>
-    ensures { OnOk result ((more : List Occurrence) → noted findings.new more ≡ noted findings.old (process_names (top_site top.now) (placed_process process.now) more)) }
+    ensures { OnOk result ((more : List Occurrence) → noted findings.new more ≡
+        noted findings.old (process_names (top_site top.now) (placed_process process.now) more)) }
 {
     let mut names = Scope::new(alloc);
     declare::process(findings, &mut names, top, process)?;
@@ -304,7 +331,8 @@ pub fn decl<'a>(
     top: &Top<'_, 'a>,
     decl: &'a Decl,
 ) -> Result<(), AllocError>
-    ensures { OnOk result ((more : List Occurrence) → noted findings.new more ≡ noted findings.old (inner_names (top_site top.now) (placed_decl decl.now) more)) }
+    ensures { OnOk result ((more : List Occurrence) → noted findings.new more ≡
+        noted findings.old (inner_names (top_site top.now) (placed_decl decl.now) more)) }
 {
     match decl {
         Decl::Const { value, .. } => {

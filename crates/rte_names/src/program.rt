@@ -59,7 +59,8 @@ fn name_of(decl: &Decl) -> &[u8]
 
 /// Declares a name, in place of what the scope has.
 fn set<'a>(scope: &mut Scope<'a>, name: &'a [u8], declared: Declared) -> Result<(), AllocError>
-    ensures { OnOk result (meaning scope.new.entries ≡ put (meaning scope.old.entries) (name.now, declared)) }
+    ensures { OnOk result (meaning scope.new.entries ≡
+        put (meaning scope.old.entries) (name.now, declared)) }
 {
     scope.insert(name, declared)?;
     Ok(())
@@ -67,7 +68,8 @@ fn set<'a>(scope: &mut Scope<'a>, name: &'a [u8], declared: Declared) -> Result<
 
 /// Declares what is no constant.
 fn other<'a>(scope: &mut Scope<'a>, decl: &'a Decl) -> Result<(), AllocError>
-    ensures { OnOk result (meaning scope.new.entries ≡ add_all (meaning scope.old.entries) (others_of (placed_decl decl.now ∷ []))) }
+    ensures { OnOk result (meaning scope.new.entries ≡
+        add_all (meaning scope.old.entries) (others_of (placed_decl decl.now ∷ []))) }
 {
     let declared = Declared {
         place: place_of(decl),
@@ -95,7 +97,8 @@ fn other<'a>(scope: &mut Scope<'a>, decl: &'a Decl) -> Result<(), AllocError>
 }
 
 fn others<'a>(scope: &mut Scope<'a>, list: &'a [Decl]) -> Result<(), AllocError>
-    ensures { OnOk result (meaning scope.new.entries ≡ add_all (meaning scope.old.entries) (others_of (map placed_decl list.now))) }
+    ensures { OnOk result (meaning scope.new.entries ≡
+        add_all (meaning scope.old.entries) (others_of (map placed_decl list.now))) }
 {
     for one in list {
         other(scope, one)?;
@@ -109,7 +112,9 @@ fn entries<'a>(
     monitor: Place,
     list: &'a [Routine],
 ) -> Result<(), AllocError>
-    ensures { OnOk result (entry_meaning entries.new.entries ≡ add_entries (entry_meaning entries.old.entries) monitor (map entry_name (map placed_routine list.now))) }
+    ensures { OnOk result (entry_meaning entries.new.entries ≡
+        add_entries (entry_meaning entries.old.entries) monitor
+        (map entry_name (map placed_routine list.now))) }
 {
     for entry in list {
         let declared = Declared {
@@ -123,7 +128,8 @@ fn entries<'a>(
 
 /// The entries of a declaration, where it is a monitor.
 fn monitor<'a>(all: &mut Entries<'a>, decl: &'a Decl) -> Result<(), AllocError>
-    ensures { OnOk result (entry_meaning all.new.entries ≡ add_monitors (entry_meaning all.old.entries) (placed_decl decl.now ∷ [])) }
+    ensures { OnOk result (entry_meaning all.new.entries ≡
+        add_monitors (entry_meaning all.old.entries) (placed_decl decl.now ∷ [])) }
 {
     if let Decl::Mon(monitor) = decl {
         entries(all, monitor.place, monitor.entries.as_slice())?;
@@ -132,7 +138,8 @@ fn monitor<'a>(all: &mut Entries<'a>, decl: &'a Decl) -> Result<(), AllocError>
 }
 
 fn monitors<'a>(all: &mut Entries<'a>, list: &'a [Decl]) -> Result<(), AllocError>
-    ensures { OnOk result (entry_meaning all.new.entries ≡ add_monitors (entry_meaning all.old.entries) (map placed_decl list.now)) }
+    ensures { OnOk result (entry_meaning all.new.entries ≡
+        add_monitors (entry_meaning all.old.entries) (map placed_decl list.now)) }
 {
     for one in list {
         monitor(all, one)?;
@@ -142,7 +149,10 @@ fn monitors<'a>(all: &mut Entries<'a>, list: &'a [Decl]) -> Result<(), AllocErro
 
 /// A constant reaches from here on, before what is declared later.
 fn reveal<'a>(program: &mut Scope<'a>, seen: &Scope<'a>, decl: &'a Decl) -> Result<(), AllocError>
-    ensures { OnOk result ((rest : List (PlacedDecl SpecPlace)) → meaning program.old.entries ≡ add_all (meaning seen.now.entries) (others_of (placed_decl decl.now ∷ rest)) → meaning program.new.entries ≡ add_all (added (meaning seen.now.entries) (decl_name (placed_decl decl.now))) (others_of rest)) }
+    ensures { OnOk result ((rest : List (PlacedDecl SpecPlace)) → meaning program.old.entries ≡
+        add_all (meaning seen.now.entries) (others_of (placed_decl decl.now ∷ rest)) →
+        meaning program.new.entries ≡ add_all
+        (added (meaning seen.now.entries) (decl_name (placed_decl decl.now))) (others_of rest)) }
 {
     if let Decl::Const { name, place, .. } = decl {
         if find(seen, name.as_bytes()).is_some() {
@@ -167,7 +177,10 @@ fn next<'a>(
     entries: &Entries<'a>,
     one: &'a Decl,
 ) -> Result<(), AllocError>
-    ensures { OnOk result ((rest : List (PlacedDecl SpecPlace)) → IsNext (entry_meaning entries.now.entries) findings.old (meaning program.old.entries) (meaning seen.old.entries) (placed_decl one.now ∷ rest) findings.new (meaning program.new.entries) (meaning seen.new.entries) rest) }
+    ensures { OnOk result ((rest : List (PlacedDecl SpecPlace)) →
+        IsNext (entry_meaning entries.now.entries) findings.old (meaning program.old.entries)
+        (meaning seen.old.entries) (placed_decl one.now ∷ rest) findings.new
+        (meaning program.new.entries) (meaning seen.new.entries) rest) }
 {
     let declared = Declared {
         place: place_of(one),
@@ -189,7 +202,10 @@ fn decls<'a>(
     entries: &Entries<'a>,
     list: &'a [Decl],
 ) -> Result<(), AllocError>
-    ensures { OnOk result (IsNext (entry_meaning entries.now.entries) findings.old (meaning program.old.entries) (meaning seen.old.entries) (map placed_decl list.now) findings.new (meaning program.new.entries) (meaning seen.new.entries) []) }
+    ensures { OnOk result (IsNext (entry_meaning entries.now.entries) findings.old
+        (meaning program.old.entries) (meaning seen.old.entries)
+        (map placed_decl list.now) findings.new (meaning program.new.entries)
+        (meaning seen.new.entries) []) }
 {
     for one in list {
         next(alloc, findings, program, seen, entries, one)?;
@@ -203,8 +219,11 @@ fn start<'a>(
     seen: &mut Scope<'a>,
     program: &'a Prog,
 ) -> Result<(), AllocError>
-    ensures names { OnOk result (meaning names.new.entries ≡ add_all (added (meaning names.old.entries) (program_name (placed program.now))) (others_of (placed program.now).decls)) }
-    ensures seen { OnOk result (meaning seen.new.entries ≡ added (meaning seen.old.entries) (program_name (placed program.now))) }
+    ensures names { OnOk result (meaning names.new.entries ≡
+        add_all (added (meaning names.old.entries) (program_name (placed program.now)))
+        (others_of (placed program.now).decls)) }
+    ensures seen { OnOk result (meaning seen.new.entries ≡
+        added (meaning seen.old.entries) (program_name (placed program.now))) }
 {
     let own = Declared {
         place: program.place,
@@ -223,7 +242,10 @@ fn body<'a>(
     entries: &Entries<'a>,
     program: &'a Prog,
 ) -> Result<(), AllocError>
-    ensures { let g = placed program.now in OnOk result ((more : List Occurrence) → noted findings.new more ≡ noted findings.old (decls_names (entry_meaning entries.now.entries) (program_name g ∷ []) g.decls more)) }
+    ensures { let g = placed program.now in OnOk result
+        ((more : List Occurrence) → noted findings.new more ≡
+        noted findings.old (decls_names (entry_meaning entries.now.entries)
+        (program_name g ∷ []) g.decls more)) }
 {
     let mut names = Scope::new(alloc);
     let mut seen = Scope::new(alloc);
@@ -241,7 +263,10 @@ fn body<'a>(
 
 /// The names of all declarations.
 fn whole(alloc: Global, findings: &mut Findings, program: &Prog) -> Result<(), AllocError>
-    ensures { let g = placed program.now in OnOk result ((more : List Occurrence) → noted findings.new more ≡ noted findings.old (decls_names (λ place. first (entries_at g.decls place)) (program_name g ∷ []) g.decls more)) }
+    ensures { let g = placed program.now in OnOk result
+        ((more : List Occurrence) → noted findings.new more ≡
+        noted findings.old (decls_names (λ place. first (entries_at g.decls place))
+        (program_name g ∷ []) g.decls more)) }
 {
     let mut entries = Entries::new(alloc);
     monitors(&mut entries, program.decls.as_slice())?;

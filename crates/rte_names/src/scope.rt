@@ -38,7 +38,8 @@ pub fn find_in(scope: Option<&Scope<'_>>, name: &[u8]) -> Option<Declared>
 
 /// Declares a name, unless the scope has it.
 pub fn add<'a>(scope: &mut Scope<'a>, name: &'a [u8], declared: Declared) -> Result<(), AllocError>
-    ensures { OnOk result (meaning scope.new.entries ≡ added (meaning scope.old.entries) (name.now, declared)) }
+    ensures { OnOk result (meaning scope.new.entries ≡
+        added (meaning scope.old.entries) (name.now, declared)) }
 {
     if find(scope, name).is_some() {
         return Ok(());
@@ -74,7 +75,8 @@ pub fn add_entry<'a>(
     name: &'a [u8],
     declared: Declared,
 ) -> Result<(), AllocError>
-    ensures { OnOk result (entry_meaning entries.new.entries ≡ entry_added (entry_meaning entries.old.entries) monitor (name.now, declared)) }
+    ensures { OnOk result (entry_meaning entries.new.entries ≡
+        entry_added (entry_meaning entries.old.entries) monitor (name.now, declared)) }
 {
     if find_entry(entries, monitor, name).is_some() {
         return Ok(());

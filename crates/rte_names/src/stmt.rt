@@ -18,8 +18,10 @@ use std::alloc::AllocError;
 
 /// Enters a loop.
 fn enter<'a>(loops: &mut Vec<Local<'a>>, name: &'a Name, place: Place) -> Result<(), AllocError>
-    ensures inner { OnOk result ((around : AroundValue) → site around loops.new.items ≡ inside (loop_name name.now place ∷ []) (site around loops.old.items)) }
-    ensures outer { OnOk result (take (length loops.new.items - 1) loops.new.items ≡ loops.old.items) }
+    ensures inner { OnOk result ((around : AroundValue) → site around loops.new.items ≡
+        inside (loop_name name.now place ∷ []) (site around loops.old.items)) }
+    ensures outer { OnOk result (take (length loops.new.items - 1) loops.new.items ≡
+        loops.old.items) }
 {
     let declared = Declared {
         place,
@@ -45,7 +47,12 @@ fn loop_head<'a>(
     variable: (&Name, Place),
     bounds: (&Constant, &Constant),
 ) -> Result<(), AllocError>
-    ensures { let here = site around.now loops.now in OnOk result ((more : List Occurrence) → noted findings.new more ≡ noted findings.old (declarations here.means [] (loop_name variable.entry.0.now variable.entry.1 ∷ []) (constant_names here (placed_constant bounds.entry.0.now) (constant_names here (placed_constant bounds.entry.1.now) more)))) }
+    ensures { let here = site around.now loops.now in OnOk result
+        ((more : List Occurrence) → noted findings.new more ≡
+        noted findings.old (declarations here.means []
+        (loop_name variable.entry.0.now variable.entry.1 ∷ [])
+        (constant_names here (placed_constant bounds.entry.0.now)
+        (constant_names here (placed_constant bounds.entry.1.now) more)))) }
 {
     let taken = around.means(loops, variable.0.as_bytes()).is_some();
     findings.declare(variable.1, taken);
@@ -63,7 +70,10 @@ fn call_entry<'a>(
     entry: (&Name, Place),
     args: &[Expr],
 ) -> Result<(), AllocError>
-    ensures { let here = site around.now loops.now in OnOk result ((more : List Occurrence) → noted findings.new more ≡ noted findings.old (entry_names here monitor.entry.0.now monitor.entry.1 entry.entry.0.now entry.entry.1 (exprs_names here (placed_exprs args.now) more))) }
+    ensures { let here = site around.now loops.now in OnOk result
+        ((more : List Occurrence) → noted findings.new more ≡
+        noted findings.old (entry_names here monitor.entry.0.now monitor.entry.1 entry.entry.0.now
+        entry.entry.1 (exprs_names here (placed_exprs args.now) more))) }
 {
     around.use_entry(findings, loops, monitor, entry)?;
     exprs(findings, around, loops, args)?;
@@ -78,7 +88,10 @@ fn assign_empty<'a>(
     to: &Ref,
     cond: (&Name, Place),
 ) -> Result<(), AllocError>
-    ensures { let here = site around.now loops.now in OnOk result ((more : List Occurrence) → noted findings.new more ≡ noted findings.old (ref_names here (placed_ref to.now) (uses here cond.entry.0.now cond.entry.1 Condition ∷ more))) }
+    ensures { let here = site around.now loops.now in OnOk result
+        ((more : List Occurrence) → noted findings.new more ≡
+        noted findings.old (ref_names here (placed_ref to.now)
+        (uses here cond.entry.0.now cond.entry.1 Condition ∷ more))) }
 {
     target(findings, around, loops, to)?;
     around.use_name(findings, loops, cond.0, cond.1, Want::Condition)?;
@@ -92,7 +105,9 @@ fn assignment<'a>(
     loops: &[Local<'a>],
     s: &Stmt,
 ) -> Result<(), AllocError>
-    ensures { OnOk result ((more : List Occurrence) → noted findings.new more ≡ noted findings.old (names_if is_assignment (site around.now loops.now) (placed_stmt s.now) more)) }
+    ensures { OnOk result ((more : List Occurrence) → noted findings.new more ≡
+        noted findings.old (names_if is_assignment (site around.now loops.now)
+        (placed_stmt s.now) more)) }
 {
     match s {
         Stmt::Assign { target: to, value } => {
@@ -138,7 +153,9 @@ fn call<'a>(
     loops: &[Local<'a>],
     s: &Stmt,
 ) -> Result<(), AllocError>
-    ensures { OnOk result ((more : List Occurrence) → noted findings.new more ≡ noted findings.old (names_if is_call (site around.now loops.now) (placed_stmt s.now) more)) }
+    ensures { OnOk result ((more : List Occurrence) → noted findings.new more ≡
+        noted findings.old (names_if is_call (site around.now loops.now)
+        (placed_stmt s.now) more)) }
 {
     match s {
         Stmt::Call { place, name, args } => {
@@ -174,7 +191,9 @@ fn transfer<'a>(
     loops: &[Local<'a>],
     s: &Stmt,
 ) -> Result<(), AllocError>
-    ensures { OnOk result ((more : List Occurrence) → noted findings.new more ≡ noted findings.old (names_if is_transfer (site around.now loops.now) (placed_stmt s.now) more)) }
+    ensures { OnOk result ((more : List Occurrence) → noted findings.new more ≡
+        noted findings.old (names_if is_transfer (site around.now loops.now)
+        (placed_stmt s.now) more)) }
 {
     match s {
         Stmt::Get {
@@ -208,7 +227,9 @@ fn condition<'a>(
     loops: &[Local<'a>],
     s: &Stmt,
 ) -> Result<(), AllocError>
-    ensures { OnOk result ((more : List Occurrence) → noted findings.new more ≡ noted findings.old (names_if is_condition (site around.now loops.now) (placed_stmt s.now) more)) }
+    ensures { OnOk result ((more : List Occurrence) → noted findings.new more ≡
+        noted findings.old (names_if is_condition (site around.now loops.now)
+        (placed_stmt s.now) more)) }
 {
     match s {
         Stmt::Wait {
@@ -247,7 +268,9 @@ fn check<'a>(
     loops: &[Local<'a>],
     s: &Stmt,
 ) -> Result<(), AllocError>
-    ensures { OnOk result ((more : List Occurrence) → noted findings.new more ≡ noted findings.old (names_if is_check (site around.now loops.now) (placed_stmt s.now) more)) }
+    ensures { OnOk result ((more : List Occurrence) → noted findings.new more ≡
+        noted findings.old (names_if is_check (site around.now loops.now)
+        (placed_stmt s.now) more)) }
 {
     match s {
         Stmt::Except { number, .. } => {
@@ -269,7 +292,9 @@ fn plain<'a>(
     loops: &[Local<'a>],
     s: &Stmt,
 ) -> Result<(), AllocError>
-    ensures { OnOk result ((more : List Occurrence) → noted findings.new more ≡ noted findings.old (names_if is_plain (site around.now loops.now) (placed_stmt s.now) more)) }
+    ensures { OnOk result ((more : List Occurrence) → noted findings.new more ≡
+        noted findings.old (names_if is_plain (site around.now loops.now)
+        (placed_stmt s.now) more)) }
 {
     match s {
         Stmt::Assign { .. } | Stmt::AssignEntry { .. } | Stmt::AssignEmpty { .. } => {
@@ -303,7 +328,9 @@ pub fn stmts<'a>(
     loops: &mut Vec<Local<'a>>,
     list: &'a [Stmt],
 ) -> Result<(), AllocError>
-    ensures names { OnOk result ((more : List Occurrence) → noted findings.new more ≡ noted findings.old (stmts_names (site around.now loops.old.items) (placed_stmts list.now) more)) }
+    ensures names { OnOk result ((more : List Occurrence) → noted findings.new more ≡
+        noted findings.old (stmts_names (site around.now loops.old.items)
+        (placed_stmts list.now) more)) }
     ensures same_loops { OnOk result (loops.new.items ≡ loops.old.items) }
 {
     for s in list {
@@ -319,7 +346,9 @@ pub fn stmt<'a>(
     loops: &mut Vec<Local<'a>>,
     s: &'a Stmt,
 ) -> Result<(), AllocError>
-    ensures names { OnOk result ((more : List Occurrence) → noted findings.new more ≡ noted findings.old (stmt_names (site around.now loops.old.items) (placed_stmt s.now) more)) }
+    ensures names { OnOk result ((more : List Occurrence) → noted findings.new more ≡
+        noted findings.old (stmt_names (site around.now loops.old.items)
+        (placed_stmt s.now) more)) }
     ensures same_loops { OnOk result (loops.new.items ≡ loops.old.items) }
 {
     match s {

@@ -20,7 +20,8 @@ fn is_outside(from: u64, until: u64, tick: u64) -> bool
     tick < from || until <= tick
 }
 
-/// Whether the line releases nobody from tick `from` on and before tick `until` whose release has not come.
+/// Whether the line releases nobody from tick `from` on and before tick `until` whose release has
+/// not come.
 fn line_is_after(
     timings: &[Timing],
     config: &Config<'_>,
@@ -30,7 +31,8 @@ fn line_is_after(
 ) -> bool
     ghost program: { Prog }
     requires { timings.now ≡ timings_in program }
-    ensures { result ≡ is_after until (line_due program (config_of config.now) from (line_of line)) }
+    ensures { result ≡ is_after until (line_due program (config_of config.now) from
+        (line_of line)) }
 {
     match line {
         ScriptLine::Set { .. } => true,
@@ -53,7 +55,8 @@ fn lines_are_after(
 ) -> bool
     ghost program: { Prog }
     requires { timings.now ≡ timings_in program }
-    ensures { result ≡ is_after until (lines_due program (config_of config.now) from (map line_of lines.now)) }
+    ensures { result ≡ is_after until (lines_due program (config_of config.now) from
+        (map line_of lines.now)) }
 {
     for line in lines {
         if !line_is_after(timings, config, from, until, *line) {
@@ -75,11 +78,13 @@ fn next_release(first: u32, frame: u32, from: u64) -> u64
     first + from.saturating_sub(first).div_ceil(frame) * frame
 }
 
-/// Whether the next periodic release of the process from a tick on, that has not come, is not before tick `until`.
+/// Whether the next periodic release of the process from a tick on, that has not come, is not
+/// before tick `until`.
 fn release_is_after(timing: Timing, jobs: &[Job<'_>], process: usize, from: u64, until: u64) -> bool
     requires frame { FramesCount (timing ∷ []) }
     requires from { from < 2 ^ 62 }
-    ensures { result ≡ is_after until (timing_due from timing (slice_get (jobs_of jobs.now) process)) }
+    ensures { result ≡ is_after until (timing_due from timing
+        (slice_get (jobs_of jobs.now) process)) }
 {
     let Timing::Periodic { frame, first } = timing else {
         return true;
@@ -136,7 +141,8 @@ fn waits_are_after(jobs: &[Job<'_>], from: u64, until: u64) -> bool
     true
 }
 
-/// The first tick at which a start event can be missing: the one reached, or the next where somebody has acted in it.
+/// The first tick at which a start event can be missing: the one reached, or the next where
+/// somebody has acted in it.
 fn first_open(config: &Config<'_>) -> u64
     requires { config.now.tick < 2 ^ 61 }
     ensures { result ≡ due_from (config_of config.now) }
@@ -161,7 +167,8 @@ fn is_next_after(table: &Timetable, config: &Config<'_>, lines: &[ScriptLine], u
     requires frames { FramesCount table.now.timings.items }
     requires jobs { length config.now.jobs.items ≡ length (processes program) }
     requires tick { config.now.tick < 2 ^ 61 }
-    ensures { (end : ℕ) → result ≡ is_after until (next_in_order program (script_of lines.now end) (config_of config.now)) }
+    ensures { (end : ℕ) → result ≡ is_after until
+        (next_in_order program (script_of lines.now end) (config_of config.now)) }
 {
     let from = first_open(config);
     let timings = table.timings.as_slice();
@@ -184,7 +191,8 @@ pub fn is_none_missing_before(
     requires frames { FramesPass program }
     requires jobs { length config.now.jobs.items ≡ length (processes program) }
     requires tick { config.now.tick < 2 ^ 61 }
-    ensures { (end : ℕ) → NoneMissing program (script_of lines.now end) (config_of config.now) until ↔ IsTrue result }
+    ensures { (end : ℕ) → NoneMissing program (script_of lines.now end)
+        (config_of config.now) until ↔ IsTrue result }
 {
     rte_due::law::none_missing_is_one_comparison();
     rte_due::law::waits_stand_in_any_order();

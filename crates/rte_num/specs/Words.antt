@@ -1,4 +1,5 @@
--- Words, signed numbers of 32 bits, and what an operation makes of them: a word, or the number of the exception that it raises.
+-- Words, signed numbers of 32 bits, and what an operation makes of them: a word, or the number of
+-- the exception that it raises.
 use Rattle.std.specs.Prelude.{◌^◌, ◌&&◌, ℕ, zero, suc, Bool, true, false, not, ℤ, pos, negsuc, ◌+ℤ◌, ◌-ℤ◌, ◌*ℤ◌, neg_ℤ, nat_lt, nat_eq, int_le, int_div, int_rem, if◌then◌else◌, ◌≡◌, Result, Ok, Err}
 
 pub data Answer : Type 0 where

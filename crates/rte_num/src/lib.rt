@@ -1,7 +1,8 @@
 //! Numbers: checked words of 32 bits, and numbers that are capped.
 //!
-//! Its definitions are what each operation of the language makes of its operands, a word or an exception, and the
-//! cap. It promises that each call gives the exact value, or the exception exactly by the rule, and takes no memory.
+//! Its definitions are what each operation of the language makes of its operands, a word or an
+//! exception, and the cap. It promises that each call gives the exact value, or the exception
+//! exactly by the rule, and takes no memory.
 #![tactic(auto)]
 
 mod capped;

@@ -1,5 +1,5 @@
-//! Arithmetic on words. An `Err` is the number of the exception that the operation raises: 1, overflow, where the
-//! result is no word, and 2 where the divisor is zero.
+//! Arithmetic on words. An `Err` is the number of the exception that the operation raises: 1,
+//! overflow, where the result is no word, and 2 where the divisor is zero.
 
 ghost use Rattle.rte_num.specs.Words.{IsAnswer, sum, difference, product, quotient, remainder, negated};
 
@@ -30,7 +30,8 @@ pub fn mul32(a: i32, b: i32) -> Result<i32, u16>
     a.checked_mul(b).ok_or(OVERFLOW)
 }
 
-/// The exact quotient, truncated toward zero; 2 where `b` is 0, and 1 where the quotient is no word, which is
+/// The exact quotient, truncated toward zero; 2 where `b` is 0, and 1 where the quotient is no
+/// word, which is
 /// -2147483648 by -1 alone.
 pub fn div32(a: i32, b: i32) -> Result<i32, u16>
     ensures { IsAnswer (quotient a b) result }
@@ -41,7 +42,8 @@ pub fn div32(a: i32, b: i32) -> Result<i32, u16>
     a.checked_div(b).ok_or(OVERFLOW)
 }
 
-/// What `div32` leaves of `a`, with the sign of `a`: 0 for -2147483648 by -1. 2 where `b` is 0, and never 1.
+/// What `div32` leaves of `a`, with the sign of `a`: 0 for -2147483648 by -1. 2 where `b` is 0, and
+/// never 1.
 pub fn mod32(a: i32, b: i32) -> Result<i32, u16>
     ensures { IsAnswer (remainder a b) result }
 {

@@ -20,7 +20,8 @@ pub record AreLevels (g : Prog) (level : Text → ℕ) : Type 0 where
   pub falls : (from to : Text) → Contains (texts g) from → CallsText g from to → level to < level from
   pub few : (t : Text) → Contains (texts g) t → level t < routine_count g
 
--- Each routine and entry stands under its number, all that it calls has lower numbers, and there are no other numbers.
+-- Each routine and entry stands under its number, all that it calls has lower numbers, and there
+-- are no other numbers.
 pub record AreNumbered (g : Prog) : Type 0 where
   pub few : length (numbered g) ≤ routine_count g
   pub listed : (r : ℕ) (t : Text) → slice_get (numbered g) r ≡ Some t → Contains (texts g) t

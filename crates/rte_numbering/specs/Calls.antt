@@ -1,5 +1,5 @@
--- What texts call, as the code lists it. Each definition gives what its part of the tree calls, in the order in which the names
--- stand, and then `more`.
+-- What texts call, as the code lists it. Each definition gives what its part of the tree calls, in
+-- the order in which the names stand, and then `more`.
 use Rattle.std.specs.Prelude.{List, ◌∷◌, map, Option, Some, None}
 use Rattle.rte_tree.specs.Plain.{Expr, literal, truth, variable, element, call, minus, negation, paren, row, Exprs, no_exprs, exprs, Operands, no_operands, operand, Ref, whole, part, Stmt, assign, assign_entry, assign_empty, perform, perform_entry, when, when_else, loop, exit_when, get, put, wait, signal, broadcast, except, assert, Stmts, no_stmts, stmts, Answers}
 use Rattle.rte_emits.specs.Numbering.{Called, calls_routine, calls_entry}

@@ -16,14 +16,16 @@ pub enum Called<'a> {
 }
 
 fn call<'a>(calls: &mut Vec<Called<'a>>, called: Called<'a>) -> Result<(), AllocError>
-    ensures { OnOk result ((more : List SpecCalled) → calls_told calls.new.items ++ more ≡ calls_told calls.old.items ++ called_of called.entry ∷ more) }
+    ensures { OnOk result ((more : List SpecCalled) → calls_told calls.new.items ++ more ≡
+        calls_told calls.old.items ++ called_of called.entry ∷ more) }
 {
     calls.push(called)?;
     Ok(())
 }
 
 fn expr<'a>(calls: &mut Vec<Called<'a>>, e: &'a Expr) -> Result<(), AllocError>
-    ensures { OnOk result ((more : List SpecCalled) → calls_told calls.new.items ++ more ≡ calls_told calls.old.items ++ expr_called (plain_expr (placed_expr e.now)) more) }
+    ensures { OnOk result ((more : List SpecCalled) → calls_told calls.new.items ++ more ≡
+        calls_told calls.old.items ++ expr_called (plain_expr (placed_expr e.now)) more) }
 {
     match e {
         Expr::Literal { .. } | Expr::True { .. } | Expr::False { .. } | Expr::Variable { .. } => Ok(
@@ -59,7 +61,8 @@ fn expr<'a>(calls: &mut Vec<Called<'a>>, e: &'a Expr) -> Result<(), AllocError>
 }
 
 fn exprs<'a>(calls: &mut Vec<Called<'a>>, list: &'a [Expr]) -> Result<(), AllocError>
-    ensures { OnOk result ((more : List SpecCalled) → calls_told calls.new.items ++ more ≡ calls_told calls.old.items ++ exprs_called (plain_exprs (placed_exprs list.now)) more) }
+    ensures { OnOk result ((more : List SpecCalled) → calls_told calls.new.items ++ more ≡
+        calls_told calls.old.items ++ exprs_called (plain_exprs (placed_exprs list.now)) more) }
 {
     for e in list {
         expr(calls, e)?;
@@ -73,7 +76,9 @@ fn call_with<'a>(
     called: Called<'a>,
     args: &'a [Expr],
 ) -> Result<(), AllocError>
-    ensures { OnOk result ((more : List SpecCalled) → calls_told calls.new.items ++ more ≡ calls_told calls.old.items ++ called_of called.entry ∷ exprs_called (plain_exprs (placed_exprs args.now)) more) }
+    ensures { OnOk result ((more : List SpecCalled) → calls_told calls.new.items ++ more ≡
+        calls_told calls.old.items ++ called_of called.entry ∷
+        exprs_called (plain_exprs (placed_exprs args.now)) more) }
 {
     call(calls, called)?;
     exprs(calls, args)?;
@@ -82,7 +87,8 @@ fn call_with<'a>(
 
 /// What is assigned to.
 fn target<'a>(calls: &mut Vec<Called<'a>>, target: &'a Ref) -> Result<(), AllocError>
-    ensures { OnOk result ((more : List SpecCalled) → calls_told calls.new.items ++ more ≡ calls_told calls.old.items ++ ref_called (plain_ref (placed_ref target.now)) more) }
+    ensures { OnOk result ((more : List SpecCalled) → calls_told calls.new.items ++ more ≡
+        calls_told calls.old.items ++ ref_called (plain_ref (placed_ref target.now)) more) }
 {
     if let Some(index) = &target.index {
         expr(calls, index)?;
@@ -92,7 +98,8 @@ fn target<'a>(calls: &mut Vec<Called<'a>>, target: &'a Ref) -> Result<(), AllocE
 
 #[cycle(stmt)]
 fn stmts<'a>(calls: &mut Vec<Called<'a>>, list: &'a [Stmt]) -> Result<(), AllocError>
-    ensures { OnOk result ((more : List SpecCalled) → calls_told calls.new.items ++ more ≡ calls_told calls.old.items ++ stmts_called (plain_stmts (placed_stmts list.now)) more) }
+    ensures { OnOk result ((more : List SpecCalled) → calls_told calls.new.items ++ more ≡
+        calls_told calls.old.items ++ stmts_called (plain_stmts (placed_stmts list.now)) more) }
 {
     for s in list {
         stmt(calls, s)?;
@@ -102,7 +109,8 @@ fn stmts<'a>(calls: &mut Vec<Called<'a>>, list: &'a [Stmt]) -> Result<(), AllocE
 
 #[cycle(stmt)]
 fn stmt<'a>(calls: &mut Vec<Called<'a>>, s: &'a Stmt) -> Result<(), AllocError>
-    ensures { OnOk result ((more : List SpecCalled) → calls_told calls.new.items ++ more ≡ calls_told calls.old.items ++ stmt_called (plain_stmt (placed_stmt s.now)) more) }
+    ensures { OnOk result ((more : List SpecCalled) → calls_told calls.new.items ++ more ≡
+        calls_told calls.old.items ++ stmt_called (plain_stmt (placed_stmt s.now)) more) }
 {
     match s {
         Stmt::If {
@@ -172,7 +180,9 @@ fn answer<'a>(
     kind: &'a Option<Scalar>,
     value: &'a Option<Expr>,
 ) -> Result<(), AllocError>
-    ensures { OnOk result ((more : List SpecCalled) → calls_told calls.new.items ++ more ≡ calls_told calls.old.items ++ answers_called (plain_answers (optional placed_scalar kind.now) (optional placed_expr value.now)) more) }
+    ensures { OnOk result ((more : List SpecCalled) → calls_told calls.new.items ++ more ≡
+        calls_told calls.old.items ++ answers_called
+        (plain_answers (optional placed_scalar kind.now) (optional placed_expr value.now)) more) }
 {
     match (kind, value) {
         (Some(_), Some(returned)) => expr(calls, returned),
@@ -182,7 +192,8 @@ fn answer<'a>(
 
 /// What a routine calls, in the order of the calls.
 pub fn routine_calls<'a>(alloc: Global, routine: &'a Routine) -> Result<Vec<Called<'a>>, AllocError>
-    ensures { IfOk result (λ calls. calls_told calls.items ≡ calls_of (plain_routine (placed_routine routine.now))) }
+    ensures { IfOk result (λ calls. calls_told calls.items ≡
+        calls_of (plain_routine (placed_routine routine.now))) }
 {
     let mut calls = Vec::new(alloc);
     stmts(&mut calls, routine.body.as_slice())?;

@@ -89,21 +89,25 @@ impl<'a> Directory<'a> {
 
     /// The first routine or entry of that owner and name.
     fn own(&self, owner: Owner, name: &Name) -> Option<Text<'a>>
-        ensures { option_map text_of result ≡ text_named (owner_of owner) name.now (all_texts (plain (placed self.now))) }
+        ensures { option_map text_of result ≡
+            text_named (owner_of owner) name.now (all_texts (plain (placed self.now))) }
     {
         self.parts.texts.find(owner, name)
     }
 
     /// The routine of the program of that name.
     fn in_program(&self, name: &Name) -> Option<Text<'a>>
-        ensures { option_map text_of result ≡ routine_of by_program (routines_in (plain (placed self.now))) name.now }
+        ensures { option_map text_of result ≡
+            routine_of by_program (routines_in (plain (placed self.now))) name.now }
     {
         self.own(Owner::Program, name)
     }
 
-    /// The routine that a call in a text of a process names: one of the process, else one of the program.
+    /// The routine that a call in a text of a process names: one of the process, else one of the
+    /// program.
     fn in_process(&self, number: usize, name: &Name) -> Option<Text<'a>>
-        ensures { option_map text_of result ≡ routine_in (plain (placed self.now)) (by_process number) name.now }
+        ensures { option_map text_of result ≡
+            routine_in (plain (placed self.now)) (by_process number) name.now }
     {
         match self.own(Owner::Process(number), name) {
             Some(text) => Some(text),
@@ -114,7 +118,8 @@ impl<'a> Directory<'a> {
     /// The routine that a call in a text of the owner names: one of the process whose text it is,
     /// else one of the program; `None` where it names none.
     pub fn routine(&self, owner: Owner, name: &Name) -> Option<Text<'a>>
-        ensures { option_map text_of result ≡ routine_in (plain (placed self.now)) (owner_of owner) name.now }
+        ensures { option_map text_of result ≡
+            routine_in (plain (placed self.now)) (owner_of owner) name.now }
     {
         match owner {
             Owner::Program => self.in_program(name),
@@ -125,7 +130,8 @@ impl<'a> Directory<'a> {
 
     /// The entry that a call names, of the monitor that it names; `None` where it names none.
     pub fn entry(&self, monitor: &Name, name: &Name) -> Option<Text<'a>>
-        ensures { option_map text_of result ≡ entry_in (plain (placed self.now)) monitor.now name.now }
+        ensures { option_map text_of result ≡
+            entry_in (plain (placed self.now)) monitor.now name.now }
     {
         match self.monitor_names.index(monitor) {
             Some(number) => self.own(Owner::Monitor(number), name),
@@ -135,7 +141,8 @@ impl<'a> Directory<'a> {
 
     /// What a call in a text of the owner names.
     pub fn called(&self, owner: Owner, called: &Called<'_>) -> Option<Text<'a>>
-        ensures { option_map text_of result ≡ called_text (plain (placed self.now)) (owner_of owner) (called_of called.now) }
+        ensures { option_map text_of result ≡
+            called_text (plain (placed self.now)) (owner_of owner) (called_of called.now) }
     {
         match called {
             Called::Routine(name) => self.routine(owner, name),
@@ -152,7 +159,8 @@ impl<'a> Directory<'a> {
 
     /// What a routine calls, in the order of the calls.
     pub fn callees(&self, alloc: Global, text: Text<'a>) -> Result<Vec<Text<'a>>, AllocError>
-        ensures { IfOk result (λ list. texts_of list.items ≡ callees_of (plain (placed self.now)) (text_of text.entry)) }
+        ensures { IfOk result (λ list. texts_of list.items ≡
+            callees_of (plain (placed self.now)) (text_of text.entry)) }
     {
         let calls = routine_calls(alloc, text.routine)?;
         let mut list = Vec::new(alloc);
@@ -165,7 +173,8 @@ impl<'a> Directory<'a> {
 
 /// Lists what is called, if something is.
 fn list_callee<'a>(list: &mut Vec<Text<'a>>, callee: Option<Text<'a>>) -> Result<(), AllocError>
-    ensures { OnOk result ((rest : List SpecText) → texts_of list.new.items ++ rest ≡ texts_of list.old.items ++ cons_option (option_map text_of callee.entry) rest) }
+    ensures { OnOk result ((rest : List SpecText) → texts_of list.new.items ++ rest ≡
+        texts_of list.old.items ++ cons_option (option_map text_of callee.entry) rest) }
 {
     if let Some(text) = callee {
         list.push(text)?;

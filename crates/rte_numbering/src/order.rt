@@ -19,7 +19,8 @@ fn visit<'a>(
     done: &mut TextList<'a>,
     text: Text<'a>,
 ) -> Result<(), AllocError>
-    ensures { OnOk result (texts_of done.new ≡ visit_of depth (plain (placed directory.now)) (texts_of done.old) (text_of text.entry)) }
+    ensures { OnOk result (texts_of done.new ≡
+        visit_of depth (plain (placed directory.now)) (texts_of done.old) (text_of text.entry)) }
 {
     if depth == 0 {
         return Ok(());

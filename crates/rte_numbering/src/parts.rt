@@ -27,7 +27,8 @@ fn list_all<'a>(
     owner: Owner,
     routines: &'a [Routine],
 ) -> Result<(), AllocError>
-    ensures { OnOk result (texts_of texts.new ≡ texts_of texts.old ++ owned (owner_of owner) (map plain_routine (map placed_routine routines.now))) }
+    ensures { OnOk result (texts_of texts.new ≡ texts_of texts.old ++
+        owned (owner_of owner) (map plain_routine (map placed_routine routines.now))) }
 {
     for routine in routines {
         texts.push(Text { owner, routine })?;
@@ -37,9 +38,18 @@ fn list_all<'a>(
 
 /// Lists the parts of a declaration.
 fn list_decl<'a>(parts: &mut Parts<'a>, decl: &'a Decl) -> Result<(), AllocError>
-    ensures texts { OnOk result ((rest : List SpecDecl) → texts_of parts.new.texts ++ texts_from (length parts.new.processes.items) (length parts.new.monitors.items) rest ≡ texts_of parts.old.texts ++ texts_from (length parts.old.processes.items) (length parts.old.monitors.items) (plain_decl (placed_decl decl.now) ∷ rest)) }
-    ensures monitors { OnOk result ((rest : List SpecDecl) → seen_monitors parts.new.monitors.items ++ monitors_of rest ≡ seen_monitors parts.old.monitors.items ++ monitors_of (plain_decl (placed_decl decl.now) ∷ rest)) }
-    ensures processes { OnOk result ((rest : List SpecDecl) → seen_processes parts.new.processes.items ++ processes_of rest ≡ seen_processes parts.old.processes.items ++ processes_of (plain_decl (placed_decl decl.now) ∷ rest)) }
+    ensures texts { OnOk result ((rest : List SpecDecl) → texts_of parts.new.texts ++
+        texts_from (length parts.new.processes.items) (length parts.new.monitors.items) rest ≡
+        texts_of parts.old.texts ++ texts_from (length parts.old.processes.items)
+        (length parts.old.monitors.items) (plain_decl (placed_decl decl.now) ∷ rest)) }
+    ensures monitors { OnOk result ((rest : List SpecDecl) →
+        seen_monitors parts.new.monitors.items ++ monitors_of rest ≡
+        seen_monitors parts.old.monitors.items ++
+        monitors_of (plain_decl (placed_decl decl.now) ∷ rest)) }
+    ensures processes { OnOk result ((rest : List SpecDecl) →
+        seen_processes parts.new.processes.items ++ processes_of rest ≡
+        seen_processes parts.old.processes.items ++
+        processes_of (plain_decl (placed_decl decl.now) ∷ rest)) }
 {
     match decl {
         Decl::Const { .. } | Decl::Device { .. } | Decl::Event { .. } => Ok(()),
@@ -67,9 +77,12 @@ fn list_decl<'a>(parts: &mut Parts<'a>, decl: &'a Decl) -> Result<(), AllocError
 
 /// All parts of a program.
 pub fn parts_of<'a>(alloc: Global, program: &'a Prog) -> Result<Parts<'a>, AllocError>
-    ensures texts { IfOk result (λ parts. texts_of parts.texts ≡ texts_from 0 0 (plain (placed program.now)).decls) }
-    ensures monitors { IfOk result (λ parts. seen_monitors parts.monitors.items ≡ monitors_in (plain (placed program.now))) }
-    ensures processes { IfOk result (λ parts. seen_processes parts.processes.items ≡ processes_in (plain (placed program.now))) }
+    ensures texts { IfOk result (λ parts. texts_of parts.texts ≡
+        texts_from 0 0 (plain (placed program.now)).decls) }
+    ensures monitors { IfOk result (λ parts. seen_monitors parts.monitors.items ≡
+        monitors_in (plain (placed program.now))) }
+    ensures processes { IfOk result (λ parts. seen_processes parts.processes.items ≡
+        processes_in (plain (placed program.now))) }
 {
     let mut parts = Parts {
         texts: TextList::new(alloc),

@@ -42,7 +42,8 @@ fn keep<'a>(
     name: &'a [u8],
     index: usize,
 ) -> Result<(), AllocError>
-    ensures ok { OnOk result (first_text first.new.entries ≡ with_first (first_text first.old.entries) owner name.now index) }
+    ensures ok { OnOk result (first_text first.new.entries ≡
+        with_first (first_text first.old.entries) owner name.now index) }
     ensures err { OnErr result (first_text first.new.entries ≡ first_text first.old.entries) }
 {
     if first.contains_key(&(owner, name)) {
@@ -89,7 +90,8 @@ impl<'a> TextList<'a> {
 
     /// The first routine of that owner and name; `None` where there is none.
     pub fn find(&self, owner: Owner, name: &Name) -> Option<Text<'a>>
-        ensures { option_map text_of result ≡ text_named (owner_of owner) name.now (texts_of self.now) }
+        ensures { option_map text_of result ≡
+            text_named (owner_of owner) name.now (texts_of self.now) }
     {
         let index = self.index(owner, name)?;
         self.get(index)

@@ -21,7 +21,8 @@ pub record MayCall (g : Prog) (m : Image) (w : Whose) (t : Text) : Type 0 where
   pub open_to : may_call m w (pos (number_of g t)) ≡ true
   pub params : All (ParamFits g) t.routine.params
 
--- what is outside a text lies where its code finds it: variables beside its frame's, its monitor with the conditions, devices
+-- what is outside a text lies where its code finds it: variables beside its frame's, its monitor
+-- with the conditions, devices
 pub record Stands (g : Prog) (m : Image) (w : Whose) (o : Owner) : Type 0 where
   pub outer : (x : Name) → SpotLies m w (outer_spot g o x)
   pub conditions : (x : Name) → Contains (conditions_here g (home_of o)) x → is_own_condition m w (pos (condition_of g o x)) ≡ true

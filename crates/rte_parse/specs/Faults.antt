@@ -22,7 +22,8 @@ StandsIn toks (Syntax p) = IsPlaceIn toks p
 StandsIn toks (Nesting p) = IsPlaceIn toks p
 StandsIn toks Memory = Unit {0}
 
--- at this place stands the token that opens a level beyond the last: the tokens before it begin a program, and all levels are open there
+-- at this place stands the token that opens a level beyond the last: the tokens before it begin a
+-- program, and all levels are open there
 pub record OpensAt (text : List ℕ) (toks : List Token) (p : Place) : Type 0 where
   pub before : List Token
   pub token : Token
@@ -31,6 +32,7 @@ pub record OpensAt (text : List ℕ) (toks : List Token) (p : Place) : Type 0 wh
   pub opens : OpensProg (toks_of text toks) (toks_of text (token ∷ after))
   pub stands : p ≡ place token
 
--- the place of a fault of the grammar: that of the token with which the tokens read no longer begin a program, or the text's end, where all of them begin one
+-- the place of a fault of the grammar: that of the token with which the tokens read no longer begin
+-- a program, or the text's end, where all of them begin one
 abbrev pub StopsAt : List ℕ → Tokens → Place → Type 0
 StopsAt text toks p = ((s : Stop text toks.list) × (p ≡ place s.token)) ⊎ (BeginsProg (toks_of text toks.list) × (p ≡ toks.end))

@@ -155,7 +155,8 @@ impl Parser<'_> {
     #[tactic(auto, unfolding(rte_reading::specs::ExprReading::level))]
     pub(crate) fn level(&mut self, alloc: Global, depth: usize, height: u8) -> Result<Expr, Refusal>
         requires { height ≤ 5 }
-        ensures { Reads placed_expr (reading.level (reading.factor depth) height self.old) result self.new }
+        ensures { Reads placed_expr (reading.level (reading.factor depth) height self.old) result
+            self.new }
     {
         let mut expr = self.factor(alloc, depth)?;
         for below in 0..height {
@@ -171,7 +172,9 @@ impl Parser<'_> {
     fn row(&mut self, alloc: Global, depth: usize, height: u8, first: Expr) -> Result<Expr, Refusal>
         requires low { 1 ≤ height }
         requires high { height ≤ 5 }
-        ensures { Reads placed_expr (row_from height (reading.level (reading.factor depth) (height - 1)) (placed_expr first) self.old) result self.new }
+        ensures { Reads placed_expr (row_from height
+            (reading.level (reading.factor depth) (height - 1)) (placed_expr first) self.old) result
+            self.new }
     {
         let rest = self.operands(alloc, depth, height)?;
         if rest.is_empty() {
@@ -193,7 +196,8 @@ impl Parser<'_> {
     ) -> Result<List<(Op, Expr)>, Refusal>
         requires low { 1 ≤ height }
         requires high { height ≤ 5 }
-        ensures { Reads (map placed_pair) (reading.operands_at height (reading.level (reading.factor depth) (height - 1)) self.old) result self.new }
+        ensures { Reads (map placed_pair) (reading.operands_at height
+            (reading.level (reading.factor depth) (height - 1)) self.old) result self.new }
     {
         let mut rest = List::new(alloc);
         let turns = if height == 3 { 1 } else { self.left() };
@@ -213,7 +217,8 @@ impl Parser<'_> {
     fn operand(&mut self, alloc: Global, depth: usize, height: u8) -> Result<(Op, Expr), Refusal>
         requires low { 1 ≤ height }
         requires high { height ≤ 5 }
-        ensures { Reads placed_pair (reading.operand_at height (reading.level (reading.factor depth) (height - 1)) self.old) result self.new }
+        ensures { Reads placed_pair (reading.operand_at height
+            (reading.level (reading.factor depth) (height - 1)) self.old) result self.new }
     {
         match self.op_at(height) {
             Some(op) => {
@@ -273,7 +278,8 @@ impl Parser<'_> {
         name: Name,
         place: Place,
     ) -> Result<Expr, Refusal>
-        ensures { Reads placed_expr (reading.named_factor (reading.inner depth) (name, place) self.old) result self.new }
+        ensures { Reads placed_expr (reading.named_factor (reading.inner depth)
+            (name, place) self.old) result self.new }
     {
         if self.is_sign(sign::LEFT_BRACKET) {
             let index = self.index(alloc, depth)?;
@@ -307,7 +313,8 @@ impl Parser<'_> {
     #[cycle(expr)]
     #[tactic(auto, unfolding(rte_reading::specs::ExprReading::args, rte_reading::specs::ExprReading::in_parens))]
     pub(crate) fn args(&mut self, alloc: Global, depth: usize) -> Result<List<Expr>, Refusal>
-        ensures { Reads (map placed_expr) (reading.args (reading.inner depth) self.old) result self.new }
+        ensures { Reads (map placed_expr) (reading.args (reading.inner depth) self.old) result
+            self.new }
     {
         let inside = self.deeper(depth)?;
         self.expect_sign(sign::LEFT_PAREN)?;
@@ -319,7 +326,8 @@ impl Parser<'_> {
     #[cycle(expr)]
     #[tactic(auto, unfolding(rte_reading::specs::ExprReading::some_listed, rte_reading::specs::ExprReading::listed))]
     fn some_args(&mut self, alloc: Global, depth: usize) -> Result<List<Expr>, Refusal>
-        ensures { Reads (map placed_expr) (reading.some_listed (reading.expr depth) self.old) result self.new }
+        ensures { Reads (map placed_expr) (reading.some_listed (reading.expr depth) self.old) result
+            self.new }
     {
         let mut args = List::new(alloc);
         if self.is_sign(sign::RIGHT_PAREN) {
@@ -339,7 +347,9 @@ impl Parser<'_> {
         depth: usize,
         mut args: List<Expr>,
     ) -> Result<List<Expr>, Refusal>
-        ensures { Reads (map placed_expr) (with_front (map placed_expr args) (reading.many (reading.is_at COMMA) (reading.behind_comma (reading.expr depth)) self.old)) result self.new }
+        ensures { Reads (map placed_expr) (with_front (map placed_expr args)
+            (reading.many (reading.is_at COMMA)
+            (reading.behind_comma (reading.expr depth)) self.old)) result self.new }
     {
         let turns = self.left();
         for _turn in 0..turns {
@@ -356,7 +366,8 @@ impl Parser<'_> {
     #[cycle(expr)]
     #[tactic(auto, unfolding(rte_reading::specs::ExprReading::behind_comma))]
     fn more_arg(&mut self, alloc: Global, depth: usize) -> Result<Expr, Refusal>
-        ensures { Reads placed_expr (reading.behind_comma (reading.expr depth) self.old) result self.new }
+        ensures { Reads placed_expr (reading.behind_comma (reading.expr depth) self.old) result
+            self.new }
     {
         self.expect_sign(sign::COMMA)?;
         self.level(alloc, depth, 5)
@@ -365,7 +376,8 @@ impl Parser<'_> {
     #[cycle(expr)]
     #[tactic(auto, unfolding(rte_reading::specs::ExprReading::minus_factor))]
     fn minus(&mut self, alloc: Global, depth: usize) -> Result<Expr, Refusal>
-        ensures { Reads placed_expr (reading.minus_factor (reading.inner depth) self.old) result self.new }
+        ensures { Reads placed_expr (reading.minus_factor (reading.inner depth) self.old) result
+            self.new }
     {
         let inside = self.deeper(depth)?;
         let place = self.expect_sign(sign::MINUS)?;
@@ -379,7 +391,8 @@ impl Parser<'_> {
     #[cycle(expr)]
     #[tactic(auto, unfolding(rte_reading::specs::ExprReading::negation_factor))]
     fn negation(&mut self, alloc: Global, depth: usize) -> Result<Expr, Refusal>
-        ensures { Reads placed_expr (reading.negation_factor (reading.inner depth) self.old) result self.new }
+        ensures { Reads placed_expr (reading.negation_factor (reading.inner depth) self.old) result
+            self.new }
     {
         let inside = self.deeper(depth)?;
         let place = self.expect_keyword(keyword::NOT)?;
@@ -394,7 +407,8 @@ impl Parser<'_> {
     #[cycle(expr)]
     #[tactic(auto, unfolding(rte_reading::specs::ExprReading::paren_factor))]
     fn paren(&mut self, alloc: Global, depth: usize) -> Result<Expr, Refusal>
-        ensures { Reads placed_expr (reading.paren_factor (reading.inner depth) self.old) result self.new }
+        ensures { Reads placed_expr (reading.paren_factor (reading.inner depth) self.old) result
+            self.new }
     {
         let inside = self.deeper(depth)?;
         let place = self.expect_sign(sign::LEFT_PAREN)?;

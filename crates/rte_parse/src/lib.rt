@@ -1,7 +1,7 @@
 //! Trees from tokens.
 //!
-//! `specs/Grammar.antt` of `rte_grammar` says which tree a list of tokens has. `parse` gives exactly
-//! that tree, or the place of a fault where there is none.
+//! `specs/Grammar.antt` of `rte_grammar` says which tree a list of tokens has. `parse` gives
+//! exactly that tree, or the place of a fault where there is none.
 #![tactic(auto)]
 
 mod decl;

@@ -100,7 +100,9 @@ impl Parser<'_> {
         alloc: Global,
         mut numbers: List<Constant>,
     ) -> Result<List<Constant>, Refusal>
-        ensures { Reads (map placed_constant) (with_front (map placed_constant numbers) (many (is_at COMMA) (behind_comma constant_at) self.old)) result self.new }
+        ensures { Reads (map placed_constant)
+            (with_front (map placed_constant numbers)
+            (many (is_at COMMA) (behind_comma constant_at) self.old)) result self.new }
     {
         let turns = self.left();
         for _turn in 0..turns {
@@ -124,7 +126,8 @@ impl Parser<'_> {
     /// The handler, where there is one.
     #[tactic(auto, unfolding(rte_reading::specs::Reading::handler))]
     fn handler(&mut self, alloc: Global) -> Result<Option<Handler>, Refusal>
-        ensures { Reads (optional placed_handler) (reading.handler MOST_LEVELS self.old) result self.new }
+        ensures { Reads (optional placed_handler)
+            (reading.handler MOST_LEVELS self.old) result self.new }
     {
         if self.is_keyword(keyword::HANDLER) {
             self.expect_keyword(keyword::HANDLER)?;

@@ -35,7 +35,8 @@ fn read(alloc: Global, text: &[u8], toks: &[Token]) -> Result<Prog, Refusal>
 fn place_of(tokens: &Tokens, left: usize) -> Place
     ensures found { IsPlaceIn tokens.now result }
     ensures last { left ≡ 0 → result ≡ tokens.now.end }
-    ensures at { (before after : List SpecToken) (t : SpecToken) → tokens.now.list ≡ before ++ t ∷ after → left ≡ length (t ∷ after) → result ≡ place t }
+    ensures at { (before after : List SpecToken) (t : SpecToken) → tokens.now.list ≡ before ++ t ∷
+        after → left ≡ length (t ∷ after) → result ≡ place t }
 {
     let all = tokens.as_slice();
     match all.get(all.len().saturating_sub(left)) {
@@ -62,16 +63,20 @@ pub fn parse(alloc: Global, text: &[u8], tokens: &Tokens) -> Result<Prog, SynFau
     // What is read has these tokens.
     ensures found { IfOk result (λ g. tree text.now tokens.now.list (placed g)) }
     // What has these tokens is read, unless memory runs out.
-    ensures only { (g : SpecProg SpecPlace) → tree text.now tokens.now.list g → MatchResult result (λ p. placed p ≡ g) (λ f. f ≡ SynFault.Memory) }
+    ensures only { (g : SpecProg SpecPlace) → tree text.now tokens.now.list g →
+        MatchResult result (λ p. placed p ≡ g) (λ f. f ≡ SynFault.Memory) }
     // A fault stands at a token or at the end.
     ensures place { IfErr result (λ f. StandsIn tokens.now f) }
     // A fault of the grammar stands at the token with which the tokens read no longer begin a
     // program, or at the text's end.
-    ensures syntax { (p : SpecPlace) → result ≡ Err (SynFault.Syntax p) → StopsAt text.now tokens.now p }
+    ensures syntax { (p : SpecPlace) → result ≡ Err (SynFault.Syntax p) →
+        StopsAt text.now tokens.now p }
     // A fault of nesting stands at the token that opens level 65.
-    ensures nesting { (p : SpecPlace) → result ≡ Err (SynFault.Nesting p) → OpensAt text.now tokens.now.list p }
+    ensures nesting { (p : SpecPlace) → result ≡ Err (SynFault.Nesting p) →
+        OpensAt text.now tokens.now.list p }
     // Where a token opens level 65 it is the fault, unless memory runs out.
-    ensures too_deep { (p : SpecPlace) → OpensAt text.now tokens.now.list p → (result ≡ Err (SynFault.Nesting p)) ⊎ (result ≡ Err SynFault.Memory) }
+    ensures too_deep { (p : SpecPlace) → OpensAt text.now tokens.now.list p →
+        (result ≡ Err (SynFault.Nesting p)) ⊎ (result ≡ Err SynFault.Memory) }
 {
     match read(alloc, text, tokens.as_slice()) {
         Ok(prog) => Ok(prog),

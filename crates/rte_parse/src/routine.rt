@@ -46,7 +46,8 @@ impl Parser<'_> {
     /// The type of the result, where the routine is a function.
     #[tactic(auto, unfolding(rte_reading::specs::Reading::result))]
     fn result(&mut self, alloc: Global, kind: RoutineKind) -> Result<Option<Scalar>, Refusal>
-        ensures { Reads (optional placed_scalar) (reading.result (placed_routine_kind kind) self.old) result self.new }
+        ensures { Reads (optional placed_scalar)
+            (reading.result (placed_routine_kind kind) self.old) result self.new }
     {
         match kind {
             RoutineKind::Procedure => Ok(None),
@@ -61,7 +62,8 @@ impl Parser<'_> {
     /// The expression of the result, where the routine is a function.
     #[tactic(auto, unfolding(rte_reading::specs::Reading::value))]
     fn value(&mut self, alloc: Global, kind: RoutineKind) -> Result<Option<Expr>, Refusal>
-        ensures { Reads (optional placed_expr) (reading.value MOST_LEVELS (placed_routine_kind kind) self.old) result self.new }
+        ensures { Reads (optional placed_expr)
+            (reading.value MOST_LEVELS (placed_routine_kind kind) self.old) result self.new }
     {
         match kind {
             RoutineKind::Procedure => Ok(None),
@@ -108,7 +110,8 @@ impl Parser<'_> {
     /// As many routines as there are.
     #[tactic(auto, unfolding(rte_reading::specs::Reading::routines, rte_reading::specs::ExprReading::many))]
     pub(crate) fn routines(&mut self, alloc: Global) -> Result<List<Routine>, Refusal>
-        ensures { Reads (map placed_routine) (reading.routines MOST_LEVELS self.old) result self.new }
+        ensures { Reads (map placed_routine) (reading.routines MOST_LEVELS self.old) result
+            self.new }
     {
         let mut routines = List::new(alloc);
         let turns = self.left();
@@ -170,7 +173,8 @@ impl Parser<'_> {
     /// As many entries as there are.
     #[tactic(auto, unfolding(rte_reading::specs::Reading::entries, rte_reading::specs::ExprReading::many))]
     fn entries(&mut self, alloc: Global) -> Result<List<Routine>, Refusal>
-        ensures { Reads (map placed_routine) (reading.entries MOST_LEVELS self.old) result self.new }
+        ensures { Reads (map placed_routine) (reading.entries MOST_LEVELS self.old) result
+            self.new }
     {
         let mut entries = List::new(alloc);
         let turns = self.left();

@@ -69,7 +69,8 @@ impl Parser<'_> {
         name: Name,
         place: Place,
     ) -> Result<Ref, Refusal>
-        ensures { Reads placed_ref (reading.reference_from depth (name, place) self.old) result self.new }
+        ensures { Reads placed_ref (reading.reference_from depth (name, place) self.old) result
+            self.new }
     {
         if self.is_sign(sign::LEFT_BRACKET) {
             let index = self.index(alloc, depth)?;
@@ -119,7 +120,8 @@ impl Parser<'_> {
     /// What is assigned to this, behind the `:=`.
     #[tactic(auto, unfolding(rte_reading::specs::StmtReading::assigned))]
     fn assigned(&mut self, alloc: Global, depth: usize, target: Ref) -> Result<Stmt, Refusal>
-        ensures { Reads placed_stmt (reading.assigned depth (placed_ref target) self.old) result self.new }
+        ensures { Reads placed_stmt (reading.assigned depth (placed_ref target) self.old) result
+            self.new }
     {
         if self.is_keyword(keyword::EMPTY) {
             self.expect_keyword(keyword::EMPTY)?;
@@ -155,7 +157,8 @@ impl Parser<'_> {
         name: Name,
         place: Place,
     ) -> Result<Stmt, Refusal>
-        ensures { Reads placed_stmt (reading.named_stmt depth (name, place) self.old) result self.new }
+        ensures { Reads placed_stmt (reading.named_stmt depth (name, place) self.old) result
+            self.new }
     {
         if self.is_sign(sign::LEFT_PAREN) {
             let args = self.args(alloc, depth)?;
@@ -368,7 +371,8 @@ impl Parser<'_> {
     #[cycle(stmt)]
     #[tactic(auto, unfolding(rte_reading::specs::StmtReading::choice, rte_reading::specs::StmtReading::stmts))]
     fn choice(&mut self, alloc: Global, depth: usize) -> Result<Stmt, Refusal>
-        ensures { Reads placed_stmt (reading.choice depth (reading.stmt depth) self.old) result self.new }
+        ensures { Reads placed_stmt (reading.choice depth (reading.stmt depth) self.old) result
+            self.new }
     {
         let place = self.expect_keyword(keyword::IF)?;
         let test = self.level(alloc, depth, 5)?;
@@ -388,7 +392,8 @@ impl Parser<'_> {
         test: Expr,
         first: List<Stmt>,
     ) -> Result<Stmt, Refusal>
-        ensures { Reads placed_stmt (reading.else_by (reading.stmt depth) place (placed_expr test) (map placed_stmt first) self.old) result self.new }
+        ensures { Reads placed_stmt (reading.else_by (reading.stmt depth) place (placed_expr test)
+            (map placed_stmt first) self.old) result self.new }
     {
         if self.is_keyword(keyword::ELSE) {
             self.expect_keyword(keyword::ELSE)?;
@@ -414,7 +419,8 @@ impl Parser<'_> {
     #[cycle(stmt)]
     #[tactic(auto, unfolding(rte_reading::specs::StmtReading::loop_stmt, rte_reading::specs::StmtReading::stmts))]
     fn for_stmt(&mut self, alloc: Global, depth: usize) -> Result<Stmt, Refusal>
-        ensures { Reads placed_stmt (reading.loop_stmt (reading.stmt depth) self.old) result self.new }
+        ensures { Reads placed_stmt (reading.loop_stmt (reading.stmt depth) self.old) result
+            self.new }
     {
         let place = self.expect_keyword(keyword::FOR)?;
         let (name, name_place) = self.name(alloc)?;

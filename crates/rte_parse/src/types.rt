@@ -127,7 +127,8 @@ impl Parser<'_> {
         alloc: Global,
         mut params: List<Param>,
     ) -> Result<List<Param>, Refusal>
-        ensures { Reads (map placed_param) (with_front (map placed_param params) (many (is_at COMMA) (behind_comma reading.param) self.old)) result self.new }
+        ensures { Reads (map placed_param) (with_front (map placed_param params)
+            (many (is_at COMMA) (behind_comma reading.param) self.old)) result self.new }
     {
         let turns = self.left();
         for _turn in 0..turns {

@@ -1,4 +1,5 @@
--- The law: what the computation answers is the largest cost over all paths, each component by itself.
+-- The law: what the computation answers is the largest cost over all paths, each component by
+-- itself.
 use Rattle.std.specs.Prelude.{◌≡◌, ◌≤◌, ℕ, Bool, false, List, Option, Some}
 use Rattle.rte_isa.specs.declared.instr.Instr.{Instr}
 use Rattle.rte_num.specs.declared.capped.Cost.{Cost}

@@ -1,5 +1,6 @@
--- The paths through a segment tree, and what each costs. A path is a choice of an arm of each Fork that it comes to, and of whether it goes on at
--- each EXIT or leaves the innermost loop there. A call counts what is known of the routine, a wait its limit.
+-- The paths through a segment tree, and what each costs. A path is a choice of an arm of each Fork
+-- that it comes to, and of whether it goes on at each EXIT or leaves the innermost loop there. A
+-- call counts what is known of the routine, a wait its limit.
 use Rattle.std.specs.Prelude.{◌≡◌, ◌+◌, ◌⊎◌, ℕ, zero, suc, Bool, true, false, List, Option, Some, None, slice_get}
 use Rattle.rte_isa.specs.declared.instr.Instr.{Instr}
 use Rattle.rte_isa.specs.Ticks.{ticks}

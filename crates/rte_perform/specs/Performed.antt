@@ -27,7 +27,8 @@ pub record Performed (tells : Bool) (act : Act) (before now : Outside) (status :
   pub range : (status ≡ number_of act.status) ⊎ ((status ≡ 7) ⊎ (status ≡ 8))
   pub whole : status ≢ 7 → status ≢ 8 → Appends before.out.taken now.out.taken (outcome_of act).text
   pub stored : status ≢ 7 → status ≢ 8 → StoresIt tells act.store before.files.held now.files.held
-  -- 7: the write failed, and nothing was put; or a put failed behind a front of the text, and what is to be stored is stored
+  -- 7: the write failed, and nothing was put; or a put failed behind a front of the text, and what
+  -- is to be stored is stored
   pub front : status ≡ 7 → AppendsFront before.out.taken now.out.taken (outcome_of act).text
   pub cause : status ≡ 7 → (StoreFailed act.store before now × (now.out.taken ≡ before.out.taken))
       ⊎ (Rose before.out.faults now.out.faults × StoresIt tells act.store before.files.held now.files.held)

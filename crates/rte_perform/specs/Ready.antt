@@ -8,7 +8,8 @@ use Rattle.rte_starts.specs.Begin.{script_of}
 use Rattle.rte_state.specs.Plan.{IsOf}
 use Rattle.rte_perform.specs.declared.ready.Ready.{Ready}
 
--- the machine stands before tick 0 of a run that it can make, and the plan is that of the run's image
+-- the machine stands before tick 0 of a run that it can make, and the plan is that of the run's
+-- image
 pub record IsReady (ready : Ready) : Type 0 where
   pub can : CanRun ready.run.now
   pub plan : IsOf (image_of ready.run.now.image) ready.plan

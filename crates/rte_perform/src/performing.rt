@@ -28,7 +28,8 @@ fn store<F: Files>(image: &Option<Store<'_>>, files: &mut F) -> Result<(), Write
     ensures stored { OnOk result
         (StoresIt F.tells image.now (F.state files.old).held (F.state files.new).held) }
     ensures failed { result ≡ Err WriteFault.Failed → IsSomeAnd image.now (λ s.
-        Rose ((F.state files.old).write_faults s.name.now) ((F.state files.new).write_faults s.name.now)) }
+        Rose ((F.state files.old).write_faults s.name.now)
+        ((F.state files.new).write_faults s.name.now)) }
     ensures kept { result ≡ Err WriteFault.Memory →
         AllStay (F.state files.old).held (F.state files.new).held }
     ensures others { OthersKept image.now (F.state files.old).held (F.state files.new).held }
@@ -42,7 +43,8 @@ fn store<F: Files>(image: &Option<Store<'_>>, files: &mut F) -> Result<(), Write
 /// Puts a text, unless it is empty.
 fn put_text<O: Sink>(text: &[u8], out: &mut O) -> Result<(), SinkFailed>
     ensures whole { OnOk result (Appends (O.state out.old).taken (O.state out.new).taken text.now) }
-    ensures front { OnErr result (AppendsFront (O.state out.old).taken (O.state out.new).taken text.now) }
+    ensures front { OnErr result (AppendsFront (O.state out.old).taken
+        (O.state out.new).taken text.now) }
     ensures failed { OnErr result (Rose (O.state out.old).faults (O.state out.new).faults) }
     ensures quiet { OnOk result ((O.state out.new).faults ≡ (O.state out.old).faults) }
 {
@@ -70,9 +72,10 @@ fn tell<O: Sink>(text: &[u8], run: Option<Ready<'_>>, out: &mut O) -> Result<(),
     }
 }
 
-/// Stores the image of the act, puts its text, unless it is empty, and then the log of its run, one put a line. The answer is the act's
-/// status; `Unwritten` where the write or a put failed, and nothing is put after that; `Memory` where there is not enough
-/// memory for the machine or for the write, and then nothing was stored or put.
+/// Stores the image of the act, puts its text, unless it is empty, and then the log of its run, one
+/// put a line. The answer is the act's status; `Unwritten` where the write or a put failed, and
+/// nothing is put after that; `Memory` where there is not enough memory for the machine or for the
+/// write, and then nothing was stored or put.
 pub fn perform<F: Files, O: Sink>(
     alloc: Global,
     act: &Act<'_>,

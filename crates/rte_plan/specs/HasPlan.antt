@@ -12,7 +12,8 @@ abbrev pub HandlerEnds : ℕ → ℕ → Option Segs → Type 0
 HandlerEnds code handler None = Unit {0}
 HandlerEnds code handler (Some tree) = handler + size tree ≤ code
 
--- the clock or an event releases the process, its locals stand in its stack, and its parts end in code of so many instructions
+-- the clock or an event releases the process, its locals stand in its stack, and its parts end in
+-- code of so many instructions
 pub record CanRun (code : ℕ) (p : Process) : Type 0 where
   pub kind : p.kind ≤ 1
   pub frame : 0 < p.frame

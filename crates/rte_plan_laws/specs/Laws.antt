@@ -7,8 +7,8 @@ use Rattle.rte_logged.specs.Laws.{AreNamesOf}
 use Rattle.rte_plan.specs.HasPlan.{HasPlan}
 use Rattle.rte_valid.specs.Valid.{HasLimits, IsValid}
 
--- what a run asks of an image beside that it is valid: its numbers are in the ranges of their fields, it has a plan, and its
--- names are those of its parts
+-- what a run asks of an image beside that it is valid: its numbers are in the ranges of their
+-- fields, it has a plan, and its names are those of its parts
 pub record IsReady (raw : RawImage) : Type 0 where
   pub limits : HasLimits (image_of raw)
   pub plan : HasPlan (image_of raw)

@@ -11,7 +11,8 @@ use Rattle.rte_script.specs.Scripts.{IsScript}
 use Rattle.rte_compile.specs.Built.{Built}
 use Rattle.rte_commands.specs.Due.{Outcome, IsScriptFault, bad_script, log, stored}
 
--- what a run comes to, where this text stands before its log, and these bytes are stored, if any are
+-- what a run comes to, where this text stands before its log, and these bytes are stored, if any
+-- are
 abbrev pub ran : (front : List ℕ) → (image : Option (List ℕ)) → NamedImage → List ScriptLine → (end : ℕ) → Outcome
 ran front image n lines end = record { status = 0; text = front ++ log n lines end; image = image }
 

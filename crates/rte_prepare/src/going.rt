@@ -24,7 +24,8 @@ use rte_io::Files;
 use rte_script::Script;
 use std::alloc::{AllocError, Global};
 
-/// The act that stores the image of a program that is timely, puts the report, and runs the image over the script.
+/// The act that stores the image of a program that is timely, puts the report, and runs the image
+/// over the script.
 fn run_built<'a>(
     alloc: Global,
     built: Built,
@@ -55,7 +56,8 @@ fn go_act<'a>(
     image: &'a str,
 ) -> Result<Act<'a>, AllocError>
     requires { IsRunnableBuilt built }
-    ensures due { IfOk result (λ act. (text : List ℕ) → IsContent longest_text content.now text → IsBuiltRunDue built text (outcome_of act)) }
+    ensures due { IfOk result (λ act. (text : List ℕ) → IsContent longest_text content.now text →
+        IsBuiltRunDue built text (outcome_of act)) }
     ensures done { IfOk result (CanBeDone (Some image.now)) }
 {
     match judge_script(alloc, content, &built.image.names) {
@@ -73,12 +75,17 @@ fn go_on<'a, F: Files>(
     files: &mut F,
 ) -> Result<Act<'a>, Unready>
     requires { IsRunnableBuilt built }
-    ensures due { IfOk result (λ act. OnTrue F.tells (IsSomeAnd ((F.state files.old).held script.now) (λ text. IsBuiltRunDue built text (outcome_of act)))) }
+    ensures due { IfOk result (λ act. OnTrue F.tells
+        (IsSomeAnd ((F.state files.old).held script.now)
+        (λ text. IsBuiltRunDue built text (outcome_of act)))) }
     ensures done { IfOk result (CanBeDone (Some image.now)) }
-    ensures unread { result ≡ Err Unready.Unread → Rose ((F.state files.old).read_faults script.now) ((F.state files.new).read_faults script.now) }
+    ensures unread { result ≡ Err Unready.Unread →
+        Rose ((F.state files.old).read_faults script.now)
+        ((F.state files.new).read_faults script.now) }
     ensures files { AllStay (F.state files.old).held (F.state files.new).held }
     ensures read_counts { NoneFell (F.state files.old).read_faults (F.state files.new).read_faults }
-    ensures write_counts { NoneFell (F.state files.old).write_faults (F.state files.new).write_faults }
+    ensures write_counts { NoneFell (F.state files.old).write_faults
+        (F.state files.new).write_faults }
 {
     let content = read(files, script, LONGEST_SCRIPT)?;
     match go_act(alloc, built, &content, image) {
@@ -97,10 +104,12 @@ pub fn prepare_go<'a, F: Files>(
     files: &mut F,
 ) -> Result<Act<'a>, Unready>
     requires { over ≤ 1000 }
-    ensures prepared { Prepares F.tells (call.go program.now image.now script.now over) (F.state files.old) (F.state files.new) result }
+    ensures prepared { Prepares F.tells (call.go program.now image.now script.now over)
+        (F.state files.old) (F.state files.new) result }
     ensures files { AllStay (F.state files.old).held (F.state files.new).held }
     ensures read_counts { NoneFell (F.state files.old).read_faults (F.state files.new).read_faults }
-    ensures write_counts { NoneFell (F.state files.old).write_faults (F.state files.new).write_faults }
+    ensures write_counts { NoneFell (F.state files.old).write_faults
+        (F.state files.new).write_faults }
 {
     let content = read(files, program, LONGEST_PROGRAM)?;
     match compile_content(alloc, &content, over) {

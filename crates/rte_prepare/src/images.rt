@@ -41,7 +41,8 @@ fn load_bytes(alloc: Global, bytes: &[u8]) -> Result<RawImage, FileFault>
 ///
 /// # Errors
 ///
-/// As those of `load`; the fault of a file that is too long is 9, behind the most bytes of an image.
+/// As those of `load`; the fault of a file that is too long is 9, behind the most bytes of an
+/// image.
 pub fn load_content(alloc: Global, content: &Content) -> Result<RawImage, FileFault>
     ensures loads { (bytes : List ℕ) → IsContent longest content.now bytes → Loads bytes result }
     ensures ready { IfOk result IsRunnable }
@@ -57,7 +58,8 @@ pub fn load_content(alloc: Global, content: &Content) -> Result<RawImage, FileFa
 
 /// The line of the fault of bytes that are no valid image.
 fn line_of(alloc: Global, fault: FileFault) -> Result<Text, AllocError>
-    ensures { IfOk result (λ line. (bytes : List ℕ) → Loads bytes (Err fault) → IsImageRefused bytes (told 4 line)) }
+    ensures { IfOk result (λ line. (bytes : List ℕ) → Loads bytes (Err fault) →
+        IsImageRefused bytes (told 4 line)) }
 {
     match fault {
         FileFault::Image { number, offset } => image_fault_line(alloc, number, offset),
@@ -68,7 +70,8 @@ fn line_of(alloc: Global, fault: FileFault) -> Result<Text, AllocError>
 
 /// The act for bytes that are no valid image: it puts the line of their fault.
 pub fn refuse_image<'a>(alloc: Global, fault: FileFault) -> Result<Act<'a>, AllocError>
-    ensures due { IfOk result (λ act. (bytes : List ℕ) → Loads bytes (Err fault) → IsImageRefused bytes (outcome_of act)) }
+    ensures due { IfOk result (λ act. (bytes : List ℕ) → Loads bytes (Err fault) →
+        IsImageRefused bytes (outcome_of act)) }
     ensures quiet { IfOk result IsQuiet }
 {
     let line = line_of(alloc, fault)?;
@@ -95,7 +98,8 @@ fn store_image<'a>(alloc: Global, raw: &RawImage, target: &'a str) -> Result<Act
 
 /// The act of `migrate` for what the image's file holds.
 fn migrate_act<'a>(alloc: Global, content: &Content, target: &'a str) -> Result<Act<'a>, AllocError>
-    ensures due { IfOk result (λ act. (bytes : List ℕ) → IsContent longest content.now bytes → IsMigrateDue bytes (outcome_of act)) }
+    ensures due { IfOk result (λ act. (bytes : List ℕ) → IsContent longest content.now bytes →
+        IsMigrateDue bytes (outcome_of act)) }
     ensures done { IfOk result (CanBeDone (Some target.now)) }
 {
     match load_content(alloc, content) {
@@ -111,10 +115,12 @@ pub fn prepare_migrate<'a, F: Files>(
     target: &'a str,
     files: &mut F,
 ) -> Result<Act<'a>, Unready>
-    ensures prepared { Prepares F.tells (call.migrate image.now target.now) (F.state files.old) (F.state files.new) result }
+    ensures prepared { Prepares F.tells (call.migrate image.now target.now) (F.state files.old)
+        (F.state files.new) result }
     ensures files { AllStay (F.state files.old).held (F.state files.new).held }
     ensures read_counts { NoneFell (F.state files.old).read_faults (F.state files.new).read_faults }
-    ensures write_counts { NoneFell (F.state files.old).write_faults (F.state files.new).write_faults }
+    ensures write_counts { NoneFell (F.state files.old).write_faults
+        (F.state files.new).write_faults }
 {
     let content = read(files, image, LONGEST_IMAGE)?;
     match migrate_act(alloc, &content, target) {

@@ -16,23 +16,25 @@ use rte_io::Files;
 use rte_words::Command;
 use std::alloc::Global;
 
-/// Reads what the command names, judges it, and makes what is left to be done: what is stored, what is put, and what is
-/// run. An overhead is at most 1,000 ticks.
+/// Reads what the command names, judges it, and makes what is left to be done: what is stored, what
+/// is put, and what is run. An overhead is at most 1,000 ticks.
 ///
 /// # Errors
 ///
-/// `Unread` only where a read failed, that of the script only where what comes before has no fault. `Memory` where there is
-/// not enough memory.
+/// `Unread` only where a read failed, that of the script only where what comes before has no fault.
+/// `Memory` where there is not enough memory.
 pub fn prepare<'a, F: Files>(
     alloc: Global,
     command: &Command<'a>,
     files: &mut F,
 ) -> Result<Act<'a>, Unready>
     requires overhead { over_of (call_of command.now) ≤ 1000 }
-    ensures prepared { Prepares F.tells (call_of command.now) (F.state files.old) (F.state files.new) result }
+    ensures prepared { Prepares F.tells (call_of command.now) (F.state files.old)
+        (F.state files.new) result }
     ensures files { AllStay (F.state files.old).held (F.state files.new).held }
     ensures read_counts { NoneFell (F.state files.old).read_faults (F.state files.new).read_faults }
-    ensures write_counts { NoneFell (F.state files.old).write_faults (F.state files.new).write_faults }
+    ensures write_counts { NoneFell (F.state files.old).write_faults
+        (F.state files.new).write_faults }
 {
     match *command {
         Command::Go {

@@ -67,17 +67,20 @@ pub fn put<'a>(status: Status, text: Text) -> Act<'a>
     }
 }
 
-/// The act for a text that is no program text, or whose program is too large: it puts the line of its fault.
+/// The act for a text that is no program text, or whose program is too large: it puts the line of
+/// its fault.
 fn put_fault<'a>(alloc: Global, number: u8, place: Place) -> Result<Act<'a>, AllocError>
     ensures { IfOk result (λ act. act ≡ puts Status.Text (fault_line number place)) }
 {
     Ok(put(Status::Text, fault_line(alloc, number, place)?))
 }
 
-/// The act for a text that gave no image: it puts the line of its fault, or the report on its program, which is late.
+/// The act for a text that gave no image: it puts the line of its fault, or the report on its
+/// program, which is late.
 pub fn refuse<'a>(alloc: Global, format: Format, fault: CompileFault) -> Result<Act<'a>, AllocError>
     requires { Readies (Err fault) }
-    ensures due { IfOk result (λ act. (over : ℕ) (text : List ℕ) → Compiles over text (Err fault) → IsRefused (shown format) over text (outcome_of act)) }
+    ensures due { IfOk result (λ act. (over : ℕ) (text : List ℕ) → Compiles over text (Err fault) →
+        IsRefused (shown format) over text (outcome_of act)) }
     ensures quiet { IfOk result IsQuiet }
 {
     match fault {
@@ -93,7 +96,8 @@ pub fn refuse<'a>(alloc: Global, format: Format, fault: CompileFault) -> Result<
 /// The act that puts the report on a program that is timely.
 fn put_report<'a>(alloc: Global, format: Format, built: &Built) -> Result<Act<'a>, AllocError>
     requires { IsRunnableBuilt built.now }
-    ensures { IfOk result (λ act. act ≡ puts Status.Done (shown format built.now.image.names built.now.image.program built.now.table)) }
+    ensures { IfOk result (λ act. act ≡ puts Status.Done
+        (shown format built.now.image.names built.now.image.program built.now.table)) }
 {
     let image = &built.image;
     let text = report(alloc, format, &image.names, &image.program, &built.table)?;
@@ -108,7 +112,8 @@ fn report_act<'a>(
     over: u16,
 ) -> Result<Act<'a>, AllocError>
     requires { over ≤ 1000 }
-    ensures due { IfOk result (λ act. (text : List ℕ) → IsContent longest_text content.now text → IsReportDue (shown format) over text (outcome_of act)) }
+    ensures due { IfOk result (λ act. (text : List ℕ) → IsContent longest_text content.now text →
+        IsReportDue (shown format) over text (outcome_of act)) }
     ensures quiet { IfOk result IsQuiet }
 {
     match compile_content(alloc, content, over) {
@@ -120,7 +125,8 @@ fn report_act<'a>(
 /// The act that puts what the processes of a program that is timely can spare.
 fn put_slack<'a>(alloc: Global, built: &Built) -> Result<Act<'a>, AllocError>
     requires { IsRunnableBuilt built.now }
-    ensures due { IfOk result (λ act. (over : ℕ) (text : List ℕ) → Compiles over text (Ok built.now) → IsSlackDue over text (outcome_of act)) }
+    ensures due { IfOk result (λ act. (over : ℕ) (text : List ℕ) →
+        Compiles over text (Ok built.now) → IsSlackDue over text (outcome_of act)) }
     ensures quiet { IfOk result IsQuiet }
 {
     let text = slack_text(alloc, &built.image)?;
@@ -130,7 +136,8 @@ fn put_slack<'a>(alloc: Global, built: &Built) -> Result<Act<'a>, AllocError>
 /// The act of `slack` for what the program's file holds.
 fn slack_act<'a>(alloc: Global, content: &Content, over: u16) -> Result<Act<'a>, AllocError>
     requires { over ≤ 1000 }
-    ensures due { IfOk result (λ act. (text : List ℕ) → IsContent longest_text content.now text → IsSlackDue over text (outcome_of act)) }
+    ensures due { IfOk result (λ act. (text : List ℕ) → IsContent longest_text content.now text →
+        IsSlackDue over text (outcome_of act)) }
     ensures quiet { IfOk result IsQuiet }
 {
     match compile_content(alloc, content, over) {
@@ -141,7 +148,8 @@ fn slack_act<'a>(alloc: Global, content: &Content, over: u16) -> Result<Act<'a>,
 
 /// The act of `print` for what the program's file holds.
 fn print_act<'a>(alloc: Global, content: &Content) -> Result<Act<'a>, AllocError>
-    ensures due { IfOk result (λ act. (text : List ℕ) → IsContent longest_text content.now text → IsPrintDue text (outcome_of act)) }
+    ensures due { IfOk result (λ act. (text : List ℕ) → IsContent longest_text content.now text →
+        IsPrintDue text (outcome_of act)) }
     ensures quiet { IfOk result IsQuiet }
 {
     match read_content(alloc, content) {
@@ -154,7 +162,8 @@ fn print_act<'a>(alloc: Global, content: &Content) -> Result<Act<'a>, AllocError
 /// The act that stores the image of a program that is timely, and puts the report.
 fn store_built<'a>(alloc: Global, built: &Built, image: &'a str) -> Result<Act<'a>, AllocError>
     requires { IsRunnableBuilt built.now }
-    ensures due { IfOk result (λ act. (over : ℕ) (text : List ℕ) → Compiles over text (Ok built.now) → IsCompileDue over text (outcome_of act)) }
+    ensures due { IfOk result (λ act. (over : ℕ) (text : List ℕ) →
+        Compiles over text (Ok built.now) → IsCompileDue over text (outcome_of act)) }
     ensures done { IfOk result (CanBeDone (Some image.now)) }
 {
     let raw = &built.image;
@@ -176,7 +185,8 @@ fn compile_act<'a>(
     over: u16,
 ) -> Result<Act<'a>, AllocError>
     requires { over ≤ 1000 }
-    ensures due { IfOk result (λ act. (text : List ℕ) → IsContent longest_text content.now text → IsCompileDue over text (outcome_of act)) }
+    ensures due { IfOk result (λ act. (text : List ℕ) → IsContent longest_text content.now text →
+        IsCompileDue over text (outcome_of act)) }
     ensures done { IfOk result (CanBeDone (Some image.now)) }
 {
     match compile_content(alloc, content, over) {
@@ -194,10 +204,12 @@ pub fn prepare_report<'a, F: Files>(
     files: &mut F,
 ) -> Result<Act<'a>, Unready>
     requires { over ≤ 1000 }
-    ensures prepared { Prepares F.tells (report_call format program.now over) (F.state files.old) (F.state files.new) result }
+    ensures prepared { Prepares F.tells (report_call format program.now over) (F.state files.old)
+        (F.state files.new) result }
     ensures files { AllStay (F.state files.old).held (F.state files.new).held }
     ensures read_counts { NoneFell (F.state files.old).read_faults (F.state files.new).read_faults }
-    ensures write_counts { NoneFell (F.state files.old).write_faults (F.state files.new).write_faults }
+    ensures write_counts { NoneFell (F.state files.old).write_faults
+        (F.state files.new).write_faults }
 {
     let content = read(files, program, LONGEST_PROGRAM)?;
     match report_act(alloc, format, &content, over) {
@@ -214,10 +226,12 @@ pub fn prepare_slack<'a, F: Files>(
     files: &mut F,
 ) -> Result<Act<'a>, Unready>
     requires { over ≤ 1000 }
-    ensures prepared { Prepares F.tells (call.slack program.now over) (F.state files.old) (F.state files.new) result }
+    ensures prepared { Prepares F.tells (call.slack program.now over) (F.state files.old)
+        (F.state files.new) result }
     ensures files { AllStay (F.state files.old).held (F.state files.new).held }
     ensures read_counts { NoneFell (F.state files.old).read_faults (F.state files.new).read_faults }
-    ensures write_counts { NoneFell (F.state files.old).write_faults (F.state files.new).write_faults }
+    ensures write_counts { NoneFell (F.state files.old).write_faults
+        (F.state files.new).write_faults }
 {
     let content = read(files, program, LONGEST_PROGRAM)?;
     match slack_act(alloc, &content, over) {
@@ -232,10 +246,12 @@ pub fn prepare_print<'a, F: Files>(
     program: &str,
     files: &mut F,
 ) -> Result<Act<'a>, Unready>
-    ensures prepared { Prepares F.tells (call.print program.now) (F.state files.old) (F.state files.new) result }
+    ensures prepared { Prepares F.tells (call.print program.now) (F.state files.old)
+        (F.state files.new) result }
     ensures files { AllStay (F.state files.old).held (F.state files.new).held }
     ensures read_counts { NoneFell (F.state files.old).read_faults (F.state files.new).read_faults }
-    ensures write_counts { NoneFell (F.state files.old).write_faults (F.state files.new).write_faults }
+    ensures write_counts { NoneFell (F.state files.old).write_faults
+        (F.state files.new).write_faults }
 {
     let content = read(files, program, LONGEST_PROGRAM)?;
     match print_act(alloc, &content) {
@@ -253,10 +269,12 @@ pub fn prepare_compile<'a, F: Files>(
     files: &mut F,
 ) -> Result<Act<'a>, Unready>
     requires { over ≤ 1000 }
-    ensures prepared { Prepares F.tells (call.compile program.now image.now over) (F.state files.old) (F.state files.new) result }
+    ensures prepared { Prepares F.tells (call.compile program.now image.now over)
+        (F.state files.old) (F.state files.new) result }
     ensures files { AllStay (F.state files.old).held (F.state files.new).held }
     ensures read_counts { NoneFell (F.state files.old).read_faults (F.state files.new).read_faults }
-    ensures write_counts { NoneFell (F.state files.old).write_faults (F.state files.new).write_faults }
+    ensures write_counts { NoneFell (F.state files.old).write_faults
+        (F.state files.new).write_faults }
 {
     let content = read(files, program, LONGEST_PROGRAM)?;
     match compile_act(alloc, &content, image, over) {

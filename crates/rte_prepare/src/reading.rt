@@ -32,11 +32,14 @@ pub enum Content {
 ///
 /// `Unread` only where the name's count of faults rose. `Memory` where there is not enough memory.
 pub fn read<F: Files>(files: &mut F, name: &str, most: usize) -> Result<Content, Unready>
-    ensures content { IfOk result (λ content. OnTrue F.tells (IsSomeAnd ((F.state files.old).held name.now) (IsContent most content))) }
-    ensures unread { result ≡ Err Unready.Unread → Rose ((F.state files.old).read_faults name.now) ((F.state files.new).read_faults name.now) }
+    ensures content { IfOk result (λ content.
+        OnTrue F.tells (IsSomeAnd ((F.state files.old).held name.now) (IsContent most content))) }
+    ensures unread { result ≡ Err Unready.Unread →
+        Rose ((F.state files.old).read_faults name.now) ((F.state files.new).read_faults name.now) }
     ensures files { AllStay (F.state files.old).held (F.state files.new).held }
     ensures read_counts { NoneFell (F.state files.old).read_faults (F.state files.new).read_faults }
-    ensures write_counts { NoneFell (F.state files.old).write_faults (F.state files.new).write_faults }
+    ensures write_counts { NoneFell (F.state files.old).write_faults
+        (F.state files.new).write_faults }
 {
     match files.read(name, most) {
         Ok(bytes) => Ok(Content::Bytes(bytes)),

@@ -40,7 +40,8 @@ fn run_raw<'a>(alloc: Global, image: RawImage, script: Script) -> Act<'a>
 /// The act of `run` for what the script's file holds, where the image is a valid one.
 fn run_act<'a>(alloc: Global, raw: RawImage, content: &Content) -> Result<Act<'a>, AllocError>
     requires { IsRunnable raw }
-    ensures due { IfOk result (λ act. (text : List ℕ) → IsContent longest_text content.now text → IsRawRunDue raw text (outcome_of act)) }
+    ensures due { IfOk result (λ act. (text : List ℕ) → IsContent longest_text content.now text →
+        IsRawRunDue raw text (outcome_of act)) }
     ensures done { IfOk result (CanBeDone None) }
 {
     match judge_script(alloc, content, &raw.names) {
@@ -57,12 +58,17 @@ fn run_on<'a, F: Files>(
     files: &mut F,
 ) -> Result<Act<'a>, Unready>
     requires { IsRunnable raw }
-    ensures due { IfOk result (λ act. OnTrue F.tells (IsSomeAnd ((F.state files.old).held script.now) (λ text. IsRawRunDue raw text (outcome_of act)))) }
+    ensures due { IfOk result (λ act. OnTrue F.tells
+        (IsSomeAnd ((F.state files.old).held script.now)
+        (λ text. IsRawRunDue raw text (outcome_of act)))) }
     ensures done { IfOk result (CanBeDone None) }
-    ensures unread { result ≡ Err Unready.Unread → Rose ((F.state files.old).read_faults script.now) ((F.state files.new).read_faults script.now) }
+    ensures unread { result ≡ Err Unready.Unread →
+        Rose ((F.state files.old).read_faults script.now)
+        ((F.state files.new).read_faults script.now) }
     ensures files { AllStay (F.state files.old).held (F.state files.new).held }
     ensures read_counts { NoneFell (F.state files.old).read_faults (F.state files.new).read_faults }
-    ensures write_counts { NoneFell (F.state files.old).write_faults (F.state files.new).write_faults }
+    ensures write_counts { NoneFell (F.state files.old).write_faults
+        (F.state files.new).write_faults }
 {
     let content = read(files, script, LONGEST_SCRIPT)?;
     match run_act(alloc, raw, &content) {
@@ -78,10 +84,12 @@ pub fn prepare_run<'a, F: Files>(
     script: &str,
     files: &mut F,
 ) -> Result<Act<'a>, Unready>
-    ensures prepared { Prepares F.tells (call.run image.now script.now) (F.state files.old) (F.state files.new) result }
+    ensures prepared { Prepares F.tells (call.run image.now script.now) (F.state files.old)
+        (F.state files.new) result }
     ensures files { AllStay (F.state files.old).held (F.state files.new).held }
     ensures read_counts { NoneFell (F.state files.old).read_faults (F.state files.new).read_faults }
-    ensures write_counts { NoneFell (F.state files.old).write_faults (F.state files.new).write_faults }
+    ensures write_counts { NoneFell (F.state files.old).write_faults
+        (F.state files.new).write_faults }
 {
     let content = read(files, image, LONGEST_IMAGE)?;
     match load_content(alloc, &content) {

@@ -28,9 +28,12 @@ pub fn judge_script(
 ) -> Result<Script, ScriptFault>
     requires devices { length names.now.devices ≤ 2 ^ 16 }
     requires events { length names.now.events ≤ 2 ^ 16 }
-    ensures script { IfOk result (λ script. (text : List ℕ) → IsContent longest_text content.now text → IsScript names.now text script.lines script.end) }
-    ensures some { IfOk result (λ script. (text : List ℕ) × IsScript names.now text script.lines script.end) }
-    ensures fault { IfErr result (λ why. (text : List ℕ) → IsContent longest_text content.now text → (why ≡ fault.Memory) ⊎ IsFault names.now text why) }
+    ensures script { IfOk result (λ script. (text : List ℕ) →
+        IsContent longest_text content.now text → IsScript names.now text script.lines script.end) }
+    ensures some { IfOk result (λ script. (text : List ℕ) ×
+        IsScript names.now text script.lines script.end) }
+    ensures fault { IfErr result (λ why. (text : List ℕ) → IsContent longest_text content.now text →
+        (why ≡ fault.Memory) ⊎ IsFault names.now text why) }
 {
     match content {
         Content::Bytes(text) => read_script(alloc, text.as_slice(), names),

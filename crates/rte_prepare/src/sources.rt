@@ -41,7 +41,8 @@ fn compile_text(alloc: Global, text: &[u8], over: u16) -> Result<Built, CompileF
 /// As those of `compile`; the fault of a text that is too long is 4, at its first byte.
 pub fn compile_content(alloc: Global, content: &Content, over: u16) -> Result<Built, CompileFault>
     requires { over ≤ 1000 }
-    ensures compiles { (text : List ℕ) → IsContent longest_text content.now text → Compiles over text result }
+    ensures compiles { (text : List ℕ) → IsContent longest_text content.now text →
+        Compiles over text result }
     ensures ready { Readies result }
 {
     match content {

@@ -45,7 +45,9 @@ impl Page {
 
     #[tactic(auto, using(crate::proofs::Steps::puts_append))]
     fn range(&mut self, low: &Constant, high: &Constant) -> Result<(), AllocError>
-        ensures { OnOk result (self.new ≡ puts self.old (constant_words (placed_constant low.now) ++ w.RANGE ∷ constant_words (placed_constant high.now))) }
+        ensures { OnOk result (self.new ≡ puts self.old
+            (constant_words (placed_constant low.now) ++ w.RANGE ∷
+            constant_words (placed_constant high.now))) }
     {
         self.constant(low)?;
         self.sign(sign::RANGE)?;
@@ -64,7 +66,10 @@ impl Page {
 
     #[tactic(auto, using(crate::proofs::Steps::puts_append))]
     fn array(&mut self, low: &Constant, high: &Constant, element: &Scalar) -> Result<(), AllocError>
-        ensures { OnOk result (self.new ≡ puts self.old (w.ARRAY ∷ (constant_words (placed_constant low.now) ++ w.RANGE ∷ (constant_words (placed_constant high.now) ++ w.OF ∷ scalar_words (placed_scalar element.now))))) }
+        ensures { OnOk result (self.new ≡ puts self.old
+            (w.ARRAY ∷ (constant_words (placed_constant low.now) ++ w.RANGE ∷
+            (constant_words (placed_constant high.now) ++ w.OF ∷
+            scalar_words (placed_scalar element.now))))) }
     {
         self.keyword(keyword::ARRAY)?;
         self.constant(low)?;
@@ -94,7 +99,8 @@ impl Page {
     }
 
     fn vars(&mut self, vars: &[Var]) -> Result<(), AllocError>
-        ensures { OnOk result (self.new ≡ put_lines self.old (lines_of var_lines (map placed_var vars.now))) }
+        ensures { OnOk result (self.new ≡ put_lines self.old
+            (lines_of var_lines (map placed_var vars.now))) }
     {
         for var in vars {
             self.var(var)?;
@@ -113,7 +119,8 @@ impl Page {
     /// Parameters, with commas between them.
     #[tactic(auto, using(crate::proofs::Steps::puts_append))]
     fn params(&mut self, params: &[Param]) -> Result<(), AllocError>
-        ensures { OnOk result (self.new ≡ puts self.old (listed param_words (map placed_param params.now))) }
+        ensures { OnOk result (self.new ≡ puts self.old
+            (listed param_words (map placed_param params.now))) }
     {
         let Some((first, more)) = params.split_first() else {
             return Ok(());
@@ -128,7 +135,8 @@ impl Page {
 
     /// The type of a function's result.
     fn result(&mut self, kind: &Option<Scalar>) -> Result<(), AllocError>
-        ensures { OnOk result (self.new ≡ puts self.old (result_words (optional placed_scalar kind.now))) }
+        ensures { OnOk result (self.new ≡ puts self.old
+            (result_words (optional placed_scalar kind.now))) }
     {
         if let Some(scalar) = kind {
             self.keyword(keyword::RETURNS)?;
@@ -140,7 +148,8 @@ impl Page {
     /// The name of a routine, its parameters and the type of its result, behind an `entry` or not.
     #[tactic(auto, using(crate::proofs::Steps::puts_append))]
     fn header(&mut self, routine: &Routine) -> Result<(), AllocError>
-        ensures { OnOk result (self.new ≡ ended (puts self.old (header_words (placed_routine routine.now)))) }
+        ensures { OnOk result (self.new ≡ ended
+            (puts self.old (header_words (placed_routine routine.now)))) }
     {
         self.keyword(kind_keyword(routine.kind))?;
         self.name(&routine.name)?;
@@ -153,7 +162,8 @@ impl Page {
 
     /// The line of a function's result.
     fn value(&mut self, value: &Option<Expr>) -> Result<(), AllocError>
-        ensures { OnOk result (self.new ≡ put_lines self.old (return_lines (optional placed_expr value.now))) }
+        ensures { OnOk result (self.new ≡ put_lines self.old
+            (return_lines (optional placed_expr value.now))) }
     {
         if let Some(expr) = value {
             self.expr_line(keyword::RETURN, expr)?;
@@ -164,7 +174,8 @@ impl Page {
     /// What follows the header of a routine.
     #[tactic(auto, using(crate::proofs::Steps::put_lines_append))]
     fn rest_of(&mut self, routine: &Routine) -> Result<(), AllocError>
-        ensures { OnOk result (self.new ≡ put_lines self.old (rest_of_routine (placed_routine routine.now))) }
+        ensures { OnOk result (self.new ≡ put_lines self.old
+            (rest_of_routine (placed_routine routine.now))) }
     {
         self.vars(routine.vars.as_slice())?;
         self.keyword_line(keyword::BEGIN)?;
@@ -174,14 +185,16 @@ impl Page {
     }
 
     fn routine(&mut self, routine: &Routine) -> Result<(), AllocError>
-        ensures { OnOk result (self.new ≡ put_lines self.old (routine_lines (placed_routine routine.now))) }
+        ensures { OnOk result (self.new ≡ put_lines self.old
+            (routine_lines (placed_routine routine.now))) }
     {
         self.header(routine)?;
         self.rest_of(routine)
     }
 
     fn routines(&mut self, routines: &[Routine]) -> Result<(), AllocError>
-        ensures { OnOk result (self.new ≡ put_lines self.old (lines_of routine_lines (map placed_routine routines.now))) }
+        ensures { OnOk result (self.new ≡ put_lines self.old
+            (lines_of routine_lines (map placed_routine routines.now))) }
     {
         for routine in routines {
             self.routine(routine)?;
@@ -190,7 +203,8 @@ impl Page {
     }
 
     fn entry_routine(&mut self, routine: &Routine) -> Result<(), AllocError>
-        ensures { OnOk result (self.new ≡ put_lines self.old (entry_lines (placed_routine routine.now))) }
+        ensures { OnOk result (self.new ≡ put_lines self.old
+            (entry_lines (placed_routine routine.now))) }
     {
         self.keyword(keyword::ENTRY)?;
         self.header(routine)?;
@@ -198,7 +212,8 @@ impl Page {
     }
 
     fn entries(&mut self, entries: &[Routine]) -> Result<(), AllocError>
-        ensures { OnOk result (self.new ≡ put_lines self.old (lines_of entry_lines (map placed_routine entries.now))) }
+        ensures { OnOk result (self.new ≡ put_lines self.old
+            (lines_of entry_lines (map placed_routine entries.now))) }
     {
         for entry in entries {
             self.entry_routine(entry)?;
@@ -207,7 +222,8 @@ impl Page {
     }
 
     fn member(&mut self, member: &Member) -> Result<(), AllocError>
-        ensures { OnOk result (self.new ≡ put_lines self.old (member_lines (placed_member member.now))) }
+        ensures { OnOk result (self.new ≡ put_lines self.old
+            (member_lines (placed_member member.now))) }
     {
         match member {
             Member::Var(var) => self.var(var),
@@ -216,7 +232,8 @@ impl Page {
     }
 
     fn members(&mut self, members: &[Member]) -> Result<(), AllocError>
-        ensures { OnOk result (self.new ≡ put_lines self.old (lines_of member_lines (map placed_member members.now))) }
+        ensures { OnOk result (self.new ≡ put_lines self.old
+            (lines_of member_lines (map placed_member members.now))) }
     {
         for member in members {
             self.member(member)?;
@@ -226,7 +243,8 @@ impl Page {
 
     #[tactic(auto, using(crate::proofs::Steps::put_lines_append))]
     fn monitor(&mut self, monitor: &Mon) -> Result<(), AllocError>
-        ensures { OnOk result (self.new ≡ put_lines self.old (monitor_lines (placed_monitor monitor.now))) }
+        ensures { OnOk result (self.new ≡ put_lines self.old
+            (monitor_lines (placed_monitor monitor.now))) }
     {
         self.named_line(keyword::MONITOR, &monitor.name)?;
         self.members(monitor.members.as_slice())?;
@@ -236,7 +254,8 @@ impl Page {
 
     /// The first activation of a process, where it is said.
     fn first(&mut self, first: &Option<Constant>) -> Result<(), AllocError>
-        ensures { OnOk result (self.new ≡ puts self.old (first_words (optional placed_constant first.now))) }
+        ensures { OnOk result (self.new ≡ puts self.old
+            (first_words (optional placed_constant first.now))) }
     {
         if let Some(at) = first {
             self.keyword(keyword::FIRST)?;
@@ -249,7 +268,8 @@ impl Page {
 
     /// The deadline of a process, where it is told.
     fn deadline(&mut self, deadline: &Option<Constant>) -> Result<(), AllocError>
-        ensures { OnOk result (self.new ≡ puts self.old (deadline_words (optional placed_constant deadline.now))) }
+        ensures { OnOk result (self.new ≡ puts self.old
+            (deadline_words (optional placed_constant deadline.now))) }
     {
         if let Some(ticks) = deadline {
             self.deadline_word()?;
@@ -261,7 +281,9 @@ impl Page {
     /// The frame of a process, and its deadline where it is told.
     #[tactic(auto, using(crate::proofs::Steps::puts_append))]
     fn times(&mut self, frame: &Constant, deadline: &Option<Constant>) -> Result<(), AllocError>
-        ensures { OnOk result (self.new ≡ puts self.old (w.FRAME ∷ (constant_words (placed_constant frame.now) ++ deadline_words (optional placed_constant deadline.now)))) }
+        ensures { OnOk result (self.new ≡ puts self.old
+            (w.FRAME ∷ (constant_words (placed_constant frame.now) ++
+            deadline_words (optional placed_constant deadline.now)))) }
     {
         self.keyword(keyword::FRAME)?;
         self.constant(frame)?;
@@ -270,7 +292,8 @@ impl Page {
 
     #[tactic(auto, using(crate::proofs::Steps::puts_append))]
     fn activation(&mut self, activation: &Activation) -> Result<(), AllocError>
-        ensures { OnOk result (self.new ≡ puts self.old (activation_words (placed_activation activation.now))) }
+        ensures { OnOk result (self.new ≡ puts self.old
+            (activation_words (placed_activation activation.now))) }
     {
         match activation {
             Activation::Periodic {
@@ -298,7 +321,8 @@ impl Page {
     /// The numbers of a handler, with commas between them.
     #[tactic(auto, using(crate::proofs::Steps::puts_append))]
     fn numbers(&mut self, numbers: &[Constant]) -> Result<(), AllocError>
-        ensures { OnOk result (self.new ≡ puts self.old (listed constant_words (map placed_constant numbers.now))) }
+        ensures { OnOk result (self.new ≡ puts self.old
+            (listed constant_words (map placed_constant numbers.now))) }
     {
         let Some((first, more)) = numbers.split_first() else {
             return Ok(());
@@ -314,7 +338,8 @@ impl Page {
     /// The line that begins a handler.
     #[tactic(auto, using(crate::proofs::Steps::puts_append))]
     fn handler_line(&mut self, numbers: &[Constant]) -> Result<(), AllocError>
-        ensures { OnOk result (self.new ≡ ended (puts self.old (handler_words (map placed_constant numbers.now)))) }
+        ensures { OnOk result (self.new ≡ ended
+            (puts self.old (handler_words (map placed_constant numbers.now)))) }
     {
         self.keyword(keyword::HANDLER)?;
         self.sign(sign::LEFT_PAREN)?;
@@ -324,7 +349,8 @@ impl Page {
     }
 
     fn handler(&mut self, handler: &Option<Handler>) -> Result<(), AllocError>
-        ensures { OnOk result (self.new ≡ put_lines self.old (handler_lines (optional placed_handler handler.now))) }
+        ensures { OnOk result (self.new ≡ put_lines self.old
+            (handler_lines (optional placed_handler handler.now))) }
     {
         if let Some(handler) = handler {
             self.handler_line(handler.numbers.as_slice())?;
@@ -335,7 +361,8 @@ impl Page {
 
     /// The line that begins a process.
     fn process_line(&mut self, process: &Proc) -> Result<(), AllocError>
-        ensures { OnOk result (self.new ≡ ended (puts self.old (process_words (placed_process process.now)))) }
+        ensures { OnOk result (self.new ≡ ended
+            (puts self.old (process_words (placed_process process.now)))) }
     {
         self.keyword(keyword::PROCESS)?;
         self.name(&process.name)?;
@@ -346,7 +373,8 @@ impl Page {
 
     #[tactic(auto, using(crate::proofs::Steps::put_lines_append))]
     fn process(&mut self, process: &Proc) -> Result<(), AllocError>
-        ensures { OnOk result (self.new ≡ put_lines self.old (process_lines (placed_process process.now))) }
+        ensures { OnOk result (self.new ≡ put_lines self.old
+            (process_lines (placed_process process.now))) }
     {
         self.process_line(process)?;
         self.vars(process.vars.as_slice())?;
@@ -382,7 +410,8 @@ impl Page {
     }
 
     fn decls(&mut self, decls: &[Decl]) -> Result<(), AllocError>
-        ensures { OnOk result (self.new ≡ put_lines self.old (lines_of decl_lines (map placed_decl decls.now))) }
+        ensures { OnOk result (self.new ≡ put_lines self.old
+            (lines_of decl_lines (map placed_decl decls.now))) }
     {
         for decl in decls {
             self.decl(decl)?;

@@ -15,7 +15,8 @@ use std::alloc::AllocError;
 impl Page {
     #[tactic(auto, using(crate::proofs::Steps::puts_append))]
     pub fn constant(&mut self, constant: &Constant) -> Result<(), AllocError>
-        ensures { OnOk result (self.new ≡ puts self.old (constant_words (placed_constant constant.now))) }
+        ensures { OnOk result (self.new ≡ puts self.old
+            (constant_words (placed_constant constant.now))) }
     {
         if constant.minus {
             self.sign(sign::MINUS)?;
@@ -81,7 +82,8 @@ impl Page {
     /// Operators, each with its right operand.
     #[cycle(expr)]
     fn operands(&mut self, operands: &[(Op, Expr)]) -> Result<(), AllocError>
-        ensures { OnOk result (self.new ≡ puts self.old (operands_words (placed_operands operands.now))) }
+        ensures { OnOk result (self.new ≡ puts self.old
+            (operands_words (placed_operands operands.now))) }
     {
         for operand in operands {
             self.operator(operand.0)?;
@@ -94,7 +96,8 @@ impl Page {
     #[cycle(expr)]
     #[tactic(auto, using(crate::proofs::Steps::puts_append))]
     fn paren(&mut self, inner: &Expr) -> Result<(), AllocError>
-        ensures { OnOk result (self.new ≡ puts self.old (w.LEFT_PAREN ∷ (expr_words (placed_expr inner.now) ++ w.RIGHT_PAREN ∷ []))) }
+        ensures { OnOk result (self.new ≡ puts self.old
+            (w.LEFT_PAREN ∷ (expr_words (placed_expr inner.now) ++ w.RIGHT_PAREN ∷ []))) }
     {
         self.sign(sign::LEFT_PAREN)?;
         self.expr(inner)?;

@@ -12,8 +12,10 @@ ghost use Rattle.rte_print.specs.ReadBack.{AreSpelled, HasTree, IsPrinted};
 /// The canonical text of the tree of some tokens, where it has at most 1,048,576 bytes, has tokens,
 /// and these have that tree, apart from places.
 pub fn reads_back()
-    ensures tokens { (g : Prog Place) → IsPrinted g → (toks : List Token) × tokens (canonical (bare g)) toks }
-    ensures tree { (g : Prog Place) → IsPrinted g → (toks : List Token) → tokens (canonical (bare g)) toks → HasTree (canonical (bare g)) toks g }
+    ensures tokens { (g : Prog Place) → IsPrinted g → (toks : List Token) ×
+        tokens (canonical (bare g)) toks }
+    ensures tree { (g : Prog Place) → IsPrinted g → (toks : List Token) →
+        tokens (canonical (bare g)) toks → HasTree (canonical (bare g)) toks g }
 {}
 
 /// The tokens of a text are spelled as their kinds are.

@@ -36,7 +36,8 @@ fn gap(fresh: bool) -> &'static [u8]
 impl Page {
     /// A word with these bytes, after a space unless it is the first of its line.
     fn word(&mut self, bytes: &[u8]) -> Result<(), AllocError>
-        ensures text { OnOk result (self.new.text ≡ (self.old.text ++ gap_of self.old.fresh) ++ bytes.now) }
+        ensures text { OnOk result (self.new.text ≡ (self.old.text ++ gap_of self.old.fresh) ++
+            bytes.now) }
         ensures fresh { OnOk result (self.new.fresh ≡ false) }
     {
         self.text.extend(gap(self.fresh))?;

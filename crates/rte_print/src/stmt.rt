@@ -16,7 +16,8 @@ impl Page {
     /// A line of a keyword and a name.
     pub fn named_line(&mut self, at: u8, name: &Name) -> Result<(), AllocError>
         requires { at < length keywords }
-        ensures { OnOk result (self.new ≡ ended (puts self.old (w.keyword at ∷ w.named name.now ∷ []))) }
+        ensures { OnOk result (self.new ≡ ended
+            (puts self.old (w.keyword at ∷ w.named name.now ∷ []))) }
     {
         self.keyword(at)?;
         self.name(name)?;
@@ -35,7 +36,8 @@ impl Page {
     /// A line of a keyword and an expression.
     pub fn expr_line(&mut self, at: u8, expr: &Expr) -> Result<(), AllocError>
         requires { at < length keywords }
-        ensures { OnOk result (self.new ≡ ended (puts self.old (w.keyword at ∷ expr_words (placed_expr expr.now)))) }
+        ensures { OnOk result (self.new ≡ ended
+            (puts self.old (w.keyword at ∷ expr_words (placed_expr expr.now)))) }
     {
         self.keyword(at)?;
         self.expr(expr)?;
@@ -54,7 +56,8 @@ impl Page {
 
     /// An entry of a monitor and its arguments.
     fn entry(&mut self, mon: &Name, entry: &Name, args: &List<Expr>) -> Result<(), AllocError>
-        ensures { OnOk result (self.new ≡ puts self.old (w.named mon.now ∷ w.DOT ∷ w.named entry.now ∷ in_parens (placed_exprs args.now))) }
+        ensures { OnOk result (self.new ≡ puts self.old
+            (w.named mon.now ∷ w.DOT ∷ w.named entry.now ∷ in_parens (placed_exprs args.now))) }
     {
         self.name(mon)?;
         self.sign(sign::DOT)?;
@@ -64,7 +67,9 @@ impl Page {
 
     #[tactic(auto, using(crate::proofs::Steps::puts_append))]
     fn assign(&mut self, target: &Ref, value: &Expr) -> Result<(), AllocError>
-        ensures { OnOk result (self.new ≡ ended (puts self.old (ref_words (placed_ref target.now) ++ w.ASSIGN ∷ expr_words (placed_expr value.now)))) }
+        ensures { OnOk result (self.new ≡ ended
+            (puts self.old (ref_words (placed_ref target.now) ++ w.ASSIGN ∷
+            expr_words (placed_expr value.now)))) }
     {
         self.reference(target)?;
         self.sign(sign::ASSIGN)?;
@@ -80,7 +85,9 @@ impl Page {
         entry: &Name,
         args: &List<Expr>,
     ) -> Result<(), AllocError>
-        ensures { OnOk result (self.new ≡ ended (puts self.old (ref_words (placed_ref target.now) ++ w.ASSIGN ∷ w.named mon.now ∷ w.DOT ∷ w.named entry.now ∷ in_parens (placed_exprs args.now)))) }
+        ensures { OnOk result (self.new ≡ ended
+            (puts self.old (ref_words (placed_ref target.now) ++ w.ASSIGN ∷ w.named mon.now ∷
+            w.DOT ∷ w.named entry.now ∷ in_parens (placed_exprs args.now)))) }
     {
         self.reference(target)?;
         self.sign(sign::ASSIGN)?;
@@ -90,7 +97,9 @@ impl Page {
 
     #[tactic(auto, using(crate::proofs::Steps::puts_append))]
     fn assign_empty(&mut self, target: &Ref, cond: &Name) -> Result<(), AllocError>
-        ensures { OnOk result (self.new ≡ ended (puts self.old (ref_words (placed_ref target.now) ++ w.ASSIGN ∷ w.EMPTY ∷ w.named cond.now ∷ []))) }
+        ensures { OnOk result (self.new ≡ ended
+            (puts self.old (ref_words (placed_ref target.now) ++ w.ASSIGN ∷ w.EMPTY ∷
+            w.named cond.now ∷ []))) }
     {
         self.reference(target)?;
         self.sign(sign::ASSIGN)?;
@@ -111,7 +120,9 @@ impl Page {
     /// The line that begins a `for`.
     #[tactic(auto, using(crate::proofs::Steps::puts_append))]
     fn for_line(&mut self, name: &Name, low: &Constant, high: &Constant) -> Result<(), AllocError>
-        ensures { OnOk result (self.new ≡ ended (puts self.old (for_words name.now (placed_constant low.now) (placed_constant high.now)))) }
+        ensures { OnOk result (self.new ≡ ended
+            (puts self.old (for_words name.now (placed_constant low.now)
+            (placed_constant high.now)))) }
     {
         self.keyword(keyword::FOR)?;
         self.name(name)?;
@@ -125,7 +136,10 @@ impl Page {
 
     #[tactic(auto, using(crate::proofs::Steps::puts_append))]
     fn wait(&mut self, cond: &Name, limit: &Constant, number: &Constant) -> Result<(), AllocError>
-        ensures { OnOk result (self.new ≡ ended (puts self.old (w.WAIT ∷ w.named cond.now ∷ w.NO_LONGER_THAN ∷ (constant_words (placed_constant limit.now) ++ w.COLON ∷ constant_words (placed_constant number.now))))) }
+        ensures { OnOk result (self.new ≡ ended
+            (puts self.old (w.WAIT ∷ w.named cond.now ∷ w.NO_LONGER_THAN ∷
+            (constant_words (placed_constant limit.now) ++ w.COLON ∷
+            constant_words (placed_constant number.now))))) }
     {
         self.keyword(keyword::WAIT)?;
         self.name(cond)?;
@@ -137,7 +151,8 @@ impl Page {
     }
 
     fn call(&mut self, name: &Name, args: &List<Expr>) -> Result<(), AllocError>
-        ensures { OnOk result (self.new ≡ ended (puts self.old (w.named name.now ∷ in_parens (placed_exprs args.now)))) }
+        ensures { OnOk result (self.new ≡ ended
+            (puts self.old (w.named name.now ∷ in_parens (placed_exprs args.now)))) }
     {
         self.name(name)?;
         self.args(args.as_slice())?;
@@ -145,21 +160,25 @@ impl Page {
     }
 
     fn call_entry(&mut self, mon: &Name, entry: &Name, args: &List<Expr>) -> Result<(), AllocError>
-        ensures { OnOk result (self.new ≡ ended (puts self.old (w.named mon.now ∷ w.DOT ∷ w.named entry.now ∷ in_parens (placed_exprs args.now)))) }
+        ensures { OnOk result (self.new ≡ ended
+            (puts self.old (w.named mon.now ∷ w.DOT ∷ w.named entry.now ∷
+            in_parens (placed_exprs args.now)))) }
     {
         self.entry(mon, entry, args)?;
         self.end_line()
     }
 
     fn exit_when(&mut self, test: &Expr) -> Result<(), AllocError>
-        ensures { OnOk result (self.new ≡ ended (puts self.old (w.EXIT ∷ w.WHEN ∷ expr_words (placed_expr test.now)))) }
+        ensures { OnOk result (self.new ≡ ended
+            (puts self.old (w.EXIT ∷ w.WHEN ∷ expr_words (placed_expr test.now)))) }
     {
         self.keyword(keyword::EXIT)?;
         self.expr_line(keyword::WHEN, test)
     }
 
     fn get(&mut self, device: &Name, target: &Ref) -> Result<(), AllocError>
-        ensures { OnOk result (self.new ≡ ended (puts self.old (w.GET ∷ w.named device.now ∷ ref_words (placed_ref target.now)))) }
+        ensures { OnOk result (self.new ≡ ended
+            (puts self.old (w.GET ∷ w.named device.now ∷ ref_words (placed_ref target.now)))) }
     {
         self.keyword(keyword::GET)?;
         self.name(device)?;
@@ -168,7 +187,8 @@ impl Page {
     }
 
     fn put(&mut self, device: &Name, value: &Expr) -> Result<(), AllocError>
-        ensures { OnOk result (self.new ≡ ended (puts self.old (w.PUT ∷ w.named device.now ∷ expr_words (placed_expr value.now)))) }
+        ensures { OnOk result (self.new ≡ ended
+            (puts self.old (w.PUT ∷ w.named device.now ∷ expr_words (placed_expr value.now)))) }
     {
         self.keyword(keyword::PUT)?;
         self.name(device)?;
@@ -177,7 +197,8 @@ impl Page {
     }
 
     fn except(&mut self, number: &Constant) -> Result<(), AllocError>
-        ensures { OnOk result (self.new ≡ ended (puts self.old (w.EXCEPT ∷ constant_words (placed_constant number.now)))) }
+        ensures { OnOk result (self.new ≡ ended
+            (puts self.old (w.EXCEPT ∷ constant_words (placed_constant number.now)))) }
     {
         self.keyword(keyword::EXCEPT)?;
         self.constant(number)?;
@@ -250,7 +271,8 @@ impl Page {
     /// Statements, one after another.
     #[cycle(stmt)]
     pub fn stmts(&mut self, stmts: &[Stmt]) -> Result<(), AllocError>
-        ensures { OnOk result (self.new ≡ put_lines self.old (stmts_lines (placed_stmts stmts.now))) }
+        ensures { OnOk result (self.new ≡ put_lines self.old
+            (stmts_lines (placed_stmts stmts.now))) }
     {
         for stmt in stmts {
             self.stmt(stmt)?;

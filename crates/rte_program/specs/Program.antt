@@ -1,4 +1,5 @@
--- What a program text is: a text whose tree keeps to all rules; and what its fault is, where it is none.
+-- What a program text is: a text whose tree keeps to all rules; and what its fault is, where it is
+-- none.
 use Rattle.std.specs.Prelude.{ℕ, List}
 use Rattle.rte_tree.specs.declared.place.Place.{Place}
 use Rattle.rte_tree.specs.Placed.{Prog}

@@ -21,8 +21,9 @@ pub record IsTreeOf (text : List ℕ) (g : Prog Place) : Type 0 where
   pub listed : tokens text toks
   pub grown : tree text toks g
 
--- a fault of nesting stands at the token that opens level 65; there is another only where no token does, and it stands at the token
--- with which the tokens read no longer begin a program, or at the text's end
+-- a fault of nesting stands at the token that opens level 65; there is another only where no token
+-- does, and it stands at the token with which the tokens read no longer begin a program, or at the
+-- text's end
 abbrev pub Stands : List ℕ → Tokens → SynFault → Type 0
 Stands text toks (syn.Syntax place) = StopsAt text toks place × ((p : Place) → ¬ OpensAt text toks.list p)
 Stands text toks (syn.Nesting place) = OpensAt text toks.list place
@@ -44,7 +45,8 @@ start = record { line = 1; col = 1 }
 pub data IsSourceFault (text : List ℕ) (number : ℕ) (place : Place) : Type 0 where
   -- its length: it has too many bytes
   too_long : number ≡ 4 → place ≡ start → Faulty text lex.Long → IsSourceFault text number place
-  -- its tokens: the first piece that is none has a bad byte, a literal that is too large, or an identifier that is too long
+  -- its tokens: the first piece that is none has a bad byte, a literal that is too large, or an
+  -- identifier that is too long
   bad_byte : number ≡ 1 → Faulty text (lex.Byte place.line place.col) → IsSourceFault text number place
   large_literal : number ≡ 2 → Faulty text (lex.Literal place.line place.col) → IsSourceFault text number place
   long_name : number ≡ 3 → Faulty text (lex.Ident place.line place.col) → IsSourceFault text number place

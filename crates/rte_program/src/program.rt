@@ -45,7 +45,8 @@ pub fn read(alloc: Global, text: &[u8]) -> Result<Checked, SourceFault>
     // What is read is the program of the text.
     ensures found { IfOk result (λ c. IsProgramOf text.now (placed c)) }
     // A program of the text is read, unless memory runs out.
-    ensures only { (g : SpecProg SpecPlace) → IsProgramOf text.now g → MatchResult result (λ c. placed c ≡ g) (λ f. f ≡ SourceFault.Memory) }
+    ensures only { (g : SpecProg SpecPlace) → IsProgramOf text.now g →
+        MatchResult result (λ c. placed c ≡ g) (λ f. f ≡ SourceFault.Memory) }
     // A fault is the text's.
     ensures fault { IfErr result (λ f. IsFaultOf text.now f) }
 {

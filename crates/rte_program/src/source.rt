@@ -23,7 +23,8 @@ pub fn read_tree(alloc: Global, text: &[u8]) -> Result<Prog, SourceFault>
     // What is read is the tree of the text.
     ensures found { IfOk result (λ g. IsTreeOf text.now (placed g)) }
     // A tree of the text is read, unless memory runs out.
-    ensures only { (g : SpecProg SpecPlace) → IsTreeOf text.now g → MatchResult result (λ p. placed p ≡ g) (λ f. f ≡ SourceFault.Memory) }
+    ensures only { (g : SpecProg SpecPlace) → IsTreeOf text.now g →
+        MatchResult result (λ p. placed p ≡ g) (λ f. f ≡ SourceFault.Memory) }
     // A fault is the text's.
     ensures fault { IfErr result (λ f. IsSourceFaultOf text.now f) }
 {

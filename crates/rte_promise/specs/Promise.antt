@@ -51,7 +51,8 @@ pub record HasSpared (over : ℕ) (program : List ℕ) (before now : Outside) : 
   pub told : IsSlackText built lines
   pub put : Appends before.out.taken now.out.taken lines
 
--- the canonical text of the tree, where it is no longer than a text may be, has tokens, and these have that tree, apart from places
+-- the canonical text of the tree, where it is no longer than a text may be, has tokens, and these
+-- have that tree, apart from places
 abbrev pub ReadsBack : Prog Place → Type 0
 ReadsBack tree = length (canonical (bare tree)) ≤ longest_text → (toks : List Token) × tokens (canonical (bare tree)) toks × HasTree (canonical (bare tree)) toks tree
 
@@ -64,8 +65,8 @@ pub record HasPrinted (program : List ℕ) (before now : Outside) : Type 0 where
   pub put : Appends before.out.taken now.out.taken (canonical (bare tree))
   pub back : ReadsBack tree
 
--- `run`: an image is valid, whoever made it, and its log over the script is put; every run of it over a script for its names is in
--- time and size
+-- `run`: an image is valid, whoever made it, and its log over the script is put; every run of it
+-- over a script for its names is in time and size
 pub record HasRun (image script : List ℕ) (before now : Outside) : Type 0 where
   pub bytes : List ℕ
   pub held : before.files.held image ≡ Some bytes
@@ -98,8 +99,8 @@ HasDone (print program) before now = HasPrinted program before now
 HasDone (run image script) before now = HasRun image script before now
 HasDone (migrate image target) before now = HasMigrated image target before now
 
--- the call answers 3 exactly where the recurrence of some process of the program has no solution within its deadline; a call that
--- asks no program for its time never does
+-- the call answers 3 exactly where the recurrence of some process of the program has no solution
+-- within its deadline; a call that asks no program for its time never does
 abbrev pub IsRefusedForTime : Call → Outside → Type 0
 IsRefusedForTime (go program image script over) before = IsUnsolved over (before.files.held program)
 IsRefusedForTime (check program over) before = IsUnsolved over (before.files.held program)

@@ -7,7 +7,7 @@ use Rattle.rte_source_meaning.specs.Names.{processes, routine_count}
 use Rattle.rte_emits.specs.Layout.{by_process}
 use Rattle.rte_emits.specs.Numbering.{Text, Called, called_text, routine_calls, numbered}
 use Rattle.rte_wellformed.specs.WellFormed.{IsWellFormed, OptionalFits}
-use Rattle.rte_ruled.specs.Ruled.{NamesApart}
+use Rattle.rte_sound.specs.Passed.{NamesApart}
 use Rattle.rte_whole.specs.Quiet.{NoWait, NoWaits, IsQuietBelow, QuietHandler, AreQuiet}
 use Rattle.rte_numbered.specs.Numbered.{CallsText}
 use Rattle.rte_numbered.proofs.Lists.{contains_here, contains_later, contains_cases, nothing_in}

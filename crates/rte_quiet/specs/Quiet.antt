@@ -5,7 +5,7 @@ use Rattle.rte_source_meaning.specs.Names.{processes, routine_count}
 use Rattle.rte_emits.specs.Layout.{by_process}
 use Rattle.rte_emits.specs.Numbering.{Text, Called, called_text, stmts_calls, routine_calls}
 use Rattle.rte_wellformed.specs.WellFormed.{IsWellFormed}
-use Rattle.rte_ruled.specs.Ruled.{NamesApart}
+use Rattle.rte_sound.specs.Passed.{NamesApart}
 use Rattle.rte_whole.specs.Quiet.{AreQuiet}
 
 -- there is a wait among the statements
@@ -46,7 +46,8 @@ unfoldable pub quiet_within : ℕ → Prog → Text → Bool
 quiet_within zero g t = false
 quiet_within (suc n) g t = not (stmts_wait t.routine.body) && all_quiet (quiet_within n g) (called_text g t.owner) (routine_calls t.routine)
 
--- the routine neither waits nor calls one that reaches a wait; calls are nested less deep than there are routines
+-- the routine neither waits nor calls one that reaches a wait; calls are nested less deep than
+-- there are routines
 unfoldable pub reaches_no_wait : Prog → Text → Bool
 reaches_no_wait g t = quiet_within (routine_count g) g t
 
@@ -58,6 +59,7 @@ pub record HandlerQuiet (g : Prog) (k : ℕ) (h : Handler) : Type 0 where
 abbrev pub HandlersQuiet : Prog → Type 0
 HandlersQuiet g = (k : ℕ) (p : Process) (h : Handler) → slice_get (processes g) k ≡ Some p → p.handler ≡ Some h → HandlerQuiet g k h
 
--- The law: where handlers are so, the routines that reach no wait are quiet, with all that they call.
+-- The law: where handlers are so, the routines that reach no wait are quiet, with all that they
+-- call.
 abbrev pub QuietProgramsAreQuiet : Type 0
 QuietProgramsAreQuiet = (g : Prog) → IsWellFormed g → NamesApart g → HandlersQuiet g → AreQuiet g (reaches_no_wait g)

@@ -3,7 +3,8 @@
 ghost use Rattle.rte_quiet.specs.Example.{ExampleReaches};
 ghost use Rattle.rte_quiet.specs.Quiet.{QuietProgramsAreQuiet};
 
-/// Where no handler reaches a wait, the routines that reach none do not wait and call only one another.
+/// Where no handler reaches a wait, the routines that reach none do not wait and call only one
+/// another.
 pub fn quiet_programs_are_quiet()
     ensures { QuietProgramsAreQuiet }
 {}

@@ -11,8 +11,8 @@ use rte_seg_copy::copied_tree;
 use rte_tree::List;
 use std::alloc::{AllocError, Global};
 
-/// What is filled in last of a process: its rank, from 1, which is the highest, and its block and its
-/// bound, in ticks.
+/// What is filled in last of a process: its rank, from 1, which is the highest, and its block and
+/// its bound, in ticks.
 #[derive(Clone, Copy, Debug, PartialEq, Eq)]
 pub struct Times {
     pub rank: u16,

@@ -49,10 +49,10 @@ fn with_blocks(alloc: Global, image: RawImage, stays: &Stays) -> Result<RawImage
     })
 }
 
-/// The image with its ranks by deadlines (Leung and Whitehead), the ceilings of its monitors, and the
-/// blocks of its processes (immediate ceilings); each bound is the deadline, until the least one is
-/// known. It asks nothing of the ranks, ceilings, blocks and bounds that stand there before, and fails
-/// only where memory is wanting.
+/// The image with its ranks by deadlines (Leung and Whitehead), the ceilings of its monitors, and
+/// the blocks of its processes (immediate ceilings); each bound is the deadline, until the least
+/// one is known. It asks nothing of the ranks, ceilings, blocks and bounds that stand there before,
+/// and fails only where memory is wanting.
 pub fn rank(alloc: Global, image: RawImage) -> Result<RawImage, AllocError>
     requires few { length image.processes ≤ 64 }
     ensures same { IfOk result (λ now. DiffersInRanks (named_of image) (named_of now)) }

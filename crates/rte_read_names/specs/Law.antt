@@ -7,7 +7,8 @@ use Rattle.rte_log.specs.InRange.{AreSound}
 use Rattle.rte_machine_meaning.specs.Image.{Process}
 use Rattle.rte_script.specs.Scripts.{frame_of}
 
--- the names can stand in a line and are as many as the parts; and each process is periodic or released by an event
+-- the names can stand in a line and are as many as the parts; and each process is periodic or
+-- released by an event
 pub record IsNamed (raw : RawImage) : Type 0 where
   pub sound : AreSound raw.names
   pub processes : length raw.names.processes ≡ length raw.processes

@@ -10,12 +10,14 @@ ghost use Rattle.rte_grammar.specs.Grammar.{tree};
 
 /// The tokens of a text have at most one tree.
 pub fn one_tree()
-    ensures { (text : List ℕ) (toks : List Token) (g h : Prog Place) → tree text toks g → tree text toks h → g ≡ h }
+    ensures { (text : List ℕ) (toks : List Token) (g h : Prog Place) → tree text toks g →
+        tree text toks h → g ≡ h }
 {}
 
 /// Trees that are equal apart from places have equal tokens: the same keywords, signs, names and
 /// values in the same order.
 pub fn one_list()
-    ensures { (text other : List ℕ) (toks others : List Token) (g h : Prog Place) → tree text toks g → tree other others h
+    ensures { (text other : List ℕ) (toks others : List Token) (g h : Prog Place) →
+        tree text toks g → tree other others h
         → bare g ≡ bare h → words_of (toks_of text toks) ≡ words_of (toks_of other others) }
 {}

@@ -1,4 +1,5 @@
--- Tables whose reports are known: the program that puts one number, a mine pump, and a program that is late.
+-- Tables whose reports are known: the program that puts one number, a mine pump, and a program that
+-- is late.
 use Rattle.std.specs.Prelude.{◌≡◌, ℕ, List, [], ◌∷◌, Option, Some, None, codes}
 use Rattle.rte_image.specs.declared.names.ImageNames.{ImageNames}
 use Rattle.rte_table.specs.declared.table.Row.{Row}
@@ -38,7 +39,8 @@ abbrev pub MineIsShown : Type 0
 MineIsShown = report_text mine_names (codes "mine") mine_table
     ≡ codes "program mine\nprocess gasWatch frame 800 rank 1 cost 160 suspend 0 waits 0 block 27 bound 187 data 1 stack 4\nprocess airWatch frame 1000 rank 2 cost 35 suspend 0 waits 0 block 27 bound 222 data 1 stack 2\nprocess flow frame 2000 rank 3 cost 65 suspend 0 waits 0 block 16 bound 276 data 1 stack 3\nprocess shower frame 3000 rank 4 cost 60 suspend 900 waits 1 block 16 bound 1447 data 1 stack 3\nprocess tally frame 10000 rank 5 cost 281 suspend 0 waits 0 block 16 bound 1888 data 11 stack 5\nprocess selfTest frame 60000 rank 6 cost 50 suspend 0 waits 0 block 0 bound 1906 data 0 stack 4\nmonitor motor ceiling 1 words 2\nmonitor box ceiling 1 words 1\ncode 103\ntimely\n"
 
--- one whose deadline is not its frame, in time, and one that is late, beside a monitor that nothing uses
+-- one whose deadline is not its frame, in time, and one that is late, beside a monitor that nothing
+-- uses
 abbrev late_table : Table
 late_table = record {
   rows =

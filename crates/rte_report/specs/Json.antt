@@ -1,4 +1,5 @@
--- The report as JSON: one object, without spaces, with its keys in the order of their bytes. Names are identifiers, so no character in them is escaped.
+-- The report as JSON: one object, without spaces, with its keys in the order of their bytes. Names
+-- are identifiers, so no character in them is escaped.
 use Rattle.std.specs.Prelude.{◌++◌, ℕ, List, [], ◌∷◌, Bool, true, false, Option, Some, None, codes, decimal, nat_le, nat_eq, if◌then◌else◌}
 use Rattle.rte_image.specs.declared.names.ImageNames.{ImageNames}
 use Rattle.rte_table.specs.declared.table.Row.{Row}

@@ -175,12 +175,13 @@ fn add_timely(text: &mut Text, late: Option<&Name>) -> Result<(), AllocError>
     }
 }
 
-/// The report on a program as one JSON object without spaces, ended by a line feed, for a table with one row per process
-/// and one ceiling and one number of words per monitor of the names, which are identifiers.
+/// The report on a program as one JSON object without spaces, ended by a line feed, for a table
+/// with one row per process and one ceiling and one number of words per monitor of the names, which
+/// are identifiers.
 ///
-/// The keys stand in the order of their bytes. The deadline stands where it is not the frame, a number above
-/// 1,000,000,000 is the string `over`, and a bound or a ceiling that is not there the string `none`. Only want of memory
-/// is an error.
+/// The keys stand in the order of their bytes. The deadline stands where it is not the frame, a
+/// number above 1,000,000,000 is the string `over`, and a bound or a ceiling that is not there the
+/// string `none`. Only want of memory is an error.
 #[tactic(auto, unfolding(crate::specs::Json::report_json))]
 pub fn report_json(
     alloc: Global,

@@ -167,13 +167,14 @@ fn add_verdict(text: &mut Text, late: Option<&Name>) -> Result<(), AllocError>
     }
 }
 
-/// The report on a program, for a table with one row per process and one ceiling and one number of words per monitor of
-/// the names.
+/// The report on a program, for a table with one row per process and one ceiling and one number of
+/// words per monitor of the names.
 ///
-/// Its lines are the program's name, each process with its times in ticks, each monitor with its ceiling and its words,
-/// the number of instructions, and `timely`, or `untimely` with the first process without a bound. The deadline stands
-/// where it is not the frame, a number above 1,000,000,000 is `over`, and a bound or a ceiling that is not there `none`.
-/// Only want of memory is an error.
+/// Its lines are the program's name, each process with its times in ticks, each monitor with its
+/// ceiling and its words, the number of instructions, and `timely`, or `untimely` with the first
+/// process without a bound. The deadline stands where it is not the frame, a number above
+/// 1,000,000,000 is `over`, and a bound or a ceiling that is not there `none`. Only want of memory
+/// is an error.
 #[tactic(auto, unfolding(crate::specs::Report::report_text))]
 pub fn report(
     alloc: Global,

@@ -1,4 +1,5 @@
--- What a task and those of higher rank ask of the processor, and the recurrence of the response times.
+-- What a task and those of higher rank ask of the processor, and the recurrence of the response
+-- times.
 use Rattle.std.specs.Prelude.{◌≤◌, ◌<◌, ◌+◌, ◌*◌, ℕ, List, length, take, sum_by, slice_index_or, slice_set, All}
 use Rattle.std.specs.Int.{div_ceil}
 use Rattle.std.specs.List.Sorted.{IsNonDecreasingBy}
@@ -29,7 +30,8 @@ starts_in r ts = sum_by (λ t. div_ceil r t.frame) ts
 abbrev pub asked : ℕ → ℕ → List Task → ℕ
 asked b r ts = sum_by (λ t. div_ceil r t.frame * activation b t) ts
 
--- what a task asks for in r ticks with those before it: its block, one activation of its own, and all of theirs
+-- what a task asks for in r ticks with those before it: its block, one activation of its own, and
+-- all of theirs
 abbrev pub exact_demand_of : Task → List Task → ℕ → ℕ
 exact_demand_of own before r = (own.block + activation own.block own) + asked own.block r before
 

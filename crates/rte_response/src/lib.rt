@@ -1,8 +1,10 @@
 //! The demand of periodic tasks of fixed ranks on one processor, with each evaluation counted.
 //!
-//! Its definition is the recurrence of the response times, in which suspension counts as execution and blocking is
-//! added once for each wait (Burns and Wellings). It promises that a set of tasks is what its caller gave, that
-//! `demand` is the recurrence's function, capped, at the price of one step, and that the cap changes no answer.
+//! Its definition is the recurrence of the response times, in which suspension counts as execution
+//! and blocking is added once for each wait (Burns and Wellings). It promises that a set of tasks
+//! is what its caller gave, that
+//! `demand` is the recurrence's function, capped, at the price of one step, and that the cap
+//! changes no answer.
 #![tactic(auto)]
 
 mod law;

@@ -13,7 +13,8 @@ use std::sync::ledger::Ledger;
 
 /// A task that is released again once in each frame, at the soonest.
 ///
-/// All but the waits are ticks. A number above 1,000,000,000 stands for all larger ones and is 1,000,000,001.
+/// All but the waits are ticks. A number above 1,000,000,000 stands for all larger ones and is
+/// 1,000,000,001.
 #[derive(Clone, Copy, Debug, PartialEq, Eq)]
 pub struct Task {
     /// The ticks from one release to the next, at least.
@@ -26,8 +27,8 @@ pub struct Task {
     pub susp: u64,
     /// How often it does so, at most.
     pub waits: u64,
-    /// The ticks for which a task of lower rank keeps it from running, at most, once at its release and once more
-    /// after each wait.
+    /// The ticks for which a task of lower rank keeps it from running, at most, once at its release
+    /// and once more after each wait.
     pub block: u64,
 }
 
@@ -52,8 +53,9 @@ impl Model for TaskSet {
 impl TaskSet {
     /// The set of these tasks, which stand in the order of their ranks, the highest first.
     ///
-    /// None exactly where there are none or more than 64, a frame is outside 10 .. 1,000,000,000, a deadline is outside
-    /// 10 .. its frame, a deadline is above a later one, or another number is above 1,000,000,001.
+    /// None exactly where there are none or more than 64, a frame is outside 10 .. 1,000,000,000, a
+    /// deadline is outside 10 .. its frame, a deadline is above a later one, or another number is
+    /// above 1,000,000,001.
     pub fn new(tasks: Vec<Task>) -> Option<TaskSet>
         ensures { SomeIff result (AreTasks tasks.items) tasks.items }
     {
@@ -73,7 +75,8 @@ impl TaskSet {
         self.tasks.len()
     }
 
-    /// The greatest response that is allowed at the level, which is the deadline. Levels count from 0.
+    /// The greatest response that is allowed at the level, which is the deadline. Levels count from
+    /// 0.
     pub fn limit(&self, level: usize) -> u64
         requires { level < length self.now }
         ensures value { result ≡ deadline_at self.now level }
@@ -93,7 +96,8 @@ impl TaskSet {
         self.tasks[level].run
     }
 
-    /// Sets the ticks that one activation of the level's task runs, at most, and leaves all else as it is.
+    /// Sets the ticks that one activation of the level's task runs, at most, and leaves all else as
+    /// it is.
     pub fn set_run(&mut self, level: usize, run: u64)
         requires level { level < length self.old }
         requires run { run ≤ 1000000001 }
@@ -165,8 +169,8 @@ fn demand_in(own: Task, before: &[Task], r: u64) -> u64
     total
 }
 
-/// What the task of the level and those before it ask for in r ticks, capped at 1,000,000,001: the function of the
-/// recurrence of the response times. Each call is one step.
+/// What the task of the level and those before it ask for in r ticks, capped at 1,000,000,001: the
+/// function of the recurrence of the response times. Each call is one step.
 #[tactic(auto, unfolding(crate::specs::Demand::demand_at))]
 pub fn demand<L: Ledger>(set: &TaskSet, level: usize, r: u64, steps: &mut Steps<L>) -> u64
     requires level { level < length set.now }

@@ -1,4 +1,5 @@
--- Which routines statements call, each by the place where its name is declared, and which statements wait.
+-- Which routines statements call, each by the place where its name is declared, and which
+-- statements wait.
 use Rattle.std.specs.Prelude.{Bool, true, false, ◌||◌, List, [], ◌∷◌, Option, Some, None}
 use Rattle.rte_tree.specs.Placed.{Expr, literal, truth, variable, element, call, minus, negation, paren, row, Exprs, no_exprs, exprs, Operands, no_operands, operand, Ref, whole, part, Stmt, assign, assign_entry, assign_empty, perform, perform_entry, when, when_else, loop, exit_when, get, put, wait, signal, broadcast, except, assert, Stmts, no_stmts, stmts, Routine}
 use Rattle.rte_tree.specs.declared.place.Place.{Place}
@@ -7,7 +8,8 @@ use Rattle.rte_tree.specs.declared.place.Place.{Place}
 abbrev pub Declared : Type 0
 Declared = Place → Option Place
 
--- Each definition gives the routines that its part of the tree calls, in the order of the calls, and then `more`.
+-- Each definition gives the routines that its part of the tree calls, in the order of the calls,
+-- and then `more`.
 
 abbrev pub called : Option Place → List Place → List Place
 called None more = more

@@ -16,7 +16,8 @@ fn call(
     declarations: &Declarations<'_>,
     at: Place,
 ) -> Result<(), AllocError>
-    ensures { OnOk result ((more : List SpecPlace) → calls.new.items ++ more ≡ calls.old.items ++ called (declared_in (placed declarations.now) at) more) }
+    ensures { OnOk result ((more : List SpecPlace) → calls.new.items ++ more ≡ calls.old.items ++
+        called (declared_in (placed declarations.now) at) more) }
 {
     if let Some(declared) = declarations.declared(at) {
         calls.push(declared)?;
@@ -25,7 +26,8 @@ fn call(
 }
 
 fn expr(calls: &mut Vec<Place>, declarations: &Declarations<'_>, e: &Expr) -> Result<(), AllocError>
-    ensures { OnOk result ((more : List SpecPlace) → calls.new.items ++ more ≡ calls.old.items ++ expr_calls (declared_in (placed declarations.now)) (placed_expr e.now) more) }
+    ensures { OnOk result ((more : List SpecPlace) → calls.new.items ++ more ≡ calls.old.items ++
+        expr_calls (declared_in (placed declarations.now)) (placed_expr e.now) more) }
 {
     match e {
         Expr::Literal { .. } | Expr::True { .. } | Expr::False { .. } | Expr::Variable { .. } => Ok(
@@ -65,7 +67,8 @@ fn exprs(
     declarations: &Declarations<'_>,
     list: &[Expr],
 ) -> Result<(), AllocError>
-    ensures { OnOk result ((more : List SpecPlace) → calls.new.items ++ more ≡ calls.old.items ++ exprs_calls (declared_in (placed declarations.now)) (placed_exprs list.now) more) }
+    ensures { OnOk result ((more : List SpecPlace) → calls.new.items ++ more ≡ calls.old.items ++
+        exprs_calls (declared_in (placed declarations.now)) (placed_exprs list.now) more) }
 {
     for e in list {
         expr(calls, declarations, e)?;
@@ -79,7 +82,8 @@ fn target(
     declarations: &Declarations<'_>,
     target: &Ref,
 ) -> Result<(), AllocError>
-    ensures { OnOk result ((more : List SpecPlace) → calls.new.items ++ more ≡ calls.old.items ++ ref_calls (declared_in (placed declarations.now)) (placed_ref target.now) more) }
+    ensures { OnOk result ((more : List SpecPlace) → calls.new.items ++ more ≡ calls.old.items ++
+        ref_calls (declared_in (placed declarations.now)) (placed_ref target.now) more) }
 {
     if let Some(index) = &target.index {
         expr(calls, declarations, index)?;
@@ -93,7 +97,8 @@ fn stmts(
     declarations: &Declarations<'_>,
     list: &[Stmt],
 ) -> Result<(), AllocError>
-    ensures { OnOk result ((more : List SpecPlace) → calls.new.items ++ more ≡ calls.old.items ++ stmts_calls (declared_in (placed declarations.now)) (placed_stmts list.now) more) }
+    ensures { OnOk result ((more : List SpecPlace) → calls.new.items ++ more ≡ calls.old.items ++
+        stmts_calls (declared_in (placed declarations.now)) (placed_stmts list.now) more) }
 {
     for s in list {
         stmt(calls, declarations, s)?;
@@ -103,7 +108,8 @@ fn stmts(
 
 #[cycle(stmt)]
 fn stmt(calls: &mut Vec<Place>, declarations: &Declarations<'_>, s: &Stmt) -> Result<(), AllocError>
-    ensures { OnOk result ((more : List SpecPlace) → calls.new.items ++ more ≡ calls.old.items ++ stmt_calls (declared_in (placed declarations.now)) (placed_stmt s.now) more) }
+    ensures { OnOk result ((more : List SpecPlace) → calls.new.items ++ more ≡ calls.old.items ++
+        stmt_calls (declared_in (placed declarations.now)) (placed_stmt s.now) more) }
 {
     match s {
         Stmt::If {
@@ -161,7 +167,9 @@ fn answer(
     declarations: &Declarations<'_>,
     value: &Option<Expr>,
 ) -> Result<(), AllocError>
-    ensures { OnOk result ((more : List SpecPlace) → calls.new.items ++ more ≡ calls.old.items ++ answer_calls (declared_in (placed declarations.now)) (optional placed_expr value.now) more) }
+    ensures { OnOk result ((more : List SpecPlace) → calls.new.items ++ more ≡ calls.old.items ++
+        answer_calls (declared_in (placed declarations.now))
+        (optional placed_expr value.now) more) }
 {
     if let Some(returned) = value {
         expr(calls, declarations, returned)?;
@@ -175,7 +183,8 @@ pub fn calls_of(
     declarations: &Declarations<'_>,
     list: &[Stmt],
 ) -> Result<Vec<Place>, AllocError>
-    ensures { IfOk result (λ calls. calls.items ≡ stmts_calls (declared_in (placed declarations.now)) (placed_stmts list.now) []) }
+    ensures { IfOk result (λ calls. calls.items ≡
+        stmts_calls (declared_in (placed declarations.now)) (placed_stmts list.now) []) }
 {
     let mut calls = Vec::new(alloc);
     stmts(&mut calls, declarations, list)?;
@@ -188,7 +197,8 @@ pub fn routine_calls(
     declarations: &Declarations<'_>,
     routine: &Routine,
 ) -> Result<Vec<Place>, AllocError>
-    ensures { IfOk result (λ calls. calls.items ≡ routine_calls_of (declared_in (placed declarations.now)) (placed_routine routine.now)) }
+    ensures { IfOk result (λ calls. calls.items ≡
+        routine_calls_of (declared_in (placed declarations.now)) (placed_routine routine.now)) }
 {
     let mut calls = Vec::new(alloc);
     stmts(&mut calls, declarations, routine.body.as_slice())?;

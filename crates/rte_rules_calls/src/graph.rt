@@ -19,7 +19,9 @@ pub fn call_graph(
     routines: &[&Routine],
 ) -> Result<Graph, AllocError>
     ensures size { IfOk result (λ g. length g ≡ length numbers.now.keys) }
-    ensures edges { IfOk result (λ g. HasEdges g (edges_of (declared_in (placed declarations.now)) numbers.now.keys (seen_routines routines.now) [])) }
+    ensures edges { IfOk result (λ g. HasEdges g
+        (edges_of (declared_in (placed declarations.now)) numbers.now.keys
+        (seen_routines routines.now) [])) }
 {
     let edges = edges(alloc, declarations, numbers, routines)?;
     let graph = Graph::new(alloc, numbers.len(), edges.as_slice())?;
@@ -34,7 +36,9 @@ pub fn coming_to_wait(
     routines: &[&Routine],
 ) -> Result<Vec<bool>, AllocError>
     requires { length graph.now ≡ length numbers.now.keys }
-    ensures { IfOk result (λ marks. (node : ℕ) → (marked marks.items node ≡ true) ↔ ReachesOne graph.now (waiters_of numbers.now.keys (seen_routines routines.now) []) node) }
+    ensures { IfOk result (λ marks. (node : ℕ) →
+        (marked marks.items node ≡ true) ↔ ReachesOne graph.now
+        (waiters_of numbers.now.keys (seen_routines routines.now) []) node) }
 {
     let waiters = waiters(alloc, numbers, routines)?;
     let marks = graph.reaching(alloc, waiters.as_slice())?;

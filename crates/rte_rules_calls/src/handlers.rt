@@ -42,7 +42,9 @@ fn come_to_wait(
     marks: &[bool],
     list: &[Stmt],
 ) -> Result<bool, AllocError>
-    ensures { IfOk result (λ waits. waits ≡ come_to_wait_of (declared_in (placed declarations.now)) numbers.now.keys marks.now (placed_stmts list.now)) }
+    ensures { IfOk result (λ waits. waits ≡ come_to_wait_of
+        (declared_in (placed declarations.now)) numbers.now.keys marks.now
+        (placed_stmts list.now)) }
 {
     if stmts_wait(list) {
         return Ok(true);
@@ -60,7 +62,9 @@ fn handler_fault(
     place: Place,
     handler: &Option<Handler>,
 ) -> Result<Option<Place>, AllocError>
-    ensures { IfOk result (λ fault. fault ≡ handler_fault_of (declared_in (placed declarations.now)) numbers.now.keys marks.now place (optional placed_handler handler.now)) }
+    ensures { IfOk result (λ fault. fault ≡ handler_fault_of
+        (declared_in (placed declarations.now)) numbers.now.keys marks.now place
+        (optional placed_handler handler.now)) }
 {
     let Some(handler) = handler else {
         return Ok(None);
@@ -80,7 +84,9 @@ pub fn first_waiting(
     marks: &[bool],
     processes: &[&Proc],
 ) -> Result<Option<Broken>, AllocError>
-    ensures { IfOk result (λ first. first ≡ noted (handler_rule (declared_in (placed declarations.now)) numbers.now.keys marks.now ∷ []) None (seen_processes processes.now)) }
+    ensures { IfOk result (λ first. first ≡ noted
+        (handler_rule (declared_in (placed declarations.now)) numbers.now.keys marks.now ∷ []) None
+        (seen_processes processes.now)) }
 {
     let mut first = None;
     for process in processes {

@@ -50,7 +50,8 @@ fn add_edge(
     from: usize,
     callee: Place,
 ) -> Result<(), AllocError>
-    ensures { OnOk result ((more : List (ℕ × ℕ)) → edges.new.items ++ more ≡ edges.old.items ++ edge_to from (number_of numbers.now.keys callee) more) }
+    ensures { OnOk result ((more : List (ℕ × ℕ)) → edges.new.items ++ more ≡ edges.old.items ++
+        edge_to from (number_of numbers.now.keys callee) more) }
 {
     if let Some(to) = number(numbers, callee) {
         edges.push((from, to))?;
@@ -65,7 +66,8 @@ fn add_edges(
     from: usize,
     calls: &[Place],
 ) -> Result<(), AllocError>
-    ensures { OnOk result ((more : List (ℕ × ℕ)) → edges.new.items ++ more ≡ edges.old.items ++ edges_to numbers.now.keys from calls.now more) }
+    ensures { OnOk result ((more : List (ℕ × ℕ)) → edges.new.items ++ more ≡ edges.old.items ++
+        edges_to numbers.now.keys from calls.now more) }
 {
     for callee in calls {
         add_edge(edges, numbers, from, *callee)?;
@@ -81,7 +83,9 @@ fn add_routine(
     numbers: &Numbers,
     routine: &Routine,
 ) -> Result<(), AllocError>
-    ensures { OnOk result ((more : List (ℕ × ℕ)) → edges.new.items ++ more ≡ edges.old.items ++ routine_edges (declared_in (placed declarations.now)) numbers.now.keys (placed_routine routine.now) more) }
+    ensures { OnOk result ((more : List (ℕ × ℕ)) → edges.new.items ++ more ≡ edges.old.items ++
+        routine_edges (declared_in (placed declarations.now)) numbers.now.keys
+        (placed_routine routine.now) more) }
 {
     if let Some(from) = number(numbers, routine.place) {
         let calls = routine_calls(alloc, declarations, routine)?;
@@ -97,7 +101,9 @@ pub fn edges(
     numbers: &Numbers,
     routines: &[&Routine],
 ) -> Result<Vec<(usize, usize)>, AllocError>
-    ensures { IfOk result (λ edges. edges.items ≡ edges_of (declared_in (placed declarations.now)) numbers.now.keys (seen_routines routines.now) []) }
+    ensures { IfOk result (λ edges. edges.items ≡
+        edges_of (declared_in (placed declarations.now)) numbers.now.keys
+        (seen_routines routines.now) []) }
 {
     let mut edges = Vec::new(alloc);
     for routine in routines {
@@ -112,7 +118,8 @@ pub fn waiters(
     numbers: &Numbers,
     routines: &[&Routine],
 ) -> Result<Vec<usize>, AllocError>
-    ensures { IfOk result (λ waiters. waiters.items ≡ waiters_of numbers.now.keys (seen_routines routines.now) []) }
+    ensures { IfOk result (λ waiters. waiters.items ≡
+        waiters_of numbers.now.keys (seen_routines routines.now) []) }
 {
     let mut waiters = Vec::new(alloc);
     for routine in routines {

@@ -20,7 +20,8 @@ fn comes_back(
     routine: &Routine,
 ) -> Result<bool, AllocError>
     requires { length cycles.now ≡ length numbers.now.keys }
-    ensures { IfOk result (λ back. IsTrue back ↔ ComesBack numbers.now.keys cycles.now (placed_routine routine.now)) }
+    ensures { IfOk result (λ back. IsTrue back ↔ ComesBack numbers.now.keys cycles.now
+        (placed_routine routine.now)) }
 {
     match number(numbers, routine.place) {
         Some(node) => cycles.comes_back(alloc, node),
@@ -45,7 +46,10 @@ fn next_round(
     routine: &Routine,
 ) -> Result<Option<Broken>, AllocError>
     requires { length cycles.now ≡ length numbers.now.keys }
-    ensures { IfOk result (λ next. (rs : List (SpecRoutine SpecPlace)) → IsFirstOf (OneComesBack numbers.now.keys cycles.now rs) first → IsFirstOf (OneComesBack numbers.now.keys cycles.now (rs ++ placed_routine routine.now ∷ [])) next) }
+    ensures { IfOk result (λ next. (rs : List (SpecRoutine SpecPlace)) →
+        IsFirstOf (OneComesBack numbers.now.keys cycles.now rs) first →
+        IsFirstOf (OneComesBack numbers.now.keys cycles.now (rs ++ placed_routine routine.now ∷ []))
+        next) }
 {
     let broken = Broken {
         number: 31,
@@ -69,7 +73,8 @@ pub fn first_round(
     routines: &[&Routine],
 ) -> Result<Option<Broken>, AllocError>
     requires { length cycles.now ≡ length numbers.now.keys }
-    ensures { IfOk result (λ first. IsFirstOf (OneComesBack numbers.now.keys cycles.now (seen_routines routines.now)) first) }
+    ensures { IfOk result (λ first. IsFirstOf
+        (OneComesBack numbers.now.keys cycles.now (seen_routines routines.now)) first) }
 {
     let mut first = None;
     for routine in routines {

@@ -11,7 +11,8 @@ use std::alloc::{AllocError, Global};
 
 /// Lists routines behind those before.
 fn list_all<'a>(list: &mut Vec<&'a Routine>, routines: &'a [Routine]) -> Result<(), AllocError>
-    ensures { OnOk result (seen_routines list.new.items ≡ seen_routines list.old.items ++ map placed_routine routines.now) }
+    ensures { OnOk result (seen_routines list.new.items ≡ seen_routines list.old.items ++
+        map placed_routine routines.now) }
 {
     for routine in routines {
         list.push(routine)?;
@@ -21,7 +22,9 @@ fn list_all<'a>(list: &mut Vec<&'a Routine>, routines: &'a [Routine]) -> Result<
 
 /// Lists the routines of a declaration.
 fn list_decl<'a>(list: &mut Vec<&'a Routine>, decl: &'a Decl) -> Result<(), AllocError>
-    ensures { OnOk result ((rest : List (SpecDecl SpecPlace)) → seen_routines list.new.items ++ routines_of rest ≡ seen_routines list.old.items ++ routines_of (placed_decl decl.now ∷ rest)) }
+    ensures { OnOk result ((rest : List (SpecDecl SpecPlace)) → seen_routines list.new.items ++
+        routines_of rest ≡ seen_routines list.old.items ++
+        routines_of (placed_decl decl.now ∷ rest)) }
 {
     match decl {
         Decl::Const { .. } | Decl::Device { .. } | Decl::Event { .. } => Ok(()),
@@ -42,7 +45,8 @@ fn list_decl<'a>(list: &mut Vec<&'a Routine>, decl: &'a Decl) -> Result<(), Allo
 
 /// All routines and entries, in the order of the text.
 pub fn routines<'a>(alloc: Global, decls: &'a [Decl]) -> Result<Vec<&'a Routine>, AllocError>
-    ensures { IfOk result (λ list. seen_routines list.items ≡ routines_of (map placed_decl decls.now)) }
+    ensures { IfOk result (λ list. seen_routines list.items ≡
+        routines_of (map placed_decl decls.now)) }
 {
     let mut list = Vec::new(alloc);
     for decl in decls {
@@ -53,7 +57,9 @@ pub fn routines<'a>(alloc: Global, decls: &'a [Decl]) -> Result<Vec<&'a Routine>
 
 /// Lists the process that a declaration declares, if it does.
 fn list_process<'a>(list: &mut Vec<&'a Proc>, decl: &'a Decl) -> Result<(), AllocError>
-    ensures { OnOk result ((rest : List (SpecDecl SpecPlace)) → seen_processes list.new.items ++ processes_of rest ≡ seen_processes list.old.items ++ processes_of (placed_decl decl.now ∷ rest)) }
+    ensures { OnOk result ((rest : List (SpecDecl SpecPlace)) → seen_processes list.new.items ++
+        processes_of rest ≡ seen_processes list.old.items ++
+        processes_of (placed_decl decl.now ∷ rest)) }
 {
     if let Decl::Proc(process) = decl {
         list.push(process)?;
@@ -63,7 +69,8 @@ fn list_process<'a>(list: &mut Vec<&'a Proc>, decl: &'a Decl) -> Result<(), Allo
 
 /// All processes, in the order of the text.
 pub fn processes<'a>(alloc: Global, decls: &'a [Decl]) -> Result<Vec<&'a Proc>, AllocError>
-    ensures { IfOk result (λ list. seen_processes list.items ≡ processes_of (map placed_decl decls.now)) }
+    ensures { IfOk result (λ list. seen_processes list.items ≡
+        processes_of (map placed_decl decls.now)) }
 {
     let mut list = Vec::new(alloc);
     for decl in decls {

@@ -42,7 +42,8 @@ fn bad_deadline(
     frame: &Constant,
     deadline: &Option<Constant>,
 ) -> Option<Place>
-    ensures { let worth = value (placed declarations.now) in result ≡ bad_limit worth (placed_constant frame.now) (optional placed_constant deadline.now) }
+    ensures { let worth = value (placed declarations.now) in result ≡
+        bad_limit worth (placed_constant frame.now) (optional placed_constant deadline.now) }
 {
     let deadline = deadline.as_ref()?;
     let ticks = declarations.value(deadline);
@@ -55,7 +56,8 @@ fn bad_deadline(
 
 /// The place of a first activation that is outside its limits.
 fn bad_start(declarations: &Declarations<'_>, activation: &Activation) -> Option<Place>
-    ensures { result ≡ bad_start_of (value (placed declarations.now)) (placed_activation activation.now) }
+    ensures { result ≡ bad_start_of (value (placed declarations.now))
+        (placed_activation activation.now) }
 {
     match activation {
         Activation::Periodic {
@@ -68,7 +70,8 @@ fn bad_start(declarations: &Declarations<'_>, activation: &Activation) -> Option
 
 /// Tries the rules on a process.
 fn process(first: &mut Option<Broken>, declarations: &Declarations<'_>, process: &Proc)
-    ensures { first.new ≡ note (process_rules (placed declarations.now)) first.old (placed_process process.now) }
+    ensures { first.new ≡ note (process_rules (placed declarations.now)) first.old
+        (placed_process process.now) }
 {
     let activation = &process.activation;
     let frame = frame(activation);
@@ -86,7 +89,9 @@ fn process(first: &mut Option<Broken>, declarations: &Declarations<'_>, process:
 }
 
 fn decl(first: &mut Option<Broken>, declarations: &Declarations<'_>, decl: &Decl)
-    ensures { let rules = process_rules (placed declarations.now) in (rest : List (SpecDecl SpecPlace)) → noted rules first.new (processes rest) ≡ noted rules first.old (processes (placed_decl decl.now ∷ rest)) }
+    ensures { let rules = process_rules (placed declarations.now) in
+        (rest : List (SpecDecl SpecPlace)) → noted rules first.new (processes rest) ≡
+        noted rules first.old (processes (placed_decl decl.now ∷ rest)) }
 {
     if let Decl::Proc(one) = decl {
         process(first, declarations, one);
@@ -95,7 +100,8 @@ fn decl(first: &mut Option<Broken>, declarations: &Declarations<'_>, decl: &Decl
 
 /// The rule for frames, deadlines and first activations that fails first, if any does.
 pub fn first_broken(declarations: &Declarations<'_>) -> Option<Broken>
-    ensures { let g = placed declarations.now in IsFirstOf (FailsAmong (process_rules g) (processes g.decls)) result }
+    ensures { let g = placed declarations.now in IsFirstOf
+        (FailsAmong (process_rules g) (processes g.decls)) result }
 {
     let mut first = None;
     for one in declarations.program().decls.as_slice() {

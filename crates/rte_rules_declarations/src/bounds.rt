@@ -50,14 +50,16 @@ fn too_long(declarations: &Declarations<'_>, bounds: &Bounds<'_>) -> Option<Plac
 
 /// Tries the rules on two bounds.
 fn pair(first: &mut Option<Broken>, declarations: &Declarations<'_>, bounds: &Bounds<'_>)
-    ensures { first.new ≡ note (bounds_rules (placed declarations.now)) first.old (bounds_of bounds.now) }
+    ensures { first.new ≡ note (bounds_rules (placed declarations.now)) first.old
+        (bounds_of bounds.now) }
 {
     blame(first, 32, crossed(declarations, bounds));
     blame(first, 44, too_long(declarations, bounds));
 }
 
 fn scalar(first: &mut Option<Broken>, declarations: &Declarations<'_>, kind: &Scalar)
-    ensures { Tries (bounds_rules (placed declarations.now)) first.old (scalar_bounds (placed_scalar kind.now)) first.new }
+    ensures { Tries (bounds_rules (placed declarations.now)) first.old
+        (scalar_bounds (placed_scalar kind.now)) first.new }
 {
     if let Scalar::Subrange { low, high } = kind {
         let bounds = Bounds {
@@ -70,7 +72,8 @@ fn scalar(first: &mut Option<Broken>, declarations: &Declarations<'_>, kind: &Sc
 }
 
 fn kind(first: &mut Option<Broken>, declarations: &Declarations<'_>, kind: &Type)
-    ensures { Tries (bounds_rules (placed declarations.now)) first.old (kind_bounds (placed_kind kind.now)) first.new }
+    ensures { Tries (bounds_rules (placed declarations.now)) first.old
+        (kind_bounds (placed_kind kind.now)) first.new }
 {
     match kind {
         Type::Scalar(kind) => scalar(first, declarations, kind),
@@ -87,7 +90,8 @@ fn kind(first: &mut Option<Broken>, declarations: &Declarations<'_>, kind: &Type
 }
 
 fn vars(first: &mut Option<Broken>, declarations: &Declarations<'_>, list: &[Var])
-    ensures { Tries (bounds_rules (placed declarations.now)) first.old (vars_bounds (map placed_var list.now)) first.new }
+    ensures { Tries (bounds_rules (placed declarations.now)) first.old
+        (vars_bounds (map placed_var list.now)) first.new }
 {
     for var in list {
         kind(first, declarations, &var.kind);
@@ -95,7 +99,8 @@ fn vars(first: &mut Option<Broken>, declarations: &Declarations<'_>, list: &[Var
 }
 
 fn params(first: &mut Option<Broken>, declarations: &Declarations<'_>, list: &[Param])
-    ensures { Tries (bounds_rules (placed declarations.now)) first.old (params_bounds (map placed_param list.now)) first.new }
+    ensures { Tries (bounds_rules (placed declarations.now)) first.old
+        (params_bounds (map placed_param list.now)) first.new }
 {
     for param in list {
         scalar(first, declarations, &param.kind);
@@ -104,7 +109,8 @@ fn params(first: &mut Option<Broken>, declarations: &Declarations<'_>, list: &[P
 
 /// The type of a result.
 fn result(first: &mut Option<Broken>, declarations: &Declarations<'_>, kind: &Option<Scalar>)
-    ensures { Tries (bounds_rules (placed declarations.now)) first.old (result_bounds (optional placed_scalar kind.now)) first.new }
+    ensures { Tries (bounds_rules (placed declarations.now)) first.old
+        (result_bounds (optional placed_scalar kind.now)) first.new }
 {
     if let Some(kind) = kind {
         scalar(first, declarations, kind);
@@ -112,7 +118,8 @@ fn result(first: &mut Option<Broken>, declarations: &Declarations<'_>, kind: &Op
 }
 
 fn routine(first: &mut Option<Broken>, declarations: &Declarations<'_>, routine: &Routine)
-    ensures { Tries (bounds_rules (placed declarations.now)) first.old (routine_bounds (placed_routine routine.now)) first.new }
+    ensures { Tries (bounds_rules (placed declarations.now)) first.old
+        (routine_bounds (placed_routine routine.now)) first.new }
 {
     params(first, declarations, routine.params.as_slice());
     result(first, declarations, &routine.result);
@@ -120,7 +127,8 @@ fn routine(first: &mut Option<Broken>, declarations: &Declarations<'_>, routine:
 }
 
 fn routines(first: &mut Option<Broken>, declarations: &Declarations<'_>, list: &[Routine])
-    ensures { Tries (bounds_rules (placed declarations.now)) first.old (routines_bounds (map placed_routine list.now)) first.new }
+    ensures { Tries (bounds_rules (placed declarations.now)) first.old
+        (routines_bounds (map placed_routine list.now)) first.new }
 {
     for one in list {
         routine(first, declarations, one);
@@ -128,7 +136,8 @@ fn routines(first: &mut Option<Broken>, declarations: &Declarations<'_>, list: &
 }
 
 fn member(first: &mut Option<Broken>, declarations: &Declarations<'_>, member: &Member)
-    ensures { Tries (bounds_rules (placed declarations.now)) first.old (member_bounds (placed_member member.now)) first.new }
+    ensures { Tries (bounds_rules (placed declarations.now)) first.old
+        (member_bounds (placed_member member.now)) first.new }
 {
     if let Member::Var(var) = member {
         kind(first, declarations, &var.kind);
@@ -136,7 +145,8 @@ fn member(first: &mut Option<Broken>, declarations: &Declarations<'_>, member: &
 }
 
 fn members(first: &mut Option<Broken>, declarations: &Declarations<'_>, list: &[Member])
-    ensures { Tries (bounds_rules (placed declarations.now)) first.old (members_bounds (map placed_member list.now)) first.new }
+    ensures { Tries (bounds_rules (placed declarations.now)) first.old
+        (members_bounds (map placed_member list.now)) first.new }
 {
     for one in list {
         member(first, declarations, one);
@@ -144,7 +154,8 @@ fn members(first: &mut Option<Broken>, declarations: &Declarations<'_>, list: &[
 }
 
 fn decl(first: &mut Option<Broken>, declarations: &Declarations<'_>, decl: &Decl)
-    ensures { Tries (bounds_rules (placed declarations.now)) first.old (decl_bounds (placed_decl decl.now)) first.new }
+    ensures { Tries (bounds_rules (placed declarations.now)) first.old
+        (decl_bounds (placed_decl decl.now)) first.new }
 {
     match decl {
         Decl::Const { .. } | Decl::Device { .. } | Decl::Event { .. } => {}
@@ -161,7 +172,8 @@ fn decl(first: &mut Option<Broken>, declarations: &Declarations<'_>, decl: &Decl
 }
 
 fn decls(first: &mut Option<Broken>, declarations: &Declarations<'_>, list: &[Decl])
-    ensures { Tries (bounds_rules (placed declarations.now)) first.old (decls_bounds (map placed_decl list.now)) first.new }
+    ensures { Tries (bounds_rules (placed declarations.now)) first.old
+        (decls_bounds (map placed_decl list.now)) first.new }
 {
     for one in list {
         decl(first, declarations, one);
@@ -170,7 +182,8 @@ fn decls(first: &mut Option<Broken>, declarations: &Declarations<'_>, list: &[De
 
 /// The rule for bounds of types that fails first, if any does.
 pub fn first_broken(declarations: &Declarations<'_>) -> Option<Broken>
-    ensures { let g = placed declarations.now in IsFirstOf (FailsAmong (bounds_rules g) (decls_bounds g.decls [])) result }
+    ensures { let g = placed declarations.now in IsFirstOf
+        (FailsAmong (bounds_rules g) (decls_bounds g.decls [])) result }
 {
     let mut first = None;
     decls(

@@ -39,7 +39,8 @@ fn one_too_many(most: usize, places: &[Place]) -> Option<Place>
 
 /// Tries the rules, the places of all things being known.
 fn tried(declarations: &Declarations<'_>, places: &Places) -> Option<Broken>
-    ensures { let g = placed declarations.now in places.now ≡ places_of g → result ≡ note (count_rules g) None g }
+    ensures { let g = placed declarations.now in places.now ≡ places_of g → result ≡
+        note (count_rules g) None g }
 {
     let program = declarations.program();
     let processes = places.processes.as_slice();
@@ -65,7 +66,8 @@ pub fn first_broken(
     alloc: Global,
     declarations: &Declarations<'_>,
 ) -> Result<Option<Broken>, AllocError>
-    ensures { let g = placed declarations.now in IfOk result (IsFirstOf (FailsAmong (count_rules g) (g ∷ []))) }
+    ensures { let g = placed declarations.now in IfOk result
+        (IsFirstOf (FailsAmong (count_rules g) (g ∷ []))) }
 {
     let places = Places::of(alloc, declarations.program())?;
     Ok(tried(declarations, &places))

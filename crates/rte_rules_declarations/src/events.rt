@@ -32,7 +32,9 @@ fn uses_of(uses: &Uses, event: Place) -> u64
 
 /// Notes one more process that the event activates.
 fn note_use(uses: &mut Uses, event: Place) -> Result<(), AllocError>
-    ensures { OnOk result ((e : SpecPlace) → known_uses uses.new.entries e ≡ (if same_place event e then held (known_uses uses.old.entries e + 1) else known_uses uses.old.entries e)) }
+    ensures { OnOk result ((e : SpecPlace) → known_uses uses.new.entries e ≡
+        (if same_place event e then held (known_uses uses.old.entries e +
+        1) else known_uses uses.old.entries e)) }
 {
     let count = uses_of(uses, event).saturating_add(1);
     uses.insert((event.line, event.col), count)?;
@@ -45,7 +47,11 @@ fn process(
     declarations: &Declarations<'_>,
     process: &Proc,
 ) -> Result<(), AllocError>
-    ensures { let declared = declared_at (names (placed declarations.now)) in OnOk result ((e : SpecPlace) (rest : List (SpecProcess SpecPlace)) → held (known_uses uses.new.entries e + users declared e rest) ≡ held (known_uses uses.old.entries e + users declared e (placed_process process.now ∷ rest))) }
+    ensures { let declared = declared_at (names (placed declarations.now)) in OnOk result
+        ((e : SpecPlace) (rest : List (SpecProcess SpecPlace)) →
+        held (known_uses uses.new.entries e + users declared e rest) ≡
+        held (known_uses uses.old.entries e +
+        users declared e (placed_process process.now ∷ rest))) }
 {
     if let Activation::AtEvent { event_place, .. } = &process.activation {
         if let Some(event) = declarations.declared(*event_place) {
@@ -56,7 +62,11 @@ fn process(
 }
 
 fn decl(uses: &mut Uses, declarations: &Declarations<'_>, decl: &Decl) -> Result<(), AllocError>
-    ensures { let declared = declared_at (names (placed declarations.now)) in OnOk result ((e : SpecPlace) (rest : List (SpecDecl SpecPlace)) → held (known_uses uses.new.entries e + users declared e (processes rest)) ≡ held (known_uses uses.old.entries e + users declared e (processes (placed_decl decl.now ∷ rest)))) }
+    ensures { let declared = declared_at (names (placed declarations.now)) in OnOk result
+        ((e : SpecPlace) (rest : List (SpecDecl SpecPlace)) →
+        held (known_uses uses.new.entries e + users declared e (processes rest)) ≡
+        held (known_uses uses.old.entries e +
+        users declared e (processes (placed_decl decl.now ∷ rest)))) }
 {
     if let Decl::Proc(one) = decl {
         process(uses, declarations, one)?;
@@ -66,7 +76,9 @@ fn decl(uses: &mut Uses, declarations: &Declarations<'_>, decl: &Decl) -> Result
 
 /// Goes once through the processes.
 fn uses(alloc: Global, declarations: &Declarations<'_>) -> Result<Uses, AllocError>
-    ensures { let g = placed declarations.now in IfOk result (λ uses. (e : SpecPlace) → held (known_uses uses.entries e) ≡ held (users (declared_at (names g)) e (processes g.decls))) }
+    ensures { let g = placed declarations.now in IfOk result
+        (λ uses. (e : SpecPlace) → held (known_uses uses.entries e) ≡
+        held (users (declared_at (names g)) e (processes g.decls))) }
 {
     let mut uses = Uses::new(alloc);
     for one in declarations.program().decls.as_slice() {
@@ -88,7 +100,10 @@ fn misused(uses: &Uses, event: Place) -> Option<Place>
 
 /// Tries the rule on a declaration, the uses of all events being known.
 fn event(first: &mut Option<Broken>, uses: &Uses, decl: &Decl)
-    ensures { (g : SpecProg SpecPlace) → ((e : SpecPlace) → held (known_uses uses.now.entries e) ≡ held (users (declared_at (names g)) e (processes g.decls))) → (rest : List (SpecDecl SpecPlace)) → noted (event_rules g) first.new (events rest) ≡ noted (event_rules g) first.old (events (placed_decl decl.now ∷ rest)) }
+    ensures { (g : SpecProg SpecPlace) → ((e : SpecPlace) → held (known_uses uses.now.entries e) ≡
+        held (users (declared_at (names g)) e (processes g.decls))) →
+        (rest : List (SpecDecl SpecPlace)) → noted (event_rules g) first.new (events rest) ≡
+        noted (event_rules g) first.old (events (placed_decl decl.now ∷ rest)) }
 {
     if let Decl::Event { place, .. } = decl {
         blame(first, 37, misused(uses, *place));
@@ -100,7 +115,8 @@ pub fn first_broken(
     alloc: Global,
     declarations: &Declarations<'_>,
 ) -> Result<Option<Broken>, AllocError>
-    ensures { let g = placed declarations.now in IfOk result (IsFirstOf (FailsAmong (event_rules g) (events g.decls))) }
+    ensures { let g = placed declarations.now in IfOk result
+        (IsFirstOf (FailsAmong (event_rules g) (events g.decls))) }
 {
     let uses = uses(alloc, declarations)?;
     let mut first = None;

@@ -29,7 +29,9 @@ fn is_allowed(number: i64) -> bool
 
 /// The place of a number that no handler may have.
 fn bad_number(declarations: &Declarations<'_>, number: &Constant) -> Option<Place>
-    ensures { (before : List (SpecConstant SpecPlace)) → result ≡ bad_handled (value (placed declarations.now)) (record { before = before; number = placed_constant number.now }) }
+    ensures { (before : List (SpecConstant SpecPlace)) → result ≡
+        bad_handled (value (placed declarations.now))
+        (record { before = before; number = placed_constant number.now }) }
 {
     if is_allowed(declarations.value(number)) {
         None
@@ -44,8 +46,13 @@ fn repeated(
     values: &mut Values,
     number: &Constant,
 ) -> Result<Option<Place>, AllocError>
-    ensures place { let worth = value (placed declarations.now) in IfOk result (λ place. (before : List (SpecConstant SpecPlace)) → HasValues worth values.old.keys before → place ≡ repeated_of worth (record { before = before; number = placed_constant number.now })) }
-    ensures known { let worth = value (placed declarations.now) in OnOk result ((before : List (SpecConstant SpecPlace)) → HasValues worth values.old.keys before → HasValues worth values.new.keys (before ++ placed_constant number.now ∷ [])) }
+    ensures place { let worth = value (placed declarations.now) in IfOk result
+        (λ place. (before : List (SpecConstant SpecPlace)) →
+        HasValues worth values.old.keys before → place ≡
+        repeated_of worth (record { before = before; number = placed_constant number.now })) }
+    ensures known { let worth = value (placed declarations.now) in OnOk result
+        ((before : List (SpecConstant SpecPlace)) → HasValues worth values.old.keys before →
+        HasValues worth values.new.keys (before ++ placed_constant number.now ∷ [])) }
 {
     if values.insert(declarations.value(number))? {
         Ok(None)
@@ -61,8 +68,13 @@ fn number(
     values: &mut Values,
     number: &Constant,
 ) -> Result<(), AllocError>
-    ensures tried { let g = placed declarations.now in OnOk result ((before : List (SpecConstant SpecPlace)) → HasValues (value g) values.old.keys before → first.new ≡ note (handler_rules g) first.old (record { before = before; number = placed_constant number.now })) }
-    ensures known { let worth = value (placed declarations.now) in OnOk result ((before : List (SpecConstant SpecPlace)) → HasValues worth values.old.keys before → HasValues worth values.new.keys (before ++ placed_constant number.now ∷ [])) }
+    ensures tried { let g = placed declarations.now in OnOk result
+        ((before : List (SpecConstant SpecPlace)) → HasValues (value g) values.old.keys before →
+        first.new ≡ note (handler_rules g) first.old
+        (record { before = before; number = placed_constant number.now })) }
+    ensures known { let worth = value (placed declarations.now) in OnOk result
+        ((before : List (SpecConstant SpecPlace)) → HasValues worth values.old.keys before →
+        HasValues worth values.new.keys (before ++ placed_constant number.now ∷ [])) }
 {
     blame(first, 35, repeated(declarations, values, number)?);
     blame(first, 39, bad_number(declarations, number));
@@ -75,7 +87,8 @@ fn numbers(
     declarations: &Declarations<'_>,
     list: &[Constant],
 ) -> Result<(), AllocError>
-    ensures { OnOk result (Tries (handler_rules (placed declarations.now)) first.old (handled [] (map placed_constant list.now)) first.new) }
+    ensures { OnOk result (Tries (handler_rules (placed declarations.now)) first.old
+        (handled [] (map placed_constant list.now)) first.new) }
 {
     let mut values = Values::new(alloc);
     for one in list {
@@ -90,7 +103,8 @@ fn handler(
     declarations: &Declarations<'_>,
     handler: &Option<Handler>,
 ) -> Result<(), AllocError>
-    ensures { OnOk result (Tries (handler_rules (placed declarations.now)) first.old (handler_numbers (optional placed_handler handler.now)) first.new) }
+    ensures { OnOk result (Tries (handler_rules (placed declarations.now)) first.old
+        (handler_numbers (optional placed_handler handler.now)) first.new) }
 {
     if let Some(handler) = handler {
         numbers(alloc, first, declarations, handler.numbers.as_slice())?;
@@ -104,7 +118,9 @@ fn decl(
     declarations: &Declarations<'_>,
     decl: &Decl,
 ) -> Result<(), AllocError>
-    ensures { let rules = handler_rules (placed declarations.now) in OnOk result ((rest : List (SpecDecl SpecPlace)) → noted rules first.new (all_handled (processes rest)) ≡ noted rules first.old (all_handled (processes (placed_decl decl.now ∷ rest)))) }
+    ensures { let rules = handler_rules (placed declarations.now) in OnOk result
+        ((rest : List (SpecDecl SpecPlace)) → noted rules first.new (all_handled (processes rest)) ≡
+        noted rules first.old (all_handled (processes (placed_decl decl.now ∷ rest)))) }
 {
     if let Decl::Proc(process) = decl {
         handler(alloc, first, declarations, &process.handler)?;
@@ -117,7 +133,8 @@ pub fn first_broken(
     alloc: Global,
     declarations: &Declarations<'_>,
 ) -> Result<Option<Broken>, AllocError>
-    ensures { let g = placed declarations.now in IfOk result (IsFirstOf (FailsAmong (handler_rules g) (all_handled (processes g.decls)))) }
+    ensures { let g = placed declarations.now in IfOk result
+        (IsFirstOf (FailsAmong (handler_rules g) (all_handled (processes g.decls)))) }
 {
     let mut first = None;
     for one in declarations.program().decls.as_slice() {

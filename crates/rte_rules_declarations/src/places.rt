@@ -31,7 +31,8 @@ impl Model for Places {
 }
 
 fn members(conditions: &mut Vec<Place>, list: &[Member]) -> Result<(), AllocError>
-    ensures { OnOk result (conditions.new.items ≡ conditions.old.items ++ member_conditions (map placed_member list.now)) }
+    ensures { OnOk result (conditions.new.items ≡ conditions.old.items ++
+        member_conditions (map placed_member list.now)) }
 {
     for one in list {
         if let Member::Condition { place, .. } = one {
@@ -42,7 +43,8 @@ fn members(conditions: &mut Vec<Place>, list: &[Member]) -> Result<(), AllocErro
 }
 
 fn routines(routines: &mut Vec<Place>, list: &[Routine]) -> Result<(), AllocError>
-    ensures { OnOk result (routines.new.items ≡ routines.old.items ++ map (λ r. r.place) (map placed_routine list.now)) }
+    ensures { OnOk result (routines.new.items ≡ routines.old.items ++
+        map (λ r. r.place) (map placed_routine list.now)) }
 {
     for one in list {
         routines.push(one.place)?;
@@ -52,7 +54,14 @@ fn routines(routines: &mut Vec<Place>, list: &[Routine]) -> Result<(), AllocErro
 
 impl Places {
     fn new(alloc: Global) -> Places
-        ensures { result ≡ record { processes = []; monitors = []; devices = []; events = []; conditions = []; routines = [] } }
+        ensures { result ≡ record {
+          processes = [];
+          monitors = [];
+          devices = [];
+          events = [];
+          conditions = [];
+          routines = [];
+        } }
     {
         Places {
             processes: Vec::new(alloc),
@@ -65,7 +74,8 @@ impl Places {
     }
 
     fn decl(&mut self, decl: &Decl) -> Result<(), AllocError>
-        ensures { OnOk result ((rest : List (SpecDecl SpecPlace)) → with_decls self.new rest ≡ with_decls self.old (placed_decl decl.now ∷ rest)) }
+        ensures { OnOk result ((rest : List (SpecDecl SpecPlace)) → with_decls self.new rest ≡
+            with_decls self.old (placed_decl decl.now ∷ rest)) }
     {
         match decl {
             Decl::Const { .. } => {}

@@ -28,7 +28,8 @@ fn of_kind(declarations: &Declarations<'_>, kind: &Type) -> u64
 
 /// The words of variables. This sum and those below stay at the greatest number of 64 bits.
 fn of_vars(declarations: &Declarations<'_>, list: &[Var]) -> u64
-    ensures { result ≡ held (vars_words (value (placed declarations.now)) (map placed_var list.now)) }
+    ensures { result ≡ held (vars_words (value (placed declarations.now))
+        (map placed_var list.now)) }
 {
     let mut words = 0u64;
     for var in list {
@@ -38,7 +39,9 @@ fn of_vars(declarations: &Declarations<'_>, list: &[Var]) -> u64
 }
 
 fn of_member(declarations: &Declarations<'_>, member: &Member) -> u64
-    ensures { (rest : List (SpecMember SpecPlace)) → held (result + members_words (value (placed declarations.now)) rest) ≡ held (members_words (value (placed declarations.now)) (placed_member member.now ∷ rest)) }
+    ensures { (rest : List (SpecMember SpecPlace)) →
+        held (result + members_words (value (placed declarations.now)) rest) ≡
+        held (members_words (value (placed declarations.now)) (placed_member member.now ∷ rest)) }
 {
     match member {
         Member::Var(var) => of_kind(declarations, &var.kind),
@@ -47,7 +50,8 @@ fn of_member(declarations: &Declarations<'_>, member: &Member) -> u64
 }
 
 fn of_members(declarations: &Declarations<'_>, list: &[Member]) -> u64
-    ensures { result ≡ held (members_words (value (placed declarations.now)) (map placed_member list.now)) }
+    ensures { result ≡ held (members_words (value (placed declarations.now))
+        (map placed_member list.now)) }
 {
     let mut words = 0u64;
     for member in list {
@@ -57,7 +61,9 @@ fn of_members(declarations: &Declarations<'_>, list: &[Member]) -> u64
 }
 
 fn of_decl(declarations: &Declarations<'_>, decl: &Decl) -> u64
-    ensures { (rest : List (SpecDecl SpecPlace)) → held (result + words_of (value (placed declarations.now)) rest) ≡ held (words_of (value (placed declarations.now)) (placed_decl decl.now ∷ rest)) }
+    ensures { (rest : List (SpecDecl SpecPlace)) →
+        held (result + words_of (value (placed declarations.now)) rest) ≡
+        held (words_of (value (placed declarations.now)) (placed_decl decl.now ∷ rest)) }
 {
     match decl {
         Decl::Const { .. } | Decl::Device { .. } | Decl::Event { .. } | Decl::Routine(_) => 0,
@@ -67,7 +73,8 @@ fn of_decl(declarations: &Declarations<'_>, decl: &Decl) -> u64
 }
 
 fn of_decls(declarations: &Declarations<'_>, list: &[Decl]) -> u64
-    ensures { result ≡ held (words_of (value (placed declarations.now)) (map placed_decl list.now)) }
+    ensures { result ≡ held (words_of (value (placed declarations.now))
+        (map placed_decl list.now)) }
 {
     let mut words = 0u64;
     for decl in list {

@@ -1,4 +1,5 @@
--- What may stand where: the rules for calls, exits, waits and signals, and for the direction of devices.
+-- What may stand where: the rules for calls, exits, waits and signals, and for the direction of
+-- devices.
 use Rattle.std.specs.Prelude.{Bool, true, false, not, ◌||◌, Option, Some, None, if◌then◌else◌}
 use Rattle.rte_tree.specs.Placed.{Expr, literal, truth, variable, element, call, minus, negation, paren, row, Exprs, no_exprs, exprs, Operands, no_operands, operand, Ref, whole, part, Stmt, assign, assign_entry, assign_empty, perform, perform_entry, when, when_else, loop, exit_when, get, put, wait, signal, broadcast, except, assert, RoutineKind, procedure, function}
 use Rattle.rte_tree.specs.declared.place.Place.{Place}
@@ -84,7 +85,8 @@ in_function (home_is.Function own) = true
 abbrev pub calls_nothing : Home → Bool
 calls_nothing home = in_entry home || in_function home
 
--- the statement, or an expression of it, stands where it may not; its inner statements are left aside
+-- the statement, or an expression of it, stands where it may not; its inner statements are left
+-- aside
 abbrev pub stmt_strays : Named → Where → Stmt Place → Bool
 stmt_strays named here (assign r e) = target_strays named here.home r || strays named e
 stmt_strays named here (assign_entry r mon p entry q es) = calls_nothing here.home || (is_procedure (named q) || (target_strays named here.home r || exprs_stray named es))
@@ -103,7 +105,8 @@ stmt_strays named here (broadcast p cond q) = not (in_entry here.home)
 stmt_strays named here (except p number) = false
 stmt_strays named here (assert p e) = strays named e
 
--- a statement, or what a result calls, stands where it may not: at the statement, or at the function's name
+-- a statement, or what a result calls, stands where it may not: at the statement, or at the
+-- function's name
 abbrev pub misplaced : Named → Part → Option Place
 misplaced named (statement here s) = if stmt_strays named here s then Some (stmt_place s) else None
 misplaced named (answer name s e) = if strays named e then Some name else None

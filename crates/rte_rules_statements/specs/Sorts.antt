@@ -56,8 +56,8 @@ asked (Some (routine_thing is_entry r)) = Some r.params
 asked _ = None
 
 abbrev mutual
-  -- the sorts in an expression agree: an array is used by element only, an index is a number, and each operator and each
-  -- routine has operands of its sorts
+  -- the sorts in an expression agree: an array is used by element only, an index is a number, and
+  -- each operator and each routine has operands of its sorts
   pub agrees : Named → Expr Place → Bool
   agrees named (literal p n) = true
   agrees named (truth p b) = true

@@ -1,4 +1,5 @@
--- The rule for types and numbers of arguments, on a statement by itself and on the result of a function.
+-- The rule for types and numbers of arguments, on a statement by itself and on the result of a
+-- function.
 use Rattle.std.specs.Prelude.{Bool, true, not, ◌&&◌, Option, Some, None, if◌then◌else◌}
 use Rattle.rte_tree.specs.Placed.{Expr, Ref, whole, part, Stmt, assign, assign_entry, assign_empty, perform, perform_entry, when, when_else, loop, exit_when, get, put, wait, signal, broadcast, except, assert}
 use Rattle.rte_tree.specs.declared.place.Place.{Place}
@@ -50,7 +51,8 @@ stmt_agrees named (broadcast p cond q) = true
 stmt_agrees named (except p number) = true
 stmt_agrees named (assert p e) = is_of named sort_is.Truth e
 
--- types or numbers of arguments do not agree: in a statement at the statement, in a result at the function's name
+-- types or numbers of arguments do not agree: in a statement at the statement, in a result at the
+-- function's name
 abbrev pub mistyped : Named → Part → Option Place
 mistyped named (statement here s) = if stmt_agrees named s then None else Some (stmt_place s)
 mistyped named (answer name s e) = if is_of named (sort_of s) e then None else Some name

@@ -16,7 +16,8 @@ use rte_tree::{Decl, Handler, Routine, RoutineKind};
 /// What the statements of a routine stand in. A function that is no entry is known by the place of
 /// its name.
 fn home_of(is_entry: bool, routine: &Routine) -> Home
-    ensures { let r = placed_routine routine.now in result ≡ home_of_routine is_entry r.kind r.place }
+    ensures { let r = placed_routine routine.now in result ≡
+        home_of_routine is_entry r.kind r.place }
 {
     match (is_entry, routine.kind) {
         (true, _) => Home::Entry,
@@ -41,7 +42,9 @@ fn routine(
     is_entry: bool,
     routine: &Routine,
 )
-    ensures { let rules = statement_rules (placed declarations.now) in (more : List Part) → noted rules first.new more ≡ noted rules first.old (routine_parts is_entry (placed_routine routine.now) more) }
+    ensures { let rules = statement_rules (placed declarations.now) in (more : List Part) →
+        noted rules first.new more ≡ noted rules first.old
+        (routine_parts is_entry (placed_routine routine.now) more) }
 {
     let here = outside_loops(home_of(is_entry, routine));
     stmts(first, declarations, here, routine.body.as_slice());
@@ -56,7 +59,9 @@ fn routines(
     is_entry: bool,
     list: &[Routine],
 )
-    ensures { let rules = statement_rules (placed declarations.now) in (more : List Part) → noted rules first.new more ≡ noted rules first.old (routines_parts is_entry (map placed_routine list.now) more) }
+    ensures { let rules = statement_rules (placed declarations.now) in (more : List Part) →
+        noted rules first.new more ≡ noted rules first.old
+        (routines_parts is_entry (map placed_routine list.now) more) }
 {
     for one in list {
         routine(first, declarations, is_entry, one);
@@ -64,7 +69,9 @@ fn routines(
 }
 
 fn handler(first: &mut Option<Broken>, declarations: &Declarations<'_>, handler: &Option<Handler>)
-    ensures { let rules = statement_rules (placed declarations.now) in (more : List Part) → noted rules first.new more ≡ noted rules first.old (handler_parts (optional placed_handler handler.now) more) }
+    ensures { let rules = statement_rules (placed declarations.now) in (more : List Part) →
+        noted rules first.new more ≡ noted rules first.old
+        (handler_parts (optional placed_handler handler.now) more) }
 {
     if let Some(handler) = handler {
         stmts(
@@ -77,7 +84,9 @@ fn handler(first: &mut Option<Broken>, declarations: &Declarations<'_>, handler:
 }
 
 fn decl(first: &mut Option<Broken>, declarations: &Declarations<'_>, decl: &Decl)
-    ensures { let rules = statement_rules (placed declarations.now) in (more : List Part) → noted rules first.new more ≡ noted rules first.old (decl_parts (placed_decl decl.now) more) }
+    ensures { let rules = statement_rules (placed declarations.now) in (more : List Part) →
+        noted rules first.new more ≡ noted rules first.old
+        (decl_parts (placed_decl decl.now) more) }
 {
     match decl {
         Decl::Const { .. } | Decl::Device { .. } | Decl::Event { .. } => {}
@@ -97,7 +106,9 @@ fn decl(first: &mut Option<Broken>, declarations: &Declarations<'_>, decl: &Decl
 }
 
 fn decls(first: &mut Option<Broken>, declarations: &Declarations<'_>, list: &[Decl])
-    ensures { let rules = statement_rules (placed declarations.now) in (more : List Part) → noted rules first.new more ≡ noted rules first.old (decls_parts (map placed_decl list.now) more) }
+    ensures { let rules = statement_rules (placed declarations.now) in (more : List Part) →
+        noted rules first.new more ≡ noted rules first.old
+        (decls_parts (map placed_decl list.now) more) }
 {
     for one in list {
         decl(first, declarations, one);

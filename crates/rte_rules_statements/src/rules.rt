@@ -44,7 +44,8 @@ fn stmt_place(s: &Stmt) -> Place
 
 /// The place of a statement whose types or numbers of arguments do not agree.
 fn mistyped(declarations: &Declarations<'_>, s: &Stmt) -> Option<Place>
-    ensures { (here : Where) → result ≡ mistyped_at (named_at (placed declarations.now)) (statement here (placed_stmt s.now)) }
+    ensures { (here : Where) → result ≡ mistyped_at (named_at (placed declarations.now))
+        (statement here (placed_stmt s.now)) }
 {
     if stmt_agrees(declarations, s) {
         None
@@ -55,7 +56,8 @@ fn mistyped(declarations: &Declarations<'_>, s: &Stmt) -> Option<Place>
 
 /// The place of a statement that stands where it may not.
 fn misplaced(declarations: &Declarations<'_>, here: Where, s: &Stmt) -> Option<Place>
-    ensures { result ≡ misplaced_at (named_at (placed declarations.now)) (statement here (placed_stmt s.now)) }
+    ensures { result ≡ misplaced_at (named_at (placed declarations.now))
+        (statement here (placed_stmt s.now)) }
 {
     if stmt_strays(declarations, here, s) {
         Some(stmt_place(s))
@@ -67,7 +69,8 @@ fn misplaced(declarations: &Declarations<'_>, here: Where, s: &Stmt) -> Option<P
 /// Tries the rules on a statement, the statements in it aside.
 #[tactic(auto, unfolding(crate::specs::Rules::statement_rules))]
 pub fn try_stmt(first: &mut Option<Broken>, declarations: &Declarations<'_>, here: Where, s: &Stmt)
-    ensures { first.new ≡ note (statement_rules (placed declarations.now)) first.old (statement here (placed_stmt s.now)) }
+    ensures { first.new ≡ note (statement_rules (placed declarations.now)) first.old
+        (statement here (placed_stmt s.now)) }
 {
     blame(first, 30, mistyped(declarations, s));
     blame(first, 32, crossed_loop(declarations, s));
@@ -88,7 +91,8 @@ pub fn try_answer(
     kind: &Scalar,
     value: &Expr,
 )
-    ensures { first.new ≡ note (statement_rules (placed declarations.now)) first.old (answer name (placed_scalar kind.now) (placed_expr value.now)) }
+    ensures { first.new ≡ note (statement_rules (placed declarations.now)) first.old
+        (answer name (placed_scalar kind.now) (placed_expr value.now)) }
 {
     if !answer_agrees(declarations, kind, value) {
         blame(first, 30, Some(name));

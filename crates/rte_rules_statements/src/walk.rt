@@ -19,7 +19,9 @@ pub fn stmts(
     here: Where,
     list: &[Stmt],
 )
-    ensures { let rules = statement_rules (placed declarations.now) in (more : List Part) → noted rules first.new more ≡ noted rules first.old (stmts_parts here (placed_stmts list.now) more) }
+    ensures { let rules = statement_rules (placed declarations.now) in (more : List Part) →
+        noted rules first.new more ≡ noted rules first.old
+        (stmts_parts here (placed_stmts list.now) more) }
 {
     for s in list {
         stmt(first, declarations, here, s);
@@ -29,7 +31,9 @@ pub fn stmts(
 /// Tries the rules on a statement and those in it.
 #[cycle(stmt)]
 fn stmt(first: &mut Option<Broken>, declarations: &Declarations<'_>, here: Where, s: &Stmt)
-    ensures { let rules = statement_rules (placed declarations.now) in (more : List Part) → noted rules first.new more ≡ noted rules first.old (stmt_parts here (placed_stmt s.now) more) }
+    ensures { let rules = statement_rules (placed declarations.now) in (more : List Part) →
+        noted rules first.new more ≡ noted rules first.old
+        (stmt_parts here (placed_stmt s.now) more) }
 {
     try_stmt(first, declarations, here, s);
     match s {

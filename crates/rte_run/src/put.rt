@@ -21,7 +21,8 @@ fn put_line<O: Sink>(
     ensures whole { OnOk result
         (Appends (O.state out.old).taken (O.state out.new).taken (line_of names.now event.now)) }
     ensures front { OnErr result
-        (AppendsFront (O.state out.old).taken (O.state out.new).taken (line_of names.now event.now)) }
+        (AppendsFront (O.state out.old).taken (O.state out.new).taken
+        (line_of names.now event.now)) }
     ensures failed { OnErr result (Rose (O.state out.old).faults (O.state out.new).faults) }
     ensures count { (O.state out.old).faults ≤ (O.state out.new).faults }
     ensures quiet { OnOk result ((O.state out.new).faults ≡ (O.state out.old).faults) }
@@ -42,7 +43,8 @@ pub(crate) fn put_all<O: Sink>(
     ensures whole { OnOk result
         (Appends (O.state out.old).taken (O.state out.new).taken (log_of names.now events.now)) }
     ensures front { OnErr result
-        (AppendsFront (O.state out.old).taken (O.state out.new).taken (log_of names.now events.now)) }
+        (AppendsFront (O.state out.old).taken (O.state out.new).taken
+        (log_of names.now events.now)) }
     ensures failed { OnErr result (Rose (O.state out.old).faults (O.state out.new).faults) }
     ensures count { (O.state out.old).faults ≤ (O.state out.new).faults }
     ensures quiet { OnOk result ((O.state out.new).faults ≡ (O.state out.old).faults) }

@@ -12,7 +12,8 @@ use Rattle.rte_stretch.specs.Stretch.{left, place_of}
 abbrev pub IsDue : Image → Script → ℕ → Type 0
 IsDue image script v = IsQuiet image script v (state_at image script v) → ⊥
 
--- the last burn tick, or the last tick of the instruction, of the process that is picked at tick t is the tick before v
+-- the last burn tick, or the last tick of the instruction, of the process that is picked at tick t
+-- is the tick before v
 pub record IsDone (image : Image) (script : Script) (t v : ℕ) : Type 0 where
   pub k : ℕ
   pub job : Job

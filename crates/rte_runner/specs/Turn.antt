@@ -17,15 +17,16 @@ pub record Run : Type 0 where
   pub image : Image
   pub script : Script
 
--- From tick t on, whose start events were done, n ticks of the run have passed: the state is that after them, and what fell in them stands
--- after the events before.
+-- From tick t on, whose start events were done, n ticks of the run have passed: the state is that
+-- after them, and what fell in them stands after the events before.
 pub record HasPassed (run : Run) (t n : ℕ) (s : State) (before after : List Event) : Type 0 where
   pub some : 1 ≤ n
   pub state : s ≡ state_at run.image run.script (t + n)
   pub fell : List Event
   pub told : after ≡ before ++ fell
   pub events : events_from run.image run.script n t (state_at run.image run.script t) ≡ (starts run.image run.script t (state_at run.image run.script t)).events ++ fell
-  -- each wait is an old one, or times out no earlier than the tick that comes next; and where nothing fell at a queue all are old
+  -- each wait is an old one, or times out no earlier than the tick that comes next; and where
+  -- nothing fell at a queue all are old
   pub waits : WaitsFrom (t + n) (begun run.image run.script t).threads s.threads
   pub same : is_some_at_queue fell ≡ false → (j : ℕ) → time_out_of (slice_get s.threads j) ≡ time_out_of (slice_get (begun run.image run.script t).threads j)
 

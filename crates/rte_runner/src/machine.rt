@@ -117,9 +117,9 @@ impl Machine {
         }
     }
 
-    /// One turn. It does the start events of the tick and the pick, and ends at the least tick after
-    /// it that is the end of the script, or is due (a start event, a time-out or a line of the
-    /// script falls on it), or before which the process that is picked has the last tick of its
+    /// One turn. It does the start events of the tick and the pick, and ends at the least tick
+    /// after it that is the end of the script, or is due (a start event, a time-out or a line of
+    /// the script falls on it), or before which the process that is picked has the last tick of its
     /// burn or of its instruction.
     pub fn advance(&mut self, plan: &Plan, script: &Script) -> Turn
         ghost image: { Image }

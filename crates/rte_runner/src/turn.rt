@@ -64,10 +64,12 @@ fn pass_one(
     requires some { 1 ≤ most }
     requires end { tick + most < 2 ^ 63 }
     requires fired { array_vec_len fired.old < 65 }
-    ensures passed { HasPassed run tick result (state_of board.new) fired.old.items fired.new.items }
+    ensures passed { HasPassed run tick result
+        (state_of board.new) fired.old.items fired.new.items }
     ensures most { result ≤ most }
     ensures board { IsBoardOf run.image board.new }
-    ensures lasts { result ≡ lasts_thread run.image most (slice_get (state_of board.old).threads who) }
+    ensures lasts { result ≡ lasts_thread run.image most
+        (slice_get (state_of board.old).threads who) }
 {
     let ticks = ticks_left(plan, board, who, most);
     pass(plan, board, who, tick, ticks, fired);
@@ -104,7 +106,8 @@ fn pass_row(
     requires end { tick + most < 2 ^ 63 }
     requires fired { array_vec_len fired.old < 65 }
     requires burnt { BurnsNothing (state_of board.old) who }
-    ensures passed { HasPassed run tick result (state_of board.new) fired.old.items fired.new.items }
+    ensures passed { HasPassed run tick result
+        (state_of board.new) fired.old.items fired.new.items }
     ensures most { result ≤ most }
     ensures board { IsBoardOf run.image board.new }
 {
@@ -141,7 +144,8 @@ fn pass_picked(
     requires some { 1 ≤ most }
     requires end { tick + most < 2 ^ 63 }
     requires fired { array_vec_len fired.old < 65 }
-    ensures passed { HasPassed run tick result (state_of board.new) fired.old.items fired.new.items }
+    ensures passed { HasPassed run tick result
+        (state_of board.new) fired.old.items fired.new.items }
     ensures most { result ≤ most }
     ensures board { IsBoardOf run.image board.new }
 {
@@ -171,7 +175,8 @@ fn pass_ticks(
     requires some { 1 ≤ most }
     requires end { tick + most < 2 ^ 63 }
     requires fired { array_vec_len fired.old < 65 }
-    ensures passed { HasPassed run tick result (state_of board.new) fired.old.items fired.new.items }
+    ensures passed { HasPassed run tick result
+        (state_of board.new) fired.old.items fired.new.items }
     ensures most { result ≤ most }
     ensures board { IsBoardOf run.image board.new }
     ensures lasts { reach ≡ Reach.Turn →
@@ -204,7 +209,8 @@ pub(crate) fn take_turn(
     requires some { 1 ≤ most }
     requires end { tick + most < 2 ^ 63 }
     requires fired { array_vec_len fired.old < 65 }
-    ensures passed { HasPassed run tick result (state_of board.new) fired.old.items fired.new.items }
+    ensures passed { HasPassed run tick result
+        (state_of board.new) fired.old.items fired.new.items }
     ensures most { result ≤ most }
     ensures board { IsBoardOf run.image board.new }
     ensures slots { HasSlots run.image run.script tick agenda.new.done

@@ -6,6 +6,7 @@ use Rattle.rte_stretch.specs.Due.{AreInOrder}
 use Rattle.rte_timed.specs.Timed.{RespectsFrames}
 use Rattle.rte_valid.specs.Valid.{HasLimits, IsValid}
 
--- The law: a valid image under a script whose lines are in order and that respects its frames has a run that the machine takes.
+-- The law: a valid image under a script whose lines are in order and that respects its frames has a
+-- run that the machine takes.
 abbrev pub ValidRunsAreRunnable : Type 0
 ValidRunsAreRunnable = (image : Image) (script : Script) → HasLimits image → IsValid image → RespectsFrames image script → AreInOrder script.lines → script.end_tick < 2 ^ 63 → IsRunnable image script

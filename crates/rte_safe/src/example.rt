@@ -4,7 +4,8 @@ ghost use Rattle.rte_safe.specs.Example.{IsNeverStuck, looping, LoopingFits, Mee
 
 use rte_isa::Instr;
 
-/// Branches, a loop with an exit, and nested calls: a function, a procedure that calls it, and a process that calls the procedure.
+/// Branches, a loop with an exit, and nested calls: a function, a procedure that calls it, and a
+/// process that calls the procedure.
 pub fn looping_code() -> [Instr; 19]
     ensures fits { LoopingFits result }
     ensures safe { IsNeverStuck (looping result) }
@@ -32,7 +33,8 @@ pub fn looping_code() -> [Instr; 19]
     ]
 }
 
-/// A monitor with an entry that waits and one that signals, and two processes, one of them with a handler.
+/// A monitor with an entry that waits and one that signals, and two processes, one of them with a
+/// handler.
 pub fn meeting_code() -> [Instr; 16]
     ensures fits { MeetingFits result }
     ensures safe { MeetingIsSafe result }

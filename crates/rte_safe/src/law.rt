@@ -1,6 +1,7 @@
 //! The laws, for every image that meets the premise, every script and every tick.
 //!
-//! Each is a statement of `specs/`. The premise is `ImageFits` of `specs/Safe.antt`, the invariant `StateFits` of `specs/Whole.antt`.
+//! Each is a statement of `specs/`. The premise is `ImageFits` of `specs/Safe.antt`, the invariant
+//! `StateFits` of `specs/Whole.antt`.
 
 ghost use Rattle.rte_safe_terms.specs.Job.{InstructionIsSafe};
 ghost use Rattle.rte_safe_terms.specs.Laws.{PlainIsSafe};
@@ -16,7 +17,8 @@ pub fn plain_is_safe()
     ensures { PlainIsSafe }
 {}
 
-/// An instruction of a process that fits its trees is not stuck, and the process fits them after it, with less to do.
+/// An instruction of a process that fits its trees is not stuck, and the process fits them after
+/// it, with less to do.
 pub fn instruction_is_safe()
     ensures { InstructionIsSafe }
 {}
@@ -61,12 +63,14 @@ pub fn tick_keeps_queues()
     ensures { TickKeepsQueues }
 {}
 
-/// In a whole run a process stands in a condition's queue once where it waits on it, and nowhere else.
+/// In a whole run a process stands in a condition's queue once where it waits on it, and nowhere
+/// else.
 pub fn run_keeps_queues()
     ensures { RunKeepsQueues }
 {}
 
-/// The ticks in which an unfinished process may still wait fall with each that it waits in, and the waits to come with each that begins.
+/// The ticks in which an unfinished process may still wait fall with each that it waits in, and the
+/// waits to come with each that begins.
 pub fn suspension_falls()
     ensures { SuspensionFalls }
 {}
@@ -76,12 +80,14 @@ pub fn release_suspends()
     ensures { ReleaseSuspends }
 {}
 
-/// A process that is idle before a tick is idle after it, or was released in it with a whole activation to run.
+/// A process that is idle before a tick is idle after it, or was released in it with a whole
+/// activation to run.
 pub fn work_begins()
     ensures { WorkBegins }
 {}
 
-/// A process that is idle before a tick is idle after it, or was released in it with all its waits to come.
+/// A process that is idle before a tick is idle after it, or was released in it with all its waits
+/// to come.
 pub fn suspension_begins()
     ensures { SuspensionBegins }
 {}

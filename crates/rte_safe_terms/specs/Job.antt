@@ -12,7 +12,8 @@ use Rattle.rte_safe_terms.specs.Path.{Step, under, held, Follows, Frame, Returni
 
 -- ---- routines
 
--- the code of a routine is of its tree and ends in its return, with the operand that this gives; its cost is told with the return
+-- the code of a routine is of its tree and ends in its return, with the operand that this gives;
+-- its cost is told with the return
 pub record RoutineFits (e : Where) (r : ℕ) (routine : Routine) : Type 0 where
   pub locals : (e.parts r).locals ≡ routine.locals
   pub last : ℕ
@@ -29,8 +30,8 @@ RoutinesFit e = (r : ℕ) (routine : Routine) → slice_get e.image.routines r �
 
 -- ---- calls in progress
 
--- the ticks until the monitor is left, from those of a frame and those of its callers: an entry leaves it itself, any other part is followed
--- by its callers
+-- the ticks until the monitor is left, from those of a frame and those of its callers: an entry
+-- leaves it itself, any other part is followed by its callers
 abbrev pub joined : Option ℕ → ℕ → ℕ → ℕ
 joined None here later = here + later
 joined (Some m) here later = here
@@ -39,14 +40,16 @@ joined (Some m) here later = here
 abbrev pub IsShort : Part → List Step → ℕ → Type 0
 IsShort part path leave = (m : ℕ) → part.monitor ≡ Some m → held path ≡ Some m → leave ≤ part.stays m
 
--- The monitor that the process is inside: an entry's own steps tell it, and then no caller is inside one; any other part is inside what its
--- callers are inside. A part that may call entries is inside none.
+-- The monitor that the process is inside: an entry's own steps tell it, and then no caller is
+-- inside one; any other part is inside what its callers are inside. A part that may call entries is
+-- inside none.
 pub record Inside (part : Part) (path : List Step) (inside below : Option ℕ) : Type 0 where
   pub told : ((part.monitor ≡ None) × (inside ≡ below)) ⊎ ((inside ≡ held path) × (below ≡ None))
   pub outer : part.level ≡ 2 → inside ≡ None
 
--- The callers of a part, from the innermost out to the process's own part. Each has steps of its own from where it goes on, once the part has
--- left its results; the frames together fit the depth that the outermost part has.
+-- The callers of a part, from the innermost out to the process's own part. Each has steps of its
+-- own from where it goes on, once the part has left its results; the frames together fit the depth
+-- that the outermost part has.
 abbrev pub Chain : Where → (own part : Part) → List Caller → (inside : Option ℕ) → Cost → Type 0
 Chain e own part [] inside c = (part ≡ own) × (inside ≡ None)
 Chain e own part (k ∷ ks) inside c = record {
@@ -75,7 +78,8 @@ Chain e own part (k ∷ ks) inside c = record {
   covers : Covers c (first.run + later.run) (first.susp + later.susp) (first.waits + later.waits) (joined caller.monitor first.leave later.leave);
 }
 
--- the process stands at an instruction of a part, in a frame with steps to do, above its callers; it has at most this to do
+-- the process stands at an instruction of a part, in a frame with steps to do, above its callers;
+-- it has at most this to do
 pub record Stands (e : Where) (own : Part) (o : Own) (c : Cost) : Type 0 where
   pub part : Part
   pub path : List Step
@@ -126,7 +130,8 @@ pub record Less (e : Where) (own : Part) (c : Cost) (n : ℕ) (o p : Own) : Type
   pub owned : length p.owned ≡ length o.owned
   pub shared : length p.shared ≡ length o.shared
 
--- the process waits on a condition, for at most limit ticks, with at least n ticks and the wait less to do
+-- the process waits on a condition, for at most limit ticks, with at least n ticks and the wait
+-- less to do
 pub record Pauses (e : Where) (own : Part) (c : Cost) (n condition limit : ℕ) (o p : Own) : Type 0 where
   -- there is such a condition, so it has a queue
   pub monitor : ℕ
@@ -140,7 +145,8 @@ pub record Pauses (e : Where) (own : Part) (c : Cost) (n condition limit : ℕ) 
   pub owned : length p.owned ≡ length o.owned
   pub shared : length p.shared ≡ length o.shared
 
--- the outcome is not stuck; where it goes on the process fits, and a raise leaves at least the ticks of an END to be paid
+-- the outcome is not stuck; where it goes on the process fits, and a raise leaves at least the
+-- ticks of an END to be paid
 abbrev pub Keeps : Where → Part → Cost → ℕ → Own → Outcome → Type 0
 Keeps e own c n o (Goes p) = Less e own c n o p
 Keeps e own c n o (Does a p) = Less e own c n o p
@@ -155,7 +161,8 @@ Keeps e own c n o Stuck = ⊥
 abbrev pub FindsFree : Where → State → Part → Own → Type 0
 FindsFree e s own o = (m : ℕ) (monitor : Monitor) → slice_get e.image.monitors m ≡ Some monitor → monitor.ceiling ≤ own.limit → o.job.inside ≡ None → is_free m s.threads ≡ true
 
--- The law: an instruction of a process that fits its trees is not stuck; the process fits them after it, with less to do.
+-- The law: an instruction of a process that fits its trees is not stuck; the process fits them
+-- after it, with less to do.
 abbrev pub InstructionIsSafe : Type 0
 InstructionIsSafe = (e : Where) (s : State) (own : Part) (o : Own) (c : Cost) → RoutinesFit e → IsSized e.image s o.shared → own.last ≡ i.End
     → (Stands e own o c) ⊎ (Comes e own o c) → FindsFree e s own o

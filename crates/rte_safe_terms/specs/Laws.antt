@@ -36,8 +36,9 @@ pub record IsIn (part : Part) (o : Own) : Type 0 where
   pub locals : length o.job.locals ≡ part.locals
   pub owned : part.owned ≤ length o.owned
 
--- The law: a plain instruction that finds the operands it takes is not stuck; it raises, or leaves the operands that it gives and changes
--- no more than values of words. In an entry the process has to be inside the monitor.
+-- The law: a plain instruction that finds the operands it takes is not stuck; it raises, or leaves
+-- the operands that it gives and changes no more than values of words. In an entry the process has
+-- to be inside the monitor.
 abbrev pub PlainIsSafe : Type 0
 PlainIsSafe = (image : Image) (s : State) (part : Part) (instr : Instr) (o : Own) (ks : List Kind)
     → IsPlain image part instr → IsSized image s o.shared → IsIn part o → (part.monitor ≡ None) ⊎ (o.job.inside ≡ part.monitor)

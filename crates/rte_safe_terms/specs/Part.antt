@@ -1,5 +1,5 @@
--- What a valid image keeps to at each instruction of a part. A part is a routine, the body or the handler of a process: a piece of code that
--- runs in one frame.
+-- What a valid image keeps to at each instruction of a part. A part is a routine, the body or the
+-- handler of a process: a piece of code that runs in one frame.
 use Rattle.std.specs.Prelude.{◌≡◌, ◌≤◌, ◌<◌, ◌+◌, ℕ, zero, suc, ℤ, pos, List, [], ◌∷◌, length, Option, Some, slice_get}
 use Rattle.rte_isa.specs.declared.instr.Instr.{Instr}
 use Rattle.rte_isa.specs.declared.instr.Instr.TheVariants as i
@@ -13,16 +13,19 @@ pub record Part : Type 0 where
   pub owned : ℕ
   -- its monitor, if it is an entry
   pub monitor : Option ℕ
-  -- the words of stack above its locals that it takes at most, with those of the routines that it calls
+  -- the words of stack above its locals that it takes at most, with those of the routines that it
+  -- calls
   pub depth : ℕ
-  -- the instruction that ends it, and the operands that are left there: RET and none, RETV and one, END and none
+  -- the instruction that ends it, and the operands that are left there: RET and none, RETV and one,
+  -- END and none
   pub last : Instr
   pub results : ℕ
   -- 0: it enters no monitor, itself or by calls; 1: it is an entry; 2: it may call entries
   pub level : ℕ
   -- no monitor that it enters, itself or by calls, has a ceiling above this, as a number
   pub limit : ℕ
-  -- the ticks that it runs from entering monitor m to leaving it at the end of the entry are at most stays m, itself or by calls
+  -- the ticks that it runs from entering monitor m to leaving it at the end of the entry are at
+  -- most stays m, itself or by calls
   pub stays : ℕ → ℕ
 
 -- ---- operands by kind: values, and loop counters with their turns
@@ -127,7 +130,8 @@ IsPlain image part (i.Out d) = IsBelow d (length image.devices)
 IsPlain image part (i.Raise e) = Unit {0}
 IsPlain image part i.End = ⊥
 
--- each condition has a queue and each device a word, and the words of each monitor stand in the area of all monitors
+-- each condition has a queue and each device a word, and the words of each monitor stand in the
+-- area of all monitors
 pub record IsSized (image : Image) (s : State) (words : List ℤ) : Type 0 where
   pub queues : length s.queues ≡ length image.conditions
   pub devices : length s.devices ≡ length image.devices

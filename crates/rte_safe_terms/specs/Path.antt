@@ -1,5 +1,5 @@
--- What is still to be done in a frame: a list of steps. The first of them tells what the present instruction is, and all of them together
--- which operands stand in the frame.
+-- What is still to be done in a frame: a list of steps. The first of them tells what the present
+-- instruction is, and all of them together which operands stand in the frame.
 use Rattle.std.specs.Prelude.{◌≡◌, ◌≤◌, ◌+◌, ◌*◌, ℕ, suc, pos, List, [], ◌∷◌, length, Option, Some, None}
 use Rattle.rte_isa.specs.declared.instr.Instr.TheVariants as i
 use Rattle.rte_machine_meaning.specs.Trees.{Seg, Segs, Nil, Cons}
@@ -15,12 +15,14 @@ pub data Step : Type 0 where
   Segment : (seg : Seg) → Step
   -- the jump past a second arm, to a place
   Skip : (to : ℕ) → Step
-  -- the end of a loop's turn, with so many turns after it; the place and tree of the loop's body, and the height below its counter
+  -- the end of a loop's turn, with so many turns after it; the place and tree of the loop's body,
+  -- and the height below its counter
   Again : (turns start : ℕ) (body : Segs) (height : ℕ) → Step
   -- the LEAVE of a monitor
   Leaves : (monitor : ℕ) → Step
 
--- the kinds of the operands below the present height: each loop that is under way has its counter, and the values below that
+-- the kinds of the operands below the present height: each loop that is under way has its counter,
+-- and the values below that
 abbrev pub under : List Step → List Kind
 under [] = []
 under (Segment seg ∷ rest) = under rest
@@ -41,7 +43,8 @@ abbrev pub then_rest : Segs → List Step → List Step
 then_rest Nil rest = rest
 then_rest (Cons head more) rest = Segment head ∷ then_rest more rest
 
--- the code from place at on does these steps, from height h, at most at this cost, and then comes to the end of the part
+-- the code from place at on does these steps, from height h, at most at this cost, and then comes
+-- to the end of the part
 abbrev pub Follows : Where → (out : Option ℕ) → List Step → (at h : ℕ) → Cost → Type 0
 Follows e out [] at h c = record {
   no_loop : out ≡ None;
@@ -93,7 +96,8 @@ pub record Frame (e : Where) (path : List Step) (out : Option ℕ) (h : ℕ) (c 
   pub room : length (plains h (under path)) ≤ e.part.depth
   pub words : IsIn e.part o
 
--- the frame stands at the REENT that follows a wait, outside the monitor of its entry; the steps are those after it
+-- the frame stands at the REENT that follows a wait, outside the monitor of its entry; the steps
+-- are those after it
 pub record Returning (e : Where) (path : List Step) (out : Option ℕ) (h : ℕ) (c : Cost) (o : Own) : Type 0 where
   pub monitor : ℕ
   pub enters : At e o.job.place (i.Reenter (pos monitor))
@@ -108,7 +112,8 @@ pub record Returning (e : Where) (path : List Step) (out : Option ℕ) (h : ℕ)
   pub short : later.leave ≤ e.part.stays monitor
   pub covers : Covers c (4 + later.run) later.susp later.waits (4 + later.leave)
 
--- after an instruction of n ticks within the frame: the frame has other steps, and at least n ticks less to do
+-- after an instruction of n ticks within the frame: the frame has other steps, and at least n ticks
+-- less to do
 pub record Moved (e : Where) (path : List Step) (c : Cost) (n : ℕ) (o p : Own) : Type 0 where
   pub new_path : List Step
   pub out : Option ℕ

@@ -23,8 +23,8 @@ pub record Parts : Type 0 where
   pub body_cost : Cost
   pub handler_cost : Cost
 
--- the part is a process's own: it ends with END, has the process's locals, words and stack, and the ceiling of each monitor that it enters is
--- at most, as a number, the process's rank
+-- the part is a process's own: it ends with END, has the process's locals, words and stack, and the
+-- ceiling of each monitor that it enters is at most, as a number, the process's rank
 pub record IsOwn (p : Process) (part : Part) : Type 0 where
   pub last : part.last ≡ i.End
   pub results : part.results ≡ 0
@@ -39,7 +39,8 @@ pub record HandlerFits (e : Where) (p : Process) (ps : Parts) (tree : Segs) : Ty
   pub code : Walks (within e ps.handler) None None 0 tree p.handler (end_of p true) 0 0 ps.handler_cost
   pub ends : At e (end_of p true) i.End
 
--- the code of a process is of its trees, up to the END of each; where it takes a number there is a handler, which waits nowhere
+-- the code of a process is of its trees, up to the END of each; where it takes a number there is a
+-- handler, which waits nowhere
 pub record ProcessFits (e : Where) (p : Process) (ps : Parts) : Type 0 where
   pub body : IsOwn p ps.body
   pub code : Walks (within e ps.body) None None 0 p.body p.start (end_of p false) 0 0 ps.body_cost
@@ -49,8 +50,8 @@ pub record ProcessFits (e : Where) (p : Process) (ps : Parts) : Type 0 where
   pub no_susp : ps.handler_cost.susp ≡ 0
   pub no_waits : ps.handler_cost.waits ≡ 0
 
--- The premise of the laws: what a valid image is, as far as no process is stuck. Each routine and process fits its trees, and the monitors'
--- words stand in the area of all of them.
+-- The premise of the laws: what a valid image is, as far as no process is stuck. Each routine and
+-- process fits its trees, and the monitors' words stand in the area of all of them.
 pub record ImageFits (e : Where) (ps : ℕ → Parts) : Type 0 where
   pub routines : RoutinesFit e
   pub bases : (m : ℕ) (monitor : Monitor) → slice_get e.image.monitors m ≡ Some monitor → monitor.base + monitor.words ≤ words_of e.image.monitors
@@ -72,8 +73,8 @@ own_of job owned shared = record { job = job; owned = owned; shared = shared }
 
 -- ---- a state
 
--- a ready process fits its trees, with at most so much left to do: the ticks of its instruction that have passed are paid, and a handler that
--- has not run may still come
+-- a ready process fits its trees, with at most so much left to do: the ticks of its instruction
+-- that have passed are paid, and a handler that has not run may still come
 pub record ReadyFits (e : Where) (p : Process) (ps : Parts) (job : Job) (owned shared : List ℤ) (left : Cost) : Type 0 where
   pub cost : Cost
   pub fits : (Stands e (part_of ps job.handling) (own_of job owned shared) cost) ⊎ (Comes e (part_of ps job.handling) (own_of job owned shared) cost)
@@ -96,7 +97,8 @@ pub record WaitingFits (e : Where) (p : Process) (ps : Parts) (job : Job) (owned
 
 -- ---- one tick of a process
 
--- the process is ready again, with one tick less at least; was is the monitor that it was inside, burnt the ticks of dispatch that it had
+-- the process is ready again, with one tick less at least; was is the monitor that it was inside,
+-- burnt the ticks of dispatch that it had
 pub record Ticks (e : Where) (p : Process) (ps : Parts) (own : Part) (was : Option ℕ) (burnt : ℕ) (before words : List ℤ) (left : Cost) (q : Own) : Type 0 where
   pub after : Cost
   pub fits : ReadyFits e p ps q.job q.owned q.shared after
@@ -130,7 +132,8 @@ TickFits e p ps job owned shared left (Raises number) = Ticks e p ps (part_of ps
 TickFits e p ps job owned shared left Ends = 1 ≤ left.run
 TickFits e p ps job owned shared left Stuck = ⊥
 
--- The law: a tick of an instruction of a ready process is not stuck; the process fits after it and has less left.
+-- The law: a tick of an instruction of a ready process is not stuck; the process fits after it and
+-- has less left.
 abbrev pub TickIsSafe : Type 0
 TickIsSafe = (e : Where) (ps : Parts) (s : State) (p : Process) (job : Job) (owned : List ℤ) (left : Cost)
     → RoutinesFit e → ProcessFits e p ps → IsSized e.image s s.shared → ReadyFits e p ps job owned s.shared left

@@ -13,7 +13,8 @@ use Rattle.rte_safe_terms.specs.Work.{HasLeft, worst_of, IsBusy}
 abbrev pub IsRanked : Image → Type 0
 IsRanked image = (k : ℕ) (p : Process) → slice_get image.processes k ≡ Some p → (1 ≤ p.rank) × (p.rank ≤ length image.processes)
 
--- before tick t, the ticks in which the process may still wait: the rest of a wait that has begun, and the waits to come
+-- before tick t, the ticks in which the process may still wait: the rest of a wait that has begun,
+-- and the waits to come
 abbrev pub suspension_of : ℕ → Thread → Cost → ℕ
 suspension_of t Idle left = 0
 suspension_of t (Ready job) left = left.susp
@@ -38,7 +39,8 @@ is_waiting (Some (Ready job)) = false
 is_waiting (Some Idle) = false
 is_waiting None = false
 
--- before tick t process k may still wait in at most n ticks of this activation, and begin at most w waits
+-- before tick t process k may still wait in at most n ticks of this activation, and begin at most w
+-- waits
 pub record Suspends (e : Where) (ps : ℕ → Parts) (s : State) (t k n w : ℕ) : Type 0 where
   pub p : Process
   pub thread : Thread
@@ -70,7 +72,8 @@ ReleaseSuspends = (e : Where) (ps : ℕ → Parts) (t k : ℕ) (p : Process) (s 
     → slice_get e.image.processes k ≡ Some p → slice_get s.threads k ≡ Some Idle
     → Suspends e ps (release e.image t k p s).state t k (worst_of (ps k)).susp (worst_of (ps k)).waits
 
--- The law: a process that is idle before a tick is idle after it, or was released in it, and then it may wait as its body may.
+-- The law: a process that is idle before a tick is idle after it, or was released in it, and then
+-- it may wait as its body may.
 abbrev pub SuspensionBegins : Type 0
 SuspensionBegins = (e : Where) (ps : ℕ → Parts) (script : Script) (t : ℕ) (s : State) (k : ℕ) → ImageFits e ps → IsRanked e.image → StateFits e ps s → slice_get s.threads k ≡ Some Idle
     → (slice_get (tick e.image script t s).state.threads k ≡ Some Idle)

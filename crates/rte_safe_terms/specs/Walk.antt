@@ -1,5 +1,5 @@
--- Code that is of its tree. A list of segments covers the code from one place to the next, leads from one height to another, and comes at most
--- to a cost.
+-- Code that is of its tree. A list of segments covers the code from one place to the next, leads
+-- from one height to another, and comes at most to a cost.
 use Rattle.std.specs.Prelude.{◌≡◌, ◌≤◌, ◌+◌, ◌*◌, ◌⊎◌, ℕ, zero, suc, pos, Option, Some, None, slice_get}
 use Rattle.rte_isa.specs.declared.instr.Instr.{Instr}
 use Rattle.rte_isa.specs.declared.instr.Instr.TheVariants as i
@@ -9,7 +9,8 @@ use Rattle.rte_isa.specs.Ticks.{ticks}
 use Rattle.rte_isa.specs.Operands.{takes, gives}
 use Rattle.rte_safe_terms.specs.Part.{Part, IsPlain}
 
--- ticks of execution, ticks of suspension, waits; and ticks of execution until the monitor is left that the process is inside
+-- ticks of execution, ticks of suspension, waits; and ticks of execution until the monitor is left
+-- that the process is inside
 pub record Cost : Type 0 where
   pub run : ℕ
   pub susp : ℕ
@@ -23,7 +24,8 @@ pub record Covers (c : Cost) (r s w l : ℕ) : Type 0 where
   pub waits : w ≤ c.waits
   pub leave : l ≤ c.leave
 
--- where code stands: an image, what each of its routines is as a part and costs at most with its return, and the part that the code is of
+-- where code stands: an image, what each of its routines is as a part and costs at most with its
+-- return, and the part that the code is of
 pub record Where : Type 0 where
   pub image : Image
   pub parts : ℕ → Part
@@ -44,7 +46,8 @@ pub record Reaches (e : Where) (m : ℕ) : Type 0 where
   pub there : slice_get e.image.monitors m ≡ Some monitor
   pub low : monitor.ceiling ≤ e.part.limit
 
--- what enters no monitor may be called from everywhere; an entry, and what may call one, only from a part that runs outside all monitors
+-- what enters no monitor may be called from everywhere; an entry, and what may call one, only from
+-- a part that runs outside all monitors
 abbrev pub MayCall : ℕ → ℕ → Type 0
 MayCall caller callee = (callee ≡ 0) ⊎ (caller ≡ 2)
 
@@ -63,9 +66,11 @@ IsLine e base (suc n) at next h k c = record {
   covers : Covers c (ticks instr + later.run) later.susp later.waits (ticks instr + later.leave);
 }
 
--- The code from place at to place next is of the tree, and leads from height h to height k. Heights count the values above the innermost
--- loop's counter, so a loop's body leads from 0 to 0; base is the number of operands below them, that counter included. out is where an EXIT
--- goes, held the monitor that the process is inside by this part. Costs are upper bounds, so a Fork needs no maximum.
+-- The code from place at to place next is of the tree, and leads from height h to height k. Heights
+-- count the values above the innermost loop's counter, so a loop's body leads from 0 to 0; base is
+-- the number of operands below them, that counter included. out is where an EXIT goes, held the
+-- monitor that the process is inside by this part. Costs are upper bounds, so a Fork needs no
+-- maximum.
 abbrev mutual
   pub Walk : Where → (out : Option ℕ) (held : Option ℕ) (base : ℕ) → Seg → (at next h k : ℕ) → Cost → Type 0
   Walk e out held base (Line zero) at next h k c = ⊥

@@ -25,13 +25,14 @@ pub record IsInside (image : Image) (threads : List Thread) (k m : ℕ) (p : Pro
   pub ready : slice_get threads k ≡ Some (Ready job)
   pub inside : job.inside ≡ Some m
 
--- of two processes that are inside monitors one has a rank below, as a number, the ceiling of the other's monitor
+-- of two processes that are inside monitors one has a rank below, as a number, the ceiling of the
+-- other's monitor
 abbrev pub Apart : Image → List Thread → Type 0
 Apart image threads = (j k m n : ℕ) (p q : Process) → (j ≡ k → ⊥) → IsInside image threads j m p → IsInside image threads k n q
     → (p.rank < ceiling_of image n) ⊎ (q.rank < ceiling_of image m)
 
--- The invariant: what each tick keeps. Each process fits its trees, and the ceilings keep processes apart. Who waits is inside no monitor, so
--- whoever is inside one is ready.
+-- The invariant: what each tick keeps. Each process fits its trees, and the ceilings keep processes
+-- apart. Who waits is inside no monitor, so whoever is inside one is ready.
 pub record StateFits (e : Where) (ps : ℕ → Parts) (s : State) : Type 0 where
   pub sized : IsSized e.image s s.shared
   pub many : length s.threads ≡ length e.image.processes
@@ -54,8 +55,8 @@ EveryTickIsSafe = (e : Where) (ps : ℕ → Parts) (script : Script) (t : ℕ) (
 abbrev pub RunFits : Type 0
 RunFits = (e : Where) (ps : ℕ → Parts) (script : Script) (t : ℕ) → ImageFits e ps → StateFits e ps (state_at e.image script t)
 
--- The law: in a whole run of a valid image no tick is stuck, each process is within its stack, and the ceilings keep the
--- processes that are inside monitors apart.
+-- The law: in a whole run of a valid image no tick is stuck, each process is within its stack, and
+-- the ceilings keep the processes that are inside monitors apart.
 abbrev pub EveryRunIsSafe : Type 0
 EveryRunIsSafe = (e : Where) (ps : ℕ → Parts) (script : Script) (t : ℕ) → ImageFits e ps
     → ((tick e.image script t (state_at e.image script t)).stuck ≡ false)

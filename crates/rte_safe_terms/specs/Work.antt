@@ -8,7 +8,8 @@ use Rattle.rte_safe_terms.specs.Walk.{Where, Cost}
 use Rattle.rte_safe_terms.specs.Safe.{Parts, ImageFits, ReadyFits, WaitingFits}
 use Rattle.rte_safe_terms.specs.Whole.{StateFits}
 
--- the ticks that are left; each wait to come burns two dispatches more, and so does one that has begun
+-- the ticks that are left; each wait to come burns two dispatches more, and so does one that has
+-- begun
 abbrev pub work_of : ℕ → Thread → Cost → ℕ
 work_of over Idle left = 0
 work_of over (Ready job) left = left.run + job.burn + 2 * over * left.waits
@@ -58,18 +59,21 @@ is_chosen k (Some c) = nat_eq c.place k
 abbrev pub runs : Image → Script → ℕ → State → ℕ → Bool
 runs image script t s k = is_chosen k (pick image (starts image script t s).state.threads)
 
--- a process that may still run for n ticks and runs in tick t may run for one tick less after it, any other for no more
+-- a process that may still run for n ticks and runs in tick t may run for one tick less after it,
+-- any other for no more
 abbrev pub Works : Where → (ℕ → Parts) → Script → (t : ℕ) → State → (k n : ℕ) → Type 0
 Works e ps script t s k n =
     (runs e.image script t s k ≡ true → (m : ℕ) × (n ≡ m + 1) × Owes e ps (tick e.image script t s).state k m)
     × (runs e.image script t s k ≡ false → Owes e ps (tick e.image script t s).state k n)
 
--- The law: in a tick that it runs in, a process that is not idle owes one tick less after it; in any other no more.
+-- The law: in a tick that it runs in, a process that is not idle owes one tick less after it; in
+-- any other no more.
 abbrev pub WorkFalls : Type 0
 WorkFalls = (e : Where) (ps : ℕ → Parts) (script : Script) (t : ℕ) (s : State) (k n : ℕ) → ImageFits e ps → StateFits e ps s → (owes : Owes e ps s k n) → IsBusy owes.thread
     → Works e ps script t s k n
 
--- The law: a process that is idle before a tick is idle after it, or was released in it, and then it owed a whole activation.
+-- The law: a process that is idle before a tick is idle after it, or was released in it, and then
+-- it owed a whole activation.
 abbrev pub WorkBegins : Type 0
 WorkBegins = (e : Where) (ps : ℕ → Parts) (script : Script) (t : ℕ) (s : State) (k : ℕ) → ImageFits e ps → StateFits e ps s → slice_get s.threads k ≡ Some Idle
     → (slice_get (tick e.image script t s).state.threads k ≡ Some Idle) ⊎ Works e ps script t s k (activation e.image.over (worst_of (ps k)))

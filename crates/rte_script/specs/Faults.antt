@@ -1,4 +1,5 @@
--- Why a text is no script: the first line that breaks a rule, and the least number of a rule that it breaks.
+-- Why a text is no script: the first line that breaks a rule, and the least number of a rule that
+-- it breaks.
 use Rattle.std.specs.Prelude.{◌≡◌, ◌≤◌, ◌<◌, ◌+◌, ◌==◌, ◌⊎◌, ℕ, Bool, true, false, List, [], length, Option, Some, None, nat_lt, nat_le, fold, if◌then◌else◌}
 use Rattle.rte_image.specs.declared.names.ImageNames.{ImageNames}
 use Rattle.rte_script.specs.declared.script.ScriptLine.{ScriptLine}
@@ -41,7 +42,8 @@ abbrev pub event_too_soon : ImageNames → List ScriptLine → ℕ → Option �
 event_too_soon names lines tick None = None
 event_too_soon names lines tick (Some number) = too_soon tick (frame_of names number) (last_of number lines)
 
--- the first of three flaws: the name is not known, the tick is below the last one, or the occurrence comes too soon
+-- the first of three flaws: the name is not known, the tick is below the last one, or the
+-- occurrence comes too soon
 abbrev pub first_flaw : Option ℕ → Bool → Option Flaw → Option Flaw
 first_flaw None in_order soon = Some Unknown
 first_flaw (Some number) false soon = Some Early
@@ -98,7 +100,8 @@ pub record IsLong (text : List ℕ) (fault : ScriptFault) : Type 0 where
   pub long : longest_text < length text
   pub is : fault ≡ Bad 6 0 0 0
 
--- the fault of the line after these: S1 to S4, S5 where the text ends there, or S6 where the line is one too many
+-- the fault of the line after these: S1 to S4, S5 where the text ends there, or S6 where the line
+-- is one too many
 abbrev pub IsFaultHere : ImageNames → List ScriptLine → List ℕ → ScriptFault → Type 0
 IsFaultHere names lines rest fault =
     IsLineFault names lines rest (length lines + 1) fault

@@ -1,4 +1,5 @@
--- Scripts: lines of text, what they mean to the names of an image, and the frames that they respect.
+-- Scripts: lines of text, what they mean to the names of an image, and the frames that they
+-- respect.
 use Rattle.std.specs.Prelude.{◌≡◌, ◌≤◌, ◌<◌, ◌+◌, ℕ, Bool, not, ◌&&◌, List, [], ◌∷◌, ◌++◌, length, Option, Some, None, map, option_map, unwrap_or, slice_get, All, AllPairs, nat_eq}
 use Rattle.std.specs.List.{position_from}
 use Rattle.std.specs.Cmp.Lexicographic.{pointwise}
@@ -46,7 +47,8 @@ pub record Respects (names : ImageNames) (lines : List ScriptLine) : Type 0 wher
   pub order : AllPairs IsLater lines
   pub frames : AllPairs (IsApart names) lines
 
--- the text begins with lines that say this, which mean these lines of a script that respects the frames; then comes the rest
+-- the text begins with lines that say this, which mean these lines of a script that respects the
+-- frames; then comes the rest
 pub record IsBegun (names : ImageNames) (text : List ℕ) (said : List Said) (lines : List ScriptLine) (rest : List ℕ) : Type 0 where
   pub form : All IsInForm said
   pub whole : text ≡ text_of said ++ rest

@@ -6,7 +6,8 @@ use Rattle.rte_script.specs.Scripts.{frame_of}
 use Rattle.rte_stretch.specs.Due.{AreInOrder}
 use Rattle.rte_timed.specs.Timed.{RespectsFrames}
 
--- the lines of the script are in order, its events respect the frames of the image's processes, and it ends by tick 1,000,000,000
+-- the lines of the script are in order, its events respect the frames of the image's processes, and
+-- it ends by tick 1,000,000,000
 pub record Suits (image : Image) (script : Script) : Type 0 where
   pub order : AreInOrder script.lines
   pub frames : RespectsFrames image script

@@ -5,7 +5,8 @@ use rte_tree::List;
 /// A piece of code. Routines and monitors are numbered from 0.
 #[derive(Debug, Drop)]
 pub enum Seg {
-    /// So many instructions that go on to the next one, with no call and no monitor left or entered.
+    /// So many instructions that go on to the next one, with no call and no monitor left or
+    /// entered.
     Line(u32),
     /// A choice: JZ to the second tree, the first tree, JMP behind the second, the second tree.
     Fork(Segs, Segs),

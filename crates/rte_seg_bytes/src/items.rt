@@ -11,8 +11,11 @@ use crate::view::{SegBytes, SegItem};
 impl<'a> SegBytes<'a> {
     /// The first segment and the segments after it; none where there is none.
     pub fn split_first(self) -> Option<(SegItem<'a>, SegBytes<'a>)>
-        ensures tree { MatchOption result (tree_in self.entry ≡ Nil) (λ x. tree_in self.entry ≡ Cons (item_in x.0) (tree_in x.1)) }
-        ensures nests { MatchOption result (segments_left self.entry ≡ 0) (λ x. (inner_nesting x.0 ≤ nesting self.entry) × (nesting x.1 ≡ nesting self.entry) × (segments_left x.1 + 1 ≡ segments_left self.entry)) }
+        ensures tree { MatchOption result (tree_in self.entry ≡ Nil)
+            (λ x. tree_in self.entry ≡ Cons (item_in x.0) (tree_in x.1)) }
+        ensures nests { MatchOption result (segments_left self.entry ≡ 0)
+            (λ x. (inner_nesting x.0 ≤ nesting self.entry) × (nesting x.1 ≡ nesting self.entry) ×
+            (segments_left x.1 + 1 ≡ segments_left self.entry)) }
     {
         if self.count == 0 {
             return None;

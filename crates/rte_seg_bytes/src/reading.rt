@@ -27,7 +27,8 @@ fn turns_count_at(bytes: &[u8]) -> Result<(u32, &[u8]), Fault>
     u32_within(bytes, 1, 1_000_000)
 }
 
-/// The segment of a tag, whose fields the bytes begin with; `left` counts them and the tag. Its trees nest at most so deep.
+/// The segment of a tag, whose fields the bytes begin with; `left` counts them and the tag. Its
+/// trees nest at most so deep.
 #[cycle(trees)]
 fn tagged_at(
     monitors: u16,
@@ -36,7 +37,8 @@ fn tagged_at(
     left: usize,
     bytes: &[u8],
 ) -> Result<(SegItem<'_>, &[u8]), Fault>
-    ensures read { Gives (λ x. (item_in x.0, x.1.now)) result (tagged monitors (tree_format monitors depth) tag left bytes.now) }
+    ensures read { Gives (λ x. (item_in x.0, x.1.now)) result
+        (tagged monitors (tree_format monitors depth) tag left bytes.now) }
     ensures nests { IfOk result (λ x. inner_nesting x.0 ≤ depth) }
 {
     match tag {
@@ -77,7 +79,8 @@ pub(crate) fn item_at(
     depth: u32,
     bytes: &[u8],
 ) -> Result<(SegItem<'_>, &[u8]), Fault>
-    ensures read { Gives (λ x. (item_in x.0, x.1.now)) result ((seg_format monitors (tree_format monitors depth)).read bytes.now) }
+    ensures read { Gives (λ x. (item_in x.0, x.1.now)) result
+        ((seg_format monitors (tree_format monitors depth)).read bytes.now) }
     ensures nests { IfOk result (λ x. inner_nesting x.0 ≤ depth) }
 {
     let (tag, rest) = u8_at(bytes)?;
@@ -92,7 +95,8 @@ fn row_at(
     count: u32,
     bytes: &[u8],
 ) -> Result<(SegBytes<'_>, &[u8]), Fault>
-    ensures read { Gives (λ x. (tree_in x.0, x.1.now)) result (row_read monitors depth count bytes.now) }
+    ensures read { Gives (λ x. (tree_in x.0, x.1.now)) result
+        (row_read monitors depth count bytes.now) }
     ensures nests { IfOk result (λ x. nesting x.0 ≡ depth) }
 {
     let mut rest = bytes;
@@ -108,13 +112,14 @@ fn row_at(
     Ok((row, rest))
 }
 
-/// A view of the tree that the bytes begin with, and the bytes after it; or the fault of the first field that is none of a
-/// tree's. Each call of a monitor names one of so many, and trees nest at most so deep: the call calls itself once for each
-/// level of nesting.
+/// A view of the tree that the bytes begin with, and the bytes after it; or the fault of the first
+/// field that is none of a tree's. Each call of a monitor names one of so many, and trees nest at
+/// most so deep: the call calls itself once for each level of nesting.
 #[cycle(trees)]
 #[tactic(auto, unfolding(rte_image_reading::specs::TreeFormat::tree_format))]
 pub fn tree_at(monitors: u16, depth: u32, bytes: &[u8]) -> Result<(SegBytes<'_>, &[u8]), Fault>
-    ensures read { Gives (λ x. (tree_in x.0, x.1.now)) result ((tree_format monitors depth).read bytes.now) }
+    ensures read { Gives (λ x. (tree_in x.0, x.1.now)) result
+        ((tree_format monitors depth).read bytes.now) }
     ensures nests { IfOk result (λ x. nesting x.0 + 1 ≡ depth) }
 {
     if depth == 0 {

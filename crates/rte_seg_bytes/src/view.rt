@@ -20,7 +20,8 @@ pub struct SegBytes<'a> {
 /// A segment, with a view of each inner tree.
 #[derive(Clone, Copy)]
 pub enum SegItem<'a> {
-    /// So many instructions that go on to the next one, with no call and no monitor left or entered.
+    /// So many instructions that go on to the next one, with no call and no monitor left or
+    /// entered.
     Line(u32),
     /// A choice: JZ to the second tree, the first tree, JMP behind the second, the second tree.
     Fork(SegBytes<'a>, SegBytes<'a>),

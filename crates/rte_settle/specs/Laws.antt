@@ -7,6 +7,7 @@ use Rattle.rte_stretch.specs.Laws.{IsTurnOfRun}
 use Rattle.rte_stretch.specs.RowLaws.{IsSafeRun, begun}
 use Rattle.rte_settle.specs.Settled.{CanPass}
 
--- The law: in a run that is never stuck and stays within its stacks, the process that is picked can take the ticks of a turn of the run.
+-- The law: in a run that is never stuck and stays within its stacks, the process that is picked can
+-- take the ticks of a turn of the run.
 abbrev pub TurnCanPass : Type 0
 TurnCanPass = (image : Image) (script : Script) (t n k : ℕ) → IsSafeRun image script → IsTurnOfRun image script t n → place_of (pick image (begun image script t).threads) ≡ Some k → CanPass image n k (begun image script t)

@@ -23,8 +23,8 @@ CanCome room (Does act o) = stack_of o.job ≤ room
 CanCome room Stuck = ⊥
 CanCome room _ = Unit {0}
 
--- The outcome is the one that code tells, with what it left of the process's own. After a raise and at an end no word has changed, and the
--- process raises as it might have before.
+-- The outcome is the one that code tells, with what it left of the process's own. After a raise and
+-- at an end no word has changed, and the process raises as it might have before.
 abbrev pub ComesAs : Outcome → Own → Come → Own → Type 0
 ComesAs out old come.Goes new = out ≡ Goes new
 ComesAs out old (come.Does act) new = out ≡ Does act new

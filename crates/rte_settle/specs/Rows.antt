@@ -40,7 +40,8 @@ abbrev pub effect_of : Image → State → Option Instr → Own → Outcome
 effect_of image s None o = Stuck
 effect_of image s (Some instr) o = effect image s instr o
 
--- what a row that halted so comes to in its last tick, where the process stands so: at the instruction after the one that others see
+-- what a row that halted so comes to in its last tick, where the process stands so: at the
+-- instruction after the one that others see
 abbrev pub outcome_of : Image → State → Halt → Own → Outcome
 outcome_of image s halt.Spent o = Goes o
 outcome_of image s (halt.Raises left number) o = Raises number
@@ -60,7 +61,8 @@ pub record CanEnd (image : Image) (k : ℕ) (s : State) (h : Halt) : Type 0 wher
   pub seen : IsSeenAt image h job.place
   pub can : CanCome p.stack (outcome_of image s h (own_at k job s))
 
--- the last tick t of a row of process k, which stands so, comes to what is left to do in the state where it stands anew
+-- the last tick t of a row of process k, which stands so, comes to what is left to do in the state
+-- where it stands anew
 abbrev pub EndsAs : Around → (t k : ℕ) → Known → Cell → Halt → Come → Cell → Type 0
 EndsAs at t k known old h come new =
     (whole : Process) → IsProcess whole known → at.owned ≡ owned_of (slice_get at.state.owned k) → at.shared ≡ at.state.shared

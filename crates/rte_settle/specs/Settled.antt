@@ -22,7 +22,8 @@ use Rattle.rte_settle.specs.Own.{Around, CanCome, IsEarly}
 abbrev pub with_thread : ℕ → Thread → List ℤ → List ℤ → State → State
 with_thread k thread owned shared s = record s { threads = slice_set s.threads k thread; owned = slice_set s.owned k owned; shared = shared }
 
--- What is left to do once process k stands as its turn leaves it: others are woken, it joins a queue, and its event is told.
+-- What is left to do once process k stands as its turn leaves it: others are woken, it joins a
+-- queue, and its event is told.
 abbrev pub after : Image → ℕ → ℕ → Come → State → Ticked
 after image t k come.Goes s = record { state = s; events = []; stuck = false }
 after image t k (come.Does a) s = tell t k a s
@@ -39,14 +40,15 @@ StandsAfter t p (come.Raises e) old new = (whole : Process) → IsProcess whole 
 StandsAfter t p come.Ends old new = thread_of new ≡ Idle
 StandsAfter t p _ old new = new ≡ old
 
--- so many ticks of process k, which stands so, come to what is left to do in the state where it stands anew
+-- so many ticks of process k, which stands so, come to what is left to do in the state where it
+-- stands anew
 abbrev pub SettlesAs : Around → (n t k : ℕ) → Kept → Cell → Come → Cell → List ℤ → List ℤ → Type 0
 SettlesAs at n t k p old come new owned shared =
     (whole : Process) → IsProcess whole p → at.owned ≡ owned_of (slice_get at.state.owned k) → at.shared ≡ at.state.shared
     → settle at.image t k whole (job_of old.job) at.state (outcomes at.image at.state (job_of old.job) at.owned n old.job.burn) ≡ after at.image t k come (with_thread k (thread_of new) owned shared at.state)
 
--- Process k is ready, and can take n ticks at once: they are no more than are left of what it is at, some are left, and they are not stuck and
--- stay within its stack.
+-- Process k is ready, and can take n ticks at once: they are no more than are left of what it is
+-- at, some are left, and they are not stuck and stay within its stack.
 pub record CanPass (image : Image) (n k : ℕ) (s : State) : Type 0 where
   pub p : Process
   pub process : slice_get image.processes k ≡ Some p
@@ -67,7 +69,8 @@ pub record IsAround (at : Around) (k : ℕ) (b : Board) : Type 0 where
   pub owned : at.owned ≡ owned_of (slice_get at.state.owned k)
   pub shared : at.shared ≡ at.state.shared
 
--- n ticks of process k from the old state, the last of them tick t, come to what is left to do in the new
+-- n ticks of process k from the old state, the last of them tick t, come to what is left to do in
+-- the new
 abbrev pub HasTurned : Image → (t n k : ℕ) → State → Come → State → Type 0
 HasTurned image t n k old come new =
     (p : Process) (job : Job) → slice_get image.processes k ≡ Some p → slice_get old.threads k ≡ Some (Ready job)

@@ -57,9 +57,11 @@ pub fn pass_cell(
     requires ready { cell.old.stand ≡ stand.Ready }
     requires fits { ticks ≤ left at.image (job_of cell.old.job) }
     requires early { IsEarly at.image (job_of cell.old.job) }
-    requires can { CanCome cell.old.job.frames.room (outcomes at.image at.state (job_of cell.old.job) at.owned ticks cell.old.job.burn) }
+    requires can { CanCome cell.old.job.frames.room
+        (outcomes at.image at.state (job_of cell.old.job) at.owned ticks cell.old.job.burn) }
     requires tick { tick < 2 ^ 63 }
-    ensures settles { (k : ℕ) → SettlesAs at ticks tick k process.now cell.old result cell.new owned.new shared.new }
+    ensures settles { (k : ℕ) → SettlesAs at ticks tick k process.now cell.old result cell.new
+        owned.new shared.new }
     ensures among { IsAmong (length queues.now) result }
     ensures room { cell.new.job.frames.room ≡ cell.old.job.frames.room }
 {

@@ -24,8 +24,10 @@ fn end_own(plan: &Plan, job: &mut Job, queues: &Queues, devices: &[i32], halt: H
     requires devices { at.state.devices ≡ devices.now }
     requires conditions { length at.image.conditions ≡ length queues.now }
     requires seen { IsSeenAt at.image halt job.old.place }
-    requires can { CanCome job.old.frames.room (outcome_of at.image at.state halt (own_of job.old at.owned at.shared)) }
-    ensures comes { ComesAs (outcome_of at.image at.state halt (own_of job.old at.owned at.shared)) (own_of job.old at.owned at.shared) result (own_of job.new at.owned at.shared) }
+    requires can { CanCome job.old.frames.room
+        (outcome_of at.image at.state halt (own_of job.old at.owned at.shared)) }
+    ensures comes { ComesAs (outcome_of at.image at.state halt (own_of job.old at.owned at.shared))
+        (own_of job.old at.owned at.shared) result (own_of job.new at.owned at.shared) }
     ensures among { IsAmong (length queues.now) result }
     ensures room { job.new.frames.room ≡ job.old.frames.room }
 {
@@ -56,7 +58,8 @@ pub fn end_cell(
     requires conditions { length at.image.conditions ≡ length queues.now }
     requires ready { cell.old.stand ≡ stand.Ready }
     requires seen { IsSeenAt at.image halt cell.old.job.place }
-    requires can { CanCome cell.old.job.frames.room (outcome_of at.image at.state halt (own_of cell.old.job at.owned at.shared)) }
+    requires can { CanCome cell.old.job.frames.room
+        (outcome_of at.image at.state halt (own_of cell.old.job at.owned at.shared)) }
     requires tick { tick < 2 ^ 63 }
     ensures ends { (k : ℕ) → EndsAs at tick k process.now cell.old halt result cell.new }
     ensures among { IsAmong (length queues.now) result }

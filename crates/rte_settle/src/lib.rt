@@ -1,11 +1,12 @@
 //! A turn of the process that runs, over the board.
 //!
-//! `pass` takes so many ticks at once, no more than are left of what the process is at (`left`): the
-//! board and the events after it are those of the meaning's ticks at once (`pass` of `rte_stretch`),
-//! where the process can take them (`CanPass` in `specs/Settled.antt`), which `law` shows of every
-//! turn of a run that is never stuck. `run_row` runs a process over whole instructions that nobody
-//! sees (`HasRun` in `specs/Rows.antt`), and `end_row` does what the row halted at. `choose` tells
-//! the process that is picked (`specs/Chosen.antt`). Nothing takes memory.
+//! `pass` takes so many ticks at once, no more than are left of what the process is at (`left`):
+//! the board and the events after it are those of the meaning's ticks at once (`pass` of
+//! `rte_stretch`), where the process can take them (`CanPass` in `specs/Settled.antt`), which `law`
+//! shows of every turn of a run that is never stuck. `run_row` runs a process over whole
+//! instructions that nobody sees (`HasRun` in `specs/Rows.antt`), and `end_row` does what the row
+//! halted at. `choose` tells the process that is picked (`specs/Chosen.antt`). Nothing takes
+//! memory.
 #![tactic(auto)]
 
 mod cell;

@@ -36,8 +36,10 @@ fn effect_of(
     requires devices { at.state.devices ≡ devices.now }
     requires conditions { length at.image.conditions ≡ length queues.now }
     requires numbers { HasNumbers instr }
-    requires can { CanCome job.old.frames.room (effect at.image at.state instr (own_of job.old at.owned at.shared)) }
-    ensures comes { ComesAs (effect at.image at.state instr (own_of job.old at.owned at.shared)) (own_of job.old at.owned at.shared) result (own_of job.new owned.new shared.new) }
+    requires can { CanCome job.old.frames.room
+        (effect at.image at.state instr (own_of job.old at.owned at.shared)) }
+    ensures comes { ComesAs (effect at.image at.state instr (own_of job.old at.owned at.shared))
+        (own_of job.old at.owned at.shared) result (own_of job.new owned.new shared.new) }
     ensures among { IsAmong (length queues.now) result }
     ensures room { job.new.frames.room ≡ job.old.frames.room }
 {
@@ -78,8 +80,11 @@ pub fn pass_own(
     requires conditions { length at.image.conditions ≡ length queues.now }
     requires fits { ticks ≤ left at.image (job_of job.old) }
     requires early { IsEarly at.image (job_of job.old) }
-    requires can { CanCome job.old.frames.room (outcomes at.image at.state (job_of job.old) at.owned ticks job.old.burn) }
-    ensures comes { ComesAs (outcomes at.image at.state (job_of job.old) at.owned ticks job.old.burn) (own_of job.old at.owned at.shared) result (own_of job.new owned.new shared.new) }
+    requires can { CanCome job.old.frames.room
+        (outcomes at.image at.state (job_of job.old) at.owned ticks job.old.burn) }
+    ensures comes { ComesAs (outcomes at.image at.state
+        (job_of job.old) at.owned ticks job.old.burn) (own_of job.old at.owned at.shared) result
+        (own_of job.new owned.new shared.new) }
     ensures among { IsAmong (length queues.now) result }
     ensures room { job.new.frames.room ≡ job.old.frames.room }
 {

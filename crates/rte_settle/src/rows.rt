@@ -30,8 +30,10 @@ fn run_cell(
 ) -> Halt
     ghost image: { Image }
     requires plan { IsOf image plan.now }
-    requires safe { IsSafeFor image cell.old.job.frames.room (own_of cell.old.job owned.old shared.old) budget }
-    ensures runs { Runs image (own_of cell.old.job owned.old shared.old) budget result (own_of cell.new.job owned.new shared.new) }
+    requires safe { IsSafeFor image cell.old.job.frames.room
+        (own_of cell.old.job owned.old shared.old) budget }
+    ensures runs { Runs image (own_of cell.old.job owned.old shared.old) budget result
+        (own_of cell.new.job owned.new shared.new) }
     ensures stand { cell.new.stand ≡ cell.old.stand }
     ensures room { cell.new.job.frames.room ≡ cell.old.job.frames.room }
 {
@@ -70,7 +72,8 @@ fn end_turn(plan: &Plan, board: &mut Board, who: usize, halt: Halt, tick: u64) -
     requires at { IsAround at who board.old }
     requires can { CanEnd at.image who (state_of board.old) halt }
     requires tick { tick < 2 ^ 63 }
-    ensures ended { HasEnded at.image tick who (state_of board.old) halt result (state_of board.new) }
+    ensures ended { HasEnded at.image tick who (state_of board.old) halt result
+        (state_of board.new) }
     ensures among { IsAmong (length board.old.queues) result }
     ensures kept { IsBoardOf at.image board.new }
     ensures queues { board.new.queues ≡ board.old.queues }
@@ -99,7 +102,8 @@ pub fn end_row(plan: &Plan, board: &mut Board, who: usize, halt: Halt, tick: u64
     requires can { CanEnd image who (state_of board.old) halt }
     requires tick { tick < 2 ^ 63 }
     requires fired { array_vec_len fired.old < 65 }
-    ensures ends { EndsIn image tick who (state_of board.old) halt (state_of board.new) fired.old.items fired.new.items }
+    ensures ends { EndsIn image tick who (state_of board.old) halt
+        (state_of board.new) fired.old.items fired.new.items }
     ensures len { array_vec_len fired.new ≤ array_vec_len fired.old + 1 }
     ensures kept { IsBoardOf image board.new }
 {

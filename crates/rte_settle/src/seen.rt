@@ -21,8 +21,10 @@ pub fn see(job: &mut Job, queues: &Queues, devices: &[i32], instr: Instr) -> Out
     requires conditions { length at.image.conditions ≡ length queues.now }
     requires numbers { HasNumbers instr }
     requires seen { is_silent instr ≡ false }
-    requires can { CanCome job.old.frames.room (effect at.image at.state instr (own_of job.old at.owned at.shared)) }
-    ensures comes { ComesAs (effect at.image at.state instr (own_of job.old at.owned at.shared)) (own_of job.old at.owned at.shared) result (own_of job.new at.owned at.shared) }
+    requires can { CanCome job.old.frames.room
+        (effect at.image at.state instr (own_of job.old at.owned at.shared)) }
+    ensures comes { ComesAs (effect at.image at.state instr (own_of job.old at.owned at.shared))
+        (own_of job.old at.owned at.shared) result (own_of job.new at.owned at.shared) }
     ensures among { IsAmong (length queues.now) result }
     ensures room { job.new.frames.room ≡ job.old.frames.room }
 {

@@ -24,7 +24,8 @@ fn turn(plan: &Plan, board: &mut Board, who: usize, ticks: u32, tick: u64) -> Ou
     requires at { IsAround at who board.old }
     requires can { CanPass at.image ticks who (state_of board.old) }
     requires tick { tick < 2 ^ 63 }
-    ensures turned { HasTurned at.image tick ticks who (state_of board.old) result (state_of board.new) }
+    ensures turned { HasTurned at.image tick ticks who (state_of board.old) result
+        (state_of board.new) }
     ensures among { IsAmong (length board.old.queues) result }
     ensures kept { IsBoardOf at.image board.new }
     ensures queues { board.new.queues ≡ board.old.queues }
@@ -63,7 +64,8 @@ pub fn tell_after(
     requires queues { HaveRoom (vec_len board.old.cells) board.old.queues }
     requires fired { array_vec_len fired.old < 65 }
     ensures state { state_of board.new ≡ (after image tick who outcome (state_of board.old)).state }
-    ensures events { fired.new.items ≡ fired.old.items ++ (after image tick who outcome (state_of board.old)).events }
+    ensures events { fired.new.items ≡ fired.old.items ++
+        (after image tick who outcome (state_of board.old)).events }
     ensures len { array_vec_len fired.new ≤ array_vec_len fired.old + 1 }
     ensures kept { IsBoardOf image board.new }
 {
@@ -119,8 +121,10 @@ pub fn pass(plan: &Plan, board: &mut Board, who: usize, tick: u64, ticks: u32, f
     requires can { CanPass image ticks who (state_of board.old) }
     requires tick { tick + ticks < 2 ^ 63 }
     requires fired { array_vec_len fired.old < 65 }
-    ensures state { state_of board.new ≡ (passes image tick ticks (state_of board.old) (Some who)).state }
-    ensures events { fired.new.items ≡ fired.old.items ++ (passes image tick ticks (state_of board.old) (Some who)).events }
+    ensures state { state_of board.new ≡ (passes image tick ticks (state_of board.old)
+        (Some who)).state }
+    ensures events { fired.new.items ≡ fired.old.items ++
+        (passes image tick ticks (state_of board.old) (Some who)).events }
     ensures len { array_vec_len fired.new ≤ array_vec_len fired.old + 1 }
     ensures kept { IsBoardOf image board.new }
 {

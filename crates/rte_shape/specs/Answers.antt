@@ -19,15 +19,17 @@ use Rattle.rte_shape.specs.declared.fault.ValidFault.TheVariants as faults
 abbrev pub fault : (number a b : ℕ) → Shown
 fault number a b = record { number = number; a = a; b = b }
 
--- the bytes are a file of an image of which a part of validity before bounds fails: the first one has this fault
+-- the bytes are a file of an image of which a part of validity before bounds fails: the first one
+-- has this fault
 pub record HasValidFault (bytes : List ℕ) (found : Shown) : Type 0 where
   pub named : NamedImage
   pub are_of : AreOf bytes named
   pub first : fault_before_bounds named.image ≡ Some found
 
--- Ok exactly where the bytes are a file of an image that is valid but for its bounds, and of that image; an image fault
--- exactly where they are a file of none, and it is their first; a fault of validity exactly where they are a file of an
--- image of which a part before bounds fails, and it is the first; want of memory says nothing
+-- Ok exactly where the bytes are a file of an image that is valid but for its bounds, and of that
+-- image; an image fault exactly where they are a file of none, and it is their first; a fault of
+-- validity exactly where they are a file of an image of which a part before bounds fails, and it is
+-- the first; want of memory says nothing
 abbrev pub Loads : List ℕ → Result NamedImage LoadFault → Type 0
 Loads bytes (Ok shape) = AreOf bytes shape × IsShape shape
 Loads bytes (Err (load.Image number offset)) = HasFault bytes number offset
@@ -40,14 +42,15 @@ Shapes named (Ok shape) = (shape ≡ named) × IsShape shape
 Shapes named (Err (faults.Bad number a b)) = fault_before_bounds named.image ≡ Some (fault number a b)
 Shapes named (Err faults.Memory) = Unit {0}
 
--- Ok exactly where the shape is valid whole, and of the same image; a fault exactly where one of its bounds fails, and it
--- is that one; and memory is never short
+-- Ok exactly where the shape is valid whole, and of the same image; a fault exactly where one of
+-- its bounds fails, and it is that one; and memory is never short
 abbrev pub Bounds : NamedImage → Result NamedImage ValidFault → Type 0
 Bounds shape (Ok image) = (image ≡ shape) × IsValid image.image
 Bounds shape (Err (faults.Bad number a b)) = shown shape.image valid.Bounds ≡ Some (fault number a b)
 Bounds shape (Err faults.Memory) = ⊥
 
--- Ok exactly of the same numbers, which are valid; each fault exactly the first one; want of memory says nothing
+-- Ok exactly of the same numbers, which are valid; each fault exactly the first one; want of memory
+-- says nothing
 abbrev pub Answers : RawImage → Result NamedImage ValidFault → Type 0
 Answers raw (Ok image) = (image ≡ named_of raw) × IsValid (image_of raw)
 Answers raw (Err (faults.Bad number a b)) = fault_of (image_of raw) ≡ Some (fault number a b)

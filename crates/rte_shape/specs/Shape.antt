@@ -16,7 +16,8 @@ pub record AreOf (bytes : List ℕ) (named : NamedImage) : Type 0 where
   pub is_read : read_file bytes ≡ Ok ((version, parts), [])
   pub image : named ≡ image_with parts
 
--- an image whose numbers are in the ranges of their fields, and of which no part of validity before bounds has a fault
+-- an image whose numbers are in the ranges of their fields, and of which no part of validity before
+-- bounds has a fault
 pub record IsShape (named : NamedImage) : Type 0 where
   pub limits : HasLimits named.image
   pub written : IsInRange named

@@ -1,4 +1,5 @@
--- A segment tree as a list of numbers that gives it back: the code by which proofs tell trees apart.
+-- A segment tree as a list of numbers that gives it back: the code by which proofs tell trees
+-- apart.
 use Rattle.std.specs.Prelude.{◌≡◌, ℕ, zero, suc, List, [], ◌∷◌}
 use Rattle.std.specs.Coded.{Coded, code_by, coded×, coded_ℕ, coded_list}
 use Rattle.std.proofs.Common.{refl, ap, ◌∙◌}

@@ -8,8 +8,8 @@ pub enum LoadFault {
     /// The bytes are no image: the first fault, by its number from 1 to 9 and its place from 0.
     #[error("I{number} {offset}")]
     Image { number: u8, offset: u32 },
-    /// The bytes are an image's, of which a part of validity before bounds fails: the first one, by its number, with its two
-    /// numbers.
+    /// The bytes are an image's, of which a part of validity before bounds fails: the first one, by
+    /// its number, with its two numbers.
     #[error("V{number} {a} {b}")]
     Valid { number: u8, a: u64, b: u64 },
     /// There was not enough memory.

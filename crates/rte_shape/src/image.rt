@@ -38,9 +38,9 @@ impl Model for Image {
 }
 
 impl Image {
-    /// The image of a shape whose bounds meet the recurrence and are within the deadlines. Refused with part 5 and the two
-    /// numbers of the first process whose bound does not: the bound, and the demand within it, held at 1,000,000,001, or
-    /// else the deadline. It takes no memory.
+    /// The image of a shape whose bounds meet the recurrence and are within the deadlines. Refused
+    /// with part 5 and the two numbers of the first process whose bound does not: the bound, and
+    /// the demand within it, held at 1,000,000,001, or else the deadline. It takes no memory.
     pub fn of(shape: Shape) -> Result<Image, ValidFault>
         ensures { Bounds shape result }
     {
@@ -62,21 +62,24 @@ impl Image {
         &self.shape
     }
 
-    /// Every run of a valid image is safe: it is never stuck, and each process is within its stack and its words. Over a
-    /// script that respects the frames it is in time: no process is released before it has ended, and each activation ends
-    /// within its declared bound. The call does nothing.
+    /// Every run of a valid image is safe: it is never stuck, and each process is within its stack
+    /// and its words. Over a script that respects the frames it is in time: no process is released
+    /// before it has ended, and each activation ends within its declared bound. The call does
+    /// nothing.
     pub fn runs_are_safe(&self)
         ensures safe { (script : Script) → IsSafe self.now.image script }
-        ensures in_time { (script : Script) → RespectsFrames self.now.image script → IsInTime self.now.image script }
+        ensures in_time { (script : Script) → RespectsFrames self.now.image script →
+            IsInTime self.now.image script }
     {
         let _shape = &self.shape;
         every_valid_image_is_safe_and_in_time();
     }
 }
 
-/// The valid image of these numbers; else the first test of validity that fails, with its two numbers, in the order of the
-/// parts 6, 1, 7, 2, 3, 4, 5; or that memory is short, and then nothing is said of them. The numbers have to be in the
-/// ranges of their fields, as those of every image that `read_image` gives.
+/// The valid image of these numbers; else the first test of validity that fails, with its two
+/// numbers, in the order of the parts 6, 1, 7, 2, 3, 4, 5; or that memory is short, and then
+/// nothing is said of them. The numbers have to be in the ranges of their fields, as those of every
+/// image that `read_image` gives.
 pub fn verify(alloc: Global, raw: RawImage) -> Result<Image, ValidFault>
     requires ranges { HasRanges raw }
     requires written { IsInRange (named_of raw) }

@@ -23,7 +23,8 @@ use rte_verify::fault_before_bounds;
 use std::alloc::{AllocError, Global};
 use std::marker::Model;
 
-/// An image that is valid but for its bounds, with the bytes of its file in version 2, and the set of its declared tasks.
+/// An image that is valid but for its bounds, with the bytes of its file in version 2, and the set
+/// of its declared tasks.
 #[derive(Drop)]
 pub struct Shape {
     bytes: Vec<u8>,
@@ -84,9 +85,10 @@ fn kept(alloc: Global, raw: RawImage) -> Result<Shape, AllocError>
 impl Shape {
     /// The shape of the image that the bytes of a file are, in either version.
     ///
-    /// It keeps the bytes that the image has in version 2, and takes some few times their memory. Refused where the bytes
-    /// are no image, with their first fault; where a part of validity other than its bounds fails, with the first one in
-    /// the order of the parts 6, 1, 7, 2, 3, 4; or where memory is short.
+    /// It keeps the bytes that the image has in version 2, and takes some few times their memory.
+    /// Refused where the bytes are no image, with their first fault; where a part of validity other
+    /// than its bounds fails, with the first one in the order of the parts 6, 1, 7, 2, 3, 4; or
+    /// where memory is short.
     pub fn load(alloc: Global, bytes: Vec<u8>) -> Result<Shape, LoadFault>
         ensures { Loads bytes.items result }
     {
@@ -97,9 +99,10 @@ impl Shape {
         }
     }
 
-    /// The shape of the image of these numbers, which have to be in the ranges of their fields, as those of every image that
-    /// `read_image` gives. Refused with the first part of validity before bounds that fails, in the order of the parts 6, 1,
-    /// 7, 2, 3, 4; or where memory is short.
+    /// The shape of the image of these numbers, which have to be in the ranges of their fields, as
+    /// those of every image that
+    /// `read_image` gives. Refused with the first part of validity before bounds that fails, in the
+    /// order of the parts 6, 1, 7, 2, 3, 4; or where memory is short.
     pub fn of_raw(alloc: Global, raw: RawImage) -> Result<Shape, ValidFault>
         requires ranges { HasRanges raw }
         requires written { IsInRange (named_of raw) }
@@ -191,7 +194,8 @@ impl Shape {
         self.raw.code.len() as u32
     }
 
-    /// The first process whose declared bound does not meet the recurrence, or is above its deadline.
+    /// The first process whose declared bound does not meet the recurrence, or is above its
+    /// deadline.
     pub(crate) fn bound_fault(&self) -> Option<Shown>
         ensures fault { told result ≡ first_of_bounds self.now.image }
         ensures shape { IsShape self.now }

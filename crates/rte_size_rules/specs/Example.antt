@@ -37,7 +37,8 @@ array_process = record {
   close_place = at 112;
 }
 
--- program a procedure f() var t : array 1 .. LAST of int begin end f process p : periodic frame 30 begin f() end p end a
+-- program a procedure f() var t : array 1 .. LAST of int begin end f process p : periodic frame 30
+-- begin f() end p end a
 abbrev pub with_array : (last : ℕ) → Prog Place
 with_array last = record { name = codes "a"; place = at 9; decls = routine (array_routine last) ∷ process array_process ∷ []; close = codes "a"; close_place = at 118 }
 
@@ -64,7 +65,8 @@ puts_process n = record {
 abbrev pub with_puts : (times : ℕ) → Prog Place
 with_puts n = record { name = codes "a"; place = at 9; decls = device (codes "d") (at 18) true ∷ process (puts_process n) ∷ []; close = codes "a"; close_place = at (72 + 8 * n) }
 
--- The law. A call of f takes two words beside those of f. A put has two instructions, and the process its END.
+-- The law. A call of f takes two words beside those of f. A put has two instructions, and the
+-- process its END.
 pub record RulesOfSizeAreTried : Type 0 where
   pub routine_over : IsFirstOf (SizeFails (with_array 4097)) (Some (record { number = 47; place = at 21 }))
   pub process_over : IsFirstOf (SizeFails (with_array 4095)) (Some (record { number = 47; place = at 76 }))

@@ -26,7 +26,8 @@ texts_from k m (constant n p c ∷ ds) = texts_from k m ds
 texts_from k m (device n p is_out ∷ ds) = texts_from k m ds
 texts_from k m (event n p ∷ ds) = texts_from k m ds
 
--- the words that a routine takes by itself: its locals, its operands, and what the routines that it calls take
+-- the words that a routine takes by itself: its locals, its operands, and what the routines that it
+-- calls take
 abbrev pub routine_stack : plain_of.Prog → Owner → plain_of.Routine → ℕ
 routine_stack g o r = routine_words g r + routine_height g o (calls_of g) r
 

@@ -44,7 +44,8 @@ evaluations ts (suc n) = evaluations ts n + evaluations_at ts n
 abbrev pub Responds : List Task → ℕ → Type 0
 Responds ts level = (r : ℕ) × Solves ts level r
 
--- with so many ticks more each level from this one on has a response; with one more some level has none
+-- with so many ticks more each level from this one on has a response; with one more some level has
+-- none
 pub record IsSpareFrom (ts : List Task) (level from : ℕ) (spare : Spare) : Type 0 where
   pub fits : (other : ℕ) → from ≤ other → other < length ts → Responds (with_more ts level spare.extra) other
   pub within : spare.fails < length ts

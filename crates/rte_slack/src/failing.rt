@@ -24,8 +24,8 @@ pub fn first_failing<L: Ledger>(set: &TaskSet, steps: &mut Steps<L>) -> Option<u
     None
 }
 
-/// The least bound of a level where the task of a level, perhaps another, runs for so many ticks more. The set is
-/// afterwards as before.
+/// The least bound of a level where the task of a level, perhaps another, runs for so many ticks
+/// more. The set is afterwards as before.
 pub(crate) fn bound_with<L: Ledger>(
     set: &mut TaskSet,
     level: usize,

@@ -1,9 +1,11 @@
-//! How many ticks a process can spare: by how much its run cost may grow while each level still has a bound.
+//! How many ticks a process can spare: by how much its run cost may grow while each level still has
+//! a bound.
 //!
-//! Its definition is the greatest number of ticks with which the set of tasks is timely, that is, each level has a
-//! response within its deadline that meets the recurrence (sensitivity analysis of fixed priorities: Vestal).
-//! It promises exactly that number and the first level that fails with one tick more, in few evaluations of the demand,
-//! and that the set is afterwards as before. That no set becomes timely by longer runs is a law.
+//! Its definition is the greatest number of ticks with which the set of tasks is timely, that is,
+//! each level has a response within its deadline that meets the recurrence (sensitivity analysis of
+//! fixed priorities: Vestal). It promises exactly that number and the first level that fails with
+//! one tick more, in few evaluations of the demand, and that the set is afterwards as before. That
+//! no set becomes timely by longer runs is a law.
 #![tactic(auto)]
 
 mod failing;

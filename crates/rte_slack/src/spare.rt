@@ -11,13 +11,15 @@ use std::sync::ledger::Ledger;
 /// What a level can spare.
 #[derive(Clone, Copy, Debug, PartialEq, Eq)]
 pub struct Spare {
-    /// The most ticks that can be added to the run of the level's task while each level has a bound.
+    /// The most ticks that can be added to the run of the level's task while each level has a
+    /// bound.
     pub extra: u64,
     /// The least level without a bound where one more is added.
     pub fails: usize,
 }
 
-/// The most ticks that can be added to the run of the level's task while the other level has a bound, which it has not with
+/// The most ticks that can be added to the run of the level's task while the other level has a
+/// bound, which it has not with
 /// `failing`.
 fn greatest_extra<L: Ledger>(
     set: &mut TaskSet,
@@ -65,7 +67,8 @@ fn lessened<L: Ledger>(
     ensures kept { set.new ≡ set.old }
     ensures less { result.extra ≤ least.extra }
     ensures from { IsSpareFrom set.old level other result }
-    ensures cost { ((result.fails ≡ least.fails) × (steps.new ≤ steps.old + evaluations_at set.old other))
+    ensures cost { ((result.fails ≡ least.fails) ×
+        (steps.new ≤ steps.old + evaluations_at set.old other))
         ⊎ ((result.fails ≡ other) × (steps.new ≤ steps.old + 31 * evaluations_at set.old other)) }
 {
     match bound_with(set, level, least.extra, other, steps) {
@@ -77,14 +80,16 @@ fn lessened<L: Ledger>(
     }
 }
 
-/// What the level can spare, with a level that fails with one tick more. The last levels come first: mostly they ask most.
+/// What the level can spare, with a level that fails with one tick more. The last levels come
+/// first: mostly they ask most.
 fn least_extra<L: Ledger>(set: &mut TaskSet, level: usize, steps: &mut Steps<L>) -> Spare
     requires timely { IsTimely set.old }
     requires level { level < length set.old }
     ensures kept { set.new ≡ set.old }
     ensures room { (task_at set.old level).run + (result.extra + 1) ≤ 1000000001 }
     ensures from { IsSpareFrom set.old level level result }
-    ensures cost { steps.new + evaluations set.old result.fails ≤ steps.old + 31 * evaluations set.old (length set.old) }
+    ensures cost { steps.new + evaluations set.old result.fails ≤ steps.old +
+        31 * evaluations set.old (length set.old) }
 {
     let mut least = Spare {
         extra: set.limit(level) - set.run(level),
@@ -135,10 +140,12 @@ fn spare_of_timely<L: Ledger>(set: &mut TaskSet, level: usize, steps: &mut Steps
     }
 }
 
-/// The ticks that the level can spare, and None exactly where some level has no bound. Levels count from 0.
+/// The ticks that the level can spare, and None exactly where some level has no bound. Levels count
+/// from 0.
 ///
-/// The stays and blocks stay as they are: the ticks lie outside monitors. The evaluations of the demand are at most 32
-/// times the sum, over all levels, of what `bound` may take there. The set is afterwards as before.
+/// The stays and blocks stay as they are: the ticks lie outside monitors. The evaluations of the
+/// demand are at most 32 times the sum, over all levels, of what `bound` may take there. The set is
+/// afterwards as before.
 pub fn slack<L: Ledger>(set: &mut TaskSet, level: usize, steps: &mut Steps<L>) -> Option<Spare>
     requires { level < length set.old }
     ensures kept { set.new ≡ set.old }

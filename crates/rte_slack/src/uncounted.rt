@@ -21,7 +21,8 @@ fn with_count<L: Ledger>(blank: Blank, set: &mut TaskSet, level: usize) -> Optio
     slack(set, level, &mut Steps::<L>::open(blank))
 }
 
-/// The ticks that the level can spare, and None exactly where some level has no bound. The set is afterwards as before.
+/// The ticks that the level can spare, and None exactly where some level has no bound. The set is
+/// afterwards as before.
 pub fn slack_of(set: &mut TaskSet, level: usize) -> Option<Spare>
     requires { level < length set.old }
     ensures kept { set.new ≡ set.old }

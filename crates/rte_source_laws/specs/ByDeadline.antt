@@ -1,4 +1,5 @@
--- Two processes whose ranks go by the deadline and not by the frame, with a log that is a run and one that is none.
+-- Two processes whose ranks go by the deadline and not by the frame, with a log that is a run and
+-- one that is none.
 use Rattle.std.specs.Prelude.{List, None, Some, [], codes, false, pos, true, ◌∷◌}
 use Rattle.rte_event.specs.declared.event.Event.{Event}
 use Rattle.rte_event.specs.declared.event.Act.TheVariants as act

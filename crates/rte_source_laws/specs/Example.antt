@@ -229,7 +229,8 @@ by_event_log =
     ∷ at 29 0 act.End
     ∷ []
 
--- a function with a loop and an exit, a procedure that acts inside a loop, an array, a constant and an assertion
+-- a function with a loop and an exit, a procedure that acts inside a loop, an array, a constant and
+-- an assertion
 abbrev pub loop_and_function : Prog
 loop_and_function = record {
   name = codes "f";

@@ -12,21 +12,26 @@ ghost use Rattle.rte_source_meaning.specs.Nesting.{Levels, Agree};
 
 /// From a configuration an event leads to at most one configuration.
 pub fn steps_are_determined()
-    ensures { (g : Prog) (s : Script) (c : Config) (e : Event) (a b : Config) → Step g s c e a → Step g s c e b → a ≡ b }
+    ensures { (g : Prog) (s : Script) (c : Config) (e : Event) (a b : Config) → Step g s c e a →
+        Step g s c e b → a ≡ b }
 {}
 
-/// Where no routine reaches itself, what calls come to does not depend on the depth, once that is the number of routines.
+/// Where no routine reaches itself, what calls come to does not depend on the depth, once that is
+/// the number of routines.
 pub fn values_are_defined()
     ensures { (g : Prog) (p : Process) (level : Name → ℕ) → Levels g p level → (more : ℕ)
-        → Agree g p level (routine_count g) (calls_to g p (routine_count g)) (calls_to g p (routine_count g + more)) }
+        → Agree g p level (routine_count g) (calls_to g p (routine_count g))
+        (calls_to g p (routine_count g + more)) }
 {}
 
 /// An event that is allowed is not before the tick reached.
 pub fn ticks_do_not_fall(e: &rte_event::Event)
-    ensures { (g : Prog) (s : Script) (c new : Config) → Step g s c e.now new → c.tick ≤ e.now.tick }
+    ensures { (g : Prog) (s : Script) (c new : Config) → Step g s c e.now new → c.tick ≤
+        e.now.tick }
 {}
 
 /// What a process does leaves every other process as it is, but for waking it.
 pub fn other_processes_stay()
-    ensures { (g : Prog) (s : Script) (c : Config) (t k : ℕ) (n : Next) (j : ℕ) → (j ≡ k → ⊥) → Stays j c.jobs (acts g s c t k n).config.jobs }
+    ensures { (g : Prog) (s : Script) (c : Config) (t k : ℕ) (n : Next) (j : ℕ) → (j ≡ k → ⊥) →
+        Stays j c.jobs (acts g s c t k n).config.jobs }
 {}

@@ -277,7 +277,8 @@ pub fn raise_inside_log() -> [Event; 8]
     ]
 }
 
-/// The log of two processes whose ranks go by the deadline: the one with the longer frame acts first.
+/// The log of two processes whose ranks go by the deadline: the one with the longer frame acts
+/// first.
 pub fn by_deadline_log() -> [Event; 6]
     ensures { IsSourceRun by_deadline by_deadline_script result }
 {

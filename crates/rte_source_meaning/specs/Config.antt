@@ -11,7 +11,8 @@ pub data Doing : Type 0 where
   active : (released : ℕ) → Doing
   waiting : (released cond since limit number : ℕ) → Doing
 
--- a process: its variables, what it is doing, its calls in progress, innermost first, and whether its handler runs
+-- a process: its variables, what it is doing, its calls in progress, innermost first, and whether
+-- its handler runs
 pub record Job : Type 0 where
   pub vars : Vars
   pub doing : Doing
@@ -37,7 +38,8 @@ idle_job g p = record { vars = map (fresh g) p.vars; doing = idle; calls = []; h
 abbrev pub free_hold : Prog → Monitor → Hold
 free_hold g m = record { vars = map (fresh g) (filter_map variable_in m.members); occupant = None }
 
--- At the start all processes are idle, all variables 0 or false, all monitors free and all queues empty.
+-- At the start all processes are idle, all variables 0 or false, all monitors free and all queues
+-- empty.
 abbrev pub start : Prog → Config
 start g = record {
   tick = 0;

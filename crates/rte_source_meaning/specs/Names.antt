@@ -104,7 +104,8 @@ condition_from before (suc m) n (k ∷ ks) = condition_from (before + length (co
 abbrev pub condition_number : Prog → ℕ → Name → ℕ
 condition_number g m n = condition_from 0 m n (monitors g)
 
--- how many routines and entries there are: calls are nested at most so deep, since no routine reaches itself
+-- how many routines and entries there are: calls are nested at most so deep, since no routine
+-- reaches itself
 abbrev pub routines_in : Decl → ℕ
 routines_in (routine r) = 1
 routines_in (monitor m) = length m.entries

@@ -1,4 +1,5 @@
--- How deep calls can be nested: each routine has a level, above that of each routine that its text calls.
+-- How deep calls can be nested: each routine has a level, above that of each routine that its text
+-- calls.
 use Rattle.std.specs.Prelude.{◌≡◌, ℕ, ◌<◌, Option, Some, None}
 use Rattle.rte_tree.specs.Plain.{Name, Expr, literal, truth, variable, element, call, minus, negation, paren, row, Exprs, no_exprs, exprs, Operands, no_operands, operand, Ref, whole, part, Stmt, assign, assign_entry, assign_empty, perform, perform_entry, when, when_else, loop, exit_when, get, put, wait, signal, broadcast, except, assert, Stmts, no_stmts, stmts, Answers, Process, Prog}
 use Rattle.rte_source_meaning.specs.Names.{routine_count}
@@ -57,7 +58,8 @@ abbrev pub AnswersBelow : (Name → ℕ) → ℕ → Option Answers → Type 0
 AnswersBelow level n None = Unit {0}
 AnswersBelow level n (Some a) = ExprBelow level n a.value
 
--- the routines in reach of a process do not reach themselves: each calls those of lower levels alone
+-- the routines in reach of a process do not reach themselves: each calls those of lower levels
+-- alone
 pub record Levels (g : Prog) (p : Process) (level : Name → ℕ) : Type 0 where
   pub body : (f : Name) (r : Found) → routine_named g p f ≡ Some r → StmtsBelow level (level f) r.routine.body
   pub answers : (f : Name) (r : Found) → routine_named g p f ≡ Some r → AnswersBelow level (level f) r.routine.answers

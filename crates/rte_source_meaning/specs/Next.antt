@@ -23,7 +23,8 @@ calls_to g p (suc n) = record {
   run = λ f m. run_all (record { program = g; process = p; home = f.home; calls = calls_to g p n }) m f.routine.body;
 }
 
--- where a process's statements stand: calls are nested at most as deep as there are routines, since none reaches itself
+-- where a process's statements stand: calls are nested at most as deep as there are routines, since
+-- none reaches itself
 abbrev pub site : Prog → Process → Home → Site
 site g p h = record { program = g; process = p; home = h; calls = calls_to g p (routine_count g) }
 
@@ -55,7 +56,8 @@ abbrev mutual
   leave_loop c m (turns_left i v n ss ∷ is) = run_items c (without_turn m) is
   leave_loop c m (_ ∷ is) = leave_loop c m is
 
--- the action, the calls in progress after it, and the variables of the process and of the monitor that it is inside
+-- the action, the calls in progress after it, and the variables of the process and of the monitor
+-- that it is inside
 pub record Next : Type 0 where
   pub action : Action
   pub calls : List Call

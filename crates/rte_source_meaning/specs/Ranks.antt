@@ -13,7 +13,8 @@ numbers_from (suc n) k = k ∷ numbers_from n (suc k)
 abbrev pub deadlines : Prog → List ℕ
 deadlines g = map (λ p. deadline_of g p.activation) (processes g)
 
--- how many of the deadlines, the first of process j, belong to processes of higher rank than process k
+-- how many of the deadlines, the first of process j, belong to processes of higher rank than
+-- process k
 abbrev pub higher : (k deadline j : ℕ) → List ℕ → ℕ
 higher k deadline j [] = 0
 higher k deadline j (d ∷ ds) = cond (nat_lt d deadline || (nat_eq d deadline && nat_lt j k)) 1 0 + higher k deadline (suc j) ds

@@ -1,4 +1,5 @@
--- The value of an expression, and what statements come to: silently to their end, or up to the next visible action.
+-- The value of an expression, and what statements come to: silently to their end, or up to the next
+-- visible action.
 use Rattle.std.specs.Prelude.{ℕ, zero, suc, cond, not, List, [], ◌∷◌, ◌++◌, Option, Some, None, ℤ, pos, ◌-ℤ◌, ◌+ℤ◌, map, option_map}
 use Rattle.rte_tree.specs.Plain.{Name, Param, Expr, literal, truth, variable, element, call, minus, negation, paren, row, Exprs, no_exprs, exprs, Operands, no_operands, operand, Ref, whole, part, Stmt, assign, assign_entry, assign_empty, perform, perform_entry, when, when_else, loop, exit_when, get, put, wait, signal, broadcast, except, assert, Stmts, no_stmts, stmts, Answers, Routine, Monitor, Process, Prog}
 use Rattle.rte_num.specs.Words.{Answer, word, raised, with_word, negated, of_bool, is_true}
@@ -68,7 +69,8 @@ pub data Run : Type 0 where
   -- a visible action; after it remain calls inside this one, innermost first, and items of this one
   stops : Action → (inside : List Call) → (rest : List Item) → Memory → Run
 
--- what a run is followed by where it goes on, where it exits, and what remains after it where it stops
+-- what a run is followed by where it goes on, where it exits, and what remains after it where it
+-- stops
 abbrev pub followed : Run → (Memory → Run) → (Memory → Run) → List Item → Run
 followed (goes m) next out rest = next m
 followed (exits m) next out rest = out m
@@ -93,12 +95,14 @@ pub record Found : Type 0 where
   pub home : Home
   pub routine : Routine
 
--- what calls come to: the answer of a function and the run of a procedure, with its own variables in the memory
+-- what calls come to: the answer of a function and the run of a procedure, with its own variables
+-- in the memory
 pub record Calls : Type 0 where
   pub answer : Found → Memory → Answer
   pub run : Found → Memory → Run
 
--- where statements stand: the program, the process that runs, whose text it is, and what calls come to
+-- where statements stand: the program, the process that runs, whose text it is, and what calls come
+-- to
 pub record Site : Type 0 where
   pub program : Prog
   pub process : Process
@@ -143,8 +147,8 @@ with_own m vs = record { own = vs; process = m.process; monitor = m.monitor }
 abbrev pub slot_in : Home → Memory → Name → Option Slot
 slot_in h m x = or_else (slot_named x m.own) (slot_named x (outer h m))
 
--- the value of a name: what the variable in reach holds, else that of the constant; a constant is in reach only after its
--- declaration, so a variable may have the name of a later one
+-- the value of a name: what the variable in reach holds, else that of the constant; a constant is
+-- in reach only after its declaration, so a variable may have the name of a later one
 abbrev pub name_value : Option Slot → Option (Name × ℤ) → Answer
 name_value (Some s) k = read s.held
 name_value None (Some k) = word k.1

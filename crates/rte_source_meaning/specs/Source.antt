@@ -25,7 +25,8 @@ abbrev pub lists : Prog → ℕ → List Constant → Bool
 lists g n [] = false
 lists g n (c ∷ cs) = cond (nat_eq (count_value g c) n) true (lists g n cs)
 
--- what remains after a raise: the handler where it lists the number and does not run yet, else the end alone
+-- what remains after a raise: the handler where it lists the number and does not run yet, else the
+-- end alone
 abbrev pub job_after_raise : Prog → ℕ → Option Handler → Job → Job
 job_after_raise g n None j = record { vars = j.vars; doing = active (released_of j.doing); calls = []; handling = j.handling }
 job_after_raise g n (Some h) j =
@@ -73,7 +74,8 @@ save_hold (Some m) vs c = with_holds c (changed (λ h. record { vars = vs; occup
 abbrev pub save_job : Next → Job → Job
 save_job n j = record { vars = n.process; doing = j.doing; calls = n.calls; handling = j.handling }
 
--- the process's variables and calls, and the variables of the monitor that it is inside, are those of its next action
+-- the process's variables and calls, and the variables of the monitor that it is inside, are those
+-- of its next action
 abbrev pub saved : Config → ℕ → Next → Config
 saved c k n = save_hold (inside c k) n.monitor (with_jobs c (changed (save_job n) k c.jobs))
 
@@ -177,7 +179,8 @@ pub record Step (g : Prog) (s : Script) (c : Config) (e : Event) (new : Config) 
   pub none_missing : NoneMissing g s c e.tick
   pub comes : Starts g s c e new ⊎ Acts g s c e new
 
--- Each event is allowed in turn, and at the end no start event due before the script's end is missing.
+-- Each event is allowed in turn, and at the end no start event due before the script's end is
+-- missing.
 abbrev pub RunFrom : Prog → Script → Config → List Event → Type 0
 RunFrom g s c [] = NoneMissing g s c s.end_tick
 RunFrom g s c (e ∷ es) = (new : Config) × Step g s c e new × RunFrom g s new es
@@ -198,7 +201,8 @@ abbrev pub first_end : ℕ → List Event → Option ℕ
 first_end k [] = None
 first_end k (e ∷ es) = cond (ends_at k e) (Some e.tick) (first_end k es)
 
--- Each activation of process k ends within so many ticks; one that the script's end cuts off is open.
+-- Each activation of process k ends within so many ticks; one that the script's end cuts off is
+-- open.
 abbrev pub EndsWithin : ℕ → ℕ → ℕ → List Event → Type 0
 EndsWithin k bound end_tick es =
     (earlier later : List Event) (t : ℕ) → es ≡ earlier ++ record { tick = t; proc = k; act = act.Release } ∷ later

@@ -82,7 +82,8 @@ time_out t k (Some j) = doing_time_out t k j.doing
 abbrev pub time_outs : Prog → Config → ℕ → List Event
 time_outs g c t = flat_map (λ k. time_out t k (slice_get c.jobs k)) (by_rank g)
 
--- The start events due at a tick that have not come, in order. Once somebody has acted in the tick, all have come.
+-- The start events due at a tick that have not come, in order. Once somebody has acted in the tick,
+-- all have come.
 unfoldable pub due : Prog → Script → Config → ℕ → List Event
 due g s c t = cond (c.acted && nat_eq c.tick t) [] (event_releases g c t s.lines ++ (periodic_releases g c t 0 (processes g) ++ time_outs g c t))
 

@@ -16,7 +16,8 @@ abbrev pub spaced : List ℕ → List ℕ
 spaced [] = []
 spaced (n ∷ ns) = codes " " ++ (decimal n ++ spaced ns)
 
--- the name of a process, its spare ticks, the bounds with these, and the name of the process that fails with one more
+-- the name of a process, its spare ticks, the bounds with these, and the name of the process that
+-- fails with one more
 unfoldable pub slack_line : (name : List ℕ) (extra : ℕ) (bounds : List ℕ) (failing : List ℕ) → List ℕ
 slack_line name extra bounds failing =
     codes "slack " ++ (name ++ (codes " " ++ (decimal extra ++ (codes " bounds" ++ (spaced bounds ++ (codes " fails " ++ (failing ++ codes "\n")))))))
@@ -27,13 +28,15 @@ name_at n k = slice_index_or n.names.processes k []
 
 -- ---- what a line tells
 
--- for each process, in the order of the text, the least bound of its rank, where these are the tasks
+-- for each process, in the order of the text, the least bound of its rank, where these are the
+-- tasks
 pub record AreLeastBounds (processes : List Process) (tasks : List Task) (bounds : List ℕ) : Type 0 where
   pub one_each : length bounds ≡ length processes
   pub each : (k : ℕ) (p : Process) (bound : ℕ) → slice_get processes k ≡ Some p → slice_get bounds k ≡ Some bound → IsBound tasks (p.rank - 1) bound
 
--- the line of a process: the ticks that its rank can spare, the least bounds where it runs for these ticks more, and the
--- process of the first rank that has no bound with one tick more; ranks count from 1, levels from 0
+-- the line of a process: the ticks that its rank can spare, the least bounds where it runs for
+-- these ticks more, and the process of the first rank that has no bound with one tick more; ranks
+-- count from 1, levels from 0
 pub record IsSlackLine (n : NamedImage) (number : ℕ) (p : Process) (line : List ℕ) : Type 0 where
   pub spare : Spare
   pub can : IsSpare (tasks_of n.image) (p.rank - 1) spare

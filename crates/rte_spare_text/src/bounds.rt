@@ -64,7 +64,8 @@ fn least_bounds(
     Ok(all)
 }
 
-/// The least bound of each process where the level runs for so many ticks more. The set is afterwards as before.
+/// The least bound of each process where the level runs for so many ticks more. The set is
+/// afterwards as before.
 pub fn bounds_with(
     alloc: Global,
     processes: &[RawProc],
@@ -77,7 +78,8 @@ pub fn bounds_with(
     requires timely { IsTimely (with_more set.old level extra) }
     requires levels { HaveLevels (map process_of processes.now) set.old }
     ensures kept { set.new ≡ set.old }
-    ensures bounds { IfOk result (AreLeastBounds (map process_of processes.now) (with_more set.old level extra)) }
+    ensures bounds { IfOk result (AreLeastBounds (map process_of processes.now)
+        (with_more set.old level extra)) }
 {
     let run = set.run(level);
     set.set_run(level, run + extra);

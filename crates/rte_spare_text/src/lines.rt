@@ -51,8 +51,8 @@ fn add_spaced(text: &mut Text, numbers: &[u64]) -> Result<(), AllocError>
     Ok(())
 }
 
-/// Puts the line of a process at the end of a text: its name, its spare ticks, the bounds with these, and the name of the
-/// process that fails with one more.
+/// Puts the line of a process at the end of a text: its name, its spare ticks, the bounds with
+/// these, and the name of the process that fails with one more.
 #[tactic(auto, unfolding(rte_spare::specs::Lines::slack_line))]
 pub fn add_line(
     text: &mut Text,
@@ -61,7 +61,8 @@ pub fn add_line(
     bounds: &[u64],
     failing: &[u8],
 ) -> Result<(), AllocError>
-    ensures { OnOk result (text.new ≡ text.old ++ slack_line name.now extra bounds.now failing.now) }
+    ensures { OnOk result (text.new ≡ text.old ++
+        slack_line name.now extra bounds.now failing.now) }
 {
     text.extend(b"slack ")?;
     text.extend(name)?;

@@ -15,7 +15,8 @@ use rte_valid_law::law::valid_meets_premises;
 use rte_valid_times::task_set;
 use std::alloc::{AllocError, Global};
 
-/// Puts the line of the process of the number at the end of a text. The set is afterwards as before.
+/// Puts the line of the process of the number at the end of a text. The set is afterwards as
+/// before.
 fn add_process(
     alloc: Global,
     text: &mut Text,
@@ -43,8 +44,9 @@ fn add_process(
     )
 }
 
-/// One line for each process of a valid image, in the order of the text: how many ticks it can spare, the least bounds with
-/// these, and the process that fails with one more. Only want of memory is an error.
+/// One line for each process of a valid image, in the order of the text: how many ticks it can
+/// spare, the least bounds with these, and the process that fails with one more. Only want of
+/// memory is an error.
 pub fn slack_text(alloc: Global, image: &RawImage) -> Result<Text, AllocError>
     requires limits { HasLimits (image_of image.now) }
     requires valid { IsValid (image_of image.now) }

@@ -11,8 +11,9 @@ abbrev pub IsReleaseFrom : ℕ → Process → Option ℕ → Type 0
 IsReleaseFrom t p (Some r) = (is_periodic_due r p ≡ true) × (t ≤ r) × ((u : ℕ) → t ≤ u → u < r → is_periodic_due u p ≡ false)
 IsReleaseFrom t p None = (u : ℕ) → t ≤ u → is_periodic_due u p ≡ false
 
--- before the start events of tick t: slot k has the release of process k that comes next, t counted in, slot n + k its time-out, and slot
--- 2 n the next line, of which so many are done, all before t; nothing is late
+-- before the start events of tick t: slot k has the release of process k that comes next, t counted
+-- in, slot n + k its time-out, and slot 2 n the next line, of which so many are done, all before t;
+-- nothing is late
 pub record HasDue (image : Image) (script : Script) (t done : ℕ) (s : State) (slots : List (Option ℕ)) : Type 0 where
   pub count : length slots ≡ 2 * length image.processes + 1
   pub releases : (k : ℕ) (p : Process) (tick : Option ℕ) → slice_get image.processes k ≡ Some p → slice_get slots k ≡ Some tick → IsReleaseFrom t p tick
@@ -23,12 +24,14 @@ pub record HasDue (image : Image) (script : Script) (t done : ℕ) (s : State) (
   pub threads : (k : ℕ) (x : Thread) → slice_get s.threads k ≡ Some x → k < length image.processes
   pub none_late : NoneBefore t slots
 
--- what a slot has once what was due in it at tick t is done: the next tick if it was due, else what it had
+-- what a slot has once what was due in it at tick t is done: the next tick if it was due, else what
+-- it had
 abbrev pub moved_on : ℕ → Option ℕ → Option ℕ → Option ℕ
 moved_on t next None = None
 moved_on t next (Some r) = if nat_eq r t then next else Some r
 
--- each slot has been moved on, of a release to a frame later, of a time-out to none, and the slot of the lines to the first that is not done
+-- each slot has been moved on, of a release to a frame later, of a time-out to none, and the slot
+-- of the lines to the first that is not done
 pub record AreMoved (image : Image) (script : Script) (t done : ℕ) (slots slots' : List (Option ℕ)) : Type 0 where
   pub count : length slots' ≡ length slots
   pub releases : (k : ℕ) (p : Process) (tick : Option ℕ) → slice_get image.processes k ≡ Some p → slice_get slots k ≡ Some tick → slice_get slots' k ≡ Some (moved_on t (Some (t + p.frame)) tick)

@@ -24,7 +24,8 @@ MovedAreSlots = (image : Image) (script : Script) (t done done' : ℕ) (s : Stat
 abbrev pub StartsAreFew : Type 0
 StartsAreFew = (image : Image) (script : Script) (t : ℕ) (s : State) → length (starts image script t s).events ≤ length s.threads
 
--- The law: as a process begins to wait, or waits no more, its slot alone is set, and the slots are right again.
+-- The law: as a process begins to wait, or waits no more, its slot alone is set, and the slots are
+-- right again.
 abbrev pub WaitKeepsSlots : Type 0
 WaitKeepsSlots = (image : Image) (script : Script) (t done k : ℕ) (s s' : State) (slots : List (Option ℕ)) → HasSlots image script t done s slots → k < length image.processes
     → ((j : ℕ) → j ≢ k → time_out_of (slice_get s'.threads j) ≡ time_out_of (slice_get s.threads j)) → ((j : ℕ) (x : Thread) → slice_get s'.threads j ≡ Some x → j < length image.processes)

@@ -6,7 +6,8 @@ use Rattle.rte_machine_meaning.specs.State.{State}
 use Rattle.rte_machine_meaning.specs.Starts.{Started, followed, release, unchanged}
 use Rattle.rte_stretch.specs.Due.{time_out_of}
 
--- the start events of `go` lead from the one state to the other, and come behind the events before, with no overrun
+-- the start events of `go` lead from the one state to the other, and come behind the events before,
+-- with no overrun
 pub record HasStarted (go : State → Started) (s : State) (es : List Event) (s' : State) (es' : List Event) : Type 0 where
   pub state : s' ≡ (go s).state
   pub events : es' ≡ es ++ (go s).events

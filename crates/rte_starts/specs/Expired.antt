@@ -13,7 +13,8 @@ use Rattle.rte_starts.specs.declared.time_out.Wait.{Wait}
 abbrev pub timed_out : Whole → ℕ → ℕ → Job → Thread
 timed_out whole burn e job = Ready (record (raised whole e job) { burn = burn })
 
--- the process that stood so waited, and its wait has timed out; if it did not wait, nothing was done
+-- the process that stood so waited, and its wait has timed out; if it did not wait, nothing was
+-- done
 abbrev pub EndsAs : Process → ℕ → Thread → Option Wait → Thread → Type 0
 EndsAs p burn (Waiting c due e job) (Some w) new = (w.condition ≡ c) × (w.number ≡ e) × ((whole : Whole) → IsProcess whole p → new ≡ timed_out whole burn e job)
 EndsAs p burn (Waiting c due e job) None new = ⊥

@@ -88,7 +88,8 @@ impl Agenda {
         requires plan { IsOf image plan.now }
         requires place { place < length image.processes }
         requires slots { length self.old.slots ≡ 2 * length image.processes + 1 }
-        ensures slots { self.new.slots ≡ slice_set self.old.slots (length image.processes + place) due }
+        ensures slots { self.new.slots ≡ slice_set self.old.slots
+            (length image.processes + place) due }
         ensures order { self.new.order ≡ self.old.order }
         ensures done { self.new.done ≡ self.old.done }
     {
@@ -127,7 +128,8 @@ impl Agenda {
         requires within { self.old.done ≤ length script.now.lines }
         requires queues { HaveQueues (state_of board.old) }
         requires fits { NextFits image tick }
-        requires calm { (starts image (script_of script.now) tick (state_of board.old)).overrun ≡ false }
+        requires calm { (starts image (script_of script.now) tick (state_of board.old)).overrun ≡
+            false }
         requires fired { fired.old.items ≡ [] }
         ensures state { state_of board.new ≡
             (starts image (script_of script.now) tick (state_of board.old)).state }

@@ -134,7 +134,8 @@ pub(crate) fn do_time_outs(
     requires slots { length slots.old ≡ 2 * length image.processes + 1 }
     requires queues { HaveQueues (state_of board.old) }
     requires waits { HasWaits (length image.processes) (state_of board.old) slots.old }
-    requires calm { (time_outs image tick 1 (length image.processes) (state_of board.old)).overrun ≡ false }
+    requires calm { (time_outs image tick 1 (length image.processes) (state_of board.old)).overrun ≡
+        false }
     requires room { array_vec_len fired.old +
         length (time_outs image tick 1 (length image.processes) (state_of board.old)).events ≤ 64 }
     ensures started { HasStarted (time_outs image tick 1 (length image.processes))

@@ -16,7 +16,8 @@ pub type Fired = ArrayVec<Event, MOST>;
 #[inline(always)]
 pub fn tell(fired: &mut Fired, tick: u64, proc: u16, act: Act)
     requires { array_vec_len fired.old < 65 }
-    ensures events { fired.new.items ≡ fired.old.items ++ record { tick = tick; proc = proc; act = act } ∷ [] }
+    ensures events { fired.new.items ≡ fired.old.items ++
+        record { tick = tick; proc = proc; act = act } ∷ [] }
     ensures len { array_vec_len fired.new ≡ array_vec_len fired.old + 1 }
 {
     fired.push(Event { tick, proc, act });

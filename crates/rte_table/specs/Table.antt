@@ -1,4 +1,5 @@
--- The table of a program's timing: ranks by deadlines, immediate ceilings, blocks, and the least bounds by the recurrence.
+-- The table of a program's timing: ranks by deadlines, immediate ceilings, blocks, and the least
+-- bounds by the recurrence.
 use Rattle.std.specs.Prelude.{◌≡◌, ◌<◌, ◌-◌, ◌↔◌, ℕ, List, length, All, IsSome, Option, Some, None, slice_index, slice_index_or}
 use Rattle.rte_block.specs.declared.uses.Use.{Use}
 use Rattle.rte_block.specs.Ranked.{use_at, AreRanks, AreCeilings, IsBlocking}
@@ -28,12 +29,14 @@ pub record AreInOrder (us : List Use) (ranks blocks : List ℕ) (tasks : List Ta
   pub one_each : length tasks ≡ length us
   pub each : (p : ℕ) → p < length us → task_at tasks (slice_index ranks p - 1) ≡ task_of (use_at us p) (slice_index blocks p)
 
--- the least response within the deadline that meets the recurrence of the level, and None exactly where there is none
+-- the least response within the deadline that meets the recurrence of the level, and None exactly
+-- where there is none
 abbrev pub IsBoundAt : List Task → ℕ → Option ℕ → Type 0
 IsBoundAt tasks level None = (r : ℕ) → ¬ Solves tasks level r
 IsBoundAt tasks level (Some r) = IsBound tasks level r
 
--- the row of a process of rank r and block b: what it uses and needs, and the bound of the level of its rank
+-- the row of a process of rank r and block b: what it uses and needs, and the bound of the level of
+-- its rank
 pub record IsRow (u : Use) (needs : Size) (r b : ℕ) (tasks : List Task) (row : Row) : Type 0 where
   pub frame : row.frame ≡ u.frame
   pub deadline : row.deadline ≡ u.deadline

@@ -53,13 +53,14 @@ fn rows(
     Ok(all)
 }
 
-/// The table of 1 to 64 processes, of which there are a name and a size each, with at most 64 monitors. Frames are 10
-/// to 1,000,000,000 ticks, deadlines 10 ticks to the frame, costs and stays at most 1,000,000,001.
+/// The table of 1 to 64 processes, of which there are a name and a size each, with at most 64
+/// monitors. Frames are 10 to 1,000,000,000 ticks, deadlines 10 ticks to the frame, costs and stays
+/// at most 1,000,000,001.
 ///
-/// A row for each process in the order of the text has what it uses, its rank by deadlines (Leung and Whitehead), its
-/// block by the immediate ceilings, and the least response within its deadline that meets the recurrence (Burns and
-/// Wellings), or none exactly where there is none. The words of the monitors and the number of instructions are not set
-/// yet. Only want of memory is an error.
+/// A row for each process in the order of the text has what it uses, its rank by deadlines (Leung
+/// and Whitehead), its block by the immediate ceilings, and the least response within its deadline
+/// that meets the recurrence (Burns and Wellings), or none exactly where there is none. The words
+/// of the monitors and the number of instructions are not set yet. Only want of memory is an error.
 pub fn make_table(
     alloc: Global,
     uses: &List<Use>,

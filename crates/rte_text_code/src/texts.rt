@@ -40,7 +40,8 @@ fn routines<'p, 'a>(
 ) -> Result<(), AllocError>
     requires program { builder.old.program ≡ names.now }
     requires first { builder.old.routines ≡ 0 }
-    ensures { OnOk result (builder.new ≡ record builder.old { routines = length (numbered (plain (placed names.now))) }) }
+    ensures { OnOk result (builder.new ≡ record builder.old
+        { routines = length (numbered (plain (placed names.now))) }) }
 {
     for text in names.numbering().order().as_slice() {
         let own = Names::of_routine(alloc, names, *text)?;
@@ -57,7 +58,8 @@ fn processes<'p, 'a>(
 ) -> Result<(), AllocError>
     requires program { builder.old.program ≡ names.now }
     requires first { builder.old.processes ≡ 0 }
-    ensures { OnOk result (builder.new ≡ record builder.old { processes = length (processes_of (plain (placed names.now))) }) }
+    ensures { OnOk result (builder.new ≡ record builder.old
+        { processes = length (processes_of (plain (placed names.now))) }) }
 {
     let processes = names.numbering().directory().processes();
     for (number, process) in processes.iter().enumerate() {

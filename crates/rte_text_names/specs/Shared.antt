@@ -30,7 +30,8 @@ monitor_tables g base (m ∷ ms) = monitor_table g base m ∷ monitor_tables g (
 
 -- ---- conditions
 
--- the conditions of each monitor, with the number of its first; that of the first monitor's first is given
+-- the conditions of each monitor, with the number of its first; that of the first monitor's first
+-- is given
 abbrev pub conditions_from : ℕ → List Monitor → List Numbered
 conditions_from first [] = []
 conditions_from first (m ∷ ms) = record { first = first; names = conditions_of m } ∷ conditions_from (first + length (conditions_of m)) ms
@@ -39,7 +40,8 @@ conditions_from first (m ∷ ms) = record { first = first; names = conditions_of
 abbrev pub count_from : ℕ → List Monitor → ℕ
 count_from before ms = fold (λ a m. a + length (conditions_of m)) before ms
 
--- the number of a name among the conditions of a monitor; behind them all where there is no such monitor
+-- the number of a name among the conditions of a monitor; behind them all where there is no such
+-- monitor
 abbrev pub number_among : Option Numbered → (count : ℕ) → Name → ℕ
 number_among None count x = count
 number_among (Some own) count x = own.first + place_of x own.names

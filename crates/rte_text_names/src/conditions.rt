@@ -31,7 +31,9 @@ pub struct Conditions<'a> {
 
 /// Lists the condition that a member declares, if it does.
 fn list_condition<'a>(names: &mut Vec<&'a [u8]>, member: &'a Member) -> Result<(), AllocError>
-    ensures { OnOk result ((rest : List SpecMember) → names_of names.new.items ++ filter_map condition_in rest ≡ names_of names.old.items ++ filter_map condition_in (plain_member (placed_member member.now) ∷ rest)) }
+    ensures { OnOk result ((rest : List SpecMember) → names_of names.new.items ++
+        filter_map condition_in rest ≡ names_of names.old.items ++
+        filter_map condition_in (plain_member (placed_member member.now) ∷ rest)) }
 {
     if let Member::Condition { name, .. } = member {
         names.push(name.as_bytes())?;
@@ -41,7 +43,8 @@ fn list_condition<'a>(names: &mut Vec<&'a [u8]>, member: &'a Member) -> Result<(
 
 /// The conditions of a monitor.
 fn own_conditions<'a>(alloc: Global, monitor: &'a Mon) -> Result<NameList<'a>, AllocError>
-    ensures { IfOk result (λ names. names ≡ conditions_of (plain_monitor (placed_monitor monitor.now))) }
+    ensures { IfOk result (λ names. names ≡ conditions_of
+        (plain_monitor (placed_monitor monitor.now))) }
 {
     let mut names = Vec::new(alloc);
     for member in monitor.members.as_slice() {
@@ -57,7 +60,8 @@ fn numbered_conditions<'a>(
     alloc: Global,
     monitors: &[&'a Mon],
 ) -> Result<Conditions<'a>, AllocError>
-    ensures lists { IfOk result (λ all. all.lists.items ≡ conditions_from 0 (seen_monitors monitors.now)) }
+    ensures lists { IfOk result (λ all. all.lists.items ≡
+        conditions_from 0 (seen_monitors monitors.now)) }
     ensures count { IfOk result (λ all. all.count ≡ condition_count (seen_monitors monitors.now)) }
 {
     let mut lists = Vec::new(alloc);
@@ -82,8 +86,10 @@ pub fn program_conditions<'a>(
     alloc: Global,
     tables: &Tables<'a>,
 ) -> Result<Conditions<'a>, AllocError>
-    ensures lists { IfOk result (λ all. all.lists.items ≡ conditions_from 0 (monitors_in (plain (placed tables.now)))) }
-    ensures count { IfOk result (λ all. all.count ≡ condition_count (monitors_in (plain (placed tables.now)))) }
+    ensures lists { IfOk result (λ all. all.lists.items ≡
+        conditions_from 0 (monitors_in (plain (placed tables.now)))) }
+    ensures count { IfOk result (λ all. all.count ≡
+        condition_count (monitors_in (plain (placed tables.now)))) }
 {
     numbered_conditions(alloc, tables.numbering().directory().monitors())
 }
@@ -98,7 +104,8 @@ fn own_number(own: &Numbered<'_>, name: &Name) -> i32
 
 /// The number of a condition of a monitor; how many there are where there is no such monitor.
 pub fn condition_number(conditions: &Conditions<'_>, monitor: usize, name: &Name) -> i32
-    ensures { result ≡ fit (pos (number_among (slice_get conditions.now.lists.items monitor) conditions.now.count name.now)) }
+    ensures { result ≡ fit (pos (number_among
+        (slice_get conditions.now.lists.items monitor) conditions.now.count name.now)) }
 {
     match conditions.lists.get(monitor) {
         Some(own) => own_number(own, name),

@@ -37,7 +37,8 @@ impl<'p, 'a> Names<'p, 'a> {
         text: Text<'a>,
     ) -> Result<Names<'p, 'a>, AllocError>
         ensures program { IfOk result (λ names. program_of names ≡ plain (placed program.now)) }
-        ensures scope { IfOk result (λ names. scope_of names ≡ routine_scope (plain (placed program.now)) (text_of text.entry)) }
+        ensures scope { IfOk result (λ names. scope_of names ≡
+            routine_scope (plain (placed program.now)) (text_of text.entry)) }
     {
         let laid = laid_routine(alloc, program.tables().values(), text.routine)?;
         let own = Spots::new(alloc, laid)?;
@@ -56,7 +57,9 @@ impl<'p, 'a> Names<'p, 'a> {
         process: &'a Proc,
     ) -> Result<Names<'p, 'a>, AllocError>
         ensures program { IfOk result (λ names. program_of names ≡ plain (placed program.now)) }
-        ensures scope { IfOk result (λ names. scope_of names ≡ process_scope (plain (placed program.now)) number (plain_process (placed_process process.now))) }
+        ensures scope { IfOk result (λ names. scope_of names ≡
+            process_scope (plain (placed program.now)) number
+            (plain_process (placed_process process.now))) }
     {
         let own = Spots::new(alloc, Laying::new(alloc, 0))?;
         Ok(Names {

@@ -24,7 +24,8 @@ fn process_spots<'a>(
     values: &Values<'_>,
     process: &'a Proc,
 ) -> Result<Spots<'a>, AllocError>
-    ensures { IfOk result (λ spots. spots ≡ process_table (plain (placed values.now)) (plain_process (placed_process process.now))) }
+    ensures { IfOk result (λ spots. spots ≡ process_table (plain (placed values.now))
+        (plain_process (placed_process process.now))) }
 {
     let laid = laid_process(alloc, values, process)?;
     let spots = Spots::new(alloc, laid)?;
@@ -37,7 +38,8 @@ fn processes_spots<'a>(
     values: &Values<'_>,
     processes: &[&'a Proc],
 ) -> Result<Vec<Spots<'a>>, AllocError>
-    ensures { IfOk result (λ tables. tables.items ≡ process_tables (plain (placed values.now)) (seen_processes processes.now)) }
+    ensures { IfOk result (λ tables. tables.items ≡
+        process_tables (plain (placed values.now)) (seen_processes processes.now)) }
 {
     let mut tables = Vec::new(alloc);
     for process in processes {
@@ -53,7 +55,8 @@ fn monitors_spots<'a>(
     values: &Values<'_>,
     monitors: &[&'a Mon],
 ) -> Result<Vec<Spots<'a>>, AllocError>
-    ensures { IfOk result (λ tables. tables.items ≡ monitor_tables (plain (placed values.now)) 0 (seen_monitors monitors.now)) }
+    ensures { IfOk result (λ tables. tables.items ≡
+        monitor_tables (plain (placed values.now)) 0 (seen_monitors monitors.now)) }
 {
     let mut tables = Vec::new(alloc);
     let mut base: u64 = 0;
@@ -68,8 +71,10 @@ fn monitors_spots<'a>(
 
 /// The variables of the processes and of the monitors of a program.
 pub fn outer_spots<'a>(alloc: Global, tables: &Tables<'a>) -> Result<Outer<'a>, AllocError>
-    ensures processes { IfOk result (λ outer. outer.processes.items ≡ process_tables (plain (placed tables.now)) (processes_in (plain (placed tables.now)))) }
-    ensures monitors { IfOk result (λ outer. outer.monitors.items ≡ monitor_tables (plain (placed tables.now)) 0 (monitors_in (plain (placed tables.now)))) }
+    ensures processes { IfOk result (λ outer. outer.processes.items ≡
+        process_tables (plain (placed tables.now)) (processes_in (plain (placed tables.now)))) }
+    ensures monitors { IfOk result (λ outer. outer.monitors.items ≡
+        monitor_tables (plain (placed tables.now)) 0 (monitors_in (plain (placed tables.now)))) }
 {
     let directory = tables.numbering().directory();
     let processes = processes_spots(alloc, tables.values(), directory.processes())?;

@@ -83,21 +83,24 @@ impl<'a> ProgramNames<'a> {
 
     /// The variables of a process, if there is one of that number.
     fn of_process(&self, number: usize) -> Option<&Spots<'a>>
-        ensures { (x : SpecName) → outer_in result x ≡ told_spot (outer_spot (plain (placed self.now)) (owner_of (Owner.Process number)) x) }
+        ensures { (x : SpecName) → outer_in result x ≡
+            told_spot (outer_spot (plain (placed self.now)) (owner_of (Owner.Process number)) x) }
     {
         self.outer.processes.get(number)
     }
 
     /// The variables of a monitor, if there is one of that number.
     fn of_monitor(&self, number: usize) -> Option<&Spots<'a>>
-        ensures { (x : SpecName) → outer_in result x ≡ told_spot (outer_spot (plain (placed self.now)) (owner_of (Owner.Monitor number)) x) }
+        ensures { (x : SpecName) → outer_in result x ≡
+            told_spot (outer_spot (plain (placed self.now)) (owner_of (Owner.Monitor number)) x) }
     {
         self.outer.monitors.get(number)
     }
 
     /// The variables that a text of the owner names beside those of its frame.
     pub fn outer(&self, owner: Owner) -> Option<&Spots<'a>>
-        ensures { (x : SpecName) → outer_in result x ≡ told_spot (outer_spot (plain (placed self.now)) (owner_of owner) x) }
+        ensures { (x : SpecName) → outer_in result x ≡
+            told_spot (outer_spot (plain (placed self.now)) (owner_of owner) x) }
     {
         match owner {
             Owner::Program => None,
@@ -108,14 +111,16 @@ impl<'a> ProgramNames<'a> {
 
     /// The number of a condition that a text of the monitor of that number names.
     fn condition_in(&self, number: usize, name: &Name) -> i32
-        ensures { result ≡ fit (pos (condition_of (plain (placed self.now)) (owner_of (Owner.Monitor number)) name.now)) }
+        ensures { result ≡ fit (pos (condition_of (plain (placed self.now))
+            (owner_of (Owner.Monitor number)) name.now)) }
     {
         condition_number(&self.conditions, number, name)
     }
 
     /// The number of a condition that a text of the owner names, which is that of a monitor.
     pub fn condition(&self, owner: Owner, name: &Name) -> i32
-        ensures { result ≡ fit (pos (condition_of (plain (placed self.now)) (owner_of owner) name.now)) }
+        ensures { result ≡ fit (pos (condition_of (plain (placed self.now))
+            (owner_of owner) name.now)) }
     {
         match owner {
             Owner::Program | Owner::Process(_) => 0,
@@ -125,7 +130,9 @@ impl<'a> ProgramNames<'a> {
 
     /// The callee of the first text of the owner and name of this one.
     fn callee(&self, text: Text<'_>) -> Option<&Callee>
-        ensures { option_copied result ≡ get_some (callees_told (plain (placed self.now))) (text_index (owner_of text.entry.owner) text.entry.routine.now.name (all_texts (plain (placed self.now)))) }
+        ensures { option_copied result ≡ get_some (callees_told (plain (placed self.now)))
+            (text_index (owner_of text.entry.owner) text.entry.routine.now.name
+            (all_texts (plain (placed self.now)))) }
     {
         let texts = self.numbering().directory().texts();
         match texts.index(text.owner, &text.routine.name) {
@@ -136,7 +143,8 @@ impl<'a> ProgramNames<'a> {
 
     /// The routine that a call in a text of the owner names; `None` where it names none.
     pub fn routine(&self, owner: Owner, name: &Name) -> Option<&Callee>
-        ensures { option_copied result ≡ told_callee (plain (placed self.now)) (routine_in (plain (placed self.now)) (owner_of owner) name.now) }
+        ensures { option_copied result ≡ told_callee (plain (placed self.now))
+            (routine_in (plain (placed self.now)) (owner_of owner) name.now) }
     {
         match self.numbering().directory().routine(owner, name) {
             Some(text) => self.callee(text),
@@ -146,7 +154,8 @@ impl<'a> ProgramNames<'a> {
 
     /// The entry that a call names, of the monitor that it names; `None` where it names none.
     pub fn entry(&self, monitor: &Name, name: &Name) -> Option<&Callee>
-        ensures { option_copied result ≡ told_callee (plain (placed self.now)) (entry_in (plain (placed self.now)) monitor.now name.now) }
+        ensures { option_copied result ≡ told_callee (plain (placed self.now))
+            (entry_in (plain (placed self.now)) monitor.now name.now) }
     {
         match self.numbering().directory().entry(monitor, name) {
             Some(text) => self.callee(text),

@@ -10,7 +10,8 @@ use Rattle.rte_emits.specs.Compiled.{process_scope, routine_scope}
 use Rattle.rte_texts.specs.declared.text.RoutineText as code_routine
 use Rattle.rte_texts.specs.declared.text.ProcessText as code_process
 
--- a routine or entry, the words of its parameters and variables, and the program and place that its names see
+-- a routine or entry, the words of its parameters and variables, and the program and place that its
+-- names see
 pub record RoutineText : Type 0 where
   pub routine : Routine
   pub words : ℕ

@@ -47,7 +47,8 @@ impl<'t, 'a, N: Lookup> Model for TextsBuilder<'t, 'a, N> {
 /// The words of a routine's parameters and variables. Where they are more than a number can tell,
 /// there is not memory enough for them.
 fn words(alloc: Global, values: &Values<'_>, routine: &Routine) -> Result<usize, AllocError>
-    ensures { IfOk result (λ words. words ≡ routine_vars_words (plain (placed values.now)) (plain_routine (placed_routine routine.now))) }
+    ensures { IfOk result (λ words. words ≡ routine_vars_words (plain (placed values.now))
+        (plain_routine (placed_routine routine.now))) }
 {
     let laid = laid_routine(alloc, values, routine)?;
     Ok(laid.word as usize)
@@ -86,8 +87,12 @@ impl<'t, 'a, N: Lookup + Drop> TextsBuilder<'t, 'a, N> {
     pub fn process(&mut self, process: &'a Proc, names: N) -> Result<(), AllocError>
         requires next { next_process self.old ≡ Some (plain_process (placed_process process.now)) }
         requires program { N.program names ≡ program_of self.old }
-        requires scope { N.scope names ≡ process_scope (program_of self.old) self.old.processes (plain_process (placed_process process.now)) }
-        ensures ok { OnOk result (self.new ≡ record self.old { processes = self.old.processes + 1 }) }
+        requires scope { N.scope names ≡ process_scope (program_of self.old) self.old.processes
+            (plain_process (placed_process process.now)) }
+        ensures ok { OnOk result (self.new ≡ record self.old {
+          processes = self.old.processes +
+              1;
+        }) }
         ensures err { OnErr result (self.new ≡ self.old) }
     {
         self.processes.push(ProcessText { process, names })?;

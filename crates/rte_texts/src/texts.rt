@@ -44,19 +44,25 @@ impl<'a, N: Lookup> Model for Texts<'a, N> {
 impl<'a, N: Lookup> Texts<'a, N> {
     fn routine_text(&self, number: usize) -> &RoutineText<'a, N>
         requires { number < length (numbered (plain (placed self.now))) }
-        ensures routine { (t : Text) → slice_get (numbered (plain (placed self.now))) number ≡ Some t → plain_routine (placed_routine result.now.routine.now) ≡ t.routine }
-        ensures words { (t : Text) → slice_get (numbered (plain (placed self.now))) number ≡ Some t → result.now.words ≡ routine_vars_words (plain (placed self.now)) t.routine }
+        ensures routine { (t : Text) → slice_get (numbered (plain (placed self.now))) number ≡
+            Some t → plain_routine (placed_routine result.now.routine.now) ≡ t.routine }
+        ensures words { (t : Text) → slice_get (numbered (plain (placed self.now))) number ≡
+            Some t → result.now.words ≡ routine_vars_words (plain (placed self.now)) t.routine }
         ensures program { N.program result.now.names ≡ plain (placed self.now) }
-        ensures scope { (t : Text) → slice_get (numbered (plain (placed self.now))) number ≡ Some t → N.scope result.now.names ≡ routine_scope (plain (placed self.now)) t }
+        ensures scope { (t : Text) → slice_get (numbered (plain (placed self.now))) number ≡
+            Some t → N.scope result.now.names ≡ routine_scope (plain (placed self.now)) t }
     {
         &self.routines[number]
     }
 
     fn process_text(&self, number: usize) -> &ProcessText<'a, N>
         requires { number < length (processes_of (plain (placed self.now))) }
-        ensures process { (p : Process) → slice_get (processes_of (plain (placed self.now))) number ≡ Some p → plain_process (placed_process result.now.process.now) ≡ p }
+        ensures process { (p : Process) → slice_get
+            (processes_of (plain (placed self.now))) number ≡ Some p →
+            plain_process (placed_process result.now.process.now) ≡ p }
         ensures program { N.program result.now.names ≡ plain (placed self.now) }
-        ensures scope { (p : Process) → slice_get (processes_of (plain (placed self.now))) number ≡ Some p → N.scope result.now.names ≡ process_scope (plain (placed self.now)) number p }
+        ensures scope { (p : Process) → slice_get (processes_of (plain (placed self.now))) number ≡
+            Some p → N.scope result.now.names ≡ process_scope (plain (placed self.now)) number p }
     {
         &self.processes[number]
     }

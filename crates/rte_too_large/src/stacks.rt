@@ -35,7 +35,8 @@ fn large_routine(
     owner: Owner,
     routine: &Routine,
 ) -> Option<Place>
-    ensures { result ≡ routine_over (plain (placed numbering.now)) measures.now (record { owner = owner_of owner; routine = placed_routine routine.now }) }
+    ensures { result ≡ routine_over (plain (placed numbering.now)) measures.now
+        (record { owner = owner_of owner; routine = placed_routine routine.now }) }
 {
     let number = numbering.number(Text { owner, routine });
     let row = measures.routines.get(number)?;
@@ -58,7 +59,10 @@ fn try_routines(
     owner: Owner,
     routines: &[Routine],
 )
-    ensures { let rules = stack_rules (plain (placed numbering.now)) measures.now in (more : List Part) → noted rules first.new more ≡ noted rules first.old (routine_parts (owner_of owner) (map placed_routine routines.now) more) }
+    ensures { let rules = stack_rules (plain (placed numbering.now)) measures.now in
+        (more : List Part) → noted rules first.new more ≡
+        noted rules first.old (routine_parts (owner_of owner)
+        (map placed_routine routines.now) more) }
 {
     for routine in routines {
         blame(
@@ -71,7 +75,8 @@ fn try_routines(
 
 /// The stack that is too large and comes first, if there is any.
 pub fn first_large(numbering: &Numbering<'_>, measures: &Measures, decls: &[Decl]) -> Option<Broken>
-    ensures { result ≡ noted (stack_rules (plain (placed numbering.now)) measures.now) None (parts_from 0 0 (map placed_decl decls.now)) }
+    ensures { result ≡ noted (stack_rules (plain (placed numbering.now)) measures.now) None
+        (parts_from 0 0 (map placed_decl decls.now)) }
 {
     let mut first = None;
     let mut processes = 0;

@@ -124,6 +124,7 @@ bare_decl (routine r) = routine (bare_routine r)
 bare_decl (monitor m) = monitor (bare_monitor m)
 bare_decl (process p) = process (bare_process p)
 
--- the tree without places and with all else: two trees are equal apart from places where their bare trees are equal
+-- the tree without places and with all else: two trees are equal apart from places where their bare
+-- trees are equal
 abbrev pub bare : {P : Type 0} → Prog P → Prog (Unit {0})
 bare g = record { name = g.name; place = tt; decls = map bare_decl g.decls; close = g.close; close_place = tt }

@@ -1,4 +1,5 @@
--- Trees as plain data, with a place of any kind at each part: one case for each form of the grammar, closing names included.
+-- Trees as plain data, with a place of any kind at each part: one case for each form of the
+-- grammar, closing names included.
 use Rattle.std.specs.Prelude.{ℕ, Bool, true, false, List, [], ◌∷◌, map, Option, Some, None, Box}
 use Rattle.std.specs.Global.{Global}
 use Rattle.rte_tree.specs.Plain as plain_of
@@ -34,7 +35,8 @@ use Rattle.rte_tree.specs.declared.decl.Decl as code_decl
 use Rattle.rte_tree.specs.declared.decl.Decl.TheVariants as decl_is
 use Rattle.rte_tree.specs.declared.decl.Prog as code_prog
 
--- a literal or the name of a constant, with or without a minus; the places are those of the first token and of the literal or name
+-- a literal or the name of a constant, with or without a minus; the places are those of the first
+-- token and of the literal or name
 pub data Constant (P : Type 0) : Type 0 where
   literal_constant : (place : P) (minus : Bool) → ℕ → (value_place : P) → Constant P
   named_constant : (place : P) (minus : Bool) → Name → (value_place : P) → Constant P

@@ -1,5 +1,5 @@
--- Programs as plain data, without places and closing names: one case for each form of the grammar. The meaning of a program,
--- its costs and its code are defined over these.
+-- Programs as plain data, without places and closing names: one case for each form of the grammar.
+-- The meaning of a program, its costs and its code are defined over these.
 use Rattle.std.specs.Prelude.{ℕ, Bool, List, Option}
 
 -- the bytes of an identifier

@@ -30,8 +30,8 @@ fn some_is_bound(bounds: &[bool], called: &[usize]) -> bool
     false
 }
 
-/// Whether the next routine reaches such code, by the rows of those before it: where it is one of a process or an entry,
-/// or calls one that does.
+/// Whether the next routine reaches such code, by the rows of those before it: where it is one of a
+/// process or an entry, or calls one that does.
 fn next_is_bound(image: &RawImage, bounds: &[bool], calls: &[List<usize>], number: usize) -> bool
     requires calls { AreCalls (image_of image.now) calls.now }
     requires rows { AreFirstBounds (image_of image.now) number bounds.now }

@@ -17,8 +17,8 @@ use rte_valid_code::Shown;
 use rte_valid_pieces::{addresses_by_piece, calls_by_piece, of_piece};
 use std::alloc::{AllocError, Global};
 
-/// The fault of the instruction at the address, if there is one: the address and the operand, a negative one as its
-/// value plus 2^32.
+/// The fault of the instruction at the address, if there is one: the address and the operand, a
+/// negative one as its value plus 2^32.
 fn fault_here(image: &RawImage, bounds: &[bool], whose: Whose, address: usize) -> Option<Shown>
     requires { AreBounds (image_of image.now) bounds.now }
     ensures { told result ≡ fault_at (image_of image.now) (whose_of whose) address }
@@ -39,7 +39,8 @@ fn fault_among(
     addresses: &[usize],
 ) -> Option<Shown>
     requires { AreBounds (image_of image.now) bounds.now }
-    ensures { told result ≡ first_at (fault_at (image_of image.now) (whose_of whose)) addresses.now }
+    ensures { told result ≡ first_at (fault_at (image_of image.now) (whose_of whose))
+        addresses.now }
 {
     for address in addresses {
         let found = fault_here(image, bounds, whose, *address);
@@ -114,8 +115,8 @@ fn processes_fault(image: &RawImage, bounds: &[bool], addresses: &[List<usize>])
     None
 }
 
-/// The first instruction that breaks a rule of operands, with its address and the operand, and None exactly where no
-/// instruction breaks one; or that memory is short.
+/// The first instruction that breaks a rule of operands, with its address and the operand, and None
+/// exactly where no instruction breaks one; or that memory is short.
 pub fn operand_fault(alloc: Global, image: &RawImage) -> Result<Option<Shown>, AllocError>
     requires { length image.now.processes ≤ 64 }
     ensures { IfOk result (λ found. told found ≡ defined_fault (image_of image.now)) }

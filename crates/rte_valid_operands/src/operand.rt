@@ -144,7 +144,8 @@ fn is_user_number(number: i32) -> bool
 
 /// The operand of a WAIT that breaks a rule.
 fn bad_wait(image: &RawImage, whose: Whose, condition: i32, limit: i32, number: i32) -> Option<i32>
-    ensures { result ≡ defined.bad_operand (image_of image.now) (whose_of whose) (Instr.Wait condition limit number) }
+    ensures { result ≡ defined.bad_operand (image_of image.now) (whose_of whose)
+        (Instr.Wait condition limit number) }
 {
     if !is_own_condition(image, whose, condition) {
         return Some(condition);

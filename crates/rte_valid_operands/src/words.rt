@@ -8,8 +8,8 @@ ghost use Rattle.rte_valid_operands.specs.Seen.{area_of, natural_of, whose_of};
 
 use rte_image::RawImage;
 
-/// Whose code it is: of a routine with its kind and owner, or of a process, which counts as a routine of its own above
-/// all others.
+/// Whose code it is: of a routine with its kind and owner, or of a process, which counts as a
+/// routine of its own above all others.
 #[derive(Clone, Copy)]
 pub(crate) struct Whose {
     pub number: usize,

@@ -61,7 +61,8 @@ fn give(all: &mut Vec<List<usize>>, owner: Option<usize>, address: usize) -> Res
     Ok(())
 }
 
-/// The piece that an address belongs to: the last one that starts there, or else that of the address before.
+/// The piece that an address belongs to: the last one that starts there, or else that of the
+/// address before.
 fn next_owner(marks: &[Option<usize>], owner: Option<usize>, address: usize) -> Option<usize>
     requires { address < length marks.now }
     ensures { result ≡ option_or (slice_index_or marks.now address None) owner }
@@ -69,7 +70,8 @@ fn next_owner(marks: &[Option<usize>], owner: Option<usize>, address: usize) -> 
     marks[address].or(owner)
 }
 
-/// The addresses of each piece in ascending order, by the number of the piece; routines come before processes.
+/// The addresses of each piece in ascending order, by the number of the piece; routines come before
+/// processes.
 pub fn addresses_by_piece(alloc: Global, image: &RawImage) -> Result<Vec<List<usize>>, AllocError>
     ensures { IfOk result (λ v. AreOwned (image_of image.now) v.items) }
 {

@@ -58,7 +58,8 @@ fn dispatches(over: u16, waits: u64) -> u64
 
 /// What a routine declares that its code goes beyond.
 fn routine_fault(routine: &RawRoutine, part: &PartFound) -> Option<Shown>
-    ensures { shown result ≡ routine_needs (routine_of routine.now) (found_of part.now.found) part.now.stay }
+    ensures { shown result ≡ routine_needs (routine_of routine.now)
+        (found_of part.now.found) part.now.stay }
 {
     let cost = &part.found.cost;
     let times = first_fault(
@@ -82,7 +83,8 @@ fn process_run(over: u16, body: &Cost, handler: &Cost) -> u64
 
 /// What a process declares that its code goes beyond, with its dispatches.
 fn process_fault(over: u16, process: &RawProc, found: &ProcessFound) -> Option<Shown>
-    ensures { shown result ≡ process_needs over (process_of process.now) (found_of found.now.body) (found_of found.now.handler) }
+    ensures { shown result ≡ process_needs over (process_of process.now) (found_of found.now.body)
+        (found_of found.now.handler) }
 {
     let body = &found.body.cost;
     let handler = &found.handler.cost;
@@ -96,7 +98,8 @@ fn process_fault(over: u16, process: &RawProc, found: &ProcessFound) -> Option<S
 
 fn routines_fault(raw: &RawImage, parts: &Parts) -> Option<Shown>
     requires { AreParts raw.now parts.now }
-    ensures { shown result ≡ first_in (routine_cost_fault (image_of raw.now)) (image_of raw.now).routines }
+    ensures { shown result ≡ first_in (routine_cost_fault (image_of raw.now))
+        (image_of raw.now).routines }
 {
     let routines = raw.routines.as_slice();
     let kept = parts.routines.as_slice();
@@ -111,7 +114,8 @@ fn routines_fault(raw: &RawImage, parts: &Parts) -> Option<Shown>
 
 fn processes_fault(raw: &RawImage, parts: &Parts) -> Option<Shown>
     requires { AreParts raw.now parts.now }
-    ensures { shown result ≡ first_in (λ k p. process_cost_fault (image_of raw.now) p) (image_of raw.now).processes }
+    ensures { shown result ≡ first_in (λ k p. process_cost_fault (image_of raw.now) p)
+        (image_of raw.now).processes }
 {
     let processes = raw.processes.as_slice();
     let kept = parts.processes.as_slice();

@@ -85,7 +85,8 @@ fn follows_body(process: &RawProc) -> bool
 
 /// Whether a handler, where there is one, is where it belongs and reaches no WAIT.
 fn is_handler(waits: &[bool], process: &RawProc) -> bool
-    ensures { result ≡ is_right (map bare waits.now) (process_of process.now) (option_map views process.now.handler_tree) }
+    ensures { result ≡ is_right (map bare waits.now) (process_of process.now)
+        (option_map views process.now.handler_tree) }
 {
     match &process.handler_tree {
         None => true,
@@ -93,7 +94,8 @@ fn is_handler(waits: &[bool], process: &RawProc) -> bool
     }
 }
 
-/// The first process whose handler does not stand right behind the END of its body, or reaches a WAIT.
+/// The first process whose handler does not stand right behind the END of its body, or reaches a
+/// WAIT.
 pub fn handler_fault(raw: &RawImage, waits: &[bool]) -> Option<Shown>
     requires { AreWaits raw.now waits.now }
     ensures { shown result ≡ defined_fault (image_of raw.now) }

@@ -1,8 +1,8 @@
 //! The loader's tests of trees, handlers, declared costs and sizes.
 //!
-//! Each has its definition in `rte_valid`, and promises the first fault with its two numbers, and none
-//! exactly where the part holds. The code of each routine and process is gone through once, by the test
-//! of trees; what it comes to is kept in `Parts`, which the later tests read.
+//! Each has its definition in `rte_valid`, and promises the first fault with its two numbers, and
+//! none exactly where the part holds. The code of each routine and process is gone through once, by
+//! the test of trees; what it comes to is kept in `Parts`, which the later tests read.
 #![tactic(auto)]
 
 mod costs;

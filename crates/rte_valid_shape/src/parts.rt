@@ -66,7 +66,15 @@ impl Parts {
 
 /// What those that call a routine know of it.
 fn known_routine(routine: &RawRoutine, depth: u32) -> Known
-    ensures { known_of result ≡ record { params = routine.now.params; results = count routine.now.result; locals = routine.now.locals; depth = depth; cost = amount routine.now.run routine.now.susp routine.now.waits } }
+    ensures { known_of result ≡ record {
+      params = routine.now.params;
+      results = count
+          routine.now.result;
+      locals = routine.now.locals;
+      depth = depth;
+      cost = amount
+          routine.now.run routine.now.susp routine.now.waits;
+    } }
 {
     Known {
         params: routine.params,
@@ -89,10 +97,14 @@ fn routine_due(
     due: usize,
 ) -> Option<PartFound>
     requires { due ≤ length code.now }
-    ensures value { told_part result ≡ hold (guard (nat_eq routine.now.start due) (defined_routine code.now (map known_of known.now) (routine_of routine.now))) }
-    ensures ends { IfSome result (λ f. f.found.next ≡ routine.now.start + size (views routine.now.tree)) }
+    ensures value { told_part result ≡ hold (guard (nat_eq routine.now.start due)
+        (defined_routine code.now (map known_of known.now) (routine_of routine.now))) }
+    ensures ends { IfSome result (λ f. f.found.next ≡ routine.now.start +
+        size (views routine.now.tree)) }
     ensures within { IfSome result (λ f. f.found.next < length code.now) }
-    ensures stay { IfSome result (λ f. f.stay ≡ cap (stay_in (monitor_of (routine_of routine.now)) (defined_routine code.now (map known_of known.now) (routine_of routine.now)))) }
+    ensures stay { IfSome result (λ f. f.stay ≡
+        cap (stay_in (monitor_of (routine_of routine.now))
+        (defined_routine code.now (map known_of known.now) (routine_of routine.now)))) }
 {
     if routine.start as usize != due {
         return None;
@@ -103,7 +115,8 @@ fn routine_due(
 /// The code of a handler, where there is one, and the address behind its END.
 fn handler_found(code: &[Instr], known: &[Known], tree: &Option<Segs>, at: usize) -> Option<Found>
     requires { at ≤ length code.now }
-    ensures value { told result ≡ hold (handler_in code.now (map known_of known.now) (option_map views tree.now) at) }
+    ensures value { told result ≡ hold (handler_in code.now (map known_of known.now)
+        (option_map views tree.now) at) }
     ensures ends { IfSome result (λ f. f.next ≡ at + handler_length (option_map views tree.now)) }
     ensures within { IfSome result (λ f. f.next ≤ length code.now) }
 {
@@ -129,8 +142,13 @@ fn process_due(
     due: usize,
 ) -> Option<ProcessFound>
     requires { due ≤ length code.now }
-    ensures value { told_process result ≡ guard_two (nat_eq process.now.start due) (two (hold (defined_part code.now (map known_of known.now) (views process.now.body) process.now.start)) (hold (handler_in code.now (map known_of known.now) (option_map views process.now.handler_tree) (handler_start (process_of process.now))))) }
-    ensures ends { IfSome result (λ f. f.end ≡ handler_start (process_of process.now) + handler_length (option_map views process.now.handler_tree)) }
+    ensures value { told_process result ≡ guard_two (nat_eq process.now.start due)
+        (two (hold (defined_part code.now (map known_of known.now)
+        (views process.now.body) process.now.start))
+        (hold (handler_in code.now (map known_of known.now)
+        (option_map views process.now.handler_tree) (handler_start (process_of process.now))))) }
+    ensures ends { IfSome result (λ f. f.end ≡ handler_start (process_of process.now) +
+        handler_length (option_map views process.now.handler_tree)) }
     ensures within { IfSome result (λ f. f.end ≤ length code.now) }
 {
     if process.start as usize != due {
@@ -160,9 +178,12 @@ fn routines_fault(raw: &RawImage, parts: &mut Parts) -> Result<Option<Shown>, Al
     requires known { parts.old.known ≡ [] }
     requires routines { parts.old.routines ≡ [] }
     requires end { parts.old.end ≡ 0 }
-    ensures fault { IfOk result (λ o. shown o ≡ first_in (routine_shape_fault (image_of raw.now)) (image_of raw.now).routines) }
+    ensures fault { IfOk result (λ o. shown o ≡
+        first_in (routine_shape_fault (image_of raw.now)) (image_of raw.now).routines) }
     ensures kept { IfOk result (λ o. IfNone o (AreRoutines raw.now parts.new)) }
-    ensures end { IfOk result (λ o. IfNone o ((parts.new.end ≡ due_start (pieces (image_of raw.now)) (length raw.now.routines)) × (parts.new.end ≤ length raw.now.code))) }
+    ensures end { IfOk result (λ o. IfNone o ((parts.new.end ≡
+        due_start (pieces (image_of raw.now)) (length raw.now.routines)) ×
+        (parts.new.end ≤ length raw.now.code))) }
     ensures processes { parts.new.processes ≡ parts.old.processes }
 {
     for routine in raw.routines.as_slice() {
@@ -188,9 +209,11 @@ fn processes_fault(raw: &RawImage, parts: &mut Parts) -> Result<Option<Shown>, A
     requires processes { parts.old.processes ≡ [] }
     requires due { parts.old.end ≡ due_start (pieces (image_of raw.now)) (length raw.now.routines) }
     requires within { parts.old.end ≤ length raw.now.code }
-    ensures fault { IfOk result (λ o. shown o ≡ first_in (process_shape_fault (image_of raw.now)) (image_of raw.now).processes) }
+    ensures fault { IfOk result (λ o. shown o ≡
+        first_in (process_shape_fault (image_of raw.now)) (image_of raw.now).processes) }
     ensures kept { IfOk result (λ o. IfNone o (AreParts raw.now parts.new)) }
-    ensures end { IfOk result (λ o. IfNone o (parts.new.end ≡ due_start (pieces (image_of raw.now)) (length (pieces (image_of raw.now))))) }
+    ensures end { IfOk result (λ o. IfNone o (parts.new.end ≡
+        due_start (pieces (image_of raw.now)) (length (pieces (image_of raw.now))))) }
 {
     for process in raw.processes.as_slice() {
         let found = match process_due(
@@ -208,9 +231,9 @@ fn processes_fault(raw: &RawImage, parts: &mut Parts) -> Result<Option<Shown>, A
     Ok(None)
 }
 
-/// The first routine or process that does not start where the one before it ends, or whose code is not
-/// of its tree, or breaks a rule of heights; or the first address that none of them covers. Where there
-/// is none, the parts are kept.
+/// The first routine or process that does not start where the one before it ends, or whose code is
+/// not of its tree, or breaks a rule of heights; or the first address that none of them covers.
+/// Where there is none, the parts are kept.
 pub fn shape_fault(raw: &RawImage, parts: &mut Parts) -> Result<Option<Shown>, AllocError>
     requires known { parts.old.known ≡ [] }
     requires routines { parts.old.routines ≡ [] }

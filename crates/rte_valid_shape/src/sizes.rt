@@ -17,7 +17,8 @@ use rte_valid_code::{Shown, base_fault};
 
 /// The arguments of a routine are among its locals.
 fn params_fault(routines: &[RawRoutine]) -> Option<Shown>
-    ensures { shown result ≡ first_in (λ r x. defined_below x.locals x.params) (map routine_of routines.now) }
+    ensures { shown result ≡ first_in (λ r x. defined_below x.locals x.params)
+        (map routine_of routines.now) }
 {
     for routine in routines {
         match below(u64::from(routine.locals), u64::from(routine.params)) {
@@ -30,7 +31,8 @@ fn params_fault(routines: &[RawRoutine]) -> Option<Shown>
 
 /// The locals of a process and the depth of its code are within its stack.
 fn process_stack(process: &RawProc, found: &ProcessFound) -> Option<Shown>
-    ensures { shown result ≡ stack_needs (process_of process.now) (found_of found.now.body) (found_of found.now.handler) }
+    ensures { shown result ≡ stack_needs (process_of process.now) (found_of found.now.body)
+        (found_of found.now.handler) }
 {
     let depth = found.body.depth.max(found.handler.depth).min(TOO_DEEP);
     below(

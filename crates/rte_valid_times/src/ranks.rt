@@ -91,8 +91,9 @@ fn blocks_fault(image: &RawImage, stays: &Stays) -> Option<Shown>
     None
 }
 
-/// A rank or ceiling that is not the due one, or a block below the needed one, with the declared number and the other,
-/// and None exactly where there is none. Ranks come before ceilings, and these before blocks. Processes are at most 64.
+/// A rank or ceiling that is not the due one, or a block below the needed one, with the declared
+/// number and the other, and None exactly where there is none. Ranks come before ceilings, and
+/// these before blocks. Processes are at most 64.
 pub fn rank_fault(image: &RawImage, stays: &Stays) -> Option<Shown>
     requires few { length image.now.processes ≤ 64 }
     requires stays { AreStays (image_of image.now) stays.now }

@@ -13,7 +13,8 @@ use rte_valid_pieces::{addresses_by_piece, calls_by_piece, of_piece};
 use std::alloc::{AllocError, Global};
 use std::marker::Model;
 
-/// How long each process stays in each monitor at most, by the declared stays of the entries that it reaches.
+/// How long each process stays in each monitor at most, by the declared stays of the entries that
+/// it reaches.
 #[derive(Drop)]
 pub struct Stays {
     by_monitor: List<List<Option<u32>>>,
@@ -28,7 +29,8 @@ impl Model for Stays {
 }
 
 impl Stays {
-    /// The longest declared stay, in the monitor, of an entry that the process reaches; None where it reaches none.
+    /// The longest declared stay, in the monitor, of an entry that the process reaches; None where
+    /// it reaches none.
     pub fn stay(&self, process: usize, monitor: usize) -> Option<u32>
         ensures { result ≡ stay_in self.now process monitor }
     {
@@ -69,7 +71,8 @@ fn longer(one: Option<u32>, other: Option<u32>) -> Option<u32>
     }
 }
 
-/// The longer of the stay that one of the routines reaches, by their rows, and that of those after it.
+/// The longer of the stay that one of the routines reaches, by their rows, and that of those after
+/// it.
 fn longer_with(
     row: &[Option<u32>],
     called: &[usize],
@@ -77,7 +80,8 @@ fn longer_with(
     best: Option<u32>,
 ) -> Option<u32>
     requires index { index < length called.now }
-    requires best { best ≡ longest_of (λ r. slice_index_or row.now r None) (drop (index + 1) called.now) }
+    requires best { best ≡ longest_of (λ r. slice_index_or row.now r None)
+        (drop (index + 1) called.now) }
     ensures { result ≡ longest_of (λ r. slice_index_or row.now r None) (drop index called.now) }
 {
     longer(row_at(row, called[index]), best)

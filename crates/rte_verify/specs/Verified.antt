@@ -29,7 +29,8 @@ code_fault_of image = or_else (shown image Shape) (or_else (shown image Handlers
 abbrev pub declared_fault_of : Image → Option Shown
 declared_fault_of image = or_else (shown image Costs) (shown image Sizes)
 
--- the fault of an image before its bounds: that of the first other part that fails, in the order of the tests
+-- the fault of an image before its bounds: that of the first other part that fails, in the order of
+-- the tests
 abbrev pub fault_before_bounds : Image → Option Shown
 fault_before_bounds image =
     or_else (shown image Operands)

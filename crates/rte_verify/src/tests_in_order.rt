@@ -72,8 +72,9 @@ fn later_fault(alloc: Global, raw: &RawImage) -> Result<Option<Numbered>, AllocE
     }
 }
 
-/// The first fault of all parts but bounds, in the order of the tests: operands, trees, handlers, declared costs, sizes, and
-/// ranks with ceilings and blocks. None exactly where none of them has a fault; or that memory is short.
+/// The first fault of all parts but bounds, in the order of the tests: operands, trees, handlers,
+/// declared costs, sizes, and ranks with ceilings and blocks. None exactly where none of them has a
+/// fault; or that memory is short.
 pub fn fault_before_bounds(alloc: Global, raw: &RawImage) -> Result<Option<Numbered>, AllocError>
     requires { HasRanges raw.now }
     ensures { IfOk result (λ found. shown_by found ≡ first_before_bounds (image_of raw.now)) }

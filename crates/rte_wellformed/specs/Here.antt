@@ -1,4 +1,5 @@
--- Where a text stands, and what a name stands for there. Names are looked for as the meaning of programs looks for them.
+-- Where a text stands, and what a name stands for there. Names are looked for as the meaning of
+-- programs looks for them.
 use Rattle.std.specs.Prelude.{Bool, true, false, not, ◌||◌, List, [], ◌∷◌, ◌++◌, Option, Some, None, ℤ, map, filter_map, slice_get, is_some, bytes_eq, if◌then◌else◌}
 use Rattle.rte_tree.specs.Plain.{Name, Scalar, int, boolean, subrange, Kind, scalar, array, Var, Param, Routine, Monitor, Process, Prog}
 use Rattle.rte_declarations.specs.declared.sort.Sort.{Sort}
@@ -6,8 +7,9 @@ use Rattle.rte_declarations.specs.declared.sort.Sort.TheVariants as sort_is
 use Rattle.rte_source_meaning.specs.Names.{named, constants, monitors, variable_in, conditions_of}
 use Rattle.rte_source_meaning.specs.Run.{Home, of_program, of_process, of_monitor}
 
--- the program, the process that runs, whose text it is, whether it is that of a function that is no entry, the variables of the
--- loops around it, innermost first, and the parameters and variables of its routine
+-- the program, the process that runs, whose text it is, whether it is that of a function that is no
+-- entry, the variables of the loops around it, innermost first, and the parameters and variables of
+-- its routine
 pub record Here : Type 0 where
   pub program : Prog
   pub process : Process
@@ -72,7 +74,8 @@ meant_own None other = other
 abbrev pub var_named : Name → List Var → Option Var
 var_named x vs = named (λ v. v.name) x vs
 
--- the variable of a loop around, else a variable of the routine, else one of the process or the monitor, else a constant
+-- the variable of a loop around, else a variable of the routine, else one of the process or the
+-- monitor, else a constant
 abbrev pub meant : Here → Name → Meant
 meant c x =
     if is_among x c.turns then turn

@@ -1,4 +1,5 @@
--- Programs that are well formed: what the meaning of a program takes for granted, and with it costs, sizes and code.
+-- Programs that are well formed: what the meaning of a program takes for granted, and with it
+-- costs, sizes and code.
 use Rattle.std.specs.Prelude.{◌≡◌, ℕ, ◌≤◌, ◌+◌, Bool, false, true, ◌||◌, List, [], ◌∷◌, length, Option, Some, None, ℤ, pos, ◌+ℤ◌, ◌-ℤ◌, int_le, int_lt, slice_get, bytes_eq, All, AllPairs, Contains, count_by, sum_by, filter_map}
 use Rattle.rte_num.specs.Words.{within}
 use Rattle.rte_tree.specs.Plain.{Name, Constant, Scalar, int, boolean, subrange, Kind, scalar, array, Var, Param, Answers, Routine, Monitor, Activation, periodic, at_event, Handler, Process, Decl, constant, device, event, routine, monitor, process, Prog}

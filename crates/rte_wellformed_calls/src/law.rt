@@ -18,6 +18,7 @@ pub fn calls_have_levels()
 
 /// Then the routines that a process may call have levels by their names, as the meaning asks.
 pub fn routines_have_levels()
-    ensures { (g : Prog Place) → NamesFound g → NamesListed g → HasPlaceLevels g → (p : Process Place) → Contains g.decls (process p) → AreMirrored g p
+    ensures { (g : Prog Place) → NamesFound g → NamesListed g → HasPlaceLevels g →
+        (p : Process Place) → Contains g.decls (process p) → AreMirrored g p
         → (level : Name → ℕ) × Levels (plain g) (plain_process p) level }
 {}

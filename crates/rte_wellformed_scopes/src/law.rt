@@ -21,5 +21,6 @@ pub fn declarations_are_listed()
 
 /// The texts that a process may run stand in the meaning as they stand in the program.
 pub fn texts_are_mirrored()
-    ensures { (g : Prog Place) → StandApart g → IsWritten g → NamesFound g → NamesListed g → ThingsKnown g → (p : Process Place) → Contains g.decls (process p) → AreMirrored g p }
+    ensures { (g : Prog Place) → StandApart g → IsWritten g → NamesFound g → NamesListed g →
+        ThingsKnown g → (p : Process Place) → Contains g.decls (process p) → AreMirrored g p }
 {}

@@ -16,12 +16,16 @@ ghost use Rattle.rte_wellformed_terms.specs.Judged.{IsKept, IsPlaced, AreNames, 
 
 /// The result of a function has its sort.
 pub fn answers_fit()
-    ensures { (g : Prog Place) (p : Process Place) (at : Option Place) (site : Site) (c : Here) (name : Place) (s : Scalar Place) (e : Expr Place) → IsKept g → Mirrors g p at site c
-        → ExprWritten e → AreNames g (expr_names site e []) → Contains (parts g) (answer name s e) → IsOf c (sort_of (plain_scalar s)) (plain_expr e) }
+    ensures { (g : Prog Place) (p : Process Place) (at : Option Place) (site : Site) (c : Here)
+        (name : Place) (s : Scalar Place) (e : Expr Place) → IsKept g → Mirrors g p at site c
+        → ExprWritten e → AreNames g (expr_names site e []) → Contains (parts g) (answer name s e) →
+        IsOf c (sort_of (plain_scalar s)) (plain_expr e) }
 {}
 
 /// The statements of a text fit.
 pub fn bodies_fit()
-    ensures { (g : Prog Place) (p : Process Place) (at : Option Place) (site : Site) (c : Here) (w : Where) (ss : Stmts Place) → IsKept g → Mirrors g p at site c → IsPlaced w at c
-        → StmtsWritten ss → AreNames g (stmts_names site ss []) → AreParts g (stmts_parts w ss []) → AllFit c (plain_stmts ss) }
+    ensures { (g : Prog Place) (p : Process Place) (at : Option Place) (site : Site) (c : Here)
+        (w : Where) (ss : Stmts Place) → IsKept g → Mirrors g p at site c → IsPlaced w at c
+        → StmtsWritten ss → AreNames g (stmts_names site ss []) → AreParts g (stmts_parts w ss []) →
+        AllFit c (plain_stmts ss) }
 {}

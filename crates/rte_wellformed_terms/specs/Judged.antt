@@ -26,7 +26,8 @@ pub record IsKept (g : Prog Place) : Type 0 where
   pub constants : ConstantsSmall g
   pub statements : (number : ℕ) (place : Place) → ¬ StatementFails g number place
 
--- what a text stands in, by the rules and by the meaning; the place is that of the name of its routine
+-- what a text stands in, by the rules and by the meaning; the place is that of the name of its
+-- routine
 abbrev pub IsHome : Home → Option Place → Here → Type 0
 IsHome home_is.Free at c = (is_monitor c.home ≡ false) × (c.is_function ≡ false)
 IsHome home_is.Entry at c = (is_monitor c.home ≡ true) × (c.is_function ≡ false)

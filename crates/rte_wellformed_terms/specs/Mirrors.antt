@@ -20,7 +20,8 @@ use Rattle.rte_wellformed_terms.specs.Written.{ResultWritten}
 
 -- ---- what a name that is in reach stands for
 
--- a variable of the routine whose name stands at its owner's place, or one of the process or the monitor
+-- a variable of the routine whose name stands at its owner's place, or one of the process or the
+-- monitor
 pub record IsVariable (g : Prog Place) (c : Here) (routine_place : Option Place) (x : Name) (place : Place) : Type 0 where
   pub kind : Kind Place
   pub stands : ((thing_at g place ≡ variable_thing routine_place (shape_of kind)) × (meant c x ≡ own_variable (plain_kind kind)))
@@ -74,8 +75,9 @@ pub record IsEntryOf (g : Prog Place) (c : Here) (m x : Name) (place : Place) : 
   pub result : ResultWritten one.kind one.result one.value
   pub found : entry_named c.program m x ≡ Some (record { home = of_monitor number; routine = plain_routine one })
 
--- where process p runs, each name that is in reach at the site stands in the text for what it is declared as; the text is that
--- of the routine whose name stands at the place, if it is that of a routine
+-- where process p runs, each name that is in reach at the site stands in the text for what it is
+-- declared as; the text is that of the routine whose name stands at the place, if it is that of a
+-- routine
 pub record Mirrors (g : Prog Place) (p : Process Place) (at : Option Place) (site : Site) (c : Here) : Type 0 where
   pub program : c.program ≡ plain g
   pub process : c.process ≡ plain_process p

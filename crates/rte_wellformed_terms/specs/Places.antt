@@ -25,7 +25,8 @@ pub record IsFound (g : Prog Place) (place : Place) (want : Want) (means : Optio
   pub suited : suits want declared.kind ≡ true
   pub found : declared_at (names g) place ≡ Some declared.place
 
--- each use has its declaration, which is of the kind that the use asks for, and no declared name is in reach before
+-- each use has its declaration, which is of the kind that the use asks for, and no declared name is
+-- in reach before
 pub record NamesFound (g : Prog Place) : Type 0 where
   pub uses : (name : Name) (place : Place) (want : Want) (means : Option Declared) → Contains (names g) (used name place want means) → IsFound g place want means
   pub free : (name : Name) (place : Place) (taken : Bool) → Contains (names g) (declares name place taken) → taken ≡ false

@@ -11,7 +11,8 @@ use Rattle.rte_declarations.specs.Parts.{statement, parts}
 abbrev pub things : Prog Place → List (Place × Thing)
 things g = decls_things g.decls ((g.place, other_thing) ∷ [])
 
--- at the place of a declaration stands what is declared there, and at that of a loop's variable no declaration
+-- at the place of a declaration stands what is declared there, and at that of a loop's variable no
+-- declaration
 pub record ThingsKnown (g : Prog Place) : Type 0 where
   pub declared : (place : Place) (thing : Thing) → Contains (things g) (place, thing) → thing_at g place ≡ thing
   pub loops : (where_it_stands : Where) (p : Place) (name : Name) (place : Place) (low high : Constant Place) (body : Stmts Place)

@@ -1,6 +1,7 @@
 //! Commands.
 
-/// A command, with the names of the files that its words give, and its overhead in ticks, 0 where no word gives one.
+/// A command, with the names of the files that its words give, and its overhead in ticks, 0 where
+/// no word gives one.
 #[derive(Clone, Copy, Debug, PartialEq, Eq)]
 pub enum Command<'a> {
     /// Runs a program over a script, and stores its image.

@@ -1,7 +1,8 @@
 //! Which words are a command.
 //!
-//! Its definition is one table of the commands with the words that each takes, `row_of` of `specs/Words.antt`. It
-//! promises that the command is the row of the words, and that words are refused exactly where they are in no row.
+//! Its definition is one table of the commands with the words that each takes, `row_of` of
+//! `specs/Words.antt`. It promises that the command is the row of the words, and that words are
+//! refused exactly where they are in no row.
 #![tactic(auto)]
 
 mod command;

@@ -26,8 +26,8 @@ fn are_words(words: &[String]) -> bool
 
 /// The command that the words are, spelled exactly:
 ///
-/// - `go P I S`, `check P`, `compile P I`, `json P` or `slack P`, each also with an overhead K behind it, from 0 to 1000 in
-///   decimal and without leading zeros, and 0 where it is left out;
+/// - `go P I S`, `check P`, `compile P I`, `json P` or `slack P`, each also with an overhead K
+///   behind it, from 0 to 1000 in decimal and without leading zeros, and 0 where it is left out;
 /// - `print P`, `run I S` or `migrate I J`.
 ///
 /// `None` exactly where they are in no row, or a word is empty or begins with `-`.

@@ -58,7 +58,8 @@ pub fn exprs_stray(declarations: &Declarations<'_>, list: &[Expr]) -> bool
 /// The same of some right operand of a row.
 #[cycle(strays)]
 fn operands_stray(declarations: &Declarations<'_>, rest: &[(Op, Expr)]) -> bool
-    ensures { result ≡ operands_do_stray (named_at (placed declarations.now)) (placed_operands rest.now) }
+    ensures { result ≡ operands_do_stray (named_at (placed declarations.now))
+        (placed_operands rest.now) }
 {
     for operand in rest {
         if strays(declarations, &operand.1) {

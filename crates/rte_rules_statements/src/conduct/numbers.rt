@@ -24,7 +24,8 @@ const LIMITS: (u32, u32) = (1, 1_000_000_000);
 
 /// The lower bound of a loop that is above the upper bound.
 pub fn crossed_loop(declarations: &Declarations<'_>, s: &Stmt) -> Option<Place>
-    ensures { (here : Where) → result ≡ crossed_at (value (placed declarations.now)) (statement here (placed_stmt s.now)) }
+    ensures { (here : Where) → result ≡ crossed_at (value (placed declarations.now))
+        (statement here (placed_stmt s.now)) }
 {
     match s {
         Stmt::For { low, high, .. } if declarations.value(high) < declarations.value(low) => {
@@ -36,7 +37,8 @@ pub fn crossed_loop(declarations: &Declarations<'_>, s: &Stmt) -> Option<Place>
 
 /// The upper bound of a loop that is the greatest word.
 pub fn endless_loop(declarations: &Declarations<'_>, s: &Stmt) -> Option<Place>
-    ensures { (here : Where) → result ≡ endless_at (value (placed declarations.now)) (statement here (placed_stmt s.now)) }
+    ensures { (here : Where) → result ≡ endless_at (value (placed declarations.now))
+        (statement here (placed_stmt s.now)) }
 {
     match s {
         Stmt::For { high, .. } if declarations.value(high) == GREATEST_WORD => Some(high.place),
@@ -46,7 +48,8 @@ pub fn endless_loop(declarations: &Declarations<'_>, s: &Stmt) -> Option<Place>
 
 /// The place of a loop of more turns than it may have.
 pub fn long_loop(declarations: &Declarations<'_>, s: &Stmt) -> Option<Place>
-    ensures { (here : Where) → result ≡ long_at (value (placed declarations.now)) (statement here (placed_stmt s.now)) }
+    ensures { (here : Where) → result ≡ long_at (value (placed declarations.now))
+        (statement here (placed_stmt s.now)) }
 {
     match s {
         Stmt::For {
@@ -62,7 +65,8 @@ pub fn long_loop(declarations: &Declarations<'_>, s: &Stmt) -> Option<Place>
 /// The number of an exception that is raised, by `except` or where a wait ends at its limit, if it
 /// is not among those that a statement may raise.
 pub fn bad_number(declarations: &Declarations<'_>, s: &Stmt) -> Option<Place>
-    ensures { (here : Where) → result ≡ bad_number_at (value (placed declarations.now)) (statement here (placed_stmt s.now)) }
+    ensures { (here : Where) → result ≡ bad_number_at (value (placed declarations.now))
+        (statement here (placed_stmt s.now)) }
 {
     match s {
         Stmt::Except { number, .. } => declarations.out_of(NUMBERS.0, NUMBERS.1, number),
@@ -73,7 +77,8 @@ pub fn bad_number(declarations: &Declarations<'_>, s: &Stmt) -> Option<Place>
 
 /// The limit of a wait, if it is out of its range.
 pub fn bad_limit(declarations: &Declarations<'_>, s: &Stmt) -> Option<Place>
-    ensures { (here : Where) → result ≡ bad_limit_at (value (placed declarations.now)) (statement here (placed_stmt s.now)) }
+    ensures { (here : Where) → result ≡ bad_limit_at (value (placed declarations.now))
+        (statement here (placed_stmt s.now)) }
 {
     match s {
         Stmt::Wait { limit, .. } => declarations.out_of(LIMITS.0, LIMITS.1, limit),

@@ -56,7 +56,8 @@ fn is_foreign(declarations: &Declarations<'_>, home: Home, place: Place) -> bool
 
 /// Whether an assignment there may not be, or its index may not.
 fn target_strays(declarations: &Declarations<'_>, home: Home, target: &Ref) -> bool
-    ensures { result ≡ ref_is_astray (named_at (placed declarations.now)) home (placed_ref target.now) }
+    ensures { result ≡ ref_is_astray (named_at (placed declarations.now)) home
+        (placed_ref target.now) }
 {
     if is_foreign(declarations, home, target.place) {
         return true;
@@ -130,7 +131,8 @@ pub fn stmt_strays(declarations: &Declarations<'_>, here: Where, s: &Stmt) -> bo
 
 /// The place of a `get` from an out device, or of a `put` to an in device.
 pub fn misdirected(declarations: &Declarations<'_>, s: &Stmt) -> Option<Place>
-    ensures { (here : Where) → result ≡ misdirected_at (named_at (placed declarations.now)) (statement here (placed_stmt s.now)) }
+    ensures { (here : Where) → result ≡ misdirected_at (named_at (placed declarations.now))
+        (statement here (placed_stmt s.now)) }
 {
     match s {
         Stmt::Get {

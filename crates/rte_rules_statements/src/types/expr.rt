@@ -12,7 +12,8 @@ use rte_tree::{Expr, Op, Param, Place};
 
 /// The parameters of a routine that is called.
 pub fn asked<'a>(declarations: &Declarations<'a>, place: Place) -> Option<&'a [Param]>
-    ensures { option_map (λ ps. map placed_param ps.now) result ≡ params_asked (named_at (placed declarations.now) place) }
+    ensures { option_map (λ ps. map placed_param ps.now) result ≡
+        params_asked (named_at (placed declarations.now) place) }
 {
     match declarations.named(place)? {
         Thing::Routine { routine, .. } => Some(routine.params.as_slice()),
@@ -71,7 +72,8 @@ fn row_agreed(
     left: Option<Sort>,
     rest: &[(Op, Expr)],
 ) -> Option<Option<Sort>>
-    ensures { result ≡ row_judged (named_at (placed declarations.now)) left (placed_operands rest.now) }
+    ensures { result ≡ row_judged (named_at (placed declarations.now)) left
+        (placed_operands rest.now) }
 {
     let mut left = left;
     for operand in rest {
@@ -87,7 +89,8 @@ fn row_agreed(
 /// Whether there are as many arguments as parameters, each of its parameter's sort.
 #[cycle(agrees)]
 fn args_agree(declarations: &Declarations<'_>, params: &[Param], args: &[Expr]) -> bool
-    ensures { result ≡ call_is_agreed (named_at (placed declarations.now)) (Some (map placed_param params.now)) (placed_exprs args.now) }
+    ensures { result ≡ call_is_agreed (named_at (placed declarations.now))
+        (Some (map placed_param params.now)) (placed_exprs args.now) }
 {
     let mut left = params;
     for arg in args {
@@ -106,7 +109,8 @@ fn args_agree(declarations: &Declarations<'_>, params: &[Param], args: &[Expr]) 
 /// parameter's sort.
 #[cycle(agrees)]
 pub fn call_agrees(declarations: &Declarations<'_>, place: Place, args: &[Expr]) -> bool
-    ensures { let named = named_at (placed declarations.now) in result ≡ call_is_agreed named (params_asked (named place)) (placed_exprs args.now) }
+    ensures { let named = named_at (placed declarations.now) in result ≡
+        call_is_agreed named (params_asked (named place)) (placed_exprs args.now) }
 {
     match asked(declarations, place) {
         None => true,

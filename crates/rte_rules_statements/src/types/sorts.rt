@@ -33,7 +33,8 @@ pub fn alike(left: Option<Sort>, right: Option<Sort>) -> bool
 /// The sort of a name that stands for no array: that of its word, if it stands for one. `None` in
 /// whole where it stands for an array.
 pub fn word(declarations: &Declarations<'_>, place: Place) -> Option<Option<Sort>>
-    ensures { let thing = named_at (placed declarations.now) place in result ≡ (if names_array thing then None else Some (sort_of_word thing)) }
+    ensures { let thing = named_at (placed declarations.now) place in result ≡
+        (if names_array thing then None else Some (sort_of_word thing)) }
 {
     match declarations.named(place) {
         Some(Thing::Constant | Thing::Loop) => Some(Some(Sort::Number)),
@@ -56,7 +57,8 @@ pub fn word(declarations: &Declarations<'_>, place: Place) -> Option<Option<Sort
 /// The sort of the elements of a name that stands for an array, else `None`.
 pub fn element_sort(declarations: &Declarations<'_>, place: Place) -> Option<Sort>
     ensures sort { result ≡ sort_of_element (named_at (placed declarations.now) place) }
-    ensures is_array { IsTrue (names_array (named_at (placed declarations.now) place)) ↔ IsSome result }
+    ensures is_array { IsTrue (names_array (named_at (placed declarations.now) place)) ↔ IsSome
+        result }
 {
     match declarations.named(place)? {
         Thing::Variable {

@@ -78,7 +78,8 @@ pub fn stmt_agrees(declarations: &Declarations<'_>, s: &Stmt) -> bool
 
 /// Whether the expression of a function's result agrees and has the sort of the result's type.
 pub fn answer_agrees(declarations: &Declarations<'_>, kind: &Scalar, e: &Expr) -> bool
-    ensures { result ≡ has_the_sort (named_at (placed declarations.now)) (sort_of_scalar (placed_scalar kind.now)) (placed_expr e.now) }
+    ensures { result ≡ has_the_sort (named_at (placed declarations.now))
+        (sort_of_scalar (placed_scalar kind.now)) (placed_expr e.now) }
 {
     is_of(declarations, sort_of(kind), e)
 }

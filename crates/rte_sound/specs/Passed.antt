@@ -1,0 +1,2 @@
+-- That names stand apart, passed on to the laws above.
+pub use Rattle.rte_ruled.specs.Ruled.{NamesApart}
