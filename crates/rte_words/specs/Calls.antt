@@ -1,5 +1,6 @@
 -- What words ask for.
 use Rattle.std.specs.Prelude.{ℕ, List}
+use Rattle.rte_words.specs.declared.stop.Stop.{Stop}
 
 -- a command with the names of its files, and with an overhead in ticks where it has one
 pub data Call : Type 0 where
@@ -11,6 +12,9 @@ pub data Call : Type 0 where
   print : (program : List ℕ) → Call
   run : (image script : List ℕ) → Call
   migrate : (image target : List ℕ) → Call
+  asm : (text image : List ℕ) → Call
+  dis : (image text : List ℕ) → Call
+  watch : (image script : List ℕ) (stop : Stop) → Call
 
 -- the overhead, 0 where a call has none
 abbrev pub over_of : Call → ℕ

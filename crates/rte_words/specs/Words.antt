@@ -2,9 +2,11 @@
 use Rattle.std.specs.Prelude.{◌≡◌, ℕ, ◌+◌, All, IsTrue, Bool, false, not, ◌==◌, List, [], ◌∷◌, Option, Some, None, if◌then◌else◌, map, option_map, find, String, string_bytes, bytes_eq, codes, decimal}
 use Rattle.std.specs.List.{range_with_len}
 use Rattle.std.specs.Global.{Global}
-use Rattle.rte_words.specs.Calls.{Call, go, check, compile, json, slack, print, run, migrate}
+use Rattle.rte_words.specs.Calls.{Call, go, check, compile, json, slack, print, run, migrate, asm, dis, watch}
 use Rattle.rte_words.specs.declared.command.Command.{Command}
 use Rattle.rte_words.specs.declared.command.Command.TheVariants as command
+use Rattle.rte_words.specs.declared.stop.Stop.{Stop}
+use Rattle.rte_words.specs.declared.stop.Stop.TheVariants.{Tick, Effect}
 
 -- not empty, and no dash at its front
 abbrev pub is_word : List ℕ → Bool
@@ -18,6 +20,14 @@ number_up_to most word = find (λ number. bytes_eq word (decimal number)) (range
 -- the overhead whose decimal text the word is: a number from 0 to 1000
 abbrev pub overhead_of : List ℕ → Option ℕ
 overhead_of word = number_up_to 1000 word
+
+-- where the word says to stop: before a tick up to 1000000000, or, behind @, after the first effect
+-- at an address up to 65534
+abbrev pub stop_of : List ℕ → Option Stop
+stop_of [] = None
+stop_of (first ∷ rest) =
+    if first == 64 then option_map Effect (number_up_to 65534 rest)
+    else option_map Tick (number_up_to 1000000000 (first ∷ rest))
 
 -- the overhead that the last words of a row give: 0 where there are none
 abbrev pub last_overhead : List (List ℕ) → Option ℕ
@@ -58,6 +68,18 @@ abbrev pub migrate_row : List (List ℕ) → Option Call
 migrate_row (image ∷ target ∷ []) = Some (migrate image target)
 migrate_row words = None
 
+abbrev pub asm_row : List (List ℕ) → Option Call
+asm_row (text ∷ image ∷ []) = Some (asm text image)
+asm_row words = None
+
+abbrev pub dis_row : List (List ℕ) → Option Call
+dis_row (image ∷ text ∷ []) = Some (dis image text)
+dis_row words = None
+
+abbrev pub watch_row : List (List ℕ) → Option Call
+watch_row (image ∷ script ∷ stop ∷ []) = option_map (watch image script) (stop_of stop)
+watch_row words = None
+
 -- the table: the word of each command, and its row
 abbrev pub row_of : List (List ℕ) → Option Call
 row_of [] = None
@@ -69,7 +91,10 @@ row_of (word ∷ words) =
     (if bytes_eq word (codes "slack") then slack_row words else
     (if bytes_eq word (codes "print") then print_row words else
     (if bytes_eq word (codes "run") then run_row words else
-    (if bytes_eq word (codes "migrate") then migrate_row words else None)))))))
+    (if bytes_eq word (codes "migrate") then migrate_row words else
+    (if bytes_eq word (codes "asm") then asm_row words else
+    (if bytes_eq word (codes "dis") then dis_row words else
+    (if bytes_eq word (codes "watch") then watch_row words else None))))))))))
 
 abbrev pub IsWord : String Global → Type 0
 IsWord word = IsTrue (is_word (string_bytes word))
@@ -89,3 +114,6 @@ call_of (command.Slack program overhead) = slack program.now overhead
 call_of (command.Print program) = print program.now
 call_of (command.Run image script) = run image.now script.now
 call_of (command.Migrate image target) = migrate image.now target.now
+call_of (command.Asm text image) = asm text.now image.now
+call_of (command.Dis image text) = dis image.now text.now
+call_of (command.Watch image script stop) = watch image.now script.now stop

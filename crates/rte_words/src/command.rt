@@ -1,5 +1,7 @@
 //! Commands.
 
+use crate::stop::Stop;
+
 /// A command, with the names of the files that its words give, and its overhead in ticks, 0 where
 /// no word gives one.
 #[derive(Clone, Copy, Debug, PartialEq, Eq)]
@@ -45,5 +47,21 @@ pub enum Command<'a> {
     Migrate {
         image: &'a str,
         target: &'a str,
+    },
+    /// Stores the image that a text tells.
+    Asm {
+        text: &'a str,
+        image: &'a str,
+    },
+    /// Stores the text of an image.
+    Dis {
+        image: &'a str,
+        text: &'a str,
+    },
+    /// Tells the state of the machine where the run of a stored image over a script stops.
+    Watch {
+        image: &'a str,
+        script: &'a str,
+        stop: Stop,
     },
 }

@@ -9,9 +9,11 @@ mod command;
 pub mod law;
 mod reading;
 mod rows;
+mod stop;
 
 pub use command::Command;
 pub use reading::read_words;
+pub use stop::Stop;
 
 #[cfg(test)]
 mod tests;

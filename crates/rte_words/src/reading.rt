@@ -28,7 +28,9 @@ fn are_words(words: &[String]) -> bool
 ///
 /// - `go P I S`, `check P`, `compile P I`, `json P` or `slack P`, each also with an overhead K
 ///   behind it, from 0 to 1000 in decimal and without leading zeros, and 0 where it is left out;
-/// - `print P`, `run I S` or `migrate I J`.
+/// - `print P`, `run I S`, `migrate I J`, `asm A I` or `dis I A`;
+/// - `watch I S T` or `watch I S @A`, with a tick T from 0 to 1,000,000,000 or an address A from 0 to
+///   65534, in decimal and without leading zeros.
 ///
 /// `None` exactly where they are in no row, or a word is empty or begins with `-`.
 pub fn read_words(words: &[String]) -> Option<Command<'_>>

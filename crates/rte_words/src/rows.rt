@@ -1,14 +1,21 @@
 //! The rows of the table of commands.
 
-ghost use Rattle.std.specs.Prelude.{◌≡◌, ◌≤◌, map, option_map, string_bytes, IfSome};
+ghost use Rattle.std.specs.Prelude.{◌≡◌, ◌≤◌, ◌<◌, ◌^◌, map, option_map, string_bytes, IfSome};
 ghost use Rattle.rte_words.specs.Calls.{over_of};
-ghost use Rattle.rte_words.specs.Words.{overhead_of, last_overhead, go_row, check_row, compile_row, json_row, slack_row, print_row, run_row, migrate_row, row_of, call_of};
+ghost use Rattle.rte_words.specs.Words.{number_up_to, overhead_of, last_overhead, go_row, check_row, compile_row, json_row, slack_row, print_row, run_row, migrate_row, asm_row, dis_row, watch_row, stop_of, row_of, call_of};
 
 use crate::command::Command;
+use crate::stop::Stop;
 use rte_fields::unsigned;
 
 /// The greatest overhead, in ticks.
 const GREATEST_OVERHEAD: u64 = 1_000;
+
+/// The greatest tick at which a run can stop.
+const GREATEST_TICK: u64 = 1_000_000_000;
+
+/// The greatest address of an instruction.
+const GREATEST_ADDRESS: u64 = 65_534;
 
 /// The overhead that the word spells.
 fn overhead(word: &String) -> Option<u16>
@@ -162,6 +169,98 @@ fn migrate(words: &[String]) -> Option<Command<'_>>
     })
 }
 
+/// What `asm` is with these words behind it.
+fn asm(words: &[String]) -> Option<Command<'_>>
+    ensures row { option_map call_of result ≡ asm_row (map string_bytes words.now) }
+    ensures over { IfSome result (λ c. over_of (call_of c) ≤ 1000) }
+{
+    let [text, image] = words else {
+        return None;
+    };
+    Some(Command::Asm {
+        text: text.as_str(),
+        image: image.as_str(),
+    })
+}
+
+/// What `dis` is with these words behind it.
+fn dis(words: &[String]) -> Option<Command<'_>>
+    ensures row { option_map call_of result ≡ dis_row (map string_bytes words.now) }
+    ensures over { IfSome result (λ c. over_of (call_of c) ≤ 1000) }
+{
+    let [image, text] = words else {
+        return None;
+    };
+    Some(Command::Dis {
+        image: image.as_str(),
+        text: text.as_str(),
+    })
+}
+
+/// The number that the word spells, if it is at most `most`.
+fn numeral(word: &[u8], most: u64) -> Option<u64>
+    requires { most < 2 ^ 32 }
+    ensures is { result ≡ number_up_to most word.now }
+    ensures few { IfSome result (λ number. number ≤ most) }
+{
+    match unsigned(word, most) {
+        Some(number) => Some(number),
+        None => None,
+    }
+}
+
+/// Before which tick the word says to stop.
+fn before_tick(word: &[u8]) -> Option<Stop>
+    ensures { result ≡ option_map Stop.Tick (number_up_to 1000000000 word.now) }
+{
+    match numeral(word, GREATEST_TICK) {
+        Some(tick) => Some(Stop::Tick(tick)),
+        None => None,
+    }
+}
+
+/// After whose effect the word says to stop.
+fn after_effect(word: &[u8]) -> Option<Stop>
+    ensures { result ≡ option_map Stop.Effect (number_up_to 65534 word.now) }
+{
+    match numeral(word, GREATEST_ADDRESS) {
+        Some(address) => Some(Stop::Effect(address as u32)),
+        None => None,
+    }
+}
+
+/// Where the word says to stop.
+fn stop(word: &[u8]) -> Option<Stop>
+    ensures { result ≡ stop_of word.now }
+{
+    match word {
+        [] => None,
+        [first, rest @ ..] => if *first == b'@' {
+            after_effect(rest)
+        } else {
+            before_tick(word)
+        },
+    }
+}
+
+/// What `watch` is with these words behind it.
+fn watch(words: &[String]) -> Option<Command<'_>>
+    ensures row { option_map call_of result ≡ watch_row (map string_bytes words.now) }
+    ensures over { IfSome result (λ c. over_of (call_of c) ≤ 1000) }
+{
+    let [image, script, word] = words else {
+        return None;
+    };
+    let Some(stop) = stop(word.as_bytes()) else {
+        return None;
+    };
+    Some(Command::Watch {
+        image: image.as_str(),
+        script: script.as_str(),
+        stop,
+    })
+}
+
 /// The row of the table that the words are in, if any.
 pub fn row(words: &[String]) -> Option<Command<'_>>
     ensures row { option_map call_of result ≡ row_of (map string_bytes words.now) }
@@ -187,6 +286,12 @@ pub fn row(words: &[String]) -> Option<Command<'_>>
         run(rest)
     } else if word == "migrate" {
         migrate(rest)
+    } else if word == "asm" {
+        asm(rest)
+    } else if word == "dis" {
+        dis(rest)
+    } else if word == "watch" {
+        watch(rest)
     } else {
         None
     }

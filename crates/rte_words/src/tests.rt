@@ -1,6 +1,6 @@
 //! Rows of words, with the commands that they are.
 
-use crate::{Command, read_words};
+use crate::{Command, Stop, read_words};
 use rte_tree::Text;
 use std::alloc::Global;
 use std::test::Fail;
@@ -24,6 +24,19 @@ fn line(alloc: Global, name: &str, files: &[&str], overhead: Option<u16>) -> Res
     if let Some(overhead) = overhead {
         line.extend(format!(in alloc; " {overhead}")?.as_bytes())?;
     }
+    Ok(line)
+}
+
+/// What a row of `watch` is, with its stop.
+fn told_stop(
+    alloc: Global,
+    image: &str,
+    script: &str,
+    kind: &str,
+    number: u64,
+) -> Result<Text, Fail> {
+    let mut line = line(alloc, "Watch", &[image, script, kind], None)?;
+    line.extend(format!(in alloc; " {number}")?.as_bytes())?;
     Ok(line)
 }
 
@@ -66,6 +79,20 @@ fn told(alloc: Global, row: &str) -> Result<Text, Fail> {
         Some(Command::Migrate { image, target }) => {
             line(alloc, "Migrate", &[image, target], None)
         }
+        Some(Command::Asm { text, image }) => line(alloc, "Asm", &[text, image], None),
+        Some(Command::Dis { image, text }) => line(alloc, "Dis", &[image, text], None),
+        Some(
+            Command::Watch {
+                image,
+                script,
+                stop,
+            },
+        ) => match stop {
+            Stop::Tick(tick) => told_stop(alloc, image, script, "tick", tick),
+            Stop::Effect(address) => {
+                told_stop(alloc, image, script, "effect", u64::from(address))
+            }
+        },
         None => line(alloc, "Usage", &[], None),
     }
 }
@@ -105,6 +132,21 @@ fn rows_and_their_commands(rt: HostRuntime) -> Result<(), Fail> {
         ("run i s 1", "Usage"),
         ("migrate i j", "Migrate i j"),
         ("migrate i", "Usage"),
+        ("asm a i", "Asm a i"),
+        ("asm a", "Usage"),
+        ("dis i a", "Dis i a"),
+        ("dis i a 1", "Usage"),
+        ("watch i s 0", "Watch i s tick 0"),
+        ("watch i s 1000000000", "Watch i s tick 1000000000"),
+        ("watch i s 1000000001", "Usage"),
+        ("watch i s 05", "Usage"),
+        ("watch i s @0", "Watch i s effect 0"),
+        ("watch i s @65534", "Watch i s effect 65534"),
+        ("watch i s @65535", "Usage"),
+        ("watch i s @01", "Usage"),
+        ("watch i s @", "Usage"),
+        ("watch i s @@1", "Usage"),
+        ("watch i s", "Usage"),
         ("check", "Usage"),
         ("check ", "Usage"),
         ("check p ", "Usage"),
