@@ -4,15 +4,15 @@ ghost use Rattle.std.specs.Prelude.{◌≤◌};
 ghost use Rattle.rte_io.specs.Outside.{AllStay, NoneFell};
 ghost use Rattle.rte_words.specs.Calls.{over_of};
 ghost use Rattle.rte_words.specs.Words.{call_of};
-ghost use Rattle.rte_prepare.specs.Prepared.{Prepares};
+ghost use Rattle.rte_contents.specs.Prepared.{Prepares};
 
-use crate::going::prepare_go;
-use crate::images::prepare_migrate;
-use crate::programs::{Format, prepare_compile, prepare_print, prepare_report, prepare_slack};
-use crate::running::prepare_run;
-use crate::unready::Unready;
 use rte_answers::Act;
+use rte_contents::Unready;
 use rte_io::Files;
+use rte_prepare_images::{prepare_migrate, prepare_run};
+use rte_prepare_programs::{
+    Format, prepare_compile, prepare_go, prepare_print, prepare_report, prepare_slack,
+};
 use rte_words::Command;
 use std::alloc::Global;
 

@@ -1,0 +1,5 @@
+pub mod Prepared
+pub mod Contents
+pub mod Acting
+pub mod Runnable
+pub mod Scripted

@@ -1,4 +1,0 @@
-pub mod Acts
-pub mod Ready
-pub mod Refused
-pub mod Read
