@@ -4,10 +4,12 @@ use Rattle.rte_image.specs.Named.{NamedImage}
 use Rattle.rte_image.specs.declared.raw.RawImage.{RawImage}
 use Rattle.rte_report.specs.Report.{report_text}
 use Rattle.rte_report.specs.Json.{report_json}
-use Rattle.rte_words.specs.Calls.{Call, go, check, compile, json, slack, print, run, migrate}
+use Rattle.rte_words.specs.Calls.{Call, go, check, compile, json, slack, print, run, migrate, asm, dis, watch}
 use Rattle.rte_commands.specs.Source.{IsTimelyText}
 use Rattle.rte_commands.specs.Due.{Outcome, IsReportDue, IsPrintDue, IsCompileDue, IsGoDue, IsImageFile, IsRunDue, IsMigrateDue}
 use Rattle.rte_spare.specs.Due.{IsSlackDue}
+use Rattle.rte_asm_due.specs.Due.{IsAsmDue, IsDisDue}
+use Rattle.rte_stop.specs.Due.{IsWatchDue}
 
 -- what each name holds, if anything
 abbrev pub Held : Type 0
@@ -15,7 +17,7 @@ Held = List ℕ → Option (List ℕ)
 
 -- ---- which files
 
--- the file that is read first: that of the program or of the image
+-- the file that is read first: that of the program, of the image or of its text
 abbrev pub source_of : Call → List ℕ
 source_of (go program image script over) = program
 source_of (check program over) = program
@@ -25,11 +27,15 @@ source_of (slack program over) = program
 source_of (print program) = program
 source_of (run image script) = image
 source_of (migrate image target) = image
+source_of (asm text image) = text
+source_of (dis image text) = image
+source_of (watch image script stop) = image
 
 -- the file of the script, if one is read
 abbrev pub script_of : Call → Option (List ℕ)
 script_of (go program image script over) = Some script
 script_of (run image script) = Some script
+script_of (watch image script stop) = Some script
 script_of call = None
 
 -- the file that is written, if any is
@@ -37,6 +43,8 @@ abbrev pub target_of : Call → Option (List ℕ)
 target_of (go program image script over) = Some image
 target_of (compile program image over) = Some image
 target_of (migrate image target) = Some target
+target_of (asm text image) = Some image
+target_of (dis image text) = Some text
 target_of call = None
 
 -- ---- what is due
@@ -50,9 +58,13 @@ IsDue (slack program over) held outcome = IsSomeAnd (held program) (λ text. IsS
 IsDue (print program) held outcome = IsSomeAnd (held program) (λ text. IsPrintDue text outcome)
 IsDue (run image script) held outcome = IsRunDue (held image) (held script) outcome
 IsDue (migrate image target) held outcome = IsSomeAnd (held image) (λ bytes. IsMigrateDue bytes outcome)
+IsDue (asm text image) held outcome = IsSomeAnd (held text) (λ lines. IsAsmDue lines outcome)
+IsDue (dis image text) held outcome = IsSomeAnd (held image) (λ bytes. IsDisDue bytes outcome)
+IsDue (watch image script stop) held outcome = IsWatchDue stop (held image) (held script) outcome
 
 -- the script is read: the program is timely, or the image is a valid one
 abbrev pub ReachesScript : Call → Held → Type 0
 ReachesScript (go program image script over) held = IsSomeAnd (held program) (λ text. (n : NamedImage) × IsTimelyText over text n)
 ReachesScript (run image script) held = IsSomeAnd (held image) (λ bytes. (raw : RawImage) × IsImageFile bytes raw)
+ReachesScript (watch image script stop) held = IsSomeAnd (held image) (λ bytes. (raw : RawImage) × IsImageFile bytes raw)
 ReachesScript call held = ⊥

@@ -6,7 +6,8 @@ use Rattle.rte_image_reading.specs.Answer.{Holds, HasFault}
 use Rattle.rte_image_text.specs.Text.{text_of}
 use Rattle.rte_valid.specs.Valid.{Shown, IsValid, fault_of}
 use Rattle.rte_commands.specs.Due.{Outcome, told, stored, image_fault_line, valid_fault_line}
-use Rattle.rte_asm_due.specs.Texts.{IsTextOf, IsFaultOf}
+use Rattle.rte_asm_sections.specs.Faults.{IsFaultOf}
+use Rattle.rte_asm_due.specs.Texts.{IsTextOf}
 
 -- nothing is put, and these bytes are stored
 abbrev pub keeps : List ℕ → Outcome

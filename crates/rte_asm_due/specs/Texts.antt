@@ -1,36 +1,21 @@
--- The text of an image, as a file holds it, and the fault of a text that is none.
-use Rattle.std.specs.Prelude.{◌≡◌, ◌≤◌, ◌<◌, ◌⊎◌, ℕ, List, length, Err}
+-- The text of an image, as a file holds it.
+use Rattle.std.specs.Prelude.{◌≡◌, ◌≤◌, ℕ, true, List, length}
+use Rattle.rte_image.specs.Bytes.{Second}
 use Rattle.rte_image.specs.Raw.{named_of}
 use Rattle.rte_image.specs.declared.raw.RawImage.{RawImage}
-use Rattle.rte_image_reading.specs.Answer.{Holds}
+use Rattle.rte_image_reading.specs.Answer.{parts_of}
+use Rattle.rte_image_reading.specs.File.{image_format, image_with}
 use Rattle.rte_image_text.specs.Text.{text_of}
-use Rattle.rte_line_fields.specs.Front.{fault}
-use Rattle.rte_asm_sections.specs.Sections.{text_read, line_at}
-use Rattle.rte_commands.specs.Due.{stored}
+use Rattle.rte_asm_sections.specs.Faults.{longest_text}
 
--- how many bytes the text of an image has at most
-abbrev pub longest_text : ℕ
-longest_text = 8388608
+-- each monitor and each process of the image has a name, and each field is in the range that it
+-- has in bytes
+pub record HasBytes (raw : RawImage) : Type 0 where
+  pub whole : named_of raw ≡ image_with (parts_of raw)
+  pub in_range : image_format.is (Second, parts_of raw) ≡ true
 
--- the text is that of the image, which has bytes that hold it
+-- the text is that of the image, which has bytes
 pub record IsTextOf (text : List ℕ) (raw : RawImage) : Type 0 where
   pub short : length text ≤ longest_text
   pub is : text ≡ text_of (named_of raw)
-  pub held : Holds (stored (named_of raw)) raw
-
--- A3, on line 0: the text is too long
-pub record IsLong (text : List ℕ) (number line : ℕ) : Type 0 where
-  pub long : longest_text < length text
-  pub number_is : number ≡ 3
-  pub nowhere : line ≡ 0
-
--- A1 and A2: the first line that is none of its place, and the least number of its faults
-pub record HasBadLine (text : List ℕ) (number line : ℕ) : Type 0 where
-  pub short : length text ≤ longest_text
-  pub left : ℕ
-  pub is_read : text_read text ≡ Err (fault number left)
-  pub place : line ≡ line_at text left
-
--- the fault of a text that is that of no image
-abbrev pub IsFaultOf : (text : List ℕ) → (number line : ℕ) → Type 0
-IsFaultOf text number line = IsLong text number line ⊎ HasBadLine text number line
+  pub bytes : HasBytes raw

@@ -12,6 +12,8 @@ mod scripts;
 mod unready;
 
 pub use acts::put;
-pub use reading::{Content, LONGEST_IMAGE, LONGEST_PROGRAM, LONGEST_SCRIPT, read};
+pub use reading::{
+    Content, LONGEST_IMAGE, LONGEST_IMAGE_TEXT, LONGEST_PROGRAM, LONGEST_SCRIPT, read,
+};
 pub use scripts::{judge_script, refuse_script};
 pub use unready::Unready;

@@ -17,6 +17,9 @@ pub const LONGEST_SCRIPT: usize = 16_777_216;
 /// How many bytes an image has at most.
 pub const LONGEST_IMAGE: usize = 8_388_608;
 
+/// How many bytes the text of an image has at most.
+pub const LONGEST_IMAGE_TEXT: usize = 8_388_608;
+
 /// What a file holds.
 #[derive(Drop)]
 pub enum Content {

@@ -29,7 +29,7 @@ fn read(alloc: Global, bytes: &[u8]) -> Result<RawImage, ImageFault>
 }
 
 /// The image, where it is valid.
-fn judge(alloc: Global, raw: RawImage) -> Result<RawImage, FileFault>
+pub(crate) fn judge(alloc: Global, raw: RawImage) -> Result<RawImage, FileFault>
     requires { HasRanges raw }
     ensures { Judges raw result }
 {

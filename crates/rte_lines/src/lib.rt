@@ -1,8 +1,8 @@
-//! The lines that refusals put: of a text, of an image, of a script.
+//! The lines that refusals put: of a text, of an image or its text, of a script.
 //!
-//! `rte_commands` says which line is that of which fault. The calls promise exactly these lines.
+//! `rte_commands` and `rte_asm_due` say which line is that of which fault. The calls promise exactly these lines.
 #![tactic(auto)]
 
 mod lines;
 
-pub use lines::{fault_line, image_fault_line, script_fault_line, valid_fault_line};
+pub use lines::{fault_line, image_fault_line, script_fault_line, text_fault_line, valid_fault_line};

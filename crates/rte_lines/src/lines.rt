@@ -1,6 +1,7 @@
 //! Lines.
 
 ghost use Rattle.std.specs.Prelude.{◌≡◌, ◌++◌, decimal, IfOk, OnOk};
+ghost use Rattle.rte_asm_due.specs.Due as asm;
 ghost use Rattle.rte_commands.specs.Due as due;
 ghost use Rattle.rte_commands.specs.Script as script;
 ghost use Rattle.rte_commands.specs.Source as source;
@@ -40,6 +41,17 @@ pub fn image_fault_line(alloc: Global, number: u8, offset: u32) -> Result<Text, 
     let mut text = Text::new(alloc);
     add_number(&mut text, "I", u64::from(number))?;
     add_number(&mut text, " ", u64::from(offset))?;
+    text.extend(b"\n")?;
+    Ok(text)
+}
+
+/// The line of a fault of a text that is that of no image: its number, and the line from 1 on, or 0.
+pub fn text_fault_line(alloc: Global, number: u8, line: u32) -> Result<Text, AllocError>
+    ensures { IfOk result (λ text. text ≡ asm.text_fault_line number line) }
+{
+    let mut text = Text::new(alloc);
+    add_number(&mut text, "A", u64::from(number))?;
+    add_number(&mut text, " ", u64::from(line))?;
     text.extend(b"\n")?;
     Ok(text)
 }

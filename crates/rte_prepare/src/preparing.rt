@@ -9,7 +9,9 @@ ghost use Rattle.rte_contents.specs.Prepared.{Prepares};
 use rte_answers::Act;
 use rte_contents::Unready;
 use rte_io::Files;
-use rte_prepare_images::{prepare_migrate, prepare_run};
+use rte_prepare_images::{
+    prepare_asm, prepare_dis, prepare_migrate, prepare_run, prepare_watch,
+};
 use rte_prepare_programs::{
     Format, prepare_compile, prepare_go, prepare_print, prepare_report, prepare_slack,
 };
@@ -58,5 +60,12 @@ pub fn prepare<'a, F: Files>(
         Command::Print { program } => prepare_print(alloc, program, files),
         Command::Run { image, script } => prepare_run(alloc, image, script, files),
         Command::Migrate { image, target } => prepare_migrate(alloc, image, target, files),
+        Command::Asm { text, image } => prepare_asm(alloc, text, image, files),
+        Command::Dis { image, text } => prepare_dis(alloc, image, text, files),
+        Command::Watch {
+            image,
+            script,
+            stop,
+        } => prepare_watch(alloc, image, script, stop, files),
     }
 }

@@ -15,7 +15,7 @@ use Rattle.rte_answers.specs.declared.act.Act.{Act}
 use Rattle.rte_answers.specs.declared.status.Status.TheVariants as status
 use Rattle.rte_answers.specs.Acts.{outcome_of}
 use Rattle.rte_contents.specs.Acting.{puts}
-use Rattle.rte_prepare_images.specs.Acting as acting
+use Rattle.rte_asm_due.specs.Due.{keeps}
 use Rattle.rte_contents.proofs.Acts.{outcome_of_puts}
 
 -- ---- images
@@ -43,7 +43,7 @@ pub refused_line : (line : List ℕ) (bytes : List ℕ) → IsImageRefused bytes
 refused_line line bytes is = subst (λ (o : Outcome). IsImageRefused bytes o) (sym (outcome_of_puts status.Image line)) is
 
 pub migrated_image : {E : Type 0} (raw : RawImage) (P : List ℕ → Type 0) (made : Result Act E) → ((bytes : List ℕ) → P bytes → IsImageFile bytes raw)
-    → IfOk made (λ act. outcome_of act ≡ acting.migrated raw) → IfOk made (λ act. (bytes : List ℕ) → P bytes → IsMigrateDue bytes (outcome_of act))
+    → IfOk made (λ act. outcome_of act ≡ keeps (stored (named_of raw))) → IfOk made (λ act. (bytes : List ℕ) → P bytes → IsMigrateDue bytes (outcome_of act))
 migrated_image raw P (Ok act) loads is = λ bytes p. migrated raw (loads bytes p) is
 migrated_image raw P (Err e) loads is = tt
 

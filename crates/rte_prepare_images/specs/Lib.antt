@@ -1,2 +1,3 @@
-pub mod Acting
 pub mod Scripted
+pub mod Held
+pub mod Watched

@@ -2,13 +2,15 @@
 
 ghost use Rattle.std.specs.Prelude.{◌≡◌, ℕ, List, Some, Err, IfOk};
 ghost use Rattle.rte_answers.specs.Acts.{outcome_of};
-ghost use Rattle.rte_commands.specs.Due.{IsImageRefused, IsMigrateDue, told};
+ghost use Rattle.rte_asm_due.specs.Due.{keeps};
+ghost use Rattle.rte_commands.specs.Due.{IsImageRefused, IsMigrateDue, stored, told};
+ghost use Rattle.rte_image.specs.InRange.{IsInRange};
+ghost use Rattle.rte_image.specs.Raw.{named_of};
 ghost use Rattle.rte_image_file.specs.Loading.{Loads};
 ghost use Rattle.rte_image_reading.specs.File.{longest};
 ghost use Rattle.rte_io.specs.Outside.{AllStay, NoneFell};
 ghost use Rattle.rte_words.specs.Calls as call;
 ghost use Rattle.rte_contents.specs.Acting.{CanBeDone, IsQuiet};
-ghost use Rattle.rte_prepare_images.specs.Acting.{migrated};
 ghost use Rattle.rte_contents.specs.Contents.{IsContent};
 ghost use Rattle.rte_contents.specs.Prepared.{Prepares};
 ghost use Rattle.rte_contents.specs.Runnable.{IsRunnable};
@@ -78,9 +80,9 @@ pub fn refuse_image<'a>(alloc: Global, fault: FileFault) -> Result<Act<'a>, Allo
 }
 
 /// The act that stores an image under the name `target`.
-fn store_image<'a>(alloc: Global, raw: &RawImage, target: &'a str) -> Result<Act<'a>, AllocError>
-    requires { IsRunnable raw.now }
-    ensures outcome { IfOk result (λ act. outcome_of act ≡ migrated raw.now) }
+pub fn store_image<'a>(alloc: Global, raw: &RawImage, target: &'a str) -> Result<Act<'a>, AllocError>
+    requires { IsInRange (named_of raw.now) }
+    ensures outcome { IfOk result (λ act. outcome_of act ≡ keeps (stored (named_of raw.now))) }
     ensures done { IfOk result (CanBeDone (Some target.now)) }
 {
     let bytes = write_image(alloc, raw)?;

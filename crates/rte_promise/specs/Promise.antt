@@ -15,11 +15,16 @@ use Rattle.rte_report.specs.Report.{report_text}
 use Rattle.rte_report.specs.Json.{report_json}
 use Rattle.rte_script.specs.declared.script.ScriptLine.{ScriptLine}
 use Rattle.rte_script.specs.Scripts.{IsScript}
-use Rattle.rte_words.specs.Calls.{Call, go, check, compile, json, slack, print, run, migrate}
+use Rattle.rte_words.specs.Calls.{Call, go, check, compile, json, slack, print, run, migrate, asm, dis, watch}
 use Rattle.rte_commands.specs.Source.{IsWritten, Style, report_of}
 use Rattle.rte_commands.specs.Due.{IsImageFile, stored, log}
 use Rattle.rte_commands.specs.Runs.{KeepsItsWord, IsAccepted, IsUnsolved, IsDone}
 use Rattle.rte_spare.specs.Lines.{IsSlackText}
+use Rattle.rte_image_reading.specs.Answer.{Holds}
+use Rattle.rte_image_text.specs.Text.{text_of}
+use Rattle.rte_asm_due.specs.Texts.{IsTextOf}
+use Rattle.rte_stop.specs.Due.{IsStopText}
+use Rattle.rte_words.specs.declared.stop.Stop.{Stop}
 
 -- `go`: a program and a script are accepted, the image is stored, the report and the log are put
 pub record HasGone (over : ℕ) (program image script : List ℕ) (before now : Outside) : Type 0 where
@@ -88,6 +93,40 @@ pub record HasMigrated (image target : List ℕ) (before now : Outside) : Type 0
   pub valid : IsImageFile bytes raw
   pub is_stored : now.files.held target ≡ Some (stored (named_of raw))
 
+-- `asm`: a text is that of an image, which is valid, and the bytes that hold it are stored; every run
+-- of it over a script for its names is in time and size
+pub record HasAssembled (text image : List ℕ) (before now : Outside) : Type 0 where
+  pub lines : List ℕ
+  pub held : before.files.held text ≡ Some lines
+  pub raw : RawImage
+  pub told : IsTextOf lines raw
+  pub valid : IsImageFile (stored (named_of raw)) raw
+  pub is_stored : now.files.held image ≡ Some (stored (named_of raw))
+  pub keeps : KeepsItsWord raw.names (image_of raw)
+
+-- `dis`: the text of an image, valid or not, is stored
+pub record HasDisassembled (image text : List ℕ) (before now : Outside) : Type 0 where
+  pub bytes : List ℕ
+  pub held : before.files.held image ≡ Some bytes
+  pub raw : RawImage
+  pub is_image : Holds bytes raw
+  pub is_stored : now.files.held text ≡ Some (text_of (named_of raw))
+
+-- `watch`: an image is valid, and the state of its run over the script is put where it stops
+pub record HasWatched (image script : List ℕ) (stop : Stop) (before now : Outside) : Type 0 where
+  pub bytes : List ℕ
+  pub held : before.files.held image ≡ Some bytes
+  pub raw : RawImage
+  pub valid : IsImageFile bytes raw
+  pub text : List ℕ
+  pub script_held : before.files.held script ≡ Some text
+  pub lines : List ScriptLine
+  pub end : ℕ
+  pub script_written : IsScript raw.names text lines end
+  pub seen : List ℕ
+  pub told : IsStopText (named_of raw) lines end stop seen
+  pub put : Appends before.out.taken now.out.taken seen
+
 -- what a call that answers 0 has done
 abbrev pub HasDone : Call → (before now : Outside) → Type 0
 HasDone (go program image script over) before now = HasGone over program image script before now
@@ -98,6 +137,9 @@ HasDone (slack program over) before now = HasSpared over program before now
 HasDone (print program) before now = HasPrinted program before now
 HasDone (run image script) before now = HasRun image script before now
 HasDone (migrate image target) before now = HasMigrated image target before now
+HasDone (asm text image) before now = HasAssembled text image before now
+HasDone (dis image text) before now = HasDisassembled image text before now
+HasDone (watch image script stop) before now = HasWatched image script stop before now
 
 -- the call answers 3 exactly where the recurrence of some process of the program has no solution
 -- within its deadline; a call that asks no program for its time never does

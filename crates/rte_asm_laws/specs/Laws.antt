@@ -1,0 +1,35 @@
+-- The laws of texts and the images that they tell.
+use Rattle.std.specs.Prelude.{◌≡◌, ◌<◌, ◌≤◌, ℕ, All, List, length, Ok}
+use Rattle.rte_image.specs.Raw.{named_of}
+use Rattle.rte_image.specs.declared.raw.RawImage.{RawImage}
+use Rattle.rte_image_reading.specs.Answer.{Holds, parts_of}
+use Rattle.rte_image_reading.specs.File.{image_with}
+use Rattle.rte_image_reading.specs.Law.{AreBytes}
+use Rattle.rte_asm_sections.specs.Sections.{text_read}
+use Rattle.rte_asm_sections.specs.Faults.{IsFaultOf, longest_text}
+use Rattle.rte_asm_due.specs.Texts.{IsTextOf}
+use Rattle.rte_commands.specs.Due.{stored}
+
+-- an image that is read of a text is one whose text it is
+abbrev pub TextsReadAreOfImages : Type 0
+TextsReadAreOfImages =
+    (text : List ℕ) (raw : RawImage) → AreBytes text → length text ≤ longest_text → text_read text ≡ Ok (parts_of raw)
+    → named_of raw ≡ image_with (parts_of raw) → IsTextOf text raw
+
+-- a text is that of one image
+abbrev pub TextsAreOfOneImage : Type 0
+TextsAreOfOneImage = (text : List ℕ) (raw other : RawImage) → IsTextOf text raw → IsTextOf text other → named_of raw ≡ named_of other
+
+-- the bytes of an image that a text tells hold it
+abbrev pub ImagesToldAreHeld : Type 0
+ImagesToldAreHeld = (text : List ℕ) (raw : RawImage) → IsTextOf text raw → Holds (stored (named_of raw)) raw
+
+-- a text that is that of an image has no fault
+abbrev pub TextsOfImagesHaveNoFault : Type 0
+TextsOfImagesHaveNoFault = (text : List ℕ) (raw : RawImage) (number line : ℕ) → IsTextOf text raw → IsFaultOf text number line → ⊥
+
+-- a text has one fault
+abbrev pub TextsHaveOneFault : Type 0
+TextsHaveOneFault =
+    (text : List ℕ) (number other line there : ℕ) → IsFaultOf text number line → IsFaultOf text other there
+    → (number ≡ other) × (line ≡ there)

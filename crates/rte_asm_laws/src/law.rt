@@ -1,0 +1,48 @@
+//! The laws.
+
+ghost use Rattle.rte_asm_laws.specs.Laws.{
+  ImagesToldAreHeld,
+  TextsAreOfOneImage,
+  TextsHaveOneFault,
+  TextsOfImagesHaveNoFault,
+  TextsReadAreOfImages,
+};
+
+use rte_asm_reads::law::texts_written_are_read;
+use rte_asm_size::law::texts_hold_their_bytes;
+use rte_asm_sound::law::texts_read_are_written;
+use rte_image_sound::law::images_written_are_read;
+
+/// An image that is read of a text is the one whose text it is.
+pub fn texts_read_are_of_images()
+    ensures { TextsReadAreOfImages }
+{
+    texts_read_are_written();
+}
+
+/// A text is that of one image.
+pub fn texts_are_of_one_image()
+    ensures { TextsAreOfOneImage }
+{
+    texts_written_are_read();
+}
+
+/// The bytes of an image that a text tells hold it.
+pub fn images_told_are_held()
+    ensures { ImagesToldAreHeld }
+{
+    texts_hold_their_bytes();
+    images_written_are_read();
+}
+
+/// A text that is that of an image has no fault.
+pub fn texts_of_images_have_no_fault()
+    ensures { TextsOfImagesHaveNoFault }
+{
+    texts_written_are_read();
+}
+
+/// A text has one fault.
+pub fn texts_have_one_fault()
+    ensures { TextsHaveOneFault }
+{}

@@ -1,0 +1,3 @@
+pub mod Stops
+pub mod Text
+pub mod Due
