@@ -24,15 +24,20 @@ use Rattle.rte_lifted.specs.Compiled.{line_of as machine_line}
 use Rattle.rte_report.specs.Report.{report_text}
 use Rattle.rte_report.specs.Json.{report_json}
 use Rattle.rte_built.specs.Built.{IsBuilt, IsTimely}
-use Rattle.rte_words.specs.Calls.{Call, go, check, compile, json, slack, print, run, migrate}
+use Rattle.rte_words.specs.Calls.{Call, go, check, compile, json, slack, print, run, migrate, asm, dis, watch}
 use Rattle.rte_commands.specs.Source.{IsWritten, IsTimelyText, Style, report_of}
 use Rattle.rte_commands.specs.Script.{line_said, run_of}
 use Rattle.rte_commands.specs.Due.{Outcome, stored, log, IsRefused, faulty, late, IsReportDue, report_refused, report_timely, IsPrintDue, print_faulty, printed, IsCompileDue, compile_refused, compiled, IsGoDue, go_refused, go_bad_script, went, IsImageFile, IsImageRefused, misread, invalid, IsRunDue, run_refused, run_bad_script, ran, IsMigrateDue, migrate_refused, migrated}
 use Rattle.rte_spare.specs.Due.{IsSlackDue, slack_refused, slack_told}
+use Rattle.rte_asm_due.specs.Due.{IsAsmDue, asm_faulty, asm_invalid, assembled, IsDisDue, dis_misread, disassembled}
+use Rattle.rte_due_once.specs.Passed.{ImagesToldAreHeld}
+use Rattle.rte_image_text.specs.Text.{text_of as lines_told}
+use Rattle.rte_stop.specs.Due.{IsWatchDue, watch_refused, watch_bad_script, watched}
+use Rattle.rte_words.specs.declared.stop.Stop.{Stop}
 use Rattle.rte_commands.specs.Runs.{KeepsItsWord, BuiltImagesAreFaithful, IsAccepted}
 use Rattle.rte_answers.specs.Files.{IsDue, target_of}
 use Rattle.rte_answers.specs.Went.{IsWhole, Stores, Went}
-use Rattle.rte_promise.specs.Promise.{HasGone, HasCompiled, HasReported, HasSpared, ReadsBack, HasPrinted, HasRun, HasMigrated, HasDone}
+use Rattle.rte_promise.specs.Promise.{HasGone, HasCompiled, HasReported, HasSpared, ReadsBack, HasPrinted, HasRun, HasMigrated, HasAssembled, HasDisassembled, HasWatched, HasDone}
 
 status_of : (o p : Outcome) → o ≡ p → o.status ≡ p.status
 status_of o p same = ap (λ (x : Outcome). x.status) same
@@ -179,6 +184,51 @@ module _ (laws : Printing) (faithful : BuiltImagesAreFaithful) (before now : Out
       keeps = keeps limits safe suit bytes raw file;
     }
 
+    asm_whole : ImagesToldAreHeld → (text image : List ℕ) (lines : List ℕ) → before.files.held text ≡ Some lines → Stores o.image (Some image) before.files.held now.files.held
+        → IsAsmDue lines o → HasAssembled text image before now
+    asm_whole law text image lines is kept (asm_faulty number line fault same) = absurd (let four = status_of o _ same in omega (arith, four, zero))
+    asm_whole law text image lines is kept (asm_invalid raw fault tells first same) = absurd (let four = status_of o _ same in omega (arith, four, zero))
+    asm_whole law text image lines is kept (assembled raw tells valid same) =
+        let file : IsImageFile (stored (named_of raw)) raw = record { held = law lines raw tells; valid = valid } in
+        record {
+          lines = lines;
+          held = is;
+          raw = raw;
+          told = tells;
+          valid = file;
+          is_stored = stored_bytes o.image (stored (named_of raw)) image before.files.held now.files.held (image_is o _ same) kept;
+          keeps = keeps limits safe suit (stored (named_of raw)) raw file;
+        }
+
+  dis_whole : (image text : List ℕ) (bytes : List ℕ) → before.files.held image ≡ Some bytes → Stores o.image (Some text) before.files.held now.files.held
+      → IsDisDue bytes o → HasDisassembled image text before now
+  dis_whole image text bytes is kept (dis_misread number offset fault same) = absurd (let four = status_of o _ same in omega (arith, four, zero))
+  dis_whole image text bytes is kept (disassembled raw held same) = record {
+    bytes = bytes;
+    held = is;
+    raw = raw;
+    is_image = held;
+    is_stored = stored_bytes o.image (lines_told (named_of raw)) text before.files.held now.files.held (image_is o _ same) kept;
+  }
+
+  watch_whole : (stop : Stop) (image script : List ℕ) → IsWatchDue stop (before.files.held image) (before.files.held script) o → HasWatched image script stop before now
+  watch_whole stop image script (watch_refused bytes is r) = absurd (image_zero bytes o r zero)
+  watch_whole stop image script (watch_bad_script bytes other raw fault is file that f same) = absurd (let five = status_of o _ same in omega (arith, five, zero))
+  watch_whole stop image script (watched bytes other raw lines end seen is file that s tells same) = record {
+    bytes = bytes;
+    held = is;
+    raw = raw;
+    valid = file;
+    text = other;
+    script_held = that;
+    lines = lines;
+    end = end;
+    script_written = s;
+    seen = seen;
+    told = tells;
+    put = put_is before now o seen (text_of o _ same) put;
+  }
+
   migrated_whole : (image target : List ℕ) (bytes : List ℕ) → before.files.held image ≡ Some bytes → Stores o.image (Some target) before.files.held now.files.held
       → IsMigrateDue bytes o → HasMigrated image target before now
   migrated_whole image target bytes is kept (migrate_refused r) = absurd (image_zero bytes o r zero)
@@ -195,7 +245,7 @@ of_held : (Due : List ℕ → Outcome → Type 0) (A : Type 0) (held : Option (L
 of_held Due A None o by due = absurd due
 of_held Due A (Some text) o by due = by text refl due
 
-module _ (laws : Printing) (faithful : BuiltImagesAreFaithful) (limits : ImagesReadHaveLimits) (safe : EveryValidImageIsSafeAndInTime) (suit : ScriptsForImagesReadSuit) (before now : Outside) (o : Outcome) (zero : o.status ≡ 0)
+module _ (laws : Printing) (faithful : BuiltImagesAreFaithful) (held : ImagesToldAreHeld) (limits : ImagesReadHaveLimits) (safe : EveryValidImageIsSafeAndInTime) (suit : ScriptsForImagesReadSuit) (before now : Outside) (o : Outcome) (zero : o.status ≡ 0)
     (put : Appends before.out.taken now.out.taken o.text) where
   done : (call : Call) → IsDue call before.files.held o → Stores o.image (target_of call) before.files.held now.files.held → HasDone call before now
   done (go program image script over) due kept = gone laws faithful before now o zero put over program image script kept due
@@ -212,10 +262,15 @@ module _ (laws : Printing) (faithful : BuiltImagesAreFaithful) (limits : ImagesR
   done (run image script) due kept = run_whole laws faithful before now o zero put limits safe suit image script due
   done (migrate image target) due kept =
       of_held IsMigrateDue (HasMigrated image target before now) (before.files.held image) o (λ bytes is d. migrated_whole laws faithful before now o zero put image target bytes is kept d) due
+  done (asm text image) due kept =
+      of_held IsAsmDue (HasAssembled text image before now) (before.files.held text) o (λ lines is d. asm_whole laws faithful before now o zero put limits safe suit held text image lines is kept d) due
+  done (dis image text) due kept =
+      of_held IsDisDue (HasDisassembled image text before now) (before.files.held image) o (λ bytes is d. dis_whole laws faithful before now o zero put image text bytes is kept d) due
+  done (watch image script stop) due kept = watch_whole laws faithful before now o zero put stop image script due
 
-pub has_done : Printing → BuiltImagesAreFaithful → ImagesReadHaveLimits → EveryValidImageIsSafeAndInTime → ScriptsForImagesReadSuit → (tells : Bool) (call : Call) (before now : Outside) (status : ℕ)
+pub has_done : Printing → BuiltImagesAreFaithful → ImagesToldAreHeld → ImagesReadHaveLimits → EveryValidImageIsSafeAndInTime → ScriptsForImagesReadSuit → (tells : Bool) (call : Call) (before now : Outside) (status : ℕ)
     → Went tells call before now status → OnTrue tells (status ≡ 0 → HasDone call before now)
-has_done laws faithful limits safe suit true call before now status w = λ zero.
+has_done laws faithful held limits safe suit true call before now status w = λ zero.
     let whole : IsWhole call before now status = w.whole (omega (arith, zero)) in
-    done laws faithful limits safe suit before now whole.outcome (sym whole.is ∙ zero) whole.put call whole.due whole.stored
-has_done laws faithful limits safe suit false call before now status w = tt
+    done laws faithful held limits safe suit before now whole.outcome (sym whole.is ∙ zero) whole.put call whole.due whole.stored
+has_done laws faithful held limits safe suit false call before now status w = tt

@@ -10,10 +10,13 @@ use Rattle.rte_report.specs.Report.{report_text}
 use Rattle.rte_report.specs.Json.{report_json}
 use Rattle.rte_built.specs.Built.{IsBuilt}
 use Rattle.rte_built_once.specs.Once.{TimelyOrLate}
-use Rattle.rte_words.specs.Calls.{Call, go, check, compile, json, slack, print, run, migrate}
+use Rattle.rte_words.specs.Calls.{Call, go, check, compile, json, slack, print, run, migrate, asm, dis, watch}
 use Rattle.rte_commands.specs.Source.{IsWritten, IsTextFault, IsTimelyText, Style}
 use Rattle.rte_commands.specs.Due.{Outcome, IsRefused, faulty, late, IsReportDue, report_refused, report_timely, IsPrintDue, print_faulty, printed, IsCompileDue, compile_refused, compiled, IsGoDue, go_refused, go_bad_script, went, IsImageRefused, misread, invalid, IsRunDue, run_refused, run_bad_script, ran, IsMigrateDue, migrate_refused, migrated}
 use Rattle.rte_spare.specs.Due.{IsSlackDue, slack_refused, slack_told}
+use Rattle.rte_asm_due.specs.Due.{IsAsmDue, asm_faulty, asm_invalid, assembled, IsDisDue, dis_misread, disassembled}
+use Rattle.rte_stop.specs.Due.{IsWatchDue, watch_refused, watch_bad_script, watched}
+use Rattle.rte_words.specs.declared.stop.Stop.{Stop}
 use Rattle.rte_commands.specs.Runs.{IsUnsolved}
 use Rattle.rte_due_once.specs.Once.{WrittenOrFaulty, WrittenOnce}
 use Rattle.rte_answers.specs.Files.{IsDue}
@@ -63,6 +66,20 @@ migrate_late : (bytes : List ℕ) (o : Outcome) → IsMigrateDue bytes o → o.s
 migrate_late bytes o (migrate_refused r) three = image_late bytes o r three
 migrate_late bytes o (migrated raw file same) three = let zero = status_of o _ same in absurd (omega (arith, zero, three))
 
+asm_late : (text : List ℕ) (o : Outcome) → IsAsmDue text o → o.status ≡ 3 → ⊥
+asm_late text o (asm_faulty number line fault same) three = let four = status_of o _ same in absurd (omega (arith, four, three))
+asm_late text o (asm_invalid raw fault told_is first same) three = let four = status_of o _ same in absurd (omega (arith, four, three))
+asm_late text o (assembled raw told_is valid same) three = let zero = status_of o _ same in absurd (omega (arith, zero, three))
+
+dis_late : (bytes : List ℕ) (o : Outcome) → IsDisDue bytes o → o.status ≡ 3 → ⊥
+dis_late bytes o (dis_misread number offset fault same) three = let four = status_of o _ same in absurd (omega (arith, four, three))
+dis_late bytes o (disassembled raw held same) three = let zero = status_of o _ same in absurd (omega (arith, zero, three))
+
+watch_late : (stop : Stop) (image script : Option (List ℕ)) (o : Outcome) → IsWatchDue stop image script o → o.status ≡ 3 → ⊥
+watch_late stop image script o (watch_refused bytes is r) three = image_late bytes o r three
+watch_late stop image script o (watch_bad_script bytes other raw fault is file that f same) three = let five = status_of o _ same in absurd (omega (arith, five, three))
+watch_late stop image script o (watched bytes other raw lines end text is file that s tells same) three = let zero = status_of o _ same in absurd (omega (arith, zero, three))
+
 -- what is due of what is held, if anything is
 held_late : (over : ℕ) (Due : List ℕ → Outcome → Type 0) (held : Option (List ℕ)) (o : Outcome) → ((text : List ℕ) → Due text o → IsUnsolved over (Some text))
     → IsSomeAnd held (λ text. Due text o) → IsUnsolved over held
@@ -82,6 +99,9 @@ due_late (slack program over) b o due three = held_late over (IsSlackDue over) (
 due_late (print program) b o due three = held_never IsPrintDue (b.files.held program) o (λ text d. print_late text o d three) due
 due_late (run image script) b o due three = run_late (b.files.held image) (b.files.held script) o due three
 due_late (migrate image target) b o due three = held_never IsMigrateDue (b.files.held image) o (λ bytes d. migrate_late bytes o d three) due
+due_late (asm text image) b o due three = held_never IsAsmDue (b.files.held text) o (λ lines d. asm_late lines o d three) due
+due_late (dis image text) b o due three = held_never IsDisDue (b.files.held image) o (λ bytes d. dis_late bytes o d three) due
+due_late (watch image script stop) b o due three = watch_late stop (b.files.held image) (b.files.held script) o due three
 
 -- ---- a program that is late is refused with 3
 
@@ -134,6 +154,9 @@ module _ (faults : WrittenOrFaulty) (one : WrittenOnce) (apart : TimelyOrLate) w
   due_three (print program) b o u due = absurd u
   due_three (run image script) b o u due = absurd u
   due_three (migrate image target) b o u due = absurd u
+  due_three (asm text image) b o u due = absurd u
+  due_three (dis image text) b o u due = absurd u
+  due_three (watch image script stop) b o u due = absurd u
 
   refused : (call : Call) (before now : Outside) (status : ℕ) → IsWhole call before now status → (status ≡ 3) ↔ IsRefusedForTime call before
   refused call before now status w =

@@ -6,10 +6,11 @@ use Rattle.std.proofs.lemmas.Bool.{cases_lt, cases_eq}
 use Rattle.rte_io.specs.Outside.{Outside, AllStay}
 use Rattle.rte_report.specs.Report.{report_text}
 use Rattle.rte_report.specs.Json.{report_json}
-use Rattle.rte_words.specs.Calls.{Call, go, check, compile, json, slack, print, run, migrate}
+use Rattle.rte_words.specs.Calls.{Call, go, check, compile, json, slack, print, run, migrate, asm, dis, watch}
 use Rattle.rte_commands.specs.Due.{Outcome, IsReportDue, IsPrintDue, IsCompileDue, IsMigrateDue}
 use Rattle.rte_spare.specs.Due.{IsSlackDue}
-use Rattle.rte_due_once.specs.Once.{ReportsAreOne, SlackIsOne, PrintIsOne, CompileIsOne, GoIsOne, RunIsOne, MigrateIsOne}
+use Rattle.rte_asm_due.specs.Due.{IsAsmDue, IsDisDue}
+use Rattle.rte_due_once.specs.Once.{ReportsAreOne, SlackIsOne, PrintIsOne, CompileIsOne, GoIsOne, RunIsOne, MigrateIsOne, AsmIsOne, DisIsOne, WatchIsOne}
 use Rattle.rte_answers.specs.Files.{Held, IsDue, target_of}
 use Rattle.rte_answers.specs.Went.{Stores, IsWhole, IsCut, Went}
 
@@ -22,6 +23,9 @@ pub record Laws : Type 0 where
   pub go : GoIsOne
   pub run : RunIsOne
   pub migrate : MigrateIsOne
+  pub asm : AsmIsOne
+  pub dis : DisIsOne
+  pub watch : WatchIsOne
 
 of_held : (Due : List ℕ → Outcome → Type 0) (held : Option (List ℕ)) (o p : Outcome) → ((text : List ℕ) → Due text o → Due text p → o ≡ p)
     → IsSomeAnd held (λ text. Due text o) → IsSomeAnd held (λ text. Due text p) → o ≡ p
@@ -37,6 +41,9 @@ due_is_one laws (slack program over) held o p d e = of_held (IsSlackDue over) (h
 due_is_one laws (print program) held o p d e = of_held IsPrintDue (held program) o p (λ text. laws.print text o p) d e
 due_is_one laws (run image script) held o p d e = laws.run (held image) (held script) o p d e
 due_is_one laws (migrate image target) held o p d e = of_held IsMigrateDue (held image) o p (λ bytes. laws.migrate bytes o p) d e
+due_is_one laws (asm text image) held o p d e = of_held IsAsmDue (held text) o p (λ lines. laws.asm lines o p) d e
+due_is_one laws (dis image text) held o p d e = of_held IsDisDue (held image) o p (λ bytes. laws.dis bytes o p) d e
+due_is_one laws (watch image script stop) held o p d e = laws.watch stop (held image) (held script) o p d e
 
 nothing : (image target : Option (List ℕ)) (held held' : Held) → image ≡ None → Stores image target held held' → AllStay held held'
 nothing image target held held' none kept = subst (λ (x : Option (List ℕ)). Stores x target held held') none kept

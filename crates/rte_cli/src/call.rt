@@ -14,9 +14,10 @@ ghost use Rattle.rte_promise.specs.Promise.{HasDone, IsRefusedForTime};
 use crate::carry::carry_out;
 use rte_answers::Status;
 use rte_built_once::law::timely_or_late;
+use rte_due_once::images_told_are_held;
 use rte_due_once::law::{
-    compile_is_one, go_is_one, migrate_is_one, print_is_one, reports_are_one, run_is_one,
-    slack_is_one, written_once, written_or_faulty,
+    asm_is_one, compile_is_one, dis_is_one, go_is_one, migrate_is_one, print_is_one,
+    reports_are_one, run_is_one, slack_is_one, watch_is_one, written_once, written_or_faulty,
 };
 use rte_io::{Files, Sink};
 use rte_prepare::built_images_are_faithful;
@@ -32,16 +33,19 @@ use std::alloc::Global;
 ///   on it and the log of its run over the script in file S; K is the overhead, the ticks of one
 ///   dispatch, from 0 to 1000, and 0 where it is left out;
 /// - `compile P I [K]` stores the image, and puts the report;
-/// - `check P [K]` puts the report, `json P [K]` the same as JSON, `slack P [K]` how many ticks
-///   each process can spare,
-///   `print P` the canonical text of the program;
+/// - `check P [K]` puts the report, `json P [K]` the same as JSON, `slack P [K]` how many ticks each
+///   process can spare, `print P` the canonical text of the program;
 /// - `run I S` puts the log of the image in file I over the script in file S, and `migrate I J`
-///   stores the image in the present version in file J.
+///   stores the image in the present version in file J;
+/// - `asm A I` stores the image whose text is in file A in file I, and `dis I A` the text of the
+///   image in file I, valid or not, in file A;
+/// - `watch I S T` puts the state of the run of the image in file I over the script in file S before
+///   tick T, and `watch I S @A` right after the first effect of the instruction at address A.
 ///
 /// All other words are refused, as is a word that is empty or begins with `-`.
 ///
-/// The answer is the first status that is due in the order of the steps: the words, reading P or I,
-/// its faults, its time, reading S, its faults, storing, putting.
+/// The answer is the first status that is due in the order of the steps: the words, reading P, I or
+/// A, its faults, its time, reading S, its faults, storing, putting.
 pub fn rte<F: Files, O: Sink>(alloc: Global, words: &[String], files: &mut F, out: &mut O) -> Status
     // A call of a command went as is due, by what its files hold.
     ensures went { (call : Call) → IsCommand words.now call → Went F.tells call
@@ -98,6 +102,10 @@ pub fn rte<F: Files, O: Sink>(alloc: Global, words: &[String], files: &mut F, ou
     go_is_one();
     run_is_one();
     migrate_is_one();
+    asm_is_one();
+    dis_is_one();
+    watch_is_one();
+    images_told_are_held();
     written_or_faulty();
     written_once();
     timely_or_late();

@@ -20,7 +20,7 @@ parts_once r v w p q one two =
     let same : ◌≡◌ {A = (Version × Parts) × List ℕ} ((v, p), []) ((w, q), []) = cc in
     ap (λ x. x.0.1) same
 
-fault_once : (r : Read (Version × Parts)) (m n k l : ℕ) → r ≡ Err (fault m k) → r ≡ Err (fault n l) → (m ≡ n) × (k ≡ l)
+pub fault_once : (r : Read (Version × Parts)) (m n k l : ℕ) → r ≡ Err (fault m k) → r ≡ Err (fault n l) → (m ≡ n) × (k ≡ l)
 fault_once r m n k l one two =
     let same : fault m k ≡ fault n l = cc in
     (ap (λ (f : Fault). f.number) same, ap (λ (f : Fault). f.left) same)
@@ -28,21 +28,21 @@ fault_once r m n k l one two =
 not_both : (r : Read (Version × Parts)) (v : Version) (p : Parts) (n k : ℕ) → r ≡ Ok ((v, p), []) → r ≡ Err (fault n k) → ⊥
 not_both r v p n k one two = absurd (cc)
 
-shown_once : (o : Option Shown) (x y : Shown) → o ≡ Some x → o ≡ Some y → x ≡ y
+pub shown_once : (o : Option Shown) (x y : Shown) → o ≡ Some x → o ≡ Some y → x ≡ y
 shown_once o x y one two = cc
 
-none_shown : (o : Option Shown) (x : Shown) → o ≡ None → o ≡ Some x → ⊥
+pub none_shown : (o : Option Shown) (x : Shown) → o ≡ None → o ≡ Some x → ⊥
 none_shown o x one two = absurd (cc)
 
 -- ---- what the bytes hold
 
-held_once : (bytes : List ℕ) (raw other : RawImage) → Holds bytes raw → Holds bytes other → named_of raw ≡ named_of other
+pub held_once : (bytes : List ℕ) (raw other : RawImage) → Holds bytes raw → Holds bytes other → named_of raw ≡ named_of other
 held_once bytes raw other one two =
     one.image
     ∙ (ap image_with (parts_once (read_file bytes) one.version two.version (parts_of raw) (parts_of other) one.is_read two.is_read)
     ∙ sym two.image)
 
-held_or_faulty : (bytes : List ℕ) (raw : RawImage) (number offset : ℕ) → Holds bytes raw → HasFault bytes number offset → ⊥
+pub held_or_faulty : (bytes : List ℕ) (raw : RawImage) (number offset : ℕ) → Holds bytes raw → HasFault bytes number offset → ⊥
 held_or_faulty bytes raw number offset held is = not_both (read_file bytes) held.version (parts_of raw) number is.left held.is_read is.is_read
 
 pub images_held_are_one : ImagesHeldAreOne
@@ -57,17 +57,17 @@ image_files_are_not_refused without bytes raw outcome file refused = by refused
         none_shown (fault_of (image_of other)) f
         (subst (λ (n : NamedImage). fault_of n.image ≡ None) (held_once bytes raw other file.held held) ((without (image_of raw)).0 file.valid)) fails
 
+pub same_fault : (bytes : List ℕ) (m n o p : ℕ) → HasFault bytes m o → HasFault bytes n p → image_fault_line m o ≡ image_fault_line n p
+same_fault bytes m n o p one two =
+    let same = fault_once (read_file bytes) m n one.left two.left one.is_read two.is_read in
+    let offsets : o ≡ p = one.place ∙ (ap (λ k. length bytes - k) same.1 ∙ sym two.place) in
+    ap (λ k. image_fault_line k o) same.0 ∙ ap (λ k. image_fault_line n k) offsets
+
 pub image_refusals_are_one : ImageRefusalsAreOne
 image_refusals_are_one bytes outcome other first second = by first second
   where
-    same_fault : (m n o p : ℕ) → HasFault bytes m o → HasFault bytes n p → image_fault_line m o ≡ image_fault_line n p
-    same_fault m n o p one two =
-        let same = fault_once (read_file bytes) m n one.left two.left one.is_read two.is_read in
-        let offsets : o ≡ p = one.place ∙ (ap (λ k. length bytes - k) same.1 ∙ sym two.place) in
-        ap (λ k. image_fault_line k o) same.0 ∙ ap (λ k. image_fault_line n k) offsets
-
     by : IsImageRefused bytes outcome → IsImageRefused bytes other → outcome ≡ other
-    by (misread m o one is) (misread n p two was) = is ∙ (ap (told 4) (same_fault m n o p one two) ∙ sym was)
+    by (misread m o one is) (misread n p two was) = is ∙ (ap (told 4) (same_fault bytes m n o p one two) ∙ sym was)
     by (misread m o one is) (invalid raw f held fails was) = absurd (held_or_faulty bytes raw m o held one)
     by (invalid raw f held fails is) (misread n p two was) = absurd (held_or_faulty bytes raw n p held two)
     by (invalid raw f held fails is) (invalid raw' f' held' fails' was) =

@@ -4,3 +4,5 @@ mod Images
 mod Scripts
 mod Commands
 mod Spares
+pub mod Told
+pub mod Stops

@@ -9,6 +9,11 @@ use Rattle.rte_image.specs.declared.raw.RawImage.{RawImage}
 use Rattle.rte_commands.specs.Source.{IsWritten, IsTextFault, Style, IsTimelyText, IsLateText}
 use Rattle.rte_commands.specs.Due.{Outcome, IsRefused, IsReportDue, IsPrintDue, IsCompileDue, IsGoDue, IsImageFile, IsImageRefused, IsRunDue, IsMigrateDue}
 use Rattle.rte_spare.specs.Due.{IsSlackDue}
+use Rattle.rte_asm_due.specs.Due.{IsAsmDue, IsDisDue}
+use Rattle.rte_machine_meaning.specs.Image.{Image, Script}
+use Rattle.rte_stop.specs.Stops.{IsStop}
+use Rattle.rte_stop.specs.Due.{IsWatchDue}
+use Rattle.rte_words.specs.declared.stop.Stop.{Stop}
 use Rattle.rte_spare.specs.Lines.{IsSlackText}
 
 -- ---- a program text
@@ -96,3 +101,21 @@ RunIsOne = (image script : Option (List ℕ)) (outcome other : Outcome) → IsRu
 -- The law: what is due of `migrate` is one.
 abbrev pub MigrateIsOne : Type 0
 MigrateIsOne = (bytes : List ℕ) (outcome other : Outcome) → IsMigrateDue bytes outcome → IsMigrateDue bytes other → outcome ≡ other
+
+-- The law: what is due of `asm` is one.
+abbrev pub AsmIsOne : Type 0
+AsmIsOne = (text : List ℕ) (outcome other : Outcome) → IsAsmDue text outcome → IsAsmDue text other → outcome ≡ other
+
+-- The law: what is due of `dis` is one.
+abbrev pub DisIsOne : Type 0
+DisIsOne = (bytes : List ℕ) (outcome other : Outcome) → IsDisDue bytes outcome → IsDisDue bytes other → outcome ≡ other
+
+-- The law: a run stops before one tick.
+abbrev pub StopsAreOne : Type 0
+StopsAreOne = (image : Image) (script : Script) (stop : Stop) (t other : ℕ) → IsStop image script stop t → IsStop image script stop other → t ≡ other
+
+-- The law: what is due of `watch` is one.
+abbrev pub WatchIsOne : Type 0
+WatchIsOne =
+    (stop : Stop) (image script : Option (List ℕ)) (outcome other : Outcome) → IsWatchDue stop image script outcome → IsWatchDue stop image script other
+    → outcome ≡ other

@@ -1,7 +1,9 @@
 //! The laws.
 
 ghost use Rattle.rte_due_once.specs.Once.{
+  AsmIsOne,
   CompileIsOne,
+  DisIsOne,
   GoIsOne,
   ImageFilesAreNotRefused,
   ImageRefusalsAreOne,
@@ -14,14 +16,20 @@ ghost use Rattle.rte_due_once.specs.Once.{
   RunIsOne,
   SlackIsOne,
   SlackTextsAreOne,
+  StopsAreOne,
   TextsHaveOneFault,
   TimelyTextsAreNotLate,
   TimelyTextsAreNotRefused,
   TimelyTextsHaveOneImage,
+  WatchIsOne,
   WrittenOnce,
   WrittenOrFaulty,
 };
 
+use rte_asm_laws::law::{
+    texts_are_of_one_image, texts_have_one_fault as image_texts_have_one_fault,
+    texts_of_images_have_no_fault,
+};
 use rte_built_once::law::{built_images_are_one, tables_are_one, timely_or_late};
 use rte_program::{one_program, program_or_fault};
 use rte_program_laws::one_fault;
@@ -182,4 +190,36 @@ pub fn migrate_is_one()
     images_held_are_one();
     image_files_are_not_refused();
     image_refusals_are_one();
+}
+
+/// What is due of `asm` is one.
+pub fn asm_is_one()
+    ensures { AsmIsOne }
+{
+    texts_are_of_one_image();
+    texts_of_images_have_no_fault();
+    image_texts_have_one_fault();
+    valid_is_without_fault();
+}
+
+/// What is due of `dis` is one.
+pub fn dis_is_one()
+    ensures { DisIsOne }
+{}
+
+/// A run stops before one tick.
+pub fn stops_are_one()
+    ensures { StopsAreOne }
+{}
+
+/// What is due of `watch` is one.
+pub fn watch_is_one()
+    ensures { WatchIsOne }
+{
+    images_held_are_one();
+    image_files_are_not_refused();
+    image_refusals_are_one();
+    one_script();
+    one_answer();
+    stops_are_one();
 }

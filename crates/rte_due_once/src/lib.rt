@@ -7,3 +7,5 @@
 #![tactic(auto)]
 
 pub mod law;
+
+pub use rte_asm_laws::law::images_told_are_held;

@@ -14,7 +14,7 @@ returns-clause-complete g c = λ call is. completes g.F.Files.tells call _ _ _ (
 pub returns-clause-done : goal.returns-clause-done
 returns-clause-done g c = λ call is.
     has_done (record { spelled = c.tokens_are_spelled.ensures; tokens_of = c.reads_back.ensures.tokens; tree_of = c.reads_back.ensures.tree })
-    c.built_images_are_faithful.ensures c.images_read_are_in_their_ranges.ensures.limits c.every_valid_image_is_safe_and_in_time.ensures c.scripts_suit.ensures.held
+    c.built_images_are_faithful.ensures c.images_told_are_held.ensures c.images_read_are_in_their_ranges.ensures.limits c.every_valid_image_is_safe_and_in_time.ensures c.scripts_suit.ensures.held
     g.F.Files.tells call _ _ _ (c.carry_out.ensures.went call is)
 
 -- status 3, by what is due
@@ -45,5 +45,8 @@ returns-clause-refused g c = λ call is.
       go = c.go_is_one.ensures;
       run = c.run_is_one.ensures;
       migrate = c.migrate_is_one.ensures;
+      asm = c.asm_is_one.ensures;
+      dis = c.dis_is_one.ensures;
+      watch = c.watch_is_one.ensures;
     })
     g.F.Files.tells call _ _ _ (c.carry_out.ensures.went call is)
