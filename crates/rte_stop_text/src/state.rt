@@ -97,14 +97,14 @@ fn put_view(text: &mut Text, names: &ImageNames, view: View) -> Result<(), Alloc
 pub fn put_process(
     text: &mut Text,
     names: &ImageNames,
-    process: u16,
+    process: usize,
     view: View,
     words: &[i32],
 ) -> Result<(), AllocError>
     ensures { OnOk result (text.new ≡ text.old ++ told_process names.now process view words.now) }
 {
     text.extend(b"process ")?;
-    text.extend(process_of(names, process as usize))?;
+    text.extend(process_of(names, process))?;
     put_view(text, names, view)?;
     text.extend(b" data")?;
     put_words(text, words)
@@ -114,14 +114,14 @@ pub fn put_process(
 fn put_occupant(
     text: &mut Text,
     names: &ImageNames,
-    occupant: Option<u16>,
+    occupant: Option<usize>,
 ) -> Result<(), AllocError>
     ensures { OnOk result (text.new ≡ text.old ++ occupant_text names.now occupant) }
 {
     match occupant {
         Some(process) => {
             text.extend(b" ")?;
-            text.extend(process_of(names, process as usize))
+            text.extend(process_of(names, process))
         }
         None => text.extend(b" free"),
     }
@@ -132,15 +132,15 @@ fn put_occupant(
 pub fn put_monitor(
     text: &mut Text,
     names: &ImageNames,
-    monitor: u16,
-    occupant: Option<u16>,
+    monitor: usize,
+    occupant: Option<usize>,
     words: &[i32],
 ) -> Result<(), AllocError>
     ensures { OnOk result (text.new ≡ text.old ++
         told_monitor names.now monitor occupant words.now) }
 {
     text.extend(b"monitor ")?;
-    text.extend(monitor_of(names, monitor as usize))?;
+    text.extend(monitor_of(names, monitor))?;
     put_occupant(text, names, occupant)?;
     text.extend(b" data")?;
     put_words(text, words)
