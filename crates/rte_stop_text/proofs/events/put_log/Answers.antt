@@ -1,0 +1,21 @@
+use Rattle.std.proofs.Common.{◌≡◌, ◌∙◌, ◌+◌, ◌++◌, List, ℕ, [], drop, get_or, length, arith, ap, sym, append_assoc}
+use Rattle.std.proofs.lemmas.List.{append-nil}
+use Rattle.rte_event.specs.declared.event.Event.{Event}
+use Rattle.rte_event.specs.declared.event.Act.TheVariants as act
+use Rattle.rte_log.specs.Line.{line_of, log_of}
+use Rattle.rte_stop_text.proofs.Lines.{log_of-drop, log_of-nil}
+use Rattle.rte_stop_text.proofs.events.put_log.Goals as goal
+
+pub loop-event-preserved : goal.loop-event-preserved
+loop-event-preserved c =
+    let e : Event = record { tick = 0; proc = 0; act = act.Release } in
+    let names = c.args.names.now in
+    let events = c.args.events.now in
+    let index = c.loop-event.event-index in
+    let put : c.put_event.new.text ≡ c.loop-event.text ++ line_of names (get_or events index e) = c.in_ok-put_event.ensures in
+    ap (λ (t : List ℕ). t ++ log_of names (drop (index + 1) events)) put
+    ∙ (append_assoc c.loop-event.text (line_of names (get_or events index e)) (log_of names (drop (index + 1) events))
+    ∙ (ap (λ (t : List ℕ). c.loop-event.text ++ t) (sym (log_of-drop names events index e (omega arith))) ∙ c.loop-event.invariant))
+
+pub returns : goal.returns
+returns c = cc (log_of-nil c.args.names.now) (append-nil c.loop-event.text) c.loop-event.invariant
