@@ -1,3 +1,3 @@
 pub mod Acts
 pub mod Held
-pub mod Scripts
+pub mod Judged

@@ -2,7 +2,7 @@ use Rattle.std.proofs.Common.{ℕ, List, Err}
 use Rattle.rte_commands.specs.Due.{IsImageRefused, image_fault_line, told, valid_fault_line}
 use Rattle.rte_image_file.specs.Loading.{Loads}
 use Rattle.rte_prepare_images.proofs.Refused.{invalid_image, misread_image}
-use Rattle.rte_contents.proofs.Scripts.{of_made}
+use Rattle.rte_contents.proofs.Judged.{of_made}
 use Rattle.rte_prepare_images.proofs.images.line_of.Goals as goal
 
 pub returns-in-Image : goal.returns-in-Image

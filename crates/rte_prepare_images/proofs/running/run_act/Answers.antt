@@ -2,8 +2,8 @@ use Rattle.std.proofs.Common.{[], None}
 use Rattle.rte_image.specs.Raw.{named_of}
 use Rattle.rte_script.specs.Scripts.{longest_text}
 use Rattle.rte_contents.specs.Contents.{IsContent}
-use Rattle.rte_contents.proofs.Scripts.{can_run}
-use Rattle.rte_contents.proofs.Scripts.{bad_over}
+use Rattle.rte_contents.proofs.Judged.{can_run}
+use Rattle.rte_contents.proofs.Judged.{bad_over}
 use Rattle.rte_contents.specs.Scripted.{is_run}
 use Rattle.rte_prepare_images.proofs.running.run_act.Goals as goal
 

@@ -2,8 +2,8 @@ use Rattle.rte_image.specs.Raw.{named_of}
 use Rattle.rte_script.specs.Scripts.{longest_text}
 use Rattle.rte_contents.specs.Contents.{IsContent}
 use Rattle.rte_prepare_programs.specs.Scripted.{bytes_for, report_on}
-use Rattle.rte_contents.proofs.Scripts.{can_run}
-use Rattle.rte_contents.proofs.Scripts.{bad_over, ran_over}
+use Rattle.rte_contents.proofs.Judged.{can_run}
+use Rattle.rte_contents.proofs.Judged.{bad_over, ran_over}
 use Rattle.rte_prepare_programs.proofs.going.go_act.Goals as goal
 
 pub run_built-requires-clause-runs : goal.run_built-requires-clause-runs

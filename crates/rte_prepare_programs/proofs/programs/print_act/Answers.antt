@@ -12,7 +12,7 @@ use Rattle.rte_answers.specs.Acts.{outcome_of}
 use Rattle.rte_contents.specs.Acting.{puts}
 use Rattle.rte_contents.specs.Contents.{IsContent}
 use Rattle.rte_prepare_programs.proofs.Refused.{faulty_read, written_print}
-use Rattle.rte_contents.proofs.Scripts.{of_made}
+use Rattle.rte_contents.proofs.Judged.{of_made}
 use Rattle.rte_prepare_programs.proofs.programs.print_act.Goals as goal
 
 pub returns-in_ok-print-in-Ok-clause-due : goal.returns-in_ok-print-in-Ok-clause-due

@@ -8,7 +8,7 @@ use Rattle.rte_answers.specs.Acts.{outcome_of}
 use Rattle.rte_contents.specs.Acting.{puts}
 use Rattle.rte_prepare_programs.specs.Formats.{shown}
 use Rattle.rte_prepare_programs.proofs.Refused.{faulty_text, late_text}
-use Rattle.rte_contents.proofs.Scripts.{of_made}
+use Rattle.rte_contents.proofs.Judged.{of_made}
 use Rattle.rte_prepare_programs.proofs.programs.refuse.Goals as goal
 
 pub returns-in-Text-clause-due : goal.returns-in-Text-clause-due

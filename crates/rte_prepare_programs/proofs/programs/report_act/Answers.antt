@@ -6,7 +6,7 @@ use Rattle.rte_answers.specs.Acts.{outcome_of}
 use Rattle.rte_contents.specs.Acting.{puts}
 use Rattle.rte_contents.specs.Contents.{IsContent}
 use Rattle.rte_prepare_programs.specs.Formats.{shown}
-use Rattle.rte_contents.proofs.Scripts.{of_made}
+use Rattle.rte_contents.proofs.Judged.{of_made}
 use Rattle.rte_prepare_programs.proofs.Refused.{refused_report, timely_report}
 use Rattle.rte_prepare_programs.proofs.programs.report_act.Goals as goal
 
