@@ -91,39 +91,36 @@ module _ (head : List ℕ × ℕ) (x : Named) where
   abbrev counts : Counts
   counts = counts_of (parts_of_lines head x)
 
-  -- the names that come before the events, the monitors, and all that follows
-  abbrev first : List (List ℕ)
-  first = head.0 ∷ []
-
+  -- the names that come before the monitors, and before all that follows them
   abbrev second : List (List ℕ)
   second = f.with_devices (head.0 ∷ []) x.0 ++ x.1.0
 
   abbrev third : List (List ℕ)
   third = f.with_monitors (f.with_devices (head.0 ∷ []) x.0 ++ x.1.0) x.1.1.0
 
-  devices_are : EachHeld (IsDevice (head.0 ∷ [])) [] x.0 → (f.devices_format (counts_of (parts_of_lines head x)) (head.0 ∷ [])).is x.0 ≡ true
+  devices_are : EachHeld (IsDevice (head.0 ∷ [])) [] x.0 → (f.devices_format counts (head.0 ∷ [])).is x.0 ≡ true
   devices_are held = each_held (λ earlier. g.device_format ((head.0 ∷ []) ++ map (λ d. d.name) earlier)) (IsDevice (head.0 ∷ [])) (λ earlier d h. h) [] x.0 held
 
-  names_are : EachHeld (IsEvent (f.with_devices (head.0 ∷ []) x.0)) [] x.1.0 → (f.events_format (counts_of (parts_of_lines head x)) (f.with_devices (head.0 ∷ []) x.0)).is x.1.0 ≡ true
+  names_are : EachHeld (IsEvent (f.with_devices (head.0 ∷ []) x.0)) [] x.1.0 → (f.events_format counts (f.with_devices (head.0 ∷ []) x.0)).is x.1.0 ≡ true
   names_are held =
       each_held (λ earlier. g.name_format (f.with_devices (head.0 ∷ []) x.0 ++ earlier)) (IsEvent (f.with_devices (head.0 ∷ []) x.0)) (λ earlier e h. h) [] x.1.0 held
 
-  all_monitors : (taken : List (List ℕ)) → EachHeld (IsMonitor taken) [] x.1.1.0 → (f.monitors_format (counts_of (parts_of_lines head x)) taken).is x.1.1.0 ≡ true
+  all_monitors : (taken : List (List ℕ)) → EachHeld (IsMonitor taken) [] x.1.1.0 → (f.monitors_format counts taken).is x.1.1.0 ≡ true
   all_monitors taken held = each_held (λ earlier. g.named_monitor_format (taken ++ map (λ m. m.0) earlier)) (IsMonitor taken) (λ earlier m h. h) [] x.1.1.0 held
 
-  all_conditions : (taken : List (List ℕ)) → EachHeld (IsCondition taken (length x.1.1.0)) [] x.1.1.1.0 → (f.conditions_format (counts_of (parts_of_lines head x)) taken).is x.1.1.1.0 ≡ true
+  all_conditions : (taken : List (List ℕ)) → EachHeld (IsCondition taken (length x.1.1.0)) [] x.1.1.1.0 → (f.conditions_format counts taken).is x.1.1.1.0 ≡ true
   all_conditions taken held = each_held (g.condition_format taken (length x.1.1.0)) (IsCondition taken (length x.1.1.0)) (λ earlier c h. h) [] x.1.1.1.0 held
 
   all_routines : (owners : ℕ) → length x.1.1.1.1.1.0 ≡ owners → EachHeld (IsRoutineOf owners (length x.1.1.0)) [] x.1.1.1.1.0
-      → (f.routines_format (counts_of (parts_of_lines head x))).is x.1.1.1.1.0 ≡ true
+      → (f.routines_format counts).is x.1.1.1.1.0 ≡ true
   all_routines owners same held =
-      each_held (λ earlier. g.routine_format (counts_of (parts_of_lines head x))) (IsRoutineOf owners (length x.1.1.0)) (λ earlier r h. h (counts_of (parts_of_lines head x)) same refl) [] x.1.1.1.1.0 held
+      each_held (λ earlier. g.routine_format counts) (IsRoutineOf owners (length x.1.1.0)) (λ earlier r h. h counts same refl) [] x.1.1.1.1.0 held
 
   all_processes : (taken : List (List ℕ)) → EachHeld (IsProcessOf (length x.1.1.0) (length x.1.0) taken) [] x.1.1.1.1.1.0
-      → (f.processes_format Second (counts_of (parts_of_lines head x)) taken).is x.1.1.1.1.1.0 ≡ true
+      → (f.processes_format Second counts taken).is x.1.1.1.1.1.0 ≡ true
   all_processes taken held =
-      each_held (λ earlier. g.named_process_format Second (counts_of (parts_of_lines head x)) (taken ++ map (λ p. p.0) earlier) (f.used_by earlier)) (IsProcessOf (length x.1.1.0) (length x.1.0) taken)
-      (λ earlier p h. h (counts_of (parts_of_lines head x)) refl refl) [] x.1.1.1.1.1.0 held
+      each_held (λ earlier. g.named_process_format Second counts (taken ++ map (λ p. p.0) earlier) (f.used_by earlier)) (IsProcessOf (length x.1.1.0) (length x.1.0) taken)
+      (λ earlier p h. h counts refl refl) [] x.1.1.1.1.1.0 held
 
   all_code : NamedFits x → EachHeld IsInstr [] x.1.1.1.1.1.1
       → (f.code_format (f.all_used (f.used_by x.1.1.1.1.1.0) 0 (length x.1.0)) (length x.1.1.1.1.1.1)).is x.1.1.1.1.1.1 ≡ true
