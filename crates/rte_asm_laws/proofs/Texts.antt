@@ -19,9 +19,9 @@ use Rattle.rte_commands.specs.Due.{stored}
 use Rattle.rte_asm_laws.specs.Laws.{TextsReadAreOfImages, TextsAreOfOneImage, ImagesToldAreHeld, TextsOfImagesHaveNoFault, TextsHaveOneFault}
 
 pub read_is : TextsReadAreWritten → TextsReadAreOfImages
-read_is law text raw bytes short read whole =
-    let w = law text (parts_of raw) bytes read in
-    record { short = short; is = w.0 ∙ sym (ap text_of whole); bytes = record { whole = whole; in_range = w.1 } }
+read_is law text raw short read whole =
+    let w = law text (parts_of raw) read in
+    record { short = short; is = w.0 ∙ sym (ap text_of whole); bytes = record { whole = whole; in_range = w.1 (omega (arith, short)) } }
 
 -- a text of an image is read as that image
 told_is_read : TextsWrittenAreRead → (text : List ℕ) (raw : RawImage) → IsTextOf text raw → text_read text ≡ Ok (parts_of raw)

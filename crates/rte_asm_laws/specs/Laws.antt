@@ -1,10 +1,9 @@
 -- The laws of texts and the images that they tell.
-use Rattle.std.specs.Prelude.{◌≡◌, ◌<◌, ◌≤◌, ℕ, All, List, length, Ok}
+use Rattle.std.specs.Prelude.{◌≡◌, ◌≤◌, ℕ, List, length, Ok}
 use Rattle.rte_image.specs.Raw.{named_of}
 use Rattle.rte_image.specs.declared.raw.RawImage.{RawImage}
 use Rattle.rte_image_reading.specs.Answer.{Holds, parts_of}
 use Rattle.rte_image_reading.specs.File.{image_with}
-use Rattle.rte_image_reading.specs.Law.{AreBytes}
 use Rattle.rte_asm_sections.specs.Sections.{text_read}
 use Rattle.rte_asm_sections.specs.Faults.{IsFaultOf, longest_text}
 use Rattle.rte_asm_due.specs.Texts.{IsTextOf}
@@ -13,7 +12,7 @@ use Rattle.rte_commands.specs.Due.{stored}
 -- an image that is read of a text is one whose text it is
 abbrev pub TextsReadAreOfImages : Type 0
 TextsReadAreOfImages =
-    (text : List ℕ) (raw : RawImage) → AreBytes text → length text ≤ longest_text → text_read text ≡ Ok (parts_of raw)
+    (text : List ℕ) (raw : RawImage) → length text ≤ longest_text → text_read text ≡ Ok (parts_of raw)
     → named_of raw ≡ image_with (parts_of raw) → IsTextOf text raw
 
 -- a text is that of one image
