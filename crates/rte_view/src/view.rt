@@ -13,5 +13,8 @@ pub enum View {
         inside: Option<u16>,
     },
     /// It waits on a condition, and times out at the tick `due`.
-    Waiting { condition: u16, due: u64 },
+    Waiting {
+        condition: u16,
+        due: u64,
+    },
 }
