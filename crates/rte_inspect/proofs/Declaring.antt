@@ -1,9 +1,8 @@
 -- Processes and monitors have the words that they declare.
-use Rattle.std.proofs.Common.{◌≡◌, ◌≤◌, ◌+◌, ◌-◌, ℕ, List, Option, Some, length, take, drop, arith, ap, subst, ◌∙◌}
-use Rattle.std.specs.Prelude.{ℤ, slice_get}
+use Rattle.std.proofs.Common.{◌≡◌, ◌≤◌, ◌+◌, ℕ, List, Option, length, take, drop, arith, ap, subst, ◌∙◌}
+use Rattle.std.specs.Prelude.{ℤ}
 use Rattle.std.proofs.lemmas.List.{length-drop, length-take-le}
-use Rattle.rte_machine_meaning.specs.Image.{Image, Monitor, Script}
-use Rattle.rte_machine_meaning.specs.State.{State}
+use Rattle.rte_machine_meaning.specs.Image.{Image, Monitor}
 use Rattle.rte_machine_meaning.specs.Run.{state_at}
 use Rattle.rte_safe.proofs.Running.{state_fits}
 use Rattle.rte_safe_terms.specs.Part.{IsSized}

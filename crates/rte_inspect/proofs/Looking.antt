@@ -1,23 +1,12 @@
--- Words and processes of a board.
-use Rattle.std.proofs.Common.{◌≡◌, ◌<◌, ◌+◌, ℕ, List, Option, Some, None, length, get_or, take, drop, map, arith, refl, ap, sym, subst, ◌∙◌}
-use Rattle.std.specs.Prelude.{ℤ, slice_get}
-use Rattle.std.proofs.lemmas.List.{get_or-drop, get_or-take, length-drop, length-take}
-use Rattle.std.proofs.lemmas.Option.{slice_get-get_or}
-use Rattle.rte_machine_meaning.specs.Image.{Monitor}
-use Rattle.rte_view.specs.View.{words_in}
+-- A process of a board.
+use Rattle.std.proofs.Common.{◌≡◌, ◌<◌, ℕ, List, Option, Some, length, get_or, refl, ap, ◌∙◌}
+use Rattle.std.specs.Prelude.{option_map, slice_get}
+use Rattle.std.proofs.lemmas.Option.{slice_get-map, slice_get_read}
+use Rattle.rte_cells.specs.declared.threads.Cell.{Cell}
+use Rattle.rte_cells.specs.Threads.{thread_of, threads_of}
+use Rattle.rte_machine_meaning.specs.State.{Thread}
 
--- a word of a part of an area stands in the area
-pub in_area : (area : List ℤ) (base words o : ℕ) → o < length (take words (drop base area)) → base + o < length area
-in_area area base words o below = omega (arith, below, length-take words (drop base area), length-drop base area)
-
--- and is that word of the area
-pub of_area : (area : List ℤ) (base words o : ℕ) (x : ℤ) → o < length (take words (drop base area)) → x ≡ get_or area (base + o) x → slice_get (take words (drop base area)) o ≡ Some x
-of_area area base words o x below is =
-    let low : o < words = omega (arith, below, length-take words (drop base area)) in
-    slice_get-get_or (take words (drop base area)) o x below
-    ∙ ap (λ (z : ℤ). Some z) (get_or-take words (drop base area) o x low ∙ get_or-drop base area o x ∙ sym is)
-
--- where a monitor has a word, it is there
-pub monitor_there : (area : List ℤ) (o : ℕ) (found : Option Monitor) → o < length (words_in area found) → (monitor : Monitor) × (found ≡ Some monitor)
-monitor_there area o None below = absurd (omega (arith, below))
-monitor_there area o (Some monitor) below = (monitor, refl)
+-- how a process of a board stands
+pub thread_at : (cells : List Cell) (k : ℕ) (c : Cell) (t : Thread) → k < length cells → c ≡ get_or cells k c → thread_of c ≡ t → slice_get (threads_of cells) k ≡ Some t
+thread_at cells k c t below at is =
+    slice_get-map thread_of cells k ∙ ap (λ (o : Option Cell). option_map thread_of o) (slice_get_read cells (length cells) k c refl below at) ∙ ap (λ (x : Thread). Some x) is

@@ -1,6 +1,7 @@
 //! Monitors.
 
 ghost use Rattle.std.specs.Prelude.{◌≡◌, ◌<◌, ◌↔◌, true, None, Some, length, slice_get};
+ghost use Rattle.std.specs.List.{position};
 ghost use Rattle.rte_image.specs.Raw.{image_of};
 ghost use Rattle.rte_machine_meaning.specs.Run.{state_at};
 ghost use Rattle.rte_machine_meaning.specs.State.{is_free, thread_inside};
@@ -25,11 +26,18 @@ fn is_inside(cell: &Cell, monitor: u16) -> bool
     }
 }
 
+/// The first of the processes that is inside a monitor.
+fn first_inside(cells: &[Cell], monitor: u16) -> Option<usize>
+    ensures { result ≡ position (λ cell. thread_inside monitor (thread_of cell)) cells.now }
+{
+    cells.iter().position(|cell| is_inside(cell, monitor))
+}
+
 /// The process of the board that is inside a monitor.
 fn occupant_on(board: &Board, monitor: u16) -> Option<usize>
     ensures { result ≡ occupant_of (state_of board.now) monitor }
 {
-    board.cells.iter().position(|cell| is_inside(cell, monitor))
+    first_inside(&board.cells, monitor)
 }
 
 /// The process that is inside a monitor; `None` exactly where the monitor is free.

@@ -1,6 +1,6 @@
 -- The instruction that a turn completes is the one whose effect comes in its last tick.
-use Rattle.std.proofs.Common.{◌≡◌, ◌≤◌, ◌<◌, ◌+◌, ◌-◌, inl, inr, ℕ, zero, suc, Bool, true, false, List, Option, Some, None, arith, refl, ap, sym, subst, ◌∙◌}
-use Rattle.std.specs.Prelude.{ℤ, slice_get, slice_set, cond, min, nat_le, nat_lt}
+use Rattle.std.proofs.Common.{◌≡◌, ◌≤◌, ◌<◌, ◌+◌, ◌-◌, inl, inr, ℕ, zero, suc, Bool, true, false, List, Option, Some, None, arith, refl, ap, sym, ◌∙◌}
+use Rattle.std.specs.Prelude.{ℤ, slice_get, cond, min, nat_le, nat_lt}
 use Rattle.std.proofs.lemmas.Bool.{cases_lt}
 use Rattle.std.proofs.lemmas.Bool.Decides.{nat_tests}
 use Rattle.rte_isa.specs.declared.instr.Instr.{Instr}
@@ -222,7 +222,7 @@ pub turn_completes_alone : (run : Run) (t n most : ℕ) → IsWhole run t n most
 turn_completes_alone run t n most whole = by (place_of (pick run.image (start run t).threads)) refl whole.lasts where
   by : (who : Option ℕ) → place_of (pick run.image (start run t).threads) ≡ who → n ≡ lasts_picked run.image (start run t) most who → NoneBetween run.image run.script t (t + n)
   by None none same = λ u low high. (let within = whole.within in let m : ℕ = u - t in let here : u ≡ t + m = omega (arith, low) in
-    ap (λ (x : ℕ). last_completed run.image run.script x) here ∙ idle_last run whole.safe t none most whole.quiet m (omega (arith, low)) (omega (arith, high, within, low)))
+      ap (λ (x : ℕ). last_completed run.image run.script x) here ∙ idle_last run whole.safe t none most whole.quiet m (omega (arith, low)) (omega (arith, high, within, low)))
   by (Some k) is same =
       let r : IsReady run.image (start run t) k = is_ready run.image (start run t) k is in
       picked_sole run whole.safe t k r.job is r.ready most whole.quiet n (same ∙ ap (λ (o : Option Thread). lasts_thread run.image most o) r.ready)

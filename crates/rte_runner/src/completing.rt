@@ -13,7 +13,7 @@ use rte_silent::Job;
 use rte_state::{Board, Plan};
 use rte_view::Completed;
 
-/// Whether an activation completes its instruction in so many ticks at once.
+/// Whether an activation completes its instruction in so many ticks at once: it burns none of them.
 fn completes(code: &[Instr], job: &Job, most: u64) -> bool
     ensures { TellsWithin code.now job.now most result }
 {
@@ -53,14 +53,9 @@ fn completed_within(plan: &Plan, board: &Board, most: u64) -> Option<Completed>
     }
 }
 
-/// The instruction that a turn of so many clear ticks completes, where the call goes so far; it is
-/// not asked for a row.
-pub(crate) fn completing(
-    plan: &Plan,
-    board: &Board,
-    most: u64,
-    reach: Reach,
-) -> Option<Completed>
+/// The instruction that a turn completes, in which nothing starts for so many ticks; of a row it is
+/// not told.
+pub(crate) fn completing(plan: &Plan, board: &Board, most: u64, reach: Reach) -> Option<Completed>
     ghost image: { Image }
     requires plan { IsOf image plan.now }
     requires board { IsBoardOf image board.now }

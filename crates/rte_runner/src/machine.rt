@@ -61,13 +61,7 @@ impl Machine {
 
     /// The start events of the tick, and then ticks at once, up to the limit at most, as far as the
     /// call goes. After a turn it tells the instruction whose effect came in the last tick.
-    fn step(
-        &mut self,
-        plan: &Plan,
-        script: &Script,
-        limit: u64,
-        reach: Reach,
-    ) -> Option<Completed>
+    fn step(&mut self, plan: &Plan, script: &Script, limit: u64, reach: Reach) -> Option<Completed>
         ghost run: { Run }
         requires plan { IsOf run.image plan.now }
         requires script { run.script ≡ script_of script.now }
