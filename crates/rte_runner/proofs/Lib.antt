@@ -4,3 +4,4 @@ pub mod Passing
 pub mod Rowing
 pub mod Turning
 pub mod Ending
+pub mod Telling

@@ -3,3 +3,4 @@ pub mod Runnable
 pub mod Turn
 pub mod Standing
 pub mod Ends
+pub mod Completing

@@ -8,9 +8,12 @@
 //! sees, up to the next tick at which something is due or the first event. Their promise: the
 //! machine then stands in the run, and its events are those of the ticks that passed. What is asked
 //! of the run is `IsRunnable` in `specs/Runnable.antt`, and holds of each valid image under a
-//! script that respects its frames. Nothing but `Machine::new` takes memory.
+//! script that respects its frames. `follow` takes a turn and tells the instruction whose effect
+//! came in its last tick, and `board` lends what is to be seen between turns. Nothing but
+//! `Machine::new` takes memory.
 #![tactic(auto)]
 
+mod completing;
 mod machine;
 mod span;
 mod turn;

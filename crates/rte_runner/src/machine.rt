@@ -4,17 +4,21 @@ ghost use Rattle.std.specs.Prelude.{◌≡◌, ◌≢◌, ◌≤◌, ◌<◌, �
 ghost use Rattle.rte_machine_meaning.specs.Image.{Image};
 ghost use Rattle.rte_starts.specs.Begin.{script_of};
 ghost use Rattle.rte_state.specs.Plan.{IsOf};
+ghost use Rattle.rte_view.specs.Completed.{last_completed};
+ghost use Rattle.rte_runner.specs.Completing.{NoneBetween};
 ghost use Rattle.rte_runner.specs.Ends.{IsTurnEnd};
 ghost use Rattle.rte_runner.specs.Runnable.{IsRunnable};
 ghost use Rattle.rte_runner.specs.Standing.{StandsIn, events_between};
 ghost use Rattle.rte_runner.specs.Turn.{Run};
 
+use crate::completing::completing;
 use crate::span::span;
 use crate::turn::{Reach, take_turn};
 use rte_event::Event;
 use rte_script::Script;
 use rte_starts::Agenda;
 use rte_state::{Board, Fired, Plan};
+use rte_view::Completed;
 use std::alloc::{AllocError, Global};
 
 /// What a call of `advance` or `advance_row` came to.
@@ -56,8 +60,8 @@ impl Machine {
     }
 
     /// The start events of the tick, and then ticks at once, up to the limit at most, as far as the
-    /// call goes.
-    fn step(&mut self, plan: &Plan, script: &Script, limit: u64, reach: Reach)
+    /// call goes. After a turn it tells the instruction whose effect came in the last tick.
+    fn step(&mut self, plan: &Plan, script: &Script, limit: u64, reach: Reach) -> Option<Completed>
         ghost run: { Run }
         requires plan { IsOf run.image plan.now }
         requires script { run.script ≡ script_of script.now }
@@ -71,11 +75,16 @@ impl Machine {
             events_between run.image run.script self.old.tick self.new.tick }
         ensures ends { reach ≡ Reach.Turn →
             IsTurnEnd run.image run.script limit self.old.tick self.new.tick }
+        ensures last { reach ≡ Reach.Turn →
+            result ≡ last_completed run.image run.script self.new.tick }
+        ensures sole { reach ≡ Reach.Turn →
+            NoneBetween run.image run.script self.old.tick self.new.tick }
     {
         self.fired.clear();
         self.agenda
             .begin(plan, script, &mut self.board, &mut self.fired, self.tick);
         let most = span(&self.agenda, self.tick, limit);
+        let completed = completing(plan, &self.board, most, reach);
         let ticks = take_turn(
             plan,
             &mut self.board,
@@ -86,6 +95,7 @@ impl Machine {
             reach,
         );
         self.tick += ticks;
+        completed
     }
 
     /// Ticks up to the limit at most, as far as the call goes; `Done` where the limit is reached.
@@ -109,7 +119,7 @@ impl Machine {
         if self.tick >= limit {
             return Turn::Done;
         }
-        self.step(plan, script, limit, reach);
+        let _ = self.step(plan, script, limit, reach);
         if self.fired.is_empty() {
             Turn::Quiet
         } else {
@@ -179,6 +189,34 @@ impl Machine {
         ensures events { result ≡ Turn.Events → self.new.fired.items ≢ [] }
     {
         self.go_on(plan, script, script.end(), Reach::Row)
+    }
+
+    /// One turn, up to the limit at most, which is above the tick and no later than the end: the
+    /// instruction whose effect came in its last tick, if there was one. In the ticks before none
+    /// has its effect.
+    pub fn follow(&mut self, plan: &Plan, script: &Script, limit: u64) -> Option<Completed>
+        ghost image: { Image }
+        requires plan { IsOf image plan.now }
+        requires runnable { IsRunnable image (script_of script.now) }
+        requires stands { StandsIn image (script_of script.now) self.old }
+        requires limit { limit ≤ script.now.end }
+        requires before { self.old.tick < limit }
+        ensures passed { self.old.tick < self.new.tick }
+        ensures stands { StandsIn image (script_of script.now) self.new }
+        ensures fell { self.new.fired.items ≡
+            events_between image (script_of script.now) self.old.tick self.new.tick }
+        ensures ends { IsTurnEnd image (script_of script.now) limit self.old.tick self.new.tick }
+        ensures last { result ≡ last_completed image (script_of script.now) self.new.tick }
+        ensures sole { NoneBetween image (script_of script.now) self.old.tick self.new.tick }
+    {
+        self.step(plan, script, limit, Reach::Turn)
+    }
+
+    /// Where all processes stand before the tick that comes next.
+    pub fn board(&self) -> &Board
+        ensures { result.now ≡ self.now.board }
+    {
+        &self.board
     }
 
     /// The events of the last turn, in order.

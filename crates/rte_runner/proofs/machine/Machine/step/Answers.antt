@@ -16,8 +16,10 @@ use Rattle.rte_starts.proofs.Boards.{cells_count}
 use Rattle.rte_starts.proofs.Joining.{threads_count}
 use Rattle.rte_starts.proofs.Saying.{as_many_lines}
 use Rattle.rte_runner.specs.Ends.{lasts}
+use Rattle.rte_runner.specs.Completing.{completed_within}
 use Rattle.rte_runner.proofs.Due.{starts_later}
 use Rattle.rte_runner.proofs.Ending.{turn_end}
+use Rattle.rte_runner.proofs.Telling.{is_whole, turn_completes, turn_completes_alone}
 use Rattle.rte_runner.proofs.Turning.{starts_calm, told}
 use Rattle.rte_runner.proofs.Waiting.{queued_have}
 use Rattle.rte_runner.proofs.machine.Machine.step.Goals as goal
@@ -152,3 +154,37 @@ returns-clause-ends g c turn =
       n_most = c.take_turn-ticks.ensures.most;
     })
     (c.take_turn-ticks.ensures.lasts turn ∙ ap (λ (x : State). lasts image x most) is)
+
+pub returns-clause-last : goal.returns-clause-last
+returns-clause-last g c turn =
+    let image = g.run.image in
+    let same = c.requires.1.0 in
+    let stands = c.requires.1.1.1.0 in
+    let t = c.args.self.now.tick in
+    let most = c.span-most.result in
+    let slots = c.begin.new.self.slots in
+    let is : state_of c.begin.new.board ≡ begun image g.run.script t =
+    c.begin.ensures.state ∙ ap (λ (x : Script). (starts image x t (state_of c.args.self.now.board)).state) (sym same) ∙ ap (λ (x : State). (starts image g.run.script t x).state) stands.state in
+    let has : HasSlots image g.run.script t c.begin.new.self.done (begun image g.run.script t) slots =
+    subst (λ (x : State). HasSlots image g.run.script t c.begin.new.self.done x slots) is (subst (λ (x : Script). HasSlots image x t c.begin.new.self.done (state_of c.begin.new.board) slots) (sym same) c.begin.ensures.slots) in
+    let whole = is_whole g.run t c.take_turn-ticks.result most c.begin.new.self.done slots c.requires.1.1.0.safe has c.span-most.ensures.clear c.take_turn-ticks.ensures.passed.some c.take_turn-ticks.ensures.most
+    (c.take_turn-ticks.ensures.lasts turn ∙ ap (λ (x : State). lasts image x most) is) in
+    c.completing-completed.ensures turn
+    ∙ ap (λ (x : State). completed_within image most x) is
+    ∙ sym (turn_completes g.run t c.take_turn-ticks.result most whole)
+
+pub returns-clause-sole : goal.returns-clause-sole
+returns-clause-sole g c turn =
+    let image = g.run.image in
+    let same = c.requires.1.0 in
+    let stands = c.requires.1.1.1.0 in
+    let t = c.args.self.now.tick in
+    let most = c.span-most.result in
+    let slots = c.begin.new.self.slots in
+    let is : state_of c.begin.new.board ≡ begun image g.run.script t =
+    c.begin.ensures.state ∙ ap (λ (x : Script). (starts image x t (state_of c.args.self.now.board)).state) (sym same) ∙ ap (λ (x : State). (starts image g.run.script t x).state) stands.state in
+    let has : HasSlots image g.run.script t c.begin.new.self.done (begun image g.run.script t) slots =
+    subst (λ (x : State). HasSlots image g.run.script t c.begin.new.self.done x slots) is (subst (λ (x : Script). HasSlots image x t c.begin.new.self.done (state_of c.begin.new.board) slots) (sym same) c.begin.ensures.slots) in
+    let whole = is_whole g.run t c.take_turn-ticks.result most c.begin.new.self.done slots c.requires.1.1.0.safe has c.span-most.ensures.clear c.take_turn-ticks.ensures.passed.some c.take_turn-ticks.ensures.most
+    (c.take_turn-ticks.ensures.lasts turn ∙ ap (λ (x : State). lasts image x most) is) in
+    turn_completes_alone g.run t c.take_turn-ticks.result most whole

@@ -5,3 +5,6 @@ ghost-begin g a = g.run.image
 
 abbrev pub ghost-take_turn : goal.ghost-take_turn
 ghost-take_turn g a = g.run
+
+abbrev pub ghost-completing : goal.ghost-completing
+ghost-completing g a = g.run.image

@@ -1,0 +1,4 @@
+pub mod Looking
+pub mod Occupying
+pub mod Declaring
+pub mod Ticking

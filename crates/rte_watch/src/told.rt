@@ -1,0 +1,137 @@
+//! The lines of processes and monitors.
+
+ghost use Rattle.std.specs.Prelude.{◌≡◌, ◌++◌, ◌≤◌, ◌<◌, IfOk, OnOk, length, slice_get, take, Some};
+ghost use Rattle.rte_image.specs.Raw.{image_of};
+ghost use Rattle.rte_machine_meaning.specs.Run.{state_at};
+ghost use Rattle.rte_runner.specs.Standing.{StandsIn};
+ghost use Rattle.rte_runner.specs.Turn.{Run};
+ghost use Rattle.rte_state.specs.Plan.{IsOf};
+ghost use Rattle.rte_stop.specs.Text.{monitor_line, process_line, state_text};
+ghost use Rattle.rte_view.specs.View.{monitor_words, process_words};
+ghost use Rattle.rte_inspect.specs.Laws.{HasItsWords};
+
+use rte_image::RawImage;
+use rte_inspect::{monitor_word, occupant, view, word};
+use rte_runner::Machine;
+use rte_state::Plan;
+use rte_stop_text::{put_monitor, put_process};
+use rte_tree::Text;
+use std::alloc::{AllocError, Global};
+
+/// How many words are shown at most.
+const SHOWN_WORDS: usize = 16;
+
+/// The first words of a process, so many.
+fn words_of_process(
+    alloc: Global,
+    machine: &Machine,
+    process: usize,
+    count: usize,
+) -> Result<Vec<i32>, AllocError>
+    ghost run: { Run }
+    requires stands { StandsIn run.image run.script machine.now }
+    requires count { count ≤
+        length (process_words (state_at run.image run.script machine.now.tick) process) }
+    ensures { IfOk result (λ words. words.items ≡
+        take count (process_words (state_at run.image run.script machine.now.tick) process)) }
+{
+    let mut words = Vec::new(alloc);
+    for number in 0..count {
+        words.push(word(machine, process, number))?;
+    }
+    Ok(words)
+}
+
+/// The first words of a monitor, so many.
+fn words_of_monitor(
+    alloc: Global,
+    image: &RawImage,
+    machine: &Machine,
+    monitor: usize,
+    count: usize,
+) -> Result<Vec<i32>, AllocError>
+    ghost run: { Run }
+    requires image { run.image ≡ image_of image.now }
+    requires stands { StandsIn run.image run.script machine.now }
+    requires count { count ≤ length (monitor_words run.image
+        (state_at run.image run.script machine.now.tick) monitor) }
+    ensures { IfOk result (λ words. words.items ≡ take count (monitor_words run.image
+        (state_at run.image run.script machine.now.tick) monitor)) }
+{
+    let mut words = Vec::new(alloc);
+    for number in 0..count {
+        words.push(monitor_word(image, machine, monitor, number))?;
+    }
+    Ok(words)
+}
+
+/// Puts the line of a process.
+fn put_one_process(
+    alloc: Global,
+    text: &mut Text,
+    image: &RawImage,
+    plan: &Plan,
+    machine: &Machine,
+    process: usize,
+) -> Result<(), AllocError>
+    ghost run: { Run }
+    requires image { run.image ≡ image_of image.now }
+    requires plan { IsOf run.image plan.now }
+    requires stands { StandsIn run.image run.script machine.now }
+    requires words { HasItsWords run.image (state_at run.image run.script machine.now.tick) }
+    requires process { process < length image.now.processes }
+    ensures { OnOk result (text.new ≡ text.old ++ process_line image.now.names run.image
+        (state_at run.image run.script machine.now.tick) process) }
+{
+    let count = image.processes.as_slice()[process].words as usize;
+    let words = words_of_process(alloc, machine, process, count.min(SHOWN_WORDS))?;
+    let seen = view(plan, machine, process);
+    put_process(text, &image.names, process, seen, words.as_slice())
+}
+
+/// Puts the line of a monitor.
+fn put_one_monitor(
+    alloc: Global,
+    text: &mut Text,
+    image: &RawImage,
+    machine: &Machine,
+    monitor: usize,
+) -> Result<(), AllocError>
+    ghost run: { Run }
+    requires image { run.image ≡ image_of image.now }
+    requires stands { StandsIn run.image run.script machine.now }
+    requires words { HasItsWords run.image (state_at run.image run.script machine.now.tick) }
+    requires monitor { monitor < length image.now.monitors }
+    ensures { OnOk result (text.new ≡ text.old ++ monitor_line image.now.names run.image
+        (state_at run.image run.script machine.now.tick) monitor) }
+{
+    let count = image.monitors.as_slice()[monitor].words as usize;
+    let words = words_of_monitor(alloc, image, machine, monitor, count.min(SHOWN_WORDS))?;
+    let inside = occupant(machine, monitor as u16);
+    put_monitor(text, &image.names, monitor, inside, words.as_slice())
+}
+
+/// Puts the lines of all processes and monitors.
+pub(crate) fn put_state(
+    alloc: Global,
+    text: &mut Text,
+    image: &RawImage,
+    plan: &Plan,
+    machine: &Machine,
+) -> Result<(), AllocError>
+    ghost run: { Run }
+    requires image { run.image ≡ image_of image.now }
+    requires plan { IsOf run.image plan.now }
+    requires stands { StandsIn run.image run.script machine.now }
+    requires words { HasItsWords run.image (state_at run.image run.script machine.now.tick) }
+    ensures { OnOk result (text.new ≡ text.old ++ state_text image.now.names run.image
+        (state_at run.image run.script machine.now.tick)) }
+{
+    for process in 0..image.processes.len() {
+        put_one_process(alloc, text, image, plan, machine, process)?;
+    }
+    for monitor in 0..image.monitors.len() {
+        put_one_monitor(alloc, text, image, machine, monitor)?;
+    }
+    Ok(())
+}
