@@ -8,8 +8,8 @@ ghost use Rattle.rte_asm_laws.specs.Laws.{
   TextsReadAreOfImages,
 };
 
-use rte_asm_reads::law::texts_written_are_read;
-use rte_asm_size::law::texts_hold_their_bytes;
+use rte_asm_reads::texts_written_are_read;
+use rte_asm_size::texts_hold_their_bytes;
 use rte_asm_sound::texts_read_are_written;
 use rte_image_sound::law::images_written_are_read;
 

@@ -1,10 +1,6 @@
 -- The instruction whose effect comes in a tick. A process does one instruction for all its ticks,
 -- and its effect comes in the last of them.
-<<<<<<< HEAD
-use Rattle.std.specs.Prelude.{◌+◌, ℕ, zero, suc, Bool, true, false, Option, Some, None, if◌then◌else◌, nat_le, slice_get}
-=======
 use Rattle.std.specs.Prelude.{◌+◌, ℕ, zero, suc, Bool, false, Option, Some, None, if◌then◌else◌, nat_le, slice_get}
->>>>>>> b60a0e8842d2687180e3dd14a494b1842212b28e
 use Rattle.rte_isa.specs.declared.instr.Instr.{Instr}
 use Rattle.rte_isa.specs.Ticks.{ticks}
 use Rattle.rte_machine_meaning.specs.Image.{Image, Script}

@@ -13,12 +13,8 @@ pub enum View {
         inside: Option<u16>,
     },
     /// It waits on a condition, and times out at the tick `due`.
-<<<<<<< HEAD
-    Waiting { condition: u16, due: u64 },
-=======
     Waiting {
         condition: u16,
         due: u64,
     },
->>>>>>> b60a0e8842d2687180e3dd14a494b1842212b28e
 }
