@@ -3,11 +3,12 @@
 ghost use Rattle.std.specs.Prelude.{◌+◌, ◌≤◌, ◌<◌, ℕ, length, take, IfSome, IfNone};
 ghost use Rattle.rte_response.specs.Demand.{Solves, IsBound, starts_in, deadline_at};
 
-use rte_response::{Steps, TaskSet, demand};
+use rte_response::{Steps, TaskSet, demand, response_floor};
 use std::sync::ledger::Ledger;
 
 /// The least response of 1 tick up to the deadline that meets the recurrence of the level, iterated
-/// from below.
+/// from below: from the floor of its responses, so that a level that hardly gets the processor is
+/// not searched in small steps.
 ///
 /// None exactly where there is none. The evaluations of the demand are at most two more than the
 /// activations that the tasks up to the level start within the deadline of the level.
@@ -19,7 +20,9 @@ pub fn bound<L: Ledger>(set: &TaskSet, level: usize, steps: &mut Steps<L>) -> Op
         starts_in (deadline_at set.now level) (take (level + 1) set.now)) }
 {
     let limit = set.limit(level);
-    let mut response = 1;
+    let Some(mut response) = response_floor(set, level) else {
+        return None;
+    };
     let mut asked = demand(set, level, response, steps);
     while response < asked {
         if asked > limit {

@@ -1,3 +1,4 @@
 pub mod Ascending
 pub mod Capping
 pub mod Caps
+pub mod Shares

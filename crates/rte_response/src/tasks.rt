@@ -1,6 +1,6 @@
 //! Tasks, and what they ask of the processor.
 
-ghost use Rattle.std.specs.Prelude.{◌≡◌, ◌+◌, ◌*◌, ◌≤◌, ◌<◌, ◌↔◌, length, All, IsTrue, SomeIff};
+ghost use Rattle.std.specs.Prelude.{◌≡◌, ◌+◌, ◌*◌, ◌≤◌, ◌<◌, ◌↔◌, length, take, All, IsTrue, SomeIff};
 ghost use Rattle.std.specs.Int.{div_ceil};
 ghost use Rattle.std.specs.List.Sorted.{IsNonDecreasingBy};
 ghost use Rattle.rte_num.specs.Capped.{cap};
@@ -87,6 +87,25 @@ impl TaskSet {
         self.tasks[level].deadline
     }
 
+    /// The task of the level.
+    pub(crate) fn task(&self, level: usize) -> Task
+        requires { level < length self.now }
+        ensures value { result ≡ task_at self.now level }
+        ensures range { IsTask result }
+    {
+        self.tasks[level]
+    }
+
+    /// The tasks that rank above the level.
+    pub(crate) fn higher(&self, level: usize) -> &[Task]
+        requires { level < length self.now }
+        ensures value { result.now ≡ take level self.now }
+        ensures few { length result.now ≤ 64 }
+        ensures range { All IsTask result.now }
+    {
+        &self.tasks[..level]
+    }
+
     /// The ticks that one activation of the level's task runs, at most.
     pub fn run(&self, level: usize) -> u64
         requires { level < length self.now }
@@ -134,7 +153,7 @@ fn deadlines_ascend(tasks: &[Task]) -> bool
 }
 
 /// What one activation of the task asks for, where each wait is followed by a blocking.
-fn activation_of(task: Task, block: u64) -> u64
+pub(crate) fn activation_of(task: Task, block: u64) -> u64
     requires task { IsTask task }
     requires block { block ≤ 1000000001 }
     ensures { result ≡ cap (activation block task) }

@@ -1,0 +1,5 @@
+pub mod Words
+pub mod Trees
+pub mod Lines
+pub mod Ranges
+pub mod Whole
