@@ -10,6 +10,8 @@ mod devices;
 #[cfg(test)]
 mod hostile;
 #[cfg(test)]
+mod image_texts;
+#[cfg(test)]
 mod images;
 #[cfg(test)]
 mod known;

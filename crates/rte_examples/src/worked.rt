@@ -264,7 +264,7 @@ const ROWS: &[Row] = &[
 ];
 
 /// Control of a mine's pump.
-const MINE: &str = "program mine
+pub const MINE: &str = "program mine
 device level : in  device methane : in  device air : in
 device pump : out  device alarm : out  device panel : out
 event high
