@@ -16,6 +16,14 @@ const IDLE_TEXT: &str =
 const VALVE_TEXT: &str =
     "image a overhead 0\ndevice valve out\nprocess p periodic frame 15 deadline 15 first 0 rank 1 run 15 suspend 0 waits 0 block 0 bound 15 data 0 stack 1 locals 0 start 0\ntree line 2\nPUSH 7\nOUT 0\nEND\nend\n";
 
+/// The file holds just these bytes.
+fn is(file: &Option<Vec<u8>>, bytes: &[u8]) -> bool {
+    match file {
+        Some(held) => held.as_slice() == bytes,
+        None => false,
+    }
+}
+
 /// A call of `asm T I`, where T holds the text.
 fn assembled(alloc: Global, text: &[u8], failures: Failures) -> Result<Outcome, Fail> {
     call_beside(alloc, "asm T I", VALVE, SCRIPT, "T", text, failures)
@@ -45,11 +53,11 @@ fn texts_are_assembled(rt: HostRuntime) -> Result<(), Fail> {
         let made = assembled(alloc, text.as_bytes(), NO_FAILURES)?;
         assert_eq!(rt; made.status, 0);
         assert!(rt; made.put.is_empty());
-        assert!(rt; made.image.as_deref() == Some(bytes.as_slice()));
+        assert!(rt; is(&made.image, bytes.as_slice()));
         let back = call_on_image(alloc, "dis I J", bytes.as_slice(), SCRIPT)?;
         assert_eq!(rt; back.status, 0);
         assert!(rt; back.put.is_empty());
-        assert!(rt; back.migrated.as_deref() == Some(text.as_bytes()));
+        assert!(rt; is(&back.migrated, text.as_bytes()));
     }
     Ok(())
 }
@@ -57,7 +65,7 @@ fn texts_are_assembled(rt: HostRuntime) -> Result<(), Fail> {
 #[test]
 fn faulty_texts_are_refused(rt: HostRuntime) -> Result<(), Fail> {
     let alloc = rt.alloc();
-    for (right, wrong, put) in FAULTY {
+    for &(right, wrong, put) in FAULTY {
         let text = IDLE_TEXT.replace(alloc, right, wrong)?;
         let made = assembled(alloc, text.as_bytes(), NO_FAILURES)?;
         assert_eq!(rt; made.status, 4, "{wrong}");
@@ -82,7 +90,7 @@ fn images_are_told_and_read_back(rt: HostRuntime) -> Result<(), Fail> {
         let text = told.migrated.ok_or("no text")?;
         let again = assembled(alloc, text.as_slice(), NO_FAILURES)?;
         assert_eq!(rt; again.status, 0);
-        assert!(rt; again.image.as_deref() == Some(image.as_slice()));
+        assert!(rt; is(&again.image, image.as_slice()));
     }
     Ok(())
 }
@@ -112,7 +120,7 @@ const STOPS: &[(&str, &str)] = &[
 fn stops_are_told(rt: HostRuntime) -> Result<(), Fail> {
     let alloc = rt.alloc();
     let image = hex::decode(alloc, VALVE_SECOND)?;
-    for (line, put) in STOPS {
+    for &(line, put) in STOPS {
         let seen = call_beside(
             alloc,
             line,
