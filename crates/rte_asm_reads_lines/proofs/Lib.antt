@@ -2,3 +2,5 @@ pub mod Pieces
 pub mod Numbers
 pub mod Names
 pub mod TreeForms
+pub mod Trees
+pub mod Instrs
