@@ -3,4 +3,6 @@ pub mod Numbers
 pub mod Names
 pub mod TreeForms
 pub mod Trees
+pub mod Routines
+pub mod Processes
 pub mod Instrs

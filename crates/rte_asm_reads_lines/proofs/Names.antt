@@ -148,8 +148,12 @@ ceiling_reads c start rest low stops = by (c == 65535) refl where
   by false other =
       let below : c < 65535 = ceiling_below c low (eqb-false c 65535 other) in
       let number = numeral c (omega arith) in
-      rw (begins_not (codes " ceiling none") (codes " ceiling " ++ (decimal c ++ rest)) (digit_first 3 110 (codes "one") (decimal c) rest refl (decimal_nonempty c (omega arith)) number.are_digits),
-      skips (codes " ceiling ") start (decimal c ++ rest), numeral_reads c start rest (omega arith) stops, lt-ltb c 65535 below) refl
+      rw (
+        begins_not (codes " ceiling none") (codes " ceiling " ++ (decimal c ++ rest)) (digit_first 3 110 (codes "one") (decimal c) rest refl (decimal_nonempty c (omega arith)) number.are_digits),
+        skips (codes " ceiling ") start (decimal c ++ rest),
+        numeral_reads c start rest (omega arith) stops,
+        lt-ltb c 65535 below,
+      ) refl
 
 pub monitor_reads : (taken : List (List ℕ)) (m : List ℕ × Monitor) (rest : List ℕ) → (named_monitor_format taken).is m ≡ true → monitor_read taken (line_start (monitor_line m.0 m.1 ++ rest)) ≡ Ok (m, line_start rest)
 unfolding monitor_read
@@ -166,10 +170,15 @@ monitor_reads taken m rest h =
     let at_base = codes " base " ++ (decimal m.1.base ++ at_words) in
     let text = codes "monitor " ++ (m.0 ++ at_base) in
     let same : monitor_line m.0 m.1 ++ rest ≡ text =
-        named_2 (codes "monitor ") m.0 (codes " base ") (decimal m.1.base) (codes " words ") (decimal m.1.words) (codes " ceiling ") (ceiling_text m.1.ceiling) (codes "\n") rest in
+    named_2 (codes "monitor ") m.0 (codes " base ") (decimal m.1.base) (codes " words ") (decimal m.1.words) (codes " ceiling ") (ceiling_text m.1.ceiling) (codes "\n") rest in
     ap (λ t. monitor_read taken (line_start t)) same
-    ∙ rw (named_reads (codes "monitor ") taken m.0 (length text) at_base (is_name taken m.0 p.0) refl, field_reads (codes " base ") 0 4294967295 m.1.base (length text) at_words (omega arith) (omega arith) (omega arith) refl,
-    field_reads (codes " words ") 0 4294967295 m.1.words (length text) at_ceiling (omega arith) (omega arith) (omega arith) refl, ceiling_reads m.1.ceiling (length text) at_end ceiling refl, ends (length text) rest) refl
+    ∙ rw (
+      named_reads (codes "monitor ") taken m.0 (length text) at_base (is_name taken m.0 p.0) refl,
+      field_reads (codes " base ") 0 4294967295 m.1.base (length text) at_words (omega arith) (omega arith) (omega arith) refl,
+      field_reads (codes " words ") 0 4294967295 m.1.words (length text) at_ceiling (omega arith) (omega arith) (omega arith) refl,
+      ceiling_reads m.1.ceiling (length text) at_end ceiling refl,
+      ends (length text) rest,
+    ) refl
 
 -- ---- conditions
 
@@ -186,5 +195,10 @@ condition_reads taken monitors earlier c rest h =
     let text = codes "condition " ++ (c.name ++ at_monitor) in
     let same : condition_line c ++ rest ≡ text = simp append_assoc in
     ap (λ t. condition_read taken monitors earlier (line_start t)) same
-    ∙ rw (named_reads (codes "condition ") taken c.name (length text) at_monitor (is_name taken c.name q.0) refl, field_reads (codes " ") 0 65535 c.mon (length text) at_end (omega arith) (omega (arith, mon.0)) (omega arith) refl,
-    mon.1, first, ends (length text) rest) refl
+    ∙ rw (
+      named_reads (codes "condition ") taken c.name (length text) at_monitor (is_name taken c.name q.0) refl,
+      field_reads (codes " ") 0 65535 c.mon (length text) at_end (omega arith) (omega (arith, mon.0)) (omega arith) refl,
+      mon.1,
+      first,
+      ends (length text) rest,
+    ) refl

@@ -256,7 +256,7 @@ unfolding tree_form
 tree_is_formed tree h =
     let all : segs_text tree ++ [] ≡ segs_text tree = append-nil (segs_text tree) in
     let first : cuts 32 (tree_words tree) ≡ codes "tree" ∷ later (segs_text tree) =
-        cut_word (codes "tree") (segs_text tree) refl (subst (Stops in_word) all (tree_stops in_word refl tree [] tt)) in
+    cut_word (codes "tree") (segs_text tree) refl (subst (Stops in_word) all (tree_stops in_word refl tree [] tt)) in
     let more : later (segs_text tree) ≡ segs_words tree [] = ap later (sym all) ∙ segs_later tree [] h tt in
     rw (first, more, segs_steps tree [] [] h) refl
 

@@ -77,22 +77,33 @@ module _ (monitors : ℕ) (sub : Format Segs) (read : Front → Read Segs) (read
   call_reads routine start rest h stops =
       let text = codes " call " ++ (decimal routine ++ rest) in
       let low : routine < 2 ^ 16 = ltb-true routine (2 ^ 16) h in
-      rw (begins_not (codes " line ") text refl, begins_not (codes " fork") text refl, begins_self (codes " call ") (decimal routine ++ rest),
-      field_reads (codes " call ") 0 65535 routine start rest (omega arith) (omega (arith, low)) (omega arith) stops) refl
+      rw (
+        begins_not (codes " line ") text refl,
+        begins_not (codes " fork") text refl,
+        begins_self (codes " call ") (decimal routine ++ rest),
+        field_reads (codes " call ") 0 65535 routine start rest (omega arith) (omega (arith, low)) (omega arith) stops,
+      ) refl
 
   wait_reads : (start : ℕ) (rest : List ℕ) → seg_read monitors read (place start (codes " wait" ++ rest)) ≡ Ok (Wait, place start rest)
   unfolding seg_read
   wait_reads start rest =
       let text = codes " wait" ++ rest in
-      rw (begins_not (codes " line ") text refl, begins_not (codes " fork") text refl, begins_self (codes " wait") rest,
-      skips (codes " wait") start rest) refl
+      rw (
+        begins_not (codes " line ") text refl,
+        begins_not (codes " fork") text refl,
+        begins_self (codes " wait") rest,
+        skips (codes " wait") start rest,
+      ) refl
 
   exit_reads : (start : ℕ) (rest : List ℕ) → seg_read monitors read (place start (codes " exit" ++ rest)) ≡ Ok (Exit, place start rest)
   unfolding seg_read
   exit_reads start rest =
       let text = codes " exit" ++ rest in
-      rw (begins_not (codes " line ") text refl, begins_not (codes " fork") text refl,
-      skips (codes " exit") start rest) refl
+      rw (
+        begins_not (codes " line ") text refl,
+        begins_not (codes " fork") text refl,
+        skips (codes " exit") start rest,
+      ) refl
 
   fork_reads : (first second : Segs) (start : ℕ) (rest : List ℕ) → (seg_format monitors sub).is (Fork first second) ≡ true → seg_read monitors read (place start (seg_text (Fork first second) ++ rest)) ≡ Ok (Fork first second, place start rest)
   unfolding seg_read
@@ -114,8 +125,13 @@ module _ (monitors : ℕ) (sub : Format Segs) (read : Front → Read Segs) (read
       let text = codes " rep " ++ (decimal turns ++ arm) in
       let same : seg_text (Rep turns body) ++ rest ≡ text = simp append_assoc in
       ap (λ t. seg_read monitors read (place start t)) same
-      ∙ rw (begins_not (codes " line ") text refl, begins_not (codes " fork") text refl, begins_self (codes " rep ") (decimal turns ++ arm), field_reads (codes " rep ") 1 1000000 turns start arm range.0 range.1 (omega arith) refl,
-      arm_reads body start rest p.1) refl
+      ∙ rw (
+        begins_not (codes " line ") text refl,
+        begins_not (codes " fork") text refl,
+        begins_self (codes " rep ") (decimal turns ++ arm),
+        field_reads (codes " rep ") 1 1000000 turns start arm range.0 range.1 (omega arith) refl,
+        arm_reads body start rest p.1,
+      ) refl
 
   stay_reads : (monitor : ℕ) (body : Segs) (start : ℕ) (rest : List ℕ) → (seg_format monitors sub).is (Stay monitor body) ≡ true
       → seg_read monitors read (place start (seg_text (Stay monitor body) ++ rest)) ≡ Ok (Stay monitor body, place start rest)
@@ -127,8 +143,14 @@ module _ (monitors : ℕ) (sub : Format Segs) (read : Front → Read Segs) (read
       let text = codes " stay " ++ (decimal monitor ++ arm) in
       let same : seg_text (Stay monitor body) ++ rest ≡ text = simp append_assoc in
       ap (λ t. seg_read monitors read (place start t)) same
-      ∙ rw (begins_not (codes " line ") text refl, begins_not (codes " fork") text refl, begins_self (codes " stay ") (decimal monitor ++ arm),
-      field_reads (codes " stay ") 0 65535 monitor start arm (omega arith) (omega (arith, range.0)) (omega arith) refl, range.1, arm_reads body start rest p.1) refl
+      ∙ rw (
+        begins_not (codes " line ") text refl,
+        begins_not (codes " fork") text refl,
+        begins_self (codes " stay ") (decimal monitor ++ arm),
+        field_reads (codes " stay ") 0 65535 monitor start arm (omega arith) (omega (arith, range.0)) (omega arith) refl,
+        range.1,
+        arm_reads body start rest p.1,
+      ) refl
 
   seg_reads : (s : Seg) (start : ℕ) (rest : List ℕ) → (seg_format monitors sub).is s ≡ true → Stops is_digit rest → seg_read monitors read (place start (seg_text s ++ rest)) ≡ Ok (s, place start rest)
   seg_reads (Line count) start rest h stops = line_reads count start rest h stops
