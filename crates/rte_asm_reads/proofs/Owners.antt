@@ -4,7 +4,8 @@ use Rattle.std.specs.Prelude.{not, nat_lt, nat_le, nat_eq, codes, count_by, flat
 use Rattle.std.specs.List.{list_all}
 use Rattle.std.specs.Fmt.{signed_decimal}
 use Rattle.std.specs.Cmp.Lexicographic.{pointwise}
-use Rattle.std.proofs.lemmas.Bool.{and_parts, leb-true, ltb-true, ne_eqb}
+use Rattle.std.proofs.lemmas.Bool.{and_parts, and_from, leb-true, ltb-true, ne_eqb}
+use Rattle.std.proofs.lemmas.List.Sums.{sum_by-cons}
 use Rattle.rte_isa.specs.declared.instr.Instr.{Instr}
 use Rattle.rte_isa.specs.Bytes.{number}
 use Rattle.rte_machine_meaning.specs.Image.{Monitor, Routine, Process}
@@ -17,13 +18,14 @@ use Rattle.rte_image_reading.specs.Format.{Format, u16, u32, is_fine, unless, ch
 use Rattle.rte_image_reading.specs.TreeFormat.{u16_below, tree_format}
 use Rattle.rte_image_reading.specs.Grammar.{is_again, name_format, device_format, monitor_format, named_monitor_format, condition_format, routine_format, process_format, named_process_format, numbers_format, handler_tree_format, wrong_number, instr_format}
 use Rattle.rte_image_text.specs.Mnemonics.{mnemonic, named, operands_text, instr_line}
-use Rattle.rte_image_text.specs.Text.{head_line, direction, device_line, event_line, ceiling_text, monitor_line, condition_line, owner_text, bit, stay_text, cost_text, place_text, routine_lines, release_text, time_text, room_text, numbers_text, handler_text, handler_line, process_lines}
-use Rattle.rte_image_text.specs.TreeText.{tree_line}
+use Rattle.rte_image_text.specs.Text.{field, head_line, direction, device_line, event_line, ceiling_text, monitor_line, condition_line, owner_text, bit, stay_text, cost_text, place_text, routine_lines, release_text, time_text, room_text, numbers_text, handler_text, handler_line, process_lines}
+use Rattle.rte_image_text.specs.TreeText.{segs_text, tree_line}
 use Rattle.rte_line_fields.specs.Front.{begins}
 use Rattle.rte_asm_lines.specs.Names.{is_in_word}
 use Rattle.rte_asm_lines.specs.TreeForm.{cuts}
 use Rattle.rte_asm_lines.proofs.Cutting.{cuts_at}
 use Rattle.rte_asm_sections.specs.Sections.{owners_in}
+use Rattle.rte_asm_reads_lines.proofs.Pieces.{ended_2, ended_3, ended_6, lines_2, lines_3}
 use Rattle.rte_asm_reads_lines.proofs.Numbers.{Stops, begins_self, begins_not, all_pass}
 use Rattle.rte_asm_reads_lines.proofs.Names.{IsName, is_name, in_count}
 use Rattle.rte_asm_reads_lines.proofs.Instrs.{AreSmall, IsMnemonic, name_is, named_small, starts_upper}
@@ -38,7 +40,7 @@ process_word = codes "process "
 
 line_counts : (owns : Bool) (line rest : List ℕ) → is_line line ≡ true → begins process_word line ≡ owns → owners_in (line ++ (codes "\n" ++ rest)) ≡ (if owns then 1 else 0) + owners_in rest
 line_counts owns line rest whole is =
-    ap (count_by (begins process_word)) (cuts_at 10 line rest (lacks_byte 10 line whole)) ∙ ap (λ b. (if b then 1 else 0) + owners_in rest) is
+    ap (count_by (begins process_word)) (cuts_at 10 line rest (lacks_byte 10 line whole)) ∙ sum_by-cons (λ (l : List ℕ). if begins process_word l then 1 else 0) line (cuts 10 rest) ∙ ap (λ b. (if b then 1 else 0) + owners_in rest) is
 
 other_line : (line rest : List ℕ) → is_line line ≡ true → begins process_word line ≡ false → owners_in (line ++ (codes "\n" ++ rest)) ≡ owners_in rest
 other_line line rest whole is = line_counts false line rest whole is ∙ (let e : 0 + owners_in rest ≡ owners_in rest = omega arith in e)
@@ -56,13 +58,26 @@ word_in_line b h = (and_parts (not (b == 32)) (not (b == 10)) h).1
 name_line : (taken : List (List ℕ)) (name : List ℕ) → IsName taken name → is_line name ≡ true
 name_line taken name is = all_pass is_in_word in_line word_in_line name is.bytes
 
+-- pieces without the end of a line
+whole_2 : (a b : List ℕ) → is_line a ≡ true → is_line b ≡ true → is_line (a ++ b) ≡ true
+whole_2 a b p q = line_append a b ∙ and_from (is_line a) (is_line b) p q
+
+whole_3 : (a b c : List ℕ) → is_line a ≡ true → is_line b ≡ true → is_line c ≡ true → is_line (a ++ (b ++ c)) ≡ true
+whole_3 a b c p q r = whole_2 a (b ++ c) p (whole_2 b c q r)
+
+whole_4 : (a b c d : List ℕ) → is_line a ≡ true → is_line b ≡ true → is_line c ≡ true → is_line d ≡ true → is_line (a ++ (b ++ (c ++ d))) ≡ true
+whole_4 a b c d p q r s = whole_2 a (b ++ (c ++ d)) p (whole_3 b c d q r s)
+
+whole_6 : (a b c d e f : List ℕ) → is_line a ≡ true → is_line b ≡ true → is_line c ≡ true → is_line d ≡ true → is_line e ≡ true → is_line f ≡ true → is_line (a ++ (b ++ (c ++ (d ++ (e ++ f))))) ≡ true
+whole_6 a b c d e f p q r s t u = whole_2 a (b ++ (c ++ (d ++ (e ++ f)))) p (whole_2 b (c ++ (d ++ (e ++ f))) q (whole_4 c d e f r s t u))
+
 -- ---- the head, names and monitors
 
 pub head_owners : (program : List ℕ) (over : ℕ) (rest : List ℕ) → IsName [] program → over ≤ 1000 → owners_in (head_line program over ++ rest) ≡ owners_in rest
 head_owners program over rest is low =
     let line = codes "image " ++ (program ++ (codes " overhead " ++ decimal over)) in
-    let same : head_line program over ++ rest ≡ line ++ (codes "\n" ++ rest) = simp append_assoc in
-    let whole : is_line line ≡ true = rw (line_append program (codes " overhead " ++ decimal over), name_line [] program is, decimal_line over (omega arith)) refl in
+    let same : head_line program over ++ rest ≡ line ++ (codes "\n" ++ rest) = ended_3 (codes "image ") program (codes " overhead " ++ decimal over) (codes "\n") rest in
+    let whole : is_line line ≡ true = whole_2 program (codes " overhead " ++ decimal over) (name_line [] program is) (decimal_line over (omega arith)) in
     ap owners_in same ∙ other_line line rest whole (not_first 112 (codes "rocess ") line refl)
 
 abbrev direction_word : Bool → List ℕ
@@ -81,14 +96,15 @@ pub device_owners : (taken : List (List ℕ)) (d : DevName) (rest : List ℕ) �
 device_owners taken d rest h =
     let is = is_name taken d.name (and_parts ((name_format taken).is d.name) true h).0 in
     let line = codes "device " ++ (d.name ++ direction_word d.out) in
-    let same : device_line d ++ rest ≡ line ++ (codes "\n" ++ rest) = rw (direction_is d.out) (simp append_assoc) in
-    let whole : is_line line ≡ true = rw (line_append d.name (direction_word d.out), name_line taken d.name is, direction_line d.out) refl in
+    let same : device_line d ++ rest ≡ line ++ (codes "\n" ++ rest) = 
+        ap (λ (out : List ℕ). (codes "device " ++ (d.name ++ out)) ++ rest) (direction_is d.out) ∙ ended_3 (codes "device ") d.name (direction_word d.out) (codes "\n") rest in
+    let whole : is_line line ≡ true = whole_2 d.name (direction_word d.out) (name_line taken d.name is) (direction_line d.out) in
     ap owners_in same ∙ other_line line rest whole (not_first 112 (codes "rocess ") line refl)
 
 pub event_owners : (taken : List (List ℕ)) (name rest : List ℕ) → (name_format taken).is name ≡ true → owners_in (event_line name ++ rest) ≡ owners_in rest
 event_owners taken name rest h =
     let line = codes "event " ++ name in
-    let same : event_line name ++ rest ≡ line ++ (codes "\n" ++ rest) = simp append_assoc in
+    let same : event_line name ++ rest ≡ line ++ (codes "\n" ++ rest) = ended_2 (codes "event ") name (codes "\n") rest in
     ap owners_in same ∙ other_line line rest (name_line taken name (is_name taken name h)) (not_first 112 (codes "rocess ") line refl)
 
 ceiling_line : (c : ℕ) → c < 2 ^ 16 → is_line (ceiling_text c) ≡ true
@@ -106,9 +122,11 @@ monitor_owners taken m rest h =
     let base = decimal_line m.1.base (ltb-true m.1.base (2 ^ 32) q.0) in
     let words = decimal_line m.1.words (ltb-true m.1.words (2 ^ 32) r.0) in
     let ceiling = ceiling_line m.1.ceiling (ltb-true m.1.ceiling (2 ^ 16) r.1) in
-    let line = codes "monitor " ++ (m.0 ++ (codes " base " ++ (decimal m.1.base ++ (codes " words " ++ (decimal m.1.words ++ (codes " ceiling " ++ ceiling_text m.1.ceiling)))))) in
-    let same : monitor_line m.0 m.1 ++ rest ≡ line ++ (codes "\n" ++ rest) = simp append_assoc in
-    let whole : is_line line ≡ true = simp (line_append, name, base, words, ceiling) in
+    let base_text = codes " base " ++ decimal m.1.base in
+    let words_text = codes " words " ++ decimal m.1.words in
+    let line = codes "monitor " ++ (m.0 ++ (base_text ++ (words_text ++ (codes " ceiling " ++ ceiling_text m.1.ceiling)))) in
+    let same : monitor_line m.0 m.1 ++ rest ≡ line ++ (codes "\n" ++ rest) = ended_6 (codes "monitor ") m.0 base_text words_text (codes " ceiling ") (ceiling_text m.1.ceiling) (codes "\n") rest in
+    let whole : is_line line ≡ true = whole_4 m.0 base_text words_text (codes " ceiling " ++ ceiling_text m.1.ceiling) name base words ceiling in
     ap owners_in same ∙ other_line line rest whole (not_first 112 (codes "rocess ") line refl)
 
 pub condition_owners : (taken : List (List ℕ)) (monitors : ℕ) (earlier : List CondName) (c : CondName) (rest : List ℕ) → (condition_format taken monitors earlier).is c ≡ true → owners_in (condition_line c ++ rest) ≡ owners_in rest
@@ -117,8 +135,8 @@ condition_owners taken monitors earlier c rest h =
     let q = and_parts ((name_format taken).is c.name) ((u16_below monitors).is c.mon) p.0 in
     let mon = in_count monitors c.mon q.1 in
     let line = codes "condition " ++ (c.name ++ (codes " " ++ decimal c.mon)) in
-    let same : condition_line c ++ rest ≡ line ++ (codes "\n" ++ rest) = simp append_assoc in
-    let whole : is_line line ≡ true = rw (line_append c.name (codes " " ++ decimal c.mon), name_line taken c.name (is_name taken c.name q.0), decimal_line c.mon (omega (arith, mon.0))) refl in
+    let same : condition_line c ++ rest ≡ line ++ (codes "\n" ++ rest) = ended_3 (codes "condition ") c.name (codes " " ++ decimal c.mon) (codes "\n") rest in
+    let whole : is_line line ≡ true = whole_2 c.name (codes " " ++ decimal c.mon) (name_line taken c.name (is_name taken c.name q.0)) (decimal_line c.mon (omega (arith, mon.0))) in
     ap owners_in same ∙ other_line line rest whole (not_first 112 (codes "rocess ") line refl)
 
 -- ---- trees and routines
@@ -126,7 +144,7 @@ condition_owners taken monitors earlier c rest h =
 tree_owners : (monitors : ℕ) (tree : Segs) (rest : List ℕ) → (tree_format monitors 130).is tree ≡ true → owners_in (tree_line tree ++ rest) ≡ owners_in rest
 tree_owners monitors tree rest h =
     let line = tree_words tree in
-    let same : tree_line tree ++ rest ≡ line ++ (codes "\n" ++ rest) = simp append_assoc in
+    let same : tree_line tree ++ rest ≡ line ++ (codes "\n" ++ rest) = ended_2 (codes "tree") (segs_text tree) (codes "\n") rest in
     ap owners_in same ∙ other_line line rest (tree_words_line tree (tree_fits monitors 130 tree h)) (not_first 112 (codes "rocess ") line refl)
 
 owner_line : (kind owner : ℕ) → owner < 2 ^ 16 → is_line (owner_text kind owner) ≡ true
@@ -143,30 +161,30 @@ stay_line zero stay low = refl
 stay_line (suc zero) stay low = refl
 stay_line (suc (suc kind)) stay low = decimal_line stay (omega arith)
 
+routine_place : (counts : Counts) (r : Routine) → IsRoutine counts r → is_line (place_text r) ≡ true
+routine_place counts r is =
+    whole_4 (field (codes " params ") r.params) (field (codes " locals ") r.locals) (field (codes " result ") (bit r.gives)) (field (codes " start ") r.start)
+    (decimal_line r.params (omega (arith, is.params))) (decimal_line r.locals (omega (arith, is.locals))) (bit_line r.gives) (decimal_line r.start is.start)
+
+routine_cost : (counts : Counts) (r : Routine) → IsRoutine counts r → is_line (cost_text r) ≡ true
+routine_cost counts r is =
+    whole_4 (field (codes " run ") r.run) (field (codes " suspend ") r.susp) (field (codes " waits ") r.waits) (stay_text r.kind r.stay) (decimal_line r.run (omega (arith, is.run)))
+    (decimal_line r.susp (omega (arith, is.susp))) (decimal_line r.waits (omega (arith, is.waits))) (stay_line r.kind r.stay is.stay)
+
 routine_whole : (counts : Counts) (r : Routine) → IsRoutine counts r → is_line (routine_line r) ≡ true
-routine_whole counts r is =
-    let owner = owner_line r.kind r.owner is.owner in
-    let params = decimal_line r.params (omega (arith, is.params)) in
-    let locals = decimal_line r.locals (omega (arith, is.locals)) in
-    let result = bit_line r.gives in
-    let start = decimal_line r.start is.start in
-    let run = decimal_line r.run (omega (arith, is.run)) in
-    let susp = decimal_line r.susp (omega (arith, is.susp)) in
-    let waits = decimal_line r.waits (omega (arith, is.waits)) in
-    let stay = stay_line r.kind r.stay is.stay in
-    simp (line_append, owner, params, locals, result, start, run, susp, waits, stay)
+routine_whole counts r is = whole_3 (owner_text r.kind r.owner) (place_text r) (cost_text r) (owner_line r.kind r.owner is.owner) (routine_place counts r is) (routine_cost counts r is)
 
 pub routine_owners : (counts : Counts) (r : Routine) (rest : List ℕ) → (routine_format counts).is r ≡ true → owners_in (routine_lines r ++ rest) ≡ owners_in rest
 routine_owners counts r rest h =
     let is = routine_is counts r h in
     let at_tree = tree_line r.tree ++ rest in
-    let same : routine_lines r ++ rest ≡ routine_line r ++ (codes "\n" ++ at_tree) = simp append_assoc in
+    let same : routine_lines r ++ rest ≡ routine_line r ++ (codes "\n" ++ at_tree) = lines_2 (codes "routine ") (owner_text r.kind r.owner) (place_text r) (cost_text r) (codes "\n") (tree_line r.tree) rest in
     ap owners_in same ∙ other_line (routine_line r) at_tree (routine_whole counts r is) (not_first 112 (codes "rocess ") (routine_line r) refl) ∙ tree_owners counts.monitors r.tree rest is.tree
 
 -- ---- processes
 
-release_line : (events : ℕ) (used : List ℕ) (counts : Counts) (p : Process) (kind : ℕ) → IsProcess counts used p → is_line (release_text p kind) ≡ true
-release_line events used counts p kind is = by kind where
+release_line : (counts : Counts) (used : List ℕ) (p : Process) (kind : ℕ) → IsProcess counts used p → is_line (release_text p kind) ≡ true
+release_line counts used p kind is = by kind where
   frame : is_line (decimal p.frame) ≡ true
   frame = decimal_line p.frame (omega (arith, is.release.frame.1))
 
@@ -180,26 +198,19 @@ release_line events used counts p kind is = by kind where
   event = decimal_line p.event (omega (arith, is.release.event))
 
   by : (kind : ℕ) → is_line (release_text p kind) ≡ true
-  by zero = simp (line_append, frame, deadline, first)
-  by (suc kind) = simp (line_append, event, frame, deadline)
+  by zero = whole_3 (field (codes " periodic frame ") p.frame) (field (codes " deadline ") p.deadline) (field (codes " first ") p.first) frame deadline first
+  by (suc kind) = whole_3 (field (codes " event ") p.event) (field (codes " frame ") p.frame) (field (codes " deadline ") p.deadline) event frame deadline
 
 time_line : (counts : Counts) (used : List ℕ) (p : Process) → IsProcess counts used p → is_line (time_text p) ≡ true
 time_line counts used p is =
-    let rank = decimal_line p.rank (omega (arith, is.release.rank)) in
-    let run = decimal_line p.run (omega (arith, is.time.run)) in
-    let susp = decimal_line p.susp (omega (arith, is.time.susp)) in
-    let waits = decimal_line p.waits (omega (arith, is.time.waits)) in
-    let block = decimal_line p.block (omega (arith, is.time.block)) in
-    let bound = decimal_line p.bound (omega (arith, is.time.bound.1)) in
-    simp (line_append, rank, run, susp, waits, block, bound)
+    whole_6 (field (codes " rank ") p.rank) (field (codes " run ") p.run) (field (codes " suspend ") p.susp) (field (codes " waits ") p.waits) (field (codes " block ") p.block) (field (codes " bound ") p.bound)
+    (decimal_line p.rank (omega (arith, is.release.rank))) (decimal_line p.run (omega (arith, is.time.run))) (decimal_line p.susp (omega (arith, is.time.susp))) (decimal_line p.waits (omega (arith, is.time.waits)))
+    (decimal_line p.block (omega (arith, is.time.block))) (decimal_line p.bound (omega (arith, is.time.bound.1)))
 
 room_line : (counts : Counts) (used : List ℕ) (p : Process) → IsProcess counts used p → is_line (room_text p) ≡ true
 room_line counts used p is =
-    let words = decimal_line p.words is.room.words in
-    let stack = decimal_line p.stack (omega (arith, is.room.stack)) in
-    let locals = decimal_line p.locals (omega (arith, is.room.locals)) in
-    let start = decimal_line p.start is.room.start in
-    simp (line_append, words, stack, locals, start)
+    whole_4 (field (codes " data ") p.words) (field (codes " stack ") p.stack) (field (codes " locals ") p.locals) (field (codes " start ") p.start) (decimal_line p.words is.room.words)
+    (decimal_line p.stack (omega (arith, is.room.stack))) (decimal_line p.locals (omega (arith, is.room.locals))) (decimal_line p.start is.room.start)
 
 -- the numbers of a handler, without the end of the line
 abbrev numbers_words : List ℕ → List ℕ
@@ -216,7 +227,7 @@ numbers_line earlier zero (n ∷ ns) h = absurd cc
 numbers_line earlier (suc count) (n ∷ ns) h =
     let p = and_parts ((checked u16 (wrong_number earlier)).is n) (each_is (λ earlier. checked u16 (wrong_number earlier)) (earlier ++ n ∷ []) count ns) h in
     let low : n < 2 ^ 16 = ltb-true n (2 ^ 16) (and_parts (nat_lt n (2 ^ 16)) (is_fine (wrong_number earlier n)) p.0).0 in
-    rw (line_append (decimal n) (numbers_words ns), decimal_line n (omega arith), numbers_line (earlier ++ n ∷ []) count ns p.1) refl
+    whole_2 (decimal n) (numbers_words ns) (decimal_line n (omega arith)) (numbers_line (earlier ++ n ∷ []) count ns p.1)
 
 abbrev handler_words : (handler : ℕ) → (numbers : List ℕ) → List ℕ
 handler_words handler [] = []
@@ -230,8 +241,7 @@ handler_end handler (n ∷ ns) =
 handler_words_line : (handler : ℕ) (numbers : List ℕ) → handler < 2 ^ 32 → (numbers_format (length numbers)).is numbers ≡ true → is_line (handler_words handler numbers) ≡ true
 handler_words_line handler [] low h = refl
 handler_words_line handler (n ∷ ns) low h =
-    let more : is_line (numbers_words (n ∷ ns)) ≡ true = numbers_line [] (length (n ∷ ns)) (n ∷ ns) h in
-    rw (line_append (decimal handler) (numbers_words (n ∷ ns)), decimal_line handler low, more) refl
+    whole_2 (decimal handler) (numbers_words (n ∷ ns)) (decimal_line handler low) (numbers_line [] (length (n ∷ ns)) (n ∷ ns) h)
 
 abbrev process_line : (name : List ℕ) → Process → List ℕ
 process_line name p = codes "process " ++ (name ++ (release_text p p.kind ++ (time_text p ++ (room_text p ++ handler_words p.handler p.numbers))))
@@ -249,21 +259,22 @@ process_owners counts taken used x rest h =
     let q = and_parts ((name_format taken).is x.0) ((process_format Second counts used).is p) h in
     let is = process_is counts used p q.1 in
     let name = name_line taken x.0 (is_name taken x.0 q.0) in
-    let release = release_line counts.events used counts p p.kind is in
+    let release = release_line counts used p p.kind is in
     let time = time_line counts used p is in
     let room = room_line counts used p is in
     let handler = handler_words_line p.handler p.numbers is.handler.handler is.handler.numbers in
     let line = process_line x.0 p in
-    let after = name_and_more x.0 p in
+    let words = handler_words p.handler p.numbers in
+    let after = x.0 ++ (release_text p p.kind ++ (time_text p ++ (room_text p ++ words))) in
     let at_handler = handler_line p.numbers p.handler_tree ++ rest in
     let at_tree = tree_line p.body ++ at_handler in
-    let same : process_lines x.0 p ++ rest ≡ line ++ (codes "\n" ++ at_tree) = rw (handler_end p.handler p.numbers) (simp append_assoc) in
-    let whole : is_line line ≡ true = simp (line_append, name, release, time, room, handler) in
+    let same : process_lines x.0 p ++ rest ≡ line ++ (codes "\n" ++ at_tree) =
+        ap (λ (end : List ℕ). (codes "process " ++ (x.0 ++ (release_text p p.kind ++ (time_text p ++ (room_text p ++ (end ++ (tree_line p.body ++ handler_line p.numbers p.handler_tree))))))) ++ rest) (handler_end p.handler p.numbers)
+        ∙ lines_3 (codes "process ") x.0 (release_text p p.kind) (time_text p) (room_text p) words (codes "\n") (tree_line p.body) (handler_line p.numbers p.handler_tree) rest in
+    let whole : is_line line ≡ true =
+        whole_2 x.0 (release_text p p.kind ++ (time_text p ++ (room_text p ++ words))) name (whole_4 (release_text p p.kind) (time_text p) (room_text p) words release time room handler) in
     ap owners_in same ∙ line_counts true line at_tree whole (begins_self process_word after)
     ∙ ap (λ k. 1 + k) (tree_owners counts.monitors p.body at_handler is.body ∙ handler_owners counts.monitors p.numbers p.handler_tree rest is.handler.tree)
-  where
-    name_and_more : List ℕ → Process → List ℕ
-    name_and_more name p = name ++ (release_text p p.kind ++ (time_text p ++ (room_text p ++ handler_words p.handler p.numbers)))
 
 -- ---- instructions
 
@@ -294,7 +305,7 @@ signed_line (negsuc n) h = let low : n < 2 ^ 31 = h.0 in decimal_line (suc n) (o
 
 operands_line : (zs : List ℤ) → AreSmall zs → is_line (operands_words zs) ≡ true
 operands_line [] h = refl
-operands_line (z ∷ zs) h = rw (line_append (signed_decimal z) (operands_words zs), signed_line z (h.0, tt), operands_line zs h.1) refl
+operands_line (z ∷ zs) h = whole_2 (signed_decimal z) (operands_words zs) (signed_line z (h.0, tt)) (operands_line zs h.1)
 
 pub instr_owners : (instr : Instr) (rest : List ℕ) → instr_format.is instr ≡ true → owners_in (instr_line instr ++ rest) ≡ owners_in rest
 instr_owners instr rest h =
@@ -302,13 +313,10 @@ instr_owners instr rest h =
     let is = name_is instr in
     let line = word ++ operands_words (named instr) in
     let same : instr_line instr ++ rest ≡ line ++ (codes "\n" ++ rest) =
-        ap (λ (more : List ℕ). (word ++ more) ++ rest) (operands_end (named instr)) ∙ regroup word (operands_words (named instr)) in
-    let whole : is_line line ≡ true = rw (line_append word (operands_words (named instr)), all_pass is_in_word in_line word_in_line word is.bytes, operands_line (named instr) (named_small instr h)) refl in
+        ap (λ (more : List ℕ). (word ++ more) ++ rest) (operands_end (named instr)) ∙ ended_2 word (operands_words (named instr)) (codes "\n") rest in
+    let whole : is_line line ≡ true = whole_2 word (operands_words (named instr)) (all_pass is_in_word in_line word_in_line word is.bytes) (operands_line (named instr) (named_small instr h)) in
     ap owners_in same ∙ other_line line rest whole (first word (operands_words (named instr)) is.upper)
   where
-    regroup : (word more : List ℕ) → (word ++ (more ++ codes "\n")) ++ rest ≡ (word ++ more) ++ (codes "\n" ++ rest)
-    regroup word more = simp append_assoc
-
     first : (word more : List ℕ) → starts_upper word ≡ true → begins process_word (word ++ more) ≡ false
     first [] more h = absurd cc
     first (b ∷ bs) more h =

@@ -94,7 +94,7 @@ there : (found : Option ℕ) (n : ℕ) → is_there found n ≡ true → found �
 there None n h = cc
 there (Some m) n h = ap (λ k. Some k) (eqb-true m n h)
 
-abbrev starts_upper : List ℕ → Bool
+abbrev pub starts_upper : List ℕ → Bool
 starts_upper [] = false
 starts_upper (b ∷ bs) = nat_le 65 b && nat_le b 90
 
