@@ -1,16 +1,14 @@
 -- How many lines of a text begin with "process ".
-use Rattle.std.proofs.Common.{◌≡◌, ◌≤◌, ◌<◌, ◌+◌, ◌^◌, ◌&&◌, ◌||◌, ◌==◌, ◌++◌, ℕ, zero, suc, ℤ, pos, negsuc, Bool, true, false, List, [], ◌∷◌, length, take, Option, None, Some, decimal, refl, sym, ap, ◌∙◌, subst, arith, append_assoc}
+use Rattle.std.proofs.Common.{◌≡◌, ◌≤◌, ◌<◌, ◌+◌, ◌^◌, ◌&&◌, ◌==◌, ◌++◌, ℕ, zero, suc, ℤ, pos, negsuc, Bool, true, false, List, [], ◌∷◌, length, Option, None, Some, decimal, refl, sym, ap, ◌∙◌, subst, arith, append_assoc}
 use Rattle.std.specs.Prelude.{not, nat_lt, nat_le, nat_eq, codes, count_by, flat_map, if◌then◌else◌}
-use Rattle.std.specs.List.{list_all}
 use Rattle.std.specs.Fmt.{signed_decimal}
-use Rattle.std.specs.Cmp.Lexicographic.{pointwise}
 use Rattle.std.proofs.lemmas.Bool.{and_parts, and_from, leb-true, ltb-true, ne_eqb}
 use Rattle.std.proofs.lemmas.List.Sums.{sum_by-cons}
 use Rattle.rte_isa.specs.declared.instr.Instr.{Instr}
 use Rattle.rte_isa.specs.Bytes.{number}
 use Rattle.rte_machine_meaning.specs.Image.{Monitor, Routine, Process}
 use Rattle.rte_machine_meaning.specs.Trees.{Segs}
-use Rattle.rte_image.specs.Bytes.{Version, Second}
+use Rattle.rte_image.specs.Bytes.{Second}
 use Rattle.rte_image.specs.declared.names.CondName.{CondName}
 use Rattle.rte_image.specs.declared.names.DevName.{DevName}
 use Rattle.rte_image_reading.specs.declared.counts.Counts.{Counts}
@@ -28,7 +26,7 @@ use Rattle.rte_asm_sections.specs.Sections.{owners_in}
 use Rattle.rte_asm_reads_lines.proofs.Pieces.{ended_2, ended_3, ended_6, lines_2, lines_3}
 use Rattle.rte_asm_reads_lines.proofs.Numbers.{Stops, begins_self, begins_not, all_pass}
 use Rattle.rte_asm_reads_lines.proofs.Names.{IsName, is_name, in_count}
-use Rattle.rte_asm_reads_lines.proofs.Instrs.{AreSmall, IsMnemonic, name_is, named_small, starts_upper}
+use Rattle.rte_asm_reads_lines.proofs.Instrs.{AreSmall, name_is, named_small, starts_upper}
 use Rattle.rte_asm_reads_lines.proofs.TreeForms.{in_line, is_line, decimal_line, line_append, lacks_byte, tree_fits, tree_words, tree_words_line}
 use Rattle.rte_asm_reads_lines.proofs.Routines.{IsRoutine, routine_is, routine_line}
 use Rattle.rte_asm_reads_lines.proofs.Processes.{IsProcess, process_is}
@@ -96,8 +94,8 @@ pub device_owners : (taken : List (List ℕ)) (d : DevName) (rest : List ℕ) �
 device_owners taken d rest h =
     let is = is_name taken d.name (and_parts ((name_format taken).is d.name) true h).0 in
     let line = codes "device " ++ (d.name ++ direction_word d.out) in
-    let same : device_line d ++ rest ≡ line ++ (codes "\n" ++ rest) = 
-        ap (λ (out : List ℕ). (codes "device " ++ (d.name ++ out)) ++ rest) (direction_is d.out) ∙ ended_3 (codes "device ") d.name (direction_word d.out) (codes "\n") rest in
+    let same : device_line d ++ rest ≡ line ++ (codes "\n" ++ rest) =
+    ap (λ (out : List ℕ). (codes "device " ++ (d.name ++ out)) ++ rest) (direction_is d.out) ∙ ended_3 (codes "device ") d.name (direction_word d.out) (codes "\n") rest in
     let whole : is_line line ≡ true = whole_2 d.name (direction_word d.out) (name_line taken d.name is) (direction_line d.out) in
     ap owners_in same ∙ other_line line rest whole (not_first 112 (codes "rocess ") line refl)
 
@@ -269,10 +267,10 @@ process_owners counts taken used x rest h =
     let at_handler = handler_line p.numbers p.handler_tree ++ rest in
     let at_tree = tree_line p.body ++ at_handler in
     let same : process_lines x.0 p ++ rest ≡ line ++ (codes "\n" ++ at_tree) =
-        ap (λ (end : List ℕ). (codes "process " ++ (x.0 ++ (release_text p p.kind ++ (time_text p ++ (room_text p ++ (end ++ (tree_line p.body ++ handler_line p.numbers p.handler_tree))))))) ++ rest) (handler_end p.handler p.numbers)
-        ∙ lines_3 (codes "process ") x.0 (release_text p p.kind) (time_text p) (room_text p) words (codes "\n") (tree_line p.body) (handler_line p.numbers p.handler_tree) rest in
+    ap (λ (end : List ℕ). (codes "process " ++ (x.0 ++ (release_text p p.kind ++ (time_text p ++ (room_text p ++ (end ++ (tree_line p.body ++ handler_line p.numbers p.handler_tree))))))) ++ rest) (handler_end p.handler p.numbers)
+    ∙ lines_3 (codes "process ") x.0 (release_text p p.kind) (time_text p) (room_text p) words (codes "\n") (tree_line p.body) (handler_line p.numbers p.handler_tree) rest in
     let whole : is_line line ≡ true =
-        whole_2 x.0 (release_text p p.kind ++ (time_text p ++ (room_text p ++ words))) name (whole_4 (release_text p p.kind) (time_text p) (room_text p) words release time room handler) in
+    whole_2 x.0 (release_text p p.kind ++ (time_text p ++ (room_text p ++ words))) name (whole_4 (release_text p p.kind) (time_text p) (room_text p) words release time room handler) in
     ap owners_in same ∙ line_counts true line at_tree whole (begins_self process_word after)
     ∙ ap (λ k. 1 + k) (tree_owners counts.monitors p.body at_handler is.body ∙ handler_owners counts.monitors p.numbers p.handler_tree rest is.handler.tree)
 
@@ -313,7 +311,7 @@ instr_owners instr rest h =
     let is = name_is instr in
     let line = word ++ operands_words (named instr) in
     let same : instr_line instr ++ rest ≡ line ++ (codes "\n" ++ rest) =
-        ap (λ (more : List ℕ). (word ++ more) ++ rest) (operands_end (named instr)) ∙ ended_2 word (operands_words (named instr)) (codes "\n") rest in
+    ap (λ (more : List ℕ). (word ++ more) ++ rest) (operands_end (named instr)) ∙ ended_2 word (operands_words (named instr)) (codes "\n") rest in
     let whole : is_line line ≡ true = whole_2 word (operands_words (named instr)) (all_pass is_in_word in_line word_in_line word is.bytes) (operands_line (named instr) (named_small instr h)) in
     ap owners_in same ∙ other_line line rest whole (first word (operands_words (named instr)) is.upper)
   where

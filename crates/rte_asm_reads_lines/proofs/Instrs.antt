@@ -17,7 +17,7 @@ use Rattle.rte_image_reading.specs.Format.{Format, u8, unless, is_fine, checked}
 use Rattle.rte_image_reading.specs.Grammar.{operand, fields_of, fields_format, instr_format, or_end}
 use Rattle.rte_image_text.specs.Mnemonics.{mnemonics, mnemonic, arity, named, operands_text, instr_line}
 use Rattle.rte_fields.specs.Fields.{Is32}
-use Rattle.rte_line_fields.specs.Front.{Front, Read, ◌>>=◌, skip, end_read, line_start}
+use Rattle.rte_line_fields.specs.Front.{Front, Read, ◌>>=◌, end_read, line_start}
 use Rattle.rte_line_fields.specs.Fields.{is_digit}
 use Rattle.rte_asm_lines.specs.Names.{is_in_word, word_len}
 use Rattle.rte_asm_lines.specs.Instrs.{number_of, operand_read, numbered_read, of_number, instr_read}

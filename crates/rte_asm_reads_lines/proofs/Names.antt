@@ -1,8 +1,7 @@
 -- Names, and the lines of the head, devices, events, monitors and conditions.
-use Rattle.std.proofs.Common.{◌≡◌, ◌≤◌, ◌<◌, ◌^◌, ◌&&◌, ◌||◌, ◌==◌, ◌++◌, ℕ, Bool, true, false, List, [], ◌∷◌, length, take, Ok, Option, Some, decimal, refl, sym, ap, ◌∙◌, subst, arith, append_assoc}
-use Rattle.std.specs.Prelude.{not, nat_lt, nat_le, nat_eq, codes, if◌then◌else◌}
+use Rattle.std.proofs.Common.{◌≡◌, ◌≤◌, ◌<◌, ◌^◌, ◌&&◌, ◌==◌, ◌++◌, ℕ, Bool, true, false, List, [], ◌∷◌, length, Ok, decimal, refl, sym, ap, ◌∙◌, arith, append_assoc}
+use Rattle.std.specs.Prelude.{not, nat_lt, nat_le, codes, if◌then◌else◌}
 use Rattle.std.specs.List.{list_all}
-use Rattle.std.specs.Cmp.Lexicographic.{pointwise}
 use Rattle.std.proofs.Math.Seq.{take-append_seam, drop-append_seam}
 use Rattle.std.proofs.lemmas.Bool.{and_parts, and_from, false≢true, lt-ltb, le-leb, ltb-true, leb-true, eqb-true, eqb-false, ne_eqb}
 use Rattle.std.proofs.lemmas.Fmt.{decimal_nonempty}
@@ -10,11 +9,11 @@ use Rattle.rte_lex.specs.Spellings.{is_identifier, is_letter, is_word, keywords}
 use Rattle.rte_machine_meaning.specs.Image.{Monitor}
 use Rattle.rte_image.specs.declared.names.CondName.{CondName}
 use Rattle.rte_image.specs.declared.names.DevName.{DevName}
-use Rattle.rte_image_reading.specs.Format.{Format, u8, u16, u32, bytes_as_are, unless, is_fine, checked, both}
+use Rattle.rte_image_reading.specs.Format.{Format, u8, u16, u32, unless, is_fine, checked}
 use Rattle.rte_image_reading.specs.TreeFormat.{within, u32_within, u16_within, u16_below}
 use Rattle.rte_image_reading.specs.Grammar.{has, is_again, wrong_name, name_format, device_format, monitor_format, named_monitor_format, condition_format}
 use Rattle.rte_image_text.specs.Text.{head_line, direction, device_line, event_line, ceiling_text, monitor_line, condition_line}
-use Rattle.rte_line_fields.specs.Front.{◌>>=◌, begins, line_start}
+use Rattle.rte_line_fields.specs.Front.{line_start}
 use Rattle.rte_line_fields.specs.Fields.{is_digit}
 use Rattle.rte_asm_lines.specs.Names.{is_in_word, may_be_name, name_read, named_read, head_read, direction_read, device_read, event_read, ceiling_read, monitor_read, condition_read}
 use Rattle.rte_asm_reads_lines.proofs.Pieces.{named_2}

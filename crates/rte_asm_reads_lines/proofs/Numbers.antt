@@ -1,6 +1,6 @@
 -- Places in a text, words that stand there, and numbers: what was written is read.
-use Rattle.std.proofs.Common.{◌≡◌, ◌≤◌, ◌<◌, ◌+◌, ◌-◌, ◌*◌, ◌^◌, ◌%◌, ◌/◌, ◌&&◌, ◌==◌, ◌++◌, ℕ, zero, suc, ℤ, pos, negsuc, Bool, true, false, List, [], ◌∷◌, length, take, drop, fold, get_or, Ok, Err, Some, decimal, refl, sym, ap, ◌∙◌, arith}
-use Rattle.std.specs.Prelude.{not, nat_lt, nat_le, nat_eq, codes, if◌then◌else◌}
+use Rattle.std.proofs.Common.{◌≡◌, ◌≤◌, ◌<◌, ◌+◌, ◌-◌, ◌*◌, ◌^◌, ◌%◌, ◌/◌, ◌++◌, ℕ, zero, suc, ℤ, pos, negsuc, Bool, true, false, List, [], ◌∷◌, length, take, fold, get_or, Ok, Some, decimal, refl, sym, ap, ◌∙◌, arith}
+use Rattle.std.specs.Prelude.{nat_lt, nat_eq, codes, if◌then◌else◌}
 use Rattle.std.specs.List.{list_all, prefix_len}
 use Rattle.std.specs.Fmt.{signed_decimal}
 use Rattle.std.specs.Cmp.Lexicographic.{pointwise}
@@ -11,7 +11,7 @@ use Rattle.std.proofs.lemmas.Cmp.{nat_list_eq_equiv}
 use Rattle.std.proofs.lemmas.Fmt.{decimal_by_steps, decimal_digit, first_decimal, decimal_nonempty}
 use Rattle.std.proofs.lemmas.List.Folds.{list_all-append}
 use Rattle.rte_fields.specs.Fields.{Is32}
-use Rattle.rte_line_fields.specs.Front.{Front, ◌>>=◌, begins, skip, end_read, line_start}
+use Rattle.rte_line_fields.specs.Front.{Front, begins, skip, end_read, line_start}
 use Rattle.rte_line_fields.specs.Fields.{is_digit, digits_len, is_numeral, value, numeral_read, number_read, field_read, signed_read}
 
 -- a place in a line before which all is in its range

@@ -1,23 +1,23 @@
 -- The lines of processes.
-use Rattle.std.proofs.Common.{◌≡◌, ◌≤◌, ◌<◌, ◌^◌, ◌+◌, ◌&&◌, ◌||◌, ◌==◌, ◌++◌, ℕ, zero, suc, Bool, true, false, List, [], ◌∷◌, length, take, Ok, Option, None, Some, decimal, refl, sym, ap, ◌∙◌, subst, arith, length-append}
-use Rattle.std.specs.Prelude.{not, nat_lt, nat_le, nat_eq, codes, if◌then◌else◌}
+use Rattle.std.proofs.Common.{◌≡◌, ◌≤◌, ◌<◌, ◌^◌, ◌&&◌, ◌||◌, ◌==◌, ◌++◌, ℕ, zero, suc, Bool, true, List, [], ◌∷◌, length, Ok, Option, None, Some, decimal, refl, ap, ◌∙◌, subst, arith, length-append}
+use Rattle.std.specs.Prelude.{not, nat_lt, nat_le, nat_eq, codes}
 use Rattle.std.specs.List.{list_any}
 use Rattle.std.proofs.lemmas.Bool.{and_parts, lt-ltb, ltb-true, leb-true, eqb-true}
 use Rattle.rte_machine_meaning.specs.Image.{Process}
 use Rattle.rte_machine_meaning.specs.Trees.{Segs}
-use Rattle.rte_image.specs.Bytes.{Version, Second}
+use Rattle.rte_image.specs.Bytes.{Second}
 use Rattle.rte_image_reading.specs.declared.counts.Counts.{Counts}
-use Rattle.rte_image_reading.specs.Format.{Format, u8, u16, u32, unless, is_fine, checked, both, each_is}
+use Rattle.rte_image_reading.specs.Format.{u8, u16, u32, unless, is_fine, checked, each_is}
 use Rattle.rte_image_reading.specs.TreeFormat.{u32_within, tree_format}
-use Rattle.rte_image_reading.specs.Grammar.{cost, name_format, release_format, time_format, room_format, handler_format, numbers_format, handler_tree_format, process_format, named_process_format, deadline_format, wrong_first, wrong_event, wrong_number, is_above, is_taken, is_none, some_is}
+use Rattle.rte_image_reading.specs.Grammar.{cost, name_format, release_format, time_format, room_format, handler_format, numbers_format, handler_tree_format, process_format, named_process_format, wrong_first, wrong_event, wrong_number, is_above, is_taken}
 use Rattle.rte_image_text.specs.Text.{release_text, time_text, room_text, numbers_text, handler_text, handler_line, process_lines}
 use Rattle.rte_image_text.specs.TreeText.{tree_line}
-use Rattle.rte_line_fields.specs.Front.{◌>>=◌, begins, line_start}
+use Rattle.rte_line_fields.specs.Front.{line_start}
 use Rattle.rte_line_fields.specs.Fields.{is_digit}
 use Rattle.rte_asm_lines.specs.Names.{is_in_word}
-use Rattle.rte_asm_lines.specs.Processes.{periodic_frame_read, is_free, release_read, time_read, room_read, taken_read, more_read, numbers_read, handler_read, handler_tree_read, fields_read, process_line_read, process_with, process_read}
+use Rattle.rte_asm_lines.specs.Processes.{periodic_frame_read, is_free, release_read, time_read, room_read, taken_read, more_read, numbers_read, handler_read, handler_tree_read, fields_read, process_line_read, process_read}
 use Rattle.rte_asm_reads_lines.proofs.Pieces.{field_then, fields_3, fields_4, fields_6, pieces_8}
-use Rattle.rte_asm_reads_lines.proofs.Numbers.{place, Stops, begins_self, begins_not, skips, ends, field_reads}
+use Rattle.rte_asm_reads_lines.proofs.Numbers.{place, Stops, begins_self, begins_not, ends, field_reads}
 use Rattle.rte_asm_reads_lines.proofs.Names.{IsName, fine_is, in_u32, is_name, named_reads}
 use Rattle.rte_asm_reads_lines.proofs.Trees.{tree_line_reads}
 

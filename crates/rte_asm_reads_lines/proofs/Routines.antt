@@ -1,19 +1,17 @@
 -- The lines of routines.
-use Rattle.std.proofs.Common.{◌≡◌, ◌≤◌, ◌<◌, ◌^◌, ◌&&◌, ◌||◌, ◌==◌, ◌++◌, ℕ, zero, suc, Bool, true, false, List, [], ◌∷◌, length, take, Ok, Option, decimal, refl, sym, ap, ◌∙◌, subst, arith}
-use Rattle.std.specs.Prelude.{nat_lt, nat_le, codes, if◌then◌else◌}
+use Rattle.std.proofs.Common.{◌≡◌, ◌≤◌, ◌<◌, ◌^◌, ◌&&◌, ◌==◌, ◌++◌, ℕ, zero, suc, Bool, true, false, List, length, Ok, decimal, refl, ap, ◌∙◌, arith}
+use Rattle.std.specs.Prelude.{nat_lt, nat_le, codes}
 use Rattle.std.proofs.lemmas.Bool.{and_parts, ltb-true, leb-true, eqb-true}
 use Rattle.rte_machine_meaning.specs.Image.{Routine}
-use Rattle.rte_machine_meaning.specs.Trees.{Segs}
 use Rattle.rte_image_reading.specs.declared.counts.Counts.{Counts}
-use Rattle.rte_image_reading.specs.Format.{Format, u8, u16, u32, unless, is_fine, checked}
+use Rattle.rte_image_reading.specs.Format.{u8, u16, u32, unless, is_fine, checked}
 use Rattle.rte_image_reading.specs.TreeFormat.{u32_within, tree_format}
 use Rattle.rte_image_reading.specs.Grammar.{cost, cost_format, owner_format, routine_format, wrong_owner, wrong_stay}
 use Rattle.rte_image_text.specs.Text.{owner_text, bit, stay_text, cost_text, place_text, routine_lines}
 use Rattle.rte_image_text.specs.TreeText.{tree_line}
-use Rattle.rte_line_fields.specs.Front.{◌>>=◌, begins, line_start}
+use Rattle.rte_line_fields.specs.Front.{line_start}
 use Rattle.rte_line_fields.specs.Fields.{is_digit}
-use Rattle.rte_asm_lines.specs.Routines.{owner_read, place_read, stay_read, cost_fields_read, routine_line_read, routine_with, routine_read}
-use Rattle.rte_asm_lines.specs.Trees.{tree_line_read}
+use Rattle.rte_asm_lines.specs.Routines.{owner_read, place_read, stay_read, cost_fields_read, routine_line_read, routine_read}
 use Rattle.rte_asm_reads_lines.proofs.Pieces.{fields_3_then, fields_4, lines_2, pieces_4}
 use Rattle.rte_asm_reads_lines.proofs.Numbers.{place, Stops, begins_self, begins_not, skips, ends, field_reads}
 use Rattle.rte_asm_reads_lines.proofs.Names.{fine_is, in_u32}

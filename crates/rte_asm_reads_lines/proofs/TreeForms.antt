@@ -1,18 +1,17 @@
 -- The line of a tree has the form of one.
-use Rattle.std.proofs.Common.{◌≡◌, ◌≤◌, ◌<◌, ◌+◌, ◌^◌, ◌&&◌, ◌==◌, ◌++◌, ℕ, zero, suc, Bool, true, false, List, [], ◌∷◌, length, take, drop, fold, Some, decimal, refl, sym, ap, ◌∙◌, subst, arith, append_assoc, append-nil, length-append}
-use Rattle.std.specs.Prelude.{not, nat_lt, nat_le, codes, if◌then◌else◌}
+use Rattle.std.proofs.Common.{◌≡◌, ◌<◌, ◌^◌, ◌&&◌, ◌==◌, ◌++◌, ℕ, zero, suc, Bool, true, false, List, [], ◌∷◌, length, drop, fold, Some, decimal, refl, sym, ap, ◌∙◌, subst, arith, append_assoc, append-nil, length-append}
+use Rattle.std.specs.Prelude.{not, nat_lt, codes}
 use Rattle.std.specs.List.{list_all}
 use Rattle.std.proofs.Math.Seq.{take-append_seam}
 use Rattle.std.proofs.lemmas.Bool.{and_parts, and_from, false≢true, lt-ltb, ltb-true, eqb-true, eqb-false, ne_eqb, not-true}
 use Rattle.std.proofs.lemmas.List.Folds.{list_all-append}
 use Rattle.rte_machine_meaning.specs.Trees.{Seg, Line, Fork, Rep, Call, Stay, Wait, Exit, Segs, Nil, Cons}
-use Rattle.rte_image_reading.specs.Format.{Format, unless, is_fine, u16}
-use Rattle.rte_image_reading.specs.TreeFormat.{line_count, turns_count, u16_below, seg_format, segs_is, tree_format}
+use Rattle.rte_image_reading.specs.Format.{Format}
+use Rattle.rte_image_reading.specs.TreeFormat.{turns_count, u16_below, seg_format, segs_is, tree_format}
 use Rattle.rte_image.specs.TreeBytes.{row}
 use Rattle.rte_image_text.specs.TreeText.{seg_text, segs_text, tree_line}
 use Rattle.rte_fields.specs.Fields.{Lacks}
 use Rattle.rte_line_fields.specs.Fields.{is_digit, is_numeral}
-use Rattle.rte_asm_lines.specs.declared.form.Awaits.{Awaits}
 use Rattle.rte_asm_lines.specs.declared.form.Awaits.TheVariants as await
 use Rattle.rte_asm_lines.specs.TreeForm.{Shape, last, closed, step, is_number, cuts, tree_form, is_tree_line, line_len}
 use Rattle.rte_asm_lines.proofs.Cutting.{cuts_at, cuts_none}

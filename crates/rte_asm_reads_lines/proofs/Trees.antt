@@ -1,6 +1,6 @@
 -- The lines of trees are read as those trees.
-use Rattle.std.proofs.Common.{◌≡◌, ◌≤◌, ◌<◌, ◌+◌, ◌^◌, ◌&&◌, ◌||◌, ◌++◌, ℕ, zero, suc, Bool, true, false, List, [], ◌∷◌, length, take, Ok, decimal, refl, sym, ap, ◌∙◌, arith, append_assoc, length-append}
-use Rattle.std.specs.Prelude.{nat_lt, nat_le, nat_eq, codes, if◌then◌else◌}
+use Rattle.std.proofs.Common.{◌≡◌, ◌≤◌, ◌<◌, ◌^◌, ◌++◌, ℕ, zero, suc, true, false, List, length, take, Ok, decimal, refl, sym, ap, ◌∙◌, arith, append_assoc, length-append}
+use Rattle.std.specs.Prelude.{nat_lt, nat_eq, codes}
 use Rattle.std.specs.Cmp.Lexicographic.{pointwise}
 use Rattle.std.proofs.lemmas.Bool.{and_parts, or_from, or_left, or_right, ltb-true}
 use Rattle.rte_machine_meaning.specs.Trees.{Seg, Line, Fork, Rep, Call, Stay, Wait, Exit, Segs, Nil, Cons}
@@ -8,7 +8,7 @@ use Rattle.rte_image.specs.TreeBytes.{row}
 use Rattle.rte_image_reading.specs.Format.{Format}
 use Rattle.rte_image_reading.specs.TreeFormat.{turns_count, u16_below, seg_format, segs_is, tree_format}
 use Rattle.rte_image_text.specs.TreeText.{seg_text, segs_text, tree_line}
-use Rattle.rte_line_fields.specs.Front.{Front, Read, ◌>>=◌, begins, line_start}
+use Rattle.rte_line_fields.specs.Front.{Front, Read, begins, line_start}
 use Rattle.rte_line_fields.specs.Fields.{is_digit}
 use Rattle.rte_asm_lines.specs.TreeForm.{is_tree_line}
 use Rattle.rte_asm_lines.specs.Trees.{arm_read, seg_read, segs_read, tree_ends, tree_read, tree_line_read}
