@@ -7,4 +7,6 @@ use Rattle.rte_asm_sections.specs.Sections.{text_read}
 
 -- the text of an image, each of whose fields is in its range, is read as that image
 abbrev pub TextsWrittenAreRead : Type 0
-TextsWrittenAreRead = (parts : Parts) → image_format.is (Second, parts) ≡ true → text_read (text_of (image_with parts)) ≡ Ok parts
+TextsWrittenAreRead =
+    (parts : Parts) → image_format.is (Second, parts) ≡ true
+    → text_read (text_of (image_with parts)) ≡ Ok parts
