@@ -11,6 +11,10 @@ as_number : (b : Bool) → from_bool b ≡ cond b 1 0
 as_number true = refl
 as_number false = refl
 
+pub at_most_one : (b : Bool) → from_bool b ≤ 1
+at_most_one true = omega arith
+at_most_one false = omega arith
+
 -- one more line was looked at
 pub goes_on : (is : List ℕ → Bool) (count counted total : ℕ) (rest before after : List ℕ) → IsCutAt 10 rest before after → counted ≡ count + from_bool (is before)
     → count + count_by is (cuts 10 rest) ≡ total → counted + count_by is (cuts 10 after) ≡ total

@@ -15,3 +15,9 @@ names_taken view before taken names things each is = is ∙ ap (λ (ns : List (L
 pub one_more : {A B : Type 0} (view : A → B) (names : List (List ℕ)) (things : List A) (n : List ℕ) (x : A) → length names ≡ length things
     → zip (names ++ n ∷ []) (map view (things ++ x ∷ [])) ≡ zip names (map view things) ++ (n, view x) ∷ []
 one_more view names things n x each = ap (zip (names ++ n ∷ [])) (map_push view things x) ∙ zip_push names (map view things) n (view x) (same_length view names things each)
+
+-- there are as many rows as names
+pub as_many : {A B : Type 0} (view : A → B) (names : List (List ℕ)) (things : List A) → length names ≡ length things → length names ≡ length (zip names (map view things))
+as_many view names things each =
+    let rows = zip names (map view things) in
+    ap length (sym (firsts names (map view things) (same_length view names things each))) ∙ length-map rows (λ row. row.0)

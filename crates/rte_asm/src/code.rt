@@ -1,7 +1,7 @@
 //! The code of a text, and its last line.
 
-ghost use Rattle.std.specs.Prelude.{◌≡◌, ◌&&◌, not, length};
-ghost use Rattle.std.specs.List.{zip};
+ghost use Rattle.std.specs.Prelude.{◌≡◌, not, nat_eq};
+ghost use Rattle.std.specs.List.{list_any};
 ghost use Rattle.rte_image_reading.specs.File.{all_used};
 ghost use Rattle.rte_asm_lines.specs.Instrs.{instr_read};
 ghost use Rattle.rte_line_fields.specs.Front.{Fails, Gives, front};
@@ -14,12 +14,23 @@ use rte_line_fields::{At, Fault, ReadError, begins_with, end_line, skip};
 use rte_tree::List;
 use std::alloc::Global;
 
+/// How many instructions there are at most.
+const MOST_INSTRS: usize = 65_535;
+
+/// Whether an event is used.
+fn is_used(used: &[u16], event: usize) -> bool
+    ensures { result ≡ list_any (λ e. nat_eq e event) used.now }
+{
+    used.iter().any(|other| usize::from(*other) == event)
+}
+
 /// Whether each of so many events is used.
+#[tactic(auto, using(rte_image_reading::proofs::Ends::one_more_used))]
 pub fn are_used(used: &[u16], events: usize) -> bool
     ensures { result ≡ all_used used.now 0 events }
 {
     for event in 0..events {
-        if !used.iter().any(|other| usize::from(*other) == event) {
+        if !is_used(used, event) {
             return false;
         }
     }
@@ -34,6 +45,7 @@ fn is_end(bytes: &[u8]) -> bool
 }
 
 /// The fault of a line after the processes, where there must be none.
+#[tactic(auto, unfolding(rte_asm_sections::specs::Sections::none_read))]
 fn no_line(at: At<'_>) -> ReadError
     ensures { Refuses result (front at.entry) }
 {
@@ -78,7 +90,7 @@ pub fn code_at(
     }
     let mut code = List::new(alloc);
     let mut place = at;
-    for _ in 0..65_535 {
+    for _ in 0..MOST_INSTRS {
         if is_end(place.rest) {
             return Ok((code, place));
         }

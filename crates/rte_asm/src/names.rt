@@ -14,6 +14,15 @@ use rte_line_fields::{At, Fault, ReadError, begins_with};
 use rte_tree::{List, Name};
 use std::alloc::{AllocError, Global};
 
+/// How many devices there are at most.
+const MOST_DEVICES: usize = 64;
+/// How many events there are at most.
+const MOST_EVENTS: usize = 64;
+/// How many monitors there are at most.
+const MOST_MONITORS: usize = 64;
+/// How many conditions there are at most.
+const MOST_CONDITIONS: usize = 256;
+
 /// Takes a name, so that no later part may have it.
 pub fn take(alloc: Global, taken: &mut List<Name>, name: &Name) -> Result<(), AllocError>
     ensures { OnOk result (taken.new ≡ taken.old ++ name.now ∷ []) }
@@ -49,7 +58,7 @@ pub fn devices_at<'a>(
 {
     let mut devices = List::new(alloc);
     let mut place = at;
-    for _ in 0..64 {
+    for _ in 0..MOST_DEVICES {
         if !begins_with(place.rest, b"device ") {
             return Ok((devices, place));
         }
@@ -88,7 +97,7 @@ pub fn events_at<'a>(
 {
     let mut events = List::new(alloc);
     let mut place = at;
-    for _ in 0..64 {
+    for _ in 0..MOST_EVENTS {
         if !begins_with(place.rest, b"event ") {
             return Ok((events, place));
         }
@@ -138,7 +147,7 @@ pub fn monitors_at<'a>(
     let mut names = List::new(alloc);
     let mut things = List::new(alloc);
     let mut place = at;
-    for _ in 0..64 {
+    for _ in 0..MOST_MONITORS {
         if !begins_with(place.rest, b"monitor ") {
             return Ok((Monitors { names, things }, place));
         }
@@ -185,7 +194,7 @@ pub fn conditions_at<'a>(
 {
     let mut conditions = List::new(alloc);
     let mut place = at;
-    for _ in 0..256 {
+    for _ in 0..MOST_CONDITIONS {
         if !begins_with(place.rest, b"condition ") {
             return Ok((conditions, place));
         }

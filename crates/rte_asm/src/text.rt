@@ -1,13 +1,14 @@
 //! Whole texts.
 
-ghost use Rattle.std.specs.Prelude.{◌≡◌, ◌≤◌, ◌&&◌, length, nat_lt, IfOk};
-ghost use Rattle.rte_image.specs.Raw.{named_of};
+ghost use Rattle.std.specs.Prelude.{◌≡◌, ◌≤◌, ◌&&◌, length, map, nat_lt, IfOk};
+ghost use Rattle.std.specs.List.{zip};
+ghost use Rattle.rte_image.specs.Raw.{monitor_of, named_of, process_of};
 ghost use Rattle.rte_image_reading.specs.Answer.{parts_of};
-ghost use Rattle.rte_image_reading.specs.File.{all_used, image_with};
+ghost use Rattle.rte_image_reading.specs.File.{all_used, image_with, used_by};
 ghost use Rattle.rte_line_fields.specs.Front.{Gives, front};
 ghost use Rattle.rte_asm.specs.Answer.{Tells};
 ghost use Rattle.rte_asm.specs.Held as held;
-ghost use Rattle.rte_asm_sections.specs.Sections.{guarded_read, line_at, named_read, owners_in, text_read, work_read};
+ghost use Rattle.rte_asm_sections.specs.Sections.{guarded_read, is_complete as complete_test, line_at, named_read, owners_in, text_read, work_read};
 
 use crate::assemble::assemble;
 use crate::code::{are_used, code_at, finish};
@@ -30,12 +31,22 @@ pub struct Work {
     pub code: List<Instr>,
 }
 
+/// Whether there are processes, and each of so many events is used.
+fn serve_all(processes: usize, used: &[u16], events: usize) -> bool
+    ensures { result ≡ (nat_lt 0 processes && all_used used.now 0 events) }
+{
+    0 < processes && are_used(used, events)
+}
+
 /// Whether there is a process, and each of so many events is of one.
 fn is_complete(processes: &Processes, events: usize) -> bool
-    ensures { result ≡ (nat_lt 0 (length processes.now.names) &&
-        all_used processes.now.used 0 events) }
+    requires each { length processes.now.names ≡ length processes.now.things }
+    requires used { processes.now.used ≡
+        used_by (zip processes.now.names (map process_of processes.now.things)) }
+    ensures { result ≡ complete_test events
+        (zip processes.now.names (map process_of processes.now.things)) }
 {
-    0 < processes.names.len() && are_used(processes.used.as_slice(), events)
+    serve_all(processes.names.len(), processes.used.as_slice(), events)
 }
 
 #[tactic(auto, unfolding(rte_asm_sections::specs::Sections::work_read))]
@@ -71,6 +82,14 @@ pub struct Guarded {
     pub work: Work,
 }
 
+/// How many monitors these are.
+fn count_of(monitors: &Monitors) -> usize
+    requires { length monitors.now.names ≡ length monitors.now.things }
+    ensures { result ≡ length (zip monitors.now.names (map monitor_of monitors.now.things)) }
+{
+    monitors.names.len()
+}
+
 #[tactic(auto, unfolding(rte_asm_sections::specs::Sections::guarded_read))]
 fn guarded_at<'a>(
     alloc: Global,
@@ -87,7 +106,7 @@ fn guarded_at<'a>(
         length x.0.work.processes.things) }
 {
     let (monitors, at) = monitors_at(alloc, at, taken)?;
-    let count = monitors.names.len();
+    let count = count_of(&monitors);
     let (conditions, at) = conditions_at(alloc, at, taken.as_slice(), count)?;
     let (work, at) = work_at(alloc, at, owners, count, events, taken)?;
     let guarded = Guarded {

@@ -17,6 +17,11 @@ use rte_line_fields::{At, Fault, ReadError, begins_with};
 use rte_tree::{List, Name};
 use std::alloc::{AllocError, Global};
 
+/// How many routines there are at most.
+const MOST_ROUTINES: usize = 512;
+/// How many processes there are at most.
+const MOST_PROCESSES: usize = 64;
+
 /// No more routines stand here.
 fn no_routine(at: At<'_>, owners: usize, monitors: usize) -> Result<At<'_>, ReadError>
     ensures { Gives front result (no_more (begins (codes "routine "))
@@ -44,7 +49,7 @@ pub fn routines_at(
 {
     let mut routines = List::new(alloc);
     let mut place = at;
-    for _ in 0..512 {
+    for _ in 0..MOST_ROUTINES {
         if !begins_with(place.rest, b"routine ") {
             return Ok((routines, place));
         }
@@ -113,7 +118,7 @@ pub fn processes_at<'a>(
     let mut things = List::new(alloc);
     let mut used = List::new(alloc);
     let mut place = at;
-    for _ in 0..64 {
+    for _ in 0..MOST_PROCESSES {
         if !begins_with(place.rest, b"process ") {
             return Ok((
                 Processes {

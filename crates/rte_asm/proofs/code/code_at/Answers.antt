@@ -48,7 +48,7 @@ unfolding code_read
 returns-in_err-place c =
     let is_next : List ℕ → Bool = λ bytes. not (is_end bytes) in
     let one : List Instr → Front → Read Instr = λ earlier. instr_read in
-    let p = err_from_is_err_and c.from_residual.result c.from_residual.ensures.1 in
+    let p = err_from_is_err_and c.from_residual-in_err-place.result c.from_residual-in_err-place.ensures.1 in
     rw (p.1, p.2, c.if-not-is_complete.false) (overfull is_next one one c.in_err-place.field-0.0 c.loop.code 65535 c.loop.counter (front c.loop.place) (rows_read is_next one one [] 65535 (front c.args.at)) c.loop-test.false
     c.in_err-place.ensures c.loop.invariant)
 

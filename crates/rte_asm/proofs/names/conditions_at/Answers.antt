@@ -18,7 +18,7 @@ returns-in_err-condition c =
     let one : List CondName → Front → Read CondName = condition_read c.args.taken.now c.args.monitors in
     let p = err_from_is_err_and c.from_residual.result c.from_residual.ensures.1 in
     let e = c.in_err-condition.field-0.0 in
-    let failed : Fails e (one c.loop.conditions (front c.loop.place)) = subst (λ cs. Fails e (one cs (front c.loop.place))) c.as_slice.ensures c.in_err-condition.ensures in
+    let failed : Fails e (one c.loop.conditions (front c.loop.place)) = subst (λ cs. Fails e (one cs (front c.loop.place))) c.as_slice-earlier.ensures c.in_err-condition.ensures in
     rw (p.1, p.2) (fails (begins (codes "condition ")) one one e c.loop.conditions 256 c.loop.counter (front c.loop.place) (conditions_read c.args.taken.now c.args.monitors (front c.args.at)) c.loop-test.true
     (sym c.begins_with.ensures ∙ c.if-not-begins_with.false) failed c.loop.invariant)
 
@@ -27,14 +27,14 @@ loop-preserved c =
     let one : List CondName → Front → Read CondName = condition_read c.args.taken.now c.args.monitors in
     let x = c.in_ok-condition.condition in
     let read : one c.loop.conditions (front c.loop.place) ≡ Ok (x, front c.in_ok-condition.after) =
-    subst (λ cs. one cs (front c.loop.place) ≡ Ok (x, front c.in_ok-condition.after)) c.as_slice.ensures c.in_ok-condition.ensures in
+    subst (λ cs. one cs (front c.loop.place) ≡ Ok (x, front c.in_ok-condition.after)) c.as_slice-earlier.ensures c.in_ok-condition.ensures in
     rw c.in_ok-push.ensures.ok (goes_on (begins (codes "condition ")) one one c.loop.conditions 256 c.loop.counter (front c.loop.place) x (front c.in_ok-condition.after) (conditions_read c.args.taken.now c.args.monitors (front c.args.at)) c.loop-test.true
     (sym c.begins_with.ensures ∙ c.if-not-begins_with.false) read c.loop.invariant)
 
 pub returns-in_err-place : goal.returns-in_err-place
 returns-in_err-place c =
     let one : List CondName → Front → Read CondName = condition_read c.args.taken.now c.args.monitors in
-    let p = err_from_is_err_and c.from_residual.result c.from_residual.ensures.1 in
+    let p = err_from_is_err_and c.from_residual-in_err-place.result c.from_residual-in_err-place.ensures.1 in
     let e = c.in_err-place.field-0.0 in
     let failed : Fails e (no_more (begins (codes "condition ")) (one c.loop.conditions) (front c.loop.place)) =
     subst (λ cs. Fails e (no_more (begins (codes "condition ")) (one cs) (front c.loop.place))) c.as_slice.ensures c.in_err-place.ensures in

@@ -38,10 +38,10 @@ loop-preserved c =
 pub returns-in_err-place-clause-read : goal.returns-in_err-place-clause-read
 returns-in_err-place-clause-read c =
     let one : List DevName → Front → Read DevName = λ earlier. device_read (c.args.taken.now ++ map (λ d. d.name) earlier) in
-    let p = err_from_is_err_and c.from_residual.result c.from_residual.ensures.1 in
+    let p = err_from_is_err_and c.from_residual-in_err-place.result c.from_residual-in_err-place.ensures.1 in
     let e = c.in_err-place.field-0.0 in
     let failed : Fails e (no_more (begins (codes "device ")) (one c.loop.devices) (front c.loop.place)) =
-    subst (λ ns. Fails e (no_more (begins (codes "device ")) (device_read ns) (front c.loop.place))) (c.as_slice.ensures ∙ c.loop.invariant.taken) c.in_err-place.ensures in
+    subst (λ ns. Fails e (no_more (begins (codes "device ")) (device_read ns) (front c.loop.place))) (c.as_slice-2.ensures ∙ c.loop.invariant.taken) c.in_err-place.ensures in
     rw (p.1, p.2) (overfull (begins (codes "device ")) one one e c.loop.devices 64 c.loop.counter (front c.loop.place) (devices_read c.args.taken.now (front c.args.at)) c.loop-test.false failed c.loop.invariant.so_far)
 
 pub returns-clause-read : goal.returns-clause-read
@@ -49,5 +49,5 @@ returns-clause-read c =
     let one : List DevName → Front → Read DevName = λ earlier. device_read (c.args.taken.now ++ map (λ d. d.name) earlier) in
     let t = front c.in_ok-place.place in
     let none : no_more (begins (codes "device ")) (one c.loop.devices) (front c.loop.place) ≡ Ok t =
-    subst (λ ns. no_more (begins (codes "device ")) (device_read ns) (front c.loop.place) ≡ Ok t) (c.as_slice.ensures ∙ c.loop.invariant.taken) c.in_ok-place.ensures in
+    subst (λ ns. no_more (begins (codes "device ")) (device_read ns) (front c.loop.place) ≡ Ok t) (c.as_slice-2.ensures ∙ c.loop.invariant.taken) c.in_ok-place.ensures in
     full (begins (codes "device ")) one one c.loop.devices 64 c.loop.counter (front c.loop.place) t (devices_read c.args.taken.now (front c.args.at)) c.loop-test.false none c.loop.invariant.so_far

@@ -51,9 +51,9 @@ pub returns-in_err-place-clause-read : goal.returns-in_err-place-clause-read
 returns-in_err-place-clause-read c =
     let one : List (List ℕ × Monitor) → Front → Read (List ℕ × Monitor) = λ earlier. monitor_read (c.args.taken.now ++ map (λ m. m.0) earlier) in
     let rows = zip c.loop.names (map monitor_of c.loop.things) in
-    let names_are = c.as_slice.ensures ∙ names_taken monitor_of c.args.taken.now c.loop.taken c.loop.names c.loop.things c.loop.invariant.each c.loop.invariant.taken in
+    let names_are = c.as_slice-2.ensures ∙ names_taken monitor_of c.args.taken.now c.loop.taken c.loop.names c.loop.things c.loop.invariant.each c.loop.invariant.taken in
     let e = c.in_err-place.field-0.0 in
-    let p = err_from_is_err_and c.from_residual.result c.from_residual.ensures.1 in
+    let p = err_from_is_err_and c.from_residual-in_err-place.result c.from_residual-in_err-place.ensures.1 in
     let failed : Fails e (no_more (begins (codes "monitor ")) (one rows) (front c.loop.place)) =
     subst (λ ns. Fails e (no_more (begins (codes "monitor ")) (monitor_read ns) (front c.loop.place))) names_are c.in_err-place.ensures in
     rw (p.1, p.2) (overfull (begins (codes "monitor ")) one one e rows 64 c.loop.counter (front c.loop.place) (monitors_read c.args.taken.now (front c.args.at)) c.loop-test.false failed c.loop.invariant.so_far)
@@ -62,7 +62,7 @@ pub returns-clause-read : goal.returns-clause-read
 returns-clause-read c =
     let one : List (List ℕ × Monitor) → Front → Read (List ℕ × Monitor) = λ earlier. monitor_read (c.args.taken.now ++ map (λ m. m.0) earlier) in
     let rows = zip c.loop.names (map monitor_of c.loop.things) in
-    let names_are = c.as_slice.ensures ∙ names_taken monitor_of c.args.taken.now c.loop.taken c.loop.names c.loop.things c.loop.invariant.each c.loop.invariant.taken in
+    let names_are = c.as_slice-2.ensures ∙ names_taken monitor_of c.args.taken.now c.loop.taken c.loop.names c.loop.things c.loop.invariant.each c.loop.invariant.taken in
     let t = front c.in_ok-place.place in
     let none : no_more (begins (codes "monitor ")) (one rows) (front c.loop.place) ≡ Ok t =
     subst (λ ns. no_more (begins (codes "monitor ")) (monitor_read ns) (front c.loop.place) ≡ Ok t) names_are c.in_ok-place.ensures in

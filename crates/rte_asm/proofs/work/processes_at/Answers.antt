@@ -27,12 +27,12 @@ returns-in_err-name-clause-read c =
     let rows = zip c.loop.names (map process_of c.loop.things) in
     let total = processes_read c.args.monitors c.args.events c.args.taken.now (front c.args.at) in
     let names_are = c.as_slice.ensures ∙ names_taken process_of c.args.taken.now c.loop.taken c.loop.names c.loop.things c.loop.invariant.each c.loop.invariant.taken in
-    let used_are = c.as_slice-2.ensures ∙ c.loop.invariant.used in
+    let used_are = c.as_slice-in-loop.ensures ∙ c.loop.invariant.used in
     let e = c.in_err-name.field-0.0 in
     let p = err_from_is_err_and c.from_residual.result c.from_residual.ensures.1 in
     let failed : Fails e (one rows (front c.loop.place)) =
     subst (λ us. Fails e (process_read c.args.monitors c.args.events (c.args.taken.now ++ map (λ p. p.0) rows) us (front c.loop.place))) used_are
-    (subst (λ ns. Fails e (process_read c.args.monitors c.args.events ns c.as_slice-2.result.now (front c.loop.place))) names_are c.in_err-name.ensures) in
+    (subst (λ ns. Fails e (process_read c.args.monitors c.args.events ns c.as_slice-in-loop.result.now (front c.loop.place))) names_are c.in_err-name.ensures) in
     rw (p.1, p.2) (fails (begins (codes "process ")) one (λ earlier. process_line_read c.args.events (c.args.taken.now ++ map (λ p. p.0) earlier) (used_by earlier)) e rows 64 c.loop.counter (front c.loop.place) total c.loop-test.true
     (sym c.begins_with.ensures ∙ c.if-not-begins_with.false) failed c.loop.invariant.so_far)
 
@@ -43,13 +43,13 @@ loop-preserved c =
     let rows = zip c.loop.names (map process_of c.loop.things) in
     let total = processes_read c.args.monitors c.args.events c.args.taken.now (front c.args.at) in
     let names_are = c.as_slice.ensures ∙ names_taken process_of c.args.taken.now c.loop.taken c.loop.names c.loop.things c.loop.invariant.each c.loop.invariant.taken in
-    let used_are = c.as_slice-2.ensures ∙ c.loop.invariant.used in
+    let used_are = c.as_slice-in-loop.ensures ∙ c.loop.invariant.used in
     let n = c.in_ok-name.name in
     let p = c.in_ok-name.process in
     let t = front c.in_ok-name.after in
     let read : one rows (front c.loop.place) ≡ Ok ((n, process_of p), t) =
     subst (λ us. process_read c.args.monitors c.args.events (c.args.taken.now ++ map (λ p. p.0) rows) us (front c.loop.place) ≡ Ok ((n, process_of p), t)) used_are
-    (subst (λ ns. process_read c.args.monitors c.args.events ns c.as_slice-2.result.now (front c.loop.place) ≡ Ok ((n, process_of p), t)) names_are c.in_ok-name.ensures) in
+    (subst (λ ns. process_read c.args.monitors c.args.events ns c.as_slice-in-loop.result.now (front c.loop.place) ≡ Ok ((n, process_of p), t)) names_are c.in_ok-name.ensures) in
     let more = one_more process_of c.loop.names c.loop.things n p c.loop.invariant.each in
     rw (c.in_ok-push.ensures.ok, c.in_ok-push-2.ensures.ok, c.in_ok-take.ensures, c.in_ok-use_event.ensures) (record {
       so_far = subst (λ front. in_front front (rows_read (begins (codes "process ")) one line front (64 - (c.loop.counter + 1)) t) ≡ total) (sym more)
@@ -65,13 +65,13 @@ returns-in_err-place-clause-read c =
     let line = λ (earlier : List (List ℕ × Process)). process_line_read c.args.events (c.args.taken.now ++ map (λ p. p.0) earlier) (used_by earlier) in
     let rows = zip c.loop.names (map process_of c.loop.things) in
     let total = processes_read c.args.monitors c.args.events c.args.taken.now (front c.args.at) in
-    let names_are = c.as_slice.ensures ∙ names_taken process_of c.args.taken.now c.loop.taken c.loop.names c.loop.things c.loop.invariant.each c.loop.invariant.taken in
-    let used_are = c.as_slice-2.ensures ∙ c.loop.invariant.used in
+    let names_are = c.as_slice-2.ensures ∙ names_taken process_of c.args.taken.now c.loop.taken c.loop.names c.loop.things c.loop.invariant.each c.loop.invariant.taken in
+    let used_are = c.as_slice-3.ensures ∙ c.loop.invariant.used in
     let e = c.in_err-place.field-0.0 in
-    let p = err_from_is_err_and c.from_residual.result c.from_residual.ensures.1 in
+    let p = err_from_is_err_and c.from_residual-in_err-place.result c.from_residual-in_err-place.ensures.1 in
     let failed : Fails e (no_more (begins (codes "process ")) (line rows) (front c.loop.place)) =
     subst (λ us. Fails e (no_more (begins (codes "process ")) (process_line_read c.args.events (c.args.taken.now ++ map (λ p. p.0) rows) us) (front c.loop.place))) used_are
-    (subst (λ ns. Fails e (no_more (begins (codes "process ")) (process_line_read c.args.events ns c.as_slice-2.result.now) (front c.loop.place))) names_are c.in_err-place.ensures) in
+    (subst (λ ns. Fails e (no_more (begins (codes "process ")) (process_line_read c.args.events ns c.as_slice-3.result.now) (front c.loop.place))) names_are c.in_err-place.ensures) in
     rw (p.1, p.2) (overfull (begins (codes "process ")) one line e rows 64 c.loop.counter (front c.loop.place) total c.loop-test.false failed c.loop.invariant.so_far)
 
 pub returns-clause-read : goal.returns-clause-read
@@ -80,10 +80,10 @@ returns-clause-read c =
     let line = λ (earlier : List (List ℕ × Process)). process_line_read c.args.events (c.args.taken.now ++ map (λ p. p.0) earlier) (used_by earlier) in
     let rows = zip c.loop.names (map process_of c.loop.things) in
     let total = processes_read c.args.monitors c.args.events c.args.taken.now (front c.args.at) in
-    let names_are = c.as_slice.ensures ∙ names_taken process_of c.args.taken.now c.loop.taken c.loop.names c.loop.things c.loop.invariant.each c.loop.invariant.taken in
-    let used_are = c.as_slice-2.ensures ∙ c.loop.invariant.used in
+    let names_are = c.as_slice-2.ensures ∙ names_taken process_of c.args.taken.now c.loop.taken c.loop.names c.loop.things c.loop.invariant.each c.loop.invariant.taken in
+    let used_are = c.as_slice-3.ensures ∙ c.loop.invariant.used in
     let t = front c.in_ok-place.place in
     let none : no_more (begins (codes "process ")) (line rows) (front c.loop.place) ≡ Ok t =
     subst (λ us. no_more (begins (codes "process ")) (process_line_read c.args.events (c.args.taken.now ++ map (λ p. p.0) rows) us) (front c.loop.place) ≡ Ok t) used_are
-    (subst (λ ns. no_more (begins (codes "process ")) (process_line_read c.args.events ns c.as_slice-2.result.now) (front c.loop.place) ≡ Ok t) names_are c.in_ok-place.ensures) in
+    (subst (λ ns. no_more (begins (codes "process ")) (process_line_read c.args.events ns c.as_slice-3.result.now) (front c.loop.place) ≡ Ok t) names_are c.in_ok-place.ensures) in
     full (begins (codes "process ")) one line rows 64 c.loop.counter (front c.loop.place) t total c.loop-test.false none c.loop.invariant.so_far

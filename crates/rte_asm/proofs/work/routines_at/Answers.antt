@@ -32,7 +32,7 @@ loop-preserved c =
 pub returns-in_err-place : goal.returns-in_err-place
 returns-in_err-place c =
     let one : List Routine → Front → Read Routine = λ earlier. routine_read c.args.owners c.args.monitors in
-    let p = err_from_is_err_and c.from_residual.result c.from_residual.ensures.1 in
+    let p = err_from_is_err_and c.from_residual-in_err-place.result c.from_residual-in_err-place.ensures.1 in
     rw (p.1, p.2) (overfull (begins (codes "routine ")) one (λ earlier. routine_line_read c.args.owners c.args.monitors) c.in_err-place.field-0.0 (map routine_of c.loop.routines) 512 c.loop.counter (front c.loop.place)
     (routines_read c.args.owners c.args.monitors (front c.args.at)) c.loop-test.false c.in_err-place.ensures c.loop.invariant)
 
