@@ -1,0 +1,3 @@
+pub mod RowLoop
+pub mod Rows
+pub mod Owners

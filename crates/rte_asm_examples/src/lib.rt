@@ -1,0 +1,5 @@
+//! Examples of images as text, both ways.
+#![tactic(auto)]
+
+#[cfg(test)]
+mod texts;
