@@ -2,7 +2,7 @@
 use Rattle.std.specs.Prelude.{◌≡◌, ℕ, List, Some, Result, Ok, Err}
 use Rattle.rte_image.specs.Raw.{image_of, named_of}
 use Rattle.rte_image.specs.declared.raw.RawImage.{RawImage}
-use Rattle.rte_valid.specs.Valid.{fault_of}
+use Rattle.rte_valid.specs.Valid.{IsValid, fault_of}
 use Rattle.rte_verify.specs.Verified.{HasRanges}
 use Rattle.rte_commands.specs.Due.{IsImageFile, stored}
 use Rattle.rte_asm.specs.declared.fault.AsmFault.{AsmFault}
@@ -41,3 +41,10 @@ abbrev pub TellsImage : List ℕ → Result RawImage AsmFault → Type 0
 TellsImage text (Ok raw) = IsTold text raw
 TellsImage text (Err (asm.Bad number line)) = IsFaultOf text number line
 TellsImage text (Err asm.Memory) = Unit {0}
+
+-- of an image that a text tells: the same, which is valid, or its first fault
+abbrev pub JudgesTold : RawImage → Result RawImage TextFault → Type 0
+JudgesTold raw (Ok same) = (same ≡ raw) × IsValid (image_of raw)
+JudgesTold raw (Err (fault.Text number line)) = ⊥
+JudgesTold raw (Err (fault.Invalid number a b)) = fault_of (image_of raw) ≡ Some (record { number = number; a = a; b = b })
+JudgesTold raw (Err fault.Memory) = Unit {0}

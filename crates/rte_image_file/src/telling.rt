@@ -1,6 +1,7 @@
 //! Loading from texts.
 
-ghost use Rattle.rte_image_file.specs.Telling.{LoadsText, TellsImage};
+ghost use Rattle.rte_image_file.specs.Telling.{JudgesTold, LoadsText, TellsImage};
+ghost use Rattle.rte_verify.specs.Verified.{HasRanges};
 
 use crate::loading::{FileFault, judge};
 use rte_asm::{AsmFault, asm};
@@ -31,6 +32,18 @@ fn tell(alloc: Global, text: &[u8]) -> Result<RawImage, AsmFault>
     asm(alloc, text)
 }
 
+/// The image, where it is valid.
+fn judge_told(alloc: Global, raw: RawImage) -> Result<RawImage, TextFault>
+    requires { HasRanges raw }
+    ensures { JudgesTold raw result }
+{
+    match judge(alloc, raw) {
+        Ok(raw) => Ok(raw),
+        Err(FileFault::Invalid { number, a, b }) => Err(TextFault::Invalid { number, a, b }),
+        Err(_) => Err(TextFault::Memory),
+    }
+}
+
 /// The valid image whose text this is.
 ///
 /// # Errors
@@ -43,11 +56,7 @@ pub fn load_text(alloc: Global, text: &[u8]) -> Result<RawImage, TextFault>
 {
     images_told_are_held();
     match tell(alloc, text) {
-        Ok(raw) => match judge(alloc, raw) {
-            Ok(raw) => Ok(raw),
-            Err(FileFault::Invalid { number, a, b }) => Err(TextFault::Invalid { number, a, b }),
-            Err(_) => Err(TextFault::Memory),
-        },
+        Ok(raw) => judge_told(alloc, raw),
         Err(AsmFault::Bad { number, line }) => Err(TextFault::Text { number, line }),
         Err(AsmFault::Memory) => Err(TextFault::Memory),
     }

@@ -1,3 +1,5 @@
 pub mod Read
 pub mod Refused
 pub mod Ready
+pub mod Told
+pub mod Watched

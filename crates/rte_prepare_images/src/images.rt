@@ -80,7 +80,11 @@ pub fn refuse_image<'a>(alloc: Global, fault: FileFault) -> Result<Act<'a>, Allo
 }
 
 /// The act that stores an image under the name `target`.
-pub fn store_image<'a>(alloc: Global, raw: &RawImage, target: &'a str) -> Result<Act<'a>, AllocError>
+pub fn store_image<'a>(
+    alloc: Global,
+    raw: &RawImage,
+    target: &'a str,
+) -> Result<Act<'a>, AllocError>
     requires { IsInRange (named_of raw.now) }
     ensures outcome { IfOk result (λ act. outcome_of act ≡ keeps (stored (named_of raw.now))) }
     ensures done { IfOk result (CanBeDone (Some target.now)) }

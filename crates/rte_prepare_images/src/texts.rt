@@ -161,19 +161,25 @@ fn store_text<'a>(alloc: Global, raw: &RawImage, target: &'a str) -> Result<Act<
     })
 }
 
+/// The line of the fault of bytes that are no image.
+fn line_of_bytes(alloc: Global, fault: ImageFault) -> Result<Text, AllocError>
+    ensures { IfOk result (λ line. (bytes : List ℕ) → Tells bytes (Err fault) →
+        IsDisDue bytes (told 4 line)) }
+{
+    match fault {
+        ImageFault::Bad { number, offset } => image_fault_line(alloc, number, offset),
+        ImageFault::Memory => Err(AllocError),
+    }
+}
+
 /// The act for bytes that are no image: it puts the line of their fault.
 fn refuse_bytes<'a>(alloc: Global, fault: ImageFault) -> Result<Act<'a>, AllocError>
     ensures due { IfOk result (λ act. (bytes : List ℕ) → Tells bytes (Err fault) →
         IsDisDue bytes (outcome_of act)) }
     ensures quiet { IfOk result IsQuiet }
 {
-    match fault {
-        ImageFault::Bad { number, offset } => {
-            let line = image_fault_line(alloc, number, offset)?;
-            Ok(put(Status::Image, line))
-        }
-        ImageFault::Memory => Err(AllocError),
-    }
+    let line = line_of_bytes(alloc, fault)?;
+    Ok(put(Status::Image, line))
 }
 
 /// The act of `dis` for what the image's file holds.

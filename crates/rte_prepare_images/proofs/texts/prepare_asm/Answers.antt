@@ -1,0 +1,13 @@
+use Rattle.rte_asm_due.specs.Due.{IsAsmDue}
+use Rattle.rte_asm_sections.specs.Faults.{longest_text}
+use Rattle.rte_words.specs.Calls as call
+use Rattle.rte_answers.specs.Acts.{outcome_of}
+use Rattle.rte_contents.specs.Contents.{IsContent}
+use Rattle.rte_contents.proofs.Held.{acted, of_held}
+use Rattle.rte_prepare_images.proofs.texts.prepare_asm.Goals as goal
+
+pub returns-in-Ok-clause-prepared : goal.returns-in-Ok-clause-prepared
+returns-in-Ok-clause-prepared g c =
+    acted g.F.Files.tells (call.asm c.args.text.now c.args.image.now) (g.F.Files.state c.args.files.now) c.in-Ok.act c.in-Ok.ensures.done
+    (of_held g.F.Files.tells ((g.F.Files.state c.args.files.now).held c.args.text.now) (IsContent longest_text c.in_ok-content.content) (λ lines. IsAsmDue lines (outcome_of c.in-Ok.act))
+    c.in_ok-content.ensures.content c.in-Ok.ensures.due)
