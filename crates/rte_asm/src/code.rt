@@ -4,8 +4,8 @@ ghost use Rattle.std.specs.Prelude.{◌≡◌, not, nat_eq};
 ghost use Rattle.std.specs.List.{list_any};
 ghost use Rattle.rte_image_reading.specs.File.{all_used};
 ghost use Rattle.rte_asm_lines.specs.Instrs.{instr_read};
-ghost use Rattle.rte_line_fields.specs.Front.{Fails, Gives, front};
-ghost use Rattle.rte_asm_sections.specs.Sections.{code_read, finish_read, is_end as end_test, last_read, no_more, nothing_after};
+ghost use Rattle.rte_line_fields.specs.Front.{Gives, front};
+ghost use Rattle.rte_asm_sections.specs.Sections.{code_read, finish_read, is_end as end_test, last_read, no_more};
 ghost use Rattle.rte_asm.specs.Refusal.{Refuses};
 
 use rte_asm_lines::instr_line;

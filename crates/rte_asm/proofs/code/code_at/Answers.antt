@@ -1,4 +1,4 @@
-use Rattle.std.proofs.Common.{◌≡◌, ◌∷◌, [], ℕ, Bool, true, false, List, Err, ap, sym, ◌∙◌}
+use Rattle.std.proofs.Common.{[], ℕ, Bool, false, List, Err, ap, sym, ◌∙◌}
 use Rattle.std.specs.Prelude.{not}
 use Rattle.std.proofs.lemmas.Result.{err_from_is_err_and}
 use Rattle.rte_isa.specs.declared.instr.Instr.{Instr}
@@ -6,7 +6,7 @@ use Rattle.rte_line_fields.specs.declared.fault.ReadError.{ReadError}
 use Rattle.rte_line_fields.specs.declared.fault.ReadError.TheVariants as errors
 use Rattle.rte_line_fields.specs.Front.{Fails, Front, Read, front}
 use Rattle.rte_asm_lines.specs.Instrs.{instr_read}
-use Rattle.rte_asm_sections.specs.Sections.{code_read, is_end, none_read, rows_read}
+use Rattle.rte_asm_sections.specs.Sections.{code_read, is_end, rows_read}
 use Rattle.rte_asm.specs.Refusal.{Refuses}
 use Rattle.rte_asm.proofs.RowLoop.{ends, fails, full, goes_on, overfull}
 use Rattle.rte_asm.proofs.code.code_at.Goals as goal

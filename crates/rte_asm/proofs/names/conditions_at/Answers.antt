@@ -1,4 +1,4 @@
-use Rattle.std.proofs.Common.{◌≡◌, ◌∷◌, [], List, Ok, codes, sym, ◌∙◌, subst}
+use Rattle.std.proofs.Common.{◌≡◌, List, Ok, codes, sym, ◌∙◌, subst}
 use Rattle.std.proofs.lemmas.Result.{err_from_is_err_and}
 use Rattle.rte_image.specs.declared.names.CondName.{CondName}
 use Rattle.rte_line_fields.specs.Front.{Fails, Front, Read, begins, front}

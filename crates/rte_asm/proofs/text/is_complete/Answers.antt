@@ -1,7 +1,7 @@
-use Rattle.std.proofs.Common.{◌≡◌, ◌&&◌, ◌∙◌, length, map, nat_lt, ap}
+use Rattle.std.proofs.Common.{◌&&◌, ◌∙◌, length, map, nat_lt, ap}
 use Rattle.std.specs.List.{zip}
 use Rattle.rte_image.specs.Raw.{process_of}
-use Rattle.rte_image_reading.specs.File.{all_used, used_by}
+use Rattle.rte_image_reading.specs.File.{all_used}
 use Rattle.rte_asm.proofs.Rows.{as_many}
 use Rattle.rte_asm.proofs.text.is_complete.Goals as goal
 

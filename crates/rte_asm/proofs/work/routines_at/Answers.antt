@@ -1,4 +1,4 @@
-use Rattle.std.proofs.Common.{◌≡◌, [], ℕ, Bool, List, codes, map, sym, ◌∙◌}
+use Rattle.std.proofs.Common.{List, codes, map, sym, ◌∙◌}
 use Rattle.std.proofs.lemmas.Result.{err_from_is_err_and}
 use Rattle.std.proofs.lemmas.List.{map_push}
 use Rattle.rte_machine_meaning.specs.Image.{Routine}
