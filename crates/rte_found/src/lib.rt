@@ -15,7 +15,9 @@ mod steps;
 mod trees;
 mod whole;
 
+pub use instructions::{instr_at, results};
 pub use known::{Around, Found, Known, PartFound, TOO_DEEP};
-pub use parts::{entry_found, part_found, part_tree_found, routine_found};
-pub use trees::{line_found, seg_found, tree_end, tree_found};
+pub use parts::{entry_found, part_found, part_tree_found, routine_found, stayed};
+pub use steps::{called, exited, forked, repeated, waited};
+pub use trees::{line_found, past, seg_found, tree_end, tree_found};
 pub use whole::{depth, fits, worst};

@@ -14,7 +14,7 @@ use rte_isa::Instr;
 use rte_seg::Seg;
 
 /// So many addresses on, where that is at most the limit.
-fn past(at: usize, count: usize, limit: usize) -> Option<usize>
+pub fn past(at: usize, count: usize, limit: usize) -> Option<usize>
     requires { at ≤ limit }
     ensures { MatchOption result (limit < at + count) (λ end. (end ≡ at + count) × (end ≤ limit)) }
 {
