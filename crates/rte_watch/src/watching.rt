@@ -26,12 +26,7 @@ use rte_words::Stop;
 use std::alloc::{AllocError, Global};
 
 /// The lines that tell where a run stands.
-fn tell(
-    alloc: Global,
-    image: &RawImage,
-    plan: &Plan,
-    course: &Course,
-) -> Result<Text, AllocError>
+fn tell(alloc: Global, image: &RawImage, plan: &Plan, course: &Course) -> Result<Text, AllocError>
     ghost run: { Run }
     requires image { run.image ≡ image_of image.now }
     requires plan { IsOf run.image plan.now }

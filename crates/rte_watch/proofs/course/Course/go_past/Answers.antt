@@ -22,9 +22,9 @@ loop-self-preserved g c =
       none =
           goes_on g.image script c.args.address c.turn-completed.new.self.machine.tick
           (λ at. (
-            let yes : c.is_at.result ≡ true = c.is_at.ensures.1 (subst (λ (o : Option Completed). IsAt c.args.address o) (sym turn.last) at) in
-            let no = c.if-is_at.false in
-            absurd cc
+          let yes : c.is_at.result ≡ true = c.is_at.ensures.1 (subst (λ (o : Option Completed). IsAt c.args.address o) (sym turn.last) at) in
+          let no = c.if-is_at.false in
+          absurd cc
           ))
           (none_but_last g.image script c.args.address c.loop-self.self.machine.tick c.turn-completed.new.self.machine.tick turn.sole c.loop-self.invariant.none);
     }
