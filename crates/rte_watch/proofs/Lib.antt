@@ -1,0 +1,5 @@
+pub mod Ring
+pub mod Lines
+pub mod Stopping
+pub mod Running
+pub mod Telling

@@ -1,6 +1,7 @@
 //! The lines of processes and monitors.
 
-ghost use Rattle.std.specs.Prelude.{◌≡◌, ◌++◌, ◌≤◌, ◌<◌, IfOk, OnOk, length, slice_get, take, Some};
+ghost use Rattle.std.specs.Prelude.{◌≡◌, ◌++◌, ◌≤◌, ◌<◌, IfOk, OnOk, length, take};
+ghost use Rattle.std.specs.List.{flat_map, range_with_len};
 ghost use Rattle.rte_image.specs.Raw.{image_of};
 ghost use Rattle.rte_machine_meaning.specs.Run.{state_at};
 ghost use Rattle.rte_runner.specs.Standing.{StandsIn};
@@ -9,6 +10,7 @@ ghost use Rattle.rte_state.specs.Plan.{IsOf};
 ghost use Rattle.rte_stop.specs.Text.{monitor_line, process_line, state_text};
 ghost use Rattle.rte_view.specs.View.{monitor_words, process_words};
 ghost use Rattle.rte_inspect.specs.Laws.{HasItsWords};
+ghost use Rattle.rte_watch.specs.Shown.{IsShownOfMonitor, IsShownOfProcess};
 
 use rte_image::RawImage;
 use rte_inspect::{monitor_word, occupant, view, word};
@@ -20,6 +22,24 @@ use std::alloc::{AllocError, Global};
 
 /// How many words are shown at most.
 const SHOWN_WORDS: usize = 16;
+
+/// How many words of a process are shown.
+fn shown_of_process(image: &RawImage, process: usize) -> usize
+    requires { process < length image.now.processes }
+    ensures { IsShownOfProcess image.now process result }
+{
+    let count = image.processes.as_slice()[process].words as usize;
+    count.min(SHOWN_WORDS)
+}
+
+/// How many words of a monitor are shown.
+fn shown_of_monitor(image: &RawImage, monitor: usize) -> usize
+    requires { monitor < length image.now.monitors }
+    ensures { IsShownOfMonitor image.now monitor result }
+{
+    let count = image.monitors.as_slice()[monitor].words as usize;
+    count.min(SHOWN_WORDS)
+}
 
 /// The first words of a process, so many.
 fn words_of_process(
@@ -83,8 +103,8 @@ fn put_one_process(
     ensures { OnOk result (text.new ≡ text.old ++ process_line image.now.names run.image
         (state_at run.image run.script machine.now.tick) process) }
 {
-    let count = image.processes.as_slice()[process].words as usize;
-    let words = words_of_process(alloc, machine, process, count.min(SHOWN_WORDS))?;
+    let count = shown_of_process(image, process);
+    let words = words_of_process(alloc, machine, process, count)?;
     let seen = view(plan, machine, process);
     put_process(text, &image.names, process, seen, words.as_slice())
 }
@@ -102,13 +122,59 @@ fn put_one_monitor(
     requires stands { StandsIn run.image run.script machine.now }
     requires words { HasItsWords run.image (state_at run.image run.script machine.now.tick) }
     requires monitor { monitor < length image.now.monitors }
+    requires few { length image.now.monitors ≤ 64 }
     ensures { OnOk result (text.new ≡ text.old ++ monitor_line image.now.names run.image
         (state_at run.image run.script machine.now.tick) monitor) }
 {
-    let count = image.monitors.as_slice()[monitor].words as usize;
-    let words = words_of_monitor(alloc, image, machine, monitor, count.min(SHOWN_WORDS))?;
+    let count = shown_of_monitor(image, monitor);
+    let words = words_of_monitor(alloc, image, machine, monitor, count)?;
     let inside = occupant(machine, monitor as u16);
     put_monitor(text, &image.names, monitor, inside, words.as_slice())
+}
+
+/// Puts the lines of all processes.
+fn put_processes(
+    alloc: Global,
+    text: &mut Text,
+    image: &RawImage,
+    plan: &Plan,
+    machine: &Machine,
+) -> Result<(), AllocError>
+    ghost run: { Run }
+    requires image { run.image ≡ image_of image.now }
+    requires plan { IsOf run.image plan.now }
+    requires stands { StandsIn run.image run.script machine.now }
+    requires words { HasItsWords run.image (state_at run.image run.script machine.now.tick) }
+    ensures { OnOk result (text.new ≡ text.old ++ flat_map (process_line image.now.names run.image
+        (state_at run.image run.script machine.now.tick))
+        (range_with_len 0 (length image.now.processes))) }
+{
+    for process in 0..image.processes.len() {
+        put_one_process(alloc, text, image, plan, machine, process)?;
+    }
+    Ok(())
+}
+
+/// Puts the lines of all monitors.
+fn put_monitors(
+    alloc: Global,
+    text: &mut Text,
+    image: &RawImage,
+    machine: &Machine,
+) -> Result<(), AllocError>
+    ghost run: { Run }
+    requires image { run.image ≡ image_of image.now }
+    requires stands { StandsIn run.image run.script machine.now }
+    requires words { HasItsWords run.image (state_at run.image run.script machine.now.tick) }
+    requires few { length image.now.monitors ≤ 64 }
+    ensures { OnOk result (text.new ≡ text.old ++ flat_map (monitor_line image.now.names run.image
+        (state_at run.image run.script machine.now.tick))
+        (range_with_len 0 (length image.now.monitors))) }
+{
+    for monitor in 0..image.monitors.len() {
+        put_one_monitor(alloc, text, image, machine, monitor)?;
+    }
+    Ok(())
 }
 
 /// Puts the lines of all processes and monitors.
@@ -124,14 +190,10 @@ pub(crate) fn put_state(
     requires plan { IsOf run.image plan.now }
     requires stands { StandsIn run.image run.script machine.now }
     requires words { HasItsWords run.image (state_at run.image run.script machine.now.tick) }
+    requires few { length image.now.monitors ≤ 64 }
     ensures { OnOk result (text.new ≡ text.old ++ state_text image.now.names run.image
         (state_at run.image run.script machine.now.tick)) }
 {
-    for process in 0..image.processes.len() {
-        put_one_process(alloc, text, image, plan, machine, process)?;
-    }
-    for monitor in 0..image.monitors.len() {
-        put_one_monitor(alloc, text, image, machine, monitor)?;
-    }
-    Ok(())
+    put_processes(alloc, text, image, plan, machine)?;
+    put_monitors(alloc, text, image, machine)
 }

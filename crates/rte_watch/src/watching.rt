@@ -1,9 +1,12 @@
 //! Watching.
 
-ghost use Rattle.std.specs.Prelude.{◌≡◌, IfOk};
+ghost use Rattle.std.specs.Prelude.{◌≡◌, ◌≤◌, All, IfOk, length};
 ghost use Rattle.rte_answers.specs.Acts.{CanRun};
 ghost use Rattle.rte_image.specs.Raw.{image_of, named_of};
-ghost use Rattle.rte_machine_meaning.specs.Image.{Image};
+ghost use Rattle.rte_inspect.specs.Laws.{HasItsWords};
+ghost use Rattle.rte_log.specs.InRange.{AreIn};
+ghost use Rattle.rte_machine_meaning.specs.Run.{state_at};
+ghost use Rattle.rte_runner.specs.Turn.{Run};
 ghost use Rattle.rte_starts.specs.Begin.{script_of};
 ghost use Rattle.rte_stop.specs.Due.{IsStopText};
 ghost use Rattle.rte_stop.specs.Text.{stop_text};
@@ -23,26 +26,46 @@ use rte_words::Stop;
 use std::alloc::{AllocError, Global};
 
 /// The lines that tell where a run stands.
-fn tell(
-    alloc: Global,
-    image: &RawImage,
-    script: &Script,
-    plan: &Plan,
-    course: &Course,
-) -> Result<Text, AllocError>
-    requires can { CanRun (record { image = image.now; script = script.now }) }
-    requires plan { IsOf (image_of image.now) plan.now }
-    requires follows { Follows (image_of image.now) (script_of script.now) course.now }
+fn tell(alloc: Global, image: &RawImage, plan: &Plan, course: &Course) -> Result<Text, AllocError>
+    ghost run: { Run }
+    requires image { run.image ≡ image_of image.now }
+    requires plan { IsOf run.image plan.now }
+    requires follows { Follows run.image run.script course.now }
+    requires words { HasItsWords run.image
+        (state_at run.image run.script course.now.machine.tick) }
+    requires few { length image.now.monitors ≤ 64 }
+    requires lines { All (AreIn image.now.names) course.now.recent.items }
     ensures { IfOk result (λ text. text ≡
-        stop_text (named_of image.now) (script_of script.now) course.now.machine.tick) }
+        stop_text (named_of image.now) run.script course.now.machine.tick) }
 {
-    words_are_declared();
     let mut text = Text::new(alloc);
     put_tick(&mut text, course.machine.tick())?;
     put_state(alloc, &mut text, image, plan, &course.machine)?;
     let recent = course.recent.to_vec(alloc)?;
     put_recent(&mut text, &image.names, recent.as_slice())?;
     Ok(text)
+}
+
+/// The text of the state where the run of an image, whose plan is made, stops.
+fn watch_by(
+    alloc: Global,
+    image: &RawImage,
+    plan: &Plan,
+    script: &Script,
+    stop: Stop,
+) -> Result<Text, AllocError>
+    ghost run: { Run }
+    requires image { run.image ≡ image_of image.now }
+    requires script { run.script ≡ script_of script.now }
+    requires plan { IsOf run.image plan.now }
+    requires can { CanRun (record { image = image.now; script = script.now }) }
+    ensures { IfOk result (λ text.
+        IsStopText (named_of image.now) script.now.lines script.now.end stop text) }
+{
+    words_are_declared();
+    let mut course = Course::new(alloc, plan, script)?;
+    course.run(plan, script, stop);
+    tell(alloc, image, plan, &course)
 }
 
 /// The text of the state where the run of an image over a script stops: before a tick, or at the end
@@ -59,7 +82,5 @@ pub fn watch(
         IsStopText (named_of image.now) script.now.lines script.now.end stop text) }
 {
     let plan = plan_of(alloc, image)?;
-    let mut course = Course::new(alloc, &plan, script)?;
-    course.run(&plan, script, stop);
-    tell(alloc, image, script, &plan, &course)
+    watch_by(alloc, image, &plan, script, stop)
 }

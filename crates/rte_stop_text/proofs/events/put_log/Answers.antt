@@ -1,5 +1,5 @@
-use Rattle.std.proofs.Common.{◌≡◌, ◌∙◌, ◌+◌, ◌++◌, List, ℕ, [], drop, get_or, length, arith, ap, sym, append_assoc}
-use Rattle.std.proofs.lemmas.List.{append-nil}
+use Rattle.std.proofs.Common.{◌≡◌, ◌∙◌, ◌+◌, ◌++◌, List, ℕ, [], drop, get_or, arith, ap, sym, append_assoc}
+use Rattle.std.proofs.lemmas.List.{append-nil, drop_all}
 use Rattle.rte_event.specs.declared.event.Event.{Event}
 use Rattle.rte_event.specs.declared.event.Act.TheVariants as act
 use Rattle.rte_log.specs.Line.{line_of, log_of}
@@ -18,4 +18,10 @@ loop-event-preserved c =
     ∙ (ap (λ (t : List ℕ). c.loop-event.text ++ t) (sym (log_of-drop names events index e (omega arith))) ∙ c.loop-event.invariant))
 
 pub returns : goal.returns
-returns c = cc (log_of-nil c.args.names.now) (append-nil c.loop-event.text) c.loop-event.invariant
+returns c =
+    let names = c.args.names.now in
+    let text = c.loop-event.text in
+    let none : drop c.loop-event.event-index c.args.events.now ≡ [] = drop_all c.loop-event.event-index c.args.events.now (omega arith) in
+    let last : text ++ log_of names (drop c.loop-event.event-index c.args.events.now) ≡ text =
+    ap (λ (es : List Event). text ++ log_of names es) none ∙ (ap (λ (t : List ℕ). text ++ t) (log_of-nil names) ∙ append-nil text) in
+    sym last ∙ c.loop-event.invariant
