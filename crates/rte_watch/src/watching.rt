@@ -68,9 +68,9 @@ fn watch_by(
     tell(alloc, image, plan, &course)
 }
 
-/// The text of the state where the run of an image over a script stops: before a tick, or at the end
-/// where this comes first; or right after the first effect of an instruction, or at the end where
-/// there is none. An error says that memory is short.
+/// The text of the state where the run of an image over a script stops: before a tick, or at the
+/// end where this comes first; or right after the first effect of an instruction, or at the end
+/// where there is none. An error says that memory is short.
 pub fn watch(
     alloc: Global,
     image: &RawImage,
