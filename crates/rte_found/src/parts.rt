@@ -22,7 +22,13 @@ use rte_num::{Cost, cap_add};
 use rte_seg::Seg;
 
 /// ENTER, what is done inside, and LEAVE, of the monitor that the Stay and the owner name.
-pub fn stayed(owner: u16, monitor: u16, enter: Instr, leave: Instr, inside: &Found) -> Option<PartFound>
+pub fn stayed(
+    owner: u16,
+    monitor: u16,
+    enter: Instr,
+    leave: Instr,
+    inside: &Found,
+) -> Option<PartFound>
     requires held { IsHeld inside.now }
     requires room { inside.now.next + 1 ≤ usize.MAX }
     ensures value { told_part result ≡ hold (guard

@@ -5,4 +5,6 @@
 
 mod lines;
 
-pub use lines::{fault_line, image_fault_line, script_fault_line, text_fault_line, valid_fault_line};
+pub use lines::{
+    fault_line, image_fault_line, script_fault_line, text_fault_line, valid_fault_line,
+};

@@ -52,11 +52,17 @@ fn a_monitor_is_held(rt: HostRuntime) -> Result<(), Fail> {
         left: 1,
         inside: Some(0),
     };
-    assert_eq!(rt; stage.views(alloc)?.as_slice(), [inside, ready(9, 6), ready(12, 5)].as_slice());
+    assert_eq!(rt;
+        stage.views(alloc)?.as_slice(),
+        [inside, ready(9, 6), ready(12, 5)].as_slice()
+    );
     assert_eq!(rt; stage.occupant(0), Some(0));
     assert_eq!(rt; stage.first_monitor_word(0), Some(0));
     assert_eq!(rt; stage.run_to(38), Some(Completed { process: 0, at: 5 }));
-    assert_eq!(rt; stage.views(alloc)?.as_slice(), [ready(6, 4), ready(9, 6), View::Idle].as_slice());
+    assert_eq!(rt;
+        stage.views(alloc)?.as_slice(),
+        [ready(6, 4), ready(9, 6), View::Idle].as_slice()
+    );
     assert_eq!(rt; stage.occupant(0), None);
     assert_eq!(rt; stage.first_monitor_word(0), Some(1));
     assert_eq!(rt; stage.first_word(0), None);
@@ -72,7 +78,10 @@ fn a_wait_is_seen(rt: HostRuntime) -> Result<(), Fail> {
         condition: 0,
         due: 47,
     };
-    assert_eq!(rt; stage.views(alloc)?.as_slice(), [waiting, View::Idle].as_slice());
+    assert_eq!(rt;
+        stage.views(alloc)?.as_slice(),
+        [waiting, View::Idle].as_slice()
+    );
     assert_eq!(rt; stage.occupant(0), None);
     Ok(())
 }
@@ -82,9 +91,15 @@ fn dispatch_is_burnt(rt: HostRuntime) -> Result<(), Fail> {
     let alloc = rt.alloc();
     let mut stage = Stage::new(alloc, MEETING, "end 100\n", 3)?;
     assert_eq!(rt; stage.run_to(2), None);
-    assert_eq!(rt; stage.views(alloc)?.as_slice(), [ready(9, 4), View::Idle].as_slice());
+    assert_eq!(rt;
+        stage.views(alloc)?.as_slice(),
+        [ready(9, 4), View::Idle].as_slice()
+    );
     assert_eq!(rt; stage.run_to(6), None);
-    assert_eq!(rt; stage.views(alloc)?.as_slice(), [ready(9, 6), View::Idle].as_slice());
+    assert_eq!(rt;
+        stage.views(alloc)?.as_slice(),
+        [ready(9, 6), View::Idle].as_slice()
+    );
     assert_eq!(rt; stage.run_to(12), Some(Completed { process: 0, at: 9 }));
     Ok(())
 }
