@@ -11,7 +11,7 @@ ghost use Rattle.rte_asm_laws.specs.Laws.{
 use rte_asm_reads::texts_written_are_read;
 use rte_asm_size::texts_hold_their_bytes;
 use rte_asm_sound::texts_read_are_written;
-use rte_image_sound::law::images_written_are_read;
+use rte_image_sound::images_written_are_read;
 
 /// An image that is read of a text is the one whose text it is.
 pub fn texts_read_are_of_images()
