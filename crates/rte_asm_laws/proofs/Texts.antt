@@ -1,22 +1,19 @@
 -- Texts and the images that they tell.
-use Rattle.std.proofs.Common.{◌≡◌, ◌<◌, ◌≤◌, ◌∙◌, ℕ, List, length, Ok, Err, inl, inr, refl, sym, subst, ap, arith}
-use Rattle.rte_image.specs.Raw.{named_of}
+use Rattle.std.proofs.Common.{◌≡◌, ◌≤◌, ◌∙◌, ℕ, List, length, Ok, Err, inl, inr, sym, subst, ap, arith}
 use Rattle.rte_image.specs.declared.raw.RawImage.{RawImage}
 use Rattle.rte_image.specs.Bytes.{Second, bytes_of}
 use Rattle.rte_image.specs.Named.{NamedImage}
-use Rattle.rte_image_reading.specs.Answer.{Holds, parts_of}
-use Rattle.rte_image_reading.specs.File.{Parts, image_with, longest, read_file}
+use Rattle.rte_image_reading.specs.Answer.{parts_of}
+use Rattle.rte_image_reading.specs.File.{image_with, longest, read_file}
 use Rattle.rte_image_sound.specs.Law.{ImagesWrittenAreRead}
 use Rattle.rte_image_text.specs.Text.{text_of}
 use Rattle.rte_line_fields.specs.Front.{fault}
-use Rattle.rte_asm_sections.specs.Sections.{text_read, line_at}
+use Rattle.rte_asm_sections.specs.Sections.{text_read}
 use Rattle.rte_asm_sound.specs.Law.{TextsReadAreWritten}
 use Rattle.rte_asm_reads.specs.Law.{TextsWrittenAreRead}
 use Rattle.rte_asm_size.specs.Law.{TextsHoldTheirBytes}
-use Rattle.rte_asm_sections.specs.Faults.{IsFaultOf}
 use Rattle.rte_asm_due.specs.Texts.{IsTextOf}
-use Rattle.rte_commands.specs.Due.{stored}
-use Rattle.rte_asm_laws.specs.Laws.{TextsReadAreOfImages, TextsAreOfOneImage, ImagesToldAreHeld, TextsOfImagesHaveNoFault, TextsHaveOneFault}
+use Rattle.rte_asm_laws.specs.Laws.{TextsReadAreOfImages, TextsAreOfOneImage, ImagesToldAreHeld, TextsOfImagesHaveNoFault}
 
 pub read_is : TextsReadAreWritten → TextsReadAreOfImages
 read_is law text raw short read whole =
@@ -50,13 +47,3 @@ pub no_fault : TextsWrittenAreRead → TextsOfImagesHaveNoFault
 no_fault law text raw number line t (inl long) = let short = t.short in let more = long.long in omega (arith, short, more)
 no_fault law text raw number line t (inr bad) =
     let both : Ok (parts_of raw) ≡ Err (fault number bad.left) = sym (told_is_read law text raw t) ∙ bad.is_read in absurd cc
-
-pub one_fault : TextsHaveOneFault
-one_fault text number other line there (inl a) (inl b) = (a.is ∙ sym b.is, a.nowhere ∙ sym b.nowhere)
-one_fault text number other line there (inl a) (inr b) = let short = b.short in let more = a.long in absurd (omega (arith, short, more))
-one_fault text number other line there (inr a) (inl b) = let short = a.short in let more = b.long in absurd (omega (arith, short, more))
-one_fault text number other line there (inr a) (inr b) =
-    let both : Err {A = Parts} (fault number a.left) ≡ Err (fault other b.left) = sym a.is_read ∙ b.is_read in
-    let numbers : number ≡ other = cc in
-    let lefts : a.left ≡ b.left = cc in
-    (numbers, a.place ∙ (ap (line_at text) lefts ∙ sym b.place))
