@@ -14,7 +14,7 @@ use Rattle.rte_answers.specs.declared.status.Status.TheVariants as status
 use Rattle.rte_answers.specs.Acts.{outcome_of}
 use Rattle.rte_contents.specs.Acting.{CanBeDone, IsQuiet, puts}
 use Rattle.rte_contents.specs.Scripted.{IsRunOver, misspelled, is_run, ran}
-use Rattle.rte_contents.proofs.Acts.{put_comes_to}
+use Rattle.rte_contents.proofs.Coming.{put_comes_to}
 use Rattle.std.proofs.Common.{ℕ, List, Ok, Err}
 use Rattle.std.specs.Prelude.{Result, IfOk}
 use Rattle.rte_image.specs.declared.raw.RawImage.{RawImage}

@@ -1,3 +1,3 @@
-pub mod Acts
+pub mod Coming
 pub mod Held
 pub mod Judged

@@ -16,7 +16,7 @@ use Rattle.rte_answers.specs.declared.status.Status.TheVariants as status
 use Rattle.rte_answers.specs.Acts.{outcome_of}
 use Rattle.rte_contents.specs.Acting.{puts}
 use Rattle.rte_asm_due.specs.Due.{keeps}
-use Rattle.rte_contents.proofs.Acts.{outcome_of_puts}
+use Rattle.rte_contents.proofs.Coming.{outcome_of_puts}
 
 -- ---- images
 

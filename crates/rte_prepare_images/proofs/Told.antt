@@ -21,7 +21,7 @@ use Rattle.rte_answers.specs.declared.act.Act.{Act}
 use Rattle.rte_answers.specs.declared.status.Status.TheVariants as status
 use Rattle.rte_answers.specs.Acts.{outcome_of}
 use Rattle.rte_contents.specs.Acting.{puts}
-use Rattle.rte_contents.proofs.Acts.{outcome_of_puts}
+use Rattle.rte_contents.proofs.Coming.{outcome_of_puts}
 use Rattle.rte_prepare_images.specs.Held.{HasNames}
 
 -- ---- `asm`

@@ -21,7 +21,7 @@ use Rattle.rte_contents.specs.declared.unready.Unready.{Unready}
 use Rattle.rte_contents.specs.declared.unready.Unready.TheVariants as unready
 use Rattle.rte_contents.specs.Acting.{IsQuiet, puts}
 use Rattle.rte_contents.specs.Prepared.{Prepares, ReadsFailed}
-use Rattle.rte_contents.proofs.Acts.{put_comes_to}
+use Rattle.rte_contents.proofs.Coming.{put_comes_to}
 use Rattle.rte_contents.proofs.Held.{acted, of_held, rose_since}
 use Rattle.rte_prepare_images.specs.Watched.{IsSeenDue, IsTold, misspelled, seen}
 

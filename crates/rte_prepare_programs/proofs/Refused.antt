@@ -24,7 +24,7 @@ use Rattle.rte_answers.specs.declared.act.Act.{Act}
 use Rattle.rte_answers.specs.declared.status.Status.TheVariants as status
 use Rattle.rte_answers.specs.Acts.{outcome_of}
 use Rattle.rte_contents.specs.Acting.{puts}
-use Rattle.rte_contents.proofs.Acts.{outcome_of_puts}
+use Rattle.rte_contents.proofs.Coming.{outcome_of_puts}
 
 abbrev comes_to : ℕ → List ℕ → Option (List ℕ) → Outcome
 comes_to status text image = record { status = status; text = text; image = image }

@@ -1,5 +1,5 @@
 use Rattle.rte_answers.specs.declared.status.Status.TheVariants as status
-use Rattle.rte_contents.proofs.Acts.{put_comes_to}
+use Rattle.rte_contents.proofs.Coming.{put_comes_to}
 use Rattle.rte_prepare_images.proofs.watching.put_seen.Goals as goal
 
 pub returns-clause-told : goal.returns-clause-told
