@@ -84,10 +84,10 @@ fn images_are_told_and_read_back(rt: HostRuntime) -> Result<(), Fail> {
         ("compile P I", MINE),
         ("compile P I 7", MINE),
     ] {
-        let compiled = call(alloc, line, program.as_bytes(), None)?;
-        let image = compiled.image.ok_or("no image")?;
-        let told = call_on_image(alloc, "dis I J", image.as_slice(), SCRIPT)?;
-        let text = told.migrated.ok_or("no text")?;
+        let Outcome { image, .. } = call(alloc, line, program.as_bytes(), None)?;
+        let image = image.ok_or("no image")?;
+        let Outcome { migrated, .. } = call_on_image(alloc, "dis I J", image.as_slice(), SCRIPT)?;
+        let text = migrated.ok_or("no text")?;
         let again = assembled(alloc, text.as_slice(), NO_FAILURES)?;
         assert_eq!(rt; again.status, 0);
         assert!(rt; is(&again.image, image.as_slice()));
