@@ -1,5 +1,0 @@
-//! Examples of images as text, both ways.
-#![tactic(auto)]
-
-#[cfg(test)]
-mod texts;
