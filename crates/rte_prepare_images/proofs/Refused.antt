@@ -10,7 +10,7 @@ use Rattle.rte_image_reading.specs.Format.{Read, fault}
 use Rattle.rte_image_file.specs.Loading.{IsInvalid, Loads}
 use Rattle.rte_image_file.specs.declared.loading.FileFault.{FileFault}
 use Rattle.rte_image_file.specs.declared.loading.FileFault.TheVariants as file_fault
-use Rattle.rte_commands.specs.Due.{Outcome, told, image_fault_line, valid_fault_line, IsImageFile, IsImageRefused, misread, invalid, IsMigrateDue, migrate_refused, migrated}
+use Rattle.rte_commands.specs.Due.{Outcome, told, image_fault_line, valid_fault_line, IsImageFile, IsImageRefused, misread, invalid, IsMigrateDue, migrate_refused, migrated, stored}
 use Rattle.rte_answers.specs.declared.act.Act.{Act}
 use Rattle.rte_answers.specs.declared.status.Status.TheVariants as status
 use Rattle.rte_answers.specs.Acts.{outcome_of}

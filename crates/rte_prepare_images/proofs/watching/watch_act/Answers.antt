@@ -11,7 +11,7 @@ pub returns-in-Ok-clause-due : goal.returns-in-Ok-clause-due
 returns-in-Ok-clause-due c =
     seen_over c.args.stop c.args.raw.now c.in-Ok.script (IsContent longest_text c.args.content.now) c.put_seen.result c.in-Ok.ensures.script c.put_seen.ensures.told
 
-pub returns-clause-due : goal.returns-clause-due
-returns-clause-due c =
+pub returns-in-Err-clause-due : goal.returns-in-Err-clause-due
+returns-in-Err-clause-due c =
     bad_seen c.args.stop c.args.raw.now c.in-Err.fault (IsContent longest_text c.args.content.now) c.refuse_script.result
     c.in-Err.ensures.fault c.refuse_script.ensures.act c.refuse_script.ensures.is_fault
