@@ -2,6 +2,7 @@
 use Rattle.std.proofs.Common.{◌≡◌, ◌<◌, ◌-◌, ℕ, List, length, Ok, Err, Bool, true, refl, sym, subst, ap, arith}
 use Rattle.std.specs.Prelude.{Result, IfOk, cond, nat_lt}
 use Rattle.std.proofs.lemmas.Bool.Decides.{nat_tests}
+use Rattle.rte_image.specs.Raw.{named_of}
 use Rattle.rte_image.specs.declared.raw.RawImage.{RawImage}
 use Rattle.rte_image.specs.Bytes.{Version}
 use Rattle.rte_image_reading.specs.Answer.{HasFault}
