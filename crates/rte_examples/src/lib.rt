@@ -10,8 +10,6 @@ mod devices;
 #[cfg(test)]
 mod hostile;
 #[cfg(test)]
-mod image_texts;
-#[cfg(test)]
 mod images;
 #[cfg(test)]
 mod known;
