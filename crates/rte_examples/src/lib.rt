@@ -10,6 +10,8 @@ mod devices;
 #[cfg(test)]
 mod hostile;
 #[cfg(test)]
+mod image_texts;
+#[cfg(test)]
 mod images;
 #[cfg(test)]
 mod known;
@@ -19,6 +21,8 @@ mod limits;
 mod runs;
 #[cfg(test)]
 mod scripts;
+#[cfg(test)]
+mod stops;
 #[cfg(test)]
 mod texts;
 #[cfg(test)]

@@ -5,22 +5,22 @@ use std::alloc::Global;
 use std::test::Fail;
 
 /// A program with a script, and what `go` puts: all of it, or the log behind the report.
-struct Row {
-    line: &'static str,
-    program: &'static str,
-    script: &'static str,
-    status: u8,
+pub struct Row {
+    pub line: &'static str,
+    pub program: &'static str,
+    pub script: &'static str,
+    pub status: u8,
     put: Put,
 }
 
 /// Lines, parted by bars.
-enum Put {
+pub enum Put {
     All(&'static str),
     Log(&'static str),
     Report(&'static str),
 }
 
-const ROWS: &[Row] = &[
+pub const ROWS: &[Row] = &[
     Row {
         line: "go P I S",
         program: "program b device a : out process p1 : periodic frame 20 begin put a 1 end p1 process p2 : periodic frame 60 begin put a 2 end p2 end b",
