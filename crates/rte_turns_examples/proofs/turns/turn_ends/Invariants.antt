@@ -12,8 +12,8 @@ ghost-advance a = image_of a.run.now.image
 
 abbrev pub invariant-loop-machine : goal.invariant-loop-machine
 invariant-loop-machine l = record {
-  stands : StandsIn (image_of l.run.now.image) (script_of l.run.now.script) l.machine;
+  stands : StandsIn (image_of l.run.image) (script_of l.run.script) l.machine;
 }
 
 abbrev pub decreases-loop-machine : goal.decreases-loop-machine
-decreases-loop-machine l = l.run.now.script.end - l.machine.tick
+decreases-loop-machine l = l.run.script.end - l.machine.tick

@@ -1,0 +1,11 @@
+-- What a run that can be made promises to the machine.
+use Rattle.std.proofs.Common.{arith}
+use Rattle.rte_answers.specs.declared.act.Run.{Run}
+use Rattle.rte_answers.specs.Acts.{CanRun}
+use Rattle.rte_image.specs.Raw.{image_of}
+use Rattle.rte_runner.specs.Runnable.{IsRunnable}
+use Rattle.rte_runner_laws.proofs.Runnable.{valid_runs_are_runnable}
+use Rattle.rte_starts.specs.Begin.{script_of}
+
+pub is_runnable : (run : Run) → CanRun run → IsRunnable (image_of run.image) (script_of run.script)
+is_runnable run can = valid_runs_are_runnable (image_of run.image) (script_of run.script) can.limits can.valid can.script.frames can.script.order (let end = can.script.end in omega (arith, end))
