@@ -1,7 +1,9 @@
 //! Where turns end.
 
-ghost use Rattle.std.specs.Prelude.{IfOk, IfSome};
+ghost use Rattle.std.specs.Prelude.{◌≡◌, IfOk, IfSome};
 ghost use Rattle.rte_answers.specs.Acts.{CanRun};
+ghost use Rattle.rte_image.specs.Raw.{image_of};
+ghost use Rattle.rte_machine_meaning.specs.Image.{Image};
 
 use rte_answers::{Act, Run};
 use rte_io::MemFiles;
@@ -21,7 +23,7 @@ const RARE: &str = "program a process p : periodic frame 1000000000 begin end p 
 
 /// The run of an act.
 fn run_in(act: Act<'_>) -> Result<Run, Fail>
-    requires { IfSome act.entry.run CanRun }
+    requires { IfSome act.run CanRun }
     ensures { IfOk result CanRun }
 {
     match act.run {
@@ -51,7 +53,9 @@ fn run_of(alloc: Global, program: &str, script: &str) -> Result<Run, Fail>
 
 /// The ticks at which the turns of a run end.
 fn turn_ends(alloc: Global, run: &Run) -> Result<Vec<u64>, Fail>
-    requires { CanRun run.now }
+    ghost image: { Image }
+    requires image { image ≡ image_of run.now.image }
+    requires can { CanRun run.now }
 {
     let plan = plan_of(alloc, &run.image)?;
     let mut machine = Machine::new(alloc, &plan, &run.script)?;
@@ -63,21 +67,26 @@ fn turn_ends(alloc: Global, run: &Run) -> Result<Vec<u64>, Fail>
     Ok(ends)
 }
 
-/// The first process starts at 0. PUSH takes one tick, OUT ten, END four; then nothing is due.
+/// The ticks at which the turns of a program end over a script.
+fn ends(alloc: Global, program: &str, script: &str) -> Result<Vec<u64>, Fail> {
+    let run = run_of(alloc, program, script)?;
+    turn_ends(alloc, &run)
+}
+
+/// The process starts at 0. PUSH takes one tick, OUT ten, END four.
 #[test]
 fn turns_end_with_instructions(rt: HostRuntime) -> Result<(), Fail> {
     let alloc = rt.alloc();
-    let run = run_of(alloc, VALVE, "end 15\n")?;
-    let found = turn_ends(alloc, &run)?;
+    let found = ends(alloc, VALVE, "end 15\n")?;
     assert_eq!(rt; found.as_slice(), [1, 11, 15].as_slice());
     Ok(())
 }
 
+/// END takes four ticks; then nothing is due to the end.
 #[test]
 fn idle_turns_are_long(rt: HostRuntime) -> Result<(), Fail> {
     let alloc = rt.alloc();
-    let run = run_of(alloc, RARE, "end 1000000000\n")?;
-    let found = turn_ends(alloc, &run)?;
+    let found = ends(alloc, RARE, "end 1000000000\n")?;
     assert_eq!(rt; found.as_slice(), [4, 1_000_000_000].as_slice());
     Ok(())
 }
