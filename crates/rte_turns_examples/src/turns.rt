@@ -21,12 +21,12 @@ const VALVE: &str =
 /// One empty process with the longest frame.
 const RARE: &str = "program a process p : periodic frame 1000000000 begin end p end a";
 
-/// The run of an act.
-fn run_in(act: Act<'_>) -> Result<Run, Fail>
-    requires { IfSome act.run CanRun }
+/// The run, which is there.
+fn run_in(run: Option<Run>) -> Result<Run, Fail>
+    requires { IfSome run CanRun }
     ensures { IfOk result CanRun }
 {
-    match act.run {
+    match run {
         Some(run) => Ok(run),
         None => Err(Fail::new("nothing is run")),
     }
@@ -46,7 +46,10 @@ fn run_of(alloc: Global, program: &str, script: &str) -> Result<Run, Fail>
         overhead: 0,
     };
     match prepare(alloc, &command, &mut files) {
-        Ok(act) => run_in(act),
+        Ok(act) => {
+            let Act { run, .. } = act;
+            run_in(run)
+        }
         Err(_) => Err(Fail::new("nothing is prepared")),
     }
 }
