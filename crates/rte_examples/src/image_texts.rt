@@ -147,8 +147,13 @@ fn worked_images_are_told_and_assembled(rt: HostRuntime) -> Result<(), Fail> {
         if row.status == 0 && row.line.starts_with("go") {
             let program = row.program;
             let script = lines(alloc, row.script)?;
-            let made = call(alloc, row.line, program.as_bytes(), Some(script.as_str()))?;
-            let image = made.image.ok_or("no image")?;
+            let Outcome { image, .. } = call(
+                alloc,
+                row.line,
+                program.as_bytes(),
+                Some(script.as_str()),
+            )?;
+            let image = image.ok_or("no image")?;
             let text = told(alloc, image.as_slice())?;
             let again = assembled(alloc, text.as_slice())?;
             assert_eq!(rt; again.status, 0, "{program}");

@@ -132,8 +132,8 @@ fn stops_are_told(rt: HostRuntime) -> Result<(), Fail> {
     let alloc = rt.alloc();
     for stop in STOPS {
         let watch = stop.watch;
-        let compiled = call(alloc, stop.compile, stop.program.as_bytes(), None)?;
-        let image = compiled.image.ok_or("no image")?;
+        let Outcome { image, .. } = call(alloc, stop.compile, stop.program.as_bytes(), None)?;
+        let image = image.ok_or("no image")?;
         let Outcome {
             status,
             put,
