@@ -17,3 +17,4 @@ mod shape;
 pub use building::build;
 pub use built::{BuildFault, Built, Late};
 pub use parts::refuse_too_large;
+pub use shape::ranked;

@@ -86,6 +86,13 @@ impl Checked {
         self.named.prog()
     }
 
+    /// The program with its names resolved.
+    pub fn named(&self) -> &Named
+        ensures { result.now ≡ self.now }
+    {
+        &self.named
+    }
+
     /// Where the name that is used at a place is declared; `None` exactly where no use stands at
     /// that place.
     pub fn found(&self, at: &Place) -> Option<Place>
