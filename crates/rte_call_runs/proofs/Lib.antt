@@ -1,0 +1,12 @@
+pub mod Sizes
+pub mod Rooms
+pub mod Parts
+pub mod Turning
+pub mod Lists
+pub mod Deeper
+pub mod Aiming
+pub mod ValueArms
+pub mod StmtArms
+pub mod Binding
+pub mod Oks
+pub mod CallArms
