@@ -1,31 +1,24 @@
 mod OfStmts
 mod OfTurns
-use Rattle.std.specs.Prelude.{IfOk, Option, Some, None, option_map, [], ◌∷◌, ◌++◌, ◌-◌, length, take, List, ◌≢◌}
-use Rattle.std.proofs.Common.{◌≡◌, ◌∙◌, ap₂, ◌<◌, ◌+◌, ◌≤◌, suc, ap, refl, sym, subst, rules, arith, drop, map, to_z, of_z, w64, pos, ◌+ℤ◌}
-use Rattle.std.proofs.lemmas.Int.{to_z-of_z}
-use Rattle.rte_tree.specs.Placed.{placed, placed_constant, plain_constant, placed_exprs, placed_param, placed_process, placed_stmts, plain, plain_exprs, plain_param, plain_process, plain_stmts}
+use Rattle.std.specs.Prelude.{option_map, [], ◌∷◌, ◌++◌, ◌-◌, length, take, List}
+use Rattle.std.proofs.Common.{◌≡◌, ◌∙◌, ◌<◌, ◌+◌, ap, sym, arith, drop, map}
+use Rattle.rte_tree.specs.Placed.{placed_exprs, placed_param, placed_stmts, plain_exprs, plain_param, plain_stmts}
 use Rattle.rte_source_meaning.specs.Run as run
-use Rattle.rte_config.specs.View.{action_of, answers_of, calls_of, home_of, item_of, vars_of}
+use Rattle.rte_config.specs.View.{action_of, answers_of, calls_of, item_of, vars_of}
 use Rattle.rte_running.specs.Lookups.{found_of}
 use Rattle.rte_running.specs.Seen.{answer_of}
-use Rattle.rte_call_memory.specs.Reach.{area_of, memory_of, site_of}
-use Rattle.rte_call_runs.specs.Ran.{aimed_of, bound_of, ran_of, tested_run, with_aimed}
+use Rattle.rte_call_memory.specs.Reach.{memory_of, site_of}
+use Rattle.rte_call_runs.specs.Ran.{bound_of, ran_of}
 use Rattle.rte_call_runs.proofs.Lists as lists
 use Rattle.rte_call_runs.proofs.Parts as parts
 use Rattle.rte_call_runs.proofs.ValueArms as values
 use Rattle.rte_call_runs.proofs.CallArms as calls
 use Rattle.rte_call_runs.proofs.Binding.{bind_goes, bind_stops}
 use Rattle.rte_call_runs.proofs.Oks.{ok_at, ok_told}
-use Rattle.rte_call_runs.proofs.Turning.{after_turn, in_front_all, turn_none, turn_over, turns_of}
-use Rattle.rte_call_runs.proofs.StmtArms as stmts
+use Rattle.rte_call_runs.proofs.Turning.{in_front_all}
 use Rattle.rte_call_runs.specs.declared.results.Ran.{Ran}
-use Rattle.rte_source_meaning.specs.Names.{constant_value, count_value, device_number}
 use Rattle.rte_tree.specs.declared.stmt.Stmt.{Stmt}
-use Rattle.rte_call_runs.proofs.Rooms.{answers_room, body_room}
-use Rattle.rte_call_runs.proofs.Sizes.{answers_size, stmts_size}
-use Rattle.rte_call_runs.proofs.Deeper as deeper
-use Rattle.std.specs.Global.{Vec}
-use Rattle.rte_config.specs.declared.variables.Slot as code_slot
+use Rattle.rte_call_runs.proofs.Sizes.{answers_size}
 use Rattle.rte_call_runs.proofs.runs.+runs.Answers.OfStmts as of_stmts
 use Rattle.rte_call_runs.proofs.runs.+runs.Answers.OfTurns as of_turns
 use Rattle.rte_call_runs.proofs.runs.+runs.Goals as goal
