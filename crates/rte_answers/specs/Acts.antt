@@ -25,6 +25,7 @@ number_of status.Script = 5
 number_of status.Unread = 6
 number_of status.Unwritten = 7
 number_of status.Memory = 8
+number_of status.Log = 9
 
 -- the log of a run, if there is one
 abbrev pub log_due : Option Run → List ℕ

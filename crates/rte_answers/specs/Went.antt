@@ -5,7 +5,7 @@ use Rattle.std.specs.Bool.{OnTrue}
 use Rattle.rte_io.specs.Outside.{Outside, Rose, AllStay, Appends, AppendsFront}
 use Rattle.rte_words.specs.Calls.{Call}
 use Rattle.rte_commands.specs.Due.{Outcome}
-use Rattle.rte_answers.specs.Files.{Held, IsDue, ReachesScript, source_of, script_of, target_of}
+use Rattle.rte_answers.specs.Files.{Held, IsDue, ReachesScript, ReachesLog, source_of, script_of, log_file_of, target_of}
 
 -- the bytes stand under the name
 abbrev pub IsStored : Held → List ℕ → List ℕ → Type 0
@@ -49,16 +49,26 @@ SourceFailed call before now = Rose (before.files.read_faults (source_of call)) 
 abbrev pub ScriptFailed : Call → (before now : Outside) → Type 0
 ScriptFailed call before now = IsSomeAnd (script_of call) (λ name. Rose (before.files.read_faults name) (now.files.read_faults name))
 
--- a read failed: the first one, or that of the script where this was reached
+abbrev pub LogFailed : Call → (before now : Outside) → Type 0
+LogFailed call before now = IsSomeAnd (log_file_of call) (λ name. Rose (before.files.read_faults name) (now.files.read_faults name))
+
+-- a read failed: the first one, or that of the script or of the log where this was reached
 abbrev pub ReadFailed : Bool → Call → (before now : Outside) → Type 0
-ReadFailed tells call before now = SourceFailed call before now ⊎ (ScriptFailed call before now × OnTrue tells (ReachesScript call before.files.held))
+ReadFailed tells call before now =
+    SourceFailed call before now
+    ⊎ (ScriptFailed call before now × OnTrue tells (ReachesScript call before.files.held))
+    ⊎ (LogFailed call before now × OnTrue tells (ReachesLog call before.files.held))
+
+-- no read, no write and no put failed, and memory was not wanting
+abbrev pub IsAnswer : ℕ → Type 0
+IsAnswer status = (status ≢ 6) × (status ≢ 7) × (status ≢ 8)
 
 -- What a call did.
 pub record Went (tells : Bool) (call : Call) (before now : Outside) (status : ℕ) : Type 0 where
-  pub range : status ≤ 8
+  pub range : status ≤ 9
   pub is_command : status ≢ 1
-  -- 0, 2, 3, 4 and 5: what is due was done whole
-  pub whole : OnTrue tells (status < 6 → IsWhole call before now status)
+  -- 0, 2, 3, 4, 5 and 9: what is due was done whole
+  pub whole : OnTrue tells (IsAnswer status → IsWhole call before now status)
   -- 6: a read failed
   pub unread : status ≡ 6 → ReadFailed tells call before now
   -- 7: the write or a put failed, and what is due was done up to there
@@ -75,7 +85,7 @@ pub record Went (tells : Bool) (call : Call) (before now : Outside) (status : �
 -- without a failure what is due is done whole, or memory was wanting
 abbrev pub Completes : Call → (before now : Outside) → (status : ℕ) → Type 0
 Completes call before now status =
-    ¬ SourceFailed call before now → ¬ ScriptFailed call before now → ¬ WriteFailed call before now → ¬ PutFailed before now
+    ¬ SourceFailed call before now → ¬ ScriptFailed call before now → ¬ LogFailed call before now → ¬ WriteFailed call before now → ¬ PutFailed before now
     → (status ≡ 8) ⊎ IsWhole call before now status
 
 -- words that are no command: the usage is put, and no file changes

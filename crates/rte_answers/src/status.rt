@@ -21,6 +21,8 @@ pub enum Status {
     Unwritten,
     /// 8: there was not enough memory.
     Memory,
+    /// 9: the text is no log, or its events are no run of the program.
+    Log,
 }
 
 impl Status {
@@ -41,6 +43,7 @@ impl Status {
             Status::Unread => 6,
             Status::Unwritten => 7,
             Status::Memory => 8,
+            Status::Log => 9,
         }
     }
 }

@@ -20,7 +20,7 @@ use Rattle.rte_built.specs.Named.{named_conditions, named_device, named_event}
 abbrev pub named_in : ℕ → Name → CondName
 named_in k c = record { name = c; mon = k }
 
-names_of_conditions : (k : ℕ) (ms : List Monitor) → length (named_conditions k ms) ≡ condition_count ms
+pub names_of_conditions : (k : ℕ) (ms : List Monitor) → length (named_conditions k ms) ≡ condition_count ms
 names_of_conditions k [] = refl
 names_of_conditions k (m ∷ ms) =
     let own : List CondName = map (named_in k) (conditions_of m) in
@@ -38,7 +38,7 @@ places_of_conditions k (m ∷ ms) =
     let all : condition_count (m ∷ ms) ≡ length (conditions_of m) + condition_count ms = sum_by-cons (λ (x : Monitor). length (conditions_of x)) m ms in
     omega (arith, length-append own (condition_monitors (suc k) ms), rest, here, all)
 
-names_of_devices : (ds : List Decl) → length (filter_map named_device ds) ≡ length (filter_map device_in ds)
+pub names_of_devices : (ds : List Decl) → length (filter_map named_device ds) ≡ length (filter_map device_in ds)
 names_of_devices [] = refl
 names_of_devices (constant n c ∷ ds) = names_of_devices ds
 names_of_devices (device n o ∷ ds) = ap (λ (k : ℕ). suc k) (names_of_devices ds)

@@ -1,5 +1,5 @@
 -- What a call that answers 0 has done.
-use Rattle.std.proofs.Common.{◌≡◌, ◌∙◌, ◌++◌, ℕ, List, [], ◌∷◌, Option, Some, None, Bool, true, false, refl, sym, subst, ap, arith, map}
+use Rattle.std.proofs.Common.{◌≡◌, ◌∙◌, ◌++◌, ℕ, List, [], ◌∷◌, Option, Some, None, Bool, true, false, refl, sym, subst, ap, arith, map, length}
 use Rattle.std.specs.Prelude.{IsSomeAnd}
 use Rattle.std.specs.Bool.{OnTrue}
 use Rattle.rte_io.specs.Outside.{Outside, Appends}
@@ -24,7 +24,7 @@ use Rattle.rte_lifted.specs.Compiled.{line_of as machine_line}
 use Rattle.rte_report.specs.Report.{report_text}
 use Rattle.rte_report.specs.Json.{report_json}
 use Rattle.rte_built.specs.Built.{IsBuilt, IsTimely}
-use Rattle.rte_words.specs.Calls.{Call, go, check, compile, json, slack, print, run, migrate, asm, dis, watch}
+use Rattle.rte_words.specs.Calls.{Call, go, check, compile, json, slack, print, run, migrate, asm, dis, watch, replay}
 use Rattle.rte_commands.specs.Source.{IsWritten, IsTimelyText, Style, report_of}
 use Rattle.rte_commands.specs.Script.{line_said, run_of}
 use Rattle.rte_commands.specs.Due.{Outcome, stored, log, IsRefused, faulty, late, IsReportDue, report_refused, report_timely, IsPrintDue, print_faulty, printed, IsCompileDue, compile_refused, compiled, IsGoDue, go_refused, go_bad_script, went, IsImageFile, IsImageRefused, misread, invalid, IsRunDue, run_refused, run_bad_script, ran, IsMigrateDue, migrate_refused, migrated}
@@ -34,10 +34,11 @@ use Rattle.rte_due_once.specs.Passed.{ImagesToldAreHeld}
 use Rattle.rte_image_text.specs.Text.{text_of as lines_told}
 use Rattle.rte_stop.specs.Due.{IsWatchDue, watch_refused, watch_bad_script, watched}
 use Rattle.rte_words.specs.declared.stop.Stop.{Stop}
+use Rattle.rte_replay_due.specs.Due.{IsRecorded, IsJudged, misread as misread_log, is_refused, is_run, IsReplayDue, replay_faulty, replay_bad_script, replay_judged, run_line}
 use Rattle.rte_commands.specs.Runs.{KeepsItsWord, BuiltImagesAreFaithful, IsAccepted}
 use Rattle.rte_answers.specs.Files.{IsDue, target_of}
 use Rattle.rte_answers.specs.Went.{IsWhole, Stores, Went}
-use Rattle.rte_promise.specs.Promise.{HasGone, HasCompiled, HasReported, HasSpared, ReadsBack, HasPrinted, HasRun, HasMigrated, HasAssembled, HasDisassembled, HasWatched, HasDone}
+use Rattle.rte_promise.specs.Promise.{HasGone, HasCompiled, HasReported, HasSpared, ReadsBack, HasPrinted, HasRun, HasMigrated, HasAssembled, HasDisassembled, HasWatched, HasReplayed, HasDone}
 
 status_of : (o p : Outcome) → o ≡ p → o.status ≡ p.status
 status_of o p same = ap (λ (x : Outcome). x.status) same
@@ -229,6 +230,28 @@ module _ (laws : Printing) (faithful : BuiltImagesAreFaithful) (before now : Out
     put = put_is before now o seen (text_of o _ same) put;
   }
 
+  judged_whole : (program script log : List ℕ) (g : Prog Place) (lines : List ScriptLine) (end : ℕ) (text : List ℕ) → IsRecorded (before.files.held program) (before.files.held script) g lines end
+      → before.files.held log ≡ Some text → IsJudged g lines end text o → HasReplayed program script log before now
+  judged_whole program script log g lines end text r is (misread_log fault wrong same) = absurd (let nine = status_of o _ same in omega (arith, nine, zero))
+  judged_whole program script log g lines end text r is (is_refused events line told stops same) = absurd (let nine = status_of o _ same in omega (arith, nine, zero))
+  judged_whole program script log g lines end text r is (is_run events told run same) = record {
+    tree = g;
+    lines = lines;
+    end = end;
+    recorded = r;
+    text = text;
+    held = is;
+    events = events;
+    told = told;
+    run = run;
+    put = put_is before now o (run_line (length events)) (text_of o _ same) put;
+  }
+
+  replay_whole : (program script log : List ℕ) → IsReplayDue (before.files.held program) (before.files.held script) (before.files.held log) o → HasReplayed program script log before now
+  replay_whole program script log (replay_faulty text number place is fault same) = absurd (let two = status_of o _ same in omega (arith, two, zero))
+  replay_whole program script log (replay_bad_script text other g fault is w that f no same) = absurd (let five = status_of o _ same in omega (arith, five, zero))
+  replay_whole program script log (replay_judged g lines end text r is judged) = judged_whole program script log g lines end text r is judged
+
   migrated_whole : (image target : List ℕ) (bytes : List ℕ) → before.files.held image ≡ Some bytes → Stores o.image (Some target) before.files.held now.files.held
       → IsMigrateDue bytes o → HasMigrated image target before now
   migrated_whole image target bytes is kept (migrate_refused r) = absurd (image_zero bytes o r zero)
@@ -267,10 +290,12 @@ module _ (laws : Printing) (faithful : BuiltImagesAreFaithful) (held : ImagesTol
   done (dis image text) due kept =
       of_held IsDisDue (HasDisassembled image text before now) (before.files.held image) o (λ bytes is d. dis_whole laws faithful before now o zero put image text bytes is kept d) due
   done (watch image script stop) due kept = watch_whole laws faithful before now o zero put stop image script due
+  done (replay program script log) due kept = replay_whole laws faithful before now o zero put program script log due
 
 pub has_done : Printing → BuiltImagesAreFaithful → ImagesToldAreHeld → ImagesReadHaveLimits → EveryValidImageIsSafeAndInTime → ScriptsForImagesReadSuit → (tells : Bool) (call : Call) (before now : Outside) (status : ℕ)
     → Went tells call before now status → OnTrue tells (status ≡ 0 → HasDone call before now)
 has_done laws faithful held limits safe suit true call before now status w = λ zero.
-    let whole : IsWhole call before now status = w.whole (omega (arith, zero)) in
+    let whole : IsWhole call before now status =
+    w.whole ((λ six. absurd (omega (arith, zero, six))), (λ seven. absurd (omega (arith, zero, seven))), (λ eight. absurd (omega (arith, zero, eight)))) in
     done laws faithful held limits safe suit before now whole.outcome (sym whole.is ∙ zero) whole.put call whole.due whole.stored
 has_done laws faithful held limits safe suit false call before now status w = tt

@@ -10,12 +10,14 @@ use Rattle.rte_report.specs.Report.{report_text}
 use Rattle.rte_report.specs.Json.{report_json}
 use Rattle.rte_built.specs.Built.{IsBuilt}
 use Rattle.rte_built_once.specs.Once.{TimelyOrLate}
-use Rattle.rte_words.specs.Calls.{Call, go, check, compile, json, slack, print, run, migrate, asm, dis, watch}
+use Rattle.rte_words.specs.Calls.{Call, go, check, compile, json, slack, print, run, migrate, asm, dis, watch, replay}
 use Rattle.rte_commands.specs.Source.{IsWritten, IsTextFault, IsTimelyText, Style}
 use Rattle.rte_commands.specs.Due.{Outcome, IsRefused, faulty, late, IsReportDue, report_refused, report_timely, IsPrintDue, print_faulty, printed, IsCompileDue, compile_refused, compiled, IsGoDue, go_refused, go_bad_script, went, IsImageRefused, misread, invalid, IsRunDue, run_refused, run_bad_script, ran, IsMigrateDue, migrate_refused, migrated}
 use Rattle.rte_spare.specs.Due.{IsSlackDue, slack_refused, slack_told}
 use Rattle.rte_asm_due.specs.Due.{IsAsmDue, asm_faulty, asm_invalid, assembled, IsDisDue, dis_misread, disassembled}
 use Rattle.rte_stop.specs.Due.{IsWatchDue, watch_refused, watch_bad_script, watched}
+use Rattle.rte_script.specs.declared.script.ScriptLine.{ScriptLine}
+use Rattle.rte_replay_due.specs.Due.{IsJudged, misread as misread_log, is_refused, is_run, IsReplayDue, replay_faulty, replay_bad_script, replay_judged}
 use Rattle.rte_words.specs.declared.stop.Stop.{Stop}
 use Rattle.rte_commands.specs.Runs.{IsUnsolved}
 use Rattle.rte_due_once.specs.Once.{WrittenOrFaulty, WrittenOnce}
@@ -90,6 +92,16 @@ held_never : (Due : List ℕ → Outcome → Type 0) (held : Option (List ℕ)) 
 held_never Due None o by due = due
 held_never Due (Some text) o by due = by text due
 
+judged_late : (g : Prog Place) (lines : List ScriptLine) (end : ℕ) (text : List ℕ) (o : Outcome) → IsJudged g lines end text o → o.status ≡ 3 → ⊥
+judged_late g lines end text o (misread_log fault wrong same) three = let nine = status_of o _ same in absurd (omega (arith, nine, three))
+judged_late g lines end text o (is_refused events line told stops same) three = let nine = status_of o _ same in absurd (omega (arith, nine, three))
+judged_late g lines end text o (is_run events told run same) three = let zero = status_of o _ same in absurd (omega (arith, zero, three))
+
+replay_late : (program script log : Option (List ℕ)) (o : Outcome) → IsReplayDue program script log o → o.status ≡ 3 → ⊥
+replay_late program script log o (replay_faulty text number place is fault same) three = let two = status_of o _ same in absurd (omega (arith, two, three))
+replay_late program script log o (replay_bad_script text other g fault is w that f no same) three = let five = status_of o _ same in absurd (omega (arith, five, three))
+replay_late program script log o (replay_judged g lines end text r is judged) three = judged_late g lines end text o judged three
+
 due_late : (call : Call) (b : Outside) (o : Outcome) → IsDue call b.files.held o → o.status ≡ 3 → IsRefusedForTime call b
 due_late (go program image script over) b o due three = go_late over (b.files.held program) (b.files.held script) o due three
 due_late (check program over) b o due three = held_late over (IsReportDue report_text over) (b.files.held program) o (λ text d. report_late report_text over text o d three) due
@@ -102,6 +114,7 @@ due_late (migrate image target) b o due three = held_never IsMigrateDue (b.files
 due_late (asm text image) b o due three = held_never IsAsmDue (b.files.held text) o (λ lines d. asm_late lines o d three) due
 due_late (dis image text) b o due three = held_never IsDisDue (b.files.held image) o (λ bytes d. dis_late bytes o d three) due
 due_late (watch image script stop) b o due three = watch_late stop (b.files.held image) (b.files.held script) o due three
+due_late (replay program script log) b o due three = replay_late (b.files.held program) (b.files.held script) (b.files.held log) o due three
 
 -- ---- a program that is late is refused with 3
 
@@ -157,6 +170,7 @@ module _ (faults : WrittenOrFaulty) (one : WrittenOnce) (apart : TimelyOrLate) w
   due_three (asm text image) b o u due = absurd u
   due_three (dis image text) b o u due = absurd u
   due_three (watch image script stop) b o u due = absurd u
+  due_three (replay program script log) b o u due = absurd u
 
   refused : (call : Call) (before now : Outside) (status : ℕ) → IsWhole call before now status → (status ≡ 3) ↔ IsRefusedForTime call before
   refused call before now status w =
@@ -164,5 +178,7 @@ module _ (faults : WrittenOrFaulty) (one : WrittenOnce) (apart : TimelyOrLate) w
 
   pub refused_for_time : (tells : Bool) (call : Call) (before now : Outside) (status : ℕ) → Went tells call before now status
       → OnTrue tells (status < 6 → (status ≡ 3) ↔ IsRefusedForTime call before)
-  refused_for_time true call before now status w = λ below. refused call before now status (w.whole below)
+  refused_for_time true call before now status w = λ below.
+      refused call before now status
+      (w.whole ((λ six. absurd (omega (arith, below, six))), (λ seven. absurd (omega (arith, below, seven))), (λ eight. absurd (omega (arith, below, eight)))))
   refused_for_time false call before now status w = tt

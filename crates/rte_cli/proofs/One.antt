@@ -1,15 +1,19 @@
 -- What is due of a call is one, so where no image is due no file changes.
-use Rattle.std.proofs.Common.{◌≡◌, ◌∙◌, inl, inr, ℕ, List, Option, Some, None, Bool, true, false, subst, ap, arith}
+use Rattle.std.proofs.Common.{◌≡◌, ◌∙◌, inl, inr, ℕ, List, Option, Some, None, Bool, true, false, refl, subst, ap, arith}
 use Rattle.std.specs.Prelude.{IsSomeAnd}
 use Rattle.std.specs.Bool.{OnTrue}
-use Rattle.std.proofs.lemmas.Bool.{cases_lt, cases_eq}
+use Rattle.std.proofs.lemmas.Bool.{cases_eq}
 use Rattle.rte_io.specs.Outside.{Outside, AllStay}
+use Rattle.rte_tree.specs.declared.place.Place.{Place}
+use Rattle.rte_tree.specs.Placed.{Prog}
+use Rattle.rte_script.specs.declared.script.ScriptLine.{ScriptLine}
 use Rattle.rte_report.specs.Report.{report_text}
 use Rattle.rte_report.specs.Json.{report_json}
-use Rattle.rte_words.specs.Calls.{Call, go, check, compile, json, slack, print, run, migrate, asm, dis, watch}
+use Rattle.rte_words.specs.Calls.{Call, go, check, compile, json, slack, print, run, migrate, asm, dis, watch, replay}
 use Rattle.rte_commands.specs.Due.{Outcome, IsReportDue, IsPrintDue, IsCompileDue, IsMigrateDue}
 use Rattle.rte_spare.specs.Due.{IsSlackDue}
 use Rattle.rte_asm_due.specs.Due.{IsAsmDue, IsDisDue}
+use Rattle.rte_replay_due.specs.Due.{IsJudged, misread, is_refused, is_run, IsReplayDue, replay_faulty, replay_bad_script, replay_judged}
 use Rattle.rte_due_once.specs.Once.{ReportsAreOne, SlackIsOne, PrintIsOne, CompileIsOne, GoIsOne, RunIsOne, MigrateIsOne, AsmIsOne, DisIsOne, WatchIsOne}
 use Rattle.rte_answers.specs.Files.{Held, IsDue, target_of}
 use Rattle.rte_answers.specs.Went.{Stores, IsWhole, IsCut, Went}
@@ -32,25 +36,41 @@ of_held : (Due : List ℕ → Outcome → Type 0) (held : Option (List ℕ)) (o 
 of_held Due None o p one d e = absurd d
 of_held Due (Some text) o p one d e = one text d e
 
-due_is_one : Laws → (call : Call) (held : Held) (o p : Outcome) → IsDue call held o → IsDue call held p → o ≡ p
-due_is_one laws (go program image script over) held o p d e = laws.go over (held program) (held script) o p d e
-due_is_one laws (check program over) held o p d e = of_held (IsReportDue report_text over) (held program) o p (λ text. laws.reports report_text over text o p) d e
-due_is_one laws (compile program image over) held o p d e = of_held (IsCompileDue over) (held program) o p (λ text. laws.compile over text o p) d e
-due_is_one laws (json program over) held o p d e = of_held (IsReportDue report_json over) (held program) o p (λ text. laws.reports report_json over text o p) d e
-due_is_one laws (slack program over) held o p d e = of_held (IsSlackDue over) (held program) o p (λ text. laws.slack over text o p) d e
-due_is_one laws (print program) held o p d e = of_held IsPrintDue (held program) o p (λ text. laws.print text o p) d e
-due_is_one laws (run image script) held o p d e = laws.run (held image) (held script) o p d e
-due_is_one laws (migrate image target) held o p d e = of_held IsMigrateDue (held image) o p (λ bytes. laws.migrate bytes o p) d e
-due_is_one laws (asm text image) held o p d e = of_held IsAsmDue (held text) o p (λ lines. laws.asm lines o p) d e
-due_is_one laws (dis image text) held o p d e = of_held IsDisDue (held image) o p (λ bytes. laws.dis bytes o p) d e
-due_is_one laws (watch image script stop) held o p d e = laws.watch stop (held image) (held script) o p d e
+image_is : (o p : Outcome) → o ≡ p → p.image ≡ None → o.image ≡ None
+image_is o p same none = ap (λ (x : Outcome). x.image) same ∙ none
+
+-- `replay` stores nothing
+judged_stores : (g : Prog Place) (lines : List ScriptLine) (end : ℕ) (text : List ℕ) (o : Outcome) → IsJudged g lines end text o → o.image ≡ None
+judged_stores g lines end text o (misread fault wrong same) = image_is o _ same refl
+judged_stores g lines end text o (is_refused events line log stops same) = image_is o _ same refl
+judged_stores g lines end text o (is_run events log run same) = image_is o _ same refl
+
+replay_stores : (program script log : Option (List ℕ)) (o : Outcome) → IsReplayDue program script log o → o.image ≡ None
+replay_stores program script log o (replay_faulty text number place is fault same) = image_is o _ same refl
+replay_stores program script log o (replay_bad_script text other g fault is w that f no same) = image_is o _ same refl
+replay_stores program script log o (replay_judged g lines end text r is judged) = judged_stores g lines end text o judged
+
+-- what is due of a call but `replay` is one, and of `replay` nothing is stored
+due_is_one : Laws → (call : Call) (held : Held) (o p : Outcome) → IsDue call held o → IsDue call held p → p.image ≡ None → o.image ≡ None
+due_is_one laws (go program image script over) held o p d e none = image_is o p (laws.go over (held program) (held script) o p d e) none
+due_is_one laws (check program over) held o p d e none = image_is o p (of_held (IsReportDue report_text over) (held program) o p (λ text. laws.reports report_text over text o p) d e) none
+due_is_one laws (compile program image over) held o p d e none = image_is o p (of_held (IsCompileDue over) (held program) o p (λ text. laws.compile over text o p) d e) none
+due_is_one laws (json program over) held o p d e none = image_is o p (of_held (IsReportDue report_json over) (held program) o p (λ text. laws.reports report_json over text o p) d e) none
+due_is_one laws (slack program over) held o p d e none = image_is o p (of_held (IsSlackDue over) (held program) o p (λ text. laws.slack over text o p) d e) none
+due_is_one laws (print program) held o p d e none = image_is o p (of_held IsPrintDue (held program) o p (λ text. laws.print text o p) d e) none
+due_is_one laws (run image script) held o p d e none = image_is o p (laws.run (held image) (held script) o p d e) none
+due_is_one laws (migrate image target) held o p d e none = image_is o p (of_held IsMigrateDue (held image) o p (λ bytes. laws.migrate bytes o p) d e) none
+due_is_one laws (asm text image) held o p d e none = image_is o p (of_held IsAsmDue (held text) o p (λ lines. laws.asm lines o p) d e) none
+due_is_one laws (dis image text) held o p d e none = image_is o p (of_held IsDisDue (held image) o p (λ bytes. laws.dis bytes o p) d e) none
+due_is_one laws (watch image script stop) held o p d e none = image_is o p (laws.watch stop (held image) (held script) o p d e) none
+due_is_one laws (replay program script log) held o p d e none = replay_stores (held program) (held script) (held log) o d
 
 nothing : (image target : Option (List ℕ)) (held held' : Held) → image ≡ None → Stores image target held held' → AllStay held held'
 nothing image target held held' none kept = subst (λ (x : Option (List ℕ)). Stores x target held held') none kept
 
 module _ (laws : Laws) (call : Call) (before now : Outside) (status : ℕ) (w : Went true call before now status) (o : Outcome) (due : IsDue call before.files.held o) (none : o.image ≡ None) where
   same : (p : Outcome) → IsDue call before.files.held p → p.image ≡ None
-  same p d = ap (λ (x : Outcome). x.image) (due_is_one laws call before.files.held p o d due) ∙ none
+  same p d = due_is_one laws call before.files.held p o d due none
 
   whole : IsWhole call before now status → AllStay before.files.held now.files.held
   whole d = nothing d.outcome.image (target_of call) before.files.held now.files.held (same d.outcome d.due) d.stored
@@ -65,11 +85,11 @@ module _ (laws : Laws) (call : Call) (before now : Outside) (status : ℕ) (w : 
   ]
 
   stays : AllStay before.files.held now.files.held
-  stays = elim (cases_lt status 6) [
-    | inl below ↦ whole (w.whole below)
-    | inr above ↦ elim (cases_eq status 7) [
+  stays = elim (cases_eq status 0) [
+    | inl zero ↦ whole (w.whole ((λ six. absurd (omega (arith, zero, six))), (λ seven. absurd (omega (arith, zero, seven))), (λ eight. absurd (omega (arith, zero, eight)))))
+    | inr some ↦ elim (cases_eq status 7) [
       | inl seven ↦ cut (w.cut seven)
-      | inr other ↦ w.stays (omega (arith, above)) other
+      | inr other ↦ w.stays (omega (arith, some)) other
     ]
   ]
 

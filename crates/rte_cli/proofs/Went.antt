@@ -4,11 +4,13 @@ use Rattle.std.specs.Prelude.{IsSomeAnd, IfSome}
 use Rattle.std.specs.Bool.{OnTrue}
 use Rattle.rte_io.specs.Outside.{FilesState, SinkState, Outside, outside, Rose, AllStay, NoneFell}
 use Rattle.rte_words.specs.Calls.{Call}
+use Rattle.rte_answers.specs.declared.status.Status.{Status}
+use Rattle.rte_answers.specs.declared.status.Status.TheVariants as status
 use Rattle.rte_answers.specs.declared.act.Act.{Act}
 use Rattle.rte_answers.specs.declared.act.Store.{Store}
 use Rattle.rte_answers.specs.Files.{Held, target_of}
 use Rattle.rte_answers.specs.Acts.{number_of, outcome_of, bytes_due, IsAtTarget}
-use Rattle.rte_answers.specs.Went.{IsStored, Stores, IsWhole, WriteFailed, PutFailed, IsCut, Went}
+use Rattle.rte_answers.specs.Went.{IsAnswer, IsStored, Stores, IsWhole, WriteFailed, PutFailed, IsCut, Went}
 use Rattle.rte_prepare.specs.Prepared.{IsPrepared, ReadsFailed}
 use Rattle.rte_perform.specs.Performed.{StoresIt, OthersKept, StoreFailed, Performed}
 
@@ -40,19 +42,29 @@ some_bytes : (s : Option Store) (b n : FilesState) (o o' : SinkState) → StoreF
 some_bytes None b n o o' failed = absurd failed
 some_bytes (Some s) b n o o' failed = (s.bytes.items, refl)
 
+number_low : (s : Status) → number_of s ≤ 9
+number_low status.Done = omega arith
+number_low status.Usage = omega arith
+number_low status.Text = omega arith
+number_low status.Late = omega arith
+number_low status.Image = omega arith
+number_low status.Script = omega arith
+number_low status.Unread = omega arith
+number_low status.Unwritten = omega arith
+number_low status.Memory = omega arith
+number_low status.Log = omega arith
+
 -- ---- a call that was performed
 
 module _ (call : Call) (b m n : FilesState) (o o' : SinkState) (act : Act) (status : ℕ) (stay : AllStay b.held m.held) (less : NoneFell b.write_faults m.write_faults) where
-  whole : IsPrepared true call b act → Performed true act (outside m o) (outside n o') status → status < 6 → IsWhole call (outside b o) (outside n o') status
-  whole p d below =
-      let not_seven : status ≢ 7 = λ seven. absurd (omega (arith, seven, below)) in
-      let not_eight : status ≢ 8 = λ eight. absurd (omega (arith, eight, below)) in
+  whole : IsPrepared true call b act → Performed true act (outside m o) (outside n o') status → IsAnswer status → IsWhole call (outside b o) (outside n o') status
+  whole p d answer =
       record {
         outcome = outcome_of act;
         due = p.due;
-        is = elim d.range [ inl same ↦ same | inr more ↦ absurd (elim more [ inl seven ↦ not_seven seven | inr eight ↦ not_eight eight ]) ];
-        put = d.whole not_seven not_eight;
-        stored = stores call act.store b.held m.held n.held p.at stay (d.stored not_seven not_eight);
+        is = elim d.range [ inl same ↦ same | inr more ↦ absurd (elim more [ inl seven ↦ answer.1 seven | inr eight ↦ answer.2 eight ]) ];
+        put = d.whole answer.1 answer.2;
+        stored = stores call act.store b.held m.held n.held p.at stay (d.stored answer.1 answer.2);
       }
 
   cut : IsPrepared true call b act → Performed true act (outside m o) (outside n o') status → status ≡ 7 → IsCut call (outside b o) (outside n o')
@@ -66,7 +78,7 @@ module _ (call : Call) (b m n : FilesState) (o o' : SinkState) (act : Act) (stat
     ];
   }
 
-  whole_told : (tells : Bool) → IsPrepared tells call b act → Performed tells act (outside m o) (outside n o') status → OnTrue tells (status < 6 → IsWhole call (outside b o) (outside n o') status)
+  whole_told : (tells : Bool) → IsPrepared tells call b act → Performed tells act (outside m o) (outside n o') status → OnTrue tells (IsAnswer status → IsWhole call (outside b o) (outside n o') status)
   whole_told true p d = whole p d
   whole_told false p d = tt
 
@@ -74,9 +86,9 @@ module _ (call : Call) (b m n : FilesState) (o o' : SinkState) (act : Act) (stat
   cut_told true p d = cut p d
   cut_told false p d = tt
 
-  range : (tells : Bool) → IsPrepared tells call b act → Performed tells act (outside m o) (outside n o') status → (status ≤ 8) × (status ≢ 1) × (status ≢ 6)
+  range : (tells : Bool) → IsPrepared tells call b act → Performed tells act (outside m o) (outside n o') status → (status ≤ 9) × (status ≢ 1) × (status ≢ 6)
   range tells p d = elim d.range [
-    | inl same ↦ (let low = p.answered in omega (arith, same, low), (λ one. p.is_command (sym same ∙ one)), (λ six. let low = p.answered in absurd (omega (arith, same, low, six))))
+    | inl same ↦ (let low = number_low act.status in omega (arith, same, low), (λ one. p.is_command (sym same ∙ one)), (λ six. p.answered.0 (sym same ∙ six)))
     | inr more ↦ elim more [
       | inl seven ↦ (omega (arith, seven), (λ one. absurd (omega (arith, seven, one))), (λ six. absurd (omega (arith, seven, six))))
       | inr eight ↦ (omega (arith, eight), (λ one. absurd (omega (arith, eight, one))), (λ six. absurd (omega (arith, eight, six))))
@@ -120,9 +132,9 @@ module _ (call : Call) (b m n : FilesState) (o o' : SinkState) (act : Act) (stat
 
 -- ---- a call of which nothing was prepared
 
-no_whole : (tells : Bool) (call : Call) (b n : Outside) (status : ℕ) → 6 ≤ status → OnTrue tells (status < 6 → IsWhole call b n status)
-no_whole true call b n status high = λ below. absurd (omega (arith, high, below))
-no_whole false call b n status high = tt
+no_whole : (tells : Bool) (call : Call) (b n : Outside) (status : ℕ) → (IsAnswer status → ⊥) → OnTrue tells (IsAnswer status → IsWhole call b n status)
+no_whole true call b n status none = λ answer. absurd (none answer)
+no_whole false call b n status none = tt
 
 no_cut : (tells : Bool) (call : Call) (b n : Outside) (status : ℕ) → status ≢ 7 → OnTrue tells (status ≡ 7 → IsCut call b n)
 no_cut true call b n status other = λ seven. absurd (other seven)
@@ -132,7 +144,7 @@ pub unread : (tells : Bool) (call : Call) (b n : FilesState) (o : SinkState) →
 unread tells call b n o stay failed = record {
   range = omega arith;
   is_command = λ one. absurd cc;
-  whole = no_whole tells call (outside b o) (outside n o) 6 (omega arith);
+  whole = no_whole tells call (outside b o) (outside n o) 6 (λ answer. answer.0 refl);
   unread = λ six. failed;
   unwritten = λ seven. absurd cc;
   cut = no_cut tells call (outside b o) (outside n o) 6 (λ seven. absurd cc);
@@ -146,7 +158,7 @@ pub wanting : (tells : Bool) (call : Call) (b n : FilesState) (o : SinkState) �
 wanting tells call b n o stay = record {
   range = omega arith;
   is_command = λ one. absurd cc;
-  whole = no_whole tells call (outside b o) (outside n o) 8 (omega arith);
+  whole = no_whole tells call (outside b o) (outside n o) 8 (λ answer. answer.2 refl);
   unread = λ six. absurd cc;
   unwritten = λ seven. absurd cc;
   cut = no_cut tells call (outside b o) (outside n o) 8 (λ seven. absurd cc);

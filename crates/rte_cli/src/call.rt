@@ -40,12 +40,15 @@ use std::alloc::Global;
 /// - `asm A I` stores the image whose text is in file A in file I, and `dis I A` the text of the
 ///   image in file I, valid or not, in file A;
 /// - `watch I S T` puts the state of the run of the image in file I over the script in file S before
-///   tick T, and `watch I S @A` right after the first effect of the instruction at address A.
+///   tick T, and `watch I S @A` right after the first effect of the instruction at address A;
+/// - `replay P S L` puts how many events the log in file L has, where they are a run of the program
+///   over the script, and else the line that is refused.
 ///
 /// All other words are refused, as is a word that is empty or begins with `-`.
 ///
 /// The answer is the first status that is due in the order of the steps: the words, reading P, I or
-/// A, its faults, its time, reading S, its faults, storing, putting.
+/// A, its faults, its time, reading S, its faults, reading L, its faults and the verdict, storing,
+/// putting.
 pub fn rte<F: Files, O: Sink>(alloc: Global, words: &[String], files: &mut F, out: &mut O) -> Status
     // A call of a command went as is due, by what its files hold.
     ensures went { (call : Call) → IsCommand words.now call → Went F.tells call

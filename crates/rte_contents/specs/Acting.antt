@@ -3,6 +3,7 @@ use Rattle.std.specs.Prelude.{◌≡◌, ◌≢◌, ◌<◌, ℕ, List, Option, 
 use Rattle.rte_answers.specs.declared.status.Status.{Status}
 use Rattle.rte_answers.specs.declared.act.Act.{Act}
 use Rattle.rte_answers.specs.Acts.{number_of, CanRun}
+use Rattle.rte_answers.specs.Went.{IsAnswer}
 
 -- the act that puts a text, and stores and runs nothing
 abbrev pub puts : Status → List ℕ → Act
@@ -13,7 +14,7 @@ pub record CanBeDone (target : Option (List ℕ)) (act : Act) : Type 0 where
   pub at : IfSome act.store (λ s. target ≡ Some s.name.now)
   pub stored : IfSome act.store (λ s. number_of act.status ≡ 0)
   pub runs : IfSome act.run CanRun
-  pub answered : number_of act.status < 6
+  pub answered : IsAnswer (number_of act.status)
   pub is_command : number_of act.status ≢ 1
 
 -- the act stores and runs nothing, so it can be done for each call

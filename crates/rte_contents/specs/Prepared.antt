@@ -4,8 +4,9 @@ use Rattle.std.specs.Bool.{OnTrue}
 use Rattle.rte_io.specs.Outside.{FilesState, Rose}
 use Rattle.rte_words.specs.Calls.{Call}
 use Rattle.rte_answers.specs.declared.act.Act.{Act}
-use Rattle.rte_answers.specs.Files.{IsDue, ReachesScript, source_of, script_of}
+use Rattle.rte_answers.specs.Files.{IsDue, ReachesScript, ReachesLog, source_of, script_of, log_file_of}
 use Rattle.rte_answers.specs.Acts.{number_of, outcome_of, IsAtTarget, CanRun}
+use Rattle.rte_answers.specs.Went.{IsAnswer}
 use Rattle.rte_contents.specs.declared.unready.Unready.{Unready}
 use Rattle.rte_contents.specs.declared.unready.Unready.TheVariants as unready
 
@@ -16,18 +17,19 @@ pub record IsPrepared (tells : Bool) (call : Call) (before : FilesState) (act : 
   -- an image is stored with status 0 alone
   pub stored : IfSome act.store (λ s. number_of act.status ≡ 0)
   pub runs : IfSome act.run CanRun
-  pub answered : number_of act.status < 6
+  pub answered : IsAnswer (number_of act.status)
   pub is_command : number_of act.status ≢ 1
 
 -- the read of a file failed
 abbrev pub Failed : (before now : FilesState) → List ℕ → Type 0
 Failed before now name = Rose (before.read_faults name) (now.read_faults name)
 
--- the first read failed, or that of the script where this was reached
+-- the first read failed, or that of the script or of the log where this was reached
 abbrev pub ReadsFailed : Bool → Call → (before now : FilesState) → Type 0
 ReadsFailed tells call before now =
     Failed before now (source_of call)
     ⊎ (IsSomeAnd (script_of call) (Failed before now) × OnTrue tells (ReachesScript call before.held))
+    ⊎ (IsSomeAnd (log_file_of call) (Failed before now) × OnTrue tells (ReachesLog call before.held))
 
 -- want of memory says nothing of the files
 abbrev pub Prepares : Bool → Call → (before now : FilesState) → Result Act Unready → Type 0

@@ -13,7 +13,7 @@ mod unready;
 
 pub use acts::put;
 pub use reading::{
-    Content, LONGEST_IMAGE, LONGEST_IMAGE_TEXT, LONGEST_PROGRAM, LONGEST_SCRIPT, read,
+    Content, LONGEST_IMAGE, LONGEST_IMAGE_TEXT, LONGEST_LOG, LONGEST_PROGRAM, LONGEST_SCRIPT, read,
 };
 pub use scripts::{judge_script, refuse_script};
 pub use unready::Unready;

@@ -20,6 +20,9 @@ pub const LONGEST_IMAGE: usize = 8_388_608;
 /// How many bytes the text of an image has at most.
 pub const LONGEST_IMAGE_TEXT: usize = 8_388_608;
 
+/// How many bytes a log has at most.
+pub const LONGEST_LOG: usize = 67_108_864;
+
 /// What a file holds.
 #[derive(Drop)]
 pub enum Content {

@@ -18,6 +18,8 @@ mod known;
 #[cfg(test)]
 mod limits;
 #[cfg(test)]
+mod replays;
+#[cfg(test)]
 mod runs;
 #[cfg(test)]
 mod scripts;

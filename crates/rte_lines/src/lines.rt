@@ -1,13 +1,15 @@
 //! Lines.
 
-ghost use Rattle.std.specs.Prelude.{◌≡◌, ◌++◌, decimal, IfOk, OnOk};
+ghost use Rattle.std.specs.Prelude.{◌≡◌, ◌++◌, codes, decimal, IfOk, OnOk};
 ghost use Rattle.rte_asm_due.specs.Due as asm;
 ghost use Rattle.rte_commands.specs.Due as due;
 ghost use Rattle.rte_commands.specs.Script as script;
 ghost use Rattle.rte_commands.specs.Source as source;
+ghost use Rattle.rte_replay_due.specs.Due as replay;
 ghost use Rattle.rte_script.specs.declared.fault.ScriptFault.TheVariants as bad;
 
 use itoa::Buffer;
+use rte_log_reading::LogFault;
 use rte_script::ScriptFault;
 use rte_tree::{Place, Text};
 use std::alloc::{AllocError, Global};
@@ -100,4 +102,39 @@ pub fn script_fault_line(alloc: Global, fault: &ScriptFault) -> Result<Text, All
         ScriptFault::Bad { number, line, a, b } => bad_line(alloc, *number, *line, *a, *b),
         ScriptFault::Memory => Ok(Text::new(alloc)),
     }
+}
+
+/// A line of these words and a number.
+fn numbered_line(alloc: Global, words: &str, number: u64) -> Result<Text, AllocError>
+    ensures { IfOk result (λ text. text ≡ words.now ++ (decimal number ++ codes "\n")) }
+{
+    let mut text = Text::new(alloc);
+    add_number(&mut text, words, number)?;
+    text.extend(b"\n")?;
+    Ok(text)
+}
+
+/// The line of a fault of a log; nothing for want of memory.
+pub fn log_fault_line(alloc: Global, fault: &LogFault) -> Result<Text, AllocError>
+    ensures { IfOk result (λ text. text ≡ replay.log_fault_line fault.now) }
+{
+    match fault {
+        LogFault::Line(line) => numbered_line(alloc, "L1 ", u64::from(*line)),
+        LogFault::Long => Text::from_bytes(alloc, b"L2 0\n"),
+        LogFault::Memory => Ok(Text::new(alloc)),
+    }
+}
+
+/// The line for a log whose event on this line is refused, the first line being 1.
+pub fn refused_line(alloc: Global, line: u32) -> Result<Text, AllocError>
+    ensures { IfOk result (λ text. text ≡ replay.refused_line line) }
+{
+    numbered_line(alloc, "L3 ", u64::from(line))
+}
+
+/// The line for a log of so many events that is that of a run.
+pub fn run_line(alloc: Global, count: u64) -> Result<Text, AllocError>
+    ensures { IfOk result (λ text. text ≡ replay.run_line count) }
+{
+    numbered_line(alloc, "run ", count)
 }

@@ -3,6 +3,7 @@
 ghost use Rattle.std.specs.Prelude.{◌≡◌, ◌<◌, ◌++◌, IfOk, IfSome, IsSomeAnd, OnOk, OnErr};
 ghost use Rattle.rte_io.specs.Outside.{outside, AllStay, Appends, AppendsFront, Rose};
 ghost use Rattle.rte_answers.specs.Acts.{CanRun, log_due, number_of};
+ghost use Rattle.rte_answers.specs.Went.{IsAnswer};
 ghost use Rattle.rte_perform.specs.Performed.{OthersKept, Performed, StoresIt};
 ghost use Rattle.rte_perform.specs.Ready.{IsReady, run_of};
 
@@ -83,7 +84,7 @@ pub fn perform<F: Files, O: Sink>(
     out: &mut O,
 ) -> Status
     requires runs { IfSome act.now.run CanRun }
-    requires status { number_of act.now.status < 6 }
+    requires status { IsAnswer (number_of act.now.status) }
     ensures { Performed F.tells act.now
         (outside (F.state files.old) (O.state out.old))
         (outside (F.state files.new) (O.state out.new)) (number_of result) }

@@ -13,6 +13,7 @@ use rte_prepare_images::{prepare_asm, prepare_dis, prepare_migrate, prepare_run,
 use rte_prepare_programs::{
     Format, prepare_compile, prepare_go, prepare_print, prepare_report, prepare_slack,
 };
+use rte_prepare_replay::prepare_replay;
 use rte_words::Command;
 use std::alloc::Global;
 
@@ -65,5 +66,10 @@ pub fn prepare<'a, F: Files>(
             script,
             stop,
         } => prepare_watch(alloc, image, script, stop, files),
+        Command::Replay {
+            program,
+            script,
+            log,
+        } => prepare_replay(alloc, program, script, log, files),
     }
 }

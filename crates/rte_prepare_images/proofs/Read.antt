@@ -1,5 +1,5 @@
 -- What is due of images, by what files hold.
-use Rattle.std.proofs.Common.{◌≡◌, ℕ, List, Option, Some, None, Bool, true, false, Ok, Err, inr, refl, subst}
+use Rattle.std.proofs.Common.{◌≡◌, ℕ, List, Option, Some, None, Bool, true, false, Ok, Err, inl, inr, refl, subst}
 use Rattle.std.specs.Prelude.{Result, IfOk, IsSomeAnd}
 use Rattle.std.specs.Bool.{OnTrue}
 use Rattle.rte_image.specs.declared.raw.RawImage.{RawImage}
@@ -43,10 +43,10 @@ run_script_failed : (tells : Bool) (image script : List ℕ) (before mid now : F
     → OnTrue tells (IsSomeAnd (before.held image) P) → ((bytes : List ℕ) → P bytes → IsImageFile bytes raw)
     → NoneFell before.read_faults mid.read_faults → Rose (mid.read_faults script) (now.read_faults script) → ReadsFailed tells (call.run image script) before now
 run_script_failed tells image script before mid now P raw is loads first rose =
-    inr (
+    inr (inl (
       rose_since (before.read_faults script) (mid.read_faults script) (now.read_faults script) (first script) rose,
       of_held tells (before.held image) P (λ bytes. (r : RawImage) × IsImageFile bytes r) is (λ bytes p. (raw, loads bytes p)),
-    )
+    ))
 
 pub run_prepares : (tells : Bool) (image script : List ℕ) (before mid now : FilesState) (P : List ℕ → Type 0) (raw : RawImage) (result : Result Act Unready)
     → OnTrue tells (IsSomeAnd (before.held image) P) → ((bytes : List ℕ) → P bytes → IsImageFile bytes raw) → AllStay before.held mid.held → NoneFell before.read_faults mid.read_faults

@@ -70,10 +70,10 @@ watch_script_failed : (tells : Bool) (image script : List ℕ) (stop : Stop) (be
     → OnTrue tells (IsSomeAnd (before.held image) P) → ((bytes : List ℕ) → P bytes → IsImageFile bytes raw)
     → NoneFell before.read_faults mid.read_faults → Rose (mid.read_faults script) (now.read_faults script) → ReadsFailed tells (call.watch image script stop) before now
 watch_script_failed tells image script stop before mid now P raw is loads first rose =
-    inr (
+    inr (inl (
       rose_since (before.read_faults script) (mid.read_faults script) (now.read_faults script) (first script) rose,
       of_held tells (before.held image) P (λ bytes. (r : RawImage) × IsImageFile bytes r) is (λ bytes p. (raw, loads bytes p)),
-    )
+    ))
 
 pub watch_prepares : (tells : Bool) (image script : List ℕ) (stop : Stop) (before mid now : FilesState) (P : List ℕ → Type 0) (raw : RawImage) (result : Result Act Unready)
     → OnTrue tells (IsSomeAnd (before.held image) P) → ((bytes : List ℕ) → P bytes → IsImageFile bytes raw) → AllStay before.held mid.held → NoneFell before.read_faults mid.read_faults

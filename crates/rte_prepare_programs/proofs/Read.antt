@@ -1,5 +1,5 @@
 -- What is due of programs, by what files hold.
-use Rattle.std.proofs.Common.{◌≡◌, ℕ, List, Option, Some, None, Bool, true, false, Ok, Err, inr, refl, subst, ap, ◌∙◌}
+use Rattle.std.proofs.Common.{◌≡◌, ℕ, List, Option, Some, None, Bool, true, false, Ok, Err, inl, inr, refl, subst, ap, ◌∙◌}
 use Rattle.std.specs.Prelude.{Result, IfOk, IsSomeAnd}
 use Rattle.std.specs.Bool.{OnTrue}
 use Rattle.rte_image.specs.Raw.{named_of}
@@ -65,10 +65,10 @@ go_script_failed : (tells : Bool) (program image script : List ℕ) (over : ℕ)
     → OnTrue tells (IsSomeAnd (before.held program) P) → ((text : List ℕ) → P text → IsImageOf over text b)
     → NoneFell before.read_faults mid.read_faults → Rose (mid.read_faults script) (now.read_faults script) → ReadsFailed tells (call.go program image script over) before now
 go_script_failed tells program image script over before mid now P b is compiles first rose =
-    inr (
+    inr (inl (
       rose_since (before.read_faults script) (mid.read_faults script) (now.read_faults script) (first script) rose,
       of_held tells (before.held program) P (λ text. (n : NamedImage) × IsTimelyText over text n) is (λ text p. timely over text b (compiles text p)),
-    )
+    ))
 
 pub go_prepares : (tells : Bool) (program image script : List ℕ) (over : ℕ) (before mid now : FilesState) (P : List ℕ → Type 0) (b : Built) (result : Result Act Unready)
     → OnTrue tells (IsSomeAnd (before.held program) P) → ((text : List ℕ) → P text → IsImageOf over text b) → AllStay before.held mid.held → NoneFell before.read_faults mid.read_faults

@@ -56,7 +56,7 @@ pub fn report(
 
 /// The act for a text that is no program text, or whose program is too large: it puts the line of
 /// its fault.
-fn put_fault<'a>(alloc: Global, number: u8, place: Place) -> Result<Act<'a>, AllocError>
+pub fn put_fault<'a>(alloc: Global, number: u8, place: Place) -> Result<Act<'a>, AllocError>
     ensures { IfOk result (λ act. act ≡ puts Status.Text (fault_line number place)) }
 {
     Ok(put(Status::Text, fault_line(alloc, number, place)?))

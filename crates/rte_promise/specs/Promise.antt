@@ -15,7 +15,7 @@ use Rattle.rte_report.specs.Report.{report_text}
 use Rattle.rte_report.specs.Json.{report_json}
 use Rattle.rte_script.specs.declared.script.ScriptLine.{ScriptLine}
 use Rattle.rte_script.specs.Scripts.{IsScript}
-use Rattle.rte_words.specs.Calls.{Call, go, check, compile, json, slack, print, run, migrate, asm, dis, watch}
+use Rattle.rte_words.specs.Calls.{Call, go, check, compile, json, slack, print, run, migrate, asm, dis, watch, replay}
 use Rattle.rte_commands.specs.Source.{IsWritten, Style, report_of}
 use Rattle.rte_commands.specs.Due.{IsImageFile, stored, log}
 use Rattle.rte_commands.specs.Runs.{KeepsItsWord, IsAccepted, IsUnsolved, IsDone}
@@ -25,6 +25,13 @@ use Rattle.rte_image_text.specs.Text.{text_of}
 use Rattle.rte_asm_due.specs.Texts.{IsTextOf}
 use Rattle.rte_stop.specs.Due.{IsStopText}
 use Rattle.rte_words.specs.declared.stop.Stop.{Stop}
+use Rattle.rte_event.specs.declared.event.Event.{Event}
+use Rattle.rte_tree.specs.Placed.{plain}
+use Rattle.rte_source_meaning.specs.Source.{IsSourceRun}
+use Rattle.rte_built.specs.Named.{names_of}
+use Rattle.rte_commands.specs.Script.{said}
+use Rattle.rte_log_reading.specs.Logs.{IsLog}
+use Rattle.rte_replay_due.specs.Due.{IsRecorded, run_line}
 
 -- `go`: a program and a script are accepted, the image is stored, the report and the log are put
 pub record HasGone (over : ℕ) (program image script : List ℕ) (before now : Outside) : Type 0 where
@@ -127,6 +134,19 @@ pub record HasWatched (image script : List ℕ) (stop : Stop) (before now : Outs
   pub told : IsStopText (named_of raw) lines end stop seen
   pub put : Appends before.out.taken now.out.taken seen
 
+-- `replay`: the events of a log are a run of a program over a script, and their number is put
+pub record HasReplayed (program script log : List ℕ) (before now : Outside) : Type 0 where
+  pub tree : Prog Place
+  pub lines : List ScriptLine
+  pub end : ℕ
+  pub recorded : IsRecorded (before.files.held program) (before.files.held script) tree lines end
+  pub text : List ℕ
+  pub held : before.files.held log ≡ Some text
+  pub events : List Event
+  pub told : IsLog (names_of (plain tree)) text events
+  pub run : IsSourceRun (plain tree) (said lines end) events
+  pub put : Appends before.out.taken now.out.taken (run_line (length events))
+
 -- what a call that answers 0 has done
 abbrev pub HasDone : Call → (before now : Outside) → Type 0
 HasDone (go program image script over) before now = HasGone over program image script before now
@@ -140,6 +160,7 @@ HasDone (migrate image target) before now = HasMigrated image target before now
 HasDone (asm text image) before now = HasAssembled text image before now
 HasDone (dis image text) before now = HasDisassembled image text before now
 HasDone (watch image script stop) before now = HasWatched image script stop before now
+HasDone (replay program script log) before now = HasReplayed program script log before now
 
 -- the call answers 3 exactly where the recurrence of some process of the program has no solution
 -- within its deadline; a call that asks no program for its time never does

@@ -15,6 +15,7 @@ pub data Call : Type 0 where
   asm : (text image : List ℕ) → Call
   dis : (image text : List ℕ) → Call
   watch : (image script : List ℕ) (stop : Stop) → Call
+  replay : (program script log : List ℕ) → Call
 
 -- the overhead, 0 where a call has none
 abbrev pub over_of : Call → ℕ

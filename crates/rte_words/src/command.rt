@@ -64,4 +64,10 @@ pub enum Command<'a> {
         script: &'a str,
         stop: Stop,
     },
+    /// Judges whether a log is that of a run of a program over a script.
+    Replay {
+        program: &'a str,
+        script: &'a str,
+        log: &'a str,
+    },
 }

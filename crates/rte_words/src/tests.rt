@@ -93,6 +93,13 @@ fn told(alloc: Global, row: &str) -> Result<Text, Fail> {
                 told_stop(alloc, image, script, "effect", u64::from(address))
             }
         },
+        Some(
+            Command::Replay {
+                program,
+                script,
+                log,
+            },
+        ) => line(alloc, "Replay", &[program, script, log], None),
         None => line(alloc, "Usage", &[], None),
     }
 }
@@ -136,6 +143,9 @@ fn rows_and_their_commands(rt: HostRuntime) -> Result<(), Fail> {
         ("asm a", "Usage"),
         ("dis i a", "Dis i a"),
         ("dis i a 1", "Usage"),
+        ("replay p s l", "Replay p s l"),
+        ("replay p s", "Usage"),
+        ("replay p s l 0", "Usage"),
         ("watch i s 0", "Watch i s tick 0"),
         ("watch i s 1000000000", "Watch i s tick 1000000000"),
         ("watch i s 1000000001", "Usage"),

@@ -1,0 +1,57 @@
+-- Names are few, and so are the events of a log.
+use Rattle.std.proofs.Common.{◌≡◌, ◌≤◌, ◌<◌, ◌+◌, ◌^◌, ◌++◌, ℕ, suc, List, [], ◌∷◌, length, map, filter_map, arith, refl, ap, subst, sym}
+use Rattle.std.proofs.lemmas.List.{length-append, length-map}
+use Rattle.std.specs.Prelude.{decimal, codes}
+use Rattle.rte_event.specs.declared.event.Event.{Event}
+use Rattle.rte_image.specs.declared.names.ImageNames.{ImageNames}
+use Rattle.rte_log.specs.Line.{act_text, line_of, log_of, process_name}
+use Rattle.rte_log_reading.specs.Logs.{AreFew, IsLog, longest_text}
+use Rattle.rte_tree.specs.Plain.{Monitor, Name, Process, Prog}
+use Rattle.rte_source_meaning.specs.Names.{processes, monitors, event_in}
+use Rattle.rte_wellformed.specs.WellFormed.{CountsFit}
+use Rattle.rte_built.specs.Named.{names_of, named_event}
+use Rattle.rte_built_ready.proofs.Counts.{names_of_conditions, names_of_devices}
+
+-- ---- names
+
+module _ (g : Prog) (counts : CountsFit g) (names : ImageNames) (same : names ≡ names_of g) where
+  few_of : AreFew (names_of g)
+  few_of = record {
+    processes = let many = length-map (processes g) (λ (p : Process). p.name) in omega (arith, many, counts.few_processes);
+    monitors = let many = length-map (monitors g) (λ (m : Monitor). m.name) in omega (arith, many, counts.few_monitors);
+    conditions = let many = names_of_conditions 0 (monitors g) in omega (arith, many, counts.few_conditions);
+    devices = let many = names_of_devices g.decls in omega (arith, many, counts.few_devices);
+  }
+
+  pub few_names : AreFew names
+  few_names = subst AreFew (sym same) few_of
+
+  pub few_devices : length names.devices ≤ 2 ^ 16
+  few_devices = few_names.devices
+
+  pub few_events : length names.events ≤ 2 ^ 16
+  few_events =
+      let many : length (names_of g).events ≡ length (filter_map event_in g.decls) = length-map (filter_map event_in g.decls) (λ (e : Name). named_event g e) in
+      let here : length names.events ≡ length (names_of g).events = ap (λ (n : ImageNames). length n.events) same in
+      omega (arith, many, here, counts.few_events)
+
+-- ---- events
+
+a_line : (names : ImageNames) (e : Event) → 1 ≤ length (line_of names e)
+a_line names e =
+    let rest : List ℕ = process_name names e.proc ++ act_text names e.act in
+    let all : length (line_of names e) ≡ length (decimal e.tick) + length (codes " " ++ rest) = length-append (decimal e.tick) (codes " " ++ rest) in
+    let blank : length (codes " " ++ rest) ≡ 1 + length rest = length-append (codes " ") rest in
+    omega (arith, all, blank)
+
+as_long : (names : ImageNames) (es : List Event) → length es ≤ length (log_of names es)
+unfolding log_of
+as_long names [] = omega arith
+as_long names (e ∷ es) =
+    let all : length (log_of names (e ∷ es)) ≡ length (line_of names e) + length (log_of names es) = length-append (line_of names e) (log_of names es) in
+    omega (arith, all, a_line names e, as_long names es)
+
+pub few_of_log : (names : ImageNames) (text : List ℕ) (es : List Event) → IsLog names text es → length es < 4294967295
+few_of_log names text es log =
+    let whole : length text ≡ length (log_of names es) = ap (λ (x : List ℕ). length x) log.whole in
+    omega (arith, whole, as_long names es, log.short)

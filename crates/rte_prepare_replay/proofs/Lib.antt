@@ -1,0 +1,3 @@
+mod Few
+mod Judged
+mod Prepared

@@ -1,0 +1,67 @@
+//! Replaying.
+
+ghost use Rattle.std.specs.Prelude.{◌<◌, ◌^◌, ℕ, List, IfOk, length};
+ghost use Rattle.rte_choice.specs.Tables.{AreRanksOf};
+ghost use Rattle.rte_commands.specs.Script.{said};
+ghost use Rattle.rte_commands.specs.Source.{IsWritten};
+ghost use Rattle.rte_due.specs.NextDue.{FramesPass};
+ghost use Rattle.rte_source_meaning.specs.Config.{start as start_of};
+ghost use Rattle.rte_tree.specs.Placed.{placed, plain};
+ghost use Rattle.rte_verdict.specs.Verdicts.{Judges};
+
+use rte_choice::Ranks;
+use rte_declarations::Declarations;
+use rte_event::Event;
+use rte_meaning::start;
+use rte_meaning_laws::law::frames_pass;
+use rte_program_ranks::ranks_of;
+use rte_replay::judge;
+use rte_script::Script;
+use rte_small::checked_programs_are_ready;
+use rte_static::Checked;
+use rte_verdict::Verdict;
+use std::alloc::{AllocError, Global};
+
+/// The verdict on events, by the declarations of their program and by its ranks and ceilings.
+fn judged<'a, 'b: 'a>(
+    alloc: Global,
+    declarations: &'a Declarations<'b>,
+    ranks: Ranks,
+    script: &Script,
+    events: &[Event],
+) -> Result<Verdict, AllocError>
+    requires ranks { AreRanksOf (plain (placed declarations.now)) ranks }
+    requires frames { FramesPass (plain (placed declarations.now)) }
+    requires end { script.now.end < 2 ^ 61 }
+    requires few { length events.now < 4294967295 }
+    ensures { IfOk result (λ verdict. Judges (plain (placed declarations.now))
+        (said script.now.lines script.now.end) (start_of (plain (placed declarations.now)))
+        events.now verdict) }
+{
+    let mut running = start(alloc, declarations, ranks)?;
+    judge(&mut running, script, events)
+}
+
+/// Whether the events are a run, over the script, of the program of a text, which keeps to all
+/// rules and is not too large; else the first line that is refused, the first line being 1. It fails
+/// only where memory is wanting.
+pub fn replay(
+    alloc: Global,
+    program: &Checked,
+    script: &Script,
+    events: &[Event],
+) -> Result<Verdict, AllocError>
+    ghost text: { List ℕ }
+    requires written { IsWritten text (placed program.now) }
+    requires end { script.now.end < 2 ^ 61 }
+    requires few { length events.now < 4294967295 }
+    ensures { IfOk result (λ verdict. Judges (plain (placed program.now))
+        (said script.now.lines script.now.end) (start_of (plain (placed program.now)))
+        events.now verdict) }
+{
+    checked_programs_are_ready();
+    frames_pass();
+    let declarations = Declarations::new(alloc, program.named())?;
+    let ranks = ranks_of(alloc, program)?;
+    judged(alloc, &declarations, ranks, script, events)
+}
