@@ -19,12 +19,11 @@ use crate::names::program_names;
 use rte_answers::Act;
 use rte_compile::{TextFault, read_written};
 use rte_contents::{
-    Content, LONGEST_LOG, LONGEST_PROGRAM, LONGEST_SCRIPT, Unready, judge_script, read,
+    Content, LONGEST_LOG, LONGEST_PROGRAM, LONGEST_SCRIPT, Unready, judge_script, put_fault, read,
     refuse_script,
 };
 use rte_image::ImageNames;
 use rte_io::Files;
-use rte_prepare_programs::put_fault;
 use rte_script::Script;
 use rte_static::Checked;
 use rte_tree::Place;
