@@ -1,11 +1,11 @@
 -- Names are few, and so are the events of a log.
-use Rattle.std.proofs.Common.{◌≡◌, ◌≤◌, ◌<◌, ◌+◌, ◌^◌, ◌++◌, ℕ, suc, List, [], ◌∷◌, length, map, filter_map, arith, refl, ap, subst, sym, Ok, Err}
+use Rattle.std.proofs.Common.{◌≡◌, ◌≤◌, ◌<◌, ◌+◌, ◌^◌, ◌++◌, ℕ, List, [], ◌∷◌, length, filter_map, arith, ap, subst, sym, Ok, Err}
 use Rattle.std.proofs.lemmas.List.{length-append, length-map}
 use Rattle.std.specs.Prelude.{Result, IfOk, decimal, codes}
 use Rattle.rte_event.specs.declared.event.Event.{Event}
 use Rattle.rte_image.specs.declared.names.ImageNames.{ImageNames}
 use Rattle.rte_log.specs.Line.{act_text, line_of, log_of, process_name}
-use Rattle.rte_log_reading.specs.Logs.{AreFew, IsLog, longest_text}
+use Rattle.rte_log_reading.specs.Logs.{AreFew, IsLog}
 use Rattle.rte_tree.specs.declared.place.Place.{Place}
 use Rattle.rte_tree.specs.Placed.{Prog as Placed, plain}
 use Rattle.rte_tree.specs.Plain.{Monitor, Name, Process, Prog}

@@ -1,5 +1,3 @@
-use Rattle.std.proofs.Common.{◌<◌, ℕ, List, length, Ok, Err}
-use Rattle.std.specs.Prelude.{Result, IfOk}
 use Rattle.rte_prepare_replay.proofs.Few.{few_made}
 use Rattle.rte_prepare_replay.proofs.logs.read_events.Goals as goal
 
