@@ -1,0 +1,6 @@
+pub mod Waits
+pub mod Covering
+pub mod Placing
+pub mod Premises
+pub mod Runs
+pub mod Joined
