@@ -13,6 +13,7 @@ use Rattle.rte_safe_terms.specs.Whole.{StackFits, Apart}
 use Rattle.rte_lifted.specs.Compiled.{IsFrom, script_of}
 use Rattle.rte_timed.specs.Timed.{RespectsFrames}
 use Rattle.rte_demand.specs.declared.tasks.DTask.{DTask}
+use Rattle.rte_demand.specs.declared.judging.Judgement.{Judgement}
 use Rattle.rte_demand.specs.declared.judging.Judgement.TheVariants as judgement
 use Rattle.rte_demand.specs.Demand.{AreTasks}
 use Rattle.rte_edf.specs.Run.{tick, state_at, events}
@@ -20,7 +21,7 @@ use Rattle.rte_edf.specs.Safe.{IsWaitless}
 use Rattle.rte_edf_timed.specs.InTime.{AreDemandsOf, MeetsDeadlines}
 use Rattle.rte_edf_lifted.specs.Runs.{HasNoOverrun}
 use Rattle.rte_edf_image.specs.Image.{IsEdfImage}
-use Rattle.rte_edf_image.specs.Tasks.{AreDemands, IsAnswer}
+use Rattle.rte_edf_image.specs.Tasks.{AreDemands, IsAnswer, IsAnswerFor}
 use Rattle.rte_compiled.specs.Image.{IsImageOf, AreRight, whole}
 use Rattle.rte_image.specs.Named.{NamedImage}
 use Rattle.rte_script.specs.declared.script.ScriptLine.{ScriptLine}
@@ -50,6 +51,10 @@ pub record MeetsPremises (image : Image) (tasks : List DTask) : Type 0 where
 abbrev pub WaitlessImagesMeetPremises : Type 0
 WaitlessImagesMeetPremises = (text : List ℕ) (g : Prog Place) (n : NamedImage) (tasks : List DTask) → IsWritten text g → HasNoWait (plain g) → IsEdfImage (plain g) n
     → AreDemands n.image tasks → AreTasks tasks → MeetsPremises n.image tasks
+
+-- The law: what the test says of a program, it says of its image.
+abbrev pub AnswersAreOfTheImage : Type 0
+AnswersAreOfTheImage = (g : plain_of.Prog) (n : NamedImage) (answer : Judgement) → IsEdfImage g n → IsAnswerFor g answer → IsAnswer n.image answer
 
 -- A run of a program under earliest deadline first: no tick is stuck, each process is within its
 -- declared stack, and those inside monitors are apart; each activation ends by its deadline; and

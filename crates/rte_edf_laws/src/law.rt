@@ -1,12 +1,13 @@
 //! The laws.
 
-ghost use Rattle.rte_edf_laws.specs.Laws.{CompiledRunsAreRuns, EdfImagesKeepTheirWord, EdfRunsAreRight, WaitlessImagesMeetPremises};
+ghost use Rattle.rte_edf_laws.specs.Laws.{AnswersAreOfTheImage, CompiledRunsAreRuns, EdfImagesKeepTheirWord, EdfRunsAreRight, WaitlessImagesMeetPremises};
 ghost use Rattle.rte_edf_laws.specs.Waits.{TextsWithoutWaitsHaveNone};
 
 use rte_built_limits::law::shaped_images_are_in_limits;
 use rte_built_made::law::words_are_few;
 use rte_built_scripts::law::{names_have_frames, scripts_for_the_names_suit};
 use rte_checked_valid::law::checked_operands_are_in_range;
+use rte_filled::law::shapes_agree;
 use rte_headline::law::well_formed_code_is_right;
 use rte_made_image::law::checked_code_is_an_image;
 use rte_script_suits::law::scripts_suit;
@@ -28,6 +29,13 @@ pub fn waitless_images_meet_premises()
     words_are_few();
     checked_operands_are_in_range();
     shaped_images_are_in_limits();
+}
+
+/// What the test of the demand says of a program, it says of its image.
+pub fn answers_are_of_the_image()
+    ensures { AnswersAreOfTheImage }
+{
+    shapes_agree();
 }
 
 /// The events of a run of an image whose code is right are a run of the program in which any ready
