@@ -18,8 +18,8 @@ IsNotWaiting (Some (Waiting condition due number job)) = ⊥
 abbrev pub NobodyWaits : State → Type 0
 NobodyWaits s = (k : ℕ) → IsNotWaiting (slice_get s.threads k)
 
--- no tick is stuck, no release finds its process unfinished, nobody waits, and so the queues are
--- empty
+-- no tick is stuck, no release finds its process unfinished, nobody waits before a tick, and after
+-- its start events the queues hold those who wait
 pub record IsKept (image : Image) (script : Script) : Type 0 where
   pub never_stuck : (t : ℕ) → t < script.end_tick → (tick image script t (state_at image script t)).stuck ≡ false
   pub no_overrun : (t : ℕ) → t < script.end_tick → (tick image script t (state_at image script t)).overrun ≡ false
