@@ -1,5 +1,5 @@
 -- What a run keeps in which nobody waits.
-use Rattle.std.proofs.Common.{◌≡◌, ◌+◌, ◌*◌, ℕ, zero, suc, List, [], ◌∷◌, Option, Some, None, length, map, arith, refl, ap, sym, subst, ◌∙◌, true, false, Bool}
+use Rattle.std.proofs.Common.{◌≡◌, ◌+◌, ◌*◌, ℕ, zero, suc, List, [], ◌∷◌, Option, Some, None, map, arith, refl, ap, sym, subst, ◌∙◌, true, false, Bool}
 use Rattle.std.specs.Prelude.{slice_get, slice_set, cond, nat_eq}
 use Rattle.std.proofs.lemmas.Option.{slice_get_within}
 use Rattle.rte_event.specs.declared.event.Act.TheVariants as act

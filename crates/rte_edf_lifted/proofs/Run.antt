@@ -1,5 +1,5 @@
 -- The events of the machine's run are a run of the source meaning in which any ready process may act.
-use Rattle.std.proofs.Common.{◌≡◌, ◌≤◌, ◌<◌, ◌+◌, ◌++◌, ℕ, zero, suc, List, [], ◌∷◌, Option, Some, None, length, arith, refl, ap, sym, subst, ◌∙◌, true, false, Bool, append_assoc, map}
+use Rattle.std.proofs.Common.{◌≡◌, ◌<◌, ◌+◌, ◌++◌, ℕ, zero, suc, List, [], ◌∷◌, Option, Some, None, length, arith, refl, ap, sym, subst, ◌∙◌, false, Bool, append_assoc, map}
 use Rattle.std.specs.Prelude.{ℤ, pos, slice_get, replicate, option_map}
 use Rattle.std.proofs.lemmas.Option.{slice_get-map}
 use Rattle.rte_event.specs.declared.event.Event.{Event}
