@@ -1,0 +1,5 @@
+pub mod Phases
+pub mod Starts
+pub mod Ticks
+pub mod Run
+pub mod Kept

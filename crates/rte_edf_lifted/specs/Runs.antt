@@ -1,0 +1,35 @@
+-- What the law of runs under earliest deadline first asks of a run.
+use Rattle.std.specs.Prelude.{◌≡◌, ◌<◌, ℕ, false, Option, Some, None, slice_get}
+use Rattle.rte_machine_meaning.specs.Image.{Image, Script}
+use Rattle.rte_machine_meaning.specs.State.{Thread, Idle, Ready, Waiting, State}
+use Rattle.rte_machine_meaning.specs.Starts.{starts}
+use Rattle.rte_safe_terms.specs.Walk.{Where}
+use Rattle.rte_safe_terms.specs.Safe.{Parts, ImageFits}
+use Rattle.rte_safe_terms.specs.Queues.{AreQueued}
+use Rattle.rte_edf.specs.Run.{tick, state_at}
+use Rattle.rte_edf.specs.Safe.{IsWaitless}
+
+abbrev pub IsNotWaiting : Option Thread → Type 0
+IsNotWaiting None = Unit {0}
+IsNotWaiting (Some Idle) = Unit {0}
+IsNotWaiting (Some (Ready job)) = Unit {0}
+IsNotWaiting (Some (Waiting condition due number job)) = ⊥
+
+abbrev pub NobodyWaits : State → Type 0
+NobodyWaits s = (k : ℕ) → IsNotWaiting (slice_get s.threads k)
+
+-- no tick is stuck, no release finds its process unfinished, nobody waits before a tick, and after
+-- its start events the queues hold those who wait
+pub record IsKept (image : Image) (script : Script) : Type 0 where
+  pub never_stuck : (t : ℕ) → t < script.end_tick → (tick image script t (state_at image script t)).stuck ≡ false
+  pub no_overrun : (t : ℕ) → t < script.end_tick → (tick image script t (state_at image script t)).overrun ≡ false
+  pub calm : (t : ℕ) → t < script.end_tick → NobodyWaits (state_at image script t).state
+  pub queued_started : (t : ℕ) → t < script.end_tick → AreQueued (starts image script t (state_at image script t).state).state
+
+-- no release finds its process unfinished
+abbrev pub HasNoOverrun : Image → Script → Type 0
+HasNoOverrun image script = (t : ℕ) → t < script.end_tick → (tick image script t (state_at image script t)).overrun ≡ false
+
+-- The law: so is each run, without overrun, of an image that fits its trees and waits nowhere.
+abbrev pub WaitlessRunsAreKept : Type 0
+WaitlessRunsAreKept = (e : Where) (ps : ℕ → Parts) (script : Script) → ImageFits e ps → IsWaitless e ps → HasNoOverrun e.image script → IsKept e.image script
