@@ -22,7 +22,7 @@ use Rattle.rte_stretch.proofs.Rowing.{silent_anywhere}
 use Rattle.rte_edf.specs.Choice.{Mark, choose}
 use Rattle.rte_edf.specs.Run.{Marked, Passed, begin, begin_some, events_from, marks_of, state_at, tick}
 use Rattle.rte_edf_stretch.specs.Turn.{IsTaken, IsTurn, IsUnstuck, begun, chosen, marked, started, turn}
-use Rattle.rte_edf_stretch.specs.Rows.{HasLed, IsChosen, IsRowTurn, IsSafeRun, RowIsSafe, RowIsTurn, RowStaysInRun}
+use Rattle.rte_edf_stretch.specs.Rows.{HasLed, IsChosen, IsRowTaken, IsSafeRun, RowIsSafe, RowIsTaken, RowStaysInRun}
 use Rattle.rte_edf_stretch.proofs.Staying.{begin_twice, choice_stays, length_begin, marks_few, marks_same}
 use Rattle.rte_edf_stretch.proofs.Turning.{both, tick_is, turn_stays_in_run}
 
@@ -86,6 +86,12 @@ record Led (image : Image) (script : Script) (t budget k n : ℕ) (o : Own) : Ty
   pub stood : n < budget → Stood image script t k n o
   pub led : 0 < n → n ≤ budget → HasLed image script t k n o
 
+-- m ticks from there are a turn
+record IsRowTurn (image : Image) (script : Script) (t k n m : ℕ) (o : Own) : Type 0 where
+  pub is_turn : IsTurn image script (t + n) m
+  pub turns : turn image script (t + n) m ≡ pass image (t + n) m (with_process k o (begun image script t)) (Some k)
+  pub marks : begin_some (chosen image script (t + n)) (marked image script (t + n)) ≡ begin k (marked image script t)
+
 row_turn : (image : Image) (script : Script) (t budget k n m : ℕ) (first o : Own) → IsChosen image script t budget k first → Stood image script t k n o → 1 ≤ m → m ≤ left image o.job → n + m ≤ budget → IsRowTurn image script t k n m o
 row_turn image script t budget k n m first o is st some fits within =
     let s : State = begun image script t in
@@ -126,13 +132,8 @@ stood_again image script t budget k n first o is inside some below at =
     }
 
 -- what a turn from there comes to, in the run
-record RowTaken (image : Image) (script : Script) (t k n m : ℕ) (all : Ticked) : Type 0 where
-  pub free : all.stuck ≡ false
-  pub state : state_at image script (t + (n + m)) ≡ both all.state (begin k (marked image script t))
-  pub events : (l : ℕ) → events_from image script (n + m + l) t (state_at image script t) ≡ (started image script t ++ all.events) ++ events_from image script l (t + (n + m)) (state_at image script (t + (n + m)))
-
 row_taken : (image : Image) (script : Script) (t budget k n m : ℕ) (first o : Own) → IsUnstuck image script → IsChosen image script t budget k first → Led image script t budget k n o → n < budget → 1 ≤ m → m ≤ left image o.job → n + m ≤ budget
-    → RowTaken image script t k n m (pass image (t + n) m (with_process k o (begun image script t)) (Some k))
+    → IsRowTaken image script t k n m (pass image (t + n) m (with_process k o (begun image script t)) (Some k))
 row_taken image script t budget k n m first o safe is was below some fits within =
     let u : ℕ = t + n in
     let s : State = begun image script t in
@@ -176,7 +177,7 @@ led_on image script t budget k n m' first o next instr safe is before step time 
     let all : n + m ≡ m' = sym time in
     let goes : pass image (t + n) m (with_process k o s) (Some k) ≡ record { state = with_process k next s; events = []; stuck = false } =
     passes image (t + n) k m is.p first o next instr s is.process is.ready is.owned step.at (step.goes (with_process k o s)) refl in
-    let taken : m' ≤ budget → RowTaken image script t k n m (pass image (t + n) m (with_process k o s) (Some k)) =
+    let taken : m' ≤ budget → IsRowTaken image script t k n m (pass image (t + n) m (with_process k o s) (Some k)) =
     λ within. row_taken image script t budget k n m first o safe is was (omega arith) some (fits_left image o instr m step.at refl) (omega arith) in
     let here : m' ≤ budget → state_at image script (t + m') ≡ both (with_process k next s) (begin k (marked image script t)) =
     λ within. ap (λ (v : ℕ). state_at image script (t + v)) (sym all) ∙ (taken within).state ∙ ap (λ (x : Ticked). both x.state (begin k (marked image script t))) goes in
@@ -213,9 +214,8 @@ led image script t budget k first safe is m' next (Follows before instr next' st
 pub row_stays_in_run : RowStaysInRun
 row_stays_in_run image script t budget k first safe is n o leads some within = (led image script t budget k first safe is n o leads).led some within
 
-pub row_is_turn : RowIsTurn
-row_is_turn image script t budget k first safe is n o leads within m some fits all =
-    row_turn image script t budget k n m first o is ((led image script t budget k first safe is n o leads).stood within) some fits all
+pub row_is_taken : RowIsTaken
+row_is_taken image script t budget k first safe is n o leads within m some fits all = row_taken image script t budget k n m first o safe is (led image script t budget k first safe is n o leads) within some fits all
 
 -- ---- what a run that is never stuck promises
 
@@ -265,7 +265,7 @@ row_is_safe image script t budget k first is burnt never n o leads within =
       safe = λ enough silent.
           let d : ℕ = ticks found.0 - o.job.done in
           let early = at.early in
-          let taken : RowTaken image script t k n d (pass image u d w (Some k)) = row_taken image script t budget k n d first o never.unstuck is was within (omega arith) (fits_left image o found.0 d at refl) (omega arith) in
+          let taken : IsRowTaken image script t k n d (pass image u d w (Some k)) = row_taken image script t budget k n d first o never.unstuck is was within (omega arith) (fits_left image o found.0 d at refl) (omega arith) in
           let all : pass image u d w (Some k) ≡ settle image (u + (d - 1)) k is.p o.job w (effect image nowhere found.0 (next_own o)) =
           passes_to image u k d is.p first o found.0 s is.process is.ready is.owned at refl
           ∙ ap (λ (r : Outcome). settle image (u + (d - 1)) k is.p o.job w r) (silent_anywhere image w found.0 (next_own o) silent) in

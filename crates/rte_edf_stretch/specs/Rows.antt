@@ -1,16 +1,17 @@
 -- Rows of whole instructions that nobody sees, in a run under earliest deadline first.
-use Rattle.std.specs.Prelude.{◌≡◌, ◌<◌, ◌≤◌, ◌+◌, ◌++◌, ℕ, List, Some, slice_get}
+use Rattle.std.specs.Prelude.{◌≡◌, ◌<◌, ◌≤◌, ◌+◌, ◌++◌, ℕ, false, Some, slice_get}
 use Rattle.rte_isa.specs.declared.instr.Instr.{Instr}
 use Rattle.rte_isa.specs.Ticks.{ticks}
 use Rattle.rte_machine_meaning.specs.Image.{Image, Process, Script}
 use Rattle.rte_machine_meaning.specs.State.{Job, Thread, Ready}
 use Rattle.rte_machine_meaning.specs.Effect.{Own}
+use Rattle.rte_machine_meaning.specs.Tick.{Ticked}
 use Rattle.rte_stretch.specs.Stretch.{left, pass}
 use Rattle.rte_stretch.specs.Quiet.{AreQuiet}
 use Rattle.rte_stretch.specs.RowLaws.{IsInStack}
 use Rattle.rte_stretch.specs.Silent.{IsSafeFor, Leads, with_process}
-use Rattle.rte_edf.specs.Run.{begin, begin_some, events_from, state_at}
-use Rattle.rte_edf_stretch.specs.Turn.{IsTurn, IsUnstuck, begun, chosen, marked, started, turn}
+use Rattle.rte_edf.specs.Run.{begin, events_from, state_at}
+use Rattle.rte_edf_stretch.specs.Turn.{IsUnstuck, begun, chosen, marked, started}
 
 -- after the start events of tick t, process k is chosen, and stands so; and for the ticks before t
 -- + budget nothing more starts
@@ -44,14 +45,14 @@ pub record IsSafeRun (image : Image) (script : Script) : Type 0 where
 abbrev pub RowIsSafe : Type 0
 RowIsSafe = (image : Image) (script : Script) (t budget k : ℕ) (first : Own) (is : IsChosen image script t budget k first) → first.job.burn ≡ 0 → IsSafeRun image script → IsSafeFor image is.p.stack first budget
 
--- m ticks from tick t + n on, to which n ticks have led it on, are a turn
-pub record IsRowTurn (image : Image) (script : Script) (t k n m : ℕ) (o : Own) : Type 0 where
-  pub is_turn : IsTurn image script (t + n) m
-  pub turns : turn image script (t + n) m ≡ pass image (t + n) m (with_process k o (begun image script t)) (Some k)
-  pub marks : begin_some (chosen image script (t + n)) (marked image script (t + n)) ≡ begin k (marked image script t)
+-- m ticks from tick t + n on, to which n ticks have led it on, come to this at once
+pub record IsRowTaken (image : Image) (script : Script) (t k n m : ℕ) (all : Ticked) : Type 0 where
+  pub free : all.stuck ≡ false
+  pub state : state_at image script (t + (n + m)) ≡ record { state = all.state; marks = begin k (marked image script t) }
+  pub events : (l : ℕ) → events_from image script (n + m + l) t (state_at image script t) ≡ (started image script t ++ all.events) ++ events_from image script l (t + (n + m)) (state_at image script (t + (n + m)))
 
--- The law: where ticks have led it on, up to as many more as are left of what it is at are a turn,
--- whatever they come to: they stay within the instruction, or have its effect.
-abbrev pub RowIsTurn : Type 0
-RowIsTurn = (image : Image) (script : Script) (t budget k : ℕ) (first : Own) → IsUnstuck image script → IsChosen image script t budget k first
-    → (n : ℕ) (o : Own) → Leads image first n o → n < budget → (m : ℕ) → 1 ≤ m → m ≤ left image o.job → n + m ≤ budget → IsRowTurn image script t k n m o
+-- The law: where ticks have led it on, up to as many more as are left of what it is at come to what
+-- they do at once, whatever that is: they stay within the instruction, or have its effect.
+abbrev pub RowIsTaken : Type 0
+RowIsTaken = (image : Image) (script : Script) (t budget k : ℕ) (first : Own) → IsUnstuck image script → IsChosen image script t budget k first
+    → (n : ℕ) (o : Own) → Leads image first n o → n < budget → (m : ℕ) → 1 ≤ m → m ≤ left image o.job → n + m ≤ budget → IsRowTaken image script t k n m (pass image (t + n) m (with_process k o (begun image script t)) (Some k))

@@ -1,6 +1,6 @@
 //! The laws, for every image and every script.
 
-ghost use Rattle.rte_edf_stretch.specs.Rows.{RowIsSafe, RowIsTurn, RowStaysInRun};
+ghost use Rattle.rte_edf_stretch.specs.Rows.{RowIsSafe, RowIsTaken, RowStaysInRun};
 ghost use Rattle.rte_edf_stretch.specs.Turn.{TurnStaysInRun};
 
 /// In a run of which no tick is stuck, the ticks of a turn at once leave the state and the marks
@@ -20,7 +20,7 @@ pub fn row_is_safe()
     ensures { RowIsSafe }
 {}
 
-/// After such a row, ticks of the instruction that comes next are a turn.
-pub fn row_is_turn()
-    ensures { RowIsTurn }
+/// After such a row, ticks at once of the instruction that comes next are the ticks of the run.
+pub fn row_is_taken()
+    ensures { RowIsTaken }
 {}
