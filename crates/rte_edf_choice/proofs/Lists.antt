@@ -3,7 +3,6 @@ use Rattle.std.proofs.Common.{◌≡◌, ◌≤◌, ◌<◌, ◌+◌, ◌⊎◌,
 use Rattle.std.specs.Prelude.{slice_get, slice_set}
 use Rattle.std.proofs.lemmas.Option.{slice_get-get_or}
 use Rattle.rte_machine_meaning.specs.Image.{Image, Process}
-use Rattle.rte_machine_meaning.specs.State.{Thread}
 use Rattle.rte_cells.specs.declared.threads.Cell.{Cell}
 use Rattle.rte_cells.specs.Threads.{rooms_of, thread_of, threads_of}
 use Rattle.rte_state.specs.declared.plan.Process.{Process as Planned}

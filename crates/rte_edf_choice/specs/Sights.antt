@@ -1,5 +1,5 @@
 -- What is seen of the processes from one on, and what one more adds.
-use Rattle.std.specs.Prelude.{◌≡◌, ◌+◌, ◌||◌, ℕ, true, false, not, List, Option, Some, None, if◌then◌else◌, map, slice_get}
+use Rattle.std.specs.Prelude.{◌≡◌, ◌||◌, ℕ, true, false, not, List, Option, Some, None, if◌then◌else◌, map, slice_get}
 use Rattle.rte_cells.specs.declared.threads.Cell.{Cell}
 use Rattle.rte_cells.specs.Threads.{thread_of}
 use Rattle.rte_machine_meaning.specs.Image.{Image, Monitor, Process}

@@ -1,5 +1,5 @@
 -- Rows of instructions in runs.
-use Rattle.std.proofs.Common.{◌≡◌, ◌≤◌, ◌<◌, ◌+◌, ◌-◌, ◌++◌, inl, inr, ℕ, List, [], ◌∷◌, Option, Some, None, length, arith, refl, ap, sym, subst, ◌∙◌, zero, suc, true, false, Bool, append_assoc}
+use Rattle.std.proofs.Common.{◌≡◌, ◌≤◌, ◌<◌, ◌+◌, ◌-◌, ◌++◌, inl, inr, ℕ, List, [], ◌∷◌, Option, Some, None, length, arith, refl, ap, sym, subst, ◌∙◌, zero, suc, false, Bool, append_assoc}
 use Rattle.std.specs.Prelude.{ℤ, slice_get, slice_set, nat_lt, cond}
 use Rattle.std.proofs.lemmas.Bool.{cases_lt}
 use Rattle.std.proofs.lemmas.List.{append-nil, length-set}
@@ -15,14 +15,14 @@ use Rattle.rte_machine_meaning.specs.Tick.{Ticked, at_next, owned_of, settle}
 use Rattle.rte_stretch.specs.Stretch.{FitsIn, FitsThread, left, left_at, left_of, outcome_at_once, outcomes, pass, pass_thread}
 use Rattle.rte_stretch.specs.Quiet.{IsQuiet}
 use Rattle.rte_stretch.specs.RowLaws.{IsInStack}
-use Rattle.rte_stretch.specs.Silent.{Begins, Follows, GoesTo, IsAt, IsWithin, Leads, is_silent, next_own, nowhere, with_process}
+use Rattle.rte_stretch.specs.Silent.{Begins, Follows, GoesTo, IsAt, IsWithin, Leads, next_own, nowhere, with_process}
 use Rattle.rte_stretch.proofs.Moving.{get_set, quiet_same, set_set}
 use Rattle.rte_stretch.proofs.Quiet.{quiet_starts_nothing}
 use Rattle.rte_stretch.proofs.Rowing.{silent_anywhere}
 use Rattle.rte_edf.specs.Choice.{Mark, choose}
-use Rattle.rte_edf.specs.Run.{Marked, Passed, begin, begin_some, events_from, marks_of, state_at, tick}
+use Rattle.rte_edf.specs.Run.{Marked, Passed, begin, begin_some, events_from, marks_of, state_at}
 use Rattle.rte_edf_stretch.specs.Turn.{IsTaken, IsTurn, IsUnstuck, begun, chosen, marked, started, turn}
-use Rattle.rte_edf_stretch.specs.Rows.{HasLed, IsChosen, IsRowTaken, IsSafeRun, RowIsSafe, RowIsTaken, RowStaysInRun}
+use Rattle.rte_edf_stretch.specs.Rows.{HasLed, IsChosen, IsRowTaken, RowIsSafe, RowIsTaken, RowStaysInRun}
 use Rattle.rte_edf_stretch.proofs.Staying.{begin_twice, choice_stays, length_begin, marks_few, marks_same}
 use Rattle.rte_edf_stretch.proofs.Turning.{both, tick_is, turn_stays_in_run}
 

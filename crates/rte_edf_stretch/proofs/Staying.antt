@@ -1,7 +1,6 @@
 -- The choice stays while the process that is chosen stays at what it is at.
-use Rattle.std.proofs.Common.{◌≡◌, ◌≤◌, ◌<◌, ◌+◌, ℕ, zero, suc, List, [], ◌∷◌, Option, Some, None, length, arith, refl, ap, sym, subst, ◌∙◌, true, false, Bool, inl, inr}
+use Rattle.std.proofs.Common.{◌≡◌, ◌≤◌, ◌+◌, ℕ, zero, suc, List, [], ◌∷◌, Option, Some, None, length, arith, refl, ap, sym, subst, ◌∙◌, true, false, Bool}
 use Rattle.std.specs.Prelude.{slice_get, slice_set, cond, nat_lt, not, ◌||◌}
-use Rattle.std.proofs.lemmas.Bool.{cases_Bool}
 use Rattle.rte_machine_meaning.specs.Image.{Image, Process}
 use Rattle.rte_machine_meaning.specs.State.{Job, Thread, Idle, Ready, Waiting}
 use Rattle.rte_edf.specs.Choice as ch

@@ -1,6 +1,6 @@
 -- Ticks at once in a run, and one by one.
-use Rattle.std.proofs.Common.{◌≡◌, ◌≤◌, ◌<◌, ◌+◌, ◌-◌, ◌++◌, ℕ, zero, suc, List, [], Option, Some, None, length, arith, refl, ap, sym, subst, ◌∙◌, true, false, Bool, append_assoc}
-use Rattle.std.specs.Prelude.{ℤ, slice_get, slice_set, cond, nat_lt}
+use Rattle.std.proofs.Common.{◌≡◌, ◌≤◌, ◌<◌, ◌+◌, ◌-◌, ◌++◌, ℕ, zero, suc, List, Option, Some, None, length, arith, refl, ap, sym, subst, ◌∙◌, true, false, append_assoc}
+use Rattle.std.specs.Prelude.{ℤ, slice_get, slice_set, nat_lt}
 use Rattle.std.proofs.lemmas.List.{length-set}
 use Rattle.std.proofs.lemmas.Bool.Decides.{nat_tests}
 use Rattle.rte_event.specs.declared.event.Event.{Event}
@@ -8,16 +8,16 @@ use Rattle.rte_isa.specs.declared.instr.Instr.{Instr}
 use Rattle.rte_isa.specs.Ticks.{ticks}
 use Rattle.rte_machine_meaning.specs.Image.{Image, Process, Script}
 use Rattle.rte_machine_meaning.specs.State.{Job, Thread, Ready, State}
-use Rattle.rte_machine_meaning.specs.Effect.{Own, Outcome, Goes, effect}
+use Rattle.rte_machine_meaning.specs.Effect.{Own, Outcome, Goes}
 use Rattle.rte_machine_meaning.specs.Starts.{Started, starts, unchanged}
-use Rattle.rte_machine_meaning.specs.Tick.{Ticked, at_next, owned_of, settle}
+use Rattle.rte_machine_meaning.specs.Tick.{Ticked, owned_of, settle}
 use Rattle.rte_stretch.specs.Stretch.{FitsIn, FitsThread, left, left_at, left_of, outcome_at_once, outcomes, pass, pass_thread, place_of}
 use Rattle.rte_stretch.specs.Quiet.{AreQuiet, IsQuiet}
 use Rattle.rte_stretch.proofs.Quiet.{quiet_starts_nothing}
 use Rattle.rte_stretch.proofs.Turning.{Goes_on, goes_on, one_tick}
 use Rattle.rte_edf.specs.Choice.{Mark, choose}
 use Rattle.rte_edf.specs.Run.{Marked, Passed, begin, begin_some, candidate, chosen_at, events_from, marks_during, marks_of, state_at, tick}
-use Rattle.rte_edf_stretch.specs.Turn.{IsTaken, IsTurn, IsUnstuck, TurnStaysInRun, begun, chosen, marked, started, turn}
+use Rattle.rte_edf_stretch.specs.Turn.{IsUnstuck, TurnStaysInRun, begun, chosen, marked, started}
 use Rattle.rte_edf_stretch.proofs.Staying.{IsReady, choice_stays, chosen_ready, length_some, marks_few, marks_same, some_twice}
 
 -- ---- one tick

@@ -1,10 +1,8 @@
-use Rattle.std.proofs.Common.{◌≡◌, ◌+◌, ◌-◌, ◌<◌, ◌∙◌, ℕ, List, length, drop, ap, sym, subst, arith}
-use Rattle.std.specs.Prelude.{slice_get}
+use Rattle.std.proofs.Common.{◌≡◌, ◌+◌, ◌-◌, ◌<◌, ◌∙◌, ℕ, length, drop, ap, sym, arith}
 use Rattle.std.proofs.lemmas.Option.{slice_get-get_or}
 use Rattle.rte_cells.specs.Threads.{thread_of, threads_of}
-use Rattle.rte_edf.specs.Choice.{Mark}
 use Rattle.rte_edf_choice.specs.Sights.{Seen, looked, seen_from, seen_of}
-use Rattle.rte_edf_choice.proofs.Lists.{as_many, cells_count, process_is, read_at, there_is, thread_at, threads_count}
+use Rattle.rte_edf_choice.proofs.Lists.{as_many, cells_count, process_is, read_at, there_is, thread_at}
 use Rattle.rte_edf_choice.proofs.Seeing.{chosen_of, seen_more}
 use Rattle.rte_edf_choice.proofs.choice.choose.Goals as goal
 
