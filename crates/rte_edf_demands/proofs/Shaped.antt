@@ -57,7 +57,7 @@ rows_long (p ∷ ps) = ap (λ (n : ℕ). suc n) (rows_long ps)
 -- ---- the whole
 
 module _ (leave_law : ShapesLeaveBoundsAside) (named_law : TablesAreNamed) (g : Prog Place) (before now : RawImage) (bounds : List (Option ℕ)) (ranked : IsRanked g 0 before)
-(are : bounds ≡ map due_of (map process_of before.processes)) (same : DiffersInBounds (named_of before) (named_of now)) (has : HasBounds (image_of now) bounds) where
+    (are : bounds ≡ map due_of (map process_of before.processes)) (same : DiffersInBounds (named_of before) (named_of now)) (has : HasBounds (image_of now) bounds) where
   processes : map without_bound (map process_of before.processes) ≡ map without_bound (map process_of now.processes)
   processes = sym (ap (λ (m : Image). m.processes) same.image)
 
