@@ -45,13 +45,7 @@ fn sooner_of(a: Found, best: Option<Found>) -> Option<Found>
     ensures { entry_some result ≡ sooner_of (entry_of a) (entry_some best) }
 {
     match best {
-        Some(b) => {
-            if is_sooner(&b, &a) {
-                Some(b)
-            } else {
-                Some(a)
-            }
-        }
+        Some(b) => { if is_sooner(&b, &a) { Some(b) } else { Some(a) } }
         None => Some(a),
     }
 }

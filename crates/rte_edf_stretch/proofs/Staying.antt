@@ -135,13 +135,15 @@ pub record IsReady (image : Image) (ts : List Thread) (k : ℕ) : Type 0 where
 soonest_ready : (begun : Bool) (image : Image) (ts : List Thread) (ms : List Mark) (e : Entry) (k : ℕ) → soonest begun 0 image.processes ts ms ≡ Some e → e.place ≡ k → Soonest begun 0 image.processes ts ms e × (IsReady image ts k)
 soonest_ready begun image ts ms e k is at =
     let s : Soonest begun 0 image.processes ts ms e = subst (λ (o : Option Entry). SoonestOf begun 0 image.processes ts ms o) is (soonest_is begun 0 image.processes ts ms) in
-    let same : s.index ≡ k = omega (arith, s.place, at) in
-    (s, record {
-      p = s.p;
-      process = ap (λ (j : ℕ). slice_get image.processes j) (sym same) ∙ s.process;
-      job = s.job;
-      ready = ap (λ (j : ℕ). slice_get ts j) (sym same) ∙ s.ready;
-    })
+    let same : s.index ≡ k = omega (arith, s.place, at) in (
+      s,
+      record {
+        p = s.p;
+        process = ap (λ (j : ℕ). slice_get image.processes j) (sym same) ∙ s.process;
+        job = s.job;
+        ready = ap (λ (j : ℕ). slice_get ts j) (sym same) ∙ s.ready;
+      },
+    )
 
 -- two ways to be chosen: as the first of those that are ready, which may go, or as the first of those that have begun
 pub record Ways (image : Image) (ts : List Thread) (ms : List Mark) (k : ℕ) : Type 0 where
