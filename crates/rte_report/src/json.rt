@@ -226,7 +226,7 @@ fn report_value(
 /// number above 1,000,000,000 is the string `over`, and a bound or a ceiling that is not there the
 /// string `none`. Want of memory is an error; so is a name that is not UTF-8, which no identifier
 /// is.
-#[tactic(auto, using(crate::proofs::NoFloat::report_has_no_float), unfolding(crate::specs::Json::report_json))]
+#[tactic(auto, using(crate::proofs::NoFloat::report), unfolding(crate::specs::Json::report_json))]
 pub fn report_json(
     alloc: Global,
     names: &ImageNames,
