@@ -48,6 +48,6 @@ monitors_have (name ∷ names) [] words = refl
 monitors_have (name ∷ names) (ceiling ∷ ceilings) [] = refl
 monitors_have (name ∷ names) (ceiling ∷ ceilings) (words ∷ others) = rw (monitor_has name ceiling words) (monitors_have names ceilings others)
 
-pub report_has_no_float : (names : ImageNames) (program : List ℕ) (table : Table) → has_float (report_data names program table) ≡ false
+pub report : (names : ImageNames) (program : List ℕ) (table : Table) → has_float (report_data names program table) ≡ false
 unfolding report_data
-report_has_no_float names program table = rw (number_has table.code, monitors_have names.monitors table.ceilings table.mon_words, processes_have names.processes table.rows)
+report names program table = rw (number_has table.code, monitors_have names.monitors table.ceilings table.mon_words, processes_have names.processes table.rows)

@@ -62,5 +62,5 @@ report_data names program table =
     (member (codes "program") (string program)
     (member (codes "timely") (boolean (is_none (late names.processes table.rows))) no_members)))))
 
-abbrev pub report_json : ImageNames → List ℕ → Table → List ℕ
+unfoldable pub report_json : ImageNames → List ℕ → Table → List ℕ
 report_json names program table = compact_text (report_data names program table) ++ codes "\n"

@@ -1,9 +1,8 @@
 //! The report as JSON.
 
-ghost use Rattle.std.specs.Prelude.{◌≡◌, false, length, map, IfOk, OnOk};
+ghost use Rattle.std.specs.Prelude.{◌≡◌, length, map, IfOk, OnOk};
 ghost use Rattle.serde_json.specs.Data.{array, string, put as with_member};
 ghost use Rattle.serde_json.specs.View.{items_of, members_view, view};
-ghost use Rattle.serde_json.specs.Written.{has_float};
 ghost use Rattle.rte_report.specs.Late.{IsNamed};
 ghost use Rattle.rte_report.specs.Json as json;
 
@@ -227,7 +226,7 @@ fn report_value(
 /// number above 1,000,000,000 is the string `over`, and a bound or a ceiling that is not there the
 /// string `none`. Want of memory is an error; so is a name that is not UTF-8, which no identifier
 /// is.
-#[tactic(auto, using(crate::proofs::NoFloat::report_has_no_float))]
+#[tactic(auto, using(crate::proofs::NoFloat::report), unfolding(crate::specs::Json::report_json))]
 pub fn report_json(
     alloc: Global,
     names: &ImageNames,
