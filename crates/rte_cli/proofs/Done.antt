@@ -232,9 +232,9 @@ module _ (laws : Printing) (faithful : BuiltImagesAreFaithful) (before now : Out
 
   judged_whole : (program script log : List ℕ) (g : Prog Place) (lines : List ScriptLine) (end : ℕ) (text : List ℕ) → IsRecorded (before.files.held program) (before.files.held script) g lines end
       → before.files.held log ≡ Some text → IsJudged g lines end text o → HasReplayed program script log before now
-  judged_whole program script log g lines end text r is (misread_log fault wrong same) = absurd (let nine = status_of o _ same in omega (arith, nine, zero))
-  judged_whole program script log g lines end text r is (is_refused events line told stops same) = absurd (let nine = status_of o _ same in omega (arith, nine, zero))
-  judged_whole program script log g lines end text r is (is_run events told run same) = record {
+  judged_whole program script logged g lines end text r is (misread_log fault wrong same) = absurd (let nine = status_of o _ same in omega (arith, nine, zero))
+  judged_whole program script logged g lines end text r is (is_refused events line told stops same) = absurd (let nine = status_of o _ same in omega (arith, nine, zero))
+  judged_whole program script logged g lines end text r is (is_run events told follows same) = record {
     tree = g;
     lines = lines;
     end = end;
@@ -243,14 +243,14 @@ module _ (laws : Printing) (faithful : BuiltImagesAreFaithful) (before now : Out
     held = is;
     events = events;
     told = told;
-    run = run;
+    run = follows;
     put = put_is before now o (run_line (length events)) (text_of o _ same) put;
   }
 
   replay_whole : (program script log : List ℕ) → IsReplayDue (before.files.held program) (before.files.held script) (before.files.held log) o → HasReplayed program script log before now
-  replay_whole program script log (replay_faulty text number place is fault same) = absurd (let two = status_of o _ same in omega (arith, two, zero))
-  replay_whole program script log (replay_bad_script text other g fault is w that f named same) = absurd (let five = status_of o _ same in omega (arith, five, zero))
-  replay_whole program script log (replay_judged g lines end text r is judged) = judged_whole program script log g lines end text r is judged
+  replay_whole program script logged (replay_faulty text number place is fault same) = absurd (let two = status_of o _ same in omega (arith, two, zero))
+  replay_whole program script logged (replay_bad_script text other g fault is w that f named same) = absurd (let five = status_of o _ same in omega (arith, five, zero))
+  replay_whole program script logged (replay_judged g lines end text r is judged) = judged_whole program script logged g lines end text r is judged
 
   migrated_whole : (image target : List ℕ) (bytes : List ℕ) → before.files.held image ≡ Some bytes → Stores o.image (Some target) before.files.held now.files.held
       → IsMigrateDue bytes o → HasMigrated image target before now

@@ -95,7 +95,7 @@ held_never Due (Some text) o by due = by text due
 judged_late : (g : Prog Place) (lines : List ScriptLine) (end : ℕ) (text : List ℕ) (o : Outcome) → IsJudged g lines end text o → o.status ≡ 3 → ⊥
 judged_late g lines end text o (misread_log fault wrong same) three = let nine = status_of o _ same in absurd (omega (arith, nine, three))
 judged_late g lines end text o (is_refused events line told stops same) three = let nine = status_of o _ same in absurd (omega (arith, nine, three))
-judged_late g lines end text o (is_run events told run same) three = let zero = status_of o _ same in absurd (omega (arith, zero, three))
+judged_late g lines end text o (is_run events told follows same) three = let zero = status_of o _ same in absurd (omega (arith, zero, three))
 
 replay_late : (program script log : Option (List ℕ)) (o : Outcome) → IsReplayDue program script log o → o.status ≡ 3 → ⊥
 replay_late program script log o (replay_faulty text number place is fault same) three = let two = status_of o _ same in absurd (omega (arith, two, three))

@@ -43,7 +43,7 @@ image_is o p same none = ap (λ (x : Outcome). x.image) same ∙ none
 judged_stores : (g : Prog Place) (lines : List ScriptLine) (end : ℕ) (text : List ℕ) (o : Outcome) → IsJudged g lines end text o → o.image ≡ None
 judged_stores g lines end text o (misread fault wrong same) = image_is o _ same refl
 judged_stores g lines end text o (is_refused events line log stops same) = image_is o _ same refl
-judged_stores g lines end text o (is_run events log run same) = image_is o _ same refl
+judged_stores g lines end text o (is_run events log follows same) = image_is o _ same refl
 
 replay_stores : (program script log : Option (List ℕ)) (o : Outcome) → IsReplayDue program script log o → o.image ≡ None
 replay_stores program script log o (replay_faulty text number place is fault same) = image_is o _ same refl
