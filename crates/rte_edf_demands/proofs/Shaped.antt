@@ -9,7 +9,7 @@ use Rattle.rte_machine_meaning.specs.Trees.{Segs}
 use Rattle.rte_image.specs.declared.names.ImageNames.{ImageNames}
 use Rattle.rte_image.specs.declared.raw.RawImage.{RawImage}
 use Rattle.rte_image.specs.Raw.{image_of, named_of, process_of}
-use Rattle.rte_valid.specs.Valid.{HasHandler, HasLimits, HasOwner, IsInLimits}
+use Rattle.rte_valid.specs.Valid.{HasHandler, HasLimits, IsInLimits}
 use Rattle.rte_built.specs.Built.{IsShaped}
 use Rattle.rte_built.specs.Filled.{DiffersInBounds, without_bound}
 use Rattle.rte_built.specs.Shown.{rows_of}
@@ -18,7 +18,6 @@ use Rattle.rte_filled.specs.Laws.{ShapesLeaveBoundsAside}
 use Rattle.rte_filled.proofs.Lists.{as_many, became, same_at}
 use Rattle.rte_bounding.specs.Bounding.{HasBounds}
 use Rattle.rte_build.specs.Steps.{IsRanked}
-use Rattle.rte_edf_image.specs.Image.{HasDeadlinesAsBounds}
 use Rattle.rte_edf_demands.specs.Steps.{due_of, IsEdfShape}
 
 -- ---- limits
