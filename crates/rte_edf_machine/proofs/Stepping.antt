@@ -1,5 +1,5 @@
 -- The machine in its run.
-use Rattle.std.proofs.Common.{◌≡◌, ◌≤◌, ◌<◌, ◌+◌, ◌-◌, ◌++◌, ℕ, zero, suc, false, List, [], Option, Some, None, length, arith, refl, ap, sym, subst, ◌∙◌}
+use Rattle.std.proofs.Common.{◌≡◌, ◌<◌, ◌+◌, ◌-◌, ◌++◌, ℕ, false, List, Option, Some, None, length, arith, refl, ap, sym, ◌∙◌}
 use Rattle.std.specs.Prelude.{slice_get}
 use Rattle.std.proofs.lemmas.Option.{slice_get_within}
 use Rattle.rte_event.specs.declared.event.Event.{Event}
@@ -7,9 +7,8 @@ use Rattle.rte_machine_meaning.specs.Image.{Image, Script}
 use Rattle.rte_machine_meaning.specs.State.{Job, Thread, Idle, Ready, Waiting, State}
 use Rattle.rte_machine_meaning.specs.Starts.{starts}
 use Rattle.rte_machine_meaning.specs.Run.{at_start}
-use Rattle.rte_stretch.specs.Due.{HasSlots, NoneBefore, time_out_of}
+use Rattle.rte_stretch.specs.Due.{HasSlots, time_out_of}
 use Rattle.rte_edf.specs.Run.{Marked, events_from, first_marks, state_at, tick}
-use Rattle.rte_edf_stretch.specs.Turn.{started}
 use Rattle.rte_edf_machine.specs.Runnable.{HasNoOverrun, NobodyWaits}
 use Rattle.rte_edf_machine.specs.Standing.{events_between}
 use Rattle.rte_edf_machine.specs.Turn.{HasPassed, Run}

@@ -1,4 +1,4 @@
-use Rattle.std.proofs.Common.{◌≡◌, ◌+◌, ◌-◌, ◌∙◌, ℕ, arith, ap, sym, subst, length}
+use Rattle.std.proofs.Common.{◌+◌, ◌-◌, ℕ, arith, sym, subst}
 use Rattle.rte_state.specs.Board.{state_of}
 use Rattle.rte_settle.specs.Rows.{EndsIn}
 use Rattle.rte_edf_machine.proofs.Rowing.{Ran, can_end, can_run, enough, ran, row_passes, row_queued, row_starts, words_count}

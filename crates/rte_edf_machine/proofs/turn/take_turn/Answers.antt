@@ -1,4 +1,4 @@
-use Rattle.std.proofs.Common.{◌≡◌, ◌+◌, ◌∙◌, ℕ, List, Option, None, Some, arith, ap, sym, subst}
+use Rattle.std.proofs.Common.{◌≡◌, ◌+◌, ◌∙◌, ℕ, List, Option, None, Some, ap, sym, subst}
 use Rattle.std.proofs.lemmas.Option.{slice_get_within}
 use Rattle.rte_machine_meaning.specs.State.{State}
 use Rattle.rte_state.specs.Board.{state_of}
@@ -6,7 +6,7 @@ use Rattle.rte_edf.specs.Choice.{Mark, choose}
 use Rattle.rte_edf.specs.Run.{begin_some, state_at}
 use Rattle.rte_edf_choice.specs.Marks.{AreMarks}
 use Rattle.rte_edf_choice.specs.declared.marks.Mark.{Mark as Kept}
-use Rattle.rte_edf_stretch.specs.Turn.{begun, chosen, marked}
+use Rattle.rte_edf_stretch.specs.Turn.{chosen, marked}
 use Rattle.rte_edf_machine.proofs.Passing.{idle_passes, is_ready}
 use Rattle.rte_edf_machine.proofs.turn.take_turn.Goals as goal
 

@@ -1,4 +1,4 @@
-use Rattle.std.proofs.Common.{◌≡◌, ◌∙◌, ℕ, List, map, arith, ap, sym, subst}
+use Rattle.std.proofs.Common.{◌∙◌, ℕ, List, map, arith, ap, sym, subst}
 use Rattle.rte_machine_meaning.specs.State.{State}
 use Rattle.rte_start_laws.specs.Due.{HasDue}
 use Rattle.rte_starts.specs.Begin.{script_of}

@@ -1,21 +1,18 @@
-use Rattle.std.proofs.Common.{◌≡◌, ◌<◌, ◌+◌, ◌∙◌, ℕ, false, List, length, arith, ap, sym, subst}
+use Rattle.std.proofs.Common.{◌≡◌, ◌<◌, ◌+◌, ◌∙◌, ℕ, false, length, arith, ap, sym, subst}
 use Rattle.rte_machine_meaning.specs.Image.{Script}
-use Rattle.rte_machine_meaning.specs.State.{State, Thread}
+use Rattle.rte_machine_meaning.specs.State.{State}
 use Rattle.rte_machine_meaning.specs.Starts.{starts}
 use Rattle.rte_start_laws.specs.Due.{HasDue}
 use Rattle.rte_start_laws.proofs.Counting.{starts_are_few}
 use Rattle.rte_start_laws.proofs.Moving.{slots_are_due}
 use Rattle.rte_state.specs.Board.{state_of}
-use Rattle.rte_stretch.specs.Due.{HasSlots, NoneBefore}
+use Rattle.rte_stretch.specs.Due.{HasSlots}
 use Rattle.rte_stretch.proofs.Jumping.{slots_are_quiet}
 use Rattle.rte_starts.specs.Begin.{script_of}
-use Rattle.rte_starts.specs.Order.{IsOrderOf}
-use Rattle.rte_starts.specs.declared.order.Order.{Order}
 use Rattle.rte_starts.proofs.Boards.{cells_count}
 use Rattle.rte_starts.proofs.Joining.{threads_count}
 use Rattle.rte_starts.proofs.Saying.{as_many_lines}
 use Rattle.rte_runner.proofs.Due.{starts_later}
-use Rattle.rte_edf.specs.Choice.{Mark}
 use Rattle.rte_edf.specs.Run.{marks_of, state_at}
 use Rattle.rte_edf_choice.specs.Marks.{AreMarks, AreNoted}
 use Rattle.rte_edf_stretch.specs.Turn.{begun}
