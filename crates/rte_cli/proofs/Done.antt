@@ -24,7 +24,7 @@ use Rattle.rte_lifted.specs.Compiled.{line_of as machine_line}
 use Rattle.rte_report.specs.Report.{report_text}
 use Rattle.rte_report.specs.Json.{report_json}
 use Rattle.rte_built.specs.Built.{IsBuilt, IsTimely}
-use Rattle.rte_words.specs.Calls.{Call, go, check, compile, json, slack, print, run, migrate, asm, dis, watch, replay}
+use Rattle.rte_words.specs.Calls.{Call, go, check, compile, json, slack, print, run, migrate, asm, dis, watch, replay, edf}
 use Rattle.rte_commands.specs.Source.{IsWritten, IsTimelyText, Style, report_of}
 use Rattle.rte_commands.specs.Script.{line_said, run_of}
 use Rattle.rte_commands.specs.Due.{Outcome, stored, log, IsRefused, faulty, late, IsReportDue, report_refused, report_timely, IsPrintDue, print_faulty, printed, IsCompileDue, compile_refused, compiled, IsGoDue, go_refused, go_bad_script, went, IsImageFile, IsImageRefused, misread, invalid, IsRunDue, run_refused, run_bad_script, ran, IsMigrateDue, migrate_refused, migrated}
@@ -35,10 +35,14 @@ use Rattle.rte_image_text.specs.Text.{text_of as lines_told}
 use Rattle.rte_stop.specs.Due.{IsWatchDue, watch_refused, watch_bad_script, watched}
 use Rattle.rte_words.specs.declared.stop.Stop.{Stop}
 use Rattle.rte_replay_due.specs.Due.{IsRecorded, IsJudged, misread as misread_log, is_refused, is_run, IsReplayDue, replay_faulty, replay_bad_script, replay_judged, run_line}
+use Rattle.rte_demand.specs.declared.judging.Judgement.TheVariants as judgement
+use Rattle.rte_edf_due.specs.Due.{IsEdfDue, edf_faulty, edf_waits, edf_unfit, edf_bad_script, edf_ran, edf_log}
+use Rattle.rte_edf_due.specs.Report.{edf_report}
+use Rattle.rte_edf_word.specs.Word.{FeasibleTextsKeepTheirWord}
 use Rattle.rte_commands.specs.Runs.{KeepsItsWord, BuiltImagesAreFaithful, IsAccepted}
 use Rattle.rte_answers.specs.Files.{IsDue, target_of}
 use Rattle.rte_answers.specs.Went.{IsWhole, Stores, Went}
-use Rattle.rte_promise.specs.Promise.{HasGone, HasCompiled, HasReported, HasSpared, ReadsBack, HasPrinted, HasRun, HasMigrated, HasAssembled, HasDisassembled, HasWatched, HasReplayed, HasDone}
+use Rattle.rte_promise.specs.Promise.{HasGone, HasCompiled, HasReported, HasSpared, ReadsBack, HasPrinted, HasRun, HasMigrated, HasAssembled, HasDisassembled, HasWatched, HasReplayed, HasMetDeadlines, HasDone}
 
 status_of : (o p : Outcome) → o ≡ p → o.status ≡ p.status
 status_of o p same = ap (λ (x : Outcome). x.status) same
@@ -252,6 +256,26 @@ module _ (laws : Printing) (faithful : BuiltImagesAreFaithful) (before now : Out
   replay_whole program script logged (replay_bad_script text other g fault is w that f named same) = absurd (let five = status_of o _ same in omega (arith, five, zero))
   replay_whole program script logged (replay_judged g lines end text r is judged) = judged_whole program script logged g lines end text r is judged
 
+  edf_whole : FeasibleTextsKeepTheirWord → (program script : List ℕ) → IsEdfDue (before.files.held program) (before.files.held script) o → HasMetDeadlines program script before now
+  edf_whole word program script (edf_faulty text number place is fault same) = absurd (let two = status_of o _ same in omega (arith, two, zero))
+  edf_whole word program script (edf_waits text g place is written first same) = absurd (let two = status_of o _ same in omega (arith, two, zero))
+  edf_whole word program script (edf_unfit text n answer is judged unfit same) = absurd (let three = status_of o _ same in omega (arith, three, zero))
+  edf_whole word program script (edf_bad_script text other n points fault is feasible that wrong same) = absurd (let five = status_of o _ same in omega (arith, five, zero))
+  edf_whole word program script (edf_ran text other n points lines end is feasible that s same) = record {
+    text = text;
+    held = is;
+    image = n;
+    points = points;
+    feasible = feasible;
+    other = other;
+    script_held = that;
+    lines = lines;
+    end = end;
+    script_written = s;
+    put = put_is before now o (edf_report n (judgement.Feasible points) ++ edf_log n lines end) (text_of o _ same) put;
+    keeps = word text n points feasible;
+  }
+
   migrated_whole : (image target : List ℕ) (bytes : List ℕ) → before.files.held image ≡ Some bytes → Stores o.image (Some target) before.files.held now.files.held
       → IsMigrateDue bytes o → HasMigrated image target before now
   migrated_whole image target bytes is kept (migrate_refused r) = absurd (image_zero bytes o r zero)
@@ -268,8 +292,8 @@ of_held : (Due : List ℕ → Outcome → Type 0) (A : Type 0) (held : Option (L
 of_held Due A None o by due = absurd due
 of_held Due A (Some text) o by due = by text refl due
 
-module _ (laws : Printing) (faithful : BuiltImagesAreFaithful) (held : ImagesToldAreHeld) (limits : ImagesReadHaveLimits) (safe : EveryValidImageIsSafeAndInTime) (suit : ScriptsForImagesReadSuit) (before now : Outside) (o : Outcome) (zero : o.status ≡ 0)
-    (put : Appends before.out.taken now.out.taken o.text) where
+module _ (laws : Printing) (faithful : BuiltImagesAreFaithful) (held : ImagesToldAreHeld) (limits : ImagesReadHaveLimits) (safe : EveryValidImageIsSafeAndInTime) (suit : ScriptsForImagesReadSuit) (word : FeasibleTextsKeepTheirWord) (before now : Outside) (o : Outcome)
+    (zero : o.status ≡ 0) (put : Appends before.out.taken now.out.taken o.text) where
   done : (call : Call) → IsDue call before.files.held o → Stores o.image (target_of call) before.files.held now.files.held → HasDone call before now
   done (go program image script over) due kept = gone laws faithful before now o zero put over program image script kept due
   done (check program over) due kept =
@@ -291,11 +315,12 @@ module _ (laws : Printing) (faithful : BuiltImagesAreFaithful) (held : ImagesTol
       of_held IsDisDue (HasDisassembled image text before now) (before.files.held image) o (λ bytes is d. dis_whole laws faithful before now o zero put image text bytes is kept d) due
   done (watch image script stop) due kept = watch_whole laws faithful before now o zero put stop image script due
   done (replay program script log) due kept = replay_whole laws faithful before now o zero put program script log due
+  done (edf program script) due kept = edf_whole laws faithful before now o zero put word program script due
 
-pub has_done : Printing → BuiltImagesAreFaithful → ImagesToldAreHeld → ImagesReadHaveLimits → EveryValidImageIsSafeAndInTime → ScriptsForImagesReadSuit → (tells : Bool) (call : Call) (before now : Outside) (status : ℕ)
+pub has_done : Printing → BuiltImagesAreFaithful → ImagesToldAreHeld → ImagesReadHaveLimits → EveryValidImageIsSafeAndInTime → ScriptsForImagesReadSuit → FeasibleTextsKeepTheirWord → (tells : Bool) (call : Call) (before now : Outside) (status : ℕ)
     → Went tells call before now status → OnTrue tells (status ≡ 0 → HasDone call before now)
-has_done laws faithful held limits safe suit true call before now status w = λ zero.
+has_done laws faithful held limits safe suit word true call before now status w = λ zero.
     let whole : IsWhole call before now status =
     w.whole ((λ six. absurd (omega (arith, zero, six))), (λ seven. absurd (omega (arith, zero, seven))), (λ eight. absurd (omega (arith, zero, eight)))) in
-    done laws faithful held limits safe suit before now whole.outcome (sym whole.is ∙ zero) whole.put call whole.due whole.stored
-has_done laws faithful held limits safe suit false call before now status w = tt
+    done laws faithful held limits safe suit word before now whole.outcome (sym whole.is ∙ zero) whole.put call whole.due whole.stored
+has_done laws faithful held limits safe suit word false call before now status w = tt

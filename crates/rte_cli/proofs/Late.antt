@@ -10,20 +10,25 @@ use Rattle.rte_report.specs.Report.{report_text}
 use Rattle.rte_report.specs.Json.{report_json}
 use Rattle.rte_built.specs.Built.{IsBuilt}
 use Rattle.rte_built_once.specs.Once.{TimelyOrLate}
-use Rattle.rte_words.specs.Calls.{Call, go, check, compile, json, slack, print, run, migrate, asm, dis, watch, replay}
+use Rattle.rte_words.specs.Calls.{Call, go, check, compile, json, slack, print, run, migrate, asm, dis, watch, replay, edf}
 use Rattle.rte_commands.specs.Source.{IsWritten, IsTextFault, IsTimelyText, Style}
 use Rattle.rte_commands.specs.Due.{Outcome, IsRefused, faulty, late, IsReportDue, report_refused, report_timely, IsPrintDue, print_faulty, printed, IsCompileDue, compile_refused, compiled, IsGoDue, go_refused, go_bad_script, went, IsImageRefused, misread, invalid, IsRunDue, run_refused, run_bad_script, ran, IsMigrateDue, migrate_refused, migrated}
 use Rattle.rte_spare.specs.Due.{IsSlackDue, slack_refused, slack_told}
 use Rattle.rte_asm_due.specs.Due.{IsAsmDue, asm_faulty, asm_invalid, assembled, IsDisDue, dis_misread, disassembled}
 use Rattle.rte_stop.specs.Due.{IsWatchDue, watch_refused, watch_bad_script, watched}
 use Rattle.rte_script.specs.declared.script.ScriptLine.{ScriptLine}
+use Rattle.rte_demand.specs.declared.judging.Judgement.{Judgement}
+use Rattle.rte_demand.specs.declared.judging.Judgement.TheVariants as judgement
+use Rattle.rte_edf_due.specs.Due.{IsEdfDue, IsJudgedText, IsUnfit, edf_faulty, edf_waits, edf_unfit, edf_bad_script, edf_ran}
+use Rattle.rte_edf_due.specs.Waits.{WaitFails}
+use Rattle.rte_edf_word.specs.Word.{AnswersOfTextsAreOne}
 use Rattle.rte_replay_due.specs.Due.{IsJudged, misread as misread_log, is_refused, is_run, IsReplayDue, replay_faulty, replay_bad_script, replay_judged}
 use Rattle.rte_words.specs.declared.stop.Stop.{Stop}
 use Rattle.rte_commands.specs.Runs.{IsUnsolved}
 use Rattle.rte_due_once.specs.Once.{WrittenOrFaulty, WrittenOnce}
 use Rattle.rte_answers.specs.Files.{IsDue}
 use Rattle.rte_answers.specs.Went.{IsWhole, Went}
-use Rattle.rte_promise.specs.Promise.{IsRefusedForTime}
+use Rattle.rte_promise.specs.Promise.{IsRefusedForTime, IsUnmet}
 
 status_of : (o p : Outcome) → o ≡ p → o.status ≡ p.status
 status_of o p same = ap (λ (x : Outcome). x.status) same
@@ -102,6 +107,13 @@ replay_late program script log o (replay_faulty text number place is fault same)
 replay_late program script log o (replay_bad_script text other g fault is w that f named same) three = let five = status_of o _ same in absurd (omega (arith, five, three))
 replay_late program script log o (replay_judged g lines end text r is judged) three = judged_late g lines end text o judged three
 
+edf_late : (program script : Option (List ℕ)) (o : Outcome) → IsEdfDue program script o → o.status ≡ 3 → IsUnmet program
+edf_late program script o (edf_faulty text number place is fault same) three = let two = status_of o _ same in absurd (omega (arith, two, three))
+edf_late program script o (edf_waits text g place is written first same) three = let two = status_of o _ same in absurd (omega (arith, two, three))
+edf_late program script o (edf_unfit text n answer is judged unfit same) three = subst IsUnmet (sym is) (n, answer, judged, unfit)
+edf_late program script o (edf_bad_script text other n points fault is feasible that wrong same) three = let five = status_of o _ same in absurd (omega (arith, five, three))
+edf_late program script o (edf_ran text other n points lines end is feasible that s same) three = let zero = status_of o _ same in absurd (omega (arith, zero, three))
+
 due_late : (call : Call) (b : Outside) (o : Outcome) → IsDue call b.files.held o → o.status ≡ 3 → IsRefusedForTime call b
 due_late (go program image script over) b o due three = go_late over (b.files.held program) (b.files.held script) o due three
 due_late (check program over) b o due three = held_late over (IsReportDue report_text over) (b.files.held program) o (λ text d. report_late report_text over text o d three) due
@@ -115,6 +127,7 @@ due_late (asm text image) b o due three = held_never IsAsmDue (b.files.held text
 due_late (dis image text) b o due three = held_never IsDisDue (b.files.held image) o (λ bytes d. dis_late bytes o d three) due
 due_late (watch image script stop) b o due three = watch_late stop (b.files.held image) (b.files.held script) o due three
 due_late (replay program script log) b o due three = replay_late (b.files.held program) (b.files.held script) (b.files.held log) o due three
+due_late (edf program script) b o due three = edf_late (b.files.held program) (b.files.held script) o due three
 
 -- ---- a program that is late is refused with 3
 
@@ -157,7 +170,30 @@ module _ (faults : WrittenOrFaulty) (one : WrittenOnce) (apart : TimelyOrLate) (
   held_three Due None o by u due = absurd due
   held_three Due (Some text) o by u due = by text u due
 
-module _ (faults : WrittenOrFaulty) (one : WrittenOnce) (apart : TimelyOrLate) where
+-- ---- a program whose demand is not met is refused with 3
+
+module _ (faults : WrittenOrFaulty) (one : WrittenOnce) (answers : AnswersOfTextsAreOne) where
+  module _ (text : List ℕ) (m : NamedImage) (answer : Judgement) (judged : IsJudgedText text m answer) (unfit : IsUnfit answer) where
+    edf_three_of : (script : Option (List ℕ)) (o : Outcome) → IsEdfDue (Some text) script o → o.status ≡ 3
+    edf_three_of script o (edf_faulty other number place is fault same) =
+        let here : other ≡ text = cc in absurd (faults text judged.tree number place judged.written (subst (λ (t : List ℕ). IsTextFault t number place) here fault))
+    edf_three_of script o (edf_waits other g place is written first same) =
+        let here : other ≡ text = cc in
+        let tree : g ≡ judged.tree = one text g judged.tree (subst (λ (t : List ℕ). IsWritten t g) here written) judged.written in
+        absurd (judged.waitless 48 place (subst (λ (h : Prog Place). WaitFails h 48 place) tree first.broken))
+    edf_three_of script o (edf_unfit other n found is its is_unfit same) = status_of o _ same
+    edf_three_of script o (edf_bad_script other line n points fault is feasible that wrong same) =
+        let here : other ≡ text = cc in
+        absurd (unfit points (answers text m n answer (judgement.Feasible points) judged (subst (λ (t : List ℕ). IsJudgedText t n (judgement.Feasible points)) here feasible)))
+    edf_three_of script o (edf_ran other line n points lines end is feasible that s same) =
+        let here : other ≡ text = cc in
+        absurd (unfit points (answers text m n answer (judgement.Feasible points) judged (subst (λ (t : List ℕ). IsJudgedText t n (judgement.Feasible points)) here feasible)))
+
+  edf_three : (program script : Option (List ℕ)) (o : Outcome) → IsUnmet program → IsEdfDue program script o → o.status ≡ 3
+  edf_three None script o u due = absurd u
+  edf_three (Some text) script o (n, answer, judged, unfit) due = edf_three_of text n answer judged unfit script o due
+
+module _ (faults : WrittenOrFaulty) (one : WrittenOnce) (apart : TimelyOrLate) (answers : AnswersOfTextsAreOne) where
   due_three : (call : Call) (b : Outside) (o : Outcome) → IsRefusedForTime call b → IsDue call b.files.held o → o.status ≡ 3
   due_three (go program image script over) b o u due = go_three faults one apart over (b.files.held program) (b.files.held script) o u due
   due_three (check program over) b o u due = held_three faults one apart over (IsReportDue report_text over) (b.files.held program) o (λ text v d. report_three faults one apart over text v report_text o d) u due
@@ -171,6 +207,7 @@ module _ (faults : WrittenOrFaulty) (one : WrittenOnce) (apart : TimelyOrLate) w
   due_three (dis image text) b o u due = absurd u
   due_three (watch image script stop) b o u due = absurd u
   due_three (replay program script log) b o u due = absurd u
+  due_three (edf program script) b o u due = edf_three faults one answers (b.files.held program) (b.files.held script) o u due
 
   refused : (call : Call) (before now : Outside) (status : ℕ) → IsWhole call before now status → (status ≡ 3) ↔ IsRefusedForTime call before
   refused call before now status w =

@@ -9,11 +9,12 @@ use Rattle.rte_tree.specs.Placed.{Prog}
 use Rattle.rte_script.specs.declared.script.ScriptLine.{ScriptLine}
 use Rattle.rte_report.specs.Report.{report_text}
 use Rattle.rte_report.specs.Json.{report_json}
-use Rattle.rte_words.specs.Calls.{Call, go, check, compile, json, slack, print, run, migrate, asm, dis, watch, replay}
+use Rattle.rte_words.specs.Calls.{Call, go, check, compile, json, slack, print, run, migrate, asm, dis, watch, replay, edf}
 use Rattle.rte_commands.specs.Due.{Outcome, IsReportDue, IsPrintDue, IsCompileDue, IsMigrateDue}
 use Rattle.rte_spare.specs.Due.{IsSlackDue}
 use Rattle.rte_asm_due.specs.Due.{IsAsmDue, IsDisDue}
 use Rattle.rte_replay_due.specs.Due.{IsJudged, misread, is_refused, is_run, IsReplayDue, replay_faulty, replay_bad_script, replay_judged}
+use Rattle.rte_edf_due.specs.Due.{IsEdfDue, edf_faulty, edf_waits, edf_unfit, edf_bad_script, edf_ran}
 use Rattle.rte_due_once.specs.Once.{ReportsAreOne, SlackIsOne, PrintIsOne, CompileIsOne, GoIsOne, RunIsOne, MigrateIsOne, AsmIsOne, DisIsOne, WatchIsOne}
 use Rattle.rte_answers.specs.Files.{Held, IsDue, target_of}
 use Rattle.rte_answers.specs.Went.{Stores, IsWhole, IsCut, Went}
@@ -50,7 +51,15 @@ replay_stores program script log o (replay_faulty text number place is fault sam
 replay_stores program script log o (replay_bad_script text other g fault is w that f named same) = image_is o _ same refl
 replay_stores program script log o (replay_judged g lines end text r is judged) = judged_stores g lines end text o judged
 
--- what is due of a call but `replay` is one, and of `replay` nothing is stored
+-- nor does `edf`
+edf_stores : (program script : Option (List ℕ)) (o : Outcome) → IsEdfDue program script o → o.image ≡ None
+edf_stores program script o (edf_faulty text number place is fault same) = image_is o _ same refl
+edf_stores program script o (edf_waits text g place is written first same) = image_is o _ same refl
+edf_stores program script o (edf_unfit text n answer is judged unfit same) = image_is o _ same refl
+edf_stores program script o (edf_bad_script text other n points fault is feasible that wrong same) = image_is o _ same refl
+edf_stores program script o (edf_ran text other n points lines end is feasible that s same) = image_is o _ same refl
+
+-- what is due of a call but these two is one, and of these nothing is stored
 due_is_one : Laws → (call : Call) (held : Held) (o p : Outcome) → IsDue call held o → IsDue call held p → p.image ≡ None → o.image ≡ None
 due_is_one laws (go program image script over) held o p d e none = image_is o p (laws.go over (held program) (held script) o p d e) none
 due_is_one laws (check program over) held o p d e none = image_is o p (of_held (IsReportDue report_text over) (held program) o p (λ text. laws.reports report_text over text o p) d e) none
@@ -64,6 +73,7 @@ due_is_one laws (asm text image) held o p d e none = image_is o p (of_held IsAsm
 due_is_one laws (dis image text) held o p d e none = image_is o p (of_held IsDisDue (held image) o p (λ bytes. laws.dis bytes o p) d e) none
 due_is_one laws (watch image script stop) held o p d e none = image_is o p (laws.watch stop (held image) (held script) o p d e) none
 due_is_one laws (replay program script log) held o p d e none = replay_stores (held program) (held script) (held log) o d
+due_is_one laws (edf program script) held o p d e none = edf_stores (held program) (held script) o d
 
 nothing : (image target : Option (List ℕ)) (held held' : Held) → image ≡ None → Stores image target held held' → AllStay held held'
 nothing image target held held' none kept = subst (λ (x : Option (List ℕ)). Stores x target held held') none kept

@@ -19,6 +19,7 @@ use rte_due_once::law::{
     asm_is_one, compile_is_one, dis_is_one, go_is_one, migrate_is_one, print_is_one,
     reports_are_one, run_is_one, slack_is_one, watch_is_one, written_once, written_or_faulty,
 };
+use rte_edf_word::law::{answers_of_texts_are_one, feasible_texts_keep_their_word};
 use rte_io::{Files, Sink};
 use rte_prepare::built_images_are_faithful;
 use rte_print::{reads_back, tokens_are_spelled};
@@ -42,7 +43,9 @@ use std::alloc::Global;
 /// - `watch I S T` puts the state of the run of the image in file I over the script in file S before
 ///   tick T, and `watch I S @A` right after the first effect of the instruction at address A;
 /// - `replay P S L` puts how many events the log in file L has, where they are a run of the program
-///   over the script, and else the line that is refused.
+///   over the script, and else the line that is refused;
+/// - `edf P S` puts the report on the demand of program P, which has no wait, and the log of its run
+///   over script S under earliest deadline first.
 ///
 /// All other words are refused, as is a word that is empty or begins with `-`.
 ///
@@ -89,7 +92,7 @@ pub fn rte<F: Files, O: Sink>(alloc: Global, words: &[String], files: &mut F, ou
         (outside (F.state files.old) (O.state out.old))
         (outside (F.state files.new) (O.state out.new))) }
     // Status 3 comes exactly where the recurrence of some process of the program has no solution
-    // within its deadline.
+    // within its deadline, and of `edf` where the test does not say that its demand is met.
     ensures late { (call : Call) → IsCommand words.now call → OnTrue F.tells (number_of result < 6 →
         (number_of result ≡ 3) ↔ IsRefusedForTime call
         (outside (F.state files.old) (O.state out.old))) }
@@ -109,6 +112,8 @@ pub fn rte<F: Files, O: Sink>(alloc: Global, words: &[String], files: &mut F, ou
     dis_is_one();
     watch_is_one();
     images_told_are_held();
+    feasible_texts_keep_their_word();
+    answers_of_texts_are_one();
     written_or_faulty();
     written_once();
     timely_or_late();
