@@ -1,8 +1,6 @@
 -- What an instruction makes of words of 32 bits has 32 bits, and what it shows others fits a line.
-use Rattle.std.proofs.Common.{◌≡◌, ◌<◌, ◌+◌, ◌-◌, ◌^◌, ◌++◌, ℕ, zero, suc, ℤ, pos, negsuc, Bool, true, false, List, [], ◌∷◌, Option, Some, None, arith, refl, ap}
+use Rattle.std.proofs.Common.{◌≡◌, ◌<◌, ◌+◌, ◌-◌, ◌^◌, ℕ, zero, suc, ℤ, pos, negsuc, Bool, true, false, List, [], ◌∷◌, Option, Some, None, arith, refl, ap}
 use Rattle.std.specs.Prelude.{◌+ℤ◌, ◌-ℤ◌, ◌*ℤ◌, neg_ℤ, ◌&&◌, ◌||◌, not, int_lt, int_le, if◌then◌else◌, unsigned_abs, nat_lt, slice_get}
-use Rattle.rte_event.specs.declared.event.Act.{Act}
-use Rattle.rte_event.specs.declared.event.Act.TheVariants as act
 use Rattle.rte_fields.specs.Fields.{Is32}
 use Rattle.rte_isa.specs.Bytes.{HasWords}
 use Rattle.rte_isa.specs.declared.instr.Instr.{Instr}
@@ -327,4 +325,4 @@ outcome_fits image s job owned zero there has set fits own all = by (slice_get i
       (effect image s instr (record { job = at_next job; owned = owned; shared = s.shared }))
       (stepped_fits (job.done + 1) job.burn job.place job owned s.shared fits own all)
       (effect_fits image s instr (record { job = at_next job; owned = owned; shared = s.shared }) (there job.place instr at) words set
-        (stepped_fits 0 job.burn (job.place + 1) job owned s.shared fits own all))
+      (stepped_fits 0 job.burn (job.place + 1) job owned s.shared fits own all))

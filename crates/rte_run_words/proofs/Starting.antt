@@ -1,5 +1,5 @@
 -- The start events of a tick keep words of 32 bits.
-use Rattle.std.proofs.Common.{◌≡◌, ◌<◌, ◌+◌, ◌*◌, ◌^◌, ◌++◌, ℕ, zero, suc, ℤ, Bool, true, false, List, [], ◌∷◌, length, Option, Some, None}
+use Rattle.std.proofs.Common.{◌+◌, ◌*◌, ℕ, zero, suc, ℤ, Bool, true, false, List, [], ◌∷◌, length, Option, Some, None}
 use Rattle.std.specs.Prelude.{if◌then◌else◌, nat_eq, ◌&&◌, slice_get, slice_set}
 use Rattle.rte_event.specs.declared.event.Event.{Event}
 use Rattle.rte_event.specs.declared.event.Act.{Act}
@@ -7,7 +7,7 @@ use Rattle.rte_event.specs.declared.event.Act.TheVariants as act
 use Rattle.rte_fields.specs.Fields.{Is32}
 use Rattle.rte_log_reading.specs.Logs.{ActFits}
 use Rattle.rte_machine_meaning.specs.Image.{Image, Process, Script, Line, Sets, Occurs}
-use Rattle.rte_machine_meaning.specs.State.{Job, Thread, Idle, Ready, Waiting, State, zeros}
+use Rattle.rte_machine_meaning.specs.State.{Job, Thread, Idle, Ready, Waiting, State}
 use Rattle.rte_machine_meaning.specs.Starts.{Started, unchanged, told, followed, released, release_thread, release, occurs, line, lines, is_periodic_due, periodic, raised, without, queue_of, time_out, at_rank, time_outs, starts}
 use Rattle.rte_run_words.specs.Laws.{SetsWord}
 use Rattle.rte_run_words.proofs.Words.{Each, Opt, joined_each, set_each, get_each, zeros_each, JobFits, ThreadFits, StateFits, own_locals_each}
@@ -88,7 +88,7 @@ module _ (image : Image) (t : ℕ) where
         (told t k (act.TimeOut c e) (record s { queues = slice_set s.queues c (without k (queue_of s.queues c)) }) (Ready (record (raised p e job) { burn = 2 * image.over })))
         (unchanged s)
         (told_good k (act.TimeOut c e) (record s { queues = slice_set s.queues c (without k (queue_of s.queues c)) }) (Ready (record (raised p e job) { burn = 2 * image.over }))
-          thread.0 (raised_fits p e (2 * image.over) job thread.1) (record { threads = fits.threads; owned = fits.owned; shared = fits.shared; devices = fits.devices }))
+        thread.0 (raised_fits p e (2 * image.over) job thread.1) (record { threads = fits.threads; owned = fits.owned; shared = fits.shared; devices = fits.devices }))
         (unchanged_good s fits)
     by (Some (Ready job)) thread = unchanged_good s fits
     by (Some Idle) thread = unchanged_good s fits

@@ -1,13 +1,12 @@
 -- Every word has 32 bits between any two ticks, and the events of a run fit.
-use Rattle.std.proofs.Common.{◌≡◌, ◌≤◌, ◌<◌, ◌+◌, ◌*◌, ◌^◌, ◌++◌, ℕ, zero, suc, ℤ, Bool, List, [], ◌∷◌, length, map, Option, Some, None, arith, refl, ap, sym, subst, ◌∙◌}
-use Rattle.std.specs.Prelude.{All, pos, slice_get, slice_set}
-use Rattle.rte_event.specs.declared.event.Event.{Event}
+use Rattle.std.proofs.Common.{◌≡◌, ◌≤◌, ◌<◌, ◌+◌, ◌^◌, ℕ, zero, suc, ℤ, Bool, List, [], ◌∷◌, length, map, Option, Some, None, arith, ap, sym, subst}
+use Rattle.std.specs.Prelude.{All, pos, slice_get}
 use Rattle.rte_event.specs.declared.event.Act.{Act}
 use Rattle.rte_event.specs.declared.event.Act.TheVariants as act
 use Rattle.rte_fields.specs.Fields.{Is32}
 use Rattle.rte_isa.specs.Bytes.{HasWords}
 use Rattle.rte_log_reading.specs.Logs.{ActFits}
-use Rattle.rte_machine_meaning.specs.Image.{Image, Monitor, Process, Script}
+use Rattle.rte_machine_meaning.specs.Image.{Image, Process, Script}
 use Rattle.rte_machine_meaning.specs.State.{Job, Thread, Idle, Ready, Waiting, State, zeros}
 use Rattle.rte_machine_meaning.specs.Effect.{Own, Outcome, Goes, Does, Signals, Broadcasts, Waits, Raises, Ends, Stuck}
 use Rattle.rte_machine_meaning.specs.Starts.{queue_of, raised, starts}
@@ -18,7 +17,6 @@ use Rattle.rte_safe.proofs.Running.{state_fits}
 use Rattle.rte_safe.proofs.Starting.{starts_keep}
 use Rattle.rte_safe_terms.specs.Queues.{AreQueued}
 use Rattle.rte_safe_terms.specs.Whole.{StateFits as IsSafe}
-use Rattle.rte_valid.specs.Valid.{HasLimits, IsValid}
 use Rattle.rte_valid_law.specs.Laws.{MeetsPremises, ValidMeetsPremises}
 use Rattle.rte_named.specs.Operands.{AreThere, ValidOperandsAreThere}
 use Rattle.rte_run_words.specs.Laws.{SetsWord, ValidRunsFit}
@@ -100,7 +98,7 @@ module _ (image : Image) where
     by (Some p) (Some (Ready job)) old =
         settled_good t c.place p job s (outcome image s job (owned_of (slice_get s.owned c.place)) job.burn) short old fits
         (outcome_fits image s job (owned_of (slice_get s.owned c.place)) job.burn there has fits.devices old
-          (owned_each (slice_get s.owned c.place) (get_each (λ words. Each Is32 words) s.owned c.place fits.owned)) fits.shared)
+        (owned_each (slice_get s.owned c.place) (get_each (λ words. Each Is32 words) s.owned c.place fits.owned)) fits.shared)
     by (Some p) (Some Idle) old = nothing_good s _ fits
     by (Some p) (Some (Waiting condition due number job)) old = nothing_good s _ fits
     by (Some p) None old = nothing_good s _ fits
