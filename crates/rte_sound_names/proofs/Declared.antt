@@ -1,10 +1,10 @@
 -- No two declared names of a kind are the same.
 use Rattle.std.specs.Prelude.{filter_map}
-use Rattle.core.specs.List.{cons_option}
+use Rattle.std.specs.List.{cons_option}
 use Rattle.std.proofs.Common.{◌≡◌, inl, inr, true, false, List, [], ◌∷◌, ◌++◌, map, Option, Some, None, refl, ap, sym, subst, ◌∙◌}
 use Rattle.rte_tree.specs.Plain as plain_of
 use Rattle.rte_tree.specs.Plain.{Name}
-use Rattle.rte_tree.specs.Placed.{Member, variable_member, condition_member, Monitor, Decl, constant, device, event, routine, monitor, process, Prog, plain, plain_decl, plain_member, plain_monitor}
+use Rattle.rte_tree.specs.Placed.{Member, variable_member, condition_member, Monitor, Decl, constant, device, event, routine, monitor, process, Prog, plain_decl, plain_member}
 use Rattle.rte_tree.specs.declared.place.Place.{Place}
 use Rattle.rte_names.specs.declared.kind.Declared.{Declared}
 use Rattle.rte_names.specs.Reach.{Names, first, same}
@@ -44,26 +44,24 @@ device_called _ = None
 abbrev PicksName : (Decl Place → Option Name) → Type 0
 PicksName f = (d : Decl Place) (n : Name) → f d ≡ Some n → (decl_name d).0 ≡ n
 
-picked_in : (f : Decl Place → Option Name) → PicksName f → (ds : List (Decl Place)) (n : Name) → In (filter_map f ds) n → (d : Decl Place) × (In ds d × ((decl_name d).0 ≡ n))
-picked_in f picks [] n i = absurd i
-picked_in f picks (d ∷ ds) n i = by (f d) refl i where
-  later : In (filter_map f ds) n → (e : Decl Place) × (In (d ∷ ds) e × ((decl_name e).0 ≡ n))
-  later j = let p = picked_in f picks ds n j in (p.0, (inr p.1.0, p.1.1))
+-- a declaration of this name is among these
+abbrev Declares : List (Decl Place) → Name → Type 0
+Declares ds n = (d : Decl Place) × (In ds d × ((decl_name d).0 ≡ n))
 
-  by : (o : Option Name) → f d ≡ o → In (cons_option o (filter_map f ds)) n → (e : Decl Place) × (In (d ∷ ds) e × ((decl_name e).0 ≡ n))
-  by None is j = later j
-  by (Some x) is (inl same_name) = (d, (inl refl, picks d x is ∙ same_name))
-  by (Some x) is (inr j) = later j
+picked_in : (f : Decl Place → Option Name) → PicksName f → (ds : List (Decl Place)) (n : Name) → In (filter_map f ds) n → Declares ds n
+picked_in f picks [] n i = absurd i
+picked_in f picks (d ∷ ds) n i = by (f d) refl i (λ j. let p = picked_in f picks ds n j in (p.0, (inr p.1.0, p.1.1))) where
+  by : (o : Option Name) → f d ≡ o → In (cons_option o (filter_map f ds)) n → (In (filter_map f ds) n → Declares (d ∷ ds) n) → Declares (d ∷ ds) n
+  by None is j later = later j
+  by (Some x) is (inl same_name) later = (d, (inl refl, picks d x is ∙ same_name))
+  by (Some x) is (inr j) later = later j
 
 picked_differ : (f : Decl Place → Option Name) → PicksName f → (ds : List (Decl Place)) → DeclsDiffer ds → Differing (filter_map f ds)
 picked_differ f picks [] differ = tt
-picked_differ f picks (d ∷ ds) differ = by (f d) refl where
-  rest : Differing (filter_map f ds)
-  rest = picked_differ f picks ds differ.1
-
-  by : (o : Option Name) → f d ≡ o → Differing (cons_option o (filter_map f ds))
-  by None is = rest
-  by (Some x) is = (
+picked_differ f picks (d ∷ ds) differ = by (f d) refl (picked_differ f picks ds differ.1) where
+  by : (o : Option Name) → f d ≡ o → Differing (filter_map f ds) → Differing (cons_option o (filter_map f ds))
+  by None is rest = rest
+  by (Some x) is rest = (
     λ y i e.
         let p = picked_in f picks ds y i in
         twice (decl_name p.0).0 (decl_name d).0 (differ.0 p.0 p.1.0) (picks d x is ∙ (e ∙ sym p.1.1)),

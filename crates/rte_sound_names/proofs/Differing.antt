@@ -1,5 +1,5 @@
 -- Lists of names no two of which are the same.
-use Rattle.std.proofs.Common.{◌≡◌, ◌<◌, ℕ, zero, suc, inl, inr, List, [], ◌∷◌, ◌++◌, length, map, Option, Some, None, arith, refl, ap, sym, ◌∙◌}
+use Rattle.std.proofs.Common.{◌≡◌, ◌<◌, ℕ, zero, suc, inl, inr, List, [], ◌∷◌, length, map, arith, refl, ap, sym}
 use Rattle.std.specs.Prelude.{option_map, slice_get, unwrap_or}
 use Rattle.rte_tree.specs.Plain.{Name}
 use Rattle.rte_wellformed_scopes.proofs.Members.{In}

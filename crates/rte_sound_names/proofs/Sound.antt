@@ -1,6 +1,6 @@
 -- The names of a program are sound.
-use Rattle.std.proofs.Common.{◌≡◌, ◌≢◌, ◌<◌, ℕ, true, false, List, length, map, arith, sym, ap, subst, ◌∙◌}
-use Rattle.std.specs.Prelude.{All, codes}
+use Rattle.std.proofs.Common.{◌≡◌, ◌≢◌, true, false, length, map, arith, sym, ap, ◌∙◌}
+use Rattle.std.specs.Prelude.{codes}
 use Rattle.std.proofs.lemmas.List.{length-map}
 use Rattle.std.proofs.lemmas.List.Elements.{All-map, All-weaker}
 use Rattle.rte_tree.specs.Plain as plain_of
@@ -14,7 +14,7 @@ use Rattle.rte_image.specs.declared.names.DevName.{DevName}
 use Rattle.rte_image.specs.declared.names.ImageNames.{ImageNames}
 use Rattle.rte_built.specs.Named.{names_of}
 use Rattle.rte_log.specs.Line.{device_name}
-use Rattle.rte_log_reading.specs.Laws.{AreDistinct, AreSound}
+use Rattle.rte_log_reading.specs.Laws.{AreDistinct}
 use Rattle.rte_wellformed_terms.specs.Places.{NamesFound}
 use Rattle.rte_wellformed_terms.specs.Mirrors.{NamesListed}
 use Rattle.rte_word_names.specs.Words.{IsIdentifier, NamesAreIdentifiers, NamesOfTextsAreIdentifiers, NamesOfTextsAreWords}
