@@ -1,23 +1,17 @@
 -- The events of a run of an accepted program can be told, and what is put of them is their log.
-use Rattle.std.proofs.Common.{◌≡◌, ◌≤◌, ℕ, List, Option, length, refl, ap, sym, subst, ◌∙◌}
+use Rattle.std.proofs.Common.{List, ap, sym, subst}
 use Rattle.std.specs.Prelude.{All}
-use Rattle.rte_tree.specs.declared.place.Place.{Place}
-use Rattle.rte_tree.specs.Placed.{Prog, plain}
+use Rattle.rte_tree.specs.Placed.{plain}
 use Rattle.rte_event.specs.declared.event.Event.{Event}
 use Rattle.rte_isa.specs.declared.instr.Instr.{Instr}
 use Rattle.rte_isa.specs.Bytes.{HasWords}
 use Rattle.rte_image.specs.declared.names.ImageNames.{ImageNames}
-use Rattle.rte_image.specs.Named.{NamedImage}
 use Rattle.rte_log.specs.InRange.{AreIn}
 use Rattle.rte_log.specs.Line.{log_of}
-use Rattle.rte_log_reading.specs.Logs.{ActFits, AreWords, IsLog, IsTold, longest_text}
+use Rattle.rte_log_reading.specs.Logs.{ActFits, AreWords, IsTold}
 use Rattle.rte_logged.specs.Laws.{ValidRunsHaveLines}
-use Rattle.rte_script.specs.declared.script.ScriptLine.{ScriptLine}
-use Rattle.rte_script.specs.Scripts.{IsScript}
 use Rattle.rte_built.specs.Named.{names_of}
 use Rattle.rte_built_ready.specs.Ready.{BuiltImagesAreReady, IsReady}
-use Rattle.rte_commands.specs.Due.{log}
-use Rattle.rte_commands.specs.Runs.{IsAccepted}
 use Rattle.rte_commands.specs.Script.{run_of}
 use Rattle.rte_made_words.specs.Laws.{MadeCodeHasWords}
 use Rattle.rte_run_words.specs.Laws.{ValidRunsFit}
@@ -36,7 +30,7 @@ logs_of_runs_are_logs built_ready have_lines made_words runs_fit names_words ove
     let ready : IsReady n = built_ready accepted.text g over n accepted.written accepted.built in
     let has : All HasWords n.image.code = subst (λ (code : List Instr). All HasWords code) (sym accepted.built.shaped.code.code) (made_words (plain g)) in
     let fit : All (λ event. ActFits event.act) (run_events n lines end) =
-        runs_fit n.image (run_of lines end) ready.limits accepted.faithful.valid has (script_fits n.names text lines end script) in
+    runs_fit n.image (run_of lines end) ready.limits accepted.faithful.valid has (script_fits n.names text lines end script) in
     let lined : All (AreIn n.names) (run_events n lines end) = have_lines n.names n.image (run_of lines end) ready.limits accepted.faithful.valid ready.names script.form in
     let words : AreWords (names_of (plain g)) = names_words accepted.text g accepted.written.program.tree in
     record {

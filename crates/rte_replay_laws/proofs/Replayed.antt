@@ -1,6 +1,5 @@
 -- What is due of `replay` of such a log.
-use Rattle.std.proofs.Common.{◌≡◌, ℕ, List, refl, subst}
-use Rattle.rte_tree.specs.Placed.{plain}
+use Rattle.std.proofs.Common.{refl, subst}
 use Rattle.rte_image.specs.declared.names.ImageNames.{ImageNames}
 use Rattle.rte_script.specs.Scripts.{IsScript}
 use Rattle.rte_commands.specs.Due.{log}
@@ -21,7 +20,7 @@ logs_of_accepted_programs_are_runs logs over program script log_file g n lines e
     })
     held.log_held
     (is_run (run_events n lines end) (logs over program g n held.text lines end accepted held.script_written held.short)
-      (accepted.faithful.runs held.text lines end held.script_written) refl)
+    (accepted.faithful.runs held.text lines end held.script_written) refl)
 
 pub logs_of_go_are_runs : LogsOfAcceptedProgramsAreRuns → LogsOfGoAreRuns
 logs_of_go_are_runs runs over program script log_file put image done held short =
