@@ -1,0 +1,3 @@
+mod Scripted
+pub mod Logged
+pub mod Replayed

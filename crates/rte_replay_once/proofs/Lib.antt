@@ -1,0 +1,4 @@
+mod Logs
+mod Verdicts
+pub mod Judged
+pub mod Replayed

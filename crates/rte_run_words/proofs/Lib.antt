@@ -1,0 +1,5 @@
+mod Words
+mod Effects
+mod Starting
+mod Queued
+pub mod Ticking

@@ -1,0 +1,10 @@
+//! Law: the numbers that the events of a run tell fit a line of a log.
+//!
+//! A reader of logs takes values of 32 bits, and exception numbers and counts of 16. So are those
+//! of each run of a valid image whose operands have 32 bits, over a script that sets such values:
+//! `specs/Laws.antt` has it. Every word of the machine has 32 bits between any two ticks, numbers
+//! that are raised are at most 999, and no queue is longer than there are processes. Nothing here
+//! can run.
+#![tactic(auto)]
+
+pub mod law;

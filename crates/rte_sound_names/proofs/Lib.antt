@@ -1,0 +1,4 @@
+mod Differing
+mod Declared
+mod Qualified
+pub mod Sound

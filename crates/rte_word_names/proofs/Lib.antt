@@ -1,0 +1,3 @@
+mod Tokens
+mod Identifiers
+pub mod Named
