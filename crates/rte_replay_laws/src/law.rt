@@ -1,6 +1,10 @@
 //! The laws.
 
-ghost use Rattle.rte_replay_laws.specs.Laws.{LogsOfAcceptedProgramsAreRuns, LogsOfGoAreRuns, LogsOfRunsAreLogs};
+ghost use Rattle.rte_replay_laws.specs.Laws.{
+  LogsOfAcceptedProgramsAreRuns,
+  LogsOfGoAreRuns,
+  LogsOfRunsAreLogs,
+};
 
 use rte_built_ready::law::built_images_are_ready;
 use rte_logged::law::valid_runs_have_lines;

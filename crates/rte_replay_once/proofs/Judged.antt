@@ -1,19 +1,17 @@
 -- What a log comes to is one.
 use Rattle.std.proofs.Common.{◌≡◌, ◌∙◌, ℕ, List, length, ap, sym, subst}
-use Rattle.rte_tree.specs.declared.place.Place.{Place}
-use Rattle.rte_tree.specs.Placed.{Prog, plain}
+use Rattle.rte_tree.specs.Placed.{plain}
 use Rattle.rte_event.specs.declared.event.Event.{Event}
 use Rattle.rte_image.specs.declared.names.ImageNames.{ImageNames}
 use Rattle.rte_source_meaning.specs.Config.{start}
 use Rattle.rte_source_meaning.specs.Starts.{Script}
 use Rattle.rte_source_meaning.specs.Source.{IsSourceRun}
-use Rattle.rte_script.specs.declared.script.ScriptLine.{ScriptLine}
 use Rattle.rte_built.specs.Named.{names_of}
 use Rattle.rte_log_reading.specs.declared.fault.LogFault.{LogFault}
 use Rattle.rte_log_reading.specs.Logs.{IsLog}
 use Rattle.rte_log_reading.specs.Laws.{AreSound, IsOneLog}
 use Rattle.rte_commands.specs.Script.{said}
-use Rattle.rte_commands.specs.Due.{Outcome, told}
+use Rattle.rte_commands.specs.Due.{told}
 use Rattle.rte_verdict.specs.Verdicts.{IsRefusedAt}
 use Rattle.rte_replay_due.specs.Due.{IsJudged, misread, is_refused, is_run, log_fault_line, refused_line, run_line}
 use Rattle.rte_sound_names.specs.Laws.{NamesOfProgramsAreSound}
@@ -44,7 +42,7 @@ judgements_are_one names_sound one_log determined program g lines end text outco
   by (is_refused es n log refused is) (is_refused fs m other_log also was) =
       let same : es ≡ fs = events_once es fs log other_log in
       is ∙ (ap (λ (k : ℕ). told 9 (refused_line k))
-        (line_once determined (plain g) script (start (plain g)) fs n m (subst (λ (x : List Event). IsRefusedAt (plain g) script (start (plain g)) x n) same refused) also) ∙ sym was)
+      (line_once determined (plain g) script (start (plain g)) fs n m (subst (λ (x : List Event). IsRefusedAt (plain g) script (start (plain g)) x n) same refused) also) ∙ sym was)
   by (is_refused es n log refused is) (is_run fs other_log run was) =
       let same : es ≡ fs = events_once es fs log other_log in
       absurd (run_or_refused determined (plain g) script (start (plain g)) fs n run (subst (λ (x : List Event). IsRefusedAt (plain g) script (start (plain g)) x n) same refused))

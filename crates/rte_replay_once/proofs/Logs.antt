@@ -1,5 +1,5 @@
 -- A text that is a log has no fault, and another has one fault.
-use Rattle.std.proofs.Common.{◌≡◌, ◌≢◌, ◌≤◌, ◌<◌, ◌+◌, ◌++◌, ◌∙◌, ℕ, suc, List, [], ◌∷◌, length, arith, refl, ap, sym, append_assoc}
+use Rattle.std.proofs.Common.{◌≡◌, ◌≢◌, ◌<◌, ◌+◌, ◌++◌, ◌∙◌, ℕ, suc, List, [], ◌∷◌, length, arith, refl, ap, sym, append_assoc}
 use Rattle.std.specs.Prelude.{All}
 use Rattle.std.proofs.lemmas.List.{append-nil}
 use Rattle.std.proofs.lemmas.List.Elements.{All-head, All-tail}
@@ -9,7 +9,7 @@ use Rattle.rte_image.specs.declared.names.ImageNames.{ImageNames}
 use Rattle.rte_log.specs.Line.{line_of, log_of}
 use Rattle.rte_log_reading.specs.declared.fault.LogFault.{LogFault}
 use Rattle.rte_log_reading.specs.declared.fault.LogFault.TheVariants.{Line, Long, Memory}
-use Rattle.rte_log_reading.specs.Logs.{AreWords, IsFault, IsLog, IsTold, longest_text}
+use Rattle.rte_log_reading.specs.Logs.{AreWords, IsFault, IsLog, IsTold}
 use Rattle.rte_log_reading.specs.Parts.{spelled}
 use Rattle.rte_log_reading.proofs.Reading.{line_then, spelled_feed}
 

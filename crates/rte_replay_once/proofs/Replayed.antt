@@ -55,7 +55,7 @@ module _ (once : WrittenOnce) (apart : WrittenOrFaulty) (faults : TextsHaveOneFa
   replay_once outcome other (replay_judged g lines end t recorded log_held judged) (replay_judged h lines' end' t' recorded' log_held' judged') =
       let same : g ≡ h = program_once recorded.text recorded'.text g h recorded.is_held recorded'.is_held recorded.written recorded'.written in
       let also = subst (λ (x : List ℕ). IsScript (names_of (plain g)) x lines' end') (text_once script recorded'.other recorded.other recorded'.script_held recorded.script_held)
-          (subst (λ (x : Prog Place). IsScript (names_of (plain x)) recorded'.other lines' end') (sym same) recorded'.script_written) in
+      (subst (λ (x : Prog Place). IsScript (names_of (plain x)) recorded'.other lines' end') (sym same) recorded'.script_written) in
       let both = scripts (names_of (plain g)) recorded.other lines lines' end end' recorded.script_written also in
       let one : IsJudged g lines' end' t' other = subst (λ (x : Prog Place). IsJudged x lines' end' t' other) (sym same) judged' in
       let two : IsJudged g lines end' t' other = subst (λ (x : List ScriptLine). IsJudged g x end' t' other) (sym both.0) one in

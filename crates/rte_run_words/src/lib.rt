@@ -2,9 +2,8 @@
 //!
 //! A reader of logs takes values of 32 bits, and exception numbers and counts of 16. So are those
 //! of each run of a valid image whose operands have 32 bits, over a script that sets such values:
-//! `specs/Laws.antt` has it. Every word of the machine has 32 bits between any two ticks, numbers
-//! that are raised are at most 999, and no queue is longer than there are processes. Nothing here
-//! can run.
+//! `specs/Laws.antt` has it. The lemmas keep every word of the machine in 32 bits from tick to
+//! tick, and no queue longer than there are processes. Nothing here can run.
 #![tactic(auto)]
 
 pub mod law;
