@@ -7,6 +7,7 @@
 //! an overrun or a full stack: none ever comes.
 #![tactic(auto)]
 
+mod course;
 mod performing;
 mod ready;
 

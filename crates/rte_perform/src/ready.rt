@@ -7,20 +7,20 @@ ghost use Rattle.rte_io.specs.Outside.{Appends, AppendsFront, Rose};
 ghost use Rattle.rte_machine_meaning.specs.Image.{Image};
 ghost use Rattle.rte_perform.specs.Ready.{IsReady};
 
+use crate::course::Course;
 use rte_answers::Run;
 use rte_io::{Sink, SinkFailed};
 use rte_plan::plan_of;
-use rte_run::run;
-use rte_runner::Machine;
 use rte_state::Plan;
 use std::alloc::{AllocError, Global};
 
-/// A run whose machine stands before tick 0. It takes no more memory.
+/// A run whose machine, which is the one of its dispatch, stands before tick 0. It takes no more
+/// memory.
 #[derive(Drop)]
 pub(crate) struct Ready<'a> {
     run: &'a Run,
     plan: Plan,
-    machine: Machine,
+    course: Course,
 }
 
 impl<'a> Ready<'a> {
@@ -33,8 +33,8 @@ impl<'a> Ready<'a> {
         ensures ready { IfOk result (λ ready. IsReady ready) }
     {
         let plan = plan_of(alloc, &run.image)?;
-        let machine = Machine::new(alloc, &plan, &run.script)?;
-        Ok(Ready { run, plan, machine })
+        let course = Course::new(alloc, &plan, run)?;
+        Ok(Ready { run, plan, course })
     }
 
     /// Runs to the end of the script, and puts the log, one put a line. After a failed put nothing
@@ -50,12 +50,6 @@ impl<'a> Ready<'a> {
         ensures failed { OnErr result (Rose (O.state out.old).faults (O.state out.new).faults) }
         ensures quiet { OnOk result ((O.state out.new).faults ≡ (O.state out.old).faults) }
     {
-        run(
-            &mut self.machine,
-            &self.plan,
-            &self.run.script,
-            &self.run.image.names,
-            out,
-        )
+        self.course.put_log(&self.plan, self.run, out)
     }
 }

@@ -1,11 +1,14 @@
 use Rattle.std.proofs.Common.{sym, subst}
 use Rattle.rte_machine_meaning.specs.Image.{Image}
 use Rattle.rte_state.specs.Plan.{IsOf}
-use Rattle.rte_perform.proofs.Running.{is_runnable}
+use Rattle.rte_perform.proofs.Plans.{has_plan}
 use Rattle.rte_perform.proofs.ready.Ready.new.Goals as goal
+
+pub plan_of-requires : goal.plan_of-requires
+plan_of-requires g c = has_plan c.args.run.now c.requires.1
 
 pub new-requires : goal.new-requires
 new-requires g c = (
-  subst (λ (image : Image). IsOf image c.in_ok-plan.plan) (sym c.requires.0) c.in_ok-plan.ensures,
-  is_runnable c.args.run.now g.image c.requires.0 c.requires.1,
+  c.requires.0,
+  (subst (λ (image : Image). IsOf image c.in_ok-plan.plan) (sym c.requires.0) c.in_ok-plan.ensures, c.requires.1),
 )

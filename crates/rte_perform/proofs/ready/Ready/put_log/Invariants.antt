@@ -1,4 +1,4 @@
 use Rattle.rte_perform.proofs.ready.Ready.put_log.Given as goal
 
-abbrev pub ghost-run : goal.ghost-run
-ghost-run g a = g.image
+abbrev pub ghost-put_log : goal.ghost-put_log
+ghost-put_log g a = g.image
