@@ -3,24 +3,20 @@ use Rattle.std.proofs.Common.{◌≡◌, ◌≤◌, ℕ, List, length, Some, ari
 use Rattle.std.specs.Prelude.{slice_get}
 use Rattle.std.proofs.lemmas.Option.{slice_get_within, get_or_from_slice_get}
 use Rattle.rte_tree.specs.Plain as tree
-use Rattle.rte_tree.specs.Placed.{Prog, plain}
-use Rattle.rte_tree.specs.declared.place.Place.{Place}
+use Rattle.rte_tree.specs.Placed.{plain}
 use Rattle.rte_source_meaning.specs.Names.{processes}
-use Rattle.rte_source_meaning.specs.Starts.{Script}
-use Rattle.rte_source_any.specs.Any.{IsAnySourceRun}
 use Rattle.rte_machine_meaning.specs.Image.{Image, Process}
 use Rattle.rte_demand.specs.declared.tasks.DTask.{DTask}
 use Rattle.rte_demand.specs.declared.judging.Judgement.TheVariants as judgement
-use Rattle.rte_demand.specs.Demand.{AreTasks, IsReach, IsJudged}
+use Rattle.rte_demand.specs.Demand.{IsReach, IsJudged}
 use Rattle.rte_demand.proofs.Rising.{one_reach}
-use Rattle.rte_lifted.specs.Compiled.{IsFrom, script_of}
+use Rattle.rte_lifted.specs.Compiled.{script_of}
 use Rattle.rte_timed.specs.Timed.{RespectsFrames}
 use Rattle.rte_wellformed.specs.WellFormed.{ProcessFits, IsWellFormed}
 use Rattle.rte_emits.specs.Compiled.{IsCodeOf}
 use Rattle.rte_headline.specs.Headline.{WellFormedCodeIsRight}
 use Rattle.rte_compiled.specs.Image.{IsImageOf, AreRight, whole}
 use Rattle.rte_image.specs.declared.names.ImageNames.{ImageNames}
-use Rattle.rte_image.specs.Named.{NamedImage}
 use Rattle.rte_made_image.specs.Images.{CheckedCodeIsAnImage}
 use Rattle.rte_checked_valid.specs.Checked.{CheckedOperandsAreInRange}
 use Rattle.rte_small.specs.Checked.{IsReady, CheckedProgramsAreReady}
@@ -32,17 +28,12 @@ use Rattle.rte_built_scripts.specs.Suits.{NamesHaveFrames, Suits, ScriptsForTheN
 use Rattle.rte_built_scripts.proofs.Texts.{Emitted, emitted}
 use Rattle.rte_built.specs.Named.{names_of}
 use Rattle.rte_script_suits.specs.Laws.{ScriptsSuit}
-use Rattle.rte_script.specs.declared.script.ScriptLine.{ScriptLine}
 use Rattle.rte_script.specs.Scripts.{IsScript}
-use Rattle.rte_commands.specs.Source.{IsWritten}
-use Rattle.rte_commands.specs.Script.{said, run_of}
-use Rattle.rte_edf.specs.Run.{events}
+use Rattle.rte_commands.specs.Script.{said}
 use Rattle.rte_edf.proofs.Keeping.{every_run_is_safe}
 use Rattle.rte_edf_timed.specs.InTime.{MeetsDeadlines, IsJudgedFeasible}
 use Rattle.rte_edf_timed.proofs.Meeting.{every_run_meets_deadlines}
-use Rattle.rte_edf_image.specs.Image.{IsEdfImage}
-use Rattle.rte_edf_image.specs.Tasks.{AreDemands, IsAnswer}
-use Rattle.rte_edf_laws.specs.Waits.{HasNoWait, TextsWithoutWaitsHaveNone}
+use Rattle.rte_edf_laws.specs.Waits.{TextsWithoutWaitsHaveNone}
 use Rattle.rte_edf_laws.specs.Laws.{CompiledRunsAreRuns, MeetsPremises, WaitlessImagesMeetPremises, IsEdfRun, EdfRunsAreRight, EdfImagesKeepTheirWord}
 use Rattle.rte_edf_laws.proofs.Premises.{premises}
 

@@ -1,5 +1,5 @@
 -- The image of a program without waits meets what the laws of earliest deadline first ask for.
-use Rattle.std.proofs.Common.{◌≡◌, ◌≤◌, ◌<◌, ◌-◌, inl, inr, ℕ, suc, List, length, Option, Some, None, arith, refl, ap, sym, subst, ◌∙◌, Bool}
+use Rattle.std.proofs.Common.{◌≡◌, ◌≤◌, ◌<◌, ◌-◌, inl, inr, ℕ, List, length, Option, Some, None, arith, refl, ap, sym, ◌∙◌, Bool}
 use Rattle.std.specs.Prelude.{slice_get}
 use Rattle.std.proofs.lemmas.Bool.{cases_lt}
 use Rattle.rte_num.specs.Capped.{cap}
@@ -38,7 +38,7 @@ use Rattle.rte_edf_timed.specs.InTime as timed
 use Rattle.rte_edf_image.specs.Tasks.{AreDemands}
 use Rattle.rte_edf_laws.specs.Laws.{MeetsPremises}
 use Rattle.rte_edf_laws.proofs.Covering.{covered, stays_are}
-use Rattle.rte_edf_laws.proofs.Placing.{place_in, are_ranks, Last, last_of}
+use Rattle.rte_edf_laws.proofs.Placing.{place_in, are_ranks, last_of}
 
 same_none : (d n : ℕ) → d ≡ n → other d n ≡ None
 same_none d n e = ap (λ b. unless b d n) (equal_numbers d n e)

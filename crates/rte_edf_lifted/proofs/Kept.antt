@@ -17,9 +17,9 @@ use Rattle.rte_safe.proofs.Queueing.{tick_keeps_queues}
 use Rattle.rte_lifted.proofs.Lists.{get_set, some_at}
 use Rattle.rte_edf.specs.Run.{candidate, chosen_at, tick, state_at}
 use Rattle.rte_edf.specs.Safe.{IsWaitless}
-use Rattle.rte_edf.proofs.Marking.{IsNotWaiting as IsCalm}
-use Rattle.rte_edf.proofs.Keeping.{Calm, Kept, kept, every_run_is_safe}
-use Rattle.rte_edf_lifted.specs.Runs.{IsNotWaiting, NobodyWaits, WaitlessRunsAreKept}
+use Rattle.rte_edf.proofs.Marking.{IsNotWaiting as IsCalm, opened_calm}
+use Rattle.rte_edf.proofs.Keeping.{Calm, Kept, fits_during, about, kept, every_run_is_safe}
+use Rattle.rte_edf_lifted.specs.Runs.{IsNotWaiting, NobodyWaits, WaitlessRunsAreAwake, WaitlessRunsAreKept}
 
 -- ---- queues in which nobody stands
 
@@ -126,12 +126,31 @@ module _ (e : Where) (ps : ℕ → Parts) (fits : ImageFits e ps) (waitless : Is
       let s = state_at e.image script t in
       picked_empty e t (starts e.image script t s.state).state (candidate (chosen_at e.image script t s)) (starts_empty t s.state (empty_at t)) (nobody_waits (suc t))
 
+  calm_started : (t : ℕ) → NobodyWaits (starts e.image script t (state_at e.image script t).state).state
+  calm_started t k = by (slice_get (starts e.image script t (state_at e.image script t).state).state.threads k) refl where
+    by : (o : Option Thread) → slice_get (starts e.image script t (state_at e.image script t).state).state.threads k ≡ o → IsNotWaiting o
+    by None at = tt
+    by (Some th) at =
+        let below = slice_get_within (starts e.image script t (state_at e.image script t).state).state.threads k th at in
+        let p : (p : Process) × (slice_get e.image.processes k ≡ Some p) = some_at e.image.processes k (omega (arith, below, (fits_during e ps fits waitless script t (state_at e.image script t) (kept_at t)).many)) in
+        let x = about e ps fits waitless script t (state_at e.image script t) (kept_at t) k p.0 p.1 in
+        subst (λ (o : Option Thread). IsNotWaiting o) (sym x.at_mid ∙ at) (calm_of x.mid (opened_calm e.image p.0 x.old x.mid x.opens))
+
+pub waitless_runs_are_awake : WaitlessRunsAreAwake
+waitless_runs_are_awake e ps script t fits waitless =
+    let calm = nobody_waits e ps fits waitless script t in
+    let before = queued (state_at e.image script t).state calm (empty_at e ps fits waitless script t) in
+    record {
+      calm = calm;
+      calm_started = calm_started e ps fits waitless script t;
+      queued = before;
+      queued_started = (tick_keeps_queues e ps script t (state_at e.image script t).state fits (kept_at e ps fits waitless script t).fits before).0;
+    }
+
 pub waitless_runs_are_kept : WaitlessRunsAreKept
 waitless_runs_are_kept e ps script fits waitless no_overrun = record {
   never_stuck = λ t below. (every_run_is_safe e ps script t fits waitless).0;
   no_overrun = no_overrun;
-  calm = λ t below. nobody_waits e ps fits waitless script t;
-  queued_started = λ t below.
-      (let s = (state_at e.image script t).state in
-      (tick_keeps_queues e ps script t s fits (kept_at e ps fits waitless script t).fits (queued s (nobody_waits e ps fits waitless script t) (empty_at e ps fits waitless script t))).0);
+  calm = λ t below. (waitless_runs_are_awake e ps script t fits waitless).calm;
+  queued_started = λ t below. (waitless_runs_are_awake e ps script t fits waitless).queued_started;
 }

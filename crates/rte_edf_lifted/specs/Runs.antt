@@ -30,6 +30,17 @@ pub record IsKept (image : Image) (script : Script) : Type 0 where
 abbrev pub HasNoOverrun : Image → Script → Type 0
 HasNoOverrun image script = (t : ℕ) → t < script.end_tick → (tick image script t (state_at image script t)).overrun ≡ false
 
--- The law: so is each run, without overrun, of an image that fits its trees and waits nowhere.
+-- before tick t and after its start events nobody waits, and the queues hold those who wait
+pub record IsAwake (image : Image) (script : Script) (t : ℕ) : Type 0 where
+  pub calm : NobodyWaits (state_at image script t).state
+  pub calm_started : NobodyWaits (starts image script t (state_at image script t).state).state
+  pub queued : AreQueued (state_at image script t).state
+  pub queued_started : AreQueued (starts image script t (state_at image script t).state).state
+
+-- The law: so it is at each tick of a run of an image that fits its trees and waits nowhere.
+abbrev pub WaitlessRunsAreAwake : Type 0
+WaitlessRunsAreAwake = (e : Where) (ps : ℕ → Parts) (script : Script) (t : ℕ) → ImageFits e ps → IsWaitless e ps → IsAwake e.image script t
+
+-- The law: each run, without overrun, of an image that fits its trees and waits nowhere, is kept.
 abbrev pub WaitlessRunsAreKept : Type 0
 WaitlessRunsAreKept = (e : Where) (ps : ℕ → Parts) (script : Script) → ImageFits e ps → IsWaitless e ps → HasNoOverrun e.image script → IsKept e.image script
