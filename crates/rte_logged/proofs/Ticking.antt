@@ -43,7 +43,7 @@ waits_below s n queued count k c due e job at =
     omega (arith, below, count)
 
 -- who stands first in a queue is a process
-first_below : (s : State) (c j n : ℕ) → AreQueued s → length s.threads ≡ n → first (queue_of s.queues c) ≡ Some j → j < n
+pub first_below : (s : State) (c j n : ℕ) → AreQueued s → length s.threads ≡ n → first (queue_of s.queues c) ≡ Some j → j < n
 first_below s c j n queued count is = by (queue_of s.queues c) (slice_get s.threads j) refl refl is where
   by : (q : List ℕ) (o : Option Thread) → queue_of s.queues c ≡ q → slice_get s.threads j ≡ o → first q ≡ Some j → j < n
   by [] o stands at first_is = absurd cc
@@ -72,7 +72,7 @@ module _ (names : ImageNames) (image : Image) (named : AreNamesOf names image) (
   settled_lines k p job s Ends low queued shows = one_line names image named t early k act.End low tt
   settled_lines k p job s Stuck low queued shows = All-nil (AreIn names)
 
-  ran_lines : (s : State) (c : Option Candidate) → ((c j : ℕ) → first (queue_of s.queues c) ≡ Some j → j < length names.processes) → All (AreIn names) (run_picked image t s c).events
+  pub ran_lines : (s : State) (c : Option Candidate) → ((c j : ℕ) → first (queue_of s.queues c) ≡ Some j → j < length names.processes) → All (AreIn names) (run_picked image t s c).events
   ran_lines s None queued = All-nil (AreIn names)
   ran_lines s (Some c) queued = by (slice_get image.processes c.place) (slice_get s.threads c.place) refl where
     by : (p : Option Process) (thread : Option Thread) → slice_get image.processes c.place ≡ p → All (AreIn names) (run_thread image t c.place s p thread).events

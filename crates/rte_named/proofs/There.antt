@@ -12,7 +12,7 @@ use Rattle.rte_fits.proofs.Tests.{both, either, same_number, at_most}
 use Rattle.rte_valid.specs.Fault.{or_else}
 use Rattle.rte_valid.specs.Pieces.{piece_of_routine, piece_of_process, pieces, belongs, piece_number}
 use Rattle.rte_valid.specs.Operands.{Whose, whose_routine, whose_process, is_between, is_own_monitor, is_same, is_own_condition, goes, is_device, bad, is_user_number, bad_operand}
-use Rattle.rte_valid.specs.Valid.{HasLimits, IsValid, Operands, Shape}
+use Rattle.rte_valid.specs.Valid.{HasOwner, Operands, Shape, fault_of_part}
 use Rattle.rte_valid_law.proofs.Firsts.{neither, some_at}
 use Rattle.rte_valid_law.proofs.Owners.{owned}
 use Rattle.rte_valid_law.proofs.Passing.{routine_operands, process_operands}
@@ -94,15 +94,16 @@ append_length : {A : Type 0} (xs ys : List A) → length (xs ++ ys) ≡ length x
 append_length [] ys = omega arith
 append_length (x ∷ xs) ys = omega (arith, append_length xs ys)
 
-module _ (image : Image) (limits : HasLimits image) (valid : IsValid image) where
+-- where no operand is out of range, and the pieces are the code
+module _ (image : Image) (owners : (r : ℕ) (x : Routine) → slice_get image.routines r ≡ Some x → HasOwner image x) (operands : fault_of_part image Operands ≡ None) (shape : fault_of_part image Shape ≡ None) where
   in_routine : (r a : ℕ) (x : Routine) (instr : Instr) → slice_get image.routines r ≡ Some x → belongs image r a ≡ true → slice_get image.code a ≡ Some instr → IsThere image instr
   in_routine r a x instr at own here =
-      there image (whose_routine r x) (λ entry. let m = limits.owners r x at entry in slice_get_within image.monitors x.owner m.0 m.1) instr
-      (routine_operands image (valid Operands) r x at a instr own here)
+      there image (whose_routine r x) (λ entry. let m = owners r x at entry in slice_get_within image.monitors x.owner m.0 m.1) instr
+      (routine_operands image operands r x at a instr own here)
 
   in_process : (k a : ℕ) (p : Process) (instr : Instr) → slice_get image.processes k ≡ Some p → belongs image (piece_number image k) a ≡ true → slice_get image.code a ≡ Some instr → IsThere image instr
   in_process k a p instr at own here =
-      there image (whose_process image k p) (λ entry. absurd (omega (arith, entry))) instr (process_operands image (valid Operands) k p at a instr own here)
+      there image (whose_process image k p) (λ entry. absurd (omega (arith, entry))) instr (process_operands image operands k p at a instr own here)
 
   pieces_count : length (pieces image) ≡ length image.routines + length image.processes
   pieces_count =
@@ -122,8 +123,8 @@ module _ (image : Image) (limits : HasLimits image) (valid : IsValid image) wher
   pub all_there : AreThere image
   all_there a instr here =
       let within : a < length image.code = slice_get_within image.code a instr here in
-      let has : Has (pieces image) a = covered (pieces image) (length (pieces image)) a (follow image (valid Shape)) (omega (arith, within, all_covered image (valid Shape))) in
-      in_piece has.k a instr (slice_get_within (pieces image) has.k has.piece has.at) (owned image has.k a has.piece (follow image (valid Shape)) has.at has.from has.to) here
+      let has : Has (pieces image) a = covered (pieces image) (length (pieces image)) a (follow image shape) (omega (arith, within, all_covered image shape)) in
+      in_piece has.k a instr (slice_get_within (pieces image) has.k has.piece has.at) (owned image has.k a has.piece (follow image shape) has.at has.from has.to) here
 
 pub valid_operands_are_there : ValidOperandsAreThere
-valid_operands_are_there image limits valid = all_there image limits valid
+valid_operands_are_there image limits valid = all_there image limits.owners (valid Operands) (valid Shape)
