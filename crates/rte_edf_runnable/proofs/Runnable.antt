@@ -1,5 +1,5 @@
 -- By the laws of safety and of waits.
-use Rattle.std.proofs.Common.{◌≡◌, ◌<◌, ◌×◌, ℕ, zero, suc, List, [], ◌∷◌, Option, Some, None, length, arith, refl, subst}
+use Rattle.std.proofs.Common.{◌≡◌, ◌<◌, ℕ, zero, suc, List, [], ◌∷◌, Option, Some, None, length, arith, refl, subst}
 use Rattle.std.specs.Prelude.{◌^◌, slice_get}
 use Rattle.std.proofs.lemmas.Option.{slice_get_within}
 use Rattle.rte_isa.specs.declared.instr.Instr.{Instr}
