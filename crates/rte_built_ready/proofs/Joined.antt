@@ -1,11 +1,12 @@
 -- The image that is built of a program can be run and stored.
-use Rattle.std.proofs.Common.{◌≡◌, ◌≤◌, ℕ, length, arith, sym, subst}
+use Rattle.std.proofs.Common.{◌≡◌, ◌≤◌, ℕ, length, Some, arith, sym, subst}
+use Rattle.std.specs.Prelude.{slice_get}
 use Rattle.rte_tree.specs.Placed.{plain}
 use Rattle.rte_tree.specs.Plain.{Prog}
-use Rattle.rte_machine_meaning.specs.Image.{Image}
+use Rattle.rte_machine_meaning.specs.Image.{Image, Process}
 use Rattle.rte_image.specs.Named.{NamedImage}
-use Rattle.rte_valid.specs.Valid.{HasLimits, IsValid}
-use Rattle.rte_valid_law.specs.Laws.{ValidMeetsPremises}
+use Rattle.rte_valid.specs.Valid.{HasLimits, IsValid, Sizes}
+use Rattle.rte_valid_law.specs.Laws.{MeetsPremises, ValidMeetsPremises}
 use Rattle.rte_named.specs.Operands.{ValidOperandsAreThere}
 use Rattle.rte_costs.specs.Levels.{code_length}
 use Rattle.rte_whole.specs.Whole.{CodeHasItsLength}
@@ -23,13 +24,17 @@ use Rattle.rte_script_suits.specs.Suits.{HasFrames}
 use Rattle.rte_short_names.specs.Short.{NamesAreShort, NamesOfTextsAreShort}
 use Rattle.rte_built_ready.specs.Ready.{BuiltImagesAreReady, IsReady}
 use Rattle.rte_built_ready.proofs.Counts.{Counted, counted}
-use Rattle.rte_built_ready.proofs.Plans.{has_plan}
+use Rattle.rte_built_ready.proofs.Plans.{Stands, has_plan, stands}
 use Rattle.rte_built_ready.proofs.Names.{are_names}
 use Rattle.rte_built_ready.proofs.Ranges.{in_range}
 
 -- the image that is built of a program is its image, with its names
 same_image : (g : Prog) (over : ℕ) (n : NamedImage) → IsBuilt g over n → ◌≡◌ {A = NamedImage} (record { program = g.name; names = names_of g; image = n.image }) n
 same_image g over n built = λ i. record { program = sym built.program i; names = sym built.names i; image = n.image }
+
+-- the parts of each process stand in the code
+standing : (m : Image) → MeetsPremises m → (k : ℕ) (p : Process) → slice_get m.processes k ≡ Some p → Stands m.code p
+standing m meets = subst (λ (x : Image). (k : ℕ) (p : Process) → slice_get x.processes k ≡ Some p → Stands x.code p) meets.of (stands meets.e meets.ps meets.fits)
 
 pub built_images_are_ready : CheckedProgramsAreReady → ProgramsThatKeepSizesAreSmall → BuiltImagesAreMade → BuiltImagesAreInLimits → CheckedImagesAreValid
     → ValidOperandsAreThere → ValidMeetsPremises → CodeHasItsLength → NamesOfTextsAreShort → NamesHaveFrames → BuiltImagesAreReady
@@ -48,7 +53,7 @@ built_images_are_ready ready_law small_law made_law limits_law valid_law operand
     let frames : HasFrames (names_of p) m = frames_law p m ready.formed made.code in
     let of_program : IsReady (record { program = p.name; names = names_of p; image = m }) = record {
       limits = limits;
-      plan = has_plan p m counts made.code limits valid (operands_law m limits valid) (premises_law m limits valid);
+      plan = has_plan p m counts made.code limits (valid Sizes) (operands_law m limits valid) (standing m (premises_law m limits valid));
       names = are_names p m counts names;
       range = in_range p m ready.formed made.code valid short counts names;
       frames = frames;

@@ -1,5 +1,5 @@
 -- An image that is built has a plan.
-use Rattle.std.proofs.Common.{◌≡◌, ◌≤◌, ◌<◌, ◌+◌, ◌∙◌, ℕ, suc, Bool, true, false, List, [], ◌∷◌, length, Option, Some, None, arith, refl, ap, subst}
+use Rattle.std.proofs.Common.{◌≡◌, ◌≤◌, ◌<◌, ◌+◌, ◌∙◌, ℕ, suc, Bool, true, false, List, [], ◌∷◌, length, Option, Some, None, arith, refl, ap}
 use Rattle.std.specs.Prelude.{ℤ, pos, negsuc, All, cond, nat_eq, slice_get}
 use Rattle.std.proofs.lemmas.Bool.Decides.{nat_tests}
 use Rattle.std.proofs.lemmas.List.Elements.{All-nil, All-cons}
@@ -15,10 +15,11 @@ use Rattle.rte_emits.specs.Compiled.{IsCodeOf, IsReleased}
 use Rattle.rte_named.specs.Operands.{AreThere, IsThere}
 use Rattle.rte_plan.specs.HasPlan.{CanRun, HandlerEnds, HasPlan}
 use Rattle.rte_safe_terms.specs.Part.{IsBelow}
+use Rattle.rte_safe_terms.specs.Safe.{Parts, ImageFits}
+use Rattle.rte_safe_terms.specs.Walk.{Where}
 use Rattle.rte_seen.specs.Seen.{IsLimit, IsSmall}
 use Rattle.rte_state.specs.Plan.{HasNumbers}
-use Rattle.rte_valid.specs.Valid.{HasHandler, HasLimits, IsValid, Sizes}
-use Rattle.rte_valid_law.specs.Laws.{MeetsPremises}
+use Rattle.rte_valid.specs.Valid.{HasHandler, HasLimits, Sizes, fault_of_part}
 use Rattle.rte_valid_law.proofs.Passing.{params_fit}
 use Rattle.rte_built_scripts.proofs.Texts.{Emitted, emitted}
 use Rattle.rte_built_ready.proofs.Counts.{Counted}
@@ -54,22 +55,21 @@ module _ (m : Image) (monitors : length m.monitors ≤ 64) (conditions : length 
 -- ---- a process
 
 -- where the parts of a process stand
-record Stands (code : List Instr) (p : Process) : Type 0 where
-  locals : p.locals ≤ p.stack
-  body : end_of p false ≤ length code
-  handler : (number : ℕ) → lists p.numbers number ≡ true → end_of p true ≤ length code
+pub record Stands (code : List Instr) (p : Process) : Type 0 where
+  pub locals : p.locals ≤ p.stack
+  pub body : end_of p false ≤ length code
+  pub handler : (number : ℕ) → lists p.numbers number ≡ true → end_of p true ≤ length code
 
-stands : (m : Image) → MeetsPremises m → (k : ℕ) (p : Process) → slice_get m.processes k ≡ Some p → Stands m.code p
-stands m meets = subst (λ (x : Image). (k : ℕ) (p : Process) → slice_get x.processes k ≡ Some p → Stands x.code p) meets.of by where
-  by : (k : ℕ) (p : Process) → slice_get meets.e.image.processes k ≡ Some p → Stands meets.e.image.code p
-  by k p at =
-      let fits = meets.fits.processes k p at in
-      let body : end_of p false < length meets.e.image.code = slice_get_within meets.e.image.code (end_of p false) i.End fits.ends in
-      record {
-        locals = omega (arith, fits.body.locals, fits.body.stack);
-        body = omega (arith, body);
-        handler = λ number listed. (let h = fits.handles number listed in let within : end_of p true < length meets.e.image.code = slice_get_within meets.e.image.code (end_of p true) i.End h.1.ends in omega (arith, within));
-      }
+-- so they do in an image that fits its trees
+pub stands : (e : Where) (ps : ℕ → Parts) → ImageFits e ps → (k : ℕ) (p : Process) → slice_get e.image.processes k ≡ Some p → Stands e.image.code p
+stands e ps image_fits k p at =
+    let fits = image_fits.processes k p at in
+    let body : end_of p false < length e.image.code = slice_get_within e.image.code (end_of p false) i.End fits.ends in
+    record {
+      locals = omega (arith, fits.body.locals, fits.body.stack);
+      body = omega (arith, body);
+      handler = λ number listed. (let h = fits.handles number listed in let within : end_of p true < length e.image.code = slice_get_within e.image.code (end_of p true) i.End h.1.ends in omega (arith, within));
+    }
 
 handler_ends : (code : ℕ) (p : Process) (o : Option Segs) → p.handler_tree ≡ o → HasHandler p o → ((number : ℕ) → lists p.numbers number ≡ true → end_of p true ≤ code) → HandlerEnds code p.handler o
 handler_ends code p None is has ends = tt
@@ -90,12 +90,13 @@ kind_low g (at_event e frame deadline) p released = let one : p.kind ≡ 1 = rel
 
 -- ---- the plan
 
-pub has_plan : (g : Prog) (m : Image) → Counted g m → IsCodeOf g m → HasLimits m → IsValid m → AreThere m → MeetsPremises m → HasPlan m
-has_plan g m counts code limits valid there meets = record {
+pub has_plan : (g : Prog) (m : Image) → Counted g m → IsCodeOf g m → HasLimits m → fault_of_part m Sizes ≡ None → AreThere m
+    → ((k : ℕ) (p : Process) → slice_get m.processes k ≡ Some p → Stands m.code p) → HasPlan m
+has_plan g m counts code limits sizes there standing = record {
   numbers = λ n instr at. has_numbers m counts.few_monitors counts.conditions counts.devices instr (there n instr at);
-  params = all_of (λ (r : Routine). r.params ≤ r.locals) m.routines (params_fit m (valid Sizes));
+  params = all_of (λ (r : Routine). r.params ≤ r.locals) m.routines (params_fit m sizes);
   processes = all_of (CanRun (length m.code)) m.processes (λ k p at.
-      (let s = stands m meets k p at in
+      (let s = standing k p at in
       let l = limits.processes k p at in
       let e : Emitted g m.code (processes g) k p = emitted g m.code 0 code.between (length m.code) (processes g) m.processes code.process_code k p at in
       record {

@@ -40,7 +40,7 @@ use Rattle.rte_edf_laws.proofs.Premises.{premises}
 -- ---- the premises
 
 -- no deadline of a well-formed program is 0, so no bound of its image
-bounds_pass : (g : tree.Prog) (m : Image) → IsWellFormed g → IsCodeOf g m → ((k : ℕ) (p : Process) → slice_get m.processes k ≡ Some p → p.bound ≡ p.deadline)
+pub bounds_pass : (g : tree.Prog) (m : Image) → IsWellFormed g → IsCodeOf g m → ((k : ℕ) (p : Process) → slice_get m.processes k ≡ Some p → p.bound ≡ p.deadline)
     → (k : ℕ) (p : Process) → slice_get m.processes k ≡ Some p → 1 ≤ p.bound
 bounds_pass g m formed code bounds k p at =
     let e : Emitted g m.code (processes g) k p = emitted g m.code 0 code.between (length m.code) (processes g) m.processes code.process_code k p at in
