@@ -7,6 +7,7 @@
 #   loops      280 million ticks of loops
 #   events     6 million log lines of one process
 #   processes  64 processes with 3 million log lines
+#   replay     those 3 million lines, 60 MB, judged by the program
 #   script     1,000,000 lines of a script
 #   image      the image of 65,535 instructions, loaded, tested and run to tick 0
 #
@@ -54,6 +55,8 @@ echo 'end 39000000' > script
 measure events 0.36 go events image5 script
 echo 'end 15000000' > script
 measure processes 0.67 go processes image6 script
+"$rte" run image6 script > log
+measure replay 1.2 replay processes script log
 measure script 0.11 go reader image7 lines
 echo 'end 0' > script
 measure image 0.1 run image script

@@ -4,7 +4,7 @@ use Rattle.rte_image.specs.Named.{NamedImage}
 use Rattle.rte_image.specs.declared.raw.RawImage.{RawImage}
 use Rattle.rte_report.specs.Report.{report_text}
 use Rattle.rte_report.specs.Json.{report_json}
-use Rattle.rte_words.specs.Calls.{Call, go, check, compile, json, slack, print, run, migrate, asm, dis, watch, replay}
+use Rattle.rte_words.specs.Calls.{Call, go, check, compile, json, slack, print, run, migrate, asm, dis, watch, replay, edf}
 use Rattle.rte_tree.specs.declared.place.Place.{Place}
 use Rattle.rte_tree.specs.Placed.{Prog}
 use Rattle.rte_commands.specs.Source.{IsTimelyText, IsWritten}
@@ -13,6 +13,7 @@ use Rattle.rte_spare.specs.Due.{IsSlackDue}
 use Rattle.rte_asm_due.specs.Due.{IsAsmDue, IsDisDue}
 use Rattle.rte_stop.specs.Due.{IsWatchDue}
 use Rattle.rte_replay_due.specs.Due.{IsReplayDue, IsRecordedFor}
+use Rattle.rte_edf_due.specs.Due.{IsEdfDue, IsFeasibleText}
 
 -- what each name holds, if anything
 abbrev pub Held : Type 0
@@ -34,6 +35,7 @@ source_of (asm text image) = text
 source_of (dis image text) = image
 source_of (watch image script stop) = image
 source_of (replay program script log) = program
+source_of (edf program script) = program
 
 -- the file of the script, if one is read
 abbrev pub script_of : Call → Option (List ℕ)
@@ -41,6 +43,7 @@ script_of (go program image script over) = Some script
 script_of (run image script) = Some script
 script_of (watch image script stop) = Some script
 script_of (replay program script log) = Some script
+script_of (edf program script) = Some script
 script_of call = None
 
 -- the file of the log, if one is read
@@ -72,14 +75,16 @@ IsDue (asm text image) held outcome = IsSomeAnd (held text) (λ lines. IsAsmDue 
 IsDue (dis image text) held outcome = IsSomeAnd (held image) (λ bytes. IsDisDue bytes outcome)
 IsDue (watch image script stop) held outcome = IsWatchDue stop (held image) (held script) outcome
 IsDue (replay program script log) held outcome = IsReplayDue (held program) (held script) (held log) outcome
+IsDue (edf program script) held outcome = IsEdfDue (held program) (held script) outcome
 
--- the script is read: the program is timely, or of `replay` whatever its time, or the image is a
--- valid one
+-- the script is read: the program is timely, or of `replay` whatever its time, or of `edf` its
+-- demand is met, or the image is a valid one
 abbrev pub ReachesScript : Call → Held → Type 0
 ReachesScript (go program image script over) held = IsSomeAnd (held program) (λ text. (n : NamedImage) × IsTimelyText over text n)
 ReachesScript (run image script) held = IsSomeAnd (held image) (λ bytes. (raw : RawImage) × IsImageFile bytes raw)
 ReachesScript (watch image script stop) held = IsSomeAnd (held image) (λ bytes. (raw : RawImage) × IsImageFile bytes raw)
 ReachesScript (replay program script log) held = IsSomeAnd (held program) (λ text. (g : Prog Place) × IsWritten text g)
+ReachesScript (edf program script) held = IsSomeAnd (held program) (λ text. (n : NamedImage) × (points : ℕ) × IsFeasibleText text n points)
 ReachesScript call held = ⊥
 
 -- the log is read: the script is one for the names of the program

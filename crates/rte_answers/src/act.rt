@@ -12,11 +12,21 @@ pub struct Store<'a> {
     pub bytes: Vec<u8>,
 }
 
+/// Which of the ready processes runs.
+#[derive(Clone, Copy, Debug, PartialEq, Eq)]
+pub enum Dispatch {
+    /// The one of the highest active rank.
+    Ranks,
+    /// The one with the earliest deadline, as far as the ceilings let it.
+    Deadlines,
+}
+
 /// A run whose log is to be put.
 #[derive(Drop)]
 pub struct Run {
     pub image: RawImage,
     pub script: Script,
+    pub dispatch: Dispatch,
 }
 
 /// What is left of a call when all is read and judged: an image is stored, a text is put, and then

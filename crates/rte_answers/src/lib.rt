@@ -9,5 +9,5 @@
 mod act;
 mod status;
 
-pub use act::{Act, Run, Store};
+pub use act::{Act, Dispatch, Run, Store};
 pub use status::Status;

@@ -249,7 +249,7 @@ module _ (laws : Printing) (faithful : BuiltImagesAreFaithful) (before now : Out
 
   replay_whole : (program script log : List ℕ) → IsReplayDue (before.files.held program) (before.files.held script) (before.files.held log) o → HasReplayed program script log before now
   replay_whole program script log (replay_faulty text number place is fault same) = absurd (let two = status_of o _ same in omega (arith, two, zero))
-  replay_whole program script log (replay_bad_script text other g fault is w that f no same) = absurd (let five = status_of o _ same in omega (arith, five, zero))
+  replay_whole program script log (replay_bad_script text other g fault is w that f named same) = absurd (let five = status_of o _ same in omega (arith, five, zero))
   replay_whole program script log (replay_judged g lines end text r is judged) = judged_whole program script log g lines end text r is judged
 
   migrated_whole : (image target : List ℕ) (bytes : List ℕ) → before.files.held image ≡ Some bytes → Stores o.image (Some target) before.files.held now.files.held

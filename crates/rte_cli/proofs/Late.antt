@@ -99,7 +99,7 @@ judged_late g lines end text o (is_run events told run same) three = let zero = 
 
 replay_late : (program script log : Option (List ℕ)) (o : Outcome) → IsReplayDue program script log o → o.status ≡ 3 → ⊥
 replay_late program script log o (replay_faulty text number place is fault same) three = let two = status_of o _ same in absurd (omega (arith, two, three))
-replay_late program script log o (replay_bad_script text other g fault is w that f no same) three = let five = status_of o _ same in absurd (omega (arith, five, three))
+replay_late program script log o (replay_bad_script text other g fault is w that f named same) three = let five = status_of o _ same in absurd (omega (arith, five, three))
 replay_late program script log o (replay_judged g lines end text r is judged) three = judged_late g lines end text o judged three
 
 due_late : (call : Call) (b : Outside) (o : Outcome) → IsDue call b.files.held o → o.status ≡ 3 → IsRefusedForTime call b

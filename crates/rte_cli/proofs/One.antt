@@ -47,7 +47,7 @@ judged_stores g lines end text o (is_run events log run same) = image_is o _ sam
 
 replay_stores : (program script log : Option (List ℕ)) (o : Outcome) → IsReplayDue program script log o → o.image ≡ None
 replay_stores program script log o (replay_faulty text number place is fault same) = image_is o _ same refl
-replay_stores program script log o (replay_bad_script text other g fault is w that f no same) = image_is o _ same refl
+replay_stores program script log o (replay_bad_script text other g fault is w that f named same) = image_is o _ same refl
 replay_stores program script log o (replay_judged g lines end text r is judged) = judged_stores g lines end text o judged
 
 -- what is due of a call but `replay` is one, and of `replay` nothing is stored

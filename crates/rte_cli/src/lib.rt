@@ -1,9 +1,9 @@
-//! The command: `go`, `check`, `compile`, `json`, `slack`, `print`, `run`, `watch`, `migrate`, `asm`
-//! and `dis`, from their words to their status.
+//! The command: `go`, `check`, `compile`, `json`, `slack`, `print`, `run`, `watch`, `migrate`,
+//! `asm`, `dis` and `replay`, from their words to their status.
 //!
 //! `rte_answers` says what is due of a call by what its files hold (`IsDue`), and what each status
-//! says of the call (`Went`); `rte_promise` what statuses 0 and 3 say of texts, images and scripts. The promise of `rte` is
-//! that every call went so, whatever the files and the sink do.
+//! says of the call (`Went`); `rte_promise` what statuses 0 and 3 say of texts, images, scripts and
+//! logs. The promise of `rte` is that every call went so, whatever the files and the sink do.
 #![tactic(auto)]
 
 mod call;

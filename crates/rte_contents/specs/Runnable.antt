@@ -11,7 +11,7 @@ use Rattle.rte_script.specs.declared.script.ScriptLine.{ScriptLine}
 use Rattle.rte_script.specs.Scripts.{IsScript}
 use Rattle.rte_script_suits.specs.Laws.{script_with}
 use Rattle.rte_script_suits.specs.Suits.{Suits}
-use Rattle.rte_answers.specs.Acts.{CanRun}
+use Rattle.rte_answers.specs.Acts.{CanRunByRanks, by_ranks}
 
 -- the machine can run the image over each script for its names, and its bytes can be written
 pub record IsRunnable (raw : RawImage) : Type 0 where
@@ -26,4 +26,4 @@ pub record IsRunnable (raw : RawImage) : Type 0 where
 
 -- the machine can run the image over the script
 abbrev pub RunsRaw : RawImage → Script → Type 0
-RunsRaw raw script = CanRun (record { image = raw; script = script })
+RunsRaw raw script = CanRunByRanks (by_ranks raw script)

@@ -11,7 +11,7 @@ mod reading;
 mod scripts;
 mod unready;
 
-pub use acts::put;
+pub use acts::{put, put_fault};
 pub use reading::{
     Content, LONGEST_IMAGE, LONGEST_IMAGE_TEXT, LONGEST_LOG, LONGEST_PROGRAM, LONGEST_SCRIPT, read,
 };

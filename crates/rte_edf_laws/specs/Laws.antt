@@ -20,6 +20,7 @@ use Rattle.rte_edf.specs.Run.{tick, state_at, events}
 use Rattle.rte_edf.specs.Safe.{IsWaitless}
 use Rattle.rte_edf_timed.specs.InTime.{AreDemandsOf, MeetsDeadlines}
 use Rattle.rte_edf_lifted.specs.Runs.{HasNoOverrun}
+pub use Rattle.rte_edf_runs.specs.Runs.{IsEdfRun}
 use Rattle.rte_edf_image.specs.Image.{IsEdfImage}
 use Rattle.rte_edf_image.specs.Tasks.{AreDemands, IsAnswer, IsAnswerFor}
 use Rattle.rte_compiled.specs.Image.{IsImageOf, AreRight, whole}
@@ -55,16 +56,6 @@ WaitlessImagesMeetPremises = (text : List ℕ) (g : Prog Place) (n : NamedImage)
 -- The law: what the test says of a program, it says of its image.
 abbrev pub AnswersAreOfTheImage : Type 0
 AnswersAreOfTheImage = (g : plain_of.Prog) (n : NamedImage) (answer : Judgement) → IsEdfImage g n → IsAnswerFor g answer → IsAnswer n.image answer
-
--- A run of a program under earliest deadline first: no tick is stuck, each process is within its
--- declared stack, and those inside monitors are apart; each activation ends by its deadline; and
--- what is told is a run of the program in which any ready process may act.
-pub record IsEdfRun (g : plain_of.Prog) (image : Image) (script : Script) : Type 0 where
-  pub never_stuck : (t : ℕ) → (tick image (script_of script) t (state_at image (script_of script) t)).stuck ≡ false
-  pub stacks : (t k : ℕ) (p : Process) (thread : Thread) → slice_get image.processes k ≡ Some p → slice_get (state_at image (script_of script) t).state.threads k ≡ Some thread → StackFits p thread
-  pub apart : (t : ℕ) → Apart image (state_at image (script_of script) t).state.threads
-  pub deadlines : MeetsDeadlines image (script_of script)
-  pub run : IsAnySourceRun g script (events image (script_of script))
 
 -- The law: where a text is that of a program that keeps to all rules, is not too large and has no
 -- wait, and the test answers that the demand of its image is feasible, so is each run over a script

@@ -8,6 +8,8 @@ mod commands;
 #[cfg(test)]
 mod devices;
 #[cfg(test)]
+mod earliest;
+#[cfg(test)]
 mod hostile;
 #[cfg(test)]
 mod image_texts;

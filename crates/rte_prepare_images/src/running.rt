@@ -13,7 +13,7 @@ ghost use Rattle.rte_contents.specs.Runnable.{IsRunnable, RunsRaw};
 ghost use Rattle.rte_prepare_images.specs.Scripted.{IsRawRunDue, raw_run};
 
 use crate::images::{load_content, refuse_image};
-use rte_answers::{Act, Run, Status};
+use rte_answers::{Act, Dispatch, Run, Status};
 use rte_contents::{
     Content, LONGEST_IMAGE, LONGEST_SCRIPT, Unready, judge_script, read, refuse_script,
 };
@@ -33,7 +33,11 @@ fn run_raw<'a>(alloc: Global, image: RawImage, script: Script) -> Act<'a>
         status: Status::Done,
         text: Text::new(alloc),
         store: None,
-        run: Some(Run { image, script }),
+        run: Some(Run {
+            image,
+            script,
+            dispatch: Dispatch::Ranks,
+        }),
     }
 }
 

@@ -14,7 +14,7 @@ ghost use Rattle.rte_prepare_programs.specs.Scripted.{IsBuiltRunDue, built_run};
 
 use crate::programs::{Format, refuse};
 use crate::sources::compile_content;
-use rte_answers::{Act, Run, Status, Store};
+use rte_answers::{Act, Dispatch, Run, Status, Store};
 use rte_compile::Built;
 use rte_contents::{
     Content, LONGEST_PROGRAM, LONGEST_SCRIPT, Unready, judge_script, read, refuse_script,
@@ -44,7 +44,11 @@ fn run_built<'a>(
         status: Status::Done,
         text,
         store: Some(Store { name: image, bytes }),
-        run: Some(Run { image: raw, script }),
+        run: Some(Run {
+            image: raw,
+            script,
+            dispatch: Dispatch::Ranks,
+        }),
     })
 }
 

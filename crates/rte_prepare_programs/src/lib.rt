@@ -11,7 +11,5 @@ mod programs;
 mod sources;
 
 pub use going::prepare_go;
-pub use programs::{
-    Format, prepare_compile, prepare_print, prepare_report, prepare_slack, put_fault,
-};
+pub use programs::{Format, prepare_compile, prepare_print, prepare_report, prepare_slack};
 pub use rte_built_laws::law::built_images_are_faithful;

@@ -3,7 +3,6 @@
 ghost use Rattle.std.specs.Prelude.{◌≡◌, ◌≤◌, ℕ, List, Some, Ok, Err, IfOk};
 ghost use Rattle.rte_lex.specs.Tokens.{longest_text};
 ghost use Rattle.rte_commands.specs.Due.{IsRefused, IsReportDue, IsPrintDue, IsCompileDue};
-ghost use Rattle.rte_commands.specs.Source.{fault_line};
 ghost use Rattle.rte_spare.specs.Due.{IsSlackDue};
 ghost use Rattle.rte_compile.specs.Compile.{Compiles};
 ghost use Rattle.rte_answers.specs.Acts.{outcome_of};
@@ -19,13 +18,12 @@ ghost use Rattle.rte_prepare_programs.specs.Runnable.{IsRunnableBuilt, Readies};
 use crate::sources::{compile_content, read_content};
 use rte_answers::{Act, Status, Store};
 use rte_compile::{Built, CompileFault, TextFault};
-use rte_contents::{Content, LONGEST_PROGRAM, Unready, put, read};
+use rte_contents::{Content, LONGEST_PROGRAM, Unready, put, put_fault, read};
 use rte_image::{ImageNames, write_image};
 use rte_io::Files;
-use rte_lines::fault_line;
 use rte_spare_text::slack_text;
 use rte_table::Table;
-use rte_tree::{Name, Place, Text};
+use rte_tree::{Name, Text};
 use std::alloc::{AllocError, Global};
 
 /// How a report is written.
@@ -52,14 +50,6 @@ pub fn report(
         Format::Text => rte_report::report(alloc, names, program, table),
         Format::Json => rte_report::report_json(alloc, names, program, table),
     }
-}
-
-/// The act for a text that is no program text, or whose program is too large: it puts the line of
-/// its fault.
-pub fn put_fault<'a>(alloc: Global, number: u8, place: Place) -> Result<Act<'a>, AllocError>
-    ensures { IfOk result (λ act. act ≡ puts Status.Text (fault_line number place)) }
-{
-    Ok(put(Status::Text, fault_line(alloc, number, place)?))
 }
 
 /// The act for a text that gave no image: it puts the line of its fault, or the report on its

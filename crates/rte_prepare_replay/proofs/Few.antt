@@ -1,15 +1,18 @@
 -- Names are few, and so are the events of a log.
-use Rattle.std.proofs.Common.{◌≡◌, ◌≤◌, ◌<◌, ◌+◌, ◌^◌, ◌++◌, ℕ, suc, List, [], ◌∷◌, length, map, filter_map, arith, refl, ap, subst, sym}
+use Rattle.std.proofs.Common.{◌≡◌, ◌≤◌, ◌<◌, ◌+◌, ◌^◌, ◌++◌, ℕ, List, [], ◌∷◌, length, filter_map, arith, ap, subst, sym, Ok, Err}
 use Rattle.std.proofs.lemmas.List.{length-append, length-map}
-use Rattle.std.specs.Prelude.{decimal, codes}
+use Rattle.std.specs.Prelude.{Result, IfOk, decimal, codes}
 use Rattle.rte_event.specs.declared.event.Event.{Event}
 use Rattle.rte_image.specs.declared.names.ImageNames.{ImageNames}
 use Rattle.rte_log.specs.Line.{act_text, line_of, log_of, process_name}
-use Rattle.rte_log_reading.specs.Logs.{AreFew, IsLog, longest_text}
+use Rattle.rte_log_reading.specs.Logs.{AreFew, IsLog}
+use Rattle.rte_tree.specs.declared.place.Place.{Place}
+use Rattle.rte_tree.specs.Placed.{Prog as Placed, plain}
 use Rattle.rte_tree.specs.Plain.{Monitor, Name, Process, Prog}
 use Rattle.rte_source_meaning.specs.Names.{processes, monitors, event_in}
 use Rattle.rte_wellformed.specs.WellFormed.{CountsFit}
 use Rattle.rte_built.specs.Named.{names_of, named_event}
+use Rattle.rte_prepare_replay.specs.Held.{AreNamesFor}
 use Rattle.rte_built_ready.proofs.Counts.{names_of_conditions, names_of_devices}
 
 -- ---- names
@@ -23,17 +26,17 @@ module _ (g : Prog) (counts : CountsFit g) (names : ImageNames) (same : names �
     devices = let many = names_of_devices g.decls in omega (arith, many, counts.few_devices);
   }
 
-  pub few_names : AreFew names
-  few_names = subst AreFew (sym same) few_of
-
-  pub few_devices : length names.devices ≤ 2 ^ 16
-  few_devices = few_names.devices
-
-  pub few_events : length names.events ≤ 2 ^ 16
+  few_events : length names.events ≤ 2 ^ 16
   few_events =
       let many : length (names_of g).events ≡ length (filter_map event_in g.decls) = length-map (filter_map event_in g.decls) (λ (e : Name). named_event g e) in
       let here : length names.events ≡ length (names_of g).events = ap (λ (n : ImageNames). length n.events) same in
       omega (arith, many, here, counts.few_events)
+
+  few_names : AreFew names
+  few_names = subst AreFew (sym same) few_of
+
+pub names_for : (g : Placed Place) → CountsFit (plain g) → (names : ImageNames) → names ≡ names_of (plain g) → AreNamesFor g names
+names_for g counts names same = record { same = same; few = few_names (plain g) counts names same; events = few_events (plain g) counts names same }
 
 -- ---- events
 
@@ -51,7 +54,11 @@ as_long names (e ∷ es) =
     let all : length (log_of names (e ∷ es)) ≡ length (line_of names e) + length (log_of names es) = length-append (line_of names e) (log_of names es) in
     omega (arith, all, a_line names e, as_long names es)
 
-pub few_of_log : (names : ImageNames) (text : List ℕ) (es : List Event) → IsLog names text es → length es < 4294967295
+few_of_log : (names : ImageNames) (text : List ℕ) (es : List Event) → IsLog names text es → length es < 4294967295
 few_of_log names text es log =
     let whole : length text ≡ length (log_of names es) = ap (λ (x : List ℕ). length x) log.whole in
     omega (arith, whole, as_long names es, log.short)
+
+pub few_made : {E : Type 0} (names : ImageNames) (text : List ℕ) (made : Result (List Event) E) → IfOk made (λ es. IsLog names text es) → IfOk made (λ es. length es < 4294967295)
+few_made names text (Ok es) log = few_of_log names text es log
+few_made names text (Err why) log = tt

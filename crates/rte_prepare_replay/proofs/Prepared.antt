@@ -1,10 +1,11 @@
 -- What is due of `replay`, by what files hold.
-use Rattle.std.proofs.Common.{◌≡◌, ◌≢◌, ◌≤◌, ◌⊎◌, ℕ, List, Option, Some, None, Bool, true, false, Ok, Err, inl, inr, refl, subst}
+use Rattle.std.proofs.Common.{◌≡◌, ◌≢◌, ◌<◌, ◌^◌, ◌⊎◌, ℕ, List, Option, Some, None, Bool, true, false, Ok, Err, inl, inr, arith, refl, subst}
 use Rattle.std.specs.Prelude.{Result, IfOk, IsSomeAnd}
 use Rattle.std.specs.Bool.{OnTrue}
 use Rattle.rte_tree.specs.declared.place.Place.{Place}
 use Rattle.rte_tree.specs.Placed.{Prog, plain}
-use Rattle.rte_io.specs.Outside.{FilesState, AllStay, NoneFell, Rose}
+use Rattle.rte_io.specs.Outside.{FilesState, AllStay, NoneFell}
+use Rattle.rte_image.specs.declared.names.ImageNames.{ImageNames}
 use Rattle.rte_script.specs.declared.script.ScriptLine.{ScriptLine}
 use Rattle.rte_script.specs.declared.fault.ScriptFault.{ScriptFault}
 use Rattle.rte_script.specs.declared.fault.ScriptFault.TheVariants as fault
@@ -12,56 +13,86 @@ use Rattle.rte_script.specs.Faults.{IsFault}
 use Rattle.rte_script.specs.Scripts.{IsScript}
 use Rattle.rte_built.specs.Named.{names_of}
 use Rattle.rte_words.specs.Calls as call
-use Rattle.rte_commands.specs.Source.{IsTextFault, IsWritten}
-use Rattle.rte_commands.specs.Due.{Outcome, bad_script, told}
-use Rattle.rte_commands.specs.Source.{fault_line}
+use Rattle.rte_commands.specs.Source.{IsWritten, fault_line}
+use Rattle.rte_commands.specs.Script.{script_fault_line}
+use Rattle.rte_commands.specs.Due.{Outcome, bad_script}
+use Rattle.rte_compile.specs.Written.{ReadsWritten}
+use Rattle.rte_compile.specs.declared.written.TextFault.{TextFault}
+use Rattle.rte_compile.specs.declared.written.TextFault.TheVariants as text_fault
 use Rattle.rte_replay_due.specs.Due.{IsJudged, IsRecordedFor, IsReplayDue, replay_faulty, replay_bad_script, replay_judged}
 use Rattle.rte_answers.specs.declared.act.Act.{Act}
+use Rattle.rte_answers.specs.declared.status.Status.TheVariants as status
 use Rattle.rte_answers.specs.Acts.{outcome_of}
 use Rattle.rte_contents.specs.declared.unready.Unready.{Unready}
 use Rattle.rte_contents.specs.declared.unready.Unready.TheVariants as unready
-use Rattle.rte_contents.specs.Acting.{IsQuiet}
+use Rattle.rte_contents.specs.Acting.{IsQuiet, puts}
 use Rattle.rte_contents.specs.Prepared.{Failed, Prepares, ReadsFailed}
+use Rattle.rte_contents.proofs.Coming.{outcome_of_puts, put_comes_to}
 use Rattle.rte_contents.proofs.Held.{acted, of_held, rose_since}
 use Rattle.rte_prepare_replay.specs.Scripted.{IsReplayed, IsScriptFor, LaterFailed, judged, misspelled}
 
+pub faulty_replay : (why : TextFault) (number : ℕ) (place : Place) → why ≡ text_fault.Text number place → (text : List ℕ) (script log : Option (List ℕ)) → ReadsWritten text (Err why)
+    → IsReplayDue (Some text) script log (outcome_of (puts status.Text (fault_line number place)))
+faulty_replay why number place is text script log answer =
+    replay_faulty text number place refl (subst (λ (w : TextFault). ReadsWritten text (Err w)) is answer) (outcome_of_puts status.Text (fault_line number place))
+
+pub stops : (tells : Bool) (held script log : Option (List ℕ)) (P : List ℕ → Type 0) (outcome : Outcome) → OnTrue tells (IsSomeAnd held P)
+    → ((text : List ℕ) → P text → IsReplayDue (Some text) script log outcome) → OnTrue tells (IsReplayDue held script log outcome)
+stops true (Some text) script log P outcome is due = due text is
+stops true None script log P outcome is due = absurd is
+stops false held script log P outcome is due = tt
+
+-- a script ends within ten digits
+pub soon_ended : (names : ImageNames) (lines : List ScriptLine) (end : ℕ) → (text : List ℕ) × IsScript names text lines end → end < 2 ^ 61
+soon_ended names lines end (text, is) = omega (arith, is.form)
+
 -- ---- the script, and the log where it is one
 
-module _ (tells : Bool) (g : Prog Place) (script log : List ℕ) (before mid now : FilesState) (P : List ℕ → Type 0) where
+module _ (tells : Bool) (g : Prog Place) (names : ImageNames) (same : names ≡ names_of (plain g)) (script log : List ℕ) (before mid now : FilesState) (P : List ℕ → Type 0) where
+  is_for : (text : List ℕ) (lines : List ScriptLine) (end : ℕ) → IsScript names text lines end → IsScript (names_of (plain g)) text lines end
+  is_for text lines end is = subst (λ (n : ImageNames). IsScript n text lines end) same is
+
   on_log : (t : Bool) (held other later : Option (List ℕ)) (lines : List ScriptLine) (end : ℕ) (outcome : Outcome) → OnTrue t (IsSomeAnd held P)
-      → ((text : List ℕ) → P text → IsScript (names_of (plain g)) text lines end) → OnTrue t (IsSomeAnd later (λ text. IsJudged g lines end text outcome)) → later ≡ other
+      → ((text : List ℕ) → P text → IsScript names text lines end) → OnTrue t (IsSomeAnd later (λ text. IsJudged g lines end text outcome)) → later ≡ other
       → OnTrue t (IsReplayed g held other outcome)
   on_log true (Some text) other later lines end outcome is right due stays = by other (subst (λ (o : Option (List ℕ)). IsSomeAnd o (λ x. IsJudged g lines end x outcome)) stays due)
     where
       by : (o : Option (List ℕ)) → IsSomeAnd o (λ x. IsJudged g lines end x outcome) → IsReplayed g (Some text) o outcome
-      by (Some x) due = judged text lines end x refl (right text is) refl due
+      by (Some x) due = judged text lines end x refl (is_for text lines end (right text is)) refl due
       by None due = absurd due
   on_log true None other later lines end outcome is right due stays = absurd is
   on_log false held other later lines end outcome is right due stays = tt
 
   pub log_due : (lines : List ScriptLine) (end : ℕ) (result : Result Act Unready) → OnTrue tells (IsSomeAnd (before.held script) P)
-      → ((text : List ℕ) → P text → IsScript (names_of (plain g)) text lines end) → AllStay before.held mid.held
+      → ((text : List ℕ) → P text → IsScript names text lines end) → AllStay before.held mid.held
       → IfOk result (λ act. OnTrue tells (IsSomeAnd (mid.held log) (λ text. IsJudged g lines end text (outcome_of act))))
       → IfOk result (λ act. OnTrue tells (IsReplayed g (before.held script) (before.held log) (outcome_of act)))
   log_due lines end (Ok act) is right stays due = on_log tells (before.held script) (before.held log) (mid.held log) lines end (outcome_of act) is right due (stays log)
   log_due lines end (Err why) is right stays due = tt
 
-  pub log_failed : (lines : List ScriptLine) (end : ℕ) → OnTrue tells (IsSomeAnd (before.held script) P) → ((text : List ℕ) → P text → IsScript (names_of (plain g)) text lines end)
+  pub log_failed : (lines : List ScriptLine) (end : ℕ) → OnTrue tells (IsSomeAnd (before.held script) P) → ((text : List ℕ) → P text → IsScript names text lines end)
       → NoneFell before.read_faults mid.read_faults → Failed mid now log → LaterFailed tells g before now script log
   log_failed lines end is right fell failed =
-      inr (rose_since (before.read_faults log) (mid.read_faults log) (now.read_faults log) (fell log) failed, of_held tells (before.held script) P (IsScriptFor g) is (λ text p. (lines, end, right text p)))
+      inr (
+        rose_since (before.read_faults log) (mid.read_faults log) (now.read_faults log) (fell log) failed,
+        of_held tells (before.held script) P (IsScriptFor g) is (λ text p. (lines, end, is_for text lines end (right text p))),
+      )
 
   bad : (t : Bool) (held other : Option (List ℕ)) (why : ScriptFault) (outcome : Outcome) → OnTrue t (IsSomeAnd held P)
-      → ((text : List ℕ) → P text → (why ≡ fault.Memory) ⊎ IsFault (names_of (plain g)) text why) → why ≢ fault.Memory → outcome ≡ bad_script why
+      → ((text : List ℕ) → P text → (why ≡ fault.Memory) ⊎ IsFault names text why) → why ≢ fault.Memory → outcome ≡ bad_script why
       → OnTrue t (IsReplayed g held other outcome)
-  bad true (Some text) other why outcome is wrong right_fault same = elim (wrong text is) [ inl memory ↦ absurd (right_fault memory) | inr f ↦ misspelled text why refl f right_fault same ]
-  bad true None other why outcome is wrong right_fault same = absurd is
-  bad false held other why outcome is wrong right_fault same = tt
+  bad true (Some text) other why outcome is wrong right_fault comes = elim (wrong text is) [
+    | inl memory ↦ absurd (right_fault memory)
+    | inr f ↦ misspelled text why refl (subst (λ (n : ImageNames). IsFault n text why) same f) right_fault comes
+  ]
+  bad true None other why outcome is wrong right_fault comes = absurd is
+  bad false held other why outcome is wrong right_fault comes = tt
 
   pub script_bad : (why : ScriptFault) (act : Act) → OnTrue tells (IsSomeAnd (before.held script) P)
-      → ((text : List ℕ) → P text → (why ≡ fault.Memory) ⊎ IsFault (names_of (plain g)) text why) → why ≢ fault.Memory → outcome_of act ≡ bad_script why
+      → ((text : List ℕ) → P text → (why ≡ fault.Memory) ⊎ IsFault names text why) → why ≢ fault.Memory → act ≡ puts status.Script (script_fault_line why)
       → OnTrue tells (IsReplayed g (before.held script) (before.held log) (outcome_of act))
-  script_bad why act is wrong right_fault same = bad tells (before.held script) (before.held log) why (outcome_of act) is wrong right_fault same
+  script_bad why act is wrong right_fault made =
+      bad tells (before.held script) (before.held log) why (outcome_of act) is wrong right_fault (put_comes_to status.Script (script_fault_line why) act made)
 
 -- ---- the program
 
@@ -110,13 +141,3 @@ module _ (tells : Bool) (program script log : List ℕ) (before mid now : FilesS
       (due_of tells (before.held program) (mid.held script) (mid.held log) (before.held script) (before.held log) g (outcome_of act) is written due (stays script) (stays log))
   replay_prepares g (Err unready.Unread) is written stays fell due quiet failed = later_failed g is written stays fell (failed refl)
   replay_prepares g (Err unready.Memory) is written stays fell due quiet failed = tt
-
-  faulty : (t : Bool) (held a b : Option (List ℕ)) (number : ℕ) (place : Place) (outcome : Outcome) → OnTrue t (IsSomeAnd held P)
-      → ((text : List ℕ) → P text → IsTextFault text number place) → outcome ≡ told 2 (fault_line number place) → OnTrue t (IsReplayDue held a b outcome)
-  faulty true (Some text) a b number place outcome is wrong same = replay_faulty text number place refl (wrong text is) same
-  faulty true None a b number place outcome is wrong same = absurd is
-  faulty false held a b number place outcome is wrong same = tt
-
-  pub fault_due : (number : ℕ) (place : Place) (act : Act) → OnTrue tells (IsSomeAnd (before.held program) P) → ((text : List ℕ) → P text → IsTextFault text number place)
-      → outcome_of act ≡ told 2 (fault_line number place) → OnTrue tells (IsReplayDue (before.held program) (before.held script) (before.held log) (outcome_of act))
-  fault_due number place act is wrong same = faulty tells (before.held program) (before.held script) (before.held log) number place (outcome_of act) is wrong same

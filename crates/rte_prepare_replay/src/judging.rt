@@ -2,26 +2,25 @@
 
 ghost use Rattle.std.specs.Prelude.{◌≡◌, ◌≢◌, ◌<◌, ◌^◌, ℕ, List, IfOk};
 ghost use Rattle.rte_answers.specs.Acts.{outcome_of};
-ghost use Rattle.rte_built.specs.Named.{names_of};
 ghost use Rattle.rte_commands.specs.Source.{IsWritten};
 ghost use Rattle.rte_contents.specs.Acting.{IsQuiet, puts};
 ghost use Rattle.rte_contents.specs.Contents.{IsContent};
-ghost use Rattle.rte_log_reading.specs.Logs.{AreFew, longest_text};
+ghost use Rattle.rte_log_reading.specs.Logs.{longest_text};
 ghost use Rattle.rte_log_reading.specs.declared.fault.LogFault.TheVariants as log_fault;
+ghost use Rattle.rte_prepare_replay.specs.Held.{IsSource};
 ghost use Rattle.rte_prepare_replay.specs.Lines.{line_of, status_of};
 ghost use Rattle.rte_replay_due.specs.Due as due;
 ghost use Rattle.rte_replay_due.specs.Due.{IsJudged};
-ghost use Rattle.rte_tree.specs.Placed.{placed, plain};
+ghost use Rattle.rte_tree.specs.Placed.{placed};
 
 use crate::logs::judge_log;
+use crate::sources::Source;
 use rte_answers::{Act, Status};
 use rte_contents::{Content, put};
-use rte_image::ImageNames;
 use rte_lines::{log_fault_line, refused_line, run_line};
 use rte_log_reading::LogFault;
 use rte_replay_program::{Verdict, replay};
 use rte_script::Script;
-use rte_static::Checked;
 use std::alloc::{AllocError, Global};
 
 /// The act that puts the verdict on a log of so many events.
@@ -48,23 +47,22 @@ fn refuse_log<'a>(alloc: Global, fault: &LogFault) -> Result<Act<'a>, AllocError
 /// The act of `replay` for what the log's file holds, where program and script have no fault.
 pub fn log_act<'a>(
     alloc: Global,
-    program: &Checked,
-    names: &ImageNames,
+    source: &Source,
     script: &Script,
     content: &Content,
 ) -> Result<Act<'a>, AllocError>
     ghost text: { List ℕ }
-    requires written { IsWritten text (placed program.now) }
-    requires names { names.now ≡ names_of (plain (placed program.now)) }
-    requires few { AreFew names.now }
+    requires source { IsSource source.now }
+    requires written { IsWritten text (placed source.now.program) }
     requires end { script.now.end < 2 ^ 61 }
     ensures due { IfOk result (λ act. (log : List ℕ) → IsContent longest_text content.now log →
-        IsJudged (placed program.now) script.now.lines script.now.end log (outcome_of act)) }
+        IsJudged (placed source.now.program) script.now.lines script.now.end log
+        (outcome_of act)) }
     ensures quiet { IfOk result IsQuiet }
 {
-    match judge_log(alloc, content, names) {
+    match judge_log(alloc, content, &source.names) {
         Ok(events) => {
-            let verdict = replay(alloc, program, script, events.as_slice())?;
+            let verdict = replay(alloc, &source.program, script, events.as_slice())?;
             put_verdict(alloc, verdict, events.len() as u64)
         }
         Err(fault) => refuse_log(alloc, &fault),

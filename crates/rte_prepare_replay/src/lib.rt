@@ -9,5 +9,6 @@ mod judging;
 mod logs;
 mod names;
 mod preparing;
+mod sources;
 
 pub use preparing::prepare_replay;

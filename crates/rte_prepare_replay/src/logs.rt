@@ -1,6 +1,6 @@
 //! Logs judged.
 
-ghost use Rattle.std.specs.Prelude.{◌≡◌, ◌<◌, ◌⊎◌, ℕ, List, IfOk, IfErr, OnOk, length};
+ghost use Rattle.std.specs.Prelude.{◌≡◌, ◌<◌, ◌⊎◌, ℕ, List, IfOk, IfErr, length};
 ghost use Rattle.rte_contents.specs.Contents.{IsContent};
 ghost use Rattle.rte_log_reading.specs.Logs.{AreFew, IsFault, IsLog, longest_text};
 ghost use Rattle.rte_log_reading.specs.declared.fault.LogFault.TheVariants as fault;

@@ -50,7 +50,8 @@ fn ceiling_numbers(alloc: Global, monitors: &[RawMon]) -> Result<Vec<Option<u64>
 }
 
 /// The ranks and ceilings of the program of a text, which keeps to all rules and is not too large.
-/// It takes the time of generating its code, and fails only where memory is wanting.
+/// It takes the time of generating its code. Want of memory is the only error; a program that is
+/// refused here, which the condition is to rule out, is answered so too.
 pub fn ranks_of(alloc: Global, program: &Checked) -> Result<Ranks, AllocError>
     ghost text: { List ℕ }
     requires written { IsWritten text (placed program.now) }

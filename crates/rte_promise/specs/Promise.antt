@@ -1,5 +1,5 @@
 -- What a call that answers 0 has read, stored and put, and when one answers 3.
-use Rattle.std.specs.Prelude.{◌≡◌, ◌≤◌, ℕ, List, Some, length}
+use Rattle.std.specs.Prelude.{◌≡◌, ◌≤◌, ◌++◌, ℕ, List, Option, Some, IsSomeAnd, length}
 use Rattle.rte_tree.specs.declared.place.Place.{Place}
 use Rattle.rte_tree.specs.Placed.{Prog}
 use Rattle.rte_tree.specs.Bare.{bare}
@@ -15,7 +15,7 @@ use Rattle.rte_report.specs.Report.{report_text}
 use Rattle.rte_report.specs.Json.{report_json}
 use Rattle.rte_script.specs.declared.script.ScriptLine.{ScriptLine}
 use Rattle.rte_script.specs.Scripts.{IsScript}
-use Rattle.rte_words.specs.Calls.{Call, go, check, compile, json, slack, print, run, migrate, asm, dis, watch, replay}
+use Rattle.rte_words.specs.Calls.{Call, go, check, compile, json, slack, print, run, migrate, asm, dis, watch, replay, edf}
 use Rattle.rte_commands.specs.Source.{IsWritten, Style, report_of}
 use Rattle.rte_commands.specs.Due.{IsImageFile, stored, log}
 use Rattle.rte_commands.specs.Runs.{KeepsItsWord, IsAccepted, IsUnsolved, IsDone}
@@ -32,6 +32,11 @@ use Rattle.rte_built.specs.Named.{names_of}
 use Rattle.rte_commands.specs.Script.{said}
 use Rattle.rte_log_reading.specs.Logs.{IsLog}
 use Rattle.rte_replay_due.specs.Due.{IsRecorded, run_line}
+use Rattle.rte_demand.specs.declared.judging.Judgement.{Judgement}
+use Rattle.rte_demand.specs.declared.judging.Judgement.TheVariants as judgement
+use Rattle.rte_edf_due.specs.Due.{IsFeasibleText, IsJudgedText, IsUnfit, edf_log}
+use Rattle.rte_edf_due.specs.Report.{edf_report}
+use Rattle.rte_edf_runs.specs.Runs.{IsEdfRun}
 
 -- `go`: a program and a script are accepted, the image is stored, the report and the log are put
 pub record HasGone (over : ℕ) (program image script : List ℕ) (before now : Outside) : Type 0 where
@@ -147,6 +152,23 @@ pub record HasReplayed (program script log : List ℕ) (before now : Outside) : 
   pub run : IsSourceRun (plain tree) (said lines end) events
   pub put : Appends before.out.taken now.out.taken (run_line (length events))
 
+-- `edf`: the demand of a program without waits is met, and its report and the log of its run under
+-- earliest deadline first are put; so is every run of its image over a script for its names
+pub record HasMetDeadlines (program script : List ℕ) (before now : Outside) : Type 0 where
+  pub text : List ℕ
+  pub held : before.files.held program ≡ Some text
+  pub image : NamedImage
+  pub points : ℕ
+  pub feasible : IsFeasibleText text image points
+  pub other : List ℕ
+  pub script_held : before.files.held script ≡ Some other
+  pub lines : List ScriptLine
+  pub end : ℕ
+  pub script_written : IsScript image.names other lines end
+  pub put : Appends before.out.taken now.out.taken (edf_report image (judgement.Feasible points) ++ edf_log image lines end)
+  pub keeps : (script' : List ℕ) (lines' : List ScriptLine) (end' : ℕ) → IsScript image.names script' lines' end'
+      → IsEdfRun (plain feasible.tree) image.image (said lines' end')
+
 -- what a call that answers 0 has done
 abbrev pub HasDone : Call → (before now : Outside) → Type 0
 HasDone (go program image script over) before now = HasGone over program image script before now
@@ -161,13 +183,20 @@ HasDone (asm text image) before now = HasAssembled text image before now
 HasDone (dis image text) before now = HasDisassembled image text before now
 HasDone (watch image script stop) before now = HasWatched image script stop before now
 HasDone (replay program script log) before now = HasReplayed program script log before now
+HasDone (edf program script) before now = HasMetDeadlines program script before now
+
+-- the text is that of a program without waits, and the test does not say that its demand is met
+abbrev pub IsUnmet : Option (List ℕ) → Type 0
+IsUnmet held = IsSomeAnd held (λ text. (n : NamedImage) × (answer : Judgement) × IsJudgedText text n answer × IsUnfit answer)
 
 -- the call answers 3 exactly where the recurrence of some process of the program has no solution
--- within its deadline; a call that asks no program for its time never does
+-- within its deadline, and of `edf` where its demand is not met; a call that asks no program for
+-- its time never does
 abbrev pub IsRefusedForTime : Call → Outside → Type 0
 IsRefusedForTime (go program image script over) before = IsUnsolved over (before.files.held program)
 IsRefusedForTime (check program over) before = IsUnsolved over (before.files.held program)
 IsRefusedForTime (compile program image over) before = IsUnsolved over (before.files.held program)
 IsRefusedForTime (json program over) before = IsUnsolved over (before.files.held program)
 IsRefusedForTime (slack program over) before = IsUnsolved over (before.files.held program)
+IsRefusedForTime (edf program script) before = IsUnmet (before.files.held program)
 IsRefusedForTime call before = ⊥

@@ -6,6 +6,7 @@
 //! not asked.
 #![tactic(auto)]
 
+mod nesting;
 mod replaying;
 
 pub use replaying::replay;

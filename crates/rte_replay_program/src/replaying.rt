@@ -9,6 +9,7 @@ ghost use Rattle.rte_source_meaning.specs.Config.{start as start_of};
 ghost use Rattle.rte_tree.specs.Placed.{placed, plain};
 ghost use Rattle.rte_verdict.specs.Verdicts.{Judges};
 
+use crate::nesting::levels;
 use rte_choice::Ranks;
 use rte_declarations::Declarations;
 use rte_event::Event;
@@ -21,6 +22,10 @@ use rte_small::checked_programs_are_ready;
 use rte_static::Checked;
 use rte_verdict::Verdict;
 use std::alloc::{AllocError, Global};
+
+/// The most levels of statements and expressions for which calls are followed: each takes some of
+/// the stack.
+const MOST_LEVELS: u64 = 10_000;
 
 /// The verdict on events, by the declarations of their program and by its ranks and ceilings.
 fn judged<'a, 'b: 'a>(
@@ -43,8 +48,9 @@ fn judged<'a, 'b: 'a>(
 }
 
 /// Whether the events are a run, over the script, of the program of a text, which keeps to all
-/// rules and is not too large; else the first line that is refused, the first line being 1. It fails
-/// only where memory is wanting.
+/// rules and is not too large; else the first line that is refused, the first line being 1. Want of
+/// memory is the only error; it is told too where the texts of the program have more than 10,000
+/// levels of statements and expressions together, for which the stack may be too small.
 pub fn replay(
     alloc: Global,
     program: &Checked,
@@ -61,6 +67,9 @@ pub fn replay(
 {
     checked_programs_are_ready();
     frames_pass();
+    if levels(program.prog()) > MOST_LEVELS {
+        return Err(AllocError);
+    }
     let declarations = Declarations::new(alloc, program.named())?;
     let ranks = ranks_of(alloc, program)?;
     judged(alloc, &declarations, ranks, script, events)

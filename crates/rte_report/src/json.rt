@@ -1,178 +1,221 @@
 //! The report as JSON.
 
-ghost use Rattle.std.specs.Prelude.{◌≡◌, ◌++◌, length, false, IfOk, OnOk};
-ghost use Rattle.std.specs.Option.{option_copied};
+ghost use Rattle.std.specs.Prelude.{◌≡◌, length, map, IfOk, OnOk};
+ghost use Rattle.serde_json.specs.Data.{array, string, put as with_member};
+ghost use Rattle.serde_json.specs.View.{items_of, members_view, view};
 ghost use Rattle.rte_report.specs.Late.{IsNamed};
 ghost use Rattle.rte_report.specs.Json as json;
 
 use crate::late::late;
 use crate::lines::{GREATEST, widened};
-use itoa::Buffer;
 use rte_image::ImageNames;
 use rte_table::{Row, Table};
 use rte_tree::{Name, Text};
+use serde_json::{Map, Value, put};
 use std::alloc::{AllocError, Global};
+use std::str;
 
-/// Puts a key and a number at the end of a text.
-#[tactic(auto, unfolding(crate::specs::Json::with_json))]
-fn add_number(text: &mut Text, key: &str, number: u64) -> Result<(), AllocError>
-    ensures { OnOk result (text.new ≡ text.old ++ json.with_json key.now number) }
+/// A number, or `over`.
+#[tactic(auto, unfolding(crate::specs::Json::number_data))]
+fn number_value(alloc: Global, number: u64) -> Result<Value, AllocError>
+    ensures { IfOk result (λ value. view value ≡ json.number_data number) }
 {
-    text.extend(key.as_bytes())?;
     if number > GREATEST {
-        return text.extend(b"\"over\"");
+        return Value::try_from_str(alloc, "over");
     }
-    let mut buffer = Buffer::new();
-    text.extend(buffer.format(number).as_bytes())
+    Ok(Value::from(number))
 }
 
-/// Puts a key, and a number or `none`, at the end of a text.
-#[tactic(auto, unfolding(crate::specs::Json::with_optional_json, crate::specs::Json::with_json))]
-fn add_optional(text: &mut Text, key: &str, number: Option<u64>) -> Result<(), AllocError>
-    ensures { OnOk result (text.new ≡ text.old ++ json.with_optional_json key.now number) }
+/// A number, or `none`.
+#[tactic(auto, unfolding(crate::specs::Json::optional_data))]
+fn optional_value(alloc: Global, number: Option<u64>) -> Result<Value, AllocError>
+    ensures { IfOk result (λ value. view value ≡ json.optional_data number) }
 {
     match number {
-        Some(number) => add_number(text, key, number),
-        None => {
-            text.extend(key.as_bytes())?;
-            text.extend(b"\"none\"")
-        }
+        Some(number) => number_value(alloc, number),
+        None => Value::try_from_str(alloc, "none"),
     }
 }
 
-/// Puts a key and a name at the end of a text.
-#[tactic(auto, unfolding(crate::specs::Json::with_string))]
-fn add_name(text: &mut Text, key: &str, name: &Name) -> Result<(), AllocError>
-    ensures { OnOk result (text.new ≡ text.old ++ json.with_string key.now name.now) }
+/// A name as a string. A name that is not UTF-8 is an error as want of memory is; an identifier is
+/// UTF-8.
+fn name_value(alloc: Global, name: &Name) -> Result<Value, AllocError>
+    ensures { IfOk result (λ value. view value ≡ string name.now) }
 {
-    text.extend(key.as_bytes())?;
-    text.extend(b"\"")?;
-    text.extend(name.as_bytes())?;
-    text.extend(b"\"")
+    match str::from_utf8(name.as_bytes()) {
+        Ok(text) => Value::try_from_str(alloc, text),
+        Err(_) => Err(AllocError),
+    }
 }
 
-/// Puts the deadline at the end of a text, where it is not the frame.
-#[tactic(auto, unfolding(crate::specs::Json::deadline_json))]
-fn add_deadline(text: &mut Text, frame: u64, deadline: u64) -> Result<(), AllocError>
-    ensures { OnOk result (text.new ≡ text.old ++ json.deadline_json frame deadline) }
+/// Puts a number, or `over`, at a key.
+fn put_number(
+    members: &mut Map<String, Value>,
+    alloc: Global,
+    key: &str,
+    number: u64,
+) -> Result<(), AllocError>
+    ensures { OnOk result (members_view members.new.entries
+        ≡ with_member key.now (json.number_data number) (members_view members.old.entries)) }
+{
+    put(members, alloc, key, number_value(alloc, number)?)
+}
+
+/// Puts the deadline, where it is not the frame.
+#[tactic(auto, unfolding(crate::specs::Json::with_deadline))]
+fn put_deadline(
+    members: &mut Map<String, Value>,
+    alloc: Global,
+    frame: u64,
+    deadline: u64,
+) -> Result<(), AllocError>
+    ensures { OnOk result (members_view members.new.entries
+        ≡ json.with_deadline frame deadline (members_view members.old.entries)) }
 {
     if deadline == frame {
         return Ok(());
     }
-    add_number(text, ",\"deadline\":", deadline)
+    put_number(members, alloc, "deadline", deadline)
 }
 
-/// Puts the keys up to `data` at the end of a text.
-#[tactic(auto, unfolding(crate::specs::Json::first_json))]
-fn add_first(text: &mut Text, row: &Row) -> Result<(), AllocError>
-    ensures { OnOk result (text.new ≡ text.old ++ json.first_json row.now) }
+/// The members of a process, but for its deadline.
+#[tactic(auto, unfolding(crate::specs::Json::process_members))]
+fn process_members(alloc: Global, name: &Name, row: &Row) -> Result<Map<String, Value>, AllocError>
+    ensures { IfOk result (λ members. members_view members.entries
+        ≡ json.process_members name.now row.now) }
 {
-    add_number(text, "{\"block\":", row.block)?;
-    add_optional(text, ",\"bound\":", row.bound)?;
-    add_number(text, ",\"cost\":", row.cost.run)?;
-    add_number(text, ",\"data\":", u64::from(row.size.words))
+    let mut members = Map::new(alloc);
+    put_number(&mut members, alloc, "block", row.block)?;
+    put(
+        &mut members,
+        alloc,
+        "bound",
+        optional_value(alloc, row.bound)?,
+    )?;
+    put_number(&mut members, alloc, "cost", row.cost.run)?;
+    put_number(&mut members, alloc, "data", u64::from(row.size.words))?;
+    put_number(&mut members, alloc, "frame", row.frame)?;
+    put(&mut members, alloc, "name", name_value(alloc, name)?)?;
+    put_number(&mut members, alloc, "rank", u64::from(row.rank))?;
+    put_number(&mut members, alloc, "stack", u64::from(row.size.stack))?;
+    put_number(&mut members, alloc, "suspend", row.cost.susp)?;
+    put_number(&mut members, alloc, "waits", row.cost.waits)?;
+    Ok(members)
 }
 
-/// Puts the keys from `rank` on at the end of a text.
-#[tactic(auto, unfolding(crate::specs::Json::last_json))]
-fn add_last(text: &mut Text, row: &Row) -> Result<(), AllocError>
-    ensures { OnOk result (text.new ≡ text.old ++ json.last_json row.now) }
+/// The object of a process.
+fn process_value(alloc: Global, name: &Name, row: &Row) -> Result<Value, AllocError>
+    ensures { IfOk result (λ value. view value ≡ json.process_data name.now row.now) }
 {
-    add_number(text, ",\"rank\":", u64::from(row.rank))?;
-    add_number(text, ",\"stack\":", u64::from(row.size.stack))?;
-    add_number(text, ",\"suspend\":", row.cost.susp)?;
-    add_number(text, ",\"waits\":", row.cost.waits)?;
-    text.extend(b"}")
+    let mut members = process_members(alloc, name, row)?;
+    put_deadline(&mut members, alloc, row.frame, row.deadline)?;
+    Ok(Value::Object(members))
 }
 
-/// Puts the object of a process at the end of a text.
-#[tactic(auto, unfolding(crate::specs::Json::process_json))]
-fn add_process(text: &mut Text, name: &Name, row: &Row) -> Result<(), AllocError>
-    ensures { OnOk result (text.new ≡ text.old ++ json.process_json name.now row.now) }
-{
-    add_first(text, row)?;
-    add_deadline(text, row.frame, row.deadline)?;
-    add_number(text, ",\"frame\":", row.frame)?;
-    add_name(text, ",\"name\":", name)?;
-    add_last(text, row)
-}
-
-/// Puts a comma at the end of a text, where something stands before.
-fn add_comma(text: &mut Text, later: bool) -> Result<(), AllocError>
-    ensures { OnOk result (text.new ≡ text.old ++ json.comma_if later) }
-{
-    if later { text.extend(b",") } else { Ok(()) }
-}
-
-/// Puts the objects of the processes at the end of a text.
-fn add_processes(text: &mut Text, names: &[Name], rows: &[Row]) -> Result<(), AllocError>
+/// The objects of the processes.
+fn process_values(alloc: Global, names: &[Name], rows: &[Row]) -> Result<Vec<Value>, AllocError>
     requires { length names.now ≡ length rows.now }
-    ensures { OnOk result (text.new ≡ text.old ++ json.processes_json false names.now rows.now) }
+    ensures { IfOk result (λ values. map view values.items
+        ≡ json.processes_data names.now rows.now) }
 {
+    let mut values = Vec::new(alloc);
     for (at, row) in rows.iter().enumerate() {
-        add_comma(text, at > 0)?;
-        add_process(text, &names[at], row)?;
+        values.push(process_value(alloc, &names[at], row)?)?;
     }
-    Ok(())
+    Ok(values)
 }
 
-/// Puts the object of a monitor at the end of a text.
-#[tactic(auto, unfolding(crate::specs::Json::monitor_json))]
-fn add_monitor(
-    text: &mut Text,
+/// The object of a monitor.
+#[tactic(auto, unfolding(crate::specs::Json::monitor_data))]
+fn monitor_value(
+    alloc: Global,
     name: &Name,
     ceiling: Option<u16>,
     words: u32,
-) -> Result<(), AllocError>
-    ensures { OnOk result (text.new ≡ text.old ++ json.monitor_json name.now ceiling words) }
+) -> Result<Value, AllocError>
+    ensures { IfOk result (λ value. view value ≡ json.monitor_data name.now ceiling words) }
 {
-    add_optional(text, "{\"ceiling\":", widened(ceiling))?;
-    add_name(text, ",\"name\":", name)?;
-    add_number(text, ",\"words\":", u64::from(words))?;
-    text.extend(b"}")
+    let mut members = Map::new(alloc);
+    put(
+        &mut members,
+        alloc,
+        "ceiling",
+        optional_value(alloc, widened(ceiling))?,
+    )?;
+    put(&mut members, alloc, "name", name_value(alloc, name)?)?;
+    put_number(&mut members, alloc, "words", u64::from(words))?;
+    Ok(Value::Object(members))
 }
 
-/// Puts the objects of the monitors at the end of a text.
-fn add_monitors(
-    text: &mut Text,
+/// The objects of the monitors.
+fn monitor_values(
+    alloc: Global,
     names: &[Name],
     ceilings: &[Option<u16>],
     words: &[u32],
-) -> Result<(), AllocError>
+) -> Result<Vec<Value>, AllocError>
     requires ceilings { length names.now ≡ length ceilings.now }
     requires words { length names.now ≡ length words.now }
-    ensures { OnOk result (text.new
-        ≡ text.old ++ json.monitors_json false names.now ceilings.now words.now) }
+    ensures { IfOk result (λ values. map view values.items
+        ≡ json.monitors_data names.now ceilings.now words.now) }
 {
+    let mut values = Vec::new(alloc);
     for (at, name) in names.iter().enumerate() {
-        add_comma(text, at > 0)?;
-        add_monitor(text, name, ceilings[at], words[at])?;
+        values.push(monitor_value(alloc, name, ceilings[at], words[at])?)?;
     }
-    Ok(())
+    Ok(values)
 }
 
-/// Puts the monitors and the processes at the end of a text.
-#[tactic(auto, unfolding(crate::specs::Json::arrays_json))]
-fn add_arrays(text: &mut Text, names: &ImageNames, table: &Table) -> Result<(), AllocError>
+/// The array of the monitors.
+fn monitors_value(alloc: Global, names: &ImageNames, table: &Table) -> Result<Value, AllocError>
     requires { IsNamed names.now table.now }
-    ensures { OnOk result (text.new ≡ text.old ++ json.arrays_json names.now table.now) }
+    ensures { IfOk result (λ value. view value ≡ array (items_of
+        (json.monitors_data names.now.monitors table.now.ceilings table.now.mon_words))) }
 {
     let (ceilings, words) = (table.ceilings.as_slice(), table.mon_words.as_slice());
-    text.extend(b",\"monitors\":[")?;
-    add_monitors(text, names.monitors.as_slice(), ceilings, words)?;
-    text.extend(b"],\"processes\":[")?;
-    add_processes(text, names.processes.as_slice(), table.rows.as_slice())?;
-    text.extend(b"]")
+    let values = monitor_values(alloc, names.monitors.as_slice(), ceilings, words)?;
+    Ok(Value::Array(values))
 }
 
-/// Puts whether the program is timely, and the end, at the end of a text.
-fn add_timely(text: &mut Text, late: Option<&Name>) -> Result<(), AllocError>
-    ensures { OnOk result (text.new ≡ text.old ++ json.timely_json (option_copied late.entry)) }
+/// The array of the processes.
+fn processes_value(alloc: Global, names: &ImageNames, table: &Table) -> Result<Value, AllocError>
+    requires { IsNamed names.now table.now }
+    ensures { IfOk result (λ value. view value ≡ array (items_of
+        (json.processes_data names.now.processes table.now.rows))) }
 {
-    match late {
-        None => text.extend(b",\"timely\":true}\n"),
-        Some(_) => text.extend(b",\"timely\":false}\n"),
-    }
+    let values = process_values(alloc, names.processes.as_slice(), table.rows.as_slice())?;
+    Ok(Value::Array(values))
+}
+
+/// The report as a value.
+#[tactic(auto, unfolding(crate::specs::Json::report_data))]
+fn report_value(
+    alloc: Global,
+    names: &ImageNames,
+    program: &Name,
+    table: &Table,
+) -> Result<Value, AllocError>
+    requires { IsNamed names.now table.now }
+    ensures { IfOk result (λ value. view value ≡ json.report_data names.now program.now table.now) }
+{
+    let late = late(names.processes.as_slice(), table.rows.as_slice());
+    let mut members = Map::new(alloc);
+    put_number(&mut members, alloc, "code", u64::from(table.code))?;
+    put(
+        &mut members,
+        alloc,
+        "monitors",
+        monitors_value(alloc, names, table)?,
+    )?;
+    put(
+        &mut members,
+        alloc,
+        "processes",
+        processes_value(alloc, names, table)?,
+    )?;
+    put(&mut members, alloc, "program", name_value(alloc, program)?)?;
+    put(&mut members, alloc, "timely", Value::from(late.is_none()))?;
+    Ok(Value::Object(members))
 }
 
 /// The report on a program as one JSON object without spaces, ended by a line feed, for a table
@@ -181,8 +224,9 @@ fn add_timely(text: &mut Text, late: Option<&Name>) -> Result<(), AllocError>
 ///
 /// The keys stand in the order of their bytes. The deadline stands where it is not the frame, a
 /// number above 1,000,000,000 is the string `over`, and a bound or a ceiling that is not there the
-/// string `none`. Only want of memory is an error.
-#[tactic(auto, unfolding(crate::specs::Json::report_json))]
+/// string `none`. Want of memory is an error; so is a name that is not UTF-8, which no identifier
+/// is.
+#[tactic(auto, using(crate::proofs::NoFloat::report), unfolding(crate::specs::Json::report_json))]
 pub fn report_json(
     alloc: Global,
     names: &ImageNames,
@@ -192,11 +236,8 @@ pub fn report_json(
     requires { IsNamed names.now table.now }
     ensures { IfOk result (λ text. text ≡ json.report_json names.now program.now table.now) }
 {
-    let late = late(names.processes.as_slice(), table.rows.as_slice());
-    let mut text = Text::new(alloc);
-    add_number(&mut text, "{\"code\":", u64::from(table.code))?;
-    add_arrays(&mut text, names, table)?;
-    add_name(&mut text, ",\"program\":", program)?;
-    add_timely(&mut text, late)?;
+    let value = report_value(alloc, names, program, table)?;
+    let mut text = Text::from_bytes(alloc, value.to_vec(alloc)?.as_slice())?;
+    text.extend(b"\n")?;
     Ok(text)
 }

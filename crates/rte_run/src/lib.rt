@@ -8,4 +8,5 @@
 mod put;
 mod to_end;
 
+pub use put::put_all;
 pub use to_end::run;

@@ -33,7 +33,7 @@ fn put_line<O: Sink>(
 
 /// Puts the line of each event, one put a line, up to the first put that fails; the lines are
 /// written over the text.
-pub(crate) fn put_all<O: Sink>(
+pub fn put_all<O: Sink>(
     text: &mut Line,
     names: &ImageNames,
     events: &[Event],

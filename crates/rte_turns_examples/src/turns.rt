@@ -1,11 +1,11 @@
 //! Where turns end.
 
 ghost use Rattle.std.specs.Prelude.{◌≡◌, IfOk, IfSome};
-ghost use Rattle.rte_answers.specs.Acts.{CanRun};
+ghost use Rattle.rte_answers.specs.Acts.{CanRun, CanRunByRanks};
 ghost use Rattle.rte_image.specs.Raw.{image_of};
 ghost use Rattle.rte_machine_meaning.specs.Image.{Image};
 
-use rte_answers::{Act, Run};
+use rte_answers::{Act, Dispatch, Run};
 use rte_io::MemFiles;
 use rte_plan::plan_of;
 use rte_prepare::prepare;
@@ -21,20 +21,23 @@ const VALVE: &str =
 /// One empty process with the longest frame.
 const RARE: &str = "program a process p : periodic frame 1000000000 begin end p end a";
 
-/// The run, which is there.
+/// The run, which is there, and by ranks.
 fn run_in(run: Option<Run>) -> Result<Run, Fail>
     requires { IfSome run CanRun }
-    ensures { IfOk result CanRun }
+    ensures { IfOk result CanRunByRanks }
 {
     match run {
-        Some(run) => Ok(run),
+        Some(run) => match run.dispatch {
+            Dispatch::Ranks => Ok(run),
+            Dispatch::Deadlines => Err(Fail::new("it is run by deadlines")),
+        },
         None => Err(Fail::new("nothing is run")),
     }
 }
 
 /// What `go` runs of a program over a script.
 fn run_of(alloc: Global, program: &str, script: &str) -> Result<Run, Fail>
-    ensures { IfOk result CanRun }
+    ensures { IfOk result CanRunByRanks }
 {
     let mut files = MemFiles::new(alloc, Vec::new(alloc), Vec::new(alloc));
     files.place("P", program.as_bytes())?;
@@ -58,7 +61,7 @@ fn run_of(alloc: Global, program: &str, script: &str) -> Result<Run, Fail>
 fn turn_ends(alloc: Global, run: &Run) -> Result<Vec<u64>, Fail>
     ghost image: { Image }
     requires image { image ≡ image_of run.now.image }
-    requires can { CanRun run.now }
+    requires can { CanRunByRanks run.now }
 {
     let plan = plan_of(alloc, &run.image)?;
     let mut machine = Machine::new(alloc, &plan, &run.script)?;

@@ -3,7 +3,7 @@ use Rattle.std.proofs.Common.{◌≡◌, ◌≤◌, ◌-◌, ℕ, List, [], ◌�
 use Rattle.std.specs.Prelude.{All}
 use Rattle.std.proofs.lemmas.List.Elements.{All-drop}
 use Rattle.rte_answers.specs.declared.act.Run.{Run}
-use Rattle.rte_answers.specs.Acts.{CanRun}
+use Rattle.rte_answers.specs.Acts.{CanRunByRanks}
 use Rattle.rte_commands.specs.Script.{line_said, run_of}
 use Rattle.rte_event.specs.declared.event.Event.{Event}
 use Rattle.rte_image.specs.Raw.{image_of}
@@ -42,7 +42,7 @@ same_script script =
 
 -- ---- the machine
 
-pub is_runnable : (run : Run) → CanRun run → IsRunnable (image_of run.image) (script_of run.script)
+pub is_runnable : (run : Run) → CanRunByRanks run → IsRunnable (image_of run.image) (script_of run.script)
 is_runnable run can = valid_runs_are_runnable (image_of run.image) (script_of run.script) can.limits can.valid can.script.frames can.script.order (let end = can.script.end in omega (arith, end))
 
 -- ---- the lines
@@ -60,7 +60,7 @@ from_start image script t =
     ap (λ (n : ℕ). events_from image script n 0 (state_at image script 0)) all
 
 -- the last events before a tick have lines
-pub recent_lines : (run : Run) (t : ℕ) → CanRun run → t ≤ run.script.end → All (AreIn run.image.names) (recent (events_before (image_of run.image) (script_of run.script) t))
+pub recent_lines : (run : Run) (t : ℕ) → CanRunByRanks run → t ≤ run.script.end → All (AreIn run.image.names) (recent (events_before (image_of run.image) (script_of run.script) t))
 recent_lines run t can within =
     let image : Image = image_of run.image in
     let script : Script = script_of run.script in

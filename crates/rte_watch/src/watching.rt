@@ -1,7 +1,7 @@
 //! Watching.
 
 ghost use Rattle.std.specs.Prelude.{◌≡◌, ◌≤◌, All, IfOk, length};
-ghost use Rattle.rte_answers.specs.Acts.{CanRun};
+ghost use Rattle.rte_answers.specs.Acts.{CanRunByRanks, by_ranks};
 ghost use Rattle.rte_image.specs.Raw.{image_of, named_of};
 ghost use Rattle.rte_inspect.specs.Laws.{HasItsWords};
 ghost use Rattle.rte_log.specs.InRange.{AreIn};
@@ -58,7 +58,7 @@ fn watch_by(
     requires image { run.image ≡ image_of image.now }
     requires script { run.script ≡ script_of script.now }
     requires plan { IsOf run.image plan.now }
-    requires can { CanRun (record { image = image.now; script = script.now }) }
+    requires can { CanRunByRanks (by_ranks image.now script.now) }
     ensures { IfOk result (λ text.
         IsStopText (named_of image.now) script.now.lines script.now.end stop text) }
 {
@@ -77,7 +77,7 @@ pub fn watch(
     script: &Script,
     stop: Stop,
 ) -> Result<Text, AllocError>
-    requires { CanRun (record { image = image.now; script = script.now }) }
+    requires { CanRunByRanks (by_ranks image.now script.now) }
     ensures { IfOk result (λ text.
         IsStopText (named_of image.now) script.now.lines script.now.end stop text) }
 {

@@ -16,6 +16,7 @@ pub data Call : Type 0 where
   dis : (image text : List ℕ) → Call
   watch : (image script : List ℕ) (stop : Stop) → Call
   replay : (program script log : List ℕ) → Call
+  edf : (program script : List ℕ) → Call
 
 -- the overhead, 0 where a call has none
 abbrev pub over_of : Call → ℕ

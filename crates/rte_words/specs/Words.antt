@@ -2,7 +2,7 @@
 use Rattle.std.specs.Prelude.{◌≡◌, ℕ, ◌+◌, All, IsTrue, Bool, false, not, ◌==◌, List, [], ◌∷◌, Option, Some, None, if◌then◌else◌, map, option_map, find, String, string_bytes, bytes_eq, codes, decimal}
 use Rattle.std.specs.List.{range_with_len}
 use Rattle.std.specs.Global.{Global}
-use Rattle.rte_words.specs.Calls.{Call, go, check, compile, json, slack, print, run, migrate, asm, dis, watch, replay}
+use Rattle.rte_words.specs.Calls.{Call, go, check, compile, json, slack, print, run, migrate, asm, dis, watch, replay, edf}
 use Rattle.rte_words.specs.declared.command.Command.{Command}
 use Rattle.rte_words.specs.declared.command.Command.TheVariants as command
 use Rattle.rte_words.specs.declared.stop.Stop.{Stop}
@@ -84,6 +84,10 @@ abbrev pub replay_row : List (List ℕ) → Option Call
 replay_row (program ∷ script ∷ log ∷ []) = Some (replay program script log)
 replay_row words = None
 
+abbrev pub edf_row : List (List ℕ) → Option Call
+edf_row (program ∷ script ∷ []) = Some (edf program script)
+edf_row words = None
+
 -- the table: the word of each command, and its row
 abbrev pub row_of : List (List ℕ) → Option Call
 row_of [] = None
@@ -99,7 +103,8 @@ row_of (word ∷ words) =
     (if bytes_eq word (codes "asm") then asm_row words else
     (if bytes_eq word (codes "dis") then dis_row words else
     (if bytes_eq word (codes "watch") then watch_row words else
-    (if bytes_eq word (codes "replay") then replay_row words else None)))))))))))
+    (if bytes_eq word (codes "replay") then replay_row words else
+    (if bytes_eq word (codes "edf") then edf_row words else None))))))))))))
 
 abbrev pub IsWord : String Global → Type 0
 IsWord word = IsTrue (is_word (string_bytes word))
@@ -123,3 +128,4 @@ call_of (command.Asm text image) = asm text.now image.now
 call_of (command.Dis image text) = dis image.now text.now
 call_of (command.Watch image script stop) = watch image.now script.now stop
 call_of (command.Replay program script log) = replay program.now script.now log.now
+call_of (command.Edf program script) = edf program.now script.now

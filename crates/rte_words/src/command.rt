@@ -70,4 +70,9 @@ pub enum Command<'a> {
         script: &'a str,
         log: &'a str,
     },
+    /// Runs a program without waits under earliest deadline first.
+    Edf {
+        program: &'a str,
+        script: &'a str,
+    },
 }

@@ -29,7 +29,7 @@ fn are_words(words: &[String]) -> bool
 /// - `go P I S`, `check P`, `compile P I`, `json P` or `slack P`, each also with an overhead K
 ///   behind it, from 0 to 1000 in decimal and without leading zeros, and 0 where it is left out;
 /// - `print P`, `run I S`, `migrate I J`, `asm A I` or `dis I A`;
-/// - `replay P S L`;
+/// - `replay P S L` or `edf P S`;
 /// - `watch I S T` or `watch I S @A`, with a tick T from 0 to 1,000,000,000 or an address A from 0 to
 ///   65534, in decimal and without leading zeros.
 ///

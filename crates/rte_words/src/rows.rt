@@ -2,7 +2,7 @@
 
 ghost use Rattle.std.specs.Prelude.{◌≡◌, ◌≤◌, ◌<◌, ◌^◌, map, option_map, string_bytes, IfSome};
 ghost use Rattle.rte_words.specs.Calls.{over_of};
-ghost use Rattle.rte_words.specs.Words.{number_up_to, overhead_of, last_overhead, go_row, check_row, compile_row, json_row, slack_row, print_row, run_row, migrate_row, asm_row, dis_row, watch_row, replay_row, stop_of, row_of, call_of};
+ghost use Rattle.rte_words.specs.Words.{number_up_to, overhead_of, last_overhead, go_row, check_row, compile_row, json_row, slack_row, print_row, run_row, migrate_row, asm_row, dis_row, watch_row, replay_row, edf_row, stop_of, row_of, call_of};
 
 use crate::command::Command;
 use crate::stop::Stop;
@@ -276,6 +276,20 @@ fn replay(words: &[String]) -> Option<Command<'_>>
     })
 }
 
+/// What `edf` is with these words behind it.
+fn edf(words: &[String]) -> Option<Command<'_>>
+    ensures row { option_map call_of result ≡ edf_row (map string_bytes words.now) }
+    ensures over { IfSome result (λ c. over_of (call_of c) ≤ 1000) }
+{
+    let [program, script] = words else {
+        return None;
+    };
+    Some(Command::Edf {
+        program: program.as_str(),
+        script: script.as_str(),
+    })
+}
+
 /// The row of the table that the words are in, if any.
 pub fn row(words: &[String]) -> Option<Command<'_>>
     ensures row { option_map call_of result ≡ row_of (map string_bytes words.now) }
@@ -309,6 +323,8 @@ pub fn row(words: &[String]) -> Option<Command<'_>>
         watch(rest)
     } else if word == "replay" {
         replay(rest)
+    } else if word == "edf" {
+        edf(rest)
     } else {
         None
     }

@@ -100,6 +100,7 @@ fn told(alloc: Global, row: &str) -> Result<Text, Fail> {
                 log,
             },
         ) => line(alloc, "Replay", &[program, script, log], None),
+        Some(Command::Edf { program, script }) => line(alloc, "Edf", &[program, script], None),
         None => line(alloc, "Usage", &[], None),
     }
 }
@@ -146,6 +147,9 @@ fn rows_and_their_commands(rt: HostRuntime) -> Result<(), Fail> {
         ("replay p s l", "Replay p s l"),
         ("replay p s", "Usage"),
         ("replay p s l 0", "Usage"),
+        ("edf p s", "Edf p s"),
+        ("edf p", "Usage"),
+        ("edf p s 0", "Usage"),
         ("watch i s 0", "Watch i s tick 0"),
         ("watch i s 1000000000", "Watch i s tick 1000000000"),
         ("watch i s 1000000001", "Usage"),

@@ -9,5 +9,5 @@ use Rattle.rte_prepare_replay.proofs.preparing.log_on.Goals as goal
 pub returns-in-Ok-clause-due : goal.returns-in-Ok-clause-due
 returns-in-Ok-clause-due g c =
     of_held g.F.Files.tells ((g.F.Files.state c.args.files.now).held c.args.log.now) (IsContent longest_text c.in_ok-content.content)
-    (λ text. IsJudged (placed c.args.program.now) c.args.script.now.lines c.args.script.now.end text (outcome_of c.in-Ok.act))
+    (λ text. IsJudged (placed c.args.source.now.program) c.args.script.now.lines c.args.script.now.end text (outcome_of c.in-Ok.act))
     c.in_ok-content.ensures.content c.in-Ok.ensures.due

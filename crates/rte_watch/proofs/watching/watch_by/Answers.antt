@@ -19,12 +19,12 @@ use Rattle.rte_watch.proofs.watching.watch_by.Goals as goal
 
 pub new-requires : goal.new-requires
 new-requires g c =
-    let run : Ran = record { image = c.args.image.now; script = c.args.script.now } in
+    let run : Ran = by_ranks c.args.image.now c.args.script.now in
     (c.requires.1.1.0, subst (λ (x : Image). IsRunnable x (script_of c.args.script.now)) (sym c.requires.0) (is_runnable run c.requires.1.1.1))
 
 pub run-requires : goal.run-requires
 run-requires g c =
-    let run : Ran = record { image = c.args.image.now; script = c.args.script.now } in (
+    let run : Ran = by_ranks c.args.image.now c.args.script.now in (
       c.requires.1.1.0,
       (
         subst (λ (x : Image). IsRunnable x (script_of c.args.script.now)) (sym c.requires.0) (is_runnable run c.requires.1.1.1),
@@ -36,7 +36,7 @@ pub tell-requires : goal.tell-requires
 tell-requires g c =
     let raw = c.args.image.now in
     let script = script_of c.args.script.now in
-    let run : Ran = record { image = raw; script = c.args.script.now } in
+    let run : Ran = by_ranks raw c.args.script.now in
     let can = c.requires.1.1.1 in
     let same : g.run.image ≡ image_of raw = c.requires.0 in
     let course = c.run.new.self in

@@ -1,0 +1,5 @@
+mod Demanded
+mod Growing
+mod Lasts
+mod Owned
+mod Shaped

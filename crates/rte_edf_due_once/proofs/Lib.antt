@@ -1,0 +1,4 @@
+mod Due
+mod Images
+mod Judged
+mod Listed

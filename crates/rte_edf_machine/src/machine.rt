@@ -1,0 +1,129 @@
+//! The machine over whole runs.
+
+ghost use Rattle.std.specs.Prelude.{◌≡◌, ◌≢◌, ◌<◌, ◌↔◌, [], IfOk};
+ghost use Rattle.rte_machine_meaning.specs.Image.{Image};
+ghost use Rattle.rte_starts.specs.Begin.{script_of};
+ghost use Rattle.rte_state.specs.Plan.{IsOf};
+ghost use Rattle.rte_edf_choice.specs.Marks.{HasDeadlines};
+ghost use Rattle.rte_edf_machine.specs.Runnable.{IsRunnable};
+ghost use Rattle.rte_edf_machine.specs.Standing.{StandsIn, events_between};
+ghost use Rattle.rte_edf_machine.specs.Turn.{Run};
+
+use crate::span::span;
+use crate::turn::take_turn;
+use rte_edf_choice::{Mark, first_marks, mark_releases, note_idle};
+use rte_event::Event;
+use rte_runner::Turn;
+use rte_script::Script;
+use rte_starts::Agenda;
+use rte_state::{Board, Fired, Plan};
+use std::alloc::{AllocError, Global};
+
+/// The simulated machine under earliest deadline first. Once made, it takes no memory.
+#[derive(Drop)]
+pub struct EdfMachine {
+    tick: u64,
+    board: Board,
+    marks: Vec<Mark>,
+    agenda: Agenda,
+    fired: Fired,
+}
+
+impl EdfMachine {
+    /// A machine before tick 0 of the run, given the deadline of each process in ticks. It takes
+    /// all the memory that the run needs; an error says that memory is short.
+    pub fn new(
+        alloc: Global,
+        plan: &Plan,
+        deadlines: &[u32],
+        script: &Script,
+    ) -> Result<EdfMachine, AllocError>
+        ghost image: { Image }
+        requires plan { IsOf image plan.now }
+        requires deadlines { HasDeadlines image deadlines.now }
+        requires runnable { IsRunnable image (script_of script.now) }
+        ensures start { IfOk result (λ machine. machine.tick ≡ 0) }
+        ensures stands { IfOk result (λ machine. StandsIn image (script_of script.now) machine) }
+    {
+        Ok(EdfMachine {
+            tick: 0,
+            board: Board::new(alloc, plan)?,
+            marks: first_marks(alloc, deadlines)?,
+            agenda: Agenda::new(alloc, plan, script)?,
+            fired: Fired::new(),
+        })
+    }
+
+    /// The start events of the tick, which is before the end, and then ticks at once.
+    fn step(&mut self, plan: &Plan, script: &Script)
+        ghost run: { Run }
+        requires plan { IsOf run.image plan.now }
+        requires script { run.script ≡ script_of script.now }
+        requires tick { run.tick ≡ self.old.tick }
+        requires runnable { IsRunnable run.image run.script }
+        requires stands { StandsIn run.image run.script self.old }
+        requires before { self.old.tick < script.now.end }
+        ensures passed { self.old.tick < self.new.tick }
+        ensures stands { StandsIn run.image run.script self.new }
+        ensures events { self.new.fired.items ≡
+            events_between run.image run.script self.old.tick self.new.tick }
+    {
+        self.fired.clear();
+        note_idle(&self.board, &mut self.marks);
+        self.agenda
+            .begin(plan, script, &mut self.board, &mut self.fired, self.tick);
+        mark_releases(&self.board, &mut self.marks, self.tick);
+        let most = span(&self.agenda, self.tick, script.end());
+        let ticks = take_turn(
+            plan,
+            &mut self.board,
+            &mut self.marks,
+            &mut self.fired,
+            self.tick,
+            most,
+        );
+        self.tick += ticks;
+    }
+
+    /// As many turns at once as end before anything is due, and before any event falls but those at
+    /// the start and at the end of the row: the process that is chosen runs over whole
+    /// instructions that nobody sees.
+    pub fn advance_row(&mut self, plan: &Plan, script: &Script) -> Turn
+        ghost image: { Image }
+        requires plan { IsOf image plan.now }
+        requires runnable { IsRunnable image (script_of script.now) }
+        requires stands { StandsIn image (script_of script.now) self.old }
+        ensures done { (result ≡ Turn.Done) ↔ (self.old.tick ≡ script.now.end) }
+        ensures stays { result ≡ Turn.Done → self.new ≡ self.old }
+        ensures passed { result ≢ Turn.Done → self.old.tick < self.new.tick }
+        ensures stands { StandsIn image (script_of script.now) self.new }
+        ensures fell { result ≢ Turn.Done → self.new.fired.items ≡
+            events_between image (script_of script.now) self.old.tick self.new.tick }
+        ensures quiet { result ≡ Turn.Quiet → self.new.fired.items ≡ [] }
+        ensures events { result ≡ Turn.Events → self.new.fired.items ≢ [] }
+    {
+        if self.tick >= script.end() {
+            return Turn::Done;
+        }
+        self.step(plan, script);
+        if self.fired.is_empty() {
+            Turn::Quiet
+        } else {
+            Turn::Events
+        }
+    }
+
+    /// The events of the last turn, in order.
+    pub fn events(&self) -> &[Event]
+        ensures { result.now ≡ self.now.fired.items }
+    {
+        self.fired.as_slice()
+    }
+
+    /// The tick that comes next.
+    pub fn tick(&self) -> u64
+        ensures { result ≡ self.now.tick }
+    {
+        self.tick
+    }
+}

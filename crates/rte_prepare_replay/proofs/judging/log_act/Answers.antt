@@ -1,0 +1,26 @@
+use Rattle.std.proofs.Common.{◌≡◌, ℕ, List, subst}
+use Rattle.std.specs.Prelude.{IfOk}
+use Rattle.rte_commands.specs.Script.{said}
+use Rattle.rte_contents.specs.Acting.{puts}
+use Rattle.rte_contents.specs.Contents.{IsContent}
+use Rattle.rte_event.specs.declared.event.Event.{Event}
+use Rattle.rte_log_reading.specs.Logs.{longest_text}
+use Rattle.rte_source_meaning.specs.Config.{start}
+use Rattle.rte_tree.specs.Placed.{placed, plain}
+use Rattle.rte_verdict.specs.Verdicts.{Judges}
+use Rattle.rte_prepare_replay.specs.Lines.{line_of, status_of}
+use Rattle.rte_prepare_replay.proofs.Judged.{judged_fault, judged_run}
+use Rattle.rte_prepare_replay.proofs.judging.log_act.Goals as goal
+
+pub returns-in_ok-verdict-in-Ok-clause-due : goal.returns-in_ok-verdict-in-Ok-clause-due
+returns-in_ok-verdict-in-Ok-clause-due g c =
+    let p = placed c.args.source.now.program in
+    judged_run p c.args.source.now.names c.requires.0.names.same c.args.script.now.lines c.args.script.now.end (IsContent longest_text c.args.content.now)
+    c.in-Ok.events c.in_ok-verdict-in-Ok.verdict c.put_verdict.result c.in-Ok.ensures.log
+    (subst (λ (events : List Event). Judges (plain p) (said c.args.script.now.lines c.args.script.now.end) (start (plain p)) events c.in_ok-verdict-in-Ok.verdict) c.as_slice.ensures c.in_ok-verdict-in-Ok.ensures)
+    (subst (λ (count : ℕ). IfOk c.put_verdict.result (λ act. act ≡ puts (status_of c.in_ok-verdict-in-Ok.verdict) (line_of c.in_ok-verdict-in-Ok.verdict count))) c.len.ensures c.put_verdict.ensures)
+
+pub returns-in-Err-clause-due : goal.returns-in-Err-clause-due
+returns-in-Err-clause-due g c =
+    judged_fault (placed c.args.source.now.program) c.args.source.now.names c.requires.0.names.same c.args.script.now.lines c.args.script.now.end (IsContent longest_text c.args.content.now)
+    c.in-Err.fault c.refuse_log.result c.in-Err.ensures.fault c.refuse_log.ensures.act c.refuse_log.ensures.is_fault
