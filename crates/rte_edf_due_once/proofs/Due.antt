@@ -9,9 +9,6 @@ use Rattle.rte_script_laws.specs.OneAnswer.{NoScriptIsFaulty, FaultsAreOne}
 use Rattle.rte_commands.specs.Source.{IsWritten, IsTextFault, fault_line}
 use Rattle.rte_commands.specs.Due.{Outcome, told}
 use Rattle.rte_due_once.specs.Once.{WrittenOnce, WrittenOrFaulty, TextsHaveOneFault}
-use Rattle.rte_due_once.proofs.Firsts.{one_first}
-use Rattle.rte_due_once.proofs.Scripts.{Played, faulty_script, played, played_once, text_once}
-use Rattle.rte_due_once.proofs.Texts.{same_line}
 use Rattle.rte_demand.specs.declared.judging.Judgement.{Judgement}
 use Rattle.rte_demand.specs.declared.judging.Judgement.TheVariants as judgement
 use Rattle.rte_edf_image.specs.Image.{IsEdfImage}
@@ -20,6 +17,8 @@ use Rattle.rte_edf_due.specs.Waits.{IsFirstWait, WaitFails}
 use Rattle.rte_edf_due.specs.Report.{edf_report}
 use Rattle.rte_edf_due.specs.Due.{IsJudgedText, IsFeasibleText, IsUnfit, edf_log, IsEdfDue, edf_faulty, edf_waits, edf_unfit, edf_bad_script, edf_ran}
 use Rattle.rte_edf_due_once.specs.Once.{AnswersAreOne, EdfImagesAreOne, EdfIsOne}
+use Rattle.rte_edf_due_once.proofs.Firsts.{one_first}
+use Rattle.rte_edf_due_once.proofs.Scripts.{Played, faulty_script, played, played_once, text_once}
 
 -- what comes of a script that is one
 abbrev comes : NamedImage → ℕ → List ScriptLine → ℕ → Outcome
@@ -41,6 +40,9 @@ split program script outcome (edf_waits text g place held written first is) = re
 split program script outcome (edf_unfit text n answer held judged unfit is) = refused text held (by_demand n answer judged unfit is)
 split program script outcome (edf_bad_script text other n points fault held fits script_held bad is) = fit text n points held fits (faulty_script other fault script_held bad.is is)
 split program script outcome (edf_ran text other n points lines end held fits script_held script_is is) = fit text n points held fits (played other lines end script_held script_is is)
+
+same_line : (number other : ℕ) (place there : Place) → (number ≡ other) × (place ≡ there) → fault_line number place ≡ fault_line other there
+same_line number other place there same = ap (λ (n : ℕ). fault_line n place) same.0 ∙ ap (λ (p : Place). fault_line other p) same.1
 
 feasible_same : (n k : ℕ) → judgement.Feasible n ≡ judgement.Feasible k → n ≡ k
 feasible_same n k same = cc

@@ -3,7 +3,7 @@ use Rattle.std.proofs.Common.{◌≡◌, ℕ, List, Option, Some, map, ap, sym, 
 use Rattle.std.specs.Prelude.{slice_get}
 use Rattle.rte_machine_meaning.specs.Image.{Image, Process}
 use Rattle.rte_built.specs.Filled.{without_bound, without_bounds}
-use Rattle.rte_built_once.proofs.Bounds.{same_elements}
+use Rattle.rte_edf_due_once.proofs.Elements.{same_elements}
 use Rattle.rte_filled.proofs.Lists.{as_many, same_at}
 use Rattle.rte_filled.specs.Laws.{ShapesAgree}
 use Rattle.rte_edf_image.specs.Image.{HasDeadlinesAsBounds}

@@ -1,4 +1,7 @@
 mod Due
+mod Elements
+mod Firsts
 mod Images
 mod Judged
 mod Listed
+mod Scripts

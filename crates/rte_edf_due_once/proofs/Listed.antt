@@ -9,7 +9,7 @@ use Rattle.rte_table.proofs.Onto.{onto}
 use Rattle.rte_valid.specs.Times.{rank_fault}
 use Rattle.rte_valid_law.proofs.Firsts.{some_at}
 use Rattle.rte_valid_law.proofs.Ranking.{ranked, one_each}
-use Rattle.rte_built_once.proofs.Bounds.{same_elements}
+use Rattle.rte_edf_due_once.proofs.Elements.{same_elements}
 use Rattle.rte_demand.specs.declared.tasks.DTask.{DTask}
 use Rattle.rte_demand.specs.Demand.{task_at}
 use Rattle.rte_edf_image.specs.Tasks.{AreDemands}

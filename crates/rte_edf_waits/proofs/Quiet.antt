@@ -7,7 +7,7 @@ use Rattle.rte_tree.specs.Placed.{Scalar, Expr, Stmt, assign, assign_entry, assi
 use Rattle.rte_rules.specs.Parts.{FailsAmong}
 use Rattle.rte_source_meaning.specs.Names.{routine_in, monitor_in, process_in}
 use Rattle.rte_declarations.specs.declared.home.Where.{Where}
-use Rattle.rte_declarations.specs.Parts.{Part, statement, answer, looped, home_of, outside_loops, stmt_parts, stmts_parts, answer_parts, routine_parts, routines_parts, handler_parts, decl_parts, decls_parts}
+use Rattle.rte_declarations.specs.Parts.{Part, statement, answer, looped, home_of, outside_loops, stmt_parts, stmts_parts, answer_parts, routine_parts, routines_parts, handler_parts, decls_parts}
 use Rattle.rte_declarations.specs.declared.home.Home.TheVariants as home_is
 use Rattle.rte_whole.specs.Quiet.{NoWait, NoWaits}
 use Rattle.rte_edf_due.specs.Waits.{wait_rules}
