@@ -1,4 +1,4 @@
-use Rattle.std.proofs.Common.{◌≡◌, ◌<◌, ◌+◌, ◌∙◌, ℕ, false, List, length, arith, ap, sym, subst}
+use Rattle.std.proofs.Common.{◌≡◌, ◌<◌, ◌+◌, ◌∙◌, ℕ, false, length, arith, ap, sym, subst}
 use Rattle.rte_machine_meaning.specs.Image.{Script}
 use Rattle.rte_machine_meaning.specs.State.{State}
 use Rattle.rte_machine_meaning.specs.Starts.{starts}
