@@ -1,14 +1,21 @@
 -- The machine in its run.
-use Rattle.std.proofs.Common.{◌≡◌, ◌<◌, ◌+◌, ◌-◌, ◌++◌, ℕ, false, List, Option, Some, None, length, arith, refl, ap, sym, ◌∙◌}
+use Rattle.std.proofs.Common.{◌≡◌, ◌≤◌, ◌<◌, ◌+◌, ◌-◌, ◌++◌, ℕ, false, List, [], Option, Some, None, length, arith, refl, ap, sym, subst, ◌∙◌}
 use Rattle.std.specs.Prelude.{slice_get}
 use Rattle.std.proofs.lemmas.Option.{slice_get_within}
 use Rattle.rte_event.specs.declared.event.Event.{Event}
 use Rattle.rte_machine_meaning.specs.Image.{Image, Script}
 use Rattle.rte_machine_meaning.specs.State.{Job, Thread, Idle, Ready, Waiting, State}
-use Rattle.rte_machine_meaning.specs.Starts.{starts}
+use Rattle.rte_machine_meaning.specs.Starts.{Started, starts}
 use Rattle.rte_machine_meaning.specs.Run.{at_start}
-use Rattle.rte_stretch.specs.Due.{HasSlots, time_out_of}
-use Rattle.rte_edf.specs.Run.{Marked, events_from, first_marks, state_at, tick}
+use Rattle.rte_stretch.specs.Due.{HasSlots, NoneBefore, time_out_of}
+use Rattle.rte_start_laws.specs.Due.{HasDue}
+use Rattle.rte_starts.proofs.Resting.{Rests, rests}
+use Rattle.rte_edf.specs.Choice.{Mark}
+use Rattle.rte_edf.specs.Run.{Marked, events_from, first_marks, marks_of, state_at, tick}
+use Rattle.rte_edf_choice.specs.Marks.{AreMarks}
+use Rattle.rte_edf_choice.specs.declared.marks.Mark.{Mark as Kept}
+use Rattle.rte_edf_stretch.specs.Turn.{begun, marked, started}
+use Rattle.rte_edf_stretch.proofs.Staying.{marks_same}
 use Rattle.rte_edf_machine.specs.Runnable.{HasNoOverrun, NobodyWaits}
 use Rattle.rte_edf_machine.specs.Standing.{events_between}
 use Rattle.rte_edf_machine.specs.Turn.{HasPassed, Run}
@@ -54,3 +61,30 @@ told run n s s' es es' has is begins =
     has.told ∙ ap (λ (xs : List Event). xs ++ has.fell) (begins ∙ ap (λ (x : State). (starts image script t x).events) is)
     ∙ sym has.events
     ∙ ap (λ (k : ℕ). events_from image script k t (state_at image script t)) count
+
+-- ---- a tick at which nothing is due
+
+-- the state and the marks are as they were before it
+pub record Rested (run : Run) (s : State) (done : ℕ) (due : List (Option ℕ)) (kepts : List Kept) : Type 0 where
+  pub state : s ≡ begun run.image run.script run.tick
+  pub marks : AreMarks run.image kepts (marked run.image run.script run.tick)
+  pub slots : HasSlots run.image run.script run.tick done s due
+  pub events : [] ≡ started run.image run.script run.tick
+
+pub rested : (run : Run) (s : State) (done : ℕ) (slots : List (Option ℕ)) (kepts : List Kept) → s ≡ (state_at run.image run.script run.tick).state → HasDue run.image run.script run.tick done s slots → done ≤ length run.script.lines → AreMarks run.image kepts (state_at run.image run.script run.tick).marks
+    → length s.threads ≡ length run.image.processes → NoneBefore (run.tick + 1) slots → Rested run s done slots kepts
+rested run s done slots kepts same due within are threads none =
+    let image = run.image in
+    let script = run.script in
+    let t = run.tick in
+    let old : Marked = state_at image script t in
+    let rest : Rests image script t done s slots = rests image script t done s slots due within none in
+    let state : s ≡ begun image script t = sym (ap (λ (x : State). (starts image script t x).state) (sym same) ∙ ap (λ (a : Started). a.state) rest.starts) in
+    let few : length old.marks ≤ length old.state.threads = (let a = ap (λ (x : State). length x.threads) same in let b = are.count in omega (arith, a, b, threads)) in
+    let marks : marked image script t ≡ old.marks = ap (λ (x : State). marks_of t old.state.threads x.threads old.marks) (sym state ∙ same) ∙ marks_same t old.state.threads old.marks few in
+    record {
+      state = state;
+      marks = subst (λ (ms : List Mark). AreMarks image kepts ms) (sym marks) are;
+      slots = rest.next;
+      events = sym (ap (λ (x : State). (starts image script t x).events) (sym same) ∙ ap (λ (a : Started). a.events) rest.starts);
+    }

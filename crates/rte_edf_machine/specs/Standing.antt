@@ -1,12 +1,15 @@
 -- Where a machine stands in a run.
-use Rattle.std.specs.Prelude.{◌≡◌, ◌≤◌, ◌-◌, ℕ, List, length}
+use Rattle.std.specs.Prelude.{◌≡◌, ◌≤◌, ◌+◌, ◌-◌, ℕ, List, length}
 use Rattle.rte_event.specs.declared.event.Event.{Event}
 use Rattle.rte_machine_meaning.specs.Image.{Image, Script}
 use Rattle.rte_start_laws.specs.Due.{HasDue}
 use Rattle.rte_starts.specs.Order.{IsOrderOf}
 use Rattle.rte_state.specs.Board.{IsBoardOf, state_of}
+use Rattle.rte_stretch.specs.Due.{HasSlots, NoneBefore}
 use Rattle.rte_edf.specs.Run.{events_from, state_at}
 use Rattle.rte_edf_choice.specs.Marks.{AreMarks}
+use Rattle.rte_edf_stretch.specs.Turn.{begun, marked, started}
+use Rattle.rte_edf_machine.specs.Turn.{Run}
 use Rattle.rte_edf_machine.specs.declared.machine.EdfMachine.{EdfMachine}
 
 -- the machine stands in the run before its tick, at most at the end, and knows what is due
@@ -18,6 +21,17 @@ pub record StandsIn (image : Image) (script : Script) (m : EdfMachine) : Type 0 
   pub due : HasDue image script m.tick m.agenda.done (state_of m.board) m.agenda.slots
   pub done : m.agenda.done ≤ length script.lines
   pub order : IsOrderOf image m.agenda.order
+
+-- the start events of the tick are done, and nothing more is due at it
+pub record HasStarted (run : Run) (m : EdfMachine) : Type 0 where
+  pub state : state_of m.board ≡ begun run.image run.script run.tick
+  pub marks : AreMarks run.image m.marks.items (marked run.image run.script run.tick)
+  pub board : IsBoardOf run.image m.board
+  pub slots : HasSlots run.image run.script run.tick m.agenda.done (state_of m.board) m.agenda.slots
+  pub later : NoneBefore (run.tick + 1) m.agenda.slots
+  pub done : m.agenda.done ≤ length run.script.lines
+  pub order : IsOrderOf run.image m.agenda.order
+  pub events : m.fired.items ≡ started run.image run.script run.tick
 
 -- the events of the run from one tick up to before another
 abbrev pub events_between : Image → Script → ℕ → ℕ → List Event

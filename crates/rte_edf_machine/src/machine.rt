@@ -1,12 +1,13 @@
 //! The machine over whole runs.
 
-ghost use Rattle.std.specs.Prelude.{◌≡◌, ◌≢◌, ◌<◌, ◌↔◌, [], IfOk};
+ghost use Rattle.std.specs.Prelude.{◌≡◌, ◌≢◌, ◌<◌, ◌↔◌, [], IfOk, Some, false};
+ghost use Rattle.rte_dispatch.specs.Due.{least};
 ghost use Rattle.rte_machine_meaning.specs.Image.{Image};
 ghost use Rattle.rte_starts.specs.Begin.{script_of};
 ghost use Rattle.rte_state.specs.Plan.{IsOf};
 ghost use Rattle.rte_edf_choice.specs.Marks.{HasDeadlines};
 ghost use Rattle.rte_edf_machine.specs.Runnable.{IsRunnable};
-ghost use Rattle.rte_edf_machine.specs.Standing.{StandsIn, events_between};
+ghost use Rattle.rte_edf_machine.specs.Standing.{HasStarted, StandsIn, events_between};
 ghost use Rattle.rte_edf_machine.specs.Turn.{Run};
 
 use crate::span::span;
@@ -54,6 +55,35 @@ impl EdfMachine {
         })
     }
 
+    /// Whether something is due at the tick, before which nothing is.
+    fn is_due(&self) -> bool
+        ensures { result ≡ false → least self.now.agenda.slots ≢ Some self.now.tick }
+    {
+        self.agenda.next_due() == Some(self.tick)
+    }
+
+    /// The start events of the tick, which is before the end, and the marks after them.
+    fn start(&mut self, plan: &Plan, script: &Script)
+        ghost run: { Run }
+        requires plan { IsOf run.image plan.now }
+        requires script { run.script ≡ script_of script.now }
+        requires tick { run.tick ≡ self.old.tick }
+        requires runnable { IsRunnable run.image run.script }
+        requires stands { StandsIn run.image run.script self.old }
+        requires before { self.old.tick < script.now.end }
+        ensures started { HasStarted run self.new }
+        ensures tick { self.new.tick ≡ self.old.tick }
+    {
+        self.fired.clear();
+        if !self.is_due() {
+            return;
+        }
+        note_idle(&self.board, &mut self.marks);
+        self.agenda
+            .begin(plan, script, &mut self.board, &mut self.fired, self.tick);
+        mark_releases(&self.board, &mut self.marks, self.tick);
+    }
+
     /// The start events of the tick, which is before the end, and then ticks at once.
     fn step(&mut self, plan: &Plan, script: &Script)
         ghost run: { Run }
@@ -68,11 +98,7 @@ impl EdfMachine {
         ensures events { self.new.fired.items ≡
             events_between run.image run.script self.old.tick self.new.tick }
     {
-        self.fired.clear();
-        note_idle(&self.board, &mut self.marks);
-        self.agenda
-            .begin(plan, script, &mut self.board, &mut self.fired, self.tick);
-        mark_releases(&self.board, &mut self.marks, self.tick);
+        self.start(plan, script);
         let most = span(&self.agenda, self.tick, script.end());
         let ticks = take_turn(
             plan,

@@ -2,7 +2,8 @@
 //!
 //! `run` lets the machine of `rte_runner` take its turns, and puts the line of each event, one put
 //! a line. `specs/Coming.antt` says which log is still to come. What is put is just that log, or a
-//! front of it where a put failed; then nothing more is put. It takes no memory.
+//! front of it where a put failed; then nothing more is put. It takes no memory. `put_all` puts the
+//! lines of some events alone.
 #![tactic(auto)]
 
 mod put;
