@@ -1,0 +1,3 @@
+mod ThreeDraws
+mod Pieces
+mod Lines
