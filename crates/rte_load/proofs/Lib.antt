@@ -1,3 +1,3 @@
 mod ThreeDraws
-mod Pieces
+pub mod Pieces
 mod Lines

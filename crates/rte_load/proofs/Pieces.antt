@@ -152,7 +152,7 @@ eight_pieces t s_1 s_2 s_3 s_4 s_5 s_6 s_7 s_8 a b c d e f g h e_1 e_2 e_3 e_4 e
 unfoldable pub rest : (key count before left : ℕ) → List ℕ
 rest key count before left = text_of (lines_of decl_lines (processes_from key count before left) ++ end_line (codes "load") ∷ [])
 
-rest-more : (key count before left : ℕ) → rest key count before (suc left) ≡ process_text count (suc before) (drawn key before) ++ rest key count (suc before) left
+pub rest-more : (key count before left : ℕ) → rest key count before (suc left) ≡ process_text count (suc before) (drawn key before) ++ rest key count (suc before) left
 unfolding rest process_text
 rest-more key count before left =
     let p = process_lines (load_process count (suc before) (drawn key before)) in
@@ -176,12 +176,12 @@ one_more key count before t s below so_far is =
     ∙ ap (λ (u : List ℕ). t ++ u) (sym (rest_step key count before below)) ∙ so_far
 
 -- the program with so many processes left of it
-abbrev with_left : (key count left : ℕ) → Prog Nowhere
+abbrev pub with_left : (key count left : ℕ) → Prog Nowhere
 with_left key count left = record (load_program key count) {
   decls = device (codes "src") tt false ∷ device (codes "dst") tt true ∷ monitor load_monitor ∷ processes_from key count 0 left;
 }
 
-opening-left : (key count left : ℕ) → codes "program load\ndevice src : in\ndevice dst : out\nmonitor m\nvar n : int\ncondition c\nentry procedure add ( v : int )\nbegin\nn := v\nsignal c\nend add\nentry procedure pause ( )\nbegin\nwait c noLongerThan 50 : 10\nend pause\nend m\n" ++ rest key count 0 left
+pub opening-left : (key count left : ℕ) → codes "program load\ndevice src : in\ndevice dst : out\nmonitor m\nvar n : int\ncondition c\nentry procedure add ( v : int )\nbegin\nn := v\nsignal c\nend add\nentry procedure pause ( )\nbegin\nwait c noLongerThan 50 : 10\nend pause\nend m\n" ++ rest key count 0 left
     ≡ canonical (with_left key count left)
 unfolding rest digits
 opening-left key count left = refl
