@@ -1,5 +1,5 @@
 -- The tokens of the load, without places, are those of its tree.
-use Rattle.std.proofs.Common.{◌≡◌, ℕ, zero, suc, ◌≤◌, Bool, true, false, List, [], ◌∷◌, codes, map, refl, ap, arith}
+use Rattle.std.proofs.Common.{◌≡◌, ℕ, zero, suc, ◌≤◌, Bool, true, false, List, [], ◌∷◌, codes, Some, map, refl, ap, arith}
 use Rattle.rte_tree.specs.Placed.{Stmts, stmts, no_stmts, get, put, exprs, no_exprs, device, monitor, process}
 use Rattle.rte_tree.specs.Bare.{bare_stmts, bare_decl, bare_process, bare}
 use Rattle.rte_grammar.specs.Words as w
@@ -7,9 +7,9 @@ use Rattle.rte_grammar.specs.Words.{Word, Tok, words_of}
 use Rattle.rte_grammar.specs.StmtGrammar.{IsStmt, AreStmts}
 use Rattle.rte_grammar.specs.ExprGrammar.{Each}
 use Rattle.rte_grammar.specs.Grammar.{MOST_LEVELS, IsMonitor, IsProcess, IsDecl, IsProg}
-use Rattle.rte_reading.specs.TreeWords.{stmts_words, stmt_words, process_words, decl_words, each_words, monitor_words, prog_words}
+use Rattle.rte_reading.specs.TreeWords.{stmts_words, stmt_words, process_words, decl_words, each_words, optional_words, handler_words, monitor_words, prog_words}
 use Rattle.rte_load.specs.declared.program.Drawn.{Drawn}
-use Rattle.rte_load.specs.Program.{Nowhere, of_name, to_name, enter, turn, turns_of, drawn, is_even, pause_if, load_monitor, load_process, processes_from, load_program}
+use Rattle.rte_load.specs.Program.{Nowhere, of_name, to_name, enter, turn, turns_of, drawn, is_even, pause_if, load_handler, load_monitor, process_name, load_process, processes_from, load_program}
 
 -- a word at no place
 abbrev bare_tok : Word → Tok Nowhere
@@ -25,9 +25,12 @@ words-toks (word ∷ ws) = ap (λ (v : List Word). word ∷ v) (words-toks ws)
 abbrev last : Stmts Nowhere
 last = stmts (put tt (codes "dst") tt (of_name (codes "x"))) no_stmts
 
+put_last : (ws : List Word) → AreStmts MOST_LEVELS last (toks (stmts_words last ws)) (toks ws)
+put_last ws = (_, (_, refl, (_, refl, refl)), refl)
+
 ending : (even : Bool) (ws : List Word) → AreStmts MOST_LEVELS (pause_if even last) (toks (stmts_words (pause_if even last) ws)) (toks ws)
-ending true ws = (_, (_, refl, (_, (tt, refl), (_, refl, (_, (tt, refl), (_, refl, (tt, refl)))))), ending false ws)
-ending false ws = (_, (_, refl, (_, refl, refl)), refl)
+ending true ws = (_, (_, refl, (_, (tt, refl), (_, refl, (_, (tt, refl), (_, refl, (tt, refl)))))), put_last ws)
+ending false ws = put_last ws
 
 one_one : 1 ≤ 1
 one_one = omega arith
@@ -43,7 +46,9 @@ looped d ws = (_, refl, (_, refl, (_, (tt, refl), (_, (refl, refl), (_, (tt, ref
 
 of_process : (count number : ℕ) (d : Drawn) (ws : List Word) → IsProcess (load_process count number d) (toks (process_words (load_process count number d) ws)) (toks ws)
 of_process count number d ws =
-    (_, (tt, refl), (_, refl, (_, (tt, refl), (_, (_, (tt, refl), (_, (tt, refl), (_, (refl, refl), (_, refl, refl)))), (_, (_, (_, (tt, refl), (_, refl, (_, (tt, refl), (tt, refl)))), refl), (_, refl, (_, (tt, refl), (_, (_, (_, refl, (_, refl, refl)), (_, looped d _, (_, (_, refl, (_, (tt, refl), (_, refl, (_, (tt, refl), (_, (_, refl, refl), (tt, refl)))))), ending (is_even number) _))), (_, (_, (tt, refl), (_, (tt, refl), (_, (_, (refl, refl), refl), (_, (tt, refl), (_, (_, refl, (_, refl, refl)), refl))))), (_, (tt, refl), refl))))))))))
+    let behind = optional_words handler_words (Some load_handler) (w.END ∷ w.named (process_name number) ∷ ws) in
+    let ends = stmts_words (pause_if (is_even number) last) behind in
+    (_, (tt, refl), (_, refl, (_, (tt, refl), (_, (_, (tt, refl), (_, (tt, refl), (_, (refl, refl), (_, refl, refl)))), (_, (_, (_, (tt, refl), (_, refl, (_, (tt, refl), (tt, refl)))), refl), (_, refl, (_, (tt, refl), (_, (_, (_, refl, (_, refl, refl)), (_, looped d (stmt_words (enter (codes "add") (exprs (of_name (codes "x")) no_exprs)) ends), (_, (_, refl, (_, (tt, refl), (_, refl, (_, (tt, refl), (_, (_, refl, refl), (tt, refl)))))), ending (is_even number) behind))), (_, (_, (tt, refl), (_, (tt, refl), (_, (_, (refl, refl), refl), (_, (tt, refl), (_, (_, refl, (_, refl, refl)), refl))))), (_, (tt, refl), refl))))))))))
 
 of_processes : (key count before left : ℕ) (ws : List Word)
     → Each IsDecl (processes_from key count before left) (toks (each_words decl_words (processes_from key count before left) ws)) (toks ws)
@@ -57,7 +62,7 @@ of_monitor ws =
 
 pub of_program : (key count : ℕ) → IsProg (load_program key count) (toks (prog_words (load_program key count))) []
 of_program key count =
-    (_, (tt, refl), (_, refl, (_, (_, (_, (tt, refl), (_, refl, (_, (tt, refl), (tt, refl)))), (_, (_, (tt, refl), (_, refl, (_, (tt, refl), (tt, refl)))), (_, of_monitor _, of_processes key count 0 count (w.END ∷ w.named (codes "load") ∷ [])))), (_, (tt, refl), refl))))
+    (_, (tt, refl), (_, refl, (_, (_, (_, (tt, refl), (_, refl, (_, (tt, refl), (tt, refl)))), (_, (_, (tt, refl), (_, refl, (_, (tt, refl), (tt, refl)))), (_, of_monitor (each_words decl_words (processes_from key count 0 count) (w.END ∷ w.named (codes "load") ∷ [])), of_processes key count 0 count (w.END ∷ w.named (codes "load") ∷ [])))), (_, (tt, refl), refl))))
 
 -- ---- the tree has no places
 

@@ -79,8 +79,8 @@ number_words : (ds : List ℕ) → is_number ds ≡ true → list_all is_word ds
 number_words [] are = cc
 number_words (d ∷ ds) are = digits_words (d ∷ ds) are
 
-pub name_spelled : (number : ℕ) → number ≤ 64 → IsSpelled (named (process_name number))
-name_spelled number few =
-    let it = decimal_reads number (omega arith) in
-    let short = length-decimal-le 2 number (omega arith) (omega arith) (omega arith) in
-    (number_words (decimal number) it.are, no_keyword (decimal number) it.are, omega (arith, short))
+pub name_spelled : (at : ℕ) → at ≤ 64 → IsSpelled (named (process_name at))
+name_spelled at few =
+    let it = decimal_reads at (omega arith) in
+    let short = length-decimal-le 2 at (omega arith) (omega arith) (omega arith) in
+    (number_words (decimal at) it.are, no_keyword (decimal at) it.are, omega (arith, short))

@@ -7,8 +7,8 @@ use Rattle.rte_load.specs.Program.{frame, drawn, is_even, pause_text, process_te
 use Rattle.rte_load.proofs.Pieces.{pieces, process-pieces, rest, rest-more, opening-is}
 use Rattle.rte_load_text.proofs.Spelled.{IsDrawn, is_drawn, frame_low}
 
-joined : (a b c d e f g h : List ℕ) → length a ≤ 11 → length b ≤ 25 → length c ≤ 50 → length d ≤ 24 → length e ≤ 24 → length f ≤ 14 → length g ≤ 45 → length h ≤ 1
-    → length (a ++ (b ++ (c ++ (d ++ (e ++ (f ++ (g ++ h))))))) ≤ 194
+joined : (a b c d e f g h : List ℕ) → length a ≤ 11 → length b ≤ 24 → length c ≤ 44 → length d ≤ 22 → length e ≤ 23 → length f ≤ 14 → length g ≤ 42 → length h ≤ 1
+    → length (a ++ (b ++ (c ++ (d ++ (e ++ (f ++ (g ++ h))))))) ≤ 181
 joined a b c d e f g h la lb lc ld le lf lg lh =
     omega (arith, la, lb, lc, ld, le, lf, lg, lh, length-append a (b ++ (c ++ (d ++ (e ++ (f ++ (g ++ h)))))), length-append b (c ++ (d ++ (e ++ (f ++ (g ++ h))))),
     length-append c (d ++ (e ++ (f ++ (g ++ h)))), length-append d (e ++ (f ++ (g ++ h))), length-append e (f ++ (g ++ h)), length-append f (g ++ h), length-append g h)
@@ -21,13 +21,13 @@ pause_short false = omega arith
 with_number : (a : List ℕ) (n k : ℕ) → 0 < k → n < 10 ^ k → n < 2 ^ 64 → length (a ++ decimal n) ≤ length a + k
 with_number a n k some low word = omega (arith, length-append a (decimal n), length-decimal-le k n some low word)
 
-process_short : (count number : ℕ) (d : Drawn) → count ≤ 64 → number ≤ 64 → IsDrawn d → length (process_text count number d) ≤ 194
+process_short : (count number : ℕ) (d : Drawn) → count ≤ 64 → number ≤ 64 → IsDrawn d → length (process_text count number d) ≤ 181
 process_short count number d few within low =
     let ticks = frame_low count d few low.frames in
     let turns : 1 + d.turns < 10 ^ 2 = omega (arith, low.turns) in
     let addend : d.addend < 10 ^ 2 = omega (arith, low.addend) in
     let is = process-pieces count number d in
-    let short : length (pieces (is_even number) count number d) ≤ 194 = joined
+    let short : length (pieces (is_even number) count number d) ≤ 181 = joined
         (codes "process p" ++ decimal number) (codes " : periodic frame " ++ decimal (frame count d)) (codes "\nvar x : int\nbegin\nget src x\nfor i : 1 .. " ++ decimal (1 + d.turns))
         (codes " do\nx := x mod 97 + " ++ decimal d.addend) (codes "\nend for\nm . add ( x )\n") (pause_text (is_even number))
         (codes "put dst x\nhandler ( 10 )\nput dst 0\nend p" ++ decimal number) (codes "\n")
@@ -39,7 +39,7 @@ process_short count number d few within low =
         (with_number (codes "put dst x\nhandler ( 10 )\nput dst 0\nend p") number 2 (omega arith) (omega arith) (omega arith)) (omega arith) in
     omega (arith, ap (λ (t : List ℕ). length t) is, short)
 
-rest_short : (key count before left : ℕ) → count ≤ 64 → before + left ≤ 64 → length (rest key count before left) ≤ 194 * left + 9
+rest_short : (key count before left : ℕ) → count ≤ 64 → before + left ≤ 64 → length (rest key count before left) ≤ 181 * left + 9
 unfolding rest
 rest_short key count before zero few within = omega arith
 rest_short key count before (suc left) few within =

@@ -30,9 +30,12 @@ frame_low count d few low =
 abbrev last : Stmts (Unit {0})
 last = stmts (put tt (codes "dst") tt (of_name (codes "x"))) no_stmts
 
+put_last : (ws : List Word) → AreSpelled ws → AreSpelled (stmts_words last ws)
+put_last ws rest = (are.word_put, (are.name_dst, (are.name_x, rest)))
+
 ending : (even : Bool) (ws : List Word) → AreSpelled ws → AreSpelled (stmts_words (pause_if even last) ws)
-ending true ws rest = (are.name_m, (are.word_dot, (are.name_pause, (are.word_left_paren, (are.word_right_paren, ending false ws rest)))))
-ending false ws rest = (are.word_put, (are.name_dst, (are.name_x, rest)))
+ending true ws rest = (are.name_m, (are.word_dot, (are.name_pause, (are.word_left_paren, (are.word_right_paren, put_last ws rest)))))
+ending false ws rest = put_last ws rest
 
 looped : (d : Drawn) (ws : List Word) → IsDrawn d → AreSpelled ws → AreSpelled (stmt_words (turns_of d) ws)
 looped d ws low rest =
@@ -40,12 +43,12 @@ looped d ws low rest =
     (are.name_x, (are.word_assign, (are.name_x, (are.word_mod, (number_spelled 97 (omega arith), (are.word_plus, (number_spelled d.addend (omega (arith, low.addend)),
     (are.word_end, (are.word_for, rest))))))))))))))))
 
-of_process : (count number : ℕ) (d : Drawn) (ws : List Word) → count ≤ 64 → number ≤ 64 → IsDrawn d → AreSpelled ws → AreSpelled (process_words (load_process count number d) ws)
-of_process count number d ws few within low rest =
-    let name = name_spelled number within in
+of_process : (count at : ℕ) (d : Drawn) (ws : List Word) → count ≤ 64 → at ≤ 64 → IsDrawn d → AreSpelled ws → AreSpelled (process_words (load_process count at d) ws)
+of_process count at d ws few within low rest =
+    let name = name_spelled at within in
     (are.word_process, (name, (are.word_colon, (are.word_periodic, (are.word_frame, (number_spelled (frame count d) (omega (arith, frame_low count d few low.frames)),
     (are.word_var, (are.name_x, (are.word_colon, (are.word_int, (are.word_begin, (are.word_get, (are.name_src, (are.name_x,
-    looped d _ low (are.name_m, (are.word_dot, (are.name_add, (are.word_left_paren, (are.name_x, (are.word_right_paren, ending (is_even number) _
+    looped d _ low (are.name_m, (are.word_dot, (are.name_add, (are.word_left_paren, (are.name_x, (are.word_right_paren, ending (is_even at) _
     (are.word_handler, (are.word_left_paren, (number_spelled 10 (omega arith), (are.word_right_paren, (are.word_put, (are.name_dst, (number_spelled 0 (omega arith),
     (are.word_end, (name, rest)))))))))))))))))))))))))))))
 
