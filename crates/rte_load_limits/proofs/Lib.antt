@@ -1,0 +1,4 @@
+pub mod Shapes
+mod Parts
+mod Processes
+mod Joined
