@@ -2,3 +2,4 @@ pub mod Shapes
 mod Parts
 mod Processes
 mod Joined
+mod Reach

@@ -16,13 +16,13 @@ NoneOf [] x = Unit {0}
 NoneOf (r ∷ rs) x = (r.fails x ≡ None) × NoneOf rs x
 
 not_some : {X : Type 0} (o : Option X) (x : X) → o ≡ None → o ≡ Some x → ⊥
-not_some None x no yes = cc
-not_some (Some y) x no yes = cc
+not_some None x one other = cc
+not_some (Some y) x one other = cc
 
 pub none_fails : {X : Type 0} (rs : List (Rule X)) (x : X) → NoneOf rs x → (number : ℕ) (place : Place) → ¬ FailsOf rs x number place
-none_fails [] x none number place fails = fails
-none_fails (r ∷ rs) x (no, none) number place (inl here) = not_some (r.fails x) place no here.1
-none_fails (r ∷ rs) x (no, none) number place (inr more) = none_fails rs x none number place more
+none_fails [] x all number place fails = fails
+none_fails (r ∷ rs) x (first, others) number place (inl here) = not_some (r.fails x) place first here.1
+none_fails (r ∷ rs) x (first, others) number place (inr more) = none_fails rs x others number place more
 
 -- ---- numbers
 

@@ -1,9 +1,16 @@
-//! The law.
+//! The laws.
 
 ghost use Rattle.rte_load_limits.specs.Limits.{KeepsLimits};
+ghost use Rattle.rte_load_limits.specs.Reach.{KeepsReach};
 
 /// No rule for declarations fails of a tree that is that of the load with 1 to 64 processes, apart
 /// from places.
 pub fn load_limits()
     ensures { KeepsLimits }
+{}
+
+/// No rule for what is reached by calls fails of a tree that is that of the load, apart from
+/// places.
+pub fn load_reach()
+    ensures { KeepsReach }
 {}

@@ -1,10 +1,10 @@
-//! Law: the program of the load keeps to the rules for declarations: bounds, frames, deadlines,
-//! events, the numbers of handlers, and counts.
+//! Laws: the program of the load keeps to the rules for declarations (bounds, frames, deadlines,
+//! events, the numbers of handlers, and counts), and to those for what is reached by calls (no
+//! routine reaches itself, and no handler reaches a wait).
 //!
-//! `specs/Limits.antt` says so of every tree that is the load's apart from places. Nothing is to
-//! run.
+//! `specs/` says so of every tree that is the load's apart from places. Nothing is to run.
 #![tactic(auto)]
 
 mod law;
 
-pub use law::load_limits;
+pub use law::{load_limits, load_reach};

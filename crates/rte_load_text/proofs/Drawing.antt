@@ -1,5 +1,5 @@
 -- The bounds of what is drawn.
-use Rattle.std.proofs.Common.{◌<◌, ◌/◌, ◌^◌, ◌+◌, ◌*◌, ℕ, suc, arith}
+use Rattle.std.proofs.Common.{◌<◌, ◌/◌, ◌^◌, ℕ, suc}
 use Rattle.std.proofs.lemmas.Nat.{mod_below}
 use Rattle.rte_load.specs.Draws.{state, below, draw}
 

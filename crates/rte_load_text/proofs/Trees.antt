@@ -1,10 +1,9 @@
 -- The tree of the text.
-use Rattle.std.proofs.Common.{◌≡◌, ◌≤◌, ℕ, List, [], ◌∷◌, length, map, refl, ap, sym, ◌∙◌, subst}
+use Rattle.std.proofs.Common.{◌≡◌, ◌≤◌, ℕ, List, [], ◌∷◌, ap, sym, ◌∙◌, subst}
 use Rattle.rte_tree.specs.declared.place.Place.{Place}
 use Rattle.rte_tree.specs.Placed.{Prog}
 use Rattle.rte_tree.specs.Bare.{bare}
-use Rattle.rte_lex.specs.Tokens.{longest_text}
-use Rattle.rte_grammar.specs.Words.{Word, Tok, toks_of, words_of}
+use Rattle.rte_grammar.specs.Words.{Tok, toks_of, words_of}
 use Rattle.rte_grammar.specs.Grammar.{IsProg}
 use Rattle.rte_reading.specs.TreeWords.{prog_words}
 use Rattle.rte_print.specs.Canonical.{program_lines}

@@ -1,5 +1,5 @@
 -- The words that stand in every text of the load.
-use Rattle.std.proofs.Common.{◌≡◌, ℕ, Bool, true, false, not, bytes_eq, List, [], ◌∷◌, codes, length, refl, arith}
+use Rattle.std.proofs.Common.{◌≡◌, ℕ, true, false, not, bytes_eq, List, codes, refl, arith}
 use Rattle.std.specs.List.{list_all}
 use Rattle.std.specs.Prelude.{Contains}
 use Rattle.rte_lex.specs.Spellings.{keywords}
