@@ -3,3 +3,4 @@ mod Parts
 mod Processes
 mod Joined
 mod Reach
+mod Numbers

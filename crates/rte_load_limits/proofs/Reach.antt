@@ -41,13 +41,17 @@ puts s dev n same = absurd cc
 
 add_body : (ss : Stmts Place) → bare_stmts ss ≡ add_entry.body → (declared : Declared) (more : List Place) → stmts_calls declared ss more ≡ more
 add_body (stmts s (stmts t no_stmts)) same declared more =
-    assigns s (codes "n") (codes "v") cc declared (stmt_calls declared t more) ∙ signals t (codes "c") cc declared more
+    let first : bare_stmt s ≡ assign (to_name (codes "n")) (of_name (codes "v")) = cc in
+    let second : bare_stmt t ≡ signal tt (codes "c") tt = cc in
+    assigns s (codes "n") (codes "v") first declared (stmt_calls declared t more) ∙ signals t (codes "c") second declared more
 add_body no_stmts same declared more = cc
 add_body (stmts s no_stmts) same declared more = cc
 add_body (stmts s (stmts t (stmts u ss))) same declared more = cc
 
 pause_body : (ss : Stmts Place) → bare_stmts ss ≡ pause_entry.body → (declared : Declared) (more : List Place) → stmts_calls declared ss more ≡ more
-pause_body (stmts s no_stmts) same declared more = waits s (codes "c") 50 10 cc declared more
+pause_body (stmts s no_stmts) same declared more =
+    let first : bare_stmt s ≡ wait tt (codes "c") tt (of_number 50) (of_number 10) = cc in
+    waits s (codes "c") 50 10 first declared more
 pause_body no_stmts same declared more = cc
 pause_body (stmts s (stmts t ss)) same declared more = cc
 
