@@ -1,21 +1,21 @@
 -- No rule for declarations fails of the load.
-use Rattle.std.proofs.Common.{◌≡◌, ◌≤◌, ◌<◌, ◌+◌, ℕ, zero, suc, ◌⊎◌, inl, inr, Bool, true, false, List, [], ◌∷◌, ◌++◌, Option, Some, None, map, length, codes, refl, ap, sym, ◌∙◌, subst, arith}
+use Rattle.std.proofs.Common.{◌≡◌, ◌≤◌, ◌+◌, ℕ, inl, inr, false, List, [], ◌∷◌, ◌++◌, Option, Some, None, map, length, refl, ap, ◌∙◌, subst, arith}
 use Rattle.std.proofs.lemmas.List.{length-map}
 use Rattle.std.specs.Prelude.{if◌then◌else◌, nat_lt, slice_get}
 use Rattle.std.proofs.lemmas.Option.{slice_get_past}
 use Rattle.std.proofs.lemmas.Bool.{le-ltb}
 use Rattle.rte_tree.specs.declared.place.Place.{Place}
-use Rattle.rte_tree.specs.Placed.{Member, Monitor, Routine, Kind, Process, Decl, device, monitor, process, Prog}
-use Rattle.rte_tree.specs.Bare.{bare, bare_monitor}
-use Rattle.rte_tree.specs.Parts.{processes, monitors, routines, devices, events}
-use Rattle.rte_rules.specs.Parts.{FailsOf, FailsAmong}
-use Rattle.rte_declarations.specs.Values.{Worth, value}
-use Rattle.rte_rules_declarations.specs.Types.{Bounds, decls_bounds, members_bounds, routines_bounds, kind_bounds}
+use Rattle.rte_tree.specs.Placed.{Member, Monitor, Routine, Kind, Process, Decl, process, Prog}
+use Rattle.rte_tree.specs.Bare.{bare}
+use Rattle.rte_tree.specs.Parts.{processes, monitors, devices, events}
+use Rattle.rte_rules.specs.Parts.{FailsAmong}
+use Rattle.rte_declarations.specs.Values.{value}
+use Rattle.rte_rules_declarations.specs.Types.{decls_bounds, members_bounds, routines_bounds, kind_bounds}
 use Rattle.rte_rules_declarations.specs.Processes.{all_handled}
-use Rattle.rte_rules_declarations.specs.Counts.{process_places, monitor_places, conditions, member_conditions, routine_places, one_too_many, at_none, no_process, words, members_words, kind_words, too_many_words}
+use Rattle.rte_rules_declarations.specs.Counts.{process_places, monitor_places, conditions, member_conditions, routine_places, one_too_many, at_none, words, members_words, kind_words, too_many_words}
 use Rattle.rte_rules_declarations.specs.Rules.{LimitFails, bounds_rules, process_rules, event_rules, handler_rules, count_rules}
-use Rattle.rte_load.specs.Program.{load_program, load_monitor}
-use Rattle.rte_load_limits.proofs.Shapes.{HasShape, has_shape, AreLoad, one_more}
+use Rattle.rte_load.specs.Program.{load_program}
+use Rattle.rte_load_limits.proofs.Shapes.{HasShape, has_shape, AreLoad}
 use Rattle.rte_load_limits.proofs.Parts.{NoneOf, none_fails, TwoMembers, two_members, TwoEntries, two_entries, no_bounds_add, no_bounds_pause}
 use Rattle.rte_load_limits.proofs.Processes as ps
 

@@ -1,14 +1,14 @@
 -- The numbers in the statements of the load are within their limits.
-use Rattle.std.proofs.Common.{◌≡◌, ◌≤◌, ◌<◌, ◌+◌, ℕ, zero, suc, ◌⊎◌, inl, inr, Bool, true, false, ◌&&◌, nat_le, nat_eq, List, [], ◌∷◌, ◌++◌, Option, Some, None, pos, codes, map, All, refl, ap, sym, ◌∙◌, subst, arith, le-leb}
+use Rattle.std.proofs.Common.{◌≡◌, ◌≤◌, ◌<◌, ◌+◌, ℕ, zero, suc, ◌⊎◌, inl, inr, Bool, true, false, ◌&&◌, nat_le, nat_eq, List, [], ◌∷◌, Option, Some, None, pos, map, All, refl, ap, sym, ◌∙◌, subst, arith, le-leb}
 use Rattle.std.specs.Prelude.{nat_lt, int_lt, int_le, ◌+ℤ◌, if◌then◌else◌}
 use Rattle.std.proofs.lemmas.Bool.{ltb-true, le-ltb, lt-ltb, lt-leb, leb-true, ne_eqb, and_parts}
 use Rattle.std.proofs.lemmas.Nat.{mod_below}
 use Rattle.std.proofs.lemmas.List.Elements.{All-nil, All-cons, All-head, All-tail}
 use Rattle.rte_tree.specs.declared.place.Place.{Place}
-use Rattle.rte_tree.specs.Placed.{Constant, literal_constant, named_constant, Stmt, assign, perform_entry, loop, get, put, wait, signal, Stmts, no_stmts, stmts, Routine, Handler, Process, Decl, process, Prog}
-use Rattle.rte_tree.specs.Bare.{bare, bare_constant, bare_stmt, bare_stmts, bare_expr, bare_handler, bare_routine, bare_process, bare_scalar}
+use Rattle.rte_tree.specs.Placed.{Constant, literal_constant, named_constant, Stmt, assign, perform_entry, loop, get, put, wait, signal, Stmts, no_stmts, stmts, Routine, Process, process, Prog}
+use Rattle.rte_tree.specs.Bare.{bare, bare_constant, bare_stmt, bare_stmts, bare_handler, bare_routine, bare_process, bare_scalar}
 use Rattle.rte_num.specs.Words as words
-use Rattle.rte_rules.specs.Parts.{Rule, FailsOf, FailsAmong}
+use Rattle.rte_rules.specs.Parts.{FailsOf, FailsAmong}
 use Rattle.rte_declarations.specs.declared.home.Where.{Where}
 use Rattle.rte_declarations.specs.Parts.{Part, statement, looped, stmt_parts, stmts_parts, answer_parts, handler_parts, home_of, outside_loops, routine_parts, routines_parts, decls_parts, parts}
 use Rattle.rte_declarations.specs.declared.home.Home.TheVariants as home_is
@@ -16,9 +16,9 @@ use Rattle.rte_declarations.specs.Values.{value, constant_place, is_within, out_
 use Rattle.rte_rules_statements.specs.Numbers.{crossed_loop, endless_loop, long_loop, bad_number, bad_limit}
 use Rattle.rte_rules_statements.specs.Rules.{statement_rules, StatementFails}
 use Rattle.rte_load.specs.declared.program.Drawn.{Drawn}
-use Rattle.rte_load.specs.Draws.{below, draw, state}
+use Rattle.rte_load.specs.Draws.{below, draw}
 use Rattle.rte_load.specs.Program.{drawn, is_even, pause_if, add_entry, pause_entry, load_body, load_handler, load_process, load_program}
-use Rattle.rte_load_limits.proofs.Shapes.{There, some_there, none_there, none_of, HasShape, has_shape, AreLoad, no_more, one_more}
+use Rattle.rte_load_limits.proofs.Shapes.{some_there, none_there, none_of, HasShape, has_shape, AreLoad, no_more, one_more}
 use Rattle.rte_load_limits.proofs.Parts.{TwoEntries, two_entries}
 
 -- ---- statements whose numbers are within their limits

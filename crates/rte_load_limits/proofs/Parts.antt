@@ -1,13 +1,13 @@
 -- What the parts of the load are: numbers, whole numbers, one number of a handler.
-use Rattle.std.proofs.Common.{◌≡◌, ◌≤◌, ℕ, zero, suc, ◌⊎◌, inl, inr, Bool, true, false, ◌&&◌, nat_le, List, [], ◌∷◌, Option, Some, None, pos, codes, map, refl, ap, sym, ◌∙◌, le-leb, arith}
+use Rattle.std.proofs.Common.{◌≡◌, ◌≤◌, ℕ, inl, inr, true, false, ◌&&◌, nat_le, List, [], ◌∷◌, Option, Some, None, pos, codes, map, refl, ap, ◌∙◌, le-leb}
 use Rattle.rte_tree.specs.declared.place.Place.{Place}
-use Rattle.rte_tree.specs.Placed.{Constant, literal_constant, named_constant, Scalar, int, boolean, subrange, Kind, scalar, array, Var, Param, Routine, Member, variable_member, condition_member, Monitor, Activation, periodic, at_event, Handler, Process, Prog, optional}
-use Rattle.rte_tree.specs.Bare.{bare_constant, bare_scalar, bare_kind, bare_var, bare_param, bare_routine, bare_member, bare_monitor, bare_activation, bare_handler, bare_process}
-use Rattle.rte_rules.specs.Parts.{Rule, FailsOf, FailsAmong}
-use Rattle.rte_declarations.specs.Values.{value, is_within, out_of}
-use Rattle.rte_rules_declarations.specs.Types.{Bounds, vars_bounds, members_bounds, routines_bounds, params_bounds, result_bounds, scalar_bounds}
-use Rattle.rte_load.specs.Program.{Nowhere, of_number, int_variable, add_entry, pause_entry, load_monitor}
-use Rattle.rte_load_limits.proofs.Shapes.{One, one_of, Front, front_of, none_of, none_there}
+use Rattle.rte_tree.specs.Placed.{Constant, literal_constant, named_constant, Scalar, int, boolean, subrange, Kind, scalar, array, Var, Param, Routine, Member, variable_member, condition_member, Monitor, Prog}
+use Rattle.rte_tree.specs.Bare.{bare_constant, bare_scalar, bare_kind, bare_var, bare_param, bare_routine, bare_member, bare_monitor}
+use Rattle.rte_rules.specs.Parts.{Rule, FailsOf}
+use Rattle.rte_declarations.specs.Values.{value, is_within}
+use Rattle.rte_rules_declarations.specs.Types.{Bounds, vars_bounds, routines_bounds, params_bounds, result_bounds, scalar_bounds}
+use Rattle.rte_load.specs.Program.{of_number, int_variable, add_entry, pause_entry, load_monitor}
+use Rattle.rte_load_limits.proofs.Shapes.{one_of, front_of, none_of, none_there}
 
 -- ---- rules that do not fail
 

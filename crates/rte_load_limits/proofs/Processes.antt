@@ -1,23 +1,23 @@
 -- The processes of the load keep to the rules for frames and for the numbers of handlers.
-use Rattle.std.proofs.Common.{◌≡◌, ◌≤◌, ◌<◌, ◌+◌, ◌*◌, ℕ, zero, suc, ◌⊎◌, inl, inr, Bool, true, false, ◌||◌, List, [], ◌∷◌, ◌++◌, Option, Some, None, map, length, refl, ap, sym, ◌∙◌, subst, arith}
+use Rattle.std.proofs.Common.{◌≡◌, ◌≤◌, ◌<◌, ◌+◌, ◌*◌, ℕ, zero, suc, inl, inr, ◌||◌, List, [], ◌∷◌, ◌++◌, Option, Some, None, map, length, refl, ap, ◌∙◌, subst, arith}
 use Rattle.std.specs.Prelude.{if◌then◌else◌, codes}
 use Rattle.std.proofs.Math.Nat.{mul-le-mul_left}
 use Rattle.std.proofs.lemmas.Nat.{mod_below}
 use Rattle.rte_tree.specs.declared.place.Place.{Place}
-use Rattle.rte_tree.specs.Placed.{Constant, scalar, int, Kind, Var, Routine, Activation, periodic, at_event, Handler, Process, Decl, process, Prog, optional}
-use Rattle.rte_tree.specs.Bare.{bare_constant, bare_var, bare_routine, bare_activation, bare_handler, bare_process}
+use Rattle.rte_tree.specs.Placed.{Constant, Kind, Var, Routine, Activation, periodic, at_event, Process, Decl, process, Prog}
+use Rattle.rte_tree.specs.Bare.{bare_constant, bare_routine, bare_activation, bare_handler, bare_process}
 use Rattle.rte_tree.specs.Parts.{processes, monitors, routines, devices, events}
-use Rattle.rte_rules.specs.Parts.{FailsOf, FailsAmong}
+use Rattle.rte_rules.specs.Parts.{FailsAmong}
 use Rattle.rte_declarations.specs.Values.{Worth, value, constant_place, is_within, out_of}
-use Rattle.rte_rules_declarations.specs.Types.{Bounds, decls_bounds, vars_bounds, routines_bounds, kind_bounds}
-use Rattle.rte_rules_declarations.specs.Processes.{frame_of, deadline_of, bad_frame, bad_deadline, bad_limit, bad_first, bad_start, Handled, handled, handler_numbers, all_handled, bad_handled, repeated}
+use Rattle.rte_rules_declarations.specs.Types.{decls_bounds, vars_bounds, routines_bounds, kind_bounds}
+use Rattle.rte_rules_declarations.specs.Processes.{frame_of, deadline_of, bad_limit, bad_start, Handled, handled, handler_numbers, all_handled}
 use Rattle.rte_rules_declarations.specs.Counts.{words, vars_words, kind_words}
 use Rattle.rte_rules_declarations.specs.Rules.{process_rules, handler_rules}
 use Rattle.rte_load.specs.declared.program.Drawn.{Drawn}
-use Rattle.rte_load.specs.Draws.{below, draw, state}
-use Rattle.rte_load.specs.Program.{of_number, int_variable, drawn, frame, load_handler, load_process}
-use Rattle.rte_load_limits.proofs.Shapes.{One, one_of, none_of, none_there, There, some_there, AreLoad, no_more, one_more}
-use Rattle.rte_load_limits.proofs.Parts.{NoneOf, none_fails, is_worth, is_in, OneInt, one_int}
+use Rattle.rte_load.specs.Draws.{below, draw}
+use Rattle.rte_load.specs.Program.{of_number, drawn, frame, load_handler, load_process}
+use Rattle.rte_load_limits.proofs.Shapes.{one_of, none_of, none_there, some_there, AreLoad, no_more, one_more}
+use Rattle.rte_load_limits.proofs.Parts.{NoneOf, none_fails, is_worth, is_in, one_int}
 
 -- ---- frames
 

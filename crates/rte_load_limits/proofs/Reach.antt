@@ -1,17 +1,17 @@
 -- No routine of the load calls another, and no handler waits or calls.
-use Rattle.std.proofs.Common.{◌≡◌, ◌<◌, ℕ, zero, suc, ◌⊎◌, inl, inr, Bool, true, false, ◌||◌, List, [], ◌∷◌, ◌++◌, Option, Some, None, codes, length, map, refl, ap, sym, ◌∙◌, subst, All, arith}
+use Rattle.std.proofs.Common.{◌≡◌, ℕ, zero, suc, ◌⊎◌, inl, inr, true, false, ◌||◌, List, [], ◌∷◌, ◌++◌, Some, None, codes, refl, ap, sym, ◌∙◌, subst, All, arith}
 use Rattle.std.specs.Prelude.{Contains}
 use Rattle.std.proofs.lemmas.List.Elements.{All-nil, All-cons, All-contains}
 use Rattle.rte_tree.specs.declared.place.Place.{Place}
 use Rattle.rte_tree.specs.Plain.{Name}
-use Rattle.rte_tree.specs.Placed.{Expr, literal, variable, Ref, whole, Stmt, assign, put, wait, signal, Stmts, no_stmts, stmts, Routine, Handler, Process, Decl, process, Prog}
-use Rattle.rte_tree.specs.Bare.{bare, bare_expr, bare_stmt, bare_stmts, bare_routine, bare_handler, bare_process}
+use Rattle.rte_tree.specs.Placed.{literal, variable, whole, Stmt, assign, put, wait, signal, Stmts, no_stmts, stmts, Routine, Handler, Process, Prog}
+use Rattle.rte_tree.specs.Bare.{bare, bare_expr, bare_stmt, bare_stmts, bare_handler}
 use Rattle.rte_tree.specs.Parts.{processes, routines}
 use Rattle.rte_names.specs.Occurrences.{names, declared_at}
 use Rattle.rte_rules_calls.specs.Calls.{Declared, stmt_calls, stmts_calls, answer_calls, routine_calls, stmt_waits, stmts_wait}
 use Rattle.rte_rules_calls.specs.Reaching.{Calls, Reaches, by_call, by_calls, CallsWaiter, HandlerWaits, ReachFails}
-use Rattle.rte_load.specs.Program.{of_number, of_name, to_name, add_entry, pause_entry, load_handler, load_process, load_program, drawn}
-use Rattle.rte_load_limits.proofs.Shapes.{There, some_there, none_there, HasShape, has_shape, AreLoad, no_more, one_more}
+use Rattle.rte_load.specs.Program.{of_number, of_name, to_name, add_entry, pause_entry, load_handler, load_program}
+use Rattle.rte_load_limits.proofs.Shapes.{some_there, none_there, HasShape, has_shape, AreLoad, no_more, one_more}
 use Rattle.rte_load_limits.proofs.Parts.{TwoEntries, two_entries}
 use Rattle.rte_load_limits.proofs.Processes as ps
 

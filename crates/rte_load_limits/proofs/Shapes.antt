@@ -1,9 +1,9 @@
 -- The shape of a tree that is that of the load apart from places.
-use Rattle.std.proofs.Common.{◌≡◌, ℕ, zero, suc, Bool, true, false, List, [], ◌∷◌, Option, Some, None, codes, map, refl, ap, sym, ◌∙◌}
+use Rattle.std.proofs.Common.{◌≡◌, ℕ, zero, suc, Bool, true, false, List, [], ◌∷◌, Option, Some, None, codes, map, refl, ap, ◌∙◌}
 use Rattle.rte_tree.specs.declared.place.Place.{Place}
-use Rattle.rte_tree.specs.Placed.{Constant, literal_constant, named_constant, Scalar, int, boolean, subrange, Kind, scalar, array, Var, Param, Routine, Member, variable_member, condition_member, Monitor, Activation, periodic, at_event, Handler, Process, Decl, constant, device, event, routine, monitor, process, Prog, optional}
-use Rattle.rte_tree.specs.Bare.{bare_constant, bare_scalar, bare_kind, bare_var, bare_param, bare_routine, bare_member, bare_monitor, bare_activation, bare_handler, bare_process, bare_decl, bare}
-use Rattle.rte_load.specs.Program.{Nowhere, of_number, load_monitor, load_process, drawn, processes_from, load_program}
+use Rattle.rte_tree.specs.Placed.{Monitor, Process, Decl, constant, device, event, routine, monitor, process, Prog, optional}
+use Rattle.rte_tree.specs.Bare.{bare_monitor, bare_process, bare_decl, bare}
+use Rattle.rte_load.specs.Program.{Nowhere, load_monitor, load_process, drawn, processes_from, load_program}
 
 -- ---- lists
 

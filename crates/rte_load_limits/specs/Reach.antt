@@ -1,5 +1,5 @@
 -- The load and the rules for what is reached by calls.
-use Rattle.std.specs.Prelude.{◌≡◌, ◌≤◌, ℕ}
+use Rattle.std.specs.Prelude.{◌≡◌, ℕ}
 use Rattle.rte_tree.specs.declared.place.Place.{Place}
 use Rattle.rte_tree.specs.Placed.{Prog}
 use Rattle.rte_tree.specs.Bare.{bare}
