@@ -192,7 +192,7 @@ module _ (key count : ℕ) (g : Prog Place) (s : HasShape key count g.decls) whe
   entries_fine more all =
       let pause = entry_fine entries.pause pause_entry.body (ap (λ r. r.body) entries.pause_like) refl (none_there bare_scalar entries.pause.result (ap (λ r. r.result) entries.pause_like)) more all in
       let add = entry_fine entries.add add_entry.body (ap (λ r. r.body) entries.add_like) refl (none_there bare_scalar entries.add.result (ap (λ r. r.result) entries.add_like))
-          (routine_parts true entries.pause more) pause in
+      (routine_parts true entries.pause more) pause in
       subst (λ rs. All (IsFine g) (routines_parts true rs more)) (sym entries.is) add
 
   all_fine : All (IsFine g) (parts g)

@@ -56,9 +56,10 @@ module _ (g : Prog Place) (count : ℕ) (some : 1 ≤ count) (few : count ≤ 64
       let low_frame = frame_low count d some in
       let high_frame = frame_high count d few low in
       let within = is_in g it.frame (frame count d) 10 1000000000 it.like (omega (arith, low_frame)) (omega (arith, high_frame)) in
-      let o : Option Place = None in
-      (ap (λ a. out_of (value g) 10 1000000000 (frame_of a)) it.is ∙ ap (λ b. if b then o else Some (constant_place it.frame)) within,
-      (ap (λ a. bad_limit (value g) (frame_of a) (deadline_of a)) it.is, (ap (λ a. bad_start (value g) a) it.is, tt)))
+      let o : Option Place = None in (
+        ap (λ a. out_of (value g) 10 1000000000 (frame_of a)) it.is ∙ ap (λ b. if b then o else Some (constant_place it.frame)) within,
+        (ap (λ a. bad_limit (value g) (frame_of a) (deadline_of a)) it.is, (ap (λ a. bad_start (value g) a) it.is, tt)),
+      )
 
   pub frames_kept : (key before left : ℕ) (ps : List (Process Place)) → AreLoad key count before left ps
       → (number : ℕ) (place : Place) → ¬ FailsAmong (process_rules g) ps number place
@@ -158,5 +159,5 @@ module _ (key count : ℕ) where
   one_word_each worth (p ∷ ps) (one_more _ _ same are) =
       let it = one_int p.vars (codes "x") (ap (λ x. x.vars) same) in
       let own : vars_words worth p.vars ≡ 1 + 0 =
-          ap (λ (vs : List (Var Place)). vars_words worth vs) it.is ∙ ap (λ (k : Kind Place). kind_words worth k + 0) it.whole in
+      ap (λ (vs : List (Var Place)). vars_words worth vs) it.is ∙ ap (λ (k : Kind Place). kind_words worth k + 0) it.whole in
       omega (arith, own, one_word_each worth ps are)
