@@ -1,11 +1,10 @@
 -- The image of a program without overhead has what a run asks for.
-use Rattle.std.proofs.Common.{◌≡◌, ◌≤◌, ℕ, Some, None, subst, sym}
+use Rattle.std.proofs.Common.{◌≡◌, ℕ, Some, None, subst, sym}
 use Rattle.std.specs.Prelude.{slice_get}
 use Rattle.rte_tree.specs.Placed.{plain}
 use Rattle.rte_tree.specs.Plain.{Prog}
 use Rattle.rte_machine_meaning.specs.Image.{Image, Process}
 use Rattle.rte_image.specs.declared.names.ImageNames.{ImageNames}
-use Rattle.rte_built.specs.Named.{names_of}
 use Rattle.rte_built_limits.specs.Limits.{ShapedImagesAreInLimits}
 use Rattle.rte_built_made.specs.Made.{WordsAreFew}
 use Rattle.rte_built_ready.proofs.Counts.{Counted, counted}

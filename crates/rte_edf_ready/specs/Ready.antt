@@ -49,4 +49,4 @@ abbrev pub EdfImagesAreReady : Type 0
 EdfImagesAreReady = (text : List ℕ) (g : Prog Place) (n : NamedImage) (count : ℕ) → IsWritten text g → HasNoWait g → IsEdfImage (plain g) n → IsAnswer n.image (judgement.Feasible count)
     → HasPlan n.image
     × ((script : List ℕ) (lines : List ScriptLine) (end : ℕ) → IsScript n.names script lines end
-      → IsRunnable n.image (run_of lines end) × All (AreIn n.names) (events n.image (run_of lines end)))
+    → IsRunnable n.image (run_of lines end) × All (AreIn n.names) (events n.image (run_of lines end)))
