@@ -2,8 +2,7 @@
 
 ghost use Rattle.std.specs.Prelude.{◌≡◌, Some, IfOk, OnOk, OnErr, map};
 ghost use Rattle.rte_answers.specs.Acts.{CanRun, log_due};
-ghost use Rattle.rte_edf_choice.specs.Marks.{HasDeadlines};
-ghost use Rattle.rte_image.specs.Raw.{image_of, process_of};
+ghost use Rattle.rte_image.specs.Raw.{image_of};
 ghost use Rattle.rte_io.specs.Outside.{Appends, AppendsFront, Rose};
 ghost use Rattle.rte_machine_meaning.specs.Image.{Image};
 ghost use Rattle.rte_state.specs.Plan.{IsOf};

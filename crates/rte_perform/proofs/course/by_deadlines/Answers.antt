@@ -1,4 +1,5 @@
-use Rattle.std.proofs.Common.{◌≡◌, List, map, subst}
+use Rattle.std.proofs.Common.{◌≡◌, ℕ, List, map, subst, sym}
+use Rattle.rte_edf_choice.specs.Marks.{HasDeadlines}
 use Rattle.rte_image.specs.declared.raw.RawProc.{RawProc}
 use Rattle.rte_perform.proofs.Earliest.{can_by_deadlines, has_deadlines, is_runnable, made_by_deadlines}
 use Rattle.rte_perform.proofs.course.by_deadlines.Goals as goal
@@ -10,7 +11,7 @@ new-requires g c =
     let can = can_by_deadlines run c.requires.1.1.0 c.requires.1.1.1 in
     let taken = subst (λ (ps : List RawProc). deadlines ≡ map (λ (p : RawProc). p.deadline) ps) c.as_slice.ensures c.in_ok-deadlines.ensures in (
       c.requires.1.0,
-      (has_deadlines run g.image c.requires.0 deadlines taken, is_runnable run g.image c.requires.0 can),
+      (subst (λ (ds : List ℕ). HasDeadlines g.image ds) (sym c.as_slice-2.ensures.value) (has_deadlines run g.image c.requires.0 deadlines taken), is_runnable run g.image c.requires.0 can),
     )
 
 pub returns : goal.returns

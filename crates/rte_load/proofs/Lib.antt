@@ -1,0 +1,3 @@
+mod ThreeDraws
+pub mod Pieces
+mod Lines

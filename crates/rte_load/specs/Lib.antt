@@ -1,0 +1,4 @@
+pub mod Draws
+pub mod Program
+pub mod Script
+pub mod Summary

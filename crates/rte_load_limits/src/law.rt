@@ -1,0 +1,24 @@
+//! The laws.
+
+ghost use Rattle.rte_load_limits.specs.Limits.{KeepsLimits};
+ghost use Rattle.rte_load_limits.specs.Numbers.{KeepsNumbers};
+ghost use Rattle.rte_load_limits.specs.Reach.{KeepsReach};
+
+/// No rule for declarations fails of a tree that is that of the load with 1 to 64 processes, apart
+/// from places.
+pub fn load_limits()
+    ensures { KeepsLimits }
+{}
+
+/// No rule for what is reached by calls fails of a tree that is that of the load, apart from
+/// places.
+pub fn load_reach()
+    ensures { KeepsReach }
+{}
+
+/// Of the rules for statements none but those for types (30), for what may stand where (34) and for
+/// the direction of devices (38) may fail of a tree that is that of the load, apart from places:
+/// turns, numbers and limits are within theirs.
+pub fn load_numbers()
+    ensures { KeepsNumbers }
+{}

@@ -1,0 +1,11 @@
+//! The laws.
+
+ghost use Rattle.rte_load_script.specs.Lines.{HasDevice, IsScriptOfLoad};
+
+/// For names with an in device `src`, the text of the script of 1 to 64 processes is a script with
+/// the lines that were drawn, which ends at its end; the names of the program have such a device,
+/// the first.
+pub fn load_script()
+    ensures script { IsScriptOfLoad }
+    ensures device { HasDevice }
+{}

@@ -1,0 +1,3 @@
+mod Plain
+mod Lists
+mod Lengths

@@ -1,0 +1,7 @@
+mod Drawing
+mod Words
+mod Numerals
+mod Spelled
+mod Grown
+mod Short
+mod Trees
