@@ -1,5 +1,5 @@
 -- The names of a program are few.
-use Rattle.std.proofs.Common.{◌≡◌, ◌≤◌, ◌^◌, ◌×◌, length, filter_map, arith, ap}
+use Rattle.std.proofs.Common.{◌≡◌, ◌≤◌, ◌^◌, length, filter_map, arith, ap}
 use Rattle.std.proofs.lemmas.List.{length-map}
 use Rattle.rte_image.specs.declared.names.ImageNames.{ImageNames}
 use Rattle.rte_tree.specs.Plain.{Name, Prog}

@@ -1,5 +1,5 @@
 -- What is due of `edf`, by what files hold.
-use Rattle.std.proofs.Common.{◌≡◌, ◌×◌, ◌∙◌, ℕ, List, Option, Some, None, Bool, true, false, Ok, Err, inl, inr, refl, ap, subst, sym}
+use Rattle.std.proofs.Common.{◌≡◌, ◌∙◌, ℕ, List, Option, Some, None, Bool, true, false, Ok, Err, inl, inr, refl, ap, subst, sym}
 use Rattle.std.specs.Prelude.{Result, IfOk, IsSomeAnd}
 use Rattle.std.specs.Bool.{OnTrue}
 use Rattle.rte_tree.specs.declared.place.Place.{Place}

@@ -19,6 +19,7 @@ use rte_demand::Judgement;
 use rte_edf_demands::{ShapeFault, judge_program};
 use rte_edf_text::first_wait;
 use rte_image::RawImage;
+use rte_small::checked_programs_are_ready;
 use rte_static::Checked;
 use rte_tree::Place;
 use std::alloc::{AllocError, Global};
@@ -49,6 +50,7 @@ fn judge_waitless(alloc: Global, text: Vec<u8>, program: &Checked) -> Result<Sub
     ensures text { IfOk result (λ subject. subject.text.items ≡ text.items) }
     ensures fault { IfErr result (Stops text.items) }
 {
+    checked_programs_are_ready();
     match judge_program(alloc, program) {
         Ok(judged) => Ok(Subject {
             text,

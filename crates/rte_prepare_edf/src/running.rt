@@ -1,6 +1,6 @@
 //! Programs run, where their demand is met.
 
-ghost use Rattle.std.specs.Prelude.{◌≡◌, ◌×◌, ◌++◌, ℕ, List, None, IfOk};
+ghost use Rattle.std.specs.Prelude.{◌≡◌, ◌++◌, ℕ, List, None, IfOk};
 ghost use Rattle.rte_answers.specs.Acts.{outcome_of};
 ghost use Rattle.rte_commands.specs.Due.{told};
 ghost use Rattle.rte_contents.specs.Acting.{CanBeDone, IsQuiet, puts};
@@ -31,11 +31,7 @@ pub fn refuse_unfit<'a>(alloc: Global, subject: &Subject) -> Result<Act<'a>, All
 }
 
 /// The act that puts the report and runs the image over a script.
-fn run_image<'a>(
-    alloc: Global,
-    subject: Subject,
-    script: Script,
-) -> Result<Act<'a>, AllocError>
+fn run_image<'a>(alloc: Global, subject: Subject, script: Script) -> Result<Act<'a>, AllocError>
     requires subject { IsSubject subject }
     requires met { IsMet subject.answer }
     requires script { (text : List ℕ) ×
