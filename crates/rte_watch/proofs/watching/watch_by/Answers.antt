@@ -2,6 +2,7 @@ use Rattle.std.proofs.Common.{◌≡◌, ◌≤◌, ◌∙◌, List, length, ari
 use Rattle.std.specs.Prelude.{All}
 use Rattle.std.proofs.lemmas.List.{length-map}
 use Rattle.rte_answers.specs.declared.act.Run.{Run as Ran}
+use Rattle.rte_answers.specs.Acts.{by_ranks}
 use Rattle.rte_event.specs.declared.event.Event.{Event}
 use Rattle.rte_image.specs.Raw.{image_of, monitor_of, named_of}
 use Rattle.rte_inspect.specs.Laws.{HasItsWords}
