@@ -9,6 +9,7 @@ ghost use Rattle.rte_contents.specs.Prepared.{Prepares};
 use rte_answers::Act;
 use rte_contents::Unready;
 use rte_io::Files;
+use rte_prepare_edf::prepare_edf;
 use rte_prepare_images::{prepare_asm, prepare_dis, prepare_migrate, prepare_run, prepare_watch};
 use rte_prepare_programs::{
     Format, prepare_compile, prepare_go, prepare_print, prepare_report, prepare_slack,
@@ -71,5 +72,6 @@ pub fn prepare<'a, F: Files>(
             script,
             log,
         } => prepare_replay(alloc, program, script, log, files),
+        Command::Edf { program, script } => prepare_edf(alloc, program, script, files),
     }
 }

@@ -11,7 +11,6 @@ use Rattle.rte_script.specs.declared.fault.ScriptFault.TheVariants as fault
 use Rattle.rte_script.specs.declared.script.ScriptLine.{ScriptLine}
 use Rattle.rte_script.specs.Faults.{IsFault}
 use Rattle.rte_script.specs.Scripts.{IsScript}
-use Rattle.rte_commands.specs.Source.{IsWritten}
 use Rattle.rte_commands.specs.Due.{Outcome, bad_script}
 use Rattle.rte_replay_due.specs.Due.{IsJudged}
 
@@ -30,7 +29,3 @@ pub data IsReplayed (g : Prog Place) (script log : Option (List ℕ)) (outcome :
 abbrev pub LaterFailed : Bool → Prog Place → (before now : FilesState) → (script log : List ℕ) → Type 0
 LaterFailed tells g before now script log =
     Failed before now script ⊎ (Failed before now log × OnTrue tells (IsSomeAnd (before.held script) (IsScriptFor g)))
-
--- the same of a text, which is that of some program
-abbrev pub TextFailed : Bool → (text : List ℕ) → (before now : FilesState) → (script log : List ℕ) → Type 0
-TextFailed tells text before now script log = (g : Prog Place) × IsWritten text g × LaterFailed tells g before now script log
