@@ -1,5 +1,5 @@
-//! Words and numbers at the end of a text. After an error the text may hold a part of what was to be
-//! put.
+//! Words and numbers at the end of a text. After an error the text may hold a part of what was to
+//! be put.
 
 ghost use Rattle.std.specs.Prelude.{◌≡◌, ◌++◌, decimal, OnOk};
 

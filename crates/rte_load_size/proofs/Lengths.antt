@@ -1,18 +1,17 @@
 -- The lengths of the texts of the load.
-use Rattle.std.proofs.Common.{◌≡◌, ◌<◌, ◌≤◌, ◌+◌, ◌*◌, ◌/◌, ◌%◌, ◌==◌, ℕ, zero, suc, Bool, true, false, ◌⊎◌, inl, inr, List, [], ◌∷◌, Option, Some, None, codes, refl, ap, sym, ◌∙◌, eq-eqb, arith}
-use Rattle.std.specs.Prelude.{option_map, slice_get}
+use Rattle.std.proofs.Common.{◌≡◌, ◌<◌, ◌≤◌, ◌+◌, ◌*◌, ◌/◌, ◌%◌, ◌==◌, ℕ, zero, suc, Bool, true, false, ◌⊎◌, inl, inr, [], ◌∷◌, Option, Some, codes, refl, ap, sym, ◌∙◌, eq-eqb, arith}
+use Rattle.std.specs.Prelude.{option_map}
 use Rattle.std.proofs.lemmas.Bool.{cases_eq, ne_eqb}
 use Rattle.rte_tree.specs.Plain as plain_of
 use Rattle.rte_tree.specs.Plain.{Name}
 use Rattle.rte_tree.specs.Placed.{Stmts, stmts, no_stmts, get, put, exprs, no_exprs, plain_process, plain_stmts}
-use Rattle.rte_source_meaning.specs.Names.{processes}
 use Rattle.rte_source_meaning.specs.Run.{or_else}
 use Rattle.rte_emits.specs.Layout.{by_process, in_frame, in_process, in_area, place_named, places_from, vars_of_process}
 use Rattle.rte_costs.specs.Names.{Names, view_of}
-use Rattle.rte_costs.specs.Lengths.{routine_length, process_length, stmts_length, handler_length}
-use Rattle.rte_costs.specs.Levels.{routine_names, process_names, routines_length, processes_length, code_length}
+use Rattle.rte_costs.specs.Lengths.{process_length}
+use Rattle.rte_costs.specs.Levels.{process_names, routines_length, processes_length, code_length}
 use Rattle.rte_load.specs.declared.program.Drawn.{Drawn}
-use Rattle.rte_load.specs.Program.{Nowhere, of_name, to_name, enter, turns_of, pause_if, is_even, drawn, load_process, load_program}
+use Rattle.rte_load.specs.Program.{Nowhere, of_name, to_name, enter, turns_of, pause_if, is_even, drawn, load_process}
 use Rattle.rte_load_size.proofs.Lists.{load, process_of, list_from, all_processes, there, add_text, pause_text, all_routines}
 
 routines_are : (key count : ℕ) → routines_length (load key count) (add_text ∷ pause_text ∷ []) ≡ 11

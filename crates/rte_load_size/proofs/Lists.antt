@@ -1,6 +1,6 @@
 -- The routines and the processes of the load.
-use Rattle.std.proofs.Common.{◌≡◌, ◌<◌, ◌+◌, ℕ, zero, suc, List, [], ◌∷◌, ◌++◌, Some, map, fold, refl, ap, sym, ◌∙◌, arith}
-use Rattle.std.specs.Prelude.{filter_map, slice_get, sum_by}
+use Rattle.std.proofs.Common.{◌≡◌, ◌<◌, ◌+◌, ℕ, zero, suc, List, [], ◌∷◌, Some, map, fold, refl, ap, ◌∙◌, arith}
+use Rattle.std.specs.Prelude.{filter_map, slice_get}
 use Rattle.rte_tree.specs.Plain as plain_of
 use Rattle.rte_tree.specs.Placed.{plain, plain_decl, plain_process, plain_routine}
 use Rattle.rte_source_meaning.specs.Names.{processes, process_in, routine_count, routines_in}

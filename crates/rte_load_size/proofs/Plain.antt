@@ -1,19 +1,19 @@
 -- A tree and the tree without places are the same program.
-use Rattle.std.proofs.Common.{◌≡◌, true, false, List, [], ◌∷◌, map, Option, Some, None, refl, ap, sym, ◌∙◌}
+use Rattle.std.proofs.Common.{◌≡◌, List, [], ◌∷◌, map, Option, Some, None, refl, ap}
 use Rattle.rte_tree.specs.Plain as plain_of
-use Rattle.rte_tree.specs.Placed.{Constant, literal_constant, named_constant, Scalar, int, boolean, subrange, Kind, scalar, array, Var, Param, Expr, literal, truth, variable, element, call, minus, negation, paren, row, Exprs, no_exprs, exprs, Operands, no_operands, operand, Ref, whole, part, Stmt, assign, assign_entry, assign_empty, perform, perform_entry, when, when_else, loop, exit_when, get, put, wait, signal, broadcast, except, assert, Stmts, no_stmts, stmts, Routine, Member, variable_member, condition_member, Monitor, Activation, periodic, at_event, Handler, Process, Decl, constant, device, event, routine, monitor, process, Prog, optional, plain_constant, plain_scalar, plain_kind, plain_var, plain_param, plain_expr, plain_exprs, plain_operands, plain_ref, plain_stmt, plain_stmts, plain_answers, plain_routine, plain_member, plain_monitor, plain_activation, plain_handler, plain_process, plain_decl, plain}
+use Rattle.rte_tree.specs.Placed.{Constant, literal_constant, named_constant, Scalar, int, boolean, subrange, Kind, scalar, array, Var, Param, Expr, literal, truth, variable, element, call, minus, negation, paren, row, Exprs, no_exprs, exprs, Operands, no_operands, operand, Ref, whole, part, Stmt, assign, assign_entry, assign_empty, perform, perform_entry, when, when_else, loop, exit_when, get, put, wait, signal, broadcast, except, assert, Stmts, no_stmts, stmts, Routine, Member, variable_member, condition_member, Activation, periodic, at_event, Handler, Decl, constant, device, event, routine, monitor, process, Prog, optional, plain_constant, plain_scalar, plain_kind, plain_var, plain_param, plain_expr, plain_exprs, plain_operands, plain_ref, plain_stmt, plain_stmts, plain_answers, plain_routine, plain_member, plain_activation, plain_handler, plain_decl, plain}
 use Rattle.rte_tree.specs.Bare as b
 use Rattle.rte_tree.specs.Bare.{bare}
 
+maps : {A B C : Type 0} (f : B → C) (h : A → C) (k : A → B) → ((x : A) → f (k x) ≡ h x) → (xs : List A) → map f (map k xs) ≡ map h xs
+maps f h k same [] = refl
+maps f h k same (x ∷ xs) = λ i. same x i ∷ maps f h k same xs i
+
+options : {A B C : Type 0} (f : B → C) (h : A → C) (k : A → B) → ((x : A) → f (k x) ≡ h x) → (o : Option A) → optional f (optional k o) ≡ optional h o
+options f h k same None = refl
+options f h k same (Some x) = ap (λ y. Some y) (same x)
+
 module _ {P : Type 0} where
-  maps : {A B C : Type 0} (f : B → C) (h : A → C) (k : A → B) → ((x : A) → f (k x) ≡ h x) → (xs : List A) → map f (map k xs) ≡ map h xs
-  maps f h k same [] = refl
-  maps f h k same (x ∷ xs) = λ i. same x i ∷ maps f h k same xs i
-
-  options : {A B C : Type 0} (f : B → C) (h : A → C) (k : A → B) → ((x : A) → f (k x) ≡ h x) → (o : Option A) → optional f (optional k o) ≡ optional h o
-  options f h k same None = refl
-  options f h k same (Some x) = ap (λ y. Some y) (same x)
-
   constants : (c : Constant P) → plain_constant (b.bare_constant c) ≡ plain_constant c
   constants (literal_constant p s n q) = refl
   constants (named_constant p s n q) = refl
