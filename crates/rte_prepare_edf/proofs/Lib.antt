@@ -1,3 +1,5 @@
 mod Few
 mod Prepared
+mod Runs
 mod Scripted
+mod Sized

@@ -10,6 +10,7 @@ use Rattle.rte_demand.specs.declared.judging.Judgement.TheVariants as judgement
 use Rattle.rte_words.specs.Calls as call
 use Rattle.rte_commands.specs.Source.{fault_line}
 use Rattle.rte_commands.specs.Due.{Outcome, told}
+use Rattle.rte_compile.specs.Written.{ReadsWritten}
 use Rattle.rte_compile.specs.declared.written.TextFault.{TextFault}
 use Rattle.rte_compile.specs.declared.written.TextFault.TheVariants as text_fault
 use Rattle.rte_answers.specs.declared.act.Act.{Act}
@@ -26,6 +27,10 @@ use Rattle.rte_edf_due.specs.Report.{edf_report}
 use Rattle.rte_prepare_edf.specs.Judged.{IsMet, IsScriptDue, IsStopped, IsSubjectDue, Stops, faulty, misspelled, ran, scripted, unfit, waits}
 
 -- ---- texts that are not judged
+
+pub unread_stops : (text : List ℕ) (why : TextFault) → ReadsWritten text (Err why) → Stops text why
+unread_stops text (text_fault.Text number place) is = faulty is
+unread_stops text text_fault.Memory is = tt
 
 of_stopped : (text : List ℕ) (number : ℕ) (place : Place) (script : Option (List ℕ)) → IsStopped text number place → IsEdfDue (Some text) script (outcome_of (puts status.Text (fault_line number place)))
 of_stopped text number place script (faulty is) = edf_faulty text number place refl is (outcome_of_puts status.Text (fault_line number place))

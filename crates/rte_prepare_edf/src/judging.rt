@@ -44,7 +44,9 @@ pub struct Subject {
 
 /// A program without waits, judged.
 fn judge_waitless(alloc: Global, text: Vec<u8>, program: &Checked) -> Result<Subject, TextFault>
-    requires written { IsWritten text.items (placed program.now) }
+    ghost source: { List ℕ }
+    requires source { text.items ≡ source }
+    requires written { IsWritten source (placed program.now) }
     requires waitless { HasNoWait (placed program.now) }
     ensures subject { IfOk result IsSubject }
     ensures text { IfOk result (λ subject. subject.text.items ≡ text.items) }
