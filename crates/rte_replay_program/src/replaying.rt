@@ -25,7 +25,7 @@ use std::alloc::{AllocError, Global};
 
 /// The most levels of statements and expressions for which calls are followed: each takes some of
 /// the stack.
-const MOST_LEVELS: u64 = 10_000;
+const MOST_LEVELS: u64 = 3_000;
 
 /// The verdict on events, by the declarations of their program and by its ranks and ceilings.
 fn judged<'a, 'b: 'a>(
@@ -49,7 +49,7 @@ fn judged<'a, 'b: 'a>(
 
 /// Whether the events are a run, over the script, of the program of a text, which keeps to all
 /// rules and is not too large; else the first line that is refused, the first line being 1. Want of
-/// memory is the only error; it is told too where the texts of the program have more than 10,000
+/// memory is the only error; it is told too where the texts of the program have more than 3,000
 /// levels of statements and expressions together, for which the stack may be too small.
 pub fn replay(
     alloc: Global,
