@@ -7,7 +7,7 @@ use Rattle.rte_valid.specs.Valid.{HasLimits, IsValid}
 use Rattle.rte_plan.specs.HasPlan.{HasPlan}
 use Rattle.rte_logged.specs.Laws.{AreNamesOf}
 use Rattle.rte_script_suits.specs.Suits.{Suits}
-use Rattle.rte_starts.specs.Begin.{script_of}
+use Rattle.rte_edf_machine.specs.Begin.{script_of}
 use Rattle.rte_script.specs.declared.script.Script.{Script}
 use Rattle.rte_script.specs.declared.script.ScriptLine.{ScriptLine}
 use Rattle.rte_commands.specs.Due.{Outcome, log}

@@ -1,1 +1,2 @@
 pub mod Assembled
+pub use Rattle.rte_assemble.specs.Fields

@@ -5,3 +5,5 @@
 #![tactic(auto)]
 
 pub mod law;
+
+pub use rte_assemble::assemble;

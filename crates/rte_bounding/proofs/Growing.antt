@@ -16,9 +16,9 @@ use Rattle.rte_built.specs.Filled.{without_bound, without_bounds}
 use Rattle.rte_built.specs.Shown.{AreLeast}
 use Rattle.rte_ranking.specs.declared.copies.Times.{Times}
 use Rattle.rte_ranking.specs.Ranking.{timed}
-use Rattle.rte_filled.specs.Filled.{Each}
-use Rattle.rte_filled.proofs.Lists.{through, became, each_mapped, each_more, none_yet, same_more}
-use Rattle.rte_filled.proofs.Tasks.{least_is_kept}
+use Rattle.rte_ranking.specs.Filled.{Each}
+use Rattle.rte_ranking.proofs.Lists.{through, became, each_mapped, each_more, none_yet, same_more}
+use Rattle.rte_ranking.proofs.Tasks.{least_is_kept}
 use Rattle.rte_bounding.specs.Bounding.{but_bound, AreBounded, HasBounds, KeepsLeast}
 
 -- the least bound is no longer than the limit

@@ -6,7 +6,7 @@ use Rattle.rte_image.specs.declared.raw.RawProc.{RawProc}
 use Rattle.rte_image.specs.Raw.{process_of}
 use Rattle.rte_table.specs.declared.table.Row.{Row}
 use Rattle.rte_built.specs.Shown.{row_of, rows_of}
-use Rattle.rte_filled.proofs.Lists.{through}
+use Rattle.rte_ranking.proofs.Lists.{through}
 
 pub one_row : (ps : List RawProc) (bs : List (Option ℕ)) (i : ℕ) (p : RawProc) (b : Option ℕ) (r : Row) (old new all : List Row) → i < length ps → i < length bs
     → p ≡ get_or ps i p → b ≡ get_or bs i b → old ++ rows_of (map process_of (drop i ps)) (drop i bs) ≡ all → new ≡ old ++ r ∷ [] → r ≡ row_of (process_of p) b

@@ -6,7 +6,7 @@ use Rattle.rte_image.specs.Raw.{process_of}
 use Rattle.rte_built.specs.Built.{HasLeastBounds}
 use Rattle.rte_built.specs.Filled.{without_bound}
 use Rattle.rte_built.specs.Shown.{AreLeast}
-use Rattle.rte_filled.specs.Filled.{Each}
+use Rattle.rte_ranking.specs.Filled.{Each}
 
 abbrev pub but_bound : RawProc → Process
 but_bound p = without_bound (process_of p)

@@ -9,9 +9,9 @@ ghost use Rattle.rte_whole.specs.Whole.{HasRanks};
 
 use rte_block::bound_of;
 use rte_image::{RawImage, RawProc};
+use rte_ranking::task_set;
 use rte_response::TaskSet;
 use rte_tree::List;
-use rte_valid_times::task_set;
 use std::alloc::{AllocError, Global};
 
 /// The least bound of the level, which is at most its limit; none where there is none within the

@@ -12,4 +12,7 @@ mod shown;
 
 pub use filled::with_bounds;
 pub use least::bounds;
+pub use rte_ranking::{
+    bounded_images_are_built, late_where_one_is_none, rank, ranked_images_are_shaped,
+};
 pub use shown::table;

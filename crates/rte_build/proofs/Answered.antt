@@ -11,10 +11,10 @@ use Rattle.rte_image.specs.declared.raw.RawImage.{RawImage}
 use Rattle.rte_image.specs.Raw.{image_of, named_of}
 use Rattle.rte_table.specs.declared.table.Table.{Table}
 use Rattle.rte_report.specs.Late.{IsNamed}
-use Rattle.rte_built.specs.Built.{IsBuilt, IsShaped}
-use Rattle.rte_built.specs.Named.{names_of}
-use Rattle.rte_built.specs.Shown.{AreLeast, table_of}
-use Rattle.rte_filled.specs.Laws.{BoundedImagesAreBuilt, LateWhereOneIsNone}
+use Rattle.rte_built_tables.specs.Built.{IsBuilt, IsShaped}
+use Rattle.rte_built_tables.specs.Named.{names_of}
+use Rattle.rte_built_tables.specs.Shown.{AreLeast, table_of}
+use Rattle.rte_bounding.specs.Laws.{BoundedImagesAreBuilt, LateWhereOneIsNone}
 use Rattle.rte_built_tables.specs.Tables.{TablesAreNamed}
 use Rattle.rte_build.specs.declared.built.Built.{Built}
 use Rattle.rte_build.specs.declared.built.Late.{Late}

@@ -6,9 +6,9 @@ use Rattle.std.proofs.lemmas.List.Elements.{All-tail}
 use Rattle.rte_machine_meaning.specs.Image.{Image, Process}
 use Rattle.rte_image.specs.declared.raw.RawImage.{RawImage}
 use Rattle.rte_image.specs.Raw.{image_of, named_of, process_of}
-use Rattle.rte_built.specs.Filled.{DiffersInBounds, without_bound}
-use Rattle.rte_filled.specs.Filled.{declared_bounds}
-use Rattle.rte_filled.proofs.Lists.{as_many}
+use Rattle.rte_built_tables.specs.Filled.{DiffersInBounds, without_bound}
+use Rattle.rte_bounding.specs.Filled.{declared_bounds}
+use Rattle.rte_bounding.proofs.Lists.{as_many}
 use Rattle.rte_bounding.specs.Bounding.{HasBounds}
 
 pub same_code : (before now : RawImage) → DiffersInBounds (named_of before) (named_of now) → now.code ≡ before.code

@@ -4,7 +4,7 @@ use Rattle.rte_tree.specs.Placed.{Prog, plain}
 use Rattle.rte_static.specs.Static.{IsChecked}
 use Rattle.rte_small.specs.Checked.{CheckedProgramsAreReady}
 use Rattle.rte_cost.specs.Parts.{measures_of}
-use Rattle.rte_cost_table.specs.Defined.{MeasuresAreDefined}
+use Rattle.rte_loops_fit.specs.Defined.{MeasuresAreDefined}
 use Rattle.rte_loops_fit.specs.Loops.{CheckedLoopsFit}
 use Rattle.rte_sizes.specs.Sizes.{AreDefined}
 

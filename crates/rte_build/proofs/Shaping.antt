@@ -22,11 +22,11 @@ use Rattle.rte_small.specs.Checked.{IsReady, CheckedProgramsAreReady}
 use Rattle.rte_small.specs.Checked.{IsSmallEnough}
 use Rattle.rte_small.specs.Small.{GeneratedCodeIsCode, ProgramsThatKeepSizesAreSmall}
 use Rattle.rte_program.specs.Program.{IsProgramOf}
-use Rattle.rte_built.specs.Built.{IsShaped}
-use Rattle.rte_built.specs.Filled.{DiffersInRanks}
-use Rattle.rte_filled.specs.Filled.{Each}
-use Rattle.rte_filled.specs.Laws.{RankedImagesAreShaped}
-use Rattle.rte_built_scripts.proofs.Texts.{Emitted, emitted}
+use Rattle.rte_built_tables.specs.Built.{IsShaped}
+use Rattle.rte_built_tables.specs.Filled.{DiffersInRanks}
+use Rattle.rte_bounding.specs.Filled.{Each}
+use Rattle.rte_bounding.specs.Laws.{RankedImagesAreShaped}
+use Rattle.rte_built_limits.proofs.Texts.{Emitted, emitted}
 use Rattle.rte_built_limits.specs.Limits.{ShapedImagesAreInLimits}
 use Rattle.rte_built_limits.proofs.Activations.{InLimits, in_limits}
 use Rattle.rte_build.specs.Build.{KeepsSizes}

@@ -6,10 +6,10 @@ use Rattle.rte_rules.specs.First.{IsFirst}
 use Rattle.rte_size_rules.specs.Rules.{SizeFails}
 use Rattle.rte_image.specs.Raw.{image_of, named_of}
 use Rattle.rte_report.specs.Late.{IsNamed}
-use Rattle.rte_filled.specs.Filled.{declared_bounds}
-use Rattle.rte_built.specs.Built.{IsBuilt, IsLate}
-use Rattle.rte_built.specs.Named.{names_of}
-use Rattle.rte_built.specs.Shown.{IsTableOf, table_of}
+use Rattle.rte_bounding.specs.Filled.{declared_bounds}
+use Rattle.rte_built_tables.specs.Built.{IsBuilt, IsLate}
+use Rattle.rte_built_tables.specs.Named.{names_of}
+use Rattle.rte_built_tables.specs.Shown.{IsTableOf, table_of}
 use Rattle.rte_build.specs.declared.built.Built.{Built}
 use Rattle.rte_build.specs.declared.built.Late.{Late}
 use Rattle.rte_build.specs.declared.built.BuildFault.{BuildFault}

@@ -11,11 +11,11 @@ use Rattle.rte_valid.specs.Valid.{HasLimits}
 use Rattle.rte_made.specs.Parts.{program_made}
 use Rattle.rte_made_whole.specs.Held.{Holds}
 use Rattle.rte_whole.specs.Declared.{Declares}
-use Rattle.rte_filled.specs.Filled.{declared_bounds}
-use Rattle.rte_built.specs.Built.{IsShaped}
-use Rattle.rte_built.specs.Filled.{DiffersInBounds}
-use Rattle.rte_built.specs.Named.{names_of}
-use Rattle.rte_built.specs.Shown.{table_of}
+use Rattle.rte_bounding.specs.Filled.{declared_bounds}
+use Rattle.rte_built_tables.specs.Built.{IsShaped}
+use Rattle.rte_built_tables.specs.Filled.{DiffersInBounds}
+use Rattle.rte_built_tables.specs.Named.{names_of}
+use Rattle.rte_built_tables.specs.Shown.{table_of}
 use Rattle.rte_build.specs.declared.built.Built.{Built}
 use Rattle.rte_build.specs.declared.built.Late.{Late}
 use Rattle.rte_build.specs.declared.built.BuildFault.{BuildFault}

@@ -8,9 +8,8 @@ ghost use Rattle.rte_build.specs.Build.{Builds};
 use crate::built::{BuildFault, Built};
 use crate::finish::{all_there, filled, reported};
 use crate::shape::ranked;
-use rte_bounding::bounds;
+use rte_bounding::{bounded_images_are_built, bounds, late_where_one_is_none};
 use rte_built_tables::law::tables_are_named;
-use rte_filled::law::{bounded_images_are_built, late_where_one_is_none};
 use rte_static::Checked;
 use std::alloc::Global;
 

@@ -17,4 +17,7 @@ mod shape;
 pub use building::build;
 pub use built::{BuildFault, Built, Late};
 pub use parts::refuse_too_large;
+pub use rte_bounding::with_bounds;
+pub use rte_small::checked_programs_are_ready;
+pub use rte_small::law::generated_code_is_code;
 pub use shape::ranked;

@@ -10,8 +10,8 @@ ghost use Rattle.rte_build.specs.Steps.{AreParts, IsSizeFault};
 
 use crate::built::BuildFault;
 use rte_cost::Measures;
-use rte_cost_table::law::measures_are_defined;
 use rte_loops_fit::law::loops_of_checked_programs_fit;
+use rte_loops_fit::measures_are_defined;
 use rte_made::Code;
 use rte_small::checked_programs_are_ready;
 use rte_text_code::ProgramTexts;

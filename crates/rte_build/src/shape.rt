@@ -8,12 +8,11 @@ ghost use Rattle.rte_build.specs.Steps.{AreParts, IsAssembled, IsRanked, IsSizeF
 
 use crate::built::BuildFault;
 use crate::parts::{Parts, parts_of};
-use rte_assemble::assemble;
+use rte_assembled::assemble;
 use rte_assembled::law::{checked_programs_fit_fields, made_programs_have_parts};
+use rte_bounding::{rank, ranked_images_are_shaped};
 use rte_built_limits::law::shaped_images_are_in_limits;
-use rte_filled::law::ranked_images_are_shaped;
 use rte_image::RawImage;
-use rte_ranking::rank;
 use rte_small::checked_programs_are_ready;
 use rte_small::law::{generated_code_is_code, programs_that_keep_sizes_are_small};
 use rte_tree::Prog;

@@ -2,10 +2,10 @@
 use Rattle.std.specs.Prelude.{◌≡◌, ◌-◌, ℕ, Some, slice_get}
 use Rattle.rte_tree.specs.Plain.{Prog}
 use Rattle.rte_machine_meaning.specs.Image.{Image, Process}
-use Rattle.rte_image.specs.Named.{NamedImage}
+use Rattle.rte_table.specs.Named.{NamedImage}
 use Rattle.rte_response.specs.Demand.{Solves, IsBound}
-use Rattle.rte_tasks.specs.Tasks.{tasks_of}
-use Rattle.rte_made.specs.Parts.{program_made}
+use Rattle.rte_whole.specs.Tasks.{tasks_of}
+use Rattle.rte_made_whole.specs.Parts.{program_made}
 use Rattle.rte_made_whole.specs.Held.{Holds}
 use Rattle.rte_whole.specs.Declared.{Declares}
 use Rattle.rte_whole.specs.Whole.{HasRanks}

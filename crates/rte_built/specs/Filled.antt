@@ -1,7 +1,7 @@
 -- What is filled in last: ranks, ceilings and blocks, and then bounds.
 use Rattle.std.specs.Prelude.{◌≡◌, ℕ, map}
 use Rattle.rte_machine_meaning.specs.Image.{Image, Monitor, Process}
-use Rattle.rte_image.specs.Named.{NamedImage}
+use Rattle.rte_table.specs.Named.{NamedImage}
 
 abbrev pub without_bound : Process → Process
 without_bound p = record p { bound = 0 }

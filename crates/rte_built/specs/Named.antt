@@ -2,10 +2,10 @@
 use Rattle.std.specs.Prelude.{ℕ, suc, ◌++◌, List, [], ◌∷◌, Bool, false, cond, Option, Some, None, bytes_eq, map, filter_map}
 use Rattle.rte_tree.specs.Plain.{Name, Monitor, Activation, periodic, at_event, Process, Decl, device, Prog}
 use Rattle.rte_source_meaning.specs.Names.{processes, monitors, conditions_of, event_in, frame_of}
-use Rattle.rte_image.specs.declared.names.ImageNames.{ImageNames}
-use Rattle.rte_image.specs.declared.names.CondName.{CondName}
-use Rattle.rte_image.specs.declared.names.DevName.{DevName}
-use Rattle.rte_image.specs.declared.names.EventName.{EventName}
+use Rattle.rte_table.specs.ImageNames.{ImageNames}
+use Rattle.rte_table.specs.CondName.{CondName}
+use Rattle.rte_table.specs.DevName.{DevName}
+use Rattle.rte_table.specs.EventName.{EventName}
 
 -- the conditions of the monitors from number m on, each with the number of its monitor
 abbrev pub named_conditions : ℕ → List Monitor → List CondName

@@ -2,7 +2,7 @@
 use Rattle.std.specs.Prelude.{◌≡◌, ◌<◌, ◌-◌, ℕ, cond, List, [], ◌∷◌, Option, Some, None, nat_eq, length, map, slice_get}
 use Rattle.rte_tree.specs.Plain.{Prog}
 use Rattle.rte_machine_meaning.specs.Image.{Image, Monitor, Process}
-use Rattle.rte_tasks.specs.Tasks.{tasks_of}
+use Rattle.rte_whole.specs.Tasks.{tasks_of}
 use Rattle.rte_table.specs.declared.table.Row.{Row}
 use Rattle.rte_table.specs.declared.table.Table.{Table}
 use Rattle.rte_table.specs.Table.{IsBoundAt}

@@ -22,7 +22,7 @@ use Rattle.rte_script.specs.Scripts.{IsScript}
 use Rattle.rte_built.specs.Named.{names_of}
 use Rattle.rte_built_made.specs.Made.{BuiltImagesAreMade}
 use Rattle.rte_built_limits.specs.Limits.{BuiltImagesAreInLimits}
-use Rattle.rte_built_scripts.specs.Suits.{Suits, ScriptsForTheNamesSuit}
+use Rattle.rte_built_limits.specs.Suits.{Suits, ScriptsForTheNamesSuit}
 use Rattle.rte_commands.specs.Script.{said, run_of}
 use Rattle.rte_commands.specs.Runs.{IsKept, IsFaithful, BuiltImagesAreFaithful}
 use Rattle.rte_built_laws.specs.Made.{MadeImagesAreFaithful}

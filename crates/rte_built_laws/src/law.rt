@@ -4,8 +4,8 @@ ghost use Rattle.rte_built_laws.specs.Made.{MadeImagesAreFaithful};
 ghost use Rattle.rte_commands.specs.Runs.{BuiltImagesAreFaithful};
 
 use rte_built_limits::law::built_images_are_in_limits;
+use rte_built_limits::scripts_for_the_names_suit;
 use rte_built_made::law::built_images_are_made;
-use rte_built_scripts::law::scripts_for_the_names_suit;
 use rte_checked_valid::law::checked_images_are_valid;
 use rte_made_image::law::checked_images_are_images;
 use rte_small::law::programs_that_keep_sizes_are_small;

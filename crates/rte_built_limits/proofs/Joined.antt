@@ -16,8 +16,8 @@ use Rattle.rte_emits.specs.Compiled.{inserted, ascending, EmitsHandler, EmitsPro
 use Rattle.rte_costs.specs.Levels.{stack_of_process}
 use Rattle.rte_whole.specs.Declared.{DeclaresProcess}
 use Rattle.rte_wellformed.specs.WellFormed.{ProcessFits, IsWellFormed}
-use Rattle.rte_built.specs.Built.{IsShaped}
-use Rattle.rte_commands.specs.Source.{IsWritten}
+use Rattle.rte_built_scripts.specs.Built.{IsShaped}
+use Rattle.rte_built_scripts.specs.Source.{IsWritten}
 use Rattle.rte_built_scripts.proofs.Texts.{Emitted, emitted}
 use Rattle.rte_built_limits.specs.Limits.{BlocksAreInLimits, StacksAreInLimits, TakesSome, HandlersTakeNumbers, EntriesHaveOwners, ShapedImagesAreInLimits, BuiltImagesAreInLimits}
 use Rattle.rte_built_limits.proofs.Activations.{InLimits, in_limits}

@@ -11,8 +11,8 @@ use Rattle.rte_emits.specs.Layout.{Owner, by_program, by_process, by_monitor}
 use Rattle.rte_emits.specs.Numbering.{Text, numbered}
 use Rattle.rte_emits.specs.Compiled.{kind_number, owner_number, IsRoutine, EmitsRoutines}
 use Rattle.rte_compiled.proofs.Words.{same_length}
-use Rattle.rte_valid_law.proofs.Firsts.{some_at}
-use Rattle.rte_made_fits.proofs.Reached.{text_at, of_numbered}
+use Rattle.rte_built_scripts.proofs.Firsts.{some_at}
+use Rattle.rte_built_scripts.proofs.Reached.{text_at, of_numbered}
 use Rattle.rte_built_limits.specs.Limits.{EntriesHaveOwners}
 
 -- the monitor of the owner, if it is one, is there

@@ -15,8 +15,8 @@ use Rattle.rte_costs.specs.Levels.{stack_of_process}
 use Rattle.rte_whole.specs.Declared.{Declares}
 use Rattle.rte_program.specs.Source.{IsTreeOf}
 use Rattle.rte_size_rules.specs.Rules.{SizeFails}
-use Rattle.rte_built.specs.Built.{IsShaped, IsBuilt}
-use Rattle.rte_commands.specs.Source.{IsWritten}
+use Rattle.rte_built_scripts.specs.Built.{IsShaped, IsBuilt}
+use Rattle.rte_built_scripts.specs.Source.{IsWritten}
 
 -- The law: no block of an image that declares what its text says is longer than this.
 abbrev pub BlocksAreInLimits : Type 0

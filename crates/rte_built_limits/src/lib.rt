@@ -7,3 +7,5 @@
 #![tactic(auto)]
 
 pub mod law;
+
+pub use rte_built_scripts::law::{names_have_frames, scripts_for_the_names_suit};

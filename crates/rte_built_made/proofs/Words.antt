@@ -10,7 +10,7 @@ use Rattle.rte_valid.specs.Sizes.{words_over_all}
 use Rattle.rte_emits.specs.Layout.{monitor_vars, words_of}
 use Rattle.rte_emits.specs.Compiled.{AreMonitors, EmitsProcesses}
 use Rattle.rte_wellformed.specs.WellFormed.{vars_words, words}
-use Rattle.rte_made_fits.proofs.Counts.{words_same}
+use Rattle.rte_generated_runs.proofs.Counts.{words_same}
 use Rattle.rte_built_made.specs.Made.{WordsAreFew}
 
 monitor_words : (g : Prog) (base : ℕ) (ms : List Monitor) (ks : List image.Monitor) → AreMonitors g base ms ks

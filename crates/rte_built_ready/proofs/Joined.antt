@@ -19,7 +19,7 @@ use Rattle.rte_built.specs.Built.{IsBuilt}
 use Rattle.rte_built.specs.Named.{names_of}
 use Rattle.rte_built_made.specs.Made.{BuiltImagesAreMade}
 use Rattle.rte_built_limits.specs.Limits.{BuiltImagesAreInLimits}
-use Rattle.rte_built_scripts.specs.Suits.{NamesHaveFrames}
+use Rattle.rte_built_limits.specs.Suits.{NamesHaveFrames}
 use Rattle.rte_script_suits.specs.Suits.{HasFrames}
 use Rattle.rte_short_names.specs.Short.{NamesAreShort, NamesOfTextsAreShort}
 use Rattle.rte_built_ready.specs.Ready.{BuiltImagesAreReady, IsReady}

@@ -21,7 +21,7 @@ use Rattle.rte_seen.specs.Seen.{IsLimit, IsSmall}
 use Rattle.rte_state.specs.Plan.{HasNumbers}
 use Rattle.rte_valid.specs.Valid.{HasHandler, HasLimits, Sizes, fault_of_part}
 use Rattle.rte_valid_law.proofs.Passing.{params_fit}
-use Rattle.rte_built_scripts.proofs.Texts.{Emitted, emitted}
+use Rattle.rte_built_limits.proofs.Texts.{Emitted, emitted}
 use Rattle.rte_built_ready.proofs.Counts.{Counted}
 
 pub all_of : {X : Type 0} (P : X → Type 0) (xs : List X) → ((k : ℕ) (x : X) → slice_get xs k ≡ Some x → P x) → All P xs

@@ -17,7 +17,7 @@ use Rattle.rte_valid_law.proofs.Shapes.{ProcessShaped, RoutineShaped, process_sh
 use Rattle.rte_wellformed.specs.WellFormed.{IsWellFormed, OptionalFits, ProcessFits}
 use Rattle.rte_short_names.specs.Short.{NamesAreShort}
 use Rattle.rte_built.specs.Named.{names_of}
-use Rattle.rte_built_scripts.proofs.Texts.{Emitted, emitted}
+use Rattle.rte_built_limits.proofs.Texts.{Emitted, emitted}
 use Rattle.rte_built_ready.proofs.Counts.{Counted}
 use Rattle.rte_built_ready.proofs.Handled.{few_numbers}
 use Rattle.rte_built_ready.proofs.Names.{are_named, name_fits}

@@ -9,7 +9,7 @@ use Rattle.rte_plan.specs.HasPlan.{HasPlan}
 use Rattle.rte_logged.specs.Laws.{AreNamesOf}
 use Rattle.rte_script_suits.specs.Suits.{HasFrames}
 use Rattle.rte_built.specs.Built.{IsBuilt}
-use Rattle.rte_commands.specs.Source.{IsWritten}
+use Rattle.rte_built_limits.specs.Source.{IsWritten}
 
 -- what a run and a store ask of an image beside that it is valid: numbers are in the ranges of
 -- their fields, it has a plan, its names are those of its parts, counts fit their fields, and the

@@ -3,8 +3,8 @@
 ghost use Rattle.rte_built_ready.specs.Ready.{BuiltImagesAreReady};
 
 use rte_built_limits::law::built_images_are_in_limits;
+use rte_built_limits::names_have_frames;
 use rte_built_made::law::built_images_are_made;
-use rte_built_scripts::law::names_have_frames;
 use rte_checked_valid::law::checked_images_are_valid;
 use rte_named::law::valid_operands_are_there;
 use rte_short_names::law::names_of_texts_are_short;

@@ -7,3 +7,9 @@
 #![tactic(auto)]
 
 pub mod law;
+
+pub use rte_built_limits::law::shaped_images_are_in_limits;
+pub use rte_built_limits::names_have_frames;
+pub use rte_built_made::law::words_are_few;
+pub use rte_small::checked_programs_are_ready;
+pub use rte_small::law::generated_code_is_code;

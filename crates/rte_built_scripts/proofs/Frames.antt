@@ -14,7 +14,7 @@ use Rattle.rte_numbered.proofs.Lists.{contains_cases, nothing_in}
 use Rattle.rte_wellformed.specs.WellFormed.{ActivationFits, ProcessFits, IsWellFormed, is_event_of}
 use Rattle.rte_made_fits.proofs.Counts.{one_low}
 use Rattle.rte_script.specs.Scripts as script
-use Rattle.rte_built.specs.Named.{is_released_by, frame_released, named_event, names_of}
+use Rattle.rte_commands.specs.Named.{is_released_by, frame_released, named_event, names_of}
 use Rattle.rte_built_scripts.specs.Suits.{NamesHaveFrames}
 use Rattle.rte_built_scripts.proofs.Texts.{Emitted, emitted}
 

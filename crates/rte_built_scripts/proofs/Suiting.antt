@@ -11,7 +11,7 @@ use Rattle.rte_script.specs.declared.script.ScriptLine.{ScriptLine}
 use Rattle.rte_script.specs.declared.script.ScriptLine.TheVariants.{Set, Occur}
 use Rattle.rte_script.specs.Scripts.{IsApart, IsLater, frame_of, tick_of}
 use Rattle.rte_commands.specs.Script.{line_said, run_of}
-use Rattle.rte_built.specs.Named.{names_of}
+use Rattle.rte_commands.specs.Named.{names_of}
 use Rattle.rte_script_suits.specs.Suits.{HasFrames}
 use Rattle.rte_built_scripts.specs.Suits.{NamesHaveFrames, ScriptsForTheNamesSuit}
 

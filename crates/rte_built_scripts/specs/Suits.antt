@@ -9,7 +9,7 @@ use Rattle.rte_timed.specs.Timed.{RespectsFrames}
 use Rattle.rte_script.specs.declared.script.ScriptLine.{ScriptLine}
 use Rattle.rte_script.specs.Scripts.{IsScript}
 use Rattle.rte_script_suits.specs.Suits.{HasFrames}
-use Rattle.rte_built.specs.Named.{names_of}
+use Rattle.rte_commands.specs.Named.{names_of}
 use Rattle.rte_commands.specs.Script.{said, run_of}
 
 -- The law: in the names of a well-formed program, the frame that stands at an event is that of each

@@ -8,7 +8,7 @@ use Rattle.rte_emits.specs.Layout.{monitor_vars, words_of}
 use Rattle.rte_emits.specs.Compiled.{AreMonitors}
 use Rattle.rte_made.specs.declared.code.ProcessParts.{ProcessParts}
 use Rattle.rte_made.specs.Parts.{program_made}
-use Rattle.rte_made_whole.specs.Held.{HoldProcesses}
+use Rattle.rte_built.specs.Held.{HoldProcesses}
 use Rattle.rte_built.specs.Shown.{ceiling_shown, rows_of}
 use Rattle.rte_built_tables.specs.Tables.{TablesAreNamed}
 

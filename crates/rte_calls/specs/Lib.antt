@@ -1,1 +1,13 @@
 pub mod Passed
+pub use Rattle.rte_runs.specs.Known
+pub use Rattle.rte_runs.specs.Steps
+pub use Rattle.rte_runs.specs.Memory
+pub use Rattle.rte_runs.specs.Proper
+pub use Rattle.rte_runs.specs.Comes
+pub use Rattle.rte_runs.specs.Stands
+pub use Rattle.rte_runs.specs.Layout
+pub use Rattle.rte_runs.specs.Compiled
+pub use Rattle.rte_runs.specs.Numbering
+pub use Rattle.rte_runs.specs.Code
+pub use Rattle.rte_runs.specs.Emits
+pub use Rattle.rte_runs.specs.Segments

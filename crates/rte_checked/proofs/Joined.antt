@@ -1,11 +1,11 @@
 -- The laws of a checked program, joined.
 use Rattle.rte_tree.specs.Placed.{Prog, plain}
 use Rattle.rte_tree.specs.declared.place.Place.{Place}
-use Rattle.rte_static.specs.Static.{IsChecked}
+use Rattle.rte_checked_quiet.specs.Static.{IsChecked}
 use Rattle.rte_wellformed.specs.WellFormed.{IsWellFormed}
-use Rattle.rte_ruled.specs.Ruled.{NamesApart}
+use Rattle.rte_headline.specs.Ruled.{NamesApart}
 use Rattle.rte_checked_quiet.specs.Passed.{RoutinesHaveNumbers, WellFormedProgramsAreSound}
-use Rattle.rte_whole.specs.Quiet.{AreQuiet}
+use Rattle.rte_checked_quiet.specs.Quiet.{AreQuiet}
 use Rattle.rte_headline.specs.Headline.{WellFormedProgramsRun}
 use Rattle.rte_checked_quiet.specs.Passed.{reaches_no_wait}
 use Rattle.rte_checked.specs.Ready.{CheckedProgramsAreReady, CheckedImagesAreMade, CheckedProgramsRun}

@@ -1,1 +1,2 @@
 pub mod Joined
+pub use Rattle.rte_checked_quiet.proofs.Differ

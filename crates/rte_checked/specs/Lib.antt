@@ -1,1 +1,2 @@
 pub mod Ready
+pub use Rattle.rte_checked_quiet.specs.Static

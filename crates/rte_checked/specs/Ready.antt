@@ -10,18 +10,18 @@ use Rattle.rte_machine_meaning.specs.Run.{events}
 use Rattle.rte_safe_terms.specs.Walk.{Where}
 use Rattle.rte_safe_terms.specs.Safe.{Parts, ImageFits}
 use Rattle.rte_valid.specs.Sizes.{words_over_all}
-use Rattle.rte_static.specs.Static.{IsChecked}
+use Rattle.rte_checked_quiet.specs.Static.{IsChecked}
 use Rattle.rte_wellformed.specs.WellFormed.{IsWellFormed}
-use Rattle.rte_ruled.specs.Ruled.{NamesApart}
+use Rattle.rte_headline.specs.Ruled.{NamesApart}
 use Rattle.rte_emits.specs.Compiled.{IsCodeOf}
-use Rattle.rte_numbered.specs.Numbered.{AreNumbered}
-use Rattle.rte_whole.specs.Declared.{IsSound, Declares}
-use Rattle.rte_whole.specs.Quiet.{AreQuiet}
-use Rattle.rte_whole.specs.Whole.{HasRanks, IsBound, IsMade}
+use Rattle.rte_checked_quiet.specs.Numbered.{AreNumbered}
+use Rattle.rte_checked_quiet.specs.Declared.{IsSound, Declares}
+use Rattle.rte_checked_quiet.specs.Quiet.{AreQuiet}
+use Rattle.rte_checked_quiet.specs.Whole.{HasRanks, IsBound, IsMade}
 use Rattle.rte_checked_quiet.specs.Passed.{reaches_no_wait}
-use Rattle.rte_lifted.specs.Compiled.{IsFrom, script_of}
-use Rattle.rte_compiled.specs.Image.{IsImageOf, whole}
-use Rattle.rte_timed.specs.Timed.{ImageIsTimed, RespectsFrames, IsInTime}
+use Rattle.rte_headline.specs.Compiled.{IsFrom, script_of}
+use Rattle.rte_headline.specs.Image.{IsImageOf, whole}
+use Rattle.rte_headline.specs.Timed.{ImageIsTimed, RespectsFrames, IsInTime}
 
 -- all that the laws ask of a program
 pub record IsReady (g : plain_of.Prog) : Type 0 where

@@ -3,10 +3,10 @@
 ghost use Rattle.rte_checked.specs.Ready.{CheckedProgramsAreReady, CheckedImagesAreMade, CheckedProgramsRun};
 
 use rte_checked_quiet::{
-    handlers_are_quiet, names_are_apart, routines_have_numbers, well_formed_programs_are_sound,
+    checked_programs_are_well_formed, handlers_are_quiet, names_are_apart, routines_have_numbers,
+    well_formed_programs_are_sound,
 };
 use rte_headline::law::well_formed_programs_run;
-use rte_wellformed_law::checked_programs_are_well_formed;
 
 /// The plain tree of a checked program has all that the laws ask of a program.
 pub fn checked_programs_are_ready()

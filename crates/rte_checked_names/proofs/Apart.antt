@@ -11,19 +11,19 @@ use Rattle.rte_names.specs.Reach.{first}
 use Rattle.rte_source_meaning.specs.Names.{named, routines, monitors, processes}
 use Rattle.rte_source_meaning.specs.Run.{of_program, of_monitor}
 use Rattle.rte_wellformed.specs.WellFormed.{RoutineFits}
-use Rattle.rte_wellformed_terms.specs.Mirrors.{program_site, process_site, monitor_site, monitors_in}
+use Rattle.rte_wellformed_law.specs.Mirrors.{program_site, process_site, monitor_site, monitors_in}
 use Rattle.rte_static.specs.Static.{IsChecked}
-use Rattle.rte_wellformed_scopes.proofs.Members.{In, in-contains}
-use Rattle.rte_wellformed_scopes.proofs.Lookups.{named-map}
-use Rattle.rte_wellformed_scopes.proofs.ProgramScope.{routine_called, none-hidden, split-in}
-use Rattle.rte_wellformed_scopes.proofs.EntryNames.{monitors-apart}
-use Rattle.rte_wellformed_scopes.proofs.Mirrored.{program_routine_mirrors, entry_mirrors}
+use Rattle.rte_wellformed_law.proofs.Members.{In, in-contains}
+use Rattle.rte_wellformed_law.proofs.Lookups.{named-map}
+use Rattle.rte_wellformed_law.proofs.ProgramScope.{routine_called, none-hidden, split-in}
+use Rattle.rte_wellformed_law.proofs.EntryNames.{monitors-apart}
+use Rattle.rte_wellformed_law.proofs.Mirrored.{program_routine_mirrors, entry_mirrors}
 use Rattle.rte_wellformed_law.proofs.Laws.{Laws}
 use Rattle.rte_wellformed_law.proofs.Standing.{plain_routines, monitor_at}
 use Rattle.rte_wellformed_law.proofs.ProcessesFit.{shared_fit, entries_fit}
 use Rattle.rte_wellformed_law.proofs.WellFormed.{RuleLaws, laws_of}
-use Rattle.rte_linked.specs.Kept.{AllFound, NamesDiffer}
-use Rattle.rte_linked.proofs.Numbers.{found_name, found_there}
+use Rattle.rte_ruled.specs.Kept.{AllFound, NamesDiffer}
+use Rattle.rte_ruled.proofs.Numbers.{found_name, found_there}
 use Rattle.rte_ruled.specs.Ruled.{NamesApart}
 use Rattle.rte_ruled.proofs.Rules.{one_of}
 use Rattle.rte_checked_names.proofs.Differ.{Differ, differ_behind, scope_differs, DeclsDiffer, decls_differ, differ_found, program_found}

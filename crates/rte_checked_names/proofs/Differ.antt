@@ -8,10 +8,10 @@ use Rattle.rte_names.specs.declared.kind.Declared.{Declared}
 use Rattle.rte_names.specs.Reach.{same, Names, Reach, first, Site}
 use Rattle.rte_names.specs.Occurrences.{Occurrence, declares, declarations, decl_name, others, decls_names}
 use Rattle.rte_source_meaning.specs.Names.{named}
-use Rattle.rte_wellformed_scopes.proofs.Members.{In, ends-in}
-use Rattle.rte_wellformed_scopes.proofs.Lookups.{same-refl, some-none, first-append, named-step, named-here, or_else-first, or_else-second}
-use Rattle.rte_wellformed_scopes.proofs.NamesAfter.{ends-inner}
-use Rattle.rte_wellformed_scopes.proofs.ProgramScope.{routine_called}
+use Rattle.rte_wellformed_law.proofs.Members.{In, ends-in}
+use Rattle.rte_wellformed_law.proofs.Lookups.{same-refl, some-none, first-append, named-step, named-here, or_else-first, or_else-second}
+use Rattle.rte_wellformed_law.proofs.NamesAfter.{ends-inner}
+use Rattle.rte_wellformed_law.proofs.ProgramScope.{routine_called}
 
 -- each name differs from those behind it
 abbrev pub Differ : Names → Type 0

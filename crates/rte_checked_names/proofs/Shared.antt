@@ -11,9 +11,9 @@ use Rattle.rte_emits.specs.Numbering.{Called, calls_routine, calls_entry, stmts_
 use Rattle.rte_wellformed.specs.Here.{in_routine}
 use Rattle.rte_wellformed.specs.Statements.{may_call}
 use Rattle.rte_wellformed.specs.WellFormed.{RoutineFits}
-use Rattle.rte_wellformed_scopes.proofs.Members.{In}
-use Rattle.rte_wellformed_scopes.proofs.Lookups.{none-some}
-use Rattle.rte_wellformed_scopes.proofs.ProgramScope.{routine_called}
+use Rattle.rte_wellformed_law.proofs.Members.{In}
+use Rattle.rte_wellformed_law.proofs.Lookups.{none-some}
+use Rattle.rte_wellformed_law.proofs.ProgramScope.{routine_called}
 use Rattle.rte_ruled.specs.Ruled.{OfProgram, AllOfProgram}
 use Rattle.rte_called.specs.Called.{AllCalled, FindsRoutine, Finds}
 use Rattle.rte_called.proofs.Finding.{called_both, text_finds}

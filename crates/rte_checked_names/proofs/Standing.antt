@@ -6,7 +6,7 @@ use Rattle.rte_tree.specs.Plain as plain_of
 use Rattle.rte_tree.specs.Placed.{Routine, Monitor, Process, Decl, constant, device, event, routine, monitor, process, plain_routine, plain_monitor, plain_process, plain_decl}
 use Rattle.rte_tree.specs.declared.place.Place.{Place}
 use Rattle.rte_source_meaning.specs.Names.{routine_in, monitor_in, process_in}
-use Rattle.rte_wellformed_scopes.proofs.Members.{In}
+use Rattle.rte_wellformed_law.proofs.Members.{In}
 
 -- one that stands so in the plain tree
 pub record Placed {X Y : Type 0} (plain : X → Y) (Stands : X → Type 0) (y : Y) : Type 0 where

@@ -13,20 +13,20 @@ use Rattle.rte_source_meaning.specs.Names.{processes as plain_processes_of}
 use Rattle.rte_emits.specs.Layout.{by_process}
 use Rattle.rte_emits.specs.Numbering.{Text, Called, called_text}
 use Rattle.rte_emits.specs.Numbering as call_of
-use Rattle.rte_rules_calls.specs.Calls as place_of
-use Rattle.rte_rules_calls.specs.Calls.{routine_calls, stmts_calls}
-use Rattle.rte_rules_calls.specs.Reaching.{Calls, Reaches, by_call, by_calls, ReachesWait, HandlerWaits}
+use Rattle.rte_wellformed_calls.specs.Calls as place_of
+use Rattle.rte_wellformed_calls.specs.Calls.{routine_calls, stmts_calls}
+use Rattle.rte_wellformed_calls.specs.Reaching.{Calls, Reaches, by_call, by_calls, ReachesWait, HandlerWaits}
 use Rattle.rte_static.specs.Static.{IsChecked}
 use Rattle.rte_wellformed.specs.WellFormed.{IsWellFormed}
-use Rattle.rte_wellformed_scopes.proofs.Members.{in-contains}
+use Rattle.rte_wellformed_law.proofs.Members.{in-contains}
 use Rattle.rte_wellformed_law.proofs.Laws.{Laws}
 use Rattle.rte_wellformed_law.proofs.Standing.{plain_processes}
 use Rattle.rte_wellformed_law.proofs.WellFormed.{RuleLaws, laws_of, checked_is_well_formed}
-use Rattle.rte_linked.proofs.Numbers.{IsText, called_is_text}
-use Rattle.rte_ruled.specs.Ruled.{NamesApart}
+use Rattle.rte_checked_names.proofs.Numbers.{IsText, called_is_text}
+use Rattle.rte_checked_names.specs.Ruled.{NamesApart}
 use Rattle.rte_whole.specs.Quiet.{AreQuiet}
-use Rattle.rte_numbered.proofs.Numbered.{text_listed}
-use Rattle.rte_called.proofs.Finding.{called_one}
+use Rattle.rte_quiet.proofs.Numbered.{text_listed}
+use Rattle.rte_checked_names.proofs.Finding.{called_one}
 use Rattle.rte_quiet.proofs.Passed.{level, are_levels}
 use Rattle.rte_checked_names.proofs.Apart.{names_apart}
 use Rattle.rte_quiet.specs.Quiet.{stmt_waits, all_quiet, quiet_within, reaches_no_wait, HandlerQuiet}

@@ -19,21 +19,21 @@ use Rattle.rte_source_meaning.specs.Names.{routines as plain_routines_of, proces
 use Rattle.rte_emits.specs.Layout.{Owner, by_program, by_process, by_monitor}
 use Rattle.rte_emits.specs.Numbering.{Text, routine_of, process_routines, entry_of, Called, calls_routine, calls_entry, called_text}
 use Rattle.rte_emits.specs.Numbering as call_of
-use Rattle.rte_rules_calls.specs.Calls.{routine_calls, stmts_calls}
-use Rattle.rte_wellformed_terms.specs.Mirrors.{program_site, process_site, monitor_site}
-use Rattle.rte_wellformed_scopes.proofs.Members.{In, in-contains, contains-in, in-left, in-right, ends-in, Ends}
-use Rattle.rte_wellformed_scopes.proofs.Lookups.{first-append, first-not, named-map, named-in, FoundBy, found-by, not-found-by, or_else-second, Either, in_first, in_second, either}
-use Rattle.rte_wellformed_scopes.proofs.NamesAfter.{ends-constants, ends-members}
-use Rattle.rte_wellformed_scopes.proofs.ProgramScope.{routines-plain, monitors-plain, routine_called, monitor_called, Listed, Looks, program-means, reach-in, declarations-free, split-in}
-use Rattle.rte_wellformed_scopes.proofs.EntryNames.{monitors-apart, through-is}
-use Rattle.rte_wellformed_scopes.proofs.Mirrored.{Reaches, HasEntries, reaches-inside, reaches-program, in-routine, in-process, in-monitor, entries-program, entries-monitor}
+use Rattle.rte_wellformed_calls.specs.Calls.{routine_calls, stmts_calls}
+use Rattle.rte_wellformed_calls.specs.Mirrors.{program_site, process_site, monitor_site}
+use Rattle.rte_wellformed_law.proofs.Members.{In, in-contains, contains-in, in-left, in-right, ends-in, Ends}
+use Rattle.rte_wellformed_law.proofs.Lookups.{first-append, first-not, named-map, named-in, FoundBy, found-by, not-found-by, or_else-second, Either, in_first, in_second, either}
+use Rattle.rte_wellformed_law.proofs.NamesAfter.{ends-constants, ends-members}
+use Rattle.rte_wellformed_law.proofs.ProgramScope.{routines-plain, monitors-plain, routine_called, monitor_called, Listed, Looks, program-means, reach-in, declarations-free, split-in}
+use Rattle.rte_wellformed_law.proofs.EntryNames.{monitors-apart, through-is}
+use Rattle.rte_wellformed_law.proofs.Mirrored.{Reaches, HasEntries, reaches-inside, reaches-program, in-routine, in-process, in-monitor, entries-program, entries-monitor}
 use Rattle.rte_wellformed_calls.proofs.Below.{AreNames, names-rest}
 use Rattle.rte_wellformed_calls.proofs.Behind.{at_routine, at_process_routine, behind_declarations}
 use Rattle.rte_wellformed_law.proofs.Laws.{Laws}
 use Rattle.rte_wellformed_law.proofs.Standing.{plain_processes}
 use Rattle.rte_wellformed_law.proofs.ProcessesFit.{in_process_names}
-use Rattle.rte_linked.proofs.Numbers.{found_there}
-use Rattle.rte_called.specs.Called.{AllCalled}
+use Rattle.rte_checked_names.proofs.Numbers.{found_there}
+use Rattle.rte_checked_names.specs.Called.{AllCalled}
 use Rattle.rte_checked_names.proofs.Shared.{nobody}
 use Rattle.rte_checked_names.proofs.Standing.{routine_at}
 use Rattle.rte_checked_quiet.proofs.Walk.{AllIn, routine_leads, body_leads}

@@ -12,13 +12,13 @@ use Rattle.rte_names.specs.Reach.{same, suits, or_else, Site, inside, through, m
 use Rattle.rte_names.specs.Occurrences.{Occurrence, used, uses, names, declared_at, constant_names, expr_names, exprs_names, operands_names, ref_names, entry_names, loop_name, stmt_names, stmts_names, optional_names, routine_scope, routine_names, closes}
 use Rattle.rte_emits.specs.Numbering.{Called, calls_routine, calls_entry}
 use Rattle.rte_emits.specs.Numbering as call_of
-use Rattle.rte_rules_calls.specs.Calls.{called, expr_calls, exprs_calls, operands_calls, ref_calls, stmt_calls, stmts_calls, answer_calls, routine_calls}
-use Rattle.rte_wellformed_terms.specs.Places.{IsFound, NamesFound}
-use Rattle.rte_rules_calls.proofs.CallEdges.{cons-tail}
+use Rattle.rte_wellformed_calls.specs.Calls.{called, expr_calls, exprs_calls, operands_calls, ref_calls, stmt_calls, stmts_calls, answer_calls, routine_calls}
+use Rattle.rte_wellformed_calls.specs.Places.{IsFound, NamesFound}
+use Rattle.rte_wellformed_calls.proofs.CallEdges.{cons-tail}
 use Rattle.rte_wellformed_calls.proofs.Lists.{cons-head}
 use Rattle.rte_wellformed_calls.proofs.Behind.{behind_constant, at_body}
-use Rattle.rte_called.specs.Called.{AllCalled}
-use Rattle.rte_called.proofs.Finding.{called_both}
+use Rattle.rte_checked_names.specs.Called.{AllCalled}
+use Rattle.rte_checked_names.proofs.Finding.{called_both}
 use Rattle.rte_wellformed_calls.proofs.Below.{AreNames, names-rest}
 
 entry-rest : (g : Prog Place) (site : Site) (mon : Name) (q : Place) (entry : Name) (t : Place) (os : List Occurrence) → AreNames g (entry_names site mon q entry t os) → AreNames g os

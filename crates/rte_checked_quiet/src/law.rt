@@ -7,9 +7,10 @@ ghost use Rattle.rte_whole.specs.Quiet.{AreQuiet};
 ghost use Rattle.rte_quiet.specs.Quiet.{reaches_no_wait};
 
 use rte_wellformed_calls::{calls_have_levels, routines_have_levels};
-use rte_wellformed_names::{names_are_found, names_stand_apart, trees_are_written};
-use rte_wellformed_scopes::{declarations_are_listed, texts_are_mirrored, things_are_known};
-use rte_wellformed_statements::{answers_fit, bodies_fit};
+use rte_wellformed_law::{
+    answers_fit, bodies_fit, declarations_are_listed, names_are_found, names_stand_apart,
+    texts_are_mirrored, things_are_known, trees_are_written,
+};
 
 /// The routines of a checked program that reach no wait are quiet, and its handlers call only
 /// those.

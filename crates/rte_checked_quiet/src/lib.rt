@@ -11,3 +11,4 @@ mod law;
 pub use law::handlers_are_quiet;
 pub use rte_checked_names::names_are_apart;
 pub use rte_quiet::{routines_have_numbers, well_formed_programs_are_sound};
+pub use rte_wellformed_law::checked_programs_are_well_formed;

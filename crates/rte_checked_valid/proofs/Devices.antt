@@ -10,7 +10,7 @@ use Rattle.rte_names.specs.Resolved.{IsRead, IsNamed}
 use Rattle.rte_wellformed_terms.specs.Places.{NamesFound}
 use Rattle.rte_wellformed_scopes.proofs.Members.{In, in-contains, contains-in}
 use Rattle.rte_wellformed_scopes.proofs.Lookups.{same-refl}
-use Rattle.rte_checked_names.proofs.Differ.{DeclsDiffer, decls_differ}
+use Rattle.rte_checked.proofs.Differ.{DeclsDiffer, decls_differ}
 use Rattle.rte_checked_valid.specs.Checked.{CheckedDevicesGoOneWay}
 
 -- a device of the plain tree, in the tree with places

@@ -30,7 +30,7 @@ use Rattle.rte_commands.specs.Script.{line_said, run_of}
 use Rattle.rte_commands.specs.Due.{Outcome, stored, log, IsRefused, faulty, late, IsReportDue, report_refused, report_timely, IsPrintDue, print_faulty, printed, IsCompileDue, compile_refused, compiled, IsGoDue, go_refused, go_bad_script, went, IsImageFile, IsImageRefused, misread, invalid, IsRunDue, run_refused, run_bad_script, ran, IsMigrateDue, migrate_refused, migrated}
 use Rattle.rte_spare.specs.Due.{IsSlackDue, slack_refused, slack_told}
 use Rattle.rte_asm_due.specs.Due.{IsAsmDue, asm_faulty, asm_invalid, assembled, IsDisDue, dis_misread, disassembled}
-use Rattle.rte_due_once.specs.Passed.{ImagesToldAreHeld}
+use Rattle.rte_edf_word.specs.Passed.{ImagesToldAreHeld}
 use Rattle.rte_image_text.specs.Text.{text_of as lines_told}
 use Rattle.rte_stop.specs.Due.{IsWatchDue, watch_refused, watch_bad_script, watched}
 use Rattle.rte_words.specs.declared.stop.Stop.{Stop}

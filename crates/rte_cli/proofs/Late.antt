@@ -25,7 +25,7 @@ use Rattle.rte_edf_word.specs.Word.{AnswersOfTextsAreOne}
 use Rattle.rte_replay_due.specs.Due.{IsJudged, misread as misread_log, is_refused, is_run, IsReplayDue, replay_faulty, replay_bad_script, replay_judged}
 use Rattle.rte_words.specs.declared.stop.Stop.{Stop}
 use Rattle.rte_commands.specs.Runs.{IsUnsolved}
-use Rattle.rte_due_once.specs.Once.{WrittenOrFaulty, WrittenOnce}
+use Rattle.rte_edf_word.specs.Once.{WrittenOrFaulty, WrittenOnce}
 use Rattle.rte_answers.specs.Files.{IsDue}
 use Rattle.rte_answers.specs.Went.{IsWhole, Went}
 use Rattle.rte_promise.specs.Promise.{IsRefusedForTime, IsUnmet}

@@ -15,7 +15,7 @@ use Rattle.rte_spare.specs.Due.{IsSlackDue}
 use Rattle.rte_asm_due.specs.Due.{IsAsmDue, IsDisDue}
 use Rattle.rte_replay_due.specs.Due.{IsJudged, misread, is_refused, is_run, IsReplayDue, replay_faulty, replay_bad_script, replay_judged}
 use Rattle.rte_edf_due.specs.Due.{IsEdfDue, edf_faulty, edf_waits, edf_unfit, edf_bad_script, edf_ran}
-use Rattle.rte_due_once.specs.Once.{ReportsAreOne, SlackIsOne, PrintIsOne, CompileIsOne, GoIsOne, RunIsOne, MigrateIsOne, AsmIsOne, DisIsOne, WatchIsOne}
+use Rattle.rte_edf_word.specs.Once.{ReportsAreOne, SlackIsOne, PrintIsOne, CompileIsOne, GoIsOne, RunIsOne, MigrateIsOne, AsmIsOne, DisIsOne, WatchIsOne}
 use Rattle.rte_answers.specs.Files.{Held, IsDue, target_of}
 use Rattle.rte_answers.specs.Went.{Stores, IsWhole, IsCut, Went}
 

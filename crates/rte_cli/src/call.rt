@@ -14,12 +14,12 @@ ghost use Rattle.rte_promise.specs.Promise.{HasDone, IsRefusedForTime};
 use crate::carry::carry_out;
 use rte_answers::Status;
 use rte_built_once::law::timely_or_late;
-use rte_due_once::images_told_are_held;
-use rte_due_once::law::{
-    asm_is_one, compile_is_one, dis_is_one, go_is_one, migrate_is_one, print_is_one,
-    reports_are_one, run_is_one, slack_is_one, watch_is_one, written_once, written_or_faulty,
-};
 use rte_edf_word::law::{answers_of_texts_are_one, feasible_texts_keep_their_word};
+use rte_edf_word::{
+    asm_is_one, compile_is_one, dis_is_one, go_is_one, images_told_are_held, migrate_is_one,
+    print_is_one, reports_are_one, run_is_one, slack_is_one, watch_is_one, written_once,
+    written_or_faulty,
+};
 use rte_io::{Files, Sink};
 use rte_prepare::built_images_are_faithful;
 use rte_print::{reads_back, tokens_are_spelled};

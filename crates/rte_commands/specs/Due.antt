@@ -4,12 +4,12 @@ use Rattle.rte_tree.specs.declared.place.Place.{Place}
 use Rattle.rte_tree.specs.Placed.{Prog}
 use Rattle.rte_tree.specs.Bare.{bare}
 use Rattle.rte_print.specs.Canonical.{canonical}
-use Rattle.rte_image.specs.Named.{NamedImage}
-use Rattle.rte_image.specs.Raw.{image_of, named_of}
-use Rattle.rte_image.specs.declared.raw.RawImage.{RawImage}
-use Rattle.rte_image.specs.Bytes.{Second, bytes_of}
+use Rattle.rte_image_reading.specs.Named.{NamedImage}
+use Rattle.rte_image_reading.specs.Raw.{image_of, named_of}
+use Rattle.rte_image_reading.specs.RawImage.{RawImage}
+use Rattle.rte_image_reading.specs.Bytes.{Second, bytes_of}
 use Rattle.rte_image_reading.specs.Answer.{Holds, HasFault}
-use Rattle.rte_valid.specs.Valid.{Shown, IsValid, fault_of}
+use Rattle.rte_size_rules.specs.Valid.{Shown, IsValid, fault_of}
 use Rattle.rte_machine_meaning.specs.Run.{events}
 use Rattle.rte_log.specs.Line.{log_of}
 use Rattle.rte_report.specs.Report.{report_text}

@@ -6,11 +6,11 @@ use Rattle.rte_tree.specs.Plain as plain_of
 use Rattle.rte_source_meaning.specs.Source.{IsSourceRun}
 use Rattle.rte_machine_meaning.specs.Image.{Image}
 use Rattle.rte_machine_meaning.specs.Run.{events}
-use Rattle.rte_timed.specs.Timed.{IsInTime}
-use Rattle.rte_valid.specs.Valid.{IsValid}
+use Rattle.rte_valid_law.specs.Timed.{IsInTime}
+use Rattle.rte_size_rules.specs.Valid.{IsValid}
 use Rattle.rte_valid_law.specs.Laws.{IsSafe}
-use Rattle.rte_image.specs.declared.names.ImageNames.{ImageNames}
-use Rattle.rte_image.specs.Named.{NamedImage}
+use Rattle.rte_image_reading.specs.ImageNames.{ImageNames}
+use Rattle.rte_image_reading.specs.Named.{NamedImage}
 use Rattle.rte_report.specs.Report.{report_text}
 use Rattle.rte_script.specs.declared.script.ScriptLine.{ScriptLine}
 use Rattle.rte_script.specs.Scripts.{IsScript}

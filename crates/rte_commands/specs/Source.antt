@@ -4,11 +4,11 @@ use Rattle.rte_tree.specs.declared.place.Place.{Place}
 use Rattle.rte_tree.specs.Placed.{Prog, plain}
 use Rattle.rte_tree.specs.Plain as plain_of
 use Rattle.rte_rules.specs.First.{IsFirst}
-use Rattle.rte_image.specs.declared.names.ImageNames.{ImageNames}
-use Rattle.rte_image.specs.Named.{NamedImage}
+use Rattle.rte_image_reading.specs.ImageNames.{ImageNames}
+use Rattle.rte_image_reading.specs.Named.{NamedImage}
 use Rattle.rte_program.specs.Program.{IsProgramOf, IsProgramFault}
 use Rattle.rte_size_rules.specs.Rules.{SizeFails}
-use Rattle.rte_table.specs.declared.table.Table.{Table}
+use Rattle.rte_built.specs.Table.{Table}
 use Rattle.rte_built.specs.Built.{IsBuilt, IsLate}
 use Rattle.rte_built.specs.Named.{names_of}
 use Rattle.rte_built.specs.Shown.{IsTableOf, table_of}

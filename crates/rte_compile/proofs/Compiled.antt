@@ -6,7 +6,7 @@ use Rattle.rte_tree.specs.Placed.{Prog, plain}
 use Rattle.rte_image.specs.declared.names.ImageNames.{ImageNames}
 use Rattle.rte_built.specs.Named.{names_of}
 use Rattle.rte_program.specs.Program.{IsProgramOf}
-use Rattle.rte_commands.specs.Source.{of_size}
+use Rattle.rte_build.specs.Source.{of_size}
 use Rattle.rte_build.specs.declared.built.Built.{Built}
 use Rattle.rte_build.specs.declared.built.BuildFault.{BuildFault}
 use Rattle.rte_build.specs.declared.built.BuildFault.TheVariants as build_fault

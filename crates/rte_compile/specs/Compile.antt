@@ -4,7 +4,7 @@ use Rattle.rte_image.specs.Raw.{named_of}
 use Rattle.rte_report.specs.Late.{IsNamed}
 use Rattle.rte_build.specs.declared.built.Built.{Built}
 use Rattle.rte_build.specs.declared.built.Late.{Late}
-use Rattle.rte_commands.specs.Source.{Style, IsTextFault, IsTimelyText, IsLateText, report_of}
+use Rattle.rte_build.specs.Source.{Style, IsTextFault, IsTimelyText, IsLateText, report_of}
 use Rattle.rte_compile.specs.declared.compiling.CompileFault.{CompileFault}
 use Rattle.rte_compile.specs.declared.compiling.CompileFault.TheVariants as fault
 

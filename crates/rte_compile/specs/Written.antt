@@ -2,7 +2,7 @@
 use Rattle.std.specs.Prelude.{ℕ, List, Result, Ok, Err}
 use Rattle.rte_tree.specs.declared.decl.Prog.{Prog}
 use Rattle.rte_tree.specs.Placed.{placed}
-use Rattle.rte_commands.specs.Source.{IsWritten, IsTextFault}
+use Rattle.rte_build.specs.Source.{IsWritten, IsTextFault}
 use Rattle.rte_compile.specs.declared.written.TextFault.{TextFault}
 use Rattle.rte_compile.specs.declared.written.TextFault.TheVariants as fault
 

@@ -10,5 +10,5 @@ mod compiling;
 mod written;
 
 pub use compiling::{CompileFault, compile};
-pub use rte_build::Built;
+pub use rte_build::{Built, checked_programs_are_ready};
 pub use written::{TextFault, read_written};

@@ -4,13 +4,13 @@ use Rattle.rte_image.specs.declared.raw.RawImage.{RawImage}
 use Rattle.rte_image.specs.InRange.{IsInRange}
 use Rattle.rte_image.specs.Raw.{image_of, named_of}
 use Rattle.rte_valid.specs.Valid.{HasLimits, IsValid}
-use Rattle.rte_plan.specs.HasPlan.{HasPlan}
+use Rattle.rte_answers.specs.HasPlan.{HasPlan}
 use Rattle.rte_logged.specs.Laws.{AreNamesOf}
 use Rattle.rte_script.specs.declared.script.Script.{Script}
 use Rattle.rte_script.specs.declared.script.ScriptLine.{ScriptLine}
 use Rattle.rte_script.specs.Scripts.{IsScript}
-use Rattle.rte_script_suits.specs.Laws.{script_with}
-use Rattle.rte_script_suits.specs.Suits.{Suits}
+use Rattle.rte_answers.specs.Laws.{script_with}
+use Rattle.rte_answers.specs.Suits.{Suits}
 use Rattle.rte_answers.specs.Acts.{CanRunByRanks, by_ranks}
 
 -- the machine can run the image over each script for its names, and its bytes can be written

@@ -15,5 +15,8 @@ pub use acts::{put, put_fault};
 pub use reading::{
     Content, LONGEST_IMAGE, LONGEST_IMAGE_TEXT, LONGEST_LOG, LONGEST_PROGRAM, LONGEST_SCRIPT, read,
 };
+pub use rte_lines::{
+    image_fault_line, log_fault_line, refused_line, run_line, text_fault_line, valid_fault_line,
+};
 pub use scripts::{judge_script, refuse_script};
 pub use unready::Unready;

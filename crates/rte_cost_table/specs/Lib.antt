@@ -1,1 +1,2 @@
 pub mod Defined
+pub use Rattle.rte_cost_laws.specs.Measured

@@ -8,7 +8,7 @@ use Rattle.rte_valid.specs.Valid.{Shown, fault_of}
 use Rattle.rte_valid_law.specs.Laws.{ValidIsWithoutFault}
 use Rattle.rte_commands.specs.Due.{Outcome, told, stored, valid_fault_line}
 use Rattle.rte_asm_laws.specs.Laws.{TextsAreOfOneImage, TextsHaveOneFault, TextsOfImagesHaveNoFault}
-use Rattle.rte_asm_due.specs.Due.{keeps, text_fault_line, IsAsmDue, asm_faulty, asm_invalid, assembled, IsDisDue, dis_misread, disassembled}
+use Rattle.rte_asm_laws.specs.Due.{keeps, text_fault_line, IsAsmDue, asm_faulty, asm_invalid, assembled, IsDisDue, dis_misread, disassembled}
 use Rattle.rte_due_once.specs.Once.{AsmIsOne, DisIsOne}
 use Rattle.rte_due_once.proofs.Images.{held_once, held_or_faulty, none_shown, same_fault, shown_once}
 

@@ -9,7 +9,7 @@ use Rattle.rte_image.specs.declared.raw.RawImage.{RawImage}
 use Rattle.rte_commands.specs.Source.{IsWritten, IsTextFault, Style, IsTimelyText, IsLateText}
 use Rattle.rte_commands.specs.Due.{Outcome, IsRefused, IsReportDue, IsPrintDue, IsCompileDue, IsGoDue, IsImageFile, IsImageRefused, IsRunDue, IsMigrateDue}
 use Rattle.rte_spare.specs.Due.{IsSlackDue}
-use Rattle.rte_asm_due.specs.Due.{IsAsmDue, IsDisDue}
+use Rattle.rte_asm_laws.specs.Due.{IsAsmDue, IsDisDue}
 use Rattle.rte_machine_meaning.specs.Image.{Image, Script}
 use Rattle.rte_stop.specs.Stops.{IsStop}
 use Rattle.rte_stop.specs.Due.{IsWatchDue}

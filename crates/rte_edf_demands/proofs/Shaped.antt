@@ -16,7 +16,7 @@ use Rattle.rte_built.specs.Shown.{rows_of}
 use Rattle.rte_built_tables.specs.Tables.{TablesAreNamed}
 use Rattle.rte_filled.specs.Laws.{ShapesLeaveBoundsAside}
 use Rattle.rte_filled.proofs.Lists.{as_many, became, same_at}
-use Rattle.rte_bounding.specs.Bounding.{HasBounds}
+use Rattle.rte_build.specs.Bounding.{HasBounds}
 use Rattle.rte_build.specs.Steps.{IsRanked}
 use Rattle.rte_edf_demands.specs.Steps.{due_of, IsEdfShape}
 

@@ -7,8 +7,7 @@ ghost use Rattle.rte_program.specs.Program.{IsProgramOf};
 ghost use Rattle.rte_build.specs.Steps.{IsRanked};
 ghost use Rattle.rte_edf_demands.specs.Steps.{due_of, IsEdfShape, IsSizeFault};
 
-use rte_bounding::with_bounds;
-use rte_build::{BuildFault, ranked};
+use rte_build::{BuildFault, ranked, with_bounds};
 use rte_built_tables::law::tables_are_named;
 use rte_filled::law::shapes_leave_bounds_aside;
 use rte_image::{RawImage, RawProc};

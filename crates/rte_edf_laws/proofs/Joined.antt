@@ -24,12 +24,12 @@ use Rattle.rte_small.specs.Small.{GeneratedCodeIsCode}
 use Rattle.rte_built_made.specs.Made.{WordsAreFew}
 use Rattle.rte_built_limits.specs.Limits.{ShapedImagesAreInLimits}
 use Rattle.rte_built_limits.proofs.Activations.{in_limits}
-use Rattle.rte_built_scripts.specs.Suits.{NamesHaveFrames, Suits, ScriptsForTheNamesSuit}
-use Rattle.rte_built_scripts.proofs.Texts.{Emitted, emitted}
+use Rattle.rte_built_limits.specs.Suits.{NamesHaveFrames, Suits, ScriptsForTheNamesSuit}
+use Rattle.rte_built_limits.proofs.Texts.{Emitted, emitted}
 use Rattle.rte_built.specs.Named.{names_of}
 use Rattle.rte_script_suits.specs.Laws.{ScriptsSuit}
 use Rattle.rte_script.specs.Scripts.{IsScript}
-use Rattle.rte_commands.specs.Script.{said}
+use Rattle.rte_built_limits.specs.Script.{said}
 use Rattle.rte_edf.proofs.Keeping.{every_run_is_safe}
 use Rattle.rte_edf_timed.specs.InTime.{MeetsDeadlines, IsJudgedFeasible}
 use Rattle.rte_edf_timed.proofs.Meeting.{every_run_meets_deadlines}

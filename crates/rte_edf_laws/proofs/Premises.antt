@@ -31,7 +31,7 @@ use Rattle.rte_whole.proofs.ShapePart.{no_shape_fault}
 use Rattle.rte_whole.proofs.HandlerPart.{no_handler_fault}
 use Rattle.rte_whole.proofs.SizePart.{no_size_fault}
 use Rattle.rte_small.specs.Checked.{IsReady}
-use Rattle.rte_built_scripts.proofs.Texts.{Emitted, emitted}
+use Rattle.rte_built_limits.proofs.Texts.{Emitted, emitted}
 use Rattle.rte_edf.specs.Safe.{rank_of_some, IsWaitless}
 use Rattle.rte_edf_timed.specs.InTime.{AreDemandsOf}
 use Rattle.rte_edf_timed.specs.InTime as timed

@@ -27,8 +27,8 @@ use Rattle.rte_compiled.specs.Image.{IsImageOf, AreRight, whole}
 use Rattle.rte_image.specs.Named.{NamedImage}
 use Rattle.rte_script.specs.declared.script.ScriptLine.{ScriptLine}
 use Rattle.rte_script.specs.Scripts.{IsScript}
-use Rattle.rte_commands.specs.Source.{IsWritten}
-use Rattle.rte_commands.specs.Script.{said}
+use Rattle.rte_built_limits.specs.Source.{IsWritten}
+use Rattle.rte_built_limits.specs.Script.{said}
 use Rattle.rte_edf_laws.specs.Waits.{HasNoWait}
 
 -- The law: the events of each run, without overrun, of the image of a program whose code is right

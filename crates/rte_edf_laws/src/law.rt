@@ -4,8 +4,8 @@ ghost use Rattle.rte_edf_laws.specs.Laws.{AnswersAreOfTheImage, CompiledRunsAreR
 ghost use Rattle.rte_edf_laws.specs.Waits.{TextsWithoutWaitsHaveNone};
 
 use rte_built_limits::law::shaped_images_are_in_limits;
+use rte_built_limits::{names_have_frames, scripts_for_the_names_suit};
 use rte_built_made::law::words_are_few;
-use rte_built_scripts::law::{names_have_frames, scripts_for_the_names_suit};
 use rte_checked_valid::law::checked_operands_are_in_range;
 use rte_filled::law::shapes_agree;
 use rte_headline::law::well_formed_code_is_right;

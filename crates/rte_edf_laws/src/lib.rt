@@ -8,3 +8,5 @@
 #![tactic(auto)]
 
 pub mod law;
+
+pub use rte_checked_valid::law::checked_operands_are_in_range;

@@ -13,8 +13,8 @@ use Rattle.rte_stretch.specs.Stretch.{FitsIn, FitsThread, left, left_of, outcome
 use Rattle.rte_stretch.specs.Quiet.{AreQuiet}
 use Rattle.rte_stretch.specs.RowLaws.{IsInStack}
 use Rattle.rte_stretch.proofs.Moving.{get_set}
-use Rattle.rte_settle.specs.Own.{CanCome, IsEarly}
-use Rattle.rte_settle.specs.Settled.{CanPass}
+use Rattle.rte_runner.specs.Own.{CanCome, IsEarly}
+use Rattle.rte_runner.specs.Settled.{CanPass}
 use Rattle.rte_edf.specs.Run.{Marked, events_from, state_at}
 use Rattle.rte_edf_stretch.specs.Turn.{IsTaken, IsTurn, begun, chosen, marked, started, turn}
 use Rattle.rte_edf_stretch.specs.Rows.{IsSafeRun}

@@ -16,8 +16,8 @@ use Rattle.rte_stretch.specs.Quiet.{AreQuiet}
 use Rattle.rte_stretch.specs.Silent.{is_silent, next_own, with_process}
 use Rattle.rte_stretch.specs.Stretch.{outcomes, pass, pass_thread}
 use Rattle.rte_stretch.proofs.Moving.{get_set}
-use Rattle.rte_settle.specs.Own.{CanCome}
-use Rattle.rte_settle.specs.Rows.{CanEnd, CanRun, EndsIn, HasRun, IsSeenAt, outcome_of, own_at}
+use Rattle.rte_runner.specs.Own.{CanCome}
+use Rattle.rte_runner.specs.Rows.{CanEnd, CanRun, EndsIn, HasRun, IsSeenAt, outcome_of, own_at}
 use Rattle.rte_state.specs.declared.board.Board.{Board}
 use Rattle.rte_state.specs.Board.{IsBoardOf, rows_of, state_of}
 use Rattle.rte_start_laws.proofs.Lists.{get_other, same_or_not, there_is}

@@ -14,7 +14,7 @@ ghost use Rattle.rte_edf_machine.specs.Runnable.{IsRunnable};
 ghost use Rattle.rte_edf_machine.specs.Turn.{HasPassed, Run};
 
 use rte_edf_choice::{Mark, choose, mark_begun};
-use rte_settle::{end_row, left, pass, run_row};
+use rte_runner::{end_row, left, pass, run_row};
 use rte_silent::Halt;
 use rte_state::{Board, Fired, Plan};
 

@@ -20,7 +20,7 @@ use Rattle.rte_commands.specs.Script.{line_said, run_of}
 use Rattle.rte_edf.specs.Run.{events}
 use Rattle.rte_edf_laws.specs.Laws.{EdfImagesKeepTheirWord, MeetsPremises, WaitlessImagesMeetPremises}
 use Rattle.rte_edf_laws.specs.Waits as plain_waits
-use Rattle.rte_edf_machine.specs.Runnable.{HasNoOverrun, IsRunnable}
+use Rattle.rte_edf_runnable.specs.Runnable.{HasNoOverrun, IsRunnable}
 use Rattle.rte_edf_runnable.specs.Laws.{FramesAreShort, WaitlessRunsAreRunnable, WaitlessRunsHaveLines}
 use Rattle.rte_edf_ready.specs.Ready.{EdfImagesAreReady, EdfImagesHaveParts, HasParts, WaitlessTreesHaveNoWait}
 

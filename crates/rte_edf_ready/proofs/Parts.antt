@@ -5,13 +5,13 @@ use Rattle.rte_tree.specs.Placed.{plain}
 use Rattle.rte_tree.specs.Plain.{Prog}
 use Rattle.rte_machine_meaning.specs.Image.{Image, Process}
 use Rattle.rte_image.specs.declared.names.ImageNames.{ImageNames}
-use Rattle.rte_built_limits.specs.Limits.{ShapedImagesAreInLimits}
-use Rattle.rte_built_made.specs.Made.{WordsAreFew}
+use Rattle.rte_built_ready.specs.Limits.{ShapedImagesAreInLimits}
+use Rattle.rte_built_ready.specs.Made.{WordsAreFew}
 use Rattle.rte_built_ready.proofs.Counts.{Counted, counted}
 use Rattle.rte_built_ready.proofs.Names.{are_names}
 use Rattle.rte_built_ready.proofs.Plans.{Stands, has_plan, stands}
-use Rattle.rte_built_scripts.specs.Suits.{NamesHaveFrames}
-use Rattle.rte_checked_valid.specs.Checked.{CheckedOperandsAreInRange}
+use Rattle.rte_built_ready.specs.Suits.{NamesHaveFrames}
+use Rattle.rte_edf_laws.specs.Checked.{CheckedOperandsAreInRange}
 use Rattle.rte_edf_laws.proofs.Joined.{bounds_pass}
 use Rattle.rte_emits.specs.Compiled.{IsCodeOf}
 use Rattle.rte_logged.specs.Laws.{AreNamesOf}
@@ -19,8 +19,8 @@ use Rattle.rte_named.specs.Operands.{AreThere}
 use Rattle.rte_named.proofs.There.{all_there}
 use Rattle.rte_script_suits.specs.Suits.{HasFrames}
 use Rattle.rte_short_names.specs.Short.{NamesOfTextsAreShort}
-use Rattle.rte_small.specs.Checked.{IsReady, CheckedProgramsAreReady}
-use Rattle.rte_small.specs.Small.{GeneratedCodeIsCode}
+use Rattle.rte_built_ready.specs.Checked.{IsReady, CheckedProgramsAreReady}
+use Rattle.rte_built_ready.specs.Small.{GeneratedCodeIsCode}
 use Rattle.rte_valid.specs.Valid.{HasLimits, Operands, Shape, Sizes, fault_of_part}
 use Rattle.rte_whole.proofs.ShapePart.{no_shape_fault}
 use Rattle.rte_whole.proofs.SizePart.{no_size_fault}

@@ -6,7 +6,7 @@ use Rattle.rte_tree.specs.Placed as placed
 use Rattle.rte_tree.specs.Placed.{plain}
 use Rattle.rte_tree.specs.Plain.{Handler, Process}
 use Rattle.rte_source_meaning.specs.Names.{processes}
-use Rattle.rte_edf_due.specs.Waits as placed_waits
+use Rattle.rte_edf_waits.specs.Waits as placed_waits
 use Rattle.rte_edf_waits.specs.Laws.{BodiesDoNotWait, EntriesDoNotWait, HandlersDoNotWait, OwnRoutinesDoNotWait, RoutinesDoNotWait}
 use Rattle.rte_edf_laws.specs.Waits.{HandlerHasNoWait, ProcessHasNoWait}
 use Rattle.rte_edf_ready.specs.Ready.{WaitlessTreesHaveNoWait}

@@ -17,10 +17,10 @@ use Rattle.rte_commands.specs.Script.{run_of}
 use Rattle.rte_edf.specs.Run.{events}
 use Rattle.rte_edf_image.specs.Image.{IsEdfImage}
 use Rattle.rte_edf_image.specs.Tasks.{IsAnswer}
-use Rattle.rte_edf_due.specs.Waits.{HasNoWait}
+use Rattle.rte_edf_waits.specs.Waits.{HasNoWait}
 use Rattle.rte_edf_laws.specs.Waits as plain_waits
 use Rattle.rte_edf_laws.specs.Laws.{MeetsPremises}
-use Rattle.rte_edf_machine.specs.Runnable.{IsRunnable}
+use Rattle.rte_edf_runnable.specs.Runnable.{IsRunnable}
 use Rattle.rte_edf_runnable.specs.Laws.{FramesAreShort}
 
 -- The law: where no statement of a program waits, none of its plain tree does.

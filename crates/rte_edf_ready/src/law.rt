@@ -2,17 +2,16 @@
 
 ghost use Rattle.rte_edf_ready.specs.Ready.{EdfImagesAreReady, EdfImagesHaveParts, WaitlessTreesHaveNoWait};
 
-use rte_built_limits::law::shaped_images_are_in_limits;
-use rte_built_made::law::words_are_few;
-use rte_built_scripts::law::names_have_frames;
-use rte_checked_valid::law::checked_operands_are_in_range;
+use rte_built_ready::{
+    checked_programs_are_ready, generated_code_is_code, names_have_frames,
+    shaped_images_are_in_limits, words_are_few,
+};
+use rte_edf_laws::checked_operands_are_in_range;
 use rte_edf_laws::law::{edf_images_keep_their_word, waitless_images_meet_premises};
 use rte_edf_runnable::law::{waitless_runs_are_runnable, waitless_runs_have_lines};
 use rte_edf_waits::law::waitless_programs_have_no_wait;
 use rte_script_suits::law::scripts_suit;
 use rte_short_names::law::names_of_texts_are_short;
-use rte_small::checked_programs_are_ready;
-use rte_small::law::generated_code_is_code;
 
 /// The plain tree of a program without a wait statement has none.
 pub fn waitless_trees_have_no_wait()

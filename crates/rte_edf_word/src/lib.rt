@@ -5,3 +5,9 @@
 #![tactic(auto)]
 
 pub mod law;
+
+pub use rte_due_once::images_told_are_held;
+pub use rte_due_once::law::{
+    asm_is_one, compile_is_one, dis_is_one, go_is_one, migrate_is_one, print_is_one,
+    reports_are_one, run_is_one, slack_is_one, watch_is_one, written_once, written_or_faulty,
+};

@@ -12,11 +12,11 @@ use Rattle.rte_made.specs.declared.code.Part.{Part}
 use Rattle.rte_made.specs.declared.code.ProcessParts.{ProcessParts}
 use Rattle.rte_made.specs.declared.code.Code.{Code}
 use Rattle.rte_made.specs.Parts.{program_made}
-use Rattle.rte_made_whole.specs.Held.{HoldsRoutine, HoldRoutines, HoldsHandler, HoldsProcess, HoldProcesses, Holds}
+use Rattle.rte_built.specs.Held.{HoldsRoutine, HoldRoutines, HoldsHandler, HoldsProcess, HoldProcesses, Holds}
 use Rattle.rte_source_meaning.specs.Names.{monitors, processes}
 use Rattle.rte_valid.specs.Times.{rank_of, ceiling_of, needed_block}
-use Rattle.rte_whole.specs.Declared.{DeclaresRoutine, DeclaresProcess, Declares}
-use Rattle.rte_whole.specs.Whole.{HasRanks}
+use Rattle.rte_built.specs.Declared.{DeclaresRoutine, DeclaresProcess, Declares}
+use Rattle.rte_built.specs.Whole.{HasRanks}
 use Rattle.rte_built.specs.Filled.{without_rank, without_ceiling, without_ranks, without_bound, without_bounds}
 use Rattle.rte_filled.specs.Filled.{Each, without_block, without_blocks}
 use Rattle.rte_filled.specs.Laws.{ShapesAgree}

@@ -8,8 +8,8 @@ use Rattle.rte_emits.specs.Compiled.{IsReleased, AreMonitors}
 use Rattle.rte_made.specs.declared.code.Part.{Part}
 use Rattle.rte_made.specs.declared.code.ProcessParts.{ProcessParts}
 use Rattle.rte_made.specs.declared.code.Code.{Code}
-use Rattle.rte_made_whole.specs.Held.{HoldsHandler, HoldsProcess, HoldProcesses, Holds}
-use Rattle.rte_whole.specs.Declared.{DeclaresProcess, Declares}
+use Rattle.rte_built.specs.Held.{HoldsHandler, HoldsProcess, HoldProcesses, Holds}
+use Rattle.rte_built.specs.Declared.{DeclaresProcess, Declares}
 use Rattle.rte_built.specs.Filled.{without_rank, without_ceiling, without_ranks}
 use Rattle.rte_filled.proofs.Lists.{came_from, became}
 

@@ -8,7 +8,7 @@ use Rattle.rte_machine_meaning.specs.Image.{Image, Monitor, Process}
 use Rattle.rte_valid.specs.Tables.{stay_of_process}
 use Rattle.rte_valid.specs.Times.{deadline_of, deadline_at, outranks, rank_of, is_some, enters, least_rank, ceiling_of, ticks_of, blocking_stay, longest_blocking, blocking_by, longest_block, needed_block}
 use Rattle.rte_built.specs.Filled.{without_rank, without_ranks, without_bound, without_bounds}
-use Rattle.rte_whole.specs.Whole.{HasRanks}
+use Rattle.rte_built.specs.Whole.{HasRanks}
 use Rattle.rte_filled.specs.Filled.{Each, without_block, without_blocks}
 use Rattle.rte_filled.proofs.Lists.{through, same_at}
 use Rattle.rte_filled.proofs.Reached.{stay_same, stays_agree}

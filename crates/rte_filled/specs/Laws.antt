@@ -5,9 +5,9 @@ use Rattle.rte_tree.specs.Plain.{Prog}
 use Rattle.rte_image.specs.Named.{NamedImage}
 use Rattle.rte_machine_meaning.specs.Image.{Image}
 use Rattle.rte_made.specs.Parts.{program_made}
-use Rattle.rte_made_whole.specs.Held.{Holds}
-use Rattle.rte_whole.specs.Declared.{Declares}
-use Rattle.rte_whole.specs.Whole.{HasRanks}
+use Rattle.rte_built.specs.Held.{Holds}
+use Rattle.rte_built.specs.Declared.{Declares}
+use Rattle.rte_built.specs.Whole.{HasRanks}
 use Rattle.rte_built.specs.Named.{names_of}
 use Rattle.rte_built.specs.Built.{IsShaped, IsBuilt, IsTimely, IsLate}
 use Rattle.rte_built.specs.Filled.{without_bounds, without_ranks}

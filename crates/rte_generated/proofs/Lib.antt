@@ -1,1 +1,2 @@
 pub mod Generated
+pub use Rattle.rte_made_fits.proofs.Counts

@@ -1,1 +1,2 @@
 pub mod Joined
+pub use Rattle.rte_generated.proofs.Counts

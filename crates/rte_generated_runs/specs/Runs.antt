@@ -5,15 +5,15 @@ use Rattle.rte_tree.specs.Placed.{Prog, plain}
 use Rattle.rte_tree.specs.declared.place.Place.{Place}
 use Rattle.rte_source_meaning.specs.Names.{processes}
 use Rattle.rte_machine_meaning.specs.Image as image
-use Rattle.rte_static.specs.Static.{IsChecked}
+use Rattle.rte_checked.specs.Static.{IsChecked}
 use Rattle.rte_emits.specs.Compiled.{IsCodeOf}
 use Rattle.rte_costs.specs.Levels.{code_length}
 use Rattle.rte_boundary.specs.Boundary.{Compiled, IsFaithful}
 use Rattle.rte_faithful.specs.Process.{FreeHolds, RestHolds, StandsFor}
 use Rattle.rte_ruled.specs.Ruled.{runs_of}
 use Rattle.rte_made.specs.Parts.{program_made}
-use Rattle.rte_made_whole.specs.Held.{Holds}
-use Rattle.rte_made_fits.specs.Fitting.{FramesFit}
+use Rattle.rte_generated.specs.Held.{Holds}
+use Rattle.rte_generated.specs.Fitting.{FramesFit}
 
 -- a checked program that is not too large: at most 65,535 instructions, and no frame of a routine
 -- longer than the greatest operand

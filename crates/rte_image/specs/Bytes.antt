@@ -3,8 +3,8 @@
 use Rattle.std.specs.Prelude.{◌≡◌, ◌++◌, ℕ, All, List, [], ◌∷◌, Option, Some, length, codes}
 use Rattle.std.specs.List.{flat_map}
 use Rattle.rte_isa.specs.Bytes.{instr_bytes}
-use Rattle.rte_machine_meaning.specs.Image.{Image, Monitor, Routine, Process}
-use Rattle.rte_machine_meaning.specs.Trees.{Segs}
+use Rattle.rte_seg.specs.Image.{Image, Monitor, Routine, Process}
+use Rattle.rte_seg.specs.Trees.{Segs}
 use Rattle.rte_image.specs.declared.names.CondName.{CondName}
 use Rattle.rte_image.specs.declared.names.DevName.{DevName}
 use Rattle.rte_image.specs.declared.names.EventName.{EventName}

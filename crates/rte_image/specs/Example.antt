@@ -2,8 +2,8 @@
 use Rattle.std.specs.Prelude.{ℕ, pos, true, List, [], ◌∷◌, None, map}
 use Rattle.rte_isa.specs.declared.instr.Instr.{Instr}
 use Rattle.rte_isa.specs.declared.instr.Instr.TheVariants as i
-use Rattle.rte_machine_meaning.specs.Image.{Process}
-use Rattle.rte_machine_meaning.specs.Trees.{Segs, Line, Fork, Rep, Call, Stay, Wait, Exit, Nil, Cons}
+use Rattle.rte_seg.specs.Image.{Process}
+use Rattle.rte_seg.specs.Trees.{Segs, Line, Fork, Rep, Call, Stay, Wait, Exit, Nil, Cons}
 use Rattle.rte_image.specs.declared.names.DevName.{DevName}
 use Rattle.rte_image.specs.Named.{NamedImage}
 

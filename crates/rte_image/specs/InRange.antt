@@ -1,7 +1,7 @@
 -- Images whose counts fit their fields. All other numbers fit by their types.
 use Rattle.std.specs.Prelude.{◌≡◌, ◌<◌, ◌^◌, ℕ, List, Option, Some, None, All, length}
-use Rattle.rte_machine_meaning.specs.Image.{Image, Process}
-use Rattle.rte_machine_meaning.specs.Trees.{Segs}
+use Rattle.rte_seg.specs.Image.{Image, Process}
+use Rattle.rte_seg.specs.Trees.{Segs}
 use Rattle.rte_image.specs.declared.names.ImageNames.{ImageNames}
 use Rattle.rte_image.specs.Named.{NamedImage}
 use Rattle.rte_image.specs.TreeBytes.{segments}

@@ -1,7 +1,7 @@
 -- An image with its names.
 use Rattle.std.specs.Prelude.{ℕ, List}
 use Rattle.rte_image.specs.declared.names.ImageNames.{ImageNames}
-use Rattle.rte_machine_meaning.specs.Image.{Image}
+use Rattle.rte_seg.specs.Image.{Image}
 
 -- the program's name, the names of its parts, and what the machine runs
 pub record NamedImage : Type 0 where

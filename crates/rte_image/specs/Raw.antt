@@ -6,7 +6,7 @@ use Rattle.rte_image.specs.declared.raw.RawProc.{RawProc}
 use Rattle.rte_image.specs.declared.raw.RawImage.{RawImage}
 use Rattle.rte_image.specs.Named.{NamedImage}
 use Rattle.rte_seg.specs.View.{views}
-use Rattle.rte_machine_meaning.specs.Image.{Image, Monitor, Routine, Process}
+use Rattle.rte_seg.specs.Image.{Image, Monitor, Routine, Process}
 
 -- a monitor, as the machine knows it
 abbrev pub monitor_of : RawMon → Monitor

@@ -1,6 +1,6 @@
 -- Segment trees as bytes: the number of segments, and each segment by its tag.
 use Rattle.std.specs.Prelude.{◌+◌, ◌++◌, ℕ, List, [], ◌∷◌}
-use Rattle.rte_machine_meaning.specs.Trees.{Seg, Line, Fork, Rep, Call, Stay, Wait, Exit, Segs, Nil, Cons}
+use Rattle.rte_seg.specs.Trees.{Seg, Line, Fork, Rep, Call, Stay, Wait, Exit, Segs, Nil, Cons}
 use Rattle.rte_image.specs.Numbers.{u16, u32}
 
 -- how many segments stand side by side

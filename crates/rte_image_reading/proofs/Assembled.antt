@@ -1,6 +1,6 @@
 -- Events with their frames keep their names.
 use Rattle.std.proofs.Common.{◌≡◌, ◌+◌, ℕ, List, [], ◌∷◌, map, refl, ap}
-use Rattle.rte_machine_meaning.specs.Image.{Process}
+use Rattle.rte_seg.specs.Image.{Process}
 use Rattle.rte_image_reading.specs.File.{framed}
 
 pub names_framed : (at : ℕ) (events : List (List ℕ)) (processes : List Process) → map (λ e. e.name) (framed at events processes) ≡ events

@@ -1,8 +1,8 @@
 -- Reading segments one after the other, as a loop does.
 use Rattle.std.proofs.Common.{◌≡◌, ℕ, suc, ◌-◌, ◌+◌, ◌≤◌, ◌<◌, List, [], ◌∷◌, ◌++◌, map, Ok, Err, refl, sym, ap, ◌∙◌, arith}
 use Rattle.std.proofs.lemmas.List.{map_push}
-use Rattle.rte_machine_meaning.specs.Trees as tree
-use Rattle.rte_machine_meaning.specs.Trees.{Segs, Nil, Cons}
+use Rattle.rte_seg.specs.Trees as tree
+use Rattle.rte_seg.specs.Trees.{Segs, Nil, Cons}
 use Rattle.rte_seg.specs.declared.seg.Seg.{Seg}
 use Rattle.rte_seg.specs.View.{tree_of, view, views}
 use Rattle.rte_image_reading.specs.declared.fault.ReadError.{ReadError}

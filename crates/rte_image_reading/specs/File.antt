@@ -3,7 +3,7 @@ use Rattle.std.specs.Prelude.{◌+◌, ◌-◌, ◌++◌, ◌&&◌, ◌||◌, �
 use Rattle.std.specs.List.{list_any}
 use Rattle.std.specs.Cmp.Lexicographic.{pointwise}
 use Rattle.rte_isa.specs.declared.instr.Instr.{Instr}
-use Rattle.rte_machine_meaning.specs.Image.{Monitor, Routine, Process}
+use Rattle.rte_seg.specs.Image.{Monitor, Routine, Process}
 use Rattle.rte_image.specs.declared.names.CondName.{CondName}
 use Rattle.rte_image.specs.declared.names.DevName.{DevName}
 use Rattle.rte_image.specs.declared.names.EventName.{EventName}

@@ -10,8 +10,8 @@ use Rattle.rte_isa.specs.declared.instr.Instr.{Instr}
 use Rattle.rte_isa.specs.declared.instr.Instr.TheVariants as i
 use Rattle.rte_isa.specs.Bytes.{number, operands, word_bytes}
 use Rattle.rte_isa.specs.Numbered.{numbered}
-use Rattle.rte_machine_meaning.specs.Image.{Monitor, Routine, Process}
-use Rattle.rte_machine_meaning.specs.Trees.{Segs}
+use Rattle.rte_seg.specs.Image.{Monitor, Routine, Process}
+use Rattle.rte_seg.specs.Trees.{Segs}
 use Rattle.rte_image.specs.Numbers as written
 use Rattle.rte_image.specs.declared.names.CondName.{CondName}
 use Rattle.rte_image.specs.declared.names.DevName.{DevName}

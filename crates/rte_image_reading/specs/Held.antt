@@ -2,7 +2,7 @@
 use Rattle.std.specs.Prelude.{List, ℕ, map}
 use Rattle.std.specs.List.{zip}
 use Rattle.rte_isa.specs.declared.instr.Instr.{Instr}
-use Rattle.rte_machine_meaning.specs.Image.{Monitor, Routine, Process}
+use Rattle.rte_seg.specs.Image.{Monitor, Routine, Process}
 use Rattle.rte_image.specs.Raw.{monitor_of, process_of, routine_of}
 use Rattle.rte_image.specs.declared.names.CondName.{CondName}
 use Rattle.rte_image.specs.declared.names.DevName.{DevName}

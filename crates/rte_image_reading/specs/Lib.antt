@@ -8,3 +8,8 @@ pub mod Law
 pub mod Answer
 pub mod Held
 pub mod Taken
+pub use Rattle.rte_image.specs.declared.names.ImageNames
+pub use Rattle.rte_image.specs.Named
+pub use Rattle.rte_image.specs.Raw
+pub use Rattle.rte_image.specs.declared.raw.RawImage
+pub use Rattle.rte_image.specs.Bytes

@@ -1,6 +1,6 @@
 -- Segment trees: a count, and so many segments, each by its tag.
 use Rattle.std.specs.Prelude.{◌^◌, ◌&&◌, ◌==◌, ℕ, zero, suc, Bool, true, false, List, length, Ok, Err, Option, nat_lt, nat_le, if◌then◌else◌}
-use Rattle.rte_machine_meaning.specs.Trees.{Seg, Line, Fork, Rep, Call, Stay, Wait, Exit, Segs, Nil, Cons}
+use Rattle.rte_seg.specs.Trees.{Seg, Line, Fork, Rep, Call, Stay, Wait, Exit, Segs, Nil, Cons}
 use Rattle.rte_image.specs.TreeBytes.{row, seg_bytes, tree_bytes}
 use Rattle.rte_image_reading.specs.Format.{Format, Read, fault, ◌>>=◌, u8, u16, u32, unless, checked, both}
 

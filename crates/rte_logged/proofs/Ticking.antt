@@ -19,8 +19,8 @@ use Rattle.rte_safe.proofs.Starting.{starts_keep}
 use Rattle.rte_safe_terms.specs.Queues.{AreQueued, times, waits_on}
 use Rattle.rte_safe_terms.specs.Whole.{StateFits}
 use Rattle.rte_valid.specs.Valid.{HasLimits, IsValid}
-use Rattle.rte_valid_law.specs.Laws.{MeetsPremises}
-use Rattle.rte_valid_law.proofs.Whole.{valid_meets_premises}
+use Rattle.rte_named.specs.Laws.{MeetsPremises}
+use Rattle.rte_named.proofs.Whole.{valid_meets_premises}
 use Rattle.rte_named.specs.Operands.{AreThere}
 use Rattle.rte_named.proofs.There.{valid_operands_are_there}
 use Rattle.rte_logged.specs.Laws.{AreNamesOf, HasLines, ValidRunsHaveLines}

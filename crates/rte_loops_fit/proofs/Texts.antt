@@ -4,7 +4,7 @@ use Rattle.rte_source_meaning.specs.Names.{constant_value}
 use Rattle.rte_wellformed.specs.Here.{Here, in_loop}
 use Rattle.rte_wellformed.specs.Statements.{Fits, AllFit}
 use Rattle.rte_made_fits.proofs.Words.{word_fits}
-use Rattle.rte_cost_laws.specs.Measured.{BoundsFit, AllBoundsFit}
+use Rattle.rte_cost_table.specs.Measured.{BoundsFit, AllBoundsFit}
 
 mutual
   one_fits : (c : Here) (s : Stmt) → Fits c s → BoundsFit c.program s

@@ -14,7 +14,7 @@ use Rattle.rte_wellformed.specs.Here.{in_routine, in_process}
 use Rattle.rte_wellformed.specs.WellFormed.{RoutineFits, ProcessFits, OptionalFits, IsWellFormed}
 use Rattle.rte_made_fits.proofs.Places.{first_of_all, rest_of_all}
 use Rattle.rte_made_fits.proofs.Reached.{OfEach, text_at, of_numbered}
-use Rattle.rte_cost_laws.specs.Measured.{AllBoundsFit}
+use Rattle.rte_cost_table.specs.Measured.{AllBoundsFit}
 use Rattle.rte_cost_table.specs.Defined.{HandlerLoopsFit}
 use Rattle.rte_loops_fit.specs.Loops.{WellFormedLoopsFit, CheckedLoopsFit}
 use Rattle.rte_loops_fit.proofs.Texts.{all_fit}

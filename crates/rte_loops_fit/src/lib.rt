@@ -8,3 +8,5 @@
 #![tactic(auto)]
 
 pub mod law;
+
+pub use rte_cost_table::law::measures_are_defined;

@@ -3,8 +3,8 @@ use Rattle.std.specs.Prelude.{ℕ, Bool, true, false, pos, List, [], ◌∷◌, 
 use Rattle.rte_event.specs.declared.event.Event.{Event}
 use Rattle.rte_event.specs.declared.event.Act.{Act}
 use Rattle.rte_event.specs.declared.event.Act.TheVariants as act
-use Rattle.rte_isa.specs.declared.instr.Instr.{Instr}
-use Rattle.rte_isa.specs.declared.instr.Instr.TheVariants as i
+use Rattle.rte_machine_meaning.specs.Instr.{Instr}
+use Rattle.rte_machine_meaning.specs.Instr.TheVariants as i
 use Rattle.rte_machine_meaning.specs.Trees.{Segs, Line, Call, Stay, Wait, Nil, Cons}
 use Rattle.rte_machine_meaning.specs.Image.{Image, Process, Script, Sets, Occurs}
 

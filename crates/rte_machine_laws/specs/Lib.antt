@@ -1,1 +1,10 @@
 pub mod Example
+pub use Rattle.rte_machine_meaning.specs.Trees
+pub use Rattle.rte_machine_meaning.specs.Image
+pub use Rattle.rte_machine_meaning.specs.Tick
+pub use Rattle.rte_machine_meaning.specs.Run
+pub use Rattle.rte_machine_meaning.specs.State
+pub use Rattle.rte_machine_meaning.specs.Effect
+pub use Rattle.rte_machine_meaning.specs.Starts
+pub use Rattle.rte_event.specs.declared.event.Act
+pub use Rattle.rte_machine_meaning.specs.Words

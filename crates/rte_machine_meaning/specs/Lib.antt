@@ -5,3 +5,10 @@ pub mod Effect
 pub mod Starts
 pub mod Tick
 pub mod Run
+pub use Rattle.rte_isa.specs.declared.instr.Instr
+pub use Rattle.rte_num.specs.Words
+pub use Rattle.rte_isa.specs.Ticks
+pub use Rattle.rte_isa.specs.Operands
+pub use Rattle.rte_num.specs.declared.capped.Cost
+pub use Rattle.rte_num.specs.Capped
+pub use Rattle.rte_event.specs.declared.event.Event

@@ -8,9 +8,9 @@ use Rattle.rte_source_meaning.specs.Names.{named, place_of, constants, constants
 use Rattle.rte_emits.specs.Layout.{Owner, by_program, by_process, by_monitor, size_of, shape_of, words_of, monitor_vars, base_from, loops, loops_in, handler_loops}
 use Rattle.rte_emits.specs.Code.{constant_named}
 use Rattle.rte_emits.specs.Emits.{condition_of}
-use Rattle.rte_costs.specs.Names.{Names, inside}
-use Rattle.rte_costs.specs.Lengths.{stmt_length, stmts_length, handler_length}
-use Rattle.rte_costs.specs.Levels.{process_names, processes_length}
+use Rattle.rte_made_right.specs.Names.{Names, inside}
+use Rattle.rte_made_right.specs.Lengths.{stmt_length, stmts_length, handler_length}
+use Rattle.rte_made_right.specs.Levels.{process_names, processes_length}
 use Rattle.rte_wellformed.specs.WellFormed.{ConstantsFit, kind_words, vars_words}
 use Rattle.rte_made.specs.Told.{value_told}
 use Rattle.rte_made_right.specs.Fits.{Fit}

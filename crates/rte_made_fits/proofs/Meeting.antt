@@ -3,7 +3,7 @@ use Rattle.std.proofs.Common.{◌≡◌, ◌≤◌, refl, arith}
 use Rattle.rte_source_laws.specs.Example.{signalled_wait}
 use Rattle.rte_emits.specs.Layout.{routine_words}
 use Rattle.rte_emits.specs.Numbering.{numbered, visit, number_of}
-use Rattle.rte_costs.specs.Levels.{code_length}
+use Rattle.rte_made_right.specs.Levels.{code_length}
 use Rattle.rte_wellformed_examples.proofs.Small.{signalled_wait_fits}
 use Rattle.rte_whole.proofs.Meeting.{both}
 use Rattle.rte_made_fits.specs.Fitting.{FramesFit, ExampleFits}

@@ -8,7 +8,7 @@ use Rattle.rte_emits.specs.Layout.{Owner, by_program, by_process, by_monitor, ho
 use Rattle.rte_emits.specs.Numbering.{Text, numbered, number_of}
 use Rattle.rte_emits.specs.Emits.{monitor_of}
 use Rattle.rte_emits.specs.Compiled.{routine_scope, process_scope}
-use Rattle.rte_costs.specs.Levels.{code_length, processes_length}
+use Rattle.rte_made_right.specs.Levels.{code_length, processes_length}
 use Rattle.rte_wellformed.specs.Here.{own_of, is_function_at}
 use Rattle.rte_wellformed.specs.WellFormed.{VarFits, IsWellFormed, vars_words, words}
 use Rattle.rte_wellformed.specs.WellFormed as formed

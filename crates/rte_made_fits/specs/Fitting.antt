@@ -4,7 +4,7 @@ use Rattle.std.specs.Prelude.{◌≡◌, ◌≤◌, ℕ, Some, slice_get}
 use Rattle.rte_tree.specs.Plain.{Prog}
 use Rattle.rte_emits.specs.Layout.{routine_words}
 use Rattle.rte_emits.specs.Numbering.{Text, numbered}
-use Rattle.rte_costs.specs.Levels.{code_length}
+use Rattle.rte_made_right.specs.Levels.{code_length}
 use Rattle.rte_source_laws.specs.Example.{signalled_wait}
 use Rattle.rte_wellformed.specs.WellFormed.{IsWellFormed}
 use Rattle.rte_made_whole.specs.Fits.{ProgramFits}

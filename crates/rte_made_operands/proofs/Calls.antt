@@ -15,7 +15,7 @@ use Rattle.rte_wellformed.specs.Here.{in_routine}
 use Rattle.rte_wellformed.specs.Statements.{may_call as calls_more}
 use Rattle.rte_wellformed.specs.WellFormed.{IsWellFormed}
 use Rattle.rte_linked.proofs.Numbers.{none_some, some_same, IsText, of_list, called_is_text}
-use Rattle.rte_ruled.specs.Ruled.{NamesApart}
+use Rattle.rte_sound.specs.Ruled.{NamesApart}
 use Rattle.rte_numbered.specs.Numbered.{CallsText}
 use Rattle.rte_numbered.proofs.Numbered.{text_listed}
 use Rattle.rte_whole.proofs.Rows.{stands}

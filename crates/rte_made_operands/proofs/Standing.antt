@@ -12,9 +12,9 @@ use Rattle.rte_emits.specs.Emits.{condition_of}
 use Rattle.rte_emits.specs.Compiled.{EmitsProcess, EmitsProcesses, IsCodeOf, owner_number}
 use Rattle.rte_wellformed.specs.Here.{conditions_here, monitor_conditions}
 use Rattle.rte_wellformed.specs.WellFormed.{MonitorFits, IsWellFormed}
-use Rattle.rte_ruled.specs.Ruled.{NamesApart}
-use Rattle.rte_ruled.proofs.Rules.{one_of}
-use Rattle.rte_ruled.proofs.Tables.{condition_row}
+use Rattle.rte_sound.specs.Ruled.{NamesApart}
+use Rattle.rte_sound.proofs.Rules.{one_of}
+use Rattle.rte_sound.proofs.Tables.{condition_row}
 use Rattle.rte_areas.specs.Lies.{AllLie}
 use Rattle.rte_areas.specs.Areas.{HasWords, DevicesGoOneWay}
 use Rattle.rte_areas.proofs.Areas.{both, named_lies, variables_lie}

@@ -14,7 +14,7 @@ use Rattle.rte_emits.specs.Numbering.{Text, Called, called_text, numbered, numbe
 use Rattle.rte_emits.specs.Compiled.{kind_number, owner_number, process_scope, IsRoutine, IsCodeOf}
 use Rattle.rte_wellformed.specs.WellFormed.{OptionalFits, ProcessFits, IsWellFormed}
 use Rattle.rte_linked.proofs.Numbers.{IsText}
-use Rattle.rte_ruled.specs.Ruled.{NamesApart}
+use Rattle.rte_sound.specs.Ruled.{NamesApart}
 use Rattle.rte_numbered.specs.Numbered.{CallsText}
 use Rattle.rte_numbered.proofs.Numbered.{listed_text}
 use Rattle.rte_measured.specs.Sound.{SoundHandler}

@@ -5,7 +5,7 @@ use Rattle.rte_machine_meaning.specs.Image.{Image}
 use Rattle.rte_valid.specs.Valid.{Operands, fault_of_part}
 use Rattle.rte_emits.specs.Compiled.{IsCodeOf}
 use Rattle.rte_wellformed.specs.WellFormed.{IsWellFormed}
-use Rattle.rte_ruled.specs.Ruled.{NamesApart}
+use Rattle.rte_sound.specs.Ruled.{NamesApart}
 use Rattle.rte_areas.specs.Areas.{DevicesGoOneWay}
 
 -- The law: so it is where the program is well formed, its names stand apart, and devices of one

@@ -1,8 +1,8 @@
 -- Length and segments of statements that stand alone.
 use Rattle.std.proofs.Common.{◌≡◌, ◌+◌, ◌≤◌, false, length, refl, arith}
-use Rattle.rte_emits.specs.Segments.{stmts_segs}
-use Rattle.rte_costs.specs.Names.{names_of}
-use Rattle.rte_costs.specs.Lengths.{stmts_length}
+use Rattle.rte_made.specs.Segments.{stmts_segs}
+use Rattle.rte_measured.specs.Names.{names_of}
+use Rattle.rte_measured.specs.Lengths.{stmts_length}
 use Rattle.rte_measured.proofs.Sizes.{alike}
 use Rattle.rte_measured.proofs.Seen.{sees}
 use Rattle.rte_made.specs.Made.{begun, stmts_out}

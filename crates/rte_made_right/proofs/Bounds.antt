@@ -1,9 +1,9 @@
 -- The bounds and the turns of loops are not cut off.
 use Rattle.std.proofs.Common.{◌≡◌, ◌+◌, ◌≤◌, min, ℕ, suc, Bool, pos, arith}
 use Rattle.rte_tree.specs.Plain.{Stmt, when, when_else, loop, Stmts, no_stmts, stmts, Prog}
-use Rattle.rte_source_meaning.specs.Names.{constant_value}
-use Rattle.rte_emits.specs.Layout.{Scope, loops, loops_in}
-use Rattle.rte_emits.specs.Emits.{turns_of}
+use Rattle.rte_made.specs.Names.{constant_value}
+use Rattle.rte_made.specs.Layout.{Scope, loops, loops_in}
+use Rattle.rte_made.specs.Emits.{turns_of}
 use Rattle.rte_made.specs.Told.{within}
 use Rattle.rte_made_right.specs.Fits.{Fit, StmtFits, StmtsFit}
 

@@ -1,11 +1,11 @@
 -- Making a part adds so many instructions, and these segments.
 use Rattle.std.proofs.Common.{◌≡◌, ◌+◌, ◌-◌, ◌≤◌, ℕ, zero, suc, List, [], ◌∷◌, ◌++◌, map, length, slice_get, slice_set, Option, Some, None, ℤ, refl, sym, ap, subst, ◌∙◌, arith}
-use Rattle.rte_machine_meaning.specs.Trees as tree
-use Rattle.rte_machine_meaning.specs.Trees.{Segs, Line, Nil, Cons}
+use Rattle.rte_made.specs.Trees as tree
+use Rattle.rte_made.specs.Trees.{Segs, Line, Nil, Cons}
 use Rattle.rte_isa.specs.declared.instr.Instr.{Instr}
-use Rattle.rte_emits.specs.Segments.{before, line}
-use Rattle.rte_seg.specs.View.{view, tree_of}
-use Rattle.rte_seg.specs.declared.seg.Seg.{Seg}
+use Rattle.rte_made.specs.Segments.{before, line}
+use Rattle.rte_made.specs.View.{view, tree_of}
+use Rattle.rte_made.specs.Seg.{Seg}
 use Rattle.rte_made.specs.Made.{Out, push, closed, joined, aims, aim_one, aimed}
 use Rattle.rte_made_right.proofs.Lists.{length_more}
 use Rattle.rte_made_right.proofs.Trees.{over, tail, line_line}

@@ -2,22 +2,22 @@
 use Rattle.std.proofs.Common.{◌≡◌, ◌+◌, ◌-◌, ◌≤◌, min, ℕ, List, [], ◌∷◌, ◌++◌, map, length, Option, Some, None, option_map, ℤ, pos, refl, sym, ap, ◌∙◌, arith}
 use Rattle.rte_tree.specs.Plain.{Name, Constant, Param, Expr, literal, truth, variable, element, call, minus, negation, paren, row, Exprs, no_exprs, exprs, Operands, no_operands, operand, Ref, whole, part, Stmt, assign, assign_entry, assign_empty, perform, perform_entry, when, when_else, loop, exit_when, get, put, wait, signal, broadcast, except, assert, Stmts, no_stmts, stmts, Prog}
 use Rattle.rte_num.specs.Words.{of_bool}
-use Rattle.rte_source_meaning.specs.Names.{constant_value, device_number}
-use Rattle.rte_source_meaning.specs.Store.{Range, range_of}
-use Rattle.rte_machine_meaning.specs.Trees as tree
-use Rattle.rte_machine_meaning.specs.Trees.{Segs, Line, Nil, Cons}
+use Rattle.rte_made.specs.Names.{constant_value, device_number}
+use Rattle.rte_made.specs.Store.{Range, range_of}
+use Rattle.rte_made.specs.Trees as tree
+use Rattle.rte_made.specs.Trees.{Segs, Line, Nil, Cons}
 use Rattle.rte_isa.specs.declared.instr.Instr.{Instr}
 use Rattle.rte_isa.specs.declared.instr.Instr.TheVariants as i
-use Rattle.rte_emits.specs.Layout.{Owner, Area, in_frame, in_process, in_monitor, Shape, single, array, Spot, Scope, spot_of}
-use Rattle.rte_emits.specs.Numbering.{Text, routine_in, entry_in, number_of}
-use Rattle.rte_emits.specs.Code.{op_instr, constant_named, range_code, range_of_spot}
-use Rattle.rte_emits.specs.Emits.{monitor_of, turns_of}
-use Rattle.rte_emits.specs.Segments.{line, call_segs, expr_segs, row_segs, args_segs, index_segs, put_segs, stmt_segs, stmts_segs}
-use Rattle.rte_seg.specs.View.{view, tree_of}
-use Rattle.rte_seg.specs.declared.seg.Seg.TheVariants as seg
-use Rattle.rte_stands.specs.Proper.{IsSingle, IsArray}
-use Rattle.rte_costs.specs.Names.{Names, inside}
-use Rattle.rte_costs.specs.Lengths.{check_length, call_length, expr_length, row_length, args_length, index_length, put_length, stmt_length, stmts_length}
+use Rattle.rte_made.specs.Layout.{Owner, Area, in_frame, in_process, in_monitor, Shape, single, array, Spot, Scope, spot_of}
+use Rattle.rte_made.specs.Numbering.{Text, routine_in, entry_in, number_of}
+use Rattle.rte_made.specs.Code.{op_instr, constant_named, range_code, range_of_spot}
+use Rattle.rte_made.specs.Emits.{monitor_of, turns_of}
+use Rattle.rte_made.specs.Segments.{line, call_segs, expr_segs, row_segs, args_segs, index_segs, put_segs, stmt_segs, stmts_segs}
+use Rattle.rte_made.specs.View.{view, tree_of}
+use Rattle.rte_made.specs.Seg.TheVariants as seg
+use Rattle.rte_measured.specs.Proper.{IsSingle, IsArray}
+use Rattle.rte_measured.specs.Names.{Names, inside}
+use Rattle.rte_measured.specs.Lengths.{check_length, call_length, expr_length, row_length, args_length, index_length, put_length, stmt_length, stmts_length}
 use Rattle.rte_measured.specs.Sound.{SoundRef, Sound, SoundAll}
 use Rattle.rte_measured.proofs.Sizes.{Alike, alike_inner, same_range}
 use Rattle.rte_measured.proofs.Seen.{Sees, sees_inside, range_is}

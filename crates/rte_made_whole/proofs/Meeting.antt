@@ -1,13 +1,13 @@
 -- The example meets the premises, and its image holds what is made.
 use Rattle.std.proofs.Common.{◌≡◌, refl, arith, rules}
-use Rattle.rte_source_meaning.specs.Names.{processes}
+use Rattle.rte_whole.specs.Names.{processes}
 use Rattle.rte_source_laws.specs.Example.{signalled_wait}
-use Rattle.rte_seg.specs.declared.seg.Seg.{the_lemmas}
-use Rattle.rte_emits.specs.Numbering.{numbered, visit, number_of}
-use Rattle.rte_costs.specs.Levels.{code_length}
-use Rattle.rte_valid_examples.specs.Example.{meeting}
+use Rattle.rte_made_right.specs.Seg.{the_lemmas}
+use Rattle.rte_whole.specs.Numbering.{numbered, visit, number_of}
+use Rattle.rte_made_right.specs.Levels.{code_length}
+use Rattle.rte_whole.specs.Example.{meeting}
 use Rattle.rte_whole.proofs.Meeting.{both, meeting_is_made}
-use Rattle.rte_made.specs.Parts.{program_made}
+use Rattle.rte_made_right.specs.Parts.{program_made}
 use Rattle.rte_made_whole.specs.Fits.{RoutineFits, ProcessFits, ProgramFits}
 use Rattle.rte_made_whole.specs.Held.{Holds}
 use Rattle.rte_made_whole.specs.Whole.{ExampleHolds}

@@ -1,8 +1,8 @@
 -- The numbers of routines are small where the code is short.
 use Rattle.std.proofs.Common.{◌≤◌, ℕ, suc, Bool, true, false, cond, List, [], ◌∷◌, length, arith}
 use Rattle.rte_tree.specs.Plain.{Prog}
-use Rattle.rte_emits.specs.Numbering.{Text, same_text, place_among, numbered, number_of}
-use Rattle.rte_costs.specs.Levels.{routines_length, code_length}
+use Rattle.rte_whole.specs.Numbering.{Text, same_text, place_among, numbered, number_of}
+use Rattle.rte_made_right.specs.Levels.{routines_length, code_length}
 
 at_most : (b : Bool) (m n : ℕ) → m ≤ n → cond b 0 (suc m) ≤ suc n
 at_most true m n h = omega arith

@@ -3,20 +3,20 @@ use Rattle.std.proofs.Common.{◌≡◌, ◌+◌, ◌≤◌, ℕ, suc, false, Li
 use Rattle.rte_tree.specs.Plain.{Stmts, Handler, Process, Prog}
 use Rattle.rte_isa.specs.declared.instr.Instr.{Instr}
 use Rattle.rte_isa.specs.declared.instr.Instr.TheVariants as i
-use Rattle.rte_machine_meaning.specs.Image as image
-use Rattle.rte_emits.specs.Layout.{Scope, loops}
-use Rattle.rte_emits.specs.Numbering.{Text, number_of}
-use Rattle.rte_emits.specs.Emits.{Has}
-use Rattle.rte_emits.specs.Segments.{stmts_segs}
-use Rattle.rte_emits.specs.Compiled.{process_scope, EmitsHandler, EmitsProcess}
-use Rattle.rte_costs.specs.Lengths.{stmts_length, handler_length, process_length}
-use Rattle.rte_costs.specs.Levels.{process_names}
-use Rattle.rte_measured.specs.Sound.{SoundAll, SoundHandler, SoundProcess}
-use Rattle.rte_measured.proofs.Sizes.{alike}
-use Rattle.rte_measured.proofs.Seen.{sees}
-use Rattle.rte_made.specs.declared.code.ProcessParts.{ProcessParts}
-use Rattle.rte_made.specs.Made.{Out, begun, stmts_out}
-use Rattle.rte_made.specs.Parts.{opened, part_of, body_out, ended, process_out, handler_part}
+use Rattle.rte_made_right.specs.Image as image
+use Rattle.rte_whole.specs.Layout.{Scope, loops}
+use Rattle.rte_whole.specs.Numbering.{Text, number_of}
+use Rattle.rte_whole.specs.Emits.{Has}
+use Rattle.rte_whole.specs.Segments.{stmts_segs}
+use Rattle.rte_whole.specs.Compiled.{process_scope, EmitsHandler, EmitsProcess}
+use Rattle.rte_made_right.specs.Lengths.{stmts_length, handler_length, process_length}
+use Rattle.rte_made_right.specs.Levels.{process_names}
+use Rattle.rte_made_right.specs.Sound.{SoundAll, SoundHandler, SoundProcess}
+use Rattle.rte_made_right.proofs.Sizes.{alike}
+use Rattle.rte_made_right.proofs.Seen.{sees}
+use Rattle.rte_made_right.specs.ProcessParts.{ProcessParts}
+use Rattle.rte_made_right.specs.Made.{Out, begun, stmts_out}
+use Rattle.rte_made_right.specs.Parts.{opened, part_of, body_out, ended, process_out, handler_part}
 use Rattle.rte_made_right.proofs.Lists.{length_more, has_first, has_rest}
 use Rattle.rte_made_right.proofs.Statements.{StmtsMade}
 use Rattle.rte_made_right.proofs.Nested.{stmts_made}

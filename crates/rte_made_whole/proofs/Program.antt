@@ -1,21 +1,21 @@
 -- What is made of a program, put into an image, is the code of the program.
 use Rattle.std.proofs.Common.{◌≡◌, ◌+◌, ◌≤◌, ℕ, suc, List, [], ◌∷◌, ◌++◌, length, Some, slice_get, refl, sym, ap, subst, ◌∙◌, append_assoc, append-nil, arith}
 use Rattle.rte_tree.specs.Plain.{Process, Prog}
-use Rattle.rte_source_meaning.specs.Names.{processes}
+use Rattle.rte_whole.specs.Names.{processes}
 use Rattle.rte_isa.specs.declared.instr.Instr.{Instr}
-use Rattle.rte_machine_meaning.specs.Image as image
-use Rattle.rte_emits.specs.Numbering.{Text, numbered, number_of}
-use Rattle.rte_emits.specs.Emits.{Has}
-use Rattle.rte_emits.specs.Compiled.{process_scope, EmitsRoutine, EmitsRoutines, EmitsProcess, EmitsProcesses}
-use Rattle.rte_costs.specs.Lengths.{routine_length, process_length}
-use Rattle.rte_costs.specs.Levels.{routine_names, process_names, routines_length, processes_length, code_length}
-use Rattle.rte_measured.specs.Sound.{SoundRoutine, SoundProcess}
+use Rattle.rte_made_right.specs.Image as image
+use Rattle.rte_whole.specs.Numbering.{Text, numbered, number_of}
+use Rattle.rte_whole.specs.Emits.{Has}
+use Rattle.rte_whole.specs.Compiled.{process_scope, EmitsRoutine, EmitsRoutines, EmitsProcess, EmitsProcesses}
+use Rattle.rte_made_right.specs.Lengths.{routine_length, process_length}
+use Rattle.rte_made_right.specs.Levels.{routine_names, process_names, routines_length, processes_length, code_length}
+use Rattle.rte_made_right.specs.Sound.{SoundRoutine, SoundProcess}
 use Rattle.rte_whole.specs.Declared.{IsBelow, IsSound}
-use Rattle.rte_made.specs.declared.code.Part.{Part}
-use Rattle.rte_made.specs.declared.code.ProcessParts.{ProcessParts}
-use Rattle.rte_made.specs.declared.code.Code.{Code}
-use Rattle.rte_made.specs.Made.{push}
-use Rattle.rte_made.specs.Parts.{part_of, return_of, text_made, texts_made, process_made, processes_made, nothing_made, program_made}
+use Rattle.rte_made_right.specs.Part.{Part}
+use Rattle.rte_made_right.specs.ProcessParts.{ProcessParts}
+use Rattle.rte_made_right.specs.Code.{Code}
+use Rattle.rte_made_right.specs.Made.{push}
+use Rattle.rte_made_right.specs.Parts.{part_of, return_of, text_made, texts_made, process_made, processes_made, nothing_made, program_made}
 use Rattle.rte_made_right.proofs.Lists.{length_more, has_first, has_rest}
 use Rattle.rte_made_right.proofs.Emitted.{has_there}
 use Rattle.rte_made_whole.specs.Fits.{RoutineFits, ProcessFits}

@@ -1,28 +1,28 @@
 -- What is made of a routine is its code, with its tree.
 use Rattle.std.proofs.Common.{◌≡◌, ◌+◌, ◌-◌, ◌≤◌, min, ℕ, false, List, [], ◌∷◌, ◌++◌, map, length, Option, Some, None, pos, refl, sym, ap, subst, ◌∙◌, append_assoc, arith}
 use Rattle.rte_tree.specs.Plain.{Answers, Routine, Prog}
-use Rattle.rte_source_meaning.specs.Store.{range_of}
+use Rattle.rte_whole.specs.Store.{range_of}
 use Rattle.rte_isa.specs.declared.instr.Instr.{Instr}
 use Rattle.rte_isa.specs.declared.instr.Instr.TheVariants as i
-use Rattle.rte_machine_meaning.specs.Trees as tree
-use Rattle.rte_machine_meaning.specs.Trees.{Segs, Nil, Cons}
-use Rattle.rte_seg.specs.View.{view, views, tree_of}
-use Rattle.rte_seg.specs.declared.seg.Seg.TheVariants as seg
-use Rattle.rte_emits.specs.Layout.{Owner, by_program, by_process, by_monitor, Scope, routine_vars_words}
-use Rattle.rte_emits.specs.Numbering.{Text, number_of}
-use Rattle.rte_emits.specs.Code.{code_of, range_code}
-use Rattle.rte_emits.specs.Emits.{Has, IsLine}
-use Rattle.rte_emits.specs.Segments.{line, expr_segs, stmts_segs, answers_segs, routine_segs}
-use Rattle.rte_emits.specs.Compiled.{routine_scope, enter_code, EmitsAnswer, EmitsEnd, EmitsRoutine}
-use Rattle.rte_costs.specs.Names.{names_of}
-use Rattle.rte_costs.specs.Lengths.{check_length, expr_length, stmts_length, answers_length, monitor_length, routine_length}
-use Rattle.rte_costs.specs.Levels.{routine_names}
-use Rattle.rte_measured.specs.Sound.{SoundRoutine}
-use Rattle.rte_measured.proofs.Sizes.{alike}
-use Rattle.rte_measured.proofs.Seen.{sees}
-use Rattle.rte_made.specs.Told.{fit, range_told}
-use Rattle.rte_made.specs.Made.{Out, push, closed, line_of, expr_out, range_out, stmts_out}
-use Rattle.rte_made.specs.Parts.{opened, answer_out, inner_out, entered, routine_out, return_of}
+use Rattle.rte_made_right.specs.Trees as tree
+use Rattle.rte_made_right.specs.Trees.{Segs, Nil, Cons}
+use Rattle.rte_made_right.specs.View.{view, views, tree_of}
+use Rattle.rte_made_right.specs.Seg.TheVariants as seg
+use Rattle.rte_whole.specs.Layout.{Owner, by_program, by_process, by_monitor, Scope, routine_vars_words}
+use Rattle.rte_whole.specs.Numbering.{Text, number_of}
+use Rattle.rte_whole.specs.Code.{code_of, range_code}
+use Rattle.rte_whole.specs.Emits.{Has, IsLine}
+use Rattle.rte_whole.specs.Segments.{line, expr_segs, stmts_segs, answers_segs, routine_segs}
+use Rattle.rte_whole.specs.Compiled.{routine_scope, enter_code, EmitsAnswer, EmitsEnd, EmitsRoutine}
+use Rattle.rte_made_right.specs.Names.{names_of}
+use Rattle.rte_made_right.specs.Lengths.{check_length, expr_length, stmts_length, answers_length, monitor_length, routine_length}
+use Rattle.rte_made_right.specs.Levels.{routine_names}
+use Rattle.rte_made_right.specs.Sound.{SoundRoutine}
+use Rattle.rte_made_right.proofs.Sizes.{alike}
+use Rattle.rte_made_right.proofs.Seen.{sees}
+use Rattle.rte_made_right.specs.Told.{fit, range_told}
+use Rattle.rte_made_right.specs.Made.{Out, push, closed, line_of, expr_out, range_out, stmts_out}
+use Rattle.rte_made_right.specs.Parts.{opened, answer_out, inner_out, entered, routine_out, return_of}
 use Rattle.rte_made_right.proofs.Lists.{length_more, has_first, has_rest}
 use Rattle.rte_made_right.proofs.Expressions.{aiming, LineMade, none_made, both_made, range_made, expr_made}
 use Rattle.rte_made_right.proofs.Statements.{fit_small, StmtsMade}

@@ -1,12 +1,12 @@
 -- No number of a program is cut off where it becomes an operand, and its code is not too long.
 use Rattle.std.specs.Prelude.{◌≡◌, ◌≤◌, ℕ, false, Option, Some, None, slice_get}
 use Rattle.rte_tree.specs.Plain.{Answers, Handler, Process, Prog}
-use Rattle.rte_source_meaning.specs.Names.{processes}
-use Rattle.rte_source_meaning.specs.Store.{range_of}
-use Rattle.rte_emits.specs.Layout.{Owner, by_program, by_process, by_monitor, Scope, loops, routine_vars_words}
-use Rattle.rte_emits.specs.Numbering.{Text, numbered}
-use Rattle.rte_emits.specs.Compiled.{routine_scope, process_scope}
-use Rattle.rte_costs.specs.Levels.{code_length}
+use Rattle.rte_whole.specs.Names.{processes}
+use Rattle.rte_whole.specs.Store.{range_of}
+use Rattle.rte_whole.specs.Layout.{Owner, by_program, by_process, by_monitor, Scope, loops, routine_vars_words}
+use Rattle.rte_whole.specs.Numbering.{Text, numbered}
+use Rattle.rte_whole.specs.Compiled.{routine_scope, process_scope}
+use Rattle.rte_made_right.specs.Levels.{code_length}
 use Rattle.rte_made_right.specs.Fits.{RangeFits, ExprFits, StmtsFit}
 
 -- the result of a function, with the range of its type

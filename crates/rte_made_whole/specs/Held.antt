@@ -1,15 +1,15 @@
 -- An image holds the code that is made of a program, with the words and the tables of its text.
 use Rattle.std.specs.Prelude.{◌≡◌, List, [], ◌∷◌, Option, Some, None, map, filter_map, is_some}
 use Rattle.rte_tree.specs.Plain.{Handler, Process, Prog}
-use Rattle.rte_source_meaning.specs.Names.{monitors, processes, count_value, frame_of, deadline_of}
-use Rattle.rte_machine_meaning.specs.Image as image
-use Rattle.rte_seg.specs.View.{views}
-use Rattle.rte_emits.specs.Layout.{count, words_of, routine_words, frame_words}
-use Rattle.rte_emits.specs.Numbering.{Text, numbered}
-use Rattle.rte_emits.specs.Compiled.{kind_number, owner_number, ascending, IsReleased, AreMonitors, condition_monitors, device_direction}
-use Rattle.rte_made.specs.declared.code.Part.{Part}
-use Rattle.rte_made.specs.declared.code.ProcessParts.{ProcessParts}
-use Rattle.rte_made.specs.declared.code.Code.{Code}
+use Rattle.rte_whole.specs.Names.{monitors, processes, count_value, frame_of, deadline_of}
+use Rattle.rte_made_right.specs.Image as image
+use Rattle.rte_made_right.specs.View.{views}
+use Rattle.rte_whole.specs.Layout.{count, words_of, routine_words, frame_words}
+use Rattle.rte_whole.specs.Numbering.{Text, numbered}
+use Rattle.rte_whole.specs.Compiled.{kind_number, owner_number, ascending, IsReleased, AreMonitors, condition_monitors, device_direction}
+use Rattle.rte_made_right.specs.Part.{Part}
+use Rattle.rte_made_right.specs.ProcessParts.{ProcessParts}
+use Rattle.rte_made_right.specs.Code.{Code}
 
 -- a routine of the image, and the part of the code that is made of it
 pub record HoldsRoutine (g : Prog) (t : Text) (x : Part) (r : image.Routine) : Type 0 where

@@ -1,13 +1,13 @@
 -- The law: an image that holds what the generator makes of a program is the code of the program.
 use Rattle.std.specs.Prelude.{◌≡◌, length}
 use Rattle.rte_tree.specs.Plain.{Prog}
-use Rattle.rte_machine_meaning.specs.Image as image
+use Rattle.rte_made_right.specs.Image as image
 use Rattle.rte_source_laws.specs.Example.{signalled_wait}
-use Rattle.rte_valid_examples.specs.Example.{meeting}
-use Rattle.rte_emits.specs.Compiled.{IsCodeOf}
-use Rattle.rte_costs.specs.Levels.{code_length}
+use Rattle.rte_whole.specs.Example.{meeting}
+use Rattle.rte_whole.specs.Compiled.{IsCodeOf}
+use Rattle.rte_made_right.specs.Levels.{code_length}
 use Rattle.rte_whole.specs.Declared.{IsSound}
-use Rattle.rte_made.specs.Parts.{program_made}
+use Rattle.rte_made_right.specs.Parts.{program_made}
 use Rattle.rte_made_whole.specs.Fits.{ProgramFits}
 use Rattle.rte_made_whole.specs.Held.{Holds}
 

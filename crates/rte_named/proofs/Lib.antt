@@ -1,2 +1,3 @@
 pub mod Covered
 pub mod There
+pub use Rattle.rte_valid_law.proofs.Whole

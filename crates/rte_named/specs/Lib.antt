@@ -1,1 +1,2 @@
 pub mod Operands
+pub use Rattle.rte_valid_law.specs.Laws

@@ -6,7 +6,7 @@ use Rattle.rte_tree.specs.Plain.{Name, Prog}
 use Rattle.rte_source_meaning.specs.Names.{event_in}
 use Rattle.rte_wellformed.specs.WellFormed.{CountsFit}
 use Rattle.rte_built.specs.Named.{names_of, named_event}
-use Rattle.rte_built_ready.proofs.Counts.{names_of_devices}
+use Rattle.rte_edf_ready.proofs.Counts.{names_of_devices}
 
 module _ (g : Prog) (counts : CountsFit g) (names : ImageNames) (same : names ≡ names_of g) where
   pub few_devices : length names.devices ≤ 2 ^ 16

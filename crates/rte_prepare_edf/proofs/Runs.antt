@@ -15,7 +15,7 @@ use Rattle.rte_answers.specs.Acts.{CanRunByDeadlines}
 use Rattle.rte_contents.specs.Acting.{CanBeDone}
 use Rattle.rte_edf.specs.Run.{events}
 use Rattle.rte_edf_image.specs.Tasks.{IsAnswer}
-use Rattle.rte_edf_machine.specs.Runnable.{IsRunnable}
+use Rattle.rte_answers.specs.Runnable.{IsRunnable}
 use Rattle.rte_edf_ready.specs.Ready.{EdfImagesAreReady}
 use Rattle.rte_edf_ready.proofs.Joined.{same_run}
 use Rattle.rte_prepare_edf.specs.declared.judging.Subject.{Subject}

@@ -13,13 +13,12 @@ ghost use Rattle.rte_prepare_edf.specs.Judged.{IsSubject, Stops};
 ghost use Rattle.rte_tree.specs.Placed.{placed};
 
 use rte_answers::Act;
-use rte_compile::{TextFault, read_written};
+use rte_compile::{TextFault, checked_programs_are_ready, read_written};
 use rte_contents::{Content, put_fault};
 use rte_demand::Judgement;
 use rte_edf_demands::{ShapeFault, judge_program};
 use rte_edf_text::first_wait;
 use rte_image::RawImage;
-use rte_small::checked_programs_are_ready;
 use rte_static::Checked;
 use rte_tree::Place;
 use std::alloc::{AllocError, Global};

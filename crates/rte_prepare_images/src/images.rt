@@ -16,12 +16,13 @@ ghost use Rattle.rte_contents.specs.Prepared.{Prepares};
 ghost use Rattle.rte_contents.specs.Runnable.{IsRunnable};
 
 use rte_answers::{Act, Status, Store};
-use rte_contents::{Content, LONGEST_IMAGE, Unready, put, read};
+use rte_contents::{
+    Content, LONGEST_IMAGE, Unready, image_fault_line, put, read, valid_fault_line,
+};
 use rte_image::{RawImage, write_image};
 use rte_image_file::{FileFault, load};
 use rte_image_ranges::images_read_can_be_written;
 use rte_io::Files;
-use rte_lines::{image_fault_line, valid_fault_line};
 use rte_plan_laws::law::valid_images_read_are_ready;
 use rte_script_suits::law::scripts_suit;
 use rte_tree::Text;

@@ -20,14 +20,16 @@ ghost use Rattle.rte_prepare_images.specs.Held.{HasNames};
 
 use crate::images::store_image;
 use rte_answers::{Act, Status, Store};
-use rte_contents::{Content, LONGEST_IMAGE, LONGEST_IMAGE_TEXT, Unready, put, read};
+use rte_contents::{
+    Content, LONGEST_IMAGE, LONGEST_IMAGE_TEXT, Unready, image_fault_line, put, read,
+    text_fault_line, valid_fault_line,
+};
 use rte_dis::dis;
 use rte_image::RawImage;
 use rte_image_file::{TextFault, load_text};
 use rte_image_ranges::images_read_can_be_written;
 use rte_image_reading::{ImageFault, read_image};
 use rte_io::Files;
-use rte_lines::{image_fault_line, text_fault_line, valid_fault_line};
 use rte_tree::Text;
 use std::alloc::{AllocError, Global};
 

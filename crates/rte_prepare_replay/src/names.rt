@@ -4,9 +4,9 @@ ghost use Rattle.std.specs.Prelude.{IfOk};
 ghost use Rattle.rte_prepare_replay.specs.Held.{AreNamesFor};
 ghost use Rattle.rte_tree.specs.Placed.{placed};
 
+use rte_built_ready::checked_programs_are_ready;
 use rte_image::ImageNames;
 use rte_image_names::image_names;
-use rte_small::checked_programs_are_ready;
 use rte_static::Checked;
 use std::alloc::{AllocError, Global};
 

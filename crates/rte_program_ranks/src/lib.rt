@@ -9,3 +9,4 @@
 mod ranks;
 
 pub use ranks::ranks_of;
+pub use rte_build::checked_programs_are_ready;

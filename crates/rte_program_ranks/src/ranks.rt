@@ -6,12 +6,10 @@ ghost use Rattle.rte_commands.specs.Source.{IsWritten};
 ghost use Rattle.rte_program_ranks.specs.Told.{ceiling_told};
 ghost use Rattle.rte_tree.specs.Placed.{placed, plain};
 
-use rte_build::ranked;
+use rte_build::{checked_programs_are_ready, generated_code_is_code, ranked};
 use rte_choice::Ranks;
 use rte_image::{RawMon, RawProc};
 use rte_made_ranks::law::{ceilings_are_of_the_meaning, ranks_are_of_the_meaning};
-use rte_small::checked_programs_are_ready;
-use rte_small::law::generated_code_is_code;
 use rte_static::Checked;
 use std::alloc::{AllocError, Global};
 

@@ -8,10 +8,10 @@ use Rattle.rte_emits.specs.Layout.{by_process}
 use Rattle.rte_emits.specs.Numbering.{Text, Called, called_text, routine_calls, numbered}
 use Rattle.rte_wellformed.specs.WellFormed.{IsWellFormed, OptionalFits}
 use Rattle.rte_sound.specs.Passed.{NamesApart}
-use Rattle.rte_whole.specs.Quiet.{NoWait, NoWaits, IsQuietBelow, QuietHandler, AreQuiet}
-use Rattle.rte_numbered.specs.Numbered.{CallsText}
-use Rattle.rte_numbered.proofs.Lists.{contains_here, contains_later, contains_cases, nothing_in}
-use Rattle.rte_numbered.proofs.Numbered.{listed_text}
+use Rattle.rte_sound.specs.Quiet.{NoWait, NoWaits, IsQuietBelow, QuietHandler, AreQuiet}
+use Rattle.rte_sound.specs.Numbered.{CallsText}
+use Rattle.rte_sound.proofs.Lists.{contains_here, contains_later, contains_cases, nothing_in}
+use Rattle.rte_sound.proofs.Numbered.{listed_text}
 use Rattle.rte_sound.proofs.Owners.{process_fits}
 use Rattle.rte_sound.proofs.Sound.{are_numbered, text_sound, part_sound, below, below_all}
 use Rattle.rte_quiet.specs.Quiet.{stmt_waits, stmts_wait, quiet_some, all_quiet, quiet_within, reaches_no_wait, HandlersQuiet, QuietProgramsAreQuiet}

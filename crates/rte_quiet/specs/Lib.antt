@@ -1,3 +1,4 @@
 pub mod Quiet
 pub mod Example
 pub mod Passed
+pub use Rattle.rte_sound.specs.Numbered

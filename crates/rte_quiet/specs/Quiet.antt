@@ -6,7 +6,7 @@ use Rattle.rte_emits.specs.Layout.{by_process}
 use Rattle.rte_emits.specs.Numbering.{Text, Called, called_text, stmts_calls, routine_calls}
 use Rattle.rte_wellformed.specs.WellFormed.{IsWellFormed}
 use Rattle.rte_sound.specs.Passed.{NamesApart}
-use Rattle.rte_whole.specs.Quiet.{AreQuiet}
+use Rattle.rte_sound.specs.Quiet.{AreQuiet}
 
 -- there is a wait among the statements
 abbrev mutual

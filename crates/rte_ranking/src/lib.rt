@@ -13,3 +13,7 @@ mod ranks;
 
 pub use copies::{Times, with_times};
 pub use ranks::rank;
+pub use rte_filled::law::{
+    bounded_images_are_built, late_where_one_is_none, ranked_images_are_shaped,
+};
+pub use rte_valid_times::task_set;

@@ -10,7 +10,7 @@ use Rattle.rte_script.specs.declared.fault.ScriptFault.{ScriptFault}
 use Rattle.rte_script.specs.declared.fault.ScriptFault.TheVariants as script_fault
 use Rattle.rte_script.specs.Scripts.{IsScript}
 use Rattle.rte_script.specs.Faults as scripts
-use Rattle.rte_built.specs.Named.{names_of}
+use Rattle.rte_commands.specs.Named.{names_of}
 use Rattle.rte_log_reading.specs.declared.fault.LogFault.{LogFault}
 use Rattle.rte_log_reading.specs.declared.fault.LogFault.TheVariants as log_fault
 use Rattle.rte_log_reading.specs.Logs.{IsFault, IsLog}

@@ -4,3 +4,6 @@ pub mod Turn
 pub mod Standing
 pub mod Ends
 pub mod Completing
+pub use Rattle.rte_settle.specs.Own
+pub use Rattle.rte_settle.specs.Rows
+pub use Rattle.rte_settle.specs.Settled

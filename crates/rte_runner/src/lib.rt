@@ -20,3 +20,4 @@ mod turn;
 mod waits;
 
 pub use machine::{Machine, Turn};
+pub use rte_settle::{end_row, left, pass, run_row};

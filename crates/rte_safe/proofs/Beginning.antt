@@ -1,11 +1,11 @@
 -- A process that is idle before a tick: it stays idle, or it is released.
 use Rattle.std.proofs.Common.{◌≡◌, ◌*◌, ◌⊎◌, inl, inr, ℕ, Option, Some, None, arith, ap, sym, subst, ◌∙◌, true, false, Bool}
 use Rattle.std.specs.Prelude.{ℤ, slice_get, slice_set, cond, nat_eq}
-use Rattle.rte_event.specs.declared.event.Act.TheVariants as act
-use Rattle.rte_machine_meaning.specs.Image.{Image, Process, Script}
-use Rattle.rte_machine_meaning.specs.State.{Thread, Idle, Ready, Waiting, State}
-use Rattle.rte_machine_meaning.specs.Starts.{unchanged, told, released, release, release_thread, time_out, raised, without, queue_of, starts}
-use Rattle.rte_machine_meaning.specs.Tick.{Candidate, least, pick, run_picked, tick}
+use Rattle.rte_machine_laws.specs.Act.TheVariants as act
+use Rattle.rte_machine_laws.specs.Image.{Image, Process, Script}
+use Rattle.rte_machine_laws.specs.State.{Thread, Idle, Ready, Waiting, State}
+use Rattle.rte_machine_laws.specs.Starts.{unchanged, told, released, release, release_thread, time_out, raised, without, queue_of, starts}
+use Rattle.rte_machine_laws.specs.Tick.{Candidate, least, pick, run_picked, tick}
 use Rattle.rte_safe_terms.specs.Walk.{Where}
 use Rattle.rte_safe_terms.specs.Safe.{Parts, ImageFits}
 use Rattle.rte_safe_terms.specs.Whole.{StateFits}

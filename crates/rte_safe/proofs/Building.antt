@@ -1,6 +1,6 @@
 -- Helpers to show that given code is of its tree.
 use Rattle.std.proofs.Common.{◌≡◌, ◌≤◌, ℕ, arith, refl, sym}
-use Rattle.rte_machine_meaning.specs.Image.{Process}
+use Rattle.rte_machine_laws.specs.Image.{Process}
 use Rattle.rte_safe_terms.specs.Walk.{Cost, Covers}
 use Rattle.rte_safe_terms.specs.Safe.{IsOwn}
 use Rattle.rte_safe.specs.Example.{own_part}

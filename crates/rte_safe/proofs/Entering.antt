@@ -2,11 +2,11 @@
 use Rattle.std.proofs.Common.{◌≡◌, ◌+◌, inl, inr, ℕ, zero, suc, List, Option, Some, None, length, arith, refl, ap, sym, subst, ◌∙◌}
 use Rattle.std.specs.Prelude.{ℤ, slice_get, slice_set}
 use Rattle.rte_isa.specs.declared.instr.Instr.TheVariants as i
-use Rattle.rte_machine_meaning.specs.Image.{Process, Script}
-use Rattle.rte_machine_meaning.specs.State.{Job, Thread, Idle, Ready, Waiting, State}
-use Rattle.rte_machine_meaning.specs.Effect.{Own, Outcome, Goes, Does, Signals, Broadcasts, Waits, Raises, Ends, Stuck}
-use Rattle.rte_machine_meaning.specs.Starts.{raised, queue_of, starts}
-use Rattle.rte_machine_meaning.specs.Tick.{Candidate, least, pick, first, settle, outcome, owned_of, run_thread, run_picked, tick}
+use Rattle.rte_machine_laws.specs.Image.{Process, Script}
+use Rattle.rte_machine_laws.specs.State.{Job, Thread, Idle, Ready, Waiting, State}
+use Rattle.rte_machine_laws.specs.Effect.{Own, Outcome, Goes, Does, Signals, Broadcasts, Waits, Raises, Ends, Stuck}
+use Rattle.rte_machine_laws.specs.Starts.{raised, queue_of, starts}
+use Rattle.rte_machine_laws.specs.Tick.{Candidate, least, pick, first, settle, outcome, owned_of, run_thread, run_picked, tick}
 use Rattle.rte_safe_terms.specs.Part.{Part}
 use Rattle.rte_safe_terms.specs.Walk.{Where, Cost, Reaches, within}
 use Rattle.rte_safe_terms.specs.Safe.{Parts, ImageFits, Ticks, TickFits, part_of}

@@ -3,10 +3,10 @@ use Rattle.std.proofs.Common.{◌≡◌, ◌≤◌, ◌+◌, ◌*◌, ◌⊎◌,
 use Rattle.std.specs.Prelude.{cond, pos}
 use Rattle.rte_isa.specs.declared.instr.Instr.{Instr}
 use Rattle.rte_isa.specs.declared.instr.Instr.TheVariants as i
-use Rattle.rte_num.specs.Words.{is_zero}
-use Rattle.rte_machine_meaning.specs.Trees.{Segs, Line, Fork, Rep, Exit, Nil, Cons}
-use Rattle.rte_machine_meaning.specs.State.{Operand, Value, Counter, State}
-use Rattle.rte_machine_meaning.specs.Effect.{Own, Outcome, Goes, Does, Signals, Broadcasts, Waits, Raises, Ends, Stuck, effect, holding, go_to, count_down, drop_counter}
+use Rattle.rte_machine_laws.specs.Words.{is_zero}
+use Rattle.rte_machine_laws.specs.Trees.{Segs, Line, Fork, Rep, Exit, Nil, Cons}
+use Rattle.rte_machine_laws.specs.State.{Operand, Value, Counter, State}
+use Rattle.rte_machine_laws.specs.Effect.{Own, Outcome, Goes, Does, Signals, Broadcasts, Waits, Raises, Ends, Stuck, effect, holding, go_to, count_down, drop_counter}
 use Rattle.rte_isa.specs.Ticks.{ticks}
 use Rattle.rte_isa.specs.Operands.{takes, gives}
 use Rattle.rte_safe_terms.specs.Part.{Kind, Plain, Counts, kinds, plains, IsSized}

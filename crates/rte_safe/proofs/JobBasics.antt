@@ -3,8 +3,8 @@ use Rattle.std.proofs.Common.{◌≡◌, ◌≤◌, ◌+◌, ◌-◌, inl, inr, 
 use Rattle.std.specs.Prelude.{nat_eq}
 use Rattle.std.proofs.lemmas.Bool.Decides.{nat_tests}
 use Rattle.rte_isa.specs.declared.instr.Instr.{Instr}
-use Rattle.rte_machine_meaning.specs.State.{Caller, State}
-use Rattle.rte_machine_meaning.specs.Effect.{Own, Outcome, Goes, Does, Signals, Broadcasts, Waits, Raises, Ends, Stuck, effect, waits}
+use Rattle.rte_machine_laws.specs.State.{Caller, State}
+use Rattle.rte_machine_laws.specs.Effect.{Own, Outcome, Goes, Does, Signals, Broadcasts, Waits, Raises, Ends, Stuck, effect, waits}
 use Rattle.rte_isa.specs.Ticks.{ticks}
 use Rattle.rte_safe_terms.specs.Part.{Part}
 use Rattle.rte_safe_terms.specs.Laws.{GoesOn}

@@ -3,11 +3,11 @@ use Rattle.std.proofs.Common.{◌≡◌, ◌≤◌, ◌+◌, ◌-◌, inl, inr, 
 use Rattle.std.specs.Prelude.{ℤ, pos}
 use Rattle.rte_isa.specs.declared.instr.Instr.{Instr}
 use Rattle.rte_isa.specs.declared.instr.Instr.TheVariants as i
-use Rattle.rte_machine_meaning.specs.Trees.{Segs, Line, Fork, Rep, Call, Stay, Wait, Exit}
-use Rattle.rte_machine_meaning.specs.Image.{Routine}
-use Rattle.rte_machine_meaning.specs.State.{Operand, Value, Counter, Caller, State, is_free, is_inside, zeros}
-use Rattle.rte_machine_meaning.specs.Effect.{Own, holding, take_one, one, give, arguments, called, call, back, enters, leaves, wait, waits}
-use Rattle.rte_machine_meaning.specs.Tick.{at_next}
+use Rattle.rte_machine_laws.specs.Trees.{Segs, Line, Fork, Rep, Call, Stay, Wait, Exit}
+use Rattle.rte_machine_laws.specs.Image.{Routine}
+use Rattle.rte_machine_laws.specs.State.{Operand, Value, Counter, Caller, State, is_free, is_inside, zeros}
+use Rattle.rte_machine_laws.specs.Effect.{Own, holding, take_one, one, give, arguments, called, call, back, enters, leaves, wait, waits}
+use Rattle.rte_machine_laws.specs.Tick.{at_next}
 use Rattle.rte_safe_terms.specs.Part.{Part, Kind, Plain, kinds, plains, IsSized}
 use Rattle.rte_safe_terms.specs.Walk.{Where, Cost, Reaches, Walk, within}
 use Rattle.rte_safe_terms.specs.Path.{Step, Segment, Skip, Again, Leaves, under, held, then_rest, Follows, Frame, Returning, next_own}

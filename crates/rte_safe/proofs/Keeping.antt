@@ -1,13 +1,13 @@
 -- Each process keeps as many words as it declares.
 use Rattle.std.proofs.Common.{◌≡◌, ◌*◌, ℕ, zero, suc, List, [], ◌∷◌, Option, Some, None, length, map, arith, refl, ap, sym, subst, ◌∙◌, true, false, Bool}
 use Rattle.std.specs.Prelude.{ℤ, slice_get, slice_set, cond, nat_eq}
-use Rattle.rte_event.specs.declared.event.Act.TheVariants as act
-use Rattle.rte_machine_meaning.specs.Image.{Process, Script}
-use Rattle.rte_machine_meaning.specs.State.{Job, Thread, Idle, Ready, Waiting, State, zeros}
-use Rattle.rte_machine_meaning.specs.Effect.{Outcome, Goes, Does, Signals, Broadcasts, Waits, Raises, Ends, Stuck}
-use Rattle.rte_machine_meaning.specs.Starts.{unchanged, told, release, release_thread, time_out, raised, without, queue_of, starts}
-use Rattle.rte_machine_meaning.specs.Tick.{Candidate, least, pick, settle, outcome, owned_of, run_thread, run_picked, tick}
-use Rattle.rte_machine_meaning.specs.Run.{at_start, state_at}
+use Rattle.rte_machine_laws.specs.Act.TheVariants as act
+use Rattle.rte_machine_laws.specs.Image.{Process, Script}
+use Rattle.rte_machine_laws.specs.State.{Job, Thread, Idle, Ready, Waiting, State, zeros}
+use Rattle.rte_machine_laws.specs.Effect.{Outcome, Goes, Does, Signals, Broadcasts, Waits, Raises, Ends, Stuck}
+use Rattle.rte_machine_laws.specs.Starts.{unchanged, told, release, release_thread, time_out, raised, without, queue_of, starts}
+use Rattle.rte_machine_laws.specs.Tick.{Candidate, least, pick, settle, outcome, owned_of, run_thread, run_picked, tick}
+use Rattle.rte_machine_laws.specs.Run.{at_start, state_at}
 use Rattle.rte_safe_terms.specs.Walk.{Where, Cost}
 use Rattle.rte_safe_terms.specs.Safe.{Parts, ImageFits, TickFits}
 use Rattle.rte_safe_terms.specs.Whole.{ThreadFits, StateFits, WordsFit, RunKeepsWords}

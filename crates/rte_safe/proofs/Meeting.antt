@@ -3,8 +3,8 @@ use Rattle.std.proofs.Common.{◌≡◌, ◌≤◌, ◌+◌, inl, inr, ℕ, zero
 use Rattle.std.specs.Prelude.{pos, slice_get}
 use Rattle.rte_isa.specs.declared.instr.Instr.{Instr}
 use Rattle.rte_isa.specs.declared.instr.Instr.TheVariants as i
-use Rattle.rte_machine_meaning.specs.Trees.{Line, Call, Stay, Wait, Nil, Cons}
-use Rattle.rte_machine_meaning.specs.Image.{Monitor, Routine, Process}
+use Rattle.rte_machine_laws.specs.Trees.{Line, Call, Stay, Wait, Nil, Cons}
+use Rattle.rte_machine_laws.specs.Image.{Monitor, Routine, Process}
 use Rattle.rte_safe_terms.specs.Walk.{At, Walks, within}
 use Rattle.rte_safe_terms.specs.Job.{RoutineFits, RoutinesFit}
 use Rattle.rte_safe_terms.specs.Safe.{ProcessFits}

@@ -4,10 +4,10 @@ use Rattle.std.specs.Prelude.{slice_get, cond, ℤ, pos, negsuc, ◌+ℤ◌, ◌
 use Rattle.std.proofs.lemmas.Bool.{cases_Bool}
 use Rattle.std.proofs.lemmas.Bool.Decides.{nat_tests}
 use Rattle.rte_isa.specs.declared.instr.Instr.TheVariants as i
-use Rattle.rte_num.specs.Words.{Answer, word, raised}
-use Rattle.rte_machine_meaning.specs.Image.{Image, Monitor}
-use Rattle.rte_machine_meaning.specs.State.{Operand, Value, Counter, State}
-use Rattle.rte_machine_meaning.specs.Effect.{Own, Outcome, Goes, Raises, Stuck, holding, give, take_one, one, two, answer, word_at, load, store, set_local, set_own, set_shared, is_among_some, is_reached, load_mon, store_mon, element, queue, signal, broadcast, empty, get, put}
+use Rattle.rte_machine_laws.specs.Words.{Answer, word, raised}
+use Rattle.rte_machine_laws.specs.Image.{Image, Monitor}
+use Rattle.rte_machine_laws.specs.State.{Operand, Value, Counter, State}
+use Rattle.rte_machine_laws.specs.Effect.{Own, Outcome, Goes, Raises, Stuck, holding, give, take_one, one, two, answer, word_at, load, store, set_local, set_own, set_shared, is_among_some, is_reached, load_mon, store_mon, element, queue, signal, broadcast, empty, get, put}
 use Rattle.rte_safe_terms.specs.Part.{Part, Kind, Plain, kinds, IsSized, IsBelow}
 use Rattle.rte_safe_terms.specs.Laws.{GoesOn, After, IsIn, PlainIsSafe}
 

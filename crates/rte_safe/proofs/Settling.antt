@@ -1,11 +1,11 @@
 -- The tick of the process that runs keeps the state so, and is not stuck.
 use Rattle.std.proofs.Common.{◌≡◌, ◌≤◌, ◌<◌, ◌+◌, ◌*◌, ◌⊎◌, ◌++◌, inl, inr, ℕ, zero, suc, List, [], ◌∷◌, Option, Some, None, length, arith, refl, ap, sym, subst, ◌∙◌, true, false, Bool, length-set}
 use Rattle.std.specs.Prelude.{ℤ, slice_get, slice_set}
-use Rattle.rte_machine_meaning.specs.Image.{Process}
-use Rattle.rte_machine_meaning.specs.State.{Job, Thread, Idle, Ready, Waiting, State}
-use Rattle.rte_machine_meaning.specs.Effect.{Own, Outcome, Goes, Does, Signals, Broadcasts, Waits, Raises, Ends, Stuck}
-use Rattle.rte_machine_meaning.specs.Starts.{starts, raised, queue_of}
-use Rattle.rte_machine_meaning.specs.Tick.{Candidate, active_rank, outside, least, pick, woken, wake, wake_all, first, rest, wake_first, settle, outcome, owned_of, run_thread, run_picked, tick}
+use Rattle.rte_machine_laws.specs.Image.{Process}
+use Rattle.rte_machine_laws.specs.State.{Job, Thread, Idle, Ready, Waiting, State}
+use Rattle.rte_machine_laws.specs.Effect.{Own, Outcome, Goes, Does, Signals, Broadcasts, Waits, Raises, Ends, Stuck}
+use Rattle.rte_machine_laws.specs.Starts.{starts, raised, queue_of}
+use Rattle.rte_machine_laws.specs.Tick.{Candidate, active_rank, outside, least, pick, woken, wake, wake_all, first, rest, wake_first, settle, outcome, owned_of, run_thread, run_picked, tick}
 use Rattle.rte_safe_terms.specs.Walk.{Where, Cost}
 use Rattle.rte_safe_terms.specs.Safe.{Parts, ProcessFits, ImageFits, ReadyFits, WaitingFits, Ticks, TickFits, part_of}
 use Rattle.rte_safe_terms.specs.Whole.{ThreadFits, ceiling_of, StateFits, EveryTickIsSafe}

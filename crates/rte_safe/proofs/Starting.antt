@@ -1,11 +1,11 @@
 -- The start of a tick keeps the state so.
 use Rattle.std.proofs.Common.{◌≡◌, ◌≤◌, ◌+◌, ◌*◌, inl, inr, ℕ, zero, suc, List, [], ◌∷◌, Option, Some, None, length, arith, refl, ap, subst, ◌∙◌, true, false, Bool, length-set}
 use Rattle.std.specs.Prelude.{ℤ, slice_get, slice_set, cond, nat_eq, ◌&&◌}
-use Rattle.rte_event.specs.declared.event.Act.TheVariants as act
-use Rattle.rte_machine_meaning.specs.Image.{Process, Script, Line, Sets, Occurs, end_of}
-use Rattle.rte_machine_meaning.specs.State.{Job, Thread, Idle, Ready, Waiting, State, zeros}
-use Rattle.rte_machine_meaning.specs.Starts.{Started, unchanged, told, released, release_thread, release, occurs, line, lines, is_periodic_due, periodic, raised, without, queue_of, time_out, at_rank, time_outs, starts}
-use Rattle.rte_machine_meaning.specs.Tick.{owned_of}
+use Rattle.rte_machine_laws.specs.Act.TheVariants as act
+use Rattle.rte_machine_laws.specs.Image.{Process, Script, Line, Sets, Occurs, end_of}
+use Rattle.rte_machine_laws.specs.State.{Job, Thread, Idle, Ready, Waiting, State, zeros}
+use Rattle.rte_machine_laws.specs.Starts.{Started, unchanged, told, released, release_thread, release, occurs, line, lines, is_periodic_due, periodic, raised, without, queue_of, time_out, at_rank, time_outs, starts}
+use Rattle.rte_machine_laws.specs.Tick.{owned_of}
 use Rattle.rte_safe_terms.specs.Walk.{Where, Cost}
 use Rattle.rte_safe_terms.specs.Safe.{Parts, ProcessFits, ImageFits, ReadyFits, own_of, part_of, spare}
 use Rattle.rte_safe_terms.specs.Work.{worst_of}

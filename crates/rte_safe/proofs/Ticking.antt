@@ -4,13 +4,13 @@ use Rattle.std.specs.Prelude.{slice_get, cond, ℤ, nat_lt, not, ◌&&◌}
 use Rattle.std.proofs.lemmas.Bool.{cases_Bool, ltb-true, ltb-false}
 use Rattle.rte_isa.specs.declared.instr.Instr.{Instr}
 use Rattle.rte_isa.specs.declared.instr.Instr.TheVariants as i
-use Rattle.rte_machine_meaning.specs.Trees.{Segs}
-use Rattle.rte_machine_meaning.specs.Image.{Process, end_of}
-use Rattle.rte_machine_meaning.specs.State.{Caller, Job, own_locals}
-use Rattle.rte_machine_meaning.specs.Effect.{Own, Outcome, Goes, Does, Signals, Broadcasts, Waits, Raises, Ends, Stuck, effect}
+use Rattle.rte_machine_laws.specs.Trees.{Segs}
+use Rattle.rte_machine_laws.specs.Image.{Process, end_of}
+use Rattle.rte_machine_laws.specs.State.{Caller, Job, own_locals}
+use Rattle.rte_machine_laws.specs.Effect.{Own, Outcome, Goes, Does, Signals, Broadcasts, Waits, Raises, Ends, Stuck, effect}
 use Rattle.rte_isa.specs.Ticks.{ticks}
-use Rattle.rte_machine_meaning.specs.Starts.{raised, lists}
-use Rattle.rte_machine_meaning.specs.Tick.{outcome_at}
+use Rattle.rte_machine_laws.specs.Starts.{raised, lists}
+use Rattle.rte_machine_laws.specs.Tick.{outcome_at}
 use Rattle.rte_safe_terms.specs.Part.{Part, Kind, kinds}
 use Rattle.rte_safe_terms.specs.Walk.{Where, Cost, At, Walks, within}
 use Rattle.rte_safe_terms.specs.Path.{Step, under, then_rest, Follows, Returning, next_own}

@@ -3,12 +3,12 @@ use Rattle.std.proofs.Common.{◌≡◌, ◌≤◌, ◌+◌, ◌-◌, ◌*◌, �
 use Rattle.std.specs.Prelude.{ℤ, slice_get, slice_set, cond, nat_eq}
 use Rattle.std.proofs.lemmas.Bool.{cases_Bool}
 use Rattle.std.proofs.lemmas.Bool.Decides.{nat_tests}
-use Rattle.rte_event.specs.declared.event.Act.TheVariants as act
-use Rattle.rte_machine_meaning.specs.Image.{Process, Script}
-use Rattle.rte_machine_meaning.specs.State.{Job, Thread, Idle, Ready, Waiting, State}
-use Rattle.rte_machine_meaning.specs.Effect.{Own, Outcome, Goes, Does, Signals, Broadcasts, Waits, Raises, Ends, Stuck}
-use Rattle.rte_machine_meaning.specs.Starts.{Started, unchanged, told, released, release, release_thread, time_out, raised, without, queue_of, starts}
-use Rattle.rte_machine_meaning.specs.Tick.{Candidate, least, pick, woken, wake, wake_all, first, rest, wake_first, settle, outcome, owned_of, run_thread, run_picked, tick}
+use Rattle.rte_machine_laws.specs.Act.TheVariants as act
+use Rattle.rte_machine_laws.specs.Image.{Process, Script}
+use Rattle.rte_machine_laws.specs.State.{Job, Thread, Idle, Ready, Waiting, State}
+use Rattle.rte_machine_laws.specs.Effect.{Own, Outcome, Goes, Does, Signals, Broadcasts, Waits, Raises, Ends, Stuck}
+use Rattle.rte_machine_laws.specs.Starts.{Started, unchanged, told, released, release, release_thread, time_out, raised, without, queue_of, starts}
+use Rattle.rte_machine_laws.specs.Tick.{Candidate, least, pick, woken, wake, wake_all, first, rest, wake_first, settle, outcome, owned_of, run_thread, run_picked, tick}
 use Rattle.rte_safe_terms.specs.Walk.{Where, Cost}
 use Rattle.rte_safe_terms.specs.Safe.{Parts, ImageFits, ReadyFits, Ticks, TickFits, own_of, part_of, spare}
 use Rattle.rte_safe_terms.specs.Whole.{StateFits}

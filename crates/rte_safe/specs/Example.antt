@@ -2,10 +2,10 @@
 use Rattle.std.specs.Prelude.{◌≡◌, ℕ, zero, suc, true, false, List, [], ◌∷◌, Some, None}
 use Rattle.rte_isa.specs.declared.instr.Instr.{Instr}
 use Rattle.rte_isa.specs.declared.instr.Instr.TheVariants as i
-use Rattle.rte_machine_meaning.specs.Trees.{Line, Fork, Rep, Call, Exit, Nil, Cons}
-use Rattle.rte_machine_meaning.specs.Image.{Image, Routine, Process, Script}
-use Rattle.rte_machine_meaning.specs.Tick.{tick}
-use Rattle.rte_machine_meaning.specs.Run.{state_at}
+use Rattle.rte_machine_laws.specs.Trees.{Line, Fork, Rep, Call, Exit, Nil, Cons}
+use Rattle.rte_machine_laws.specs.Image.{Image, Routine, Process, Script}
+use Rattle.rte_machine_laws.specs.Tick.{tick}
+use Rattle.rte_machine_laws.specs.Run.{state_at}
 use Rattle.rte_machine_laws.specs.Example.{waiter_and_signaller}
 use Rattle.rte_safe_terms.specs.Part.{Part}
 use Rattle.rte_safe_terms.specs.Walk.{Where, Cost}

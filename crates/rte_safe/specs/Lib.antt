@@ -1,1 +1,11 @@
 pub mod Example
+pub use Rattle.rte_safe_terms.specs.Walk
+pub use Rattle.rte_safe_terms.specs.Safe
+pub use Rattle.rte_safe_terms.specs.Work
+pub use Rattle.rte_safe_terms.specs.Waits
+pub use Rattle.rte_safe_terms.specs.Whole
+pub use Rattle.rte_safe_terms.specs.Path
+pub use Rattle.rte_safe_terms.specs.Job
+pub use Rattle.rte_safe_terms.specs.Stays
+pub use Rattle.rte_isa.specs.declared.instr.Instr
+pub use Rattle.rte_safe_terms.specs.Queues

@@ -1,11 +1,11 @@
 -- A process that fits its trees: its innermost frame, and its calls in progress.
 use Rattle.std.specs.Prelude.{◌≡◌, ◌≤◌, ◌+◌, ◌⊎◌, ℕ, true, List, [], ◌∷◌, length, Option, Some, None, slice_get}
-use Rattle.rte_isa.specs.declared.instr.Instr.{Instr}
-use Rattle.rte_isa.specs.declared.instr.Instr.TheVariants as i
+use Rattle.rte_machine_meaning.specs.Instr.{Instr}
+use Rattle.rte_machine_meaning.specs.Instr.TheVariants as i
 use Rattle.rte_machine_meaning.specs.Image.{Monitor, Routine}
 use Rattle.rte_machine_meaning.specs.State.{Caller, State, is_free}
 use Rattle.rte_machine_meaning.specs.Effect.{Own, Outcome, Goes, Does, Signals, Broadcasts, Waits, Raises, Ends, Stuck, effect}
-use Rattle.rte_isa.specs.Ticks.{ticks}
+use Rattle.rte_machine_meaning.specs.Ticks.{ticks}
 use Rattle.rte_safe_terms.specs.Part.{Part, kinds, plains, IsSized}
 use Rattle.rte_safe_terms.specs.Walk.{Where, Cost, Covers, At, Reaches, Walks, within}
 use Rattle.rte_safe_terms.specs.Path.{Step, under, held, Follows, Frame, Returning, next_own}

@@ -1,10 +1,10 @@
 -- What a plain instruction, one that may stand in a Line, comes to.
 use Rattle.std.specs.Prelude.{◌≡◌, ◌≤◌, ◌⊎◌, List, length, None}
-use Rattle.rte_isa.specs.declared.instr.Instr.{Instr}
+use Rattle.rte_machine_meaning.specs.Instr.{Instr}
 use Rattle.rte_machine_meaning.specs.Image.{Image}
 use Rattle.rte_machine_meaning.specs.State.{State}
 use Rattle.rte_machine_meaning.specs.Effect.{Own, Outcome, Goes, Does, Signals, Broadcasts, Waits, Raises, Ends, Stuck, effect}
-use Rattle.rte_isa.specs.Operands.{takes, gives}
+use Rattle.rte_machine_meaning.specs.Operands.{takes, gives}
 use Rattle.rte_safe_terms.specs.Part.{Part, Kind, kinds, plains, IsPlain, IsSized}
 
 -- the outcome goes on with a process of which this holds, or raises

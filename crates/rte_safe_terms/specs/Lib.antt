@@ -9,3 +9,5 @@ pub mod Work
 pub mod Stays
 pub mod Queues
 pub mod Waits
+pub use Rattle.rte_machine_meaning.specs.Trees
+pub use Rattle.rte_machine_meaning.specs.Image

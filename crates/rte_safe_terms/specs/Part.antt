@@ -1,8 +1,8 @@
 -- What a valid image keeps to at each instruction of a part. A part is a routine, the body or the
 -- handler of a process: a piece of code that runs in one frame.
 use Rattle.std.specs.Prelude.{◌≡◌, ◌≤◌, ◌<◌, ◌+◌, ℕ, zero, suc, ℤ, pos, List, [], ◌∷◌, length, Option, Some, slice_get}
-use Rattle.rte_isa.specs.declared.instr.Instr.{Instr}
-use Rattle.rte_isa.specs.declared.instr.Instr.TheVariants as i
+use Rattle.rte_machine_meaning.specs.Instr.{Instr}
+use Rattle.rte_machine_meaning.specs.Instr.TheVariants as i
 use Rattle.rte_machine_meaning.specs.Image.{Image, Monitor}
 use Rattle.rte_machine_meaning.specs.State.{Operand, Value, Counter, State}
 

@@ -1,7 +1,7 @@
 -- What is still to be done in a frame: a list of steps. The first of them tells what the present
 -- instruction is, and all of them together which operands stand in the frame.
 use Rattle.std.specs.Prelude.{◌≡◌, ◌≤◌, ◌+◌, ◌*◌, ℕ, suc, pos, List, [], ◌∷◌, length, Option, Some, None}
-use Rattle.rte_isa.specs.declared.instr.Instr.TheVariants as i
+use Rattle.rte_machine_meaning.specs.Instr.TheVariants as i
 use Rattle.rte_machine_meaning.specs.Trees.{Seg, Segs, Nil, Cons}
 use Rattle.rte_machine_meaning.specs.Effect.{Own}
 use Rattle.rte_machine_meaning.specs.Tick.{at_next}

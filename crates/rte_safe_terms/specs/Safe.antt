@@ -1,12 +1,12 @@
 -- A valid image, as far as no process is stuck; a process of it, and one tick of this process.
 use Rattle.std.specs.Prelude.{◌≡◌, ◌≤◌, ◌<◌, ◌+◌, ◌⊎◌, ℕ, Bool, true, false, ℤ, List, length, Option, Some, None, slice_get}
-use Rattle.rte_isa.specs.declared.instr.Instr.{Instr}
-use Rattle.rte_isa.specs.declared.instr.Instr.TheVariants as i
+use Rattle.rte_machine_meaning.specs.Instr.{Instr}
+use Rattle.rte_machine_meaning.specs.Instr.TheVariants as i
 use Rattle.rte_machine_meaning.specs.Trees.{Segs}
 use Rattle.rte_machine_meaning.specs.Image.{Monitor, Process, end_of}
 use Rattle.rte_machine_meaning.specs.State.{Job, State}
 use Rattle.rte_machine_meaning.specs.Effect.{Own, Outcome, Goes, Does, Signals, Broadcasts, Waits, Raises, Ends, Stuck}
-use Rattle.rte_isa.specs.Ticks.{ticks}
+use Rattle.rte_machine_meaning.specs.Ticks.{ticks}
 use Rattle.rte_machine_meaning.specs.Starts.{raised, lists}
 use Rattle.rte_machine_meaning.specs.Tick.{outcome_at}
 use Rattle.rte_machine_meaning.specs.Run.{words_of}

@@ -1,12 +1,12 @@
 -- Code that is of its tree. A list of segments covers the code from one place to the next, leads
 -- from one height to another, and comes at most to a cost.
 use Rattle.std.specs.Prelude.{◌≡◌, ◌≤◌, ◌+◌, ◌*◌, ◌⊎◌, ℕ, zero, suc, pos, Option, Some, None, slice_get}
-use Rattle.rte_isa.specs.declared.instr.Instr.{Instr}
-use Rattle.rte_isa.specs.declared.instr.Instr.TheVariants as i
+use Rattle.rte_machine_meaning.specs.Instr.{Instr}
+use Rattle.rte_machine_meaning.specs.Instr.TheVariants as i
 use Rattle.rte_machine_meaning.specs.Trees.{Seg, Segs, Line, Fork, Rep, Call, Stay, Wait, Exit, Nil, Cons}
 use Rattle.rte_machine_meaning.specs.Image.{Image, Monitor, Routine}
-use Rattle.rte_isa.specs.Ticks.{ticks}
-use Rattle.rte_isa.specs.Operands.{takes, gives}
+use Rattle.rte_machine_meaning.specs.Ticks.{ticks}
+use Rattle.rte_machine_meaning.specs.Operands.{takes, gives}
 use Rattle.rte_safe_terms.specs.Part.{Part, IsPlain}
 
 -- ticks of execution, ticks of suspension, waits; and ticks of execution until the monitor is left

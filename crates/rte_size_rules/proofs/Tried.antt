@@ -6,8 +6,8 @@ use Rattle.rte_tree.specs.Parts.{processes}
 use Rattle.rte_tree.specs.Plain as plain_of
 use Rattle.rte_tree.specs.declared.place.Place.{Place}
 use Rattle.rte_rules.specs.First.{Before, IsFirstOf}
-use Rattle.rte_emits.specs.Layout.{Owner, by_program, by_process, loops}
-use Rattle.rte_emits.specs.Numbering.{numbered, visit}
+use Rattle.rte_costs.specs.Layout.{Owner, by_program, by_process, loops}
+use Rattle.rte_costs.specs.Numbering.{numbered, visit}
 use Rattle.rte_costs.specs.Names.{Names, Calls}
 use Rattle.rte_costs.specs.Heights.{stmts_height}
 use Rattle.rte_costs.specs.Lengths.{stmts_length}

@@ -4,7 +4,7 @@ use Rattle.rte_tree.specs.Placed.{Routine, Process, Decl, constant, device, even
 use Rattle.rte_tree.specs.Parts.{processes}
 use Rattle.rte_tree.specs.Plain as plain_of
 use Rattle.rte_tree.specs.declared.place.Place.{Place}
-use Rattle.rte_emits.specs.Layout.{Owner, by_program, by_process, by_monitor, routine_words}
+use Rattle.rte_costs.specs.Layout.{Owner, by_program, by_process, by_monitor, routine_words}
 use Rattle.rte_costs.specs.Heights.{routine_height}
 use Rattle.rte_costs.specs.Levels.{calls_of, stack_of_process, code_length}
 

@@ -9,7 +9,7 @@ use Rattle.rte_costs.specs.Heights.{routine_height}
 use Rattle.rte_costs.specs.Levels.{calls_of, code_length}
 use Rattle.rte_numbered.specs.Numbered.{AreNumbered}
 use Rattle.rte_generated_runs.specs.Checked.{CheckedProgramsAreReady}
-use Rattle.rte_made_fits.specs.Fitting.{FramesFit}
+use Rattle.rte_generated_runs.specs.Fitting.{FramesFit}
 use Rattle.rte_size_rules.specs.Rules.{routine_stack, texts_from}
 use Rattle.rte_generated_runs.specs.Runs.{CheckedCodeIsCode, CheckedCodeIsFaithful}
 use Rattle.rte_small.specs.Small.{KeepsSizes, ProgramsThatKeepSizesAreSmall, GeneratedCodeIsCode, GeneratedCodeIsFaithful}

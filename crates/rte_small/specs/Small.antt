@@ -4,11 +4,11 @@ use Rattle.rte_tree.specs.Plain.{Name}
 use Rattle.rte_tree.specs.Placed.{Prog, plain}
 use Rattle.rte_tree.specs.declared.place.Place.{Place}
 use Rattle.rte_machine_meaning.specs.Image as image
-use Rattle.rte_static.specs.Static.{IsChecked}
+use Rattle.rte_generated_runs.specs.Static.{IsChecked}
 use Rattle.rte_emits.specs.Compiled.{IsCodeOf}
 use Rattle.rte_boundary.specs.Boundary.{Compiled, IsFaithful}
 use Rattle.rte_faithful.specs.Process.{FreeHolds, RestHolds, StandsFor}
-use Rattle.rte_ruled.specs.Ruled.{runs_of}
+use Rattle.rte_generated_runs.specs.Ruled.{runs_of}
 use Rattle.rte_size_rules.specs.Rules.{SizeFails}
 use Rattle.rte_generated_runs.specs.Runs.{IsSmallEnough, HoldsMade, IsProcessOf}
 

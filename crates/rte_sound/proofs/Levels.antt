@@ -9,10 +9,10 @@ use Rattle.rte_source_meaning.specs.Run.{Home, of_program, of_process, of_monito
 use Rattle.rte_source_meaning.specs.Nesting.{ExprBelow, ExprsBelow, OperandsBelow, RefBelow, StmtBelow, StmtsBelow, AnswersBelow, Levels}
 use Rattle.rte_emits.specs.Layout.{Owner, by_program, by_process, by_monitor}
 use Rattle.rte_emits.specs.Numbering.{Text, routine_of, process_routines, entry_of, Called, calls_routine, calls_entry, called_text, expr_calls, exprs_calls, row_calls, ref_calls, stmt_calls, stmts_calls, answers_calls, routine_calls}
-use Rattle.rte_wellformed.specs.Here.{in_routine}
-use Rattle.rte_wellformed.specs.Statements.{may_call}
-use Rattle.rte_wellformed.specs.WellFormed.{IsWellFormed, RoutineFits}
-use Rattle.rte_linked.proofs.Numbers.{none_some, some_same, found_name, IsText, of_list, called_is_text}
+use Rattle.rte_called.specs.Here.{in_routine}
+use Rattle.rte_called.specs.Statements.{may_call}
+use Rattle.rte_called.specs.WellFormed.{IsWellFormed, RoutineFits}
+use Rattle.rte_numbered.proofs.Numbers.{none_some, some_same, found_name, IsText, of_list, called_is_text}
 use Rattle.rte_ruled.specs.Ruled.{NamesApart}
 use Rattle.rte_numbered.specs.Numbered.{texts, CallsText, AreLevels}
 use Rattle.rte_numbered.proofs.Lists.{count_lt}

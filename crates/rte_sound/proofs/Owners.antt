@@ -9,8 +9,8 @@ use Rattle.rte_emits.specs.Layout.{Owner, by_program, by_process, by_monitor, ho
 use Rattle.rte_emits.specs.Numbering.{Text, routine_of, process_routines, routine_in, entry_of, entry_in, Called, calls_routine, calls_entry, routine_calls}
 use Rattle.rte_stands.specs.Memory.{Setting}
 use Rattle.rte_stands.specs.Proper.{found_of}
-use Rattle.rte_wellformed.specs.WellFormed.{IsWellFormed, RoutineFits, ProcessFits}
-use Rattle.rte_linked.proofs.Numbers.{none_some, some_same, IsText, found_there, of_list}
+use Rattle.rte_called.specs.WellFormed.{IsWellFormed, RoutineFits, ProcessFits}
+use Rattle.rte_numbered.proofs.Numbers.{none_some, some_same, IsText, found_there, of_list}
 use Rattle.rte_ruled.specs.Ruled.{AllOfProgram, NamesApart}
 use Rattle.rte_ruled.proofs.Mirror.{OwnerKnown}
 use Rattle.rte_ruled.proofs.Rules.{one_of}

@@ -6,11 +6,11 @@ use Rattle.rte_source_meaning.specs.Names.{processes}
 use Rattle.rte_emits.specs.Layout.{Owner, by_process, home_of}
 use Rattle.rte_emits.specs.Numbering.{Text, Called, calls_routine, calls_entry, called_text, stmts_calls, answers_calls, routine_calls, numbered, number_of}
 use Rattle.rte_emits.specs.Compiled.{process_scope}
-use Rattle.rte_wellformed.specs.Here.{in_routine, in_process}
-use Rattle.rte_wellformed.specs.Statements.{AllFit, may_call}
-use Rattle.rte_wellformed.specs.WellFormed.{IsWellFormed, OptionalFits}
-use Rattle.rte_linked.proofs.Numbers.{none_some, IsText, called_is_text}
-use Rattle.rte_measured.specs.Sound.{SoundAll, SoundRoutine, SoundHandler}
+use Rattle.rte_called.specs.Here.{in_routine, in_process}
+use Rattle.rte_called.specs.Statements.{AllFit, may_call}
+use Rattle.rte_called.specs.WellFormed.{IsWellFormed, OptionalFits}
+use Rattle.rte_numbered.proofs.Numbers.{none_some, IsText, called_is_text}
+use Rattle.rte_whole.specs.Sound.{SoundAll, SoundRoutine, SoundHandler}
 use Rattle.rte_whole.specs.Declared.{IsBelow, IsSound}
 use Rattle.rte_ruled.specs.Ruled.{NamesApart}
 use Rattle.rte_numbered.specs.Numbered.{CallsText, AreNumbered}

@@ -12,13 +12,13 @@ use Rattle.rte_emits.specs.Compiled.{routine_scope, process_scope}
 use Rattle.rte_stands.specs.Memory.{Setting}
 use Rattle.rte_stands.specs.Proper.{found_of}
 use Rattle.rte_stands.specs.Proper.{IsFree as IsFreeAs}
-use Rattle.rte_declarations.specs.declared.sort.Sort.{Sort}
-use Rattle.rte_declarations.specs.declared.sort.Sort.TheVariants as sort_is
-use Rattle.rte_wellformed.specs.Here.{meant, sort_of, own_of, in_process, conditions_here}
-use Rattle.rte_wellformed.specs.Typed.{answer_sort, params_of, IsOf, IsRow, AreArguments, IsTarget}
-use Rattle.rte_wellformed.specs.Statements.{Fits, AllFit}
-use Rattle.rte_wellformed.specs.WellFormed.{AnswersFit, RoutineFits}
-use Rattle.rte_measured.specs.Sound.{IsFree, SoundExpr, SoundRow, SoundArgs, SoundIndex, SoundRef, Sound, SoundAll, SoundAnswers, SoundRoutine}
+use Rattle.rte_called.specs.Sort.{Sort}
+use Rattle.rte_called.specs.Sort.TheVariants as sort_is
+use Rattle.rte_called.specs.Here.{meant, sort_of, own_of, in_process, conditions_here}
+use Rattle.rte_called.specs.Typed.{answer_sort, params_of, IsOf, IsRow, AreArguments, IsTarget}
+use Rattle.rte_called.specs.Statements.{Fits, AllFit}
+use Rattle.rte_called.specs.WellFormed.{AnswersFit, RoutineFits}
+use Rattle.rte_whole.specs.Sound.{IsFree, SoundExpr, SoundRow, SoundArgs, SoundIndex, SoundRef, Sound, SoundAll, SoundAnswers, SoundRoutine}
 use Rattle.rte_ruled.proofs.Mirror.{here_of, OwnAt, OwnerKnown, SpotOf, routine_at, spot_meant, array_meant, free_meant, single_meant}
 use Rattle.rte_ruled.proofs.Turns.{turns_count}
 use Rattle.rte_called.specs.Called.{AllCalled}

@@ -1,6 +1,6 @@
 -- Well-formed programs are sound.
 use Rattle.rte_tree.specs.Plain.{Prog}
-use Rattle.rte_wellformed.specs.WellFormed.{IsWellFormed}
+use Rattle.rte_called.specs.WellFormed.{IsWellFormed}
 use Rattle.rte_ruled.specs.Ruled.{NamesApart}
 use Rattle.rte_numbered.specs.Numbered.{AreNumbered}
 use Rattle.rte_whole.specs.Declared.{IsSound}

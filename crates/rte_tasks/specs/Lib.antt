@@ -1,1 +1,15 @@
 pub mod Tasks
+pub use Rattle.rte_machine_meaning.specs.Trees
+pub use Rattle.rte_machine_meaning.specs.Image
+pub use Rattle.rte_machine_meaning.specs.Instr
+pub use Rattle.rte_machine_meaning.specs.Ticks
+pub use Rattle.rte_machine_meaning.specs.Operands
+pub use Rattle.rte_response.specs.Demand
+pub use Rattle.rte_machine_meaning.specs.Cost
+pub use Rattle.rte_machine_meaning.specs.Capped
+pub use Rattle.rte_machine_meaning.specs.Words
+pub use Rattle.rte_machine_meaning.specs.Tick
+pub use Rattle.rte_machine_meaning.specs.State
+pub use Rattle.rte_machine_meaning.specs.Run
+pub use Rattle.rte_machine_meaning.specs.Starts
+pub use Rattle.rte_machine_meaning.specs.Effect

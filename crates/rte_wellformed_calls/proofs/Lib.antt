@@ -5,3 +5,4 @@ pub mod Behind
 pub mod Named
 pub mod Below
 pub mod Levelled
+pub use Rattle.rte_rules_calls.proofs.CallEdges

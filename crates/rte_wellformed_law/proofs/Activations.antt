@@ -14,18 +14,18 @@ use Rattle.rte_names.specs.declared.kind.Kind.TheVariants as kind_is
 use Rattle.rte_names.specs.declared.kind.Want.TheVariants as want_is
 use Rattle.rte_names.specs.Reach.{Site, suits}
 use Rattle.rte_names.specs.Occurrences.{Occurrence, used, names, declared_at, constant_names, constants_names, stmts_names, optional_names, activation_names, handler_names, process_scope, var_name, routine_name}
-use Rattle.rte_declarations.specs.Values.{Worth, value, constant_place, is_within, out_of}
-use Rattle.rte_declarations.specs.Parts.{handler_parts, outside_loops, parts}
-use Rattle.rte_declarations.specs.declared.home.Home.TheVariants as home_is
+use Rattle.rte_wellformed_scopes.specs.Values.{Worth, value, constant_place, is_within, out_of}
+use Rattle.rte_wellformed_scopes.specs.Parts.{handler_parts, outside_loops, parts}
+use Rattle.rte_wellformed_scopes.specs.Home.TheVariants as home_is
 use Rattle.rte_tree.specs.Parts.{processes}
 use Rattle.rte_rules_declarations.specs.Processes.{frame_of, deadline_of, bad_limit, bad_start, Handled, handled, handler_numbers, all_handled, has_value}
 use Rattle.rte_source_meaning.specs.Names.{constants}
 use Rattle.rte_wellformed.specs.Here.{in_process}
 use Rattle.rte_wellformed.specs.Statements.{IsConstant, IsWithin}
 use Rattle.rte_wellformed.specs.WellFormed.{DeadlineFits, ActivationFits, IsHandled, Differ, OptionalFits}
-use Rattle.rte_wellformed_terms.specs.Places.{IsFound}
-use Rattle.rte_wellformed_terms.specs.Written.{ConstantWritten, OptionalWritten, ActivationWritten, HandlerWritten}
-use Rattle.rte_wellformed_terms.specs.Mirrors.{Mirrors, program_site, process_site}
+use Rattle.rte_wellformed_calls.specs.Places.{IsFound}
+use Rattle.rte_wellformed_calls.specs.Written.{ConstantWritten, OptionalWritten, ActivationWritten, HandlerWritten}
+use Rattle.rte_wellformed_calls.specs.Mirrors.{Mirrors, program_site, process_site}
 use Rattle.rte_wellformed_law.proofs.Lists.{at_front, behind, none_in, front_or_behind, each_map, in_map, append_nil, Pictured, Adds, nothing_more, one_more, Within, front, rest}
 use Rattle.rte_wellformed_law.proofs.Adding.{constant_adds, constants_add, optional_adds}
 use Rattle.rte_wellformed_law.proofs.Declared.{Lacks, lacks_both, lacks_map, outside_scope, event_declared}

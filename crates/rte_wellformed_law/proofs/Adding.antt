@@ -5,8 +5,8 @@ use Rattle.rte_tree.specs.Placed.{Constant, literal_constant, named_constant, Sc
 use Rattle.rte_tree.specs.declared.place.Place.{Place}
 use Rattle.rte_names.specs.Reach.{Names, Reach, Site, inside, inside_monitor}
 use Rattle.rte_names.specs.Occurrences.{Occurrence, declarations, constant_names, constants_names, scalar_names, kind_names, expr_names, exprs_names, operands_names, ref_names, entry_names, loop_name, stmt_names, stmts_names, vars_names, params_names, member_inner, members_names, optional_names, routine_scope, routine_inner, routine_names, routines_names, monitor_scope, monitor_inner, monitor_names, activation_names, handler_names, process_scope, process_inner, process_names, inner_names}
-use Rattle.rte_declarations.specs.declared.home.Where.{Where}
-use Rattle.rte_declarations.specs.Parts.{looped, stmt_parts, stmts_parts, outside_loops, home_of, answer_parts, routine_parts, routines_parts, handler_parts}
+use Rattle.rte_wellformed_scopes.specs.Where.{Where}
+use Rattle.rte_wellformed_scopes.specs.Parts.{looped, stmt_parts, stmts_parts, outside_loops, home_of, answer_parts, routine_parts, routines_parts, handler_parts}
 use Rattle.rte_rules_declarations.specs.Types.{scalar_bounds, kind_bounds, vars_bounds, params_bounds, result_bounds, routine_bounds, routines_bounds, member_bounds, members_bounds, decl_bounds}
 use Rattle.rte_wellformed_law.proofs.Lists.{Adds, nothing_more, both, one_more}
 

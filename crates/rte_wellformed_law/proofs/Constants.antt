@@ -17,10 +17,10 @@ use Rattle.rte_names.specs.Occurrences.{constant_names}
 use Rattle.rte_source_meaning.specs.Names.{named, signed, value_among, constant_among, constants_from, constants}
 use Rattle.rte_wellformed.specs.Statements.{IsConstant}
 use Rattle.rte_wellformed.specs.WellFormed.{ConstantsFit}
-use Rattle.rte_wellformed_terms.specs.Places.{IsFound, NamesFound}
-use Rattle.rte_wellformed_terms.specs.Written.{ConstantWritten, DeclWritten, IsWritten}
-use Rattle.rte_wellformed_terms.specs.Mirrors.{NamesListed, program_site}
-use Rattle.rte_wellformed_terms.specs.Judged.{ConstantsSmall, AreNames}
+use Rattle.rte_wellformed_calls.specs.Places.{IsFound, NamesFound}
+use Rattle.rte_wellformed_calls.specs.Written.{ConstantWritten, DeclWritten, IsWritten}
+use Rattle.rte_wellformed_calls.specs.Mirrors.{NamesListed, program_site}
+use Rattle.rte_wellformed_calls.specs.Judged.{ConstantsSmall, AreNames}
 use Rattle.rte_wellformed_law.proofs.Lists.{at_front, behind, none_in, front_or_behind, append_nil, in_split}
 use Rattle.rte_wellformed_law.proofs.Declared.{same_itself, Lacks, outside_scope, constant_before}
 

@@ -8,7 +8,7 @@ use Rattle.rte_tree.specs.Plain.{Name}
 use Rattle.rte_tree.specs.Plain as plain_of
 use Rattle.rte_tree.specs.Placed.{Kind, scalar, array, Var, Member, variable_member, condition_member, Monitor, Process, Decl, constant, device, event, routine, monitor, process, Prog, plain, plain_kind, plain_var, plain_member, plain_routine, plain_monitor, plain_process, plain_decl}
 use Rattle.rte_tree.specs.declared.place.Place.{Place}
-use Rattle.rte_declarations.specs.Values.{value}
+use Rattle.rte_wellformed_scopes.specs.Values.{value}
 use Rattle.rte_tree.specs.Parts.{processes, events}
 use Rattle.rte_tree.specs.Parts as tree
 use Rattle.rte_rules_declarations.specs.Counts as limit

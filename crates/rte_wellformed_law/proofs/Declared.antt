@@ -15,8 +15,8 @@ use Rattle.rte_tree.specs.Parts.{same_place}
 use Rattle.rte_names.specs.Reach.{Names, Reach, first, same, or_else}
 use Rattle.rte_names.specs.Occurrences.{Occurrence, declares, closes, used, decl_name, others, entries_at, decls_names, names, program_name}
 use Rattle.rte_names.specs.Rules.{place_of}
-use Rattle.rte_wellformed_terms.specs.Places.{StandApart, NamesFound}
-use Rattle.rte_wellformed_terms.specs.Mirrors.{program_site}
+use Rattle.rte_wellformed_calls.specs.Places.{StandApart, NamesFound}
+use Rattle.rte_wellformed_calls.specs.Mirrors.{program_site}
 use Rattle.rte_wellformed_law.proofs.Lists.{at_front, behind, none_in, front_or_behind, append_nil, in_map, Pictured, from_map, Split, split, rest_part, one_of}
 use Rattle.rte_wellformed_law.proofs.Adding.{inner_adds}
 

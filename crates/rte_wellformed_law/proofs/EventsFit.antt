@@ -11,7 +11,7 @@ use Rattle.rte_names.specs.Reach.{same}
 use Rattle.rte_names.specs.Occurrences.{names, declared_at, constant_names, optional_names, activation_names}
 use Rattle.rte_rules_declarations.specs.Processes.{is_at, is_activated_by, users}
 use Rattle.rte_wellformed.specs.WellFormed.{is_event_of, EventsFit}
-use Rattle.rte_wellformed_terms.specs.Mirrors.{process_site}
+use Rattle.rte_wellformed_calls.specs.Mirrors.{process_site}
 use Rattle.rte_wellformed_law.proofs.Lists.{at_front, behind, none_in, front_or_behind, sum_cons, Pictured, from_map, split, Within}
 use Rattle.rte_wellformed_law.proofs.Declared.{same_names, same_itself, same_places, same_place_itself, one_named, one_placed}
 use Rattle.rte_wellformed_law.proofs.Laws.{Laws}

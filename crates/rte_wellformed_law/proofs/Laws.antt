@@ -6,19 +6,19 @@ use Rattle.rte_tree.specs.Placed.{Constant, Scalar, Expr, Stmts, Process, proces
 use Rattle.rte_tree.specs.declared.place.Place.{Place}
 use Rattle.rte_names.specs.Reach.{Site}
 use Rattle.rte_names.specs.Occurrences.{constant_names, expr_names, stmts_names}
-use Rattle.rte_declarations.specs.declared.home.Where.{Where}
-use Rattle.rte_declarations.specs.Parts.{answer, stmts_parts, parts}
-use Rattle.rte_rules_statements.specs.Rules.{StatementFails}
+use Rattle.rte_wellformed_scopes.specs.Where.{Where}
+use Rattle.rte_wellformed_scopes.specs.Parts.{answer, stmts_parts, parts}
+use Rattle.rte_wellformed_calls.specs.Rules.{StatementFails}
 use Rattle.rte_source_meaning.specs.Names.{constants}
 use Rattle.rte_source_meaning.specs.Nesting.{Levels}
 use Rattle.rte_wellformed.specs.Here.{Here, sort_of}
 use Rattle.rte_wellformed.specs.Typed.{IsOf}
 use Rattle.rte_wellformed.specs.Statements.{IsConstant, AllFit}
-use Rattle.rte_wellformed_terms.specs.Places.{StandApart, NamesFound}
-use Rattle.rte_wellformed_terms.specs.Written.{ConstantWritten, ExprWritten, StmtsWritten, IsWritten}
-use Rattle.rte_wellformed_terms.specs.Things.{ThingsKnown}
-use Rattle.rte_wellformed_terms.specs.Mirrors.{NamesListed, PartsListed, Mirrors, AreMirrored}
-use Rattle.rte_wellformed_terms.specs.Judged.{IsKept, IsPlaced, AreNames, AreParts}
+use Rattle.rte_wellformed_calls.specs.Places.{StandApart, NamesFound}
+use Rattle.rte_wellformed_calls.specs.Written.{ConstantWritten, ExprWritten, StmtsWritten, IsWritten}
+use Rattle.rte_wellformed_calls.specs.Things.{ThingsKnown}
+use Rattle.rte_wellformed_calls.specs.Mirrors.{NamesListed, PartsListed, Mirrors, AreMirrored}
+use Rattle.rte_wellformed_calls.specs.Judged.{IsKept, IsPlaced, AreNames, AreParts}
 use Rattle.rte_wellformed_law.proofs.Rules.{Limits}
 use Rattle.rte_wellformed_law.proofs.Constants.{constants_small, Reaches, is_constant}
 

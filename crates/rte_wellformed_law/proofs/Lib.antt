@@ -12,3 +12,9 @@ pub mod ProcessesFit
 pub mod EventsFit
 pub mod CountsFit
 pub mod WellFormed
+pub use Rattle.rte_wellformed_scopes.proofs.Members
+pub use Rattle.rte_wellformed_scopes.proofs.Lookups
+pub use Rattle.rte_wellformed_scopes.proofs.NamesAfter
+pub use Rattle.rte_wellformed_scopes.proofs.ProgramScope
+pub use Rattle.rte_wellformed_scopes.proofs.EntryNames
+pub use Rattle.rte_wellformed_scopes.proofs.Mirrored

@@ -9,16 +9,16 @@ use Rattle.rte_tree.specs.declared.place.Place.{Place}
 use Rattle.rte_names.specs.declared.kind.Kind.TheVariants as kind_is
 use Rattle.rte_names.specs.Reach.{Site, inside}
 use Rattle.rte_names.specs.Occurrences.{Occurrence, closes, names, activation_names, vars_names, routines_names, stmts_names, optional_names, handler_names, routine_scope, process_scope, process_inner, monitor_scope, monitor_inner, var_name, routine_name, member_name, entry_name}
-use Rattle.rte_declarations.specs.Parts.{parts, stmts_parts, handler_parts, outside_loops}
-use Rattle.rte_declarations.specs.declared.home.Home.TheVariants as home_is
+use Rattle.rte_wellformed_scopes.specs.Parts.{parts, stmts_parts, handler_parts, outside_loops}
+use Rattle.rte_wellformed_scopes.specs.Home.TheVariants as home_is
 use Rattle.rte_rules_declarations.specs.Types.{Bounds, decls_bounds, decl_bounds, routines_bounds}
 use Rattle.rte_rules_declarations.specs.Processes.{handler_numbers, all_handled}
 use Rattle.rte_source_meaning.specs.Names.{constants, routine_in, monitor_in, process_in}
 use Rattle.rte_source_meaning.specs.Run.{of_program, of_process, of_monitor}
 use Rattle.rte_wellformed.specs.Here.{in_routine, in_process}
 use Rattle.rte_wellformed.specs.WellFormed.{RoutineFits, ProcessFits, MonitorFits}
-use Rattle.rte_wellformed_terms.specs.Written.{DeclWritten, RoutineWritten, ProcessWritten, MonitorWritten}
-use Rattle.rte_wellformed_terms.specs.Mirrors.{Mirrors, program_site, process_site, monitor_site, monitors_in}
+use Rattle.rte_wellformed_calls.specs.Written.{DeclWritten, RoutineWritten, ProcessWritten, MonitorWritten}
+use Rattle.rte_wellformed_calls.specs.Mirrors.{Mirrors, program_site, process_site, monitor_site, monitors_in}
 use Rattle.rte_wellformed_law.proofs.Lists.{front_or_behind, none_in, each_map, same_members, in_split, Split, split, Within, front, rest}
 use Rattle.rte_wellformed_law.proofs.Adding.{activation_adds, vars_add, members_add, routines_add, stmts_add, optional_adds, handler_adds, declarations_add, routines_parts_add, stmts_parts_add, vars_bounds_add, members_bounds_add}
 use Rattle.rte_wellformed_law.proofs.Declared.{Lacks, lacks_both, lacks_map}

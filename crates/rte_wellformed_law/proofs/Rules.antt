@@ -5,7 +5,7 @@ use Rattle.rte_tree.specs.Placed.{Process, Prog}
 use Rattle.rte_tree.specs.declared.place.Place.{Place}
 use Rattle.rte_rules.specs.Parts.{Rule, FailsOf, FailsAmong}
 use Rattle.rte_names.specs.Occurrences.{names, declared_at}
-use Rattle.rte_declarations.specs.Values.{value}
+use Rattle.rte_wellformed_scopes.specs.Values.{value}
 use Rattle.rte_rules_declarations.specs.Rules.{LimitFails, bounds_rules, process_rules, event_rules, handler_rules, count_rules}
 use Rattle.rte_rules_declarations.specs.Types.{Bounds, decls_bounds, crossed, too_long}
 use Rattle.rte_tree.specs.Parts.{processes, events, monitors, devices}

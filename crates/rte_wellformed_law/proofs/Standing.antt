@@ -8,10 +8,10 @@ use Rattle.rte_tree.specs.Parts.{program_routines, processes, monitors}
 use Rattle.rte_tree.specs.declared.place.Place.{Place}
 use Rattle.rte_names.specs.Reach.{Site}
 use Rattle.rte_names.specs.Occurrences.{Occurrence, routine_names, routines_names}
-use Rattle.rte_declarations.specs.Parts.{Part, routine_parts, routines_parts}
+use Rattle.rte_wellformed_scopes.specs.Parts.{Part, routine_parts, routines_parts}
 use Rattle.rte_rules_declarations.specs.Types.{Bounds, decls_bounds, decl_bounds, routine_bounds, routines_bounds}
 use Rattle.rte_source_meaning.specs.Names.{routine_in, monitor_in, process_in}
-use Rattle.rte_wellformed_terms.specs.Mirrors.{monitors_in}
+use Rattle.rte_wellformed_calls.specs.Mirrors.{monitors_in}
 use Rattle.rte_wellformed_law.proofs.Lists.{at_front, behind, none_in, front_or_behind, Within, front, rest}
 use Rattle.rte_wellformed_law.proofs.Adding.{routine_adds, routine_parts_add, routine_bounds_add, decl_bounds_add}
 

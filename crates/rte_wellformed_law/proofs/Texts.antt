@@ -5,15 +5,15 @@ use Rattle.rte_tree.specs.declared.place.Place.{Place}
 use Rattle.rte_names.specs.Reach.{Site, inside}
 use Rattle.rte_names.specs.declared.kind.Kind.TheVariants as kind_is
 use Rattle.rte_names.specs.Occurrences.{Occurrence, closes, names, expr_names, stmts_names, scalar_names, optional_names, vars_names, params_names, param_name, var_name, routine_scope, routine_inner, routine_names}
-use Rattle.rte_declarations.specs.Parts.{answer, home_of, outside_loops, answer_parts, routine_parts, parts}
+use Rattle.rte_wellformed_scopes.specs.Parts.{answer, home_of, outside_loops, answer_parts, routine_parts, parts}
 use Rattle.rte_rules_declarations.specs.Types.{decls_bounds, result_bounds, vars_bounds, routine_bounds}
 use Rattle.rte_source_meaning.specs.Names.{constants}
 use Rattle.rte_source_meaning.specs.Run.{Home, of_program, of_process, of_monitor}
 use Rattle.rte_wellformed.specs.Here.{Here, is_monitor, in_routine}
 use Rattle.rte_wellformed.specs.WellFormed.{AnswersFit, RoutineFits}
-use Rattle.rte_wellformed_terms.specs.Written.{ResultWritten, RoutineWritten}
-use Rattle.rte_wellformed_terms.specs.Mirrors.{Mirrors}
-use Rattle.rte_wellformed_terms.specs.Judged.{IsHome, IsPlaced}
+use Rattle.rte_wellformed_calls.specs.Written.{ResultWritten, RoutineWritten}
+use Rattle.rte_wellformed_calls.specs.Mirrors.{Mirrors}
+use Rattle.rte_wellformed_calls.specs.Judged.{IsHome, IsPlaced}
 use Rattle.rte_wellformed_law.proofs.Lists.{at_front, Within, front, rest}
 use Rattle.rte_wellformed_law.proofs.Adding.{scalar_adds, expr_adds, stmts_add, params_add, vars_add, optional_adds, declarations_add, stmts_parts_add, params_bounds_add, result_bounds_add}
 use Rattle.rte_wellformed_law.proofs.Declared.{Lacks, lacks_both, lacks_map}

@@ -8,12 +8,12 @@ use Rattle.rte_tree.specs.Placed.{Constant, Scalar, int, boolean, subrange, Kind
 use Rattle.rte_tree.specs.declared.place.Place.{Place}
 use Rattle.rte_names.specs.Reach.{Site}
 use Rattle.rte_names.specs.Occurrences.{names, constant_names, scalar_names, kind_names, vars_names, params_names, members_names}
-use Rattle.rte_declarations.specs.Values.{value, constant_place}
+use Rattle.rte_wellformed_scopes.specs.Values.{value, constant_place}
 use Rattle.rte_rules_declarations.specs.Types.{Bounds, decls_bounds, scalar_bounds, kind_bounds, vars_bounds, params_bounds, members_bounds}
 use Rattle.rte_source_meaning.specs.Names.{constants, variable_in}
 use Rattle.rte_wellformed.specs.Statements.{IsConstant}
 use Rattle.rte_wellformed.specs.WellFormed.{AreBounds, ScalarFits, KindFits, VarFits, ParamFits}
-use Rattle.rte_wellformed_terms.specs.Written.{ScalarWritten, KindWritten, VarWritten, ParamWritten, MemberWritten}
+use Rattle.rte_wellformed_calls.specs.Written.{ScalarWritten, KindWritten, VarWritten, ParamWritten, MemberWritten}
 use Rattle.rte_wellformed_law.proofs.Lists.{at_front, behind, Within, front, rest}
 use Rattle.rte_wellformed_law.proofs.Adding.{constant_adds, scalar_adds, kind_adds, scalar_bounds_add, kind_bounds_add}
 use Rattle.rte_wellformed_law.proofs.Constants.{Reaches}

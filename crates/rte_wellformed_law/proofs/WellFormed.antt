@@ -7,9 +7,9 @@ use Rattle.rte_tree.specs.declared.place.Place.{Place}
 use Rattle.rte_names.specs.Reach.{Site}
 use Rattle.rte_names.specs.Occurrences.{expr_names, stmts_names}
 use Rattle.rte_names.specs.Resolved.{IsRead, IsNamed}
-use Rattle.rte_declarations.specs.declared.home.Where.{Where}
-use Rattle.rte_declarations.specs.Parts.{answer, stmts_parts, parts}
-use Rattle.rte_rules_calls.specs.Reaching.{ReachesItself}
+use Rattle.rte_wellformed_scopes.specs.Where.{Where}
+use Rattle.rte_wellformed_scopes.specs.Parts.{answer, stmts_parts, parts}
+use Rattle.rte_wellformed_calls.specs.Reaching.{ReachesItself}
 use Rattle.rte_static.specs.Static.{IsChecked}
 use Rattle.rte_wellformed_calls.specs.Levels.{HasPlaceLevels}
 use Rattle.rte_source_meaning.specs.Nesting.{Levels}
@@ -17,11 +17,11 @@ use Rattle.rte_wellformed.specs.Here.{Here, sort_of}
 use Rattle.rte_wellformed.specs.Typed.{IsOf}
 use Rattle.rte_wellformed.specs.Statements.{AllFit}
 use Rattle.rte_wellformed.specs.WellFormed.{IsWellFormed}
-use Rattle.rte_wellformed_terms.specs.Places.{StandApart, NamesFound}
-use Rattle.rte_wellformed_terms.specs.Written.{ExprWritten, StmtsWritten, IsWritten}
-use Rattle.rte_wellformed_terms.specs.Things.{ThingsKnown}
-use Rattle.rte_wellformed_terms.specs.Mirrors.{NamesListed, PartsListed, Mirrors, AreMirrored}
-use Rattle.rte_wellformed_terms.specs.Judged.{IsKept, IsPlaced, AreNames, AreParts}
+use Rattle.rte_wellformed_calls.specs.Places.{StandApart, NamesFound}
+use Rattle.rte_wellformed_calls.specs.Written.{ExprWritten, StmtsWritten, IsWritten}
+use Rattle.rte_wellformed_calls.specs.Things.{ThingsKnown}
+use Rattle.rte_wellformed_calls.specs.Mirrors.{NamesListed, PartsListed, Mirrors, AreMirrored}
+use Rattle.rte_wellformed_calls.specs.Judged.{IsKept, IsPlaced, AreNames, AreParts}
 use Rattle.rte_wellformed_law.proofs.Rules.{limits_hold}
 use Rattle.rte_wellformed_law.proofs.Constants.{constants_fit}
 use Rattle.rte_wellformed_law.proofs.Laws.{Laws}

@@ -1,0 +1,1 @@
+pub use Rattle.rte_wellformed_calls.specs.Mirrors

@@ -11,7 +11,7 @@ use Rattle.rte_names.specs.Reach.{Names, Reach, Site, first, inside}
 use Rattle.rte_names.specs.Occurrences.{var_name, param_name, routine_name, entry_name, member_name, routine_scope, process_scope, monitor_scope, program_name, entries_at}
 use Rattle.rte_source_meaning.specs.Names.{named}
 use Rattle.rte_source_meaning.specs.Run.{of_program, of_process, of_monitor}
-use Rattle.rte_wellformed.specs.Here.{own_of, is_function_at, in_routine}
+use Rattle.rte_wellformed_terms.specs.Here.{own_of, is_function_at, in_routine}
 use Rattle.rte_wellformed_terms.specs.Written.{IsWritten}
 use Rattle.rte_wellformed_terms.specs.Things.{ThingsKnown}
 use Rattle.rte_wellformed_terms.specs.Places.{StandApart, NamesFound}

@@ -12,7 +12,7 @@ use Rattle.rte_names.specs.Occurrences.{decl_name, program_name}
 use Rattle.rte_source_meaning.specs.Names.{named, constants_from, constant_among, routines}
 use Rattle.rte_source_meaning.specs.Run.{Home, of_program, of_process, Found, or_else, routine_named, entry_name}
 use Rattle.rte_declarations.specs.Things.{constant_thing, device_thing, routine_thing}
-use Rattle.rte_wellformed.specs.Here.{Here, value, meant_own, meant_outer, meant_constant, var_named, outer_vars}
+use Rattle.rte_wellformed_terms.specs.Here.{Here, value, meant_own, meant_outer, meant_constant, var_named, outer_vars}
 use Rattle.rte_wellformed_terms.specs.Written.{IsWritten, DeclWritten}
 use Rattle.rte_wellformed_terms.specs.Things.{ThingsKnown}
 use Rattle.rte_wellformed_terms.specs.Mirrors.{StandsAs, routine_of}

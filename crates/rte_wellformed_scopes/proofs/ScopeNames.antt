@@ -13,7 +13,7 @@ use Rattle.rte_names.specs.Occurrences.{var_name, param_name, routine_name, entr
 use Rattle.rte_source_meaning.specs.Names.{named, monitors, monitor_in, variable_in, condition_in}
 use Rattle.rte_source_meaning.specs.Run.{Home, of_process, of_monitor}
 use Rattle.rte_declarations.specs.Things.{Thing, routine_things, decl_things, variable_thing, routine_thing, shape_of}
-use Rattle.rte_wellformed.specs.Here.{Meant, own_variable, outer_variable, meant_own, meant_outer, var_named, outer_vars, monitor_vars, monitor_conditions, param_var, own_of}
+use Rattle.rte_wellformed_terms.specs.Here.{Meant, own_variable, outer_variable, meant_own, meant_outer, var_named, outer_vars, monitor_vars, monitor_conditions, param_var, own_of}
 use Rattle.rte_wellformed_terms.specs.Written.{IsWritten, DeclWritten, RoutineWritten}
 use Rattle.rte_wellformed_terms.specs.Things.{ThingsKnown}
 use Rattle.rte_wellformed_terms.specs.Mirrors.{StandsAs, process_site, monitor_site, program_site, monitors_in}

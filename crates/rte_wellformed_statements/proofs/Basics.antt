@@ -8,10 +8,10 @@ use Rattle.rte_rules.specs.Parts.{Rule, FailsOf, FailsAmong}
 use Rattle.rte_declarations.specs.Things.{named_at}
 use Rattle.rte_declarations.specs.Values.{value}
 use Rattle.rte_declarations.specs.Parts.{Part, parts}
-use Rattle.rte_rules_statements.specs.Types.{mistyped}
-use Rattle.rte_rules_statements.specs.Conduct.{misplaced, misdirected}
-use Rattle.rte_rules_statements.specs.Numbers.{crossed_loop, endless_loop, long_loop, bad_number, bad_limit}
-use Rattle.rte_rules_statements.specs.Rules.{statement_rules, StatementFails}
+use Rattle.rte_wellformed_terms.specs.Types.{mistyped}
+use Rattle.rte_wellformed_terms.specs.Conduct.{misplaced, misdirected}
+use Rattle.rte_wellformed_terms.specs.Numbers.{crossed_loop, endless_loop, long_loop, bad_number, bad_limit}
+use Rattle.rte_wellformed_terms.specs.Rules.{statement_rules, StatementFails}
 
 -- ---- lists
 

@@ -13,9 +13,9 @@ use Rattle.rte_names.specs.Occurrences.{Occurrence, used, uses, names, declared_
 use Rattle.rte_declarations.specs.declared.sort.Sort.{Sort}
 use Rattle.rte_declarations.specs.Things.{Thing, device_thing, routine_thing, thing_at, named_at}
 use Rattle.rte_declarations.specs.Things as things
-use Rattle.rte_rules_statements.specs.Sorts.{asked, call_agrees}
-use Rattle.rte_rules_statements.specs.Sorts as sorts
-use Rattle.rte_rules_statements.specs.Conduct.{is_function, is_function_kind, is_procedure, exprs_stray}
+use Rattle.rte_wellformed_terms.specs.Sorts.{asked, call_agrees}
+use Rattle.rte_wellformed_terms.specs.Sorts as sorts
+use Rattle.rte_wellformed_terms.specs.Conduct.{is_function, is_function_kind, is_procedure, exprs_stray}
 use Rattle.rte_source_meaning.specs.Run.{Home, Found, of_monitor, routine_named, entry_named}
 use Rattle.rte_wellformed.specs.Here.{Here, is_monitor, sort_of}
 use Rattle.rte_wellformed.specs.Typed.{answer_sort, params_of, AreArguments}

@@ -12,9 +12,9 @@ use Rattle.rte_declarations.specs.declared.sort.Sort.TheVariants as sort_is
 use Rattle.rte_declarations.specs.Things as thing
 use Rattle.rte_declarations.specs.Things.{named_at}
 use Rattle.rte_declarations.specs.Sorts.{fits, same_sort, gives, takes}
-use Rattle.rte_rules_statements.specs.Sorts.{is_array, row_sort, sort, asked, agrees, operands_agree, call_agrees}
-use Rattle.rte_rules_statements.specs.Types.{is_of}
-use Rattle.rte_rules_statements.specs.Conduct.{is_barred, strays, exprs_stray, operands_stray}
+use Rattle.rte_wellformed_terms.specs.Sorts.{is_array, row_sort, sort, asked, agrees, operands_agree, call_agrees}
+use Rattle.rte_wellformed_terms.specs.Types.{is_of}
+use Rattle.rte_wellformed_terms.specs.Conduct.{is_barred, strays, exprs_stray, operands_stray}
 use Rattle.rte_wellformed.specs.Here.{Here, meant}
 use Rattle.rte_wellformed.specs.Typed.{params_of, IsOf, IsRow, AreArguments}
 use Rattle.rte_wellformed_terms.specs.Written.{ExprWritten, ExprsWritten, OperandsWritten}

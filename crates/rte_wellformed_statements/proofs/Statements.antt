@@ -17,10 +17,10 @@ use Rattle.rte_declarations.specs.Values.{value, out_of}
 use Rattle.rte_declarations.specs.declared.home.Where.{Where}
 use Rattle.rte_declarations.specs.Parts.{Part, statement, stmt_place, looped, stmt_parts, stmts_parts}
 use Rattle.rte_declarations.specs.Sorts.{alike}
-use Rattle.rte_rules_statements.specs.Sorts.{sort, agrees, asked, call_agrees}
-use Rattle.rte_rules_statements.specs.Sorts as sorts
-use Rattle.rte_rules_statements.specs.Types.{target_sort, target_agrees, stmt_agrees}
-use Rattle.rte_rules_statements.specs.Conduct.{is_procedure, is_function, strays, exprs_stray, target_strays, in_function, in_entry, calls_nothing, stmt_strays, is_device}
+use Rattle.rte_wellformed_terms.specs.Sorts.{sort, agrees, asked, call_agrees}
+use Rattle.rte_wellformed_terms.specs.Sorts as sorts
+use Rattle.rte_wellformed_terms.specs.Types.{target_sort, target_agrees, stmt_agrees}
+use Rattle.rte_wellformed_terms.specs.Conduct.{is_procedure, is_function, strays, exprs_stray, target_strays, in_function, in_entry, calls_nothing, stmt_strays, is_device}
 use Rattle.rte_source_meaning.specs.Run.{routine_named, entry_named}
 use Rattle.rte_wellformed.specs.Here.{Here, in_loop}
 use Rattle.rte_wellformed.specs.Typed.{IsOf, IsTarget}

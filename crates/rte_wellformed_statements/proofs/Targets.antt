@@ -14,9 +14,9 @@ use Rattle.rte_declarations.specs.declared.sort.Sort.{Sort}
 use Rattle.rte_declarations.specs.declared.sort.Sort.TheVariants as sort_is
 use Rattle.rte_declarations.specs.Things.{Thing, variable_thing, shape_of, thing_at, named_at}
 use Rattle.rte_declarations.specs.Sorts.{fits}
-use Rattle.rte_rules_statements.specs.Sorts.{is_array, sort, agrees}
-use Rattle.rte_rules_statements.specs.Types.{target_sort, target_agrees}
-use Rattle.rte_rules_statements.specs.Conduct.{is_foreign, ref_strays, target_strays}
+use Rattle.rte_wellformed_terms.specs.Sorts.{is_array, sort, agrees}
+use Rattle.rte_wellformed_terms.specs.Types.{target_sort, target_agrees}
+use Rattle.rte_wellformed_terms.specs.Conduct.{is_foreign, ref_strays, target_strays}
 use Rattle.rte_wellformed.specs.Here.{Here, own_variable, outer_variable, meant, is_assignable}
 use Rattle.rte_wellformed.specs.Typed.{IsTarget}
 use Rattle.rte_wellformed_terms.specs.Written.{RefWritten}

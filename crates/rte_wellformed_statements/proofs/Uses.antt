@@ -15,9 +15,9 @@ use Rattle.rte_declarations.specs.declared.sort.Sort.{Sort}
 use Rattle.rte_declarations.specs.declared.sort.Sort.TheVariants as sort_is
 use Rattle.rte_declarations.specs.Things as thing
 use Rattle.rte_declarations.specs.Things.{Thing, constant_thing, routine_thing, variable_thing, loop_thing, shape_of, thing_at, named_at}
-use Rattle.rte_rules_statements.specs.Sorts as by_form
-use Rattle.rte_rules_statements.specs.Sorts.{is_array}
-use Rattle.rte_rules_statements.specs.Conduct.{is_function_kind, is_barred}
+use Rattle.rte_wellformed_terms.specs.Sorts as by_form
+use Rattle.rte_wellformed_terms.specs.Sorts.{is_array}
+use Rattle.rte_wellformed_terms.specs.Conduct.{is_function_kind, is_barred}
 use Rattle.rte_source_meaning.specs.Run.{Home, routine_named}
 use Rattle.rte_wellformed.specs.Here.{Here, Meant, turn, own_variable, outer_variable, value, meant, sort_of, word_sort, element_sort}
 use Rattle.rte_wellformed.specs.Typed.{answer_sort}

@@ -3,3 +3,9 @@ pub mod Written
 pub mod Things
 pub mod Mirrors
 pub mod Judged
+pub use Rattle.rte_wellformed.specs.Here
+pub use Rattle.rte_rules_statements.specs.Types
+pub use Rattle.rte_rules_statements.specs.Conduct
+pub use Rattle.rte_rules_statements.specs.Numbers
+pub use Rattle.rte_rules_statements.specs.Rules
+pub use Rattle.rte_rules_statements.specs.Sorts

@@ -1,7 +1,7 @@
 use Rattle.std.proofs.Common.{◌≡◌, ◌<◌, ◌∙◌, List, length, get_or, arith, ap, subst}
 use Rattle.rte_image.specs.declared.raw.RawProc.{RawProc}
 use Rattle.rte_image.specs.Raw.{image_of}
-use Rattle.rte_valid_times.proofs.InOrder.{level_there}
+use Rattle.rte_ranking.proofs.InOrder.{level_there}
 use Rattle.rte_bounding.proofs.NoFault.{no_rank_fault}
 use Rattle.rte_bounding.proofs.Growing.{none_bounds, one_bound, all_bounds}
 use Rattle.rte_bounding.proofs.least.bounds.Goals as goal

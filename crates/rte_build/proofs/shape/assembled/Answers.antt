@@ -1,7 +1,7 @@
 use Rattle.std.proofs.Common.{sym, subst}
 use Rattle.rte_tree.specs.Placed.{placed, plain}
 use Rattle.rte_made.specs.declared.code.Code.{Code}
-use Rattle.rte_assemble.specs.Fields.{FitsFields}
+use Rattle.rte_assembled.specs.Fields.{FitsFields}
 use Rattle.rte_build.proofs.shape.assembled.Goals as goal
 
 pub assemble-requires-clause-fits : goal.assemble-requires-clause-fits

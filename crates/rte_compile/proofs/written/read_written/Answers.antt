@@ -3,7 +3,7 @@ use Rattle.rte_tree.specs.Placed.{placed}
 use Rattle.rte_tree.specs.declared.decl.Prog.{Prog as Tree}
 use Rattle.rte_rules.specs.First.{IsFirst}
 use Rattle.rte_size_rules.specs.Rules.{SizeFails}
-use Rattle.rte_commands.specs.Source.{of_size}
+use Rattle.rte_build.specs.Source.{of_size}
 use Rattle.rte_build.specs.Build.{KeepsSizes}
 use Rattle.rte_compile.proofs.written.read_written.Goals as goal
 

@@ -1,5 +1,5 @@
 use Rattle.rte_image.specs.Raw.{process_of}
-use Rattle.rte_bounding.proofs.Listing.{all_made}
+use Rattle.rte_build.proofs.Listing.{all_made}
 use Rattle.rte_edf_demands.specs.Steps.{due_of}
 use Rattle.rte_edf_demands.proofs.shaping.deadlines.Goals as goal
 

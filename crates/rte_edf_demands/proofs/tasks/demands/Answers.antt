@@ -2,7 +2,7 @@ use Rattle.std.proofs.Common.{◌≡◌, ◌∙◌, List, sym, subst}
 use Rattle.rte_image.specs.Raw.{image_of}
 use Rattle.rte_demand.specs.declared.tasks.DTask.{DTask}
 use Rattle.rte_demand.specs.Demand.{AreTasks}
-use Rattle.rte_bounding.proofs.NoFault.{no_rank_fault}
+use Rattle.rte_build.proofs.NoFault.{no_rank_fault}
 use Rattle.rte_edf_image.specs.Tasks.{AreDemands}
 use Rattle.rte_edf_demands.specs.Listed.{demands_of}
 use Rattle.rte_edf_demands.proofs.Demanded.{are_a_set, are_demands}

@@ -1,6 +1,6 @@
 use Rattle.std.proofs.Common.{◌+◌, ◌-◌, ℕ, arith, sym, subst}
 use Rattle.rte_state.specs.Board.{state_of}
-use Rattle.rte_settle.specs.Rows.{EndsIn}
+use Rattle.rte_runner.specs.Rows.{EndsIn}
 use Rattle.rte_edf_machine.proofs.Rowing.{Ran, can_end, can_run, enough, ran, row_passes, row_queued, row_starts, words_count}
 use Rattle.rte_edf_machine.proofs.turn.pass_row.Goals as goal
 

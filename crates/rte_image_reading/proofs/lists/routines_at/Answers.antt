@@ -3,7 +3,7 @@ use Rattle.std.proofs.lemmas.Result.{err_from_is_err_and}
 use Rattle.std.proofs.lemmas.List.{map_push}
 use Rattle.rte_image_reading.specs.Format.{Format, each_read}
 use Rattle.rte_image_reading.proofs.EachLoop.{ends, goes_on, is_done}
-use Rattle.rte_machine_meaning.specs.Image.{Routine}
+use Rattle.rte_seg.specs.Image.{Routine}
 use Rattle.rte_image.specs.Raw.{routine_of}
 use Rattle.rte_image_reading.specs.Grammar.{routine_format}
 use Rattle.rte_image_reading.proofs.lists.routines_at.Goals as goal

@@ -2,7 +2,7 @@ use Rattle.std.proofs.Common.{◌≡◌, ◌-◌, ◌+◌, ◌++◌, ◌∷◌, 
 use Rattle.std.proofs.lemmas.Result.{err_from_is_err_and}
 use Rattle.std.proofs.lemmas.List.{map_push, length-map}
 use Rattle.std.specs.List.{zip}
-use Rattle.rte_machine_meaning.specs.Image.{Process}
+use Rattle.rte_seg.specs.Image.{Process}
 use Rattle.rte_image.specs.Raw.{process_of}
 use Rattle.rte_image_reading.specs.Format.{Format, each_read}
 use Rattle.rte_image_reading.specs.Gives.{Fails}

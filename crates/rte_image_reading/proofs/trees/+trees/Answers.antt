@@ -1,6 +1,6 @@
 use Rattle.std.proofs.Common.{◌≡◌, ◌<◌, ◌-◌, ℕ, suc, List, Result, ap, ◌∙◌, arith, Ok}
 use Rattle.std.proofs.lemmas.Result.{err_from_is_err_and}
-use Rattle.rte_machine_meaning.specs.Trees.{Seg, Nil, Cons}
+use Rattle.rte_seg.specs.Trees.{Seg, Nil, Cons}
 use Rattle.rte_seg.specs.View.{view, views}
 use Rattle.rte_image_reading.specs.declared.fault.Fault.{Fault}
 use Rattle.rte_image_reading.specs.Format.{◌>>=◌, Format, u32}

@@ -3,8 +3,8 @@ use Rattle.rte_tree.specs.Placed.{plain_expr}
 use Rattle.rte_declarations.specs.Things as thing
 use Rattle.rte_declarations.specs.Things.{named_at}
 use Rattle.rte_declarations.specs.Parts.{answer}
-use Rattle.rte_rules_statements.specs.Types.{is_of}
-use Rattle.rte_rules_statements.specs.Conduct.{strays}
+use Rattle.rte_wellformed_terms.specs.Types.{is_of}
+use Rattle.rte_wellformed_terms.specs.Conduct.{strays}
 use Rattle.rte_wellformed.specs.Typed.{IsOf}
 use Rattle.rte_wellformed_statements.proofs.Basics.{keeps_rules, held, not_held}
 use Rattle.rte_wellformed_statements.proofs.Uses.{sorts_same}

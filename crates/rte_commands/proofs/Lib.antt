@@ -1,0 +1,1 @@
+pub use Rattle.rte_valid_law.proofs.Firsts
