@@ -1,5 +1,6 @@
 #!/usr/bin/env bash
-# Each allocation of each command fails in turn: the status is 8, with nothing put and no file changed, or all that is due is done.
+# Each allocation of each command fails in turn: the status is 8, with nothing put and no file changed (but of `make` that of the
+# program, where the write of the script lacks memory), or all that is due is done.
 # Run by hand on a built program:   bench/allocations.sh crates/rte/out/rte [TEXT SCRIPT]
 #
 # TEXT and SCRIPT are those of a wait that is signalled, where they are not named. The program allocates by malloc and realloc of
@@ -52,6 +53,9 @@ else
     cp "$script" S
 fi
 "$rte" go P K S > put
+"$rte" run K S > L
+"$rte" dis K A
+echo 'program e device a : out process p : periodic frame 30 begin put a 1 end p process q : periodic frame 52 begin put a 2 end q end e' > Q
 wrong=0
 
 # call N WORD..: the status of the call whose allocation N fails, over files I and J of old
@@ -68,18 +72,23 @@ call() {
 try_all() {
     local number status whole kept count found tried=0 wanting=0 due=0
     call 0 "$@"
-    whole=$(sha256sum P S K I J put)
+    whole=$(sha256sum I J put)
+    cp I first
     count=$(cat count)
     echo before > I
     echo before > J
     : > put
-    kept=$(sha256sum P S K I J put)
+    kept=$(sha256sum I J put)
+    cp first I
+    first=$(sha256sum I J put)
     for ((number = 1; number <= count; number += ${STEP:-1})); do
         status=0
         call "$number" "$@" || status=$?
-        found=$(sha256sum P S K I J put)
+        found=$(sha256sum I J put)
         tried=$((tried + 1))
         if [ "$status" = 8 ] && [ "$found" = "$kept" ]; then
+            wanting=$((wanting + 1))
+        elif [ "$1" = make ] && [ "$status" = 8 ] && [ "$found" = "$first" ]; then
             wanting=$((wanting + 1))
         elif [ "$status" = 0 ] && [ "$found" = "$whole" ]; then
             due=$((due + 1))
@@ -98,4 +107,11 @@ try_all compile P I
 try_all run K S
 try_all migrate K J
 try_all go P I S
+try_all slack P
+try_all watch K S 40
+try_all dis K I
+try_all asm A I
+try_all replay P S L
+try_all edf Q S
+try_all make 7 2 I J
 exit "$wrong"

@@ -9,6 +9,8 @@
 #   processes  64 processes with 3 million log lines
 #   replay     those 3 million lines, 60 MB, judged by the program
 #   script     1,000,000 lines of a script
+#   earliest   10 million ticks of two processes under earliest deadline first
+#   make       a load of 64 processes
 #   image      the image of 65,535 instructions, loaded, tested and run to tick 0
 #
 # The aims, in seconds, are those of a plain native program for the same rules on a machine of this kind.
@@ -58,5 +60,9 @@ measure processes 0.67 go processes image6 script
 "$rte" run image6 script > log
 measure replay 1.2 replay processes script log
 measure script 0.11 go reader image7 lines
+echo 'program bench device valve : out process p : periodic frame 30 begin put valve 1 end p process q : periodic frame 52 begin put valve 2 end q end bench' > two
+echo 'end 10000000' > script
+measure earliest 0.1 edf two script
+measure make 0.05 make 7 64 load lines
 echo 'end 0' > script
 measure image 0.1 run image script

@@ -3,3 +3,4 @@ pub mod Complete
 pub mod One
 pub mod Late
 pub mod Done
+pub mod Loads

@@ -3,13 +3,15 @@
 ghost use Rattle.std.specs.Prelude.{◌≡◌, ◌≢◌, ◌<◌, ◌↔◌, ◌⊎◌, ℕ, List, Some, None};
 ghost use Rattle.std.specs.Bool.{OnTrue};
 ghost use Rattle.rte_io.specs.Outside.{outside, AllStay};
-ghost use Rattle.rte_words.specs.Calls.{Call};
-ghost use Rattle.rte_words.specs.Words.{IsCommand};
+ghost use Rattle.rte_words.specs.Calls.{Call, Load};
+ghost use Rattle.rte_words.specs.Words.{IsCommand, IsMake};
 ghost use Rattle.rte_answers.specs.Acts.{number_of};
-ghost use Rattle.rte_answers.specs.Files.{IsDue, target_of};
+ghost use Rattle.rte_answers.specs.Files.{IsDue};
 ghost use Rattle.rte_answers.specs.Went.{Went, Completes, IsUsage};
 ghost use Rattle.rte_commands.specs.Due.{Outcome};
+ghost use Rattle.rte_load_due.specs.Made.{Made};
 ghost use Rattle.rte_promise.specs.Promise.{HasDone, IsRefusedForTime};
+ghost use Rattle.rte_cli.specs.Targets.{IsNoTarget};
 
 use crate::carry::carry_out;
 use rte_answers::Status;
@@ -45,13 +47,16 @@ use std::alloc::Global;
 /// - `replay P S L` puts how many events the log in file L has, where they are a run of the program
 ///   over the script, and else the line that is refused;
 /// - `edf P S` puts the report on the demand of program P, which has no wait, and the log of its run
-///   over script S under earliest deadline first.
+///   over script S under earliest deadline first;
+/// - `make K N P S` stores a program of N processes in file P and a script for it in file S, which
+///   key K draws, and puts how many instructions the program has, and how many lines and bytes the
+///   log of its run, with a mark of these bytes.
 ///
 /// All other words are refused, as is a word that is empty or begins with `-`.
 ///
 /// The answer is the first status that is due in the order of the steps: the words, reading P, I or
 /// A, its faults, its time, reading S, its faults, reading L, its faults and the verdict, storing,
-/// putting.
+/// putting. `make` reads nothing, and its texts have no fault.
 pub fn rte<F: Files, O: Sink>(alloc: Global, words: &[String], files: &mut F, out: &mut O) -> Status
     // A call of a command went as is due, by what its files hold.
     ensures went { (call : Call) → IsCommand words.now call → Went F.tells call
@@ -61,16 +66,20 @@ pub fn rte<F: Files, O: Sink>(alloc: Global, words: &[String], files: &mut F, ou
     ensures complete { (call : Call) → IsCommand words.now call → OnTrue F.tells (Completes call
         (outside (F.state files.old) (O.state out.old))
         (outside (F.state files.new) (O.state out.new)) (number_of result)) }
-    // All other words are refused.
-    ensures usage { ((call : Call) → ¬ IsCommand words.now call) → IsUsage
+    // So did `make`: its status is 0, 7 or 8.
+    ensures made { (load : Load) → IsMake words.now load → Made F.tells load
         (outside (F.state files.old) (O.state out.old))
         (outside (F.state files.new) (O.state out.new)) (number_of result) }
-    // With every status but 0 and 7 no file has changed, and with these none but the one that is
-    // written.
-    ensures kept { 0 < number_of result → number_of result ≢ 7 →
-        AllStay (F.state files.old).held (F.state files.new).held }
-    ensures others { (name : List ℕ) → ((call : Call) → IsCommand words.now call →
-        target_of call ≢ Some name) →
+    // All other words are refused.
+    ensures usage { ((call : Call) → ¬ IsCommand words.now call) →
+        ((load : Load) → ¬ IsMake words.now load) → IsUsage
+        (outside (F.state files.old) (O.state out.old))
+        (outside (F.state files.new) (O.state out.new)) (number_of result) }
+    // With every status but 0 and 7 no file has changed, but where `make` lacks memory between its
+    // two writes; and with these none but those that are written.
+    ensures kept { ((load : Load) → ¬ IsMake words.now load) → 0 < number_of result →
+        number_of result ≢ 7 → AllStay (F.state files.old).held (F.state files.new).held }
+    ensures others { (name : List ℕ) → IsNoTarget words.now name →
         (F.state files.new).held name ≡ (F.state files.old).held name }
     // Where no image is due no file changes.
     ensures refused { (call : Call) → IsCommand words.now call →
@@ -78,8 +87,8 @@ pub fn rte<F: Files, O: Sink>(alloc: Global, words: &[String], files: &mut F, ou
         IsDue call (F.state files.old).held outcome → outcome.image ≡ None →
         AllStay (F.state files.old).held (F.state files.new).held) }
     // So once a file has changed, the status is 0 or 7.
-    ensures stored { (name : List ℕ) → (F.state files.new).held name ≢
-        (F.state files.old).held name →
+    ensures stored { ((load : Load) → ¬ IsMake words.now load) → (name : List ℕ) →
+        (F.state files.new).held name ≢ (F.state files.old).held name →
         (number_of result ≡ 0) ⊎ (number_of result ≡ 7) }
     // A failed put always gives 7.
     ensures quiet { number_of result ≢ 7 → (O.state out.new).faults ≡ (O.state out.old).faults }

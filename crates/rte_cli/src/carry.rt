@@ -2,18 +2,20 @@
 
 ghost use Rattle.std.specs.Prelude.{◌≡◌, ◌≢◌, ◌≤◌, ◌<◌, ◌⊎◌, ℕ, List, Some, codes};
 ghost use Rattle.rte_io.specs.Outside.{outside, AllStay, Appends, AppendsFront, Rose};
-ghost use Rattle.rte_words.specs.Calls.{Call, over_of};
-ghost use Rattle.rte_words.specs.Words.{call_of, IsCommand};
+ghost use Rattle.rte_words.specs.Calls.{Call, Load, over_of};
+ghost use Rattle.rte_words.specs.Words.{call_of, IsCommand, IsMake};
 ghost use Rattle.rte_answers.specs.Acts.{number_of};
-ghost use Rattle.rte_answers.specs.Files.{target_of};
 ghost use Rattle.rte_answers.specs.Went.{Went, IsUsage};
+ghost use Rattle.rte_load_due.specs.Made.{Made};
+ghost use Rattle.rte_cli.specs.Targets.{IsNoTarget};
 
 use rte_answers::Status;
 use rte_io::{Files, Sink};
+use rte_make::make;
 use rte_perform::perform;
 use rte_prepare::{Unready, prepare};
-use rte_words::law::one_command;
-use rte_words::{Command, read_words};
+use rte_words::law::{no_command_is_a_load, one_command, one_load};
+use rte_words::{Command, Request, read_words};
 use std::alloc::Global;
 
 /// Puts the usage.
@@ -59,19 +61,25 @@ pub fn carry_out<F: Files, O: Sink>(
     ensures went { (call : Call) → IsCommand words.now call → Went F.tells call
         (outside (F.state files.old) (O.state out.old))
         (outside (F.state files.new) (O.state out.new)) (number_of result) }
-    ensures usage { ((call : Call) → ¬ IsCommand words.now call) → IsUsage
+    ensures made { (load : Load) → IsMake words.now load → Made F.tells load
         (outside (F.state files.old) (O.state out.old))
         (outside (F.state files.new) (O.state out.new)) (number_of result) }
-    ensures kept { 0 < number_of result → number_of result ≢ 7 →
-        AllStay (F.state files.old).held (F.state files.new).held }
-    ensures others { (name : List ℕ) → ((call : Call) → IsCommand words.now call →
-        target_of call ≢ Some name) →
+    ensures usage { ((call : Call) → ¬ IsCommand words.now call) →
+        ((load : Load) → ¬ IsMake words.now load) → IsUsage
+        (outside (F.state files.old) (O.state out.old))
+        (outside (F.state files.new) (O.state out.new)) (number_of result) }
+    ensures kept { ((load : Load) → ¬ IsMake words.now load) → 0 < number_of result →
+        number_of result ≢ 7 → AllStay (F.state files.old).held (F.state files.new).held }
+    ensures others { (name : List ℕ) → IsNoTarget words.now name →
         (F.state files.new).held name ≡ (F.state files.old).held name }
     ensures quiet { number_of result ≢ 7 → (O.state out.new).faults ≡ (O.state out.old).faults }
 {
     one_command();
+    one_load();
+    no_command_is_a_load();
     match read_words(words) {
-        Some(command) => carry(alloc, &command, files, out),
+        Some(Request::Command(command)) => carry(alloc, &command, files, out),
+        Some(Request::Load(load)) => make(alloc, &load, files, out),
         None => usage(out),
     }
 }

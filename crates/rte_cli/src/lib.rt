@@ -1,5 +1,5 @@
 //! The command: `go`, `check`, `compile`, `json`, `slack`, `print`, `run`, `watch`, `migrate`,
-//! `asm`, `dis`, `replay` and `edf`, from their words to their status.
+//! `asm`, `dis`, `replay`, `edf` and `make`, from their words to their status.
 //!
 //! `rte_answers` says what is due of a call by what its files hold (`IsDue`), and what each status
 //! says of the call (`Went`); `rte_promise` what statuses 0 and 3 say of texts, images, scripts and

@@ -20,6 +20,8 @@ mod known;
 #[cfg(test)]
 mod limits;
 #[cfg(test)]
+mod loads;
+#[cfg(test)]
 mod replays;
 #[cfg(test)]
 mod runs;

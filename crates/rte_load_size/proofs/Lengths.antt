@@ -22,19 +22,19 @@ bit true = 1
 bit false = 0
 
 -- the names that a process sees, where its number tells this process
-abbrev names_seen : plain_of.Prog → ℕ → Option plain_of.Process → Names
+abbrev pub names_seen : plain_of.Prog → ℕ → Option plain_of.Process → Names
 names_seen g k p = record {
   owner = by_process k;
   view = λ x. option_map view_of (or_else (in_area in_frame (place_named x [])) (in_area in_process (place_named x (places_from g 0 (vars_of_process p)))));
 }
 
-abbrev body_with : Bool → Drawn → Stmts Nowhere
+abbrev pub body_with : Bool → Drawn → Stmts Nowhere
 body_with even d =
     stmts (get tt (codes "src") tt (to_name (codes "x"))) (stmts (turns_of d) (stmts (enter (codes "add") (exprs (of_name (codes "x")) no_exprs))
     (pause_if even (stmts (put tt (codes "dst") tt (of_name (codes "x"))) no_stmts))))
 
 -- a process with a pause or without
-abbrev with_pause : Bool → (count number : ℕ) → Drawn → plain_of.Process
+abbrev pub with_pause : Bool → (count number : ℕ) → Drawn → plain_of.Process
 with_pause even count number d = record (plain_process (load_process count number d)) { body = plain_stmts (body_with even d) }
 
 with_is : (even : Bool) (key count k number : ℕ) (d : Drawn) → process_length (load key count) (names_seen (load key count) k (Some (with_pause even count number d))) (with_pause even count number d) ≡ 24 + bit even

@@ -1,3 +1,3 @@
 mod Plain
-mod Lists
-mod Lengths
+pub mod Lists
+pub mod Lengths

@@ -46,7 +46,7 @@ no_routines : (key count before left known : ℕ) → fold (λ n d. n + routines
 no_routines key count before zero known = refl
 no_routines key count before (suc left) known = no_routines key count (suc before) left (known + 0) ∙ (let e : known + 0 ≡ known = omega arith in e)
 
-two_routines : (key count : ℕ) → routine_count (load key count) ≡ 2
+pub two_routines : (key count : ℕ) → routine_count (load key count) ≡ 2
 two_routines key count = no_routines key count 0 count 2
 
 abbrev pub add_text : Text

@@ -11,3 +11,4 @@ mod performing;
 mod ready;
 
 pub use performing::perform;
+pub use ready::Ready;

@@ -17,7 +17,7 @@ use std::alloc::{AllocError, Global};
 /// A run whose machine, which is the one of its dispatch, stands before tick 0. It takes no more
 /// memory.
 #[derive(Drop)]
-pub(crate) struct Ready<'a> {
+pub struct Ready<'a> {
     run: &'a Run,
     plan: Plan,
     course: Course,
@@ -25,7 +25,7 @@ pub(crate) struct Ready<'a> {
 
 impl<'a> Ready<'a> {
     /// Makes the plan of the image and the machine; an error says that memory is short.
-    pub(crate) fn new(alloc: Global, run: &'a Run) -> Result<Ready<'a>, AllocError>
+    pub fn new(alloc: Global, run: &'a Run) -> Result<Ready<'a>, AllocError>
         ghost image: { Image }
         requires image { image ≡ image_of run.now.image }
         requires can { CanRun run.now }
@@ -39,7 +39,7 @@ impl<'a> Ready<'a> {
 
     /// Runs to the end of the script, and puts the log, one put a line. After a failed put nothing
     /// more is put.
-    pub(crate) fn put_log<O: Sink>(&mut self, out: &mut O) -> Result<(), SinkFailed>
+    pub fn put_log<O: Sink>(&mut self, out: &mut O) -> Result<(), SinkFailed>
         ghost image: { Image }
         requires image { image ≡ image_of self.old.run.now.image }
         requires ready { IsReady self.old }

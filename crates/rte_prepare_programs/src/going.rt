@@ -9,11 +9,10 @@ ghost use Rattle.rte_words.specs.Calls as call;
 ghost use Rattle.rte_contents.specs.Acting.{CanBeDone};
 ghost use Rattle.rte_contents.specs.Contents.{IsContent};
 ghost use Rattle.rte_contents.specs.Prepared.{Prepares};
-ghost use Rattle.rte_prepare_programs.specs.Runnable.{IsRunnableBuilt, RunsBuilt};
+ghost use Rattle.rte_sources.specs.Runnable.{IsRunnableBuilt, RunsBuilt};
 ghost use Rattle.rte_prepare_programs.specs.Scripted.{IsBuiltRunDue, built_run};
 
 use crate::programs::{Format, refuse};
-use crate::sources::compile_content;
 use rte_answers::{Act, Dispatch, Run, Status, Store};
 use rte_compile::Built;
 use rte_contents::{
@@ -22,6 +21,7 @@ use rte_contents::{
 use rte_image::write_image;
 use rte_io::Files;
 use rte_script::Script;
+use rte_sources::compile_content;
 use std::alloc::{AllocError, Global};
 
 /// The act that stores the image of a program that is timely, puts the report, and runs the image

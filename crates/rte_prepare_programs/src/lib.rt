@@ -8,8 +8,7 @@
 
 mod going;
 mod programs;
-mod sources;
 
 pub use going::prepare_go;
 pub use programs::{Format, prepare_compile, prepare_print, prepare_report, prepare_slack};
-pub use rte_built_laws::law::built_images_are_faithful;
+pub use rte_sources::built_images_are_faithful;

@@ -13,14 +13,14 @@ ghost use Rattle.rte_contents.specs.Acting.{CanBeDone, IsQuiet, puts};
 ghost use Rattle.rte_contents.specs.Contents.{IsContent};
 ghost use Rattle.rte_prepare_programs.specs.Formats.{shown, report_call};
 ghost use Rattle.rte_contents.specs.Prepared.{Prepares};
-ghost use Rattle.rte_prepare_programs.specs.Runnable.{IsRunnableBuilt, Readies};
+ghost use Rattle.rte_sources.specs.Runnable.{IsRunnableBuilt, Readies};
 
-use crate::sources::{compile_content, read_content};
 use rte_answers::{Act, Status, Store};
 use rte_compile::{Built, CompileFault, TextFault};
 use rte_contents::{Content, LONGEST_PROGRAM, Unready, put, put_fault, read};
 use rte_image::{ImageNames, write_image};
 use rte_io::Files;
+use rte_sources::{compile_content, read_content};
 use rte_spare_text::slack_text;
 use rte_table::Table;
 use rte_tree::{Name, Text};

@@ -1,1 +1,2 @@
+mod Five
 mod Overheads

@@ -18,6 +18,14 @@ pub data Call : Type 0 where
   replay : (program script log : List ℕ) → Call
   edf : (program script : List ℕ) → Call
 
+-- a load that is to be made: its key, how many processes it has, and the files of its program and
+-- its script
+pub record Load : Type 0 where
+  pub key : ℕ
+  pub count : ℕ
+  pub program : List ℕ
+  pub script : List ℕ
+
 -- the overhead, 0 where a call has none
 abbrev pub over_of : Call → ℕ
 over_of (go program image script over) = over

@@ -1,10 +1,13 @@
--- The table of the commands, with the words that each takes.
-use Rattle.std.specs.Prelude.{◌≡◌, ℕ, ◌+◌, All, IsTrue, Bool, false, not, ◌==◌, List, [], ◌∷◌, Option, Some, None, if◌then◌else◌, map, option_map, find, String, string_bytes, bytes_eq, codes, decimal}
+-- The table of the commands, with the words that each takes, and the row of `make`.
+use Rattle.std.specs.Prelude.{◌≡◌, ◌≤◌, ◌<◌, ◌^◌, ℕ, ◌+◌, All, IsTrue, Bool, false, not, ◌==◌, List, [], ◌∷◌, Option, Some, None, if◌then◌else◌, map, option_map, find, String, string_bytes, bytes_eq, codes, decimal}
 use Rattle.std.specs.List.{range_with_len}
 use Rattle.std.specs.Global.{Global}
-use Rattle.rte_words.specs.Calls.{Call, go, check, compile, json, slack, print, run, migrate, asm, dis, watch, replay, edf}
+use Rattle.rte_words.specs.Calls.{Call, go, check, compile, json, slack, print, run, migrate, asm, dis, watch, replay, edf, Load, over_of}
 use Rattle.rte_words.specs.declared.command.Command.{Command}
 use Rattle.rte_words.specs.declared.command.Command.TheVariants as command
+use Rattle.rte_words.specs.declared.load.Load as made
+use Rattle.rte_words.specs.declared.request.Request.{Request}
+use Rattle.rte_words.specs.declared.request.Request.TheVariants as request
 use Rattle.rte_words.specs.declared.stop.Stop.{Stop}
 use Rattle.rte_words.specs.declared.stop.Stop.TheVariants.{Tick, Effect}
 
@@ -129,3 +132,21 @@ call_of (command.Dis image text) = dis image.now text.now
 call_of (command.Watch image script stop) = watch image.now script.now stop
 call_of (command.Replay program script log) = replay program.now script.now log.now
 call_of (command.Edf program script) = edf program.now script.now
+
+-- the words are the row of `make`, with a key of 64 bits and 1 to 64 processes, in decimal and
+-- without leading zeros, and none is empty or begins with a dash
+pub record IsMake (words : List (String Global)) (l : Load) : Type 0 where
+  pub each : All IsWord words
+  pub row : map string_bytes words ≡ codes "make" ∷ decimal l.key ∷ decimal l.count ∷ l.program ∷ l.script ∷ []
+  pub key : l.key < 2 ^ 64
+  pub some : 1 ≤ l.count
+  pub few : l.count ≤ 64
+
+-- the load that is asked for
+abbrev pub load_of : made.Load → Load
+load_of l = record { key = l.key; count = l.count; program = l.program.now; script = l.script.now }
+
+-- what the words ask for: a command, with an overhead of at most 1,000 ticks, or a load
+abbrev pub IsRequest : List (String Global) → Request → Type 0
+IsRequest words (request.Command c) = IsCommand words (call_of c) × (over_of (call_of c) ≤ 1000)
+IsRequest words (request.Load l) = IsMake words (load_of l)

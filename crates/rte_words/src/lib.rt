@@ -1,18 +1,23 @@
-//! Which words are a command.
+//! What words ask for: a command, or a load that is to be made.
 //!
-//! Its definition is one table of the commands with the words that each takes, `row_of` of
-//! `specs/Words.antt`. It promises that the command is the row of the words, and that words are
-//! refused exactly where they are in no row.
+//! Its definitions, of `specs/Words.antt`, are one table of the commands with the words that each
+//! takes, `row_of`, and the row of `make`, `IsMake`. It promises that what the words ask for is
+//! their row, and that words are refused exactly where they are in no row.
 #![tactic(auto)]
 
 mod command;
 pub mod law;
+mod load;
+mod making;
 mod reading;
+mod request;
 mod rows;
 mod stop;
 
 pub use command::Command;
+pub use load::Load;
 pub use reading::read_words;
+pub use request::Request;
 pub use stop::Stop;
 
 #[cfg(test)]

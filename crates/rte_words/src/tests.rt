@@ -1,6 +1,6 @@
-//! Rows of words, with the commands that they are.
+//! Rows of words, with what they ask for.
 
-use crate::{Command, Stop, read_words};
+use crate::{Command, Load, Request, Stop, read_words};
 use rte_tree::Text;
 use std::alloc::Global;
 use std::test::Fail;
@@ -40,67 +40,60 @@ fn told_stop(
     Ok(line)
 }
 
-/// What the row is.
-fn told(alloc: Global, row: &str) -> Result<Text, Fail> {
-    let words = words_of(alloc, row)?;
-    match read_words(words.as_slice()) {
-        Some(
-            Command::Go {
-                program,
-                image,
-                script,
-                overhead,
-            },
-        ) => line(alloc, "Go", &[program, image, script], Some(overhead)),
-        Some(Command::Check { program, overhead }) => {
-            line(alloc, "Check", &[program], Some(overhead))
-        }
-        Some(
-            Command::Compile {
-                program,
-                image,
-                overhead,
-            },
-        ) => line(alloc, "Compile", &[program, image], Some(overhead)),
-        Some(Command::Json { program, overhead }) => line(
-            alloc,
-            "Json",
-            &[program],
-            Some(overhead),
-        ),
-        Some(Command::Slack { program, overhead }) => line(
-            alloc,
-            "Slack",
-            &[program],
-            Some(overhead),
-        ),
-        Some(Command::Print { program }) => line(alloc, "Print", &[program], None),
-        Some(Command::Run { image, script }) => line(alloc, "Run", &[image, script], None),
-        Some(Command::Migrate { image, target }) => {
-            line(alloc, "Migrate", &[image, target], None)
-        }
-        Some(Command::Asm { text, image }) => line(alloc, "Asm", &[text, image], None),
-        Some(Command::Dis { image, text }) => line(alloc, "Dis", &[image, text], None),
-        Some(
-            Command::Watch {
-                image,
-                script,
-                stop,
-            },
-        ) => match stop {
+/// What a load is.
+fn told_load(alloc: Global, load: Load<'_>) -> Result<Text, Fail> {
+    let mut line = line(alloc, "Load", &[load.program, load.script], None)?;
+    line.extend(format!(in alloc; " {} {}", load.key, load.count)?.as_bytes())?;
+    Ok(line)
+}
+
+/// What a command is.
+fn told_command(alloc: Global, command: Command<'_>) -> Result<Text, Fail> {
+    match command {
+        Command::Go {
+            program,
+            image,
+            script,
+            overhead,
+        } => line(alloc, "Go", &[program, image, script], Some(overhead)),
+        Command::Check { program, overhead } => line(alloc, "Check", &[program], Some(overhead)),
+        Command::Compile {
+            program,
+            image,
+            overhead,
+        } => line(alloc, "Compile", &[program, image], Some(overhead)),
+        Command::Json { program, overhead } => line(alloc, "Json", &[program], Some(overhead)),
+        Command::Slack { program, overhead } => line(alloc, "Slack", &[program], Some(overhead)),
+        Command::Print { program } => line(alloc, "Print", &[program], None),
+        Command::Run { image, script } => line(alloc, "Run", &[image, script], None),
+        Command::Migrate { image, target } => line(alloc, "Migrate", &[image, target], None),
+        Command::Asm { text, image } => line(alloc, "Asm", &[text, image], None),
+        Command::Dis { image, text } => line(alloc, "Dis", &[image, text], None),
+        Command::Watch {
+            image,
+            script,
+            stop,
+        } => match stop {
             Stop::Tick(tick) => told_stop(alloc, image, script, "tick", tick),
             Stop::Effect(address) => {
                 told_stop(alloc, image, script, "effect", u64::from(address))
             }
         },
-        Some(
-            Command::Replay {
-                program,
-                script,
-                log,
-            },
-        ) => line(alloc, "Replay", &[program, script, log], None),
-        Some(Command::Edf { program, script }) => line(alloc, "Edf", &[program, script], None),
+        Command::Replay {
+            program,
+            script,
+            log,
+        } => line(alloc, "Replay", &[program, script, log], None),
+        Command::Edf { program, script } => line(alloc, "Edf", &[program, script], None),
+    }
+}
+
+/// What the row is.
+fn told(alloc: Global, row: &str) -> Result<Text, Fail> {
+    let words = words_of(alloc, row)?;
+    match read_words(words.as_slice()) {
+        Some(Request::Command(command)) => told_command(alloc, command),
+        Some(Request::Load(load)) => told_load(alloc, load),
         None => line(alloc, "Usage", &[], None),
     }
 }
@@ -171,6 +164,35 @@ fn rows_and_their_commands(rt: HostRuntime) -> Result<(), Fail> {
         ("checks p", "Usage"),
         ("-check p", "Usage"),
         ("", "Usage"),
+    ] {
+        assert_eq!(rt;
+            told(rt.alloc(), row)?.as_bytes(),
+            answer.as_bytes(),
+            "at {row}"
+        );
+    }
+    Ok(())
+}
+
+#[test]
+fn rows_and_their_loads(rt: HostRuntime) -> Result<(), Fail> {
+    for (row, answer) in [
+        ("make 7 40 p s", "Load p s 7 40"),
+        ("make 0 1 p s", "Load p s 0 1"),
+        (
+            "make 18446744073709551615 64 p s",
+            "Load p s 18446744073709551615 64",
+        ),
+        ("make 18446744073709551616 64 p s", "Usage"),
+        ("make 07 40 p s", "Usage"),
+        ("make -7 40 p s", "Usage"),
+        ("make 7x 40 p s", "Usage"),
+        ("make 7 0 p s", "Usage"),
+        ("make 7 65 p s", "Usage"),
+        ("make 7 07 p s", "Usage"),
+        ("make 7 40 p -s", "Usage"),
+        ("make 7 40 p", "Usage"),
+        ("make 7 40 p s 0", "Usage"),
     ] {
         assert_eq!(rt;
             told(rt.alloc(), row)?.as_bytes(),

@@ -25,11 +25,11 @@ returns-clause-late g c = λ call is.
 
 -- a file that has changed
 pub returns-clause-stored : goal.returns-clause-stored
-returns-clause-stored g c = λ name changed. elim (cases_eq (number_of c.carry_out.result) 7) [
+returns-clause-stored g c = λ none name changed. elim (cases_eq (number_of c.carry_out.result) 7) [
   | inl seven ↦ inr seven
   | inr other ↦ elim (cases_eq (number_of c.carry_out.result) 0) [
     | inl zero ↦ inl zero
-    | inr more ↦ absurd (changed (c.carry_out.ensures.kept (omega (arith, more)) other name))
+    | inr more ↦ absurd (changed (c.carry_out.ensures.kept none (omega (arith, more)) other name))
   ]
 ]
 

@@ -1,5 +1,5 @@
-use Rattle.rte_prepare_programs.proofs.Ready.{readies}
-use Rattle.rte_prepare_programs.proofs.sources.compile_text.Goals as goal
+use Rattle.rte_sources.proofs.Ready.{readies}
+use Rattle.rte_sources.proofs.sources.compile_text.Goals as goal
 
 pub returns-clause-ready : goal.returns-clause-ready
 returns-clause-ready c =

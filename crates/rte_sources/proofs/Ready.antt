@@ -9,7 +9,7 @@ use Rattle.rte_commands.specs.Runs.{BuiltImagesAreFaithful}
 use Rattle.rte_compile.specs.Compile.{Compiles, IsImageOf}
 use Rattle.rte_compile.specs.declared.compiling.CompileFault.{CompileFault}
 use Rattle.rte_compile.specs.declared.compiling.CompileFault.TheVariants as fault
-use Rattle.rte_prepare_programs.specs.Runnable.{IsRunnableBuilt, Readies}
+use Rattle.rte_sources.specs.Runnable.{IsRunnableBuilt, Readies}
 
 -- ---- images that are built
 

@@ -5,7 +5,7 @@ ghost use Rattle.rte_lex.specs.Tokens.{longest_text};
 ghost use Rattle.rte_compile.specs.Compile.{Compiles};
 ghost use Rattle.rte_compile.specs.Written.{ReadsWritten};
 ghost use Rattle.rte_contents.specs.Contents.{IsContent};
-ghost use Rattle.rte_prepare_programs.specs.Runnable.{Readies};
+ghost use Rattle.rte_sources.specs.Runnable.{Readies};
 
 use rte_built_laws::law::built_images_are_faithful;
 use rte_built_ready::law::built_images_are_ready;
@@ -23,7 +23,11 @@ const TOO_LONG: u8 = 4;
 const START: Place = Place { line: 1, col: 1 };
 
 /// The image of the program of a text, which can be run and stored.
-fn compile_text(alloc: Global, text: &[u8], over: u16) -> Result<Built, CompileFault>
+///
+/// # Errors
+///
+/// As those of `compile`.
+pub fn compile_text(alloc: Global, text: &[u8], over: u16) -> Result<Built, CompileFault>
     requires { over ≤ 1000 }
     ensures compiles { Compiles over text.now result }
     ensures ready { Readies result }

@@ -1,0 +1,5 @@
+pub mod Joined
+pub mod Levels
+pub mod Ranks
+pub mod Sharing
+pub mod Stays

@@ -1,0 +1,3 @@
+mod Costs
+mod Held
+mod Joined

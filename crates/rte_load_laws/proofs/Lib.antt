@@ -1,0 +1,4 @@
+mod Rules
+mod Time
+mod Faults
+mod Built

@@ -1,0 +1,10 @@
+mod Knowing
+mod Fine
+mod Statements
+mod Outside
+mod Plain
+mod Processes
+mod Members
+mod Monitor
+mod Declared
+mod Joined

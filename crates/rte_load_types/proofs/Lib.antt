@@ -1,0 +1,9 @@
+mod Given
+mod Terms
+mod Statements
+mod Trees
+mod Sites
+mod Processes
+mod Monitors
+mod Programs
+mod Types
