@@ -1,6 +1,6 @@
 //! Programs at the limits: most processes, most routines, longest loops, through the top call.
 
-use crate::call::{Outcome, call, lines};
+use rte_examples_calls::{Outcome, call, lines};
 use std::alloc::Global;
 use std::test::Fail;
 

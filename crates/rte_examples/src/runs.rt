@@ -1,6 +1,6 @@
 //! Images that are stored, and a long run.
 
-use crate::call::{Outcome, call};
+use rte_examples_calls::{Outcome, call};
 use std::alloc::Global;
 use std::test::Fail;
 

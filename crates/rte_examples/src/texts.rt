@@ -2,7 +2,7 @@
 //!
 //! The answer to a text is that of `print`: `ok`, or its fault.
 
-use crate::call::{Outcome, call};
+use rte_examples_calls::{Outcome, call};
 use std::alloc::Global;
 use std::process::Abort;
 use std::test::Fail;

@@ -19,6 +19,3 @@ pub use load::Load;
 pub use reading::read_words;
 pub use request::Request;
 pub use stop::Stop;
-
-#[cfg(test)]
-mod tests;

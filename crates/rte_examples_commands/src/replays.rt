@@ -1,8 +1,8 @@
 //! Logs, replayed.
 
-use crate::call::{NO_FAILURES, Outcome, call, call_beside, call_on_image, lines};
-use crate::known::VALVE;
-use crate::worked::ROWS;
+use rte_examples_calls::{
+    NO_FAILURES, Outcome, ROWS, VALVE, call, call_beside, call_on_image, lines,
+};
 use std::alloc::Global;
 use std::test::Fail;
 

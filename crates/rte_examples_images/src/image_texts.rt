@@ -1,8 +1,9 @@
 //! Images as text.
 
-use crate::call::{Failures, Outcome, call, call_beside, call_on_image, lines};
-use crate::known::{IDLE_SECOND, VALVE_SECOND, with_byte};
-use crate::worked::ROWS;
+use rte_examples_calls::{
+    Failures, IDLE_SECOND, Outcome, ROWS, VALVE_SECOND, call, call_beside, call_on_image, lines,
+    with_byte,
+};
 use std::alloc::Global;
 use std::test::Fail;
 

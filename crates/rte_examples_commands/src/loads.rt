@@ -1,7 +1,7 @@
 //! Loads that are made: their texts, the line that tells of their run, and each device call failing
 //! in turn.
 
-use crate::call::{Failures, NO_FAILURES, call, call_with};
+use rte_examples_calls::{Failures, NO_FAILURES, call, call_with};
 use std::alloc::Global;
 use std::test::Fail;
 

@@ -1,6 +1,6 @@
 //! Programs under earliest deadline first: reports and logs that were found by hand.
 
-use crate::call::{Failures, NO_FAILURES, call_with, lines};
+use rte_examples_calls::{Failures, NO_FAILURES, call_with, lines};
 use std::alloc::Global;
 use std::test::Fail;
 

@@ -35,10 +35,13 @@ pub const NO_FAILURES: Failures = Failures {
     put: 0,
 };
 
-/// The words of a line.
+/// The words of a line, which has one space between them; an empty line has none.
 fn words_of(alloc: Global, line: &str) -> Result<Vec<String>, Fail> {
     let mut words = Vec::new(alloc);
-    for word in line.split_whitespace() {
+    if line.is_empty() {
+        return Ok(words);
+    }
+    for word in line.split(' ') {
         words.push(String::from_str(alloc, word)?)?;
     }
     Ok(words)

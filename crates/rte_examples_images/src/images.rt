@@ -1,7 +1,6 @@
 //! Stored images, run and migrated.
 
-use crate::call::{Outcome, call, call_on_image};
-use crate::known::{IDLE_FIRST, IDLE_SECOND, VALVE, with_byte};
+use rte_examples_calls::{IDLE_FIRST, IDLE_SECOND, Outcome, VALVE, call, call_on_image, with_byte};
 use std::alloc::Global;
 use std::test::Fail;
 

@@ -1,7 +1,6 @@
 //! The machine at a stop.
 
-use crate::call::{Outcome, call, call_on_image, lines};
-use crate::known::VALVE;
+use rte_examples_calls::{Outcome, VALVE, call, call_on_image, lines};
 use std::test::Fail;
 
 /// A counter in a monitor, and a process that holds two others up. Its code begins with ENTER, LDM,

@@ -1,7 +1,6 @@
 //! Images that were changed, cut, or made to be deep and wide, through the top call.
 
-use crate::call::{Outcome, call_on_image};
-use crate::known::{IDLE_FIRST, IDLE_SECOND, with_byte};
+use rte_examples_calls::{IDLE_FIRST, IDLE_SECOND, Outcome, call_on_image, with_byte};
 use std::alloc::Global;
 use std::process::Abort;
 use std::test::Fail;

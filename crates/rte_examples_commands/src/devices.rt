@@ -1,7 +1,8 @@
 //! Reads, writes and puts that fail, each in turn, and words that name one file.
 
-use crate::call::{Failures, NO_FAILURES, call_beside, call_on_image};
-use crate::known::{VALVE, VALVE_FIRST, VALVE_SECOND};
+use rte_examples_calls::{
+    Failures, NO_FAILURES, VALVE, VALVE_FIRST, VALVE_SECOND, call_beside, call_on_image,
+};
 use std::alloc::Global;
 use std::test::Fail;
 

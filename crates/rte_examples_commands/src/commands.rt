@@ -1,7 +1,6 @@
 //! Worked calls of each command, and a call with each read, write and put failing in turn.
 
-use crate::call::{Failures, NO_FAILURES, Outcome, call, call_with};
-use crate::known::VALVE;
+use rte_examples_calls::{Failures, NO_FAILURES, Outcome, VALVE, call, call_with};
 use std::alloc::Global;
 use std::test::Fail;
 
