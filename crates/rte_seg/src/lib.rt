@@ -6,4 +6,4 @@
 
 mod seg;
 
-pub use seg::{Seg, Segs};
+pub use seg::{Arms, Inside, Seg, Segs, Turns};
