@@ -1,6 +1,13 @@
 //! Segments.
 
+ghost use Rattle.std.specs.Prelude.{◌≡◌, IfOk};
+ghost use Rattle.rte_machine_meaning.specs.Trees as tree;
+ghost use Rattle.rte_seg.specs.Kept.{fork, rep, stay};
+ghost use Rattle.rte_seg.specs.View.{view, views};
+
+use crate::boxed::Boxed;
 use rte_tree::List;
+use std::alloc::{AllocError, Global};
 
 /// A piece of code. Routines and monitors are numbered from 0. What has trees is kept in a box, so
 /// that a segment takes two words.
@@ -10,13 +17,13 @@ pub enum Seg {
     /// entered.
     Line(u32),
     /// A choice: JZ to the second tree, the first tree, JMP behind the second, the second tree.
-    Fork(Box<Arms<Segs>>),
+    Fork(Boxed<Arms<Segs>>),
     /// So many turns of a tree: REPS, the tree, REP to its start.
-    Rep(Box<Turns<Segs>>),
+    Rep(Boxed<Turns<Segs>>),
     /// The call of a routine.
     Call(u16),
     /// The body of an entry: ENTER of a monitor, the tree, LEAVE of it.
-    Stay(Box<Inside<Segs>>),
+    Stay(Boxed<Inside<Segs>>),
     /// WAIT, and REENT of the condition's monitor.
     Wait,
     /// EXIT to the end of the innermost turn.
@@ -45,4 +52,30 @@ pub struct Turns<T> {
 pub struct Inside<T> {
     pub monitor: u16,
     pub body: T,
+}
+
+impl Seg {
+    /// A choice of two trees. An error says that memory is short.
+    pub fn fork(alloc: Global, first: Segs, second: Segs) -> Result<Seg, AllocError>
+        ensures kept { IfOk result (λ seg. seg ≡ fork first second) }
+        ensures tree { IfOk result (λ seg. view seg ≡ tree.Fork (views first) (views second)) }
+    {
+        Ok(Seg::Fork(Boxed::new(alloc, Arms { first, second })?))
+    }
+
+    /// So many turns of a tree. An error says that memory is short.
+    pub fn rep(alloc: Global, count: u32, body: Segs) -> Result<Seg, AllocError>
+        ensures kept { IfOk result (λ seg. seg ≡ rep count body) }
+        ensures tree { IfOk result (λ seg. view seg ≡ tree.Rep count (views body)) }
+    {
+        Ok(Seg::Rep(Boxed::new(alloc, Turns { count, body })?))
+    }
+
+    /// A tree inside a monitor. An error says that memory is short.
+    pub fn stay(alloc: Global, monitor: u16, body: Segs) -> Result<Seg, AllocError>
+        ensures kept { IfOk result (λ seg. seg ≡ stay monitor body) }
+        ensures tree { IfOk result (λ seg. view seg ≡ tree.Stay monitor (views body)) }
+    {
+        Ok(Seg::Stay(Boxed::new(alloc, Inside { monitor, body })?))
+    }
 }
