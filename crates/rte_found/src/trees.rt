@@ -106,7 +106,10 @@ pub fn seg_found(
             line_found(code, *count, at, height)
         }
         Seg::Fork(arms) => {
-            let Arms { first: one, second: other } = arms.get();
+            let Arms {
+                first: one,
+                second: other,
+            } = arms.get();
             let below = height.checked_sub(1)?;
             let one = tree_found(code, known, around, one.as_slice(), next, below)?;
             let jump = instr_at(code, one.next)?;
