@@ -69,7 +69,7 @@ fn fork_at(
     let at = skip(at, b" fork")?;
     let (first, at) = arm_at(alloc, monitors, depth, at)?;
     let (second, at) = arm_at(alloc, monitors, depth, at)?;
-    Ok((Seg::Fork(first, second), at))
+    Ok((Seg::fork(alloc, first, second)?, at))
 }
 
 /// A repetition, whose body nests at most so deep.
@@ -85,7 +85,7 @@ fn rep_at(
 {
     let (turns, at) = field(at, b" rep ", 1, 1_000_000)?;
     let (body, at) = arm_at(alloc, monitors, depth, at)?;
-    Ok((Seg::Rep(turns, body), at))
+    Ok((Seg::rep(alloc, turns, body)?, at))
 }
 
 /// A stay in one of so many monitors, whose body nests at most so deep.
@@ -102,7 +102,7 @@ fn stay_at(
     let (monitor, at) = short_field(at, b" stay ", 0, 65_535)?;
     let at = note(at, usize::from(monitor) < monitors);
     let (body, at) = arm_at(alloc, monitors, depth, at)?;
-    Ok((Seg::Stay(monitor, body), at))
+    Ok((Seg::stay(alloc, monitor, body)?, at))
 }
 
 /// A segment, whose trees nest at most so deep.

@@ -66,10 +66,8 @@ fn stay<L: Lookup>(
     out.push(Instr::Leave {
         monitor: fit(number),
     })?;
-    out.join(
-        before,
-        Seg::Stay(u16::try_from(number).unwrap_or(u16::MAX), body),
-    )
+    let monitor = u16::try_from(number).unwrap_or(u16::MAX);
+    out.join(before, Seg::stay(out.alloc, monitor, body)?)
 }
 
 /// A routine or entry but for its return.

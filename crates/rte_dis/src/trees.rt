@@ -16,24 +16,24 @@ fn put_seg(text: &mut Text, seg: &Seg) -> Result<(), AllocError>
 {
     match seg {
         Seg::Line(count) => put_field(text, b" line ", *count)?,
-        Seg::Fork(first, second) => {
+        Seg::Fork(arms) => {
             text.extend(b" fork (")?;
-            put_segs(text, first.as_slice())?;
+            put_segs(text, arms.get().first.as_slice())?;
             text.extend(b" ) (")?;
-            put_segs(text, second.as_slice())?;
+            put_segs(text, arms.get().second.as_slice())?;
             text.extend(b" )")?;
         }
-        Seg::Rep(turns, body) => {
-            put_field(text, b" rep ", *turns)?;
+        Seg::Rep(turns) => {
+            put_field(text, b" rep ", turns.get().count)?;
             text.extend(b" (")?;
-            put_segs(text, body.as_slice())?;
+            put_segs(text, turns.get().body.as_slice())?;
             text.extend(b" )")?;
         }
         Seg::Call(routine) => put_field(text, b" call ", u32::from(*routine))?,
-        Seg::Stay(monitor, body) => {
-            put_field(text, b" stay ", u32::from(*monitor))?;
+        Seg::Stay(inside) => {
+            put_field(text, b" stay ", u32::from(inside.get().monitor))?;
             text.extend(b" (")?;
-            put_segs(text, body.as_slice())?;
+            put_segs(text, inside.get().body.as_slice())?;
             text.extend(b" )")?;
         }
         Seg::Wait => text.extend(b" wait")?,

@@ -19,7 +19,7 @@ use crate::trees::tree_found;
 use rte_image::RawRoutine;
 use rte_isa::Instr;
 use rte_num::{Cost, cap_add};
-use rte_seg::Seg;
+use rte_seg::{Inside, Seg};
 
 /// ENTER, what is done inside, and LEAVE, of the monitor that the Stay and the owner name.
 pub fn stayed(
@@ -102,7 +102,10 @@ pub fn entry_found(
         (views tree.now) at)).cost.run - 5)) }
 {
     match tree {
-        [Seg::Stay(monitor, body)] => stay_found(code, known, owner, *monitor, body.as_slice(), at),
+        [Seg::Stay(inside)] => {
+            let Inside { monitor, body } = inside.get();
+            stay_found(code, known, owner, *monitor, body.as_slice(), at)
+        }
         _ => None,
     }
 }

@@ -11,7 +11,7 @@ use crate::instructions::instr_at;
 use crate::known::{Around, Found, Known};
 use crate::steps::{called, exited, forked, instr_found, repeated, waited};
 use rte_isa::Instr;
-use rte_seg::Seg;
+use rte_seg::{Arms, Seg, Turns};
 
 /// So many addresses on, where that is at most the limit.
 pub fn past(at: usize, count: usize, limit: usize) -> Option<usize>
@@ -34,13 +34,17 @@ fn seg_end(seg: &Seg, at: usize, limit: usize) -> Option<usize>
 {
     match seg {
         Seg::Line(count) => past(at, *count as usize, limit),
-        Seg::Fork(first, second) => {
-            let middle = tree_end(first.as_slice(), at, limit)?;
-            let end = tree_end(second.as_slice(), middle, limit)?;
+        Seg::Fork(arms) => {
+            let middle = tree_end(arms.get().first.as_slice(), at, limit)?;
+            let end = tree_end(arms.get().second.as_slice(), middle, limit)?;
             past(end, 2, limit)
         }
-        Seg::Rep(_, body) | Seg::Stay(_, body) => {
-            let end = tree_end(body.as_slice(), at, limit)?;
+        Seg::Rep(turns) => {
+            let end = tree_end(turns.get().body.as_slice(), at, limit)?;
+            past(end, 2, limit)
+        }
+        Seg::Stay(inside) => {
+            let end = tree_end(inside.get().body.as_slice(), at, limit)?;
             past(end, 2, limit)
         }
         Seg::Wait => past(at, 2, limit),
@@ -101,14 +105,19 @@ pub fn seg_found(
             }
             line_found(code, *count, at, height)
         }
-        Seg::Fork(one, other) => {
+        Seg::Fork(arms) => {
+            let Arms {
+                first: one,
+                second: other,
+            } = arms.get();
             let below = height.checked_sub(1)?;
             let one = tree_found(code, known, around, one.as_slice(), next, below)?;
             let jump = instr_at(code, one.next)?;
             let other = tree_found(code, known, around, other.as_slice(), one.next + 1, below)?;
             forked(first, jump, &one, &other)
         }
-        Seg::Rep(turns, body) => {
+        Seg::Rep(turns) => {
+            let Turns { count, body } = turns.get();
             let end = tree_end(body.as_slice(), next, code.len())?;
             let inside = Around {
                 out: Some(end + 1),
@@ -116,10 +125,10 @@ pub fn seg_found(
             };
             let turn = tree_found(code, known, inside, body.as_slice(), next, 0)?;
             let last = instr_at(code, turn.next)?;
-            repeated(*turns, first, last, next, height, &turn)
+            repeated(*count, first, last, next, height, &turn)
         }
         Seg::Call(routine) => called(known, *routine, first, next, height),
-        Seg::Stay(_, _) => None,
+        Seg::Stay(_) => None,
         Seg::Wait => {
             let second = instr_at(code, next)?;
             waited(around.held, first, second, next + 1, height)

@@ -21,7 +21,7 @@ fn monitor_in(tree: &[Seg]) -> Option<u16>
     ensures { result ≡ stays_of (views tree.now) }
 {
     match tree {
-        [Seg::Stay(monitor, _)] => Some(*monitor),
+        [Seg::Stay(inside)] => Some(inside.get().monitor),
         _ => None,
     }
 }

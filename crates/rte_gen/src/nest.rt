@@ -2,6 +2,7 @@
 
 ghost use Rattle.std.specs.Prelude.{◌≡◌, ◌-◌, OnOk, pos, length, slice_get, ℕ, IfOk};
 ghost use Rattle.rte_emits.specs.Emits.{turns_of};
+ghost use Rattle.rte_seg.specs.Kept.{fork};
 ghost use Rattle.rte_seg.specs.declared.seg.Seg.TheVariants as seg;
 ghost use Rattle.rte_isa.specs.declared.instr.Instr.TheVariants as i;
 ghost use Rattle.rte_made.specs.Told.{fit as fitting};
@@ -100,7 +101,7 @@ impl Out {
         let to = fit(self.code.len() + 1);
         self.push(Instr::Jump { to })?;
         self.patch(at, Instr::JumpZero { to });
-        self.join(before, Seg::Fork(first, Segs::new(self.alloc)))
+        self.join(before, Seg::fork(self.alloc, first, Segs::new(self.alloc))?)
     }
 
     /// The second arm begins.
@@ -119,12 +120,12 @@ impl Out {
     /// The end of a choice with two arms; the first one's jump stands at `mid`.
     pub fn end_two_arms(&mut self, mid: usize, before: Segs, first: Segs) -> Result<(), AllocError>
         ensures { OnOk result (self.new ≡ joined (patched self.old mid (i.Jump (fitting (pos
-            (length self.old.code))))) before (seg.Fork first (closed self.old))) }
+            (length self.old.code))))) before (fork first (closed self.old))) }
     {
         let second = self.take()?;
         let to = fit(self.code.len());
         self.patch(mid, Instr::Jump { to });
-        self.join(before, Seg::Fork(first, second))
+        self.join(before, Seg::fork(self.alloc, first, second)?)
     }
 
     /// A loop begins: its variable gets its first number, and the segments before it are taken.
@@ -174,10 +175,8 @@ impl Out {
         let body = self.take()?;
         self.push(Instr::Repeat { to: fit(start) })?;
         self.aim(start);
-        self.join(
-            before,
-            Seg::Rep(u32::try_from(turns).unwrap_or(u32::MAX), body),
-        )
+        let turns = u32::try_from(turns).unwrap_or(u32::MAX);
+        self.join(before, Seg::rep(self.alloc, turns, body)?)
     }
 
     /// An exit from the loop around, behind its condition.
@@ -201,6 +200,6 @@ impl Out {
         self.push(Instr::Raise { number: 4 })?;
         let mut raise = Segs::new(self.alloc);
         raise.push(Seg::Line(1))?;
-        self.join(before, Seg::Fork(Segs::new(self.alloc), raise))
+        self.join(before, Seg::fork(self.alloc, Segs::new(self.alloc), raise)?)
     }
 }

@@ -19,24 +19,24 @@ pub fn put_seg(out: &mut Vec<u8>, seg: &Seg) -> Result<(), AllocError>
             put_u8(out, 1)?;
             put_u32(out, *count)?;
         }
-        Seg::Fork(first, second) => {
+        Seg::Fork(arms) => {
             put_u8(out, 2)?;
-            put_tree(out, first.as_slice())?;
-            put_tree(out, second.as_slice())?;
+            put_tree(out, arms.get().first.as_slice())?;
+            put_tree(out, arms.get().second.as_slice())?;
         }
-        Seg::Rep(turns, body) => {
+        Seg::Rep(turns) => {
             put_u8(out, 3)?;
-            put_u32(out, *turns)?;
-            put_tree(out, body.as_slice())?;
+            put_u32(out, turns.get().count)?;
+            put_tree(out, turns.get().body.as_slice())?;
         }
         Seg::Call(routine) => {
             put_u8(out, 4)?;
             put_u16(out, *routine)?;
         }
-        Seg::Stay(monitor, body) => {
+        Seg::Stay(inside) => {
             put_u8(out, 5)?;
-            put_u16(out, *monitor)?;
-            put_tree(out, body.as_slice())?;
+            put_u16(out, inside.get().monitor)?;
+            put_tree(out, inside.get().body.as_slice())?;
         }
         Seg::Wait => put_u8(out, 6)?,
         Seg::Exit => put_u8(out, 7)?,

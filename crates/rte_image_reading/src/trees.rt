@@ -47,12 +47,12 @@ fn tagged_at(
         2 => {
             let (first, rest) = tree_at(alloc, monitors, depth, bytes)?;
             let (second, rest) = tree_at(alloc, monitors, depth, rest)?;
-            Ok((Seg::Fork(first, second), rest))
+            Ok((Seg::fork(alloc, first, second)?, rest))
         }
         3 => {
             let (turns, rest) = turns_count_at(bytes)?;
             let (body, rest) = tree_at(alloc, monitors, depth, rest)?;
-            Ok((Seg::Rep(turns, body), rest))
+            Ok((Seg::rep(alloc, turns, body)?, rest))
         }
         4 => {
             let (routine, rest) = u16_at(bytes)?;
@@ -61,7 +61,7 @@ fn tagged_at(
         5 => {
             let (monitor, rest) = u16_below(bytes, monitors)?;
             let (body, rest) = tree_at(alloc, monitors, depth, rest)?;
-            Ok((Seg::Stay(monitor, body), rest))
+            Ok((Seg::stay(alloc, monitor, body)?, rest))
         }
         6 => Ok((Seg::Wait, bytes)),
         7 => Ok((Seg::Exit, bytes)),

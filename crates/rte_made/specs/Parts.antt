@@ -4,7 +4,7 @@ use Rattle.rte_tree.specs.Plain.{Answers, Handler, Process, Prog, Routine}
 use Rattle.rte_source_meaning.specs.Names.{processes}
 use Rattle.rte_isa.specs.declared.instr.Instr.{Instr}
 use Rattle.rte_isa.specs.declared.instr.Instr.TheVariants as i
-use Rattle.rte_seg.specs.declared.seg.Seg.TheVariants as seg
+use Rattle.rte_seg.specs.Kept.{stay}
 use Rattle.rte_emits.specs.Layout.{Owner, by_program, by_process, by_monitor, Scope, routine_vars_words}
 use Rattle.rte_emits.specs.Numbering.{Text, numbered}
 use Rattle.rte_emits.specs.Compiled.{process_scope, routine_scope}
@@ -39,7 +39,7 @@ entered m o = begun (push o (i.Enter (fit (pos m))))
 
 -- the monitor is left: what was made since it was entered is a stay
 abbrev pub left : ℕ → Out → Out
-left m o = joined (push o (i.Leave (fit (pos m)))) [] (seg.Stay (min m 65535) (closed o))
+left m o = joined (push o (i.Leave (fit (pos m)))) [] (stay (min m 65535) (closed o))
 
 -- a routine but for the return that ends it; an entry is a stay in its monitor
 abbrev pub routine_out : Prog → Scope → Owner → Routine → Out → Out

@@ -14,6 +14,7 @@ use Rattle.rte_made.specs.Code.{op_instr, constant_named, range_code, range_of_s
 use Rattle.rte_made.specs.Emits.{monitor_of, turns_of}
 use Rattle.rte_made.specs.Segments.{line, call_segs, expr_segs, row_segs, args_segs, index_segs, put_segs, stmt_segs, stmts_segs}
 use Rattle.rte_made.specs.View.{view, tree_of}
+use Rattle.rte_made.specs.Kept.{fork, rep}
 use Rattle.rte_made.specs.Seg.TheVariants as seg
 use Rattle.rte_measured.specs.Proper.{IsSingle, IsArray}
 use Rattle.rte_measured.specs.Names.{Names, inside}
@@ -159,7 +160,7 @@ assert_grows g c d e m test =
     let skip : Out → Instr = λ o. i.JumpZero (fit (pos (length (expr_out g c e o).code + 2))) in
     let over_it : Out → Instr = λ o. i.Jump (fit (pos (length (expr_out g c e o).code + 3))) in
     let done : Out → Out = λ o. push (push (push (expr_out g c e o) (skip o)) (over_it o)) (i.Raise (pos 4)) in
-    segment (expr_out g c e) done (expr_segs g d e) (λ o. seg.Fork [] (seg.Line 1 ∷ [])) (tree.Fork Nil (line 1 Nil)) m 3 test
+    segment (expr_out g c e) done (expr_segs g d e) (λ o. fork [] (seg.Line 1 ∷ [])) (tree.Fork Nil (line 1 Nil)) m 3 test
     (λ o. length_more (((expr_out g c e o).code ++ skip o ∷ []) ++ over_it o ∷ []) (i.Raise (pos 4) ∷ []) ∙ ap (λ k. k + 1) (length_more ((expr_out g c e o).code ++ skip o ∷ []) (over_it o ∷ []) ∙ ap (λ k. k + 1) (length_more (expr_out g c e o).code (skip o ∷ []))) ∙ omega arith)
     (λ z o h small. view_fork [] (seg.Line 1 ∷ []) ∙ ap (λ x. tree.Fork Nil (Cons x Nil)) (view_line 1)) (λ i after. refl)
 
@@ -186,7 +187,7 @@ module _ (g : Prog) (S : Type 0) (few : S → (t : Text) → number_of g t ≤ 6
       let long_done : (o : Out) → length (done o).code ≡ length (first o).code + 1 = λ o.
       length_patched ((first o).code ++ i.Jump (fit (pos (length (first o).code + 1))) ∷ []) (length (expr_out g c e o).code) (i.JumpZero (fit (pos (length (first o).code + 1))))
       ∙ length_more (first o).code (i.Jump (fit (pos (length (first o).code + 1))) ∷ []) in
-      segment (expr_out g c e) done (expr_segs g d e) (λ o. seg.Fork (closed (first o)) []) (tree.Fork (stmts_segs g d a Nil) Nil) m (1 + n + 1) test
+      segment (expr_out g c e) done (expr_segs g d e) (λ o. fork (closed (first o)) []) (tree.Fork (stmts_segs g d a Nil) Nil) m (1 + n + 1) test
       (λ o. let e0 = long_first o in let e1 = long_done o in omega arith)
       (λ z o h small.
       let e1 : length (done o).code ≡ length (first o).code + 1 = long_done o in
@@ -206,7 +207,7 @@ module _ (g : Prog) (S : Type 0) (few : S → (t : Text) → number_of g t ≤ 6
       length_patched ((first o).code ++ i.Jump (pos 0) ∷ []) (length (expr_out g c e o).code) (i.JumpZero (fit (pos (length (first o).code + 1)))) ∙ length_more (first o).code (i.Jump (pos 0) ∷ []) in
       let long_second : (o : Out) → length (second o).code ≡ length (first o).code + 1 + l = λ o. other.longer (start o) ∙ ap (λ k. k + l) (long_start o) in
       let long_done : (o : Out) → length (done o).code ≡ length (second o).code = λ o. length_patched (second o).code (length (first o).code) (i.Jump (fit (pos (length (second o).code)))) in
-      segment (expr_out g c e) done (expr_segs g d e) (λ o. seg.Fork (closed (first o)) (closed (second o))) (tree.Fork (stmts_segs g d a Nil) (stmts_segs g d b Nil)) m (1 + n + 1 + l) test
+      segment (expr_out g c e) done (expr_segs g d e) (λ o. fork (closed (first o)) (closed (second o))) (tree.Fork (stmts_segs g d a Nil) (stmts_segs g d b Nil)) m (1 + n + 1 + l) test
       (λ o. let e0 = long_first o in let e1 = long_second o in let e2 = long_done o in omega arith)
       (λ z o h small.
       let e1 : length (done o).code ≡ length (second o).code = long_done o in
@@ -241,7 +242,7 @@ module _ (g : Prog) (S : Type 0) (few : S → (t : Text) → number_of g t ≤ 6
       let same : turns ≡ turns_of (constant_value g low) (constant_value g high) = ap (λ v. turns_of v (worth g high)) (fits_low z) ∙ ap (λ v. turns_of (constant_value g low) v) (fits_high z) in
       let low_turns : turns_of (constant_value g low) (constant_value g high) ≤ 2147483647 = small_of (turns_of (constant_value g low) (constant_value g high)) (fits_turns z) in omega arith in
       told_as (stmt_out g c (loop x low high ss)) (stmt_segs g d (loop x low high ss)) (stmt_segs g d (loop x low high ss)) (2 + (n + 6)) (3 + n + 5) (λ k. refl) (omega arith)
-      (segment count done (λ k. line 2 k) (λ o. seg.Rep (min turns 4294967295) (closed (round o))) (tree.Rep (turns_of (constant_value g low) (constant_value g high)) (stmts_segs g d ss (line 4 Nil))) 2 (n + 6) (counting_grows (worth g low))
+      (segment count done (λ k. line 2 k) (λ o. rep (min turns 4294967295) (closed (round o))) (tree.Rep (turns_of (constant_value g low) (constant_value g high)) (stmts_segs g d ss (line 4 Nil))) 2 (n + 6) (counting_grows (worth g low))
       (λ o. let e0 = long_start o in let e1 = long_round o in let e2 = long_last o in let e3 = long_done o in omega arith)
       (λ z o h small.
       let e2 : length (last o).code ≡ length (round o).code + 1 = long_last o in

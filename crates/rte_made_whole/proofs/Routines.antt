@@ -7,7 +7,7 @@ use Rattle.rte_isa.specs.declared.instr.Instr.TheVariants as i
 use Rattle.rte_made_right.specs.Trees as tree
 use Rattle.rte_made_right.specs.Trees.{Segs, Nil, Cons}
 use Rattle.rte_made_right.specs.View.{view, views, tree_of}
-use Rattle.rte_made_right.specs.Seg.TheVariants as seg
+use Rattle.rte_made_right.specs.Kept.{stay}
 use Rattle.rte_whole.specs.Layout.{Owner, by_program, by_process, by_monitor, Scope, routine_vars_words}
 use Rattle.rte_whole.specs.Numbering.{Text, number_of}
 use Rattle.rte_whole.specs.Code.{code_of, range_code}
@@ -193,7 +193,7 @@ module _ (g : Prog) (S : Type 0) (few : S → (t : Text) → number_of g t ≤ 6
       let less : length o.code ≤ 4294967295 = omega arith in
       let nothing : length all - length all ≡ 0 = omega arith in
       let same : min n 65535 ≡ n = omega arith in
-      ap (λ x. tree_of (map view (seg.Stay (min n 65535) (closed o) ∷ line_of x))) nothing
+      ap (λ x. tree_of (map view (stay (min n 65535) (closed o) ∷ line_of x))) nothing
       ∙ ap (λ s. Cons s Nil) (view_stay (min n 65535) (closed o) ∙ ap (λ x. tree.Stay x (views (closed o))) same ∙ ap (λ x. tree.Stay n x) (inner_tree z (entered n (opened w k)) refl refl less))
 
 pub body_grows : (g : Prog) (S : Type 0) → (S → (t : Text) → number_of g t ≤ 65535) → (may : Text → Type 0) (t : Text) → (S → RoutineFits g t) → SoundRoutine g may t

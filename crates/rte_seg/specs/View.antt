@@ -12,10 +12,10 @@ tree_of (s ∷ ss) = tree.Cons s (tree_of ss)
 -- one level, whose inner segments are already seen as plain data
 abbrev pub view_step : Seg-F tree.Seg → tree.Seg
 view_step (Seg-F.Line count) = tree.Line count
-view_step (Seg-F.Fork first second) = tree.Fork (tree_of first) (tree_of second)
-view_step (Seg-F.Rep turns body) = tree.Rep turns (tree_of body)
+view_step (Seg-F.Fork arms) = tree.Fork (tree_of arms.first) (tree_of arms.second)
+view_step (Seg-F.Rep turns) = tree.Rep turns.count (tree_of turns.body)
 view_step (Seg-F.Call routine) = tree.Call routine
-view_step (Seg-F.Stay monitor body) = tree.Stay monitor (tree_of body)
+view_step (Seg-F.Stay inside) = tree.Stay inside.monitor (tree_of inside.body)
 view_step Seg-F.Wait = tree.Wait
 view_step Seg-F.Exit = tree.Exit
 

@@ -4,6 +4,8 @@
 //! meaning speaks of.
 #![tactic(auto)]
 
+mod boxed;
 mod seg;
 
-pub use seg::{Seg, Segs};
+pub use boxed::Boxed;
+pub use seg::{Arms, Inside, Seg, Segs, Turns};

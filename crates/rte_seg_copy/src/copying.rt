@@ -14,19 +14,19 @@ fn copied_seg(alloc: Global, seg: &Seg) -> Result<Seg, AllocError>
 {
     match seg {
         Seg::Line(count) => Ok(Seg::Line(*count)),
-        Seg::Fork(first, second) => {
-            let first = copied_tree(alloc, first.as_slice())?;
-            let second = copied_tree(alloc, second.as_slice())?;
-            Ok(Seg::Fork(first, second))
+        Seg::Fork(arms) => {
+            let first = copied_tree(alloc, arms.get().first.as_slice())?;
+            let second = copied_tree(alloc, arms.get().second.as_slice())?;
+            Seg::fork(alloc, first, second)
         }
-        Seg::Rep(turns, body) => {
-            let body = copied_tree(alloc, body.as_slice())?;
-            Ok(Seg::Rep(*turns, body))
+        Seg::Rep(turns) => {
+            let body = copied_tree(alloc, turns.get().body.as_slice())?;
+            Seg::rep(alloc, turns.get().count, body)
         }
         Seg::Call(routine) => Ok(Seg::Call(*routine)),
-        Seg::Stay(monitor, body) => {
-            let body = copied_tree(alloc, body.as_slice())?;
-            Ok(Seg::Stay(*monitor, body))
+        Seg::Stay(inside) => {
+            let body = copied_tree(alloc, inside.get().body.as_slice())?;
+            Seg::stay(alloc, inside.get().monitor, body)
         }
         Seg::Wait => Ok(Seg::Wait),
         Seg::Exit => Ok(Seg::Exit),

@@ -136,6 +136,14 @@ impl Shape {
         &self.raw.names
     }
 
+    /// No part of its validity before bounds has a fault, and its numbers are in their ranges. The
+    /// call does nothing.
+    pub fn has_no_fault_before_bounds(&self)
+        ensures { IsShape self.now }
+    {
+        let _raw = &self.raw;
+    }
+
     /// The ticks of one dispatch.
     pub fn overhead(&self) -> u16
         ensures { result ≡ self.now.image.over }
@@ -178,6 +186,13 @@ impl Shape {
             words: there.words,
             ceiling: there.ceiling,
         }
+    }
+
+    /// How many processes there are.
+    pub fn processes(&self) -> u16
+        ensures { result ≡ length self.now.image.processes }
+    {
+        self.raw.processes.len() as u16
     }
 
     /// How many routines there are.

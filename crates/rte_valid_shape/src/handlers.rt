@@ -35,9 +35,10 @@ fn seg_waits(waits: &[bool], seg: &Seg) -> bool
         Seg::Line(_) | Seg::Exit => false,
         Seg::Wait => true,
         Seg::Call(routine) => waits_at(waits, *routine as usize),
-        Seg::Rep(_, body) | Seg::Stay(_, body) => tree_waits(waits, body.as_slice()),
-        Seg::Fork(first, second) => tree_waits(waits, first.as_slice())
-            || tree_waits(waits, second.as_slice()),
+        Seg::Rep(turns) => tree_waits(waits, turns.get().body.as_slice()),
+        Seg::Stay(inside) => tree_waits(waits, inside.get().body.as_slice()),
+        Seg::Fork(arms) => tree_waits(waits, arms.get().first.as_slice())
+            || tree_waits(waits, arms.get().second.as_slice()),
     }
 }
 
