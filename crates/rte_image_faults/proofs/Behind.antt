@@ -1,5 +1,5 @@
 -- I3 stands behind the bytes of an image, or of one without code that lacks a process.
-use Rattle.std.proofs.Common.{◌≡◌, ◌⊎◌, inl, inr, ◌≤◌, ◌<◌, ◌-◌, ◌+◌, ◌++◌, ℕ, zero, suc, Bool, true, false, List, [], ◌∷◌, length, take, drop, Ok, Err, refl, sym, ap, ◌∙◌, subst, arith, append_assoc, length-append, length-drop}
+use Rattle.std.proofs.Common.{◌≡◌, ◌⊎◌, inl, inr, ◌≤◌, ◌<◌, ◌-◌, ◌+◌, ◌++◌, ℕ, Bool, true, false, List, [], ◌∷◌, length, take, drop, Ok, Err, refl, sym, ap, ◌∙◌, subst, arith, append_assoc, length-append, length-drop}
 use Rattle.std.specs.Prelude.{codes, map}
 use Rattle.std.proofs.lemmas.Bool.{eqb-false}
 use Rattle.std.proofs.lemmas.List.{take-append-drop, length-take-le}
@@ -8,10 +8,9 @@ use Rattle.rte_isa.specs.declared.instr.Instr.{Instr}
 use Rattle.rte_image.specs.Bytes.{Version, First, Second, bytes_of}
 use Rattle.rte_image_reading.specs.declared.counts.Counts.{Counts}
 use Rattle.rte_image_reading.specs.declared.fault.Fault.{Fault}
-use Rattle.rte_image_reading.specs.Format.{Format, ◌>>=◌, fault, both}
+use Rattle.rte_image_reading.specs.Format.{Format, fault, both}
 use Rattle.rte_image_reading.specs.Grammar as g
 use Rattle.rte_image_reading.specs.File as f
-use Rattle.rte_image_reading.specs.Law.{AreBytes}
 use Rattle.rte_image_sound.proofs.Fields.{each_long}
 use Rattle.rte_image_sound.proofs.Whole.{image_is_written, code_is}
 use Rattle.rte_image_faults.specs.Faults as s
@@ -22,7 +21,7 @@ use Rattle.rte_image_faults.proofs.Failed.{stops, goes_on, second_of}
 use Rattle.rte_image_faults.proofs.Heard.{read_begins}
 use Rattle.rte_image_faults.proofs.Sound.{sound}
 use Rattle.rte_image_faults.proofs.Grammar.{a_name, some_counts}
-use Rattle.rte_image_faults.proofs.Chain.{pieces, Unused}
+use Rattle.rte_image_faults.proofs.Chain.{pieces}
 use Rattle.rte_image_faults.proofs.Files.{at_place}
 use Rattle.rte_image_faults.proofs.ByNumber.{Kind, at_end, letters, versions, inner, trailing, More, FileKind, is_long, is_kind, is_behind, file_kind, of_file, number_of, left_of}
 use Rattle.rte_image_faults.proofs.Whole as w

@@ -1,11 +1,8 @@
 -- The faults of a file by their numbers.
-use Rattle.std.proofs.Common.{◌≡◌, ◌⊎◌, inl, inr, ◌≤◌, ◌<◌, ◌-◌, ◌+◌, ◌++◌, ℕ, zero, suc, Bool, true, false, List, [], ◌∷◌, length, take, drop, Ok, Err, refl, sym, ap, ◌∙◌, subst, arith, length-append}
+use Rattle.std.proofs.Common.{◌≡◌, ◌⊎◌, inl, inr, ◌≤◌, ◌<◌, ◌-◌, ◌++◌, ℕ, zero, suc, true, List, [], ◌∷◌, length, Ok, Err, refl, sym, ap, ◌∙◌, arith}
 use Rattle.std.specs.Prelude.{codes}
 use Rattle.std.proofs.lemmas.Bool.{eqb-false}
-use Rattle.std.proofs.lemmas.List.{take-append-drop}
-use Rattle.std.proofs.Math.Seq.{take-append_seam, drop-append_seam}
 use Rattle.rte_image.specs.Bytes.{Version}
-use Rattle.rte_image_reading.specs.declared.counts.Counts.{Counts}
 use Rattle.rte_image_reading.specs.declared.fault.Fault.{Fault}
 use Rattle.rte_image_reading.specs.Format.{fault}
 use Rattle.rte_image_reading.specs.File as f
@@ -14,13 +11,11 @@ use Rattle.rte_image_reading.specs.Law.{AreBytes}
 use Rattle.rte_image_faults.specs.Faults as s
 use Rattle.rte_image_faults.specs.Faults.{pair, IsFileFault}
 use Rattle.rte_image_faults.specs.Laws as l
-use Rattle.rte_image_faults.proofs.Failed.{stops, goes_on}
 use Rattle.rte_image_faults.proofs.Made.{heard}
 use Rattle.rte_image_faults.proofs.Known.{Inner}
 use Rattle.rte_image_faults.proofs.Chain.{Failure, Unused, in_letters, in_version, in_content, no_process, image_fails}
-use Rattle.rte_image_faults.proofs.Front.{Letters, Other, letters_fail, letters_told, version_fails, version_told}
+use Rattle.rte_image_faults.proofs.Front.{Letters, Other, letters_fail, version_fails}
 use Rattle.rte_image_faults.proofs.Files.{FileFailure, too_long, by_format, behind, file_failed, at_place, is_told}
-use Rattle.rte_image_faults.proofs.Whole as w
 use Rattle.rte_image_faults.proofs.Whole.{image_made}
 
 -- ---- by the format

@@ -1,15 +1,11 @@
 -- Where reading an image by its format fails.
-use Rattle.std.proofs.Common.{◌≡◌, ◌⊎◌, inl, inr, ◌++◌, ℕ, Bool, true, false, List, [], ◌∷◌, length, Ok, Err, refl, sym, ap, ◌∙◌, subst}
-use Rattle.std.specs.Prelude.{map, codes, nat_eq}
+use Rattle.std.proofs.Common.{◌≡◌, ◌⊎◌, inl, inr, ◌++◌, ℕ, Bool, true, false, List, [], ◌∷◌, length, Ok, Err, refl, ap, ◌∙◌}
+use Rattle.std.specs.Prelude.{codes, nat_eq}
 use Rattle.std.specs.Cmp.Lexicographic.{pointwise}
-use Rattle.rte_isa.specs.declared.instr.Instr.{Instr}
-use Rattle.rte_machine_meaning.specs.Image.{Monitor, Routine, Process}
 use Rattle.rte_image.specs.Bytes.{Version}
-use Rattle.rte_image.specs.declared.names.CondName.{CondName}
-use Rattle.rte_image.specs.declared.names.DevName.{DevName}
 use Rattle.rte_image_reading.specs.declared.counts.Counts.{Counts}
 use Rattle.rte_image_reading.specs.declared.fault.Fault.{Fault}
-use Rattle.rte_image_reading.specs.Format.{Format, ◌>>=◌, fault, bytes_as_are, is_fine, both}
+use Rattle.rte_image_reading.specs.Format.{Format, fault, bytes_as_are, is_fine, both}
 use Rattle.rte_image_reading.specs.Grammar as g
 use Rattle.rte_image_reading.specs.File as f
 use Rattle.rte_image_reading.specs.Law.{AreBytes}

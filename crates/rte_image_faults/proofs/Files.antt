@@ -1,10 +1,10 @@
 -- What reading a whole file tells, and what its bytes have.
-use Rattle.std.proofs.Common.{◌≡◌, ◌⊎◌, inl, inr, ◌≤◌, ◌<◌, ◌-◌, ◌+◌, ◌++◌, ℕ, Bool, true, false, List, [], ◌∷◌, length, Ok, Err, refl, sym, ap, ◌∙◌, subst, arith, length-append}
+use Rattle.std.proofs.Common.{◌≡◌, inl, inr, ◌≤◌, ◌<◌, ◌-◌, ◌+◌, ℕ, Bool, true, false, List, [], ◌∷◌, length, Ok, Err, refl, sym, ap, ◌∙◌, subst, arith, length-append}
 use Rattle.std.specs.Prelude.{nat_lt, if◌then◌else◌}
 use Rattle.std.proofs.lemmas.Bool.{le-ltb, lt-ltb, ltb-true, ltb-false}
 use Rattle.rte_image.specs.Bytes.{Version}
 use Rattle.rte_image_reading.specs.declared.fault.Fault.{Fault}
-use Rattle.rte_image_reading.specs.Format.{Read, ◌>>=◌, fault}
+use Rattle.rte_image_reading.specs.Format.{Read, fault}
 use Rattle.rte_image_reading.specs.File as f
 use Rattle.rte_image_reading.specs.Answer.{HasFault}
 use Rattle.rte_image_reading.specs.Law.{AreBytes}
@@ -79,8 +79,8 @@ is_told bytes number offset (s.is_behind {image = x} {b = b} {more = more} few b
   left = length (b ∷ more);
   is_read = few_read bytes (fault 3 (length (b ∷ more))) few (goes_on (f.image_format.read bytes) f.ended (x, b ∷ more) (fault 3 (length (b ∷ more))) (begins_read (pair s.version s.parts) f.image_format bytes x (b ∷ more) begins) refl);
   place =
-    let long : length bytes ≡ length (f.image_format.write x) + length (b ∷ more) = ap (λ (all : List ℕ). length all) begins.are ∙ length-append (f.image_format.write x) (b ∷ more) in
-    omega (arith, long);
+      let long : length bytes ≡ length (f.image_format.write x) + length (b ∷ more) = ap (λ (all : List ℕ). length all) begins.are ∙ length-append (f.image_format.write x) (b ∷ more) in
+      omega (arith, long);
 }
 
 pub told_exactly : FaultsAreToldExactly

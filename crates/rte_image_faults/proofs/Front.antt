@@ -1,13 +1,12 @@
 -- The letters and the version of a file, and the fault where they are others.
-use Rattle.std.proofs.Common.{◌≡◌, ◌⊎◌, inl, inr, ◌≤◌, ◌<◌, ◌||◌, ◌==◌, ◌++◌, ℕ, Bool, true, false, List, [], ◌∷◌, length, take, drop, Ok, Err, Option, Some, None, refl, sym, ap, ◌∙◌, arith}
-use Rattle.std.specs.Prelude.{nat_lt, nat_eq, codes, if◌then◌else◌}
+use Rattle.std.proofs.Common.{◌≡◌, ◌⊎◌, inl, inr, ◌≤◌, ◌||◌, ◌==◌, ◌++◌, ℕ, Bool, true, false, List, [], ◌∷◌, length, take, drop, Ok, Err, Some, refl, sym, ap, ◌∙◌}
+use Rattle.std.specs.Prelude.{nat_lt, nat_eq, codes}
 use Rattle.std.specs.Int.{w16, from_be_bytes}
 use Rattle.std.specs.Cmp.Lexicographic.{pointwise}
 use Rattle.std.proofs.lemmas.Bool.{le-ltb, ltb-false, eqb-true}
-use Rattle.std.proofs.lemmas.Cmp.{nat_list_eq_equiv}
 use Rattle.rte_image.specs.Numbers as written
 use Rattle.rte_image_reading.specs.declared.fault.Fault.{Fault}
-use Rattle.rte_image_reading.specs.Format.{Format, Read, ◌>>=◌, fault, field_at, u16, bytes_as_are, unless, checked, passed}
+use Rattle.rte_image_reading.specs.Format.{fault, field_at, u16, bytes_as_are, unless, checked, passed}
 use Rattle.rte_image_reading.specs.File as f
 use Rattle.rte_image_reading.specs.Law.{AreBytes}
 use Rattle.rte_image_reading.proofs.SoundFields.{u16_sound}

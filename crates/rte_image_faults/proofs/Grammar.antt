@@ -1,15 +1,12 @@
 -- The names, counts, routines and processes of an image are put together of fields.
-use Rattle.std.proofs.Common.{◌≡◌, ◌⊎◌, ◌≤◌, ◌||◌, ◌==◌, ◌&&◌, ◌++◌, ℕ, zero, suc, Bool, true, false, List, [], ◌∷◌, length, Option, Some, None, refl, ap, arith}
-use Rattle.std.specs.Prelude.{not, nat_lt, nat_le, nat_eq}
-use Rattle.std.specs.List.{list_any}
-use Rattle.std.proofs.lemmas.Bool.{eqb-true, eq-eqb}
+use Rattle.std.proofs.Common.{◌≡◌, ◌||◌, ◌==◌, ◌&&◌, ℕ, zero, suc, Bool, true, List, length, refl, ap, arith}
+use Rattle.std.specs.Prelude.{not, nat_lt, nat_le}
+use Rattle.std.proofs.lemmas.Bool.{eqb-true}
 use Rattle.rte_lex.specs.Spellings.{is_identifier, keywords}
-use Rattle.rte_machine_meaning.specs.Image.{Process}
 use Rattle.rte_machine_meaning.specs.Trees.{Segs}
-use Rattle.rte_image.specs.Bytes.{Version, First, Second}
 use Rattle.rte_image.specs.declared.names.CondName.{CondName}
 use Rattle.rte_image_reading.specs.declared.counts.Counts.{Counts}
-use Rattle.rte_image_reading.specs.Format.{Format, u8, u16, u32, bytes_as_are, unless, checked, both, via, each_is}
+use Rattle.rte_image_reading.specs.Format.{Format, u8, u16, u32, bytes_as_are, unless, checked, both, via}
 use Rattle.rte_image_reading.specs.TreeFormat.{within, u32_within, u16_within, u16_below, tree_format}
 use Rattle.rte_image_reading.specs.Grammar as g
 use Rattle.rte_image_reading.proofs.Booleans.{parts}

@@ -1,11 +1,10 @@
 -- A fault that reading tells is one that the bytes have.
-use Rattle.std.proofs.Common.{◌≡◌, ◌⊎◌, inl, inr, ◌<◌, ◌≤◌, ◌==◌, ◌&&◌, ◌++◌, ℕ, zero, suc, Bool, true, false, List, [], ◌∷◌, length, take, drop, Result, Ok, Err, Option, Some, None, refl, sym, ap, ◌∙◌, subst, arith}
+use Rattle.std.proofs.Common.{◌≡◌, inl, inr, ◌<◌, ◌==◌, ◌++◌, ℕ, zero, suc, Bool, true, false, List, [], ◌∷◌, length, take, drop, Ok, Err, Option, Some, None, refl, subst}
 use Rattle.std.specs.Prelude.{nat_le, nat_lt, slice_index, if◌then◌else◌}
 use Rattle.std.specs.Int.{w16, w32, cast_signed, from_be_bytes}
-use Rattle.std.proofs.lemmas.Bool.{le-ltb, ltb-true, ltb-false}
-use Rattle.rte_machine_meaning.specs.Trees.{Seg, Segs}
+use Rattle.std.proofs.lemmas.Bool.{ltb-true}
 use Rattle.rte_image_reading.specs.declared.fault.Fault.{Fault}
-use Rattle.rte_image_reading.specs.Format.{Format, Read, ◌>>=◌, fault, field_at, u8, u16, u32, given, unless, passed, checked, both, via, each, each_read}
+use Rattle.rte_image_reading.specs.Format.{Read, fault, field_at, u8, unless, passed, checked, both, via, each, each_read}
 use Rattle.rte_image_reading.specs.Grammar.{flag_format, some_format}
 use Rattle.rte_image_reading.specs.Law.{AreBytes}
 use Rattle.rte_image_reading.proofs.Sound.{bytes_after}

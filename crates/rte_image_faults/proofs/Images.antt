@@ -1,7 +1,7 @@
 -- A file holds an image, and has no fault, or it has a fault.
-use Rattle.std.proofs.Common.{◌≡◌, ◌⊎◌, inl, inr, ◌≤◌, ◌-◌, ◌++◌, ℕ, Bool, true, false, List, [], ◌∷◌, length, Result, Ok, Err, refl, sym, ap, ◌∙◌, subst}
+use Rattle.std.proofs.Common.{◌≡◌, ◌⊎◌, inl, inr, ◌≤◌, ◌-◌, ℕ, Bool, true, false, List, [], ◌∷◌, length, Result, Ok, Err, refl, sym, ap, ◌∙◌, subst}
 use Rattle.std.specs.Prelude.{nat_lt}
-use Rattle.rte_image.specs.Bytes.{Version, bytes_of}
+use Rattle.rte_image.specs.Bytes.{Version}
 use Rattle.rte_image_reading.specs.declared.fault.Fault.{Fault}
 use Rattle.rte_image_reading.specs.File as f
 use Rattle.rte_image_reading.specs.Law.{AreBytes}

@@ -1,8 +1,7 @@
 -- The instructions of an image are put together of fields.
-use Rattle.std.proofs.Common.{◌≡◌, ◌≤◌, ◌<◌, ◌||◌, ◌&&◌, ◌++◌, ℕ, zero, suc, Bool, true, ℤ, List, [], ◌∷◌, refl, arith}
+use Rattle.std.proofs.Common.{◌≡◌, ◌<◌, ◌||◌, ◌&&◌, ◌++◌, ℕ, Bool, true, ℤ, List, [], ◌∷◌, arith}
 use Rattle.std.specs.Prelude.{nat_lt, nat_le, pos}
 use Rattle.std.specs.Ordering.{int_eq}
-use Rattle.std.specs.Int.{w32, cast_unsigned}
 use Rattle.std.proofs.lemmas.Bool.{ltb-true}
 use Rattle.rte_isa.specs.declared.instr.Instr.{Instr}
 use Rattle.rte_isa.specs.Bytes.{number, operands, word_bytes}

@@ -1,19 +1,14 @@
 -- Formats of which it is known that they are put together of fields, and which numbers their faults have.
-use Rattle.std.proofs.Common.{◌≡◌, ◌⊎◌, inl, inr, ◌≤◌, ◌==◌, ◌&&◌, ◌++◌, ℕ, zero, suc, Bool, true, false, List, [], ◌∷◌, length, Ok, Err, Option, Some, None, refl, ap, subst, arith}
+use Rattle.std.proofs.Common.{◌≡◌, ◌⊎◌, inl, inr, ◌≤◌, ◌==◌, ◌&&◌, ◌++◌, ℕ, zero, suc, Bool, true, false, List, [], ◌∷◌, length, Err, Option, Some, subst, arith}
 use Rattle.std.specs.Prelude.{nat_le, nat_lt}
-use Rattle.std.proofs.lemmas.Bool.{leb-true}
-use Rattle.rte_machine_meaning.specs.Trees.{Seg, Segs, Line, Fork, Rep, Call, Stay, Cons}
 use Rattle.rte_image_reading.specs.declared.fault.Fault.{Fault}
-use Rattle.rte_image_reading.specs.Format.{Format, ◌>>=◌, fault, u8, u16, u32, given, unless, passed, checked, both, via, each, each_read}
-use Rattle.rte_image_reading.specs.TreeFormat.{within, line_count, turns_count, u16_below, u32_within, u16_within, tagged, seg_read, seg_format, segs_read, row_format, too_deep, tree_format}
+use Rattle.rte_image_reading.specs.Format.{Format, fault, u8, u16, u32, given, unless, checked, both, via, each, each_read}
+use Rattle.rte_image_reading.specs.TreeFormat.{u16_below, u32_within, u16_within}
 use Rattle.rte_image_reading.specs.Grammar.{flag_format, some_format}
-use Rattle.rte_image_reading.proofs.Booleans.{parts}
 use Rattle.rte_image_faults.specs.Faults as s
 use Rattle.rte_image_faults.specs.Faults.{Sort, Thing, Form, IsField, IsMade, IsTest, IsView, pair, natural, list, truth, optional, segment, tree}
-use Rattle.rte_image_faults.proofs.Failed.{Failed, failed, failed_only, second_of, rule_of, list_of, rest_of}
+use Rattle.rte_image_faults.proofs.Failed.{Failed, failed, failed_only, second_of, rule_of, list_of}
 use Rattle.rte_image_faults.proofs.Heard.{short, wrong_is}
-use Rattle.rte_image_faults.proofs.Told.{unknown}
-use Rattle.rte_image_faults.proofs.Trees.{seen}
 
 -- the end of the bytes, or a number from 4 to 8
 abbrev pub Inner : Fault → Type 0

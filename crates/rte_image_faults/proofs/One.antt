@@ -1,16 +1,16 @@
 -- I1 stands at the letters or at the version of a file, where they are others.
-use Rattle.std.proofs.Common.{◌≡◌, ◌⊎◌, inl, inr, ◌≤◌, ◌<◌, ◌-◌, ◌+◌, ◌++◌, ℕ, zero, suc, List, [], ◌∷◌, length, take, drop, Ok, Err, refl, sym, ap, ◌∙◌, subst, arith, length-append, length-drop}
+use Rattle.std.proofs.Common.{◌≡◌, ◌⊎◌, inl, inr, ◌≤◌, ◌-◌, ◌+◌, ◌++◌, ℕ, List, [], ◌∷◌, length, take, drop, Ok, Err, refl, sym, ap, ◌∙◌, subst, arith, length-append}
 use Rattle.std.specs.Prelude.{codes}
 use Rattle.std.proofs.lemmas.Bool.{eqb-false}
 use Rattle.std.proofs.lemmas.List.{take-append-drop}
-use Rattle.rte_image_reading.specs.Format.{◌>>=◌, fault, both}
+use Rattle.rte_image_reading.specs.Format.{fault, both}
 use Rattle.rte_image_reading.specs.File as f
 use Rattle.rte_image_reading.specs.Law.{AreBytes}
 use Rattle.rte_image_reading.proofs.Sound.{bytes_after}
 use Rattle.rte_image_faults.specs.Faults.{IsFileFault, list, natural}
 use Rattle.rte_image_faults.specs.Laws as l
 use Rattle.rte_image_faults.proofs.Failed.{stops, goes_on, second_of}
-use Rattle.rte_image_faults.proofs.Front.{Letters, Other, letters_told, version_told}
+use Rattle.rte_image_faults.proofs.Front.{Other, letters_told, version_told}
 use Rattle.rte_image_faults.proofs.ByNumber.{Kind, at_end, letters, versions, inner, trailing, FileKind, is_long, is_kind, is_behind, file_kind, of_file, number_of, left_of}
 use Rattle.rte_image_faults.proofs.Sound.{sound}
 use Rattle.rte_image_faults.proofs.Whole.{after_magic, magic_made}

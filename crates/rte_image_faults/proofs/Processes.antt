@@ -1,18 +1,17 @@
 -- The processes of an image are put together of fields.
-use Rattle.std.proofs.Common.{◌≡◌, ◌⊎◌, ◌≤◌, ◌||◌, ◌==◌, ◌&&◌, ◌++◌, ℕ, zero, suc, Bool, true, false, List, [], ◌∷◌, length, Option, Some, None, refl, ap, arith}
-use Rattle.std.specs.Prelude.{not, nat_lt, nat_le, nat_eq}
+use Rattle.std.proofs.Common.{◌≡◌, ◌||◌, ◌==◌, ◌&&◌, ℕ, zero, suc, true, List, [], length, Option, Some, None, refl, ap, arith}
+use Rattle.std.specs.Prelude.{not, nat_lt, nat_eq}
 use Rattle.std.specs.List.{list_any}
 use Rattle.std.proofs.lemmas.Bool.{eqb-true, eq-eqb}
 use Rattle.rte_machine_meaning.specs.Image.{Process}
 use Rattle.rte_machine_meaning.specs.Trees.{Segs}
 use Rattle.rte_image.specs.Bytes.{Version, First, Second}
 use Rattle.rte_image_reading.specs.declared.counts.Counts.{Counts}
-use Rattle.rte_image_reading.specs.Format.{Format, u16, u32, given, unless, checked, both}
+use Rattle.rte_image_reading.specs.Format.{Format, u16, u32, checked, both}
 use Rattle.rte_image_reading.specs.TreeFormat.{u32_within, tree_format}
 use Rattle.rte_image_reading.specs.Grammar as g
 use Rattle.rte_image_reading.proofs.Booleans.{parts}
 use Rattle.rte_image_sound.proofs.Fields.{each_long}
-use Rattle.rte_image_faults.specs.Faults as s
 use Rattle.rte_image_faults.specs.Faults.{Sort, natural, process, tree, optional, pair, list}
 use Rattle.rte_image_faults.proofs.Known as k
 use Rattle.rte_image_faults.proofs.Known.{Known, Tells, unless_tells}

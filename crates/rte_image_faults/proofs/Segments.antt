@@ -1,9 +1,9 @@
 -- The bytes of a segment are those that it is read from, since those of a tree of one segment are.
-use Rattle.std.proofs.Common.{◌≡◌, ◌<◌, ◌+◌, ◌&&◌, ◌++◌, ℕ, zero, suc, true, List, [], ◌∷◌, length, take, drop, Ok, Err, refl, sym, ap, ◌∙◌, arith, length-append}
+use Rattle.std.proofs.Common.{◌≡◌, ◌<◌, ◌++◌, ℕ, suc, true, List, [], ◌∷◌, length, take, drop, Ok, Err, refl, sym, ap, ◌∙◌, arith}
 use Rattle.rte_machine_meaning.specs.Trees.{Seg, Segs, Nil, Cons}
 use Rattle.rte_image.specs.Numbers as written
 use Rattle.rte_image.specs.TreeBytes.{seg_bytes}
-use Rattle.rte_image_reading.specs.Format.{Format, Read, ◌>>=◌, fault, u32}
+use Rattle.rte_image_reading.specs.Format.{Format, Read, ◌>>=◌, fault}
 use Rattle.rte_image_reading.specs.TreeFormat.{seg_format, segs_read, tree_format}
 use Rattle.rte_image_reading.specs.Law.{AreBytes, IsSound}
 use Rattle.rte_image_reading.proofs.Booleans.{parts, together}

@@ -1,12 +1,11 @@
 -- A fault that the bytes have is the one that reading tells.
-use Rattle.std.proofs.Common.{Bool, true, false, ◌≡◌, ◌⊎◌, inl, inr, ◌&&◌, ◌≤◌, arith, ◌<◌, ◌==◌, ◌++◌, ℕ, zero, suc, List, [], ◌∷◌, length, Result, Ok, Err, Option, Some, None, refl, sym, ap, ◌∙◌, subst}
-use Rattle.std.specs.Prelude.{nat_le, nat_lt}
+use Rattle.std.proofs.Common.{Bool, true, false, ◌≡◌, inl, inr, ◌&&◌, ◌≤◌, arith, ◌==◌, ◌++◌, ℕ, zero, suc, List, [], ◌∷◌, length, Ok, Err, Option, Some, refl, ap, ◌∙◌}
+use Rattle.std.specs.Prelude.{nat_le}
 use Rattle.std.proofs.lemmas.Bool.{le-ltb, ne_eqb}
 use Rattle.rte_machine_meaning.specs.Trees.{Seg, Segs, Line, Fork, Rep, Call, Stay}
 use Rattle.rte_image_reading.specs.declared.fault.Fault.{Fault}
-use Rattle.rte_image_reading.specs.Format.{Format, Read, ◌>>=◌, fault, u8, u16, u32, unless, passed, checked, both, each, each_read}
-use Rattle.rte_image_reading.specs.TreeFormat.{line_count, turns_count, u16_below, tagged, seg_read, seg_format, segs_read, row_format}
-use Rattle.rte_image_reading.proofs.SoundFields.{u8_sound}
+use Rattle.rte_image_reading.specs.Format.{Format, Read, ◌>>=◌, fault, u8, u32, unless, passed, checked, both, each, each_read}
+use Rattle.rte_image_reading.specs.TreeFormat.{tagged, seg_read, segs_read, row_format}
 use Rattle.rte_image_faults.specs.Faults as s
 use Rattle.rte_image_faults.specs.Faults.{Sort, Thing, Form, Begins, Follows, IsFault, tag_format, pair, natural, list, segment}
 use Rattle.rte_image_faults.proofs.Failed.{stops, goes_on, Failed, failed, failed_only, second_of, rule_of, list_of, row_fails}

@@ -1,11 +1,11 @@
 -- The numbers of the faults of segments and of trees.
-use Rattle.std.proofs.Common.{◌≡◌, ◌⊎◌, inl, inr, ◌≤◌, ◌==◌, ◌&&◌, ◌++◌, ℕ, zero, suc, Bool, true, false, List, [], ◌∷◌, length, Ok, Err, Option, Some, None, refl, sym, ap, ◌∙◌, subst, arith}
-use Rattle.std.specs.Prelude.{nat_le, nat_lt}
+use Rattle.std.proofs.Common.{◌≡◌, inl, inr, ◌&&◌, ℕ, zero, suc, Bool, true, false, List, length, Err, refl, arith}
+use Rattle.std.specs.Prelude.{nat_le}
 use Rattle.std.proofs.lemmas.Bool.{leb-true}
 use Rattle.rte_machine_meaning.specs.Trees.{Seg, Segs, Line, Fork, Rep, Call, Stay, Cons}
 use Rattle.rte_image_reading.specs.declared.fault.Fault.{Fault}
-use Rattle.rte_image_reading.specs.Format.{Format, ◌>>=◌, fault, u8, u16, u32, both}
-use Rattle.rte_image_reading.specs.TreeFormat.{line_count, turns_count, u16_below, tagged, seg_read, seg_format, segs_read, row_format, too_deep, tree_format}
+use Rattle.rte_image_reading.specs.Format.{Format, ◌>>=◌, u8, u16, u32, both}
+use Rattle.rte_image_reading.specs.TreeFormat.{line_count, turns_count, u16_below, tagged, seg_read, seg_format, segs_read, row_format, tree_format}
 use Rattle.rte_image_reading.proofs.Booleans.{parts}
 use Rattle.rte_image_faults.specs.Faults as s
 use Rattle.rte_image_faults.specs.Faults.{tree}

@@ -1,17 +1,17 @@
 -- A fault that reading tells of a segment or of a tree is one that the bytes have.
-use Rattle.std.proofs.Common.{◌≡◌, ◌⊎◌, inl, inr, ◌<◌, ◌≤◌, ◌==◌, ◌&&◌, ◌++◌, ℕ, zero, suc, Bool, true, false, List, [], ◌∷◌, length, Result, Ok, Err, Option, Some, None, refl, sym, ap, ◌∙◌, subst, arith}
+use Rattle.std.proofs.Common.{◌≡◌, inl, inr, ◌&&◌, ℕ, zero, suc, Bool, true, false, List, [], ◌∷◌, length, Ok, Err, Option, refl, sym, ap, ◌∙◌, subst, arith}
 use Rattle.std.specs.Prelude.{nat_le, nat_lt}
 use Rattle.std.proofs.lemmas.Bool.{lt-ltb, leb-true}
-use Rattle.rte_machine_meaning.specs.Trees.{Seg, Segs, Line, Fork, Rep, Call, Stay, Cons}
+use Rattle.rte_machine_meaning.specs.Trees.{Seg, Segs, Line, Fork, Rep, Call, Stay}
 use Rattle.rte_image_reading.specs.declared.fault.Fault.{Fault}
-use Rattle.rte_image_reading.specs.Format.{Format, Read, ◌>>=◌, fault, u8, u16, u32, unless, passed, checked, both, each}
+use Rattle.rte_image_reading.specs.Format.{Format, Read, ◌>>=◌, fault, u8, u16, u32, unless, checked, both}
 use Rattle.rte_image_reading.specs.TreeFormat.{within, line_count, turns_count, u16_below, tagged, seg_read, seg_format, segs_read, row_format, too_deep, tree_format}
 use Rattle.rte_image_reading.specs.Law.{AreBytes}
 use Rattle.rte_image_reading.proofs.Booleans.{parts}
 use Rattle.rte_image_reading.proofs.SoundFields.{u8_sound}
 use Rattle.rte_image_faults.specs.Faults as s
 use Rattle.rte_image_faults.specs.Faults.{Sort, Thing, Form, IsMade, IsFault, Follows, tag_format, pair, natural, list, segment, tree}
-use Rattle.rte_image_faults.proofs.Failed.{Failed, failed, failed_only, stops, goes_on, second_of, rest_of, list_fails}
+use Rattle.rte_image_faults.proofs.Failed.{Failed, failed, failed_only, stops, goes_on, second_of, list_fails}
 use Rattle.rte_image_faults.proofs.Heard.{Heard, at_fault, field_heard, rule_heard, pair_heard, list_heard}
 use Rattle.rte_image_faults.proofs.Told.{tag_rule, segments, unknown}
 

@@ -1,5 +1,5 @@
 -- A format that is read as it is written, also as another thing, shows its things one to one.
-use Rattle.std.proofs.Common.{◌≡◌, ◌++◌, ℕ, true, List, [], Ok, refl, sym, ap, ◌∙◌}
+use Rattle.std.proofs.Common.{◌≡◌, ◌++◌, ℕ, true, List, [], Ok, sym, ap, ◌∙◌}
 use Rattle.rte_image_reading.specs.Format.{Format, Read, ◌>>=◌, via}
 use Rattle.rte_image_reading.specs.Law.{AreBytes, IsSound}
 use Rattle.rte_image_sound.proofs.Alike.{okay, same_ok}

@@ -6,9 +6,14 @@ use Rattle.rte_image_reading.specs.Answer.{HasFault}
 use Rattle.rte_image_reading.specs.Grammar.{counts_format, name_format}
 use Rattle.rte_image_reading.specs.File.{Parts, counts_of, image_with, image_format, longest, over_format, devices_format, events_format, monitors_format, conditions_format, routines_format, processes_format, with_devices, with_monitors, all_used, used_by}
 use Rattle.rte_image_reading.specs.Law.{AreBytes}
-use Rattle.rte_image_faults.specs.Faults.{IsFileFault}
+use Rattle.rte_image_faults.specs.Faults as faults
+use Rattle.rte_image_faults.specs.Faults.{pair, IsMade, IsFileFault}
 
 -- ---- all faults
+
+-- the format of images is put together of fields
+abbrev pub TheFormatOfImagesIsMade : Type 0
+TheFormatOfImagesIsMade = IsMade (pair faults.version faults.parts) image_format
 
 -- the fault that reading a file tells is the one that its bytes have
 abbrev pub FaultsAreToldExactly : Type 0

@@ -1,6 +1,11 @@
 //! The laws.
 
-ghost use Rattle.rte_image_faults.specs.Laws.{EachFileHasOneFault, EachFileIsAnImageOrHasAFault, FaultsAreToldExactly, I1StandsInFront, I2StandsAtTheEnd, MoreBytesAreI3, NoImageHasAFault, OtherLettersAreI1, OtherVersionsAreI1, TooManyBytesAreI9};
+ghost use Rattle.rte_image_faults.specs.Laws.{EachFileHasOneFault, EachFileIsAnImageOrHasAFault, FaultsAreToldExactly, I1StandsInFront, I2StandsAtTheEnd, MoreBytesAreI3, NoImageHasAFault, OtherLettersAreI1, OtherVersionsAreI1, TheFormatOfImagesIsMade, TooManyBytesAreI9};
+
+/// The format of images is put together of fields, so the faults are those of all its fields.
+pub fn the_format_of_images_is_made()
+    ensures { TheFormatOfImagesIsMade }
+{}
 
 /// The fault that reading a file tells is the one that its bytes have.
 pub fn faults_are_told_exactly()
@@ -27,7 +32,7 @@ pub fn too_many_bytes_are_i9()
     ensures { TooManyBytesAreI9 }
 {}
 
-/// I1 is told at the letters exactly where four bytes are there and are not the letters of an image.
+/// I1 is told at the letters exactly where four bytes are there and are not those of an image.
 pub fn other_letters_are_i1()
     ensures { OtherLettersAreI1 }
 {}

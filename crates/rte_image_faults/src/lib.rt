@@ -12,5 +12,6 @@ mod law;
 pub use law::{
     each_file_has_one_fault, each_file_is_an_image_or_has_a_fault, faults_are_told_exactly,
     i1_stands_in_front, i2_stands_at_the_end, more_bytes_are_i3, no_image_has_a_fault,
-    other_letters_are_i1, other_versions_are_i1, too_many_bytes_are_i9,
+    other_letters_are_i1, other_versions_are_i1, the_format_of_images_is_made,
+    too_many_bytes_are_i9,
 };
