@@ -17,11 +17,15 @@ TheFormatOfImagesIsMade = IsMade (pair faults.version faults.parts) image_format
 
 -- the fault that reading a file tells is the one that its bytes have
 abbrev pub FaultsAreToldExactly : Type 0
-FaultsAreToldExactly = (bytes : List ℕ) (number offset : ℕ) → AreBytes bytes → HasFault bytes number offset ↔ IsFileFault bytes number offset
+FaultsAreToldExactly =
+    (bytes : List ℕ) (number offset : ℕ) → AreBytes bytes
+    → HasFault bytes number offset ↔ IsFileFault bytes number offset
 
 -- two faults of one file are one
 abbrev pub EachFileHasOneFault : Type 0
-EachFileHasOneFault = (bytes : List ℕ) (m n p q : ℕ) → IsFileFault bytes m p → IsFileFault bytes n q → (m ≡ n) × (p ≡ q)
+EachFileHasOneFault =
+    (bytes : List ℕ) (m n p q : ℕ) → IsFileFault bytes m p → IsFileFault bytes n q
+    → (m ≡ n) × (p ≡ q)
 
 -- the bytes are those of an image, in a version, whose fields are in their ranges
 pub record IsImage (bytes : List ℕ) : Type 0 where
@@ -32,17 +36,23 @@ pub record IsImage (bytes : List ℕ) : Type 0 where
 
 -- an image has none
 abbrev pub NoImageHasAFault : Type 0
-NoImageHasAFault = (bytes : List ℕ) (number offset : ℕ) → length bytes ≤ longest → IsImage bytes → IsFileFault bytes number offset → ⊥
+NoImageHasAFault =
+    (bytes : List ℕ) (number offset : ℕ) → length bytes ≤ longest → IsImage bytes
+    → IsFileFault bytes number offset → ⊥
 
 -- a file holds an image or has a fault
 abbrev pub EachFileIsAnImageOrHasAFault : Type 0
-EachFileIsAnImageOrHasAFault = (bytes : List ℕ) → AreBytes bytes → IsImage bytes ⊎ ((number : ℕ) × (offset : ℕ) × IsFileFault bytes number offset)
+EachFileIsAnImageOrHasAFault =
+    (bytes : List ℕ) → AreBytes bytes
+    → IsImage bytes ⊎ ((number : ℕ) × (offset : ℕ) × IsFileFault bytes number offset)
 
 -- ---- single numbers
 
 -- I9 where there are more than 8,388,608 bytes, behind so many
 abbrev pub TooManyBytesAreI9 : Type 0
-TooManyBytesAreI9 = (bytes : List ℕ) (offset : ℕ) → AreBytes bytes → IsFileFault bytes 9 offset ↔ ((8388608 < length bytes) × (offset ≡ 8388608))
+TooManyBytesAreI9 =
+    (bytes : List ℕ) (offset : ℕ) → AreBytes bytes
+    → IsFileFault bytes 9 offset ↔ ((8388608 < length bytes) × (offset ≡ 8388608))
 
 -- four bytes are there and are not the letters of an image
 pub record OtherLetters (bytes : List ℕ) : Type 0 where
@@ -68,11 +78,22 @@ OtherVersionsAreI1 = (bytes : List ℕ) → AreBytes bytes → IsFileFault bytes
 
 -- I1 stands at the letters or at the version
 abbrev pub I1StandsInFront : Type 0
-I1StandsInFront = (bytes : List ℕ) (offset : ℕ) → AreBytes bytes → IsFileFault bytes 1 offset → (offset ≡ 0) ⊎ (offset ≡ 4)
+I1StandsInFront =
+    (bytes : List ℕ) (offset : ℕ) → AreBytes bytes → IsFileFault bytes 1 offset
+    → (offset ≡ 0) ⊎ (offset ≡ 4)
 
 -- I2 stands at the end of the bytes
 abbrev pub I2StandsAtTheEnd : Type 0
-I2StandsAtTheEnd = (bytes : List ℕ) (offset : ℕ) → AreBytes bytes → IsFileFault bytes 2 offset → offset ≡ length bytes
+I2StandsAtTheEnd =
+    (bytes : List ℕ) (offset : ℕ) → AreBytes bytes → IsFileFault bytes 2 offset
+    → offset ≡ length bytes
+
+-- the names that stand before the monitors, and before the conditions
+abbrev pub before_monitors : Parts → List (List ℕ)
+before_monitors p = with_devices (p.program ∷ []) p.devices ++ p.events
+
+abbrev pub before_conditions : Parts → List (List ℕ)
+before_conditions p = with_monitors (before_monitors p) p.monitors
 
 -- the fields of an image are in their ranges, up to its code
 pub record FieldsInRange (version : Version) (counts : Counts) (p : Parts) : Type 0 where
@@ -81,10 +102,10 @@ pub record FieldsInRange (version : Version) (counts : Counts) (p : Parts) : Typ
   pub program : (name_format []).is p.program ≡ true
   pub devices : (devices_format counts (p.program ∷ [])).is p.devices ≡ true
   pub events : (events_format counts (with_devices (p.program ∷ []) p.devices)).is p.events ≡ true
-  pub monitors : (monitors_format counts (with_devices (p.program ∷ []) p.devices ++ p.events)).is p.monitors ≡ true
-  pub conditions : (conditions_format counts (with_monitors (with_devices (p.program ∷ []) p.devices ++ p.events) p.monitors)).is p.conditions ≡ true
+  pub monitors : (monitors_format counts (before_monitors p)).is p.monitors ≡ true
+  pub conditions : (conditions_format counts (before_conditions p)).is p.conditions ≡ true
   pub routines : (routines_format counts).is p.routines ≡ true
-  pub processes : (processes_format version counts (with_monitors (with_devices (p.program ∷ []) p.devices ++ p.events) p.monitors)).is p.processes ≡ true
+  pub processes : (processes_format version counts (before_conditions p)).is p.processes ≡ true
 
 -- the bytes are those of an image without code, whose fields are in their ranges, but that an event
 -- of it is of no process
@@ -101,4 +122,5 @@ pub record LacksAProcess (bytes : List ℕ) : Type 0 where
 abbrev pub MoreBytesAreI3 : Type 0
 MoreBytesAreI3 =
     (bytes : List ℕ) (offset : ℕ) → AreBytes bytes
-    → IsFileFault bytes 3 offset ↔ ((length bytes ≤ 8388608) × (offset < length bytes) × (IsImage (take offset bytes) ⊎ LacksAProcess (take offset bytes)))
+    → IsFileFault bytes 3 offset ↔ ((length bytes ≤ 8388608) × (offset < length bytes)
+    × (IsImage (take offset bytes) ⊎ LacksAProcess (take offset bytes)))
