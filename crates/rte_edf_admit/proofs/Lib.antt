@@ -1,0 +1,7 @@
+mod Asked
+mod Lasts
+mod Once
+mod Premises
+mod Ranks
+mod Runs
+mod Still

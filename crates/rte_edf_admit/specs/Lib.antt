@@ -1,0 +1,5 @@
+pub mod Admitted
+pub mod Answers
+pub mod Laws
+pub mod Runs
+pub mod Steps
