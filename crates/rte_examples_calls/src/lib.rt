@@ -6,11 +6,11 @@
 //! what fails, and give the status, what was put and what the files hold then as an `Outcome`.
 #![tactic(auto)]
 
-mod call;
+mod calls;
 mod known;
 mod programs;
 
-pub use call::{
+pub use calls::{
     Failures, NO_FAILURES, Outcome, call, call_beside, call_on_image, call_with, lines,
 };
 pub use known::{IDLE_FIRST, IDLE_SECOND, VALVE, VALVE_FIRST, VALVE_SECOND, with_byte};
