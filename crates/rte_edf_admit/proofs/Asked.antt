@@ -1,8 +1,6 @@
 -- What the processes ask for, in the order of ranks, is what the image asks for, and a set of tasks.
-use Rattle.std.proofs.Common.{◌≡◌, ◌<◌, ◌+◌, ◌-◌, ◌++◌, ◌∙◌, inl, inr, ℕ, List, [], ◌∷◌, length, Some, None, refl, sym, ap, subst, arith}
+use Rattle.std.proofs.Common.{◌≡◌, ◌<◌, ◌+◌, ◌-◌, ◌∙◌, ℕ, List, length, Some, None, refl, sym, ap, subst, arith}
 use Rattle.std.specs.Prelude.{slice_get}
-use Rattle.std.proofs.lemmas.Bool.{cases_lt}
-use Rattle.std.proofs.lemmas.List.{get_or_append_left, get_or_push, length_push}
 use Rattle.std.proofs.lemmas.List.Elements.{All-from_get_or}
 use Rattle.std.proofs.lemmas.List.Sorted.{IsNonDecreasingBy-from_default}
 use Rattle.rte_machine_meaning.specs.Image.{Image, Process}
@@ -18,22 +16,10 @@ use Rattle.rte_edf_admit.proofs.Ranks.{in_order}
 abbrev no_demand : DTask
 no_demand = record { frame = 0; deadline = 0; cost = 0; block = 0 }
 
--- ---- one more task
+-- ---- the first tasks
 
 abbrev pub FirstAreAsked : Image → (many : ℕ) → List DTask → Type 0
 FirstAreAsked m many ts = (length ts ≡ many) × ((level : ℕ) → level < many → IsAsked m (level + 1) (task_at ts level))
-
-pub one_more : (m : Image) (many : ℕ) (xs ys : List DTask) (t : DTask) → FirstAreAsked m many xs → ys ≡ xs ++ t ∷ [] → IsAsked m (many + 1) t → FirstAreAsked m (many + 1) ys
-one_more m many xs ys t first is asked = (
-  ap (λ ts. length ts) is ∙ (length_push xs t ∙ ap (λ (n : ℕ). n + 1) first.0),
-  λ level low. elim (cases_lt level many) [
-    | inl less ↦ (let same : task_at ys level ≡ task_at xs level = ap (λ ts. task_at ts level) is ∙ get_or_append_left xs (t ∷ []) no_demand level (omega (arith, less, first.0)) in
-        subst (IsAsked m (level + 1)) (sym same) (first.1 level less))
-    | inr more ↦ (let here : level ≡ many = omega (arith, low, more) in
-        let same : task_at ys level ≡ t = ap (λ ts. task_at ts level) is ∙ get_or_push xs t no_demand level (first.0 ∙ sym here) in
-        subst (λ (n : ℕ). IsAsked m (n + 1) (task_at ys level)) (sym here) (subst (IsAsked m (many + 1)) (sym same) asked))
-  ],
-)
 
 -- ---- all tasks
 

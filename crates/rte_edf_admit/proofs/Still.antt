@@ -7,7 +7,7 @@ use Rattle.rte_isa.specs.declared.instr.Instr.{Instr}
 use Rattle.rte_isa.specs.declared.instr.Instr.TheVariants as i
 use Rattle.rte_machine_meaning.specs.Image.{Image, Process, Routine}
 use Rattle.rte_machine_meaning.specs.Trees.{Seg, Segs, Line, Fork, Rep, Call, Stay, Wait, Exit, Nil, Cons, size, size_of}
-use Rattle.rte_fits.proofs.Tests.{passed, chained, stepped, forked, looped, called, stayed, waited}
+use Rattle.rte_fits.proofs.Tests.{Forked, passed, chained, stepped, forked, looped, called, stayed, waited}
 use Rattle.rte_valid.specs.Found.{Known, Found, amount, arms, call, ended, entry, found, founds, is_call, is_end, is_enter, is_exit, is_jump, is_jump_zero, is_leave, is_reenter, is_repeat, is_repeats, is_return, limit_at, line, longer, loop, tree_found, wait}
 use Rattle.rte_valid.specs.Shape.{shape_fault}
 use Rattle.rte_valid.specs.Sizes.{cost_fault}
@@ -28,6 +28,9 @@ AreStill ks = (r : ℕ) (k : Known) → slice_get ks r ≡ Some k → k.cost.wai
 
 of_whole : (f g : Found) → f ≡ g → IsStill g → IsStill f
 of_whole f g is still = ap (λ (x : Found). x.cost.waits) is ∙ still
+
+of_arms : (one two : Option Found) (f : Found) (s : Forked one two f) → IsStill s.first → IsStill s.second → IsStill f
+of_arms one two f s a b = of_whole f _ s.whole (omega (arith, a, b))
 
 times_none : (n a : ℕ) → a ≡ 0 → n * a ≡ 0
 times_none n a is = ap (λ k. n * k) is ∙ omega arith
@@ -52,7 +55,7 @@ module _ (m : Image) (waitless : HasNoWait m) where
         let s = forked one two f p.1 in
         let a = segs_still ks still out held first (at + 1) h s.first s.is in
         let b = segs_still ks still out held second (at + 1 + size first + 1) h s.second s.other in
-        of_whole f _ s.whole (omega (arith, a, b))
+        of_arms one two f s a b
     seg_still ks still out held (Rep n body) at h f is =
         let turn = founds m.code ks (Some (at + 1 + size body + 1)) held body (at + 1) 0 in
         let p = passed (nat_lt 0 n && (is_repeats n (slice_get m.code at) && is_repeat (at + 1) (slice_get m.code (at + 1 + size body)))) (loop n h turn) f is in

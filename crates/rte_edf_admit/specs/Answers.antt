@@ -23,11 +23,11 @@ pub record IsUnfit (m : Image) (answer : Judgement) : Type 0 where
   pub answered : IsAnswer m answer
   pub unfit : (points : ℕ) → answer ≡ verdict.Feasible points → ⊥
 
--- Ok exactly of the same image, which is admitted; each refusal with its cause; want of memory says
--- nothing
+-- Ok exactly of the same image, which is admitted; each refusal with its cause; where memory is
+-- wanting, it is for the test of the demand
 abbrev pub Admits : NamedImage → Result NamedImage EdfFault → Type 0
 Admits shape (Ok image) = (image ≡ shape) × IsAdmitted image.image
 Admits shape (Err (fault.Waits at)) = IsFirstWait shape.image at
 Admits shape (Err (fault.Overhead over)) = HasOverhead shape.image over
 Admits shape (Err (fault.Unfit answer)) = IsUnfit shape.image answer
-Admits shape (Err fault.Memory) = Unit {0}
+Admits shape (Err fault.Memory) = HasNoWait shape.image × (shape.image.over ≡ 0)
