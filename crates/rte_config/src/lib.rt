@@ -29,31 +29,3 @@ pub use config::{Config, Hold, Job};
 pub use doing::{Doing, Wait};
 pub use moves::{beginning, set_doing, set_job, set_occupant};
 pub use variables::{Held, Range, Slot, Words};
-
-#[cfg(test)]
-mod tests {
-    use super::*;
-    use std::test::Fail;
-
-    #[test]
-    fn a_process_enters_and_leaves(rt: HostRuntime) -> Result<(), Fail> {
-        let alloc = rt.alloc();
-        let mut holds = Vec::new(alloc);
-        holds.push(Hold {
-            vars: Vec::new(alloc),
-            occupant: None,
-        })?;
-        let mut config = Config {
-            tick: 0,
-            acted: false,
-            jobs: Vec::new(alloc),
-            holds,
-            queues: Vec::new(alloc),
-        };
-        config.enter(3, 0);
-        assert_eq!(rt; config.inside(3), Some(0));
-        config.leave(3);
-        assert_eq!(rt; config.inside(3), None);
-        Ok(())
-    }
-}

@@ -157,7 +157,8 @@ pub fn things<'a>(alloc: Global, program: &'a Prog) -> Result<Things<'a>, AllocE
         learn nothing (decls_things (map placed_decl program.now.decls)
         ((program.now.place, other_thing) ∷ []))) }
 {
-    let mut things = Things::with_hasher(alloc, BuildHasherDefault::new());
+    let most = program.decls.len().saturating_add(1);
+    let mut things = Things::with_capacity_and_hasher(alloc, most, BuildHasherDefault::new())?;
     decls(&mut things, program.decls.as_slice())?;
     keep(&mut things, program.place, Thing::Other)?;
     Ok(things)

@@ -90,7 +90,7 @@ pub fn values<'a>(alloc: Global, decls: &'a [Decl]) -> Result<Values<'a>, AllocE
     ensures { IfOk result (λ values. kept_worth values.entries ≡
         with_decls no_worth (map plain_decl (map placed_decl decls.now))) }
 {
-    let mut values = Values::new(alloc);
+    let mut values = Values::with_capacity(alloc, decls.len())?;
     for decl in decls {
         next(&mut values, decl)?;
     }

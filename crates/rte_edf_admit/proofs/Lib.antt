@@ -1,7 +1,7 @@
 mod Asked
 mod Lasts
 mod Once
-mod Premises
+pub mod Premises
 mod Ranks
 mod Runs
 mod Still

@@ -12,8 +12,6 @@ mod asking;
 mod fault;
 mod image;
 pub mod law;
-#[cfg(test)]
-mod tests;
 mod waiting;
 
 pub use fault::EdfFault;

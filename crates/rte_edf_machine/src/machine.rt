@@ -1,6 +1,7 @@
 //! The machine over whole runs.
 
-ghost use Rattle.std.specs.Prelude.{◌≡◌, ◌≢◌, ◌<◌, ◌↔◌, [], IfOk, Some, false};
+ghost use Rattle.std.specs.Prelude.{◌≡◌, ◌≢◌, ◌≤◌, ◌<◌, ◌↔◌, ◌++◌, [], IfOk, Some, false, true};
+ghost use Rattle.arrayvec.specs.ArrayVec.{array_vec_len};
 ghost use Rattle.rte_dispatch.specs.Due.{least};
 ghost use Rattle.rte_machine_meaning.specs.Image.{Image};
 ghost use Rattle.rte_starts.specs.Begin.{script_of};
@@ -17,7 +18,7 @@ use rte_event::Event;
 use rte_runner::Turn;
 use rte_script::Script;
 use rte_starts::Agenda;
-use rte_state::{Board, Fired, Plan};
+use rte_state::{Board, Fired, MOST, Plan};
 use std::alloc::{AllocError, Global};
 
 /// The simulated machine under earliest deadline first. Once made, it takes no memory.
@@ -56,6 +57,7 @@ impl EdfMachine {
     }
 
     /// Whether something is due at the tick, before which nothing is.
+    #[inline(always)]
     fn is_due(&self) -> bool
         ensures { result ≡ false → least self.now.agenda.slots ≢ Some self.now.tick }
     {
@@ -63,6 +65,7 @@ impl EdfMachine {
     }
 
     /// The start events of the tick, which is before the end, and the marks after them.
+    #[inline(always)]
     fn start(&mut self, plan: &Plan, script: &Script)
         ghost run: { Run }
         requires plan { IsOf run.image plan.now }
@@ -85,6 +88,7 @@ impl EdfMachine {
     }
 
     /// The start events of the tick, which is before the end, and then ticks at once.
+    #[inline(always)]
     fn step(&mut self, plan: &Plan, script: &Script)
         ghost run: { Run }
         requires plan { IsOf run.image plan.now }
@@ -111,9 +115,71 @@ impl EdfMachine {
         self.tick += ticks;
     }
 
-    /// As many turns at once as end before anything is due, and before any event falls but those at
-    /// the start and at the end of the row: the process that is chosen runs over whole
-    /// instructions that nobody sees.
+    /// Whether nothing is due at the tick, which is before the end, and there is room for one more
+    /// event.
+    #[inline(always)]
+    fn goes_on(&self, end: u64) -> bool
+        ensures before { result ≡ true → self.now.tick < end }
+        ensures calm { result ≡ true → least self.now.agenda.slots ≢ Some self.now.tick }
+        ensures room { result ≡ true → array_vec_len self.now.fired < 65 }
+    {
+        self.tick < end && self.fired.len() < MOST && !self.is_due()
+    }
+
+    /// One row more, from a tick at which nothing is due: what falls in it stands after the events
+    /// before.
+    #[inline(always)]
+    fn row_on(&mut self, plan: &Plan, end: u64)
+        ghost run: { Run }
+        requires plan { IsOf run.image plan.now }
+        requires tick { run.tick ≡ self.old.tick }
+        requires runnable { IsRunnable run.image run.script }
+        requires stands { StandsIn run.image run.script self.old }
+        requires end { end ≤ run.script.end_tick }
+        requires before { self.old.tick < end }
+        requires calm { least self.old.agenda.slots ≢ Some self.old.tick }
+        requires room { array_vec_len self.old.fired < 65 }
+        ensures passed { self.old.tick < self.new.tick }
+        ensures stands { StandsIn run.image run.script self.new }
+        ensures events { self.new.fired.items ≡ self.old.fired.items ++
+            events_between run.image run.script self.old.tick self.new.tick }
+    {
+        let most = span(&self.agenda, self.tick, end);
+        let ticks = take_turn(
+            plan,
+            &mut self.board,
+            &mut self.marks,
+            &mut self.fired,
+            self.tick,
+            most,
+        );
+        self.tick += ticks;
+    }
+
+    /// The start events of the tick, which is before the end, and a row, and then rows while
+    /// nothing is due and there is room for one more event.
+    fn rows(&mut self, plan: &Plan, script: &Script)
+        ghost run: { Run }
+        requires plan { IsOf run.image plan.now }
+        requires script { run.script ≡ script_of script.now }
+        requires tick { run.tick ≡ self.old.tick }
+        requires runnable { IsRunnable run.image run.script }
+        requires stands { StandsIn run.image run.script self.old }
+        requires before { self.old.tick < script.now.end }
+        ensures passed { self.old.tick < self.new.tick }
+        ensures stands { StandsIn run.image run.script self.new }
+        ensures events { self.new.fired.items ≡
+            events_between run.image run.script self.old.tick self.new.tick }
+    {
+        self.step(plan, script);
+        let end = script.end();
+        while self.goes_on(end) {
+            self.row_on(plan, end);
+        }
+    }
+
+    /// Turns at once: the processes that are chosen run on over instructions and events, up to the
+    /// next tick at which something is due, or while there is room for another event.
     pub fn advance_row(&mut self, plan: &Plan, script: &Script) -> Turn
         ghost image: { Image }
         requires plan { IsOf image plan.now }
@@ -131,7 +197,7 @@ impl EdfMachine {
         if self.tick >= script.end() {
             return Turn::Done;
         }
-        self.step(plan, script);
+        self.rows(plan, script);
         if self.fired.is_empty() {
             Turn::Quiet
         } else {
@@ -139,7 +205,7 @@ impl EdfMachine {
         }
     }
 
-    /// The events of the last turn, in order.
+    /// The events of the last call, in order.
     pub fn events(&self) -> &[Event]
         ensures { result.now ≡ self.now.fired.items }
     {

@@ -6,6 +6,7 @@ ghost use Rattle.rte_stretch.specs.Due.{NoneBefore};
 use rte_starts::Agenda;
 
 /// The ticks from this one up to the end or to the next at which something is due.
+#[inline(always)]
 pub(crate) fn span(agenda: &Agenda, tick: u64, end: u64) -> u64
     requires before { tick < end }
     requires later { NoneBefore (tick + 1) agenda.now.slots }

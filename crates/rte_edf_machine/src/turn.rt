@@ -63,6 +63,7 @@ fn pass_one(
 }
 
 /// The ticks that a row left of those that it had.
+#[inline(always)]
 fn unspent(halt: Halt) -> u64
     ensures { result ≡ unspent halt }
 {
@@ -73,6 +74,7 @@ fn unspent(halt: Halt) -> u64
 }
 
 /// A row of instructions of the process that is chosen, so many ticks at most: how many passed.
+#[inline(always)]
 fn pass_row(
     plan: &Plan,
     board: &mut Board,
@@ -104,6 +106,7 @@ fn pass_row(
 }
 
 /// Whether a process has ticks of dispatch to burn.
+#[inline(always)]
 fn burns(board: &Board, who: usize) -> bool
     requires { who < vec_len board.now.cells }
     ensures { result ≡ false → BurnsNothing (state_of board.now) who }
@@ -112,6 +115,7 @@ fn burns(board: &Board, who: usize) -> bool
 }
 
 /// Ticks of the process that is chosen, so many at most: how many passed.
+#[inline(always)]
 fn pass_chosen(
     plan: &Plan,
     board: &mut Board,
@@ -142,6 +146,7 @@ fn pass_chosen(
 }
 
 /// A turn of so many ticks at most: how many it took.
+#[inline(always)]
 pub(crate) fn take_turn(
     plan: &Plan,
     board: &mut Board,

@@ -20,7 +20,7 @@ use rte_state::Plan;
 
 /// Runs from the machine's tick to the end of the script, and puts the line of each event in the
 /// log, one put a line. After a failed put nothing more is put; the machine then stands after the
-/// turn whose lines it was putting. It takes no memory.
+/// turns whose lines it was putting. It takes no memory.
 pub fn run<O: Sink>(
     machine: &mut EdfMachine,
     plan: &Plan,

@@ -74,29 +74,3 @@ pub fn depth(code: &[Instr], base: u32, tree: &Segs, known: &[Known]) -> u32
         None => unreachable!(),
     }
 }
-
-#[cfg(test)]
-mod tests {
-    use super::*;
-    use crate::parts::part_found;
-    use rte_tree::List;
-    use std::test::Fail;
-
-    #[test]
-    fn a_put_costs_eleven_ticks_and_one_word(rt: HostRuntime) -> Result<(), Fail> {
-        let code = [
-            Instr::Push { value: 7 },
-            Instr::Out { device: 0 },
-            Instr::End,
-        ];
-        let mut tree = List::new(rt.alloc());
-        tree.push(Seg::Line(2))?;
-        assert!(rt; fits(&code, 0, &tree, &[], false));
-        assert!(rt; !fits(&code, 1, &tree, &[], false));
-        let found = part_found(&code, &[], tree.as_slice(), 0).ok_or("no code of the tree")?;
-        assert_eq!(rt; found.cost.run, 11);
-        assert_eq!(rt; found.depth, 1);
-        assert_eq!(rt; found.next, 2);
-        Ok(())
-    }
-}

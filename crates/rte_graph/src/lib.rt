@@ -10,6 +10,3 @@ mod walk;
 pub use cycles::Cycles;
 pub use graph::Graph;
 pub use reach::is_marked;
-
-#[cfg(test)]
-mod tests;

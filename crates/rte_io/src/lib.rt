@@ -17,6 +17,3 @@ pub use memory::MemFiles;
 pub use outside::{Files, ReadFault, Sink, SinkFailed, WriteFault};
 pub use real::{RealFiles, RealSink};
 pub use sure::{SureFiles, SureSink};
-
-#[cfg(test)]
-mod tests;

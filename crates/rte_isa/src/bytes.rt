@@ -204,31 +204,3 @@ pub fn read_instr(bytes: &[u8]) -> Option<Instr>
         None
     }
 }
-
-#[cfg(test)]
-mod tests {
-    use super::*;
-
-    const END: [u8; 13] = [0x30, 0, 0, 0, 0, 0, 0, 0, 0, 0, 0, 0, 0];
-
-    const PUSH_7: [u8; 13] = [0x01, 0, 0, 0, 7, 0, 0, 0, 0, 0, 0, 0, 0];
-
-    const OUT_0: [u8; 13] = [0x2e, 0, 0, 0, 0, 0, 0, 0, 0, 0, 0, 0, 0];
-
-    const END_WITH_OPERAND: [u8; 13] = [0x30, 0, 0, 0, 0, 0, 0, 0, 0, 0, 0, 0, 1];
-
-    #[test]
-    fn known_instructions_have_their_bytes(rt: HostRuntime) {
-        assert_eq!(rt; write_instr(&Instr::End), END);
-        assert_eq!(rt; write_instr(&Instr::Push { value: 7 }), PUSH_7);
-        assert_eq!(rt; write_instr(&Instr::Out { device: 0 }), OUT_0);
-    }
-
-    #[test]
-    fn known_bytes_are_read(rt: HostRuntime) {
-        assert_eq!(rt; read_instr(&END), Some(Instr::End));
-        assert_eq!(rt; read_instr(&PUSH_7), Some(Instr::Push { value: 7 }));
-        assert_eq!(rt; read_instr(&OUT_0), Some(Instr::Out { device: 0 }));
-        assert_eq!(rt; read_instr(&END_WITH_OPERAND), None);
-    }
-}

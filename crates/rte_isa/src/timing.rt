@@ -53,16 +53,3 @@ pub fn ticks(instr: &Instr) -> u32
         Instr::Div | Instr::Mod => 12,
     }
 }
-
-#[cfg(test)]
-mod tests {
-    use super::*;
-
-    #[test]
-    fn a_put_of_a_number_takes_eleven_ticks(rt: HostRuntime) {
-        let push = ticks(&Instr::Push { value: 7 });
-        let out = ticks(&Instr::Out { device: 0 });
-        assert_eq!(rt; push + out, 11);
-        assert_eq!(rt; ticks(&Instr::End), 4);
-    }
-}

@@ -9,8 +9,6 @@ mod front;
 mod laws;
 mod lexer;
 mod table;
-#[cfg(test)]
-mod tests;
 mod token;
 
 pub use fault::LexFault;

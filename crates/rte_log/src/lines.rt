@@ -1,6 +1,6 @@
 //! The line of an event.
 
-ghost use Rattle.std.specs.Prelude.{◌≡◌, ◌≤◌, ◌<◌, ◌+◌, ◌++◌, Some, length, codes, decimal};
+ghost use Rattle.std.specs.Prelude.{◌≡◌, ◌≤◌, ◌<◌, ◌+◌, ◌++◌, ◌∷◌, [], Some, length, codes, decimal};
 ghost use Rattle.std.specs.Fmt.{signed_decimal};
 ghost use Rattle.arrayvec.specs.ArrayVec.{array_vec_len};
 ghost use Rattle.rte_log.specs.InRange.{ActIsIn, AreIn, AreSound, WokenIsIn};
@@ -10,9 +10,25 @@ use arrayvec::ArrayVec;
 use itoa::Buffer;
 use rte_event::{Act, Event};
 use rte_image::{CondName, ImageNames};
+use std::marker::Model;
 
-/// Room for a line.
-pub type Line = ArrayVec<u8, 320>;
+/// The bytes of a line.
+type Text = ArrayVec<u8, 320>;
+
+/// Room for a line, and for the digits of its numbers. It is seen as the line.
+#[derive(Drop)]
+pub struct Line {
+    text: Text,
+    digits: Buffer,
+}
+
+impl Model for Line {
+    ghost use Rattle.std.specs.Prelude.{List, ℕ};
+
+    ghost Value = { List ℕ };
+
+    ghost view = { λ line. line.text.items };
+}
 
 /// The name of a process.
 fn process_of(names: &ImageNames, number: u16) -> &[u8]
@@ -77,7 +93,8 @@ fn truth_of(answer: bool) -> &'static [u8]
 }
 
 /// Adds bytes that fit.
-fn add(text: &mut Line, bytes: &[u8])
+#[inline(always)]
+fn add(text: &mut Text, bytes: &[u8])
     requires { array_vec_len text.old + length bytes.now ≤ 320 }
     ensures items { text.new.items ≡ text.old.items ++ bytes.now }
     ensures len { array_vec_len text.new ≡ array_vec_len text.old + length bytes.now }
@@ -85,19 +102,29 @@ fn add(text: &mut Line, bytes: &[u8])
     text.try_extend_from_slice(bytes).unwrap();
 }
 
+/// Adds a byte that fits.
+#[inline(always)]
+fn add_byte(text: &mut Text, byte: u8)
+    requires { array_vec_len text.old < 320 }
+    ensures items { text.new.items ≡ text.old.items ++ byte ∷ [] }
+    ensures len { array_vec_len text.new ≡ array_vec_len text.old + 1 }
+{
+    text.push(byte);
+}
+
 /// Adds a tick, which has at most 9 digits.
-fn add_tick(text: &mut Line, tick: u64)
+#[inline(always)]
+fn add_tick(text: &mut Text, digits: &mut Buffer, tick: u64)
     requires tick { tick < 1000000000 }
     requires room { array_vec_len text.old ≤ 100 }
     ensures items { text.new.items ≡ text.old.items ++ decimal tick }
     ensures len { array_vec_len text.new ≤ array_vec_len text.old + 9 }
 {
-    let mut digits = Buffer::new();
     add(text, digits.format(tick).as_bytes());
 }
 
 /// Adds what an act does, with the monitor and the name of a condition.
-fn add_condition(text: &mut Line, names: &ImageNames, does: &[u8], number: u16)
+fn add_condition(text: &mut Text, names: &ImageNames, does: &[u8], number: u16)
     requires sound { AreSound names.now }
     requires condition { number < length names.now.conditions }
     requires does { length does.now ≤ 11 }
@@ -109,34 +136,41 @@ fn add_condition(text: &mut Line, names: &ImageNames, does: &[u8], number: u16)
     let condition = condition_of(names, number);
     add(text, does);
     add(text, monitor_of(names, condition.mon));
-    add(text, b" ");
+    add_byte(text, b' ');
     add(text, condition.name.as_bytes());
 }
 
 /// Adds the last word of a line.
-fn add_last(text: &mut Line, word: &[u8])
+#[inline(always)]
+fn add_last(text: &mut Text, word: &[u8])
     requires { array_vec_len text.old + length word.now ≤ 318 }
     ensures items { text.new.items ≡ text.old.items ++ (codes " " ++ (word.now ++ codes "\n")) }
     ensures len { array_vec_len text.new ≡ array_vec_len text.old + length word.now + 2 }
 {
-    add(text, b" ");
+    add_byte(text, b' ');
     add(text, word);
-    add(text, b"\n");
+    add_byte(text, b'\n');
 }
 
 /// Adds the last word of a line, a number.
-fn add_number(text: &mut Line, number: u16)
+fn add_number(text: &mut Text, digits: &mut Buffer, number: u16)
     requires { array_vec_len text.old ≤ 313 }
     ensures items { text.new.items ≡ text.old.items ++
         (codes " " ++ (decimal number ++ codes "\n")) }
     ensures len { array_vec_len text.new ≤ array_vec_len text.old + 7 }
 {
-    let mut digits = Buffer::new();
     add_last(text, digits.format(number).as_bytes());
 }
 
 /// Adds what an act does with a device and a value.
-fn add_transfer(text: &mut Line, names: &ImageNames, does: &[u8], dev: u16, value: i32)
+fn add_transfer(
+    text: &mut Text,
+    digits: &mut Buffer,
+    names: &ImageNames,
+    does: &[u8],
+    dev: u16,
+    value: i32,
+)
     requires sound { AreSound names.now }
     requires device { dev < length names.now.devices }
     requires does { length does.now ≤ 11 }
@@ -146,14 +180,13 @@ fn add_transfer(text: &mut Line, names: &ImageNames, does: &[u8], dev: u16, valu
         (codes " " ++ (signed_decimal value ++ codes "\n")))) }
     ensures len { array_vec_len text.new ≤ array_vec_len text.old + 100 }
 {
-    let mut digits = Buffer::new();
     add(text, does);
     add(text, device_of(names, dev));
     add_last(text, digits.format(value).as_bytes());
 }
 
 /// Adds what an act does with a monitor.
-fn add_passage(text: &mut Line, names: &ImageNames, does: &[u8], mon: u16)
+fn add_passage(text: &mut Text, names: &ImageNames, does: &[u8], mon: u16)
     requires sound { AreSound names.now }
     requires monitor { mon < length names.now.monitors }
     requires does { length does.now ≤ 11 }
@@ -164,11 +197,11 @@ fn add_passage(text: &mut Line, names: &ImageNames, does: &[u8], mon: u16)
 {
     add(text, does);
     add(text, monitor_of(names, mon));
-    add(text, b"\n");
+    add_byte(text, b'\n');
 }
 
 /// Adds what a process does, and with what.
-fn add_act(text: &mut Line, names: &ImageNames, act: Act)
+fn add_act(text: &mut Text, digits: &mut Buffer, names: &ImageNames, act: Act)
     requires sound { AreSound names.now }
     requires act { ActIsIn names.now act }
     requires room { array_vec_len text.old ≤ 100 }
@@ -179,15 +212,15 @@ fn add_act(text: &mut Line, names: &ImageNames, act: Act)
         Act::Release => add(text, b" release\n"),
         Act::TimeOut { cond, number } => {
             add_condition(text, names, b" timeout ", cond);
-            add_number(text, number);
+            add_number(text, digits, number);
         }
-        Act::Get { dev, value } => add_transfer(text, names, b" get ", dev, value),
-        Act::Put { dev, value } => add_transfer(text, names, b" put ", dev, value),
+        Act::Get { dev, value } => add_transfer(text, digits, names, b" get ", dev, value),
+        Act::Put { dev, value } => add_transfer(text, digits, names, b" put ", dev, value),
         Act::Enter { mon } => add_passage(text, names, b" enter ", mon),
         Act::Leave { mon } => add_passage(text, names, b" leave ", mon),
         Act::Wait { cond } => {
             add_condition(text, names, b" wait ", cond);
-            add(text, b"\n");
+            add_byte(text, b'\n');
         }
         Act::Signal { cond, woken } => {
             add_condition(text, names, b" signal ", cond);
@@ -195,7 +228,7 @@ fn add_act(text: &mut Line, names: &ImageNames, act: Act)
         }
         Act::Broadcast { cond, count } => {
             add_condition(text, names, b" broadcast ", cond);
-            add_number(text, count);
+            add_number(text, digits, count);
         }
         Act::Empty { cond, answer } => {
             add_condition(text, names, b" empty ", cond);
@@ -203,34 +236,51 @@ fn add_act(text: &mut Line, names: &ImageNames, act: Act)
         }
         Act::Raise { number } => {
             add(text, b" raise");
-            add_number(text, number);
+            add_number(text, digits, number);
         }
         Act::End => add(text, b" end\n"),
     }
 }
 
-/// Makes the text the line of an event in the log, with its LF: at most 273 bytes. The numbers of
-/// the event are in range of the names, which have at most 63 bytes, and its tick is below
-/// 1,000,000,000. It takes no memory.
-pub fn write_line(text: &mut Line, names: &ImageNames, event: &Event)
+/// Makes the text the line of an event.
+fn write(text: &mut Text, digits: &mut Buffer, names: &ImageNames, event: &Event)
     requires { AreIn names.now event.now }
     ensures text { text.new.items ≡ line_of names.now event.now }
     ensures short { array_vec_len text.new ≤ 273 }
 {
     text.clear();
-    add_tick(text, event.tick);
-    add(text, b" ");
+    add_tick(text, digits, event.tick);
+    add_byte(text, b' ');
     add(text, process_of(names, event.proc));
-    add_act(text, names, event.act);
+    add_act(text, digits, names, event.act);
 }
 
-/// The line of an event, as `write_line` makes it.
-pub fn line(names: &ImageNames, event: &Event) -> Line
+impl Line {
+    /// Room for a line; none is written yet.
+    pub fn new() -> Line
+        ensures { result ≡ [] }
+    {
+        Line {
+            text: Text::new(),
+            digits: Buffer::new(),
+        }
+    }
+
+    /// The bytes of the line.
+    pub fn as_slice(&self) -> &[u8]
+        ensures { result.now ≡ self.now }
+    {
+        self.text.as_slice()
+    }
+}
+
+/// Makes the line that of an event in the log, with its LF: at most 273 bytes. The numbers of the
+/// event are in range of the names, which have at most 63 bytes, and its tick is below
+/// 1,000,000,000. It takes no memory.
+pub fn write_line(line: &mut Line, names: &ImageNames, event: &Event)
     requires { AreIn names.now event.now }
-    ensures text { result.items ≡ line_of names.now event.now }
-    ensures short { array_vec_len result ≤ 273 }
+    ensures text { line.new ≡ line_of names.now event.now }
+    ensures short { length line.new ≤ 273 }
 {
-    let mut text = Line::new();
-    write_line(&mut text, names, event);
-    text
+    write(&mut line.text, &mut line.digits, names, event);
 }

@@ -7,6 +7,3 @@
 mod name_list;
 
 pub use name_list::NameList;
-
-#[cfg(test)]
-mod tests;

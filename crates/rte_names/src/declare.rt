@@ -8,7 +8,7 @@ ghost use Rattle.rte_names.specs.Seen.{meaning, top_site, outer_site, Scoped};
 use crate::around::{Outer, Top};
 use crate::findings::Findings;
 use crate::kind::{Declared, Kind};
-use crate::scope::{Scope, add, find};
+use crate::scope::{Scope, add_unless, find};
 use rte_tree::{Member, Mon, Name, Param, Proc, Routine, Var};
 use std::alloc::AllocError;
 
@@ -24,9 +24,10 @@ fn declare<'a>(
         (meaning scope.old.entries) ((name.now, declared) ∷ []) findings.new
         (meaning scope.new.entries) []) }
 {
-    let taken = find(scope, name.as_bytes()).is_some() || outer.means(name.as_bytes()).is_some();
+    let here = find(scope, name.as_bytes()).is_some();
+    let taken = here || outer.means(name.as_bytes()).is_some();
     findings.declare(declared.place, taken);
-    add(scope, name.as_bytes(), declared)?;
+    add_unless(here, scope, name.as_bytes(), declared)?;
     Ok(())
 }
 

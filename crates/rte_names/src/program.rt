@@ -1,6 +1,9 @@
 //! The names of a program.
 
-ghost use Rattle.std.specs.Prelude.{◌≡◌, OnOk, IfOk, List, ◌∷◌, [], map};
+ghost use Rattle.std.specs.Borrow.{Bor};
+ghost use Rattle.std.specs.Prelude.{◌≡◌, OnOk, IfOk, List, ◌∷◌, [], is_some, map};
+ghost use Rattle.rte_tree.specs.Plain.{Name as PlainName};
+ghost use Rattle.rte_names.specs.declared.kind.Declared.{Declared as SpecDeclared};
 ghost use Rattle.rte_tree.specs.Placed.{Decl as PlacedDecl, placed_decl, placed_routine, placed};
 ghost use Rattle.rte_tree.specs.declared.place.Place.{Place as SpecPlace};
 ghost use Rattle.rte_names.specs.Occurrences.{Occurrence, decl_name, decls_names, entry_name, entries_at, program_name, others as others_of, names as names_of};
@@ -12,7 +15,7 @@ use crate::around::Top;
 use crate::findings::Findings;
 use crate::kind::{Declared, Kind};
 use crate::part::decl;
-use crate::scope::{Entries, Scope, add, add_entry, find};
+use crate::scope::{Entries, Scope, add, add_entry, add_unless, find};
 use rte_tree::{Decl, Name, Place, Prog, Routine};
 use std::alloc::{AllocError, Global};
 
@@ -147,15 +150,19 @@ fn monitors<'a>(all: &mut Entries<'a>, list: &'a [Decl]) -> Result<(), AllocErro
     Ok(())
 }
 
-/// A constant reaches from here on, before what is declared later.
-fn reveal<'a>(program: &mut Scope<'a>, seen: &Scope<'a>, decl: &'a Decl) -> Result<(), AllocError>
-    ensures { OnOk result ((rest : List (PlacedDecl SpecPlace)) → meaning program.old.entries ≡
-        add_all (meaning seen.now.entries) (others_of (placed_decl decl.now ∷ rest)) →
+/// A constant reaches from here on, before what is declared later, unless its name is taken by what
+/// is declared before.
+fn reveal<'a>(taken: bool, program: &mut Scope<'a>, decl: &'a Decl) -> Result<(), AllocError>
+    ensures { OnOk result ((seen : List (Bor PlainName × SpecDeclared))
+        (rest : List (PlacedDecl SpecPlace)) →
+        taken ≡ is_some (meaning seen (decl_name (placed_decl decl.now)).0) →
+        meaning program.old.entries ≡
+        add_all (meaning seen) (others_of (placed_decl decl.now ∷ rest)) →
         meaning program.new.entries ≡ add_all
-        (added (meaning seen.now.entries) (decl_name (placed_decl decl.now))) (others_of rest)) }
+        (added (meaning seen) (decl_name (placed_decl decl.now))) (others_of rest)) }
 {
     if let Decl::Const { name, place, .. } = decl {
-        if find(seen, name.as_bytes()).is_some() {
+        if taken {
             return Ok(());
         }
         let declared = Declared {
@@ -189,8 +196,8 @@ fn next<'a>(
     let taken = find(seen, name_of(one)).is_some();
     findings.declare(declared.place, taken);
     decl(alloc, findings, &Top { program, entries }, one)?;
-    reveal(program, seen, one)?;
-    add(seen, name_of(one), declared)?;
+    reveal(taken, program, one)?;
+    add_unless(taken, seen, name_of(one), declared)?;
     Ok(())
 }
 
@@ -247,8 +254,9 @@ fn body<'a>(
         noted findings.old (decls_names (entry_meaning entries.now.entries)
         (program_name g ∷ []) g.decls more)) }
 {
-    let mut names = Scope::new(alloc);
-    let mut seen = Scope::new(alloc);
+    let most = program.decls.len().saturating_add(1);
+    let mut names = Scope::with_capacity(alloc, most)?;
+    let mut seen = Scope::with_capacity(alloc, most)?;
     start(&mut names, &mut seen, program)?;
     decls(
         alloc,

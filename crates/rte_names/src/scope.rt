@@ -1,6 +1,6 @@
 //! The names of one scope.
 
-ghost use Rattle.std.specs.Prelude.{◌≡◌, OnOk};
+ghost use Rattle.std.specs.Prelude.{◌≡◌, OnOk, is_some};
 ghost use Rattle.rte_names.specs.Seen.{meaning, meaning_in, add as added, in_loops, entry_meaning, add_entry as entry_added};
 
 use crate::kind::Declared;
@@ -36,16 +36,31 @@ pub fn find_in(scope: Option<&Scope<'_>>, name: &[u8]) -> Option<Declared>
     find(scope?, name)
 }
 
+/// Declares a name, unless it is taken: the scope has it.
+pub fn add_unless<'a>(
+    taken: bool,
+    scope: &mut Scope<'a>,
+    name: &'a [u8],
+    declared: Declared,
+) -> Result<(), AllocError>
+    requires { taken ≡ is_some (meaning scope.old.entries name.now) }
+    ensures { OnOk result (meaning scope.new.entries ≡
+        added (meaning scope.old.entries) (name.now, declared)) }
+{
+    if taken {
+        return Ok(());
+    }
+    scope.insert(name, declared)?;
+    Ok(())
+}
+
 /// Declares a name, unless the scope has it.
 pub fn add<'a>(scope: &mut Scope<'a>, name: &'a [u8], declared: Declared) -> Result<(), AllocError>
     ensures { OnOk result (meaning scope.new.entries ≡
         added (meaning scope.old.entries) (name.now, declared)) }
 {
-    if find(scope, name).is_some() {
-        return Ok(());
-    }
-    scope.insert(name, declared)?;
-    Ok(())
+    let taken = find(scope, name).is_some();
+    add_unless(taken, scope, name, declared)
 }
 
 /// What a name is in loops around it, and outside of them as given.

@@ -1,5 +1,5 @@
 -- The events of a run, cut at a tick.
-use Rattle.std.proofs.Common.{◌≡◌, ◌≤◌, ◌+◌, ◌-◌, ◌++◌, ℕ, zero, suc, List, [], ◌∷◌, arith, refl, ap, sym, subst, ◌∙◌, append_assoc}
+use Rattle.std.proofs.Common.{◌≡◌, ◌≤◌, ◌-◌, ◌++◌, ℕ, List, [], ◌∷◌, arith, ap, sym, subst, ◌∙◌}
 use Rattle.std.specs.Prelude.{All}
 use Rattle.std.proofs.lemmas.List.Elements.{All-nil, All-cons, All-head, All-tail}
 use Rattle.rte_event.specs.declared.event.Event.{Event}
@@ -7,62 +7,20 @@ use Rattle.rte_image.specs.declared.names.ImageNames.{ImageNames}
 use Rattle.rte_log.specs.InRange.{AreIn}
 use Rattle.rte_log.specs.Line.{log_of}
 use Rattle.rte_machine_meaning.specs.Image.{Image, Script}
-use Rattle.rte_machine_meaning.specs.State.{State}
-use Rattle.rte_machine_meaning.specs.Tick.{tick}
 use Rattle.rte_machine_meaning.specs.Run.{events_from, state_at}
 use Rattle.rte_runner.specs.Standing.{events_between}
+pub use Rattle.rte_runner.proofs.Cut.{cut}
+use Rattle.rte_runner.proofs.Cut.{cut_at, no_events}
 use Rattle.rte_run.specs.Coming.{coming, log_to_come}
 use Rattle.rte_run.proofs.Lines.{log_of-append, log_of-nil}
 
 module _ (image : Image) (script : Script) where
-  next_state : (t : ℕ) → (tick image script t (state_at image script t)).state ≡ state_at image script (t + 1)
-  unfolding state_at
-  next_state t = let e : t + 1 ≡ suc t = omega arith in ap (λ (u : ℕ). state_at image script u) (sym e)
-
-  more_events : (n t : ℕ) (s : State) → events_from image script (suc n) t s ≡ (tick image script t s).events ++ events_from image script n (t + 1) (tick image script t s).state
-  unfolding events_from
-  more_events n t s = refl
-
-  no_events : (t : ℕ) (s : State) → events_from image script zero t s ≡ []
-  unfolding events_from
-  no_events t s = refl
-
-  pub cut : (n m t : ℕ) → events_from image script (n + m) t (state_at image script t) ≡ events_from image script n t (state_at image script t) ++ events_from image script m (t + n) (state_at image script (t + n))
-  cut zero m t =
-      let same : t ≡ t + 0 = omega arith in
-      let none : 0 + m ≡ m = omega arith in
-      ap (λ (k : ℕ). events_from image script k t (state_at image script t)) none
-      ∙ (ap (λ (u : ℕ). events_from image script m u (state_at image script u)) same
-      ∙ ap (λ (es : List Event). es ++ events_from image script m (t + 0) (state_at image script (t + 0))) (sym (no_events t (state_at image script t))))
-  cut (suc n) m t =
-      let s : State = state_at image script t in
-      let first : List Event = (tick image script t s).events in
-      let count : suc n + m ≡ suc (n + m) = omega arith in
-      let there : t + 1 + n ≡ t + suc n = omega arith in
-      let rest : events_from image script (n + m) (t + 1) (state_at image script (t + 1)) ≡ events_from image script n (t + 1) (state_at image script (t + 1)) ++ events_from image script m (t + 1 + n) (state_at image script (t + 1 + n)) =
-      cut n m (t + 1) in
-      ap (λ (k : ℕ). events_from image script k t s) count
-      ∙ (more_events (n + m) t s
-      ∙ (ap (λ (x : State). first ++ events_from image script (n + m) (t + 1) x) (next_state t)
-      ∙ (ap (λ (es : List Event). first ++ es) rest
-      ∙ (sym (append_assoc first (events_from image script n (t + 1) (state_at image script (t + 1))) (events_from image script m (t + 1 + n) (state_at image script (t + 1 + n))))
-      ∙ (ap (λ (x : State). (first ++ events_from image script n (t + 1) x) ++ events_from image script m (t + 1 + n) (state_at image script (t + 1 + n))) (sym (next_state t))
-      ∙ (ap (λ (es : List Event). es ++ events_from image script m (t + 1 + n) (state_at image script (t + 1 + n))) (sym (more_events n t s))
-      ∙ ap (λ (u : ℕ). events_from image script (suc n) t s ++ events_from image script m u (state_at image script u)) there))))))
-
   -- what is to come from a tick, up to a later one and from that on
   pub coming_is : (t u : ℕ) → t ≤ u → u ≤ script.end_tick → coming image script t ≡ events_between image script t u ++ coming image script u
-  coming_is t u later within =
-      let n : ℕ = u - t in
-      let m : ℕ = script.end_tick - u in
-      let all : script.end_tick - t ≡ n + m = omega (arith, later, within) in
-      let there : t + n ≡ u = omega (arith, later) in
-      ap (λ (k : ℕ). events_from image script k t (state_at image script t)) all
-      ∙ (cut n m t
-      ∙ ap (λ (v : ℕ). events_from image script n t (state_at image script t) ++ events_from image script m v (state_at image script v)) there)
+  coming_is t u later within = cut_at image script t u script.end_tick later within
 
   pub none_coming : (t : ℕ) → script.end_tick ≤ t → coming image script t ≡ []
-  none_coming t over = let none : script.end_tick - t ≡ 0 = omega (arith, over) in ap (λ (k : ℕ). events_from image script k t (state_at image script t)) none ∙ no_events t (state_at image script t)
+  none_coming t over = let none : script.end_tick - t ≡ 0 = omega (arith, over) in ap (λ (k : ℕ). events_from image script k t (state_at image script t)) none ∙ no_events image script t (state_at image script t)
 
 -- ---- what holds of all holds of each part
 

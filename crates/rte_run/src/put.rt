@@ -11,6 +11,7 @@ use rte_io::{Sink, SinkFailed};
 use rte_log::{Line, write_line};
 
 /// Puts the line of an event, which is written over the text.
+#[inline(always)]
 fn put_line<O: Sink>(
     text: &mut Line,
     names: &ImageNames,

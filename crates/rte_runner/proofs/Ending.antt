@@ -1,6 +1,6 @@
 -- Where a turn ends.
-use Rattle.std.proofs.Common.{◌≡◌, ◌≢◌, ◌≤◌, ◌<◌, ◌+◌, ◌-◌, ◌*◌, ◌⊎◌, inl, inr, ℕ, zero, suc, Bool, true, false, List, Option, Some, None, length, drop, arith, refl, ap, sym, subst, ◌∙◌}
-use Rattle.std.specs.Prelude.{ℤ, slice_get, cond, nat_lt, min}
+use Rattle.std.proofs.Common.{◌≡◌, ◌≤◌, ◌<◌, ◌+◌, ◌-◌, ◌*◌, ◌⊎◌, inl, inr, ℕ, zero, suc, true, false, List, Option, Some, None, length, drop, arith, refl, ap, sym, subst, ◌∙◌}
+use Rattle.std.specs.Prelude.{ℤ, slice_get, nat_lt, min}
 use Rattle.std.proofs.lemmas.Bool.{cases_lt}
 use Rattle.std.proofs.lemmas.Bool.Decides.{nat_tests}
 use Rattle.std.proofs.lemmas.Option.{slice_get_within}
@@ -8,7 +8,7 @@ use Rattle.rte_dispatch.specs.Due.{least}
 use Rattle.rte_isa.specs.declared.instr.Instr.{Instr}
 use Rattle.rte_isa.specs.Ticks.{ticks}
 use Rattle.rte_machine_meaning.specs.Image.{Image, Process, Script}
-use Rattle.rte_machine_meaning.specs.State.{Job, Thread, Idle, Ready, Waiting, State}
+use Rattle.rte_machine_meaning.specs.State.{Job, Thread, Ready, State}
 use Rattle.rte_machine_meaning.specs.Starts.{is_periodic_due}
 use Rattle.rte_machine_meaning.specs.Tick.{Ticked, owned_of, pick, settle}
 use Rattle.rte_machine_meaning.specs.Run.{state_at}
@@ -24,9 +24,9 @@ use Rattle.rte_settle.specs.Settled.{CanPass}
 use Rattle.rte_settle.proofs.Safely.{turn_can_pass}
 use Rattle.rte_runner.specs.Turn.{Run}
 use Rattle.rte_runner.specs.Waits.{is_some_at_queue}
-use Rattle.rte_runner.specs.Ends.{EndsAt, IsDone, IsDue, IsTurnEnd, lasts, lasts_picked, lasts_thread}
+use Rattle.rte_runner.specs.Ends.{EndsAt, IsDone, IsTurnEnd, lasts, lasts_picked, lasts_thread}
 use Rattle.rte_runner.proofs.Due.{first_there}
-use Rattle.rte_runner.proofs.Passing.{IsReady, IsTurn, fits_in, idle_turn, is_ready, keeps_waits, picked_at, picked_turn, settled, turn_from, turn_of}
+use Rattle.rte_runner.proofs.Passing.{IsReady, IsTurn, fits_in, idle_turn, is_ready, keeps_waits, picked_turn, settled, turn_from, turn_of}
 use Rattle.rte_runner.proofs.Waiting.{is_waiting}
 
 -- ---- ticks before the last of what the process is at

@@ -5,3 +5,5 @@ pub mod Rowing
 pub mod Turning
 pub mod Ending
 pub mod Telling
+pub mod Cut
+pub mod Calm

@@ -1,5 +1,5 @@
 -- A row of instructions of the process that is picked, and what ends it.
-use Rattle.std.proofs.Common.{◌≡◌, ◌≤◌, ◌<◌, ◌+◌, ◌-◌, ◌++◌, ◌⊎◌, inl, inr, ℕ, suc, Bool, true, false, List, [], ◌∷◌, Option, Some, None, length, arith, refl, ap, sym, subst, ◌∙◌}
+use Rattle.std.proofs.Common.{◌≡◌, ◌≤◌, ◌<◌, ◌+◌, ◌-◌, ◌++◌, inl, inr, ℕ, suc, Bool, true, false, List, [], ◌∷◌, Option, Some, length, arith, refl, ap, sym, subst, ◌∙◌}
 use Rattle.std.specs.Prelude.{ℤ, cond, nat_lt, slice_get, slice_set}
 use Rattle.std.proofs.lemmas.Bool.{cases_lt}
 use Rattle.std.proofs.lemmas.Bool.Decides.{nat_tests}
@@ -21,7 +21,7 @@ use Rattle.rte_silent.specs.Silent.{RaisesAs}
 use Rattle.rte_stretch.specs.Due.{time_out_of}
 use Rattle.rte_stretch.specs.Quiet.{AreQuiet, IsQuiet}
 use Rattle.rte_stretch.specs.RowLaws.{IsInStack, IsPicked, IsSafeRun, begun}
-use Rattle.rte_stretch.specs.Silent.{Begins, Follows, GoesTo, IsAt, Leads, is_silent, next_own, with_process}
+use Rattle.rte_stretch.specs.Silent.{Begins, Follows, IsAt, Leads, is_silent, next_own, with_process}
 use Rattle.rte_stretch.specs.Stretch.{left, left_at, left_of, outcome_at_once, outcomes, pass, pass_thread, place_of}
 use Rattle.rte_stretch.proofs.Moving.{NotStuck, effect_same, get_set, moved, quiet_same, set_set, settled_same}
 use Rattle.rte_stretch.proofs.Quiet.{quiet_starts_nothing}

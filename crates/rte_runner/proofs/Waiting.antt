@@ -1,7 +1,9 @@
 -- What a turn does to the waits, and waits in queues.
-use Rattle.std.proofs.Common.{◌≡◌, ◌≤◌, ◌<◌, ◌+◌, ◌++◌, ◌⊎◌, inl, inr, ℕ, zero, suc, Bool, true, false, List, [], ◌∷◌, Option, Some, None, length, arith, refl, ap, sym, subst, ◌∙◌}
-use Rattle.std.specs.Prelude.{slice_get, slice_set, cond, nat_eq, ◌||◌}
+use Rattle.std.proofs.Common.{◌≡◌, ◌≤◌, ◌<◌, ◌+◌, ◌-◌, ◌++◌, inl, inr, ℕ, zero, suc, Bool, true, false, List, [], ◌∷◌, Option, Some, None, length, take, drop, arith, refl, ap, sym, subst, ◌∙◌}
+use Rattle.std.specs.Prelude.{slice_get, slice_set, cond, nat_eq}
+use Rattle.std.proofs.Math.Seq.{drop-append_seam}
 use Rattle.std.proofs.lemmas.Bool.Decides.{nat_tests}
+use Rattle.std.proofs.lemmas.List.{length-drop, take_all}
 use Rattle.rte_event.specs.declared.event.Event.{Event}
 use Rattle.rte_machine_meaning.specs.Image.{Image, Process}
 use Rattle.rte_machine_meaning.specs.State.{Job, Thread, Idle, Ready, Waiting, State}
@@ -13,7 +15,7 @@ use Rattle.rte_start_laws.proofs.Lists.{get_other, get_set, same_or_not}
 use Rattle.rte_starts.specs.Begin.{HaveQueues}
 use Rattle.rte_stretch.specs.Due.{time_out_of}
 use Rattle.rte_stretch.proofs.Moving.{get_of_set}
-use Rattle.rte_runner.specs.Waits.{WaitsFrom, is_at_queue, is_some_at_queue}
+use Rattle.rte_runner.specs.Waits.{WaitsFrom, is_some_at_queue}
 
 -- ---- waits that begin
 
@@ -79,14 +81,12 @@ settle_same image u k p job s (Raises e) j quiet at = set_same s.threads k j (Re
 settle_same image u k p job s Ends j quiet at = set_same s.threads k j Idle (Ready job) at refl refl
 settle_same image u k p job s Stuck j quiet at = refl
 
-second_false : (a b : Bool) → a || b ≡ false → b ≡ false
-second_false true b is = absurd cc
-second_false false b is = is
-
--- what holds of no event holds of no later one
-pub later_quiet : (xs ys : List Event) → is_some_at_queue (xs ++ ys) ≡ false → is_some_at_queue ys ≡ false
-later_quiet [] ys is = is
-later_quiet (e ∷ xs) ys is = later_quiet xs ys (second_false (is_at_queue e.act) (is_some_at_queue (xs ++ ys)) is)
+-- what stands after the first n is what came to those
+pub come_after : (old fell all : List Event) (n : ℕ) → n ≡ length old → all ≡ old ++ fell → take (length all - n) (drop n all) ≡ fell
+come_after old fell all n many is =
+    let rest : drop n all ≡ fell = ap (λ (k : ℕ). drop k all) many ∙ ap (λ (es : List Event). drop (length old) es) is ∙ drop-append_seam old fell in
+    let count : length (drop n all) ≡ length all - n = length-drop n all in
+    take_all (length all - n) (drop n all) (omega (arith, count)) ∙ rest
 
 -- a wait that times out is there
 pub is_waiting : (o : Option Thread) (r : ℕ) → time_out_of o ≡ Some r → (c : ℕ) × ((e : ℕ) × ((job : Job) × (o ≡ Some (Waiting c r e job))))

@@ -55,6 +55,7 @@ fn completed_within(plan: &Plan, board: &Board, most: u64) -> Option<Completed>
 
 /// The instruction that a turn completes, in which nothing starts for so many ticks; of a row it is
 /// not told.
+#[inline(always)]
 pub(crate) fn completing(plan: &Plan, board: &Board, most: u64, reach: Reach) -> Option<Completed>
     ghost image: { Image }
     requires plan { IsOf image plan.now }

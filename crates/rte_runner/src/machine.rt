@@ -1,6 +1,8 @@
 //! The machine over whole runs.
 
-ghost use Rattle.std.specs.Prelude.{◌≡◌, ◌≢◌, ◌≤◌, ◌<◌, ◌↔◌, [], IfOk, min};
+ghost use Rattle.std.specs.Prelude.{◌≡◌, ◌≢◌, ◌≤◌, ◌<◌, ◌↔◌, ◌++◌, [], IfOk, Some, min, true};
+ghost use Rattle.arrayvec.specs.ArrayVec.{array_vec_len};
+ghost use Rattle.rte_dispatch.specs.Due.{least};
 ghost use Rattle.rte_machine_meaning.specs.Image.{Image};
 ghost use Rattle.rte_starts.specs.Begin.{script_of};
 ghost use Rattle.rte_state.specs.Plan.{IsOf};
@@ -17,7 +19,7 @@ use crate::turn::{Reach, take_turn};
 use rte_event::Event;
 use rte_script::Script;
 use rte_starts::Agenda;
-use rte_state::{Board, Fired, Plan};
+use rte_state::{Board, Fired, MOST, Plan};
 use rte_view::Completed;
 use std::alloc::{AllocError, Global};
 
@@ -61,6 +63,7 @@ impl Machine {
 
     /// The start events of the tick, and then ticks at once, up to the limit at most, as far as the
     /// call goes. After a turn it tells the instruction whose effect came in the last tick.
+    #[inline(always)]
     fn step(&mut self, plan: &Plan, script: &Script, limit: u64, reach: Reach) -> Option<Completed>
         ghost run: { Run }
         requires plan { IsOf run.image plan.now }
@@ -98,8 +101,85 @@ impl Machine {
         completed
     }
 
-    /// Ticks up to the limit at most, as far as the call goes; `Done` where the limit is reached.
-    fn go_on(&mut self, plan: &Plan, script: &Script, limit: u64, reach: Reach) -> Turn
+    /// Whether nothing is due at the tick, which is below the limit, and there is room for one more
+    /// event.
+    #[inline(always)]
+    fn goes_on(&self, limit: u64) -> bool
+        ensures before { result ≡ true → self.now.tick < limit }
+        ensures calm { result ≡ true → least self.now.agenda.slots ≢ Some self.now.tick }
+        ensures room { result ≡ true → array_vec_len self.now.fired < 65 }
+    {
+        self.tick < limit && self.fired.len() < MOST && self.agenda.next_due() != Some(self.tick)
+    }
+
+    /// One row more, from a tick at which nothing is due, up to the limit at most: what falls in it
+    /// stands after the events before.
+    #[inline(always)]
+    fn row_on(&mut self, plan: &Plan, limit: u64)
+        ghost run: { Run }
+        requires plan { IsOf run.image plan.now }
+        requires runnable { IsRunnable run.image run.script }
+        requires stands { StandsIn run.image run.script self.old }
+        requires limit { limit ≤ run.script.end_tick }
+        requires before { self.old.tick < limit }
+        requires calm { least self.old.agenda.slots ≢ Some self.old.tick }
+        requires room { array_vec_len self.old.fired < 65 }
+        ensures passed { self.old.tick < self.new.tick }
+        ensures stands { StandsIn run.image run.script self.new }
+        ensures events { self.new.fired.items ≡ self.old.fired.items ++
+            events_between run.image run.script self.old.tick self.new.tick }
+    {
+        let most = span(&self.agenda, self.tick, limit);
+        let ticks = take_turn(
+            plan,
+            &mut self.board,
+            &mut self.agenda,
+            &mut self.fired,
+            self.tick,
+            most,
+            Reach::Row,
+        );
+        self.tick += ticks;
+    }
+
+    /// The start events of the tick and a row, and then rows, up to the limit at most, while
+    /// nothing is due and there is room for one more event.
+    fn rows(&mut self, plan: &Plan, script: &Script, limit: u64)
+        ghost run: { Run }
+        requires plan { IsOf run.image plan.now }
+        requires script { run.script ≡ script_of script.now }
+        requires runnable { IsRunnable run.image run.script }
+        requires stands { StandsIn run.image run.script self.old }
+        requires limit { limit ≤ script.now.end }
+        requires before { self.old.tick < limit }
+        ensures passed { self.old.tick < self.new.tick }
+        ensures stands { StandsIn run.image run.script self.new }
+        ensures events { self.new.fired.items ≡
+            events_between run.image run.script self.old.tick self.new.tick }
+    {
+        let _ = self.step(plan, script, limit, Reach::Row);
+        while self.goes_on(limit) {
+            self.row_on(plan, limit);
+        }
+    }
+
+    /// What a call came to in which ticks passed.
+    #[inline(always)]
+    fn came_to(&self) -> Turn
+        ensures passed { result ≢ Turn.Done }
+        ensures quiet { result ≡ Turn.Quiet → self.now.fired.items ≡ [] }
+        ensures events { result ≡ Turn.Events → self.now.fired.items ≢ [] }
+    {
+        if self.fired.is_empty() {
+            Turn::Quiet
+        } else {
+            Turn::Events
+        }
+    }
+
+    /// One turn, up to the limit at most; `Done` where the limit is reached.
+    #[inline(always)]
+    fn go_on(&mut self, plan: &Plan, script: &Script, limit: u64) -> Turn
         ghost image: { Image }
         requires plan { IsOf image plan.now }
         requires runnable { IsRunnable image (script_of script.now) }
@@ -113,18 +193,14 @@ impl Machine {
             events_between image (script_of script.now) self.old.tick self.new.tick }
         ensures quiet { result ≡ Turn.Quiet → self.new.fired.items ≡ [] }
         ensures events { result ≡ Turn.Events → self.new.fired.items ≢ [] }
-        ensures ends { result ≢ Turn.Done → reach ≡ Reach.Turn →
+        ensures ends { result ≢ Turn.Done →
             IsTurnEnd image (script_of script.now) limit self.old.tick self.new.tick }
     {
         if self.tick >= limit {
             return Turn::Done;
         }
-        let _ = self.step(plan, script, limit, reach);
-        if self.fired.is_empty() {
-            Turn::Quiet
-        } else {
-            Turn::Events
-        }
+        let _ = self.step(plan, script, limit, Reach::Turn);
+        self.came_to()
     }
 
     /// One turn. It does the start events of the tick and the pick, and ends at the least tick
@@ -147,7 +223,7 @@ impl Machine {
         ensures ends { result ≢ Turn.Done →
             IsTurnEnd image (script_of script.now) script.now.end self.old.tick self.new.tick }
     {
-        self.go_on(plan, script, script.end(), Reach::Turn)
+        self.go_on(plan, script, script.end())
     }
 
     /// As `advance`, except that the turn ends at the limit at the latest, which is above the tick.
@@ -168,12 +244,11 @@ impl Machine {
         ensures ends { result ≢ Turn.Done → IsTurnEnd image (script_of script.now)
             (min limit script.now.end) self.old.tick self.new.tick }
     {
-        self.go_on(plan, script, limit.min(script.end()), Reach::Turn)
+        self.go_on(plan, script, limit.min(script.end()))
     }
 
-    /// As many turns at once as end before anything is due, and before any event falls but those at
-    /// the start and at the end of the row: the process that is picked runs over whole
-    /// instructions that nobody sees.
+    /// Turns at once: the processes that are picked run on over instructions and events, up to the
+    /// next tick at which something is due, or while there is room for another event.
     pub fn advance_row(&mut self, plan: &Plan, script: &Script) -> Turn
         ghost image: { Image }
         requires plan { IsOf image plan.now }
@@ -188,7 +263,12 @@ impl Machine {
         ensures quiet { result ≡ Turn.Quiet → self.new.fired.items ≡ [] }
         ensures events { result ≡ Turn.Events → self.new.fired.items ≢ [] }
     {
-        self.go_on(plan, script, script.end(), Reach::Row)
+        let end = script.end();
+        if self.tick >= end {
+            return Turn::Done;
+        }
+        self.rows(plan, script, end);
+        self.came_to()
     }
 
     /// One turn, up to the limit at most, which is above the tick and no later than the end: the
@@ -219,7 +299,7 @@ impl Machine {
         &self.board
     }
 
-    /// The events of the last turn, in order.
+    /// The events of the last call, in order.
     pub fn events(&self) -> &[Event]
         ensures { result.now ≡ self.now.fired.items }
     {

@@ -77,6 +77,7 @@ fn pass_one(
 }
 
 /// The ticks that a row left of those that it had.
+#[inline(always)]
 fn unspent(halt: Halt) -> u64
     ensures { result ≡ unspent halt }
 {
@@ -87,6 +88,7 @@ fn unspent(halt: Halt) -> u64
 }
 
 /// A row of instructions of the process that is picked, so many ticks at most: how many passed.
+#[inline(always)]
 fn pass_row(
     plan: &Plan,
     board: &mut Board,
@@ -118,6 +120,7 @@ fn pass_row(
 }
 
 /// Whether a process has ticks of dispatch to burn.
+#[inline(always)]
 fn burns(board: &Board, who: usize) -> bool
     requires { who < vec_len board.now.cells }
     ensures { result ≡ false → BurnsNothing (state_of board.now) who }
@@ -126,6 +129,7 @@ fn burns(board: &Board, who: usize) -> bool
 }
 
 /// Ticks of the process that is picked, so many at most: how many passed.
+#[inline(always)]
 fn pass_picked(
     plan: &Plan,
     board: &mut Board,
@@ -156,6 +160,7 @@ fn pass_picked(
 }
 
 /// Ticks of the process that is picked, so many at most, as far as the call goes: how many passed.
+#[inline(always)]
 fn pass_ticks(
     plan: &Plan,
     board: &mut Board,
@@ -189,6 +194,7 @@ fn pass_ticks(
 }
 
 /// A turn of so many ticks at most: how many it took.
+#[inline(always)]
 pub(crate) fn take_turn(
     plan: &Plan,
     board: &mut Board,
@@ -223,7 +229,8 @@ pub(crate) fn take_turn(
     let Some(who) = choose(plan, board) else {
         return most;
     };
+    let before = fired.len();
     let ticks = pass_ticks(plan, board, who, tick, most, fired, reach);
-    note_waits(plan, board, agenda, fired.as_slice());
+    note_waits(plan, board, agenda, &fired.as_slice()[before..]);
     ticks
 }

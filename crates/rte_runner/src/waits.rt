@@ -42,6 +42,7 @@ fn note_all(plan: &Plan, board: &Board, agenda: &mut Agenda)
 }
 
 /// Whether a process begins to wait in the event, or others may wait no more.
+#[inline(always)]
 fn is_at_queue(event: &Event) -> bool
     ensures { result ≡ is_at_queue event.now.act }
 {
@@ -52,6 +53,7 @@ fn is_at_queue(event: &Event) -> bool
 }
 
 /// Whether one of the events is such.
+#[inline(always)]
 fn is_some_at_queue(events: &[Event]) -> bool
     ensures { result ≡ is_some_at_queue events.now }
 {
@@ -64,6 +66,7 @@ fn is_some_at_queue(events: &[Event]) -> bool
 }
 
 /// Notes when waits time out, where the events may have changed that.
+#[inline(always)]
 pub(crate) fn note_waits(plan: &Plan, board: &Board, agenda: &mut Agenda, events: &[Event])
     ghost image: { Image }
     requires plan { IsOf image plan.now }

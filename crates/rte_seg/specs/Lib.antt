@@ -1,4 +1,3 @@
-pub mod formers
 pub mod Kept
 pub mod View
 pub use Rattle.rte_machine_meaning.specs.Image

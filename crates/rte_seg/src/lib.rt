@@ -4,8 +4,6 @@
 //! meaning speaks of.
 #![tactic(auto)]
 
-mod boxed;
 mod seg;
 
-pub use boxed::Boxed;
 pub use seg::{Arms, Inside, Seg, Segs, Turns};

@@ -5,8 +5,8 @@ ghost use Rattle.rte_machine_meaning.specs.Trees as tree;
 ghost use Rattle.rte_seg.specs.Kept.{fork, rep, stay};
 ghost use Rattle.rte_seg.specs.View.{view, views};
 
-use crate::boxed::Boxed;
 use rte_tree::List;
+use sqlite_items::Boxed;
 use std::alloc::{AllocError, Global};
 
 /// A piece of code. Routines and monitors are numbered from 0. What has trees is kept in a box, so

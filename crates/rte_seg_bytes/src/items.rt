@@ -67,31 +67,3 @@ impl<'a> SegBytes<'a> {
         SegItems { rest: *self }
     }
 }
-
-#[cfg(test)]
-mod tests {
-    use super::*;
-    use crate::reading::{DEEPEST, tree_at};
-    use std::test::Fail;
-
-    #[test]
-    fn a_loop_and_a_line(rt: HostRuntime) -> Result<(), Fail> {
-        let bytes = [
-            0, 0, 0, 2, 3, 0, 0, 0, 3, 0, 0, 0, 2, 1, 0, 0, 0, 2, 7, 1, 0, 0, 0, 1, 9,
-        ];
-        let (tree, rest) = tree_at(0, DEEPEST, &bytes)?;
-        assert_eq!(rt; rest.len(), 1);
-        let mut items = tree.items();
-        let Some(SegItem::Rep(3, turn)) = items.next() else {
-            return Err(Fail::from("no loop of three turns"));
-        };
-        assert!(rt; matches!(items.next(), Some(SegItem::Line(1))));
-        assert!(rt; items.next().is_none());
-        let mut items = turn.items();
-        assert!(rt; matches!(items.next(), Some(SegItem::Line(2))));
-        assert!(rt; matches!(items.next(), Some(SegItem::Exit)));
-        assert!(rt; items.next().is_none());
-        assert!(rt; tree_at(0, 1, &bytes).is_err());
-        Ok(())
-    }
-}

@@ -15,6 +15,7 @@ use rte_seen::Queues;
 use rte_state::{Plan, Process};
 
 /// Lets the process stand as the outcome at the tick leaves it.
+#[inline(always)]
 pub fn stand_after(process: &Process, cell: &mut Cell, outcome: Outcome, tick: u64)
     requires { tick < 2 ^ 63 }
     ensures stands { StandsAfter tick process.now outcome cell.old cell.new }

@@ -17,6 +17,7 @@ use rte_silent::{Halt, Job};
 use rte_state::{Plan, Process};
 
 /// What the row comes to in its last tick, as far as the process's own goes.
+#[inline(always)]
 fn end_own(plan: &Plan, job: &mut Job, queues: &Queues, devices: &[i32], halt: Halt) -> Outcome
     ghost at: { Around }
     requires plan { IsOf at.image plan.now }
@@ -42,6 +43,7 @@ fn end_own(plan: &Plan, job: &mut Job, queues: &Queues, devices: &[i32], halt: H
 }
 
 /// The last tick of a row, up to where its process stands anew.
+#[inline(always)]
 pub fn end_cell(
     plan: &Plan,
     process: &Process,

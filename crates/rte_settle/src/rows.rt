@@ -21,6 +21,7 @@ use rte_silent::{Halt, run};
 use rte_state::{Board, Fired, Plan};
 
 /// Runs a process for so many ticks, up to an instruction that others see or an exception.
+#[inline(always)]
 fn run_cell(
     plan: &Plan,
     cell: &mut Cell,
@@ -49,6 +50,7 @@ fn run_cell(
 
 /// Runs a process that is picked, and that burns no ticks, for so many ticks, up to an instruction
 /// that others see or an exception; all else stays as it was.
+#[inline(always)]
 pub fn run_row(plan: &Plan, board: &mut Board, who: usize, budget: u64) -> Halt
     ghost image: { Image }
     requires plan { IsOf image plan.now }
@@ -65,6 +67,7 @@ pub fn run_row(plan: &Plan, board: &mut Board, who: usize, budget: u64) -> Halt
 }
 
 /// The last tick of a row, up to where its process stands anew.
+#[inline(always)]
 fn end_turn(plan: &Plan, board: &mut Board, who: usize, halt: Halt, tick: u64) -> Outcome
     ghost at: { Around }
     requires plan { IsOf at.image plan.now }
@@ -94,6 +97,7 @@ fn end_turn(plan: &Plan, board: &mut Board, who: usize, halt: Halt, tick: u64) -
 
 /// Does what a row halted at, in the last of the ticks that passed: the instruction that others
 /// see, or the raise.
+#[inline(always)]
 pub fn end_row(plan: &Plan, board: &mut Board, who: usize, halt: Halt, tick: u64, fired: &mut Fired)
     ghost image: { Image }
     requires plan { IsOf image plan.now }

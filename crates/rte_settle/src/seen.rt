@@ -14,6 +14,7 @@ use rte_silent::Job;
 
 /// Does an instruction that others see, as far as its own process goes, which stands at the next
 /// already.
+#[inline(always)]
 pub fn see(job: &mut Job, queues: &Queues, devices: &[i32], instr: Instr) -> Outcome
     ghost at: { Around }
     requires queues { at.state.queues ≡ queues.now }

@@ -49,6 +49,7 @@ fn turn(plan: &Plan, board: &mut Board, who: usize, ticks: u32, tick: u64) -> Ou
 
 /// Does what is left to do once a process stands as its turn leaves it: wakes others, joins it to a
 /// queue, and tells its event at the tick.
+#[inline(always)]
 pub fn tell_after(
     plan: &Plan,
     board: &mut Board,

@@ -129,6 +129,13 @@ impl Shape {
         self.bytes.as_slice()
     }
 
+    /// The image as it stands in its file.
+    pub fn raw(&self) -> &RawImage
+        ensures { named_of result.now ≡ self.now }
+    {
+        &self.raw
+    }
+
     /// The names of its parts.
     pub fn names(&self) -> &ImageNames
         ensures { result.now ≡ self.now.names }

@@ -97,6 +97,7 @@ impl Agenda {
     }
 
     /// The tick at which the next thing is due; `None` exactly where nothing is.
+    #[inline(always)]
     pub fn next_due(&self) -> Option<u64>
         ensures { result ≡ least self.now.slots }
     {
@@ -104,6 +105,7 @@ impl Agenda {
     }
 
     /// Whether something is due at the tick, before which nothing is.
+    #[inline(always)]
     fn is_due(&self, tick: u64) -> bool
         ensures { result ≡ false → least self.now.slots ≢ Some tick }
     {

@@ -28,6 +28,3 @@ pub use name::Name;
 pub use place::Place;
 pub use stmt::{Ref, Stmt};
 pub use text::Text;
-
-#[cfg(test)]
-mod tests;

@@ -8,5 +8,5 @@ pub returns : goal.returns
 returns c =
     let own = (c.args.program.now.place, other_thing) ∷ [] in
     c.in_ok-keep.ensures [] ∙ c.in_ok-decls.ensures own
-    ∙ ap (λ entries. learn (known_things entries) (decls_things (map placed_decl c.as_slice.result.now) own)) c.with_hasher-things.ensures.empty
+    ∙ ap (λ entries. learn (known_things entries) (decls_things (map placed_decl c.as_slice.result.now) own)) c.in_ok-things.ensures.empty
     ∙ ap (λ items. learn nothing (decls_things (map placed_decl items) own)) c.as_slice.ensures

@@ -14,10 +14,10 @@ returns c more =
     let own : Names = program_name g ∷ [] in
     let members = entry_meaning c.args.entries.now.entries in
     let earlier = meaning c.start.new.seen.entries in
-    let seen : earlier ≡ first own = c.in_ok-start.ensures.seen ∙ ap (λ es. add (meaning es) (program_name g)) c.new-seen.ensures.empty in
+    let seen : earlier ≡ first own = c.in_ok-start.ensures.seen ∙ ap (λ es. add (meaning es) (program_name g)) c.in_ok-seen.ensures.empty in
     let named : meaning c.start.new.names.entries ≡ add_all earlier (others (map placed_decl c.as_slice.result.now)) =
     c.in_ok-start.ensures.names
-    ∙ ap (λ es. add_all (add (meaning es) (program_name g)) (others g.decls)) c.new-names.ensures.empty
+    ∙ ap (λ es. add_all (add (meaning es) (program_name g)) (others g.decls)) c.in_ok-names.ensures.empty
     ∙ ap (λ r. add_all r (others g.decls)) (sym seen)
     ∙ ap (λ l. add_all earlier (others (map placed_decl l))) (sym c.as_slice.ensures) in
     (c.in_ok-decls.ensures named).notes more

@@ -1,5 +1,4 @@
-use Rattle.std.proofs.Common.{◌≡◌, ◌-◌, ◌∙◌, ℕ, arith, ap, sym, subst, length}
-use Rattle.rte_machine_meaning.specs.State.{State}
+use Rattle.std.proofs.Common.{◌-◌, ℕ, arith, sym, subst}
 use Rattle.rte_state.specs.Board.{state_of}
 use Rattle.rte_runner.proofs.Rowing.{Ran, can_end, can_run, enough, ran, row_passes, row_queued, row_starts, words_count}
 use Rattle.rte_runner.proofs.turn.pass_row.Goals as goal

@@ -1,5 +1,5 @@
 use Rattle.std.specs.Prelude.{slice_get}
-use Rattle.std.proofs.Common.{◌≡◌, ◌≤◌, ◌+◌, ◌∙◌, ◌++◌, ℕ, List, Option, None, arith, ap, sym, subst}
+use Rattle.std.proofs.Common.{◌≡◌, ◌≤◌, ◌+◌, ◌∙◌, ℕ, List, Option, None, arith, ap, sym, subst}
 use Rattle.rte_event.specs.declared.event.Event.{Event}
 use Rattle.rte_machine_meaning.specs.State.{State}
 use Rattle.rte_state.specs.Board.{state_of}
@@ -11,7 +11,7 @@ use Rattle.rte_runner.specs.Ends.{lasts_picked}
 use Rattle.rte_runner.specs.Waits.{WaitsFrom, is_some_at_queue}
 use Rattle.rte_runner.proofs.Passing.{idle_passes}
 use Rattle.rte_runner.proofs.Turning.{noted_slots, same_waits, still_none}
-use Rattle.rte_runner.proofs.Waiting.{later_quiet}
+use Rattle.rte_runner.proofs.Waiting.{come_after}
 use Rattle.rte_runner.proofs.turn.take_turn.Goals as goal
 
 pub choose-requires : goal.choose-requires
@@ -51,14 +51,14 @@ note_waits-requires g c =
     let s = state_of c.args.board.now in
     let s' = state_of c.pass_ticks-ticks.new.board in
     let has = c.pass_ticks-ticks.ensures.passed in
-    let told : c.as_slice.result.now ≡ c.args.fired.now.items ++ has.fell = c.as_slice.ensures.value ∙ has.told in (
+    let fell = come_after c.args.fired.now.items has.fell c.as_slice.result.now c.len-before.result c.len-before.ensures.value (c.as_slice.ensures.value ∙ has.told) in (
       c.requires.0,
       (
         c.pass_ticks-ticks.ensures.board,
         (
           c.requires.1.1.1.1.0.count,
           λ quiet. same_waits g.run.image g.run.script c.args.tick c.args.agenda.now.done s s' c.args.agenda.now.slots c.requires.1.1.1.1.0
-              (λ j. has.same (later_quiet c.args.fired.now.items has.fell (sym (ap (λ (xs : List Event). is_some_at_queue xs) told) ∙ quiet)) j ∙ ap (λ (x : State). time_out_of (slice_get x.threads j)) (sym c.requires.1.1.1.0)),
+              (λ j. has.same (sym (ap (λ (xs : List Event). is_some_at_queue xs) fell) ∙ quiet) j ∙ ap (λ (x : State). time_out_of (slice_get x.threads j)) (sym c.requires.1.1.1.0)),
         ),
       ),
     )

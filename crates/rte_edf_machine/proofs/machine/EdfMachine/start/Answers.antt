@@ -8,14 +8,14 @@ use Rattle.rte_stretch.specs.Due.{HasSlots, NoneBefore}
 use Rattle.rte_starts.specs.Begin.{script_of}
 use Rattle.rte_starts.proofs.Boards.{cells_count}
 use Rattle.rte_starts.proofs.Joining.{threads_count}
-use Rattle.rte_starts.proofs.Least.{none_up_to}
 use Rattle.rte_starts.proofs.Saying.{as_many_lines}
 use Rattle.rte_runner.proofs.Due.{starts_later}
 use Rattle.rte_edf.specs.Run.{marks_of, state_at}
 use Rattle.rte_edf_choice.specs.Marks.{AreMarks, AreNoted}
 use Rattle.rte_edf_stretch.specs.Turn.{begun}
 use Rattle.rte_edf_machine.specs.Runnable.{NobodyWaits}
-use Rattle.rte_edf_machine.proofs.Stepping.{Rested, rested, starts_calm}
+use Rattle.rte_edf_machine.proofs.Calm.{is_calm}
+use Rattle.rte_edf_machine.proofs.Stepping.{starts_calm}
 use Rattle.rte_edf_machine.proofs.machine.EdfMachine.start.Goals as goal
 
 -- requires: plan, script, tick, runnable, stands, before
@@ -80,28 +80,17 @@ mark_releases-requires g c =
 
 pub returns-then-not-is_due-clause-started : goal.returns-then-not-is_due-clause-started
 returns-then-not-is_due-clause-started g c =
-    let image = g.run.image in
-    let at = c.requires.1.1.0 in
     let stands = c.requires.1.1.1.1.0 in
-    let t = c.args.self.now.tick in
-    let s = state_of c.args.self.now.board in
-    let done = c.args.self.now.agenda.done in
-    let slots = c.args.self.now.agenda.slots in
-    let cells = c.args.self.now.board.cells.items in
-    let none : NoneBefore (t + 1) slots = none_up_to slots t stands.due.none_late (c.is_due.ensures c.if-not-is_due.true) in
-    let later : NoneBefore (g.run.tick + 1) slots = λ i r slot. (let l = none i r slot in omega (arith, l, at)) in
-    let rest : Rested g.run s done slots c.args.self.now.marks.items =
-    rested g.run s done slots c.args.self.now.marks.items (stands.state ∙ ap (λ (u : ℕ). (state_at image g.run.script u).state) (sym at)) (subst (λ (u : ℕ). HasDue image g.run.script u done s slots) (sym at) stands.due) stands.done
-    (subst (λ (u : ℕ). AreMarks image c.args.self.now.marks.items (state_at image g.run.script u).marks) (sym at) stands.marks) (threads_count cells ∙ cells_count image cells stands.board.rooms) later in
+    let calm = is_calm g.run c.args.self.now c.requires.1.1.0 stands (c.is_due.ensures c.if-not-is_due.true) in
     record {
-      state = rest.state;
-      marks = rest.marks;
+      state = calm.rest.state;
+      marks = calm.rest.marks;
       board = stands.board;
-      slots = rest.slots;
-      later = later;
+      slots = calm.rest.slots;
+      later = calm.later;
       done = stands.done;
       order = stands.order;
-      events = c.clear.ensures ∙ rest.events;
+      events = c.clear.ensures ∙ calm.rest.events;
     }
 
 pub returns-clause-started : goal.returns-clause-started

@@ -1,4 +1,5 @@
+use Rattle.rte_starts.specs.Begin.{script_of}
 use Rattle.rte_runner.proofs.machine.Machine.advance_row.Given as goal
 
-abbrev pub ghost-go_on : goal.ghost-go_on
-ghost-go_on g a = g.image
+abbrev pub ghost-rows : goal.ghost-rows
+ghost-rows g a = record { image = g.image; script = script_of a.script.now }

@@ -1,0 +1,93 @@
+-- The run of an admitted image is one that the machine takes, and each of its events has a line.
+use Rattle.std.proofs.Common.{◌≤◌, ◌<◌, ◌≡◌, ◌∙◌, ℕ, List, [], ◌∷◌, Some, arith, map, ap, refl, sym, subst}
+use Rattle.std.specs.Prelude.{◌^◌, All, slice_get}
+use Rattle.rte_edf.specs.Run.{events}
+use Rattle.rte_edf.specs.Safe.{IsWaitless}
+use Rattle.rte_edf_admit.specs.Admitted.{IsAdmitted}
+use Rattle.rte_edf_admit.proofs.Premises.{fits, is_waitless}
+use Rattle.rte_edf_choice.specs.Marks.{HasDeadlines}
+use Rattle.rte_edf_machine.specs.Runnable.{IsRunnable}
+use Rattle.rte_edf_machine.specs.Standing.{StandsIn}
+use Rattle.rte_edf_run.proofs.Rest.{all_is_to_come}
+use Rattle.rte_edf_run.specs.Coming.{coming, log_to_come}
+use Rattle.rte_edf_runnable.specs.Laws.{FramesAreShort, WaitlessRunsAreRunnable, WaitlessRunsHaveLines}
+use Rattle.rte_edf_timed.specs.InTime.{MeetsDeadlines}
+use Rattle.rte_event.specs.declared.event.Event.{Event}
+use Rattle.rte_image.specs.declared.names.ImageNames.{ImageNames}
+use Rattle.rte_image.specs.declared.raw.RawImage.{RawImage}
+use Rattle.rte_image.specs.declared.raw.RawProc.{RawProc}
+use Rattle.rte_image.specs.Named.{NamedImage}
+use Rattle.rte_image.specs.Raw.{image_of, named_of, process_of}
+use Rattle.rte_log.specs.InRange.{AreIn}
+use Rattle.rte_log.specs.Line.{log_of}
+use Rattle.rte_machine_meaning.specs.Image.{Image, Process, Script}
+use Rattle.rte_named.proofs.There.{all_there}
+use Rattle.rte_named.specs.Operands.{AreThere}
+use Rattle.rte_safe_terms.specs.Safe.{ImageFits}
+use Rattle.rte_script_suits.specs.Suits.{Suits}
+use Rattle.rte_shape.specs.Shape.{IsShape}
+use Rattle.rte_state.specs.Plan.{IsOf}
+use Rattle.rte_valid_law.proofs.Parts.{no_part, where_in}
+use Rattle.rte_valid_law.proofs.Processes.{parts_in}
+use Rattle.rte_verify.proofs.Order.{HasNoFaultBefore, none_before}
+use Rattle.rte_admitted_run.specs.Ready.{CanBeRun, IsReady, run_log}
+use Rattle.rte_admitted_run.specs.declared.run.AdmittedRun.{AdmittedRun}
+
+-- ---- the run
+
+module _ (n : NamedImage) (is : IsShape n) (admitted : IsAdmitted n.image) where
+  none : HasNoFaultBefore n.image
+  none = none_before n.image is.valid
+
+  fit : ImageFits (where_in n.image no_part) (parts_in n.image)
+  fit = fits n.image none is.limits admitted.over admitted.waitless
+
+  still : IsWaitless (where_in n.image no_part) (parts_in n.image)
+  still = is_waitless n.image none is.limits admitted.over admitted.waitless
+
+  short : FramesAreShort n.image
+  short k p at = (is.limits.processes k p at).frame_high
+
+  there : AreThere n.image
+  there = all_there n.image is.limits.owners none.operands none.shape
+
+  pub is_runnable : WaitlessRunsAreRunnable → (script : Script) → Suits n.image script → MeetsDeadlines n.image script → IsRunnable n.image script
+  is_runnable law script suits meets =
+      let end = suits.end in
+      law (where_in n.image no_part) (parts_in n.image) script fit still short meets.no_overrun suits.order (omega (arith, end))
+
+  pub has_lines : WaitlessRunsHaveLines → (script : Script) → Suits n.image script → CanBeRun n → All (AreIn n.names) (events n.image script)
+  has_lines law script suits can = law n.names (where_in n.image no_part) (parts_in n.image) script fit still there can.names suits.end
+
+-- ---- deadlines
+
+-- the deadlines of the image are those that stand in its file
+same_deadlines : (processes : List RawProc) → map (λ (p : Process). p.deadline) (map process_of processes) ≡ map (λ (p : RawProc). p.deadline) processes
+same_deadlines [] = refl
+same_deadlines (p ∷ processes) = ap (λ (ds : List ℕ). p.deadline ∷ ds) (same_deadlines processes)
+
+pub has_deadlines : (whole : Image) (raw : RawImage) (n : NamedImage) (deadlines : List ℕ) → whole ≡ n.image → named_of raw ≡ n → deadlines ≡ map (λ (p : RawProc). p.deadline) raw.processes → HasDeadlines whole deadlines
+has_deadlines whole raw n deadlines same raw_is taken =
+    let of_raw : HasDeadlines (image_of raw) deadlines = same_deadlines raw.processes ∙ sym taken in
+    subst (λ (x : Image). HasDeadlines x deadlines) (sym same) (subst (λ (x : NamedImage). HasDeadlines x.image deadlines) raw_is of_raw)
+
+-- ---- before the first tick
+
+coming_first : (image : Image) (script : Script) (t : ℕ) → t ≡ 0 → coming image script t ≡ events image script
+coming_first image script t first = ap (λ (u : ℕ). coming image script u) first ∙ all_is_to_come image script
+
+-- what the run to the end asks of the run of an image and of its names
+abbrev CanGo : Image → ImageNames → Script → AdmittedRun → Type 0
+CanGo whole names script run = IsOf whole run.plan × (IsRunnable whole script × (StandsIn whole script run.machine × All (AreIn names) (coming whole script run.machine.tick)))
+
+pub can_go : (whole : Image) (names : ImageNames) (n : NamedImage) (script : Script) (run : AdmittedRun) → whole ≡ n.image → names ≡ n.names → IsReady n script run → CanGo whole names script run
+can_go whole names n script run same called ready =
+    let lines = subst (λ (es : List Event). All (AreIn n.names) es) (sym (coming_first n.image script run.machine.tick ready.start)) ready.lines in
+    let own : CanGo n.image n.names script run = (ready.plan, (ready.runnable, (ready.stands, lines))) in
+    subst (λ (x : Image). CanGo x names script run) (sym same) (subst (λ (ns : ImageNames). CanGo n.image ns script run) (sym called) own)
+
+-- the log that is to come is that of the whole run
+pub log_first : (whole : Image) (names : ImageNames) (n : NamedImage) (script : Script) (t : ℕ) → whole ≡ n.image → names ≡ n.names → t ≡ 0 → log_to_come whole script names t ≡ run_log n script
+log_first whole names n script t same called first =
+    ap (λ (x : Image). log_to_come x script names t) same
+    ∙ (ap (λ (ns : ImageNames). log_to_come n.image script ns t) called ∙ ap (λ (es : List Event). log_of n.names es) (coming_first n.image script t first))

@@ -1,5 +1,0 @@
-//! Where the machine's turns end, on worked programs: tests alone.
-#![tactic(auto)]
-
-#[cfg(test)]
-mod turns;
