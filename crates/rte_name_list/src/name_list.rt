@@ -64,6 +64,9 @@ impl<'a> NameList<'a> {
     pub fn index(&self, name: &Name) -> Option<usize>
         ensures { result ≡ index_of name.now self.now }
     {
+        if self.names.is_empty() {
+            return None;
+        }
         self.first.get(name.as_bytes()).copied()
     }
 }
