@@ -1,4 +1,4 @@
 pub mod Segments
 pub mod Lines
-pub mod Views
 pub mod Endings
+pub mod Fitting
