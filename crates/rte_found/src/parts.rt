@@ -1,6 +1,7 @@
 //! The computation over whole parts: the code of a routine, the body and the handler of a process.
 
-ghost use Rattle.std.specs.Prelude.{◌≡◌, ◌≤◌, ◌+◌, ◌-◌, ◌&&◌, ◌<◌, IfSome, MatchOption, Some, None, length, map, nat_eq, slice_get};
+ghost use Rattle.std.specs.Prelude.{◌≡◌, ◌≤◌, ◌+◌, ◌-◌, ◌&&◌, ◌<◌, ◌*◌, IfSome, IsTrue, MatchOption, Some, None, length, map, nat_eq, slice_get};
+ghost use Rattle.rte_format.specs.TreeBytes.{tree_bytes};
 ghost use Rattle.rte_image.specs.Raw.{routine_of};
 ghost use Rattle.rte_machine_meaning.specs.Trees.{Cons, Nil, Stay, size};
 ghost use Rattle.rte_seg_bytes.specs.Stands.{tree_in};
@@ -149,6 +150,14 @@ pub fn part_tree_found(
     }
 }
 
+/// Whether a tree has more bytes than any tree of code of this length: at most five for each
+/// instruction, besides its count.
+fn is_too_long(code: &[Instr], tree: &SegTree) -> bool
+    ensures { IsTrue result → 5 * length code.now + 4 < length (tree_bytes tree.now) }
+{
+    tree.bytes().len().saturating_sub(4) / 5 > code.len()
+}
+
 /// The monitor of an entry.
 fn monitor_of(routine: &RawRoutine) -> Option<u16>
     ensures { result ≡ owner_of (routine_of routine.now) }
@@ -172,6 +181,9 @@ pub fn routine_found(code: &[Instr], known: &[Known], routine: &RawRoutine) -> O
         cap (stay_in (owner_of (routine_of routine.now))
         (defined_routine code.now (map known_of known.now) (routine_of routine.now)))) }
 {
+    if is_too_long(code, &routine.tree) {
+        return None;
+    }
     let part = part_tree_found(
         code,
         known,
@@ -194,6 +206,9 @@ pub fn part_found(code: &[Instr], known: &[Known], tree: &SegTree, at: usize) ->
     ensures ends { IfSome result (EndsAt code.now (at + size (tree.now))) }
     ensures within { IfSome result (λ f. f.next < length code.now) }
 {
+    if is_too_long(code, tree) {
+        return None;
+    }
     let PartFound { found, .. } = part_tree_found(code, known, None, tree.view(), at)?;
     let last = instr_at(code, found.next)?;
     if !is_end(Some(last)) || found.height != 0 {

@@ -10,6 +10,7 @@ use Rattle.rte_valid.specs.Found.{is_return, tree_found}
 use Rattle.rte_valid.specs.Tables.{count, monitor_of}
 use Rattle.rte_valid_held.specs.Held.{hold}
 use Rattle.rte_found.proofs.Endings.{ends_nothing, ends_same, ends_well}
+use Rattle.rte_found.proofs.Short.{long_routine}
 use Rattle.rte_found.proofs.parts.routine_found.Goals as goal
 
 pub returns-in_err-part-clause-value : goal.returns-in_err-part-clause-value
@@ -48,3 +49,6 @@ returns-clause-stay c =
     let there : stay_in c.monitor_of.result (tree_found c.args.code.now known c.monitor_of.result (tree_in c.view.result) r.start) ≡ stay_in (monitor_of (routine_of r)) (tree_found c.args.code.now known (monitor_of (routine_of r)) r.tree r.start) =
     ap (λ s. stay_in c.monitor_of.result (tree_found c.args.code.now known c.monitor_of.result s r.start)) c.view.ensures ∙ ap (λ m. stay_in m (tree_found c.args.code.now known m r.tree r.start)) c.monitor_of.ensures in
     c.in_ok-part.ensures.stay ∙ ap cap there ∙ ap (λ x. cap (stay_in (monitor_of (routine_of r)) x)) (sym same)
+
+pub returns-then-is_too_long-clause-value : goal.returns-then-is_too_long-clause-value
+returns-then-is_too_long-clause-value c = long_routine c.args.code.now (map known_of c.args.known.now) (routine_of c.args.routine.now) (c.is_too_long.ensures c.if-is_too_long.true)
