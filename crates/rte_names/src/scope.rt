@@ -26,6 +26,9 @@ pub type Entries<'a> = IndexMap<(u32, u32, &'a [u8]), Declared>;
 pub fn find(scope: &Scope<'_>, name: &[u8]) -> Option<Declared>
     ensures { result ≡ meaning scope.now.entries name.now }
 {
+    if scope.is_empty() {
+        return None;
+    }
     scope.get(name).copied()
 }
 
