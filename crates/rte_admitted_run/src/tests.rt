@@ -4,6 +4,7 @@ use rte_edf_admit::{EdfFault, EdfImage};
 use rte_io::MemSink;
 use rte_script::read_script;
 use rte_shape::Shape;
+use std::alloc::Global;
 use std::test::Fail;
 
 /// The image of a program of two processes: `p` has a frame of 30 and puts 1 to the device `a`, `q`
