@@ -3,8 +3,8 @@
 //!
 //! The definition is `founds` of `rte_valid`: one computation over tree and code. Each call
 //! promises just what that says, with costs held at one more than a thousand million and depths at
-//! 4,097 (`specs/Told.antt`). Trees are looked at as they stand in bytes (`SegBytes`), so no
-//! memory is taken. The calls recurse down the tree, whose sizes are counted once more for each loop
+//! 4,097 (`specs/Told.antt`). Trees are looked at as they stand in bytes (`SegBytes`), so no memory
+//! is taken. The calls recurse down the tree, whose sizes are counted once more for each loop
 //! around it, and whose bytes are gone over once more for each tree around it; a tree that has more
 //! bytes than code of this length can need is of none, and is not gone over.
 #![tactic(auto)]

@@ -71,7 +71,8 @@ fn stay_found(
     requires { at ≤ length code.now }
     ensures value { told_part result ≡ hold (entry code.now (map known_of known.now) owner
         (Cons (Stay monitor (tree_in body.entry)) Nil) at) }
-    ensures ends { IfSome result (λ f. EndsAt code.now (at + size (tree_in body.entry) + 2) f.found) }
+    ensures ends { IfSome result (λ f. EndsAt code.now
+        (at + size (tree_in body.entry) + 2) f.found) }
     ensures stay { IfSome result (λ f. f.stay ≡
         cap ((found_or_nothing (entry code.now (map known_of known.now) owner
         (Cons (Stay monitor (tree_in body.entry)) Nil) at)).cost.run - 5)) }

@@ -1,9 +1,9 @@
 //! Views of the segments and the trees that bytes begin with.
 
 ghost use Rattle.std.specs.Prelude.{◌≡◌, ◌≤◌, ◌+◌, IfOk};
-ghost use Rattle.rte_format.specs.TreeFormat.{seg_format, tagged, tree_format, within_limits};
+ghost use Rattle.rte_format.specs.TreeFormat.{tagged, within_limits};
 ghost use Rattle.rte_seg_bytes.specs.Answers.{Gives};
-ghost use Rattle.rte_seg_bytes.specs.Rows.{row_read};
+ghost use Rattle.rte_seg_bytes.specs.Rows.{row_read, seg_within, tree_within};
 ghost use Rattle.rte_seg_bytes.specs.Stands.{inner_nesting, item_in, nesting, tree_in};
 
 use crate::fields::{u8_at, u16_at, u16_below, u32_at, u32_within};
@@ -24,7 +24,7 @@ fn tagged_at(
     bytes: &[u8],
 ) -> Result<(SegItem<'_>, &[u8]), Fault>
     ensures read { Gives (λ x. (item_in x.0, x.1.now)) result
-        (tagged (within_limits limits) (tree_format (within_limits limits) depth) tag left bytes.now) }
+        (tagged (within_limits limits) (tree_within limits depth) tag left bytes.now) }
     ensures nests { IfOk result (λ x. inner_nesting x.0 ≤ depth) }
 {
     match tag {
@@ -66,7 +66,7 @@ pub(crate) fn item_at(
     bytes: &[u8],
 ) -> Result<(SegItem<'_>, &[u8]), Fault>
     ensures read { Gives (λ x. (item_in x.0, x.1.now)) result
-        ((seg_format (within_limits limits) (tree_format (within_limits limits) depth)).read bytes.now) }
+        ((seg_within limits depth).read bytes.now) }
     ensures nests { IfOk result (λ x. inner_nesting x.0 ≤ depth) }
 {
     let (tag, rest) = u8_at(bytes)?;
@@ -99,13 +99,13 @@ fn row_at(
 }
 
 /// A view of the tree that the bytes begin with, and the bytes after it; or the fault of the first
-/// field that is none of a tree's. Its numbers are within the limits, and trees nest at most so deep:
-/// the call calls itself once for each level of nesting.
+/// field that is none of a tree's. Its numbers are within the limits, and trees nest at most so
+/// deep: the call calls itself once for each level of nesting.
 #[cycle(trees)]
 #[tactic(auto, unfolding(rte_format::specs::TreeFormat::tree_format))]
 pub fn tree_at(limits: Limits, depth: u32, bytes: &[u8]) -> Result<(SegBytes<'_>, &[u8]), Fault>
     ensures read { Gives (λ x. (tree_in x.0, x.1.now)) result
-        ((tree_format (within_limits limits) depth).read bytes.now) }
+        ((tree_within limits depth).read bytes.now) }
     ensures nests { IfOk result (λ x. nesting x.0 + 1 ≡ depth) }
 {
     if depth == 0 {

@@ -3,7 +3,8 @@
 ghost use Rattle.std.specs.Prelude.{◌≡◌};
 ghost use Rattle.rte_seg.specs.View.{view, views};
 ghost use Rattle.rte_format.specs.Gives.{Gives};
-ghost use Rattle.rte_format.specs.TreeFormat.{seg_format, segs_read, tagged, tree_format, within_limits};
+ghost use Rattle.rte_format.specs.TreeFormat.{segs_read, tagged, within_limits};
+ghost use Rattle.rte_seg_bytes.specs.Rows.{seg_within, tree_within};
 
 use crate::fields::{u8_at, u16_at, u16_below, u32_at, u32_within};
 use rte_format::{Fault, Limits, ReadError};
@@ -22,7 +23,7 @@ fn tagged_at(
     bytes: &[u8],
 ) -> Result<(Seg, &[u8]), ReadError>
     ensures { Gives (λ x. (view x.0, x.1.now)) result
-        (tagged (within_limits limits) (tree_format (within_limits limits) depth) tag left bytes.now) }
+        (tagged (within_limits limits) (tree_within limits depth) tag left bytes.now) }
 {
     match tag {
         1 => {
@@ -64,7 +65,7 @@ fn seg_at(
     bytes: &[u8],
 ) -> Result<(Seg, &[u8]), ReadError>
     ensures { Gives (λ x. (view x.0, x.1.now)) result
-        ((seg_format (within_limits limits) (tree_format (within_limits limits) depth)).read bytes.now) }
+        ((seg_within limits depth).read bytes.now) }
 {
     let (tag, rest) = u8_at(bytes)?;
     tagged_at(alloc, limits, depth, tag, bytes.len(), rest)
@@ -80,7 +81,7 @@ fn segs_at(
     bytes: &[u8],
 ) -> Result<(Segs, &[u8]), ReadError>
     ensures { Gives (λ x. (views x.0, x.1.now)) result
-        (segs_read (seg_format (within_limits limits) (tree_format (within_limits limits) depth)) count bytes.now) }
+        (segs_read (seg_within limits depth) count bytes.now) }
 {
     let mut segs = Segs::new(alloc);
     let mut rest = bytes;
@@ -102,7 +103,7 @@ pub(crate) fn tree_at(
     bytes: &[u8],
 ) -> Result<(Segs, &[u8]), ReadError>
     ensures { Gives (λ x. (views x.0, x.1.now)) result
-        ((tree_format (within_limits limits) depth).read bytes.now) }
+        ((tree_within limits depth).read bytes.now) }
 {
     if depth == 0 {
         return Err(ReadError::Fault(Fault {
