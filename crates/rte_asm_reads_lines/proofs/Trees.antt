@@ -66,13 +66,13 @@ module _ (monitors : ℕ) (sub : Format Segs) (read : Front → Read Segs) (read
   arm_reads : (tree : Segs) (start : ℕ) (rest : List ℕ) → sub.is tree ≡ true → arm_read read (place start (codes " (" ++ (segs_text tree ++ (codes " )" ++ rest)))) ≡ Ok (tree, place start rest)
   arm_reads tree start rest h = rw (skips (codes " (") start (segs_text tree ++ (codes " )" ++ rest)), reads.tree tree start (codes " )" ++ rest) h (closing rest), skips (codes " )") start rest) refl
 
-  line_reads : (count start : ℕ) (rest : List ℕ) → (seg_format (in_image monitors) sub).is (Line count) ≡ true → Stops is_digit rest → seg_read (in_image monitors) read (place start (seg_text (Line count) ++ rest)) ≡ Ok (Line count, place start rest)
+  line_reads : (count start : ℕ) (rest : List ℕ) → (seg_format (in_image monitors) sub).is (Line count) ≡ true → Stops is_digit rest → seg_read monitors read (place start (seg_text (Line count) ++ rest)) ≡ Ok (Line count, place start rest)
   unfolding seg_read
   line_reads count start rest h stops =
       let range = in_u32 1 65535 count h in
       rw (begins_self (codes " line ") (decimal count ++ rest), field_reads (codes " line ") 1 65535 count start rest range.0 range.1 (omega arith) stops) refl
 
-  call_reads : (routine start : ℕ) (rest : List ℕ) → (seg_format (in_image monitors) sub).is (Call routine) ≡ true → Stops is_digit rest → seg_read (in_image monitors) read (place start (seg_text (Call routine) ++ rest)) ≡ Ok (Call routine, place start rest)
+  call_reads : (routine start : ℕ) (rest : List ℕ) → (seg_format (in_image monitors) sub).is (Call routine) ≡ true → Stops is_digit rest → seg_read monitors read (place start (seg_text (Call routine) ++ rest)) ≡ Ok (Call routine, place start rest)
   unfolding seg_read
   call_reads routine start rest h stops =
       let text = codes " call " ++ (decimal routine ++ rest) in
@@ -84,7 +84,7 @@ module _ (monitors : ℕ) (sub : Format Segs) (read : Front → Read Segs) (read
         field_reads (codes " call ") 0 65535 routine start rest (omega arith) (omega (arith, low)) (omega arith) stops,
       ) refl
 
-  wait_reads : (start : ℕ) (rest : List ℕ) → seg_read (in_image monitors) read (place start (codes " wait" ++ rest)) ≡ Ok (Wait, place start rest)
+  wait_reads : (start : ℕ) (rest : List ℕ) → seg_read monitors read (place start (codes " wait" ++ rest)) ≡ Ok (Wait, place start rest)
   unfolding seg_read
   wait_reads start rest =
       let text = codes " wait" ++ rest in
@@ -95,7 +95,7 @@ module _ (monitors : ℕ) (sub : Format Segs) (read : Front → Read Segs) (read
         skips (codes " wait") start rest,
       ) refl
 
-  exit_reads : (start : ℕ) (rest : List ℕ) → seg_read (in_image monitors) read (place start (codes " exit" ++ rest)) ≡ Ok (Exit, place start rest)
+  exit_reads : (start : ℕ) (rest : List ℕ) → seg_read monitors read (place start (codes " exit" ++ rest)) ≡ Ok (Exit, place start rest)
   unfolding seg_read
   exit_reads start rest =
       let text = codes " exit" ++ rest in
@@ -105,7 +105,7 @@ module _ (monitors : ℕ) (sub : Format Segs) (read : Front → Read Segs) (read
         skips (codes " exit") start rest,
       ) refl
 
-  fork_reads : (first second : Segs) (start : ℕ) (rest : List ℕ) → (seg_format (in_image monitors) sub).is (Fork first second) ≡ true → seg_read (in_image monitors) read (place start (seg_text (Fork first second) ++ rest)) ≡ Ok (Fork first second, place start rest)
+  fork_reads : (first second : Segs) (start : ℕ) (rest : List ℕ) → (seg_format (in_image monitors) sub).is (Fork first second) ≡ true → seg_read monitors read (place start (seg_text (Fork first second) ++ rest)) ≡ Ok (Fork first second, place start rest)
   unfolding seg_read
   fork_reads first second start rest h =
       let p = and_parts (sub.is first) (sub.is second) h in
@@ -113,10 +113,10 @@ module _ (monitors : ℕ) (sub : Format Segs) (read : Front → Read Segs) (read
       let arms = codes " (" ++ (segs_text first ++ (codes " )" ++ after)) in
       let text = codes " fork" ++ arms in
       let same : seg_text (Fork first second) ++ rest ≡ text = simp append_assoc in
-      ap (λ t. seg_read (in_image monitors) read (place start t)) same
+      ap (λ t. seg_read monitors read (place start t)) same
       ∙ rw (begins_not (codes " line ") text refl, begins_self (codes " fork") arms, skips (codes " fork") start arms, arm_reads first start after p.0, arm_reads second start rest p.1) refl
 
-  rep_reads : (turns : ℕ) (body : Segs) (start : ℕ) (rest : List ℕ) → (seg_format (in_image monitors) sub).is (Rep turns body) ≡ true → seg_read (in_image monitors) read (place start (seg_text (Rep turns body) ++ rest)) ≡ Ok (Rep turns body, place start rest)
+  rep_reads : (turns : ℕ) (body : Segs) (start : ℕ) (rest : List ℕ) → (seg_format (in_image monitors) sub).is (Rep turns body) ≡ true → seg_read monitors read (place start (seg_text (Rep turns body) ++ rest)) ≡ Ok (Rep turns body, place start rest)
   unfolding seg_read
   rep_reads turns body start rest h =
       let p = and_parts (turns_count.is turns) (sub.is body) h in
@@ -124,7 +124,7 @@ module _ (monitors : ℕ) (sub : Format Segs) (read : Front → Read Segs) (read
       let arm = codes " (" ++ (segs_text body ++ (codes " )" ++ rest)) in
       let text = codes " rep " ++ (decimal turns ++ arm) in
       let same : seg_text (Rep turns body) ++ rest ≡ text = simp append_assoc in
-      ap (λ t. seg_read (in_image monitors) read (place start t)) same
+      ap (λ t. seg_read monitors read (place start t)) same
       ∙ rw (
         begins_not (codes " line ") text refl,
         begins_not (codes " fork") text refl,
@@ -134,7 +134,7 @@ module _ (monitors : ℕ) (sub : Format Segs) (read : Front → Read Segs) (read
       ) refl
 
   stay_reads : (monitor : ℕ) (body : Segs) (start : ℕ) (rest : List ℕ) → (seg_format (in_image monitors) sub).is (Stay monitor body) ≡ true
-      → seg_read (in_image monitors) read (place start (seg_text (Stay monitor body) ++ rest)) ≡ Ok (Stay monitor body, place start rest)
+      → seg_read monitors read (place start (seg_text (Stay monitor body) ++ rest)) ≡ Ok (Stay monitor body, place start rest)
   unfolding seg_read
   stay_reads monitor body start rest h =
       let p = and_parts ((u16_below monitors).is monitor) (sub.is body) h in
@@ -142,7 +142,7 @@ module _ (monitors : ℕ) (sub : Format Segs) (read : Front → Read Segs) (read
       let arm = codes " (" ++ (segs_text body ++ (codes " )" ++ rest)) in
       let text = codes " stay " ++ (decimal monitor ++ arm) in
       let same : seg_text (Stay monitor body) ++ rest ≡ text = simp append_assoc in
-      ap (λ t. seg_read (in_image monitors) read (place start t)) same
+      ap (λ t. seg_read monitors read (place start t)) same
       ∙ rw (
         begins_not (codes " line ") text refl,
         begins_not (codes " fork") text refl,
@@ -152,7 +152,7 @@ module _ (monitors : ℕ) (sub : Format Segs) (read : Front → Read Segs) (read
         arm_reads body start rest p.1,
       ) refl
 
-  seg_reads : (s : Seg) (start : ℕ) (rest : List ℕ) → (seg_format (in_image monitors) sub).is s ≡ true → Stops is_digit rest → seg_read (in_image monitors) read (place start (seg_text s ++ rest)) ≡ Ok (s, place start rest)
+  seg_reads : (s : Seg) (start : ℕ) (rest : List ℕ) → (seg_format (in_image monitors) sub).is s ≡ true → Stops is_digit rest → seg_read monitors read (place start (seg_text s ++ rest)) ≡ Ok (s, place start rest)
   seg_reads (Line count) start rest h stops = line_reads count start rest h stops
   seg_reads (Fork first second) start rest h stops = fork_reads first second start rest h
   seg_reads (Rep turns body) start rest h stops = rep_reads turns body start rest h
@@ -162,14 +162,14 @@ module _ (monitors : ℕ) (sub : Format Segs) (read : Front → Read Segs) (read
   seg_reads Exit start rest h stops = exit_reads start rest
 
   segs_read_back : (tree : Segs) (most start : ℕ) (rest : List ℕ) → segs_is (seg_format (in_image monitors) sub) tree ≡ true → row tree < most → IsEnd rest
-      → segs_read (seg_read (in_image monitors) read) most (place start (segs_text tree ++ rest)) ≡ Ok (tree, place start rest)
+      → segs_read (seg_read monitors read) most (place start (segs_text tree ++ rest)) ≡ Ok (tree, place start rest)
   unfolding segs_read
   segs_read_back tree zero start rest h few end = absurd (omega (arith, few))
   segs_read_back Nil (suc most) start rest h few end = rw (end.ends_tree) refl
   segs_read_back (Cons head more) (suc most) start rest h few end =
       let p = and_parts ((seg_format (in_image monitors) sub).is head) (segs_is (seg_format (in_image monitors) sub) more) h in
       let after = segs_text more ++ rest in
-      ap (λ t. segs_read (seg_read (in_image monitors) read) (suc most) (place start t)) (append_assoc (seg_text head) (segs_text more) rest)
+      ap (λ t. segs_read (seg_read monitors read) (suc most) (place start t)) (append_assoc (seg_text head) (segs_text more) rest)
       ∙ rw (seg_no_end head after, seg_reads head start after p.0 (tree_stops is_digit refl more rest end.stops), segs_read_back more most start rest p.1 (omega (arith, few)) end) refl
 
 tree_reads : (monitors depth : ℕ) → Reads (tree_format (in_image monitors) depth) (tree_read monitors depth)

@@ -141,7 +141,7 @@ is_process monitors events taken used x body handler h is_body is_handler counts
     (both_true h.1.2
     (both_true h.1.3.0
     (both_true (numbers_are x.1.1.1.1.1 h.1.3.1)
-    (both_true (subst (λ n. (tree_format n 130).is body ≡ true) (sym m) is_body) (subst (λ n. (g.handler_tree_format n (length x.1.1.1.1.1)).is handler ≡ true) (sym m) is_handler)))))))
+    (both_true (subst (λ n. (tree_format (in_image n) 130).is body ≡ true) (sym m) is_body) (subst (λ n. (g.handler_tree_format n (length x.1.1.1.1.1)).is handler ≡ true) (sym m) is_handler)))))))
 
 release_same : (x : Line) (body : Segs) (handler : Option Segs) (kind : ℕ) → release_of x.0 kind ≡ release_text (process_with x body handler) kind
 release_same x body handler zero = refl

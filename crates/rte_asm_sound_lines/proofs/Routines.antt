@@ -142,7 +142,7 @@ is_routine processes monitors x tree h is_tree counts p m =
     let kind = lt-ltb x.0.0 256 (omega (arith, h.0)) in
     both_true
     (both_true (both_true kind (fine_of 6 (le-leb x.0.0 2 h.0))) (both_true (h.1 counts p m) (both_true h.2.0 (both_true h.2.1 refl))))
-    (both_true (both_true h.2.2 (both_true h.3.0 (both_true h.3.1 (both_true h.3.2 h.3.3)))) (subst (λ n. (tree_format n 130).is tree ≡ true) (sym m) is_tree))
+    (both_true (both_true h.2.2 (both_true h.3.0 (both_true h.3.1 (both_true h.3.2 h.3.3)))) (subst (λ n. (tree_format (in_image n) 130).is tree ≡ true) (sym m) is_tree))
 
 pub routine_took : (processes monitors : ℕ) (s : Front) → Holds (λ z. Takes Start Start 0 s z.1 (routine_lines z.0) (IsRoutine processes monitors z.0)) (routine_read processes monitors s)
 unfolding routine_read

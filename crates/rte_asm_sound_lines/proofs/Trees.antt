@@ -54,7 +54,7 @@ module _ (monitors : ℕ) (sub : Front → Read Segs) (format : Format Segs) whe
       next (field_took (codes " stay ") 0 65535 s (inside (codes " stay ") refl)) (λ monitor a. next (arm_took sub_took (noted monitor.1 (nat_lt monitor.0 monitors))) (λ body b.
       let took = on (note (nat_lt monitor.0 monitors) a) b in went (shown took refl (λ held. both_true (both_true (any_u16 0 monitor.0 held.0.0) (fine_of 4 held.0.1)) held.1))))
 
-  seg_took : Sub → (s : Front) → Holds (One s) (seg_read (in_image monitors) sub s)
+  seg_took : Sub → (s : Front) → Holds (One s) (seg_read monitors sub s)
   unfolding seg_read
   seg_took sub_took s =
       choice (begins (codes " line ") s.rest) (λ h. line_took s) (λ h.
@@ -66,7 +66,7 @@ module _ (monitors : ℕ) (sub : Front → Read Segs) (format : Format Segs) whe
       next (skip_took (codes " exit") s (inside (codes " exit") refl)) (λ t a. went (shown a refl (λ held. refl)))))))))
 
   segs_took : Sub → (most : ℕ) (s : Front)
-      → Holds (λ z. Takes Within Within 0 s z.1 (segs_text z.0) (segs_is (seg_format (in_image monitors) format) z.0 ≡ true)) (segs_read (seg_read (in_image monitors) sub) most s)
+      → Holds (λ z. Takes Within Within 0 s z.1 (segs_text z.0) (segs_is (seg_format (in_image monitors) format) z.0 ≡ true)) (segs_read (seg_read monitors sub) most s)
   unfolding segs_read
   segs_took sub_took zero s = failed
   segs_took sub_took (suc n) s =
