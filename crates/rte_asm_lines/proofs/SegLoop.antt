@@ -2,7 +2,7 @@
 use Rattle.std.proofs.Common.{◌≡◌, ℕ, suc, ◌-◌, ◌+◌, ◌≤◌, ◌<◌, List, [], ◌∷◌, ◌++◌, Bool, true, false, map, Ok, Err, refl, sym, ap, ◌∙◌, arith}
 use Rattle.rte_machine_meaning.specs.Trees as tree
 use Rattle.rte_machine_meaning.specs.Trees.{Segs, Nil, Cons}
-use Rattle.rte_image_reading.proofs.TreeLoop.{join}
+use Rattle.rte_seg_bytes.proofs.TreeLoop.{join}
 use Rattle.rte_line_fields.specs.declared.fault.ReadError.{ReadError}
 use Rattle.rte_line_fields.specs.declared.fault.ReadError.TheVariants as errors
 use Rattle.rte_line_fields.specs.Front.{◌>>=◌, Fails, Front, Read, no_form}

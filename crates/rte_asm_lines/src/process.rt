@@ -1,8 +1,7 @@
 //! The lines of processes.
 
-ghost use Rattle.std.specs.Prelude.{◌≡◌, length, option_map};
+ghost use Rattle.std.specs.Prelude.{◌≡◌, length};
 ghost use Rattle.rte_image.specs.Raw.{process_of};
-ghost use Rattle.rte_seg.specs.View.{views};
 ghost use Rattle.rte_image_reading.specs.Grammar.{is_taken};
 ghost use Rattle.rte_line_fields.specs.Front.{Gives, front};
 ghost use Rattle.rte_asm_lines.specs.Processes.{evented_read, fields_read, handler_read, handler_tree_read, is_free as free_test, more_read, numbers_read, periodic_frame_read, periodic_read, process_line_read, process_read, process_with, release_read, room_read, taken_read, time_read};
@@ -13,7 +12,7 @@ use crate::routine::cost;
 use crate::trees::tree_line;
 use rte_image::RawProc;
 use rte_line_fields::{At, Fault, ReadError, begins_with, end_line, field, note, short_field};
-use rte_seg::Segs;
+use rte_seg_bytes::SegTree;
 use rte_tree::{List, Name};
 use std::alloc::Global;
 
@@ -251,8 +250,8 @@ fn handler_tree<'a>(
     monitors: usize,
     numbers: &[u16],
     at: At<'a>,
-) -> Result<(Option<Segs>, At<'a>), ReadError>
-    ensures { Gives (λ x. (option_map views x.0, front x.1)) result
+) -> Result<(Option<SegTree>, At<'a>), ReadError>
+    ensures { Gives (λ x. (x.0, front x.1)) result
         (handler_tree_read monitors numbers.now (front at.entry)) }
 {
     match numbers {
@@ -316,9 +315,8 @@ pub fn process_line<'a>(
 }
 
 /// The process of the line and these trees.
-fn process_of_line(line: ProcessLine, body: Segs, handler_tree: Option<Segs>) -> RawProc
-    ensures { process_of result ≡ process_with (line_of line) (views body)
-        (option_map views handler_tree) }
+fn process_of_line(line: ProcessLine, body: SegTree, handler_tree: Option<SegTree>) -> RawProc
+    ensures { process_of result ≡ process_with (line_of line) body handler_tree }
 {
     let ProcessLine {
         release,

@@ -10,6 +10,7 @@ use rte_line_fields::{
     At, Fault, ReadError, begins_with, end_line, field, note, short_field, skip,
 };
 use rte_seg::{Seg, Segs};
+use rte_seg_bytes::SegTree;
 use std::alloc::Global;
 
 /// How deep trees nest at most.
@@ -191,8 +192,8 @@ fn tree_at(
 
 /// The line of a tree.
 #[tactic(auto, unfolding(crate::specs::Trees::tree_line_read))]
-pub fn tree_line(alloc: Global, monitors: usize, at: At<'_>) -> Result<(Segs, At<'_>), ReadError>
-    ensures { Gives (λ x. (views x.0, front x.1)) result
+pub fn tree_line(alloc: Global, monitors: usize, at: At<'_>) -> Result<(SegTree, At<'_>), ReadError>
+    ensures { Gives (λ x. (x.0, front x.1)) result
         (tree_line_read monitors (front at.entry)) }
 {
     let has_form = is_tree_first(alloc, at.rest)?;
@@ -203,7 +204,7 @@ pub fn tree_line(alloc: Global, monitors: usize, at: At<'_>) -> Result<(Segs, At
         }));
     }
     let at = skip(at, b"tree")?;
-    let (tree, at) = tree_at(alloc, monitors, DEEPEST, at)?;
+    let (segs, at) = tree_at(alloc, monitors, DEEPEST, at)?;
     let at = end_line(at)?;
-    Ok((tree, at))
+    Ok((SegTree::of(alloc, segs.as_slice())?, at))
 }

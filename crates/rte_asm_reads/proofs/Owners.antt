@@ -12,8 +12,8 @@ use Rattle.rte_image.specs.Bytes.{Second}
 use Rattle.rte_image.specs.declared.names.CondName.{CondName}
 use Rattle.rte_image.specs.declared.names.DevName.{DevName}
 use Rattle.rte_image_reading.specs.declared.counts.Counts.{Counts}
-use Rattle.rte_image_reading.specs.Format.{Format, u16, u32, is_fine, unless, checked, each_is}
-use Rattle.rte_image_reading.specs.TreeFormat.{u16_below, tree_format}
+use Rattle.rte_format.specs.Format.{Format, u16, u32, is_fine, unless, checked, each_is}
+use Rattle.rte_format.specs.TreeFormat.{in_image, u16_below, tree_format}
 use Rattle.rte_image_reading.specs.Grammar.{is_again, name_format, device_format, monitor_format, named_monitor_format, condition_format, routine_format, process_format, named_process_format, numbers_format, handler_tree_format, wrong_number, instr_format}
 use Rattle.rte_image_text.specs.Mnemonics.{mnemonic, named, operands_text, instr_line}
 use Rattle.rte_image_text.specs.Text.{field, head_line, direction, device_line, event_line, ceiling_text, monitor_line, condition_line, owner_text, bit, stay_text, cost_text, place_text, routine_lines, release_text, time_text, room_text, numbers_text, handler_text, handler_line, process_lines}
@@ -139,7 +139,7 @@ condition_owners taken monitors earlier c rest h =
 
 -- ---- trees and routines
 
-tree_owners : (monitors : ℕ) (tree : Segs) (rest : List ℕ) → (tree_format monitors 130).is tree ≡ true → owners_in (tree_line tree ++ rest) ≡ owners_in rest
+tree_owners : (monitors : ℕ) (tree : Segs) (rest : List ℕ) → (tree_format (in_image monitors) 130).is tree ≡ true → owners_in (tree_line tree ++ rest) ≡ owners_in rest
 tree_owners monitors tree rest h =
     let line = tree_words tree in
     let same : tree_line tree ++ rest ≡ line ++ (codes "\n" ++ rest) = ended_2 (codes "tree") (segs_text tree) (codes "\n") rest in

@@ -8,8 +8,8 @@ use Rattle.rte_image.specs.Bytes.{Second}
 use Rattle.rte_image.specs.declared.names.CondName.{CondName}
 use Rattle.rte_image.specs.declared.names.DevName.{DevName}
 use Rattle.rte_image_reading.specs.declared.counts.Counts.{Counts}
-use Rattle.rte_image_reading.specs.Format.{Format, each_is}
-use Rattle.rte_image_reading.specs.TreeFormat.{u16_within, u32_within}
+use Rattle.rte_format.specs.Format.{Format, each_is}
+use Rattle.rte_format.specs.TreeFormat.{u16_within, u32_within}
 use Rattle.rte_image_reading.specs.Grammar.{name_format, device_format, named_monitor_format, condition_format, routine_format, named_process_format, instr_format, counts_format}
 use Rattle.rte_image_reading.specs.File as file
 use Rattle.rte_image_reading.specs.File.{Parts, framed, all_used, counts_of, image_format, image_with, used_by, with_devices, with_monitors}

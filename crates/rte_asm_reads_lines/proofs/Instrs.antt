@@ -13,7 +13,7 @@ use Rattle.rte_isa.specs.declared.instr.Instr.{Instr}
 use Rattle.rte_isa.specs.declared.instr.Instr.TheVariants as i
 use Rattle.rte_isa.specs.Bytes.{number, operands}
 use Rattle.rte_isa.specs.Numbered.{numbered}
-use Rattle.rte_image_reading.specs.Format.{Format, u8, unless, is_fine, checked}
+use Rattle.rte_format.specs.Format.{Format, u8, unless, is_fine, checked}
 use Rattle.rte_image_reading.specs.Grammar.{operand, fields_of, fields_format, instr_format, or_end}
 use Rattle.rte_image_text.specs.Mnemonics.{mnemonics, mnemonic, arity, named, operands_text, instr_line}
 use Rattle.rte_fields.specs.Fields.{Is32}

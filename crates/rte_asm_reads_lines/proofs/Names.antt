@@ -9,8 +9,8 @@ use Rattle.rte_lex.specs.Spellings.{is_identifier, is_letter, is_word, keywords}
 use Rattle.rte_machine_meaning.specs.Image.{Monitor}
 use Rattle.rte_image.specs.declared.names.CondName.{CondName}
 use Rattle.rte_image.specs.declared.names.DevName.{DevName}
-use Rattle.rte_image_reading.specs.Format.{Format, u8, u16, u32, unless, is_fine, checked}
-use Rattle.rte_image_reading.specs.TreeFormat.{within, u32_within, u16_within, u16_below}
+use Rattle.rte_format.specs.Format.{Format, u8, u16, u32, unless, is_fine, checked}
+use Rattle.rte_format.specs.TreeFormat.{within, u32_within, u16_within, u16_below}
 use Rattle.rte_image_reading.specs.Grammar.{has, is_again, wrong_name, name_format, device_format, monitor_format, named_monitor_format, condition_format}
 use Rattle.rte_image_text.specs.Text.{head_line, direction, device_line, event_line, ceiling_text, monitor_line, condition_line}
 use Rattle.rte_line_fields.specs.Front.{line_start}

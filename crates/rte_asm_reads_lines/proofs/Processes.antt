@@ -7,8 +7,8 @@ use Rattle.rte_machine_meaning.specs.Image.{Process}
 use Rattle.rte_machine_meaning.specs.Trees.{Segs}
 use Rattle.rte_image.specs.Bytes.{Second}
 use Rattle.rte_image_reading.specs.declared.counts.Counts.{Counts}
-use Rattle.rte_image_reading.specs.Format.{u8, u16, u32, unless, is_fine, checked, each_is}
-use Rattle.rte_image_reading.specs.TreeFormat.{u32_within, tree_format}
+use Rattle.rte_format.specs.Format.{u8, u16, u32, unless, is_fine, checked, each_is}
+use Rattle.rte_format.specs.TreeFormat.{in_image, u32_within, tree_format}
 use Rattle.rte_image_reading.specs.Grammar.{cost, name_format, release_format, time_format, room_format, handler_format, numbers_format, handler_tree_format, process_format, named_process_format, wrong_first, wrong_event, wrong_number, is_above, is_taken}
 use Rattle.rte_image_text.specs.Text.{release_text, time_text, room_text, numbers_text, handler_text, handler_line, process_lines}
 use Rattle.rte_image_text.specs.TreeText.{tree_line}
@@ -57,7 +57,7 @@ pub record IsProcess (counts : Counts) (used : List ℕ) (p : Process) : Type 0 
   pub time : IsTimed p
   pub room : HasRoom p
   pub handler : IsHandled counts.monitors p
-  pub body : (tree_format counts.monitors 130).is p.body ≡ true
+  pub body : (tree_format (in_image counts.monitors) 130).is p.body ≡ true
 
 abbrev kind_is : ℕ → Bool
 kind_is kind = (checked u8 (λ n. unless (nat_le n 1) 6)).is kind
@@ -120,7 +120,7 @@ pub process_is : (counts : Counts) (used : List ℕ) (p : Process) → (process_
 process_is counts used p h =
     let handler_is = handler_format.is (p.handler, length p.numbers) in
     let numbers_are = (numbers_format (length p.numbers)).is p.numbers in
-    let body_is = (tree_format counts.monitors 130).is p.body in
+    let body_is = (tree_format (in_image counts.monitors) 130).is p.body in
     let tree_is = (handler_tree_format counts.monitors (length p.numbers)).is p.handler_tree in
     let time_is = time_format.is (p.run, (p.susp, (p.waits, (p.block, p.bound)))) in
     let room_is = room_format.is (p.words, (p.stack, (p.locals, p.start))) in

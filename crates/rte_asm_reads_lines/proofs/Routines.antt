@@ -4,8 +4,8 @@ use Rattle.std.specs.Prelude.{nat_lt, nat_le, codes}
 use Rattle.std.proofs.lemmas.Bool.{and_parts, ltb-true, leb-true, eqb-true}
 use Rattle.rte_machine_meaning.specs.Image.{Routine}
 use Rattle.rte_image_reading.specs.declared.counts.Counts.{Counts}
-use Rattle.rte_image_reading.specs.Format.{u8, u16, u32, unless, is_fine, checked}
-use Rattle.rte_image_reading.specs.TreeFormat.{u32_within, tree_format}
+use Rattle.rte_format.specs.Format.{u8, u16, u32, unless, is_fine, checked}
+use Rattle.rte_format.specs.TreeFormat.{in_image, u32_within, tree_format}
 use Rattle.rte_image_reading.specs.Grammar.{cost, cost_format, owner_format, routine_format, wrong_owner, wrong_stay}
 use Rattle.rte_image_text.specs.Text.{owner_text, bit, stay_text, cost_text, place_text, routine_lines}
 use Rattle.rte_image_text.specs.TreeText.{tree_line}
@@ -31,7 +31,7 @@ pub record IsRoutine (counts : Counts) (r : Routine) : Type 0 where
   pub waits : r.waits ≤ 1000000001
   pub stay : r.stay ≤ 1000000001
   pub stays : is_fine (wrong_stay r.kind r.stay) ≡ true
-  pub tree : (tree_format counts.monitors 130).is r.tree ≡ true
+  pub tree : (tree_format (in_image counts.monitors) 130).is r.tree ≡ true
 
 abbrev kind_is : ℕ → Bool
 kind_is kind = (checked u8 (λ n. unless (nat_le n 2) 6)).is kind
@@ -51,7 +51,7 @@ from_susp r = cost.is r.susp && (cost.is r.waits && stay_is r.kind r.stay)
 pub routine_is : (counts : Counts) (r : Routine) → (routine_format counts).is r ≡ true → IsRoutine counts r
 routine_is counts r h =
     let cost_is = (cost_format r.kind).is (r.start, (r.run, (r.susp, (r.waits, r.stay)))) in
-    let tree_is = (tree_format counts.monitors 130).is r.tree in
+    let tree_is = (tree_format (in_image counts.monitors) 130).is r.tree in
     let p = and_parts ((owner_format counts).is (r.kind, (r.owner, (r.params, (r.locals, r.gives))))) (cost_is && tree_is) h in
     let costs = and_parts cost_is tree_is p.1 in
     let kind = and_parts (kind_is r.kind) (owner_is counts r.kind r.owner && place_is r) p.0 in

@@ -6,9 +6,9 @@ use Rattle.std.proofs.Math.Seq.{take-append_seam}
 use Rattle.std.proofs.lemmas.Bool.{and_parts, and_from, false≢true, lt-ltb, ltb-true, eqb-true, eqb-false, ne_eqb, not-true}
 use Rattle.std.proofs.lemmas.List.Folds.{list_all-append}
 use Rattle.rte_machine_meaning.specs.Trees.{Seg, Line, Fork, Rep, Call, Stay, Wait, Exit, Segs, Nil, Cons}
-use Rattle.rte_image_reading.specs.Format.{Format}
-use Rattle.rte_image_reading.specs.TreeFormat.{turns_count, u16_below, seg_format, segs_is, tree_format}
-use Rattle.rte_image.specs.TreeBytes.{row}
+use Rattle.rte_format.specs.Format.{Format}
+use Rattle.rte_format.specs.TreeFormat.{in_image, turns_count, u16_below, seg_format, segs_is, tree_format}
+use Rattle.rte_format.specs.TreeBytes.{row}
 use Rattle.rte_image_text.specs.TreeText.{seg_text, segs_text, tree_line}
 use Rattle.rte_fields.specs.Fields.{Lacks}
 use Rattle.rte_line_fields.specs.Fields.{is_digit, is_numeral}
@@ -35,7 +35,7 @@ abbrev mutual
   TreeFits (Cons head rest) = SegFits head × TreeFits rest
 
 module _ (monitors : ℕ) (sub : Format Segs) (fits : (tree : Segs) → sub.is tree ≡ true → TreeFits tree) where
-  seg_fits : (s : Seg) → (seg_format monitors sub).is s ≡ true → SegFits s
+  seg_fits : (s : Seg) → (seg_format (in_image monitors) sub).is s ≡ true → SegFits s
   seg_fits (Line count) h = let range = in_u32 1 65535 count h in omega (arith, range.1)
   seg_fits (Fork first second) h = let p = and_parts (sub.is first) (sub.is second) h in (fits first p.0, fits second p.1)
   seg_fits (Rep turns body) h =
@@ -50,17 +50,17 @@ module _ (monitors : ℕ) (sub : Format Segs) (fits : (tree : Segs) → sub.is t
   seg_fits Wait h = tt
   seg_fits Exit h = tt
 
-  segs_fit : (tree : Segs) → segs_is (seg_format monitors sub) tree ≡ true → TreeFits tree
+  segs_fit : (tree : Segs) → segs_is (seg_format (in_image monitors) sub) tree ≡ true → TreeFits tree
   segs_fit Nil h = tt
   segs_fit (Cons head rest) h =
-      let p = and_parts ((seg_format monitors sub).is head) (segs_is (seg_format monitors sub) rest) h in
+      let p = and_parts ((seg_format (in_image monitors) sub).is head) (segs_is (seg_format (in_image monitors) sub) rest) h in
       (seg_fits head p.0, segs_fit rest p.1)
 
-pub tree_fits : (monitors depth : ℕ) (tree : Segs) → (tree_format monitors depth).is tree ≡ true → TreeFits tree
+pub tree_fits : (monitors depth : ℕ) (tree : Segs) → (tree_format (in_image monitors) depth).is tree ≡ true → TreeFits tree
 unfolding tree_format
 tree_fits monitors zero tree h = absurd cc
 tree_fits monitors (suc depth) tree h =
-    segs_fit monitors (tree_format monitors depth) (tree_fits monitors depth) tree (and_parts (nat_lt (row tree) (2 ^ 32)) (segs_is (seg_format monitors (tree_format monitors depth)) tree) h).1
+    segs_fit monitors (tree_format (in_image monitors) depth) (tree_fits monitors depth) tree (and_parts (nat_lt (row tree) (2 ^ 32)) (segs_is (seg_format (in_image monitors) (tree_format (in_image monitors) depth)) tree) h).1
 
 -- ---- bytes of a tree
 

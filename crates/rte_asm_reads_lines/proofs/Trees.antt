@@ -4,9 +4,9 @@ use Rattle.std.specs.Prelude.{nat_lt, nat_eq, codes}
 use Rattle.std.specs.Cmp.Lexicographic.{pointwise}
 use Rattle.std.proofs.lemmas.Bool.{and_parts, or_from, or_left, or_right, ltb-true}
 use Rattle.rte_machine_meaning.specs.Trees.{Seg, Line, Fork, Rep, Call, Stay, Wait, Exit, Segs, Nil, Cons}
-use Rattle.rte_image.specs.TreeBytes.{row}
-use Rattle.rte_image_reading.specs.Format.{Format}
-use Rattle.rte_image_reading.specs.TreeFormat.{turns_count, u16_below, seg_format, segs_is, tree_format}
+use Rattle.rte_format.specs.TreeBytes.{row}
+use Rattle.rte_format.specs.Format.{Format}
+use Rattle.rte_format.specs.TreeFormat.{in_image, turns_count, u16_below, seg_format, segs_is, tree_format}
 use Rattle.rte_image_text.specs.TreeText.{seg_text, segs_text, tree_line}
 use Rattle.rte_line_fields.specs.Front.{Front, Read, begins, line_start}
 use Rattle.rte_line_fields.specs.Fields.{is_digit}
@@ -66,13 +66,13 @@ module _ (monitors : ℕ) (sub : Format Segs) (read : Front → Read Segs) (read
   arm_reads : (tree : Segs) (start : ℕ) (rest : List ℕ) → sub.is tree ≡ true → arm_read read (place start (codes " (" ++ (segs_text tree ++ (codes " )" ++ rest)))) ≡ Ok (tree, place start rest)
   arm_reads tree start rest h = rw (skips (codes " (") start (segs_text tree ++ (codes " )" ++ rest)), reads.tree tree start (codes " )" ++ rest) h (closing rest), skips (codes " )") start rest) refl
 
-  line_reads : (count start : ℕ) (rest : List ℕ) → (seg_format monitors sub).is (Line count) ≡ true → Stops is_digit rest → seg_read monitors read (place start (seg_text (Line count) ++ rest)) ≡ Ok (Line count, place start rest)
+  line_reads : (count start : ℕ) (rest : List ℕ) → (seg_format (in_image monitors) sub).is (Line count) ≡ true → Stops is_digit rest → seg_read monitors read (place start (seg_text (Line count) ++ rest)) ≡ Ok (Line count, place start rest)
   unfolding seg_read
   line_reads count start rest h stops =
       let range = in_u32 1 65535 count h in
       rw (begins_self (codes " line ") (decimal count ++ rest), field_reads (codes " line ") 1 65535 count start rest range.0 range.1 (omega arith) stops) refl
 
-  call_reads : (routine start : ℕ) (rest : List ℕ) → (seg_format monitors sub).is (Call routine) ≡ true → Stops is_digit rest → seg_read monitors read (place start (seg_text (Call routine) ++ rest)) ≡ Ok (Call routine, place start rest)
+  call_reads : (routine start : ℕ) (rest : List ℕ) → (seg_format (in_image monitors) sub).is (Call routine) ≡ true → Stops is_digit rest → seg_read monitors read (place start (seg_text (Call routine) ++ rest)) ≡ Ok (Call routine, place start rest)
   unfolding seg_read
   call_reads routine start rest h stops =
       let text = codes " call " ++ (decimal routine ++ rest) in
@@ -105,7 +105,7 @@ module _ (monitors : ℕ) (sub : Format Segs) (read : Front → Read Segs) (read
         skips (codes " exit") start rest,
       ) refl
 
-  fork_reads : (first second : Segs) (start : ℕ) (rest : List ℕ) → (seg_format monitors sub).is (Fork first second) ≡ true → seg_read monitors read (place start (seg_text (Fork first second) ++ rest)) ≡ Ok (Fork first second, place start rest)
+  fork_reads : (first second : Segs) (start : ℕ) (rest : List ℕ) → (seg_format (in_image monitors) sub).is (Fork first second) ≡ true → seg_read monitors read (place start (seg_text (Fork first second) ++ rest)) ≡ Ok (Fork first second, place start rest)
   unfolding seg_read
   fork_reads first second start rest h =
       let p = and_parts (sub.is first) (sub.is second) h in
@@ -116,7 +116,7 @@ module _ (monitors : ℕ) (sub : Format Segs) (read : Front → Read Segs) (read
       ap (λ t. seg_read monitors read (place start t)) same
       ∙ rw (begins_not (codes " line ") text refl, begins_self (codes " fork") arms, skips (codes " fork") start arms, arm_reads first start after p.0, arm_reads second start rest p.1) refl
 
-  rep_reads : (turns : ℕ) (body : Segs) (start : ℕ) (rest : List ℕ) → (seg_format monitors sub).is (Rep turns body) ≡ true → seg_read monitors read (place start (seg_text (Rep turns body) ++ rest)) ≡ Ok (Rep turns body, place start rest)
+  rep_reads : (turns : ℕ) (body : Segs) (start : ℕ) (rest : List ℕ) → (seg_format (in_image monitors) sub).is (Rep turns body) ≡ true → seg_read monitors read (place start (seg_text (Rep turns body) ++ rest)) ≡ Ok (Rep turns body, place start rest)
   unfolding seg_read
   rep_reads turns body start rest h =
       let p = and_parts (turns_count.is turns) (sub.is body) h in
@@ -133,7 +133,7 @@ module _ (monitors : ℕ) (sub : Format Segs) (read : Front → Read Segs) (read
         arm_reads body start rest p.1,
       ) refl
 
-  stay_reads : (monitor : ℕ) (body : Segs) (start : ℕ) (rest : List ℕ) → (seg_format monitors sub).is (Stay monitor body) ≡ true
+  stay_reads : (monitor : ℕ) (body : Segs) (start : ℕ) (rest : List ℕ) → (seg_format (in_image monitors) sub).is (Stay monitor body) ≡ true
       → seg_read monitors read (place start (seg_text (Stay monitor body) ++ rest)) ≡ Ok (Stay monitor body, place start rest)
   unfolding seg_read
   stay_reads monitor body start rest h =
@@ -152,7 +152,7 @@ module _ (monitors : ℕ) (sub : Format Segs) (read : Front → Read Segs) (read
         arm_reads body start rest p.1,
       ) refl
 
-  seg_reads : (s : Seg) (start : ℕ) (rest : List ℕ) → (seg_format monitors sub).is s ≡ true → Stops is_digit rest → seg_read monitors read (place start (seg_text s ++ rest)) ≡ Ok (s, place start rest)
+  seg_reads : (s : Seg) (start : ℕ) (rest : List ℕ) → (seg_format (in_image monitors) sub).is s ≡ true → Stops is_digit rest → seg_read monitors read (place start (seg_text s ++ rest)) ≡ Ok (s, place start rest)
   seg_reads (Line count) start rest h stops = line_reads count start rest h stops
   seg_reads (Fork first second) start rest h stops = fork_reads first second start rest h
   seg_reads (Rep turns body) start rest h stops = rep_reads turns body start rest h
@@ -161,28 +161,28 @@ module _ (monitors : ℕ) (sub : Format Segs) (read : Front → Read Segs) (read
   seg_reads Wait start rest h stops = wait_reads start rest
   seg_reads Exit start rest h stops = exit_reads start rest
 
-  segs_read_back : (tree : Segs) (most start : ℕ) (rest : List ℕ) → segs_is (seg_format monitors sub) tree ≡ true → row tree < most → IsEnd rest
+  segs_read_back : (tree : Segs) (most start : ℕ) (rest : List ℕ) → segs_is (seg_format (in_image monitors) sub) tree ≡ true → row tree < most → IsEnd rest
       → segs_read (seg_read monitors read) most (place start (segs_text tree ++ rest)) ≡ Ok (tree, place start rest)
   unfolding segs_read
   segs_read_back tree zero start rest h few end = absurd (omega (arith, few))
   segs_read_back Nil (suc most) start rest h few end = rw (end.ends_tree) refl
   segs_read_back (Cons head more) (suc most) start rest h few end =
-      let p = and_parts ((seg_format monitors sub).is head) (segs_is (seg_format monitors sub) more) h in
+      let p = and_parts ((seg_format (in_image monitors) sub).is head) (segs_is (seg_format (in_image monitors) sub) more) h in
       let after = segs_text more ++ rest in
       ap (λ t. segs_read (seg_read monitors read) (suc most) (place start t)) (append_assoc (seg_text head) (segs_text more) rest)
       ∙ rw (seg_no_end head after, seg_reads head start after p.0 (tree_stops is_digit refl more rest end.stops), segs_read_back more most start rest p.1 (omega (arith, few)) end) refl
 
-tree_reads : (monitors depth : ℕ) → Reads (tree_format monitors depth) (tree_read monitors depth)
+tree_reads : (monitors depth : ℕ) → Reads (tree_format (in_image monitors) depth) (tree_read monitors depth)
 unfolding tree_read tree_format
 tree_reads monitors zero = record { tree = λ tree start rest h end. absurd cc }
 tree_reads monitors (suc depth) = record {
   tree = λ tree start rest h end.
       let few : row tree < length (segs_text tree ++ rest) = omega (arith, row_long tree, length-append (segs_text tree) rest, end.some) in
-      segs_read_back monitors (tree_format monitors depth) (tree_read monitors depth) (tree_reads monitors depth) tree (length (segs_text tree ++ rest)) start rest
-      (and_parts (nat_lt (row tree) (2 ^ 32)) (segs_is (seg_format monitors (tree_format monitors depth)) tree) h).1 few end;
+      segs_read_back monitors (tree_format (in_image monitors) depth) (tree_read monitors depth) (tree_reads monitors depth) tree (length (segs_text tree ++ rest)) start rest
+      (and_parts (nat_lt (row tree) (2 ^ 32)) (segs_is (seg_format (in_image monitors) (tree_format (in_image monitors) depth)) tree) h).1 few end;
 }
 
-pub tree_line_reads : (monitors : ℕ) (tree : Segs) (rest : List ℕ) → (tree_format monitors 130).is tree ≡ true → tree_line_read monitors (line_start (tree_line tree ++ rest)) ≡ Ok (tree, line_start rest)
+pub tree_line_reads : (monitors : ℕ) (tree : Segs) (rest : List ℕ) → (tree_format (in_image monitors) 130).is tree ≡ true → tree_line_read monitors (line_start (tree_line tree ++ rest)) ≡ Ok (tree, line_start rest)
 unfolding tree_line_read
 tree_line_reads monitors tree rest h =
     let after = segs_text tree ++ (codes "\n" ++ rest) in

@@ -9,9 +9,9 @@ use Rattle.rte_machine_meaning.specs.Image.{Monitor, Routine, Process}
 use Rattle.rte_machine_meaning.specs.Trees.{Segs}
 use Rattle.rte_image.specs.declared.names.CondName.{CondName}
 use Rattle.rte_image.specs.declared.names.DevName.{DevName}
-use Rattle.rte_image.specs.Numbers.{u16, flag, name_bytes}
+use Rattle.rte_format.specs.Numbers.{u16, flag, name_bytes}
 use Rattle.rte_image.specs.Bytes.{Second, device_bytes, condition_bytes, monitor_bytes, owner_bytes, cost_bytes, routine_bytes, release_bytes, time_bytes, room_bytes, numbers_bytes, handler_bytes, process_bytes}
-use Rattle.rte_image.specs.TreeBytes.{tree_bytes}
+use Rattle.rte_format.specs.TreeBytes.{tree_bytes}
 use Rattle.rte_image_text.specs.Mnemonics.{mnemonic, named, operands_text, instr_line}
 use Rattle.rte_image_text.specs.Text.{field, direction, device_line, event_line, monitor_line, condition_line, owner_text, place_text, cost_text, routine_lines, release_text, time_text, room_text, numbers_text, handler_text, handler_line, process_lines}
 use Rattle.rte_image_text.specs.TreeText.{tree_line}

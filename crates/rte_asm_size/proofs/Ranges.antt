@@ -8,8 +8,8 @@ use Rattle.rte_image.specs.declared.names.CondName.{CondName}
 use Rattle.rte_image.specs.declared.names.DevName.{DevName}
 use Rattle.rte_image.specs.Bytes.{Second}
 use Rattle.rte_image_reading.specs.declared.counts.Counts.{Counts}
-use Rattle.rte_image_reading.specs.Format.{u16, bytes_as_are, unless, is_fine, checked, each_is}
-use Rattle.rte_image_reading.specs.TreeFormat.{within, u16_within, u32_within, u16_below, tree_format}
+use Rattle.rte_format.specs.Format.{u16, bytes_as_are, unless, is_fine, checked, each_is}
+use Rattle.rte_format.specs.TreeFormat.{in_image, within, u16_within, u32_within, u16_below, tree_format}
 use Rattle.rte_image_reading.specs.Grammar as g
 use Rattle.rte_image_reading.proofs.Rising.{above_last}
 
@@ -106,7 +106,7 @@ process_short counts taken used x h =
     let room_is = g.room_format.is (p.words, (p.stack, (p.locals, p.start))) in
     let handler_is = g.handler_format.is (p.handler, length p.numbers) in
     let numbers_is = numbers_are [] (length p.numbers) p.numbers in
-    let trees_are = (tree_format counts.monitors g.deepest).is p.body && (g.handler_tree_format counts.monitors (length p.numbers)).is p.handler_tree in
+    let trees_are = (tree_format (in_image counts.monitors) g.deepest).is p.body && (g.handler_tree_format counts.monitors (length p.numbers)).is p.handler_tree in
     let a = and_parts release_is (time_is && (room_is && (handler_is && (numbers_is && trees_are)))) named.1 in
     let b = and_parts time_is (room_is && (handler_is && (numbers_is && trees_are))) a.1 in
     let c = and_parts room_is (handler_is && (numbers_is && trees_are)) b.1 in

@@ -2,7 +2,7 @@
 use Rattle.std.proofs.Common.{◌≤◌, ◌*◌, length, arith}
 use Rattle.std.proofs.lemmas.List.{length-append}
 use Rattle.rte_machine_meaning.specs.Trees.{Seg, Line, Fork, Rep, Call, Stay, Wait, Exit, Segs, Nil, Cons}
-use Rattle.rte_image.specs.TreeBytes.{seg_bytes, segs_bytes, tree_bytes}
+use Rattle.rte_format.specs.TreeBytes.{seg_bytes, segs_bytes, tree_bytes}
 use Rattle.rte_image_text.specs.TreeText.{seg_text, segs_text, tree_line}
 use Rattle.rte_asm_size.proofs.Words.{decimal_some}
 

@@ -7,14 +7,14 @@ use Rattle.rte_machine_meaning.specs.Image.{Monitor, Process}
 use Rattle.rte_isa.specs.Bytes.{instr_bytes}
 use Rattle.rte_image.specs.declared.names.DevName.{DevName}
 use Rattle.rte_image.specs.declared.names.EventName.{EventName}
-use Rattle.rte_image.specs.Numbers.{name_bytes}
+use Rattle.rte_format.specs.Numbers.{name_bytes}
 use Rattle.rte_image.specs.Bytes.{Second, bytes_of, head_bytes, device_bytes, event_bytes, condition_bytes, monitor_bytes, monitors_bytes, routine_bytes, process_bytes, processes_bytes}
 use Rattle.rte_image.specs.Named.{NamedImage}
 use Rattle.rte_image_text.specs.Mnemonics.{instr_line}
 use Rattle.rte_image_text.specs.Text.{text_of, head_line, device_line, event_line, monitor_line, monitors_text, condition_line, routine_lines, process_lines, processes_text}
 use Rattle.rte_image_reading.specs.declared.counts.Counts.{Counts}
-use Rattle.rte_image_reading.specs.Format.{Format, each_is}
-use Rattle.rte_image_reading.specs.TreeFormat.{u16_within, u32_within}
+use Rattle.rte_format.specs.Format.{Format, each_is}
+use Rattle.rte_format.specs.TreeFormat.{u16_within, u32_within}
 use Rattle.rte_image_reading.specs.Grammar as g
 use Rattle.rte_image_reading.specs.File as f
 use Rattle.rte_asm_size.specs.Law.{TextsHoldTheirBytes}

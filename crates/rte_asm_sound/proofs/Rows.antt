@@ -1,7 +1,7 @@
 -- Parts of a kind, one after the other.
 use Rattle.std.proofs.Common.{◌≡◌, ◌≤◌, ◌+◌, ◌++◌, ℕ, zero, suc, Bool, true, List, [], ◌∷◌, length, refl, sym, subst, arith}
 use Rattle.std.specs.List.{flat_map}
-use Rattle.rte_image_reading.specs.Format.{Format, each_is}
+use Rattle.rte_format.specs.Format.{Format, each_is}
 use Rattle.rte_line_fields.specs.Front.{Front, Read}
 use Rattle.rte_asm_sections.specs.Sections.{no_more, rows_read}
 use Rattle.rte_asm_sound_lines.proofs.Took.{Start, Takes, along, recount, nothing, Holds, went, failed, next, choice, mapped}

@@ -6,11 +6,11 @@ use Rattle.std.proofs.lemmas.Bool.{lt-ltb, le-leb, ltb-true}
 use Rattle.rte_machine_meaning.specs.Image.{Monitor, Process}
 use Rattle.rte_image.specs.Bytes.{Second}
 use Rattle.rte_image_reading.specs.declared.counts.Counts.{Counts}
-use Rattle.rte_image_reading.specs.TreeFormat.{u16_within}
+use Rattle.rte_format.specs.TreeFormat.{u16_within}
 use Rattle.rte_image_reading.specs.Grammar as g
 use Rattle.rte_image_reading.specs.File as f
 use Rattle.rte_image_reading.specs.File.{Parts, image_format, image_with, counts_of, framed}
-use Rattle.rte_image_reading.proofs.Booleans.{parts}
+use Rattle.rte_format.proofs.Booleans.{parts}
 use Rattle.rte_image_text.specs.Mnemonics.{instr_line}
 use Rattle.rte_image_text.specs.Text.{head_line, event_line, device_line, condition_line, routine_lines, monitors_text, processes_text, text_of}
 use Rattle.rte_line_fields.specs.Front.{Front, line_start}

@@ -3,9 +3,9 @@ use Rattle.std.proofs.Common.{◌≡◌, ◌≤◌, ◌<◌, ◌^◌, ◌+◌, �
 use Rattle.std.specs.Prelude.{codes, nat_lt, nat_le}
 use Rattle.std.specs.List.{flat_map}
 use Rattle.std.proofs.lemmas.Bool.{lt-ltb, ltb-true, leb-true}
-use Rattle.rte_image_reading.specs.Format.{u16, each_is, checked}
+use Rattle.rte_format.specs.Format.{u16, each_is, checked}
 use Rattle.rte_image_reading.specs.Grammar as g
-use Rattle.rte_image_reading.proofs.Booleans.{parts}
+use Rattle.rte_format.proofs.Booleans.{parts}
 use Rattle.rte_image_text.specs.Text.{field, numbers_text, handler_text, handler_line}
 use Rattle.rte_line_fields.specs.Front.{Front, begins}
 use Rattle.rte_asm_lines.specs.Processes.{taken_read, more_read, numbers_read, handler_read, handler_tree_read}

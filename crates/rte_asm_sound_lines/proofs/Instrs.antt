@@ -10,7 +10,7 @@ use Rattle.rte_isa.specs.declared.instr.Instr.{Instr}
 use Rattle.rte_isa.specs.Bytes.{number, operands}
 use Rattle.rte_isa.specs.Numbered.{in_order, numbered}
 use Rattle.rte_image_reading.specs.Grammar as g
-use Rattle.rte_image_reading.proofs.Booleans.{parts}
+use Rattle.rte_format.proofs.Booleans.{parts}
 use Rattle.rte_image_reading.proofs.Words.{same_words}
 use Rattle.rte_image_text.specs.Mnemonics.{mnemonics, mnemonic, arity, named, operands_text, instr_line}
 use Rattle.rte_line_fields.specs.Front.{Front, moved}

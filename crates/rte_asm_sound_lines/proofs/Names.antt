@@ -7,7 +7,7 @@ use Rattle.rte_fields.specs.Fields.{Lacks}
 use Rattle.rte_lex.specs.Spellings.{is_identifier, keywords}
 use Rattle.rte_image.specs.declared.names.CondName.{CondName}
 use Rattle.rte_image_reading.specs.Grammar as g
-use Rattle.rte_image_reading.proofs.Booleans.{parts}
+use Rattle.rte_format.proofs.Booleans.{parts}
 use Rattle.rte_image_text.specs.Text.{head_line, direction, device_line, event_line, ceiling_text, monitor_line, condition_line, field}
 use Rattle.rte_line_fields.specs.Front.{Front, begins, moved, noted}
 use Rattle.rte_asm_lines.specs.Names.{is_in_word, word_len, may_be_name, name_read, named_read, head_read, direction_read, device_read, event_read, below_none, ceiling_read, monitor_read, placed, condition_read}

@@ -12,9 +12,9 @@ use Rattle.std.proofs.lemmas.List.Sums.{prefix_len_passes}
 use Rattle.std.proofs.lemmas.List.Folds.{length-prefix_len}
 use Rattle.rte_fields.specs.Fields.{Lacks}
 use Rattle.rte_fields.proofs.Numerals.{AreDigits, read_on, numeral_is, decimal_lacks}
-use Rattle.rte_image_reading.specs.Format.{unless, is_fine, u16, u32}
-use Rattle.rte_image_reading.specs.TreeFormat.{u32_within}
-use Rattle.rte_image_reading.proofs.Booleans.{parts}
+use Rattle.rte_format.specs.Format.{unless, is_fine, u16, u32}
+use Rattle.rte_format.specs.TreeFormat.{u32_within}
+use Rattle.rte_format.proofs.Booleans.{parts}
 use Rattle.rte_image_text.specs.TreeText.{field}
 use Rattle.rte_line_fields.specs.Front.{Front, begins, moved, noted}
 use Rattle.rte_line_fields.specs.Fields.{is_digit, digits_len, is_numeral, value, small, numeral_read, ranged, number_read, field_read, negative, positive, signed_read}

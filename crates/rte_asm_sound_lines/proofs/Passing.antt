@@ -9,7 +9,7 @@ use Rattle.std.proofs.lemmas.List.{take-append-drop}
 use Rattle.std.proofs.lemmas.List.Sums.{sum_by-cons}
 use Rattle.std.proofs.Math.Seq.{take-append_seam}
 use Rattle.rte_fields.specs.Fields.{Lacks}
-use Rattle.rte_image_reading.proofs.Booleans.{parts}
+use Rattle.rte_format.proofs.Booleans.{parts}
 use Rattle.rte_image_reading.proofs.Words.{same_words}
 use Rattle.rte_asm_lines.specs.TreeForm.{cuts, longer}
 use Rattle.rte_line_fields.specs.Front.{Front, begins, moved, skip, end_read, line_start}

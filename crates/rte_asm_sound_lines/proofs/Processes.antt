@@ -6,8 +6,8 @@ use Rattle.rte_machine_meaning.specs.Image.{Process}
 use Rattle.rte_machine_meaning.specs.Trees.{Segs}
 use Rattle.rte_image.specs.Bytes.{Second}
 use Rattle.rte_image_reading.specs.declared.counts.Counts.{Counts}
-use Rattle.rte_image_reading.specs.Format.{u16}
-use Rattle.rte_image_reading.specs.TreeFormat.{tree_format}
+use Rattle.rte_format.specs.Format.{u16}
+use Rattle.rte_format.specs.TreeFormat.{in_image, tree_format}
 use Rattle.rte_image_reading.specs.Grammar as g
 use Rattle.rte_image_text.specs.Text.{field, release_text, handler_text, handler_line, process_lines, tree_line}
 use Rattle.rte_line_fields.specs.Front.{Front, begins, noted}
@@ -133,7 +133,7 @@ IsProcess monitors events taken used x =
     (counts : Counts) → counts.monitors ≡ monitors → counts.events ≡ events → (g.named_process_format Second counts taken used).is x ≡ true
 
 is_process : (monitors events : ℕ) (taken : List (List ℕ)) (used : List ℕ) (x : Named) (body : Segs) (handler : Option Segs) → IsName taken x.0 × AreFields events used x.1
-    → (tree_format monitors 130).is body ≡ true → (g.handler_tree_format monitors (length x.1.1.1.1.1)).is handler ≡ true → IsProcess monitors events taken used (x.0, process_with x.1 body handler)
+    → (tree_format (in_image monitors) 130).is body ≡ true → (g.handler_tree_format monitors (length x.1.1.1.1.1)).is handler ≡ true → IsProcess monitors events taken used (x.0, process_with x.1 body handler)
 is_process monitors events taken used x body handler h is_body is_handler counts m e =
     both_true h.0
     (both_true (h.1.0 counts.events x.1.1.0.0 e h.1.1.0)
@@ -141,7 +141,7 @@ is_process monitors events taken used x body handler h is_body is_handler counts
     (both_true h.1.2
     (both_true h.1.3.0
     (both_true (numbers_are x.1.1.1.1.1 h.1.3.1)
-    (both_true (subst (λ n. (tree_format n 130).is body ≡ true) (sym m) is_body) (subst (λ n. (g.handler_tree_format n (length x.1.1.1.1.1)).is handler ≡ true) (sym m) is_handler)))))))
+    (both_true (subst (λ n. (tree_format (in_image n) 130).is body ≡ true) (sym m) is_body) (subst (λ n. (g.handler_tree_format n (length x.1.1.1.1.1)).is handler ≡ true) (sym m) is_handler)))))))
 
 release_same : (x : Line) (body : Segs) (handler : Option Segs) (kind : ℕ) → release_of x.0 kind ≡ release_text (process_with x body handler) kind
 release_same x body handler zero = refl

@@ -5,10 +5,10 @@ use Rattle.std.proofs.lemmas.Bool.{lt-ltb, leb-true, le-leb}
 use Rattle.rte_machine_meaning.specs.Image.{Routine}
 use Rattle.rte_machine_meaning.specs.Trees.{Segs}
 use Rattle.rte_image_reading.specs.declared.counts.Counts.{Counts}
-use Rattle.rte_image_reading.specs.Format.{u16, u32, unless, checked}
-use Rattle.rte_image_reading.specs.TreeFormat.{u32_within, tree_format}
+use Rattle.rte_format.specs.Format.{u16, u32, unless, checked}
+use Rattle.rte_format.specs.TreeFormat.{in_image, u32_within, tree_format}
 use Rattle.rte_image_reading.specs.Grammar as g
-use Rattle.rte_image_reading.proofs.Booleans.{parts}
+use Rattle.rte_format.proofs.Booleans.{parts}
 use Rattle.rte_image_text.specs.Text.{field, owner_text, bit, stay_text, routine_lines, tree_line}
 use Rattle.rte_line_fields.specs.Front.{Front, begins, noted}
 use Rattle.rte_line_fields.specs.Fields.{ranged, number_read, field_read}
@@ -137,12 +137,12 @@ regroup a b c d e =
 abbrev pub IsRoutine : (processes monitors : ℕ) → Routine → Type 0
 IsRoutine processes monitors r = (counts : Counts) → counts.processes ≡ processes → counts.monitors ≡ monitors → (g.routine_format counts).is r ≡ true
 
-is_routine : (processes monitors : ℕ) (x : Line) (tree : Segs) → IsLine processes monitors x → (tree_format monitors 130).is tree ≡ true → IsRoutine processes monitors (routine_with x tree)
+is_routine : (processes monitors : ℕ) (x : Line) (tree : Segs) → IsLine processes monitors x → (tree_format (in_image monitors) 130).is tree ≡ true → IsRoutine processes monitors (routine_with x tree)
 is_routine processes monitors x tree h is_tree counts p m =
     let kind = lt-ltb x.0.0 256 (omega (arith, h.0)) in
     both_true
     (both_true (both_true kind (fine_of 6 (le-leb x.0.0 2 h.0))) (both_true (h.1 counts p m) (both_true h.2.0 (both_true h.2.1 refl))))
-    (both_true (both_true h.2.2 (both_true h.3.0 (both_true h.3.1 (both_true h.3.2 h.3.3)))) (subst (λ n. (tree_format n 130).is tree ≡ true) (sym m) is_tree))
+    (both_true (both_true h.2.2 (both_true h.3.0 (both_true h.3.1 (both_true h.3.2 h.3.3)))) (subst (λ n. (tree_format (in_image n) 130).is tree ≡ true) (sym m) is_tree))
 
 pub routine_took : (processes monitors : ℕ) (s : Front) → Holds (λ z. Takes Start Start 0 s z.1 (routine_lines z.0) (IsRoutine processes monitors z.0)) (routine_read processes monitors s)
 unfolding routine_read

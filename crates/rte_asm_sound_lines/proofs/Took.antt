@@ -5,7 +5,7 @@ use Rattle.std.specs.List.{count_by}
 use Rattle.rte_line_fields.specs.declared.fault.Fault.{Fault}
 use Rattle.rte_line_fields.specs.Front.{Front, ◌>>=◌, begins, noted}
 use Rattle.rte_asm_lines.specs.TreeForm.{cuts}
-use Rattle.rte_image_reading.proofs.Booleans.{parts}
+use Rattle.rte_format.proofs.Booleans.{parts}
 
 -- ---- how many lines of processes are ahead
 

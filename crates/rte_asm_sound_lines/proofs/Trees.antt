@@ -3,9 +3,9 @@ use Rattle.std.proofs.Common.{◌≡◌, ◌≤◌, ◌^◌, ◌++◌, ℕ, zero
 use Rattle.std.specs.Prelude.{codes, nat_lt}
 use Rattle.std.proofs.lemmas.Bool.{lt-ltb}
 use Rattle.rte_machine_meaning.specs.Trees.{Seg, Line, Fork, Rep, Call, Stay, Wait, Exit, Segs, Nil, Cons}
-use Rattle.rte_image.specs.TreeBytes.{row}
-use Rattle.rte_image_reading.specs.Format.{Format}
-use Rattle.rte_image_reading.specs.TreeFormat.{seg_is, seg_format, segs_is, tree_format}
+use Rattle.rte_format.specs.TreeBytes.{row}
+use Rattle.rte_format.specs.Format.{Format}
+use Rattle.rte_format.specs.TreeFormat.{in_image, seg_is, seg_format, segs_is, tree_format}
 use Rattle.rte_image_text.specs.TreeText.{seg_text, segs_text, tree_line}
 use Rattle.rte_line_fields.specs.Front.{Front, Read, begins, noted}
 use Rattle.rte_asm_lines.specs.TreeForm.{is_tree_line}
@@ -26,7 +26,7 @@ module _ (monitors : ℕ) (sub : Front → Read Segs) (format : Format Segs) whe
   Sub = (s : Front) → Holds (λ z. Takes Within Within 0 s z.1 (segs_text z.0) (format.is z.0 ≡ true)) (sub s)
 
   abbrev One : Front → Seg × Front → Type 0
-  One s z = Takes Within Within 0 s z.1 (seg_text z.0) (seg_is monitors format z.0 ≡ true)
+  One s z = Takes Within Within 0 s z.1 (seg_text z.0) (seg_is (in_image monitors) format z.0 ≡ true)
 
   arm_took : Sub → (s : Front) → Holds (λ z. Takes Within Within 0 s z.1 (arm_text z.0) (format.is z.0 ≡ true)) (arm_read sub s)
   arm_took sub_took s =
@@ -66,7 +66,7 @@ module _ (monitors : ℕ) (sub : Front → Read Segs) (format : Format Segs) whe
       next (skip_took (codes " exit") s (inside (codes " exit") refl)) (λ t a. went (shown a refl (λ held. refl)))))))))
 
   segs_took : Sub → (most : ℕ) (s : Front)
-      → Holds (λ z. Takes Within Within 0 s z.1 (segs_text z.0) (segs_is (seg_format monitors format) z.0 ≡ true)) (segs_read (seg_read monitors sub) most s)
+      → Holds (λ z. Takes Within Within 0 s z.1 (segs_text z.0) (segs_is (seg_format (in_image monitors) format) z.0 ≡ true)) (segs_read (seg_read monitors sub) most s)
   unfolding segs_read
   segs_took sub_took zero s = failed
   segs_took sub_took (suc n) s =
@@ -100,17 +100,17 @@ counted {s = s} {t = t} tree took fine =
     }
 
 abbrev Tree : (monitors depth : ℕ) → Front → Segs × Front → Type 0
-Tree monitors depth s z = Takes Within Within 0 s z.1 (segs_text z.0) ((tree_format monitors depth).is z.0 ≡ true)
+Tree monitors depth s z = Takes Within Within 0 s z.1 (segs_text z.0) ((tree_format (in_image monitors) depth).is z.0 ≡ true)
 
 tree_took : (monitors depth : ℕ) (s : Front) → Holds (Tree monitors depth s) (tree_read monitors depth s)
 unfolding tree_read tree_format
 tree_took monitors zero s = failed
 tree_took monitors (suc depth) s =
-    mapped (λ z a. shown (counted z.0 a) refl (λ held. both_true held.0 held.1)) (segs_took monitors (tree_read monitors depth) (tree_format monitors depth) (tree_took monitors depth) (length s.rest) s)
+    mapped (λ z a. shown (counted z.0 a) refl (λ held. both_true held.0 held.1)) (segs_took monitors (tree_read monitors depth) (tree_format (in_image monitors) depth) (tree_took monitors depth) (length s.rest) s)
 
 -- the line of a tree
 abbrev pub TreeLine : (monitors : ℕ) → Front → Segs × Front → Type 0
-TreeLine monitors s z = Takes Start Start 0 s z.1 (tree_line z.0) ((tree_format monitors 130).is z.0 ≡ true)
+TreeLine monitors s z = Takes Start Start 0 s z.1 (tree_line z.0) ((tree_format (in_image monitors) 130).is z.0 ≡ true)
 
 pub tree_line_took : (monitors : ℕ) (s : Front) → Holds (TreeLine monitors s) (tree_line_read monitors s)
 unfolding tree_line_read

@@ -20,7 +20,7 @@ use rte_lookup::laid_process;
 use rte_made::ProcessParts;
 use rte_name_list::NameList;
 use rte_num::{Cost, OVER};
-use rte_seg_copy::copied_tree;
+use rte_seg_bytes::SegTree;
 use rte_tree::{List, Proc};
 use std::alloc::{AllocError, Global};
 
@@ -68,7 +68,7 @@ fn raw_process(
     let release = released(values, events, &process.activation);
     let words = data_words(alloc, values, process)?;
     let numbers = handler_numbers(alloc, values, &process.handler)?;
-    let body = copied_tree(alloc, parts.body.tree.as_slice())?;
+    let body = SegTree::of(alloc, parts.body.tree.as_slice())?;
     let handler_tree = handler_tree(alloc, &parts.handler)?;
     Ok(RawProc {
         kind: release.kind,

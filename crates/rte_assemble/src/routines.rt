@@ -13,7 +13,7 @@ use rte_cost::Known;
 use rte_image::RawRoutine;
 use rte_made::Part;
 use rte_numbering::{Owner, Text};
-use rte_seg_copy::copied_tree;
+use rte_seg_bytes::SegTree;
 use rte_tree::{List, Routine};
 use std::alloc::{AllocError, Global};
 
@@ -64,7 +64,7 @@ fn raw_routine(
     requires { FitsRow (text_of text) part.now row }
     ensures { IfOk result (λ raw. routine_of raw ≡ routine_told (text_of text.entry) part.now row) }
 {
-    let tree = copied_tree(alloc, part.tree.as_slice())?;
+    let tree = SegTree::of(alloc, part.tree.as_slice())?;
     Ok(RawRoutine {
         kind: kind(text.owner),
         owner: owner_index(text.owner),

@@ -9,7 +9,7 @@ use Rattle.rte_source_meaning.specs.Names.{count_value, processes}
 use Rattle.rte_machine_meaning.specs.Trees.{Segs}
 use Rattle.rte_machine_meaning.specs.Image.{Image, Process, Routine}
 use Rattle.rte_image.specs.InRange.{AreCounted, IsInRange, IsProcessInRange, IsSmall, IsSmallHandler}
-use Rattle.rte_image.specs.TreeBytes.{segments}
+use Rattle.rte_format.specs.TreeBytes.{segments}
 use Rattle.rte_emits.specs.Compiled.{EmitsHandler, IsCodeOf, ascending}
 use Rattle.rte_valid.specs.Tables.{handler_found, handler_start, known}
 use Rattle.rte_valid.specs.Valid.{IsValid, Shape}

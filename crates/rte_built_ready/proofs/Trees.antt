@@ -5,7 +5,7 @@ use Rattle.std.proofs.lemmas.Option.{slice_get_within}
 use Rattle.rte_isa.specs.declared.instr.Instr.{Instr}
 use Rattle.rte_machine_meaning.specs.Trees.{Seg, Line, Fork, Rep, Call, Stay, Wait, Exit, Segs, Nil, Cons, size, size_of}
 use Rattle.rte_machine_meaning.specs.Image.{Routine}
-use Rattle.rte_image.specs.TreeBytes.{inner, segments}
+use Rattle.rte_format.specs.TreeBytes.{inner, segments}
 use Rattle.rte_valid.specs.Found.{Found, Known, arms, chain, ended, entry, found, founds, guard, is_end, is_return, joined, loop, tree_found}
 use Rattle.rte_valid.specs.Tables.{count, monitor_of, part_found, routine_found}
 

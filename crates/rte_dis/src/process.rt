@@ -1,14 +1,13 @@
 //! The lines of processes.
 
-ghost use Rattle.std.specs.Prelude.{◌≡◌, ◌++◌, OnOk, option_map};
+ghost use Rattle.std.specs.Prelude.{◌≡◌, ◌++◌, OnOk};
 ghost use Rattle.rte_image.specs.Raw.{process_of};
-ghost use Rattle.rte_seg.specs.View.{views};
 ghost use Rattle.rte_image_text.specs.Text.{handler_line, handler_text, process_lines, release_text, room_text, time_text};
 
 use crate::numbers::{put_field, put_numbers};
 use crate::trees::put_tree;
 use rte_image::RawProc;
-use rte_seg::Segs;
+use rte_seg_bytes::SegTree;
 use rte_tree::{Name, Text};
 use std::alloc::AllocError;
 
@@ -83,12 +82,16 @@ fn put_handler(text: &mut Text, handler: u32, numbers: &[u16]) -> Result<(), All
 }
 
 /// Puts the line of the handler's tree, where there are numbers that it takes.
-fn put_handler_tree(text: &mut Text, numbers: &[u16], tree: &Option<Segs>) -> Result<(), AllocError>
+fn put_handler_tree(
+    text: &mut Text,
+    numbers: &[u16],
+    tree: &Option<SegTree>,
+) -> Result<(), AllocError>
     ensures { OnOk result (text.new ≡ text.old ++
-        handler_line numbers.now (option_map views tree.now)) }
+        handler_line numbers.now tree.now) }
 {
     match (numbers, tree) {
-        ([_, ..], Some(tree)) => put_tree(text, tree.as_slice())?,
+        ([_, ..], Some(tree)) => put_tree(text, tree)?,
         ([_, ..], None) => {}
         ([], _) => {}
     }
@@ -105,7 +108,7 @@ pub fn put_process(text: &mut Text, name: &Name, process: &RawProc) -> Result<()
     put_time(text, process)?;
     put_room(text, process)?;
     put_handler(text, process.handler, process.numbers.as_slice())?;
-    put_tree(text, process.body.as_slice())?;
+    put_tree(text, &process.body)?;
     put_handler_tree(text, process.numbers.as_slice(), &process.handler_tree)?;
     Ok(())
 }

@@ -71,6 +71,6 @@ pub fn put_routine(text: &mut Text, routine: &RawRoutine) -> Result<(), AllocErr
     put_place(text, routine)?;
     put_cost(text, routine)?;
     text.extend(b"\n")?;
-    put_tree(text, routine.tree.as_slice())?;
+    put_tree(text, &routine.tree)?;
     Ok(())
 }

@@ -4,8 +4,8 @@ use Rattle.rte_image.specs.Bytes.{Version}
 use Rattle.rte_image.specs.Named.{NamedImage}
 use Rattle.rte_image.specs.Raw.{image_of, named_of}
 use Rattle.rte_image.specs.declared.raw.RawImage.{RawImage}
-use Rattle.rte_image_reading.specs.declared.fault.Fault.{Fault}
-use Rattle.rte_image_reading.specs.Format.{Read, fault}
+use Rattle.rte_format.specs.declared.fault.Fault.{Fault}
+use Rattle.rte_format.specs.Format.{Read, fault}
 use Rattle.rte_image_reading.specs.File.{Parts, image_with, read_file}
 use Rattle.rte_image_reading.specs.Answer.{Holds, HasFault, parts_of}
 use Rattle.rte_valid.specs.Valid.{Shown, fault_of}

@@ -28,7 +28,7 @@ impl Model for EdfImage {
     ghost use Rattle.rte_edf_admit.specs.Admitted.{IsAdmitted};
     ghost use Rattle.rte_image.specs.Named.{NamedImage};
     ghost use Rattle.rte_shape.specs.Shape.{IsShape};
-    ghost use Rattle.rte_shape.specs.TreeCode.{coded_segs};
+    ghost use Rattle.rte_seg_bytes.specs.TreeCode.{coded_segs};
     ghost use Rattle.std.specs.Coded.{codes};
 
     ghost Value = { NamedImage };

@@ -5,8 +5,6 @@ use Rattle.std.proofs.lemmas.Bool.Decides.{nat_tests}
 use Rattle.rte_isa.specs.declared.instr.Instr.{Instr}
 use Rattle.rte_machine_meaning.specs.Trees as tree
 use Rattle.rte_machine_meaning.specs.Trees.{size}
-use Rattle.rte_seg.specs.declared.seg.Seg.{Seg}
-use Rattle.rte_seg.specs.View.{view, views}
 use Rattle.rte_valid.specs.Found.{Known, Found, amount, is_enter, is_leave, guard, ended, founds, entry}
 use Rattle.rte_valid_held.specs.Held.{held, hold}
 use Rattle.rte_valid_held.proofs.Holding.{holding_changes_nothing}
@@ -40,11 +38,17 @@ two_are_none : (code : List Instr) (known : List Known) (owner : ℕ) (first sec
 two_are_none code known owner (tree.Stay n body) second rest at = refl
 two_are_none code known owner _ second rest at = refl
 
--- more segments than one are no entry
-pub no_entry : (code : List Instr) (known : List Known) (owner : ℕ) (segs : List Seg) (at : ℕ) → 2 ≤ length segs → None ≡ hold (entry code known owner (views segs) at)
-no_entry code known owner [] at two = absurd (omega (arith, two))
-no_entry code known owner (x ∷ []) at two = absurd (omega (arith, two))
-no_entry code known owner (x ∷ (y ∷ zs)) at two = ap hold (sym (two_are_none code known owner (view x) (view y) (views zs) at))
+-- what is not one Stay is no entry
+pub no_entry : (code : List Instr) (known : List Known) (owner : ℕ) (t : tree.Segs) (at : ℕ) → monitor_in t ≡ None → None ≡ hold (entry code known owner t at)
+no_entry code known owner tree.Nil at none = refl
+no_entry code known owner (tree.Cons (tree.Stay m body) tree.Nil) at none = absurd cc
+no_entry code known owner (tree.Cons (tree.Line n) tree.Nil) at none = refl
+no_entry code known owner (tree.Cons (tree.Fork a b) tree.Nil) at none = refl
+no_entry code known owner (tree.Cons (tree.Rep n a) tree.Nil) at none = refl
+no_entry code known owner (tree.Cons (tree.Call n) tree.Nil) at none = refl
+no_entry code known owner (tree.Cons tree.Wait tree.Nil) at none = refl
+no_entry code known owner (tree.Cons tree.Exit tree.Nil) at none = refl
+no_entry code known owner (tree.Cons s (tree.Cons u rest)) at none = ap hold (sym (two_are_none code known owner s u rest at))
 
 -- ---- the end of a part
 
@@ -70,14 +74,9 @@ ends_well true n f (Some g) is height one =
 
 -- ---- a tree that is one Stay
 
-two_are_no_stay : (first second : tree.Seg) (rest : tree.Segs) → monitor_in (tree.Cons first (tree.Cons second rest)) ≡ None
+pub two_are_no_stay : (first second : tree.Seg) (rest : tree.Segs) → monitor_in (tree.Cons first (tree.Cons second rest)) ≡ None
 two_are_no_stay (tree.Stay n body) second rest = refl
 two_are_no_stay _ second rest = refl
-
-pub no_stay : (segs : List Seg) → 2 ≤ length segs → None ≡ monitor_in (views segs)
-no_stay [] two = absurd (omega (arith, two))
-no_stay (x ∷ []) two = absurd (omega (arith, two))
-no_stay (x ∷ (y ∷ zs)) two = sym (two_are_no_stay (view x) (view y) (views zs))
 
 -- ---- how long an entry stays
 

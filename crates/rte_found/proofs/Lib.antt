@@ -1,4 +1,5 @@
 pub mod Segments
 pub mod Lines
-pub mod Views
 pub mod Endings
+pub mod Fitting
+pub mod Short

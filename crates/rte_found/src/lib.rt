@@ -3,8 +3,10 @@
 //!
 //! The definition is `founds` of `rte_valid`: one computation over tree and code. Each call
 //! promises just what that says, with costs held at one more than a thousand million and depths at
-//! 4,097 (`specs/Told.antt`). No memory is taken, and the time is in proportion to the code; below
-//! a loop a tree's sizes are counted once more for each loop around it.
+//! 4,097 (`specs/Told.antt`). Trees are looked at as they stand in bytes (`SegBytes`), so no memory
+//! is taken. The calls recurse down the tree, whose sizes are counted once more for each loop
+//! around it, and whose bytes are gone over once more for each tree around it; a tree that has more
+//! bytes than code of this length can need is of none, and is not gone over.
 #![tactic(auto)]
 
 mod instructions;
@@ -17,7 +19,7 @@ mod whole;
 
 pub use instructions::{instr_at, results};
 pub use known::{Around, Found, Known, PartFound, TOO_DEEP};
-pub use parts::{entry_found, part_found, part_tree_found, routine_found, stayed};
+pub use parts::{entry_found, only_stay, part_found, part_tree_found, routine_found, stayed};
 pub use steps::{called, exited, forked, repeated, waited};
-pub use trees::{line_found, past, seg_found, tree_end, tree_found};
-pub use whole::{depth, fits, worst};
+pub use trees::{tree_end, tree_found};
+pub use whole::{depth_bytes, fits_bytes, worst_bytes};

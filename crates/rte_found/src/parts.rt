@@ -1,12 +1,13 @@
 //! The computation over whole parts: the code of a routine, the body and the handler of a process.
 
-ghost use Rattle.std.specs.Prelude.{◌≡◌, ◌≤◌, ◌+◌, ◌-◌, ◌&&◌, ◌<◌, IfSome, Some, None, length, map, nat_eq, slice_get};
+ghost use Rattle.std.specs.Prelude.{◌≡◌, ◌≤◌, ◌+◌, ◌-◌, ◌&&◌, ◌<◌, ◌*◌, IfSome, IsTrue, MatchOption, Some, None, length, map, nat_eq, slice_get};
+ghost use Rattle.rte_format.specs.TreeBytes.{tree_bytes};
 ghost use Rattle.rte_image.specs.Raw.{routine_of};
 ghost use Rattle.rte_machine_meaning.specs.Trees.{Cons, Nil, Stay, size};
-ghost use Rattle.rte_seg.specs.View.{views};
+ghost use Rattle.rte_seg_bytes.specs.Stands.{tree_in};
 ghost use Rattle.rte_found.specs.Told.{EndsAt, Reaches, found_of, known_of, told, told_part, IsHeld};
 ghost use Rattle.rte_found.specs.Steps.{stays_in};
-ghost use Rattle.rte_found.specs.Whole.{stay_in};
+ghost use Rattle.rte_found.specs.Whole.{monitor_in as stays_of, stay_in};
 ghost use Rattle.rte_num.specs.Capped.{cap};
 ghost use Rattle.rte_valid.specs.Found.{entry, guard, is_end as ends, is_enter as enters, is_leave as leaves, tree_found as part_tree};
 ghost use Rattle.rte_valid.specs.Tables.{found_or_nothing, monitor_of as owner_of, part_found as defined_part, routine_found as defined_routine};
@@ -19,7 +20,7 @@ use crate::trees::tree_found;
 use rte_image::RawRoutine;
 use rte_isa::Instr;
 use rte_num::{Cost, cap_add};
-use rte_seg::{Inside, Seg};
+use rte_seg_bytes::{SegBytes, SegItem, SegTree};
 
 /// ENTER, what is done inside, and LEAVE, of the monitor that the Stay and the owner name.
 pub fn stayed(
@@ -64,16 +65,17 @@ fn stay_found(
     known: &[Known],
     owner: u16,
     monitor: u16,
-    body: &[Seg],
+    body: SegBytes<'_>,
     at: usize,
 ) -> Option<PartFound>
     requires { at ≤ length code.now }
     ensures value { told_part result ≡ hold (entry code.now (map known_of known.now) owner
-        (Cons (Stay monitor (views body.now)) Nil) at) }
-    ensures ends { IfSome result (λ f. EndsAt code.now (at + size (views body.now) + 2) f.found) }
+        (Cons (Stay monitor (tree_in body.entry)) Nil) at) }
+    ensures ends { IfSome result (λ f. EndsAt code.now
+        (at + size (tree_in body.entry) + 2) f.found) }
     ensures stay { IfSome result (λ f. f.stay ≡
         cap ((found_or_nothing (entry code.now (map known_of known.now) owner
-        (Cons (Stay monitor (views body.now)) Nil) at)).cost.run - 5)) }
+        (Cons (Stay monitor (tree_in body.entry)) Nil) at)).cost.run - 5)) }
 {
     let enter = instr_at(code, at)?;
     let around = Around {
@@ -85,29 +87,39 @@ fn stay_found(
     stayed(owner, monitor, enter, leave, &inside)
 }
 
+/// The monitor and the body of a tree that is one Stay.
+pub fn only_stay(tree: SegBytes<'_>) -> Option<(u16, SegBytes<'_>)>
+    ensures { MatchOption result (stays_of (tree_in tree.entry) ≡ None)
+        (λ x. tree_in tree.entry ≡ Cons (Stay x.0 (tree_in x.1)) Nil) }
+{
+    let (item, rest) = tree.split_first()?;
+    if rest.split_first().is_some() {
+        return None;
+    }
+    match item {
+        SegItem::Stay(monitor, body) => Some((monitor, body)),
+        _ => None,
+    }
+}
+
 /// The code of an entry, which is one Stay.
 pub fn entry_found(
     code: &[Instr],
     known: &[Known],
     owner: u16,
-    tree: &[Seg],
+    tree: SegBytes<'_>,
     at: usize,
 ) -> Option<PartFound>
     requires { at ≤ length code.now }
     ensures value { told_part result ≡ hold (entry code.now (map known_of known.now) owner
-        (views tree.now) at) }
-    ensures ends { IfSome result (λ f. EndsAt code.now (at + size (views tree.now)) f.found) }
+        (tree_in tree.entry) at) }
+    ensures ends { IfSome result (λ f. EndsAt code.now (at + size (tree_in tree.entry)) f.found) }
     ensures stay { IfSome result (λ f. f.stay ≡
         cap ((found_or_nothing (entry code.now (map known_of known.now) owner
-        (views tree.now) at)).cost.run - 5)) }
+        (tree_in tree.entry) at)).cost.run - 5)) }
 {
-    match tree {
-        [Seg::Stay(inside)] => {
-            let Inside { monitor, body } = inside.get();
-            stay_found(code, known, owner, *monitor, body.as_slice(), at)
-        }
-        _ => None,
-    }
+    let (monitor, body) = only_stay(tree)?;
+    stay_found(code, known, owner, monitor, body, at)
 }
 
 /// The code of a part: that of an entry where a monitor is named.
@@ -115,16 +127,16 @@ pub fn part_tree_found(
     code: &[Instr],
     known: &[Known],
     monitor: Option<u16>,
-    tree: &[Seg],
+    tree: SegBytes<'_>,
     at: usize,
 ) -> Option<PartFound>
     requires { at ≤ length code.now }
     ensures value { told_part result ≡ hold (part_tree code.now (map known_of known.now) monitor
-        (views tree.now) at) }
-    ensures ends { IfSome result (λ f. EndsAt code.now (at + size (views tree.now)) f.found) }
+        (tree_in tree.entry) at) }
+    ensures ends { IfSome result (λ f. EndsAt code.now (at + size (tree_in tree.entry)) f.found) }
     ensures stay { IfSome result (λ f. f.stay ≡
         cap (stay_in monitor (part_tree code.now (map known_of known.now) monitor
-        (views tree.now) at))) }
+        (tree_in tree.entry) at))) }
 {
     match monitor {
         Some(owner) => entry_found(code, known, owner, tree, at),
@@ -137,6 +149,14 @@ pub fn part_tree_found(
             Some(PartFound { found, stay: 0 })
         }
     }
+}
+
+/// Whether a tree has more bytes than any tree of code of this length: at most five for each
+/// instruction, besides its count.
+fn is_too_long(code: &[Instr], tree: &SegTree) -> bool
+    ensures { IsTrue result → 5 * length code.now + 4 < length (tree_bytes tree.now) }
+{
+    tree.bytes().len().saturating_sub(4) / 5 > code.len()
 }
 
 /// The monitor of an entry.
@@ -156,17 +176,20 @@ pub fn routine_found(code: &[Instr], known: &[Known], routine: &RawRoutine) -> O
     ensures value { told_part result ≡ hold (defined_routine code.now (map known_of known.now)
         (routine_of routine.now)) }
     ensures ends { IfSome result (λ f. EndsAt code.now
-        (routine.now.start + size (views routine.now.tree)) f.found) }
+        (routine.now.start + size (routine.now.tree)) f.found) }
     ensures within { IfSome result (λ f. f.found.next < length code.now) }
     ensures stay { IfSome result (λ f. f.stay ≡
         cap (stay_in (owner_of (routine_of routine.now))
         (defined_routine code.now (map known_of known.now) (routine_of routine.now)))) }
 {
+    if is_too_long(code, &routine.tree) {
+        return None;
+    }
     let part = part_tree_found(
         code,
         known,
         monitor_of(routine),
-        routine.tree.as_slice(),
+        routine.tree.view(),
         routine.start as usize,
     )?;
     let last = instr_at(code, part.found.next)?;
@@ -177,14 +200,17 @@ pub fn routine_found(code: &[Instr], known: &[Known], routine: &RawRoutine) -> O
 }
 
 /// The code of the body or the handler of a process up to its END.
-pub fn part_found(code: &[Instr], known: &[Known], tree: &[Seg], at: usize) -> Option<Found>
+pub fn part_found(code: &[Instr], known: &[Known], tree: &SegTree, at: usize) -> Option<Found>
     requires { at ≤ length code.now }
     ensures value { told result ≡ hold (defined_part code.now (map known_of known.now)
-        (views tree.now) at) }
-    ensures ends { IfSome result (EndsAt code.now (at + size (views tree.now))) }
+        (tree.now) at) }
+    ensures ends { IfSome result (EndsAt code.now (at + size (tree.now))) }
     ensures within { IfSome result (λ f. f.next < length code.now) }
 {
-    let PartFound { found, .. } = part_tree_found(code, known, None, tree, at)?;
+    if is_too_long(code, tree) {
+        return None;
+    }
+    let PartFound { found, .. } = part_tree_found(code, known, None, tree.view(), at)?;
     let last = instr_at(code, found.next)?;
     if !is_end(Some(last)) || found.height != 0 {
         return None;

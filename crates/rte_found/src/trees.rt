@@ -2,7 +2,7 @@
 
 ghost use Rattle.std.specs.Prelude.{◌≡◌, ◌≤◌, ◌<◌, ◌+◌, IfSome, MatchOption, length, map};
 ghost use Rattle.rte_machine_meaning.specs.Trees.{size, size_of};
-ghost use Rattle.rte_seg.specs.View.{view, views};
+ghost use Rattle.rte_seg_bytes.specs.Stands.{item_in, tree_in};
 ghost use Rattle.rte_found.specs.Told.{EndsAt, known_of, told};
 ghost use Rattle.rte_valid.specs.Found.{found, founds, line};
 ghost use Rattle.rte_valid_held.specs.Held.{hold};
@@ -11,7 +11,7 @@ use crate::instructions::instr_at;
 use crate::known::{Around, Found, Known};
 use crate::steps::{called, exited, forked, instr_found, repeated, waited};
 use rte_isa::Instr;
-use rte_seg::{Arms, Seg, Turns};
+use rte_seg_bytes::{SegBytes, SegItem};
 
 /// So many addresses on, where that is at most the limit.
 pub fn past(at: usize, count: usize, limit: usize) -> Option<usize>
@@ -27,41 +27,39 @@ pub fn past(at: usize, count: usize, limit: usize) -> Option<usize>
 
 /// The address behind a segment that starts at an address, where it is at most the limit.
 #[cycle(ends)]
-fn seg_end(seg: &Seg, at: usize, limit: usize) -> Option<usize>
+fn item_end(item: &SegItem<'_>, at: usize, limit: usize) -> Option<usize>
     requires { at ≤ limit }
-    ensures { MatchOption result (limit < at + size_of (view seg.now))
-        (λ end. (end ≡ at + size_of (view seg.now)) × (end ≤ limit)) }
+    ensures { MatchOption result (limit < at + size_of (item_in item.now))
+        (λ end. (end ≡ at + size_of (item_in item.now)) × (end ≤ limit)) }
 {
-    match seg {
-        Seg::Line(count) => past(at, *count as usize, limit),
-        Seg::Fork(arms) => {
-            let middle = tree_end(arms.get().first.as_slice(), at, limit)?;
-            let end = tree_end(arms.get().second.as_slice(), middle, limit)?;
+    match item {
+        SegItem::Line(count) => past(at, *count as usize, limit),
+        SegItem::Fork(first, second) => {
+            let middle = tree_end(*first, at, limit)?;
+            let end = tree_end(*second, middle, limit)?;
             past(end, 2, limit)
         }
-        Seg::Rep(turns) => {
-            let end = tree_end(turns.get().body.as_slice(), at, limit)?;
+        SegItem::Rep(_, body) | SegItem::Stay(_, body) => {
+            let end = tree_end(*body, at, limit)?;
             past(end, 2, limit)
         }
-        Seg::Stay(inside) => {
-            let end = tree_end(inside.get().body.as_slice(), at, limit)?;
-            past(end, 2, limit)
-        }
-        Seg::Wait => past(at, 2, limit),
-        Seg::Call(_) | Seg::Exit => past(at, 1, limit),
+        SegItem::Wait => past(at, 2, limit),
+        SegItem::Call(_) | SegItem::Exit => past(at, 1, limit),
     }
 }
 
 /// The address behind a tree, likewise.
 #[cycle(ends)]
-pub fn tree_end(tree: &[Seg], at: usize, limit: usize) -> Option<usize>
+pub fn tree_end(tree: SegBytes<'_>, at: usize, limit: usize) -> Option<usize>
     requires { at ≤ limit }
-    ensures { MatchOption result (limit < at + size (views tree.now))
-        (λ end. (end ≡ at + size (views tree.now)) × (end ≤ limit)) }
+    ensures { MatchOption result (limit < at + size (tree_in tree.entry))
+        (λ end. (end ≡ at + size (tree_in tree.entry)) × (end ≤ limit)) }
 {
     let mut end = at;
-    for seg in tree {
-        end = seg_end(seg, end, limit)?;
+    let mut rest = tree;
+    while let Some((item, after)) = rest.split_first() {
+        end = item_end(&item, end, limit)?;
+        rest = after;
     }
     Some(end)
 }
@@ -83,57 +81,52 @@ pub fn line_found(code: &[Instr], count: u32, at: usize, height: usize) -> Optio
 
 /// What a segment comes to.
 #[cycle(trees)]
-pub fn seg_found(
+fn item_found(
     code: &[Instr],
     known: &[Known],
     around: Around,
-    seg: &Seg,
+    item: &SegItem<'_>,
     at: usize,
     height: usize,
 ) -> Option<Found>
     requires low { height ≤ at }
     ensures value { told result ≡ hold (found code.now
-        (map known_of known.now) around.out around.held (view seg.now) at height) }
-    ensures ends { IfSome result (EndsAt code.now (at + size_of (view seg.now))) }
+        (map known_of known.now) around.out around.held (item_in item.now) at height) }
+    ensures ends { IfSome result (EndsAt code.now (at + size_of (item_in item.now))) }
 {
     let first = instr_at(code, at)?;
     let next = at + 1;
-    match seg {
-        Seg::Line(count) => {
+    match item {
+        SegItem::Line(count) => {
             if *count == 0 {
                 return None;
             }
             line_found(code, *count, at, height)
         }
-        Seg::Fork(arms) => {
-            let Arms {
-                first: one,
-                second: other,
-            } = arms.get();
+        SegItem::Fork(one, other) => {
             let below = height.checked_sub(1)?;
-            let one = tree_found(code, known, around, one.as_slice(), next, below)?;
+            let one = tree_found(code, known, around, *one, next, below)?;
             let jump = instr_at(code, one.next)?;
-            let other = tree_found(code, known, around, other.as_slice(), one.next + 1, below)?;
+            let other = tree_found(code, known, around, *other, one.next + 1, below)?;
             forked(first, jump, &one, &other)
         }
-        Seg::Rep(turns) => {
-            let Turns { count, body } = turns.get();
-            let end = tree_end(body.as_slice(), next, code.len())?;
+        SegItem::Rep(turns, body) => {
+            let end = tree_end(*body, next, code.len())?;
             let inside = Around {
                 out: Some(end + 1),
                 held: around.held,
             };
-            let turn = tree_found(code, known, inside, body.as_slice(), next, 0)?;
+            let turn = tree_found(code, known, inside, *body, next, 0)?;
             let last = instr_at(code, turn.next)?;
-            repeated(*count, first, last, next, height, &turn)
+            repeated(*turns, first, last, next, height, &turn)
         }
-        Seg::Call(routine) => called(known, *routine, first, next, height),
-        Seg::Stay(_) => None,
-        Seg::Wait => {
+        SegItem::Call(routine) => called(known, *routine, first, next, height),
+        SegItem::Stay(_, _) => None,
+        SegItem::Wait => {
             let second = instr_at(code, next)?;
             waited(around.held, first, second, next + 1, height)
         }
-        Seg::Exit => exited(around.out, first, next, height),
+        SegItem::Exit => exited(around.out, first, next, height),
     }
 }
 
@@ -143,20 +136,22 @@ pub fn tree_found(
     code: &[Instr],
     known: &[Known],
     around: Around,
-    tree: &[Seg],
+    tree: SegBytes<'_>,
     at: usize,
     height: usize,
 ) -> Option<Found>
     requires low { height ≤ at }
     requires within { at ≤ length code.now }
     ensures value { told result ≡ hold (founds code.now
-        (map known_of known.now) around.out around.held (views tree.now) at height) }
-    ensures ends { IfSome result (EndsAt code.now (at + size (views tree.now))) }
+        (map known_of known.now) around.out around.held (tree_in tree.entry) at height) }
+    ensures ends { IfSome result (EndsAt code.now (at + size (tree_in tree.entry))) }
 {
     let mut so_far = Found::nothing(at, height);
-    for seg in tree {
-        let next = seg_found(code, known, around, seg, so_far.next, so_far.height)?;
+    let mut rest = tree;
+    while let Some((item, after)) = rest.split_first() {
+        let next = item_found(code, known, around, &item, so_far.next, so_far.height)?;
         so_far = so_far.then(&next);
+        rest = after;
     }
     Some(so_far)
 }

@@ -10,8 +10,8 @@ use Rattle.rte_image.specs.declared.names.DevName.{DevName}
 use Rattle.rte_image.specs.declared.names.EventName.{EventName}
 use Rattle.rte_image.specs.declared.names.ImageNames.{ImageNames}
 use Rattle.rte_image.specs.Named.{NamedImage}
-use Rattle.rte_image.specs.Numbers.{u8, u16, u32, flag, name_bytes}
-use Rattle.rte_image.specs.TreeBytes.{tree_bytes}
+use Rattle.rte_format.specs.Numbers.{u8, u16, u32, flag, name_bytes}
+use Rattle.rte_format.specs.TreeBytes.{tree_bytes}
 
 -- how many processes, monitors, conditions, devices, events, routines and instructions there are
 abbrev pub counts_bytes : ImageNames → Image → List ℕ

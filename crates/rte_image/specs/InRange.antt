@@ -4,7 +4,7 @@ use Rattle.rte_seg.specs.Image.{Image, Process}
 use Rattle.rte_seg.specs.Trees.{Segs}
 use Rattle.rte_image.specs.declared.names.ImageNames.{ImageNames}
 use Rattle.rte_image.specs.Named.{NamedImage}
-use Rattle.rte_image.specs.TreeBytes.{segments}
+use Rattle.rte_format.specs.TreeBytes.{segments}
 
 -- the length of a name fits one byte
 abbrev pub IsShort : List ℕ → Type 0

@@ -1,7 +1,5 @@
 pub mod Named
 pub mod Raw
-pub mod Numbers
-pub mod TreeBytes
 pub mod Bytes
 pub mod InRange
 pub mod Example

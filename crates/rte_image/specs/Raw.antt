@@ -1,11 +1,10 @@
 -- What an image as it stands in a file means: the image that the machine runs, and its names.
-use Rattle.std.specs.Prelude.{map, option_map}
+use Rattle.std.specs.Prelude.{map}
 use Rattle.rte_image.specs.declared.raw.RawMon.{RawMon}
 use Rattle.rte_image.specs.declared.raw.RawRoutine.{RawRoutine}
 use Rattle.rte_image.specs.declared.raw.RawProc.{RawProc}
 use Rattle.rte_image.specs.declared.raw.RawImage.{RawImage}
 use Rattle.rte_image.specs.Named.{NamedImage}
-use Rattle.rte_seg.specs.View.{views}
 use Rattle.rte_seg.specs.Image.{Image, Monitor, Routine, Process}
 
 -- a monitor, as the machine knows it
@@ -25,7 +24,7 @@ routine_of r = record {
   susp = r.susp;
   waits = r.waits;
   stay = r.stay;
-  tree = views r.tree;
+  tree = r.tree;
 }
 
 -- a process, likewise
@@ -48,8 +47,8 @@ process_of p = record {
   start = p.start;
   handler = p.handler;
   numbers = p.numbers;
-  body = views p.body;
-  handler_tree = option_map views p.handler_tree;
+  body = p.body;
+  handler_tree = p.handler_tree;
 }
 
 -- what the machine runs

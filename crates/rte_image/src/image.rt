@@ -3,14 +3,15 @@
 ghost use Rattle.std.specs.Prelude.{◌≡◌, ◌++◌, ◌<◌, ◌^◌, All, length, map, IfOk, OnOk};
 ghost use Rattle.std.specs.List.{flat_map};
 ghost use Rattle.rte_image.specs.Bytes.{Second, bytes_of, condition_bytes, counts_bytes, device_bytes, event_bytes, head_bytes, monitors_bytes, names_bytes, processes_bytes, routine_bytes, version_bytes};
-ghost use Rattle.rte_image.specs.InRange.{AreCounted, AreNamed, IsInRange, IsProcessInRange, IsShort, IsSmall};
+ghost use Rattle.rte_image.specs.InRange.{AreCounted, AreNamed, IsInRange, IsProcessInRange, IsShort};
 ghost use Rattle.rte_image.specs.Raw.{image_of, monitor_of, named_of, process_of, routine_of};
 ghost use Rattle.rte_isa.specs.Bytes.{instr_bytes};
 
 use crate::names::{CondName, DevName, EventName};
-use crate::numbers::{put_name, put_u16, put_u32};
+use crate::numbers::put_name;
 use crate::parts::{put_condition, put_device, put_event, put_monitor, put_process, put_routine};
 use crate::raw::{RawImage, RawMon, RawProc, RawRoutine};
+use rte_format::{put_u16, put_u32};
 use rte_isa::{Instr, write_instr};
 use rte_tree::Name;
 use std::alloc::{AllocError, Global};
@@ -103,7 +104,6 @@ fn put_monitors(out: &mut Vec<u8>, names: &[Name], monitors: &[RawMon]) -> Resul
 
 /// Puts the routines.
 fn put_routines(out: &mut Vec<u8>, routines: &[RawRoutine]) -> Result<(), AllocError>
-    requires { All (λ r. IsSmall r.tree) (map routine_of routines.now) }
     ensures { OnOk result (out.new.items ≡ out.old.items ++
         flat_map routine_bytes (map routine_of routines.now)) }
 {

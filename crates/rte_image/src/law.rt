@@ -3,7 +3,7 @@
 ghost use Rattle.std.specs.Prelude.{◌≡◌, length};
 ghost use Rattle.rte_image.specs.Bytes.{First, Second, bytes_of};
 ghost use Rattle.rte_image.specs.Example.{empty_program, empty_program_bytes, empty_program_first_bytes, every_kind, every_kind_bytes, valve_program};
-ghost use Rattle.rte_image.specs.TreeBytes.{tree_bytes};
+ghost use Rattle.rte_format.specs.TreeBytes.{tree_bytes};
 
 /// The bytes of a program whose one process does nothing: 98 in the first version, and 104 in the
 /// second.

@@ -12,7 +12,6 @@ mod names;
 mod numbers;
 mod parts;
 mod raw;
-mod trees;
 
 pub use image::write_image;
 pub use law::{a_put, a_tree, an_empty_program};

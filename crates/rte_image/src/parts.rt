@@ -2,14 +2,15 @@
 
 ghost use Rattle.std.specs.Prelude.{◌≡◌, ◌++◌, ◌<◌, ◌^◌, length, OnOk};
 ghost use Rattle.rte_image.specs.Bytes.{Second, condition_bytes, cost_bytes, device_bytes, event_bytes, handler_bytes, monitor_bytes, numbers_bytes, owner_bytes, process_bytes, release_bytes, room_bytes, routine_bytes, time_bytes};
-ghost use Rattle.rte_image.specs.InRange.{IsProcessInRange, IsShort, IsSmall, IsSmallHandler};
+ghost use Rattle.rte_image.specs.InRange.{IsProcessInRange, IsShort};
 ghost use Rattle.rte_image.specs.Raw.{monitor_of, process_of, routine_of};
-ghost use Rattle.rte_seg.specs.View.{views};
+ghost use Rattle.rte_format.specs.TreeBytes.{tree_bytes};
 
 use crate::names::{CondName, DevName, EventName};
-use crate::numbers::{put_flag, put_name, put_u8, put_u16, put_u32};
+use crate::numbers::{put_flag, put_name};
 use crate::raw::{RawMon, RawProc, RawRoutine};
-use crate::trees::put_tree;
+use rte_format::{put_u8, put_u16, put_u32};
+use rte_seg_bytes::SegTree;
 use rte_tree::Name;
 use std::alloc::AllocError;
 
@@ -79,15 +80,22 @@ fn put_cost(out: &mut Vec<u8>, routine: &RawRoutine) -> Result<(), AllocError>
     Ok(())
 }
 
+/// Puts a tree.
+fn put_tree(out: &mut Vec<u8>, tree: &SegTree) -> Result<(), AllocError>
+    ensures { OnOk result (out.new.items ≡ out.old.items ++ tree_bytes tree.now) }
+{
+    out.extend_from_slice(tree.bytes())?;
+    Ok(())
+}
+
 /// Puts a routine.
 pub fn put_routine(out: &mut Vec<u8>, routine: &RawRoutine) -> Result<(), AllocError>
-    requires { IsSmall (views routine.now.tree) }
     ensures { OnOk result (out.new.items ≡ out.old.items ++
         routine_bytes (routine_of routine.now)) }
 {
     put_owner(out, routine)?;
     put_cost(out, routine)?;
-    put_tree(out, routine.tree.as_slice())?;
+    put_tree(out, &routine.tree)?;
     Ok(())
 }
 
@@ -143,12 +151,11 @@ fn put_numbers(out: &mut Vec<u8>, numbers: &[u16]) -> Result<(), AllocError>
 
 /// Puts the tree of the handler of a process that has one.
 fn put_handler(out: &mut Vec<u8>, process: &RawProc) -> Result<(), AllocError>
-    requires { IsSmallHandler (process_of process.now).handler_tree }
     ensures { OnOk result (out.new.items ≡ out.old.items ++
         handler_bytes process.now.numbers (process_of process.now).handler_tree) }
 {
     match &process.handler_tree {
-        Some(tree) if !process.numbers.is_empty() => put_tree(out, tree.as_slice())?,
+        Some(tree) if !process.numbers.is_empty() => put_tree(out, tree)?,
         _ => {}
     }
     Ok(())
@@ -166,7 +173,7 @@ pub fn put_process(out: &mut Vec<u8>, name: &Name, process: &RawProc) -> Result<
     put_time(out, process)?;
     put_room(out, process)?;
     put_numbers(out, process.numbers.as_slice())?;
-    put_tree(out, process.body.as_slice())?;
+    put_tree(out, &process.body)?;
     put_handler(out, process)?;
     Ok(())
 }

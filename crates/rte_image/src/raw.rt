@@ -4,7 +4,7 @@ ghost use Rattle.std.specs.Prelude.{◌≡◌};
 
 use crate::names::ImageNames;
 use rte_isa::Instr;
-use rte_seg::Segs;
+use rte_seg_bytes::SegTree;
 use rte_tree::{List, Name};
 
 /// A monitor: its words are those from `base` on, in the one area of all monitors. The ceiling is
@@ -31,7 +31,7 @@ pub struct RawRoutine {
     pub susp: u32,
     pub waits: u32,
     pub stay: u32,
-    pub tree: Segs,
+    pub tree: SegTree,
 }
 
 /// A process. Its kind is 0 for a periodic one, 1 for one that an event releases. Ranks go from 1,
@@ -58,8 +58,8 @@ pub struct RawProc {
     pub start: u32,
     pub handler: u32,
     pub numbers: List<u16>,
-    pub body: Segs,
-    pub handler_tree: Option<Segs>,
+    pub body: SegTree,
+    pub handler_tree: Option<SegTree>,
 }
 
 /// An image. Monitors, routines and processes stand in the order of their numbers, from 0. The

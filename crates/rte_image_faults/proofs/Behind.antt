@@ -7,8 +7,8 @@ use Rattle.std.proofs.Math.Seq.{take-append_seam}
 use Rattle.rte_isa.specs.declared.instr.Instr.{Instr}
 use Rattle.rte_image.specs.Bytes.{Version, First, Second, bytes_of}
 use Rattle.rte_image_reading.specs.declared.counts.Counts.{Counts}
-use Rattle.rte_image_reading.specs.declared.fault.Fault.{Fault}
-use Rattle.rte_image_reading.specs.Format.{Format, fault, both}
+use Rattle.rte_format.specs.declared.fault.Fault.{Fault}
+use Rattle.rte_format.specs.Format.{Format, fault, both}
 use Rattle.rte_image_reading.specs.Grammar as g
 use Rattle.rte_image_reading.specs.File as f
 use Rattle.rte_image_sound.proofs.Fields.{each_long}

@@ -3,11 +3,11 @@ use Rattle.std.proofs.Common.{◌≡◌, ◌⊎◌, inl, inr, ◌≤◌, ◌<◌
 use Rattle.std.specs.Prelude.{codes}
 use Rattle.std.proofs.lemmas.Bool.{eqb-false}
 use Rattle.rte_image.specs.Bytes.{Version}
-use Rattle.rte_image_reading.specs.declared.fault.Fault.{Fault}
-use Rattle.rte_image_reading.specs.Format.{fault}
+use Rattle.rte_format.specs.declared.fault.Fault.{Fault}
+use Rattle.rte_format.specs.Format.{fault}
 use Rattle.rte_image_reading.specs.File as f
 use Rattle.rte_image_reading.specs.Answer.{HasFault}
-use Rattle.rte_image_reading.specs.Law.{AreBytes}
+use Rattle.rte_format.specs.Law.{AreBytes}
 use Rattle.rte_image_faults.specs.Faults as s
 use Rattle.rte_image_faults.specs.Faults.{pair, IsFileFault}
 use Rattle.rte_image_faults.specs.Laws as l

@@ -4,12 +4,12 @@ use Rattle.std.specs.Prelude.{codes, nat_eq}
 use Rattle.std.specs.Cmp.Lexicographic.{pointwise}
 use Rattle.rte_image.specs.Bytes.{Version}
 use Rattle.rte_image_reading.specs.declared.counts.Counts.{Counts}
-use Rattle.rte_image_reading.specs.declared.fault.Fault.{Fault}
-use Rattle.rte_image_reading.specs.Format.{Format, fault, bytes_as_are, is_fine, both}
+use Rattle.rte_format.specs.declared.fault.Fault.{Fault}
+use Rattle.rte_format.specs.Format.{Format, fault, bytes_as_are, is_fine, both}
 use Rattle.rte_image_reading.specs.Grammar as g
 use Rattle.rte_image_reading.specs.File as f
-use Rattle.rte_image_reading.specs.Law.{AreBytes}
-use Rattle.rte_image_reading.proofs.Booleans.{parts}
+use Rattle.rte_format.specs.Law.{AreBytes}
+use Rattle.rte_format.proofs.Booleans.{parts}
 use Rattle.rte_image_reading.proofs.Words.{same_words}
 use Rattle.rte_image_faults.specs.Faults as s
 use Rattle.rte_image_faults.specs.Faults.{Sort, Thing, Form, IsMade, Begins, natural, device, monitor, condition, routine, process, pair, list}

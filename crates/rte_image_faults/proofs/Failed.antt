@@ -1,9 +1,9 @@
 -- Readings that failed: where in what is read one after the other.
 use Rattle.std.proofs.Common.{◌≡◌, ◌⊎◌, inl, inr, ◌++◌, ℕ, zero, suc, List, [], ◌∷◌, Result, Ok, Err, Option, refl, ap, ◌∙◌}
 use Rattle.rte_machine_meaning.specs.Trees.{Seg, Segs, Cons}
-use Rattle.rte_image_reading.specs.declared.fault.Fault.{Fault}
-use Rattle.rte_image_reading.specs.Format.{Format, Read, ◌>>=◌, passed, each_read}
-use Rattle.rte_image_reading.specs.TreeFormat.{segs_read}
+use Rattle.rte_format.specs.declared.fault.Fault.{Fault}
+use Rattle.rte_format.specs.Format.{Format, Read, ◌>>=◌, passed, each_read}
+use Rattle.rte_format.specs.TreeFormat.{segs_read}
 
 -- in the second, after the first went well
 pub record Second {A B : Type 0} (r : Result A Fault) (g : A → Result B Fault) (e : Fault) : Type 0 where

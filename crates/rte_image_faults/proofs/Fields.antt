@@ -9,14 +9,14 @@ use Rattle.std.proofs.lemmas.Int.{of_z-to_z}
 use Rattle.std.proofs.lemmas.Nat.{from_be_bytes-to_be_bytes_4}
 use mir.Val.{sel}
 use Rattle.rte_isa.specs.Bytes.{word_bytes}
-use Rattle.rte_image.specs.Numbers as written
-use Rattle.rte_image_reading.specs.Format.{Format, ◌>>=◌, fault, field_at, u8, unless, is_fine, checked, via}
+use Rattle.rte_format.specs.Numbers as written
+use Rattle.rte_format.specs.Format.{Format, ◌>>=◌, fault, field_at, u8, unless, is_fine, checked, via}
 use Rattle.rte_image_reading.specs.Grammar as g
-use Rattle.rte_image_reading.specs.Law.{AreBytes, IsSound}
-use Rattle.rte_image_reading.proofs.Booleans.{parts}
-use Rattle.rte_image_reading.proofs.Sound.{came, field_sound, checked_sound, via_sound}
-use Rattle.rte_image_reading.proofs.SoundFields.{u8_sound, u16_sound, u32_sound, bytes_sound}
-use Rattle.rte_image_sound.proofs.Alike.{alike, same_ok}
+use Rattle.rte_format.specs.Law.{AreBytes, IsSound}
+use Rattle.rte_format.proofs.Booleans.{parts}
+use Rattle.rte_format.proofs.Sound.{came, field_sound, checked_sound, via_sound}
+use Rattle.rte_format.proofs.SoundFields.{u8_sound, u16_sound, u32_sound, bytes_sound}
+use Rattle.rte_format.proofs.Alike.{alike, same_ok}
 use Rattle.rte_image_faults.specs.Faults.{Sort, Form, IsField, of_one, of_two, of_four, of_word, of_bytes}
 
 -- ---- words

@@ -4,12 +4,12 @@ use Rattle.std.specs.Prelude.{nat_lt, nat_eq, codes}
 use Rattle.std.specs.Int.{w16, from_be_bytes}
 use Rattle.std.specs.Cmp.Lexicographic.{pointwise}
 use Rattle.std.proofs.lemmas.Bool.{le-ltb, ltb-false, eqb-true}
-use Rattle.rte_image.specs.Numbers as written
-use Rattle.rte_image_reading.specs.declared.fault.Fault.{Fault}
-use Rattle.rte_image_reading.specs.Format.{fault, field_at, u16, bytes_as_are, unless, checked, passed}
+use Rattle.rte_format.specs.Numbers as written
+use Rattle.rte_format.specs.declared.fault.Fault.{Fault}
+use Rattle.rte_format.specs.Format.{fault, field_at, u16, bytes_as_are, unless, checked, passed}
 use Rattle.rte_image_reading.specs.File as f
-use Rattle.rte_image_reading.specs.Law.{AreBytes}
-use Rattle.rte_image_reading.proofs.SoundFields.{u16_sound}
+use Rattle.rte_format.specs.Law.{AreBytes}
+use Rattle.rte_format.proofs.SoundFields.{u16_sound}
 use Rattle.rte_image_reading.proofs.Words.{same_words}
 use Rattle.rte_image_faults.specs.Faults as s
 use Rattle.rte_image_faults.specs.Faults.{natural, list}

@@ -6,10 +6,10 @@ use Rattle.rte_lex.specs.Spellings.{is_identifier, keywords}
 use Rattle.rte_machine_meaning.specs.Trees.{Segs}
 use Rattle.rte_image.specs.declared.names.CondName.{CondName}
 use Rattle.rte_image_reading.specs.declared.counts.Counts.{Counts}
-use Rattle.rte_image_reading.specs.Format.{Format, u8, u16, u32, bytes_as_are, unless, checked, both, via}
-use Rattle.rte_image_reading.specs.TreeFormat.{within, u32_within, u16_within, u16_below, tree_format}
+use Rattle.rte_format.specs.Format.{Format, u8, u16, u32, bytes_as_are, unless, checked, both, via}
+use Rattle.rte_format.specs.TreeFormat.{in_image, within, u32_within, u16_within, u16_below, tree_format}
 use Rattle.rte_image_reading.specs.Grammar as g
-use Rattle.rte_image_reading.proofs.Booleans.{parts}
+use Rattle.rte_format.proofs.Booleans.{parts}
 use Rattle.rte_image_faults.specs.Faults as s
 use Rattle.rte_image_faults.specs.Faults.{Sort, natural, truth, device, monitor, condition, routine, process, tree, optional, pair, list}
 use Rattle.rte_image_faults.proofs.Known as k
@@ -139,7 +139,7 @@ abbrev Whole : Type 0
 Whole = (ℕ × (ℕ × (ℕ × (ℕ × Bool)))) × ((ℕ × (ℕ × (ℕ × (ℕ × ℕ)))) × Segs)
 
 abbrev after_owner : Counts → ℕ × (ℕ × (ℕ × (ℕ × Bool))) → Format ((ℕ × (ℕ × (ℕ × (ℕ × ℕ)))) × Segs)
-after_owner counts o = both (g.cost_format o.0) (λ c. tree_format counts.monitors g.deepest)
+after_owner counts o = both (g.cost_format o.0) (λ c. tree_format (in_image counts.monitors) g.deepest)
 
 pub a_routine : (counts : Counts) → Known routine (g.routine_format counts)
 a_routine counts =
@@ -159,4 +159,4 @@ a_routine counts =
     })
     (λ r. ((r.kind, (r.owner, (r.params, (r.locals, r.gives)))), ((r.start, (r.run, (r.susp, (r.waits, r.stay)))), r.tree))) (record { back = λ x h. refl; there = λ y h. refl })
     (k.a_pair owner_sort (pair (numbers_of 4) tree) (g.owner_format counts) (after_owner counts) (an_owner counts) (λ o.
-    k.two (numbers_of 4) tree (g.cost_format o.0) (tree_format counts.monitors g.deepest) (some_costs o.0) (a_tree counts.monitors g.deepest)))
+    k.two (numbers_of 4) tree (g.cost_format o.0) (tree_format (in_image counts.monitors) g.deepest) (some_costs o.0) (a_tree counts.monitors g.deepest)))

@@ -3,11 +3,11 @@ use Rattle.std.proofs.Common.{◌≡◌, inl, inr, ◌<◌, ◌==◌, ◌++◌, 
 use Rattle.std.specs.Prelude.{nat_le, nat_lt, slice_index, if◌then◌else◌}
 use Rattle.std.specs.Int.{w16, w32, cast_signed, from_be_bytes}
 use Rattle.std.proofs.lemmas.Bool.{ltb-true}
-use Rattle.rte_image_reading.specs.declared.fault.Fault.{Fault}
-use Rattle.rte_image_reading.specs.Format.{Read, fault, field_at, u8, unless, passed, checked, both, via, each, each_read}
+use Rattle.rte_format.specs.declared.fault.Fault.{Fault}
+use Rattle.rte_format.specs.Format.{Read, fault, field_at, u8, unless, passed, checked, both, via, each, each_read}
 use Rattle.rte_image_reading.specs.Grammar.{flag_format, some_format}
-use Rattle.rte_image_reading.specs.Law.{AreBytes}
-use Rattle.rte_image_reading.proofs.Sound.{bytes_after}
+use Rattle.rte_format.specs.Law.{AreBytes}
+use Rattle.rte_format.proofs.Sound.{bytes_after}
 use Rattle.rte_image_faults.specs.Faults as s
 use Rattle.rte_image_faults.specs.Faults.{Sort, Thing, Form, IsField, IsMade, Begins, IsFault, tag_format, pair, natural, list, truth, optional}
 use Rattle.rte_image_faults.proofs.Failed.{Failed, failed, failed_only, second_of, rule_of, list_of}

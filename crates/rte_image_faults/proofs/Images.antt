@@ -2,10 +2,10 @@
 use Rattle.std.proofs.Common.{◌≡◌, ◌⊎◌, inl, inr, ◌≤◌, ◌-◌, ℕ, Bool, true, false, List, [], ◌∷◌, length, Result, Ok, Err, refl, sym, ap, ◌∙◌, subst}
 use Rattle.std.specs.Prelude.{nat_lt}
 use Rattle.rte_image.specs.Bytes.{Version}
-use Rattle.rte_image_reading.specs.declared.fault.Fault.{Fault}
+use Rattle.rte_format.specs.declared.fault.Fault.{Fault}
 use Rattle.rte_image_reading.specs.File as f
-use Rattle.rte_image_reading.specs.Law.{AreBytes}
-use Rattle.rte_image_reading.proofs.Sound.{came}
+use Rattle.rte_format.specs.Law.{AreBytes}
+use Rattle.rte_format.proofs.Sound.{came}
 use Rattle.rte_image_sound.proofs.Files.{written_are_read}
 use Rattle.rte_image_faults.specs.Faults as s
 use Rattle.rte_image_faults.specs.Faults.{pair, IsFileFault}

@@ -6,10 +6,10 @@ use Rattle.std.proofs.lemmas.Bool.{ltb-true}
 use Rattle.rte_isa.specs.declared.instr.Instr.{Instr}
 use Rattle.rte_isa.specs.Bytes.{number, operands, word_bytes}
 use Rattle.rte_isa.specs.Numbered.{numbered}
-use Rattle.rte_image_reading.specs.Format.{Format, u8, unless, is_fine, checked, both}
+use Rattle.rte_format.specs.Format.{Format, u8, unless, is_fine, checked, both}
 use Rattle.rte_image_reading.specs.Grammar as g
-use Rattle.rte_image_reading.specs.Law.{AreBytes}
-use Rattle.rte_image_reading.proofs.Booleans.{parts}
+use Rattle.rte_format.specs.Law.{AreBytes}
+use Rattle.rte_format.proofs.Booleans.{parts}
 use Rattle.rte_image_sound.proofs.Instructions.{instr_sound}
 use Rattle.rte_image_faults.specs.Faults as s
 use Rattle.rte_image_faults.specs.Faults.{Sort, natural, integer, instruction, pair}

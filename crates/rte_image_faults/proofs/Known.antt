@@ -1,9 +1,9 @@
 -- Formats of which it is known that they are put together of fields, and which numbers their faults have.
 use Rattle.std.proofs.Common.{◌≡◌, ◌⊎◌, inl, inr, ◌≤◌, ◌==◌, ◌&&◌, ◌++◌, ℕ, zero, suc, Bool, true, false, List, [], ◌∷◌, length, Err, Option, Some, subst, arith}
 use Rattle.std.specs.Prelude.{nat_le, nat_lt}
-use Rattle.rte_image_reading.specs.declared.fault.Fault.{Fault}
-use Rattle.rte_image_reading.specs.Format.{Format, fault, u8, u16, u32, given, unless, checked, both, via, each, each_read}
-use Rattle.rte_image_reading.specs.TreeFormat.{u16_below, u32_within, u16_within}
+use Rattle.rte_format.specs.declared.fault.Fault.{Fault}
+use Rattle.rte_format.specs.Format.{Format, fault, u8, u16, u32, given, unless, checked, both, via, each, each_read}
+use Rattle.rte_format.specs.TreeFormat.{u16_below, u32_within, u16_within}
 use Rattle.rte_image_reading.specs.Grammar.{flag_format, some_format}
 use Rattle.rte_image_faults.specs.Faults as s
 use Rattle.rte_image_faults.specs.Faults.{Sort, Thing, Form, IsField, IsMade, IsTest, IsView, pair, natural, list, truth, optional, segment, tree}

@@ -1,6 +1,6 @@
 -- Whatever reading tells by a format that is put together of fields is a fault that the bytes have.
 use Rattle.std.proofs.Common.{ℕ, false, length}
-use Rattle.rte_image_reading.specs.Format.{fault}
+use Rattle.rte_format.specs.Format.{fault}
 use Rattle.rte_image_reading.specs.File.{code_format, unused_fault}
 use Rattle.rte_image_faults.specs.Faults as s
 use Rattle.rte_image_faults.specs.Faults.{Sort, Form, IsMade, list, instruction}

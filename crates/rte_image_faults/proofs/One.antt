@@ -3,10 +3,10 @@ use Rattle.std.proofs.Common.{◌≡◌, ◌⊎◌, inl, inr, ◌≤◌, ◌-◌
 use Rattle.std.specs.Prelude.{codes}
 use Rattle.std.proofs.lemmas.Bool.{eqb-false}
 use Rattle.std.proofs.lemmas.List.{take-append-drop}
-use Rattle.rte_image_reading.specs.Format.{fault, both}
+use Rattle.rte_format.specs.Format.{fault, both}
 use Rattle.rte_image_reading.specs.File as f
-use Rattle.rte_image_reading.specs.Law.{AreBytes}
-use Rattle.rte_image_reading.proofs.Sound.{bytes_after}
+use Rattle.rte_format.specs.Law.{AreBytes}
+use Rattle.rte_format.proofs.Sound.{bytes_after}
 use Rattle.rte_image_faults.specs.Faults.{IsFileFault, list, natural}
 use Rattle.rte_image_faults.specs.Laws as l
 use Rattle.rte_image_faults.proofs.Failed.{stops, goes_on, second_of}

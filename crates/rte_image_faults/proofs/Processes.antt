@@ -7,10 +7,10 @@ use Rattle.rte_machine_meaning.specs.Image.{Process}
 use Rattle.rte_machine_meaning.specs.Trees.{Segs}
 use Rattle.rte_image.specs.Bytes.{Version, First, Second}
 use Rattle.rte_image_reading.specs.declared.counts.Counts.{Counts}
-use Rattle.rte_image_reading.specs.Format.{Format, u16, u32, checked, both}
-use Rattle.rte_image_reading.specs.TreeFormat.{u32_within, tree_format}
+use Rattle.rte_format.specs.Format.{Format, u16, u32, checked, both}
+use Rattle.rte_format.specs.TreeFormat.{in_image, u32_within, tree_format}
 use Rattle.rte_image_reading.specs.Grammar as g
-use Rattle.rte_image_reading.proofs.Booleans.{parts}
+use Rattle.rte_format.proofs.Booleans.{parts}
 use Rattle.rte_image_sound.proofs.Fields.{each_long}
 use Rattle.rte_image_faults.specs.Faults.{Sort, natural, process, tree, optional, pair, list}
 use Rattle.rte_image_faults.proofs.Known as k
@@ -87,7 +87,7 @@ none_is (Some body) h = cc
 
 a_handler_tree : (monitors count : ℕ) → Known (optional tree) (g.handler_tree_format monitors count)
 a_handler_tree monitors zero = k.a_given (optional tree) (λ x y. g.is_none y) None (record { itself = refl; no_other = none_is })
-a_handler_tree monitors (suc count) = k.an_option tree (tree_format monitors g.deepest) (a_tree monitors g.deepest)
+a_handler_tree monitors (suc count) = k.an_option tree (tree_format (in_image monitors) g.deepest) (a_tree monitors g.deepest)
 
 -- ---- a process
 
@@ -149,7 +149,7 @@ time_sort = pair (numbers_of 4) room_sort
 
 module _ (version : Version) (counts : Counts) (used : List ℕ) where
   abbrev trees : (count : ℕ) → Format (Segs × Option Segs)
-  trees count = both (tree_format counts.monitors g.deepest) (λ body. g.handler_tree_format counts.monitors count)
+  trees count = both (tree_format (in_image counts.monitors) g.deepest) (λ body. g.handler_tree_format counts.monitors count)
 
   abbrev after_handler : ℕ × ℕ → Format (List ℕ × (Segs × Option Segs))
   after_handler handler = both (g.numbers_format handler.1) (λ numbers. trees handler.1)
@@ -171,7 +171,7 @@ module _ (version : Version) (counts : Counts) (used : List ℕ) where
       k.two (numbers_of 5) time_sort (g.release_format version counts.events used) time (a_release version counts.events used) (k.two (numbers_of 4) room_sort g.time_format room some_time
       (k.two (numbers_of 3) numbers_sort g.room_format numbers some_room
       (k.a_pair (pair natural natural) (pair (list natural) trees_sort) g.handler_format after_handler a_handler (λ handler. k.two (list natural) trees_sort (g.numbers_format handler.1) (trees handler.1) (some_numbers handler.1)
-      (k.two tree (optional tree) (tree_format counts.monitors g.deepest) (g.handler_tree_format counts.monitors handler.1) (a_tree counts.monitors g.deepest) (a_handler_tree counts.monitors handler.1))))))
+      (k.two tree (optional tree) (tree_format (in_image counts.monitors) g.deepest) (g.handler_tree_format counts.monitors handler.1) (a_tree counts.monitors g.deepest) (a_handler_tree counts.monitors handler.1))))))
 
   long : (x : Fields) → all.is x ≡ true → length x.1.1.1.1.0 ≡ x.1.1.1.0.1
   long x h =

@@ -1,16 +1,16 @@
 -- The bytes of a segment are those that it is read from, since those of a tree of one segment are.
 use Rattle.std.proofs.Common.{◌≡◌, ◌<◌, ◌++◌, ℕ, suc, true, List, [], ◌∷◌, length, take, drop, Ok, Err, refl, sym, ap, ◌∙◌, arith}
 use Rattle.rte_machine_meaning.specs.Trees.{Seg, Segs, Nil, Cons}
-use Rattle.rte_image.specs.Numbers as written
-use Rattle.rte_image.specs.TreeBytes.{seg_bytes}
-use Rattle.rte_image_reading.specs.Format.{Format, Read, ◌>>=◌, fault}
-use Rattle.rte_image_reading.specs.TreeFormat.{seg_format, segs_read, tree_format}
-use Rattle.rte_image_reading.specs.Law.{AreBytes, IsSound}
-use Rattle.rte_image_reading.proofs.Booleans.{parts, together}
-use Rattle.rte_image_reading.proofs.Sound.{came}
-use Rattle.rte_image_reading.proofs.SoundFields.{u32_sound}
-use Rattle.rte_image_sound.proofs.Alike.{same_ok}
-use Rattle.rte_image_sound.proofs.Trees.{tree_sound}
+use Rattle.rte_format.specs.Numbers as written
+use Rattle.rte_format.specs.TreeBytes.{seg_bytes}
+use Rattle.rte_format.specs.Format.{Format, Read, ◌>>=◌, fault}
+use Rattle.rte_format.specs.TreeFormat.{in_image, seg_format, segs_read, tree_format}
+use Rattle.rte_format.specs.Law.{AreBytes, IsSound}
+use Rattle.rte_format.proofs.Booleans.{parts, together}
+use Rattle.rte_format.proofs.Sound.{came}
+use Rattle.rte_format.proofs.SoundFields.{u32_sound}
+use Rattle.rte_format.proofs.Alike.{same_ok}
+use Rattle.rte_format.proofs.Trees.{tree_sound}
 use Rattle.rte_image_faults.proofs.Failed.{failed_only}
 
 pub all_of : (xs : List ℕ) → xs ++ [] ≡ xs
@@ -44,10 +44,10 @@ was_read r s rest h =
 
 module _ (monitors depth : ℕ) where
   abbrev one : Format Seg
-  one = seg_format monitors (tree_format monitors depth)
+  one = seg_format (in_image monitors) (tree_format (in_image monitors) depth)
 
   -- a tree of one segment
-  row_read : (bytes : List ℕ) → (tree_format monitors (suc depth)).read (written.u32 1 ++ bytes) ≡ alone (one.read bytes)
+  row_read : (bytes : List ℕ) → (tree_format (in_image monitors) (suc depth)).read (written.u32 1 ++ bytes) ≡ alone (one.read bytes)
   unfolding tree_format segs_read
   row_read bytes = ap (λ r. r >>= λ count. segs_read one count.0 count.1) (u32_sound.again 1 bytes refl)
 

@@ -1,7 +1,7 @@
 -- A format that is put together of fields reads what it writes.
-use Rattle.rte_image_reading.specs.Law.{IsSound}
-use Rattle.rte_image_reading.proofs.Sound.{checked_sound, both_sound, via_sound, given_sound, each_sound}
-use Rattle.rte_image_sound.proofs.Trees.{tree_sound}
+use Rattle.rte_format.specs.Law.{IsSound}
+use Rattle.rte_format.proofs.Sound.{checked_sound, both_sound, via_sound, given_sound, each_sound}
+use Rattle.rte_format.proofs.Trees.{tree_sound}
 use Rattle.rte_image_faults.specs.Faults as s
 use Rattle.rte_image_faults.specs.Faults.{Sort, Form, IsMade}
 use Rattle.rte_image_faults.proofs.Fields.{field_is_sound, flag_sound, some_sound}

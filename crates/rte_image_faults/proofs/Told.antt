@@ -3,9 +3,9 @@ use Rattle.std.proofs.Common.{Bool, true, false, ◌≡◌, inl, inr, ◌&&◌, 
 use Rattle.std.specs.Prelude.{nat_le}
 use Rattle.std.proofs.lemmas.Bool.{le-ltb, ne_eqb}
 use Rattle.rte_machine_meaning.specs.Trees.{Seg, Segs, Line, Fork, Rep, Call, Stay}
-use Rattle.rte_image_reading.specs.declared.fault.Fault.{Fault}
-use Rattle.rte_image_reading.specs.Format.{Format, Read, ◌>>=◌, fault, u8, u32, unless, passed, checked, both, each, each_read}
-use Rattle.rte_image_reading.specs.TreeFormat.{tagged, seg_read, segs_read, row_format}
+use Rattle.rte_format.specs.declared.fault.Fault.{Fault}
+use Rattle.rte_format.specs.Format.{Format, Read, ◌>>=◌, fault, u8, u32, unless, passed, checked, both, each, each_read}
+use Rattle.rte_format.specs.TreeFormat.{in_image, tagged, seg_read, segs_read, row_format}
 use Rattle.rte_image_faults.specs.Faults as s
 use Rattle.rte_image_faults.specs.Faults.{Sort, Thing, Form, Begins, Follows, IsFault, tag_format, pair, natural, list, segment}
 use Rattle.rte_image_faults.proofs.Failed.{stops, goes_on, Failed, failed, failed_only, second_of, rule_of, list_of, row_fails}
@@ -31,7 +31,7 @@ other : (n k : ℕ) → k ≤ 7 → (suc (suc (suc (suc (suc (suc (suc (suc n)))
 other n k low = ne_eqb (suc (suc (suc (suc (suc (suc (suc (suc n)))))))) k (λ same. omega (arith, low, same))
 
 -- a number that is no tag is told
-pub unknown : (monitors : ℕ) (sub : Format Segs) (tag left : ℕ) (bytes : List ℕ) → (nat_le 1 tag && nat_le tag 7) ≡ false → tagged monitors sub tag left bytes ≡ Err (fault 6 left)
+pub unknown : (monitors : ℕ) (sub : Format Segs) (tag left : ℕ) (bytes : List ℕ) → (nat_le 1 tag && nat_le tag 7) ≡ false → tagged (in_image monitors) sub tag left bytes ≡ Err (fault 6 left)
 unknown monitors sub zero left bytes h = refl
 unknown monitors sub (suc zero) left bytes h = cc
 unknown monitors sub (suc (suc zero)) left bytes h = cc
@@ -43,21 +43,21 @@ unknown monitors sub (suc (suc (suc (suc (suc (suc (suc zero))))))) left bytes h
 unknown monitors sub (suc (suc (suc (suc (suc (suc (suc (suc n)))))))) left bytes h =
     rw (other n 1 (omega arith), other n 2 (omega arith), other n 3 (omega arith), other n 4 (omega arith), other n 5 (omega arith), other n 6 (omega arith), other n 7 (omega arith)) refl
 
-no_tag : (monitors : ℕ) (sub : Format Segs) (left : ℕ) (x : ℕ × List ℕ) (e : Fault) → rule_of tag_rule left x ≡ Err e → tagged monitors sub x.0 left x.1 ≡ Err e
+no_tag : (monitors : ℕ) (sub : Format Segs) (left : ℕ) (x : ℕ × List ℕ) (e : Fault) → rule_of tag_rule left x ≡ Err e → tagged (in_image monitors) sub x.0 left x.1 ≡ Err e
 no_tag monitors sub left x e h = by (nat_le 1 x.0 && nat_le x.0 7) refl h where
-  by : (b : Bool) → (nat_le 1 x.0 && nat_le x.0 7) ≡ b → passed (unless b 6) left x ≡ Err e → tagged monitors sub x.0 left x.1 ≡ Err e
+  by : (b : Bool) → (nat_le 1 x.0 && nat_le x.0 7) ≡ b → passed (unless b 6) left x ≡ Err e → tagged (in_image monitors) sub x.0 left x.1 ≡ Err e
   by true is told = cc
   by false is told = let same : fault 6 left ≡ e = cc in unknown monitors sub x.0 left x.1 is ∙ ap (λ (d : Fault). Err d) same
 
-bad_tag : (monitors : ℕ) (sub : Format Segs) (bytes : List ℕ) (e : Fault) → tag_format.read bytes ≡ Err e → seg_read monitors sub bytes ≡ Err e
+bad_tag : (monitors : ℕ) (sub : Format Segs) (bytes : List ℕ) (e : Fault) → tag_format.read bytes ≡ Err e → seg_read (in_image monitors) sub bytes ≡ Err e
 unfolding seg_read
 bad_tag monitors sub bytes e h = by (failed (u8.read bytes) (rule_of tag_rule (length bytes)) e h) where
-  by : Failed (u8.read bytes) (rule_of tag_rule (length bytes)) e → seg_read monitors sub bytes ≡ Err e
-  by (inl first) = stops (u8.read bytes) (λ t. tagged monitors sub t.0 (length bytes) t.1) e first
-  by (inr second) = goes_on (u8.read bytes) (λ t. tagged monitors sub t.0 (length bytes) t.1) second.x e second.was (no_tag monitors sub (length bytes) second.x e second.then_is)
+  by : Failed (u8.read bytes) (rule_of tag_rule (length bytes)) e → seg_read (in_image monitors) sub bytes ≡ Err e
+  by (inl first) = stops (u8.read bytes) (λ t. tagged (in_image monitors) sub t.0 (length bytes) t.1) e first
+  by (inr second) = goes_on (u8.read bytes) (λ t. tagged (in_image monitors) sub t.0 (length bytes) t.1) second.x e second.was (no_tag monitors sub (length bytes) second.x e second.then_is)
 
 -- what is wrong after a tag is told
-after_tag : (monitors : ℕ) (sub : Format Segs) (tag left : ℕ) (a : Sort) (f : Form a) (bytes : List ℕ) (e : Fault) → Follows monitors sub tag a f → f.read bytes ≡ Err e → tagged monitors sub tag left bytes ≡ Err e
+after_tag : (monitors : ℕ) (sub : Format Segs) (tag left : ℕ) (a : Sort) (f : Form a) (bytes : List ℕ) (e : Fault) → Follows monitors sub tag a f → f.read bytes ≡ Err e → tagged (in_image monitors) sub tag left bytes ≡ Err e
 after_tag monitors sub tag left a f bytes e s.a_line h = ap (λ (r : Read ℕ). r >>= λ n. Ok (Line n.0, n.1)) h
 after_tag monitors sub tag left a f bytes e s.a_fork h = ap (λ (r : Read (Segs × Segs)). r >>= λ x. Ok (Fork x.0.0 x.0.1, x.1)) h
 after_tag monitors sub tag left a f bytes e s.a_loop h = ap (λ (r : Read (ℕ × Segs)). r >>= λ x. Ok (Rep x.0.0 x.0.1, x.1)) h
@@ -100,7 +100,7 @@ told a f bytes number left (s.in_flag number' h) = stops ((checked u8 (λ n. unl
 told a f bytes number left (s.in_some {a = b} {f = inner} h) = stops (inner.read bytes) (λ x. Ok (Some x.0, x.1)) (fault number left) (told b inner bytes number left h)
 told a f bytes number left (s.in_tag monitors sub h) = bad_tag monitors sub bytes (fault number left) (told natural tag_format bytes number left h)
 told a f bytes number left (s.in_segment {monitors = monitors} {sub = sub} {tag = tag} {a = b} {f = inner} {bytes = rest} follows h) =
-    goes_on (u8.read (tag ∷ rest)) (λ t. tagged monitors sub t.0 (length (tag ∷ rest)) t.1) (tag, rest) (fault number left) (one_byte tag rest)
+    goes_on (u8.read (tag ∷ rest)) (λ t. tagged (in_image monitors) sub t.0 (length (tag ∷ rest)) t.1) (tag, rest) (fault number left) (one_byte tag rest)
     (after_tag monitors sub tag (length (tag ∷ rest)) b inner rest (fault number left) follows (told b inner rest number left h))
 told a f bytes number left (s.in_row one h) = bad_row one bytes (fault number left) (told (pair natural (list segment)) (both u32 (λ count. each (λ earlier. one) [] count)) bytes number left h)
 told a f bytes number left (s.is_deep bytes') = refl

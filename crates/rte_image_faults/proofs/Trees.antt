@@ -3,12 +3,12 @@ use Rattle.std.proofs.Common.{◌≡◌, inl, inr, ◌&&◌, ℕ, zero, suc, Boo
 use Rattle.std.specs.Prelude.{nat_le, nat_lt}
 use Rattle.std.proofs.lemmas.Bool.{lt-ltb, leb-true}
 use Rattle.rte_machine_meaning.specs.Trees.{Seg, Segs, Line, Fork, Rep, Call, Stay}
-use Rattle.rte_image_reading.specs.declared.fault.Fault.{Fault}
-use Rattle.rte_image_reading.specs.Format.{Format, Read, ◌>>=◌, fault, u8, u16, u32, unless, checked, both}
-use Rattle.rte_image_reading.specs.TreeFormat.{within, line_count, turns_count, u16_below, tagged, seg_read, seg_format, segs_read, row_format, too_deep, tree_format}
-use Rattle.rte_image_reading.specs.Law.{AreBytes}
-use Rattle.rte_image_reading.proofs.Booleans.{parts}
-use Rattle.rte_image_reading.proofs.SoundFields.{u8_sound}
+use Rattle.rte_format.specs.declared.fault.Fault.{Fault}
+use Rattle.rte_format.specs.Format.{Format, Read, ◌>>=◌, fault, u8, u16, u32, unless, checked, both}
+use Rattle.rte_format.specs.TreeFormat.{in_image, within, line_count, turns_count, u16_below, tagged, seg_read, seg_format, segs_read, row_format, too_deep, tree_format}
+use Rattle.rte_format.specs.Law.{AreBytes}
+use Rattle.rte_format.proofs.Booleans.{parts}
+use Rattle.rte_format.proofs.SoundFields.{u8_sound}
 use Rattle.rte_image_faults.specs.Faults as s
 use Rattle.rte_image_faults.specs.Faults.{Sort, Thing, Form, IsMade, IsFault, Follows, tag_format, pair, natural, list, segment, tree}
 use Rattle.rte_image_faults.proofs.Failed.{Failed, failed, failed_only, stops, goes_on, second_of, list_fails}
@@ -38,18 +38,18 @@ u16_below_heard count = rule_heard natural u16 (below count) (s.a_field s.of_two
 wrong_tag : (tag : ℕ) (rest : List ℕ) → AreBytes (tag ∷ rest) → (nat_le 1 tag && nat_le tag 7) ≡ false → IsFault natural tag_format (tag ∷ rest) 6 (length (tag ∷ rest))
 wrong_tag tag rest are wrong = s.is_wrong tag_rule {rest = rest} {x = tag} (record { is_made = made_tag; are = refl; in_range = lt-ltb tag 256 are.0 }) (ap (λ b. unless b 6) wrong)
 
-module _ (monitors depth : ℕ) (sub_heard : Heard tree (tree_format monitors depth)) where
+module _ (monitors depth : ℕ) (sub_heard : Heard tree (tree_format (in_image monitors) depth)) where
   abbrev sub : Format Segs
-  sub = tree_format monitors depth
+  sub = tree_format (in_image monitors) depth
 
   abbrev Told : List ℕ → Fault → Type 0
-  Told bytes e = IsFault segment (seg_format monitors sub) bytes e.number e.left
+  Told bytes e = IsFault segment (seg_format (in_image monitors) sub) bytes e.number e.left
 
   -- in what follows the tag
   behind : (tag : ℕ) (a : Sort) (f : Form a) (of : Thing a → Seg) (rest : List ℕ) (e : Fault) → Follows monitors sub tag a f → Heard a f → AreBytes rest → (f.read rest >>= seen of) ≡ Err e → Told (tag ∷ rest) e
   behind tag a f of rest e follows heard are h = s.in_segment follows (heard rest are e (failed_only (f.read rest) (λ x. (of x.0, x.1)) e h))
 
-  by_tag : (tag : ℕ) (rest : List ℕ) (e : Fault) → AreBytes rest → (nat_le 1 tag && nat_le tag 7) ≡ true → tagged monitors sub tag (length (tag ∷ rest)) rest ≡ Err e → Told (tag ∷ rest) e
+  by_tag : (tag : ℕ) (rest : List ℕ) (e : Fault) → AreBytes rest → (nat_le 1 tag && nat_le tag 7) ≡ true → tagged (in_image monitors) sub tag (length (tag ∷ rest)) rest ≡ Err e → Told (tag ∷ rest) e
   by_tag zero rest e are is h = cc
   by_tag (suc zero) rest e are is h = behind 1 natural line_count (λ n. Line n) rest e s.a_line (u32_within_heard 1 65535) are h
   by_tag (suc (suc zero)) rest e are is h =
@@ -65,29 +65,29 @@ module _ (monitors depth : ℕ) (sub_heard : Heard tree (tree_format monitors de
   by_tag (suc (suc (suc (suc (suc (suc (suc zero))))))) rest e are is h = cc
   by_tag (suc (suc (suc (suc (suc (suc (suc (suc n)))))))) rest e are is h = absurd (omega (arith, leb-true (suc (suc (suc (suc (suc (suc (suc (suc n)))))))) 7 (parts (nat_le 1 (suc (suc (suc (suc (suc (suc (suc (suc n))))))))) (nat_le (suc (suc (suc (suc (suc (suc (suc (suc n)))))))) 7) is).1))
 
-  at_tag : (tag : ℕ) (rest : List ℕ) (e : Fault) → AreBytes (tag ∷ rest) → tagged monitors sub tag (length (tag ∷ rest)) rest ≡ Err e → Told (tag ∷ rest) e
+  at_tag : (tag : ℕ) (rest : List ℕ) (e : Fault) → AreBytes (tag ∷ rest) → tagged (in_image monitors) sub tag (length (tag ∷ rest)) rest ≡ Err e → Told (tag ∷ rest) e
   at_tag tag rest e are h = by (nat_le 1 tag && nat_le tag 7) refl where
     by : (b : Bool) → (nat_le 1 tag && nat_le tag 7) ≡ b → Told (tag ∷ rest) e
     by true is = by_tag tag rest e are.1 is h
     by false is =
         let told = unknown monitors sub tag (length (tag ∷ rest)) rest is in
-        at_fault segment (seg_format monitors sub) (tag ∷ rest) (fault 6 (length (tag ∷ rest))) e (cc) (s.in_tag monitors sub (wrong_tag tag rest are is))
+        at_fault segment (seg_format (in_image monitors) sub) (tag ∷ rest) (fault 6 (length (tag ∷ rest))) e (cc) (s.in_tag monitors sub (wrong_tag tag rest are is))
 
-  pub segment_heard : Heard segment (seg_format monitors sub)
+  pub segment_heard : Heard segment (seg_format (in_image monitors) sub)
   unfolding seg_read
-  segment_heard bytes are e h = by (failed (u8.read bytes) (λ t. tagged monitors sub t.0 (length bytes) t.1) e h) where
-    by : Failed (u8.read bytes) (λ t. tagged monitors sub t.0 (length bytes) t.1) e → Told bytes e
+  segment_heard bytes are e h = by (failed (u8.read bytes) (λ t. tagged (in_image monitors) sub t.0 (length bytes) t.1) e h) where
+    by : Failed (u8.read bytes) (λ t. tagged (in_image monitors) sub t.0 (length bytes) t.1) e → Told bytes e
     by (inl first) = s.in_tag monitors sub (s.in_thing tag_rule (field_heard natural u8 1 s.of_one bytes are e first))
     by (inr second) =
         let back = u8_sound.back bytes second.x are second.was in
         subst (λ (all : List ℕ). Told all e) (sym back.0)
-        (at_tag second.x.0 second.x.1 e (subst AreBytes back.0 are) (ap (λ (all : List ℕ). tagged monitors sub second.x.0 (length all) second.x.1) (sym back.0) ∙ second.then_is))
+        (at_tag second.x.0 second.x.1 e (subst AreBytes back.0 are) (ap (λ (all : List ℕ). tagged (in_image monitors) sub second.x.0 (length all) second.x.1) (sym back.0) ∙ second.then_is))
 
 -- ---- trees
 
-module _ (monitors depth : ℕ) (sub_heard : Heard tree (tree_format monitors depth)) where
+module _ (monitors depth : ℕ) (sub_heard : Heard tree (tree_format (in_image monitors) depth)) where
   abbrev one : Format Seg
-  one = seg_format monitors (tree_format monitors depth)
+  one = seg_format (in_image monitors) (tree_format (in_image monitors) depth)
 
   as_list : (bytes : List ℕ) (e : Fault) → (row_format one).read bytes ≡ Err e → (both u32 (segments one)).read bytes ≡ Err e
   as_list bytes e h = by (failed (u32.read bytes) (λ count. segs_read one count.0 count.1) e h) where
@@ -105,7 +105,7 @@ module _ (monitors depth : ℕ) (sub_heard : Heard tree (tree_format monitors de
 deep_heard : Heard tree too_deep
 deep_heard bytes are e h = at_fault tree too_deep bytes (fault 4 (length bytes)) e (cc) (s.is_deep bytes)
 
-pub tree_heard : (monitors depth : ℕ) → Heard tree (tree_format monitors depth)
+pub tree_heard : (monitors depth : ℕ) → Heard tree (tree_format (in_image monitors) depth)
 unfolding tree_format
 tree_heard monitors zero = deep_heard
 tree_heard monitors (suc depth) = row_heard monitors depth (tree_heard monitors depth)

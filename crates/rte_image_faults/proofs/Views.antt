@@ -1,8 +1,8 @@
 -- A format that is read as it is written, also as another thing, shows its things one to one.
 use Rattle.std.proofs.Common.{◌≡◌, ◌++◌, ℕ, true, List, [], Ok, sym, ap, ◌∙◌}
-use Rattle.rte_image_reading.specs.Format.{Format, Read, ◌>>=◌, via}
-use Rattle.rte_image_reading.specs.Law.{AreBytes, IsSound}
-use Rattle.rte_image_sound.proofs.Alike.{okay, same_ok}
+use Rattle.rte_format.specs.Format.{Format, Read, ◌>>=◌, via}
+use Rattle.rte_format.specs.Law.{AreBytes, IsSound}
+use Rattle.rte_format.proofs.Alike.{okay, same_ok}
 use Rattle.rte_image_faults.specs.Faults.{IsView}
 
 abbrev seen : {A B : Type 0} → (A → B) → Read A → Read B

@@ -9,10 +9,10 @@ use Rattle.rte_image.specs.Bytes.{Version, First, Second}
 use Rattle.rte_image.specs.declared.names.CondName.{CondName}
 use Rattle.rte_image.specs.declared.names.DevName.{DevName}
 use Rattle.rte_image_reading.specs.declared.counts.Counts.{Counts}
-use Rattle.rte_image_reading.specs.Format.{Format, u16, bytes_as_are, unless, is_fine, checked, both}
+use Rattle.rte_format.specs.Format.{Format, u16, bytes_as_are, unless, is_fine, checked, both}
 use Rattle.rte_image_reading.specs.Grammar as g
 use Rattle.rte_image_reading.specs.File as f
-use Rattle.rte_image_reading.proofs.Booleans.{parts}
+use Rattle.rte_format.proofs.Booleans.{parts}
 use Rattle.rte_image_reading.proofs.Words.{same_words}
 use Rattle.rte_image_sound.proofs.Fields.{each_long}
 use Rattle.rte_image_faults.specs.Faults as s

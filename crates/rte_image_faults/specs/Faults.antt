@@ -8,8 +8,8 @@ use Rattle.rte_image.specs.declared.names.CondName.{CondName}
 use Rattle.rte_image.specs.declared.names.DevName.{DevName}
 use Rattle.rte_image.specs.Bytes.{Version}
 use Rattle.rte_image_reading.specs.declared.counts.Counts.{Counts}
-use Rattle.rte_image_reading.specs.Format.{Format, u8, u16, u32, bytes_as_are, given, unless, checked, both, via, each}
-use Rattle.rte_image_reading.specs.TreeFormat.{line_count, turns_count, u16_below, seg_format, row_format, too_deep, tree_format}
+use Rattle.rte_format.specs.Format.{Format, u8, u16, u32, bytes_as_are, given, unless, checked, both, via, each}
+use Rattle.rte_format.specs.TreeFormat.{in_image as numbers_of, line_count, turns_count, u16_below, seg_format, row_format, too_deep, tree_format}
 use Rattle.rte_image_reading.specs.Grammar.{word, flag_format, some_format}
 use Rattle.rte_image_reading.specs.File.{Parts, code_format, unused_fault, image_format, longest}
 
@@ -93,8 +93,8 @@ pub data IsMade : (a : Sort) → Form a → Type 0 where
       → (earlier : List (Thing a)) (count : ℕ) → IsMade (list a) (each f earlier count)
   a_flag : (told : ℕ) → IsMade truth (flag_format told)
   an_option : {a : Sort} {f : Form a} → IsMade a f → IsMade (optional a) (some_format f)
-  a_segment : (monitors depth : ℕ) → IsMade segment (seg_format monitors (tree_format monitors depth))
-  a_tree : (monitors depth : ℕ) → IsMade tree (tree_format monitors depth)
+  a_segment : (monitors depth : ℕ) → IsMade segment (seg_format (numbers_of monitors) (tree_format (numbers_of monitors) depth))
+  a_tree : (monitors depth : ℕ) → IsMade tree (tree_format (numbers_of monitors) depth)
   no_code : (count : ℕ) → IsMade (list instruction) (code_format false count)
 
 -- the bytes begin with those of a thing that is in the range of the format, and these are left
@@ -163,12 +163,12 @@ pub data IsFault : (a : Sort) → Form a → List ℕ → (number left : ℕ) �
   -- of a segment: in its tag
   in_tag : (monitors : ℕ) (sub : Format Segs) {bytes : List ℕ} {number left : ℕ}
       → IsFault natural tag_format bytes number left
-      → IsFault segment (seg_format monitors sub) bytes number left
+      → IsFault segment (seg_format (numbers_of monitors) sub) bytes number left
   -- in what follows the tag
   in_segment : {monitors : ℕ} {sub : Format Segs} {tag : ℕ} {a : Sort} {f : Form a}
       {bytes : List ℕ} {number left : ℕ}
       → Follows monitors sub tag a f → IsFault a f bytes number left
-      → IsFault segment (seg_format monitors sub) (tag ∷ bytes) number left
+      → IsFault segment (seg_format (numbers_of monitors) sub) (tag ∷ bytes) number left
   -- of a tree: in the count or in so many segments
   in_row : (one : Format Seg) {bytes : List ℕ} {number left : ℕ}
       → IsFault (pair natural (list segment)) (both u32 (λ count. each (λ earlier. one) [] count)) bytes number left

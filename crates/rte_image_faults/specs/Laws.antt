@@ -5,7 +5,7 @@ use Rattle.rte_image_reading.specs.declared.counts.Counts.{Counts}
 use Rattle.rte_image_reading.specs.Answer.{HasFault}
 use Rattle.rte_image_reading.specs.Grammar.{counts_format, name_format}
 use Rattle.rte_image_reading.specs.File.{Parts, counts_of, image_with, image_format, longest, over_format, devices_format, events_format, monitors_format, conditions_format, routines_format, processes_format, with_devices, with_monitors, all_used, used_by}
-use Rattle.rte_image_reading.specs.Law.{AreBytes}
+use Rattle.rte_format.specs.Law.{AreBytes}
 use Rattle.rte_image_faults.specs.Faults as faults
 use Rattle.rte_image_faults.specs.Faults.{pair, IsMade, IsFileFault}
 

@@ -4,9 +4,9 @@ use Rattle.std.specs.Prelude.{nat_lt, slice_index, if◌then◌else◌}
 use Rattle.std.specs.Int.{w16, w32, from_be_bytes}
 use Rattle.std.specs.List.{All}
 use Rattle.std.proofs.lemmas.List.{length-take}
-use Rattle.rte_image_reading.specs.Format.{Format, Read, ◌>>=◌, fault, field_at, u8, u16, u32, bytes_as_are, given, passed, checked, both, via, each, each_read}
-use Rattle.rte_image_reading.specs.TreeFormat.{within, u32_within, u16_within}
-use Rattle.rte_image_reading.proofs.Sound.{came}
+use Rattle.rte_format.specs.Format.{Format, Read, ◌>>=◌, fault, field_at, u8, u16, u32, bytes_as_are, given, passed, checked, both, via, each, each_read}
+use Rattle.rte_format.specs.TreeFormat.{within, u32_within, u16_within}
+use Rattle.rte_format.proofs.Sound.{came}
 use Rattle.rte_valid_limits.proofs.Readings.{same_ok, kept, two, seen, between}
 
 pub record Brings {A : Type 0} (n : ℕ) (f : Format A) (P : A → Type 0) : Type 0 where

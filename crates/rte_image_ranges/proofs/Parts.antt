@@ -10,16 +10,16 @@ use Rattle.rte_isa.specs.Bytes.{number, operands}
 use Rattle.rte_isa.specs.Numbered.{numbered}
 use Rattle.rte_machine_meaning.specs.Image.{Monitor, Routine, Process}
 use Rattle.rte_machine_meaning.specs.Trees.{Segs, Nil}
-use Rattle.rte_image.specs.TreeBytes.{segments}
+use Rattle.rte_format.specs.TreeBytes.{segments}
 use Rattle.rte_image.specs.Bytes.{Version, First, Second}
 use Rattle.rte_image.specs.declared.names.CondName.{CondName}
 use Rattle.rte_image.specs.declared.names.DevName.{DevName}
 use Rattle.rte_image_reading.specs.declared.counts.Counts.{Counts}
-use Rattle.rte_image_reading.specs.Format.{Format, ◌>>=◌, u8, u16, u32, bytes_as_are, given, unless, checked, both, via, each, each_read}
-use Rattle.rte_image_reading.specs.TreeFormat.{within, u32_within, u16_within, u16_below, tree_format}
+use Rattle.rte_format.specs.Format.{Format, ◌>>=◌, u8, u16, u32, bytes_as_are, given, unless, checked, both, via, each, each_read}
+use Rattle.rte_format.specs.TreeFormat.{in_image, within, u32_within, u16_within, u16_below, tree_format}
 use Rattle.rte_image_reading.specs.Grammar as g
 use Rattle.rte_image_reading.specs.File as f
-use Rattle.rte_image_reading.proofs.Sound.{came}
+use Rattle.rte_format.proofs.Sound.{came}
 use Rattle.rte_valid_limits.proofs.Readings.{same_ok, kept, between, fine_is}
 use Rattle.rte_image_ranges.proofs.Brings.{Brings, Any, weaker, u8_brings, u16_brings, u32_brings, word_brings, bytes_brings, given_brings, checked_brings, checked_any, both_brings, then_brings, via_brings, u32_brings_within, u16_brings_within, Each, each_brings}
 use Rattle.rte_image_ranges.proofs.Trees.{tree_brings}
@@ -107,7 +107,7 @@ routine_brings {n = n} counts =
       tree = x.1.1;
     })
     (λ r. ((r.kind, (r.owner, (r.params, (r.locals, r.gives)))), ((r.start, (r.run, (r.susp, (r.waits, r.stay)))), r.tree))) (λ r. segments r.tree ≤ n) (λ x h. h.1.1)
-    (both_brings (λ (o : ℕ × (ℕ × (ℕ × (ℕ × Bool)))). both (g.cost_format o.0) (λ c. tree_format counts.monitors g.deepest)) (λ o x. Any x.0 × (segments x.1 ≤ n)) (owner_brings counts) (λ o h. then_brings (costs_brings o.0) (tree_brings counts.monitors g.deepest)))
+    (both_brings (λ (o : ℕ × (ℕ × (ℕ × (ℕ × Bool)))). both (g.cost_format o.0) (λ c. tree_format (in_image counts.monitors) g.deepest)) (λ o x. Any x.0 × (segments x.1 ≤ n)) (owner_brings counts) (λ o h. then_brings (costs_brings o.0) (tree_brings counts.monitors g.deepest)))
 
 -- ---- processes
 
@@ -221,7 +221,7 @@ abbrev Fields : Type 0
 Fields = (ℕ × (ℕ × (ℕ × (ℕ × (ℕ × ℕ))))) × ((ℕ × (ℕ × (ℕ × (ℕ × ℕ)))) × ((ℕ × (ℕ × (ℕ × ℕ))) × Numbers))
 
 abbrev after_handler : (monitors : ℕ) → ℕ × ℕ → Format (List ℕ × (Segs × Option Segs))
-after_handler monitors handler = both (g.numbers_format handler.1) (λ numbers. both (tree_format monitors g.deepest) (λ body. g.handler_tree_format monitors handler.1))
+after_handler monitors handler = both (g.numbers_format handler.1) (λ numbers. both (tree_format (in_image monitors) g.deepest) (λ body. g.handler_tree_format monitors handler.1))
 
 trees_brings : {n : ℕ} (monitors : ℕ) → Brings n (both g.handler_format (after_handler monitors))
     (λ x. Any x.0 × ((length x.1.0 ≤ 1000) × ((segments x.1.1.0 ≤ n) × IsSmallTree n x.1.1.1)))

@@ -4,10 +4,10 @@ use Rattle.std.specs.Prelude.{nat_lt, slice_index, if◌then◌else◌}
 use Rattle.std.specs.Int.{w16, w32, from_be_bytes}
 use Rattle.std.proofs.lemmas.Bool.Decides.{nat_tests}
 use Rattle.rte_machine_meaning.specs.Trees.{Seg, Line, Fork, Rep, Call, Stay, Wait, Exit, Segs, Nil, Cons}
-use Rattle.rte_image.specs.TreeBytes.{inner, segments}
-use Rattle.rte_image_reading.specs.Format.{Format, Read, ◌>>=◌, fault, field_at, u8, u16, u32, unless, checked, both}
-use Rattle.rte_image_reading.specs.TreeFormat.{line_count, turns_count, u16_below, within, tagged, seg_read, seg_format, segs_read, row_format, tree_format}
-use Rattle.rte_image_reading.proofs.Sound.{came}
+use Rattle.rte_format.specs.TreeBytes.{inner, segments}
+use Rattle.rte_format.specs.Format.{Format, Read, ◌>>=◌, fault, field_at, u8, u16, u32, unless, checked, both}
+use Rattle.rte_format.specs.TreeFormat.{in_image, line_count, turns_count, u16_below, within, tagged, seg_read, seg_format, segs_read, row_format, tree_format}
+use Rattle.rte_format.proofs.Sound.{came}
 use Rattle.rte_valid_limits.proofs.Readings.{okay, same_ok, kept, two}
 use Rattle.rte_image_ranges.proofs.Brings.{Brings}
 
@@ -71,7 +71,7 @@ module _ (monitors : ℕ) (sub : Format Segs) (small : AreSmall sub) where
   alone : (bytes : List ℕ) (s : Seg) (z : Seg × List ℕ) → inner s ≡ 0 → okay (s, bytes) ≡ okay z → IsInnerIn bytes z
   alone bytes s z none is = subst (IsInnerIn bytes) (same_ok (s, bytes) z is) (omega (arith, none))
 
-  by_tag : (tag left : ℕ) (bytes : List ℕ) (z : Seg × List ℕ) → tagged monitors sub tag left bytes ≡ Ok z → IsInnerIn bytes z
+  by_tag : (tag left : ℕ) (bytes : List ℕ) (z : Seg × List ℕ) → tagged (in_image monitors) sub tag left bytes ≡ Ok z → IsInnerIn bytes z
   by_tag tag left bytes z = by (tag == 1) (tag == 2) (tag == 3) (tag == 4) (tag == 5) (tag == 6) (tag == 7) where
     by : (a b c d e f g : Bool)
         → (if a then (line_count.read bytes >>= λ n. Ok (Line n.0, n.1))
@@ -91,36 +91,36 @@ module _ (monitors : ℕ) (sub : Format Segs) (small : AreSmall sub) where
     by false false false false false false true is = alone bytes Exit z refl is
     by false false false false false false false is = absurd cc
 
-  of_seg : (bytes : List ℕ) (z : Seg × List ℕ) → seg_read monitors sub bytes ≡ Ok z → 1 + inner z.0 + length z.1 ≤ length bytes
+  of_seg : (bytes : List ℕ) (z : Seg × List ℕ) → seg_read (in_image monitors) sub bytes ≡ Ok z → 1 + inner z.0 + length z.1 ≤ length bytes
   unfolding seg_read
   of_seg bytes z is =
-      let a = came (u8.read bytes) (λ tag. tagged monitors sub tag.0 (length bytes) tag.1) z is in
+      let a = came (u8.read bytes) (λ tag. tagged (in_image monitors) sub tag.0 (length bytes) tag.1) z is in
       let t = taken 1 (λ all. slice_index all 0) bytes a.x a.was in
       let s = by_tag a.x.0 (length bytes) a.x.1 z a.then_is in
       omega (arith, t, s)
 
-  of_segs : (count : ℕ) (bytes : List ℕ) (z : Segs × List ℕ) → segs_read (seg_format monitors sub) count bytes ≡ Ok z → IsSmallIn bytes z
+  of_segs : (count : ℕ) (bytes : List ℕ) (z : Segs × List ℕ) → segs_read (seg_format (in_image monitors) sub) count bytes ≡ Ok z → IsSmallIn bytes z
   unfolding segs_read
   of_segs zero bytes z is = subst (IsSmallIn bytes) (same_ok (Nil, bytes) z is) (omega arith)
   of_segs (suc count) bytes z is =
-      let a = came (seg_read monitors sub bytes) (λ head. segs_read (seg_format monitors sub) count head.1 >>= λ rest. Ok (Cons head.0 rest.0, rest.1)) z is in
-      let b = came (segs_read (seg_format monitors sub) count a.x.1) (λ rest. Ok (Cons a.x.0 rest.0, rest.1)) z a.then_is in
+      let a = came (seg_read (in_image monitors) sub bytes) (λ head. segs_read (seg_format (in_image monitors) sub) count head.1 >>= λ rest. Ok (Cons head.0 rest.0, rest.1)) z is in
+      let b = came (segs_read (seg_format (in_image monitors) sub) count a.x.1) (λ rest. Ok (Cons a.x.0 rest.0, rest.1)) z a.then_is in
       let head = of_seg bytes a.x a.was in
       let rest = of_segs count a.x.1 b.x b.was in
       subst (IsSmallIn bytes) (same_ok (Cons a.x.0 b.x.0, b.x.1) z b.then_is) (omega (arith, head, rest))
 
-  of_row : AreSmall (row_format (seg_format monitors sub))
+  of_row : AreSmall (row_format (seg_format (in_image monitors) sub))
   of_row bytes z is =
-      let a = came (u32.read bytes) (λ count. segs_read (seg_format monitors sub) count.0 count.1) z is in
+      let a = came (u32.read bytes) (λ count. segs_read (seg_format (in_image monitors) sub) count.0 count.1) z is in
       let t = taken 4 (from_be_bytes w32) bytes a.x a.was in
       let s = of_segs a.x.0 a.x.1 z a.then_is in
       omega (arith, t, s)
 
-pub trees_are_small : (monitors depth : ℕ) → AreSmall (tree_format monitors depth)
+pub trees_are_small : (monitors depth : ℕ) → AreSmall (tree_format (in_image monitors) depth)
 unfolding tree_format
 trees_are_small monitors zero bytes z is = absurd cc
-trees_are_small monitors (suc depth) bytes z is = of_row monitors (tree_format monitors depth) (trees_are_small monitors depth) bytes z is
+trees_are_small monitors (suc depth) bytes z is = of_row monitors (tree_format (in_image monitors) depth) (trees_are_small monitors depth) bytes z is
 
 -- of at most n bytes
-pub tree_brings : {n : ℕ} (monitors depth : ℕ) → Brings n (tree_format monitors depth) (λ tree. segments tree ≤ n)
+pub tree_brings : {n : ℕ} (monitors depth : ℕ) → Brings n (tree_format (in_image monitors) depth) (λ tree. segments tree ≤ n)
 tree_brings {n = n} monitors depth = record { told = λ bytes z few is. let s = trees_are_small monitors depth bytes z is in (omega (arith, s, few), omega (arith, s, few)) }

@@ -8,7 +8,7 @@ use Rattle.std.proofs.lemmas.Bool.Decides.{nat_tests}
 use Rattle.rte_isa.specs.declared.instr.Instr.{Instr}
 use Rattle.rte_machine_meaning.specs.Image.{Image, Monitor, Routine, Process}
 use Rattle.rte_machine_meaning.specs.Trees.{Segs}
-use Rattle.rte_image.specs.TreeBytes.{segments}
+use Rattle.rte_format.specs.TreeBytes.{segments}
 use Rattle.rte_image.specs.Bytes.{Version, First, Second}
 use Rattle.rte_image.specs.InRange.{IsShort, IsSmall, IsSmallHandler, IsProcessInRange, AreNamed, AreCounted, IsInRange}
 use Rattle.rte_image.specs.Named.{NamedImage}
@@ -19,11 +19,11 @@ use Rattle.rte_image.specs.declared.names.DevName.{DevName}
 use Rattle.rte_image.specs.declared.names.EventName.{EventName}
 use Rattle.rte_image_reading.specs.declared.counts.Counts.{Counts}
 use Rattle.rte_image_reading.specs.Answer.{Holds, parts_of}
-use Rattle.rte_image_reading.specs.Format.{Format, fault, u16, bytes_as_are, unless, checked, both, via, each}
-use Rattle.rte_image_reading.specs.TreeFormat.{u16_within}
+use Rattle.rte_format.specs.Format.{Format, fault, u16, bytes_as_are, unless, checked, both, via, each}
+use Rattle.rte_format.specs.TreeFormat.{u16_within}
 use Rattle.rte_image_reading.specs.Grammar as g
 use Rattle.rte_image_reading.specs.File as f
-use Rattle.rte_image_reading.proofs.Sound.{came}
+use Rattle.rte_format.proofs.Sound.{came}
 use Rattle.rte_valid_limits.proofs.Readings.{okay, same_ok}
 use Rattle.rte_image_ranges.specs.Law.{ImagesReadCanBeWritten}
 use Rattle.rte_image_ranges.proofs.Brings.{Brings, Any, weaker, u16_brings, bytes_brings, given_brings, checked_any, both_brings, then_brings, via_brings, u16_brings_within, All-none, All-more, Each, each_brings}

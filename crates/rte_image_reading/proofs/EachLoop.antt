@@ -1,10 +1,10 @@
 -- Reading things one after the other, as a loop does.
 use Rattle.std.proofs.Common.{◌≡◌, ℕ, suc, ◌-◌, ◌+◌, ◌≤◌, ◌<◌, List, [], ◌∷◌, ◌++◌, Ok, Err, refl, sym, ap, ◌∙◌, arith, append_assoc, append-nil}
-use Rattle.rte_image_reading.specs.declared.fault.Fault.{Fault}
-use Rattle.rte_image_reading.specs.declared.fault.ReadError.{ReadError}
-use Rattle.rte_image_reading.specs.declared.fault.ReadError.TheVariants as errors
-use Rattle.rte_image_reading.specs.Format.{◌>>=◌, Format, Read, each_read}
-use Rattle.rte_image_reading.specs.Gives.{Fails}
+use Rattle.rte_format.specs.declared.fault.Fault.{Fault}
+use Rattle.rte_format.specs.declared.fault.ReadError.{ReadError}
+use Rattle.rte_format.specs.declared.fault.ReadError.TheVariants as errors
+use Rattle.rte_format.specs.Format.{◌>>=◌, Format, Read, each_read}
+use Rattle.rte_format.specs.Gives.{Fails}
 
 -- what was read before, and what is still read
 abbrev pub in_front : {A : Type 0} → List A → Read (List A) → Read (List A)

@@ -1,11 +1,7 @@
 pub mod Assembled
-pub mod Booleans
 pub mod EachLoop
 pub mod Ends
 pub mod Rising
-pub mod Sound
-pub mod SoundFields
-pub mod TreeLoop
 pub mod Words
 pub mod Zips
 pub mod Among

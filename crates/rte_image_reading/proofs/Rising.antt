@@ -2,7 +2,7 @@
 use Rattle.std.proofs.Common.{◌≡◌, ◌&&◌, ◌++◌, ℕ, zero, suc, List, [], ◌∷◌, Option, Ok, Err, refl, sym, ap, arith}
 use Rattle.std.proofs.lemmas.Bool.{lt-ltb}
 use Rattle.std.specs.Prelude.{nat_lt}
-use Rattle.rte_image_reading.specs.Format.{◌>>=◌, Read, checked, u16, unless, passed}
+use Rattle.rte_format.specs.Format.{◌>>=◌, Read, checked, u16, unless, passed}
 use Rattle.rte_image_reading.specs.Grammar.{is_above, is_taken, wrong_number}
 
 -- a number is above the last of them where it is above that

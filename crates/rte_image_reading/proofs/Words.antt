@@ -7,7 +7,7 @@ use Rattle.std.proofs.lemmas.Cmp.{nat_list_eq_equiv}
 use Rattle.std.proofs.lemmas.Bool.{eqb-true}
 use Rattle.std.proofs.lemmas.Map.Views.{Contains-from_any}
 use Rattle.rte_image_reading.specs.Grammar.{has}
-use Rattle.rte_image_reading.proofs.Booleans.{parts}
+use Rattle.rte_format.proofs.Booleans.{parts}
 
 pub same_words : (x y : List ℕ) → pointwise nat_eq x y ≡ true → x ≡ y
 same_words [] [] h = refl

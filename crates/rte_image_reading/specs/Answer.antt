@@ -6,7 +6,7 @@ use Rattle.rte_image.specs.Bytes.{Version}
 use Rattle.rte_image.specs.Raw.{monitor_of, named_of, process_of, routine_of}
 use Rattle.rte_image_reading.specs.declared.fault.ImageFault.{ImageFault}
 use Rattle.rte_image_reading.specs.declared.fault.ImageFault.TheVariants as faults
-use Rattle.rte_image_reading.specs.Format.{fault}
+use Rattle.rte_format.specs.Format.{fault}
 use Rattle.rte_image_reading.specs.File.{Parts, image_with, read_file}
 
 -- the parts of an image, as the code holds them

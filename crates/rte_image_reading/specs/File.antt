@@ -10,8 +10,8 @@ use Rattle.rte_image.specs.declared.names.EventName.{EventName}
 use Rattle.rte_image.specs.Bytes.{Version, First, Second}
 use Rattle.rte_image.specs.Named.{NamedImage}
 use Rattle.rte_image_reading.specs.declared.counts.Counts.{Counts}
-use Rattle.rte_image_reading.specs.Format.{Format, Read, fault, ◌>>=◌, u16, bytes_as_are, given, unless, checked, both, via, each}
-use Rattle.rte_image_reading.specs.TreeFormat.{u16_within}
+use Rattle.rte_format.specs.Format.{Format, Read, fault, ◌>>=◌, u16, bytes_as_are, given, unless, checked, both, via, each}
+use Rattle.rte_format.specs.TreeFormat.{u16_within}
 use Rattle.rte_image_reading.specs.Grammar.{counts_format, name_format, device_format, named_monitor_format, condition_format, routine_format, named_process_format, event_of, instr_format}
 
 -- ---- the parts of an image, as their fields tell them

@@ -12,13 +12,13 @@ use Rattle.rte_isa.specs.Bytes.{number, operands, word_bytes}
 use Rattle.rte_isa.specs.Numbered.{numbered}
 use Rattle.rte_seg.specs.Image.{Monitor, Routine, Process}
 use Rattle.rte_seg.specs.Trees.{Segs}
-use Rattle.rte_image.specs.Numbers as written
+use Rattle.rte_format.specs.Numbers as written
 use Rattle.rte_image.specs.declared.names.CondName.{CondName}
 use Rattle.rte_image.specs.declared.names.DevName.{DevName}
 use Rattle.rte_image.specs.Bytes.{Version, First, Second}
 use Rattle.rte_image_reading.specs.declared.counts.Counts.{Counts}
-use Rattle.rte_image_reading.specs.Format.{Format, ◌>>=◌, field_at, u8, u16, u32, bytes_as_are, given, unless, checked, both, via, each}
-use Rattle.rte_image_reading.specs.TreeFormat.{within, u32_within, u16_within, u16_below, tree_format}
+use Rattle.rte_format.specs.Format.{Format, ◌>>=◌, field_at, u8, u16, u32, bytes_as_are, given, unless, checked, both, via, each}
+use Rattle.rte_format.specs.TreeFormat.{in_image, within, u32_within, u16_within, u16_below, tree_format}
 
 -- ---- names
 
@@ -119,7 +119,7 @@ routine_format counts =
       tree = x.1.1;
     })
     (λ r. ((r.kind, (r.owner, (r.params, (r.locals, r.gives)))), ((r.start, (r.run, (r.susp, (r.waits, r.stay)))), r.tree)))
-    (both (owner_format counts) (λ o. both (cost_format o.0) (λ c. tree_format counts.monitors deepest)))
+    (both (owner_format counts) (λ o. both (cost_format o.0) (λ c. tree_format (in_image counts.monitors) deepest)))
 
 -- ---- processes
 
@@ -192,7 +192,7 @@ is_none (Some x) = false
 
 abbrev pub handler_tree_format : (monitors : ℕ) → (count : ℕ) → Format (Option Segs)
 handler_tree_format monitors zero = given (λ x y. is_none y) None
-handler_tree_format monitors (suc n) = some_format (tree_format monitors deepest)
+handler_tree_format monitors (suc n) = some_format (tree_format (in_image monitors) deepest)
 
 -- all of a process but its name
 abbrev pub process_format : Version → Counts → (used : List ℕ) → Format Process
@@ -226,7 +226,7 @@ process_format version counts used =
       ),
     ))
     (both (release_format version counts.events used) (λ release. both time_format (λ time. both room_format (λ room. both handler_format (λ handler.
-    both (numbers_format handler.1) (λ numbers. both (tree_format counts.monitors deepest) (λ body. handler_tree_format counts.monitors handler.1)))))))
+    both (numbers_format handler.1) (λ numbers. both (tree_format (in_image counts.monitors) deepest) (λ body. handler_tree_format counts.monitors handler.1)))))))
 
 abbrev pub named_process_format : Version → Counts → (taken : List (List ℕ)) → (used : List ℕ) → Format (List ℕ × Process)
 named_process_format version counts taken used = both (name_format taken) (λ name. process_format version counts used)

@@ -1,10 +1,6 @@
-pub mod Format
-pub mod TreeFormat
 pub mod Grammar
 pub mod File
-pub mod Gives
 pub mod Versions
-pub mod Law
 pub mod Answer
 pub mod Held
 pub mod Taken

@@ -1,11 +1,11 @@
 //! How many parts of each kind an image has.
 
 ghost use Rattle.std.specs.Prelude.{◌≡◌};
-ghost use Rattle.rte_image_reading.specs.Gives.{Gives};
+ghost use Rattle.rte_format.specs.Gives.{Gives};
 ghost use Rattle.rte_image_reading.specs.Grammar.{counts_format};
 
-use crate::fault::ReadError;
 use crate::fields::{u16_within, u32_within};
+use rte_format::ReadError;
 
 /// How many parts of each kind there are.
 #[derive(Clone, Copy)]

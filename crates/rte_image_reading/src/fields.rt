@@ -1,12 +1,12 @@
 //! Fields: the number that the bytes begin with, and the bytes after it.
 
 ghost use Rattle.std.specs.Prelude.{◌≡◌};
-ghost use Rattle.rte_image_reading.specs.Gives.{Gives};
-ghost use Rattle.rte_image_reading.specs.Format.{u8 as one_byte, u16 as two_bytes, u32 as four_bytes};
-ghost use Rattle.rte_image_reading.specs.TreeFormat.{u16_below as below, u16_within as short_within, u32_within as long_within};
+ghost use Rattle.rte_format.specs.Gives.{Gives};
+ghost use Rattle.rte_format.specs.Format.{u8 as one_byte, u16 as two_bytes, u32 as four_bytes};
+ghost use Rattle.rte_format.specs.TreeFormat.{u16_below as below, u16_within as short_within, u32_within as long_within};
 ghost use Rattle.rte_image_reading.specs.Grammar.{cost, flag_format};
 
-use crate::fault::{Fault, ReadError};
+use rte_format::{Fault, ReadError};
 
 /// The longest time that is told.
 const LONGEST_COST: u32 = 1_000_000_001;

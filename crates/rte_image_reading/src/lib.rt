@@ -19,5 +19,5 @@ mod process;
 mod taken;
 mod trees;
 
-pub use fault::{Fault, ImageFault};
+pub use fault::ImageFault;
 pub use image::read_image;

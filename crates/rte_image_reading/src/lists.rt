@@ -2,17 +2,17 @@
 
 ghost use Rattle.std.specs.Prelude.{◌≡◌, ◌++◌, [], map, IfOk};
 ghost use Rattle.rte_image.specs.Raw.{routine_of};
-ghost use Rattle.rte_image_reading.specs.Gives.{Gives};
-ghost use Rattle.rte_image_reading.specs.Format.{each};
+ghost use Rattle.rte_format.specs.Gives.{Gives};
+ghost use Rattle.rte_format.specs.Format.{each};
 ghost use Rattle.rte_image_reading.specs.Grammar.{instr_format};
 ghost use Rattle.rte_image_reading.specs.File.{conditions_format, devices_format, events_format, routines_format};
 
 use crate::counts::Counts;
-use crate::fault::ReadError;
 use crate::instr::instr_at;
 use crate::names::name_at;
 use crate::parts::{condition_at, device_at, routine_at};
 use crate::taken::{Earlier, Taken};
+use rte_format::ReadError;
 use rte_image::{CondName, DevName, RawRoutine};
 use rte_isa::Instr;
 use rte_tree::{List, Name};

@@ -4,16 +4,16 @@ ghost use Rattle.std.specs.Prelude.{◌≡◌, ◌++◌, false, length, map, IfO
 ghost use Rattle.std.specs.List.{zip};
 ghost use Rattle.rte_image.specs.Raw.{monitor_of, process_of};
 ghost use Rattle.rte_image_reading.specs.Versions.{in_version};
-ghost use Rattle.rte_image_reading.specs.Gives.{Gives};
+ghost use Rattle.rte_format.specs.Gives.{Gives};
 ghost use Rattle.rte_image_reading.specs.Grammar.{event_of, has, named_monitor_format, named_process_format};
 ghost use Rattle.rte_image_reading.specs.File.{monitors_format, processes_format, used_by, with_monitors};
 
 use crate::counts::Counts;
-use crate::fault::ReadError;
 use crate::names::name_at;
 use crate::parts::monitor_at;
 use crate::process::process_at;
 use crate::taken::Taken;
+use rte_format::ReadError;
 use rte_image::{RawMon, RawProc};
 use rte_tree::{List, Name};
 use std::alloc::{AllocError, Global};

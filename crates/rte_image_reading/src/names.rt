@@ -3,15 +3,15 @@
 ghost use Rattle.std.specs.Prelude.{◌≡◌, ◌&&◌, false, not, IfOk};
 ghost use Rattle.std.specs.List.{list_all};
 ghost use Rattle.rte_lex.specs.Spellings.{is_identifier as identifier_test, is_letter as letter_test, is_word as word_test, keywords};
-ghost use Rattle.rte_image_reading.specs.Gives.{Gives};
-ghost use Rattle.rte_image_reading.specs.Format.{bytes_as_are, both, checked, u8 as one_byte};
-ghost use Rattle.rte_image_reading.specs.TreeFormat.{within};
+ghost use Rattle.rte_format.specs.Gives.{Gives};
+ghost use Rattle.rte_format.specs.Format.{bytes_as_are, both, checked, u8 as one_byte};
+ghost use Rattle.rte_format.specs.TreeFormat.{within};
 ghost use Rattle.rte_image_reading.specs.Grammar.{has, name_format};
 ghost use Rattle.rte_image_reading.specs.Taken.{Names};
 
-use crate::fault::{Fault, ReadError};
 use crate::fields::u8_at;
 use crate::taken::Taken;
+use rte_format::{Fault, ReadError};
 use rte_lex::keyword_at;
 use rte_tree::Name;
 use std::alloc::{AllocError, Global};

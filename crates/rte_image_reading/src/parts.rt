@@ -2,19 +2,17 @@
 
 ghost use Rattle.std.specs.Prelude.{◌≡◌, ◌&&◌, ◌||◌, ◌==◌, not, nat_eq, nat_le, false, IfOk};
 ghost use Rattle.rte_image.specs.Raw.{monitor_of, process_of, routine_of};
-ghost use Rattle.rte_seg.specs.View.{views};
-ghost use Rattle.rte_image_reading.specs.Gives.{Gives};
-ghost use Rattle.rte_image_reading.specs.Format.{both, checked, u16 as two_bytes, u8 as one_byte, unless};
+ghost use Rattle.rte_format.specs.Gives.{Gives};
+ghost use Rattle.rte_format.specs.Format.{both, checked, u16 as two_bytes, u8 as one_byte, unless};
 ghost use Rattle.rte_image_reading.specs.Grammar.{condition_format, cost, cost_format, deadline_format, device_format, handler_format, handler_tree_format, has, is_again, monitor_format, owner_format, release_format, room_format, routine_format, time_format, wrong_event, wrong_first, wrong_owner, wrong_stay};
 
 use crate::counts::Counts;
-use crate::fault::{Fault, ReadError};
 use crate::fields::{cost_at, flag_at, u8_at, u16_at, u16_below, u16_within, u32_at, u32_within};
 use crate::names::name_at;
 use crate::taken::{Earlier, Taken};
 use crate::trees::tree_at;
+use rte_format::{Fault, ReadError};
 use rte_image::{CondName, DevName, RawMon, RawRoutine};
-use rte_seg::Segs;
 use std::alloc::Global;
 
 /// How deep trees nest at most.

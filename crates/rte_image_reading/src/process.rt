@@ -1,22 +1,21 @@
 //! Processes that the bytes begin with.
 
-ghost use Rattle.std.specs.Prelude.{◌≡◌, ◌&&◌, nat_lt, length, map, option_map};
+ghost use Rattle.std.specs.Prelude.{◌≡◌, ◌&&◌, nat_lt, length, map};
 ghost use Rattle.rte_image.specs.Bytes.{Version};
 ghost use Rattle.rte_image.specs.Raw.{process_of};
-ghost use Rattle.rte_seg.specs.View.{views};
 ghost use Rattle.rte_image_reading.specs.Versions.{in_version};
-ghost use Rattle.rte_image_reading.specs.Gives.{Gives};
-ghost use Rattle.rte_image_reading.specs.Format.{checked, u16 as two_bytes, unless};
-ghost use Rattle.rte_image_reading.specs.TreeFormat.{u32_within as long_within};
+ghost use Rattle.rte_format.specs.Gives.{Gives};
+ghost use Rattle.rte_format.specs.Format.{checked, u16 as two_bytes, unless};
+ghost use Rattle.rte_format.specs.TreeFormat.{u32_within as long_within};
 ghost use Rattle.rte_image_reading.specs.Grammar.{deadline_format, handler_format, handler_tree_format, is_taken, numbers_format, process_format, release_format, room_format, time_format, wrong_event, wrong_first};
 
 use crate::counts::Counts;
-use crate::fault::{Fault, ReadError};
 use crate::fields::{cost_at, u16_at, u32_at, u32_within};
 use crate::parts::{DEEPEST, kind_at};
 use crate::trees::tree_at;
+use rte_format::{Fault, ReadError};
 use rte_image::RawProc;
-use rte_seg::Segs;
+use rte_seg_bytes::SegTree;
 use rte_tree::List;
 use std::alloc::Global;
 
@@ -251,8 +250,8 @@ fn handler_tree_at(
     bytes: &[u8],
     monitors: u16,
     count: u16,
-) -> Result<(Option<Segs>, &[u8]), ReadError>
-    ensures { Gives (λ x. (option_map views x.0, x.1.now)) result
+) -> Result<(Option<SegTree>, &[u8]), ReadError>
+    ensures { Gives (λ x. (x.0, x.1.now)) result
         ((handler_tree_format monitors count).read bytes.now) }
 {
     if count == 0 {

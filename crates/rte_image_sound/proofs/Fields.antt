@@ -7,15 +7,15 @@ use Rattle.rte_machine_meaning.specs.Trees.{Segs, Nil}
 use Rattle.rte_image.specs.Bytes.{Version, First, Second}
 use Rattle.rte_image.specs.declared.names.CondName.{CondName}
 use Rattle.rte_image_reading.specs.declared.counts.Counts.{Counts}
-use Rattle.rte_image_reading.specs.Format.{Format, ◌>>=◌, fault, u8, u16, u32, bytes_as_are, unless, is_fine, checked, both, via, each_is}
-use Rattle.rte_image_reading.specs.TreeFormat.{within, u32_within, u16_within, u16_below, tree_format}
+use Rattle.rte_format.specs.Format.{Format, ◌>>=◌, fault, u8, u16, u32, bytes_as_are, unless, is_fine, checked, both, via, each_is}
+use Rattle.rte_format.specs.TreeFormat.{in_image, within, u32_within, u16_within, u16_below, tree_format}
 use Rattle.rte_image_reading.specs.Grammar as g
-use Rattle.rte_image_reading.specs.Law.{IsSound}
-use Rattle.rte_image_reading.proofs.Booleans.{parts}
-use Rattle.rte_image_reading.proofs.Sound.{came, checked_sound, both_sound, via_sound, given_sound, each_sound}
-use Rattle.rte_image_reading.proofs.SoundFields.{u8_sound, u16_sound, u32_sound, bytes_sound}
-use Rattle.rte_image_sound.proofs.Alike.{alike, same_ok}
-use Rattle.rte_image_sound.proofs.Trees.{tree_sound}
+use Rattle.rte_format.specs.Law.{IsSound}
+use Rattle.rte_format.proofs.Booleans.{parts}
+use Rattle.rte_format.proofs.Sound.{came, checked_sound, both_sound, via_sound, given_sound, each_sound}
+use Rattle.rte_format.proofs.SoundFields.{u8_sound, u16_sound, u32_sound, bytes_sound}
+use Rattle.rte_format.proofs.Alike.{alike, same_ok}
+use Rattle.rte_format.proofs.Trees.{tree_sound}
 
 -- where the second does not depend on the first
 pub pair_sound : {A B : Type 0} (f : Format A) (h : Format B) → IsSound f → IsSound h → IsSound (both f (λ x. h))
@@ -168,7 +168,7 @@ abbrev Whole : Type 0
 Whole = (ℕ × (ℕ × (ℕ × (ℕ × Bool)))) × ((ℕ × (ℕ × (ℕ × (ℕ × ℕ)))) × Segs)
 
 abbrev after_owner : Counts → ℕ × (ℕ × (ℕ × (ℕ × Bool))) → Format ((ℕ × (ℕ × (ℕ × (ℕ × ℕ)))) × Segs)
-after_owner counts o = both (g.cost_format o.0) (λ c. tree_format counts.monitors g.deepest)
+after_owner counts o = both (g.cost_format o.0) (λ c. tree_format (in_image counts.monitors) g.deepest)
 
 pub routine_sound : (counts : Counts) → IsSound (g.routine_format counts)
 routine_sound counts =
@@ -188,7 +188,7 @@ routine_sound counts =
     })
     (λ r. ((r.kind, (r.owner, (r.params, (r.locals, r.gives)))), ((r.start, (r.run, (r.susp, (r.waits, r.stay)))), r.tree)))
     (both (g.owner_format counts) (after_owner counts)) (λ x h. refl) (λ y h. refl)
-    (both_sound (g.owner_format counts) (after_owner counts) (owner_sound counts) (λ o. pair_sound (g.cost_format o.0) (tree_format counts.monitors g.deepest) (costs_sound o.0) (tree_sound counts.monitors g.deepest)))
+    (both_sound (g.owner_format counts) (after_owner counts) (owner_sound counts) (λ o. pair_sound (g.cost_format o.0) (tree_format (in_image counts.monitors) g.deepest) (costs_sound o.0) (tree_sound counts.monitors g.deepest)))
 
 -- ---- processes
 
@@ -277,7 +277,7 @@ none_is (Some tree) h = cc
 
 handler_tree_sound : (monitors count : ℕ) → IsSound (g.handler_tree_format monitors count)
 handler_tree_sound monitors zero = given_sound (λ x y. g.is_none y) None none_is refl
-handler_tree_sound monitors (suc count) = some_sound (tree_format monitors g.deepest) (tree_sound monitors g.deepest)
+handler_tree_sound monitors (suc count) = some_sound (tree_format (in_image monitors) g.deepest) (tree_sound monitors g.deepest)
 
 abbrev Numbers : Type 0
 Numbers = (ℕ × ℕ) × (List ℕ × (Segs × Option Segs))
@@ -325,7 +325,7 @@ fields_in p = (
 
 module _ (version : Version) (counts : Counts) (used : List ℕ) where
   abbrev trees : (count : ℕ) → Format (Segs × Option Segs)
-  trees count = both (tree_format counts.monitors g.deepest) (λ body. g.handler_tree_format counts.monitors count)
+  trees count = both (tree_format (in_image counts.monitors) g.deepest) (λ body. g.handler_tree_format counts.monitors count)
 
   abbrev after_handler : ℕ × ℕ → Format (List ℕ × (Segs × Option Segs))
   after_handler handler = both (g.numbers_format handler.1) (λ numbers. trees handler.1)
@@ -346,7 +346,7 @@ module _ (version : Version) (counts : Counts) (used : List ℕ) where
   all_sound =
       pair_sound (g.release_format version counts.events used) time (release_sound version counts.events used) (pair_sound g.time_format room time_sound (pair_sound g.room_format numbers room_sound
       (both_sound g.handler_format after_handler handler_sound (λ handler. pair_sound (g.numbers_format handler.1) (trees handler.1) (numbers_sound handler.1)
-      (pair_sound (tree_format counts.monitors g.deepest) (g.handler_tree_format counts.monitors handler.1) (tree_sound counts.monitors g.deepest) (handler_tree_sound counts.monitors handler.1))))))
+      (pair_sound (tree_format (in_image counts.monitors) g.deepest) (g.handler_tree_format counts.monitors handler.1) (tree_sound counts.monitors g.deepest) (handler_tree_sound counts.monitors handler.1))))))
 
   long : (x : Fields) → all.is x ≡ true → length x.1.1.1.1.0 ≡ x.1.1.1.0.1
   long x h =

@@ -4,12 +4,12 @@ use Rattle.std.specs.Prelude.{nat_lt, if◌then◌else◌}
 use Rattle.std.proofs.lemmas.Bool.{le-ltb, ltb-false}
 use Rattle.std.proofs.lemmas.List.{length-take-le}
 use Rattle.rte_image.specs.Bytes.{Version, bytes_of}
-use Rattle.rte_image_reading.specs.Format.{◌>>=◌, fault}
+use Rattle.rte_format.specs.Format.{◌>>=◌, fault}
 use Rattle.rte_image_reading.specs.File as f
-use Rattle.rte_image_reading.specs.Law.{AreBytes}
-use Rattle.rte_image_reading.proofs.Sound.{came}
+use Rattle.rte_format.specs.Law.{AreBytes}
+use Rattle.rte_format.proofs.Sound.{came}
 use Rattle.rte_image_sound.specs.Law.{CutImagesEndInsideAField, ImagesReadAreWritten, ImagesWrittenAreRead}
-use Rattle.rte_image_sound.proofs.Alike.{okay, same_ok}
+use Rattle.rte_format.proofs.Alike.{okay, same_ok}
 use Rattle.rte_image_sound.proofs.Whole.{code_is, image_is_written, image_sound}
 
 ended_is : (z : (Version × f.Parts) × List ℕ) (y : (Version × f.Parts) × List ℕ) → f.ended z ≡ Ok y → z ≡ y

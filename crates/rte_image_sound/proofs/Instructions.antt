@@ -12,13 +12,13 @@ use Rattle.rte_isa.specs.declared.instr.Instr.TheVariants as i
 use Rattle.rte_isa.specs.Bytes.{number, operands, word_bytes, instr_bytes}
 use Rattle.rte_isa.specs.Numbered.{in_order, numbered}
 use mir.Val.{sel}
-use Rattle.rte_image.specs.Numbers as written
-use Rattle.rte_image_reading.specs.Format.{Format, unless, is_fine, u8, checked, both}
+use Rattle.rte_format.specs.Numbers as written
+use Rattle.rte_format.specs.Format.{Format, unless, is_fine, u8, checked, both}
 use Rattle.rte_image_reading.specs.Grammar as g
-use Rattle.rte_image_reading.specs.Law.{AreBytes, IsSound}
-use Rattle.rte_image_reading.proofs.Booleans.{parts}
-use Rattle.rte_image_reading.proofs.Sound.{field_sound, checked_sound, both_sound, via_sound}
-use Rattle.rte_image_reading.proofs.SoundFields.{u8_sound, u32_sound}
+use Rattle.rte_format.specs.Law.{AreBytes, IsSound}
+use Rattle.rte_format.proofs.Booleans.{parts}
+use Rattle.rte_format.proofs.Sound.{field_sound, checked_sound, both_sound, via_sound}
+use Rattle.rte_format.proofs.SoundFields.{u8_sound, u32_sound}
 
 int_same : (x y : ℤ) → int_eq x y ≡ true → x ≡ y
 int_same x y h = (Decides-int_eq x y).0 h

@@ -8,22 +8,22 @@ use Rattle.rte_isa.specs.declared.instr.Instr.{Instr}
 use Rattle.rte_isa.specs.Bytes.{instr_bytes}
 use Rattle.rte_machine_meaning.specs.Image.{Monitor, Routine, Process}
 use Rattle.rte_machine_meaning.specs.Trees.{Segs}
-use Rattle.rte_image.specs.Numbers as written
-use Rattle.rte_image.specs.TreeBytes.{tree_bytes}
+use Rattle.rte_format.specs.Numbers as written
+use Rattle.rte_format.specs.TreeBytes.{tree_bytes}
 use Rattle.rte_image.specs.Bytes.{Version, First, Second, bytes_of, version_bytes, counts_bytes, deadline_bytes, device_bytes, event_bytes, monitor_bytes, monitors_bytes, condition_bytes, routine_bytes, process_bytes, processes_bytes, handler_bytes}
 use Rattle.rte_image.specs.Named.{NamedImage}
 use Rattle.rte_image.specs.declared.names.CondName.{CondName}
 use Rattle.rte_image.specs.declared.names.DevName.{DevName}
 use Rattle.rte_image_reading.specs.declared.counts.Counts.{Counts}
-use Rattle.rte_image_reading.specs.Format.{Format, u16, bytes_as_are, unless, is_fine, checked, both, each_write}
-use Rattle.rte_image_reading.specs.TreeFormat.{tree_format}
+use Rattle.rte_format.specs.Format.{Format, u16, bytes_as_are, unless, is_fine, checked, both, each_write}
+use Rattle.rte_format.specs.TreeFormat.{in_image, tree_format}
 use Rattle.rte_image_reading.specs.Grammar as g
 use Rattle.rte_image_reading.specs.File as f
-use Rattle.rte_image_reading.specs.Law.{IsSound}
-use Rattle.rte_image_reading.proofs.Booleans.{parts}
+use Rattle.rte_format.specs.Law.{IsSound}
+use Rattle.rte_format.proofs.Booleans.{parts}
 use Rattle.rte_image_reading.proofs.Words.{same_words}
-use Rattle.rte_image_reading.proofs.Sound.{checked_sound, both_sound, via_sound, given_sound, each_sound}
-use Rattle.rte_image_reading.proofs.SoundFields.{u16_sound, bytes_sound}
+use Rattle.rte_format.proofs.Sound.{checked_sound, both_sound, via_sound, given_sound, each_sound}
+use Rattle.rte_format.proofs.SoundFields.{u16_sound, bytes_sound}
 use Rattle.rte_image_sound.proofs.Fields.{pair_sound, u16_within_sound, each_long, name_sound, device_sound, named_monitor_sound, condition_sound, counts_sound, routine_sound, named_process_sound}
 use Rattle.rte_image_sound.proofs.Instructions.{instr_sound, instr_is_written}
 
@@ -200,7 +200,7 @@ monitors_are_written : (taken : List (List ℕ)) (earlier ms : List (List ℕ ×
 monitors_are_written taken earlier [] = refl
 monitors_are_written taken earlier (m ∷ ms) = ap (λ (more : List ℕ). monitor_bytes m.0 m.1 ++ more) (monitors_are_written taken (earlier ++ m ∷ []) ms)
 
-tree_is_written : (monitors depth : ℕ) (tree : Segs) → (tree_format monitors depth).write tree ≡ tree_bytes tree
+tree_is_written : (monitors depth : ℕ) (tree : Segs) → (tree_format (in_image monitors) depth).write tree ≡ tree_bytes tree
 unfolding tree_format
 tree_is_written monitors zero tree = refl
 tree_is_written monitors (suc depth) tree = refl

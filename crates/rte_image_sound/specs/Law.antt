@@ -2,11 +2,11 @@
 use Rattle.std.specs.Prelude.{◌≡◌, ◌≤◌, ◌<◌, ◌++◌, ◌↔◌, ℕ, true, List, [], Ok, length, take}
 use Rattle.rte_image.specs.Bytes.{Version, bytes_of}
 use Rattle.rte_machine_meaning.specs.Trees.{Segs}
-use Rattle.rte_image.specs.TreeBytes.{tree_bytes}
+use Rattle.rte_format.specs.TreeBytes.{tree_bytes}
 use Rattle.rte_image_reading.specs.Answer.{HasFault}
 use Rattle.rte_image_reading.specs.File.{Parts, image_format, image_with, longest, read_file}
-use Rattle.rte_image_reading.specs.Law.{AreBytes}
-use Rattle.rte_image_reading.specs.TreeFormat.{tree_format}
+use Rattle.rte_format.specs.Law.{AreBytes}
+use Rattle.rte_format.specs.TreeFormat.{in_image, tree_format}
 
 -- what is read of a file is what is written: its bytes are those of the image, in its version
 abbrev pub ImagesReadAreWritten : Type 0
@@ -32,8 +32,8 @@ CutImagesEndInsideAField =
 -- of their fields, and it nests at most so deep
 pub record BeginsWith (monitors depth : ℕ) (bytes : List ℕ) (tree : Segs) (rest : List ℕ) : Type 0 where
   pub are : bytes ≡ tree_bytes tree ++ rest
-  pub in_range : (tree_format monitors depth).is tree ≡ true
+  pub in_range : (tree_format (in_image monitors) depth).is tree ≡ true
 
 -- bytes are read as a tree exactly where they begin with its bytes
 abbrev pub TreesReadAreWritten : Type 0
-TreesReadAreWritten = (monitors depth : ℕ) (bytes : List ℕ) (tree : Segs) (rest : List ℕ) → AreBytes bytes → ((tree_format monitors depth).read bytes ≡ Ok (tree, rest)) ↔ BeginsWith monitors depth bytes tree rest
+TreesReadAreWritten = (monitors depth : ℕ) (bytes : List ℕ) (tree : Segs) (rest : List ℕ) → AreBytes bytes → ((tree_format (in_image monitors) depth).read bytes ≡ Ok (tree, rest)) ↔ BeginsWith monitors depth bytes tree rest

@@ -1,14 +1,15 @@
 -- What the table says once more is kept in it, and what it finds.
-use Rattle.std.proofs.Common.{◌≡◌, ◌∙◌, sym, ap, refl, ℕ, suc, ◌+◌, Bool, true, false, cond, List, [], ◌∷◌, Option, Some, None, if◌then◌else◌, map, length, arith}
+use Rattle.std.proofs.Common.{◌≤◌, ◌<◌, drop, get_or, ◌≡◌, ◌∙◌, sym, ap, refl, ℕ, suc, ◌+◌, Bool, true, false, cond, List, [], ◌∷◌, Option, Some, None, if◌then◌else◌, map, length, arith}
 use Rattle.std.specs.Prelude.{option_map, bytes_eq, is_some, slice_get, find, unwrap_or}
 use Rattle.std.specs.Borrow.{Bor}
 use Rattle.std.specs.Map.{lookup}
+use Rattle.std.proofs.lemmas.List.{drop_all, drop_more}
 use Rattle.std.proofs.lemmas.Cmp.{nat_list_eq_equiv}
 use Rattle.std.proofs.lemmas.Slice.Eq.{bytes_eq-Decides}
 use Rattle.rte_tree.specs.Plain.{Name}
 use Rattle.rte_source_meaning.specs.Names.{named, place_of}
 use Rattle.rte_source_meaning.specs.Run.{or_else}
-use Rattle.rte_name_list.specs.First.{index_of, first_index, with_first, with_names, nothing}
+use Rattle.rte_name_list.specs.First.{index_of, names_of, first_index, with_first, with_names, nothing}
 
 or-none : {A : Type 0} (o : Option A) → or_else o None ≡ o
 or-none None = refl
@@ -100,3 +101,29 @@ place-index n (m ∷ ms) = by-test (later (index_of n ms) (length ms) ∙ ap (λ
     by-test : unwrap_or (option_map (λ k. suc k) (index_of n ms)) (suc (length ms)) ≡ suc (place_of n ms) → (b : Bool) → unwrap_or (cond b (Some 0) (option_map (λ k. suc k) (index_of n ms))) (suc (length ms)) ≡ cond b 0 (suc (place_of n ms))
     by-test rest true = refl
     by-test rest false = rest
+
+-- ---- names looked at one by one
+
+-- what is found from an index on, as an index in the whole list
+abbrev pub from_on : (i : ℕ) → Name → List (Bor Name) → Option ℕ
+from_on i n ns = option_map (λ k. i + k) (index_of n (names_of (drop i ns)))
+
+next : (n : Name) (ns : List (Bor Name)) (i : ℕ) (d : Bor Name) (b : Bool) → i < length ns → bytes_eq (get_or ns i d).now n ≡ b
+    → index_of n (names_of (drop i ns)) ≡ cond b (Some 0) (option_map (λ k. suc k) (index_of n (names_of (drop (i + 1) ns))))
+next n ns i d b low is =
+    ap (λ xs. index_of n (names_of xs)) (drop_more ns i d low) ∙ ap (λ t. cond t (Some 0) (option_map (λ k. suc k) (index_of n (names_of (drop (i + 1) ns))))) is
+
+pub found-here : (n : Name) (ns : List (Bor Name)) (i : ℕ) (d : Bor Name) (all : Option ℕ) → i < length ns → bytes_eq (get_or ns i d).now n ≡ true → from_on i n ns ≡ all → Some i ≡ all
+found-here n ns i d all low is so_far =
+    let here : i ≡ i + 0 = omega arith in
+    ap Some here ∙ sym (ap (λ o. option_map (λ k. i + k) o) (next n ns i d true low is)) ∙ so_far
+
+one-on : (i : ℕ) (o : Option ℕ) → option_map (λ k. i + 1 + k) o ≡ option_map (λ k. i + k) (option_map (λ k. suc k) o)
+one-on i None = refl
+one-on i (Some k) = ap Some (omega arith)
+
+pub not-here : (n : Name) (ns : List (Bor Name)) (i : ℕ) (d : Bor Name) (all : Option ℕ) → i < length ns → bytes_eq (get_or ns i d).now n ≡ false → from_on i n ns ≡ all → from_on (i + 1) n ns ≡ all
+not-here n ns i d all low is so_far = one-on i (index_of n (names_of (drop (i + 1) ns))) ∙ sym (ap (λ o. option_map (λ k. i + k) o) (next n ns i d false low is)) ∙ so_far
+
+pub nowhere : (n : Name) (ns : List (Bor Name)) (i : ℕ) (all : Option ℕ) → length ns ≤ i → from_on i n ns ≡ all → None ≡ all
+nowhere n ns i all past so_far = sym (ap (λ xs. option_map (λ k. i + k) (index_of n (names_of xs))) (drop_all i ns past)) ∙ so_far

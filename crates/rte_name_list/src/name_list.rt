@@ -1,7 +1,7 @@
 //! Lists of names.
 
 ghost use Rattle.std.specs.Prelude.{◌≡◌, ℕ, map, length, IfOk, OnOk};
-ghost use Rattle.rte_name_list.specs.First.{index_of, first_index, with_first};
+ghost use Rattle.rte_name_list.specs.First.{index_of, first_index, names_of, with_first};
 
 use indexmap::IndexMap;
 use rte_tree::Name;
@@ -27,6 +27,21 @@ impl<'a> Model for NameList<'a> {
     ghost view = { λ l. names_of l.names.items };
 
     ghost invariant = { λ l. FindsFirst l.first.entries (names_of l.names.items) };
+}
+
+/// Among so many names the first is found sooner one by one than in the map.
+const FEW: usize = 4;
+
+/// The index of the first of that name, from 0, found one by one.
+fn first_of(names: &[&[u8]], name: &[u8]) -> Option<usize>
+    ensures { result ≡ index_of name.now (names_of names.now) }
+{
+    for (index, one) in names.iter().enumerate() {
+        if *one == name {
+            return Some(index);
+        }
+    }
+    None
 }
 
 /// Keeps the index of a name, unless one is kept.
@@ -64,8 +79,8 @@ impl<'a> NameList<'a> {
     pub fn index(&self, name: &Name) -> Option<usize>
         ensures { result ≡ index_of name.now self.now }
     {
-        if self.names.is_empty() {
-            return None;
+        if self.names.len() <= FEW {
+            return first_of(self.names.as_slice(), name.as_bytes());
         }
         self.first.get(name.as_bytes()).copied()
     }

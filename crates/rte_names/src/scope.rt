@@ -22,10 +22,28 @@ pub struct Local<'a> {
 /// The entries of all monitors, by the place of the monitor's name.
 pub type Entries<'a> = IndexMap<(u32, u32, &'a [u8]), Declared>;
 
+/// Among so many names one is found sooner one by one than by its hash.
+const FEW: usize = 4;
+
+/// What a name is declared as in a scope, found one by one.
+fn find_few(scope: &Scope<'_>, name: &[u8]) -> Option<Declared>
+    ensures { result ≡ meaning scope.now.entries name.now }
+{
+    for (one, declared) in scope.iter() {
+        if *one == name {
+            return Some(*declared);
+        }
+    }
+    None
+}
+
 /// What a name is declared as in a scope.
 pub fn find(scope: &Scope<'_>, name: &[u8]) -> Option<Declared>
     ensures { result ≡ meaning scope.now.entries name.now }
 {
+    if scope.len() <= FEW {
+        return find_few(scope, name);
+    }
     scope.get(name).copied()
 }
 

@@ -33,7 +33,7 @@ fn body_end(raw: &RawProc, code: usize) -> usize
     requires { end_of (process_of raw.now) false ≤ code }
     ensures { result ≡ end_of (process_of raw.now) false }
 {
-    match tree_end(raw.body.as_slice(), raw.start as usize, code) {
+    match tree_end(raw.body.view(), raw.start as usize, code) {
         Some(end) => end,
         None => unreachable!(),
     }
@@ -47,7 +47,7 @@ fn handler_end(raw: &RawProc, code: usize) -> usize
     let start = raw.handler as usize;
     match &raw.handler_tree {
         None => start,
-        Some(tree) => match tree_end(tree.as_slice(), start, code) {
+        Some(tree) => match tree_end(tree.view(), start, code) {
             Some(end) => end,
             None => unreachable!(),
         },

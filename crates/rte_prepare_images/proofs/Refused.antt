@@ -7,7 +7,7 @@ use Rattle.rte_image.specs.declared.raw.RawImage.{RawImage}
 use Rattle.rte_image.specs.Bytes.{Version}
 use Rattle.rte_image_reading.specs.Answer.{HasFault}
 use Rattle.rte_image_reading.specs.File.{Parts, longest, read_file, whole_read}
-use Rattle.rte_image_reading.specs.Format.{Read, fault}
+use Rattle.rte_format.specs.Format.{Read, fault}
 use Rattle.rte_image_file.specs.Loading.{IsInvalid, Loads}
 use Rattle.rte_image_file.specs.declared.loading.FileFault.{FileFault}
 use Rattle.rte_image_file.specs.declared.loading.FileFault.TheVariants as file_fault

@@ -1,13 +1,11 @@
 //! Processes once more, with other ranks, blocks and bounds.
 
-ghost use Rattle.std.specs.Prelude.{◌≡◌, IfOk, option_map};
+ghost use Rattle.std.specs.Prelude.{◌≡◌, IfOk};
 ghost use Rattle.rte_image.specs.Raw.{process_of};
 ghost use Rattle.rte_ranking.specs.Ranking.{timed};
-ghost use Rattle.rte_seg.specs.View.{views};
 
 use rte_image::RawProc;
-use rte_seg::Segs;
-use rte_seg_copy::copied_tree;
+use rte_seg_bytes::SegTree;
 use rte_tree::List;
 use std::alloc::{AllocError, Global};
 
@@ -21,15 +19,12 @@ pub struct Times {
 }
 
 /// The tree of a handler once more, if it is there.
-fn copied_handler(alloc: Global, tree: &Option<Segs>) -> Result<Option<Segs>, AllocError>
-    ensures { IfOk result (λ copy. option_map views copy ≡ option_map views tree.now) }
+fn copied_handler(alloc: Global, tree: &Option<SegTree>) -> Result<Option<SegTree>, AllocError>
+    ensures { IfOk result (λ copy. copy ≡ tree.now) }
 {
     match tree {
         None => Ok(None),
-        Some(segs) => {
-            let copy = copied_tree(alloc, segs.as_slice())?;
-            Ok(Some(copy))
-        }
+        Some(tree) => Ok(Some(tree.copied(alloc)?)),
     }
 }
 
@@ -50,7 +45,7 @@ pub fn with_times(alloc: Global, process: &RawProc, times: Times) -> Result<RawP
     ensures { IfOk result (λ now. process_of now ≡ timed times (process_of process.now)) }
 {
     let numbers = copied_numbers(alloc, process.numbers.as_slice())?;
-    let body = copied_tree(alloc, process.body.as_slice())?;
+    let body = process.body.copied(alloc)?;
     let handler_tree = copied_handler(alloc, &process.handler_tree)?;
     Ok(RawProc {
         kind: process.kind,

@@ -6,8 +6,8 @@ use Rattle.rte_image.specs.Bytes.{Version}
 use Rattle.rte_image.specs.declared.names.CondName.{CondName}
 use Rattle.rte_image.specs.declared.names.DevName.{DevName}
 use Rattle.rte_image_reading.specs.declared.counts.Counts.{Counts}
-use Rattle.rte_image_reading.specs.Format.{Format, field_at, fault, u8, u16, u32, bytes_as_are, unless, checked, both, via}
-use Rattle.rte_image_reading.specs.TreeFormat.{within, u32_within, u16_within, u16_below, tree_format}
+use Rattle.rte_format.specs.Format.{Format, field_at, fault, u8, u16, u32, bytes_as_are, unless, checked, both, via}
+use Rattle.rte_format.specs.TreeFormat.{in_image, within, u32_within, u16_within, u16_below, tree_format}
 use Rattle.rte_image_reading.specs.Grammar as g
 use Rattle.rte_log.specs.InRange.{IsShort}
 use Rattle.rte_machine_meaning.specs.Trees.{Segs}
@@ -105,7 +105,7 @@ module _ (version : Version) (counts : Counts) (used : List ℕ) where
   abbrev rest_format : Format Rest
   rest_format =
       both g.time_format (λ time. both g.room_format (λ room. both g.handler_format (λ handler.
-      both (g.numbers_format handler.1) (λ numbers. both (tree_format counts.monitors g.deepest) (λ body. g.handler_tree_format counts.monitors handler.1)))))
+      both (g.numbers_format handler.1) (λ numbers. both (tree_format (in_image counts.monitors) g.deepest) (λ body. g.handler_tree_format counts.monitors handler.1)))))
 
   abbrev All : Type 0
   All = (ℕ × (ℕ × (ℕ × (ℕ × (ℕ × ℕ))))) × Rest

@@ -4,7 +4,7 @@ use Rattle.std.specs.Prelude.{◌&&◌, ◌||◌, ◌==◌, not, if◌then◌els
 use Rattle.std.specs.List.{list_any}
 use Rattle.std.proofs.lemmas.Bool.Decides.{nat_tests}
 use Rattle.rte_image.specs.declared.names.EventName.{EventName}
-use Rattle.rte_image_reading.specs.Format.{unless}
+use Rattle.rte_format.specs.Format.{unless}
 use Rattle.rte_image_reading.specs.Grammar as g
 use Rattle.rte_image_reading.specs.File as f
 use Rattle.rte_machine_meaning.specs.Image.{Process}

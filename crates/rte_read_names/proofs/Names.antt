@@ -16,11 +16,11 @@ use Rattle.rte_image.specs.declared.raw.RawProc.{RawProc}
 use Rattle.rte_image.specs.declared.raw.RawImage.{RawImage}
 use Rattle.rte_image_reading.specs.declared.counts.Counts.{Counts}
 use Rattle.rte_image_reading.specs.Answer.{Holds, parts_of}
-use Rattle.rte_image_reading.specs.Format.{Format, ◌>>=◌, each_read, fault, both}
-use Rattle.rte_image_reading.specs.TreeFormat.{u32_within, u16_within}
+use Rattle.rte_format.specs.Format.{Format, ◌>>=◌, each_read, fault, both}
+use Rattle.rte_format.specs.TreeFormat.{u32_within, u16_within}
 use Rattle.rte_image_reading.specs.Grammar as g
 use Rattle.rte_image_reading.specs.File as f
-use Rattle.rte_image_reading.proofs.Sound.{came}
+use Rattle.rte_format.proofs.Sound.{came}
 use Rattle.rte_log.specs.InRange.{IsShort}
 use Rattle.rte_script.specs.Scripts.{frame_of}
 use Rattle.rte_valid_limits.proofs.Readings.{okay, same_ok, two, seen, many, in_u16}

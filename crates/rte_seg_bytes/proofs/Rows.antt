@@ -2,9 +2,10 @@
 use Rattle.std.proofs.Common.{◌≡◌, ℕ, suc, ◌-◌, ◌+◌, ◌≤◌, ◌<◌, List, true, false, Result, Ok, Err, refl, sym, ap, ◌∙◌, arith}
 use Rattle.std.specs.Result.{is_ok}
 use Rattle.rte_machine_meaning.specs.Trees.{Seg, Segs, Nil, Cons}
-use Rattle.rte_image_reading.specs.declared.fault.Fault.{Fault}
-use Rattle.rte_image_reading.specs.Format.{◌>>=◌, Format, Read, u32}
-use Rattle.rte_image_reading.specs.TreeFormat.{seg_format, segs_read, tree_format}
+use Rattle.rte_format.specs.declared.fault.Fault.{Fault}
+use Rattle.rte_format.specs.declared.limits.Limits.{Limits}
+use Rattle.rte_format.specs.Format.{◌>>=◌, Format, Read, u32}
+use Rattle.rte_format.specs.TreeFormat.{seg_format, segs_read, tree_format, within_limits}
 use Rattle.rte_seg_bytes.specs.Rows.{left_of, row_in, row_read}
 
 more : (s : Seg) (r : Read Segs) → left_of (r >>= λ rest. Ok (Cons s rest.0, rest.1)) ≡ left_of r
@@ -51,12 +52,12 @@ pub went_well : (r : Read Segs) (x : Segs) (rest : List ℕ) → r ≡ Ok (x, re
 went_well r x rest h = ap is_ok h
 
 -- a tree at a depth above 0 is a row of segments of one less
-pub deeper : (monitors depth count : ℕ) (bytes rest : List ℕ) → 0 < depth → u32.read bytes ≡ Ok (count, rest)
-    → (tree_format monitors depth).read bytes ≡ row_read monitors (depth - 1) count rest
+pub deeper : (limits : Limits) (depth count : ℕ) (bytes rest : List ℕ) → 0 < depth → u32.read bytes ≡ Ok (count, rest)
+    → (tree_format (within_limits limits) depth).read bytes ≡ row_read limits (depth - 1) count rest
 unfolding tree_format
-deeper monitors depth count bytes rest pos number =
+deeper limits depth count bytes rest pos number =
     let k : depth ≡ suc (depth - 1) = omega arith in
-    ap (λ d. (tree_format monitors d).read bytes) k ∙ ap (λ (r : Result (ℕ × List ℕ) Fault). r >>= λ n. segs_read (seg_format monitors (tree_format monitors (depth - 1))) n.0 n.1) number
+    ap (λ d. (tree_format (within_limits limits) d).read bytes) k ∙ ap (λ (r : Result (ℕ × List ℕ) Fault). r >>= λ n. segs_read (seg_format (within_limits limits) (tree_format (within_limits limits) (depth - 1))) n.0 n.1) number
 
 -- the first of some segments, and the rest
 pub record Split (f : Format Seg) (count : ℕ) (bytes : List ℕ) (s : Seg) (after : List ℕ) : Type 0 where

@@ -1,13 +1,21 @@
 -- Segments side by side, as bytes are read by the format of images.
 use Rattle.std.specs.Prelude.{ℕ, List, Ok, Err, Result}
-use Rattle.rte_machine_meaning.specs.Trees.{Segs, Nil}
-use Rattle.rte_image_reading.specs.declared.fault.Fault.{Fault}
-use Rattle.rte_image_reading.specs.Format.{Read}
-use Rattle.rte_image_reading.specs.TreeFormat.{seg_format, segs_read, tree_format}
+use Rattle.rte_machine_meaning.specs.Trees.{Seg, Segs, Nil}
+use Rattle.rte_format.specs.declared.fault.Fault.{Fault}
+use Rattle.rte_format.specs.declared.limits.Limits.{Limits}
+use Rattle.rte_format.specs.Format.{Format, Read}
+use Rattle.rte_format.specs.TreeFormat.{seg_format, segs_read, tree_format, within_limits}
+
+-- trees with numbers within the limits, which nest at most so deep, and segments of such trees
+abbrev pub tree_within : Limits → (depth : ℕ) → Format Segs
+tree_within limits depth = tree_format (within_limits limits) depth
+
+abbrev pub seg_within : Limits → (depth : ℕ) → Format Seg
+seg_within limits depth = seg_format (within_limits limits) (tree_within limits depth)
 
 -- so many segments, whose inner trees nest at most so deep
-abbrev pub row_read : (monitors depth count : ℕ) → List ℕ → Read Segs
-row_read monitors depth count bytes = segs_read (seg_format monitors (tree_format monitors depth)) count bytes
+abbrev pub row_read : Limits → (depth count : ℕ) → List ℕ → Read Segs
+row_read limits depth count bytes = segs_read (seg_within limits depth) count bytes
 
 -- the segments that were read
 abbrev pub row_in : Read Segs → Segs

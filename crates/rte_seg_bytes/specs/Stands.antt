@@ -8,7 +8,7 @@ use Rattle.rte_seg_bytes.specs.Rows.{row_in, row_read}
 
 -- the tree that its bytes are read as
 unfoldable pub tree_in : SegBytes → tree.Segs
-tree_in s = row_in (row_read s.monitors s.depth s.count s.bytes.now)
+tree_in s = row_in (row_read s.limits s.depth s.count s.bytes.now)
 
 -- a segment, with the trees that its views stand for
 abbrev pub item_in : SegItem → tree.Seg

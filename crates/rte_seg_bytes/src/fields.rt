@@ -2,10 +2,10 @@
 
 ghost use Rattle.std.specs.Prelude.{◌≡◌, length};
 ghost use Rattle.rte_seg_bytes.specs.Answers.{Gives};
-ghost use Rattle.rte_image_reading.specs.Format.{u8 as one_byte, u16 as two_bytes, u32 as four_bytes};
-ghost use Rattle.rte_image_reading.specs.TreeFormat.{u16_below as below, u32_within as long_within};
+ghost use Rattle.rte_format.specs.Format.{u8 as one_byte, u16 as two_bytes, u32 as four_bytes};
+ghost use Rattle.rte_format.specs.TreeFormat.{u16_below as below, u32_within as long_within};
 
-use rte_image_reading::Fault;
+use rte_format::Fault;
 
 /// The fault of bytes that end inside a field.
 const ENDS: Fault = Fault { number: 2, left: 0 };
@@ -67,11 +67,11 @@ pub fn u32_within(bytes: &[u8], low: u32, high: u32) -> Result<(u32, &[u8]), Fau
 }
 
 /// The number of one of so many things.
-pub fn u16_below(bytes: &[u8], count: u16) -> Result<(u16, &[u8]), Fault>
+pub fn u16_below(bytes: &[u8], count: u32) -> Result<(u16, &[u8]), Fault>
     ensures { Gives (λ x. (x.0, x.1.now)) result ((below count).read bytes.now) }
 {
     let (number, rest) = u16_at(bytes)?;
-    if number < count {
+    if u32::from(number) < count {
         Ok((number, rest))
     } else {
         Err(outside(bytes))

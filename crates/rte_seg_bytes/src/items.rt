@@ -20,10 +20,10 @@ impl<'a> SegBytes<'a> {
         if self.count == 0 {
             return None;
         }
-        match item_at(self.monitors, self.depth, self.bytes) {
+        match item_at(self.limits, self.depth, self.bytes) {
             Ok((item, bytes)) => {
                 let rest = SegBytes {
-                    monitors: self.monitors,
+                    limits: self.limits,
                     depth: self.depth,
                     count: self.count - 1,
                     bytes,

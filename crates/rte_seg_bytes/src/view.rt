@@ -3,18 +3,20 @@
 ghost use Rattle.std.specs.Prelude.{IsOk};
 ghost use Rattle.rte_seg_bytes.specs.Rows.{row_read};
 
+use rte_format::Limits;
+
 /// Segments one after the other, as the bytes tell them.
 #[derive(Clone, Copy)]
 pub struct SegBytes<'a> {
-    /// How many monitors there are.
-    pub(crate) monitors: u16,
+    /// Within what its numbers are.
+    pub(crate) limits: Limits,
     /// How deep inner trees nest at most.
     pub(crate) depth: u32,
     /// How many segments stand side by side.
     pub(crate) count: u32,
     /// The bytes from the first of them on.
     pub(crate) bytes: &'a [u8],
-    ghost are_read: { IsOk (row_read monitors depth count bytes.now) },
+    ghost are_read: { IsOk (row_read limits depth count bytes.now) },
 }
 
 /// A segment, with a view of each inner tree.

@@ -24,7 +24,7 @@ pub struct Image {
 
 impl Model for Image {
     ghost use Rattle.rte_image.specs.Named.{NamedImage};
-    ghost use Rattle.rte_shape.specs.TreeCode.{coded_segs};
+    ghost use Rattle.rte_seg_bytes.specs.TreeCode.{coded_segs};
     ghost use Rattle.rte_verify.specs.Verified.{IsVerified};
     ghost use Rattle.std.specs.Coded.{codes};
 

@@ -36,7 +36,7 @@ impl Model for Shape {
     ghost use Rattle.rte_image.specs.Named.{NamedImage};
     ghost use Rattle.rte_image.specs.Raw.{named_of};
     ghost use Rattle.rte_shape.specs.Shape.{IsKept};
-    ghost use Rattle.rte_shape.specs.TreeCode.{coded_segs};
+    ghost use Rattle.rte_seg_bytes.specs.TreeCode.{coded_segs};
     ghost use Rattle.std.specs.Coded.{codes};
 
     ghost Value = { NamedImage };

@@ -44,19 +44,37 @@ impl<'a, P: Print> Stdout<'a, P> {
     }
 }
 
+impl<'a, P: Print> Stdout<'a, P> {
+    /// Writes what waits, and puts a piece that did not fit behind it: it waits, or is written at
+    /// once where it is longer than what may wait, or there is no memory for it.
+    #[inline(never)]
+    fn put_past(&mut self, piece: &[u8]) -> Result<(), SinkFailed>
+        ensures failed { let state = ⟦<Stdout<'a, P> as Sink>⟧.state in
+            OnErr result (Rose (state self.old).faults (state self.new).faults) }
+        ensures quiet { let state = ⟦<Stdout<'a, P> as Sink>⟧.state in
+            OnOk result ((state self.new).faults ≡ (state self.old).faults) }
+        ensures count { let state = ⟦<Stdout<'a, P> as Sink>⟧.state in
+            (state self.old).faults ≤ (state self.new).faults }
+    {
+        self.flush()?;
+        if piece.len() <= ROOM && self.waiting.extend_from_slice(piece).is_ok() {
+            return Ok(());
+        }
+        self.sink.put(piece)
+    }
+}
+
 impl<'a, P: Print> Sink for Stdout<'a, P> {
     ghost use Rattle.std.specs.Prelude.{None};
 
     ghost state = { λ s. record { taken = None; faults = (⟦<RealSink<'a, P> as Sink>⟧.state s.sink).faults } };
 
     fn put(&mut self, piece: &[u8]) -> Result<(), SinkFailed> {
-        if piece.len() > ROOM - self.waiting.len().min(ROOM) {
-            self.flush()?;
+        if piece.len() <= ROOM - self.waiting.len().min(ROOM)
+            && self.waiting.extend_from_slice(piece).is_ok()
+        {
+            return Ok(());
         }
-        if piece.len() > ROOM || self.waiting.extend_from_slice(piece).is_err() {
-            self.flush()?;
-            return self.sink.put(piece);
-        }
-        Ok(())
+        self.put_past(piece)
     }
 }

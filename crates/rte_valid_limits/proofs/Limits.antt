@@ -13,11 +13,11 @@ use Rattle.rte_image.specs.declared.names.CondName.{CondName}
 use Rattle.rte_image.specs.declared.names.DevName.{DevName}
 use Rattle.rte_image_reading.specs.declared.counts.Counts.{Counts}
 use Rattle.rte_image_reading.specs.Answer.{parts_of}
-use Rattle.rte_image_reading.specs.Format.{Format, u8, u16, u32, fault, unless, checked, both}
-use Rattle.rte_image_reading.specs.TreeFormat.{u32_within, u16_within, tree_format}
+use Rattle.rte_format.specs.Format.{Format, u8, u16, u32, fault, unless, checked, both}
+use Rattle.rte_format.specs.TreeFormat.{in_image, u32_within, u16_within, tree_format}
 use Rattle.rte_image_reading.specs.Grammar as g
 use Rattle.rte_image_reading.specs.File as f
-use Rattle.rte_image_reading.proofs.Sound.{came}
+use Rattle.rte_format.proofs.Sound.{came}
 use Rattle.rte_valid.specs.Valid.{HasLimits, IsInLimits, HasHandler}
 use Rattle.rte_valid_limits.specs.Law.{ImagesReadHaveFewMonitors, ImagesReadHaveLimits}
 use Rattle.rte_valid_limits.proofs.Readings.{okay, same_ok, kept, two, seen, many, in_u32, in_u16, below}
@@ -53,7 +53,7 @@ module _ (version : Version) (counts : Counts) (used : List ℕ) where
   with_stack = both (u32_within 0 4096) (λ stack. with_locals)
 
   abbrev with_trees : ℕ × ℕ → Format (Segs × Option Segs)
-  with_trees handler = both (tree_format counts.monitors g.deepest) (λ body. g.handler_tree_format counts.monitors handler.1)
+  with_trees handler = both (tree_format (in_image counts.monitors) g.deepest) (λ body. g.handler_tree_format counts.monitors handler.1)
 
   abbrev with_numbers : ℕ × ℕ → Format (List ℕ × (Segs × Option Segs))
   with_numbers handler = both (g.numbers_format handler.1) (λ numbers. with_trees handler)
@@ -105,7 +105,7 @@ module _ (version : Version) (counts : Counts) (used : List ℕ) where
   has_handler zero (n ∷ ns) p o bytes rest long same is = absurd (omega (arith, long))
   has_handler (suc count) [] p o bytes rest long same is = absurd (omega (arith, long))
   has_handler (suc count) (n ∷ ns) p o bytes rest long same is =
-      let a = came ((tree_format counts.monitors g.deepest).read bytes) (λ (x : Segs × List ℕ). okay (Some x.0, x.1)) (o, rest) is in
+      let a = came ((tree_format (in_image counts.monitors) g.deepest).read bytes) (λ (x : Segs × List ℕ). okay (Some x.0, x.1)) (o, rest) is in
       subst (λ (y : Option Segs × List ℕ). HasHandler p y.0) (same_ok (Some a.x.0, a.x.1) (o, rest) a.then_is) (λ none. absurd (let e : n ∷ ns ≡ [] = sym same ∙ none in cc))
 
   process_limits : (bytes : List ℕ) (p : Process) (rest : List ℕ) → (g.process_format version counts used).read bytes ≡ Ok (p, rest) → IsInLimits p
@@ -129,7 +129,7 @@ module _ (version : Version) (counts : Counts) (used : List ℕ) where
           let stack = two (u32_within 0 4096) (λ stack. with_locals) words.rest (x.1.1.0.1, m.rest) words.two in
           let h = two g.handler_format with_numbers m.rest (x.1.1.1, rest) m.two in
           let n = two (g.numbers_format x.1.1.1.0.1) (λ numbers. with_trees x.1.1.1.0) h.rest (x.1.1.1.1, rest) h.two in
-          let b = two (tree_format counts.monitors g.deepest) (λ body. g.handler_tree_format counts.monitors x.1.1.1.0.1) n.rest (x.1.1.1.1.1, rest) n.two in
+          let b = two (tree_format (in_image counts.monitors) g.deepest) (λ body. g.handler_tree_format counts.monitors x.1.1.1.0.1) n.rest (x.1.1.1.1.1, rest) n.two in
           let numbers = many (λ earlier. checked u16 (g.wrong_number earlier)) [] x.1.1.1.0.1 h.rest (x.1.1.1.1.0, n.rest) n.one in
           let f = in_u32 10 1000000000 kind.rest x.0.1.0 frame.rest frame.one in
           let d = deadline_within version x.0.1.0 frame.rest (x.0.1.1.0, deadline.rest) f.0 deadline.one in
@@ -160,7 +160,7 @@ module _ (counts : Counts) where
   with_owner kind = both (checked u16 (g.wrong_owner counts kind)) (λ owner. with_params)
 
   abbrev with_tree : (kind : ℕ) → Format ((ℕ × (ℕ × (ℕ × (ℕ × ℕ)))) × Segs)
-  with_tree kind = both (g.cost_format kind) (λ c. tree_format counts.monitors g.deepest)
+  with_tree kind = both (g.cost_format kind) (λ c. tree_format (in_image counts.monitors) g.deepest)
 
   abbrev Whole : Type 0
   Whole = (ℕ × (ℕ × (ℕ × (ℕ × Bool)))) × ((ℕ × (ℕ × (ℕ × (ℕ × ℕ)))) × Segs)

@@ -2,10 +2,10 @@
 use Rattle.std.proofs.Common.{◌≡◌, ◌≤◌, ◌<◌, ◌++◌, ℕ, zero, suc, Bool, true, false, List, [], ◌∷◌, length, Result, Ok, Err, Option, Some, None, refl, ap, subst, arith}
 use Rattle.std.specs.Prelude.{◌&&◌, nat_le, nat_lt, slice_get}
 use Rattle.std.proofs.lemmas.Bool.Decides.{nat_tests}
-use Rattle.rte_image_reading.specs.declared.fault.Fault.{Fault}
-use Rattle.rte_image_reading.specs.Format.{Format, ◌>>=◌, unless, passed, checked, both, each_read, u16, u32}
-use Rattle.rte_image_reading.specs.TreeFormat.{within, u32_within, u16_within}
-use Rattle.rte_image_reading.proofs.Sound.{came}
+use Rattle.rte_format.specs.declared.fault.Fault.{Fault}
+use Rattle.rte_format.specs.Format.{Format, ◌>>=◌, unless, passed, checked, both, each_read, u16, u32}
+use Rattle.rte_format.specs.TreeFormat.{within, u32_within, u16_within}
+use Rattle.rte_format.proofs.Sound.{came}
 
 abbrev pub okay : {A : Type 0} → A → Result A Fault
 okay x = Ok x

@@ -8,7 +8,6 @@ use Rattle.rte_image.specs.declared.raw.RawProc.{RawProc}
 use Rattle.rte_image.specs.Raw.{image_of, routine_of, process_of}
 use Rattle.rte_machine_meaning.specs.Trees.{Segs, size}
 use Rattle.rte_machine_meaning.specs.Image.{Process}
-use Rattle.rte_seg.specs.View.{views}
 use Rattle.rte_valid.specs.Fault.{Fault, unless, first_of, of_some, first_in}
 use Rattle.rte_valid.specs.Found.{Found}
 use Rattle.rte_valid.specs.Pieces.{pieces, piece_of_routine, piece_of_process, due_start, end_of_piece, handler_length, piece_number}
@@ -36,7 +35,7 @@ both_of raw p = two (hold (body_found (image_of raw) (process_of p))) (hold (han
 -- what the code says, by its rows
 abbrev pub coded : RawImage → Parts → RawProc → Option Two
 coded raw parts p =
-    two (hold (part_found raw.code (map known_of parts.known) (views p.body) p.start)) (hold (handler_in raw.code (map known_of parts.known) (option_map views p.handler_tree) (handler_start (process_of p))))
+    two (hold (part_found raw.code (map known_of parts.known) p.body p.start)) (hold (handler_in raw.code (map known_of parts.known) p.handler_tree (handler_start (process_of p))))
 
 -- before process k
 pub record BeforeProcess (raw : RawImage) (parts : Parts) (k : ℕ) : Type 0 where
@@ -64,8 +63,8 @@ handler_alike raw parts p (Some tree) same = part_alike raw.code (map known_of p
 
 coded_alike : (raw : RawImage) (parts : Parts) (p : RawProc) → AreAlike (map known_of parts.known) (known (image_of raw)) → coded raw parts p ≡ both_of raw p
 coded_alike raw parts p same =
-    ap (λ o. two o (hold (handler_in raw.code (map known_of parts.known) (option_map views p.handler_tree) (handler_start (process_of p))))) (part_alike raw.code (map known_of parts.known) (known (image_of raw)) (views p.body) p.start same)
-    ∙ ap (λ o. two (hold (body_found (image_of raw) (process_of p))) o) (handler_alike raw parts (process_of p) (option_map views p.handler_tree) same)
+    ap (λ o. two o (hold (handler_in raw.code (map known_of parts.known) p.handler_tree (handler_start (process_of p))))) (part_alike raw.code (map known_of parts.known) (known (image_of raw)) p.body p.start same)
+    ∙ ap (λ o. two (hold (body_found (image_of raw) (process_of p))) o) (handler_alike raw parts (process_of p) p.handler_tree same)
 
 process_none : (b : Bool) (x y : Option Found) → None ≡ guard_two b (two (hold x) (hold y)) → b && (is_found x && is_found y) ≡ false
 process_none false x y none = refl
@@ -93,7 +92,7 @@ process_stops raw parts k p before low is none =
     sym (one_here (process_at raw) (length raw.processes - k) k _ (omega (arith, low)) one) ∙ before.rest
 
 process_piece : (raw : RawImage) (k : ℕ) (p : RawProc) → slice_get raw.processes k ≡ Some p
-    → due_start (pieces (image_of raw)) (piece_number (image_of raw) (k + 1)) ≡ p.start + (size (views p.body) + 1 + handler_length (option_map views p.handler_tree))
+    → due_start (pieces (image_of raw)) (piece_number (image_of raw) (k + 1)) ≡ p.start + (size p.body + 1 + handler_length p.handler_tree)
 process_piece raw k p is =
     let e : piece_number (image_of raw) (k + 1) ≡ suc (piece_number (image_of raw) k) = omega arith in
     let at : slice_get (pieces (image_of raw)) (piece_number (image_of raw) k) ≡ Some (piece_of_process (process_of p)) =
@@ -110,7 +109,7 @@ same_routines raw parts new are known_same routines_same = record {
 
 pub next_process : (raw : RawImage) (parts new : Parts) (k : ℕ) (p : RawProc) (found : ProcessFound) → BeforeProcess raw parts k → slice_get raw.processes k ≡ Some p
     → told_process (Some found) ≡ guard_two (nat_eq p.start parts.end) (coded raw parts p)
-    → found.end ≡ handler_start (process_of p) + handler_length (option_map views p.handler_tree) → found.end ≤ length raw.code
+    → found.end ≡ handler_start (process_of p) + handler_length p.handler_tree → found.end ≤ length raw.code
     → new.known ≡ parts.known → new.routines ≡ parts.routines → new.processes ≡ parts.processes ++ found ∷ [] → new.end ≡ found.end → BeforeProcess raw new (k + 1)
 next_process raw parts new k p found before is some end within known-is routines-is processes-is end-is =
     let due = due_start (pieces (image_of raw)) (piece_number (image_of raw) k) in

@@ -9,7 +9,6 @@ use Rattle.rte_image.specs.declared.raw.RawImage.{RawImage}
 use Rattle.rte_image.specs.declared.raw.RawRoutine.{RawRoutine}
 use Rattle.rte_image.specs.Raw.{image_of, routine_of}
 use Rattle.rte_machine_meaning.specs.Trees.{size}
-use Rattle.rte_seg.specs.View.{views}
 use Rattle.rte_valid.specs.Fault.{unless, first_of, first_in}
 use Rattle.rte_valid.specs.Found.{guard}
 use Rattle.rte_valid.specs.Pieces.{pieces, due_start}
@@ -31,7 +30,7 @@ use Rattle.rte_valid_shape.proofs.Shaping.{Before, test_at, here, same_due, shap
 
 pub on : (raw : RawImage) (parts new : Parts) (r : ℕ) (x : RawRoutine) (part : PartFound) (row : code.Known) → Before raw parts r → slice_get raw.routines r ≡ Some x
     → Some (found_of part.found) ≡ hold (guard (nat_eq x.start parts.end) (routine_found raw.code (map known_of parts.known) (routine_of x)))
-    → part.found.next ≡ x.start + size (views x.tree) → part.found.next < length raw.code
+    → part.found.next ≡ x.start + size x.tree → part.found.next < length raw.code
     → part.stay ≡ cap (stay_in (monitor_of (routine_of x)) (routine_found raw.code (map known_of parts.known) (routine_of x)))
     → known_of row ≡ row_of x part.found.depth
     → new.known ≡ parts.known ++ row ∷ [] → new.routines ≡ parts.routines ++ part ∷ [] → new.end ≡ part.found.next + 1 → Before raw new (r + 1)

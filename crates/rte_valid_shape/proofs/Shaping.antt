@@ -9,7 +9,6 @@ use Rattle.rte_image.specs.declared.raw.RawImage.{RawImage}
 use Rattle.rte_image.specs.declared.raw.RawRoutine.{RawRoutine}
 use Rattle.rte_image.specs.Raw.{image_of, routine_of}
 use Rattle.rte_machine_meaning.specs.Trees.{size}
-use Rattle.rte_seg.specs.View.{views}
 use Rattle.rte_valid.specs.Fault.{Fault, unless, first_of, of_some, first_in}
 use Rattle.rte_valid.specs.Found.{Known, Found, amount, guard}
 use Rattle.rte_valid.specs.Pieces.{pieces, piece_of_routine, piece_of_process, due_start, end_of_piece}
@@ -92,7 +91,7 @@ stops raw parts r x before low is none =
 
 -- ---- the next routine
 
-pub piece_here : (raw : RawImage) (r : ℕ) (x : RawRoutine) → slice_get raw.routines r ≡ Some x → due_start (pieces (image_of raw)) (r + 1) ≡ x.start + (size (views x.tree) + 1)
+pub piece_here : (raw : RawImage) (r : ℕ) (x : RawRoutine) → slice_get raw.routines r ≡ Some x → due_start (pieces (image_of raw)) (r + 1) ≡ x.start + (size x.tree + 1)
 piece_here raw r x is =
     let e : r + 1 ≡ suc r = omega arith in
     let low : r < length (map piece_of_routine (image_of raw).routines) = omega (arith, slice_get_within raw.routines r x is, length-map (image_of raw).routines piece_of_routine, length-map raw.routines routine_of) in

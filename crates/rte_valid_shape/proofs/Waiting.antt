@@ -10,7 +10,6 @@ use Rattle.rte_image.specs.declared.raw.RawRoutine.{RawRoutine}
 use Rattle.rte_image.specs.Raw.{image_of, routine_of, process_of}
 use Rattle.rte_machine_meaning.specs.Trees.{Seg, Segs, Line, Fork, Rep, Call, Stay, Wait, Exit, Nil, Cons}
 use Rattle.rte_machine_meaning.specs.Image.{Process}
-use Rattle.rte_seg.specs.View.{views}
 use Rattle.rte_valid.specs.Fault.{Fault, unless, of_some}
 use Rattle.rte_valid.specs.Shape.{is_handler}
 use Rattle.rte_valid.specs.Tables.{Reach, handler_start, waits_of, waits_at, seg_waits, tree_waits, reach, reach_of}
@@ -45,7 +44,7 @@ pub record BeforeRow (raw : RawImage) (waits : List Bool) (r : ℕ) : Type 0 whe
 pub first_row : (raw : RawImage) (waits : List Bool) → waits ≡ [] → BeforeRow raw waits 0
 first_row raw waits none = record { count = ap length none; alike = λ j. ap (λ ws. waits_at (map bare ws) j) none ∙ ap waits_of (sym (take_past 0 j (rows_of raw) (omega arith))) }
 
-next_alike : (raw : RawImage) (waits : List Bool) (next : Bool) (r : ℕ) (x : RawRoutine) → BeforeRow raw waits r → slice_get raw.routines r ≡ Some x → next ≡ tree_waits (map bare waits) (views x.tree)
+next_alike : (raw : RawImage) (waits : List Bool) (next : Bool) (r : ℕ) (x : RawRoutine) → BeforeRow raw waits r → slice_get raw.routines r ≡ Some x → next ≡ tree_waits (map bare waits) x.tree
     → IsAlike (map bare (waits ++ next ∷ [])) (take (r + 1) (rows_of raw))
 next_alike raw waits next r x before at is j = elim (cases j r) [
   | inl low ↦
@@ -54,7 +53,7 @@ next_alike raw waits next r x before at is j = elim (cases j r) [
   | inr rest ↦ elim rest [
     | inl same ↦
         slice j ∙ ap (λ o. waits_of (option_map bare o)) (pushed_last waits next j (omega (arith, same, before.count)))
-        ∙ is ∙ tree_same (map bare waits) (take r (rows_of raw)) (views x.tree) before.alike
+        ∙ is ∙ tree_same (map bare waits) (take r (rows_of raw)) x.tree before.alike
         ∙ ap waits_of (sym (row_is (reach_of (image_of raw)) (image_of raw).routines r (routine_of x) (at_image routine_of raw.routines r x at)) ∙ ap (λ n. slice_get (rows_of raw) n) (sym same) ∙ sym (take_get (r + 1) j (rows_of raw) (omega (arith, same))))
     | inr past ↦
         slice j ∙ ap (λ o. waits_of (option_map bare o)) (pushed_past waits next j (omega (arith, past, before.count)))
@@ -67,7 +66,7 @@ next_alike raw waits next r x before at is j = elim (cases j r) [
   whole : (i : ℕ) → waits_at (map bare waits) i ≡ waits_of (option_map bare (slice_get waits i))
   whole i = ap waits_of (slice_get-map bare waits i)
 
-pub next_row : (raw : RawImage) (waits new : List Bool) (next : Bool) (r : ℕ) (x : RawRoutine) → BeforeRow raw waits r → slice_get raw.routines r ≡ Some x → next ≡ tree_waits (map bare waits) (views x.tree)
+pub next_row : (raw : RawImage) (waits new : List Bool) (next : Bool) (r : ℕ) (x : RawRoutine) → BeforeRow raw waits r → slice_get raw.routines r ≡ Some x → next ≡ tree_waits (map bare waits) x.tree
     → new ≡ waits ++ next ∷ [] → BeforeRow raw new (r + 1)
 next_row raw waits new next r x before at is pushed = record {
   count = ap length pushed ∙ length-append waits (next ∷ []) ∙ ap (λ n. n + 1) before.count;

@@ -1,8 +1,8 @@
 //! Handlers.
 
-ghost use Rattle.std.specs.Prelude.{◌≡◌, IfOk, map, nat_eq, option_map, slice_get};
+ghost use Rattle.std.specs.Prelude.{◌≡◌, IfOk, map, nat_eq, slice_get};
 ghost use Rattle.rte_image.specs.Raw.{image_of, process_of};
-ghost use Rattle.rte_seg.specs.View.{view, views};
+ghost use Rattle.rte_seg_bytes.specs.Stands.{item_in, tree_in};
 ghost use Rattle.rte_valid.specs.Shape.{handler_fault as defined_fault};
 ghost use Rattle.rte_valid.specs.Tables.{handler_start, seg_waits as segment_waits, tree_waits as trees_wait, waits_at as row_waits};
 ghost use Rattle.rte_valid_code.specs.Told.{told as shown};
@@ -11,7 +11,7 @@ ghost use Rattle.rte_valid_shape.specs.Handlers.{is_right};
 
 use rte_found::tree_end;
 use rte_image::{RawImage, RawProc};
-use rte_seg::Seg;
+use rte_seg_bytes::{SegBytes, SegItem};
 use rte_tree::List;
 use rte_valid_code::Shown;
 use std::alloc::{AllocError, Global};
@@ -28,29 +28,29 @@ fn waits_at(waits: &[bool], routine: usize) -> bool
 
 /// Whether a segment reaches a WAIT, by itself or through the routines that it calls.
 #[cycle(waits)]
-fn seg_waits(waits: &[bool], seg: &Seg) -> bool
-    ensures { result ≡ segment_waits (map bare waits.now) (view seg.now) }
+fn item_waits(waits: &[bool], item: &SegItem<'_>) -> bool
+    ensures { result ≡ segment_waits (map bare waits.now) (item_in item.now) }
 {
-    match seg {
-        Seg::Line(_) | Seg::Exit => false,
-        Seg::Wait => true,
-        Seg::Call(routine) => waits_at(waits, *routine as usize),
-        Seg::Rep(turns) => tree_waits(waits, turns.get().body.as_slice()),
-        Seg::Stay(inside) => tree_waits(waits, inside.get().body.as_slice()),
-        Seg::Fork(arms) => tree_waits(waits, arms.get().first.as_slice())
-            || tree_waits(waits, arms.get().second.as_slice()),
+    match item {
+        SegItem::Line(_) | SegItem::Exit => false,
+        SegItem::Wait => true,
+        SegItem::Call(routine) => waits_at(waits, *routine as usize),
+        SegItem::Rep(_, body) | SegItem::Stay(_, body) => tree_waits(waits, *body),
+        SegItem::Fork(first, second) => tree_waits(waits, *first) || tree_waits(waits, *second),
     }
 }
 
 /// Whether a tree does.
 #[cycle(waits)]
-pub fn tree_waits(waits: &[bool], tree: &[Seg]) -> bool
-    ensures { result ≡ trees_wait (map bare waits.now) (views tree.now) }
+pub fn tree_waits(waits: &[bool], tree: SegBytes<'_>) -> bool
+    ensures { result ≡ trees_wait (map bare waits.now) (tree_in tree.entry) }
 {
-    for seg in tree {
-        if seg_waits(waits, seg) {
+    let mut rest = tree;
+    while let Some((item, after)) = rest.split_first() {
+        if item_waits(waits, &item) {
             return true;
         }
+        rest = after;
     }
     false
 }
@@ -61,7 +61,7 @@ pub fn waits_table(alloc: Global, raw: &RawImage) -> Result<List<bool>, AllocErr
 {
     let mut waits = List::new(alloc);
     for routine in raw.routines.as_slice() {
-        let next = tree_waits(waits.as_slice(), routine.tree.as_slice());
+        let next = tree_waits(waits.as_slice(), routine.tree.view());
         waits.push(next)?;
     }
     Ok(waits)
@@ -75,7 +75,7 @@ fn follows_body(process: &RawProc) -> bool
         return false;
     }
     match tree_end(
-        process.body.as_slice(),
+        process.body.view(),
         process.start as usize,
         process.handler as usize,
     ) {
@@ -87,11 +87,11 @@ fn follows_body(process: &RawProc) -> bool
 /// Whether a handler, where there is one, is where it belongs and reaches no WAIT.
 fn is_handler(waits: &[bool], process: &RawProc) -> bool
     ensures { result ≡ is_right (map bare waits.now) (process_of process.now)
-        (option_map views process.now.handler_tree) }
+        process.now.handler_tree }
 {
     match &process.handler_tree {
         None => true,
-        Some(tree) => follows_body(process) && !tree_waits(waits, tree.as_slice()),
+        Some(tree) => follows_body(process) && !tree_waits(waits, tree.view()),
     }
 }
 

@@ -1,12 +1,11 @@
 //! Starts, trees, heights and coverage.
 
-ghost use Rattle.std.specs.Prelude.{◌≡◌, ◌≤◌, ◌<◌, ◌+◌, [], IfNone, IfOk, IfSome, Some, length, map, nat_eq, option_map};
+ghost use Rattle.std.specs.Prelude.{◌≡◌, ◌≤◌, ◌<◌, ◌+◌, [], IfNone, IfOk, IfSome, Some, length, map, nat_eq};
 ghost use Rattle.rte_found.specs.Told.{EndsAt, found_of, known_of, told, told_part};
 ghost use Rattle.rte_found.specs.Whole.{stay_in};
 ghost use Rattle.rte_image.specs.Raw.{image_of, process_of, routine_of};
 ghost use Rattle.rte_machine_meaning.specs.Trees.{size};
 ghost use Rattle.rte_num.specs.Capped.{cap};
-ghost use Rattle.rte_seg.specs.View.{views};
 ghost use Rattle.rte_valid.specs.Fault.{first_in};
 ghost use Rattle.rte_valid.specs.Found.{amount, guard};
 ghost use Rattle.rte_valid.specs.Pieces.{due_start, handler_length, pieces};
@@ -21,7 +20,7 @@ use rte_found::{Found, Known, PartFound, part_found, routine_found};
 use rte_image::{RawImage, RawProc, RawRoutine};
 use rte_isa::Instr;
 use rte_num::Cost;
-use rte_seg::Segs;
+use rte_seg_bytes::SegTree;
 use rte_tree::List;
 use rte_valid_code::Shown;
 use std::alloc::{AllocError, Global};
@@ -100,7 +99,7 @@ fn routine_due(
     ensures value { told_part result ≡ hold (guard (nat_eq routine.now.start due)
         (defined_routine code.now (map known_of known.now) (routine_of routine.now))) }
     ensures ends { IfSome result (λ f. f.found.next ≡ routine.now.start +
-        size (views routine.now.tree)) }
+        size routine.now.tree) }
     ensures within { IfSome result (λ f. f.found.next < length code.now) }
     ensures stay { IfSome result (λ f. f.stay ≡
         cap (stay_in (monitor_of (routine_of routine.now))
@@ -113,17 +112,22 @@ fn routine_due(
 }
 
 /// The code of a handler, where there is one, and the address behind its END.
-fn handler_found(code: &[Instr], known: &[Known], tree: &Option<Segs>, at: usize) -> Option<Found>
+fn handler_found(
+    code: &[Instr],
+    known: &[Known],
+    tree: &Option<SegTree>,
+    at: usize,
+) -> Option<Found>
     requires { at ≤ length code.now }
     ensures value { told result ≡ hold (handler_in code.now (map known_of known.now)
-        (option_map views tree.now) at) }
-    ensures ends { IfSome result (λ f. f.next ≡ at + handler_length (option_map views tree.now)) }
+        tree.now at) }
+    ensures ends { IfSome result (λ f. f.next ≡ at + handler_length tree.now) }
     ensures within { IfSome result (λ f. f.next ≤ length code.now) }
 {
     match tree {
         None => Some(Found::nothing(at, 0)),
         Some(tree) => {
-            let found = part_found(code, known, tree.as_slice(), at)?;
+            let found = part_found(code, known, tree, at)?;
             Some(Found {
                 next: found.next + 1,
                 height: found.height,
@@ -144,17 +148,17 @@ fn process_due(
     requires { due ≤ length code.now }
     ensures value { told_process result ≡ guard_two (nat_eq process.now.start due)
         (two (hold (defined_part code.now (map known_of known.now)
-        (views process.now.body) process.now.start))
+        process.now.body process.now.start))
         (hold (handler_in code.now (map known_of known.now)
-        (option_map views process.now.handler_tree) (handler_start (process_of process.now))))) }
+        process.now.handler_tree (handler_start (process_of process.now))))) }
     ensures ends { IfSome result (λ f. f.end ≡ handler_start (process_of process.now) +
-        handler_length (option_map views process.now.handler_tree)) }
+        handler_length process.now.handler_tree) }
     ensures within { IfSome result (λ f. f.end ≤ length code.now) }
 {
     if process.start as usize != due {
         return None;
     }
-    let body = part_found(code, known, process.body.as_slice(), due)?;
+    let body = part_found(code, known, &process.body, due)?;
     let handler = handler_found(code, known, &process.handler_tree, body.next + 1)?;
     Some(ProcessFound {
         body,

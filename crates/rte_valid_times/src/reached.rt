@@ -183,6 +183,11 @@ fn of_processes(
 pub fn longest_stays(alloc: Global, image: &RawImage) -> Result<Stays, AllocError>
     ensures { IfOk result (λ s. AreStays (image_of image.now) s) }
 {
+    if image.monitors.is_empty() {
+        return Ok(Stays {
+            by_monitor: List::new(alloc),
+        });
+    }
     let addresses = addresses_by_piece(alloc, image)?;
     let calls = calls_by_piece(alloc, image, addresses.as_slice())?;
     let mut by_monitor = List::new(alloc);

@@ -2,7 +2,7 @@ use Rattle.std.proofs.Common.{◌≡◌, sym, ◌∙◌}
 use Rattle.std.proofs.lemmas.Result.{err_from_is_err_and}
 use Rattle.rte_machine_meaning.specs.Trees.{Seg, Nil, Cons}
 use Rattle.rte_seg.specs.View.{view, views}
-use Rattle.rte_image_reading.proofs.TreeLoop.{join, views-push}
+use Rattle.rte_seg_bytes.proofs.TreeLoop.{join, views-push}
 use Rattle.rte_line_fields.specs.Front.{Front, Read, front}
 use Rattle.rte_asm_lines.specs.Trees.{seg_read, segs_read, tree_read}
 use Rattle.rte_asm_lines.proofs.SegLoop.{ends, fails, goes_on, runs_out}

@@ -1,14 +1,24 @@
-use Rattle.std.proofs.Common.{◌≡◌, ◌+◌, drop, map}
+use Rattle.std.proofs.Common.{◌≡◌, ◌+◌, ◌*◌, map}
 use Rattle.rte_machine_meaning.specs.Trees.{size}
-use Rattle.rte_seg.specs.View.{views}
 use Rattle.rte_found.specs.Told.{EndsAt, found_of, known_of}
+use Rattle.rte_seg_bytes.specs.Stands.{inner_nesting, nesting, segments_left, tree_in}
 use Rattle.rte_valid.specs.Found.{founds, joined}
 use Rattle.rte_valid_held.specs.Held.{hold}
 use Rattle.rte_found.proofs.trees.+trees.Given as goal
 
-abbrev pub invariant-tree_found-loop-seg : goal.invariant-tree_found-loop-seg
-invariant-tree_found-loop-seg l = record {
-  rest : hold (joined (found_of l.so_far) (founds l.code (map known_of l.known) l.around.out l.around.held (views (drop l.seg-index l.tree)) l.so_far.next l.so_far.height)) ≡ hold (founds l.code (map known_of l.known) l.around.out l.around.held (views l.tree) l.at l.height);
-  left : l.so_far.next + size (views (drop l.seg-index l.tree)) ≡ l.at + size (views l.tree);
+abbrev pub decreases-item_found : goal.decreases-item_found
+decreases-item_found l = 2 * inner_nesting l.item.now
+
+abbrev pub decreases-tree_found : goal.decreases-tree_found
+decreases-tree_found l = 2 * nesting l.tree + 1
+
+abbrev pub invariant-tree_found-loop-item : goal.invariant-tree_found-loop-item
+invariant-tree_found-loop-item l = record {
+  rest : hold (joined (found_of l.so_far) (founds l.code (map known_of l.known) l.around.out l.around.held (tree_in l.rest) l.so_far.next l.so_far.height)) ≡ hold (founds l.code (map known_of l.known) l.around.out l.around.held (tree_in l.tree) l.at l.height);
+  left : l.so_far.next + size (tree_in l.rest) ≡ l.at + size (tree_in l.tree);
   ends : EndsAt l.code l.so_far.next l.so_far;
+  nests : nesting l.rest ≡ nesting l.tree;
 }
+
+abbrev pub decreases-tree_found-loop-item : goal.decreases-tree_found-loop-item
+decreases-tree_found-loop-item l = segments_left l.rest

@@ -1,6 +1,6 @@
 use Rattle.std.proofs.Common.{◌++◌, codes}
 use Rattle.rte_image.specs.Bytes.{Second, counts_bytes, version_bytes}
-use Rattle.rte_image.specs.Numbers.{name_bytes}
+use Rattle.rte_format.specs.Numbers.{name_bytes}
 use Rattle.rte_image.specs.Raw.{image_of}
 use Rattle.rte_image.proofs.Chain.{after}
 use Rattle.rte_image.proofs.image.put_head.Goals as goal

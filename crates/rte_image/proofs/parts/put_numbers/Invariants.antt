@@ -1,6 +1,6 @@
 use Rattle.std.proofs.Common.{◌≡◌, ◌++◌, take}
 use Rattle.std.specs.List.{flat_map}
-use Rattle.rte_image.specs.Numbers.{u16}
+use Rattle.rte_format.specs.Numbers.{u16}
 use Rattle.rte_image.proofs.parts.put_numbers.Given as goal
 
 abbrev pub invariant-loop-number : goal.invariant-loop-number

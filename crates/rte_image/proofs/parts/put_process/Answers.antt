@@ -1,8 +1,7 @@
 use Rattle.std.proofs.Common.{◌≡◌, ◌++◌, subst}
-use Rattle.rte_seg.specs.View.{views}
 use Rattle.rte_image.specs.Bytes.{Second, handler_bytes, numbers_bytes, release_bytes, room_bytes, time_bytes}
-use Rattle.rte_image.specs.Numbers.{name_bytes}
-use Rattle.rte_image.specs.TreeBytes.{tree_bytes}
+use Rattle.rte_format.specs.Numbers.{name_bytes}
+use Rattle.rte_format.specs.TreeBytes.{tree_bytes}
 use Rattle.rte_image.specs.Raw.{process_of}
 use Rattle.rte_image.proofs.Chain.{after}
 use Rattle.rte_image.proofs.parts.put_process.Goals as goal
@@ -19,11 +18,9 @@ returns c =
     let end = c.put_handler.new.out.items in
     let numbers_put : c.put_numbers.new.out.items ≡ c.put_room.new.out.items ++ numbers_bytes p.numbers =
     subst (λ ns. c.put_numbers.new.out.items ≡ c.put_room.new.out.items ++ numbers_bytes ns) c.as_slice.ensures c.in_ok-put_numbers.ensures in
-    let body_put : c.put_tree.new.out.items ≡ c.put_numbers.new.out.items ++ tree_bytes p.body =
-    subst (λ segs. c.put_tree.new.out.items ≡ c.put_numbers.new.out.items ++ tree_bytes (views segs)) c.as_slice-2.ensures c.in_ok-put_tree.ensures in
     after (name_bytes c.args.name.now) release c.args.out.now.items c.put_name.new.out.items end c.in_ok-put_name.ensures
     (after (release_bytes Second p) time c.put_name.new.out.items c.put_release.new.out.items end c.in_ok-put_release.ensures
     (after (time_bytes p) room c.put_release.new.out.items c.put_time.new.out.items end c.in_ok-put_time.ensures
     (after (room_bytes p) numbers c.put_time.new.out.items c.put_room.new.out.items end c.in_ok-put_room.ensures
     (after (numbers_bytes p.numbers) body c.put_room.new.out.items c.put_numbers.new.out.items end numbers_put
-    (after (tree_bytes p.body) handler c.put_numbers.new.out.items c.put_tree.new.out.items end body_put c.in_ok-put_handler.ensures)))))
+    (after (tree_bytes p.body) handler c.put_numbers.new.out.items c.put_tree.new.out.items end c.in_ok-put_tree.ensures c.in_ok-put_handler.ensures)))))

@@ -1,7 +1,6 @@
-use Rattle.std.proofs.Common.{◌≡◌, ◌++◌, subst}
-use Rattle.rte_seg.specs.View.{views}
+use Rattle.std.proofs.Common.{◌++◌}
 use Rattle.rte_image.specs.Bytes.{cost_bytes, owner_bytes}
-use Rattle.rte_image.specs.TreeBytes.{tree_bytes}
+use Rattle.rte_format.specs.TreeBytes.{tree_bytes}
 use Rattle.rte_image.specs.Raw.{routine_of}
 use Rattle.rte_image.proofs.Chain.{after}
 use Rattle.rte_image.proofs.parts.put_routine.Goals as goal
@@ -11,6 +10,5 @@ returns c =
     let r = routine_of c.args.routine.now in
     let tree = tree_bytes r.tree in
     let end = c.put_tree.new.out.items in
-    let tree_put : end ≡ c.put_cost.new.out.items ++ tree = subst (λ segs. end ≡ c.put_cost.new.out.items ++ tree_bytes (views segs)) c.as_slice.ensures c.in_ok-put_tree.ensures in
     after (owner_bytes r) (cost_bytes r ++ tree) c.args.out.now.items c.put_owner.new.out.items end c.in_ok-put_owner.ensures
-    (after (cost_bytes r) tree c.put_owner.new.out.items c.put_cost.new.out.items end c.in_ok-put_cost.ensures tree_put)
+    (after (cost_bytes r) tree c.put_owner.new.out.items c.put_cost.new.out.items end c.in_ok-put_cost.ensures c.in_ok-put_tree.ensures)

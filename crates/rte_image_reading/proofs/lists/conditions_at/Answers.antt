@@ -1,7 +1,7 @@
 use Rattle.std.proofs.Common.{◌≡◌, ◌++◌, ◌∷◌, [], List, Ok, ap, subst}
 use Rattle.std.proofs.lemmas.Result.{err_from_is_err_and}
-use Rattle.rte_image_reading.specs.Format.{Format, each_read}
-use Rattle.rte_image_reading.specs.Gives.{Fails}
+use Rattle.rte_format.specs.Format.{Format, each_read}
+use Rattle.rte_format.specs.Gives.{Fails}
 use Rattle.rte_image_reading.proofs.EachLoop.{ends, goes_on, is_done}
 use Rattle.rte_image.specs.declared.names.CondName.{CondName}
 use Rattle.rte_image_reading.specs.Grammar.{condition_format}

@@ -1,5 +1,5 @@
 use Rattle.std.proofs.Common.{◌≡◌, ◌-◌, []}
-use Rattle.rte_image_reading.specs.Format.{each_read}
+use Rattle.rte_format.specs.Format.{each_read}
 use Rattle.rte_image_reading.specs.Grammar.{condition_format}
 use Rattle.rte_image_reading.proofs.EachLoop.{in_front}
 use Rattle.rte_image_reading.proofs.lists.conditions_at.Given as goal

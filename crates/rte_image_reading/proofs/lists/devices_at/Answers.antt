@@ -1,8 +1,8 @@
 use Rattle.std.proofs.Common.{◌≡◌, ◌++◌, ◌∷◌, [], ℕ, List, Ok, map, sym, ap, ◌∙◌, subst, append_assoc}
 use Rattle.std.proofs.lemmas.Result.{err_from_is_err_and}
 use Rattle.std.proofs.lemmas.List.{map_push}
-use Rattle.rte_image_reading.specs.Format.{Format, each_read}
-use Rattle.rte_image_reading.specs.Gives.{Fails}
+use Rattle.rte_format.specs.Format.{Format, each_read}
+use Rattle.rte_format.specs.Gives.{Fails}
 use Rattle.rte_image_reading.proofs.EachLoop.{ends, goes_on, is_done}
 use Rattle.rte_image.specs.declared.names.DevName.{DevName}
 use Rattle.rte_image_reading.specs.Grammar.{device_format}

@@ -1,5 +1,5 @@
 use Rattle.std.proofs.Common.{◌≡◌, ◌-◌, ◌++◌, [], map}
-use Rattle.rte_image_reading.specs.Format.{each_read}
+use Rattle.rte_format.specs.Format.{each_read}
 use Rattle.rte_image_reading.specs.Grammar.{device_format}
 use Rattle.rte_image_reading.proofs.EachLoop.{in_front}
 use Rattle.rte_image_reading.proofs.lists.devices_at.Given as goal

@@ -1,6 +1,6 @@
 use Rattle.std.proofs.Common.{[], List}
 use Rattle.std.proofs.lemmas.Result.{err_from_is_err_and}
-use Rattle.rte_image_reading.specs.Format.{Format, each_read}
+use Rattle.rte_format.specs.Format.{Format, each_read}
 use Rattle.rte_image_reading.proofs.EachLoop.{ends, goes_on, is_done}
 use Rattle.rte_isa.specs.declared.instr.Instr.{Instr}
 use Rattle.rte_image_reading.specs.Grammar.{instr_format}

@@ -1,7 +1,7 @@
 use Rattle.std.proofs.Common.{[], List, map}
 use Rattle.std.proofs.lemmas.Result.{err_from_is_err_and}
 use Rattle.std.proofs.lemmas.List.{map_push}
-use Rattle.rte_image_reading.specs.Format.{Format, each_read}
+use Rattle.rte_format.specs.Format.{Format, each_read}
 use Rattle.rte_image_reading.proofs.EachLoop.{ends, goes_on, is_done}
 use Rattle.rte_seg.specs.Image.{Routine}
 use Rattle.rte_image.specs.Raw.{routine_of}

@@ -1,5 +1,5 @@
 use Rattle.std.proofs.Common.{◌≡◌, ◌-◌, [], map}
-use Rattle.rte_image_reading.specs.Format.{each_read}
+use Rattle.rte_format.specs.Format.{each_read}
 use Rattle.rte_image.specs.Raw.{routine_of}
 use Rattle.rte_image_reading.specs.Grammar.{routine_format}
 use Rattle.rte_image_reading.proofs.EachLoop.{in_front}

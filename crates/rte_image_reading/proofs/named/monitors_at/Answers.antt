@@ -4,8 +4,8 @@ use Rattle.std.proofs.lemmas.List.{map_push, length-map}
 use Rattle.std.specs.List.{zip}
 use Rattle.rte_seg.specs.Image.{Monitor}
 use Rattle.rte_image.specs.Raw.{monitor_of}
-use Rattle.rte_image_reading.specs.Format.{Format, each_read}
-use Rattle.rte_image_reading.specs.Gives.{Fails}
+use Rattle.rte_format.specs.Format.{Format, each_read}
+use Rattle.rte_format.specs.Gives.{Fails}
 use Rattle.rte_image_reading.specs.Grammar.{named_monitor_format}
 use Rattle.rte_image_reading.proofs.EachLoop.{ends, goes_on, in_front, is_done}
 use Rattle.rte_image_reading.proofs.Zips.{firsts, zip_push}

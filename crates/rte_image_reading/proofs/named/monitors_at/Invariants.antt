@@ -1,7 +1,7 @@
 use Rattle.std.proofs.Common.{◌≡◌, ◌-◌, ◌++◌, [], length, map}
 use Rattle.std.specs.List.{zip}
 use Rattle.rte_image.specs.Raw.{monitor_of}
-use Rattle.rte_image_reading.specs.Format.{each_read}
+use Rattle.rte_format.specs.Format.{each_read}
 use Rattle.rte_image_reading.specs.Grammar.{named_monitor_format}
 use Rattle.rte_image_reading.proofs.EachLoop.{in_front}
 use Rattle.rte_image_reading.proofs.named.monitors_at.Given as goal

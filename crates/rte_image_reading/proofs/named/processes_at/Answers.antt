@@ -4,8 +4,8 @@ use Rattle.std.proofs.lemmas.List.{map_push, length-map}
 use Rattle.std.specs.List.{zip}
 use Rattle.rte_seg.specs.Image.{Process}
 use Rattle.rte_image.specs.Raw.{process_of}
-use Rattle.rte_image_reading.specs.Format.{Format, each_read}
-use Rattle.rte_image_reading.specs.Gives.{Fails}
+use Rattle.rte_format.specs.Format.{Format, each_read}
+use Rattle.rte_format.specs.Gives.{Fails}
 use Rattle.rte_image_reading.specs.Versions.{in_version}
 use Rattle.rte_image_reading.specs.Grammar.{event_of, named_process_format}
 use Rattle.rte_image_reading.specs.File.{used_by}

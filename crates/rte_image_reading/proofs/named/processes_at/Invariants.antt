@@ -1,7 +1,7 @@
 use Rattle.std.proofs.Common.{◌≡◌, ◌-◌, ◌++◌, [], length, map}
 use Rattle.std.specs.List.{zip}
 use Rattle.rte_image.specs.Raw.{process_of}
-use Rattle.rte_image_reading.specs.Format.{each_read}
+use Rattle.rte_format.specs.Format.{each_read}
 use Rattle.rte_image_reading.specs.Versions.{in_version}
 use Rattle.rte_image_reading.specs.Grammar.{named_process_format}
 use Rattle.rte_image_reading.specs.File.{used_by}

@@ -1,7 +1,7 @@
 use Rattle.std.proofs.Common.{◌≡◌, ◌&&◌, [], ℕ, List, Ok, sym, ap, ◌∙◌, subst}
 use Rattle.std.proofs.lemmas.Result.{err_from_is_err_and}
-use Rattle.rte_image_reading.specs.Format.{Format, checked, each_read, u16}
-use Rattle.rte_image_reading.specs.Gives.{Fails}
+use Rattle.rte_format.specs.Format.{Format, checked, each_read, u16}
+use Rattle.rte_format.specs.Gives.{Fails}
 use Rattle.rte_image_reading.specs.Grammar.{is_taken, wrong_number}
 use Rattle.rte_image_reading.proofs.EachLoop.{ends, goes_on, is_done}
 use Rattle.rte_image_reading.proofs.Rising.{above_last, after_last}

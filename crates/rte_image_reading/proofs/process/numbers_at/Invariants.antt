@@ -1,6 +1,6 @@
 use Rattle.std.proofs.Common.{◌≡◌, ◌-◌, ◌&&◌, [], ℕ}
 use Rattle.std.specs.Prelude.{nat_lt}
-use Rattle.rte_image_reading.specs.Format.{checked, each_read, u16}
+use Rattle.rte_format.specs.Format.{checked, each_read, u16}
 use Rattle.rte_image_reading.specs.Grammar.{is_above, is_taken, wrong_number}
 use Rattle.rte_image_reading.proofs.EachLoop.{in_front}
 use Rattle.rte_image_reading.proofs.process.numbers_at.Given as goal

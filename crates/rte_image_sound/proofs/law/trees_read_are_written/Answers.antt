@@ -1,11 +1,11 @@
 use Rattle.std.proofs.Common.{◌≡◌, ◌++◌, ℕ, zero, suc, List, refl, sym, ap, ◌∙◌}
 use Rattle.rte_machine_meaning.specs.Trees.{Segs}
-use Rattle.rte_image.specs.TreeBytes.{tree_bytes}
-use Rattle.rte_image_reading.specs.TreeFormat.{tree_format}
-use Rattle.rte_image_sound.proofs.Trees.{tree_sound}
+use Rattle.rte_format.specs.TreeBytes.{tree_bytes}
+use Rattle.rte_format.specs.TreeFormat.{in_image, tree_format}
+use Rattle.rte_format.proofs.Trees.{tree_sound}
 use Rattle.rte_image_sound.proofs.law.trees_read_are_written.Goals as goal
 
-written : (monitors depth : ℕ) (tree : Segs) → (tree_format monitors depth).write tree ≡ tree_bytes tree
+written : (monitors depth : ℕ) (tree : Segs) → (tree_format (in_image monitors) depth).write tree ≡ tree_bytes tree
 unfolding tree_format
 written monitors zero tree = refl
 written monitors (suc depth) tree = refl
@@ -14,5 +14,5 @@ pub returns : goal.returns
 returns c monitors depth bytes tree rest are = (
   (λ read. let back = (tree_sound monitors depth).back bytes (tree, rest) are read in
       record { are = back.0 ∙ ap (λ (front : List ℕ). front ++ rest) (written monitors depth tree); in_range = back.1 }),
-  (λ b. ap (λ (all : List ℕ). (tree_format monitors depth).read all) (b.are ∙ ap (λ (front : List ℕ). front ++ rest) (sym (written monitors depth tree))) ∙ (tree_sound monitors depth).again tree rest b.in_range),
+  (λ b. ap (λ (all : List ℕ). (tree_format (in_image monitors) depth).read all) (b.are ∙ ap (λ (front : List ℕ). front ++ rest) (sym (written monitors depth tree))) ∙ (tree_sound monitors depth).again tree rest b.in_range),
 )

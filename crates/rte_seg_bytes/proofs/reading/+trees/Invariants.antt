@@ -15,4 +15,4 @@ abbrev pub decreases-tree_at : goal.decreases-tree_at
 decreases-tree_at l = 4 * l.depth
 
 abbrev pub invariant-row_at-loop : goal.invariant-row_at-loop
-invariant-row_at-loop l = left_of (row_read l.monitors l.depth (l.count - l.counter) l.rest) ≡ left_of (row_read l.monitors l.depth l.count l.bytes)
+invariant-row_at-loop l = left_of (row_read l.limits l.depth (l.count - l.counter) l.rest) ≡ left_of (row_read l.limits l.depth l.count l.bytes)

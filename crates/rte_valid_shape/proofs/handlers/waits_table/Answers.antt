@@ -1,6 +1,6 @@
 use Rattle.std.proofs.Common.{◌≡◌, ◌<◌, length, Some, arith, ap, ◌∙◌, map}
 use Rattle.std.specs.Prelude.{slice_get}
-use Rattle.rte_seg.specs.View.{views}
+use Rattle.rte_seg_bytes.specs.Stands.{tree_in}
 use Rattle.rte_valid.specs.Tables.{tree_waits}
 use Rattle.rte_valid_shape.specs.Waits.{bare}
 use Rattle.rte_valid_shape.proofs.Needs.{read}
@@ -16,8 +16,8 @@ loop-routine-preserved c =
     let items = c.as_slice-routine-items.ensures in
     let low : r < length c.as_slice-routine-items.result.now = omega arith in
     let at : slice_get raw.routines r ≡ Some x = read c.as_slice-routine-items.result.now raw.routines r x items low c.routine-item.is in
-    let next : c.tree_waits-next.result ≡ tree_waits (map bare waits) (views x.tree) =
-    c.tree_waits-next.ensures ∙ ap (λ ws. tree_waits (map bare ws) (views c.as_slice-in-loop-routine.result.now)) c.as_slice.ensures ∙ ap (λ t. tree_waits (map bare waits) (views t)) c.as_slice-in-loop-routine.ensures in
+    let next : c.tree_waits-next.result ≡ tree_waits (map bare waits) x.tree =
+    c.tree_waits-next.ensures ∙ ap (λ ws. tree_waits (map bare ws) (tree_in c.view.result)) c.as_slice.ensures ∙ ap (λ t. tree_waits (map bare waits) t) c.view.ensures in
     next_row raw waits _ c.tree_waits-next.result r x c.loop-routine.invariant at next c.in_ok-push.ensures.ok
 
 pub returns : goal.returns

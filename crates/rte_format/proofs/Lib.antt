@@ -1,0 +1,5 @@
+pub mod Booleans
+pub mod Sound
+pub mod SoundFields
+pub mod Alike
+pub mod Trees

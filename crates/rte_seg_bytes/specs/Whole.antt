@@ -1,0 +1,20 @@
+-- A whole tree as its bytes.
+use Rattle.std.specs.Prelude.{◌≡◌, ℕ, List, [], Ok}
+use Rattle.rte_machine_meaning.specs.Trees.{Segs}
+use Rattle.rte_format.specs.Format.{Format}
+use Rattle.rte_format.specs.TreeBytes.{tree_bytes}
+use Rattle.rte_format.specs.TreeFormat.{tree_format, widest, within_limits}
+use Rattle.rte_seg_bytes.specs.Rows.{row_in}
+
+-- trees that nest at most so deep, whatever their numbers
+abbrev pub any_tree : (depth : ℕ) → Format Segs
+any_tree depth = tree_format (within_limits widest) depth
+
+-- the tree that bytes are read as
+unfoldable pub tree_of : (depth : ℕ) → List ℕ → Segs
+tree_of depth bytes = row_in ((any_tree depth).read bytes)
+
+-- the bytes are those of the tree that they are read as, and no more
+pub record IsTree (depth : ℕ) (bytes : List ℕ) : Type 0 where
+  pub is_read : (any_tree depth).read bytes ≡ Ok (tree_of depth bytes, [])
+  pub are : bytes ≡ tree_bytes (tree_of depth bytes)
