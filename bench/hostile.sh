@@ -5,6 +5,7 @@
 #   trees 130, trees 131     loops of one turn in one another: the deepest tree that there may be, and one that is deeper
 #   forks 130                the same of branches
 #   towers                   8 MiB of trees 130 deep, over code of one instruction
+#   deepest                  8 million segments of one byte below 129 loops in one another, over code of one instruction
 #   exits                    8 MiB of segments of one byte
 #   line                     65,534 instructions in one segment; `lines`: each in one of its own; `no end`: 65,535 and no END
 #   pushes                   32,767 operands on the stack
@@ -120,6 +121,10 @@ body, code = forks(129)
 write("forks 130", [process(body, run=520, stack=1)], code)
 tower, _ = loops(129, 1)
 write("towers", [process(tree(*[tower[4:]] * 7_225))], [(END,)])
+deepest = u32(8_380_000) + b"\7" * 8_380_000
+for _ in range(129):
+    deepest = u32(1) + b"\3" + u32(1) + deepest
+write("deepest", [process(deepest)], [(END,)])
 write("exits", [process(u32(8_388_000) + b"\7" * 8_388_000)], [(END,)])
 code = [(PUSH, 1)] + [(NOT,)] * 65_532 + [(STL, 0), (END,)]
 sizes = {"run": 65_539, "stack": 2, "locals": 1}
@@ -178,6 +183,7 @@ measure 'trees 130' '0 p0 release' run 'trees 130' 'end 1000'
 measure 'trees 131' 'I4 1258' run 'trees 131' 'end 1000'
 measure 'forks 130' '0 p0 release' run 'forks 130' 'end 1000'
 measure towers 'V1 0 0' run towers 'end 0'
+measure deepest 'V1 0 0' run deepest 'end 0'
 measure exits 'V1 0 0' run exits 'end 0'
 measure line '0 p0 release' run line 'end 1000000'
 measure lines '0 p0 release' run lines 'end 1000000'

@@ -58,24 +58,29 @@ fn put_conditions(text: &mut Text, conditions: &[CondName]) -> Result<(), AllocE
 }
 
 /// Puts the lines of the routines and their trees.
-fn put_routines(text: &mut Text, routines: &[RawRoutine]) -> Result<(), AllocError>
+fn put_routines(alloc: Global, text: &mut Text, routines: &[RawRoutine]) -> Result<(), AllocError>
     ensures { OnOk result (text.new ≡ text.old ++
         flat_map routine_lines (map routine_of routines.now)) }
 {
     for routine in routines {
-        put_routine(text, routine)?;
+        put_routine(alloc, text, routine)?;
     }
     Ok(())
 }
 
 /// Puts the lines of the processes and their trees, each with its name.
-fn put_processes(text: &mut Text, names: &[Name], processes: &[RawProc]) -> Result<(), AllocError>
+fn put_processes(
+    alloc: Global,
+    text: &mut Text,
+    names: &[Name],
+    processes: &[RawProc],
+) -> Result<(), AllocError>
     requires { length names.now ≡ length processes.now }
     ensures { OnOk result (text.new ≡ text.old ++
         processes_text names.now (map process_of processes.now)) }
 {
     for (at, process) in processes.iter().enumerate() {
-        put_process(text, &names[at], process)?;
+        put_process(alloc, text, &names[at], process)?;
     }
     Ok(())
 }
@@ -114,8 +119,9 @@ pub fn dis(alloc: Global, image: &RawImage) -> Result<Text, AllocError>
     let mut text = Text::new(alloc);
     put_head(&mut text, &image.program, image.overhead)?;
     put_named(&mut text, image)?;
-    put_routines(&mut text, image.routines.as_slice())?;
+    put_routines(alloc, &mut text, image.routines.as_slice())?;
     put_processes(
+        alloc,
         &mut text,
         image.names.processes.as_slice(),
         image.processes.as_slice(),

@@ -9,7 +9,7 @@ use crate::trees::put_tree;
 use rte_image::RawProc;
 use rte_seg_bytes::SegTree;
 use rte_tree::{Name, Text};
-use std::alloc::AllocError;
+use std::alloc::{AllocError, Global};
 
 /// Puts what releases a periodic process, and within what it ends.
 fn put_periodic(text: &mut Text, process: &RawProc) -> Result<(), AllocError>
@@ -83,6 +83,7 @@ fn put_handler(text: &mut Text, handler: u32, numbers: &[u16]) -> Result<(), All
 
 /// Puts the line of the handler's tree, where there are numbers that it takes.
 fn put_handler_tree(
+    alloc: Global,
     text: &mut Text,
     numbers: &[u16],
     tree: &Option<SegTree>,
@@ -91,7 +92,7 @@ fn put_handler_tree(
         handler_line numbers.now tree.now) }
 {
     match (numbers, tree) {
-        ([_, ..], Some(tree)) => put_tree(text, tree)?,
+        ([_, ..], Some(tree)) => put_tree(alloc, text, tree)?,
         ([_, ..], None) => {}
         ([], _) => {}
     }
@@ -99,7 +100,12 @@ fn put_handler_tree(
 }
 
 /// Puts a process, the line of its tree, and that of its handler's.
-pub fn put_process(text: &mut Text, name: &Name, process: &RawProc) -> Result<(), AllocError>
+pub fn put_process(
+    alloc: Global,
+    text: &mut Text,
+    name: &Name,
+    process: &RawProc,
+) -> Result<(), AllocError>
     ensures { OnOk result (text.new ≡ text.old ++ process_lines name.now (process_of process.now)) }
 {
     text.extend(b"process ")?;
@@ -108,7 +114,12 @@ pub fn put_process(text: &mut Text, name: &Name, process: &RawProc) -> Result<()
     put_time(text, process)?;
     put_room(text, process)?;
     put_handler(text, process.handler, process.numbers.as_slice())?;
-    put_tree(text, &process.body)?;
-    put_handler_tree(text, process.numbers.as_slice(), &process.handler_tree)?;
+    put_tree(alloc, text, &process.body)?;
+    put_handler_tree(
+        alloc,
+        text,
+        process.numbers.as_slice(),
+        &process.handler_tree,
+    )?;
     Ok(())
 }

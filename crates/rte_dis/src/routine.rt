@@ -8,7 +8,7 @@ use crate::numbers::put_field;
 use crate::trees::put_tree;
 use rte_image::RawRoutine;
 use rte_tree::Text;
-use std::alloc::AllocError;
+use std::alloc::{AllocError, Global};
 
 /// Puts whose a routine is.
 fn put_owner(text: &mut Text, kind: u8, owner: u16) -> Result<(), AllocError>
@@ -63,7 +63,7 @@ fn put_cost(text: &mut Text, routine: &RawRoutine) -> Result<(), AllocError>
 }
 
 /// Puts a routine, and the line of its tree.
-pub fn put_routine(text: &mut Text, routine: &RawRoutine) -> Result<(), AllocError>
+pub fn put_routine(alloc: Global, text: &mut Text, routine: &RawRoutine) -> Result<(), AllocError>
     ensures { OnOk result (text.new ≡ text.old ++ routine_lines (routine_of routine.now)) }
 {
     text.extend(b"routine ")?;
@@ -71,6 +71,6 @@ pub fn put_routine(text: &mut Text, routine: &RawRoutine) -> Result<(), AllocErr
     put_place(text, routine)?;
     put_cost(text, routine)?;
     text.extend(b"\n")?;
-    put_tree(text, &routine.tree)?;
+    put_tree(alloc, text, &routine.tree)?;
     Ok(())
 }

@@ -1,66 +1,66 @@
 //! The lines of segment trees.
 
 ghost use Rattle.std.specs.Prelude.{◌≡◌, ◌++◌, OnOk};
-ghost use Rattle.rte_seg_bytes.specs.Stands.{item_in, tree_in};
+ghost use Rattle.rte_seg.specs.View.{view, views};
 ghost use Rattle.rte_image_text.specs.TreeText.{seg_text, segs_text, tree_line};
 
 use crate::numbers::put_field;
-use rte_seg_bytes::{SegBytes, SegItem, SegTree};
+use rte_seg::Seg;
+use rte_seg_bytes::SegTree;
 use rte_tree::Text;
-use std::alloc::AllocError;
+use std::alloc::{AllocError, Global};
 
 /// Puts a segment: its name, its number and its trees between parentheses.
 #[cycle(trees)]
-fn put_seg(text: &mut Text, seg: &SegItem<'_>) -> Result<(), AllocError>
-    ensures { OnOk result (text.new ≡ text.old ++ seg_text (item_in seg.now)) }
+fn put_seg(text: &mut Text, seg: &Seg) -> Result<(), AllocError>
+    ensures { OnOk result (text.new ≡ text.old ++ seg_text (view seg.now)) }
 {
     match seg {
-        SegItem::Line(count) => put_field(text, b" line ", *count)?,
-        SegItem::Fork(first, second) => {
+        Seg::Line(count) => put_field(text, b" line ", *count)?,
+        Seg::Fork(arms) => {
             text.extend(b" fork (")?;
-            put_segs(text, *first)?;
+            put_segs(text, arms.get().first.as_slice())?;
             text.extend(b" ) (")?;
-            put_segs(text, *second)?;
+            put_segs(text, arms.get().second.as_slice())?;
             text.extend(b" )")?;
         }
-        SegItem::Rep(turns, body) => {
-            put_field(text, b" rep ", *turns)?;
+        Seg::Rep(turns) => {
+            put_field(text, b" rep ", turns.get().count)?;
             text.extend(b" (")?;
-            put_segs(text, *body)?;
+            put_segs(text, turns.get().body.as_slice())?;
             text.extend(b" )")?;
         }
-        SegItem::Call(routine) => put_field(text, b" call ", u32::from(*routine))?,
-        SegItem::Stay(monitor, body) => {
-            put_field(text, b" stay ", u32::from(*monitor))?;
+        Seg::Call(routine) => put_field(text, b" call ", u32::from(*routine))?,
+        Seg::Stay(inside) => {
+            put_field(text, b" stay ", u32::from(inside.get().monitor))?;
             text.extend(b" (")?;
-            put_segs(text, *body)?;
+            put_segs(text, inside.get().body.as_slice())?;
             text.extend(b" )")?;
         }
-        SegItem::Wait => text.extend(b" wait")?,
-        SegItem::Exit => text.extend(b" exit")?,
+        Seg::Wait => text.extend(b" wait")?,
+        Seg::Exit => text.extend(b" exit")?,
     }
     Ok(())
 }
 
 /// Puts segments one after the other.
 #[cycle(trees)]
-fn put_segs(text: &mut Text, tree: SegBytes<'_>) -> Result<(), AllocError>
-    ensures { OnOk result (text.new ≡ text.old ++ segs_text (tree_in tree.entry)) }
+fn put_segs(text: &mut Text, segs: &[Seg]) -> Result<(), AllocError>
+    ensures { OnOk result (text.new ≡ text.old ++ segs_text (views segs.now)) }
 {
-    let mut rest = tree;
-    while let Some((seg, after)) = rest.split_first() {
-        put_seg(text, &seg)?;
-        rest = after;
+    for seg in segs {
+        put_seg(text, seg)?;
     }
     Ok(())
 }
 
-/// Puts the line of a tree.
-pub fn put_tree(text: &mut Text, tree: &SegTree) -> Result<(), AllocError>
+/// Puts the line of a tree. Its segments are taken apart first, and go with the line.
+pub fn put_tree(alloc: Global, text: &mut Text, tree: &SegTree) -> Result<(), AllocError>
     ensures { OnOk result (text.new ≡ text.old ++ tree_line tree.now) }
 {
+    let segs = tree.segs(alloc)?;
     text.extend(b"tree")?;
-    put_segs(text, tree.view())?;
+    put_segs(text, segs.as_slice())?;
     text.extend(b"\n")?;
     Ok(())
 }
