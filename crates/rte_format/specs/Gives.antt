@@ -13,3 +13,8 @@ Fails (errors.Fault f) read = read ≡ Err f
 abbrev pub Gives : {X Y : Type 0} → (X → Y) → Result X ReadError → Result Y Fault → Type 0
 Gives view (Ok x) read = read ≡ Ok (view x)
 Gives view (Err e) read = Fails e read
+
+-- the same of a call that takes no memory
+abbrev pub GivesOrFault : {X Y : Type 0} → (X → Y) → Result X Fault → Result Y Fault → Type 0
+GivesOrFault view (Ok x) read = read ≡ Ok (view x)
+GivesOrFault view (Err f) read = read ≡ Err f

@@ -21,5 +21,5 @@ pub use instructions::{instr_at, results};
 pub use known::{Around, Found, Known, PartFound, TOO_DEEP};
 pub use parts::{entry_found, only_stay, part_found, part_tree_found, routine_found, stayed};
 pub use steps::{called, exited, forked, repeated, waited};
-pub use trees::{tree_end, tree_found};
+pub use trees::{line_found, past, tree_end, tree_found};
 pub use whole::{depth_bytes, fits_bytes, worst_bytes};

@@ -176,7 +176,7 @@ pub fn routine_found(code: &[Instr], known: &[Known], routine: &RawRoutine) -> O
     ensures value { told_part result ≡ hold (defined_routine code.now (map known_of known.now)
         (routine_of routine.now)) }
     ensures ends { IfSome result (λ f. EndsAt code.now
-        (routine.now.start + size (routine.now.tree)) f.found) }
+        (routine.now.start + size routine.now.tree) f.found) }
     ensures within { IfSome result (λ f. f.found.next < length code.now) }
     ensures stay { IfSome result (λ f. f.stay ≡
         cap (stay_in (owner_of (routine_of routine.now))
@@ -203,8 +203,8 @@ pub fn routine_found(code: &[Instr], known: &[Known], routine: &RawRoutine) -> O
 pub fn part_found(code: &[Instr], known: &[Known], tree: &SegTree, at: usize) -> Option<Found>
     requires { at ≤ length code.now }
     ensures value { told result ≡ hold (defined_part code.now (map known_of known.now)
-        (tree.now) at) }
-    ensures ends { IfSome result (EndsAt code.now (at + size (tree.now))) }
+        tree.now at) }
+    ensures ends { IfSome result (EndsAt code.now (at + size tree.now)) }
     ensures within { IfSome result (λ f. f.next < length code.now) }
 {
     if is_too_long(code, tree) {

@@ -4,8 +4,8 @@ ghost use Rattle.std.specs.Prelude.{◌≡◌};
 ghost use Rattle.rte_format.specs.Gives.{Gives};
 ghost use Rattle.rte_image_reading.specs.Grammar.{counts_format};
 
-use crate::fields::{u16_within, u32_within};
-use rte_format::ReadError;
+use crate::fields::u16_within;
+use rte_format::{ReadError, u32_within};
 
 /// How many parts of each kind there are.
 #[derive(Clone, Copy)]

@@ -11,12 +11,12 @@ ghost use Rattle.rte_image_reading.specs.Held.{guarded_of, parts_with};
 
 use crate::counts::{Counts, counts_at};
 use crate::fault::ImageFault;
-use crate::fields::{u16_at, u16_within};
+use crate::fields::u16_within;
 use crate::lists::{conditions_at, devices_at, events_at, instrs_at, routines_at};
 use crate::named::{Monitors, Processes, monitors_at, processes_at};
 use crate::names::{bytes_at, name_at};
 use crate::taken::Taken;
-use rte_format::{Fault, ReadError};
+use rte_format::{Fault, ReadError, u16_at};
 use rte_image::{CondName, DevName, EventName, ImageNames, RawImage, RawProc, RawRoutine};
 use rte_isa::Instr;
 use rte_tree::{List, Name};

@@ -6,8 +6,7 @@ ghost use Rattle.rte_format.specs.Format.{checked, u8 as one_byte, unless};
 ghost use Rattle.rte_image_reading.specs.Grammar.{instr_format, operand, operands_named as named, or_end, word};
 ghost use Rattle.rte_isa.specs.Numbered.{numbered};
 
-use crate::fields::u8_at;
-use rte_format::{Fault, ReadError};
+use rte_format::{Fault, ReadError, u8_at};
 use rte_isa::{Instr, instr_of};
 
 /// How many operands the instruction of a number names.

@@ -9,9 +9,8 @@ ghost use Rattle.rte_format.specs.TreeFormat.{within};
 ghost use Rattle.rte_image_reading.specs.Grammar.{has, name_format};
 ghost use Rattle.rte_image_reading.specs.Taken.{Names};
 
-use crate::fields::u8_at;
 use crate::taken::Taken;
-use rte_format::{Fault, ReadError};
+use rte_format::{Fault, ReadError, u8_at};
 use rte_lex::keyword_at;
 use rte_tree::Name;
 use std::alloc::{AllocError, Global};

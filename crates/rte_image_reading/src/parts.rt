@@ -7,11 +7,11 @@ ghost use Rattle.rte_format.specs.Format.{both, checked, u16 as two_bytes, u8 as
 ghost use Rattle.rte_image_reading.specs.Grammar.{condition_format, cost, cost_format, deadline_format, device_format, handler_format, handler_tree_format, has, is_again, monitor_format, owner_format, release_format, room_format, routine_format, time_format, wrong_event, wrong_first, wrong_owner, wrong_stay};
 
 use crate::counts::Counts;
-use crate::fields::{cost_at, flag_at, u8_at, u16_at, u16_below, u16_within, u32_at, u32_within};
+use crate::fields::{cost_at, flag_at, u16_within};
 use crate::names::name_at;
 use crate::taken::{Earlier, Taken};
 use crate::trees::tree_at;
-use rte_format::{Fault, ReadError};
+use rte_format::{Fault, ReadError, u8_at, u16_at, u16_below, u32_at, u32_within};
 use rte_image::{CondName, DevName, RawMon, RawRoutine};
 use std::alloc::Global;
 
@@ -62,7 +62,7 @@ pub fn condition_at<'a>(
     ensures new { IfOk result (λ x. is_again earlier.now x.0 ≡ false) }
 {
     let (name, rest) = name_at(alloc, bytes, taken)?;
-    let (mon, rest) = u16_below(rest, monitors)?;
+    let (mon, rest) = u16_below(rest, u32::from(monitors))?;
     match earlier.unless_again(name, mon) {
         Some(condition) => Ok((condition, rest)),
         None => Err(ReadError::Fault(Fault {

@@ -10,10 +10,10 @@ ghost use Rattle.rte_format.specs.TreeFormat.{u32_within as long_within};
 ghost use Rattle.rte_image_reading.specs.Grammar.{deadline_format, handler_format, handler_tree_format, is_taken, numbers_format, process_format, release_format, room_format, time_format, wrong_event, wrong_first};
 
 use crate::counts::Counts;
-use crate::fields::{cost_at, u16_at, u32_at, u32_within};
+use crate::fields::cost_at;
 use crate::parts::{DEEPEST, kind_at};
 use crate::trees::tree_at;
-use rte_format::{Fault, ReadError};
+use rte_format::{Fault, ReadError, u16_at, u32_at, u32_within};
 use rte_image::RawProc;
 use rte_seg_bytes::SegTree;
 use rte_tree::List;
@@ -29,7 +29,7 @@ fn deadline_at(bytes: &[u8], has_deadlines: bool, frame: u32) -> Result<(u32, &[
         ((deadline_format (in_version has_deadlines) frame).read bytes.now) }
 {
     if has_deadlines {
-        u32_within(bytes, 10, frame)
+        Ok(u32_within(bytes, 10, frame)?)
     } else {
         Ok((frame, bytes))
     }

@@ -48,24 +48,27 @@ module _ (l : Limits) (sub wide : Format Segs) (inner : (t : Segs) → sub.is t 
       let p = parts (seg_is (within_limits l) sub s) (segs_is (seg_format (within_limits l) sub) ss) h in
       together (seg_is (within_limits widest) wide s) (segs_is (seg_format (within_limits widest) wide) ss) (wide_seg s p.0) (wide_segs ss p.1)
 
-wide_tree : (l : Limits) (depth : ℕ) (t : Segs) → (tree_format (within_limits l) depth).is t ≡ true → (any_tree depth).is t ≡ true
+wide_tree : (l : Limits) (depth more : ℕ) (t : Segs) → depth ≤ more → (tree_format (within_limits l) depth).is t ≡ true → (any_tree more).is t ≡ true
 unfolding tree_format
-wide_tree l zero t h = cc
-wide_tree l (suc depth) t h =
+wide_tree l zero more t less h = cc
+wide_tree l (suc depth) zero t less h = absurd (omega (arith, less))
+wide_tree l (suc depth) (suc more) t less h =
     let p = parts (nat_lt (row t) (2 ^ 32)) (segs_is (seg_format (within_limits l) (tree_format (within_limits l) depth)) t) h in
-    together (nat_lt (row t) (2 ^ 32)) (segs_is (seg_format (within_limits widest) (any_tree depth)) t) p.0 (wide_segs l (tree_format (within_limits l) depth) (any_tree depth) (wide_tree l depth) t p.1)
+    let below : depth ≤ more = omega (arith, less) in
+    together (nat_lt (row t) (2 ^ 32)) (segs_is (seg_format (within_limits widest) (any_tree more)) t) p.0
+    (wide_segs l (tree_format (within_limits l) depth) (any_tree more) (λ u is. wide_tree l depth more u below is) t p.1)
 
 -- the bytes before those that are left are those of the tree that was read
 pub record Taken (depth : ℕ) (bytes : List ℕ) (tree : Segs) (rest : List ℕ) : Type 0 where
   pub fewer : length rest ≤ length bytes
   pub stands : Stands depth (take (length bytes - length rest) bytes) tree
 
-pub taken : (l : Limits) (depth : ℕ) (bytes : List ℕ) (tree : Segs) (rest : List ℕ) → AreBytes bytes → (tree_format (within_limits l) depth).read bytes ≡ Ok (tree, rest) → Taken depth bytes tree rest
-taken l depth bytes tree rest are read =
+pub taken : (l : Limits) (depth more : ℕ) (bytes : List ℕ) (tree : Segs) (rest : List ℕ) → depth ≤ more → AreBytes bytes → (tree_format (within_limits l) depth).read bytes ≡ Ok (tree, rest) → Taken more bytes tree rest
+taken l depth more bytes tree rest less are read =
     let back = (limited_tree_sound l depth).back bytes (tree, rest) are read in
     let is : bytes ≡ tree_bytes tree ++ rest = back.0 ∙ ap (λ (front : List ℕ). front ++ rest) (tree_write_is (within_limits l) depth tree) in
     let long : length bytes ≡ length (tree_bytes tree) + length rest = ap (λ (all : List ℕ). length all) is ∙ length-append (tree_bytes tree) rest in
     let many : length bytes - length rest ≡ length (tree_bytes tree) = omega (arith, long) in
     let front : take (length bytes - length rest) bytes ≡ tree_bytes tree =
     ap (λ n. take n bytes) many ∙ ap (λ (all : List ℕ). take (length (tree_bytes tree)) all) is ∙ take-append_seam (tree_bytes tree) rest in
-    record { fewer = omega (arith, long); stands = stands depth (take (length bytes - length rest) bytes) tree front (wide_tree l depth tree back.1) }
+    record { fewer = omega (arith, long); stands = stands more (take (length bytes - length rest) bytes) tree front (wide_tree l depth more tree less back.1) }

@@ -1,6 +1,5 @@
 pub mod TreeCode
 pub mod Rows
 pub mod Stands
-pub mod Answers
 pub mod Items
 pub mod Whole

@@ -10,6 +10,10 @@ use Rattle.rte_seg_bytes.specs.Rows.{row_in}
 abbrev pub any_tree : (depth : ℕ) → Format Segs
 any_tree depth = tree_format (within_limits widest) depth
 
+-- how deep trees that are kept may nest
+abbrev pub deepest_kept : ℕ
+deepest_kept = 4294967295
+
 -- the tree that bytes are read as
 unfoldable pub tree_of : (depth : ℕ) → List ℕ → Segs
 tree_of depth bytes = row_in ((any_tree depth).read bytes)

@@ -10,7 +10,6 @@
 #![tactic(auto)]
 
 mod bytes;
-mod fields;
 mod items;
 mod put;
 mod reading;
@@ -20,5 +19,5 @@ mod view;
 
 pub use items::SegItems;
 pub use reading::{DEEPEST, tree_at};
-pub use tree::SegTree;
+pub use tree::{DEEPEST_KEPT, SegTree};
 pub use view::{SegBytes, SegItem};

@@ -2,13 +2,12 @@
 
 ghost use Rattle.std.specs.Prelude.{◌≡◌, ◌≤◌, ◌+◌, IfOk};
 ghost use Rattle.rte_format.specs.TreeFormat.{tagged, within_limits};
-ghost use Rattle.rte_seg_bytes.specs.Answers.{Gives};
+ghost use Rattle.rte_format.specs.Gives.{GivesOrFault};
 ghost use Rattle.rte_seg_bytes.specs.Rows.{row_read, seg_within, tree_within};
 ghost use Rattle.rte_seg_bytes.specs.Stands.{inner_nesting, item_in, nesting, tree_in};
 
-use crate::fields::{u8_at, u16_at, u16_below, u32_at, u32_within};
 use crate::view::{SegBytes, SegItem};
-use rte_format::{Fault, Limits};
+use rte_format::{Fault, Limits, u8_at, u16_at, u16_below, u32_at, u32_within};
 
 /// How deep the trees of an image nest at most.
 pub const DEEPEST: u32 = 130;
@@ -23,7 +22,7 @@ fn tagged_at(
     left: usize,
     bytes: &[u8],
 ) -> Result<(SegItem<'_>, &[u8]), Fault>
-    ensures read { Gives (λ x. (item_in x.0, x.1.now)) result
+    ensures read { GivesOrFault (λ x. (item_in x.0, x.1.now)) result
         (tagged (within_limits limits) (tree_within limits depth) tag left bytes.now) }
     ensures nests { IfOk result (λ x. inner_nesting x.0 ≤ depth) }
 {
@@ -65,7 +64,7 @@ pub(crate) fn item_at(
     depth: u32,
     bytes: &[u8],
 ) -> Result<(SegItem<'_>, &[u8]), Fault>
-    ensures read { Gives (λ x. (item_in x.0, x.1.now)) result
+    ensures read { GivesOrFault (λ x. (item_in x.0, x.1.now)) result
         ((seg_within limits depth).read bytes.now) }
     ensures nests { IfOk result (λ x. inner_nesting x.0 ≤ depth) }
 {
@@ -81,7 +80,7 @@ fn row_at(
     count: u32,
     bytes: &[u8],
 ) -> Result<(SegBytes<'_>, &[u8]), Fault>
-    ensures read { Gives (λ x. (tree_in x.0, x.1.now)) result
+    ensures read { GivesOrFault (λ x. (tree_in x.0, x.1.now)) result
         (row_read limits depth count bytes.now) }
     ensures nests { IfOk result (λ x. nesting x.0 ≡ depth) }
 {
@@ -104,7 +103,7 @@ fn row_at(
 #[cycle(trees)]
 #[tactic(auto, unfolding(rte_format::specs::TreeFormat::tree_format))]
 pub fn tree_at(limits: Limits, depth: u32, bytes: &[u8]) -> Result<(SegBytes<'_>, &[u8]), Fault>
-    ensures read { Gives (λ x. (tree_in x.0, x.1.now)) result
+    ensures read { GivesOrFault (λ x. (tree_in x.0, x.1.now)) result
         ((tree_within limits depth).read bytes.now) }
     ensures nests { IfOk result (λ x. nesting x.0 + 1 ≡ depth) }
 {

@@ -6,8 +6,7 @@ ghost use Rattle.rte_format.specs.Gives.{Gives};
 ghost use Rattle.rte_format.specs.TreeFormat.{segs_read, tagged, within_limits};
 ghost use Rattle.rte_seg_bytes.specs.Rows.{seg_within, tree_within};
 
-use crate::fields::{u8_at, u16_at, u16_below, u32_at, u32_within};
-use rte_format::{Fault, Limits, ReadError};
+use rte_format::{Fault, Limits, ReadError, u8_at, u16_at, u16_below, u32_at, u32_within};
 use rte_seg::{Seg, Segs};
 use std::alloc::Global;
 

@@ -1,11 +1,12 @@
 //! Whole trees as their bytes.
 
-ghost use Rattle.std.specs.Prelude.{◌≡◌, IfOk};
+ghost use Rattle.std.specs.Prelude.{◌≡◌, IfOk, true};
 ghost use Rattle.rte_seg.specs.View.{views};
 ghost use Rattle.rte_format.specs.Gives.{Gives};
 ghost use Rattle.rte_format.specs.TreeBytes.{tree_bytes};
 ghost use Rattle.rte_format.specs.TreeFormat.{tree_format, within_limits};
 ghost use Rattle.rte_seg_bytes.specs.Stands.{tree_in};
+ghost use Rattle.rte_seg_bytes.specs.Whole.{any_tree, deepest_kept};
 
 use crate::bytes::are_bytes;
 use crate::put::put_tree;
@@ -17,29 +18,27 @@ use rte_seg::{Seg, Segs};
 use std::alloc::{AllocError, Global};
 use std::marker::Model;
 
-/// How deep a tree that is put together may nest.
-const DEEPEST_MADE: u32 = u32::MAX;
+/// How deep a tree that is kept may nest.
+pub const DEEPEST_KEPT: u32 = u32::MAX;
 
 /// A segment tree, kept as the bytes that an image has of it. Contracts see it as the tree.
 #[derive(Debug, Drop)]
 pub struct SegTree {
-    /// How deep it nests at most.
-    depth: u32,
     bytes: Vec<u8>,
 }
 
 impl Model for SegTree {
     ghost use Rattle.rte_machine_meaning.specs.Trees.{Segs};
     ghost use Rattle.rte_seg_bytes.specs.TreeCode.{coded_segs};
-    ghost use Rattle.rte_seg_bytes.specs.Whole.{IsTree, tree_of};
+    ghost use Rattle.rte_seg_bytes.specs.Whole.{IsTree, deepest_kept, tree_of};
 
     ghost Value = { Segs };
 
     ghost coded = { coded_segs };
 
-    ghost view = { λ t. tree_of t.depth t.bytes.items };
+    ghost view = { λ t. tree_of deepest_kept t.bytes.items };
 
-    ghost invariant = { λ t. IsTree t.depth t.bytes.items };
+    ghost invariant = { λ t. IsTree deepest_kept t.bytes.items };
 }
 
 impl SegTree {
@@ -48,11 +47,8 @@ impl SegTree {
         ensures { IfOk result (λ tree. tree ≡ views segs.now) }
     {
         let mut bytes = Vec::new(alloc);
-        put_tree(&mut bytes, DEEPEST_MADE, segs)?;
-        Ok(SegTree {
-            depth: DEEPEST_MADE,
-            bytes,
-        })
+        put_tree(&mut bytes, DEEPEST_KEPT, segs)?;
+        Ok(SegTree { bytes })
     }
 
     /// The tree that the bytes begin with, and the bytes after it; or the fault of the first field
@@ -69,21 +65,16 @@ impl SegTree {
         let (_view, rest) = tree_at(limits, depth, bytes)?;
         are_bytes(bytes);
         let taken = &bytes[..bytes.len() - rest.len()];
-        let tree = SegTree {
-            depth,
-            bytes: Vec::from_slice(alloc, taken)?,
-        };
-        Ok((tree, rest))
+        let bytes = Vec::from_slice(alloc, taken)?;
+        Ok((SegTree { bytes }, rest))
     }
 
     /// The tree once more. An error says that memory is short.
     pub fn copied(&self, alloc: Global) -> Result<SegTree, AllocError>
         ensures { IfOk result (λ tree. tree ≡ self.now) }
     {
-        Ok(SegTree {
-            depth: self.depth,
-            bytes: Vec::from_slice(alloc, self.bytes.as_slice())?,
-        })
+        let bytes = Vec::from_slice(alloc, self.bytes.as_slice())?;
+        Ok(SegTree { bytes })
     }
 
     /// Its bytes, as an image has them.
@@ -93,11 +84,19 @@ impl SegTree {
         self.bytes.as_slice()
     }
 
+    /// Its numbers fit their fields, and it nests no deeper than a kept tree may, so that its bytes
+    /// are read again. The call does nothing.
+    pub fn can_be_read(&self)
+        ensures { (any_tree deepest_kept).is self.now ≡ true }
+    {
+        are_bytes(self.bytes.as_slice());
+    }
+
     /// A view of it, which takes no memory.
     pub fn view(&self) -> SegBytes<'_>
         ensures { tree_in result ≡ self.now }
     {
-        match tree_at(Limits::widest(), self.depth, self.bytes.as_slice()) {
+        match tree_at(Limits::widest(), DEEPEST_KEPT, self.bytes.as_slice()) {
             Ok((view, _)) => view,
             Err(_) => unreachable!(),
         }
@@ -107,7 +106,7 @@ impl SegTree {
     pub fn segs(&self, alloc: Global) -> Result<Segs, AllocError>
         ensures { IfOk result (λ segs. views segs ≡ self.now) }
     {
-        match segs_at(alloc, Limits::widest(), self.depth, self.bytes.as_slice()) {
+        match segs_at(alloc, Limits::widest(), DEEPEST_KEPT, self.bytes.as_slice()) {
             Ok((segs, _)) => Ok(segs),
             Err(ReadError::Memory) => Err(AllocError),
             Err(ReadError::Fault(_)) => unreachable!(),
