@@ -1,0 +1,62 @@
+-- What the references stand for.
+use Rattle.std.specs.Prelude.{ℕ, List, [], Ok, Err, Option, Some, None}
+use Rattle.rte_machine_meaning.specs.Image.{Routine, Process}
+use Rattle.rte_machine_meaning.specs.Trees.{Segs}
+use Rattle.rte_format.specs.Format.{Read}
+use Rattle.rte_seg_bytes.specs.declared.view.SegBytes.{SegBytes}
+use Rattle.rte_seg_bytes.specs.Stands.{tree_in}
+use Rattle.rte_image_parts.specs.Fields.{counted_numbers}
+use Rattle.rte_image_parts.specs.declared.numbers.HandlerNumbers.{HandlerNumbers}
+use Rattle.rte_image_parts.specs.declared.process.ProcRef.{ProcRef}
+use Rattle.rte_image_parts.specs.declared.routine.RoutineRef.{RoutineRef}
+
+-- what was read, where it was, and else the given
+abbrev pub read_or : {A : Type 0} → A → Read A → A
+read_or x (Ok y) = y.0
+read_or x (Err e) = x
+
+-- the numbers that a view of bytes stands for
+unfoldable pub numbers_in : HandlerNumbers → List ℕ
+numbers_in n = read_or [] ((counted_numbers n.count).read n.bytes.now)
+
+abbrev pub routine_in : RoutineRef → Routine
+routine_in r = record {
+  kind = r.kind;
+  owner = r.owner;
+  params = r.params;
+  locals = r.locals;
+  gives = r.result;
+  start = r.start;
+  run = r.run;
+  susp = r.susp;
+  waits = r.waits;
+  stay = r.stay;
+  tree = tree_in r.tree;
+}
+
+abbrev pub maybe_tree_in : Option SegBytes → Option Segs
+maybe_tree_in None = None
+maybe_tree_in (Some tree) = Some (tree_in tree)
+
+abbrev pub process_in : ProcRef → Process
+process_in p = record {
+  kind = p.kind;
+  frame = p.frame;
+  deadline = p.deadline;
+  first = p.first;
+  event = p.event;
+  rank = p.rank;
+  run = p.run;
+  susp = p.susp;
+  waits = p.waits;
+  block = p.block;
+  bound = p.bound;
+  words = p.words;
+  stack = p.stack;
+  locals = p.locals;
+  start = p.start;
+  handler = p.handler;
+  numbers = numbers_in p.numbers;
+  body = tree_in p.body;
+  handler_tree = maybe_tree_in p.handler_tree;
+}

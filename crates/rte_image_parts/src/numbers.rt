@@ -1,0 +1,15 @@
+//! The numbers that a handler takes, as a view of bytes.
+
+ghost use Rattle.std.specs.Prelude.{IsOk};
+ghost use Rattle.rte_image_parts.specs.Fields.{counted_numbers};
+
+/// The numbers that a handler takes, from the least to the greatest: those of exceptions that the
+/// program or the machine raises.
+#[derive(Clone, Copy)]
+pub struct HandlerNumbers<'a> {
+    /// How many are left.
+    pub(crate) count: u16,
+    /// The bytes from the first of them on.
+    pub(crate) bytes: &'a [u8],
+    ghost are_read: { IsOk ((counted_numbers count).read bytes.now) },
+}

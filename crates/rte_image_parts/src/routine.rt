@@ -1,0 +1,144 @@
+//! Routines.
+
+ghost use Rattle.std.specs.Prelude.{◌≡◌, ◌==◌};
+ghost use Rattle.rte_format.specs.Gives.{GivesOrFault};
+ghost use Rattle.rte_image_parts.specs.Fields.{flag_field, five_fields, owner_fields, routine_fields, tree_fields};
+ghost use Rattle.rte_image_parts.specs.Standing.{routine_in};
+ghost use Rattle.rte_seg_bytes.specs.Stands.{tree_in};
+
+use rte_format::{Fault, Limits, u8_at, u16_at, u32_at};
+use rte_seg_bytes::{DEEPEST_KEPT, SegBytes, tree_at};
+
+/// A routine as it stands in the bytes of an image. Its kind is 0 for one of the program, 1 for one
+/// of a process, 2 for an entry of a monitor; the owner is the number of that process or monitor.
+/// `run`, `susp` and `stay` are in ticks, `locals` in words, `start` is the address of its first
+/// instruction.
+#[derive(Clone, Copy)]
+pub struct RoutineRef<'a> {
+    pub kind: u8,
+    pub owner: u16,
+    pub params: u16,
+    pub locals: u32,
+    pub result: bool,
+    pub start: u32,
+    pub run: u32,
+    pub susp: u32,
+    pub waits: u32,
+    pub stay: u32,
+    tree: SegBytes<'a>,
+}
+
+impl<'a> RoutineRef<'a> {
+    /// The tree of its code.
+    pub fn tree(&self) -> SegBytes<'a>
+        ensures { tree_in result ≡ (routine_in self.now).tree }
+    {
+        self.tree
+    }
+}
+
+/// Whose a routine is, its parameters and locals, and whether it has a result.
+#[derive(Clone, Copy)]
+struct Owner {
+    kind: u8,
+    owner: u16,
+    params: u16,
+    locals: u32,
+    result: bool,
+}
+
+/// Whether a byte is 1.
+fn flag_at(bytes: &[u8]) -> Result<(bool, &[u8]), Fault>
+    ensures { GivesOrFault (λ x. (x.0, x.1.now)) result (flag_field.read bytes.now) }
+{
+    let (value, rest) = u8_at(bytes)?;
+    Ok((value == 1, rest))
+}
+
+fn owner_at(bytes: &[u8]) -> Result<(Owner, &[u8]), Fault>
+    ensures { GivesOrFault (λ x. (
+      (x.0.kind, (x.0.owner, (x.0.params, (x.0.locals, x.0.result)))),
+      x.1.now,
+    )) result (owner_fields.read bytes.now) }
+{
+    let (kind, rest) = u8_at(bytes)?;
+    let (owner, rest) = u16_at(rest)?;
+    let (params, rest) = u16_at(rest)?;
+    let (locals, rest) = u32_at(rest)?;
+    let (result, rest) = flag_at(rest)?;
+    Ok((
+        Owner {
+            kind,
+            owner,
+            params,
+            locals,
+            result,
+        },
+        rest,
+    ))
+}
+
+/// Five numbers of four bytes, one after the other.
+#[derive(Clone, Copy)]
+pub(crate) struct Five {
+    pub(crate) first: u32,
+    pub(crate) second: u32,
+    pub(crate) third: u32,
+    pub(crate) fourth: u32,
+    pub(crate) fifth: u32,
+}
+
+pub(crate) fn five_at(bytes: &[u8]) -> Result<(Five, &[u8]), Fault>
+    ensures { GivesOrFault (λ x. (
+      (x.0.first, (x.0.second, (x.0.third, (x.0.fourth, x.0.fifth)))),
+      x.1.now,
+    )) result (five_fields.read bytes.now) }
+{
+    let (first, rest) = u32_at(bytes)?;
+    let (second, rest) = u32_at(rest)?;
+    let (third, rest) = u32_at(rest)?;
+    let (fourth, rest) = u32_at(rest)?;
+    let (fifth, rest) = u32_at(rest)?;
+    Ok((
+        Five {
+            first,
+            second,
+            third,
+            fourth,
+            fifth,
+        },
+        rest,
+    ))
+}
+
+/// A tree whose numbers fit their fields.
+pub(crate) fn kept_tree_at(bytes: &[u8]) -> Result<(SegBytes<'_>, &[u8]), Fault>
+    ensures { GivesOrFault (λ x. (tree_in x.0, x.1.now)) result (tree_fields.read bytes.now) }
+{
+    tree_at(Limits::widest(), DEEPEST_KEPT, bytes)
+}
+
+/// The routine that the bytes begin with, and the bytes after it.
+pub fn routine_at(bytes: &[u8]) -> Result<(RoutineRef<'_>, &[u8]), Fault>
+    ensures { GivesOrFault (λ x. (routine_in x.0, x.1.now)) result (routine_fields.read bytes.now) }
+{
+    let (owner, rest) = owner_at(bytes)?;
+    let (cost, rest) = five_at(rest)?;
+    let (tree, rest) = kept_tree_at(rest)?;
+    Ok((
+        RoutineRef {
+            kind: owner.kind,
+            owner: owner.owner,
+            params: owner.params,
+            locals: owner.locals,
+            result: owner.result,
+            start: cost.first,
+            run: cost.second,
+            susp: cost.third,
+            waits: cost.fourth,
+            stay: cost.fifth,
+            tree,
+        },
+        rest,
+    ))
+}
