@@ -1,0 +1,65 @@
+//! Processes.
+
+ghost use Rattle.std.specs.Prelude.{◌≡◌, true};
+ghost use Rattle.rte_image.specs.Raw.{process_of};
+ghost use Rattle.rte_image_fits.specs.Reads.{ProcessIsRead};
+ghost use Rattle.rte_image_parts.specs.Fields.{are_short, five_fields, handler_tree_fields, release_fields};
+ghost use Rattle.rte_valid.specs.Valid.{HasHandler};
+
+use rte_image::RawProc;
+
+/// When it is released, within what it has to end, and its rank.
+fn release_fits(process: &RawProc)
+    ensures { release_fields.is (
+      process.now.kind,
+      (
+        process.now.frame,
+        (
+          process.now.deadline,
+          (process.now.first, (process.now.event, process.now.rank)),
+        ),
+      ),
+    ) ≡ true }
+{
+    let _kind = process.kind;
+    let _frame = process.frame;
+    let _deadline = process.deadline;
+    let _first = process.first;
+    let _event = process.event;
+    let _rank = process.rank;
+}
+
+/// What it takes of time.
+fn time_fits(process: &RawProc)
+    ensures { five_fields.is (
+      process.now.run,
+      (process.now.susp, (process.now.waits, (process.now.block, process.now.bound))),
+    ) ≡ true }
+{
+    let _run = process.run;
+    let _susp = process.susp;
+    let _waits = process.waits;
+    let _block = process.block;
+    let _bound = process.bound;
+}
+
+/// What it takes of memory, and where its body and its handler stand.
+fn room_fits(process: &RawProc)
+    ensures { five_fields.is (
+      process.now.words,
+      (process.now.stack, (process.now.locals, (process.now.start, process.now.handler))),
+    ) ≡ true }
+{
+    let _words = process.words;
+    let _stack = process.stack;
+    let _locals = process.locals;
+    let _start = process.start;
+    let _handler = process.handler;
+}
+
+/// Each number fits two bytes.
+fn numbers_fit(numbers: &[u16])
+    ensures { are_short numbers.now ≡ true }
+{
+    let _first = numbers.first();
+}
