@@ -1,12 +1,13 @@
 -- Parts that are read as they are written, whatever follows.
-use Rattle.std.specs.Prelude.{◌≡◌, ◌++◌, ℕ, List, Ok}
+use Rattle.std.specs.Prelude.{◌≡◌, ◌++◌, ℕ, true, List, Ok, Option, Some, None}
 use Rattle.rte_format.specs.Format.{Format}
 use Rattle.rte_format.specs.Numbers.{u16, u32}
 use Rattle.rte_format.specs.TreeBytes.{tree_bytes}
 use Rattle.rte_image.specs.Bytes.{Second, handler_bytes, numbers_bytes, release_bytes, room_bytes, routine_bytes, time_bytes}
-use Rattle.rte_image_parts.specs.Fields.{process_fields, routine_fields}
+use Rattle.rte_image_parts.specs.Fields.{process_fields, routine_fields, tree_fields}
 use Rattle.rte_image_reading.specs.Grammar.{monitor_format}
 use Rattle.rte_machine_meaning.specs.Image.{Monitor, Process, Routine}
+use Rattle.rte_machine_meaning.specs.Trees.{Segs}
 
 -- a process after its name
 abbrev pub numbered_bytes : Process → List ℕ
@@ -28,3 +29,8 @@ ProcessIsRead p = IsReadFrom process_fields (numbered_bytes p) p
 
 abbrev pub MonitorIsRead : Monitor → Type 0
 MonitorIsRead m = IsReadFrom monitor_format (guarded_bytes m) m
+
+-- the tree of a handler, where there is one, has numbers that fit their fields
+abbrev pub FitsWhereThere : Option Segs → Type 0
+FitsWhereThere None = Unit {0}
+FitsWhereThere (Some tree) = tree_fields.is tree ≡ true

@@ -1,9 +1,20 @@
 //! Monitors.
 
+ghost use Rattle.std.specs.Prelude.{◌≡◌, true};
 ghost use Rattle.rte_image.specs.Raw.{monitor_of};
 ghost use Rattle.rte_image_fits.specs.Reads.{MonitorIsRead};
+ghost use Rattle.rte_image_reading.specs.Grammar.{monitor_format};
 
 use rte_image::RawMon;
+
+/// Where its words begin and how many they are, and its ceiling.
+fn monitor_fits(monitor: &RawMon)
+    ensures { monitor_format.is (monitor_of monitor.now) ≡ true }
+{
+    let _base = monitor.base;
+    let _words = monitor.words;
+    let _ceiling = monitor.ceiling;
+}
 
 /// The bytes of a monitor are read as it is. The call does nothing.
 pub fn monitor_is_read(monitor: &RawMon)

@@ -1,12 +1,13 @@
 //! Processes.
 
-ghost use Rattle.std.specs.Prelude.{◌≡◌, true};
+ghost use Rattle.std.specs.Prelude.{◌≡◌, ◌<◌, ◌^◌, length, true};
 ghost use Rattle.rte_image.specs.Raw.{process_of};
-ghost use Rattle.rte_image_fits.specs.Reads.{ProcessIsRead};
-ghost use Rattle.rte_image_parts.specs.Fields.{are_short, five_fields, handler_tree_fields, release_fields};
+ghost use Rattle.rte_image_fits.specs.Reads.{FitsWhereThere, ProcessIsRead};
+ghost use Rattle.rte_image_parts.specs.Fields.{are_short, five_fields, release_fields};
 ghost use Rattle.rte_valid.specs.Valid.{HasHandler};
 
 use rte_image::RawProc;
+use rte_seg_bytes::SegTree;
 
 /// When it is released, within what it has to end, and its rank.
 fn release_fits(process: &RawProc)
@@ -62,4 +63,27 @@ fn numbers_fit(numbers: &[u16])
     ensures { are_short numbers.now ≡ true }
 {
     let _first = numbers.first();
+}
+
+/// The tree of a handler fits, where there is one.
+fn handler_tree_fits(tree: &Option<SegTree>)
+    ensures { FitsWhereThere tree.now }
+{
+    if let Some(tree) = tree {
+        tree.can_be_read();
+    }
+}
+
+/// The bytes of a process are read as it is. The call does nothing.
+pub fn process_is_read(process: &RawProc)
+    requires handler { HasHandler (process_of process.now) process.now.handler_tree }
+    requires few { length process.now.numbers < 2 ^ 16 }
+    ensures { ProcessIsRead (process_of process.now) }
+{
+    release_fits(process);
+    time_fits(process);
+    room_fits(process);
+    numbers_fit(process.numbers.as_slice());
+    process.body.can_be_read();
+    handler_tree_fits(&process.handler_tree);
 }

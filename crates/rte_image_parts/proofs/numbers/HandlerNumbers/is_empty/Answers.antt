@@ -1,5 +1,5 @@
-use Rattle.std.proofs.Common.{◌≡◌, ap, sym}
-use Rattle.std.specs.Prelude.{length, nat_eq}
+use Rattle.std.proofs.Common.{ap, sym}
+use Rattle.std.specs.Prelude.{nat_eq}
 use Rattle.rte_image_parts.specs.Standing.{numbers_in}
 use Rattle.rte_image_parts.proofs.ManyNumbers.{many}
 use Rattle.rte_image_parts.proofs.numbers.HandlerNumbers.is_empty.Goals as goal
