@@ -13,7 +13,7 @@ mod due;
 mod ranks;
 mod reached;
 
-pub use bounds::{bound_fault, task_set};
+pub use bounds::{bound_fault, declared_fault, task_set};
 pub use due::{ceiling_of, needed_block, rank_of};
 pub use ranks::rank_fault;
 pub use reached::{Stays, longest_stays};
