@@ -4,7 +4,8 @@
 //! for the names of an image: its lines have a form and known names, their ticks do not descend,
 //! and two occurrences of an event stand at least the frame of its process apart.
 //! `specs/Faults.antt` says what the fault of any other text is: the first line that breaks a rule,
-//! and the least number of those that it breaks. `read_script` gives the script, or that fault.
+//! and the least number of those that it breaks. `read_script` gives the script, or that fault. A
+//! script keeps a copy of the names that it was read for.
 #![tactic(auto)]
 
 mod fault;
@@ -19,5 +20,6 @@ mod script;
 
 pub use fault::ScriptFault;
 pub use laws::one_script;
+pub use names::copy_image_names;
 pub use read::read_script;
 pub use script::{Script, ScriptLine};
