@@ -1,11 +1,11 @@
 -- Instructions at their addresses.
-use Rattle.std.proofs.Common.{◌≡◌, ◌≤◌, ◌<◌, ◌+◌, ◌*◌, ◌-◌, ℕ, zero, suc, List, [], ◌∷◌, length, take, drop, Some, min, refl, sym, ap, ◌∙◌, arith}
+use Rattle.std.proofs.Common.{◌≡◌, ◌≤◌, ◌<◌, ◌+◌, ◌*◌, ◌-◌, ℕ, zero, suc, List, [], ◌∷◌, length, take, drop, Some, min, refl, sym, ap, ◌∙◌, subst, arith}
 use Rattle.std.specs.Prelude.{slice_get}
 use Rattle.std.proofs.lemmas.List.{length-drop, length-take}
 use Rattle.rte_isa.specs.declared.instr.Instr.{Instr}
 use Rattle.rte_isa.specs.Bytes.{HasWords, instr_bytes}
 use Rattle.rte_image_places.specs.Places.{AreInstrs}
-use Rattle.rte_image_at.proofs.Long.{instr_long}
+use Rattle.rte_image_bytes.proofs.Long.{instr_long}
 
 -- the instruction of an address stands there
 pub record Standing (bytes : List ℕ) (at : ℕ) (code : List Instr) (address : ℕ) : Type 0 where
@@ -27,3 +27,8 @@ pub ends_within : (bytes : List ℕ) (at : ℕ) (instr : Instr) → take 13 (dro
 ends_within bytes at instr are =
     let long : min 13 (length bytes - at) ≡ 13 = ap (λ k. min 13 k) (sym (length-drop at bytes)) ∙ sym (length-take 13 (drop at bytes)) ∙ ap (λ (xs : List ℕ). length xs) are ∙ instr_long instr in
     omega (arith, long)
+
+-- the same bytes and instructions
+pub same_standing : (at : ℕ) {bytes more : List ℕ} {code other : List Instr} → bytes ≡ more → code ≡ other → AreInstrs bytes at code → AreInstrs more at other
+same_standing at {bytes = bytes} {more = more} {code = code} {other = other} same_bytes same are =
+    subst (λ is. AreInstrs more at is) same (subst (λ (bs : List ℕ). AreInstrs bs at code) same_bytes are)

@@ -1,3 +1,4 @@
+pub mod Same
 pub mod Long
 pub mod Placed
 pub mod Addresses

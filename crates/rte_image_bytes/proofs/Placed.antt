@@ -1,5 +1,5 @@
 -- What stands at places.
-use Rattle.std.proofs.Common.{◌≡◌, ◌⊎◌, inl, inr, ◌≤◌, ◌<◌, ℕ, zero, suc, List, [], ◌∷◌, length, drop, Ok, Err, Option, Some, None, refl, sym, ap, ◌∙◌, arith}
+use Rattle.std.proofs.Common.{◌≡◌, ◌⊎◌, inl, inr, ◌≤◌, ◌<◌, ℕ, zero, suc, List, [], ◌∷◌, length, drop, Ok, Err, Option, Some, None, refl, sym, ap, ◌∙◌, subst, arith}
 use Rattle.std.specs.Prelude.{slice_get}
 use Rattle.std.proofs.lemmas.Bool.{cases_lt}
 use Rattle.std.proofs.lemmas.List.{drop_all}
@@ -43,6 +43,11 @@ same_place x y o one other = ap value (sym one ∙ other) where
   value : Option ℕ → ℕ
   value (Some z) = z
   value None = x
+
+-- the same bytes, places and things
+pub there : {A : Type 0} (f : Format A) {bytes more places other : List ℕ} {xs ys : List A} → bytes ≡ more → places ≡ other → xs ≡ ys → AreAt f bytes places xs → AreAt f more other ys
+there f {bytes = bytes} {more = more} {places = places} {other = other} {xs = xs} {ys = ys} same_bytes same_places same are =
+    subst (λ zs. AreAt f more other zs) same (subst (λ (ps : List ℕ). AreAt f more ps xs) same_places (subst (λ (bs : List ℕ). AreAt f bs places xs) same_bytes are))
 
 module _ {A : Type 0} (f : Format A) (bytes places : List ℕ) (xs : List A) (number : ℕ) (are : AreAt f bytes places xs) (lt : number < length xs) where
   -- the number is one of the places
