@@ -1,6 +1,6 @@
 -- What is read at the places of an image is the image.
-use Rattle.std.proofs.Common.{◌≡◌, ◌+◌, ℕ, zero, suc, Bool, List, [], ◌∷◌, length, map, take, drop, Result, Ok, Err, Option, Some, None, refl, sym, ap, ◌∙◌, subst}
-use Rattle.rte_format.specs.Format.{Format, Read}
+use Rattle.std.proofs.Common.{◌≡◌, ◌+◌, ℕ, zero, suc, Bool, List, [], ◌∷◌, length, map, refl, sym, ap, ◌∙◌, subst}
+use Rattle.rte_format.specs.Format.{Format}
 use Rattle.rte_image.specs.Bytes.{Second, bytes_of}
 use Rattle.rte_image.specs.InRange.{IsInRange}
 use Rattle.rte_image.specs.Named.{NamedImage}
@@ -39,34 +39,94 @@ same_image bytes places named conditions devices are =
     ∙ ap (λ code. with_code code) (ap (λ n. instrs_at bytes places.code n) are.instructions ∙ same_code bytes places.code named.image.code are.code)
     ∙ ap (λ conditions. with_conditions conditions) (sym conditions) ∙ ap (λ devices. with_devices devices) (sym devices) where
       with_devices : List Bool → NamedImage
-      with_devices devices = record { program = named.program; names = named.names; image = record {
-        over = named.image.over; monitors = named.image.monitors; conditions = named.image.conditions; devices = devices;
-        routines = named.image.routines; processes = named.image.processes; code = named.image.code } }
+      with_devices devices = record {
+        program = named.program;
+        names = named.names;
+        image = record {
+          over = named.image.over;
+          monitors = named.image.monitors;
+          conditions = named.image.conditions;
+          devices = devices;
+          routines = named.image.routines;
+          processes = named.image.processes;
+          code = named.image.code;
+        };
+      }
 
       with_conditions : List ℕ → NamedImage
-      with_conditions conditions = record { program = named.program; names = named.names; image = record {
-        over = named.image.over; monitors = named.image.monitors; conditions = conditions; devices = map (λ d. d.out) named.names.devices;
-        routines = named.image.routines; processes = named.image.processes; code = named.image.code } }
+      with_conditions conditions = record {
+        program = named.program;
+        names = named.names;
+        image = record {
+          over = named.image.over;
+          monitors = named.image.monitors;
+          conditions = conditions;
+          devices = map (λ d. d.out) named.names.devices;
+          routines = named.image.routines;
+          processes = named.image.processes;
+          code = named.image.code;
+        };
+      }
 
       with_code : List Instr → NamedImage
-      with_code code = record { program = named.program; names = named.names; image = record {
-        over = named.image.over; monitors = named.image.monitors; conditions = map (λ c. c.mon) named.names.conditions; devices = map (λ d. d.out) named.names.devices;
-        routines = named.image.routines; processes = named.image.processes; code = code } }
+      with_code code = record {
+        program = named.program;
+        names = named.names;
+        image = record {
+          over = named.image.over;
+          monitors = named.image.monitors;
+          conditions = map (λ c. c.mon) named.names.conditions;
+          devices = map (λ d. d.out) named.names.devices;
+          routines = named.image.routines;
+          processes = named.image.processes;
+          code = code;
+        };
+      }
 
       with_processes : List Process → NamedImage
-      with_processes processes = record { program = named.program; names = named.names; image = record {
-        over = named.image.over; monitors = named.image.monitors; conditions = map (λ c. c.mon) named.names.conditions; devices = map (λ d. d.out) named.names.devices;
-        routines = named.image.routines; processes = processes; code = instrs_at bytes places.code places.instructions } }
+      with_processes processes = record {
+        program = named.program;
+        names = named.names;
+        image = record {
+          over = named.image.over;
+          monitors = named.image.monitors;
+          conditions = map (λ c. c.mon) named.names.conditions;
+          devices = map (λ d. d.out) named.names.devices;
+          routines = named.image.routines;
+          processes = processes;
+          code = instrs_at bytes places.code places.instructions;
+        };
+      }
 
       with_routines : List Routine → NamedImage
-      with_routines routines = record { program = named.program; names = named.names; image = record {
-        over = named.image.over; monitors = named.image.monitors; conditions = map (λ c. c.mon) named.names.conditions; devices = map (λ d. d.out) named.names.devices;
-        routines = routines; processes = things_at no_process process_fields bytes places.processes; code = instrs_at bytes places.code places.instructions } }
+      with_routines routines = record {
+        program = named.program;
+        names = named.names;
+        image = record {
+          over = named.image.over;
+          monitors = named.image.monitors;
+          conditions = map (λ c. c.mon) named.names.conditions;
+          devices = map (λ d. d.out) named.names.devices;
+          routines = routines;
+          processes = things_at no_process process_fields bytes places.processes;
+          code = instrs_at bytes places.code places.instructions;
+        };
+      }
 
       with_monitors : List Monitor → NamedImage
-      with_monitors monitors = record { program = named.program; names = named.names; image = record {
-        over = named.image.over; monitors = monitors; conditions = map (λ c. c.mon) named.names.conditions; devices = map (λ d. d.out) named.names.devices;
-        routines = things_at no_routine routine_fields bytes places.routines; processes = things_at no_process process_fields bytes places.processes; code = instrs_at bytes places.code places.instructions } }
+      with_monitors monitors = record {
+        program = named.program;
+        names = named.names;
+        image = record {
+          over = named.image.over;
+          monitors = monitors;
+          conditions = map (λ c. c.mon) named.names.conditions;
+          devices = map (λ d. d.out) named.names.devices;
+          routines = things_at no_routine routine_fields bytes places.routines;
+          processes = things_at no_process process_fields bytes places.processes;
+          code = instrs_at bytes places.code places.instructions;
+        };
+      }
 
 -- what is kept of an image is kept of what is read at its places
 pub record Stands (bytes : List ℕ) (places : Places) (named : NamedImage) : Type 0 where

@@ -1,6 +1,6 @@
 //! Images as bytes.
 
-ghost use Rattle.std.specs.Prelude.{◌≡◌, ◌<◌, Some, IfOk, length, slice_get};
+ghost use Rattle.std.specs.Prelude.{◌≡◌, ◌<◌, Some, IfOk, length, map, slice_get};
 ghost use Rattle.rte_image.specs.Bytes.{Second, bytes_of};
 ghost use Rattle.rte_image.specs.InRange.{IsInRange};
 ghost use Rattle.rte_image.specs.Raw.{image_of, monitor_of, named_of};
@@ -93,6 +93,15 @@ impl ImageBytes {
         ensures { result.now ≡ self.now.names }
     {
         &self.names
+    }
+
+    /// Conditions stand in the image by their monitors, and devices by their directions. The call
+    /// does nothing.
+    pub fn names_are_its(&self)
+        ensures conditions { self.now.image.conditions ≡ map (λ c. c.mon) self.now.names.conditions }
+        ensures devices { self.now.image.devices ≡ map (λ d. d.out) self.now.names.devices }
+    {
+        let _names = &self.names;
     }
 
     /// The ticks of one dispatch.
