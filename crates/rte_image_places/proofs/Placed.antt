@@ -1,5 +1,5 @@
 -- Places of parts that stand one after the other: what a loop over the parts keeps.
-use Rattle.std.proofs.Common.{◌≡◌, ◌+◌, ◌++◌, ℕ, List, [], ◌∷◌, Ok, length, drop, refl, sym, ap, ◌∙◌, subst, append_assoc, length-append, arith}
+use Rattle.std.proofs.Common.{◌≡◌, ◌+◌, ◌++◌, ℕ, List, [], ◌∷◌, Ok, length, drop, sym, ap, ◌∙◌, subst, append_assoc, length-append, arith}
 use Rattle.std.proofs.Math.Seq.{drop-append_seam}
 use Rattle.std.proofs.lemmas.List.{drop-drop}
 use Rattle.rte_format.specs.Format.{Format}
@@ -23,9 +23,6 @@ pub record Placed {A : Type 0} (f : Format A) (start : ℕ) (written : List ℕ)
   pub things : AreAmong f start written places xs
   pub next : (bytes rest : List ℕ) → drop start bytes ≡ written ++ rest → drop at bytes ≡ left ++ rest
   pub size : at + length left ≡ start + length written
-
-pub none_placed : {A : Type 0} (f : Format A) (start : ℕ) (written : List ℕ) → Placed f start written start written [] []
-none_placed f start written = record { things = λ bytes rest h. tt; next = λ bytes rest h. h; size = refl }
 
 -- one more, whose own bytes stand after others
 pub one_more_placed : {A : Type 0} (f : Format A) (start : ℕ) (written : List ℕ) (at : ℕ) (before own left more places new : List ℕ) (xs ys : List A) (x : A) (place after : ℕ)

@@ -29,7 +29,8 @@ fn after_opening(raw: &RawImage) -> usize
     after_events(events, raw.names.events.as_slice())
 }
 
-/// Where the parts of an image begin in the bytes that are written of it.
+/// Where the parts of an image begin in the bytes that are written of it. The places follow from the
+/// image, and the bytes are not read. An error says that memory is short.
 pub fn places_of(alloc: Global, raw: &RawImage, bytes: &[u8]) -> Result<Places, AllocError>
     requires limits { HasLimits (image_of raw.now) }
     requires written { IsInRange (named_of raw.now) }
