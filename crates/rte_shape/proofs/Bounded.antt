@@ -1,11 +1,13 @@
 -- A search for the first bound that fails, from a process on.
 use Rattle.std.proofs.Common.{◌≡◌, ◌≤◌, ◌<◌, ◌+◌, ◌-◌, ℕ, List, length, Option, Some, None, arith, ap, sym, ◌∙◌}
-use Rattle.std.specs.Prelude.{slice_get}
+use Rattle.std.specs.Prelude.{nat_le, slice_get}
 use Rattle.std.proofs.lemmas.Option.{slice_get_within}
 use Rattle.rte_machine_meaning.specs.Image.{Image, Process}
 use Rattle.rte_response.specs.declared.tasks.Task.{Task}
 use Rattle.rte_tasks.specs.Tasks.{tasks_of}
-use Rattle.rte_valid.specs.Fault.{Fault, first_of, of_some}
+use Rattle.rte_valid.specs.Fault.{Fault, first_of, of_some, or_else, unless}
+use Rattle.rte_valid.specs.Sizes.{below}
+use Rattle.rte_response.specs.Demand.{demand_at}
 use Rattle.rte_valid.specs.Times.{process_bound_fault, rank_fault}
 use Rattle.rte_valid_code.proofs.Searching.{none_here, none_left, of_element, one_here}
 use Rattle.rte_valid_law.proofs.Ranking.{ranked}
@@ -43,3 +45,8 @@ pub ends : (image : Image) (number : ℕ) (whole : Option Fault) → length imag
 ends image number whole past held =
     let none : length image.processes - number ≡ 0 = omega (arith, past) in
     sym (none_left (fault_at image) (length image.processes - number) number none) ∙ held
+
+-- a fault by the tasks of an image
+pub own_fault : (image : Image) (p : Process) (tasks : List Task) → tasks ≡ tasks_of image
+    → or_else (below p.bound (demand_at tasks (p.rank - 1) p.bound)) (unless (nat_le p.bound p.deadline) p.bound p.deadline) ≡ process_bound_fault image p
+own_fault image p tasks same = ap (λ ts. or_else (below p.bound (demand_at ts (p.rank - 1) p.bound)) (unless (nat_le p.bound p.deadline) p.bound p.deadline)) same

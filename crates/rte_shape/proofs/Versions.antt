@@ -1,5 +1,5 @@
 -- The version of a file stands in its sixth byte.
-use Rattle.std.proofs.Common.{◌≡◌, ℕ, List, [], ◌∷◌, Option, Some, None, Ok, refl, sym, ap, ◌∙◌}
+use Rattle.std.proofs.Common.{◌≡◌, ℕ, List, [], ◌∷◌, Option, Some, None, Ok, refl, sym, ap, ◌∙◌, arith}
 use Rattle.std.specs.Prelude.{slice_get}
 use Rattle.rte_format.specs.Law.{AreBytes}
 use Rattle.rte_image.specs.Bytes.{Version, First, Second, bytes_of}
@@ -13,11 +13,16 @@ first_is_1 : (named : NamedImage) → slice_get (bytes_of First named) 5 ≡ Som
 unfolding bytes_of
 first_is_1 named = refl
 
+number : Option ℕ → ℕ
+number (Some n) = n
+number None = 0
+
 of_version : (bytes : List ℕ) (version : Version) (named : NamedImage) → bytes ≡ bytes_of version named → slice_get bytes 5 ≡ Some 2 → bytes ≡ bytes_of Second named
 of_version bytes Second named are two = are
 of_version bytes First named are two =
-    let one : Some 2 ≡ Some 1 = sym two ∙ ap (λ (all : List ℕ). slice_get all 5) are ∙ first_is_1 named in
-    absurd cc
+    let one : slice_get bytes 5 ≡ Some 1 = ap (λ (all : List ℕ). slice_get all 5) are ∙ first_is_1 named in
+    let same : 2 ≡ 1 = ap number (sym two ∙ one) in
+    absurd (omega (arith, same))
 
 pub second_is : ImagesReadAreWritten → (bytes : List ℕ) (raw : RawImage) → AreBytes bytes → Holds bytes raw → slice_get bytes 5 ≡ Some 2 → bytes ≡ bytes_of Second (named_of raw)
 second_is law bytes raw are holds two =

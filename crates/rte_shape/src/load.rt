@@ -1,6 +1,6 @@
 //! Loading shapes from the bytes of files.
 
-ghost use Rattle.std.specs.Prelude.{◌≡◌, IfSome};
+ghost use Rattle.std.specs.Prelude.{◌≡◌, IfSome, IsTrue};
 ghost use Rattle.rte_image.specs.Bytes.{Second, bytes_of};
 ghost use Rattle.rte_image.specs.InRange.{IsInRange};
 ghost use Rattle.rte_image.specs.Raw.{named_of};
@@ -26,15 +26,27 @@ fn read(alloc: Global, bytes: &[u8]) -> Result<RawImage, ImageFault>
     read_image(alloc, bytes)
 }
 
+/// Whether the bytes of an image that was read are in version 2.
+fn are_second(bytes: &[u8], raw: &RawImage) -> bool
+    requires { Holds bytes.now raw.now }
+    ensures { IsTrue result → bytes.now ≡ bytes_of Second (named_of raw.now) }
+{
+    images_read_are_written();
+    match bytes.get(5) {
+        Some(version) => *version == 2,
+        None => false,
+    }
+}
+
 /// The bytes of an image that was read, where they are in version 2.
 fn second(bytes: Vec<u8>, raw: &RawImage) -> Option<Vec<u8>>
     requires { Holds bytes.items raw.now }
     ensures { IfSome result (λ own. own.items ≡ bytes_of Second (named_of raw.now)) }
 {
-    images_read_are_written();
-    match bytes.as_slice().get(5) {
-        Some(2) => Some(bytes),
-        _ => None,
+    if are_second(bytes.as_slice(), raw) {
+        Some(bytes)
+    } else {
+        None
     }
 }
 
