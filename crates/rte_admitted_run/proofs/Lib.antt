@@ -1,3 +1,4 @@
 mod Held
 mod Planned
 mod Runs
+pub mod AsRaw

@@ -61,15 +61,10 @@ module _ (n : NamedImage) (is : IsShape n) (admitted : IsAdmitted n.image) where
 
 -- ---- deadlines
 
--- the deadlines of the image are those that stand in its file
-same_deadlines : (processes : List RawProc) → map (λ (p : Process). p.deadline) (map process_of processes) ≡ map (λ (p : RawProc). p.deadline) processes
-same_deadlines [] = refl
-same_deadlines (p ∷ processes) = ap (λ (ds : List ℕ). p.deadline ∷ ds) (same_deadlines processes)
-
-pub has_deadlines : (whole : Image) (raw : RawImage) (n : NamedImage) (deadlines : List ℕ) → whole ≡ n.image → named_of raw ≡ n → deadlines ≡ map (λ (p : RawProc). p.deadline) raw.processes → HasDeadlines whole deadlines
-has_deadlines whole raw n deadlines same raw_is taken =
-    let of_raw : HasDeadlines (image_of raw) deadlines = same_deadlines raw.processes ∙ sym taken in
-    subst (λ (x : Image). HasDeadlines x deadlines) (sym same) (subst (λ (x : NamedImage). HasDeadlines x.image deadlines) raw_is of_raw)
+pub has_deadlines : (whole : Image) (n m : NamedImage) (deadlines : List ℕ) → whole ≡ n.image → m ≡ n → deadlines ≡ map (λ (p : Process). p.deadline) m.image.processes → HasDeadlines whole deadlines
+has_deadlines whole n m deadlines same shape taken =
+    let own : HasDeadlines m.image deadlines = sym taken in
+    subst (λ (x : Image). HasDeadlines x deadlines) (sym same) (subst (λ (x : NamedImage). HasDeadlines x.image deadlines) shape own)
 
 -- ---- before the first tick
 

@@ -20,5 +20,5 @@ pub fn images_of_files_can_be_run(image: &EdfImage)
         Suits image.now.image (script_with lines last) }
 {
     scripts_suit();
-    let _raw = image.shape().raw();
+    let _shape = image.shape();
 }

@@ -13,20 +13,21 @@ ghost use Rattle.rte_admitted_run.specs.Ready.{CanBeRun, IsReady, run_log};
 use rte_edf_admit::EdfImage;
 use rte_edf_machine::EdfMachine;
 use rte_edf_runnable::law::{waitless_runs_are_runnable, waitless_runs_have_lines};
-use rte_image::RawProc;
 use rte_io::{Sink, SinkFailed};
-use rte_plan::plan_of;
+use rte_plan_bytes::plan_of;
 use rte_script::Script;
+use rte_shape::Shape;
 use rte_state::Plan;
 use std::alloc::{AllocError, Global};
 
 /// The deadline of each process in ticks; an error says that memory is short.
-fn deadlines_of(alloc: Global, processes: &[RawProc]) -> Result<Vec<u32>, AllocError>
-    ensures { IfOk result (λ deadlines. deadlines.items ≡ map (λ p. p.deadline) processes.now) }
+fn deadlines_of(alloc: Global, shape: &Shape) -> Result<Vec<u32>, AllocError>
+    ensures { IfOk result (λ deadlines.
+        deadlines.items ≡ map (λ p. p.deadline) shape.now.image.processes) }
 {
-    let mut deadlines = Vec::with_capacity(alloc, processes.len())?;
-    for process in processes {
-        deadlines.push(process.deadline)?;
+    let mut deadlines = Vec::with_capacity(alloc, shape.processes() as usize)?;
+    for number in 0..shape.processes() {
+        deadlines.push(shape.process(number).deadline)?;
     }
     Ok(deadlines)
 }
@@ -46,8 +47,7 @@ fn machine_of(
     ensures stands { IfOk result (λ machine.
         StandsIn image.now.image (script_of script.now) machine) }
 {
-    let raw = image.shape().raw();
-    let deadlines = deadlines_of(alloc, raw.processes.as_slice())?;
+    let deadlines = deadlines_of(alloc, image.shape())?;
     EdfMachine::new(alloc, plan, deadlines.as_slice(), script)
 }
 
@@ -96,7 +96,7 @@ impl AdmittedRun {
         image.runs_meet_deadlines();
         waitless_runs_are_runnable();
         waitless_runs_have_lines();
-        let plan = plan_of(alloc, image.shape().raw())?;
+        let plan = plan_of(alloc, image.shape().image())?;
         let machine = machine_of(alloc, &plan, image, script)?;
         Ok(AdmittedRun { plan, machine })
     }

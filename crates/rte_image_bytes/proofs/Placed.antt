@@ -1,6 +1,7 @@
 -- What stands at places.
-use Rattle.std.proofs.Common.{◌≡◌, ◌⊎◌, inl, inr, ◌≤◌, ◌<◌, ℕ, zero, suc, List, [], ◌∷◌, length, drop, Ok, Err, Option, Some, None, refl, sym, ap, ◌∙◌, subst, arith}
+use Rattle.std.proofs.Common.{◌≡◌, ◌⊎◌, inl, inr, ◌≤◌, ◌<◌, ℕ, zero, suc, true, List, [], ◌∷◌, length, drop, Ok, Err, Option, Some, None, refl, sym, ap, ◌∙◌, subst, arith}
 use Rattle.std.specs.Prelude.{slice_get}
+use Rattle.std.specs.Result.{is_ok}
 use Rattle.std.proofs.lemmas.Bool.{cases_lt}
 use Rattle.std.proofs.lemmas.List.{drop_all}
 use Rattle.rte_format.specs.declared.fault.Fault.{Fault}
@@ -81,3 +82,9 @@ module _ {A : Type 0} (f : Format A) (bytes places : List ℕ) (xs : List A) (nu
       let other : f.read (drop x.at bytes) ≡ Err e = ap (λ (bytes : List ℕ). f.read bytes) (sym (here x.at x.place)) ∙ read in
       let bad = sym other ∙ x.is_read in
       cc
+
+  -- and reading goes well
+  pub is_read_there : (left : List ℕ) → ((at : ℕ) → slice_get places number ≡ Some at → left ≡ drop at bytes) → is_ok (f.read left) ≡ true
+  is_read_there left here =
+      let x = found f bytes places xs number are lt in
+      ap is_ok (ap (λ (bytes : List ℕ). f.read bytes) (here x.at x.place) ∙ x.is_read)

@@ -158,10 +158,7 @@ impl ImageBytes {
     {
         let bytes = self.bytes.as_slice();
         let places = self.places.processes.as_slice();
-        match process_at(bytes_from(bytes, places, number)) {
-            Ok((process, _)) => process,
-            Err(_) => unreachable!(),
-        }
+        process_at(bytes_from(bytes, places, number))
     }
 
     /// A routine, by its number from 0.
@@ -171,10 +168,7 @@ impl ImageBytes {
     {
         let bytes = self.bytes.as_slice();
         let places = self.places.routines.as_slice();
-        match routine_at(bytes_from(bytes, places, number)) {
-            Ok((routine, _)) => routine,
-            Err(_) => unreachable!(),
-        }
+        routine_at(bytes_from(bytes, places, number))
     }
 
     /// A monitor, by its number from 0.

@@ -1,1 +1,2 @@
 pub mod ManyNumbers
+pub mod Later

@@ -77,6 +77,10 @@ abbrev pub handler_tree_fields : (count : ℕ) → Format (Option Segs)
 handler_tree_fields zero = given (λ x y. is_none y) None
 handler_tree_fields (suc n) = some_format tree_fields
 
+-- the trees of a process whose handler takes so many numbers
+abbrev pub trees_fields : (count : ℕ) → Format (Segs × Option Segs)
+trees_fields count = both tree_fields (λ body. handler_tree_fields count)
+
 abbrev pub Numbered : Type 0
 Numbered = List ℕ × (Segs × Option Segs)
 
@@ -115,4 +119,4 @@ process_fields =
         ((p.words, (p.stack, (p.locals, (p.start, p.handler)))), (p.numbers, (p.body, p.handler_tree))),
       ),
     ))
-    (both release_fields (λ release. both five_fields (λ time. both five_fields (λ room. both numbers_fields (λ numbers. both tree_fields (λ body. handler_tree_fields (length numbers)))))))
+    (both release_fields (λ release. both five_fields (λ time. both five_fields (λ room. both numbers_fields (λ numbers. trees_fields (length numbers))))))

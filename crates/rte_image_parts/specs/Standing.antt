@@ -1,14 +1,14 @@
 -- What the references stand for.
-use Rattle.std.specs.Prelude.{ℕ, List, [], Ok, Err, Option, Some, None}
+use Rattle.std.specs.Prelude.{◌≡◌, ℕ, List, [], Ok, Err, Option, Some, None}
 use Rattle.rte_machine_meaning.specs.Image.{Routine, Process}
-use Rattle.rte_machine_meaning.specs.Trees.{Segs}
-use Rattle.rte_format.specs.Format.{Read}
+use Rattle.rte_machine_meaning.specs.Trees.{Segs, Nil}
+use Rattle.rte_format.specs.Format.{Format, Read}
 use Rattle.rte_seg_bytes.specs.declared.view.SegBytes.{SegBytes}
 use Rattle.rte_seg_bytes.specs.Stands.{tree_in}
-use Rattle.rte_image_parts.specs.Fields.{counted_numbers}
+use Rattle.rte_image_parts.specs.Fields.{counted_numbers, tree_fields, trees_fields}
 use Rattle.rte_image_parts.specs.declared.numbers.HandlerNumbers.{HandlerNumbers}
-use Rattle.rte_image_parts.specs.declared.process.ProcRef.{ProcRef}
-use Rattle.rte_image_parts.specs.declared.routine.RoutineRef.{RoutineRef}
+use Rattle.rte_image_parts.specs.declared.reference.ProcRef.{ProcRef}
+use Rattle.rte_image_parts.specs.declared.reference.RoutineRef.{RoutineRef}
 
 -- what was read, where it was, and else the given
 abbrev pub read_or : {A : Type 0} → A → Read A → A
@@ -31,12 +31,17 @@ routine_in r = record {
   susp = r.susp;
   waits = r.waits;
   stay = r.stay;
-  tree = tree_in r.tree;
+  tree = read_or Nil (tree_fields.read r.trees.now);
 }
 
+-- the tree of a handler that a view stands for, where there is one
 abbrev pub maybe_tree_in : Option SegBytes → Option Segs
 maybe_tree_in None = None
 maybe_tree_in (Some tree) = Some (tree_in tree)
+
+-- the trees of a process, as its bytes tell them
+abbrev pub trees_in : ProcRef → Segs × Option Segs
+trees_in p = read_or (Nil, None) ((trees_fields p.numbers.count).read p.trees.now)
 
 abbrev pub process_in : ProcRef → Process
 process_in p = record {
@@ -57,6 +62,10 @@ process_in p = record {
   start = p.start;
   handler = p.handler;
   numbers = numbers_in p.numbers;
-  body = tree_in p.body;
-  handler_tree = maybe_tree_in p.handler_tree;
+  body = (trees_in p).0;
+  handler_tree = (trees_in p).1;
 }
+
+-- the thing that bytes are read as
+abbrev pub IsRead : {A : Type 0} → Format A → List ℕ → A → Type 0
+IsRead f bytes x = (rest : List ℕ) × (f.read bytes ≡ Ok (x, rest))

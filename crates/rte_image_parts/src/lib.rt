@@ -1,8 +1,8 @@
 //! Parts of an image as they stand in its bytes: routines, processes, monitors and instructions,
 //! read where they begin.
 //!
-//! A reference (`RoutineRef`, `ProcRef`) holds the numbers of a part and borrows its trees; it takes
-//! no memory. `specs/Fields.antt` says which bytes the numbers take, and `specs/Standing.antt` which
+//! A reference (`RoutineRef`, `ProcRef`) holds the numbers of a part and borrows its trees, which
+//! are gone over when they are asked for; it takes no memory. `specs/Fields.antt` says which bytes the numbers take, and `specs/Standing.antt` which
 //! routine or process a reference stands for: the one that the bytes are read as. The ranges of
 //! numbers are not asked for here: whoever calls knows which part the bytes begin with.
 #![tactic(auto)]
@@ -10,8 +10,10 @@
 mod counted;
 mod numbers;
 mod process;
+mod reference;
 mod routine;
 
 pub use numbers::HandlerNumbers;
-pub use process::{ProcRef, process_at};
-pub use routine::{RoutineRef, routine_at};
+pub use process::process_at;
+pub use reference::{ProcRef, RoutineRef};
+pub use routine::routine_at;

@@ -1,39 +1,24 @@
 //! Routines.
 
-ghost use Rattle.std.specs.Prelude.{◌≡◌, ◌==◌};
+ghost use Rattle.std.specs.Prelude.{◌≡◌, ◌==◌, IsOk};
 ghost use Rattle.rte_format.specs.Gives.{GivesOrFault};
 ghost use Rattle.rte_image_parts.specs.Fields.{flag_field, five_fields, owner_fields, routine_fields, tree_fields};
-ghost use Rattle.rte_image_parts.specs.Standing.{routine_in};
+ghost use Rattle.rte_image_parts.specs.Standing.{IsRead, routine_in};
 ghost use Rattle.rte_seg_bytes.specs.Stands.{tree_in};
 
+use crate::reference::RoutineRef;
 use rte_format::{Fault, Limits, u8_at, u16_at, u32_at};
 use rte_seg_bytes::{DEEPEST_KEPT, SegBytes, tree_at};
-
-/// A routine as it stands in the bytes of an image. Its kind is 0 for one of the program, 1 for one
-/// of a process, 2 for an entry of a monitor; the owner is the number of that process or monitor.
-/// `run`, `susp` and `stay` are in ticks, `locals` in words, `start` is the address of its first
-/// instruction.
-#[derive(Clone, Copy)]
-pub struct RoutineRef<'a> {
-    pub kind: u8,
-    pub owner: u16,
-    pub params: u16,
-    pub locals: u32,
-    pub result: bool,
-    pub start: u32,
-    pub run: u32,
-    pub susp: u32,
-    pub waits: u32,
-    pub stay: u32,
-    tree: SegBytes<'a>,
-}
 
 impl<'a> RoutineRef<'a> {
     /// The tree of its code.
     pub fn tree(&self) -> SegBytes<'a>
         ensures { tree_in result ≡ (routine_in self.now).tree }
     {
-        self.tree
+        match kept_tree_at(self.trees) {
+            Ok((tree, _)) => tree,
+            Err(_) => unreachable!(),
+        }
     }
 }
 
@@ -118,27 +103,28 @@ pub(crate) fn kept_tree_at(bytes: &[u8]) -> Result<(SegBytes<'_>, &[u8]), Fault>
     tree_at(Limits::widest(), DEEPEST_KEPT, bytes)
 }
 
-/// The routine that the bytes begin with, and the bytes after it.
-pub fn routine_at(bytes: &[u8]) -> Result<(RoutineRef<'_>, &[u8]), Fault>
-    ensures { GivesOrFault (λ x. (routine_in x.0, x.1.now)) result (routine_fields.read bytes.now) }
+/// The routine that the bytes begin with. Its tree is not gone over.
+pub fn routine_at(bytes: &[u8]) -> RoutineRef<'_>
+    requires { IsOk (routine_fields.read bytes.now) }
+    ensures { IsRead routine_fields bytes.now (routine_in result) }
 {
-    let (owner, rest) = owner_at(bytes)?;
-    let (cost, rest) = five_at(rest)?;
-    let (tree, rest) = kept_tree_at(rest)?;
-    Ok((
-        RoutineRef {
-            kind: owner.kind,
-            owner: owner.owner,
-            params: owner.params,
-            locals: owner.locals,
-            result: owner.result,
-            start: cost.first,
-            run: cost.second,
-            susp: cost.third,
-            waits: cost.fourth,
-            stay: cost.fifth,
-            tree,
-        },
-        rest,
-    ))
+    let Ok((owner, rest)) = owner_at(bytes) else {
+        unreachable!()
+    };
+    let Ok((cost, trees)) = five_at(rest) else {
+        unreachable!()
+    };
+    RoutineRef {
+        kind: owner.kind,
+        owner: owner.owner,
+        params: owner.params,
+        locals: owner.locals,
+        result: owner.result,
+        start: cost.first,
+        run: cost.second,
+        susp: cost.third,
+        waits: cost.fourth,
+        stay: cost.fifth,
+        trees,
+    }
 }

@@ -1,0 +1,5 @@
+pub mod Lengths
+pub mod Placed
+pub mod Steps
+pub mod Instrs
+pub mod Whole

@@ -1,3 +1,5 @@
 pub mod Loaded
 pub mod Decided
 pub mod Runs
+pub mod Bounded
+pub mod Versions

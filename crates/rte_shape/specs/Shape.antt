@@ -1,6 +1,6 @@
 -- Shapes: images that are valid but for their bounds.
-use Rattle.std.specs.Prelude.{◌≡◌, ◌≤◌, ℕ, List, [], None, Ok, length}
-use Rattle.rte_image.specs.Bytes.{Version, Second, bytes_of}
+use Rattle.std.specs.Prelude.{◌≡◌, ℕ, List, [], None, Ok}
+use Rattle.rte_image.specs.Bytes.{Version}
 use Rattle.rte_image.specs.InRange.{IsInRange}
 use Rattle.rte_image.specs.Named.{NamedImage}
 use Rattle.rte_image_reading.specs.File.{Parts, image_with, read_file}
@@ -23,8 +23,7 @@ pub record IsShape (named : NamedImage) : Type 0 where
   pub written : IsInRange named
   pub valid : fault_before_bounds named.image ≡ None
 
--- what is kept of a shape: the bytes of its image, in version 2, and its declared tasks
-pub record IsKept (bytes : List ℕ) (named : NamedImage) (tasks : List Task) : Type 0 where
+-- what is kept of a shape beside its image: its declared tasks
+pub record IsKept (named : NamedImage) (tasks : List Task) : Type 0 where
   pub shape : IsShape named
-  pub bytes_are : bytes ≡ bytes_of Second named
   pub tasks_are : tasks ≡ tasks_of named.image

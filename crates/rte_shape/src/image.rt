@@ -9,6 +9,7 @@ ghost use Rattle.rte_timed.specs.Timed.{IsInTime, RespectsFrames};
 ghost use Rattle.rte_valid_law.specs.Laws.{IsSafe};
 ghost use Rattle.rte_verify.specs.Verified.{HasRanges, IsVerified};
 
+use crate::bounds::bound_fault;
 use crate::fault::ValidFault;
 use crate::shape::Shape;
 use rte_image::RawImage;
@@ -44,7 +45,8 @@ impl Image {
     pub fn of(shape: Shape) -> Result<Image, ValidFault>
         ensures { Bounds shape result }
     {
-        match shape.bound_fault() {
+        shape.has_no_fault_before_bounds();
+        match bound_fault(&shape) {
             None => Ok(Image { shape }),
             Some(shown) => Err(ValidFault::Bad {
                 number: 5,

@@ -3,9 +3,10 @@
 //! A `Shape` is an image that is valid but for its bounds: the parts of validity that speak of the
 //! image alone (`fault_before_bounds` of `rte_verify`) have no fault, and its numbers are in the
 //! ranges of their fields. An `Image` is a shape whose bounds meet the recurrence within the
-//! deadlines, so it is valid whole. Both are seen as the image with its names that their bytes
-//! stand for (`specs/Shape.antt`), and keep these bytes, in version 2, beside what was read of
-//! them; segment trees are kept as `Segs`.
+//! deadlines, so it is valid whole. Both hold the bytes of the file, in version 2, and the places
+//! where parts begin (`ImageBytes` of `rte_image_bytes`), and are seen as the image with its names
+//! whose bytes these are. A part is read where it begins: a routine or a process comes as a
+//! reference that holds its numbers and borrows its trees.
 //!
 //! `Shape::load` promises a shape exactly where bytes are a file of one, and tells each refusal by
 //! its first fault;
@@ -13,8 +14,10 @@
 //! run of an `Image` is safe and in time (`Image::runs_are_safe`).
 #![tactic(auto)]
 
+mod bounds;
 mod fault;
 mod image;
+mod load;
 mod shape;
 
 pub use fault::{LoadFault, ValidFault};

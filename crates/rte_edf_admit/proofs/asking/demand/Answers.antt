@@ -1,12 +1,12 @@
 use Rattle.std.proofs.Common.{◌≡◌, ◌∙◌, Some, refl, sym, ap}
-use Rattle.rte_image.specs.Raw.{process_of}
+use Rattle.rte_image_parts.specs.Standing.{process_in}
 use Rattle.rte_machine_meaning.specs.Image.{Process}
 use Rattle.rte_edf_admit.proofs.asking.demand.Goals as goal
 
 pub returns : goal.returns
 returns c =
     let h = c.with_rank-number.ensures in
-    let p : Process = process_of c.process-process.result.now in
+    let p : Process = process_in c.process-process.result in
     let at = c.process-process.ensures in
     let same : h.p ≡ p = (let e : Some h.p ≡ Some p = sym h.at ∙ at in cc) in
     record {

@@ -12,7 +12,7 @@ machine_of-requires c =
     let meets = c.runs_meet_deadlines.ensures.in_time script suits.frames suits.end in (
       refl,
       (
-        subst (λ (n : NamedImage). IsOf n.image c.in_ok-plan.plan) (c.raw.ensures ∙ c.shape.ensures.same) c.in_ok-plan.ensures,
+        subst (λ (n : NamedImage). IsOf n.image c.in_ok-plan.plan) (c.image.ensures ∙ c.shape.ensures.same) c.in_ok-plan.ensures,
         is_runnable c.args.image.now c.shape.ensures.shape c.shape.ensures.admitted c.waitless_runs_are_runnable.ensures script suits meets,
       ),
     )
@@ -23,7 +23,7 @@ returns c =
     let suits = c.requires.script in
     let meets = c.runs_meet_deadlines.ensures.in_time script suits.frames suits.end in
     record {
-      plan = subst (λ (n : NamedImage). IsOf n.image c.in_ok-plan.plan) (c.raw.ensures ∙ c.shape.ensures.same) c.in_ok-plan.ensures;
+      plan = subst (λ (n : NamedImage). IsOf n.image c.in_ok-plan.plan) (c.image.ensures ∙ c.shape.ensures.same) c.in_ok-plan.ensures;
       runnable = is_runnable c.args.image.now c.shape.ensures.shape c.shape.ensures.admitted c.waitless_runs_are_runnable.ensures script suits meets;
       lines = has_lines c.args.image.now c.shape.ensures.shape c.shape.ensures.admitted c.waitless_runs_have_lines.ensures script suits c.requires.image;
       start = c.in_ok-machine.ensures.start;

@@ -4,7 +4,7 @@ use Rattle.rte_image_parts.specs.Standing.{process_in}
 use Rattle.rte_image_parts.specs.Fields.{process_fields}
 use Rattle.rte_image_places.specs.Places.{things_at}
 use Rattle.rte_image_bytes.specs.Kept.{no_process}
-use Rattle.rte_image_bytes.proofs.Placed.{is_place, is_the_thing, is_within, no_fault, there}
+use Rattle.rte_image_bytes.proofs.Placed.{is_place, is_the_thing, is_read_there, is_within, there}
 use Rattle.rte_image_bytes.proofs.image.ImageBytes.process.Goals as goal
 
 pub bytes_from-requires-clause-there : goal.bytes_from-requires-clause-there
@@ -23,13 +23,13 @@ bytes_from-requires-clause-within c =
     let are = there process_fields bytes places whole c.self.invariant.begin.processes in
     is_within process_fields c.as_slice-bytes.result.now c.as_slice-places.result.now c.args.self.now.image.processes c.args.number are c.requires (fault 2 0) refl
 
-pub unreachable-requires : goal.unreachable-requires
-unreachable-requires c =
+pub process_at-requires : goal.process_at-requires
+process_at-requires c =
     let bytes : c.self.inside.bytes.items ≡ c.as_slice-bytes.result.now = cc in
     let places : c.self.inside.places.processes ≡ c.as_slice-places.result.now = cc in
     let whole : things_at no_process process_fields c.self.inside.bytes.items c.self.inside.places.processes ≡ c.args.self.now.image.processes = ap (λ n. n.image.processes) c.self.view_is in
     let are = there process_fields bytes places whole c.self.invariant.begin.processes in
-    no_fault process_fields c.as_slice-bytes.result.now c.as_slice-places.result.now c.args.self.now.image.processes c.args.number are c.requires c.bytes_from.result.now c.in-Err.field-0 c.bytes_from.ensures c.in-Err.ensures
+    is_read_there process_fields c.as_slice-bytes.result.now c.as_slice-places.result.now c.args.self.now.image.processes c.args.number are c.requires c.bytes_from.result.now c.bytes_from.ensures
 
 pub returns : goal.returns
 returns c =
@@ -37,4 +37,4 @@ returns c =
     let places : c.self.inside.places.processes ≡ c.as_slice-places.result.now = cc in
     let whole : things_at no_process process_fields c.self.inside.bytes.items c.self.inside.places.processes ≡ c.args.self.now.image.processes = ap (λ n. n.image.processes) c.self.view_is in
     let are = there process_fields bytes places whole c.self.invariant.begin.processes in
-    is_the_thing process_fields c.as_slice-bytes.result.now c.as_slice-places.result.now c.args.self.now.image.processes c.args.number are c.requires c.bytes_from.result.now (process_in c.in-Ok.process) c.in-Ok.field-0-1.now c.bytes_from.ensures c.in-Ok.ensures
+    is_the_thing process_fields c.as_slice-bytes.result.now c.as_slice-places.result.now c.args.self.now.image.processes c.args.number are c.requires c.bytes_from.result.now (process_in c.process_at.result) c.process_at.ensures.0 c.bytes_from.ensures c.process_at.ensures.1

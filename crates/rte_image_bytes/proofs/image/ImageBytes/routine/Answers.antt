@@ -4,7 +4,7 @@ use Rattle.rte_image_parts.specs.Standing.{routine_in}
 use Rattle.rte_image_parts.specs.Fields.{routine_fields}
 use Rattle.rte_image_places.specs.Places.{things_at}
 use Rattle.rte_image_bytes.specs.Kept.{no_routine}
-use Rattle.rte_image_bytes.proofs.Placed.{is_place, is_the_thing, is_within, no_fault, there}
+use Rattle.rte_image_bytes.proofs.Placed.{is_place, is_the_thing, is_read_there, is_within, there}
 use Rattle.rte_image_bytes.proofs.image.ImageBytes.routine.Goals as goal
 
 pub bytes_from-requires-clause-there : goal.bytes_from-requires-clause-there
@@ -23,13 +23,13 @@ bytes_from-requires-clause-within c =
     let are = there routine_fields bytes places whole c.self.invariant.begin.routines in
     is_within routine_fields c.as_slice-bytes.result.now c.as_slice-places.result.now c.args.self.now.image.routines c.args.number are c.requires (fault 2 0) refl
 
-pub unreachable-requires : goal.unreachable-requires
-unreachable-requires c =
+pub routine_at-requires : goal.routine_at-requires
+routine_at-requires c =
     let bytes : c.self.inside.bytes.items ≡ c.as_slice-bytes.result.now = cc in
     let places : c.self.inside.places.routines ≡ c.as_slice-places.result.now = cc in
     let whole : things_at no_routine routine_fields c.self.inside.bytes.items c.self.inside.places.routines ≡ c.args.self.now.image.routines = ap (λ n. n.image.routines) c.self.view_is in
     let are = there routine_fields bytes places whole c.self.invariant.begin.routines in
-    no_fault routine_fields c.as_slice-bytes.result.now c.as_slice-places.result.now c.args.self.now.image.routines c.args.number are c.requires c.bytes_from.result.now c.in-Err.field-0 c.bytes_from.ensures c.in-Err.ensures
+    is_read_there routine_fields c.as_slice-bytes.result.now c.as_slice-places.result.now c.args.self.now.image.routines c.args.number are c.requires c.bytes_from.result.now c.bytes_from.ensures
 
 pub returns : goal.returns
 returns c =
@@ -37,4 +37,4 @@ returns c =
     let places : c.self.inside.places.routines ≡ c.as_slice-places.result.now = cc in
     let whole : things_at no_routine routine_fields c.self.inside.bytes.items c.self.inside.places.routines ≡ c.args.self.now.image.routines = ap (λ n. n.image.routines) c.self.view_is in
     let are = there routine_fields bytes places whole c.self.invariant.begin.routines in
-    is_the_thing routine_fields c.as_slice-bytes.result.now c.as_slice-places.result.now c.args.self.now.image.routines c.args.number are c.requires c.bytes_from.result.now (routine_in c.in-Ok.routine) c.in-Ok.field-0-1.now c.bytes_from.ensures c.in-Ok.ensures
+    is_the_thing routine_fields c.as_slice-bytes.result.now c.as_slice-places.result.now c.args.self.now.image.routines c.args.number are c.requires c.bytes_from.result.now (routine_in c.routine_at.result) c.routine_at.ensures.0 c.bytes_from.ensures c.routine_at.ensures.1

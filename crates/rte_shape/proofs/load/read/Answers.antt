@@ -1,5 +1,5 @@
 use Rattle.rte_shape.proofs.Loaded.{reads}
-use Rattle.rte_shape.proofs.shape.read.Goals as goal
+use Rattle.rte_shape.proofs.load.read.Goals as goal
 
 pub returns : goal.returns
 returns c =

@@ -1,7 +1,7 @@
 use Rattle.std.proofs.Common.{◌≡◌, ℕ, List, subst}
 use Rattle.rte_shape.specs.Answers.{IsRead}
 use Rattle.rte_shape.proofs.Loaded.{loads}
-use Rattle.rte_shape.proofs.shape.Shape.load.Goals as goal
+use Rattle.rte_shape.proofs.load.Shape.load.Goals as goal
 
 pub returns-in-Ok : goal.returns-in-Ok
 returns-in-Ok c =

@@ -1,0 +1,24 @@
+-- The version of a file stands in its sixth byte.
+use Rattle.std.proofs.Common.{◌≡◌, ℕ, List, [], ◌∷◌, Option, Some, None, Ok, refl, sym, ap, ◌∙◌}
+use Rattle.std.specs.Prelude.{slice_get}
+use Rattle.rte_format.specs.Law.{AreBytes}
+use Rattle.rte_image.specs.Bytes.{Version, First, Second, bytes_of}
+use Rattle.rte_image.specs.Named.{NamedImage}
+use Rattle.rte_image.specs.Raw.{named_of}
+use Rattle.rte_image.specs.declared.raw.RawImage.{RawImage}
+use Rattle.rte_image_reading.specs.Answer.{Holds, parts_of}
+use Rattle.rte_image_sound.specs.Law.{ImagesReadAreWritten}
+
+first_is_1 : (named : NamedImage) → slice_get (bytes_of First named) 5 ≡ Some 1
+unfolding bytes_of
+first_is_1 named = refl
+
+of_version : (bytes : List ℕ) (version : Version) (named : NamedImage) → bytes ≡ bytes_of version named → slice_get bytes 5 ≡ Some 2 → bytes ≡ bytes_of Second named
+of_version bytes Second named are two = are
+of_version bytes First named are two =
+    let one : Some 2 ≡ Some 1 = sym two ∙ ap (λ (all : List ℕ). slice_get all 5) are ∙ first_is_1 named in
+    absurd cc
+
+pub second_is : ImagesReadAreWritten → (bytes : List ℕ) (raw : RawImage) → AreBytes bytes → Holds bytes raw → slice_get bytes 5 ≡ Some 2 → bytes ≡ bytes_of Second (named_of raw)
+second_is law bytes raw are holds two =
+    of_version bytes holds.version (named_of raw) (law bytes holds.version (parts_of raw) are holds.is_read ∙ ap (bytes_of holds.version) (sym holds.image)) two
