@@ -13,7 +13,7 @@ first_is_1 : (named : NamedImage) → slice_get (bytes_of First named) 5 ≡ Som
 unfolding bytes_of
 first_is_1 named = refl
 
-number : Option ℕ → ℕ
+abbrev number : Option ℕ → ℕ
 number (Some n) = n
 number None = 0
 
