@@ -1,11 +1,11 @@
 -- What bounds decide.
-use Rattle.std.proofs.Common.{◌≡◌, Option, Some, None, Ok, Err, refl, sym, ap, ◌∙◌, subst}
+use Rattle.std.proofs.Common.{◌≡◌, Some, None, Ok, Err, ap, ◌∙◌, subst}
 use Rattle.std.specs.Prelude.{Result}
 use Rattle.rte_image.specs.Named.{NamedImage}
 use Rattle.rte_image.specs.Raw.{named_of}
 use Rattle.rte_image.specs.declared.raw.RawImage.{RawImage}
 use Rattle.rte_machine_meaning.specs.Image.{Image}
-use Rattle.rte_valid.specs.Fault.{Fault, or_else}
+use Rattle.rte_valid.specs.Fault.{or_else}
 use Rattle.rte_valid.specs.Times.{bound_fault}
 use Rattle.rte_valid.specs.Valid as valid
 use Rattle.rte_valid.specs.Valid.{IsValid, Shown, fault_of, shown, shown_of}

@@ -1,5 +1,5 @@
 -- What is read, kept and loaded.
-use Rattle.std.proofs.Common.{◌≡◌, ℕ, List, Some, None, Ok, Err, refl, sym, ap, ◌∙◌, subst}
+use Rattle.std.proofs.Common.{ℕ, List, Ok, Err, sym, subst}
 use Rattle.std.specs.Prelude.{Result}
 use Rattle.rte_image.specs.Named.{NamedImage}
 use Rattle.rte_image.specs.Raw.{named_of}
@@ -9,8 +9,7 @@ use Rattle.rte_image_reading.specs.declared.fault.ImageFault.{ImageFault}
 use Rattle.rte_image_reading.specs.declared.fault.ImageFault.TheVariants as image
 use Rattle.rte_image_ranges.specs.Law.{ImagesReadCanBeWritten}
 use Rattle.rte_valid_limits.specs.Law.{ImagesReadHaveFewMonitors, ImagesReadHaveLimits}
-use Rattle.rte_verify.specs.Verified.{fault_before_bounds}
-use Rattle.rte_shape.specs.Shape.{AreOf, IsShape}
+use Rattle.rte_shape.specs.Shape.{AreOf}
 use Rattle.rte_shape.specs.Answers.{IsRead, Loads, LoadsRead, Reads}
 use Rattle.rte_shape.specs.declared.fault.LoadFault.{LoadFault}
 use Rattle.rte_shape.specs.declared.fault.LoadFault.TheVariants as load

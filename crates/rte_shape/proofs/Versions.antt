@@ -1,5 +1,5 @@
 -- The version of a file stands in its sixth byte.
-use Rattle.std.proofs.Common.{◌≡◌, ℕ, List, [], ◌∷◌, Option, Some, None, Ok, refl, sym, ap, ◌∙◌, arith}
+use Rattle.std.proofs.Common.{◌≡◌, ℕ, List, Option, Some, None, refl, sym, ap, ◌∙◌, arith}
 use Rattle.std.specs.Prelude.{slice_get}
 use Rattle.rte_format.specs.Law.{AreBytes}
 use Rattle.rte_image.specs.Bytes.{Version, First, Second, bytes_of}

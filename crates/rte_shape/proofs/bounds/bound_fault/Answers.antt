@@ -1,9 +1,6 @@
-use Rattle.std.proofs.Common.{◌≡◌, ◌∙◌, ap, sym}
+use Rattle.std.proofs.Common.{◌∙◌}
 use Rattle.rte_image_parts.specs.Standing.{process_in}
-use Rattle.rte_response.specs.Demand.{demand_at}
-use Rattle.rte_valid.specs.Fault.{or_else, unless}
-use Rattle.rte_valid.specs.Times.{bound_fault, process_bound_fault}
-use Rattle.rte_valid_code.specs.Told.{told}
+use Rattle.rte_valid.specs.Times.{bound_fault}
 use Rattle.rte_verify.proofs.Order.{ranks_none}
 use Rattle.rte_shape.proofs.Bounded.{goes_on, level_there, own_fault, stops}
 use Rattle.rte_shape.proofs.bounds.bound_fault.Goals as goal
