@@ -1,5 +1,7 @@
-//! The worked images with single bytes changed, through the loader.
+//! The worked images with single bytes changed, through the loader; and the parts of a loaded image.
 #![tactic(auto)]
 
 #[cfg(test)]
 mod changed_bytes;
+#[cfg(test)]
+mod references;
