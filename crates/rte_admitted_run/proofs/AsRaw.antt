@@ -6,13 +6,13 @@ use Rattle.rte_image.specs.declared.raw.RawProc.{RawProc}
 use Rattle.rte_image.specs.declared.raw.RawRoutine.{RawRoutine}
 use Rattle.rte_image.specs.Named.{NamedImage}
 use Rattle.rte_image.specs.Raw.{monitor_of, named_of, process_of, routine_of}
-use Rattle.rte_machine_meaning.specs.Image.{Image, Monitor, Process, Routine}
+use Rattle.rte_machine_meaning.specs.Image.{Monitor, Process, Routine}
 use Rattle.rte_shape.specs.Shape.{AreOf}
 
-raw_monitor : Monitor → RawMon
+abbrev raw_monitor : Monitor → RawMon
 raw_monitor m = record { base = m.base; words = m.words; ceiling = m.ceiling }
 
-raw_routine : Routine → RawRoutine
+abbrev raw_routine : Routine → RawRoutine
 raw_routine r = record {
   kind = r.kind;
   owner = r.owner;
@@ -27,7 +27,7 @@ raw_routine r = record {
   tree = r.tree;
 }
 
-raw_process : Process → RawProc
+abbrev raw_process : Process → RawProc
 raw_process p = record {
   kind = p.kind;
   frame = p.frame;
@@ -66,7 +66,7 @@ back to from is [] = refl
 back to from is (x ∷ xs) = ap (λ y. y ∷ map to (map from xs)) (is x) ∙ ap (λ ys. x ∷ ys) (back to from is xs)
 
 module _ (n : NamedImage) where
-  with_parts : List Monitor → List ℕ → List Bool → List Routine → List Process → NamedImage
+  abbrev with_parts : List Monitor → List ℕ → List Bool → List Routine → List Process → NamedImage
   with_parts monitors conditions devices routines processes = record {
     program = n.program;
     names = n.names;
@@ -74,7 +74,6 @@ module _ (n : NamedImage) where
   }
 
   named_again : n.image.conditions ≡ map (λ c. c.mon) n.names.conditions → n.image.devices ≡ map (λ d. d.out) n.names.devices → named_of (raw_with n) ≡ n
-  unfolding raw_monitor raw_routine raw_process with_parts
   named_again conditions devices =
       let own = map (λ c. c.mon) n.names.conditions in
       let outs = map (λ d. d.out) n.names.devices in

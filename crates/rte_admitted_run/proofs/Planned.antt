@@ -1,5 +1,5 @@
 -- What a run asks of an image, from the tests of validity and the ranges of a file.
-use Rattle.std.proofs.Common.{◌≡◌, ◌≤◌, ◌<◌, ◌+◌, ◌∙◌, ℕ, zero, suc, Bool, true, false, List, [], ◌∷◌, length, map, Option, Some, None, arith, refl, ap, sym, subst}
+use Rattle.std.proofs.Common.{◌≡◌, ◌≤◌, ◌+◌, ◌∙◌, ℕ, zero, suc, Bool, true, false, List, [], ◌∷◌, length, map, Option, Some, None, arith, refl, ap, sym, subst}
 use Rattle.std.specs.Prelude.{ℤ, pos, negsuc, All, cond, nat_eq, slice_get}
 use Rattle.std.proofs.lemmas.Bool.Decides.{nat_tests}
 use Rattle.std.proofs.lemmas.List.{length-map}
@@ -10,7 +10,6 @@ use Rattle.rte_image.specs.declared.names.DevName.{DevName}
 use Rattle.rte_image.specs.declared.raw.RawImage.{RawImage}
 use Rattle.rte_image.specs.Named.{NamedImage}
 use Rattle.rte_image.specs.Raw.{image_of, monitor_of, named_of, process_of}
-use Rattle.rte_image_reading.specs.Answer.{Holds}
 use Rattle.rte_isa.specs.declared.instr.Instr.{Instr}
 use Rattle.rte_isa.specs.declared.instr.Instr.TheVariants as i
 use Rattle.rte_logged.specs.Laws.{AreNamesOf}

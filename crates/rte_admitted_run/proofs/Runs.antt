@@ -1,6 +1,6 @@
 -- The run of an admitted image is one that the machine takes, and each of its events has a line.
-use Rattle.std.proofs.Common.{◌≤◌, ◌<◌, ◌≡◌, ◌∙◌, ℕ, List, [], ◌∷◌, Some, arith, map, ap, refl, sym, subst}
-use Rattle.std.specs.Prelude.{◌^◌, All, slice_get}
+use Rattle.std.proofs.Common.{◌≡◌, ◌∙◌, ℕ, List, arith, map, ap, sym, subst}
+use Rattle.std.specs.Prelude.{All}
 use Rattle.rte_edf.specs.Run.{events}
 use Rattle.rte_edf.specs.Safe.{IsWaitless}
 use Rattle.rte_edf_admit.specs.Admitted.{IsAdmitted}
@@ -14,10 +14,7 @@ use Rattle.rte_edf_runnable.specs.Laws.{FramesAreShort, WaitlessRunsAreRunnable,
 use Rattle.rte_edf_timed.specs.InTime.{MeetsDeadlines}
 use Rattle.rte_event.specs.declared.event.Event.{Event}
 use Rattle.rte_image.specs.declared.names.ImageNames.{ImageNames}
-use Rattle.rte_image.specs.declared.raw.RawImage.{RawImage}
-use Rattle.rte_image.specs.declared.raw.RawProc.{RawProc}
 use Rattle.rte_image.specs.Named.{NamedImage}
-use Rattle.rte_image.specs.Raw.{image_of, named_of, process_of}
 use Rattle.rte_log.specs.InRange.{AreIn}
 use Rattle.rte_log.specs.Line.{log_of}
 use Rattle.rte_machine_meaning.specs.Image.{Image, Process, Script}

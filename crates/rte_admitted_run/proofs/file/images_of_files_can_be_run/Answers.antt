@@ -4,7 +4,7 @@ use Rattle.rte_admitted_run.proofs.file.images_of_files_can_be_run.Goals as goal
 
 pub returns-clause-can : goal.returns-clause-can
 returns-clause-can c bytes are =
-    read_can_be_run bytes (raw_with c.args.image.now) c.args.image.now (same_again bytes c.args.image.now are) are c.shape.ensures.shape c.shape.ensures.admitted
+    read_can_be_run bytes (raw_with c.args.image.now) c.args.image.now (same_again bytes c.args.image.now are) are c.shape-shape.ensures.shape c.shape-shape.ensures.admitted
 
 pub returns-clause-scripts : goal.returns-clause-scripts
 returns-clause-scripts c bytes text lines last are script =
