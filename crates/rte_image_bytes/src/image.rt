@@ -61,7 +61,7 @@ impl ImageBytes {
         requires bytes { bytes.items ≡ bytes_of Second (named_of raw) }
         ensures { IfOk result (λ image. image ≡ named_of raw) }
     {
-        let places = places_of(alloc, &raw, bytes.as_slice())?;
+        let places = places_of(alloc, &raw)?;
         let overhead = raw.overhead;
         let program = raw.program;
         let names = raw.names;

@@ -1,6 +1,6 @@
 //! Processes.
 
-ghost use Rattle.std.specs.Prelude.{◌≡◌, IsOk};
+ghost use Rattle.std.specs.Prelude.{◌≡◌, ◌≢◌, [], IsOk, MatchOption};
 ghost use Rattle.rte_format.specs.Gives.{GivesOrFault};
 ghost use Rattle.rte_image_parts.specs.Fields.{process_fields, release_fields};
 ghost use Rattle.rte_image_parts.specs.Standing.{IsRead, maybe_tree_in, numbers_in, process_in};
@@ -31,9 +31,11 @@ impl<'a> ProcRef<'a> {
         }
     }
 
-    /// The tree of its handler, where that takes numbers.
+    /// The tree of its handler; none exactly where there are no numbers that it takes.
     pub fn handler(&self) -> Option<SegBytes<'a>>
-        ensures { maybe_tree_in result ≡ (process_in self.now).handler_tree }
+        ensures tree { maybe_tree_in result ≡ (process_in self.now).handler_tree }
+        ensures none { MatchOption result ((process_in self.now).numbers ≡ [])
+            (λ tree. (process_in self.now).numbers ≢ []) }
     {
         if self.numbers.is_empty() {
             return None;

@@ -1,6 +1,6 @@
 //! Finding the places.
 
-ghost use Rattle.std.specs.Prelude.{◌≡◌, ◌+◌, IfOk, length};
+ghost use Rattle.std.specs.Prelude.{◌≡◌, ◌<◌, ◌+◌, ◌^◌, IfOk, length};
 ghost use Rattle.rte_image.specs.Bytes.{Second, bytes_of};
 ghost use Rattle.rte_image.specs.InRange.{IsInRange};
 ghost use Rattle.rte_image.specs.Raw.{image_of, named_of};
@@ -29,13 +29,14 @@ fn after_opening(raw: &RawImage) -> usize
     after_events(events, raw.names.events.as_slice())
 }
 
-/// Where the parts of an image begin in the bytes that are written of it. The places follow from the
-/// image, and the bytes are not read. An error says that memory is short.
-pub fn places_of(alloc: Global, raw: &RawImage, bytes: &[u8]) -> Result<Places, AllocError>
+/// Where the parts of an image begin in the bytes that are written of it, which are fewer than
+/// 2^64. The places follow from the image. An error says that memory is short.
+pub fn places_of(alloc: Global, raw: &RawImage) -> Result<Places, AllocError>
     requires limits { HasLimits (image_of raw.now) }
     requires written { IsInRange (named_of raw.now) }
-    requires bytes { bytes.now ≡ bytes_of Second (named_of raw.now) }
-    ensures { IfOk result (λ places. AreOf bytes.now places (named_of raw.now)) }
+    requires room { length (bytes_of Second (named_of raw.now)) < 2 ^ 64 }
+    ensures { IfOk result (λ places.
+        AreOf (bytes_of Second (named_of raw.now)) places (named_of raw.now)) }
 {
     let names = &raw.names;
     let opened = after_opening(raw);

@@ -181,6 +181,13 @@ impl Shape {
         self.image.routines()
     }
 
+    /// How many monitors there are.
+    pub fn monitors(&self) -> u16
+        ensures { result ≡ length self.now.image.monitors }
+    {
+        self.image.monitors()
+    }
+
     /// How many instructions there are.
     pub fn code_len(&self) -> u32
         ensures { result ≡ length self.now.image.code }

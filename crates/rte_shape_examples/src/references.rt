@@ -41,10 +41,10 @@ fn has_line(tree: SegBytes<'_>, count: u32) -> bool {
 
 /// The monitor.
 fn has_monitor(room: &Shape) -> bool {
-    if room.image().monitors() != 1 {
+    if room.monitors() != 1 {
         return false;
     }
-    let monitor = room.image().monitor(0);
+    let monitor = room.monitor(0);
     monitor.base == 0 && monitor.words == 1 && monitor.ceiling == 1
 }
 

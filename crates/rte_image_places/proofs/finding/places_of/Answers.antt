@@ -1,8 +1,8 @@
-use Rattle.std.proofs.Common.{◌≡◌, ◌<◌, ◌^◌, ◌∙◌, [], refl, sym, arith, length, map, subst, append-nil, All}
+use Rattle.std.proofs.Common.{◌≡◌, ◌<◌, ◌^◌, ◌∙◌, [], refl, sym, length, map, subst, append-nil, All}
 use Rattle.std.specs.List.{flat_map}
-use Rattle.rte_image.specs.Bytes.{condition_bytes}
+use Rattle.rte_image.specs.Bytes.{Second, bytes_of, condition_bytes}
 use Rattle.rte_image.specs.InRange.{IsProcessInRange}
-use Rattle.rte_image.specs.Raw.{monitor_of, process_of, routine_of}
+use Rattle.rte_image.specs.Raw.{monitor_of, named_of, process_of, routine_of}
 use Rattle.rte_image_parts.specs.Fields.{process_fields, routine_fields}
 use Rattle.rte_image_places.specs.Placing.{opening_bytes}
 use Rattle.rte_image_places.proofs.Instrs.{instrs_stand}
@@ -14,36 +14,36 @@ use Rattle.rte_isa.specs.Bytes.{HasWords}
 pub after_opening-opened-requires : goal.after_opening-opened-requires
 after_opening-opened-requires c =
     let raw = c.args.raw.now in
-    let bytes = c.args.bytes.now in
-    let long : length bytes < 2 ^ 64 = omega arith in
-    has_end opening_bytes bytes (monitors_on raw) 24 raw raw refl (begun raw bytes c.requires.bytes) long
+    let bytes = bytes_of Second (named_of raw) in
+    let long : length bytes < 2 ^ 64 = c.requires.room in
+    has_end opening_bytes bytes (monitors_on raw) 24 raw raw refl (begun raw bytes refl) long
 
 pub monitors_from-requires-clause-room : goal.monitors_from-requires-clause-room
 monitors_from-requires-clause-room c =
     let raw = c.args.raw.now in
-    let bytes = c.args.bytes.now in
-    let long : length bytes < 2 ^ 64 = omega arith in
+    let bytes = bytes_of Second (named_of raw) in
+    let long : length bytes < 2 ^ 64 = c.requires.room in
     let guarded : Guarded = (c.as_slice.result.now, c.as_slice-2.result.now) in
-    let monitors = past_opening raw bytes c.after_opening-opened.result c.requires.bytes c.after_opening-opened.ensures in
+    let monitors = past_opening raw bytes c.after_opening-opened.result refl c.after_opening-opened.ensures in
     has_end monitors_written bytes (conditions_on raw) c.after_opening-opened.result guarded (guarded_in raw) (both_same c.as_slice.ensures c.as_slice-2.ensures) monitors long
 
 pub after_conditions-called-requires : goal.after_conditions-called-requires
 after_conditions-called-requires c =
     let raw = c.args.raw.now in
-    let bytes = c.args.bytes.now in
-    let long : length bytes < 2 ^ 64 = omega arith in
+    let bytes = bytes_of Second (named_of raw) in
+    let long : length bytes < 2 ^ 64 = c.requires.room in
     let guarded : Guarded = (c.as_slice.result.now, c.as_slice-2.result.now) in
-    let monitors = past_opening raw bytes c.after_opening-opened.result c.requires.bytes c.after_opening-opened.ensures in
+    let monitors = past_opening raw bytes c.after_opening-opened.result refl c.after_opening-opened.ensures in
     let conditions = past_monitors raw bytes _ c.in_ok-monitors.conditions guarded (both_same c.as_slice.ensures c.as_slice-2.ensures) monitors c.in_ok-monitors.ensures.after in
     has_end (flat_map condition_bytes) bytes (routines_on raw) c.in_ok-monitors.conditions c.as_slice-3.result.now raw.names.conditions c.as_slice-3.ensures conditions long
 
 pub routines_from-requires : goal.routines_from-requires
 routines_from-requires c =
     let raw = c.args.raw.now in
-    let bytes = c.args.bytes.now in
-    let long : length bytes < 2 ^ 64 = omega arith in
+    let bytes = bytes_of Second (named_of raw) in
+    let long : length bytes < 2 ^ 64 = c.requires.room in
     let guarded : Guarded = (c.as_slice.result.now, c.as_slice-2.result.now) in
-    let monitors = past_opening raw bytes c.after_opening-opened.result c.requires.bytes c.after_opening-opened.ensures in
+    let monitors = past_opening raw bytes c.after_opening-opened.result refl c.after_opening-opened.ensures in
     let conditions = past_monitors raw bytes _ c.in_ok-monitors.conditions guarded (both_same c.as_slice.ensures c.as_slice-2.ensures) monitors c.in_ok-monitors.ensures.after in
     let routines = past_conditions raw bytes _ c.after_conditions-called.result _ c.as_slice-3.ensures conditions c.after_conditions-called.ensures in
     has_end routines_written bytes (processes_on raw) c.after_conditions-called.result c.as_slice-4.result.now raw.routines c.as_slice-4.ensures routines long
@@ -57,11 +57,11 @@ processes_from-requires-clause-in_range c = subst (λ ps. All IsProcessInRange (
 pub processes_from-requires-clause-room : goal.processes_from-requires-clause-room
 processes_from-requires-clause-room c =
     let raw = c.args.raw.now in
-    let bytes = c.args.bytes.now in
-    let long : length bytes < 2 ^ 64 = omega arith in
+    let bytes = bytes_of Second (named_of raw) in
+    let long : length bytes < 2 ^ 64 = c.requires.room in
     let guarded : Guarded = (c.as_slice.result.now, c.as_slice-2.result.now) in
     let released : Released = (c.as_slice-5.result.now, c.as_slice-6.result.now) in
-    let monitors = past_opening raw bytes c.after_opening-opened.result c.requires.bytes c.after_opening-opened.ensures in
+    let monitors = past_opening raw bytes c.after_opening-opened.result refl c.after_opening-opened.ensures in
     let conditions = past_monitors raw bytes _ c.in_ok-monitors.conditions guarded (both_same c.as_slice.ensures c.as_slice-2.ensures) monitors c.in_ok-monitors.ensures.after in
     let routines = past_conditions raw bytes _ c.after_conditions-called.result _ c.as_slice-3.ensures conditions c.after_conditions-called.ensures in
     let processes = past_routines raw bytes _ c.in_ok-routines.released _ c.as_slice-4.ensures routines c.in_ok-routines.ensures.after in
@@ -70,12 +70,12 @@ processes_from-requires-clause-room c =
 pub returns : goal.returns
 returns c =
     let raw = c.args.raw.now in
-    let bytes = c.args.bytes.now in
+    let bytes = bytes_of Second (named_of raw) in
     let guarded : Guarded = (c.as_slice.result.now, c.as_slice-2.result.now) in
     let same_guarded : guarded ≡ guarded_in raw = both_same c.as_slice.ensures c.as_slice-2.ensures in
     let released : Released = (c.as_slice-5.result.now, c.as_slice-6.result.now) in
     let same_released : released ≡ released_in raw = both_same c.as_slice-5.ensures c.as_slice-6.ensures in
-    let monitors = past_opening raw bytes c.after_opening-opened.result c.requires.bytes c.after_opening-opened.ensures in
+    let monitors = past_opening raw bytes c.after_opening-opened.result refl c.after_opening-opened.ensures in
     let conditions = past_monitors raw bytes _ c.in_ok-monitors.conditions guarded same_guarded monitors c.in_ok-monitors.ensures.after in
     let routines = past_conditions raw bytes _ c.after_conditions-called.result _ c.as_slice-3.ensures conditions c.after_conditions-called.ensures in
     let processes = past_routines raw bytes _ c.in_ok-routines.released _ c.as_slice-4.ensures routines c.in_ok-routines.ensures.after in

@@ -6,9 +6,9 @@ use Rattle.rte_image_parts.proofs.Later.{handler_is, handler_there, no_handler}
 use Rattle.rte_image_parts.proofs.ManyNumbers.{many}
 use Rattle.rte_image_parts.proofs.reference.ProcRef.handler.Goals as goal
 
-pub returns-then-is_empty : goal.returns-then-is_empty
+pub returns-then-is_empty-clause-tree : goal.returns-then-is_empty-clause-tree
 unfolding numbers_in
-returns-then-is_empty c =
+returns-then-is_empty-clause-tree c =
     let n = c.args.self.now.numbers in
     let long : length (numbers_in n) ≡ n.count = many n.count n.bytes.now n.are_read in
     sym (no_handler n.count c.args.self.now.trees.now (grind (arith, nat_tests, long, c.is_empty.ensures, c.if-is_empty.true)))
@@ -21,9 +21,9 @@ unreachable-requires-in-Err c =
     let some : 0 < n.count = grind (arith, nat_tests, long, c.is_empty.ensures, c.if-is_empty.false) in
     handler_there n.count c.args.self.now.trees.now (tree_in c.in-Ok.field-0-0) c.in-Ok.rest.now some c.in-Ok.ensures c.in-Err.field-0 c.in-Err.ensures c.args.self.now.are_read
 
-pub returns : goal.returns
+pub returns-clause-tree : goal.returns-clause-tree
 unfolding numbers_in
-returns c =
+returns-clause-tree c =
     let n = c.args.self.now.numbers in
     let long : length (numbers_in n) ≡ n.count = many n.count n.bytes.now n.are_read in
     let some : 0 < n.count = grind (arith, nat_tests, long, c.is_empty.ensures, c.if-is_empty.false) in
