@@ -5,7 +5,7 @@ use Rattle.std.proofs.lemmas.List.{length-drop, length-take}
 use Rattle.rte_isa.specs.declared.instr.Instr.{Instr}
 use Rattle.rte_isa.specs.Bytes.{HasWords, instr_bytes}
 use Rattle.rte_image_places.specs.Places.{AreInstrs}
-use Rattle.rte_image_bytes.proofs.Long.{instr_long}
+use Rattle.rte_image_places.proofs.Instrs.{instr_length}
 
 -- the instruction of an address stands there
 pub record Standing (bytes : List ℕ) (at : ℕ) (code : List Instr) (address : ℕ) : Type 0 where
@@ -25,7 +25,7 @@ standing bytes at (i ∷ is) (suc address) are lt =
 -- its bytes end within the bytes
 pub ends_within : (bytes : List ℕ) (at : ℕ) (instr : Instr) → take 13 (drop at bytes) ≡ instr_bytes instr → at + 13 ≤ length bytes
 ends_within bytes at instr are =
-    let long : min 13 (length bytes - at) ≡ 13 = ap (λ k. min 13 k) (sym (length-drop at bytes)) ∙ sym (length-take 13 (drop at bytes)) ∙ ap (λ (xs : List ℕ). length xs) are ∙ instr_long instr in
+    let long : min 13 (length bytes - at) ≡ 13 = ap (λ k. min 13 k) (sym (length-drop at bytes)) ∙ sym (length-take 13 (drop at bytes)) ∙ ap (λ (xs : List ℕ). length xs) are ∙ instr_length instr in
     omega (arith, long)
 
 -- the same bytes and instructions

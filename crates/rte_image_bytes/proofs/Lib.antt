@@ -1,4 +1,3 @@
 pub mod Same
-pub mod Long
 pub mod Placed
 pub mod Addresses

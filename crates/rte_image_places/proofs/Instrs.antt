@@ -9,7 +9,7 @@ use Rattle.rte_image_places.specs.Places.{AreInstrs}
 use Rattle.rte_image_places.proofs.Placed.{past}
 
 -- an instruction has 13 bytes
-instr_length : (instr : Instr) → length (instr_bytes instr) ≡ 13
+pub instr_length : (instr : Instr) → length (instr_bytes instr) ≡ 13
 instr_length (i.Push value) = refl
 instr_length (i.LoadLocal word) = refl
 instr_length (i.StoreLocal word) = refl
