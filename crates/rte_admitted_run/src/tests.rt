@@ -25,16 +25,22 @@ const TWO: &[u8] = &[
 const LOG: &str =
     "0 p release\n0 q release\n10 p put a 1\n14 p end\n25 q put a 2\n30 p release\n36 q put a 3\n40 q end\n51 p put a 1\n52 q release\n55 p end\n";
 
+/// Puts the log of the image that the bytes are, over the script.
+fn put_log(alloc: Global, bytes: &[u8], text: &[u8], out: &mut MemSink) -> Result<(), Fail> {
+    let shape = Shape::load(alloc, Vec::from_slice(alloc, bytes)?)?;
+    let image = EdfImage::admit(alloc, shape)?;
+    let script = read_script(alloc, text, image.shape().names())?;
+    images_of_files_can_be_run(&image);
+    let mut run = AdmittedRun::new(alloc, &image, &script)?;
+    run.run(&image, &script, out)?;
+    Ok(())
+}
+
 #[test]
 fn runs_an_image_of_two_processes(rt: HostRuntime) -> Result<(), Fail> {
     let alloc = rt.alloc();
-    let shape = Shape::load(alloc, Vec::from_slice(alloc, TWO)?)?;
-    let image = EdfImage::admit(alloc, shape)?;
-    let script = read_script(alloc, b"end 60\n", image.shape().names())?;
-    images_of_files_can_be_run(&image);
-    let mut run = AdmittedRun::new(alloc, &image, &script)?;
     let mut out = MemSink::new(alloc, 1000, Vec::new(alloc))?;
-    run.run(&image, &script, &mut out)?;
+    put_log(alloc, TWO, b"end 60\n", &mut out)?;
     assert!(rt; out.bytes() == LOG.as_bytes());
     Ok(())
 }
