@@ -1,10 +1,10 @@
-//! Parts of an image as they stand in its bytes: routines, processes, monitors and instructions,
-//! read where they begin.
+//! Routines and processes as they stand in the bytes of an image, read where they begin.
 //!
 //! A reference (`RoutineRef`, `ProcRef`) holds the numbers of a part and borrows its trees, which
-//! are gone over when they are asked for; it takes no memory. `specs/Fields.antt` says which bytes the numbers take, and `specs/Standing.antt` which
-//! routine or process a reference stands for: the one that the bytes are read as. The ranges of
-//! numbers are not asked for here: whoever calls knows which part the bytes begin with.
+//! are gone over when they are asked for; it takes no memory. `specs/Fields.antt` says which bytes
+//! the numbers take, and `specs/Standing.antt` which routine or process a reference stands for: the
+//! one that the bytes are read as. The ranges of numbers are not asked for here, and reading never
+//! fails: whoever calls knows which part the bytes begin with.
 #![tactic(auto)]
 
 mod counted;

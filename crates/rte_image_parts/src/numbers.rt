@@ -3,8 +3,7 @@
 ghost use Rattle.std.specs.Prelude.{IsOk};
 ghost use Rattle.rte_image_parts.specs.Fields.{counted_numbers};
 
-/// The numbers that a handler takes, from the least to the greatest: those of exceptions that the
-/// program or the machine raises.
+/// The numbers that a handler takes, in the order in which they stand.
 #[derive(Clone, Copy)]
 pub struct HandlerNumbers<'a> {
     /// How many are left.

@@ -88,8 +88,7 @@ pub(crate) fn shape_of(
 
 impl Shape {
     /// The shape of the image of these numbers, which have to be in the ranges of their fields, as
-    /// those of every image that
-    /// `read_image` gives. Refused with the first part of validity before bounds that fails, in the
+    /// those of every image that `read_image` gives. Refused with the first part of validity before bounds that fails, in the
     /// order of the parts 6, 1, 7, 2, 3, 4; or where memory is short.
     pub fn of_raw(alloc: Global, raw: RawImage) -> Result<Shape, ValidFault>
         requires ranges { HasRanges raw }
