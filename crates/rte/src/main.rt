@@ -1,10 +1,10 @@
-//! The command. It lends the system's files and standard output to `rte_cli::rte`, passes it the
+//! The command. It lends the system's files and standard output to `command::rte`, passes it the
 //! words after the program's name, and ends with its status.
 #![tactic(auto)]
 
-use rte_cli::{Status, rte, system_words};
-use rte_io::RealFiles;
-use rte_stdout::Stdout;
+use command::{rte, system_words};
+use command_answers::Status;
+use outside::{RealFiles, Stdout};
 use std::process::ExitCode;
 
 fn main(rt: HostRuntime) -> ExitCode {

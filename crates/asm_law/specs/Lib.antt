@@ -1,0 +1,2 @@
+pub mod AsmSize
+pub mod AsmLaws

@@ -1,0 +1,12 @@
+pub mod Took
+pub mod Passing
+pub mod Numbers
+pub mod Names
+pub mod Trees
+pub mod Routines
+pub mod Handlers
+pub mod Processes
+pub mod Instrs
+pub mod Rows
+pub mod Sections
+pub mod Whole

@@ -1,0 +1,20 @@
+-- What the reader keeps of the parts, as the text tells them.
+use Rattle.std.specs.Prelude.{List, ℕ, map}
+use Rattle.std.specs.List.{zip}
+use Rattle.machine_isa.specs.declared.instr.Instr.{Instr}
+use Rattle.machine_semantics.specs.Image.{Monitor, Routine, Process}
+use Rattle.image.specs.Raw.{monitor_of, process_of, routine_of}
+use Rattle.image.specs.declared.names.CondName.{CondName}
+use Rattle.image.specs.declared.names.DevName.{DevName}
+use Rattle.assembler.specs.declared.text.Guarded.{Guarded}
+use Rattle.assembler.specs.declared.text.Named.{Named}
+use Rattle.assembler.specs.declared.text.Work.{Work}
+
+abbrev pub work_of : Work → List Routine × (List (List ℕ × Process) × List Instr)
+work_of w = (map routine_of w.routines, (zip w.processes.names (map process_of w.processes.things), w.code))
+
+abbrev pub guarded_of : Guarded → List (List ℕ × Monitor) × (List CondName × (List Routine × (List (List ℕ × Process) × List Instr)))
+guarded_of g = (zip g.monitors.names (map monitor_of g.monitors.things), (g.conditions, work_of g.work))
+
+abbrev pub named_of : Named → List DevName × (List (List ℕ) × (List (List ℕ × Monitor) × (List CondName × (List Routine × (List (List ℕ × Process) × List Instr)))))
+named_of n = (n.devices, (n.events, guarded_of n.guarded))

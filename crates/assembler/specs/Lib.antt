@@ -1,0 +1,5 @@
+pub mod Sections
+pub mod Faults
+pub mod Answer
+pub mod Refusal
+pub mod Held

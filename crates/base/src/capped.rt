@@ -1,0 +1,68 @@
+//! Numbers that are exact up to a thousand million, and one more above that.
+
+ghost use Rattle.std.specs.Prelude.{◌≡◌, ◌+◌, ◌*◌, ◌≤◌, ◌<◌, ℕ};
+ghost use Rattle.std.specs.Int.{div_ceil};
+ghost use Rattle.base.specs.Capped.{cap};
+
+/// What stands for every number above a thousand million.
+pub const OVER: u64 = 1_000_000_001;
+
+/// What one activation costs at most. Each number is capped.
+#[derive(Clone, Copy, Debug, PartialEq, Eq)]
+pub struct Cost {
+    /// The ticks that it runs.
+    pub run: u64,
+    /// The ticks for which it suspends itself.
+    pub susp: u64,
+    /// How often it waits.
+    pub waits: u64,
+}
+
+/// The quotient rounded up: the least `n` with `n * b >= a`.
+pub fn ceil_div(a: u64, b: u64) -> u64
+    requires { 0 < b }
+    ensures reaches { a ≤ result * b }
+    ensures least { (n : ℕ) → a ≤ n * b → result ≤ n }
+    ensures value { result ≡ div_ceil a b }
+{
+    a.div_ceil(b)
+}
+
+/// The sum, or 1,000,000,001 where it is larger.
+pub fn cap_add(a: u64, b: u64) -> u64
+    requires a { a ≤ OVER }
+    requires b { b ≤ OVER }
+    ensures { result ≡ cap (a + b) }
+{
+    (a + b).min(OVER)
+}
+
+/// The product, or 1,000,000,001 where it is larger.
+pub fn cap_mul(a: u64, b: u64) -> u64
+    requires a { a ≤ OVER }
+    requires b { b ≤ OVER }
+    ensures { result ≡ cap (a * b) }
+{
+    (a * b).min(OVER)
+}
+
+#[cfg(test)]
+mod tests {
+    use super::*;
+
+    #[test]
+    fn quotients_are_rounded_up(rt: HostRuntime) {
+        assert_eq!(rt; ceil_div(59, 20), 3);
+        assert_eq!(rt; ceil_div(60, 20), 3);
+        assert_eq!(rt; ceil_div(61, 20), 4);
+        assert_eq!(rt; ceil_div(u64::MAX, 1), u64::MAX);
+    }
+
+    #[test]
+    fn larger_numbers_are_over(rt: HostRuntime) {
+        assert_eq!(rt; cap_add(999_999_999, 1), 1_000_000_000);
+        assert_eq!(rt; cap_add(OVER, OVER), 1_000_000_001);
+        assert_eq!(rt; cap_mul(31_622, 31_623), 999_982_506);
+        assert_eq!(rt; cap_mul(OVER, 2), 1_000_000_001);
+    }
+}

@@ -1,0 +1,4 @@
+pub mod Named
+pub mod Built
+pub mod Filled
+pub mod Shown

@@ -1,0 +1,28 @@
+-- Scripts for the names of a program, and its image.
+use Rattle.std.specs.Prelude.{ℕ, List}
+use Rattle.syntax_tree.specs.Plain.{Prog}
+use Rattle.machine_semantics.specs.Image.{Image}
+use Rattle.code_spec.specs.Compiled.{IsCodeOf}
+use Rattle.wellformed.specs.WellFormed.{IsWellFormed}
+use Rattle.code_lifting.specs.Compiled.{IsFrom}
+use Rattle.sched_timing.specs.Timed.{RespectsFrames}
+use Rattle.script.specs.declared.script.ScriptLine.{ScriptLine}
+use Rattle.script.specs.Scripts.{IsScript}
+use Rattle.vm_law.specs.Suits.{HasFrames}
+use Rattle.built_image.specs.Named.{names_of}
+use Rattle.command_due.specs.Script.{said, run_of}
+
+-- The law: in the names of a well-formed program, the frame that stands at an event is that of each
+-- process that it releases.
+abbrev pub NamesHaveFrames : Type 0
+NamesHaveFrames = (g : Prog) (m : Image) → IsWellFormed g → IsCodeOf g m → HasFrames (names_of g) m
+
+-- the lines are in order, and the events respect the frames of the image's processes
+pub record Suits (m : Image) (lines : List ScriptLine) (end : ℕ) : Type 0 where
+  pub order : IsFrom 0 (said lines end).lines
+  pub frames : RespectsFrames m (run_of lines end)
+
+-- The law: each script for the names of a well-formed program suits the image of the program.
+abbrev pub ScriptsForTheNamesSuit : Type 0
+ScriptsForTheNamesSuit = (g : Prog) (m : Image) (text : List ℕ) (lines : List ScriptLine) (end : ℕ)
+    → IsWellFormed g → IsCodeOf g m → IsScript (names_of g) text lines end → Suits m lines end

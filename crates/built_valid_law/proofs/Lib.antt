@@ -1,0 +1,11 @@
+pub mod Devices
+pub mod Bounds
+pub mod Words
+pub mod BuiltMadeJoined
+pub mod Counts
+pub mod Plans
+pub mod Names
+pub mod Trees
+pub mod Handled
+pub mod Ranges
+pub mod BuiltReadyJoined

@@ -1,0 +1,13 @@
+pub mod QuietLemmas
+pub mod Differ
+pub mod Standing
+pub mod Shared
+pub mod Apart
+pub mod Walk
+pub mod Leads
+pub mod Handlers
+pub mod CheckedJoined
+pub mod GeneratedLemmas
+pub mod GeneratedRunsJoined
+pub mod Texts
+pub mod SmallLemmas

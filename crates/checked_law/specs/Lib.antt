@@ -1,0 +1,5 @@
+pub mod Quiet
+pub mod Ready
+pub mod Generated
+pub mod Runs
+pub mod Small

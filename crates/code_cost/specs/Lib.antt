@@ -1,0 +1,4 @@
+pub mod Sums
+pub mod Forms
+pub mod Parts
+pub mod Sizes

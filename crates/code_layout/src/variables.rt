@@ -1,0 +1,58 @@
+//! The variable that a name means.
+
+ghost use Rattle.std.specs.Prelude.{◌≡◌};
+ghost use Rattle.code_layout.specs.LayoutTables.{spot_in};
+ghost use Rattle.source_semantics.specs.Run.{or_else};
+ghost use Rattle.code_layout.specs.LookupTables.{in_loop, loop_told, outer_in};
+
+use crate::{Spots, fit_word};
+use codegen_spec::{Area, Loop, Shape, Spot};
+use syntax_tree::Name;
+
+/// What a name means inside one more loop: its variable, where that is its name.
+fn in_one(spot: Option<Spot>, around: &Loop, name: &Name) -> Option<Spot>
+    ensures { result ≡ in_loop spot around.now name.now }
+{
+    if around.name == *name {
+        Some(Spot {
+            area: Area::Frame,
+            word: fit_word(around.word as u64),
+            shape: Shape::Single,
+            range: None,
+        })
+    } else {
+        spot
+    }
+}
+
+/// What a name means inside loops, the outermost first, where it is known what it means outside.
+pub fn in_loops(spot: Option<Spot>, loops: &[Loop], name: &Name) -> Option<Spot>
+    ensures { result ≡ loop_told spot loops.now name.now }
+{
+    let mut means = spot;
+    for around in loops {
+        means = in_one(means, around, name);
+    }
+    means
+}
+
+/// The variable that a name means: that of the innermost loop of that name, else one of the frame,
+/// else one of the process or monitor whose text it is.
+pub fn variable(
+    own: &Spots<'_>,
+    outer: Option<&Spots<'_>>,
+    loops: &[Loop],
+    name: &Name,
+) -> Option<Spot>
+    ensures { result ≡ loop_told (or_else (spot_in own.now name.now)
+        (outer_in outer.entry name.now)) loops.now name.now }
+{
+    let outside = match own.find(name) {
+        Some(spot) => Some(spot),
+        None => match outer {
+            Some(spots) => spots.find(name),
+            None => None,
+        },
+    };
+    in_loops(outside, loops, name)
+}

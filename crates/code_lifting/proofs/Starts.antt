@@ -1,0 +1,164 @@
+-- All start events of a tick.
+use Rattle.std.proofs.Common.{◌≡◌, ◌<◌, ◌+◌, ◌-◌, ◌++◌, inl, inr, ℕ, zero, suc, List, [], ◌∷◌, Some, length, arith, refl, ap, sym, subst, ◌∙◌, true, false, Bool}
+use Rattle.std.specs.Prelude.{ℤ, slice_get, slice_set, cond, nat_eq, nat_le, ◌&&◌, ◌%◌, map}
+use Rattle.std.proofs.lemmas.Bool.{cases_lt}
+use Rattle.base.specs.declared.event.Event.{Event}
+use Rattle.syntax_tree.specs.Plain as tree
+use Rattle.syntax_tree.specs.Plain.{Prog, Activation, periodic, at_event}
+use Rattle.source_semantics.specs.Names.{processes, count_value}
+use Rattle.source_semantics.specs.Config.{Config}
+use Rattle.source_semantics.specs.Ranks.{rank, by_rank}
+use Rattle.source_semantics.specs.Starts.{Script, Line, sets, occurs, due, NoneMissing, waits_for_event, is_due}
+use Rattle.source_semantics.specs.Source.{RunFrom}
+use Rattle.machine_semantics.specs.Image.{Process}
+use Rattle.machine_semantics.specs.State.{State}
+use Rattle.machine_semantics.specs.Starts.{Started, unchanged, followed, release, time_out, is_periodic_due, at_rank}
+use Rattle.machine_semantics.specs.Starts as start
+use Rattle.code_lifting.specs.Related.{Whole, Relations}
+use Rattle.code_lifting.specs.Compiled.{IsTimed, IsProcess, IsProcessOf, IsCompiled, line_of, script_of}
+use Rattle.code_lifting.proofs.Ticks.{At}
+use Rattle.code_lifting.proofs.Items.{Item, rel, out, quiet_none, event_items_by, event_items, periodic_items, out_items, all_items, due_is}
+use Rattle.code_lifting.proofs.Ranked.{of_rank, of_ranks, all_ranks}
+use Rattle.code_lifting.proofs.Phases.{Once, Phase, nothing, device, both, where_so, release_plays, time_out_plays}
+
+event_is_due : (g : Prog) (p : Process) (e : ℕ) (a : Activation) → IsTimed g p a → nat_eq p.kind 1 && nat_eq p.event e ≡ waits_for_event g e a
+event_is_due g p e (periodic frame deadline first) timed = ap (λ (n : ℕ). nat_eq n 1 && nat_eq p.event e) timed.0
+event_is_due g p e (at_event name frame deadline) timed = ap (λ (n : ℕ). nat_eq n 1 && nat_eq p.event e) timed.0 ∙ ap (λ (n : ℕ). nat_eq n e) timed.1
+
+periodic_is_due : (g : Prog) (p : Process) (t : ℕ) (a : Activation) → IsTimed g p a → is_periodic_due t p ≡ is_due g t a
+periodic_is_due g p t (periodic frame deadline first) timed =
+    ap (λ (n : ℕ). nat_eq n 0 && nat_le p.first t && nat_eq ((t - p.first) % p.frame) 0) timed.0
+    ∙ ap (λ (n : ℕ). nat_le p.first t && nat_eq ((t - p.first) % n) 0) timed.1
+    ∙ ap (λ (n : ℕ). nat_le n t && nat_eq ((t - n) % count_value g frame) 0) timed.2
+periodic_is_due g p t (at_event name frame deadline) timed = ap (λ (n : ℕ). nat_eq n 0 && nat_le p.first t && nat_eq ((t - p.first) % p.frame) 0) timed.0
+
+module _ (w : Whole) (r : Relations) (compiled : IsCompiled w r) (script : Script) (t : ℕ) (below : t < script.end_tick) where
+  abbrev g : Prog
+  g = w.program
+
+  abbrev Plays : List Item → (State → Started) → Type 0
+  Plays xs f = Phase w r compiled script t below xs f
+
+  -- the processes from k on, in the image and in the text
+  abbrev Aligned : ℕ → List Process → List tree.Process → Type 0
+  Aligned k [] [] = Unit {0}
+  Aligned k (p ∷ ps) (x ∷ xs) = (slice_get w.image.processes k ≡ Some p) × IsProcess w r k p x × Aligned (suc k) ps xs
+  Aligned k [] (x ∷ xs) = ⊥
+  Aligned k (p ∷ ps) [] = ⊥
+
+  aligned_from : (k : ℕ) (ps : List Process) (xs : List tree.Process) → ((i : ℕ) → IsProcessOf w r (k + i) (slice_get ps i) (slice_get xs i)) → ((i : ℕ) (p : Process) → slice_get ps i ≡ Some p → slice_get w.image.processes (k + i) ≡ Some p) → Aligned k ps xs
+  aligned_from k [] [] are at = tt
+  aligned_from k [] (x ∷ xs) are at = are 0
+  aligned_from k (p ∷ ps) [] are at = are 0
+  aligned_from k (p ∷ ps) (x ∷ xs) are at =
+      let z : k + 0 ≡ k = omega arith in (
+        subst (λ (n : ℕ). slice_get w.image.processes n ≡ Some p) z (at 0 p refl),
+        subst (λ (n : ℕ). IsProcess w r n p x) z (are 0),
+        aligned_from (suc k) ps xs (λ i. (let y : k + suc i ≡ suc k + i = omega arith in subst (λ (n : ℕ). IsProcessOf w r n (slice_get ps i) (slice_get xs i)) y (are (suc i))))
+            (λ i q at_q. (let y : k + suc i ≡ suc k + i = omega arith in subst (λ (n : ℕ). slice_get w.image.processes n ≡ Some q) y (at (suc i) q at_q))),
+      )
+
+  all_aligned : Aligned 0 w.image.processes (processes g)
+  all_aligned = aligned_from 0 w.image.processes (processes g)
+      (λ i. (let z : i ≡ 0 + i = omega arith in subst (λ (n : ℕ). IsProcessOf w r n (slice_get w.image.processes i) (slice_get (processes g) i)) z (compiled.processes_agree i)))
+      (λ i p at. (let z : i ≡ 0 + i = omega arith in subst (λ (n : ℕ). slice_get w.image.processes n ≡ Some p) z at))
+
+  same_length : (k : ℕ) (ps : List Process) (xs : List tree.Process) → Aligned k ps xs → length ps ≡ length xs
+  same_length k [] [] are = refl
+  same_length k [] (x ∷ xs) are = absurd are
+  same_length k (p ∷ ps) [] are = absurd are
+  same_length k (p ∷ ps) (x ∷ xs) are = ap suc (same_length (suc k) ps xs are.2)
+
+  -- ---- script lines
+
+  occurs_plays : (e m k : ℕ) (ps : List Process) (xs : List tree.Process) → m ≡ k → Aligned k ps xs → Plays (event_items_by g e k xs) (start.occurs w.image t e m ps)
+  occurs_plays e m k [] [] same are = nothing w r compiled script t below
+  occurs_plays e m k [] (x ∷ xs) same are = absurd are
+  occurs_plays e m k (p ∷ ps) [] same are = absurd are
+  occurs_plays e m k (p ∷ ps) (x ∷ xs) same are =
+      both w r compiled script t below (cond (waits_for_event g e x.activation) (rel k ∷ []) []) (event_items_by g e (suc k) xs)
+      (λ s. cond (nat_eq p.kind 1 && nat_eq p.event e) (release w.image t m p s) (unchanged s)) (start.occurs w.image t e (m + 1) ps)
+      (where_so w r compiled script t below (nat_eq p.kind 1 && nat_eq p.event e) (waits_for_event g e x.activation) (rel k) (λ s. release w.image t m p s) (event_is_due g p e x.activation are.1.timed)
+      (subst (λ (n : ℕ). Plays (rel k ∷ []) (λ s. release w.image t n p s)) (sym same) (release_plays w r compiled script t below k p are.0)))
+      (occurs_plays e (m + 1) (suc k) ps xs (omega (arith, same)) are.2)
+
+  where_all : (b : Bool) (xs : List Item) (f : State → Started) → Plays xs f → Plays (cond b xs []) (λ s. cond b (f s) (unchanged s))
+  where_all true xs f plays = plays
+  where_all false xs f plays = nothing w r compiled script t below
+
+  set_plays : (b : Bool) (d : ℕ) (v : ℤ) → Plays [] (λ s. cond b (unchanged (record s { devices = slice_set s.devices d v })) (unchanged s))
+  set_plays true d v = device w r compiled script t below d v
+  set_plays false d v = nothing w r compiled script t below
+
+  lines_play : (ls : List Line) → Plays (event_items g t ls) (start.lines w.image t (map line_of ls))
+  lines_play [] = nothing w r compiled script t below
+  lines_play (sets u d v ∷ ls) =
+      both w r compiled script t below [] (event_items g t ls) (start.line w.image t (line_of (sets u d v))) (start.lines w.image t (map line_of ls)) (set_plays (nat_eq u t) d v) (lines_play ls)
+  lines_play (occurs u e ∷ ls) =
+      both w r compiled script t below (cond (nat_eq u t) (event_items_by g e 0 (processes g)) []) (event_items g t ls) (start.line w.image t (line_of (occurs u e))) (start.lines w.image t (map line_of ls))
+      (where_all (nat_eq u t) (event_items_by g e 0 (processes g)) (start.occurs w.image t e 0 w.image.processes) (occurs_plays e 0 0 w.image.processes (processes g) refl all_aligned)) (lines_play ls)
+
+  -- ---- periodic releases
+
+  periodic_plays : (m k : ℕ) (ps : List Process) (xs : List tree.Process) → m ≡ k → Aligned k ps xs → Plays (periodic_items g t k xs) (start.periodic w.image t m ps)
+  periodic_plays m k [] [] same are = nothing w r compiled script t below
+  periodic_plays m k [] (x ∷ xs) same are = absurd are
+  periodic_plays m k (p ∷ ps) [] same are = absurd are
+  periodic_plays m k (p ∷ ps) (x ∷ xs) same are =
+      both w r compiled script t below (cond (is_due g t x.activation) (rel k ∷ []) []) (periodic_items g t (suc k) xs)
+      (λ s. cond (is_periodic_due t p) (release w.image t m p s) (unchanged s)) (start.periodic w.image t (m + 1) ps)
+      (where_so w r compiled script t below (is_periodic_due t p) (is_due g t x.activation) (rel k) (λ s. release w.image t m p s) (periodic_is_due g p t x.activation are.1.timed)
+      (subst (λ (n : ℕ). Plays (rel k ∷ []) (λ s. release w.image t n p s)) (sym same) (release_plays w r compiled script t below k p are.0)))
+      (periodic_plays (m + 1) (suc k) ps xs (omega (arith, same)) are.2)
+
+  -- ---- time-outs
+
+  rank_plays : (rk m k : ℕ) (ps : List Process) (xs : List tree.Process) → m ≡ k → Aligned k ps xs → Plays (of_rank g rk k (length xs)) (at_rank w.image t rk m ps)
+  rank_plays rk m k [] [] same are = nothing w r compiled script t below
+  rank_plays rk m k [] (x ∷ xs) same are = absurd are
+  rank_plays rk m k (p ∷ ps) [] same are = absurd are
+  rank_plays rk m k (p ∷ ps) (x ∷ xs) same are =
+      both w r compiled script t below (cond (nat_eq (rank g k) rk) (out k ∷ []) []) (of_rank g rk (suc k) (length xs))
+      (λ s. cond (nat_eq p.rank rk) (time_out w.image t m p s (slice_get s.threads m)) (unchanged s)) (at_rank w.image t rk (m + 1) ps)
+      (where_so w r compiled script t below (nat_eq p.rank rk) (nat_eq (rank g k) rk) (out k) (λ s. time_out w.image t m p s (slice_get s.threads m)) (ap (λ (n : ℕ). nat_eq n rk) are.1.rank_is)
+      (subst (λ (n : ℕ). Plays (out k ∷ []) (λ s. time_out w.image t n p s (slice_get s.threads n))) (sym same) (time_out_plays w r compiled script t below k p are.0)))
+      (rank_plays rk (m + 1) (suc k) ps xs (omega (arith, same)) are.2)
+
+  ranks_play : (rk q n : ℕ) → q ≡ rk → Plays (of_ranks g rk n) (start.time_outs w.image t q n)
+  ranks_play rk q zero same = nothing w r compiled script t below
+  ranks_play rk q (suc n) same =
+      both w r compiled script t below (of_rank g rk 0 (length (processes g))) (of_ranks g (suc rk) n) (at_rank w.image t q 0 w.image.processes) (start.time_outs w.image t (q + 1) n)
+      (subst (λ (x : ℕ). Plays (of_rank g rk 0 (length (processes g))) (at_rank w.image t x 0 w.image.processes)) (sym same) (rank_plays rk 0 0 w.image.processes (processes g) refl all_aligned))
+      (ranks_play (suc rk) (q + 1) n (omega (arith, same)))
+
+  -- ---- all of them
+
+  starts_play : Plays (all_items g script t) (start.starts w.image (script_of script) t)
+  unfolding start.starts
+  starts_play =
+      both w r compiled script t below (event_items g t script.lines) (periodic_items g t 0 (processes g) ++ out_items (by_rank g)) (start.lines w.image t (map line_of script.lines))
+      (λ a. followed (start.periodic w.image t 0 w.image.processes a) (start.time_outs w.image t 1 (length w.image.processes)))
+      (lines_play script.lines)
+      (both w r compiled script t below (periodic_items g t 0 (processes g)) (out_items (by_rank g)) (start.periodic w.image t 0 w.image.processes) (start.time_outs w.image t 1 (length w.image.processes))
+      (periodic_plays 0 0 w.image.processes (processes g) refl all_aligned) outs_play) where
+        outs_play : Plays (out_items (by_rank g)) (start.time_outs w.image t 1 (length w.image.processes))
+        outs_play = subst (λ (xs : List Item). Plays xs (start.time_outs w.image t 1 (length w.image.processes))) (all_ranks g)
+            (subst (λ (n : ℕ). Plays (of_ranks g 1 n) (start.time_outs w.image t 1 (length w.image.processes))) (same_length 0 w.image.processes (processes g) all_aligned) (ranks_play 1 1 (length w.image.processes) refl))
+
+  one_more : (c : Config) → NoneMissing g script c t → due g script c t ≡ [] → NoneMissing g script c (t + 1)
+  one_more c before now u low lt = elim (cases_lt u t) [ inl earlier ↦ before u low earlier | inr later ↦ (let e : t ≡ u = omega arith in subst (λ (x : ℕ). due g script c x ≡ []) e now) ]
+
+  -- the start events of tick t, and what comes after them
+  pub starts_run : (s : State) (c : Config) → At w r script t t s c → Once s.queues → (start.starts w.image (script_of script) t s).overrun ≡ false → (es : List Event)
+      → ((c' : Config) → At w r script t (t + 1) (start.starts w.image (script_of script) t s).state c' → RunFrom g script c' es) → RunFrom g script c ((start.starts w.image (script_of script) t s).events ++ es)
+  starts_run s c now once free es then =
+      starts_play s c [] [] (sym (append_nil (all_items g script t))) now tt once free es
+      (λ c' now' quiet once'. then c' (record {
+        same = now'.same;
+        reached = now'.reached;
+        fresh = now'.fresh;
+        none = one_more c' now'.none (due_is g script c' t now'.fresh ∙ quiet_none t c'.jobs (all_items g script t) quiet);
+      })) where
+        append_nil : (xs : List Item) → [] ++ (xs ++ []) ≡ xs
+        append_nil [] = refl
+        append_nil (x ∷ xs) = ap (λ (ys : List Item). x ∷ ys) (append_nil xs)

@@ -1,0 +1,4 @@
+pub mod Related
+pub mod Compiled
+pub mod Image
+pub mod Example

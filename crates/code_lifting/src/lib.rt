@@ -1,0 +1,5 @@
+//! Whole runs.
+#![tactic(auto)]
+
+pub mod compiled;
+pub mod lifted;

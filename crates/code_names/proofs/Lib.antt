@@ -1,0 +1,5 @@
+pub mod NameListTable
+pub mod NumberingTable
+pub mod Listing
+pub mod Meaning
+pub mod Visiting

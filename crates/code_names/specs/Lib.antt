@@ -1,0 +1,4 @@
+pub mod First
+pub mod Texts
+pub mod Calls
+pub mod Parts

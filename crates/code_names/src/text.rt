@@ -1,0 +1,18 @@
+//! Routines and entries, each with whose it is.
+
+use syntax_tree::Routine;
+
+/// Whose a routine is: the program's, or that of a process or a monitor by its number.
+#[derive(Clone, Copy, Debug, PartialEq, Eq, Hash)]
+pub enum Owner {
+    Program,
+    Process(usize),
+    Monitor(usize),
+}
+
+/// A routine, or an entry of a monitor.
+#[derive(Clone, Copy)]
+pub struct Text<'a> {
+    pub owner: Owner,
+    pub routine: &'a Routine,
+}

@@ -1,0 +1,15 @@
+pub mod Lists
+pub mod Visits
+pub mod NumberedLemmas
+pub mod Finding
+pub mod SoundTexts
+pub mod Owners
+pub mod Levels
+pub mod SoundLemmas
+pub mod Numbers
+pub mod Mirror
+pub mod Rows
+pub mod RuledTexts
+pub mod Rules
+pub mod Tables
+pub mod Turns

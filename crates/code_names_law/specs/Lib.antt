@@ -1,0 +1,5 @@
+pub mod Numbered
+pub mod Called
+pub mod Sound
+pub mod Kept
+pub mod Ruled

@@ -1,0 +1,4 @@
+pub mod Rules
+pub mod Example
+pub mod Numbers
+pub mod Told

@@ -1,0 +1,202 @@
+//! Choices and loops: how their parts begin and end.
+
+ghost use Rattle.std.specs.Prelude.{◌≡◌, ◌-◌, OnOk, pos, length, slice_get, ℕ, IfOk};
+ghost use Rattle.code_spec.specs.Emits.{turns_of};
+ghost use Rattle.image_format.specs.Kept.{fork};
+ghost use Rattle.image_format.specs.declared.seg.Seg.TheVariants as seg;
+ghost use Rattle.machine_isa.specs.declared.instr.Instr.TheVariants as i;
+ghost use Rattle.codegen_spec.specs.Told.{fit as fitting};
+ghost use Rattle.codegen_spec.specs.Made.{aim as aim_of, aim_one as aim_one_of, aimed, aims, asserting, between, choice, closed, counting, joined, looped, one_arm, open_exit, patched, push as push_of, turning, stepped as stepped_of, turns_told, worth_told};
+
+use crate::making::{Out, fit};
+use codegen_spec::Lookup;
+use image_format::{Seg, Segs};
+use machine_isa::Instr;
+use std::alloc::AllocError;
+use syntax_tree::Constant;
+
+/// How many turns a loop has.
+fn turns(low: i32, high: i32) -> i64
+    ensures { result ≡ pos (turns_of low high) }
+{
+    let span = i64::from(high) - i64::from(low);
+    if span < 0 { 0 } else { span + 1 }
+}
+
+/// The instruction, which goes to the address where it is an exit whose address is not known.
+fn aimed(instr: Instr, to: i32) -> Instr
+    ensures { result ≡ aimed to instr }
+{
+    match instr {
+        Instr::Exit { to: known } => Instr::Exit {
+            to: if known < 0 { to } else { known },
+        },
+        other => other,
+    }
+}
+
+impl Out {
+    /// The rest of a turn: its variable goes to the next number.
+    pub fn step(&mut self, word: i32) -> Result<(), AllocError>
+        ensures { OnOk result (self.new ≡ stepped_of word self.old) }
+    {
+        self.push(Instr::LoadLocal { word })?;
+        self.push(Instr::Push { value: 1 })?;
+        self.push(Instr::Add)?;
+        self.push(Instr::StoreLocal { word })
+    }
+
+    /// An exit at this address goes to the other, if there is one whose address is not known.
+    fn aim_one(&mut self, at: usize, to: usize)
+        ensures { self.new ≡ record (self.old) {
+          code = aim_one_of (fitting (pos to)) at
+              (slice_get self.old.code at) self.old.code;
+        } }
+    {
+        if at < self.code.len() {
+            self.code[at] = aimed(self.code[at], fit(to));
+        }
+    }
+
+    /// The exits between two addresses go to a third.
+    fn aim_all(&mut self, start: usize, end: usize, to: usize)
+        ensures { self.new ≡ record (self.old) {
+          code = aims (fitting (pos to)) start (end -
+              start) self.old.code;
+        } }
+    {
+        for at in start..end {
+            self.aim_one(at, to);
+        }
+    }
+
+    /// The exits from an address on go to the end of the code.
+    fn aim(&mut self, start: usize)
+        ensures { self.new ≡ aim_of start self.old }
+    {
+        let end = self.code.len();
+        self.aim_all(start, end, end);
+    }
+
+    /// A choice begins behind its condition, with the address of its jump and the segments before
+    /// it.
+    pub fn begin_choice(&mut self) -> Result<Segs, AllocError>
+        ensures out { OnOk result (self.new ≡ choice self.old) }
+        ensures segs { IfOk result (λ segs. segs ≡ closed self.old) }
+    {
+        let before = self.take()?;
+        self.push(Instr::JumpZero { to: 0 })?;
+        self.begin();
+        Ok(before)
+    }
+
+    /// The end of a choice with one arm.
+    pub fn end_one_arm(&mut self, at: usize, before: Segs) -> Result<(), AllocError>
+        ensures { OnOk result (self.new ≡ one_arm at before self.old) }
+    {
+        let first = self.take()?;
+        let to = fit(self.code.len() + 1);
+        self.push(Instr::Jump { to })?;
+        self.patch(at, Instr::JumpZero { to });
+        self.join(before, Seg::fork(self.alloc, first, Segs::new(self.alloc))?)
+    }
+
+    /// The second arm begins.
+    pub fn begin_second(&mut self, at: usize) -> Result<Segs, AllocError>
+        ensures out { OnOk result (self.new ≡ between at self.old) }
+        ensures segs { IfOk result (λ segs. segs ≡ closed self.old) }
+    {
+        let first = self.take()?;
+        let to = fit(self.code.len() + 1);
+        self.push(Instr::Jump { to: 0 })?;
+        self.patch(at, Instr::JumpZero { to });
+        self.begin();
+        Ok(first)
+    }
+
+    /// The end of a choice with two arms; the first one's jump stands at `mid`.
+    pub fn end_two_arms(&mut self, mid: usize, before: Segs, first: Segs) -> Result<(), AllocError>
+        ensures { OnOk result (self.new ≡ joined (patched self.old mid (i.Jump (fitting (pos
+            (length self.old.code))))) before (fork first (closed self.old))) }
+    {
+        let second = self.take()?;
+        let to = fit(self.code.len());
+        self.patch(mid, Instr::Jump { to });
+        self.join(before, Seg::fork(self.alloc, first, second)?)
+    }
+
+    /// A loop begins: its variable gets its first number, and the segments before it are taken.
+    pub fn begin_loop(&mut self, low: i32, turns: i64) -> Result<Segs, AllocError>
+        ensures out { OnOk result ((n : ℕ) → turns ≡ pos n → self.new ≡ turning n (counting low
+            self.old)) }
+        ensures segs { IfOk result (λ segs. segs ≡ closed (counting low self.old)) }
+    {
+        let word = fit(self.word);
+        self.push(Instr::Push { value: low })?;
+        self.push(Instr::StoreLocal { word })?;
+        let before = self.take()?;
+        self.push(Instr::Repeats {
+            turns: i32::try_from(turns).unwrap_or(i32::MAX),
+        })?;
+        self.begin();
+        self.count()?;
+        Ok(before)
+    }
+
+    /// A loop with these bounds begins: how many turns it has, and the segments before it.
+    pub fn begin_turns<L: Lookup>(
+        &mut self,
+        names: &L,
+        low: &Constant,
+        high: &Constant,
+    ) -> Result<(i64, Segs), AllocError>
+        ensures turns { let g = L.program names.now in
+            IfOk result (λ h. h.0 ≡ pos (turns_told g low.now high.now)) }
+        ensures out { let g = L.program names.now in
+            OnOk result (self.new ≡ turning (turns_told g low.now high.now) (counting (worth_told
+            g low.now) self.old)) }
+        ensures segs { let g = L.program names.now in
+            IfOk result (λ h. h.1 ≡ closed (counting (worth_told g low.now) self.old)) }
+    {
+        let low = names.value(low);
+        let turns = turns(low, names.value(high));
+        let before = self.begin_loop(low, turns)?;
+        Ok((turns, before))
+    }
+
+    /// The end of a loop, whose body is made with the rest of the turn.
+    pub fn end_loop(&mut self, turns: i64, start: usize, before: Segs) -> Result<(), AllocError>
+        ensures { OnOk result ((n : ℕ) → turns ≡ pos n → self.new ≡ looped n start before
+            self.old) }
+    {
+        let body = self.take()?;
+        self.push(Instr::Repeat { to: fit(start) })?;
+        self.aim(start);
+        let turns = u32::try_from(turns).unwrap_or(u32::MAX);
+        self.join(before, Seg::rep(self.alloc, turns, body)?)
+    }
+
+    /// An exit from the loop around, behind its condition.
+    pub fn exit(&mut self) -> Result<(), AllocError>
+        ensures { OnOk result (self.new ≡ joined (push_of self.old open_exit) (closed self.old)
+            seg.Exit) }
+    {
+        let before = self.take()?;
+        self.push(Instr::Exit { to: -1 })?;
+        self.join(before, Seg::Exit)
+    }
+
+    /// An assertion behind its condition: where it is false, exception 4 is raised.
+    pub fn assertion(&mut self) -> Result<(), AllocError>
+        ensures { OnOk result (self.new ≡ asserting self.old) }
+    {
+        let at = self.code.len();
+        let before = self.take()?;
+        self.push(Instr::JumpZero { to: fit(at + 2) })?;
+        self.push(Instr::Jump { to: fit(at + 3) })?;
+        self.push(Instr::Raise { number: 4 })?;
+        let mut raise = Segs::new(self.alloc);
+        raise.push(Seg::Line(1))?;
+        self.join(before, Seg::fork(self.alloc, Segs::new(self.alloc), raise)?)
+    }
+}

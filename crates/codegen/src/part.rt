@@ -1,0 +1,119 @@
+//! The code of one routine, and of one process with its handler.
+
+ghost use Rattle.std.specs.Prelude.{◌≡◌, OnOk, IfOk, Some, option_map};
+ghost use Rattle.syntax_tree.specs.Placed.{optional, placed_handler, placed_routine, plain_handler, plain_routine};
+ghost use Rattle.codegen_spec.specs.Parts.{answer_out, entered, handler_part, inner_out, left, process_out, return_of, routine_out};
+
+use crate::{Out, fit, range_of};
+use codegen_spec::{Lookup, Owner, Part};
+use image_format::{Seg, Segs};
+use machine_isa::Instr;
+use std::alloc::AllocError;
+use syntax_tree::{Handler, Routine};
+
+/// The instruction that ends a routine.
+pub fn return_from(routine: &Routine) -> Instr
+    ensures { result ≡ return_of (plain_routine (placed_routine routine.now)).answers }
+{
+    match (&routine.result, &routine.value) {
+        (Some(_), Some(_)) => Instr::ReturnValue,
+        _ => Instr::Return,
+    }
+}
+
+/// The result of a function, with the check of its range.
+fn answer<L: Lookup>(out: &mut Out, names: &L, routine: &Routine) -> Result<(), AllocError>
+    ensures { OnOk result (out.new
+        ≡ answer_out (L.program names.now) (L.scope names.now)
+        (plain_routine (placed_routine routine.now)).answers out.old) }
+{
+    match (&routine.result, &routine.value) {
+        (Some(kind), Some(value)) => {
+            out.expr(names, &[], value)?;
+            out.range(&range_of(names, kind))
+        }
+        _ => Ok(()),
+    }
+}
+
+/// The statements of a routine and its result.
+fn inner<L: Lookup>(out: &mut Out, names: &L, routine: &Routine) -> Result<(), AllocError>
+    ensures { OnOk result (out.new ≡ inner_out (L.program names.now) (L.scope names.now)
+        (plain_routine (placed_routine routine.now)) out.old) }
+{
+    out.statements(names, routine.body.as_slice())?;
+    answer(out, names, routine)
+}
+
+/// An entry but for its return: a stay in its monitor.
+fn stay<L: Lookup>(
+    out: &mut Out,
+    names: &L,
+    number: usize,
+    routine: &Routine,
+) -> Result<(), AllocError>
+    ensures { OnOk result (out.new ≡ left number
+        (inner_out (L.program names.now) (L.scope names.now)
+        (plain_routine (placed_routine routine.now)) (entered number out.old))) }
+{
+    out.push(Instr::Enter {
+        monitor: fit(number),
+    })?;
+    out.begin();
+    inner(out, names, routine)?;
+    let before = Segs::new(out.alloc);
+    let body = out.take()?;
+    out.push(Instr::Leave {
+        monitor: fit(number),
+    })?;
+    let monitor = u16::try_from(number).unwrap_or(u16::MAX);
+    out.join(before, Seg::stay(out.alloc, monitor, body)?)
+}
+
+/// A routine or entry but for its return.
+pub fn text<L: Lookup>(out: &mut Out, names: &L, routine: &Routine) -> Result<(), AllocError>
+    ensures { OnOk result (out.new ≡ routine_out (L.program names.now) (L.scope names.now)
+        (L.scope names.now).owner (plain_routine (placed_routine routine.now)) out.old) }
+{
+    match names.owner() {
+        Owner::Monitor { number } => stay(out, names, number, routine),
+        Owner::Program | Owner::Process { .. } => inner(out, names, routine),
+    }
+}
+
+/// The handler of a process, behind its body.
+fn handler_of<L: Lookup>(out: &mut Out, names: &L, handler: &Handler) -> Result<Part, AllocError>
+    ensures code { OnOk result (out.new.code ≡
+        (process_out (L.program names.now) (L.scope names.now)
+        (Some (plain_handler (placed_handler handler.now))) out.old).code) }
+    ensures part { IfOk result (λ part. part ≡
+        handler_part (L.program names.now) (L.scope names.now) out.old
+        (plain_handler (placed_handler handler.now))) }
+{
+    let start = out.address();
+    out.begin();
+    out.statements(names, handler.body.as_slice())?;
+    out.end_part(start, Instr::End)
+}
+
+/// The handler of a process, if it has one, behind its body.
+pub fn handler<L: Lookup>(
+    out: &mut Out,
+    names: &L,
+    handler: &Option<Handler>,
+) -> Result<Option<Part>, AllocError>
+    ensures code { OnOk result (out.new.code ≡
+        (process_out (L.program names.now) (L.scope names.now)
+        (optional plain_handler (optional placed_handler handler.now)) out.old).code) }
+    ensures part { IfOk result (λ part. part ≡
+        option_map (λ h. handler_part (L.program names.now) (L.scope names.now) out.old h)
+        (optional plain_handler (optional placed_handler handler.now))) }
+{
+    match handler {
+        None => Ok(None),
+        Some(handler) => {
+            let part = handler_of(out, names, handler)?;
+            Ok(Some(part))
+        }
+    }
+}

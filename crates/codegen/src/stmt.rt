@@ -1,0 +1,367 @@
+//! The code of statements.
+
+ghost use Rattle.std.specs.Prelude.{◌≡◌, OnOk, length, pos};
+ghost use Rattle.syntax_tree.specs.Plain.{loop as loop_of};
+ghost use Rattle.syntax_tree.specs.Placed.{placed_constant, placed_stmts, plain_constant, plain_stmts};
+ghost use Rattle.source_semantics.specs.Names.{device_number};
+ghost use Rattle.code_spec.specs.Emits.{condition_of, monitor_of};
+ghost use Rattle.code_spec.specs.Numbering.{entry_in};
+ghost use Rattle.machine_isa.specs.declared.instr.Instr.TheVariants as i;
+ghost use Rattle.codegen_spec.specs.Told.{fit as fitting, inside, told_callee, within};
+ghost use Rattle.codegen_spec.specs.Made.{call_out, condition_told, count_told, push as push_of, choice as choice_of, closed, one_arm, stmt_out, waiting};
+ghost use Rattle.codegen.specs.Of.{args_of, expr_of, index_of, put_of, stmt_of, stmts_of, store_of};
+
+use crate::making::{Out, fit};
+use codegen_spec::{Lookup, Loop, Owner};
+use image_format::Seg;
+use machine_isa::Instr;
+use std::alloc::AllocError;
+use syntax_tree::{Constant, Expr, Name, Ref, Stmt};
+
+/// A constant that is used as a number of ticks or as an exception number.
+fn count<L: Lookup>(names: &L, constant: &Constant) -> i32
+    ensures { let g = L.program names.now in
+        result ≡ count_told g (plain_constant (placed_constant constant.now)) }
+{
+    let value = names.value(constant);
+    if value < 0 { 0 } else { value }
+}
+
+/// The number of the monitor whose text it is.
+fn monitor<L: Lookup>(names: &L) -> usize
+    ensures { result ≡ monitor_of (L.scope names.now).owner }
+{
+    match names.owner() {
+        Owner::Monitor { number } => number,
+        Owner::Program | Owner::Process { .. } => 0,
+    }
+}
+
+impl Out {
+    fn assign<L: Lookup>(
+        &mut self,
+        names: &L,
+        loops: &[Loop],
+        target: &Ref,
+        value: &Expr,
+    ) -> Result<(), AllocError>
+        ensures { let g = L.program names.now in let c = inside loops.now (L.scope names.now) in
+            OnOk result (self.new ≡ put_of g c target.now (expr_of g c value.now (index_of g c
+            target.now self.old))) }
+    {
+        self.index(names, loops, target)?;
+        self.expr(names, loops, value)?;
+        self.put(names, loops, target)
+    }
+
+    fn assign_entry<L: Lookup>(
+        &mut self,
+        names: &L,
+        loops: &[Loop],
+        target: &Ref,
+        mon: &Name,
+        entry: &Name,
+        args: &[Expr],
+    ) -> Result<(), AllocError>
+        ensures { let g = L.program names.now in let c = inside loops.now (L.scope names.now) in
+            OnOk result (self.new ≡ put_of g c target.now (call_out (told_callee g (entry_in g
+            mon.now entry.now)) (λ rs. args_of g c args.now rs (index_of g c target.now self.old))
+            (index_of g c target.now self.old))) }
+    {
+        self.index(names, loops, target)?;
+        self.called(names, loops, names.entry(mon, entry), args)?;
+        self.put(names, loops, target)
+    }
+
+    #[tactic(auto, using(crate::proofs::Steps::inside_owner))]
+    fn assign_empty<L: Lookup>(
+        &mut self,
+        names: &L,
+        loops: &[Loop],
+        target: &Ref,
+        cond: &Name,
+    ) -> Result<(), AllocError>
+        ensures { let g = L.program names.now in let c = inside loops.now (L.scope names.now) in
+            OnOk result (self.new ≡ store_of g c target.now (push_of (index_of g c target.now
+            self.old) (i.Empty (condition_told g c cond.now)))) }
+    {
+        self.index(names, loops, target)?;
+        self.push(Instr::Empty {
+            condition: names.condition(cond),
+        })?;
+        self.store(names, loops, target)
+    }
+
+    fn get<L: Lookup>(
+        &mut self,
+        names: &L,
+        loops: &[Loop],
+        device: &Name,
+        target: &Ref,
+    ) -> Result<(), AllocError>
+        ensures { let g = L.program names.now in let c = inside loops.now (L.scope names.now) in
+            OnOk result (self.new ≡ put_of g c target.now (push_of (index_of g c target.now
+            self.old) (i.In (fitting (pos (device_number g device.now)))))) }
+    {
+        self.index(names, loops, target)?;
+        self.push(Instr::In {
+            device: names.device(device),
+        })?;
+        self.put(names, loops, target)
+    }
+
+    fn output<L: Lookup>(
+        &mut self,
+        names: &L,
+        loops: &[Loop],
+        device: &Name,
+        value: &Expr,
+    ) -> Result<(), AllocError>
+        ensures { let g = L.program names.now in let c = inside loops.now (L.scope names.now) in
+            OnOk result (self.new ≡ push_of (expr_of g c value.now self.old) (i.Out (fitting (pos
+            (device_number g device.now))))) }
+    {
+        self.expr(names, loops, value)?;
+        self.push(Instr::Out {
+            device: names.device(device),
+        })
+    }
+
+    /// A wait, with the way back into the monitor.
+    fn wait<L: Lookup>(
+        &mut self,
+        names: &L,
+        cond: &Name,
+        limit: &Constant,
+        number: &Constant,
+    ) -> Result<(), AllocError>
+        ensures { let g = L.program names.now in let c = L.scope names.now in
+            OnOk result (self.new ≡ waiting (condition_told g c cond.now) (count_told g
+            (plain_constant (placed_constant limit.now))) (count_told g (plain_constant
+            (placed_constant number.now))) (monitor_of c.owner) self.old) }
+    {
+        let before = self.take()?;
+        self.push(Instr::Wait {
+            condition: names.condition(cond),
+            limit: count(names, limit),
+            number: count(names, number),
+        })?;
+        self.push(Instr::Reenter {
+            monitor: fit(monitor(names)),
+        })?;
+        self.join(before, Seg::Wait)
+    }
+
+    fn signal<L: Lookup>(&mut self, names: &L, cond: &Name) -> Result<(), AllocError>
+        ensures { let g = L.program names.now in let c = L.scope names.now in
+            OnOk result (self.new ≡ push_of self.old (i.Signal (condition_told g c cond.now))) }
+    {
+        self.push(Instr::Signal {
+            condition: names.condition(cond),
+        })
+    }
+
+    fn broadcast<L: Lookup>(&mut self, names: &L, cond: &Name) -> Result<(), AllocError>
+        ensures { let g = L.program names.now in let c = L.scope names.now in
+            OnOk result (self.new ≡ push_of self.old (i.Broadcast (condition_told g c cond.now))) }
+    {
+        self.push(Instr::Broadcast {
+            condition: names.condition(cond),
+        })
+    }
+
+    /// The code of a loop's body, whose variable is at this word.
+    #[cycle(stmt)]
+    #[tactic(auto, using(crate::proofs::Steps::inside_more))]
+    fn body<L: Lookup>(
+        &mut self,
+        names: &L,
+        loops: &mut Vec<Loop>,
+        name: &Name,
+        word: usize,
+        body: &[Stmt],
+    ) -> Result<(), AllocError>
+        ensures out { let g = L.program names.now in
+            let c = inside loops.old.items (L.scope names.now) in
+            OnOk result (self.new ≡ stmts_of g (within c name.now word) body.now self.old) }
+        ensures loops { OnOk result (loops.new.items ≡ loops.old.items) }
+    {
+        loops.push(Loop {
+            name: Name::new(self.alloc, name.as_bytes())?,
+            word,
+        })?;
+        self.stmts(names, loops, body)?;
+        loops.pop();
+        Ok(())
+    }
+
+    /// A choice with one arm, behind its condition.
+    #[cycle(stmt)]
+    fn choice<L: Lookup>(
+        &mut self,
+        names: &L,
+        loops: &mut Vec<Loop>,
+        first: &[Stmt],
+    ) -> Result<(), AllocError>
+        ensures out { let g = L.program names.now in
+            let c = inside loops.old.items (L.scope names.now) in
+            OnOk result (self.new ≡ one_arm (length self.old.code) (closed self.old)
+            (stmts_of g c first.now (choice_of self.old))) }
+        ensures loops { OnOk result (loops.new.items ≡ loops.old.items) }
+    {
+        let at = self.code.len();
+        let before = self.begin_choice()?;
+        self.stmts(names, loops, first)?;
+        self.end_one_arm(at, before)
+    }
+
+    /// A loop, whose variable has the next word of the frame.
+    #[cycle(stmt)]
+    fn repetition<L: Lookup>(
+        &mut self,
+        names: &L,
+        loops: &mut Vec<Loop>,
+        name: &Name,
+        low: &Constant,
+        high: &Constant,
+        body: &[Stmt],
+    ) -> Result<(), AllocError>
+        ensures out { let g = L.program names.now in
+            let c = inside loops.old.items (L.scope names.now) in
+            OnOk result (self.new ≡ stmt_out g c (loop_of name.now (plain_constant (placed_constant
+            low.now)) (plain_constant (placed_constant high.now)) (plain_stmts (placed_stmts
+            body.now))) self.old) }
+        ensures loops { OnOk result (loops.new.items ≡ loops.old.items) }
+    {
+        let word = self.word;
+        let (turns, before) = self.begin_turns(names, low, high)?;
+        let start = self.code.len();
+        self.body(names, loops, name, word, body)?;
+        self.step(fit(word))?;
+        self.end_loop(turns, start, before)
+    }
+
+    /// The code of a statement, which these loops are around, the outermost first.
+    #[cycle(stmt)]
+    fn stmt<L: Lookup>(
+        &mut self,
+        names: &L,
+        loops: &mut Vec<Loop>,
+        stmt: &Stmt,
+    ) -> Result<(), AllocError>
+        ensures out { let g = L.program names.now in
+            let c = inside loops.old.items (L.scope names.now) in
+            OnOk result (self.new ≡ stmt_of g c stmt.now self.old) }
+        ensures loops { OnOk result (loops.new.items ≡ loops.old.items) }
+    {
+        match stmt {
+            Stmt::Assign { target, value } => self.assign(names, loops.as_slice(), target, value),
+            Stmt::AssignEntry {
+                target,
+                mon,
+                entry,
+                args,
+                ..
+            } => self.assign_entry(names, loops.as_slice(), target, mon, entry, args.as_slice()),
+            Stmt::AssignEmpty { target, cond, .. } => self.assign_empty(
+                names,
+                loops.as_slice(),
+                target,
+                cond,
+            ),
+            Stmt::Call { name, args, .. } => self.called(
+                names,
+                loops.as_slice(),
+                names.routine(name),
+                args.as_slice(),
+            ),
+            Stmt::CallEntry {
+                mon,
+                entry,
+                args,
+                ..
+            } => self.called(
+                names,
+                loops.as_slice(),
+                names.entry(mon, entry),
+                args.as_slice(),
+            ),
+            Stmt::Get { device, target, .. } => self.get(names, loops.as_slice(), device, target),
+            Stmt::Put { device, value, .. } => self.output(names, loops.as_slice(), device, value),
+            Stmt::Wait {
+                cond,
+                limit,
+                number,
+                ..
+            } => self.wait(names, cond, limit, number),
+            Stmt::Signal { cond, .. } => self.signal(names, cond),
+            Stmt::Broadcast { cond, .. } => self.broadcast(names, cond),
+            Stmt::Except { number, .. } => self.push(Instr::Raise {
+                number: count(names, number),
+            }),
+            Stmt::Assert { test, .. } => {
+                self.expr(names, loops.as_slice(), test)?;
+                self.assertion()
+            }
+            Stmt::ExitWhen { test, .. } => {
+                self.expr(names, loops.as_slice(), test)?;
+                self.exit()
+            }
+            Stmt::If {
+                test,
+                first,
+                second,
+                ..
+            } => {
+                self.expr(names, loops.as_slice(), test)?;
+                match second {
+                    None => self.choice(names, loops, first.as_slice()),
+                    Some(second) => {
+                        let at = self.code.len();
+                        let before = self.begin_choice()?;
+                        self.stmts(names, loops, first.as_slice())?;
+                        let mid = self.code.len();
+                        let made = self.begin_second(at)?;
+                        self.stmts(names, loops, second.as_slice())?;
+                        self.end_two_arms(mid, before, made)
+                    }
+                }
+            }
+            Stmt::For {
+                name,
+                low,
+                high,
+                body,
+                ..
+            } => self.repetition(names, loops, name, low, high, body.as_slice()),
+        }
+    }
+
+    /// The code of statements, one after another.
+    #[cycle(stmt)]
+    fn stmts<L: Lookup>(
+        &mut self,
+        names: &L,
+        loops: &mut Vec<Loop>,
+        stmts: &[Stmt],
+    ) -> Result<(), AllocError>
+        ensures out { let g = L.program names.now in
+            let c = inside loops.old.items (L.scope names.now) in
+            OnOk result (self.new ≡ stmts_of g c stmts.now self.old) }
+        ensures loops { OnOk result (loops.new.items ≡ loops.old.items) }
+    {
+        for stmt in stmts {
+            self.stmt(names, loops, stmt)?;
+        }
+        Ok(())
+    }
+
+    /// The code of statements that no loop is around.
+    pub fn statements<L: Lookup>(&mut self, names: &L, stmts: &[Stmt]) -> Result<(), AllocError>
+        ensures { let g = L.program names.now in let c = L.scope names.now in
+            OnOk result (self.new ≡ stmts_of g c stmts.now self.old) }
+    {
+        let mut loops = Vec::new(self.alloc);
+        self.stmts(names, &mut loops, stmts)
+    }
+}

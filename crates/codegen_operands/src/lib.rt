@@ -1,0 +1,7 @@
+//! Operands in range.
+#![tactic(auto)]
+
+pub mod areas;
+pub mod emitted;
+pub mod made_operands;
+pub mod operands;

@@ -1,0 +1,94 @@
+-- Ranks: by the same deadlines, the same processes rank higher.
+use Rattle.std.specs.Prelude.{◌≡◌, ◌+◌, ◌≤◌, ◌&&◌, ◌||◌, ℕ, zero, suc, Bool, true, false, cond, List, [], ◌∷◌, Option, Some, None, length, map, nat_eq, nat_lt, slice_get, unwrap_or, option_map}
+use Rattle.std.proofs.Common.{refl, sym, ap, subst, ◌∙◌, arith}
+use Rattle.syntax_tree.specs.Plain.{Process, Prog}
+use Rattle.sched_response.specs.Counts.{count_below}
+use Rattle.source_semantics.specs.Names.{processes, deadline_of}
+use Rattle.source_semantics.specs.Ranks.{deadlines, higher, rank}
+use Rattle.machine_isa.specs.declared.instr.Instr.{Instr}
+use Rattle.machine_semantics.specs.Image as image
+use Rattle.valid_image.specs.Times.{deadline_at, outranks, rank_of, deadline_of as deadline_there}
+use Rattle.code_spec.specs.Compiled.{EmitsProcesses, IsCodeOf}
+use Rattle.codegen_ranks.proofs.Whole.{as_many_processes}
+use Rattle.codegen_ranks.specs.Ranks.{RanksAreOfTheMeaning}
+
+abbrev count : Bool → ℕ
+count b = cond b 1 0
+
+count_front : (p : ℕ → Bool) (n : ℕ) → count_below p (suc n) ≡ count (p 0) + count_below (λ j. p (suc j)) n
+count_front p zero = omega arith
+count_front p (suc n) = omega (arith, count_front p n)
+
+abbrev above : (f x deadline k : ℕ) → Bool
+above f x deadline k = nat_lt f deadline || (nat_eq f deadline && nat_lt x k)
+
+higher_counts : (k deadline b : ℕ) (ds : List ℕ) (p : ℕ → Bool) → ((j f : ℕ) → slice_get ds j ≡ Some f → above f (b + j) deadline k ≡ p j) → higher k deadline b ds ≡ count_below p (length ds)
+higher_counts k deadline b [] p same = refl
+higher_counts k deadline b (f ∷ ds) p same =
+    let z : b + 0 ≡ b = omega arith in
+    let first : count (above f b deadline k) ≡ count (p 0) = ap (λ (x : Bool). count x) (subst (λ (n : ℕ). above f n deadline k ≡ p 0) z (same 0 f refl)) in
+    let rest : higher k deadline (suc b) ds ≡ count_below (λ j. p (suc j)) (length ds) =
+    higher_counts k deadline (suc b) ds (λ j. p (suc j)) (λ j x at. (let y : b + suc j ≡ suc b + j = omega arith in subst (λ (n : ℕ). above x n deadline k ≡ p (suc j)) y (same (suc j) x at))) in
+    omega (arith, first, rest, count_front p (length ds))
+
+-- no more than there are
+higher_most : (k deadline b : ℕ) (ds : List ℕ) → higher k deadline b ds ≤ length ds
+higher_most k deadline b [] = omega arith
+higher_most k deadline b (f ∷ ds) =
+    let rest : higher k deadline (suc b) ds ≤ length ds = higher_most k deadline (suc b) ds in
+    let one : count (above f b deadline k) ≤ 1 = worth (above f b deadline k) in
+    omega (arith, rest, one)
+  where
+    worth : (b : Bool) → count b ≤ 1
+    worth true = omega arith
+    worth false = omega arith
+
+length_map : {A B : Type 0} (f : A → B) (xs : List A) → length (map f xs) ≡ length xs
+length_map f [] = refl
+length_map f (x ∷ xs) = ap (λ n. suc n) (length_map f xs)
+
+pub rank_most : (g : Prog) (k : ℕ) → rank g k ≤ suc (length (processes g))
+rank_most g k =
+    let most : higher k (unwrap_or (slice_get (deadlines g) k) 0) 0 (deadlines g) ≤ length (deadlines g) = higher_most k (unwrap_or (slice_get (deadlines g) k) 0) 0 (deadlines g) in
+    let many : length (deadlines g) ≡ length (processes g) = length_map (λ (p : Process). deadline_of g p.activation) (processes g) in
+    omega (arith, most, many)
+
+-- ---- the deadlines of an image
+
+deadlines_same : (g : Prog) (code : List Instr) (k p q : ℕ) (ts : List Process) (ips : List image.Process) (i : ℕ) → EmitsProcesses g code k p q ts ips
+    → slice_get (map (λ (t : Process). deadline_of g t.activation) ts) i ≡ option_map (λ x. x.deadline) (slice_get ips i)
+deadlines_same g code k p q [] [] i h = refl
+deadlines_same g code k p q [] (y ∷ ys) i h = absurd h
+deadlines_same g code k p q (u ∷ us) [] i h = absurd h
+deadlines_same g code k p q (u ∷ us) (y ∷ ys) zero h = ap (λ d. Some d) (sym h.1.deadline)
+deadlines_same g code k p q (u ∷ us) (y ∷ ys) (suc i) h = deadlines_same g code (suc k) h.0 q us ys i h.2
+
+there_same : (o : Option image.Process) → deadline_there o ≡ unwrap_or (option_map (λ x. x.deadline) o) 0
+there_same None = refl
+there_same (Some x) = refl
+
+module _ (g : Prog) (m : image.Image) (is : IsCodeOf g m) where
+  deadline_same : (i : ℕ) → deadline_at m i ≡ unwrap_or (slice_get (deadlines g) i) 0
+  deadline_same i =
+      there_same (slice_get m.processes i)
+      ∙ ap (λ o. unwrap_or o 0) (sym (deadlines_same g m.code 0 is.between (length m.code) (processes g) m.processes i is.process_code))
+
+  pub rank_same : (k : ℕ) → rank_of m k ≡ rank g k
+  rank_same k =
+      let many : length m.processes ≡ length (processes g) = as_many_processes g m.code 0 is.between (length m.code) (processes g) m.processes is.process_code in
+      let long : length (deadlines g) ≡ length (processes g) = length_map (λ (p : Process). deadline_of g p.activation) (processes g) in
+      let counts : higher k (unwrap_or (slice_get (deadlines g) k) 0) 0 (deadlines g) ≡ count_below (λ i. outranks m i k) (length (deadlines g)) =
+      higher_counts k (unwrap_or (slice_get (deadlines g) k) 0) 0 (deadlines g) (λ i. outranks m i k) (λ i f at. same i f at) in
+      let all : count_below (λ i. outranks m i k) (length m.processes) ≡ count_below (λ i. outranks m i k) (length (deadlines g)) = ap (λ n. count_below (λ i. outranks m i k) n) (many ∙ sym long) in
+      omega (arith, counts, all)
+    where
+      same : (i f : ℕ) → slice_get (deadlines g) i ≡ Some f → above f (0 + i) (unwrap_or (slice_get (deadlines g) k) 0) k ≡ outranks m i k
+      same i f at =
+          let z : 0 + i ≡ i = omega arith in
+          let here : f ≡ deadline_at m i = sym (deadline_same i ∙ ap (λ o. unwrap_or o 0) at) in
+          ap (λ n. above f n (unwrap_or (slice_get (deadlines g) k) 0) k) z
+          ∙ (ap (λ d. above d i (unwrap_or (slice_get (deadlines g) k) 0) k) here
+          ∙ ap (λ d. above (deadline_at m i) i d k) (sym (deadline_same k)))
+
+pub ranks_are_of_the_meaning : RanksAreOfTheMeaning
+ranks_are_of_the_meaning g m is k = rank_same g m is k

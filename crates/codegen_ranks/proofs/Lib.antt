@@ -1,0 +1,16 @@
+pub mod Tests
+pub mod Exprs
+pub mod Spans
+pub mod Stmts
+pub mod Routines
+pub mod Pieces
+pub mod Whole
+pub mod Lists
+pub mod Rows
+pub mod Owners
+pub mod Closed
+pub mod Uses
+pub mod Touched
+pub mod Counts
+pub mod Least
+pub mod Joined

@@ -1,0 +1,4 @@
+pub mod Calls
+pub mod Touches
+pub mod Ranks
+pub mod Images

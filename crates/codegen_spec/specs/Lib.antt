@@ -1,0 +1,4 @@
+pub mod Told
+pub mod Made
+pub mod Parts
+pub mod Held

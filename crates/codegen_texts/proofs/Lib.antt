@@ -1,0 +1,5 @@
+pub mod Found
+pub mod Got
+pub mod Shared
+pub mod Lists
+pub mod Told

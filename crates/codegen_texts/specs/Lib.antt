@@ -1,0 +1,4 @@
+pub mod Shared
+pub mod Sites
+pub mod Seen
+pub mod Texts

@@ -1,0 +1,113 @@
+//! Conditions, counted through all monitors.
+
+ghost use Rattle.std.specs.Prelude.{◌≡◌, ◌+◌, IfOk, OnOk, List, ◌∷◌, ◌++◌, filter_map, pos, slice_get};
+ghost use Rattle.syntax_tree.specs.Plain.{Member as SpecMember};
+ghost use Rattle.syntax_tree.specs.Placed.{placed, placed_member, placed_monitor, plain, plain_member, plain_monitor};
+ghost use Rattle.source_semantics.specs.Names.{condition_count, condition_in, conditions_of, monitors as monitors_in, place_of};
+ghost use Rattle.code_names.specs.First.{names_of};
+ghost use Rattle.codegen_spec.specs.Told.{fit};
+ghost use Rattle.code_names.specs.Parts.{seen_monitors};
+ghost use Rattle.codegen_texts.specs.Shared.{conditions_from, number_among};
+
+use code_layout::{Tables, fit_word, number};
+use code_names::NameList;
+use std::alloc::{AllocError, Global};
+use syntax_tree::{Member, Mon, Name};
+
+/// The conditions of a monitor, and the number of the first.
+#[derive(Drop)]
+pub struct Numbered<'a> {
+    pub first: usize,
+    pub names: NameList<'a>,
+}
+
+/// The conditions of each monitor, and how many there are.
+#[derive(Drop)]
+pub struct Conditions<'a> {
+    pub lists: Vec<Numbered<'a>>,
+    pub count: usize,
+}
+
+/// Lists the condition that a member declares, if it does.
+fn list_condition<'a>(names: &mut Vec<&'a [u8]>, member: &'a Member) -> Result<(), AllocError>
+    ensures { OnOk result ((rest : List SpecMember) → names_of names.new.items ++
+        filter_map condition_in rest ≡ names_of names.old.items ++
+        filter_map condition_in (plain_member (placed_member member.now) ∷ rest)) }
+{
+    if let Member::Condition { name, .. } = member {
+        names.push(name.as_bytes())?;
+    }
+    Ok(())
+}
+
+/// The conditions of a monitor.
+fn own_conditions<'a>(alloc: Global, monitor: &'a Mon) -> Result<NameList<'a>, AllocError>
+    ensures { IfOk result (λ names. names ≡ conditions_of
+        (plain_monitor (placed_monitor monitor.now))) }
+{
+    let mut names = Vec::new(alloc);
+    for member in monitor.members.as_slice() {
+        list_condition(&mut names, member)?;
+    }
+    let list = NameList::new(alloc, names)?;
+    Ok(list)
+}
+
+/// The conditions of the monitors. Where they are more than a number can tell, there is not memory
+/// enough for them.
+fn numbered_conditions<'a>(
+    alloc: Global,
+    monitors: &[&'a Mon],
+) -> Result<Conditions<'a>, AllocError>
+    ensures lists { IfOk result (λ all. all.lists.items ≡
+        conditions_from 0 (seen_monitors monitors.now)) }
+    ensures count { IfOk result (λ all. all.count ≡ condition_count (seen_monitors monitors.now)) }
+{
+    let mut lists = Vec::new(alloc);
+    let mut count: usize = 0;
+    for monitor in monitors {
+        let names = own_conditions(alloc, monitor)?;
+        let Some(next) = count.checked_add(names.len()) else {
+            return Err(AllocError);
+        };
+        lists.push(Numbered {
+            first: count,
+            names,
+        })?;
+        count = next;
+    }
+    Ok(Conditions { lists, count })
+}
+
+/// The conditions of the monitors of a program. Where they are more than a number can tell, there
+/// is not memory enough for them.
+pub fn program_conditions<'a>(
+    alloc: Global,
+    tables: &Tables<'a>,
+) -> Result<Conditions<'a>, AllocError>
+    ensures lists { IfOk result (λ all. all.lists.items ≡
+        conditions_from 0 (monitors_in (plain (placed tables.now)))) }
+    ensures count { IfOk result (λ all. all.count ≡
+        condition_count (monitors_in (plain (placed tables.now)))) }
+{
+    numbered_conditions(alloc, tables.numbering().directory().monitors())
+}
+
+/// The number of a condition among those of a monitor, which begin at their first.
+fn own_number(own: &Numbered<'_>, name: &Name) -> i32
+    ensures { result ≡ fit (pos (own.now.first + place_of name.now own.now.names)) }
+{
+    let place = number(&own.names, name) as u64;
+    fit_word((own.first as u64).saturating_add(place))
+}
+
+/// The number of a condition of a monitor; how many there are where there is no such monitor.
+pub fn condition_number(conditions: &Conditions<'_>, monitor: usize, name: &Name) -> i32
+    ensures { result ≡ fit (pos (number_among
+        (slice_get conditions.now.lists.items monitor) conditions.now.count name.now)) }
+{
+    match conditions.lists.get(monitor) {
+        Some(own) => own_number(own, name),
+        None => fit_word(conditions.count as u64),
+    }
+}

@@ -1,0 +1,121 @@
+//! The names that one text sees.
+
+ghost use Rattle.std.specs.Prelude.{◌≡◌, IfOk};
+ghost use Rattle.syntax_tree.specs.Placed.{placed, plain};
+ghost use Rattle.codegen_spec.specs.declared.spot.Area.TheVariants as in_area;
+ghost use Rattle.code_layout.specs.LayoutTables.{table_of};
+ghost use Rattle.codegen_texts.specs.Sites.{scope_at};
+
+use crate::program::ProgramNames;
+use crate::site::{Site, told};
+use code_layout::{Laying, Spots, laid_routine, variable};
+use code_names::{Owner, Text};
+use codegen_spec::{Callee, Lookup, Loop, Owner as ToldOwner, Spot};
+use std::alloc::{AllocError, Global};
+use syntax_tree::{Constant, Name, Proc};
+
+/// The names that one text sees: those of the program, and its own parameters and variables.
+#[derive(Drop)]
+pub struct Names<'p, 'a> {
+    program: &'p ProgramNames<'a>,
+    site: Site<'a>,
+    own: Spots<'a>,
+    ghost laid: { own ≡ table_of in_area.Frame (scope_at (plain (placed program.now)) site).own },
+}
+
+impl<'p, 'a> Names<'p, 'a> {
+    ghost use Rattle.syntax_tree.specs.Placed.{placed_process, plain_process};
+    ghost use Rattle.code_spec.specs.Compiled.{process_scope, routine_scope};
+    ghost use Rattle.code_names.specs.Texts.{owner_of, text_of};
+    ghost use Rattle.codegen_texts.specs.Seen.{program_of, scope_of};
+
+    /// The names that a routine or entry sees. Goes once through its parameters and variables.
+    pub fn of_routine(
+        alloc: Global,
+        program: &'p ProgramNames<'a>,
+        text: Text<'a>,
+    ) -> Result<Names<'p, 'a>, AllocError>
+        ensures program { IfOk result (λ names. program_of names ≡ plain (placed program.now)) }
+        ensures scope { IfOk result (λ names. scope_of names ≡
+            routine_scope (plain (placed program.now)) (text_of text.entry)) }
+    {
+        let laid = laid_routine(alloc, program.tables().values(), text.routine)?;
+        let own = Spots::new(alloc, laid)?;
+        Ok(Names {
+            program,
+            site: Site::Routine(text),
+            own,
+        })
+    }
+
+    /// The names that the process of this number sees, in its body and its handler.
+    pub fn of_process(
+        alloc: Global,
+        program: &'p ProgramNames<'a>,
+        number: usize,
+        process: &'a Proc,
+    ) -> Result<Names<'p, 'a>, AllocError>
+        ensures program { IfOk result (λ names. program_of names ≡ plain (placed program.now)) }
+        ensures scope { IfOk result (λ names. scope_of names ≡
+            process_scope (plain (placed program.now)) number
+            (plain_process (placed_process process.now))) }
+    {
+        let own = Spots::new(alloc, Laying::new(alloc, 0))?;
+        Ok(Names {
+            program,
+            site: Site::Process { number, process },
+            own,
+        })
+    }
+
+    /// Whose text it is.
+    fn whose(&self) -> Owner
+        ensures { owner_of result ≡ (scope_of self.now).owner }
+    {
+        match self.site {
+            Site::Routine(text) => text.owner,
+            Site::Process { number, .. } => Owner::Process(number),
+        }
+    }
+}
+
+impl<'p, 'a> Lookup for Names<'p, 'a> {
+    ghost use Rattle.codegen_texts.specs.Seen.{program_of, scope_of};
+
+    ghost program = { λ names. program_of names };
+
+    ghost scope = { λ names. scope_of names };
+
+    fn variable(&self, loops: &[Loop], name: &Name) -> Option<Spot> {
+        let outer = self.program.outer(self.whose());
+        variable(&self.own, outer, loops, name)
+    }
+
+    fn constant(&self, name: &Name) -> i32 {
+        self.program.tables().constant(name)
+    }
+
+    fn value(&self, constant: &Constant) -> i32 {
+        self.program.tables().value(constant)
+    }
+
+    fn device(&self, name: &Name) -> i32 {
+        self.program.tables().device(name)
+    }
+
+    fn owner(&self) -> ToldOwner {
+        told(self.whose())
+    }
+
+    fn condition(&self, name: &Name) -> i32 {
+        self.program.condition(self.whose(), name)
+    }
+
+    fn routine(&self, name: &Name) -> Option<&Callee> {
+        self.program.routine(self.whose(), name)
+    }
+
+    fn entry(&self, monitor: &Name, name: &Name) -> Option<&Callee> {
+        self.program.entry(monitor, name)
+    }
+}

@@ -1,0 +1,164 @@
+//! What the texts of a program share.
+
+ghost use Rattle.std.specs.Prelude.{◌≡◌, IfOk, pos};
+ghost use Rattle.std.specs.Option.{option_copied};
+ghost use Rattle.syntax_tree.specs.Plain.{Name as SpecName};
+ghost use Rattle.syntax_tree.specs.Placed.{placed, plain};
+ghost use Rattle.code_spec.specs.Emits.{condition_of};
+ghost use Rattle.code_spec.specs.Layout.{outer_spot};
+ghost use Rattle.code_spec.specs.Numbering.{entry_in, routine_in};
+ghost use Rattle.codegen_spec.specs.Told.{fit, told_callee, told_spot};
+ghost use Rattle.code_names.proofs.NameListTable.{get_some};
+ghost use Rattle.code_names.specs.Parts.{all_texts};
+ghost use Rattle.code_names.specs.Texts.{owner_of, text_of, text_index};
+ghost use Rattle.code_layout.specs.LookupTables.{outer_in};
+ghost use Rattle.codegen_texts.specs.Shared.{callees_told};
+
+use crate::callees::callees;
+use crate::conditions::{Conditions, condition_number, program_conditions};
+use crate::outer::{Outer, outer_spots};
+use code_layout::{Spots, Tables};
+use code_names::{Numbering, Owner, Text};
+use codegen_spec::Callee;
+use std::alloc::{AllocError, Global};
+use std::marker::Model;
+use syntax_tree::{Name, Prog};
+
+/// The names of a program that all its texts share: constants, devices, callees, the variables of
+/// processes and monitors, and the conditions.
+#[derive(Drop)]
+pub struct ProgramNames<'a> {
+    tables: Tables<'a>,
+    callees: Vec<Callee>,
+    outer: Outer<'a>,
+    conditions: Conditions<'a>,
+}
+
+impl<'a> Model for ProgramNames<'a> {
+    ghost use Rattle.std.specs.Coded.{codes};
+    ghost use Rattle.syntax_tree.specs.declared.decl.Prog.{Prog as Tree};
+    ghost use Rattle.syntax_tree.specs.contracts.decl.Prog as tree;
+    ghost use Rattle.codegen_texts.specs.Shared.{AreNames};
+
+    ghost Value = { Tree };
+
+    ghost coded = { Prim.hlevel (codes, tree.the_row.coded) };
+
+    ghost view = { λ n. n.tables };
+
+    ghost invariant = { λ n. AreNames n.tables n.callees.items n.outer.processes.items n.outer.monitors.items n.conditions.lists.items n.conditions.count };
+}
+
+impl<'a> ProgramNames<'a> {
+    /// Goes once through the text of the program.
+    pub fn new(alloc: Global, program: &'a Prog) -> Result<ProgramNames<'a>, AllocError>
+        ensures { IfOk result (λ n. n ≡ program.now) }
+    {
+        let tables = Tables::new(alloc, program)?;
+        let outer = outer_spots(alloc, &tables)?;
+        let conditions = program_conditions(alloc, &tables)?;
+        let callees = callees(alloc, &tables)?;
+        Ok(ProgramNames {
+            tables,
+            callees,
+            outer,
+            conditions,
+        })
+    }
+
+    /// The constants, devices and routines.
+    pub fn tables(&self) -> &Tables<'a>
+        ensures { result.now ≡ self.now }
+    {
+        &self.tables
+    }
+
+    /// The routines by number.
+    pub fn numbering(&self) -> &Numbering<'a>
+        ensures { result.now ≡ self.now }
+    {
+        self.tables.numbering()
+    }
+
+    /// The variables of a process, if there is one of that number.
+    fn of_process(&self, number: usize) -> Option<&Spots<'a>>
+        ensures { (x : SpecName) → outer_in result x ≡
+            told_spot (outer_spot (plain (placed self.now)) (owner_of (Owner.Process number)) x) }
+    {
+        self.outer.processes.get(number)
+    }
+
+    /// The variables of a monitor, if there is one of that number.
+    fn of_monitor(&self, number: usize) -> Option<&Spots<'a>>
+        ensures { (x : SpecName) → outer_in result x ≡
+            told_spot (outer_spot (plain (placed self.now)) (owner_of (Owner.Monitor number)) x) }
+    {
+        self.outer.monitors.get(number)
+    }
+
+    /// The variables that a text of the owner names beside those of its frame.
+    pub fn outer(&self, owner: Owner) -> Option<&Spots<'a>>
+        ensures { (x : SpecName) → outer_in result x ≡
+            told_spot (outer_spot (plain (placed self.now)) (owner_of owner) x) }
+    {
+        match owner {
+            Owner::Program => None,
+            Owner::Process(number) => self.of_process(number),
+            Owner::Monitor(number) => self.of_monitor(number),
+        }
+    }
+
+    /// The number of a condition that a text of the monitor of that number names.
+    fn condition_in(&self, number: usize, name: &Name) -> i32
+        ensures { result ≡ fit (pos (condition_of (plain (placed self.now))
+            (owner_of (Owner.Monitor number)) name.now)) }
+    {
+        condition_number(&self.conditions, number, name)
+    }
+
+    /// The number of a condition that a text of the owner names, which is that of a monitor.
+    pub fn condition(&self, owner: Owner, name: &Name) -> i32
+        ensures { result ≡ fit (pos (condition_of (plain (placed self.now))
+            (owner_of owner) name.now)) }
+    {
+        match owner {
+            Owner::Program | Owner::Process(_) => 0,
+            Owner::Monitor(number) => self.condition_in(number, name),
+        }
+    }
+
+    /// The callee of the first text of the owner and name of this one.
+    fn callee(&self, text: Text<'_>) -> Option<&Callee>
+        ensures { option_copied result ≡ get_some (callees_told (plain (placed self.now)))
+            (text_index (owner_of text.entry.owner) text.entry.routine.now.name
+            (all_texts (plain (placed self.now)))) }
+    {
+        let texts = self.numbering().directory().texts();
+        match texts.index(text.owner, &text.routine.name) {
+            Some(index) => self.callees.get(index),
+            None => None,
+        }
+    }
+
+    /// The routine that a call in a text of the owner names; `None` where it names none.
+    pub fn routine(&self, owner: Owner, name: &Name) -> Option<&Callee>
+        ensures { option_copied result ≡ told_callee (plain (placed self.now))
+            (routine_in (plain (placed self.now)) (owner_of owner) name.now) }
+    {
+        match self.numbering().directory().routine(owner, name) {
+            Some(text) => self.callee(text),
+            None => None,
+        }
+    }
+
+    /// The entry that a call names, of the monitor that it names; `None` where it names none.
+    pub fn entry(&self, monitor: &Name, name: &Name) -> Option<&Callee>
+        ensures { option_copied result ≡ told_callee (plain (placed self.now))
+            (entry_in (plain (placed self.now)) monitor.now name.now) }
+    {
+        match self.numbering().directory().entry(monitor, name) {
+            Some(text) => self.callee(text),
+            None => None,
+        }
+    }
+}

@@ -1,0 +1,18 @@
+//! Texts, each with its names.
+
+use syntax_tree::{Proc, Routine};
+
+/// A routine or entry, the words of its parameters and variables, and the names that it sees.
+#[derive(Drop)]
+pub struct RoutineText<'a, N> {
+    pub routine: &'a Routine,
+    pub words: usize,
+    pub names: N,
+}
+
+/// A process, and the names that its body and its handler see.
+#[derive(Drop)]
+pub struct ProcessText<'a, N> {
+    pub process: &'a Proc,
+    pub names: N,
+}

@@ -1,0 +1,326 @@
+-- What a call that answers 0 has done.
+use Rattle.std.proofs.Common.{◌≡◌, ◌∙◌, ◌++◌, ℕ, List, [], ◌∷◌, Option, Some, None, Bool, true, false, refl, sym, subst, ap, arith, map, length}
+use Rattle.std.specs.Prelude.{IsSomeAnd}
+use Rattle.std.specs.Bool.{OnTrue}
+use Rattle.outside.specs.Outside.{Outside, Appends}
+use Rattle.syntax_tree.specs.declared.place.Place.{Place}
+use Rattle.syntax_tree.specs.Placed.{Prog, plain}
+use Rattle.syntax_tree.specs.Bare.{bare}
+use Rattle.syntax.specs.declared.token.Token.{Token}
+use Rattle.syntax.specs.Tokens.{tokens}
+use Rattle.syntax_printer.specs.Canonical.{canonical}
+use Rattle.syntax_printer.specs.ReadBack.{AreSpelled, HasTree, IsPrinted}
+use Rattle.image.specs.Named.{NamedImage}
+use Rattle.image.specs.Raw.{image_of, named_of}
+use Rattle.image.specs.declared.raw.RawImage.{RawImage}
+use Rattle.image_reader_law.specs.ValidLimits.{ImagesReadHaveLimits}
+use Rattle.valid_image_law.specs.ValidLaw.{EveryValidImageIsSafeAndInTime}
+use Rattle.sched_timing.specs.Timed.{RespectsFrames}
+use Rattle.script.specs.declared.script.ScriptLine.{ScriptLine}
+use Rattle.script.specs.declared.script.ScriptLine.TheVariants.{Set, Occur}
+use Rattle.vm_law.specs.ScriptSuits.{ScriptsForImagesReadSuit, script_with}
+use Rattle.vm_releases.specs.Begin.{lines_of}
+use Rattle.code_lifting.specs.Compiled.{line_of as machine_line}
+use Rattle.sched_table.specs.Report.{report_text}
+use Rattle.sched_table.specs.Json.{report_json}
+use Rattle.built_image.specs.Built.{IsBuilt, IsTimely}
+use Rattle.command_words.specs.Calls.{Call, go, check, compile, json, slack, print, run, migrate, asm, dis, watch, replay, edf}
+use Rattle.command_due.specs.Source.{IsWritten, IsTimelyText, Style, report_of}
+use Rattle.command_due.specs.Script.{line_said, run_of}
+use Rattle.command_due.specs.CommandsDue.{Outcome, stored, log, IsRefused, faulty, late, IsReportDue, report_refused, report_timely, IsPrintDue, print_faulty, printed, IsCompileDue, compile_refused, compiled, IsGoDue, go_refused, go_bad_script, went, IsImageFile, IsImageRefused, misread, invalid, IsRunDue, run_refused, run_bad_script, ran, IsMigrateDue, migrate_refused, migrated}
+use Rattle.command_due.specs.SpareDue.{IsSlackDue, slack_refused, slack_told}
+use Rattle.command_due.specs.AsmDue.{IsAsmDue, asm_faulty, asm_invalid, assembled, IsDisDue, dis_misread, disassembled}
+use Rattle.asm_law.specs.AsmLaws.{ImagesToldAreHeld}
+use Rattle.asm_format.specs.Text.{text_of as lines_told}
+use Rattle.command_due.specs.StopDue.{IsWatchDue, watch_refused, watch_bad_script, watched}
+use Rattle.command_words.specs.declared.stop.Stop.{Stop}
+use Rattle.command_due.specs.ReplayDue.{IsRecorded, IsJudged, misread as misread_log, is_refused, is_run, IsReplayDue, replay_faulty, replay_bad_script, replay_judged, run_line}
+use Rattle.sched_demand.specs.declared.judging.Judgement.TheVariants as judgement
+use Rattle.command_due.specs.EdfDue.{IsEdfDue, edf_faulty, edf_waits, edf_unfit, edf_bad_script, edf_ran, edf_log}
+use Rattle.command_due.specs.Report.{edf_report}
+use Rattle.command_due_law.specs.Word.{FeasibleTextsKeepTheirWord}
+use Rattle.command_due.specs.Runs.{KeepsItsWord, BuiltImagesAreFaithful, IsAccepted}
+use Rattle.command_answers.specs.Files.{IsDue, target_of}
+use Rattle.command_answers.specs.Went.{IsWhole, Stores, Went}
+use Rattle.command_answers.specs.Promise.{HasGone, HasCompiled, HasReported, HasSpared, ReadsBack, HasPrinted, HasRun, HasMigrated, HasAssembled, HasDisassembled, HasWatched, HasReplayed, HasMetDeadlines, HasDone}
+
+status_of : (o p : Outcome) → o ≡ p → o.status ≡ p.status
+status_of o p same = ap (λ (x : Outcome). x.status) same
+
+text_of : (o p : Outcome) → o ≡ p → o.text ≡ p.text
+text_of o p same = ap (λ (x : Outcome). x.text) same
+
+image_is : (o p : Outcome) → o ≡ p → o.image ≡ p.image
+image_is o p same = ap (λ (x : Outcome). x.image) same
+
+-- ---- programs that are accepted
+
+timely : (g : Prog Place) (over : ℕ) (n : NamedImage) → IsBuilt (plain g) over n → IsTimely (plain g) over
+timely g over n built = record { image = n.image; shaped = built.shaped; each = λ k p at. (p.bound, (built.bounds k p at).solves) }
+
+accepted : BuiltImagesAreFaithful → (over : ℕ) (held : Option (List ℕ)) (text : List ℕ) (n : NamedImage) → held ≡ Some text → (t : IsTimelyText over text n) → IsAccepted over held t.tree n
+accepted law over held text n is t =
+    record { text = text; is_held = is; written = t.written; timely = timely t.tree over n t.built; built = t.built; faithful = law text t.tree over n t.written t.built }
+
+-- no refusal has status 0
+refused_zero : (show : Style) (over : ℕ) (text : List ℕ) (o : Outcome) → IsRefused show over text o → o.status ≡ 0 → ⊥
+refused_zero show over text o (faulty number place fault same) zero = let two = status_of o _ same in absurd (omega (arith, two, zero))
+refused_zero show over text o (late report l same) zero = let three = status_of o _ same in absurd (omega (arith, three, zero))
+
+image_zero : (bytes : List ℕ) (o : Outcome) → IsImageRefused bytes o → o.status ≡ 0 → ⊥
+image_zero bytes o (misread number offset fault same) zero = let four = status_of o _ same in absurd (omega (arith, four, zero))
+image_zero bytes o (invalid raw fault held first same) zero = let four = status_of o _ same in absurd (omega (arith, four, zero))
+
+-- ---- the run of a script is one to both
+
+same_lines : (lines : List ScriptLine) → map machine_line (map line_said lines) ≡ lines_of lines
+same_lines [] = refl
+same_lines (Set tick dev value ∷ lines) = ap (λ ls. machine_line (line_said (Set tick dev value)) ∷ ls) (same_lines lines)
+same_lines (Occur tick event ∷ lines) = ap (λ ls. machine_line (line_said (Occur tick event)) ∷ ls) (same_lines lines)
+
+same_run : (lines : List ScriptLine) (end : ℕ) → run_of lines end ≡ script_with lines end
+same_run lines end = ap (λ ls. record { lines = ls; end_tick = end }) (same_lines lines)
+
+-- ---- valid images
+
+keeps : ImagesReadHaveLimits → EveryValidImageIsSafeAndInTime → ScriptsForImagesReadSuit → (bytes : List ℕ) (raw : RawImage) → IsImageFile bytes raw → KeepsItsWord raw.names (image_of raw)
+keeps limits safe suit bytes raw file text lines end script =
+    let both = safe (image_of raw) (limits bytes raw file.held) file.valid in
+    let frames : RespectsFrames (image_of raw) (run_of lines end) =
+    subst (RespectsFrames (image_of raw)) (sym (same_run lines end)) (suit bytes raw text lines end file.held script).frames in
+    record { in_time = both.1 (run_of lines end) frames; safe = both.0 (run_of lines end) }
+
+-- ---- canonical texts
+
+-- the laws of the printer
+pub record Printing : Type 0 where
+  pub spelled : (text : List ℕ) (toks : List Token) → tokens text toks → AreSpelled text toks
+  pub tokens_of : (g : Prog Place) → IsPrinted g → (toks : List Token) × tokens (canonical (bare g)) toks
+  pub tree_of : (g : Prog Place) → IsPrinted g → (toks : List Token) → tokens (canonical (bare g)) toks → HasTree (canonical (bare g)) toks g
+
+reads_back : Printing → (text : List ℕ) (g : Prog Place) → IsWritten text g → ReadsBack g
+reads_back laws text g w short =
+    let is = w.program in
+    let printed_is : IsPrinted g = record { text = text; toks = is.tree.toks; spelled = laws.spelled text is.tree.toks is.tree.listed; reads = is.tree.grown; short = short } in
+    let found = laws.tokens_of g printed_is in
+    (found.0, found.1, laws.tree_of g printed_is found.0 found.1)
+
+-- ---- what was due was done
+
+stored_bytes : (o : Option (List ℕ)) (bytes : List ℕ) (name : List ℕ) (held held' : List ℕ → Option (List ℕ)) → o ≡ Some bytes → Stores o (Some name) held held' → held' name ≡ Some bytes
+stored_bytes o bytes name held held' is kept = subst (λ (x : Option (List ℕ)). Stores x (Some name) held held') is kept
+
+put_is : (before now : Outside) (o : Outcome) (text : List ℕ) → o.text ≡ text → Appends before.out.taken now.out.taken o.text → Appends before.out.taken now.out.taken text
+put_is before now o text same put = subst (λ (x : List ℕ). Appends before.out.taken now.out.taken x) same put
+
+module _ (laws : Printing) (faithful : BuiltImagesAreFaithful) (before now : Outside) (o : Outcome) (zero : o.status ≡ 0) (put : Appends before.out.taken now.out.taken o.text) where
+  printed_whole : (program : List ℕ) (text : List ℕ) → before.files.held program ≡ Some text → IsPrintDue text o → HasPrinted program before now
+  printed_whole program text is (print_faulty number place fault same) = absurd (let two = status_of o _ same in omega (arith, two, zero))
+  printed_whole program text is (printed tree w same) =
+      record { text = text; held = is; tree = tree; written = w; put = put_is before now o (canonical (bare tree)) (text_of o _ same) put; back = reads_back laws text tree w }
+
+  reported : (show : Style) (over : ℕ) (program : List ℕ) (text : List ℕ) → before.files.held program ≡ Some text → IsReportDue show over text o → HasReported show over program before now
+  reported show over program text is (report_refused r) = absurd (refused_zero show over text o r zero)
+  reported show over program text is (report_timely n t same) = record {
+    tree = t.tree;
+    built = n;
+    accepted = accepted faithful over (before.files.held program) text n is t;
+    put = put_is before now o (report_of show n) (text_of o _ same) put;
+  }
+
+  spared : (over : ℕ) (program : List ℕ) (text : List ℕ) → before.files.held program ≡ Some text → IsSlackDue over text o → HasSpared over program before now
+  spared over program text is (slack_refused r) = absurd (refused_zero report_text over text o r zero)
+  spared over program text is (slack_told n lines t told_is same) = record {
+    tree = t.tree;
+    built = n;
+    accepted = accepted faithful over (before.files.held program) text n is t;
+    lines = lines;
+    told = told_is;
+    put = put_is before now o lines (text_of o _ same) put;
+  }
+
+  compiled_whole : (over : ℕ) (program image : List ℕ) (text : List ℕ) → before.files.held program ≡ Some text → Stores o.image (Some image) before.files.held now.files.held
+      → IsCompileDue over text o → HasCompiled over program image before now
+  compiled_whole over program image text is kept (compile_refused r) = absurd (refused_zero report_text over text o r zero)
+  compiled_whole over program image text is kept (compiled n t same) = record {
+    tree = t.tree;
+    built = n;
+    accepted = accepted faithful over (before.files.held program) text n is t;
+    is_stored = stored_bytes o.image (stored n) image before.files.held now.files.held (image_is o _ same) kept;
+    put = put_is before now o (report_of report_text n) (text_of o _ same) put;
+  }
+
+  gone : (over : ℕ) (program image script : List ℕ) → Stores o.image (Some image) before.files.held now.files.held
+      → IsGoDue over (before.files.held program) (before.files.held script) o → HasGone over program image script before now
+  gone over program image script kept (go_refused text is r) = absurd (refused_zero report_text over text o r zero)
+  gone over program image script kept (go_bad_script text other n fault is t that f same) = absurd (let five = status_of o _ same in omega (arith, five, zero))
+  gone over program image script kept (went text other n lines end is t that s same) = record {
+    text = report_of report_text n ++ log n lines end;
+    put = put_is before now o (report_of report_text n ++ log n lines end) (text_of o _ same) put;
+    done = record {
+      tree = t.tree;
+      built = n;
+      accepted = accepted faithful over (before.files.held program) text n is t;
+      text = other;
+      script_held = that;
+      lines = lines;
+      end = end;
+      script_written = s;
+      is_stored = stored_bytes o.image (stored n) image before.files.held now.files.held (image_is o _ same) kept;
+      is_put = refl;
+    };
+  }
+
+  module _ (limits : ImagesReadHaveLimits) (safe : EveryValidImageIsSafeAndInTime) (suit : ScriptsForImagesReadSuit) where
+    run_whole : (image script : List ℕ) → IsRunDue (before.files.held image) (before.files.held script) o → HasRun image script before now
+    run_whole image script (run_refused bytes is r) = absurd (image_zero bytes o r zero)
+    run_whole image script (run_bad_script bytes other raw fault is file that f same) = absurd (let five = status_of o _ same in omega (arith, five, zero))
+    run_whole image script (ran bytes other raw lines end is file that s same) = record {
+      bytes = bytes;
+      held = is;
+      raw = raw;
+      valid = file;
+      text = other;
+      script_held = that;
+      lines = lines;
+      end = end;
+      script_written = s;
+      put = put_is before now o (log (named_of raw) lines end) (text_of o _ same) put;
+      keeps = keeps limits safe suit bytes raw file;
+    }
+
+    asm_whole : ImagesToldAreHeld → (text image : List ℕ) (lines : List ℕ) → before.files.held text ≡ Some lines → Stores o.image (Some image) before.files.held now.files.held
+        → IsAsmDue lines o → HasAssembled text image before now
+    asm_whole law text image lines is kept (asm_faulty number line fault same) = absurd (let four = status_of o _ same in omega (arith, four, zero))
+    asm_whole law text image lines is kept (asm_invalid raw fault tells first same) = absurd (let four = status_of o _ same in omega (arith, four, zero))
+    asm_whole law text image lines is kept (assembled raw tells valid same) =
+        let file : IsImageFile (stored (named_of raw)) raw = record { held = law lines raw tells; valid = valid } in
+        record {
+          lines = lines;
+          held = is;
+          raw = raw;
+          told = tells;
+          valid = file;
+          is_stored = stored_bytes o.image (stored (named_of raw)) image before.files.held now.files.held (image_is o _ same) kept;
+          keeps = keeps limits safe suit (stored (named_of raw)) raw file;
+        }
+
+  dis_whole : (image text : List ℕ) (bytes : List ℕ) → before.files.held image ≡ Some bytes → Stores o.image (Some text) before.files.held now.files.held
+      → IsDisDue bytes o → HasDisassembled image text before now
+  dis_whole image text bytes is kept (dis_misread number offset fault same) = absurd (let four = status_of o _ same in omega (arith, four, zero))
+  dis_whole image text bytes is kept (disassembled raw held same) = record {
+    bytes = bytes;
+    held = is;
+    raw = raw;
+    is_image = held;
+    is_stored = stored_bytes o.image (lines_told (named_of raw)) text before.files.held now.files.held (image_is o _ same) kept;
+  }
+
+  watch_whole : (stop : Stop) (image script : List ℕ) → IsWatchDue stop (before.files.held image) (before.files.held script) o → HasWatched image script stop before now
+  watch_whole stop image script (watch_refused bytes is r) = absurd (image_zero bytes o r zero)
+  watch_whole stop image script (watch_bad_script bytes other raw fault is file that f same) = absurd (let five = status_of o _ same in omega (arith, five, zero))
+  watch_whole stop image script (watched bytes other raw lines end seen is file that s tells same) = record {
+    bytes = bytes;
+    held = is;
+    raw = raw;
+    valid = file;
+    text = other;
+    script_held = that;
+    lines = lines;
+    end = end;
+    script_written = s;
+    seen = seen;
+    told = tells;
+    put = put_is before now o seen (text_of o _ same) put;
+  }
+
+  judged_whole : (program script log : List ℕ) (g : Prog Place) (lines : List ScriptLine) (end : ℕ) (text : List ℕ) → IsRecorded (before.files.held program) (before.files.held script) g lines end
+      → before.files.held log ≡ Some text → IsJudged g lines end text o → HasReplayed program script log before now
+  judged_whole program script logged g lines end text r is (misread_log fault wrong same) = absurd (let nine = status_of o _ same in omega (arith, nine, zero))
+  judged_whole program script logged g lines end text r is (is_refused events line told stops same) = absurd (let nine = status_of o _ same in omega (arith, nine, zero))
+  judged_whole program script logged g lines end text r is (is_run events told follows same) = record {
+    tree = g;
+    lines = lines;
+    end = end;
+    recorded = r;
+    text = text;
+    held = is;
+    events = events;
+    told = told;
+    run = follows;
+    put = put_is before now o (run_line (length events)) (text_of o _ same) put;
+  }
+
+  replay_whole : (program script log : List ℕ) → IsReplayDue (before.files.held program) (before.files.held script) (before.files.held log) o → HasReplayed program script log before now
+  replay_whole program script logged (replay_faulty text number place is fault same) = absurd (let two = status_of o _ same in omega (arith, two, zero))
+  replay_whole program script logged (replay_bad_script text other g fault is w that f named same) = absurd (let five = status_of o _ same in omega (arith, five, zero))
+  replay_whole program script logged (replay_judged g lines end text r is judged) = judged_whole program script logged g lines end text r is judged
+
+  edf_whole : FeasibleTextsKeepTheirWord → (program script : List ℕ) → IsEdfDue (before.files.held program) (before.files.held script) o → HasMetDeadlines program script before now
+  edf_whole word program script (edf_faulty text number place is fault same) = absurd (let two = status_of o _ same in omega (arith, two, zero))
+  edf_whole word program script (edf_waits text g place is written first same) = absurd (let two = status_of o _ same in omega (arith, two, zero))
+  edf_whole word program script (edf_unfit text n answer is judged unfit same) = absurd (let three = status_of o _ same in omega (arith, three, zero))
+  edf_whole word program script (edf_bad_script text other n points fault is feasible that wrong same) = absurd (let five = status_of o _ same in omega (arith, five, zero))
+  edf_whole word program script (edf_ran text other n points lines end is feasible that s same) = record {
+    text = text;
+    held = is;
+    image = n;
+    points = points;
+    feasible = feasible;
+    other = other;
+    script_held = that;
+    lines = lines;
+    end = end;
+    script_written = s;
+    put = put_is before now o (edf_report n (judgement.Feasible points) ++ edf_log n lines end) (text_of o _ same) put;
+    keeps = word text n points feasible;
+  }
+
+  migrated_whole : (image target : List ℕ) (bytes : List ℕ) → before.files.held image ≡ Some bytes → Stores o.image (Some target) before.files.held now.files.held
+      → IsMigrateDue bytes o → HasMigrated image target before now
+  migrated_whole image target bytes is kept (migrate_refused r) = absurd (image_zero bytes o r zero)
+  migrated_whole image target bytes is kept (migrated raw file same) = record {
+    bytes = bytes;
+    held = is;
+    raw = raw;
+    valid = file;
+    is_stored = stored_bytes o.image (stored (named_of raw)) target before.files.held now.files.held (image_is o _ same) kept;
+  }
+
+-- what is due of what a file holds
+of_held : (Due : List ℕ → Outcome → Type 0) (A : Type 0) (held : Option (List ℕ)) (o : Outcome) → ((text : List ℕ) → held ≡ Some text → Due text o → A) → IsSomeAnd held (λ text. Due text o) → A
+of_held Due A None o by due = absurd due
+of_held Due A (Some text) o by due = by text refl due
+
+module _ (laws : Printing) (faithful : BuiltImagesAreFaithful) (held : ImagesToldAreHeld) (limits : ImagesReadHaveLimits) (safe : EveryValidImageIsSafeAndInTime) (suit : ScriptsForImagesReadSuit) (word : FeasibleTextsKeepTheirWord) (before now : Outside) (o : Outcome)
+    (zero : o.status ≡ 0) (put : Appends before.out.taken now.out.taken o.text) where
+  done : (call : Call) → IsDue call before.files.held o → Stores o.image (target_of call) before.files.held now.files.held → HasDone call before now
+  done (go program image script over) due kept = gone laws faithful before now o zero put over program image script kept due
+  done (check program over) due kept =
+      of_held (IsReportDue report_text over) (HasReported report_text over program before now) (before.files.held program) o (λ text is d. reported laws faithful before now o zero put report_text over program text is d) due
+  done (compile program image over) due kept =
+      of_held (IsCompileDue over) (HasCompiled over program image before now) (before.files.held program) o (λ text is d. compiled_whole laws faithful before now o zero put over program image text is kept d) due
+  done (json program over) due kept =
+      of_held (IsReportDue report_json over) (HasReported report_json over program before now) (before.files.held program) o (λ text is d. reported laws faithful before now o zero put report_json over program text is d) due
+  done (slack program over) due kept =
+      of_held (IsSlackDue over) (HasSpared over program before now) (before.files.held program) o (λ text is d. spared laws faithful before now o zero put over program text is d) due
+  done (print program) due kept =
+      of_held IsPrintDue (HasPrinted program before now) (before.files.held program) o (λ text is d. printed_whole laws faithful before now o zero put program text is d) due
+  done (run image script) due kept = run_whole laws faithful before now o zero put limits safe suit image script due
+  done (migrate image target) due kept =
+      of_held IsMigrateDue (HasMigrated image target before now) (before.files.held image) o (λ bytes is d. migrated_whole laws faithful before now o zero put image target bytes is kept d) due
+  done (asm text image) due kept =
+      of_held IsAsmDue (HasAssembled text image before now) (before.files.held text) o (λ lines is d. asm_whole laws faithful before now o zero put limits safe suit held text image lines is kept d) due
+  done (dis image text) due kept =
+      of_held IsDisDue (HasDisassembled image text before now) (before.files.held image) o (λ bytes is d. dis_whole laws faithful before now o zero put image text bytes is kept d) due
+  done (watch image script stop) due kept = watch_whole laws faithful before now o zero put stop image script due
+  done (replay program script log) due kept = replay_whole laws faithful before now o zero put program script log due
+  done (edf program script) due kept = edf_whole laws faithful before now o zero put word program script due
+
+pub has_done : Printing → BuiltImagesAreFaithful → ImagesToldAreHeld → ImagesReadHaveLimits → EveryValidImageIsSafeAndInTime → ScriptsForImagesReadSuit → FeasibleTextsKeepTheirWord → (tells : Bool) (call : Call) (before now : Outside) (status : ℕ)
+    → Went tells call before now status → OnTrue tells (status ≡ 0 → HasDone call before now)
+has_done laws faithful held limits safe suit word true call before now status w = λ zero.
+    let whole : IsWhole call before now status =
+    w.whole ((λ six. absurd (omega (arith, zero, six))), (λ seven. absurd (omega (arith, zero, seven))), (λ eight. absurd (omega (arith, zero, eight)))) in
+    done laws faithful held limits safe suit word before now whole.outcome (sym whole.is ∙ zero) whole.put call whole.due whole.stored
+has_done laws faithful held limits safe suit word false call before now status w = tt

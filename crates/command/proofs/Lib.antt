@@ -1,0 +1,9 @@
+pub mod Ends
+pub mod Summed
+pub mod Judged
+pub mod Went
+pub mod Complete
+pub mod One
+pub mod Late
+pub mod Done
+pub mod Loads

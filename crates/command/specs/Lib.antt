@@ -1,0 +1,5 @@
+pub mod Due
+pub mod Made
+pub mod Texts
+pub mod Steps
+pub mod Targets

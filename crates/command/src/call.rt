@@ -1,0 +1,132 @@
+//! The top call.
+
+ghost use Rattle.std.specs.Prelude.{◌≡◌, ◌≢◌, ◌<◌, ◌↔◌, ◌⊎◌, ℕ, List, Some, None};
+ghost use Rattle.std.specs.Bool.{OnTrue};
+ghost use Rattle.outside.specs.Outside.{outside, AllStay};
+ghost use Rattle.command_words.specs.Calls.{Call, Load};
+ghost use Rattle.command_words.specs.Words.{IsCommand, IsMake};
+ghost use Rattle.command_answers.specs.Acts.{number_of};
+ghost use Rattle.command_answers.specs.Files.{IsDue};
+ghost use Rattle.command_answers.specs.Went.{Went, Completes, IsUsage};
+ghost use Rattle.command_due.specs.CommandsDue.{Outcome};
+ghost use Rattle.command.specs.Made.{Made};
+ghost use Rattle.command_answers.specs.Promise.{HasDone, IsRefusedForTime};
+ghost use Rattle.command.specs.Targets.{IsNoTarget};
+
+use crate::carry::carry_out;
+use asm_law::asm_laws::images_told_are_held;
+use built_image_law::built_once::timely_or_late;
+use command_answers::Status;
+use command_due_law::due_once::{
+    asm_is_one, compile_is_one, dis_is_one, go_is_one, migrate_is_one, print_is_one,
+    reports_are_one, run_is_one, slack_is_one, watch_is_one, written_once, written_or_faulty,
+};
+use command_due_law::edf_word::{answers_of_texts_are_one, feasible_texts_keep_their_word};
+use compiler_correct::built_laws::built_images_are_faithful;
+use image_reader_law::images_read_are_in_their_ranges;
+use outside::{Files, Sink};
+use std::alloc::Global;
+use syntax_printer::{reads_back, tokens_are_spelled};
+use valid_image_law::valid_law::every_valid_image_is_safe_and_in_time;
+use vm_law::script_suits::scripts_suit;
+
+/// Does what the words ask:
+///
+/// - `go P I S [K]` stores the image of the program text in file P in file I, and puts the report
+///   on it and the log of its run over the script in file S; K is the overhead, the ticks of one
+///   dispatch, from 0 to 1000, and 0 where it is left out;
+/// - `compile P I [K]` stores the image, and puts the report;
+/// - `check P [K]` puts the report, `json P [K]` the same as JSON, `slack P [K]` how many ticks each
+///   process can spare, `print P` the canonical text of the program;
+/// - `run I S` puts the log of the image in file I over the script in file S, and `migrate I J`
+///   stores the image in the present version in file J;
+/// - `asm A I` stores the image whose text is in file A in file I, and `dis I A` the text of the
+///   image in file I, valid or not, in file A;
+/// - `watch I S T` puts the state of the run of the image in file I over the script in file S before
+///   tick T, and `watch I S @A` right after the first effect of the instruction at address A;
+/// - `replay P S L` puts how many events the log in file L has, where they are a run of the program
+///   over the script, and else the line that is refused;
+/// - `edf P S` puts the report on the demand of program P, which has no wait, and the log of its run
+///   over script S under earliest deadline first;
+/// - `make K N P S` stores a program of N processes in file P and a script for it in file S, which
+///   key K draws, and puts how many instructions the program has, and how many lines and bytes the
+///   log of its run, with a mark of these bytes.
+///
+/// All other words are refused, as is a word that is empty or begins with `-`.
+///
+/// The answer is the first status that is due in the order of the steps: the words, reading P, I or
+/// A, its faults, its time, reading S, its faults, reading L, its faults and the verdict, storing,
+/// putting. `make` reads nothing, and its texts have no fault.
+pub fn rte<F: Files, O: Sink>(alloc: Global, words: &[String], files: &mut F, out: &mut O) -> Status
+    // A call of a command went as is due, by what its files hold.
+    ensures went { (call : Call) → IsCommand words.now call → Went F.tells call
+        (outside (F.state files.old) (O.state out.old))
+        (outside (F.state files.new) (O.state out.new)) (number_of result) }
+    // Without a failure, what is due is done whole, or memory was wanting.
+    ensures complete { (call : Call) → IsCommand words.now call → OnTrue F.tells (Completes call
+        (outside (F.state files.old) (O.state out.old))
+        (outside (F.state files.new) (O.state out.new)) (number_of result)) }
+    // So did `make`: its status is 0, 7 or 8.
+    ensures made { (load : Load) → IsMake words.now load → Made F.tells load
+        (outside (F.state files.old) (O.state out.old))
+        (outside (F.state files.new) (O.state out.new)) (number_of result) }
+    // All other words are refused.
+    ensures usage { ((call : Call) → ¬ IsCommand words.now call) →
+        ((load : Load) → ¬ IsMake words.now load) → IsUsage
+        (outside (F.state files.old) (O.state out.old))
+        (outside (F.state files.new) (O.state out.new)) (number_of result) }
+    // With every status but 0 and 7 no file has changed, but where `make` lacks memory between its
+    // two writes; and with these none but those that are written.
+    ensures kept { ((load : Load) → ¬ IsMake words.now load) → 0 < number_of result →
+        number_of result ≢ 7 → AllStay (F.state files.old).held (F.state files.new).held }
+    ensures others { (name : List ℕ) → IsNoTarget words.now name →
+        (F.state files.new).held name ≡ (F.state files.old).held name }
+    // Where no image is due no file changes.
+    ensures refused { (call : Call) → IsCommand words.now call →
+        OnTrue F.tells ((outcome : Outcome) →
+        IsDue call (F.state files.old).held outcome → outcome.image ≡ None →
+        AllStay (F.state files.old).held (F.state files.new).held) }
+    // So once a file has changed, the status is 0 or 7.
+    ensures stored { ((load : Load) → ¬ IsMake words.now load) → (name : List ℕ) →
+        (F.state files.new).held name ≢ (F.state files.old).held name →
+        (number_of result ≡ 0) ⊎ (number_of result ≡ 7) }
+    // A failed put always gives 7.
+    ensures quiet { number_of result ≢ 7 → (O.state out.new).faults ≡ (O.state out.old).faults }
+    // Status 0: of `go`, the text is that of a timely program and the script one, what is stored is
+    // the image of the program, what was put is its report and the log of that image over the
+    // script; and over every script for its names, that log is that of a run of the program, in
+    // time, within its sizes, never stuck. Of the other commands likewise.
+    ensures done { (call : Call) → IsCommand words.now call →
+        OnTrue F.tells (number_of result ≡ 0 → HasDone call
+        (outside (F.state files.old) (O.state out.old))
+        (outside (F.state files.new) (O.state out.new))) }
+    // Status 3 comes exactly where the recurrence of some process of the program has no solution
+    // within its deadline, and of `edf` where the test does not say that its demand is met.
+    ensures late { (call : Call) → IsCommand words.now call → OnTrue F.tells (number_of result < 6 →
+        (number_of result ≡ 3) ↔ IsRefusedForTime call
+        (outside (F.state files.old) (O.state out.old))) }
+{
+    built_images_are_faithful();
+    every_valid_image_is_safe_and_in_time();
+    images_read_are_in_their_ranges();
+    scripts_suit();
+    reports_are_one();
+    slack_is_one();
+    print_is_one();
+    compile_is_one();
+    go_is_one();
+    run_is_one();
+    migrate_is_one();
+    asm_is_one();
+    dis_is_one();
+    watch_is_one();
+    images_told_are_held();
+    feasible_texts_keep_their_word();
+    answers_of_texts_are_one();
+    written_or_faulty();
+    written_once();
+    timely_or_late();
+    reads_back();
+    tokens_are_spelled();
+    carry_out(alloc, words, files, out)
+}

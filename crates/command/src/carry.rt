@@ -1,0 +1,84 @@
+//! The call, without what the laws say of it.
+
+ghost use Rattle.std.specs.Prelude.{◌≡◌, ◌≢◌, ◌≤◌, ◌<◌, ◌⊎◌, ℕ, List, Some, codes};
+ghost use Rattle.outside.specs.Outside.{outside, AllStay, Appends, AppendsFront, Rose};
+ghost use Rattle.command_words.specs.Calls.{Call, Load, over_of};
+ghost use Rattle.command_words.specs.Words.{call_of, IsCommand, IsMake};
+ghost use Rattle.command_answers.specs.Acts.{number_of};
+ghost use Rattle.command_answers.specs.Went.{Went, IsUsage};
+ghost use Rattle.command.specs.Made.{Made};
+ghost use Rattle.command.specs.Targets.{IsNoTarget};
+
+use crate::{make, prepare};
+use command_answers::{Status, Unready};
+use command_perform::perform;
+use command_words::words::{no_command_is_a_load, one_command, one_load};
+use command_words::{Command, Request, read_words};
+use outside::{Files, Sink};
+use std::alloc::Global;
+
+/// Puts the usage.
+fn usage<O: Sink>(out: &mut O) -> Status
+    ensures answer { ((number_of result ≡ 1) ×
+        Appends (O.state out.old).taken (O.state out.new).taken (codes "usage\n"))
+        ⊎ ((number_of result ≡ 7) × Rose (O.state out.old).faults (O.state out.new).faults
+        × AppendsFront (O.state out.old).taken (O.state out.new).taken (codes "usage\n")) }
+    ensures quiet { number_of result ≢ 7 → (O.state out.new).faults ≡ (O.state out.old).faults }
+{
+    match out.put(b"usage\n") {
+        Ok(()) => Status::Usage,
+        Err(_) => Status::Unwritten,
+    }
+}
+
+/// Prepares what is due of a command, and performs it.
+fn carry<F: Files, O: Sink>(
+    alloc: Global,
+    command: &Command<'_>,
+    files: &mut F,
+    out: &mut O,
+) -> Status
+    requires { over_of (call_of command.now) ≤ 1000 }
+    ensures { Went F.tells (call_of command.now)
+        (outside (F.state files.old) (O.state out.old))
+        (outside (F.state files.new) (O.state out.new)) (number_of result) }
+{
+    match prepare(alloc, command, files) {
+        Ok(act) => perform(alloc, &act, files, out),
+        Err(Unready::Unread) => Status::Unread,
+        Err(Unready::Memory) => Status::Memory,
+    }
+}
+
+/// Does what the words ask.
+pub fn carry_out<F: Files, O: Sink>(
+    alloc: Global,
+    words: &[String],
+    files: &mut F,
+    out: &mut O,
+) -> Status
+    ensures went { (call : Call) → IsCommand words.now call → Went F.tells call
+        (outside (F.state files.old) (O.state out.old))
+        (outside (F.state files.new) (O.state out.new)) (number_of result) }
+    ensures made { (load : Load) → IsMake words.now load → Made F.tells load
+        (outside (F.state files.old) (O.state out.old))
+        (outside (F.state files.new) (O.state out.new)) (number_of result) }
+    ensures usage { ((call : Call) → ¬ IsCommand words.now call) →
+        ((load : Load) → ¬ IsMake words.now load) → IsUsage
+        (outside (F.state files.old) (O.state out.old))
+        (outside (F.state files.new) (O.state out.new)) (number_of result) }
+    ensures kept { ((load : Load) → ¬ IsMake words.now load) → 0 < number_of result →
+        number_of result ≢ 7 → AllStay (F.state files.old).held (F.state files.new).held }
+    ensures others { (name : List ℕ) → IsNoTarget words.now name →
+        (F.state files.new).held name ≡ (F.state files.old).held name }
+    ensures quiet { number_of result ≢ 7 → (O.state out.new).faults ≡ (O.state out.old).faults }
+{
+    one_command();
+    one_load();
+    no_command_is_a_load();
+    match read_words(words) {
+        Some(Request::Command(command)) => carry(alloc, &command, files, out),
+        Some(Request::Load(load)) => make(alloc, &load, files, out),
+        None => usage(out),
+    }
+}

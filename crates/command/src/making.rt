@@ -1,0 +1,62 @@
+//! `make`.
+
+ghost use Rattle.std.specs.Prelude.{◌≤◌};
+ghost use Rattle.outside.specs.Outside.{outside};
+ghost use Rattle.command_answers.specs.Acts.{number_of};
+ghost use Rattle.command_words.specs.Words.{load_of};
+ghost use Rattle.command.specs.Made.{Made};
+ghost use Rattle.command.specs.Steps.{GoesOn};
+ghost use Rattle.command.specs.Texts.{AreTextsOf};
+
+use crate::summing::{Texts, texts_of};
+use command_answers::Status;
+use command_words::Load;
+use outside::{Files, Sink, WriteFault};
+use std::alloc::Global;
+
+/// Stores the script, behind the program, and puts the line.
+fn store_script<F: Files, O: Sink>(
+    load: &Load<'_>,
+    texts: &Texts,
+    files: &mut F,
+    out: &mut O,
+) -> Status
+    requires { AreTextsOf load.now.key load.now.count texts.now }
+    ensures { GoesOn F.tells (load_of load.now) texts.now
+        (outside (F.state files.old) (O.state out.old))
+        (outside (F.state files.new) (O.state out.new)) (number_of result) }
+{
+    match files.write(load.script, texts.script.as_bytes()) {
+        Ok(()) => match out.put(texts.summary.as_bytes()) {
+            Ok(()) => Status::Done,
+            Err(_) => Status::Unwritten,
+        },
+        Err(WriteFault::Failed) => Status::Unwritten,
+        Err(WriteFault::Memory) => Status::Memory,
+    }
+}
+
+/// Makes the load of a key: stores the text of its program, which has so many processes, and then
+/// the text of its script, and puts the line that tells how many instructions the program has, how
+/// many lines and bytes the log of its run, and the mark of these bytes. The run is made in memory
+/// before anything is stored. Where both names are one, the script stands there at the end.
+///
+/// The answer is `Done`; `Unwritten` where a write or the put failed, and nothing comes after it;
+/// or `Memory` where there is not enough memory, and then nothing was stored or put, unless it was
+/// wanting for the write of the script alone.
+pub fn make<F: Files, O: Sink>(alloc: Global, load: &Load<'_>, files: &mut F, out: &mut O) -> Status
+    requires some { 1 ≤ load.now.count }
+    requires few { load.now.count ≤ 64 }
+    ensures { Made F.tells (load_of load.now)
+        (outside (F.state files.old) (O.state out.old))
+        (outside (F.state files.new) (O.state out.new)) (number_of result) }
+{
+    let Ok(texts) = texts_of(alloc, load.key, load.count) else {
+        return Status::Memory;
+    };
+    match files.write(load.program, texts.program.as_bytes()) {
+        Ok(()) => store_script(load, &texts, files, out),
+        Err(WriteFault::Failed) => Status::Unwritten,
+        Err(WriteFault::Memory) => Status::Memory,
+    }
+}

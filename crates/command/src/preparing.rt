@@ -1,0 +1,84 @@
+//! What is due of a command, prepared: files are read, texts are judged, and what is left is an
+//! act.
+//!
+//! `command_answers` says what is due of a call (`IsDue`) and what an act comes to (`outcome_of`);
+//! `command_answers` what each answer of `prepare` means (`Prepares`): an act that comes to what is
+//! due, and that the machine can run; or a read that failed. Nothing is stored or put here. The law
+//! on built images is passed on, and so are the words of `Prepares`.
+//!
+//! Preparing.
+
+ghost use Rattle.std.specs.Prelude.{◌≤◌};
+ghost use Rattle.outside.specs.Outside.{AllStay, NoneFell};
+ghost use Rattle.command_words.specs.Calls.{over_of};
+ghost use Rattle.command_words.specs.Words.{call_of};
+ghost use Rattle.command_answers.specs.Prepared.{Prepares};
+
+use command_answers::{Act, Unready};
+use command_images::{prepare_asm, prepare_dis, prepare_migrate, prepare_run, prepare_watch};
+use command_programs::{
+    Format, prepare_compile, prepare_go, prepare_print, prepare_report, prepare_slack,
+};
+use command_words::Command;
+use edf_command::prepare_edf;
+use outside::Files;
+use replay::prepare_replay;
+use std::alloc::Global;
+
+/// Reads what the command names, judges it, and makes what is left to be done: what is stored, what
+/// is put, and what is run. An overhead is at most 1,000 ticks.
+///
+/// # Errors
+///
+/// `Unread` only where a read failed, that of the script only where what comes before has no fault.
+/// `Memory` where there is not enough memory.
+pub fn prepare<'a, F: Files>(
+    alloc: Global,
+    command: &Command<'a>,
+    files: &mut F,
+) -> Result<Act<'a>, Unready>
+    requires overhead { over_of (call_of command.now) ≤ 1000 }
+    ensures prepared { Prepares F.tells (call_of command.now) (F.state files.old)
+        (F.state files.new) result }
+    ensures files { AllStay (F.state files.old).held (F.state files.new).held }
+    ensures read_counts { NoneFell (F.state files.old).read_faults (F.state files.new).read_faults }
+    ensures write_counts { NoneFell (F.state files.old).write_faults
+        (F.state files.new).write_faults }
+{
+    match *command {
+        Command::Go {
+            program,
+            image,
+            script,
+            overhead,
+        } => prepare_go(alloc, program, image, script, overhead, files),
+        Command::Check { program, overhead } => {
+            prepare_report(alloc, Format::Text, program, overhead, files)
+        }
+        Command::Compile {
+            program,
+            image,
+            overhead,
+        } => prepare_compile(alloc, program, image, overhead, files),
+        Command::Json { program, overhead } => {
+            prepare_report(alloc, Format::Json, program, overhead, files)
+        }
+        Command::Slack { program, overhead } => prepare_slack(alloc, program, overhead, files),
+        Command::Print { program } => prepare_print(alloc, program, files),
+        Command::Run { image, script } => prepare_run(alloc, image, script, files),
+        Command::Migrate { image, target } => prepare_migrate(alloc, image, target, files),
+        Command::Asm { text, image } => prepare_asm(alloc, text, image, files),
+        Command::Dis { image, text } => prepare_dis(alloc, image, text, files),
+        Command::Watch {
+            image,
+            script,
+            stop,
+        } => prepare_watch(alloc, image, script, stop, files),
+        Command::Replay {
+            program,
+            script,
+            log,
+        } => prepare_replay(alloc, program, script, log, files),
+        Command::Edf { program, script } => prepare_edf(alloc, program, script, files),
+    }
+}

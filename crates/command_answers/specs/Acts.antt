@@ -1,0 +1,86 @@
+-- What an act comes to, and when its run can be made.
+use Rattle.std.specs.Prelude.{◌≡◌, ◌++◌, ℕ, List, [], Option, Some, None, IfSome, All, option_map}
+use Rattle.image.specs.Named.{NamedImage}
+use Rattle.image.specs.Raw.{image_of, named_of}
+use Rattle.image.specs.declared.raw.RawImage.{RawImage}
+use Rattle.valid_image.specs.Valid.{HasLimits, IsValid}
+use Rattle.vm_plan.specs.HasPlan.{HasPlan}
+use Rattle.vm_law.specs.Logged.{AreNamesOf}
+use Rattle.vm_law.specs.Suits.{Suits}
+use Rattle.vm_releases.specs.Begin.{script_of}
+use Rattle.script.specs.declared.script.Script.{Script}
+use Rattle.script.specs.declared.script.ScriptLine.{ScriptLine}
+use Rattle.command_due.specs.CommandsDue.{Outcome, log}
+use Rattle.event_log.specs.InRange.{AreIn}
+use Rattle.edf_semantics.specs.Run.{events}
+use Rattle.edf_machine.specs.Runnable.{IsRunnable}
+use Rattle.command_due.specs.EdfDue.{edf_log}
+use Rattle.command_words.specs.Calls.{Call}
+use Rattle.command_answers.specs.declared.status.Status.{Status}
+use Rattle.command_answers.specs.declared.status.Status.TheVariants as status
+use Rattle.command_answers.specs.declared.act.Dispatch.{Dispatch}
+use Rattle.command_answers.specs.declared.act.Dispatch.TheVariants as dispatch
+use Rattle.command_answers.specs.declared.act.Store.{Store}
+use Rattle.command_answers.specs.declared.act.Run.{Run}
+use Rattle.command_answers.specs.declared.act.Act.{Act}
+use Rattle.command_answers.specs.Files.{target_of}
+
+abbrev pub number_of : Status → ℕ
+number_of status.Done = 0
+number_of status.Usage = 1
+number_of status.Text = 2
+number_of status.Late = 3
+number_of status.Image = 4
+number_of status.Script = 5
+number_of status.Unread = 6
+number_of status.Unwritten = 7
+number_of status.Memory = 8
+number_of status.Log = 9
+
+-- the log of an image over a script
+abbrev pub log_by : Dispatch → NamedImage → List ScriptLine → ℕ → List ℕ
+log_by dispatch.Ranks n lines end = log n lines end
+log_by dispatch.Deadlines n lines end = edf_log n lines end
+
+-- the log of a run, if there is one
+abbrev pub log_due : Option Run → List ℕ
+log_due None = []
+log_due (Some run) = log_by run.dispatch (named_of run.image) run.script.lines run.script.end
+
+-- the bytes that are stored, if any are
+abbrev pub bytes_due : Option Store → Option (List ℕ)
+bytes_due store = option_map (λ s. s.bytes.items) store
+
+-- what the act comes to, if nothing fails
+abbrev pub outcome_of : Act → Outcome
+outcome_of act = record { status = number_of act.status; text = act.text ++ log_due act.run; image = bytes_due act.store }
+
+-- what is stored is stored in the file that the call writes
+abbrev pub IsAtTarget : Call → Option Store → Type 0
+IsAtTarget call store = IfSome store (λ s. target_of call ≡ Some s.name.now)
+
+-- an image that is run by ranks
+abbrev pub by_ranks : RawImage → Script → Run
+by_ranks image script = record { image = image; script = script; dispatch = dispatch.Ranks }
+
+-- the machine can run the image over the script
+pub record CanRunByRanks (run : Run) : Type 0 where
+  pub limits : HasLimits (image_of run.image)
+  pub valid : IsValid (image_of run.image)
+  pub plan : HasPlan (image_of run.image)
+  pub names : AreNamesOf run.image.names (image_of run.image)
+  pub script : Suits (image_of run.image) (script_of run.script)
+
+-- under earliest deadline first: the run is one that the machine takes, and each of its events has
+-- a line
+pub record CanRunByDeadlines (run : Run) : Type 0 where
+  pub plan : HasPlan (image_of run.image)
+  pub runnable : IsRunnable (image_of run.image) (script_of run.script)
+  pub lines : All (AreIn run.image.names) (events (image_of run.image) (script_of run.script))
+
+abbrev pub CanRunBy : Dispatch → Run → Type 0
+CanRunBy dispatch.Ranks run = CanRunByRanks run
+CanRunBy dispatch.Deadlines run = CanRunByDeadlines run
+
+abbrev pub CanRun : Run → Type 0
+CanRun run = CanRunBy run.dispatch run

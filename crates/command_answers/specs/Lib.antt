@@ -1,0 +1,10 @@
+pub mod Files
+pub mod Went
+pub mod Acts
+pub mod Promise
+pub mod Runs
+pub mod Prepared
+pub mod Contents
+pub mod Acting
+pub mod Runnable
+pub mod Scripted

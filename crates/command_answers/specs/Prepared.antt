@@ -1,0 +1,38 @@
+-- What the answers of `prepare` mean.
+use Rattle.std.specs.Prelude.{◌≡◌, ◌≢◌, ◌<◌, ◌⊎◌, ℕ, Bool, List, Result, Ok, Err, IfSome, IsSomeAnd}
+use Rattle.std.specs.Bool.{OnTrue}
+use Rattle.outside.specs.Outside.{FilesState, Rose}
+use Rattle.command_words.specs.Calls.{Call}
+use Rattle.command_answers.specs.declared.act.Act.{Act}
+use Rattle.command_answers.specs.Files.{IsDue, ReachesScript, ReachesLog, source_of, script_of, log_file_of}
+use Rattle.command_answers.specs.Acts.{number_of, outcome_of, IsAtTarget, CanRun}
+use Rattle.command_answers.specs.Went.{IsAnswer}
+use Rattle.command_answers.specs.declared.unready.Unready.{Unready}
+use Rattle.command_answers.specs.declared.unready.Unready.TheVariants as unready
+
+-- the act comes to what is due of the call
+pub record IsPrepared (tells : Bool) (call : Call) (before : FilesState) (act : Act) : Type 0 where
+  pub due : OnTrue tells (IsDue call before.held (outcome_of act))
+  pub at : IsAtTarget call act.store
+  -- an image is stored with status 0 alone
+  pub stored : IfSome act.store (λ s. number_of act.status ≡ 0)
+  pub runs : IfSome act.run CanRun
+  pub answered : IsAnswer (number_of act.status)
+  pub is_command : number_of act.status ≢ 1
+
+-- the read of a file failed
+abbrev pub Failed : (before now : FilesState) → List ℕ → Type 0
+Failed before now name = Rose (before.read_faults name) (now.read_faults name)
+
+-- the first read failed, or that of the script or of the log where this was reached
+abbrev pub ReadsFailed : Bool → Call → (before now : FilesState) → Type 0
+ReadsFailed tells call before now =
+    Failed before now (source_of call)
+    ⊎ (IsSomeAnd (script_of call) (Failed before now) × OnTrue tells (ReachesScript call before.held))
+    ⊎ (IsSomeAnd (log_file_of call) (Failed before now) × OnTrue tells (ReachesLog call before.held))
+
+-- want of memory says nothing of the files
+abbrev pub Prepares : Bool → Call → (before now : FilesState) → Result Act Unready → Type 0
+Prepares tells call before now (Ok act) = IsPrepared tells call before act
+Prepares tells call before now (Err unready.Unread) = ReadsFailed tells call before now
+Prepares tells call before now (Err unready.Memory) = Unit {0}

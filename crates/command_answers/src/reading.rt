@@ -1,0 +1,56 @@
+//! Reading files.
+
+ghost use Rattle.std.specs.Prelude.{◌≡◌, IfOk, IsSomeAnd};
+ghost use Rattle.std.specs.Bool.{OnTrue};
+ghost use Rattle.outside.specs.Outside.{AllStay, NoneFell, Rose};
+ghost use Rattle.command_answers.specs.Contents.{IsContent};
+
+use crate::unready::Unready;
+use outside::{Files, ReadFault};
+
+/// How many bytes a program text has at most.
+pub const LONGEST_PROGRAM: usize = 1_048_576;
+
+/// How many bytes a script has at most.
+pub const LONGEST_SCRIPT: usize = 16_777_216;
+
+/// How many bytes an image has at most.
+pub const LONGEST_IMAGE: usize = 8_388_608;
+
+/// How many bytes the text of an image has at most.
+pub const LONGEST_IMAGE_TEXT: usize = 8_388_608;
+
+/// How many bytes a log has at most.
+pub const LONGEST_LOG: usize = 67_108_864;
+
+/// What a file holds.
+#[derive(Drop)]
+pub enum Content {
+    /// All its bytes.
+    Bytes(Vec<u8>),
+    /// More bytes than were asked for.
+    Long,
+}
+
+/// What the file of a name holds: its bytes, where they are at most `most`.
+///
+/// # Errors
+///
+/// `Unread` only where the name's count of faults rose. `Memory` where there is not enough memory.
+pub fn read<F: Files>(files: &mut F, name: &str, most: usize) -> Result<Content, Unready>
+    ensures content { IfOk result (λ content.
+        OnTrue F.tells (IsSomeAnd ((F.state files.old).held name.now) (IsContent most content))) }
+    ensures unread { result ≡ Err Unready.Unread →
+        Rose ((F.state files.old).read_faults name.now) ((F.state files.new).read_faults name.now) }
+    ensures files { AllStay (F.state files.old).held (F.state files.new).held }
+    ensures read_counts { NoneFell (F.state files.old).read_faults (F.state files.new).read_faults }
+    ensures write_counts { NoneFell (F.state files.old).write_faults
+        (F.state files.new).write_faults }
+{
+    match files.read(name, most) {
+        Ok(bytes) => Ok(Content::Bytes(bytes)),
+        Err(ReadFault::Long) => Ok(Content::Long),
+        Err(ReadFault::Failed) => Err(Unready::Unread),
+        Err(ReadFault::Memory) => Err(Unready::Memory),
+    }
+}

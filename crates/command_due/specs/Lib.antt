@@ -1,0 +1,17 @@
+pub mod Source
+pub mod Script
+pub mod CommandsDue
+pub mod Runs
+pub mod Stops
+pub mod Text
+pub mod StopDue
+pub mod Lines
+pub mod SpareDue
+pub mod Texts
+pub mod AsmDue
+pub mod ReplayDue
+pub mod Image
+pub mod Tasks
+pub mod Waits
+pub mod Report
+pub mod EdfDue

@@ -1,0 +1,3 @@
+pub mod DueOnce
+pub mod EdfDueOnce
+pub mod Word

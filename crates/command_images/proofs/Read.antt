@@ -1,0 +1,60 @@
+-- What is due of images, by what files hold.
+use Rattle.std.proofs.Common.{◌≡◌, ℕ, List, Option, Some, None, Bool, true, false, Ok, Err, inl, inr, refl, subst}
+use Rattle.std.specs.Prelude.{Result, IfOk, IsSomeAnd}
+use Rattle.std.specs.Bool.{OnTrue}
+use Rattle.image.specs.declared.raw.RawImage.{RawImage}
+use Rattle.outside.specs.Outside.{FilesState, AllStay, NoneFell, Rose}
+use Rattle.command_words.specs.Calls as call
+use Rattle.command_due.specs.CommandsDue.{Outcome, IsImageFile, IsImageRefused, IsRunDue, run_refused, run_bad_script, ran}
+use Rattle.command_answers.specs.declared.act.Act.{Act}
+use Rattle.command_answers.specs.Acts.{outcome_of}
+use Rattle.command_answers.specs.declared.unready.Unready.{Unready}
+use Rattle.command_answers.specs.declared.unready.Unready.TheVariants as unready
+use Rattle.command_answers.specs.Acting.{CanBeDone}
+use Rattle.command_answers.specs.Prepared.{Prepares, ReadsFailed}
+use Rattle.command_answers.specs.Scripted as scripted
+use Rattle.command_images.specs.Scripted.{IsRawRunDue}
+use Rattle.command_answers.proofs.Held.{of_held, acted, rose_since}
+
+-- ---- `run`
+
+run_over : (bytes other : List ℕ) (raw : RawImage) (outcome : Outcome) → IsImageFile bytes raw → IsRawRunDue raw other outcome → IsRunDue (Some bytes) (Some other) outcome
+run_over bytes other raw outcome file (scripted.misspelled fault wrong is) = run_bad_script bytes other raw fault refl file refl wrong is
+run_over bytes other raw outcome file (scripted.is_run lines end script is) = ran bytes other raw lines end refl file refl script is
+
+run_due : (tells : Bool) (held script mid : Option (List ℕ)) (P : List ℕ → Type 0) (raw : RawImage) (outcome : Outcome)
+    → OnTrue tells (IsSomeAnd held P) → ((bytes : List ℕ) → P bytes → IsImageFile bytes raw)
+    → OnTrue tells (IsSomeAnd mid (λ other. IsRawRunDue raw other outcome)) → mid ≡ script → OnTrue tells (IsRunDue held script outcome)
+run_due true (Some bytes) script mid P raw outcome is loads due stays = by script (subst (λ (o : Option (List ℕ)). IsSomeAnd o (λ other. IsRawRunDue raw other outcome)) stays due)
+  where
+    by : (o : Option (List ℕ)) → IsSomeAnd o (λ other. IsRawRunDue raw other outcome) → IsRunDue (Some bytes) o outcome
+    by (Some other) due = run_over bytes other raw outcome (loads bytes is) due
+    by None due = absurd due
+run_due true None script mid P raw outcome is loads due stays = absurd is
+run_due false held script mid P raw outcome is loads due stays = tt
+
+pub run_stops : (tells : Bool) (held script : Option (List ℕ)) (P : List ℕ → Type 0) (outcome : Outcome)
+    → OnTrue tells (IsSomeAnd held P) → ((bytes : List ℕ) → P bytes → IsImageRefused bytes outcome) → OnTrue tells (IsRunDue held script outcome)
+run_stops true (Some bytes) script P outcome is refused = run_refused bytes refl (refused bytes is)
+run_stops true None script P outcome is refused = absurd is
+run_stops false held script P outcome is refused = tt
+
+run_script_failed : (tells : Bool) (image script : List ℕ) (before mid now : FilesState) (P : List ℕ → Type 0) (raw : RawImage)
+    → OnTrue tells (IsSomeAnd (before.held image) P) → ((bytes : List ℕ) → P bytes → IsImageFile bytes raw)
+    → NoneFell before.read_faults mid.read_faults → Rose (mid.read_faults script) (now.read_faults script) → ReadsFailed tells (call.run image script) before now
+run_script_failed tells image script before mid now P raw is loads first rose =
+    inr (inl (
+      rose_since (before.read_faults script) (mid.read_faults script) (now.read_faults script) (first script) rose,
+      of_held tells (before.held image) P (λ bytes. (r : RawImage) × IsImageFile bytes r) is (λ bytes p. (raw, loads bytes p)),
+    ))
+
+pub run_prepares : (tells : Bool) (image script : List ℕ) (before mid now : FilesState) (P : List ℕ → Type 0) (raw : RawImage) (result : Result Act Unready)
+    → OnTrue tells (IsSomeAnd (before.held image) P) → ((bytes : List ℕ) → P bytes → IsImageFile bytes raw) → AllStay before.held mid.held → NoneFell before.read_faults mid.read_faults
+    → IfOk result (λ act. OnTrue tells (IsSomeAnd (mid.held script) (λ other. IsRawRunDue raw other (outcome_of act)))) → IfOk result (CanBeDone None)
+    → (result ≡ Err unready.Unread → Rose (mid.read_faults script) (now.read_faults script)) → Prepares tells (call.run image script) before now result
+run_prepares tells image script before mid now P raw (Ok act) is loads stays fell due can failed =
+    acted tells (call.run image script) before act can
+    (run_due tells (before.held image) (before.held script) (mid.held script) P raw (outcome_of act) is loads due (stays script))
+run_prepares tells image script before mid now P raw (Err unready.Unread) is loads stays fell due can failed =
+    run_script_failed tells image script before mid now P raw is loads fell (failed refl)
+run_prepares tells image script before mid now P raw (Err unready.Memory) is loads stays fell due can failed = tt

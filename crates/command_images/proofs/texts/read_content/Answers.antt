@@ -1,0 +1,10 @@
+use Rattle.std.proofs.Common.{◌<◌, length, subst}
+use Rattle.image_reader.specs.File.{longest}
+use Rattle.command_answers.specs.declared.reading.Content.{Content}
+use Rattle.command_answers.specs.Contents.{IsContent}
+use Rattle.command_images.proofs.Refused.{long_image}
+use Rattle.command_images.proofs.texts.read_content.Goals as goal
+
+pub returns-in-Long-clause-told : goal.returns-in-Long-clause-told
+returns-in-Long-clause-told c =
+    λ bytes is. (let long : longest < length bytes = subst (λ (found : Content). IsContent longest found bytes) c.in-Long.is is in long_image bytes long)

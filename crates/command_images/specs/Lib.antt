@@ -1,0 +1,5 @@
+pub mod Loading
+pub mod Telling
+pub mod Scripted
+pub mod Held
+pub mod Watched

@@ -1,0 +1,136 @@
+//! Image files judged, and `migrate`.
+
+ghost use Rattle.std.specs.Prelude.{◌≡◌, ℕ, List, Some, Err, IfOk};
+ghost use Rattle.command_answers.specs.Acts.{outcome_of};
+ghost use Rattle.command_due.specs.AsmDue.{keeps};
+ghost use Rattle.command_due.specs.CommandsDue.{IsImageRefused, IsMigrateDue, stored, told};
+ghost use Rattle.image.specs.InRange.{IsInRange};
+ghost use Rattle.image.specs.Raw.{named_of};
+ghost use Rattle.command_images.specs.Loading.{Loads};
+ghost use Rattle.image_reader.specs.File.{longest};
+ghost use Rattle.outside.specs.Outside.{AllStay, NoneFell};
+ghost use Rattle.command_words.specs.Calls as call;
+ghost use Rattle.command_answers.specs.Acting.{CanBeDone, IsQuiet};
+ghost use Rattle.command_answers.specs.Contents.{IsContent};
+ghost use Rattle.command_answers.specs.Prepared.{Prepares};
+ghost use Rattle.command_answers.specs.Runnable.{IsRunnable};
+
+use crate::{FileFault, load};
+use command_answers::{
+    Act, Content, LONGEST_IMAGE, Status, Store, Unready, image_fault_line, put, read,
+    valid_fault_line,
+};
+use image::{RawImage, write_image};
+use image_reader_law::images_read_can_be_written;
+use outside::Files;
+use std::alloc::{AllocError, Global};
+use syntax_tree::Text;
+use vm_law::script_suits::scripts_suit;
+use vm_plan::plan_laws::valid_images_read_are_ready;
+
+/// The valid image that bytes are, which can be run and stored.
+fn load_bytes(alloc: Global, bytes: &[u8]) -> Result<RawImage, FileFault>
+    ensures loads { Loads bytes.now result }
+    ensures ready { IfOk result IsRunnable }
+{
+    valid_images_read_are_ready();
+    images_read_can_be_written();
+    scripts_suit();
+    load(alloc, bytes)
+}
+
+/// The valid image that a file holds, which can be run and stored.
+///
+/// # Errors
+///
+/// As those of `load`; the fault of a file that is too long is 9, behind the most bytes of an
+/// image.
+pub fn load_content(alloc: Global, content: &Content) -> Result<RawImage, FileFault>
+    ensures loads { (bytes : List ℕ) → IsContent longest content.now bytes → Loads bytes result }
+    ensures ready { IfOk result IsRunnable }
+{
+    match content {
+        Content::Bytes(bytes) => load_bytes(alloc, bytes.as_slice()),
+        Content::Long => Err(FileFault::Image {
+            number: 9,
+            offset: 8_388_608,
+        }),
+    }
+}
+
+/// The line of the fault of bytes that are no valid image.
+fn line_of(alloc: Global, fault: FileFault) -> Result<Text, AllocError>
+    ensures { IfOk result (λ line. (bytes : List ℕ) → Loads bytes (Err fault) →
+        IsImageRefused bytes (told 4 line)) }
+{
+    match fault {
+        FileFault::Image { number, offset } => image_fault_line(alloc, number, offset),
+        FileFault::Invalid { number, a, b } => valid_fault_line(alloc, number, a, b),
+        FileFault::Memory => Err(AllocError),
+    }
+}
+
+/// The act for bytes that are no valid image: it puts the line of their fault.
+pub fn refuse_image<'a>(alloc: Global, fault: FileFault) -> Result<Act<'a>, AllocError>
+    ensures due { IfOk result (λ act. (bytes : List ℕ) → Loads bytes (Err fault) →
+        IsImageRefused bytes (outcome_of act)) }
+    ensures quiet { IfOk result IsQuiet }
+{
+    let line = line_of(alloc, fault)?;
+    Ok(put(Status::Image, line))
+}
+
+/// The act that stores an image under the name `target`.
+pub fn store_image<'a>(
+    alloc: Global,
+    raw: &RawImage,
+    target: &'a str,
+) -> Result<Act<'a>, AllocError>
+    requires { IsInRange (named_of raw.now) }
+    ensures outcome { IfOk result (λ act. outcome_of act ≡ keeps (stored (named_of raw.now))) }
+    ensures done { IfOk result (CanBeDone (Some target.now)) }
+{
+    let bytes = write_image(alloc, raw)?;
+    Ok(Act {
+        status: Status::Done,
+        text: Text::new(alloc),
+        store: Some(Store {
+            name: target,
+            bytes,
+        }),
+        run: None,
+    })
+}
+
+/// The act of `migrate` for what the image's file holds.
+fn migrate_act<'a>(alloc: Global, content: &Content, target: &'a str) -> Result<Act<'a>, AllocError>
+    ensures due { IfOk result (λ act. (bytes : List ℕ) → IsContent longest content.now bytes →
+        IsMigrateDue bytes (outcome_of act)) }
+    ensures done { IfOk result (CanBeDone (Some target.now)) }
+{
+    match load_content(alloc, content) {
+        Ok(raw) => store_image(alloc, &raw, target),
+        Err(fault) => refuse_image(alloc, fault),
+    }
+}
+
+/// `migrate`.
+pub fn prepare_migrate<'a, F: Files>(
+    alloc: Global,
+    image: &str,
+    target: &'a str,
+    files: &mut F,
+) -> Result<Act<'a>, Unready>
+    ensures prepared { Prepares F.tells (call.migrate image.now target.now) (F.state files.old)
+        (F.state files.new) result }
+    ensures files { AllStay (F.state files.old).held (F.state files.new).held }
+    ensures read_counts { NoneFell (F.state files.old).read_faults (F.state files.new).read_faults }
+    ensures write_counts { NoneFell (F.state files.old).write_faults
+        (F.state files.new).write_faults }
+{
+    let content = read(files, image, LONGEST_IMAGE)?;
+    match migrate_act(alloc, &content, target) {
+        Ok(act) => Ok(act),
+        Err(_) => Err(Unready::Memory),
+    }
+}

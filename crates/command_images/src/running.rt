@@ -1,0 +1,106 @@
+//! `run`.
+
+ghost use Rattle.std.specs.Prelude.{◌≡◌, ℕ, List, None, IfOk, IsSomeAnd};
+ghost use Rattle.std.specs.Bool.{OnTrue};
+ghost use Rattle.command_answers.specs.Acts.{outcome_of};
+ghost use Rattle.outside.specs.Outside.{AllStay, NoneFell, Rose};
+ghost use Rattle.script.specs.Scripts.{longest_text};
+ghost use Rattle.command_words.specs.Calls as call;
+ghost use Rattle.command_answers.specs.Acting.{CanBeDone};
+ghost use Rattle.command_answers.specs.Contents.{IsContent};
+ghost use Rattle.command_answers.specs.Prepared.{Prepares};
+ghost use Rattle.command_answers.specs.Runnable.{IsRunnable, RunsRaw};
+ghost use Rattle.command_images.specs.Scripted.{IsRawRunDue, raw_run};
+
+use crate::images::{load_content, refuse_image};
+use command_answers::{
+    Act, Content, Dispatch, LONGEST_IMAGE, LONGEST_SCRIPT, Run, Status, Unready, judge_script,
+    read, refuse_script,
+};
+use image::RawImage;
+use outside::Files;
+use script::Script;
+use std::alloc::{AllocError, Global};
+use syntax_tree::Text;
+
+/// The act that runs an image over a script.
+fn run_raw<'a>(alloc: Global, image: RawImage, script: Script) -> Act<'a>
+    requires { RunsRaw image script }
+    ensures outcome { outcome_of result ≡ raw_run image script }
+    ensures done { CanBeDone None result }
+{
+    Act {
+        status: Status::Done,
+        text: Text::new(alloc),
+        store: None,
+        run: Some(Run {
+            image,
+            script,
+            dispatch: Dispatch::Ranks,
+        }),
+    }
+}
+
+/// The act of `run` for what the script's file holds, where the image is a valid one.
+fn run_act<'a>(alloc: Global, raw: RawImage, content: &Content) -> Result<Act<'a>, AllocError>
+    requires { IsRunnable raw }
+    ensures due { IfOk result (λ act. (text : List ℕ) → IsContent longest_text content.now text →
+        IsRawRunDue raw text (outcome_of act)) }
+    ensures done { IfOk result (CanBeDone None) }
+{
+    match judge_script(alloc, content, &raw.names) {
+        Ok(script) => Ok(run_raw(alloc, raw, script)),
+        Err(fault) => refuse_script(alloc, &fault),
+    }
+}
+
+/// The second half of `run`: the script of an image that is valid.
+fn run_on<'a, F: Files>(
+    alloc: Global,
+    raw: RawImage,
+    script: &str,
+    files: &mut F,
+) -> Result<Act<'a>, Unready>
+    requires { IsRunnable raw }
+    ensures due { IfOk result (λ act. OnTrue F.tells
+        (IsSomeAnd ((F.state files.old).held script.now)
+        (λ text. IsRawRunDue raw text (outcome_of act)))) }
+    ensures done { IfOk result (CanBeDone None) }
+    ensures unread { result ≡ Err Unready.Unread →
+        Rose ((F.state files.old).read_faults script.now)
+        ((F.state files.new).read_faults script.now) }
+    ensures files { AllStay (F.state files.old).held (F.state files.new).held }
+    ensures read_counts { NoneFell (F.state files.old).read_faults (F.state files.new).read_faults }
+    ensures write_counts { NoneFell (F.state files.old).write_faults
+        (F.state files.new).write_faults }
+{
+    let content = read(files, script, LONGEST_SCRIPT)?;
+    match run_act(alloc, raw, &content) {
+        Ok(act) => Ok(act),
+        Err(_) => Err(Unready::Memory),
+    }
+}
+
+/// `run`: the image is read and judged, and the script only where the image is valid.
+pub fn prepare_run<'a, F: Files>(
+    alloc: Global,
+    image: &str,
+    script: &str,
+    files: &mut F,
+) -> Result<Act<'a>, Unready>
+    ensures prepared { Prepares F.tells (call.run image.now script.now) (F.state files.old)
+        (F.state files.new) result }
+    ensures files { AllStay (F.state files.old).held (F.state files.new).held }
+    ensures read_counts { NoneFell (F.state files.old).read_faults (F.state files.new).read_faults }
+    ensures write_counts { NoneFell (F.state files.old).write_faults
+        (F.state files.new).write_faults }
+{
+    let content = read(files, image, LONGEST_IMAGE)?;
+    match load_content(alloc, &content) {
+        Ok(raw) => run_on(alloc, raw, script, files),
+        Err(fault) => match refuse_image(alloc, fault) {
+            Ok(act) => Ok(act),
+            Err(_) => Err(Unready::Memory),
+        },
+    }
+}

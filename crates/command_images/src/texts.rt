@@ -1,0 +1,217 @@
+//! `asm` and `dis`.
+
+ghost use Rattle.std.specs.Prelude.{◌≡◌, ℕ, List, Some, Err, IfOk, length};
+ghost use Rattle.command_answers.specs.Acts.{outcome_of};
+ghost use Rattle.command_due.specs.AsmDue.{IsAsmDue, IsDisDue, keeps};
+ghost use Rattle.assembler.specs.Faults.{longest_text};
+ghost use Rattle.command_due.specs.CommandsDue.{told};
+ghost use Rattle.command_answers.specs.Acting.{CanBeDone, IsQuiet};
+ghost use Rattle.command_answers.specs.Contents.{IsContent};
+ghost use Rattle.command_answers.specs.Prepared.{Prepares};
+ghost use Rattle.image.specs.InRange.{IsInRange};
+ghost use Rattle.image.specs.Raw.{named_of};
+ghost use Rattle.command_images.specs.Telling.{LoadsText};
+ghost use Rattle.image_reader.specs.Answer.{Tells};
+ghost use Rattle.image_reader.specs.File.{longest};
+ghost use Rattle.asm_format.specs.Text.{text_of};
+ghost use Rattle.outside.specs.Outside.{AllStay, NoneFell};
+ghost use Rattle.command_words.specs.Calls as call;
+ghost use Rattle.command_images.specs.Held.{HasNames};
+
+use crate::images::store_image;
+use crate::{TextFault, load_text};
+use command_answers::{
+    Act, Content, LONGEST_IMAGE, LONGEST_IMAGE_TEXT, Status, Store, Unready, image_fault_line, put,
+    read, text_fault_line, valid_fault_line,
+};
+use disassembler::dis;
+use image::RawImage;
+use image_reader::{ImageFault, read_image};
+use image_reader_law::images_read_can_be_written;
+use outside::Files;
+use std::alloc::{AllocError, Global};
+use syntax_tree::Text;
+
+// ---- `asm`
+
+/// The valid image that a text tells, which can be stored.
+fn load_lines(alloc: Global, text: &[u8]) -> Result<RawImage, TextFault>
+    ensures loads { LoadsText text.now result }
+    ensures range { IfOk result (λ raw. IsInRange (named_of raw)) }
+{
+    images_read_can_be_written();
+    load_text(alloc, text)
+}
+
+/// The valid image that the text of a file tells, which can be stored.
+///
+/// # Errors
+///
+/// As those of `load_text`; the fault of a text that is too long is 3, on line 0.
+fn load_content(alloc: Global, content: &Content) -> Result<RawImage, TextFault>
+    ensures loads { (text : List ℕ) → IsContent longest_text content.now text →
+        LoadsText text result }
+    ensures range { IfOk result (λ raw. IsInRange (named_of raw)) }
+{
+    match content {
+        Content::Bytes(text) => load_lines(alloc, text.as_slice()),
+        Content::Long => Err(TextFault::Text { number: 3, line: 0 }),
+    }
+}
+
+/// The line of the fault of a text that is that of no valid image.
+fn line_of_text(alloc: Global, fault: TextFault) -> Result<Text, AllocError>
+    ensures { IfOk result (λ line. (text : List ℕ) → LoadsText text (Err fault) →
+        IsAsmDue text (told 4 line)) }
+{
+    match fault {
+        TextFault::Text { number, line } => text_fault_line(alloc, number, line),
+        TextFault::Invalid { number, a, b } => valid_fault_line(alloc, number, a, b),
+        TextFault::Memory => Err(AllocError),
+    }
+}
+
+/// The act for a text that is that of no valid image: it puts the line of its fault.
+fn refuse_text<'a>(alloc: Global, fault: TextFault) -> Result<Act<'a>, AllocError>
+    ensures due { IfOk result (λ act. (text : List ℕ) → LoadsText text (Err fault) →
+        IsAsmDue text (outcome_of act)) }
+    ensures quiet { IfOk result IsQuiet }
+{
+    let line = line_of_text(alloc, fault)?;
+    Ok(put(Status::Image, line))
+}
+
+/// The act of `asm` for what the text's file holds.
+fn asm_act<'a>(alloc: Global, content: &Content, image: &'a str) -> Result<Act<'a>, AllocError>
+    ensures due { IfOk result (λ act. (text : List ℕ) → IsContent longest_text content.now text →
+        IsAsmDue text (outcome_of act)) }
+    ensures done { IfOk result (CanBeDone (Some image.now)) }
+{
+    match load_content(alloc, content) {
+        Ok(raw) => store_image(alloc, &raw, image),
+        Err(fault) => refuse_text(alloc, fault),
+    }
+}
+
+/// `asm`.
+pub fn prepare_asm<'a, F: Files>(
+    alloc: Global,
+    text: &str,
+    image: &'a str,
+    files: &mut F,
+) -> Result<Act<'a>, Unready>
+    ensures prepared { Prepares F.tells (call.asm text.now image.now) (F.state files.old)
+        (F.state files.new) result }
+    ensures files { AllStay (F.state files.old).held (F.state files.new).held }
+    ensures read_counts { NoneFell (F.state files.old).read_faults (F.state files.new).read_faults }
+    ensures write_counts { NoneFell (F.state files.old).write_faults
+        (F.state files.new).write_faults }
+{
+    let content = read(files, text, LONGEST_IMAGE_TEXT)?;
+    match asm_act(alloc, &content, image) {
+        Ok(act) => Ok(act),
+        Err(_) => Err(Unready::Memory),
+    }
+}
+
+// ---- `dis`
+
+/// The image that bytes hold, valid or not; each of its parts has a name.
+fn read_bytes(alloc: Global, bytes: &[u8]) -> Result<RawImage, ImageFault>
+    ensures told { Tells bytes.now result }
+    ensures named { IfOk result HasNames }
+{
+    read_image(alloc, bytes)
+}
+
+/// The image that a file holds, valid or not; each of its parts has a name.
+///
+/// # Errors
+///
+/// As those of `read_image`; the fault of a file that is too long is 9, behind the most bytes of an
+/// image.
+fn read_content(alloc: Global, content: &Content) -> Result<RawImage, ImageFault>
+    ensures told { (bytes : List ℕ) → IsContent longest content.now bytes → Tells bytes result }
+    ensures named { IfOk result HasNames }
+{
+    match content {
+        Content::Bytes(bytes) => read_bytes(alloc, bytes.as_slice()),
+        Content::Long => Err(ImageFault::Bad {
+            number: 9,
+            offset: 8_388_608,
+        }),
+    }
+}
+
+/// The act that stores the text of an image under the name `target`.
+fn store_text<'a>(alloc: Global, raw: &RawImage, target: &'a str) -> Result<Act<'a>, AllocError>
+    requires { HasNames raw.now }
+    ensures outcome { IfOk result (λ act. outcome_of act ≡ keeps (text_of (named_of raw.now))) }
+    ensures done { IfOk result (CanBeDone (Some target.now)) }
+{
+    let text = dis(alloc, raw)?;
+    let bytes = Vec::from_slice(alloc, text.as_bytes())?;
+    Ok(Act {
+        status: Status::Done,
+        text: Text::new(alloc),
+        store: Some(Store {
+            name: target,
+            bytes,
+        }),
+        run: None,
+    })
+}
+
+/// The line of the fault of bytes that are no image.
+fn line_of_bytes(alloc: Global, fault: ImageFault) -> Result<Text, AllocError>
+    ensures { IfOk result (λ line. (bytes : List ℕ) → Tells bytes (Err fault) →
+        IsDisDue bytes (told 4 line)) }
+{
+    match fault {
+        ImageFault::Bad { number, offset } => image_fault_line(alloc, number, offset),
+        ImageFault::Memory => Err(AllocError),
+    }
+}
+
+/// The act for bytes that are no image: it puts the line of their fault.
+fn refuse_bytes<'a>(alloc: Global, fault: ImageFault) -> Result<Act<'a>, AllocError>
+    ensures due { IfOk result (λ act. (bytes : List ℕ) → Tells bytes (Err fault) →
+        IsDisDue bytes (outcome_of act)) }
+    ensures quiet { IfOk result IsQuiet }
+{
+    let line = line_of_bytes(alloc, fault)?;
+    Ok(put(Status::Image, line))
+}
+
+/// The act of `dis` for what the image's file holds.
+fn dis_act<'a>(alloc: Global, content: &Content, text: &'a str) -> Result<Act<'a>, AllocError>
+    ensures due { IfOk result (λ act. (bytes : List ℕ) → IsContent longest content.now bytes →
+        IsDisDue bytes (outcome_of act)) }
+    ensures done { IfOk result (CanBeDone (Some text.now)) }
+{
+    match read_content(alloc, content) {
+        Ok(raw) => store_text(alloc, &raw, text),
+        Err(fault) => refuse_bytes(alloc, fault),
+    }
+}
+
+/// `dis`.
+pub fn prepare_dis<'a, F: Files>(
+    alloc: Global,
+    image: &str,
+    text: &'a str,
+    files: &mut F,
+) -> Result<Act<'a>, Unready>
+    ensures prepared { Prepares F.tells (call.dis image.now text.now) (F.state files.old)
+        (F.state files.new) result }
+    ensures files { AllStay (F.state files.old).held (F.state files.new).held }
+    ensures read_counts { NoneFell (F.state files.old).read_faults (F.state files.new).read_faults }
+    ensures write_counts { NoneFell (F.state files.old).write_faults
+        (F.state files.new).write_faults }
+{
+    let content = read(files, image, LONGEST_IMAGE)?;
+    match dis_act(alloc, &content, text) {
+        Ok(act) => Ok(act),
+        Err(_) => Err(Unready::Memory),
+    }
+}

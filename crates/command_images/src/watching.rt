@@ -1,0 +1,111 @@
+//! `watch`.
+
+ghost use Rattle.std.specs.Prelude.{◌≡◌, ℕ, List, None, IfOk, IsSomeAnd};
+ghost use Rattle.std.specs.Bool.{OnTrue};
+ghost use Rattle.command_answers.specs.Acts.{outcome_of};
+ghost use Rattle.outside.specs.Outside.{AllStay, NoneFell, Rose};
+ghost use Rattle.script.specs.Scripts.{longest_text};
+ghost use Rattle.command_words.specs.Calls as call;
+ghost use Rattle.command_answers.specs.Acting.{IsQuiet};
+ghost use Rattle.command_answers.specs.Contents.{IsContent};
+ghost use Rattle.command_answers.specs.Prepared.{Prepares};
+ghost use Rattle.command_answers.specs.Runnable.{IsRunnable, RunsRaw};
+ghost use Rattle.command_images.specs.Watched.{IsSeenDue, IsTold};
+
+use crate::images::{load_content, refuse_image};
+use command_answers::{
+    Act, Content, LONGEST_IMAGE, LONGEST_SCRIPT, Status, Unready, judge_script, put, read,
+    refuse_script,
+};
+use command_words::Stop;
+use image::RawImage;
+use outside::Files;
+use script::Script;
+use std::alloc::{AllocError, Global};
+use vm_watch::watch;
+
+/// The act that puts the state of the run of an image over a script where it stops.
+fn put_seen<'a>(
+    alloc: Global,
+    raw: &RawImage,
+    script: &Script,
+    stop: Stop,
+) -> Result<Act<'a>, AllocError>
+    requires { RunsRaw raw.now script.now }
+    ensures told { IfOk result (λ act. IsTold stop raw.now script.now (outcome_of act)) }
+    ensures quiet { IfOk result IsQuiet }
+{
+    let text = watch(alloc, raw, script, stop)?;
+    Ok(put(Status::Done, text))
+}
+
+/// The act of `watch` for what the script's file holds, where the image is a valid one.
+fn watch_act<'a>(
+    alloc: Global,
+    raw: &RawImage,
+    content: &Content,
+    stop: Stop,
+) -> Result<Act<'a>, AllocError>
+    requires { IsRunnable raw.now }
+    ensures due { IfOk result (λ act. (text : List ℕ) → IsContent longest_text content.now text →
+        IsSeenDue stop raw.now text (outcome_of act)) }
+    ensures quiet { IfOk result IsQuiet }
+{
+    match judge_script(alloc, content, &raw.names) {
+        Ok(script) => put_seen(alloc, raw, &script, stop),
+        Err(fault) => refuse_script(alloc, &fault),
+    }
+}
+
+/// The second half of `watch`: the script of an image that is valid.
+fn watch_on<'a, F: Files>(
+    alloc: Global,
+    raw: &RawImage,
+    script: &str,
+    stop: Stop,
+    files: &mut F,
+) -> Result<Act<'a>, Unready>
+    requires { IsRunnable raw.now }
+    ensures due { IfOk result (λ act. OnTrue F.tells
+        (IsSomeAnd ((F.state files.old).held script.now)
+        (λ text. IsSeenDue stop raw.now text (outcome_of act)))) }
+    ensures quiet { IfOk result IsQuiet }
+    ensures unread { result ≡ Err Unready.Unread →
+        Rose ((F.state files.old).read_faults script.now)
+        ((F.state files.new).read_faults script.now) }
+    ensures files { AllStay (F.state files.old).held (F.state files.new).held }
+    ensures read_counts { NoneFell (F.state files.old).read_faults (F.state files.new).read_faults }
+    ensures write_counts { NoneFell (F.state files.old).write_faults
+        (F.state files.new).write_faults }
+{
+    let content = read(files, script, LONGEST_SCRIPT)?;
+    match watch_act(alloc, raw, &content, stop) {
+        Ok(act) => Ok(act),
+        Err(_) => Err(Unready::Memory),
+    }
+}
+
+/// `watch`: the image is read and judged, and the script only where the image is valid.
+pub fn prepare_watch<'a, F: Files>(
+    alloc: Global,
+    image: &str,
+    script: &str,
+    stop: Stop,
+    files: &mut F,
+) -> Result<Act<'a>, Unready>
+    ensures prepared { Prepares F.tells (call.watch image.now script.now stop)
+        (F.state files.old) (F.state files.new) result }
+    ensures files { AllStay (F.state files.old).held (F.state files.new).held }
+    ensures read_counts { NoneFell (F.state files.old).read_faults (F.state files.new).read_faults }
+    ensures write_counts { NoneFell (F.state files.old).write_faults
+        (F.state files.new).write_faults }
+{
+    let content = read(files, image, LONGEST_IMAGE)?;
+    match load_content(alloc, &content) {
+        Ok(raw) => watch_on(alloc, &raw, script, stop, files),
+        Err(fault) => match refuse_image(alloc, fault) {
+            Ok(act) => Ok(act),
+            Err(_) => Err(Unready::Memory),
+        },
+    }
+}

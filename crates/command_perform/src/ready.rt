@@ -1,0 +1,55 @@
+//! Runs made ready.
+
+ghost use Rattle.std.specs.Prelude.{◌≡◌, Some, IfOk, OnOk, OnErr};
+ghost use Rattle.command_answers.specs.Acts.{CanRun, log_due};
+ghost use Rattle.image.specs.Raw.{image_of};
+ghost use Rattle.outside.specs.Outside.{Appends, AppendsFront, Rose};
+ghost use Rattle.machine_semantics.specs.Image.{Image};
+ghost use Rattle.command_perform.specs.Ready.{IsReady};
+
+use crate::course::Course;
+use command_answers::Run;
+use outside::{Sink, SinkFailed};
+use std::alloc::{AllocError, Global};
+use vm_plan::plan::plan_of;
+use vm_state::Plan;
+
+/// A run whose machine, which is the one of its dispatch, stands before tick 0. It takes no more
+/// memory.
+#[derive(Drop)]
+pub struct Ready<'a> {
+    run: &'a Run,
+    plan: Plan,
+    course: Course,
+}
+
+impl<'a> Ready<'a> {
+    /// Makes the plan of the image and the machine; an error says that memory is short.
+    pub fn new(alloc: Global, run: &'a Run) -> Result<Ready<'a>, AllocError>
+        ghost image: { Image }
+        requires image { image ≡ image_of run.now.image }
+        requires can { CanRun run.now }
+        ensures run { IfOk result (λ ready. ready.run.now ≡ run.now) }
+        ensures ready { IfOk result (λ ready. IsReady ready) }
+    {
+        let plan = plan_of(alloc, &run.image)?;
+        let course = Course::new(alloc, &plan, run)?;
+        Ok(Ready { run, plan, course })
+    }
+
+    /// Runs to the end of the script, and puts the log, one put a line. After a failed put nothing
+    /// more is put.
+    pub fn put_log<O: Sink>(&mut self, out: &mut O) -> Result<(), SinkFailed>
+        ghost image: { Image }
+        requires image { image ≡ image_of self.old.run.now.image }
+        requires ready { IsReady self.old }
+        ensures whole { OnOk result (Appends (O.state out.old).taken (O.state out.new).taken
+            (log_due (Some self.old.run.now))) }
+        ensures front { OnErr result (AppendsFront (O.state out.old).taken (O.state out.new).taken
+            (log_due (Some self.old.run.now))) }
+        ensures failed { OnErr result (Rose (O.state out.old).faults (O.state out.new).faults) }
+        ensures quiet { OnOk result ((O.state out.new).faults ≡ (O.state out.old).faults) }
+    {
+        self.course.put_log(&self.plan, self.run, out)
+    }
+}

@@ -1,0 +1,24 @@
+use Rattle.std.proofs.Common.{ℕ, List, Err, sym, subst, ap, ◌∙◌}
+use Rattle.command_due.specs.CommandsDue.{IsRefused}
+use Rattle.command_due.specs.Source.{fault_line}
+use Rattle.compile.specs.Compile.{Compiles}
+use Rattle.command_answers.specs.declared.act.Act.{Act}
+use Rattle.command_answers.specs.declared.status.Status.TheVariants as status
+use Rattle.command_answers.specs.Acts.{outcome_of}
+use Rattle.command_answers.specs.Acting.{puts}
+use Rattle.command_programs.specs.Formats.{shown}
+use Rattle.command_programs.proofs.Refused.{faulty_text, late_text}
+use Rattle.command_answers.proofs.Judged.{of_made}
+use Rattle.command_programs.proofs.programs.refuse.Goals as goal
+
+pub returns-in-Text-clause-due : goal.returns-in-Text-clause-due
+returns-in-Text-clause-due c =
+    of_made c.put_fault.result (puts status.Text (fault_line c.in-Text.number c.in-Text.place))
+    (λ act. (over : ℕ) (text : List ℕ) → Compiles over text (Err c.args.fault) → IsRefused (shown c.args.format) over text (outcome_of act))
+    c.put_fault.ensures (faulty_text (shown c.args.format) c.args.fault c.in-Text.number c.in-Text.place c.in-Text.is)
+
+pub returns-in_ok-text-in-Untimely-clause-due : goal.returns-in_ok-text-in-Untimely-clause-due
+returns-in_ok-text-in-Untimely-clause-due c =
+    λ over text answer. subst (λ (act : Act). IsRefused (shown c.args.format) over text (outcome_of act))
+    (sym (c.put.ensures ∙ ap (puts status.Late) c.in_ok-text-in-Untimely.ensures))
+    (late_text (shown c.args.format) c.args.fault c.in-Untimely.late c.in-Untimely.is over text answer)

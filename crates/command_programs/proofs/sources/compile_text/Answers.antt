@@ -1,0 +1,6 @@
+use Rattle.command_programs.proofs.Ready.{readies}
+use Rattle.command_programs.proofs.sources.compile_text.Goals as goal
+
+pub returns-clause-ready : goal.returns-clause-ready
+returns-clause-ready c =
+    readies c.built_images_are_ready.ensures c.built_images_are_faithful.ensures c.scripts_suit.ensures.framed c.args.over c.args.text.now c.compile.result c.compile.ensures

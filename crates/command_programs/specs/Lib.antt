@@ -1,0 +1,4 @@
+pub mod Runnable
+pub mod Levels
+pub mod Formats
+pub mod Scripted

@@ -1,0 +1,126 @@
+//! `go`.
+
+ghost use Rattle.std.specs.Prelude.{◌≡◌, ◌≤◌, ℕ, List, Some, IfOk, IsSomeAnd};
+ghost use Rattle.std.specs.Bool.{OnTrue};
+ghost use Rattle.command_answers.specs.Acts.{outcome_of};
+ghost use Rattle.outside.specs.Outside.{AllStay, NoneFell, Rose};
+ghost use Rattle.script.specs.Scripts.{longest_text};
+ghost use Rattle.command_words.specs.Calls as call;
+ghost use Rattle.command_answers.specs.Acting.{CanBeDone};
+ghost use Rattle.command_answers.specs.Contents.{IsContent};
+ghost use Rattle.command_answers.specs.Prepared.{Prepares};
+ghost use Rattle.command_programs.specs.Runnable.{IsRunnableBuilt, RunsBuilt};
+ghost use Rattle.command_programs.specs.Scripted.{IsBuiltRunDue, built_run};
+
+use crate::compile_content;
+use crate::programs::{Format, refuse};
+use command_answers::{
+    Act, Content, Dispatch, LONGEST_PROGRAM, LONGEST_SCRIPT, Run, Status, Store, Unready,
+    judge_script, read, refuse_script,
+};
+use compile::Built;
+use image::write_image;
+use outside::Files;
+use script::Script;
+use std::alloc::{AllocError, Global};
+
+/// The act that stores the image of a program that is timely, puts the report, and runs the image
+/// over the script.
+fn run_built<'a>(
+    alloc: Global,
+    built: Built,
+    script: Script,
+    image: &'a str,
+) -> Result<Act<'a>, AllocError>
+    requires ready { IsRunnableBuilt built }
+    requires runs { RunsBuilt built script }
+    ensures outcome { IfOk result (λ act. outcome_of act ≡ built_run built script) }
+    ensures done { IfOk result (CanBeDone (Some image.now)) }
+{
+    let Built { image: raw, table } = built;
+    let text = sched_table::report(alloc, &raw.names, &raw.program, &table)?;
+    let bytes = write_image(alloc, &raw)?;
+    Ok(Act {
+        status: Status::Done,
+        text,
+        store: Some(Store { name: image, bytes }),
+        run: Some(Run {
+            image: raw,
+            script,
+            dispatch: Dispatch::Ranks,
+        }),
+    })
+}
+
+/// The act of `go` for what the script's file holds, where the program is timely.
+fn go_act<'a>(
+    alloc: Global,
+    built: Built,
+    content: &Content,
+    image: &'a str,
+) -> Result<Act<'a>, AllocError>
+    requires { IsRunnableBuilt built }
+    ensures due { IfOk result (λ act. (text : List ℕ) → IsContent longest_text content.now text →
+        IsBuiltRunDue built text (outcome_of act)) }
+    ensures done { IfOk result (CanBeDone (Some image.now)) }
+{
+    match judge_script(alloc, content, &built.image.names) {
+        Ok(script) => run_built(alloc, built, script, image),
+        Err(fault) => refuse_script(alloc, &fault),
+    }
+}
+
+/// The second half of `go`: the script of a program that is timely.
+fn go_on<'a, F: Files>(
+    alloc: Global,
+    built: Built,
+    image: &'a str,
+    script: &str,
+    files: &mut F,
+) -> Result<Act<'a>, Unready>
+    requires { IsRunnableBuilt built }
+    ensures due { IfOk result (λ act. OnTrue F.tells
+        (IsSomeAnd ((F.state files.old).held script.now)
+        (λ text. IsBuiltRunDue built text (outcome_of act)))) }
+    ensures done { IfOk result (CanBeDone (Some image.now)) }
+    ensures unread { result ≡ Err Unready.Unread →
+        Rose ((F.state files.old).read_faults script.now)
+        ((F.state files.new).read_faults script.now) }
+    ensures files { AllStay (F.state files.old).held (F.state files.new).held }
+    ensures read_counts { NoneFell (F.state files.old).read_faults (F.state files.new).read_faults }
+    ensures write_counts { NoneFell (F.state files.old).write_faults
+        (F.state files.new).write_faults }
+{
+    let content = read(files, script, LONGEST_SCRIPT)?;
+    match go_act(alloc, built, &content, image) {
+        Ok(act) => Ok(act),
+        Err(_) => Err(Unready::Memory),
+    }
+}
+
+/// `go`: the program is read and judged, and the script only where the program is timely.
+pub fn prepare_go<'a, F: Files>(
+    alloc: Global,
+    program: &str,
+    image: &'a str,
+    script: &str,
+    over: u16,
+    files: &mut F,
+) -> Result<Act<'a>, Unready>
+    requires { over ≤ 1000 }
+    ensures prepared { Prepares F.tells (call.go program.now image.now script.now over)
+        (F.state files.old) (F.state files.new) result }
+    ensures files { AllStay (F.state files.old).held (F.state files.new).held }
+    ensures read_counts { NoneFell (F.state files.old).read_faults (F.state files.new).read_faults }
+    ensures write_counts { NoneFell (F.state files.old).write_faults
+        (F.state files.new).write_faults }
+{
+    let content = read(files, program, LONGEST_PROGRAM)?;
+    match compile_content(alloc, &content, over) {
+        Ok(built) => go_on(alloc, built, image, script, files),
+        Err(fault) => match refuse(alloc, Format::Text, fault) {
+            Ok(act) => Ok(act),
+            Err(_) => Err(Unready::Memory),
+        },
+    }
+}

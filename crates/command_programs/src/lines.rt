@@ -1,0 +1,76 @@
+//! Lines.
+
+ghost use Rattle.std.specs.Prelude.{◌≡◌, ◌++◌, [], decimal, map, slice_index_or, OnOk};
+ghost use Rattle.image.specs.Raw.{process_of};
+ghost use Rattle.command_due.specs.Lines.{slack_line, spaced};
+ghost use Rattle.valid_image.specs.Tasks.{with_rank as index_of_rank};
+
+use image::RawProc;
+use itoa::Buffer;
+use std::alloc::AllocError;
+use syntax_tree::{Name, Text};
+
+/// The name of the number; none past the end.
+pub fn name_at(names: &[Name], number: usize) -> &[u8]
+    ensures { result.now ≡ slice_index_or names.now number [] }
+{
+    match names.get(number) {
+        Some(name) => name.as_bytes(),
+        None => b"",
+    }
+}
+
+/// The index of the process of the rank, or how many there are where none has it.
+pub fn with_rank(processes: &[RawProc], rank: usize) -> usize
+    ensures { result ≡ index_of_rank rank 0 (map process_of processes.now) }
+{
+    for number in 0..processes.len() {
+        if processes[number].rank as usize == rank {
+            return number;
+        }
+    }
+    processes.len()
+}
+
+/// Puts a number at the end of a text.
+fn add_number(text: &mut Text, number: u64) -> Result<(), AllocError>
+    ensures { OnOk result (text.new ≡ text.old ++ decimal number) }
+{
+    let mut buffer = Buffer::new();
+    text.extend(buffer.format(number).as_bytes())
+}
+
+/// Puts numbers at the end of a text, each behind a space.
+fn add_spaced(text: &mut Text, numbers: &[u64]) -> Result<(), AllocError>
+    ensures { OnOk result (text.new ≡ text.old ++ spaced numbers.now) }
+{
+    for number in numbers {
+        text.extend(b" ")?;
+        add_number(text, *number)?;
+    }
+    Ok(())
+}
+
+/// Puts the line of a process at the end of a text: its name, its spare ticks, the bounds with
+/// these, and the name of the process that fails with one more.
+#[tactic(auto, unfolding(command_due::specs::Lines::slack_line))]
+pub fn add_line(
+    text: &mut Text,
+    name: &[u8],
+    extra: u64,
+    bounds: &[u64],
+    failing: &[u8],
+) -> Result<(), AllocError>
+    ensures { OnOk result (text.new ≡ text.old ++
+        slack_line name.now extra bounds.now failing.now) }
+{
+    text.extend(b"slack ")?;
+    text.extend(name)?;
+    text.extend(b" ")?;
+    add_number(text, extra)?;
+    text.extend(b" bounds")?;
+    add_spaced(text, bounds)?;
+    text.extend(b" fails ")?;
+    text.extend(failing)?;
+    text.extend(b"\n")
+}

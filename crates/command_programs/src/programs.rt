@@ -1,0 +1,261 @@
+//! `check`, `json`, `slack`, `print` and `compile`.
+
+ghost use Rattle.std.specs.Prelude.{◌≡◌, ◌≤◌, ℕ, List, Some, Ok, Err, IfOk};
+ghost use Rattle.syntax.specs.Tokens.{longest_text};
+ghost use Rattle.command_due.specs.CommandsDue.{IsRefused, IsReportDue, IsPrintDue, IsCompileDue};
+ghost use Rattle.command_due.specs.SpareDue.{IsSlackDue};
+ghost use Rattle.compile.specs.Compile.{Compiles};
+ghost use Rattle.command_answers.specs.Acts.{outcome_of};
+ghost use Rattle.outside.specs.Outside.{AllStay, NoneFell};
+ghost use Rattle.command_words.specs.Calls as call;
+ghost use Rattle.sched_table.specs.Late.{IsNamed};
+ghost use Rattle.command_answers.specs.Acting.{CanBeDone, IsQuiet, puts};
+ghost use Rattle.command_answers.specs.Contents.{IsContent};
+ghost use Rattle.command_programs.specs.Formats.{shown, report_call};
+ghost use Rattle.command_answers.specs.Prepared.{Prepares};
+ghost use Rattle.command_programs.specs.Runnable.{IsRunnableBuilt, Readies};
+
+use crate::{compile_content, read_content, slack_text};
+use command_answers::{
+    Act, Content, LONGEST_PROGRAM, Status, Store, Unready, put, put_fault, read,
+};
+use compile::{Built, CompileFault, TextFault};
+use image::{ImageNames, write_image};
+use outside::Files;
+use sched_table::Table;
+use std::alloc::{AllocError, Global};
+use syntax_tree::{Name, Text};
+
+/// How a report is written.
+#[derive(Clone, Copy, Debug, PartialEq, Eq)]
+pub enum Format {
+    /// As lines.
+    Text,
+    /// As JSON.
+    Json,
+}
+
+/// The report on a table.
+pub fn report(
+    alloc: Global,
+    format: Format,
+    names: &ImageNames,
+    program: &Name,
+    table: &Table,
+) -> Result<Text, AllocError>
+    requires { IsNamed names.now table.now }
+    ensures { IfOk result (λ text. text ≡ shown format names.now program.now table.now) }
+{
+    match format {
+        Format::Text => sched_table::report(alloc, names, program, table),
+        Format::Json => sched_table::report_json(alloc, names, program, table),
+    }
+}
+
+/// The act for a text that gave no image: it puts the line of its fault, or the report on its
+/// program, which is late.
+pub fn refuse<'a>(alloc: Global, format: Format, fault: CompileFault) -> Result<Act<'a>, AllocError>
+    requires { Readies (Err fault) }
+    ensures due { IfOk result (λ act. (over : ℕ) (text : List ℕ) → Compiles over text (Err fault) →
+        IsRefused (shown format) over text (outcome_of act)) }
+    ensures quiet { IfOk result IsQuiet }
+{
+    match fault {
+        CompileFault::Text { number, place } => put_fault(alloc, number, place),
+        CompileFault::Untimely(late) => {
+            let text = report(alloc, format, &late.names, &late.program, &late.table)?;
+            Ok(put(Status::Late, text))
+        }
+        CompileFault::Memory => Err(AllocError),
+    }
+}
+
+/// The act that puts the report on a program that is timely.
+fn put_report<'a>(alloc: Global, format: Format, built: &Built) -> Result<Act<'a>, AllocError>
+    requires { IsRunnableBuilt built.now }
+    ensures { IfOk result (λ act. act ≡ puts Status.Done
+        (shown format built.now.image.names built.now.image.program built.now.table)) }
+{
+    let image = &built.image;
+    let text = report(alloc, format, &image.names, &image.program, &built.table)?;
+    Ok(put(Status::Done, text))
+}
+
+/// The act of `check` and `json` for what the program's file holds.
+fn report_act<'a>(
+    alloc: Global,
+    format: Format,
+    content: &Content,
+    over: u16,
+) -> Result<Act<'a>, AllocError>
+    requires { over ≤ 1000 }
+    ensures due { IfOk result (λ act. (text : List ℕ) → IsContent longest_text content.now text →
+        IsReportDue (shown format) over text (outcome_of act)) }
+    ensures quiet { IfOk result IsQuiet }
+{
+    match compile_content(alloc, content, over) {
+        Ok(built) => put_report(alloc, format, &built),
+        Err(fault) => refuse(alloc, format, fault),
+    }
+}
+
+/// The act that puts what the processes of a program that is timely can spare.
+fn put_slack<'a>(alloc: Global, built: &Built) -> Result<Act<'a>, AllocError>
+    requires { IsRunnableBuilt built.now }
+    ensures due { IfOk result (λ act. (over : ℕ) (text : List ℕ) →
+        Compiles over text (Ok built.now) → IsSlackDue over text (outcome_of act)) }
+    ensures quiet { IfOk result IsQuiet }
+{
+    let text = slack_text(alloc, &built.image)?;
+    Ok(put(Status::Done, text))
+}
+
+/// The act of `slack` for what the program's file holds.
+fn slack_act<'a>(alloc: Global, content: &Content, over: u16) -> Result<Act<'a>, AllocError>
+    requires { over ≤ 1000 }
+    ensures due { IfOk result (λ act. (text : List ℕ) → IsContent longest_text content.now text →
+        IsSlackDue over text (outcome_of act)) }
+    ensures quiet { IfOk result IsQuiet }
+{
+    match compile_content(alloc, content, over) {
+        Ok(built) => put_slack(alloc, &built),
+        Err(fault) => refuse(alloc, Format::Text, fault),
+    }
+}
+
+/// The act of `print` for what the program's file holds.
+fn print_act<'a>(alloc: Global, content: &Content) -> Result<Act<'a>, AllocError>
+    ensures due { IfOk result (λ act. (text : List ℕ) → IsContent longest_text content.now text →
+        IsPrintDue text (outcome_of act)) }
+    ensures quiet { IfOk result IsQuiet }
+{
+    match read_content(alloc, content) {
+        Ok(program) => Ok(put(Status::Done, syntax_printer::print(alloc, program.prog())?)),
+        Err(TextFault::Text { number, place }) => put_fault(alloc, number, place),
+        Err(TextFault::Memory) => Err(AllocError),
+    }
+}
+
+/// The act that stores the image of a program that is timely, and puts the report.
+fn store_built<'a>(alloc: Global, built: &Built, image: &'a str) -> Result<Act<'a>, AllocError>
+    requires { IsRunnableBuilt built.now }
+    ensures due { IfOk result (λ act. (over : ℕ) (text : List ℕ) →
+        Compiles over text (Ok built.now) → IsCompileDue over text (outcome_of act)) }
+    ensures done { IfOk result (CanBeDone (Some image.now)) }
+{
+    let raw = &built.image;
+    let text = sched_table::report(alloc, &raw.names, &raw.program, &built.table)?;
+    let bytes = write_image(alloc, raw)?;
+    Ok(Act {
+        status: Status::Done,
+        text,
+        store: Some(Store { name: image, bytes }),
+        run: None,
+    })
+}
+
+/// The act of `compile` for what the program's file holds.
+fn compile_act<'a>(
+    alloc: Global,
+    content: &Content,
+    image: &'a str,
+    over: u16,
+) -> Result<Act<'a>, AllocError>
+    requires { over ≤ 1000 }
+    ensures due { IfOk result (λ act. (text : List ℕ) → IsContent longest_text content.now text →
+        IsCompileDue over text (outcome_of act)) }
+    ensures done { IfOk result (CanBeDone (Some image.now)) }
+{
+    match compile_content(alloc, content, over) {
+        Ok(built) => store_built(alloc, &built, image),
+        Err(fault) => refuse(alloc, Format::Text, fault),
+    }
+}
+
+/// `check` and `json`, by the format of the report.
+pub fn prepare_report<'a, F: Files>(
+    alloc: Global,
+    format: Format,
+    program: &str,
+    over: u16,
+    files: &mut F,
+) -> Result<Act<'a>, Unready>
+    requires { over ≤ 1000 }
+    ensures prepared { Prepares F.tells (report_call format program.now over) (F.state files.old)
+        (F.state files.new) result }
+    ensures files { AllStay (F.state files.old).held (F.state files.new).held }
+    ensures read_counts { NoneFell (F.state files.old).read_faults (F.state files.new).read_faults }
+    ensures write_counts { NoneFell (F.state files.old).write_faults
+        (F.state files.new).write_faults }
+{
+    let content = read(files, program, LONGEST_PROGRAM)?;
+    match report_act(alloc, format, &content, over) {
+        Ok(act) => Ok(act),
+        Err(_) => Err(Unready::Memory),
+    }
+}
+
+/// `slack`.
+pub fn prepare_slack<'a, F: Files>(
+    alloc: Global,
+    program: &str,
+    over: u16,
+    files: &mut F,
+) -> Result<Act<'a>, Unready>
+    requires { over ≤ 1000 }
+    ensures prepared { Prepares F.tells (call.slack program.now over) (F.state files.old)
+        (F.state files.new) result }
+    ensures files { AllStay (F.state files.old).held (F.state files.new).held }
+    ensures read_counts { NoneFell (F.state files.old).read_faults (F.state files.new).read_faults }
+    ensures write_counts { NoneFell (F.state files.old).write_faults
+        (F.state files.new).write_faults }
+{
+    let content = read(files, program, LONGEST_PROGRAM)?;
+    match slack_act(alloc, &content, over) {
+        Ok(act) => Ok(act),
+        Err(_) => Err(Unready::Memory),
+    }
+}
+
+/// `print`.
+pub fn prepare_print<'a, F: Files>(
+    alloc: Global,
+    program: &str,
+    files: &mut F,
+) -> Result<Act<'a>, Unready>
+    ensures prepared { Prepares F.tells (call.print program.now) (F.state files.old)
+        (F.state files.new) result }
+    ensures files { AllStay (F.state files.old).held (F.state files.new).held }
+    ensures read_counts { NoneFell (F.state files.old).read_faults (F.state files.new).read_faults }
+    ensures write_counts { NoneFell (F.state files.old).write_faults
+        (F.state files.new).write_faults }
+{
+    let content = read(files, program, LONGEST_PROGRAM)?;
+    match print_act(alloc, &content) {
+        Ok(act) => Ok(act),
+        Err(_) => Err(Unready::Memory),
+    }
+}
+
+/// `compile`.
+pub fn prepare_compile<'a, F: Files>(
+    alloc: Global,
+    program: &str,
+    image: &'a str,
+    over: u16,
+    files: &mut F,
+) -> Result<Act<'a>, Unready>
+    requires { over ≤ 1000 }
+    ensures prepared { Prepares F.tells (call.compile program.now image.now over)
+        (F.state files.old) (F.state files.new) result }
+    ensures files { AllStay (F.state files.old).held (F.state files.new).held }
+    ensures read_counts { NoneFell (F.state files.old).read_faults (F.state files.new).read_faults }
+    ensures write_counts { NoneFell (F.state files.old).write_faults
+        (F.state files.new).write_faults }
+{
+    let content = read(files, program, LONGEST_PROGRAM)?;
+    match compile_act(alloc, &content, image, over) {
+        Ok(act) => Ok(act),
+        Err(_) => Err(Unready::Memory),
+    }
+}

@@ -1,0 +1,83 @@
+//! Program texts judged: compiled to an image that can be run and stored, or read whatever their
+//! time.
+//!
+//! `compile` says what the answers mean; `specs/Runnable.antt` says of them that an image that
+//! is built can be run over each script for its names and stored, and that a report has a name for
+//! each row. The law on built images is passed on.
+//!
+//! Program texts judged.
+
+ghost use Rattle.std.specs.Prelude.{◌≡◌, ◌≤◌, ℕ, List, IfOk};
+ghost use Rattle.syntax.specs.Tokens.{longest_text};
+ghost use Rattle.compile.specs.Compile.{Compiles};
+ghost use Rattle.compile.specs.Written.{ReadsWritten};
+ghost use Rattle.command_answers.specs.Contents.{IsContent};
+ghost use Rattle.command_programs.specs.Runnable.{Readies};
+
+use built_valid_law::built_ready::built_images_are_ready;
+use command_answers::Content;
+use compile::{Built, CompileFault, TextFault, compile, read_written};
+use compiler_correct::built_laws::built_images_are_faithful;
+use static_semantics::Checked;
+use std::alloc::Global;
+use syntax_tree::Place;
+use vm_law::script_suits::scripts_suit;
+
+/// The number of the fault of a text that is too long.
+const TOO_LONG: u8 = 4;
+
+/// Where a fault of a whole text stands.
+const START: Place = Place { line: 1, col: 1 };
+
+/// The image of the program of a text, which can be run and stored.
+///
+/// # Errors
+///
+/// As those of `compile`.
+pub fn compile_text(alloc: Global, text: &[u8], over: u16) -> Result<Built, CompileFault>
+    requires { over ≤ 1000 }
+    ensures compiles { Compiles over text.now result }
+    ensures ready { Readies result }
+{
+    built_images_are_ready();
+    built_images_are_faithful();
+    scripts_suit();
+    compile(alloc, text, over)
+}
+
+/// The image of the program of the text that a file holds, which can be run and stored.
+///
+/// # Errors
+///
+/// As those of `compile`; the fault of a text that is too long is 4, at its first byte.
+pub fn compile_content(alloc: Global, content: &Content, over: u16) -> Result<Built, CompileFault>
+    requires { over ≤ 1000 }
+    ensures compiles { (text : List ℕ) → IsContent longest_text content.now text →
+        Compiles over text result }
+    ensures ready { Readies result }
+{
+    match content {
+        Content::Bytes(text) => compile_text(alloc, text.as_slice(), over),
+        Content::Long => Err(CompileFault::Text {
+            number: TOO_LONG,
+            place: START,
+        }),
+    }
+}
+
+/// The program of the text that a file holds, whatever its time.
+///
+/// # Errors
+///
+/// As those of `read_written`; the fault of a text that is too long is 4, at its first byte.
+pub fn read_content(alloc: Global, content: &Content) -> Result<Checked, TextFault>
+    ensures { (text : List ℕ) → IsContent longest_text content.now text → ReadsWritten text result }
+{
+    match content {
+        Content::Bytes(text) => read_written(alloc, text.as_slice()),
+        Content::Long => Err(TextFault::Text {
+            number: TOO_LONG,
+            place: START,
+        }),
+    }
+}

@@ -1,0 +1,10 @@
+pub mod Made
+pub mod Owners
+pub mod Fields
+pub mod Texts
+pub mod Whole
+pub mod Measuring
+pub mod Shaping
+pub mod Filling
+pub mod Answered
+pub mod Compiled

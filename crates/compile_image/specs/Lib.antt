@@ -1,0 +1,4 @@
+pub mod Released
+pub mod Fields
+pub mod Told
+pub mod Rows

@@ -1,0 +1,76 @@
+//! All names.
+
+ghost use Rattle.std.specs.Prelude.{◌≡◌, ◌≤◌, IfOk, filter_map, length, map};
+ghost use Rattle.syntax_tree.specs.Placed.{placed, plain};
+ghost use Rattle.source_semantics.specs.Names.{event_in, monitors as monitors_in, processes as processes_in};
+ghost use Rattle.built_image.specs.Named.{named_conditions, named_event, names_of};
+
+use crate::declared::{device_names, event_names};
+use crate::events::released_by_events;
+use crate::lists::{condition_names, monitor_names, process_names};
+use code_layout::Values;
+use code_names::Directory;
+use image::{DevName, EventName, ImageNames};
+use std::alloc::{AllocError, Global};
+use syntax_tree::{List, Prog};
+
+/// The events with the frames of the processes that they release.
+fn all_events(
+    alloc: Global,
+    program: &Prog,
+    directory: &Directory<'_>,
+) -> Result<List<EventName>, AllocError>
+    requires { directory.now ≡ program.now }
+    ensures { IfOk result (λ events. events ≡
+        map (λ e. named_event (plain (placed program.now)) e)
+        (filter_map event_in (plain (placed program.now)).decls)) }
+{
+    let values = Values::new(alloc, program)?;
+    let released = released_by_events(alloc, &values, directory.processes())?;
+    let events = event_names(alloc, &released, program.decls.as_slice())?;
+    Ok(events)
+}
+
+/// The names of processes, monitors and conditions, with these devices and events.
+fn with_parts(
+    alloc: Global,
+    directory: &Directory<'_>,
+    devices: List<DevName>,
+    events: List<EventName>,
+) -> Result<ImageNames, AllocError>
+    requires { length (monitors_in (plain (placed directory.now))) ≤ 64 }
+    ensures processes { IfOk result (λ names. names.processes ≡
+        map (λ p. p.name) (processes_in (plain (placed directory.now)))) }
+    ensures monitors { IfOk result (λ names. names.monitors ≡
+        map (λ m. m.name) (monitors_in (plain (placed directory.now)))) }
+    ensures conditions { IfOk result (λ names. names.conditions ≡
+        named_conditions 0 (monitors_in (plain (placed directory.now)))) }
+    ensures devices { IfOk result (λ names. names.devices ≡ devices) }
+    ensures events { IfOk result (λ names. names.events ≡ events) }
+{
+    let all = directory.monitors();
+    let processes = process_names(alloc, directory.processes())?;
+    let monitors = monitor_names(alloc, all)?;
+    let conditions = condition_names(alloc, all)?;
+    Ok(ImageNames {
+        processes,
+        monitors,
+        conditions,
+        devices,
+        events,
+    })
+}
+
+/// The names of a program's parts, as an image has them, each list in the order of the text. There
+/// must be at most 64 monitors, so that the number of each fits its field. It takes time in
+/// proportion to the text, and fails only where memory is wanting.
+pub fn image_names(alloc: Global, program: &Prog) -> Result<ImageNames, AllocError>
+    requires few { length (monitors_in (plain (placed program.now))) ≤ 64 }
+    ensures { IfOk result (λ names. names ≡ names_of (plain (placed program.now))) }
+{
+    let directory = Directory::new(alloc, program)?;
+    let events = all_events(alloc, program, &directory)?;
+    let devices = device_names(alloc, program.decls.as_slice())?;
+    let names = with_parts(alloc, &directory, devices, events)?;
+    Ok(names)
+}

@@ -1,0 +1,112 @@
+-- Bounds, one more of a list at a time.
+use Rattle.std.specs.Prelude.{◌≡◌, ◌<◌, ◌≤◌, ◌+◌, ◌-◌, ◌++◌, ℕ, List, [], ◌∷◌, Option, Some, None, IsSome, length, map, min, slice_get, unwrap_or}
+use Rattle.std.proofs.Common.{refl, sym, ap, subst, ◌∙◌, arith, take, get_or}
+use Rattle.std.proofs.lemmas.List.{take_all, length-map}
+use Rattle.std.proofs.lemmas.Option.{slice_get-get_or, slice_get_within, get_or_from_slice_get}
+use Rattle.std.proofs.Math.ListN.{length-append}
+use Rattle.sched_response.specs.declared.tasks.Task.{Task}
+use Rattle.sched_response.specs.Demand.{deadline_at, IsBound}
+use Rattle.machine_semantics.specs.Image.{Image, Process}
+use Rattle.image.specs.declared.raw.RawImage.{RawImage}
+use Rattle.image.specs.declared.raw.RawProc.{RawProc}
+use Rattle.image.specs.Raw.{image_of, process_of}
+use Rattle.valid_image.specs.Tasks.{tasks_of}
+use Rattle.sched_table.specs.Table.{IsBoundAt}
+use Rattle.built_image.specs.Filled.{without_bound, without_bounds}
+use Rattle.built_image.specs.Shown.{AreLeast}
+use Rattle.compile_schedule.specs.declared.copies.Times.{Times}
+use Rattle.compile_schedule.specs.Ranking.{timed}
+use Rattle.built_image_law.specs.Filled.{Each}
+use Rattle.built_image_law.proofs.Lists.{through, became, each_mapped, each_more, none_yet, same_more}
+use Rattle.built_image_law.proofs.Tasks.{least_is_kept}
+use Rattle.compile_schedule.specs.Bounding.{but_bound, AreBounded, HasBounds, KeepsLeast}
+
+-- the least bound is no longer than the limit
+pub within_limit : (ts : List Task) (level found bound limit : ℕ) → IsBound ts level bound → limit ≡ deadline_at ts level → found ≡ min bound limit → IsBound ts level found
+within_limit ts level found bound limit least is short =
+    let low : bound ≤ deadline_at ts level = least.solves.within in
+    let same : bound ≡ found = omega (arith, low, is, short) in
+    subst (λ b. IsBound ts level b) same least
+
+inner : {A : Type 0} (a b : A) (o : Option A) → o ≡ Some a → o ≡ Some b → a ≡ b
+inner a b o one two = cc
+
+-- ---- least bounds
+
+-- the bound is that of the rank of process k
+abbrev pub IsBoundOf : Image → ℕ → Option ℕ → Type 0
+IsBoundOf m k b = (p : Process) → slice_get m.processes k ≡ Some p → IsBoundAt (tasks_of m) (p.rank - 1) b
+
+pub record LeastSoFar (m : Image) (i : ℕ) (bounds : List (Option ℕ)) : Type 0 where
+  pub long : length bounds ≡ i
+  pub each : Each (IsBoundOf m) bounds
+
+one_longer : {A : Type 0} (old new : List A) (x : A) (i : ℕ) → length old ≡ i → new ≡ old ++ x ∷ [] → length new ≡ i + 1
+one_longer {A} old new x i long grown = ap (λ (xs : List A). length xs) grown ∙ (length-append old (x ∷ []) ∙ ap (λ n. n + 1) long)
+
+pub one_bound : (image : RawImage) (ts : List Task) (i : ℕ) (old new : List (Option ℕ)) (p : RawProc) (b : Option ℕ) → i < length image.processes → p ≡ get_or image.processes i p → ts ≡ tasks_of (image_of image)
+    → IsBoundAt ts (p.rank - 1) b → new ≡ old ++ b ∷ [] → LeastSoFar (image_of image) i old → LeastSoFar (image_of image) (i + 1) new
+one_bound image ts i old new p b low at tasks is grown so_far = record {
+  long = one_longer old new b i so_far.long grown;
+  each = each_more (IsBoundOf (image_of image)) old new i b so_far.long grown so_far.each (λ q there.
+      let here : slice_get (map process_of image.processes) i ≡ Some (process_of p) = became process_of image.processes i p (slice_get-get_or image.processes i p low ∙ ap (λ x. Some x) (sym at)) in
+      subst (λ ts. IsBoundAt ts (q.rank - 1) b) tasks
+      (subst (λ (x : Process). IsBoundAt ts (x.rank - 1) b) (inner (process_of p) q (slice_get (map process_of image.processes) i) here there) is));
+}
+
+pub none_bounds : (m : Image) (bounds : List (Option ℕ)) → bounds ≡ [] → LeastSoFar m 0 bounds
+none_bounds m bounds none = subst (LeastSoFar m 0) (sym none) (record { long = refl; each = none_yet (IsBoundOf m) })
+
+pub all_bounds : (image : RawImage) (i : ℕ) (bounds : List (Option ℕ)) → i ≡ length image.processes → LeastSoFar (image_of image) i bounds → AreLeast (image_of image) bounds
+all_bounds image i bounds past so_far = record {
+  one_each = so_far.long ∙ (past ∙ sym (length-map image.processes process_of));
+  each = λ k p b at there. so_far.each k b there p at;
+}
+
+-- ---- bounds filled in
+
+pub record BoundedSoFar (found : List (Option ℕ)) (before : List RawProc) (i : ℕ) (now : List RawProc) : Type 0 where
+  pub long : length now ≡ i
+  pub same : map but_bound now ≡ map but_bound (take i before)
+  pub bounds : Each (λ k p. (b : ℕ) → slice_get found k ≡ Some (Some b) → p.bound ≡ b) now
+
+pub one_bounded : (bounds : List (Option ℕ)) (before old new : List RawProc) (i : ℕ) (t : Times) (p q : RawProc) (o : Option ℕ) → i < length before → p ≡ get_or before i p → BoundedSoFar bounds before i old
+    → new ≡ old ++ q ∷ [] → process_of q ≡ timed t (process_of p) → t.rank ≡ p.rank → t.block ≡ p.block → o ≡ get_or bounds i None → t.bound ≡ unwrap_or o p.bound → BoundedSoFar bounds before (i + 1) new
+one_bounded bounds before old new i t p q o low at so_far grown is rank block there bound = record {
+  long = one_longer old new q i so_far.long grown;
+  same =
+      same_more but_bound before old new i p q low at so_far.same grown
+      (ap without_bound is ∙ (ap (λ r. record (but_bound p) { rank = r; block = t.block }) rank ∙ ap (λ b. record (but_bound p) { block = b }) block));
+  bounds = each_more (λ k x. (b : ℕ) → slice_get bounds k ≡ Some (Some b) → x.bound ≡ b) old new i q so_far.long grown so_far.bounds (λ b found.
+      ap (λ (x : Process). x.bound) is ∙ (bound ∙ ap (λ x. unwrap_or x p.bound) (there ∙ get_or_from_slice_get bounds i (Some b) None found)));
+}
+
+pub none_bounded : (bounds : List (Option ℕ)) (before now : List RawProc) → now ≡ [] → BoundedSoFar bounds before 0 now
+none_bounded bounds before now none =
+    subst (BoundedSoFar bounds before 0) (sym none) (record { long = refl; same = refl; bounds = none_yet (λ k p. (b : ℕ) → slice_get bounds k ≡ Some (Some b) → p.bound ≡ b) })
+
+pub all_bounded : (bounds : List (Option ℕ)) (before now : List RawProc) (i : ℕ) → length before ≤ i → BoundedSoFar bounds before i now → AreBounded bounds before now
+all_bounded bounds before now i past so_far = record { same = so_far.same ∙ ap (λ ps. map but_bound ps) (take_all i before past); bounds = so_far.bounds }
+
+-- ---- images
+
+pub image_bounded : (before : RawImage) (bounds : List (Option ℕ)) (processes : List RawProc) → AreBounded bounds before.processes processes
+    → without_bounds (record (image_of before) { processes = map process_of processes }) ≡ without_bounds (image_of before)
+image_bounded before bounds processes are =
+    ap (λ v. record (image_of before) { processes = v })
+    (through process_of without_bound but_bound (λ p. refl) processes ∙ (are.same ∙ sym (through process_of without_bound but_bound (λ p. refl) before.processes)))
+
+pub bounds_set : (bounds : List (Option ℕ)) (before now : RawImage) → AreBounded bounds before.processes now.processes → HasBounds (image_of now) bounds
+bounds_set bounds before now are k p b at there = each_mapped process_of (λ i q. (c : ℕ) → slice_get bounds i ≡ Some (Some c) → q.bound ≡ c) now.processes are.bounds k p at b there
+
+-- where each is there, each process has its least bound
+pub least_set : (m n : Image) (bounds : List (Option ℕ)) → without_bounds n ≡ without_bounds m → HasBounds n bounds → KeepsLeast m bounds n
+least_set m n bounds same set least all k p at =
+    let kept = least_is_kept n m bounds same least in
+    let low : k < length n.processes = slice_get_within n.processes k p at in
+    let below : k < length bounds = omega (arith, low, kept.one_each) in
+    one kept (get_or bounds k None) (slice_get-get_or bounds k None below) (all k None below)
+  where
+    one : AreLeast n bounds → (o : Option ℕ) → slice_get bounds k ≡ Some o → IsSome o → IsBound (tasks_of n) (p.rank - 1) p.bound
+    one kept None there some = absurd (cc)
+    one kept (Some b) there some = subst (λ r. IsBound (tasks_of n) (p.rank - 1) r) (sym (set k p b at there)) (kept.each k p (Some b) at there)

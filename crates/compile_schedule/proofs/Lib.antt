@@ -1,0 +1,4 @@
+pub mod Filling
+pub mod NoFault
+pub mod Growing
+pub mod Listing

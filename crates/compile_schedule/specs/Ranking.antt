@@ -1,0 +1,60 @@
+-- What is filled in of processes and monitors, one step after the other.
+use Rattle.std.specs.Prelude.{◌≡◌, List, map}
+use Rattle.machine_semantics.specs.Image.{Image, Monitor, Process}
+use Rattle.image.specs.declared.raw.RawImage.{RawImage}
+use Rattle.image.specs.declared.raw.RawMon.{RawMon}
+use Rattle.image.specs.declared.raw.RawProc.{RawProc}
+use Rattle.image.specs.Raw.{image_of, monitor_of, process_of}
+use Rattle.valid_image.specs.Times.{rank_of, ceiling_of, needed_block}
+use Rattle.built_image.specs.Filled.{without_rank, without_ranks, without_ceiling}
+use Rattle.built_image_law.specs.Filled.{Each, without_block, without_blocks}
+use Rattle.compile_schedule.specs.declared.copies.Times.{Times}
+
+-- the process with these times
+abbrev pub timed : Times → Process → Process
+timed t p = record p { rank = t.rank; block = t.block; bound = t.bound }
+
+-- ---- lists
+
+abbrev pub but_rank : RawProc → Process
+but_rank p = without_rank (process_of p)
+
+abbrev pub but_ceiling : RawMon → Monitor
+but_ceiling x = without_ceiling (monitor_of x)
+
+abbrev pub but_block : RawProc → Process
+but_block p = without_block (process_of p)
+
+-- the same processes, each with its rank in the image
+pub record AreRanked (m : Image) (before now : List RawProc) : Type 0 where
+  pub same : map but_rank now ≡ map but_rank before
+  pub ranks : Each (λ k p. p.rank ≡ rank_of m k) now
+
+-- the same monitors, each with its ceiling in the image
+pub record AreCeiled (m : Image) (before now : List RawMon) : Type 0 where
+  pub same : map but_ceiling now ≡ map but_ceiling before
+  pub ceilings : Each (λ j x. x.ceiling ≡ ceiling_of m j) now
+
+-- the same processes, each with the block of its rank in the image, and its deadline as its bound
+pub record AreBlocked (m : Image) (before now : List RawProc) : Type 0 where
+  pub same : map but_block now ≡ map but_block before
+  pub blocks : Each (λ k p. p.block ≡ needed_block m p.rank) now
+  pub bounds : Each (λ k p. p.bound ≡ p.deadline) now
+
+-- ---- images
+
+-- the same image with the ranks and ceilings that are due in it
+pub record IsRanked (before now : RawImage) : Type 0 where
+  pub program : now.program ≡ before.program
+  pub names : now.names ≡ before.names
+  pub same : without_ranks (image_of now) ≡ without_ranks (image_of before)
+  pub ranks : Each (λ k p. p.rank ≡ rank_of (image_of before) k) (image_of now).processes
+  pub ceilings : Each (λ j x. x.ceiling ≡ ceiling_of (image_of before) j) (image_of now).monitors
+
+-- the same image with the blocks of the ranks and ceilings that it has
+pub record IsBlocked (before now : RawImage) : Type 0 where
+  pub program : now.program ≡ before.program
+  pub names : now.names ≡ before.names
+  pub same : without_blocks (image_of now) ≡ without_blocks (image_of before)
+  pub blocks : Each (λ k p. p.block ≡ needed_block (image_of before) p.rank) (image_of now).processes
+  pub bounds : Each (λ k p. p.bound ≡ p.deadline) (image_of now).processes

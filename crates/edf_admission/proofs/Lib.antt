@@ -1,0 +1,11 @@
+mod Asked
+mod Lasts
+mod Once
+pub mod Premises
+mod Ranks
+mod EdfAdmitRuns
+mod Still
+mod Held
+mod Planned
+mod AdmittedRunRuns
+pub mod AsRaw

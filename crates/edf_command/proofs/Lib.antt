@@ -1,0 +1,11 @@
+mod Demanded
+mod Growing
+mod Lasts
+mod Owned
+mod Shaped
+mod Noted
+mod Few
+mod Prepared
+mod Runs
+mod Scripted
+mod Sized

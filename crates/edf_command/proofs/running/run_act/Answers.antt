@@ -1,0 +1,14 @@
+use Rattle.image.specs.Raw.{named_of}
+use Rattle.script.specs.Scripts.{longest_text}
+use Rattle.command_answers.specs.Contents.{IsContent}
+use Rattle.edf_command.proofs.Scripted.{bad_due, ran_due}
+use Rattle.edf_command.proofs.running.run_act.Goals as goal
+
+pub returns-in-Ok-clause-due : goal.returns-in-Ok-clause-due
+returns-in-Ok-clause-due c =
+    ran_due (named_of c.args.subject.image) c.args.subject.answer c.in-Ok.script (IsContent longest_text c.args.content.now) c.run_image.result c.in-Ok.ensures.script c.run_image.ensures.outcome
+
+pub returns-clause-due : goal.returns-clause-due
+returns-clause-due c =
+    bad_due (named_of c.args.subject.image) c.args.subject.answer c.in-Err.fault (IsContent longest_text c.args.content.now) c.refuse_script.result
+    c.in-Err.ensures.fault c.refuse_script.ensures.act c.refuse_script.ensures.is_fault

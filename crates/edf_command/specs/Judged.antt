@@ -1,0 +1,53 @@
+-- Programs whose demand was judged, and what is due of them.
+use Rattle.std.specs.Prelude.{◌≡◌, ◌++◌, ◌≤◌, ◌^◌, ℕ, List, Option, Some, length}
+use Rattle.syntax_tree.specs.declared.place.Place.{Place}
+use Rattle.syntax_tree.specs.Placed.{Prog}
+use Rattle.image.specs.Named.{NamedImage}
+use Rattle.image.specs.Raw.{named_of}
+use Rattle.script.specs.declared.script.ScriptLine.{ScriptLine}
+use Rattle.script.specs.declared.fault.ScriptFault.{ScriptFault}
+use Rattle.script.specs.Scripts.{IsScript}
+use Rattle.sched_demand.specs.declared.judging.Judgement.{Judgement}
+use Rattle.sched_demand.specs.declared.judging.Judgement.TheVariants as judgement
+use Rattle.command_due.specs.Source.{IsWritten, IsTextFault}
+use Rattle.command_due.specs.CommandsDue.{Outcome, told, bad_script, IsScriptFault}
+use Rattle.compile.specs.declared.written.TextFault.{TextFault}
+use Rattle.compile.specs.declared.written.TextFault.TheVariants as fault
+use Rattle.command_due.specs.EdfDue.{IsJudgedText, IsUnfit, edf_log}
+use Rattle.command_due.specs.Report.{edf_report}
+use Rattle.command_due.specs.Waits.{IsFirstWait}
+use Rattle.edf_command.specs.declared.judging.Subject.{Subject}
+
+-- the text is that of a program without waits, this is its image and what the test says of it; each
+-- process has a name, and the names are few enough for a script
+pub record IsSubject (s : Subject) : Type 0 where
+  pub judged : IsJudgedText s.text.items (named_of s.image) s.answer
+  pub named : length s.image.names.processes ≡ length s.image.processes
+  pub devices : length s.image.names.devices ≤ 2 ^ 16
+  pub events : length s.image.names.events ≤ 2 ^ 16
+
+-- the fault of a text, or that its program waits
+pub data IsStopped (text : List ℕ) (number : ℕ) (place : Place) : Type 0 where
+  faulty : IsTextFault text number place → IsStopped text number place
+  waits : (g : Prog Place) → IsWritten text g → IsFirstWait g place → number ≡ 48 → IsStopped text number place
+
+-- want of memory says nothing of the text
+abbrev pub Stops : List ℕ → TextFault → Type 0
+Stops text (fault.Text number place) = IsStopped text number place
+Stops text fault.Memory = Unit {0}
+
+-- the demand is met at each point
+abbrev pub IsMet : Judgement → Type 0
+IsMet (judgement.Feasible points) = Unit {0}
+IsMet other = ⊥
+
+-- the line of the script's fault, or the report and the log of the run
+pub data IsScriptDue (n : NamedImage) (answer : Judgement) (text : List ℕ) (outcome : Outcome) : Type 0 where
+  misspelled : (why : ScriptFault) → IsScriptFault n text why → outcome ≡ bad_script why → IsScriptDue n answer text outcome
+  ran : (lines : List ScriptLine) (end : ℕ) → IsScript n.names text lines end
+      → outcome ≡ told 0 (edf_report n answer ++ edf_log n lines end) → IsScriptDue n answer text outcome
+
+-- the report alone, where the demand is not met; else what is due of the script
+pub data IsSubjectDue (n : NamedImage) (answer : Judgement) (script : Option (List ℕ)) (outcome : Outcome) : Type 0 where
+  unfit : IsUnfit answer → outcome ≡ told 3 (edf_report n answer) → IsSubjectDue n answer script outcome
+  scripted : (text : List ℕ) → IsMet answer → script ≡ Some text → IsScriptDue n answer text outcome → IsSubjectDue n answer script outcome

@@ -1,0 +1,132 @@
+//! The report.
+
+ghost use Rattle.std.specs.Prelude.{◌≡◌, ◌++◌, length, map, IfOk, OnOk};
+ghost use Rattle.image.specs.Raw.{named_of, process_of};
+ghost use Rattle.sched_table.specs.Report.{with_number};
+ghost use Rattle.command_due.specs.Report.{edf_report, judgement_lines, points_text, process_line, processes_lines, times_text, verdict_text};
+
+use image::{RawImage, RawProc};
+use itoa::Buffer;
+use sched_demand::Judgement;
+use std::alloc::{AllocError, Global};
+use syntax_tree::{Name, Text};
+
+/// The greatest number that is shown.
+const GREATEST: u64 = 1_000_000_000;
+
+/// Puts some words and a number at the end of a text.
+fn add_number(text: &mut Text, words: &str, number: u64) -> Result<(), AllocError>
+    ensures { OnOk result (text.new ≡ text.old ++ with_number words.now number) }
+{
+    text.extend(words.as_bytes())?;
+    if number > GREATEST {
+        return text.extend(b"over");
+    }
+    let mut buffer = Buffer::new();
+    text.extend(buffer.format(number).as_bytes())
+}
+
+/// Puts some words and a name at the end of a text.
+fn add_name(text: &mut Text, words: &str, name: &Name) -> Result<(), AllocError>
+    ensures { OnOk result (text.new ≡ text.old ++ (words.now ++ name.now)) }
+{
+    text.extend(words.as_bytes())?;
+    text.extend(name.as_bytes())
+}
+
+/// Puts the times of a process at the end of a text.
+#[tactic(auto, unfolding(command_due::specs::Report::times_text))]
+fn add_times(text: &mut Text, process: &RawProc) -> Result<(), AllocError>
+    ensures { OnOk result (text.new ≡ text.old ++ times_text (process_of process.now)) }
+{
+    add_number(text, " frame ", u64::from(process.frame))?;
+    add_number(text, " deadline ", u64::from(process.deadline))?;
+    add_number(text, " cost ", u64::from(process.run))
+}
+
+/// Puts the line of a process at the end of a text.
+#[tactic(auto, unfolding(command_due::specs::Report::process_line))]
+fn add_process(text: &mut Text, name: &Name, process: &RawProc) -> Result<(), AllocError>
+    ensures { OnOk result (text.new ≡ text.old ++ process_line name.now
+        (process_of process.now)) }
+{
+    add_name(text, "process ", name)?;
+    add_times(text, process)?;
+    add_number(text, " data ", u64::from(process.words))?;
+    add_number(text, " stack ", u64::from(process.stack))?;
+    text.extend(b"\n")
+}
+
+/// Puts the lines of the processes at the end of a text.
+fn add_processes(text: &mut Text, names: &[Name], processes: &[RawProc]) -> Result<(), AllocError>
+    requires { length names.now ≡ length processes.now }
+    ensures { OnOk result (text.new ≡ text.old ++ processes_lines names.now
+        (map process_of processes.now)) }
+{
+    for (at, process) in processes.iter().enumerate() {
+        add_process(text, &names[at], process)?;
+    }
+    Ok(())
+}
+
+/// Puts how many points there are at the end of a text.
+fn add_points(text: &mut Text, answer: Judgement) -> Result<(), AllocError>
+    ensures { OnOk result (text.new ≡ text.old ++ points_text answer) }
+{
+    match answer {
+        Judgement::Feasible { points } => add_number(text, "points ", points),
+        Judgement::Late { points, .. } => add_number(text, "points ", points),
+        Judgement::Many => text.extend(b"points over"),
+    }
+}
+
+/// Puts what the test of the demand says at the end of a text.
+fn add_verdict(text: &mut Text, answer: Judgement) -> Result<(), AllocError>
+    ensures { OnOk result (text.new ≡ text.old ++ verdict_text answer) }
+{
+    match answer {
+        Judgement::Feasible { .. } => text.extend(b"feasible"),
+        Judgement::Late { at, demand, .. } => {
+            add_number(text, "late ", at)?;
+            add_number(text, " demand ", demand)
+        }
+        Judgement::Many => text.extend(b"too many"),
+    }
+}
+
+/// Puts the lines of what the test says at the end of a text.
+#[tactic(auto, unfolding(command_due::specs::Report::judgement_lines))]
+fn add_judgement(text: &mut Text, answer: Judgement) -> Result<(), AllocError>
+    ensures { OnOk result (text.new ≡ text.old ++ judgement_lines answer) }
+{
+    add_points(text, answer)?;
+    text.extend(b"\n")?;
+    add_verdict(text, answer)?;
+    text.extend(b"\n")
+}
+
+/// The report on an image with one name for each process, of which the test of the demand says
+/// this.
+///
+/// Its lines are the program's name, each process with its times in ticks and its words of data and
+/// of stack, the number of instructions, the number of points, and `feasible`, `late` with the
+/// first point at which the demand is not met and the demand there, or `too many`. A number above
+/// 1,000,000,000 is `over`. Only want of memory is an error.
+#[tactic(auto, unfolding(command_due::specs::Report::edf_report))]
+pub fn report(alloc: Global, image: &RawImage, answer: Judgement) -> Result<Text, AllocError>
+    requires { length image.now.names.processes ≡ length image.now.processes }
+    ensures { IfOk result (λ text. text ≡ edf_report (named_of image.now) answer) }
+{
+    let mut text = Text::new(alloc);
+    add_name(&mut text, "program ", &image.program)?;
+    text.extend(b"\n")?;
+    add_processes(
+        &mut text,
+        image.names.processes.as_slice(),
+        image.processes.as_slice(),
+    )?;
+    add_number(&mut text, "code ", image.code.len() as u64)?;
+    text.extend(b"\n")?;
+    add_judgement(&mut text, answer)?;
+    Ok(text)
+}

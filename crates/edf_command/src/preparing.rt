@@ -1,0 +1,96 @@
+//! `edf`.
+
+ghost use Rattle.std.specs.Prelude.{◌≡◌, Err, None, IfOk, IsSomeAnd};
+ghost use Rattle.std.specs.Bool.{OnTrue};
+ghost use Rattle.command_answers.specs.Acts.{outcome_of};
+ghost use Rattle.command_answers.specs.Acting.{CanBeDone};
+ghost use Rattle.command_answers.specs.Prepared.{Failed, Prepares};
+ghost use Rattle.image.specs.Raw.{named_of};
+ghost use Rattle.outside.specs.Outside.{AllStay, NoneFell};
+ghost use Rattle.edf_command.specs.Judged.{IsMet, IsScriptDue, IsSubject, IsSubjectDue};
+ghost use Rattle.command_words.specs.Calls as call;
+
+use crate::judging::{Subject, judge_source, refuse_source};
+use crate::running::{refuse_unfit, run_act};
+use command_answers::{Act, LONGEST_PROGRAM, LONGEST_SCRIPT, Unready, read};
+use outside::Files;
+use sched_demand::Judgement;
+use std::alloc::Global;
+
+/// The last part of `edf`: the script of a program whose demand is met.
+fn run_on<'a, F: Files>(
+    alloc: Global,
+    subject: Subject,
+    script: &str,
+    files: &mut F,
+) -> Result<Act<'a>, Unready>
+    requires subject { IsSubject subject }
+    requires met { IsMet subject.answer }
+    ensures due { IfOk result (λ act. OnTrue F.tells
+        (IsSomeAnd ((F.state files.old).held script.now) (λ text.
+        IsScriptDue (named_of subject.image) subject.answer text (outcome_of act)))) }
+    ensures done { IfOk result (CanBeDone None) }
+    ensures unread { result ≡ Err Unready.Unread →
+        Failed (F.state files.old) (F.state files.new) script.now }
+    ensures files { AllStay (F.state files.old).held (F.state files.new).held }
+    ensures read_counts { NoneFell (F.state files.old).read_faults (F.state files.new).read_faults }
+    ensures write_counts { NoneFell (F.state files.old).write_faults
+        (F.state files.new).write_faults }
+{
+    let content = read(files, script, LONGEST_SCRIPT)?;
+    match run_act(alloc, subject, &content) {
+        Ok(act) => Ok(act),
+        Err(_) => Err(Unready::Memory),
+    }
+}
+
+/// The second part of `edf`, of a program that was judged.
+fn judged_on<'a, F: Files>(
+    alloc: Global,
+    subject: Subject,
+    script: &str,
+    files: &mut F,
+) -> Result<Act<'a>, Unready>
+    requires { IsSubject subject }
+    ensures due { IfOk result (λ act. OnTrue F.tells (IsSubjectDue (named_of subject.image)
+        subject.answer ((F.state files.old).held script.now) (outcome_of act))) }
+    ensures done { IfOk result (CanBeDone None) }
+    ensures unread { result ≡ Err Unready.Unread →
+        Failed (F.state files.old) (F.state files.new) script.now × IsMet subject.answer }
+    ensures files { AllStay (F.state files.old).held (F.state files.new).held }
+    ensures read_counts { NoneFell (F.state files.old).read_faults (F.state files.new).read_faults }
+    ensures write_counts { NoneFell (F.state files.old).write_faults
+        (F.state files.new).write_faults }
+{
+    if let Judgement::Feasible { .. } = subject.answer {
+        return run_on(alloc, subject, script, files);
+    }
+    match refuse_unfit(alloc, &subject) {
+        Ok(act) => Ok(act),
+        Err(_) => Err(Unready::Memory),
+    }
+}
+
+/// `edf`: the program is read and judged, and the script only where its demand is met.
+pub fn prepare_edf<'a, F: Files>(
+    alloc: Global,
+    program: &str,
+    script: &str,
+    files: &mut F,
+) -> Result<Act<'a>, Unready>
+    ensures prepared { Prepares F.tells (call.edf program.now script.now)
+        (F.state files.old) (F.state files.new) result }
+    ensures files { AllStay (F.state files.old).held (F.state files.new).held }
+    ensures read_counts { NoneFell (F.state files.old).read_faults (F.state files.new).read_faults }
+    ensures write_counts { NoneFell (F.state files.old).write_faults
+        (F.state files.new).write_faults }
+{
+    let content = read(files, program, LONGEST_PROGRAM)?;
+    match judge_source(alloc, content) {
+        Ok(subject) => judged_on(alloc, subject, script, files),
+        Err(fault) => match refuse_source(alloc, fault) {
+            Ok(act) => Ok(act),
+            Err(_) => Err(Unready::Memory),
+        },
+    }
+}

@@ -1,0 +1,73 @@
+//! Programs run, where their demand is met.
+
+ghost use Rattle.std.specs.Prelude.{◌≡◌, ◌++◌, ℕ, List, None, IfOk};
+ghost use Rattle.command_answers.specs.Acts.{outcome_of};
+ghost use Rattle.command_due.specs.CommandsDue.{told};
+ghost use Rattle.command_answers.specs.Acting.{CanBeDone, IsQuiet, puts};
+ghost use Rattle.command_answers.specs.Contents.{IsContent};
+ghost use Rattle.command_due.specs.EdfDue.{edf_log};
+ghost use Rattle.command_due.specs.Report.{edf_report};
+ghost use Rattle.image.specs.Raw.{named_of};
+ghost use Rattle.edf_command.specs.Judged.{IsMet, IsScriptDue, IsSubject};
+ghost use Rattle.script.specs.Scripts.{IsScript, longest_text};
+
+use crate::judging::Subject;
+use crate::report;
+use command_answers::{Act, Content, Dispatch, Run, Status, judge_script, put, refuse_script};
+use edf_correct::edf_ready::edf_images_are_ready;
+use script::Script;
+use std::alloc::{AllocError, Global};
+
+/// The act for a program whose demand is not met: it puts the report.
+pub fn refuse_unfit<'a>(alloc: Global, subject: &Subject) -> Result<Act<'a>, AllocError>
+    requires { IsSubject subject.now }
+    ensures act { IfOk result (λ act. act ≡
+        puts Status.Late (edf_report (named_of subject.now.image) subject.now.answer)) }
+    ensures quiet { IfOk result IsQuiet }
+{
+    let text = report(alloc, &subject.image, subject.answer)?;
+    Ok(put(Status::Late, text))
+}
+
+/// The act that puts the report and runs the image over a script.
+fn run_image<'a>(alloc: Global, subject: Subject, script: Script) -> Result<Act<'a>, AllocError>
+    requires subject { IsSubject subject }
+    requires met { IsMet subject.answer }
+    requires script { (text : List ℕ) ×
+        IsScript subject.image.names text script.lines script.end }
+    ensures outcome { IfOk result (λ act. outcome_of act ≡ told 0
+        (edf_report (named_of subject.image) subject.answer ++
+        edf_log (named_of subject.image) script.lines script.end)) }
+    ensures done { IfOk result (CanBeDone None) }
+{
+    edf_images_are_ready();
+    let text = report(alloc, &subject.image, subject.answer)?;
+    Ok(Act {
+        status: Status::Done,
+        text,
+        store: None,
+        run: Some(Run {
+            image: subject.image,
+            script,
+            dispatch: Dispatch::Deadlines,
+        }),
+    })
+}
+
+/// The act of `edf` for what the script's file holds, where the demand is met.
+pub fn run_act<'a>(
+    alloc: Global,
+    subject: Subject,
+    content: &Content,
+) -> Result<Act<'a>, AllocError>
+    requires subject { IsSubject subject }
+    requires met { IsMet subject.answer }
+    ensures due { IfOk result (λ act. (text : List ℕ) → IsContent longest_text content.now text →
+        IsScriptDue (named_of subject.image) subject.answer text (outcome_of act)) }
+    ensures done { IfOk result (CanBeDone None) }
+{
+    match judge_script(alloc, content, &subject.image.names) {
+        Ok(script) => run_image(alloc, subject, script),
+        Err(fault) => refuse_script(alloc, &fault),
+    }
+}

@@ -1,0 +1,4 @@
+pub mod EdfWaits
+pub mod Waits
+pub mod EdfLaws
+pub mod Ready

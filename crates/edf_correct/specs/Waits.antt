@@ -1,0 +1,30 @@
+-- A program whose text has no `wait` statement.
+use Rattle.std.specs.Prelude.{◌≡◌, ℕ, List, Option, Some, None, slice_get}
+use Rattle.syntax_tree.specs.Plain.{Routine, Monitor, Handler, Process, Prog}
+use Rattle.source_semantics.specs.Names.{routines, monitors, processes}
+use Rattle.code_cost_spec.specs.Levels.{cost_of_process}
+use Rattle.code_measures.specs.Quiet.{NoWaits}
+
+-- none of these routines has one
+abbrev pub NoneWaits : List Routine → Type 0
+NoneWaits rs = (j : ℕ) (r : Routine) → slice_get rs j ≡ Some r → NoWaits r.body
+
+abbrev pub HandlerHasNoWait : Option Handler → Type 0
+HandlerHasNoWait None = Unit {0}
+HandlerHasNoWait (Some h) = NoWaits h.body
+
+-- no statement of a process, its body, its handler and its routines
+pub record ProcessHasNoWait (p : Process) : Type 0 where
+  pub body : NoWaits p.body
+  pub handler : HandlerHasNoWait p.handler
+  pub own : NoneWaits p.routines
+
+-- no statement of the program is a wait
+pub record HasNoWait (g : Prog) : Type 0 where
+  pub program : NoneWaits (routines g)
+  pub entries : (m : ℕ) (k : Monitor) → slice_get (monitors g) m ≡ Some k → NoneWaits k.entries
+  pub bodies : (k : ℕ) (p : Process) → slice_get (processes g) k ≡ Some p → ProcessHasNoWait p
+
+-- The law: so the cost of each process has no waits.
+abbrev pub TextsWithoutWaitsHaveNone : Type 0
+TextsWithoutWaitsHaveNone = (g : Prog) → HasNoWait g → (k : ℕ) (p : Process) → slice_get (processes g) k ≡ Some p → (cost_of_process g k p).waits ≡ 0

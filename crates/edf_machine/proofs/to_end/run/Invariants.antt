@@ -1,0 +1,24 @@
+use Rattle.std.proofs.Common.{◌≡◌, ◌≤◌, ◌-◌, ◌++◌, List, ℕ}
+use Rattle.std.specs.Prelude.{All}
+use Rattle.outside.specs.Outside.{Appends}
+use Rattle.event_log.specs.InRange.{AreIn}
+use Rattle.edf_machine.specs.Standing.{StandsIn}
+use Rattle.vm_releases.specs.Begin.{script_of}
+use Rattle.edf_machine.specs.Coming.{coming, log_to_come}
+use Rattle.edf_machine.proofs.to_end.run.Given as goal
+
+abbrev pub ghost-advance_row : goal.ghost-advance_row
+ghost-advance_row g a = g.image
+
+abbrev pub invariant-loop-text : goal.invariant-loop-text
+invariant-loop-text g l = record {
+  stands : StandsIn g.image (script_of l.script) l.machine;
+  lines : All (AreIn l.names) (coming g.image (script_of l.script) l.machine.tick);
+  end : l.end ≡ l.script.end;
+  taken : (before : List ℕ) × Appends (g.O.Sink.state l.fn.out).taken (g.O.Sink.state l.out).taken before × (log_to_come g.image (script_of l.script) l.names l.fn.machine.tick ≡ before ++ log_to_come g.image (script_of l.script) l.names l.machine.tick);
+  count : (g.O.Sink.state l.fn.out).faults ≤ (g.O.Sink.state l.out).faults;
+  quiet : (g.O.Sink.state l.out).faults ≡ (g.O.Sink.state l.fn.out).faults;
+}
+
+abbrev pub decreases-loop-text : goal.decreases-loop-text
+decreases-loop-text g l = l.end - l.machine.tick

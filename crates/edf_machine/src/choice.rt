@@ -1,0 +1,191 @@
+//! Which process runs.
+
+ghost use Rattle.std.specs.Prelude.{◌≡◌, false, map, true};
+ghost use Rattle.edf_semantics.specs.Choice.{choose, is_sooner, lesser, may_go, place_of, sooner_of, taken, with_inside};
+ghost use Rattle.machine_semantics.specs.Image.{Image, Monitor};
+ghost use Rattle.vm_state.specs.Board.{IsBoardOf, state_of};
+ghost use Rattle.vm_state.specs.Plan.{IsOf};
+ghost use Rattle.edf_machine.specs.Marks.{AreMarks, Marking};
+ghost use Rattle.edf_machine.specs.Sights.{IsCeiling, Looks, entry_of, entry_some};
+
+use crate::marks::Mark;
+use vm_state::{Board, Cell, Plan, Process, Stand};
+
+/// A ready process: its number, the tick of its deadline, its rank, and whether its activation has
+/// had a tick.
+#[derive(Clone, Copy)]
+pub struct Found {
+    place: usize,
+    due: u64,
+    rank: u16,
+    begun: bool,
+}
+
+/// What was seen of the processes that were looked at: the first of those that are ready, the first
+/// of those that have begun, and the least ceiling of a monitor that somebody is inside.
+#[derive(Clone, Copy)]
+pub struct Sight {
+    first: Option<Found>,
+    begun: Option<Found>,
+    least: Option<u16>,
+}
+
+/// Whether the first comes before: its deadline is sooner, or the same and its rank is less.
+#[inline(always)]
+fn is_sooner(a: &Found, b: &Found) -> bool
+    ensures { result ≡ is_sooner (entry_of a.now) (entry_of b.now) }
+{
+    a.due < b.due || (a.due == b.due && a.rank < b.rank)
+}
+
+/// The one that comes before; of two alike the first.
+#[inline(always)]
+fn sooner_of(a: Found, best: Option<Found>) -> Option<Found>
+    ensures { entry_some result ≡ sooner_of (entry_of a) (entry_some best) }
+{
+    match best {
+        Some(b) => { if is_sooner(&b, &a) { Some(b) } else { Some(a) } }
+        None => Some(a),
+    }
+}
+
+/// The lesser of a ceiling and another, if there is one.
+#[inline(always)]
+fn lesser(ceiling: u16, least: Option<u16>) -> Option<u16>
+    ensures { result ≡ lesser ceiling least }
+{
+    match least {
+        Some(other) => {
+            if other < ceiling {
+                Some(other)
+            } else {
+                Some(ceiling)
+            }
+        }
+        None => Some(ceiling),
+    }
+}
+
+/// The ceiling of a monitor; 0 where there is none.
+#[inline(always)]
+fn ceiling_of(ceilings: &[u16], monitor: u16) -> u16
+    ensures { IsCeiling ceilings.now monitor result }
+{
+    let place = usize::from(monitor);
+    if place < ceilings.len() {
+        return ceilings[place];
+    }
+    0
+}
+
+/// The least ceiling, with that of the monitor that a process is inside.
+#[inline(always)]
+fn with_inside(ceilings: &[u16], inside: Option<u16>, least: Option<u16>) -> Option<u16>
+    ensures { (image : Image) → map (λ (m : Monitor). m.ceiling) image.monitors ≡ ceilings.now →
+        result ≡ with_inside image inside least }
+{
+    match inside {
+        Some(monitor) => lesser(ceiling_of(ceilings, monitor), least),
+        None => least,
+    }
+}
+
+/// The first of those that have begun, with a process.
+#[inline(always)]
+fn with_begun(found: Found, begun: Option<Found>) -> Option<Found>
+    ensures yes { found.begun ≡ true →
+        entry_some result ≡ sooner_of (entry_of found) (entry_some begun) }
+    ensures no { found.begun ≡ false → entry_some result ≡ entry_some begun }
+{
+    if !found.begun {
+        return begun;
+    }
+    sooner_of(found, begun)
+}
+
+/// What is seen once a process is looked at too, after all those with greater numbers.
+#[inline(always)]
+fn look(
+    plan: &Plan,
+    process: &Process,
+    cell: &Cell,
+    mark: &Mark,
+    place: usize,
+    sight: Sight,
+) -> Sight
+    ensures { Looks plan.now process.now cell.now mark.now place sight result }
+{
+    let Stand::Ready = cell.stand else {
+        return sight;
+    };
+    let found = Found {
+        place,
+        due: mark.due,
+        rank: process.rank,
+        begun: mark.begun,
+    };
+    Sight {
+        first: sooner_of(found, sight.first),
+        begun: with_begun(found, sight.begun),
+        least: with_inside(&plan.ceilings, cell.job.inside, sight.least),
+    }
+}
+
+/// Whether a process may go: its activation has had a tick, or no monitor is occupied, or its rank
+/// is below the least ceiling.
+fn may_go(found: &Found, least: Option<u16>) -> bool
+    ensures { result ≡ may_go (entry_of found.now) least }
+{
+    match least {
+        Some(ceiling) => found.begun || found.rank < ceiling,
+        None => true,
+    }
+}
+
+/// The first that is ready, if it may go; else the first of those that have begun.
+fn taken(sight: Sight) -> Option<usize>
+    ensures { result ≡
+        taken sight.least (place_of (entry_some sight.begun)) (entry_some sight.first) }
+{
+    let Some(first) = sight.first else {
+        return None;
+    };
+    if may_go(&first, sight.least) {
+        return Some(first.place);
+    }
+    match sight.begun {
+        Some(found) => Some(found.place),
+        None => None,
+    }
+}
+
+/// The process that is chosen: of those that are ready the one with the soonest deadline, of two
+/// alike the one of the less rank, if its activation has had a tick, or no monitor is occupied, or
+/// its rank is below the least ceiling of those that are; else the first in this order whose
+/// activation has had a tick. `None` where there is none.
+pub fn choose(plan: &Plan, board: &Board, marks: &[Mark]) -> Option<usize>
+    ghost at: { Marking }
+    requires plan { IsOf at.image plan.now }
+    requires board { IsBoardOf at.image board.now }
+    requires marks { AreMarks at.image marks.now at.marks }
+    ensures { result ≡ choose at.image (state_of board.now).threads at.marks }
+{
+    let mut sight = Sight {
+        first: None,
+        begun: None,
+        least: None,
+    };
+    let mut place = marks.len();
+    'all: while place > 0 {
+        place -= 1;
+        sight = look(
+            plan,
+            &plan.processes[place],
+            &board.cells[place],
+            &marks[place],
+            place,
+            sight,
+        );
+    }
+    taken(sight)
+}

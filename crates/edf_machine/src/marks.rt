@@ -1,0 +1,102 @@
+//! What the choice knows of each process.
+
+ghost use Rattle.std.specs.Prelude.{◌≡◌, ◌<◌, ◌^◌, IfOk, length, map};
+ghost use Rattle.vm_state.specs.Threads.{thread_of};
+ghost use Rattle.edf_semantics.specs.Choice.{Mark as Known};
+ghost use Rattle.edf_semantics.specs.Run.{begin, mark_of, marks_of};
+ghost use Rattle.machine_semantics.specs.Image.{Process};
+ghost use Rattle.machine_semantics.specs.State.{Thread};
+ghost use Rattle.vm_state.specs.Board.{state_of};
+ghost use Rattle.edf_machine.specs.Marks.{AreMarks, AreNoted, IsMark, Marking, first_kept, is_idle};
+
+use std::alloc::{AllocError, Global};
+use vm_state::{Board, Cell, Stand};
+
+/// What the choice knows of a process beside where it stands.
+#[derive(Clone, Copy)]
+pub struct Mark {
+    /// The ticks from a release to its deadline.
+    pub deadline: u32,
+    /// The tick of the deadline of the activation.
+    pub due: u64,
+    /// Whether the activation has had a tick.
+    pub begun: bool,
+    /// Whether the process was idle when that was noted last.
+    pub idle: bool,
+}
+
+/// By process its mark before the first tick, of its deadline in ticks. An error says that memory
+/// is short.
+pub fn first_marks(alloc: Global, deadlines: &[u32]) -> Result<Vec<Mark>, AllocError>
+    ensures { IfOk result (λ marks. marks.items ≡ map first_kept deadlines.now) }
+{
+    let mut marks = Vec::with_capacity(alloc, deadlines.len())?;
+    for deadline in deadlines {
+        marks.push(Mark {
+            deadline: *deadline,
+            due: u64::from(*deadline),
+            begun: false,
+            idle: true,
+        })?;
+    }
+    Ok(marks)
+}
+
+/// Notes whether a process is idle.
+fn note(mark: &mut Mark, cell: &Cell)
+    ensures { mark.new ≡ record mark.old { idle = is_idle (thread_of cell.now) } }
+{
+    mark.idle = matches!(cell.stand, Stand::Idle);
+}
+
+/// Notes which processes are idle, before the start events of a tick.
+pub fn note_idle(board: &Board, marks: &mut Vec<Mark>)
+    ghost at: { Marking }
+    requires marks { AreMarks at.image marks.old.items at.marks }
+    requires cells { length board.now.cells.items ≡ length at.image.processes }
+    ensures marks { AreMarks at.image marks.new.items at.marks }
+    ensures noted { AreNoted (state_of board.now).threads marks.new.items }
+{
+    for place in 0..board.cells.len() {
+        note(&mut marks[place], &board.cells[place]);
+    }
+}
+
+/// An activation is due so many ticks after its release.
+fn release(mark: &mut Mark, cell: &Cell, tick: u64)
+    requires { tick < 2 ^ 63 }
+    ensures { (p : Process) (old : Thread) (m : Known) → IsMark p mark.old m →
+        mark.old.idle ≡ is_idle old →
+        IsMark p mark.new (mark_of tick old (thread_of cell.now) m) }
+{
+    if mark.idle && matches!(cell.stand, Stand::Ready) {
+        mark.due = tick + u64::from(mark.deadline);
+        mark.begun = false;
+    }
+}
+
+/// Marks the releases of a tick, after its start events.
+pub fn mark_releases(board: &Board, marks: &mut Vec<Mark>, tick: u64)
+    ghost at: { Marking }
+    requires marks { AreMarks at.image marks.old.items at.marks }
+    requires noted { AreNoted at.olds marks.old.items }
+    requires olds { length at.olds ≡ length at.image.processes }
+    requires cells { length board.now.cells.items ≡ length at.image.processes }
+    requires tick { tick < 2 ^ 63 }
+    ensures { AreMarks at.image marks.new.items
+        (marks_of tick at.olds (state_of board.now).threads at.marks) }
+{
+    for place in 0..board.cells.len() {
+        release(&mut marks[place], &board.cells[place], tick);
+    }
+}
+
+/// Marks that the activation of a process has had a tick.
+pub fn mark_begun(marks: &mut Vec<Mark>, place: usize)
+    ghost at: { Marking }
+    requires marks { AreMarks at.image marks.old.items at.marks }
+    requires place { place < length at.image.processes }
+    ensures { AreMarks at.image marks.new.items (begin place at.marks) }
+{
+    marks[place].begun = true;
+}

@@ -1,0 +1,21 @@
+//! How long nothing starts.
+
+ghost use Rattle.std.specs.Prelude.{◌≡◌, ◌≤◌, ◌<◌, ◌+◌};
+ghost use Rattle.vm_stretch.specs.StretchDue.{NoneBefore};
+
+use vm_releases::Agenda;
+
+/// The ticks from this one up to the end or to the next at which something is due.
+#[inline(always)]
+pub(crate) fn span(agenda: &Agenda, tick: u64, end: u64) -> u64
+    requires before { tick < end }
+    requires later { NoneBefore (tick + 1) agenda.now.slots }
+    ensures some { 1 ≤ result }
+    ensures within { tick + result ≤ end }
+    ensures clear { NoneBefore (tick + result) agenda.now.slots }
+{
+    match agenda.next_due() {
+        Some(due) => due.min(end) - tick,
+        None => end - tick,
+    }
+}

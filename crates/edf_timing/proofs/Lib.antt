@@ -1,0 +1,11 @@
+pub mod Caps
+pub mod Counts
+pub mod Sights
+pub mod Logging
+pub mod Meeting
+pub mod Two
+pub mod Phases
+pub mod Starts
+pub mod Ticks
+pub mod Run
+pub mod Kept

@@ -1,0 +1,3 @@
+pub mod InTime
+pub mod Example
+pub mod Runs

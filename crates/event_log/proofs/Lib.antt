@@ -1,0 +1,7 @@
+pub mod Parts
+pub mod Names
+pub mod Finding
+pub mod Acts
+pub mod LinesLemmas
+pub mod Reading
+pub mod Once

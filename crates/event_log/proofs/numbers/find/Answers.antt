@@ -1,0 +1,5 @@
+use Rattle.std.proofs.Common.{◌∙◌}
+use Rattle.event_log.proofs.numbers.find.Goals as goal
+
+pub returns : goal.returns
+returns c = c.copied.ensures ∙ c.get.ensures.value

@@ -1,0 +1,26 @@
+-- Numbers of names in maps.
+use Rattle.std.specs.Prelude.{◌≡◌, ◌≢◌, ◌<◌, ℕ, List, length, Option, Some, None, nat_eq}
+use Rattle.std.specs.Borrow.{Bor}
+use Rattle.std.specs.Map.{lookup}
+use Rattle.std.specs.Cmp.Lexicographic.{pointwise}
+use Rattle.event_log.specs.declared.find.Named.{Named}
+use Rattle.event_log.specs.Line.{condition_name, device_name, monitor_name, process_name}
+
+-- the number of a name in a map
+abbrev pub number_in : List (Bor (List ℕ) × ℕ) → List ℕ → Option ℕ
+number_in entries name = lookup (λ key. pointwise nat_eq name key.now) entries
+
+-- below the count it is the number of something of this name, or there is none
+abbrev pub IsNumber : Option ℕ → ℕ → (ℕ → List ℕ) → List ℕ → Type 0
+IsNumber None count name q = (k : ℕ) → k < count → name k ≢ q
+IsNumber (Some k) count name q = (k < count) × (name k ≡ q)
+
+abbrev pub AreNumbers : List (Bor (List ℕ) × ℕ) → ℕ → (ℕ → List ℕ) → Type 0
+AreNumbers entries count name = (q : List ℕ) → IsNumber (number_in entries q) count name q
+
+-- the maps have the numbers of the names
+pub record AreFound (named : Named) : Type 0 where
+  pub processes_found : AreNumbers named.processes.entries (length named.names.now.processes) (process_name named.names.now)
+  pub monitors_found : AreNumbers named.monitors.entries (length named.names.now.monitors) (monitor_name named.names.now)
+  pub conditions_found : AreNumbers named.conditions.entries (length named.names.now.conditions) (condition_name named.names.now)
+  pub devices_found : AreNumbers named.devices.entries (length named.names.now.devices) (device_name named.names.now)

@@ -1,0 +1,6 @@
+pub mod InRange
+pub mod Line
+pub mod Logs
+pub mod Parts
+pub mod Finding
+pub mod LogReading

@@ -1,0 +1,80 @@
+//! Numbers of what a line names.
+
+ghost use Rattle.std.specs.Prelude.{◌≡◌, ◌≢◌, ◌<◌, ℕ, length, IfSome, IfNone};
+ghost use Rattle.event_log.specs.Line.{condition_name, device_name, monitor_name, process_name};
+ghost use Rattle.event_log.specs.Finding.{AreFound};
+
+use crate::numbers::{Numbers, find};
+use image::ImageNames;
+use text_fields::is_same;
+
+/// Names, and their numbers by name. A condition's name stands behind that of its monitor.
+#[derive(Drop)]
+pub struct Named<'a, 't> {
+    pub names: &'a ImageNames,
+    pub processes: Numbers<'a>,
+    pub monitors: Numbers<'a>,
+    pub conditions: Numbers<'t>,
+    pub devices: Numbers<'a>,
+}
+
+/// The number of the process of this name.
+pub fn find_process(names: &Named<'_, '_>, word: &[u8]) -> Option<u16>
+    requires { AreFound names.now }
+    ensures within { IfSome result (λ k. k < length names.now.names.now.processes) }
+    ensures found { IfSome result (λ k. process_name names.now.names.now k ≡ word.now) }
+    ensures none { IfNone result ((k : ℕ) → k < length names.now.names.now.processes →
+        process_name names.now.names.now k ≢ word.now) }
+{
+    find(&names.processes, word)
+}
+
+/// The same, which tries the process of this number first: lines of one process often stand
+/// together.
+pub fn find_near(names: &Named<'_, '_>, word: &[u8], near: u16) -> Option<u16>
+    requires { AreFound names.now }
+    ensures within { IfSome result (λ k. k < length names.now.names.now.processes) }
+    ensures found { IfSome result (λ k. process_name names.now.names.now k ≡ word.now) }
+    ensures none { IfNone result ((k : ℕ) → k < length names.now.names.now.processes →
+        process_name names.now.names.now k ≢ word.now) }
+{
+    if let Some(name) = names.names.processes.get(usize::from(near)) {
+        if is_same(name.as_bytes(), word) {
+            return Some(near);
+        }
+    }
+    find_process(names, word)
+}
+
+/// The number of the monitor of this name.
+pub fn find_monitor(names: &Named<'_, '_>, word: &[u8]) -> Option<u16>
+    requires { AreFound names.now }
+    ensures within { IfSome result (λ m. m < length names.now.names.now.monitors) }
+    ensures found { IfSome result (λ m. monitor_name names.now.names.now m ≡ word.now) }
+    ensures none { IfNone result ((m : ℕ) → m < length names.now.names.now.monitors →
+        monitor_name names.now.names.now m ≢ word.now) }
+{
+    find(&names.monitors, word)
+}
+
+/// The number of the condition of this name, which stands behind that of its monitor.
+pub fn find_condition(names: &Named<'_, '_>, word: &[u8]) -> Option<u16>
+    requires { AreFound names.now }
+    ensures within { IfSome result (λ c. c < length names.now.names.now.conditions) }
+    ensures found { IfSome result (λ c. condition_name names.now.names.now c ≡ word.now) }
+    ensures none { IfNone result ((c : ℕ) → c < length names.now.names.now.conditions →
+        condition_name names.now.names.now c ≢ word.now) }
+{
+    find(&names.conditions, word)
+}
+
+/// The number of the device of this name.
+pub fn find_device(names: &Named<'_, '_>, word: &[u8]) -> Option<u16>
+    requires { AreFound names.now }
+    ensures within { IfSome result (λ d. d < length names.now.names.now.devices) }
+    ensures found { IfSome result (λ d. device_name names.now.names.now d ≡ word.now) }
+    ensures none { IfNone result ((d : ℕ) → d < length names.now.names.now.devices →
+        device_name names.now.names.now d ≢ word.now) }
+{
+    find(&names.devices, word)
+}

@@ -1,0 +1,41 @@
+//! One line of a log.
+
+ghost use Rattle.std.specs.Prelude.{IfSome, IfNone};
+ghost use Rattle.base.specs.declared.event.Event.{Event as Event_spec};
+ghost use Rattle.event_log.specs.Finding.{AreFound};
+ghost use Rattle.event_log.specs.Logs.{AreWords, Tells};
+
+use crate::act::read_act;
+use crate::find::{Named, find_near};
+use base::Event;
+use text_fields::{cut_at, unsigned};
+
+/// The greatest tick of a line.
+const LAST_TICK: u64 = 999_999_999;
+
+/// The event that a line tells, which is given without its LF; None where it tells none. The
+/// process of the number is tried first.
+pub fn read_line(line: &[u8], names: &Named<'_, '_>, near: u16) -> Option<Event>
+    requires words { AreWords names.now.names.now }
+    requires found { AreFound names.now }
+    ensures found { IfSome result (λ event. Tells names.now.names.now line.now event) }
+    ensures none { IfNone result ((event : Event_spec) →
+        ¬ Tells names.now.names.now line.now event) }
+{
+    match cut_at(line, b' ') {
+        None => None,
+        Some(front) => match unsigned(front.before, LAST_TICK) {
+            None => None,
+            Some(tick) => match cut_at(front.after, b' ') {
+                None => None,
+                Some(parts) => match find_near(names, parts.before, near) {
+                    None => None,
+                    Some(proc) => match read_act(names, parts.after) {
+                        None => None,
+                        Some(act) => Some(Event { tick, proc, act }),
+                    },
+                },
+            },
+        },
+    }
+}

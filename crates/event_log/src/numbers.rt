@@ -1,0 +1,82 @@
+//! Numbers of names.
+
+ghost use Rattle.std.specs.Prelude.{◌≡◌, ◌≤◌, ◌<◌, ◌^◌, ◌++◌, ℕ, [], ◌∷◌, length, slice_get, unwrap_or, IfOk, OnOk};
+ghost use Rattle.event_log.specs.Line.{condition_name, device_name, monitor_name};
+ghost use Rattle.event_log.specs.Logs.{AreFew, AreWords};
+ghost use Rattle.event_log.specs.Finding.{AreNumbers, number_in};
+
+use image::{CondName, ImageNames};
+use indexmap::IndexMap;
+use std::alloc::{AllocError, Global};
+use syntax_tree::{List, Name};
+
+/// Numbers by name.
+pub type Numbers<'a> = IndexMap<&'a [u8], u16>;
+
+/// The number of a name.
+pub fn find(numbers: &Numbers<'_>, name: &[u8]) -> Option<u16>
+    ensures { result ≡ number_in numbers.now.entries name.now }
+{
+    numbers.get(name).copied()
+}
+
+/// The numbers of these names; of two that are the same, that of the later.
+pub fn numbers_of<'a>(alloc: Global, list: &'a [Name]) -> Result<Numbers<'a>, AllocError>
+    requires { length list.now ≤ 2 ^ 16 }
+    ensures { IfOk result (λ numbers.
+        AreNumbers numbers.entries (length list.now) (λ k. unwrap_or (slice_get list.now k) [])) }
+{
+    let mut numbers = Numbers::new(alloc);
+    for (k, name) in list.iter().enumerate() {
+        numbers.insert(name.as_bytes(), k as u16)?;
+    }
+    Ok(numbers)
+}
+
+/// The numbers of the devices.
+pub fn device_numbers<'a>(alloc: Global, names: &'a ImageNames) -> Result<Numbers<'a>, AllocError>
+    requires { length names.now.devices ≤ 2 ^ 16 }
+    ensures { IfOk result (λ numbers.
+        AreNumbers numbers.entries (length names.now.devices) (device_name names.now)) }
+{
+    let devices = names.devices.as_slice();
+    let mut numbers = Numbers::new(alloc);
+    for (k, device) in devices.iter().enumerate() {
+        numbers.insert(device.name.as_bytes(), k as u16)?;
+    }
+    Ok(numbers)
+}
+
+/// The name of a monitor.
+fn monitor_of(names: &ImageNames, number: u16) -> &[u8]
+    requires { number < length names.now.monitors }
+    ensures { result.now ≡ monitor_name names.now number }
+{
+    names.monitors.as_slice()[number as usize].as_bytes()
+}
+
+/// The name of a condition behind that of its monitor.
+fn qualified_name(alloc: Global, monitor: &[u8], name: &[u8]) -> Result<Name, AllocError>
+    ensures { IfOk result (λ text. text ≡ monitor.now ++ 32 ∷ name.now) }
+{
+    let mut text = Vec::new(alloc);
+    text.extend_from_slice(monitor)?;
+    text.push(b' ')?;
+    text.extend_from_slice(name)?;
+    Name::new(alloc, text.as_slice())
+}
+
+/// The names of the conditions behind those of their monitors.
+pub fn qualified_names(alloc: Global, names: &ImageNames) -> Result<List<Name>, AllocError>
+    requires words { AreWords names.now }
+    ensures len { IfOk result (λ texts. length texts ≡ length names.now.conditions) }
+    ensures each { IfOk result (λ texts. (k : ℕ) → k < length names.now.conditions →
+        unwrap_or (slice_get texts k) [] ≡ condition_name names.now k) }
+{
+    let mut texts = List::new(alloc);
+    for condition in names.conditions.as_slice() {
+        let monitor = monitor_of(names, condition.mon);
+        texts.push(qualified_name(alloc, monitor, condition.name.as_bytes())?)?;
+    }
+    Ok(texts)
+}

@@ -1,0 +1,14 @@
+pub mod Small
+pub mod MineLemmas
+pub mod Nested
+pub mod Computed
+pub mod GeneratedLemmas
+pub mod Headline
+pub mod MeetingProper
+pub mod QuietExample
+pub mod MeetingFits
+pub mod Adding
+pub mod MadeWholeMeeting
+pub mod SoundExample
+pub mod MadeFitsMeeting
+pub mod RuledExample

@@ -1,0 +1,5 @@
+use Rattle.examples_law.proofs.Adding.{adding_is_image}
+use Rattle.examples_law.proofs.headline_example.adding_is_image.Goals as goal
+
+pub returns : goal.returns
+returns c = adding_is_image

@@ -1,0 +1,11 @@
+pub mod Examples
+pub mod Mine
+pub mod Nested
+pub mod Like
+pub mod Forms
+pub mod Generated
+pub mod Headline
+pub mod Adding
+pub mod QuietExample
+pub mod RuledExample
+pub mod SoundExample

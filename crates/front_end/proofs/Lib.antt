@@ -1,0 +1,4 @@
+pub mod Texts
+pub mod ProgramPrograms
+pub mod Sources
+pub mod ProgramLawsPrograms

@@ -1,0 +1,4 @@
+pub mod Source
+pub mod Program
+pub mod ProgramLaws
+pub mod OneFault

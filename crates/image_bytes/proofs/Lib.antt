@@ -1,0 +1,12 @@
+pub mod ManyNumbers
+pub mod Later
+pub mod Again
+pub mod PartsLemmas
+pub mod Lengths
+pub mod ImagePlacesPlaced
+pub mod Steps
+pub mod InstrsLemmas
+pub mod Whole
+pub mod Same
+pub mod ImageBytesPlaced
+pub mod Addresses

@@ -1,0 +1,24 @@
+//! Monitors.
+
+ghost use Rattle.std.specs.Prelude.{◌≡◌, true};
+ghost use Rattle.image.specs.Raw.{monitor_of};
+ghost use Rattle.image_bytes.specs.Reads.{MonitorIsRead};
+ghost use Rattle.image_reader.specs.Grammar.{monitor_format};
+
+use image::RawMon;
+
+/// Where its words begin and how many they are, and its ceiling.
+fn monitor_fits(monitor: &RawMon)
+    ensures { monitor_format.is (monitor_of monitor.now) ≡ true }
+{
+    let _base = monitor.base;
+    let _words = monitor.words;
+    let _ceiling = monitor.ceiling;
+}
+
+/// The bytes of a monitor are read as it is. The call does nothing.
+pub fn monitor_is_read(monitor: &RawMon)
+    ensures { MonitorIsRead (monitor_of monitor.now) }
+{
+    monitor_fits(monitor);
+}

@@ -1,0 +1,10 @@
+pub mod Booleans
+pub mod Sound
+pub mod SoundFields
+pub mod Alike
+pub mod Trees
+pub mod Rows
+pub mod PutRows
+pub mod TreeLoop
+pub mod Wholes
+pub mod Widest

@@ -1,0 +1,13 @@
+pub mod Numbers
+pub mod TreeBytes
+pub mod Format
+pub mod TreeFormat
+pub mod FormatLaw
+pub mod Gives
+pub mod Kept
+pub mod View
+pub mod TreeCode
+pub mod Rows
+pub mod Stands
+pub mod Items
+pub mod Whole

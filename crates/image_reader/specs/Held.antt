@@ -1,0 +1,27 @@
+-- What the code holds of the parts, as the format tells them.
+use Rattle.std.specs.Prelude.{List, ℕ, map}
+use Rattle.std.specs.List.{zip}
+use Rattle.machine_isa.specs.declared.instr.Instr.{Instr}
+use Rattle.machine_semantics.specs.Image.{Monitor, Routine, Process}
+use Rattle.image.specs.Raw.{monitor_of, process_of, routine_of}
+use Rattle.image.specs.declared.names.CondName.{CondName}
+use Rattle.image.specs.declared.names.DevName.{DevName}
+use Rattle.image_reader.specs.declared.image_reading_image.Guarded.{Guarded}
+use Rattle.image_reader.specs.File.{Parts}
+
+abbrev pub guarded_of : Guarded → List (List ℕ × Monitor) × (List CondName × (List Routine × (List (List ℕ × Process) × List Instr)))
+guarded_of g = (zip g.monitors.names (map monitor_of g.monitors.things), (g.conditions, (map routine_of g.work.routines, (zip g.work.processes.names (map process_of g.work.processes.things), g.work.code))))
+
+-- the parts that these are
+abbrev pub parts_with : ℕ → List ℕ → List DevName → List (List ℕ) → List (List ℕ × Monitor) × (List CondName × (List Routine × (List (List ℕ × Process) × List Instr))) → Parts
+parts_with over program devices events rest = record {
+  over = over;
+  program = program;
+  devices = devices;
+  events = events;
+  monitors = rest.0;
+  conditions = rest.1.0;
+  routines = rest.1.1.0;
+  processes = rest.1.1.1.0;
+  code = rest.1.1.1.1;
+}

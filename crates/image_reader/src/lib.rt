@@ -1,0 +1,25 @@
+//! Reader.
+//!
+//! Images as they are read: the bytes of a file, in either version, or their first fault.
+//!
+//! `specs/Grammar.antt` and `specs/File.antt` say which fields an image has, in the order of its
+//! bytes, each with its range and the number of the fault where it is outside; a fault stands where
+//! its field begins, and fields are read from left to right, so the first one read is the one at
+//! the least offset. `read_image` answers exactly what these formats give.
+#![tactic(auto)]
+
+mod counts;
+mod fault;
+mod fields;
+mod image_reading_image;
+mod instr;
+mod lists;
+mod named;
+mod names;
+mod parts;
+mod process;
+mod taken;
+mod trees;
+
+pub use fault::ImageFault;
+pub use image_reading_image::read_image;

@@ -1,0 +1,305 @@
+//! Processes that the bytes begin with.
+
+ghost use Rattle.std.specs.Prelude.{◌≡◌, ◌&&◌, nat_lt, length, map};
+ghost use Rattle.image.specs.Bytes.{Version};
+ghost use Rattle.image.specs.Raw.{process_of};
+ghost use Rattle.image_reader.specs.Versions.{in_version};
+ghost use Rattle.image_format.specs.Gives.{Gives};
+ghost use Rattle.image_format.specs.Format.{checked, u16 as two_bytes, unless};
+ghost use Rattle.image_format.specs.TreeFormat.{u32_within as long_within};
+ghost use Rattle.image_reader.specs.Grammar.{deadline_format, handler_format, handler_tree_format, is_taken, numbers_format, process_format, release_format, room_format, time_format, wrong_event, wrong_first};
+
+use crate::counts::Counts;
+use crate::fields::cost_at;
+use crate::parts::{DEEPEST, kind_at};
+use crate::trees::tree_at;
+use image::RawProc;
+use image_format::{Fault, ReadError, SegTree, u16_at, u32_at, u32_within};
+use std::alloc::Global;
+use syntax_tree::List;
+
+/// The longest time within which an activation may have to end.
+const LONGEST_FRAME: u32 = 1_000_000_000;
+
+/// Within how many ticks an activation has to end, where that stands, in bytes with deadlines; else
+/// the frame.
+fn deadline_at(bytes: &[u8], has_deadlines: bool, frame: u32) -> Result<(u32, &[u8]), ReadError>
+    ensures { Gives (λ x. (x.0, x.1.now)) result
+        ((deadline_format (in_version has_deadlines) frame).read bytes.now) }
+{
+    if has_deadlines {
+        Ok(u32_within(bytes, 10, frame)?)
+    } else {
+        Ok((frame, bytes))
+    }
+}
+
+/// The first activation of a process of the kind.
+fn first_at(bytes: &[u8], kind: u8) -> Result<(u32, &[u8]), ReadError>
+    ensures { Gives (λ x. (x.0, x.1.now)) result
+        ((checked (long_within 0 1000000000) (wrong_first kind)).read bytes.now) }
+{
+    let (first, rest) = u32_within(bytes, 0, LONGEST_FRAME)?;
+    if kind == 0 || first == 0 {
+        Ok((first, rest))
+    } else {
+        Err(ReadError::Fault(Fault {
+            number: 7,
+            left: bytes.len(),
+        }))
+    }
+}
+
+/// What is wrong with the event of a process of the kind, where these events are used.
+fn event_fault(events: u16, used: &[u16], kind: u8, event: u16) -> Option<u8>
+    ensures { result ≡ wrong_event events used.now kind event }
+{
+    let (is_right, number) = match kind {
+        0 => (event == 0, 7),
+        _ => (event < events && !used.contains(&event), 4),
+    };
+    if is_right { None } else { Some(number) }
+}
+
+/// The event of a process of the kind.
+fn event_at<'a>(
+    bytes: &'a [u8],
+    events: u16,
+    used: &[u16],
+    kind: u8,
+) -> Result<(u16, &'a [u8]), ReadError>
+    ensures { Gives (λ x. (x.0, x.1.now)) result
+        ((checked two_bytes (wrong_event events used.now kind)).read bytes.now) }
+{
+    let (event, rest) = u16_at(bytes)?;
+    match event_fault(events, used, kind, event) {
+        None => Ok((event, rest)),
+        Some(number) => Err(ReadError::Fault(Fault {
+            number,
+            left: bytes.len(),
+        })),
+    }
+}
+
+/// When a process is released, within what it has to end, and its rank.
+#[derive(Clone, Copy)]
+struct Release {
+    kind: u8,
+    frame: u32,
+    deadline: u32,
+    first: u32,
+    event: u16,
+    rank: u16,
+}
+
+fn release_at<'a>(
+    bytes: &'a [u8],
+    has_deadlines: bool,
+    events: u16,
+    used: &[u16],
+) -> Result<(Release, &'a [u8]), ReadError>
+    ensures { Gives (λ x. (
+      (
+        x.0.kind,
+        (
+          x.0.frame,
+          (x.0.deadline, (x.0.first, (x.0.event, x.0.rank))),
+        ),
+      ),
+      x.1.now,
+    )) result
+        ((release_format (in_version has_deadlines) events used.now).read bytes.now) }
+{
+    let (kind, rest) = kind_at(bytes, 1)?;
+    let (frame, rest) = u32_within(rest, 10, LONGEST_FRAME)?;
+    let (deadline, rest) = deadline_at(rest, has_deadlines, frame)?;
+    let (first, rest) = first_at(rest, kind)?;
+    let (event, rest) = event_at(rest, events, used, kind)?;
+    let (rank, rest) = u16_at(rest)?;
+    Ok((
+        Release {
+            kind,
+            frame,
+            deadline,
+            first,
+            event,
+            rank,
+        },
+        rest,
+    ))
+}
+
+/// What a process takes of time.
+#[derive(Clone, Copy)]
+struct Time {
+    run: u32,
+    susp: u32,
+    waits: u32,
+    block: u32,
+    bound: u32,
+}
+
+fn time_at(bytes: &[u8]) -> Result<(Time, &[u8]), ReadError>
+    ensures { Gives (λ x. ((x.0.run, (x.0.susp, (x.0.waits, (x.0.block, x.0.bound)))), x.1.now))
+        result (time_format.read bytes.now) }
+{
+    let (run, rest) = cost_at(bytes)?;
+    let (susp, rest) = cost_at(rest)?;
+    let (waits, rest) = cost_at(rest)?;
+    let (block, rest) = cost_at(rest)?;
+    let (bound, rest) = u32_within(rest, 1, LONGEST_FRAME)?;
+    Ok((
+        Time {
+            run,
+            susp,
+            waits,
+            block,
+            bound,
+        },
+        rest,
+    ))
+}
+
+/// What a process takes of memory, and where its body stands.
+#[derive(Clone, Copy)]
+struct Room {
+    words: u32,
+    stack: u32,
+    locals: u32,
+    start: u32,
+}
+
+fn room_at(bytes: &[u8]) -> Result<(Room, &[u8]), ReadError>
+    ensures { Gives (λ x. ((x.0.words, (x.0.stack, (x.0.locals, x.0.start))), x.1.now)) result
+        (room_format.read bytes.now) }
+{
+    let (words, rest) = u32_at(bytes)?;
+    let (stack, rest) = u32_within(rest, 0, 4096)?;
+    let (locals, rest) = u32_within(rest, 0, 4096)?;
+    let (start, rest) = u32_at(rest)?;
+    Ok((
+        Room {
+            words,
+            stack,
+            locals,
+            start,
+        },
+        rest,
+    ))
+}
+
+/// The address of a handler, and how many numbers it takes.
+fn handler_at(bytes: &[u8]) -> Result<((u32, u16), &[u8]), ReadError>
+    ensures { Gives (λ x. (x.0, x.1.now)) result (handler_format.read bytes.now) }
+{
+    let (handler, rest) = u32_at(bytes)?;
+    let (count, rest) = u16_at(rest)?;
+    if 0 < count || handler == 0 {
+        Ok(((handler, count), rest))
+    } else {
+        Err(ReadError::Fault(Fault {
+            number: 7,
+            left: bytes.len(),
+        }))
+    }
+}
+
+/// Whether a handler may take the number.
+fn may_be_taken(number: u16) -> bool
+    ensures { result ≡ is_taken number }
+{
+    (1 <= number && number <= 4) || (10 <= number && number <= 999)
+}
+
+/// A number of a handler, after the last one or after 0.
+fn number_at(bytes: &[u8], last: u16) -> Result<(u16, &[u8]), ReadError>
+    ensures { Gives (λ x. (x.0, x.1.now)) result
+        ((checked two_bytes (λ n. unless (nat_lt last n && is_taken n) 8)).read bytes.now) }
+{
+    let (number, rest) = u16_at(bytes)?;
+    if last < number && may_be_taken(number) {
+        Ok((number, rest))
+    } else {
+        Err(ReadError::Fault(Fault {
+            number: 8,
+            left: bytes.len(),
+        }))
+    }
+}
+
+/// The numbers that a handler takes.
+fn numbers_at(alloc: Global, bytes: &[u8], count: u16) -> Result<(List<u16>, &[u8]), ReadError>
+    ensures { Gives (λ x. (x.0, x.1.now)) result ((numbers_format count).read bytes.now) }
+{
+    let mut numbers = List::new(alloc);
+    let mut rest = bytes;
+    let mut last = 0;
+    for _ in 0..count {
+        let (number, after) = number_at(rest, last)?;
+        numbers.push(number)?;
+        last = number;
+        rest = after;
+    }
+    Ok((numbers, rest))
+}
+
+/// The tree of a handler that takes so many numbers.
+fn handler_tree_at(
+    alloc: Global,
+    bytes: &[u8],
+    monitors: u16,
+    count: u16,
+) -> Result<(Option<SegTree>, &[u8]), ReadError>
+    ensures { Gives (λ x. (x.0, x.1.now)) result
+        ((handler_tree_format monitors count).read bytes.now) }
+{
+    if count == 0 {
+        return Ok((None, bytes));
+    }
+    let (tree, rest) = tree_at(alloc, monitors, DEEPEST, bytes)?;
+    Ok((Some(tree), rest))
+}
+
+/// A process, after its name.
+pub fn process_at<'a>(
+    alloc: Global,
+    bytes: &'a [u8],
+    has_deadlines: bool,
+    counts: &Counts,
+    used: &[u16],
+) -> Result<(RawProc, &'a [u8]), ReadError>
+    ensures { Gives (λ x. (process_of x.0, x.1.now)) result
+        ((process_format (in_version has_deadlines) counts.now used.now).read bytes.now) }
+{
+    let (release, rest) = release_at(bytes, has_deadlines, counts.events, used)?;
+    let (time, rest) = time_at(rest)?;
+    let (room, rest) = room_at(rest)?;
+    let ((handler, count), rest) = handler_at(rest)?;
+    let (numbers, rest) = numbers_at(alloc, rest, count)?;
+    let (body, rest) = tree_at(alloc, counts.monitors, DEEPEST, rest)?;
+    let (handler_tree, rest) = handler_tree_at(alloc, rest, counts.monitors, count)?;
+    Ok((
+        RawProc {
+            kind: release.kind,
+            frame: release.frame,
+            deadline: release.deadline,
+            first: release.first,
+            event: release.event,
+            rank: release.rank,
+            run: time.run,
+            susp: time.susp,
+            waits: time.waits,
+            block: time.block,
+            bound: time.bound,
+            words: room.words,
+            stack: room.stack,
+            locals: room.locals,
+            start: room.start,
+            handler,
+            numbers,
+            body,
+            handler_tree,
+        },
+        rest,
+    ))
+}

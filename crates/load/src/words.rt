@@ -1,0 +1,17 @@
+//! Words and numbers at the end of a text. After an error the text may hold a part of what was to
+//! be put.
+
+ghost use Rattle.std.specs.Prelude.{◌≡◌, ◌++◌, decimal, OnOk};
+
+use itoa::Buffer;
+use std::alloc::AllocError;
+use syntax_tree::Text;
+
+/// Puts some words and a number at the end of a text.
+pub fn add_number(text: &mut Text, words: &str, number: u64) -> Result<(), AllocError>
+    ensures { OnOk result (text.new ≡ text.old ++ (words.now ++ decimal number)) }
+{
+    let mut buffer = Buffer::new();
+    text.extend(words.as_bytes())?;
+    text.extend(buffer.format(number).as_bytes())
+}

@@ -1,0 +1,4 @@
+pub mod Rules
+pub mod Time
+pub mod Texts
+pub mod Light

@@ -1,0 +1,11 @@
+pub mod Rows
+pub mod Alike
+pub mod Shaping
+pub mod Kept
+pub mod Bodies
+pub mod Needs
+pub mod Waiting
+pub mod Deadlines
+pub mod InOrder
+pub mod Declared
+pub mod Order

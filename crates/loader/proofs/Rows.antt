@@ -1,0 +1,97 @@
+-- Lists by their elements, and what a table from below is.
+use Rattle.std.proofs.Common.{◌≡◌, ◌≤◌, ◌<◌, ◌+◌, ◌++◌, ℕ, zero, suc, List, [], ◌∷◌, length, Some, None, arith, refl, ap, sym, subst, ◌∙◌}
+use Rattle.std.specs.Prelude.{take, slice_get}
+use Rattle.std.proofs.lemmas.List.{length-take-le}
+use Rattle.valid_image.specs.Tables.{table}
+
+-- ---- lists
+
+pub some_at : {A : Type 0} (xs : List A) (j : ℕ) → j < length xs → (x : A) × (slice_get xs j ≡ Some x)
+some_at [] j low = absurd (omega (arith, low))
+some_at (x ∷ xs) zero low = (x, refl)
+some_at (x ∷ xs) (suc j) low = some_at xs j (omega (arith, low))
+
+-- the elements before a place
+pub take_get : {A : Type 0} (n j : ℕ) (xs : List A) → j < n → slice_get (take n xs) j ≡ slice_get xs j
+take_get zero j xs low = absurd (omega (arith, low))
+take_get (suc n) j [] low = refl
+take_get (suc n) zero (x ∷ xs) low = refl
+take_get (suc n) (suc j) (x ∷ xs) low = take_get n j xs (omega (arith, low))
+
+pub take_past : {A : Type 0} (n j : ℕ) (xs : List A) → n ≤ j → slice_get (take n xs) j ≡ None
+take_past zero j [] le = refl
+take_past zero j (x ∷ xs) le = refl
+take_past (suc n) j [] le = refl
+take_past (suc n) zero (x ∷ xs) le = absurd (omega (arith, le))
+take_past (suc n) (suc j) (x ∷ xs) le = take_past n j xs (omega (arith, le))
+
+pub append_front : {A : Type 0} (xs ys : List A) (j : ℕ) → j < length xs → slice_get (xs ++ ys) j ≡ slice_get xs j
+append_front [] ys j low = absurd (omega (arith, low))
+append_front (x ∷ xs) ys zero low = refl
+append_front (x ∷ xs) ys (suc j) low = append_front xs ys j (omega (arith, low))
+
+pub append_back : {A : Type 0} (xs ys : List A) (k j : ℕ) → k ≡ length xs + j → slice_get (xs ++ ys) k ≡ slice_get ys j
+append_back [] ys k j is = let e : k ≡ j = omega (arith, is) in ap (λ n. slice_get ys n) e
+append_back (x ∷ xs) ys zero j is = absurd (omega (arith, is))
+append_back (x ∷ xs) ys (suc k) j is = append_back xs ys k j (omega (arith, is))
+
+append_length : {A : Type 0} (xs ys : List A) → length (xs ++ ys) ≡ length xs + length ys
+append_length [] ys = omega arith
+append_length (x ∷ xs) ys = omega (arith, append_length xs ys)
+
+-- ---- tables
+
+module _ {A B : Type 0} (make : List B → A → B) where
+  pub table_length : (done : List B) (xs : List A) → length (table make done xs) ≡ length done + length xs
+  table_length done [] = omega arith
+  table_length done (x ∷ xs) =
+      let rest : length (table make (done ++ (make done x ∷ [])) xs) ≡ length (done ++ (make done x ∷ [])) + length xs = table_length (done ++ (make done x ∷ [])) xs in
+      omega (arith, rest, append_length done (make done x ∷ []))
+
+  -- it begins with what was done
+  begins : (done : List B) (xs : List A) (j : ℕ) → j < length done → slice_get (table make done xs) j ≡ slice_get done j
+  begins done [] j low = refl
+  begins done (x ∷ xs) j low =
+      let long : j < length (done ++ (make done x ∷ [])) = omega (arith, low, append_length done (make done x ∷ [])) in
+      begins (done ++ (make done x ∷ [])) xs j long ∙ append_front done (make done x ∷ []) j low
+
+  -- a list is known by its elements
+  same_list : (xs ys : List B) → length xs ≡ length ys → ((j : ℕ) → j < length xs → slice_get xs j ≡ slice_get ys j) → xs ≡ ys
+  same_list [] [] long same = refl
+  same_list [] (y ∷ ys) long same = absurd (omega (arith, long))
+  same_list (x ∷ xs) [] long same = absurd (omega (arith, long))
+  same_list (x ∷ xs) (y ∷ ys) long same =
+      let head : x ≡ y = (let e : Some x ≡ Some y = same 0 (omega arith) in cc) in
+      let rest : xs ≡ ys = same_list xs ys (omega (arith, long)) (λ j low. same (suc j) (omega (arith, low))) in
+      cc
+
+  front : (done : List B) (xs : List A) → take (length done) (table make done xs) ≡ done
+  front done xs =
+      let long : length (take (length done) (table make done xs)) ≡ length done = length-take-le (length done) (table make done xs) (omega (arith, table_length done xs)) in
+      same_list (take (length done) (table make done xs)) done long
+      (λ j low. take_get (length done) j (table make done xs) (omega (arith, low, long)) ∙ begins done xs j (omega (arith, low, long)))
+
+  row_from : (done : List B) (xs : List A) (j : ℕ) (x : A) → slice_get xs j ≡ Some x
+      → slice_get (table make done xs) (length done + j) ≡ Some (make (take (length done + j) (table make done xs)) x)
+  row_from done [] j x is = absurd cc
+  row_from done (y ∷ ys) zero x is =
+      let same : y ≡ x = cc in
+      let more : List B = done ++ (make done y ∷ []) in
+      let long : length more ≡ length done + 1 = append_length done (make done y ∷ []) in
+      let z : length done + 0 ≡ length done = omega arith in
+      let here : slice_get (table make more ys) (length done) ≡ Some (make done y) = begins more ys (length done) (omega (arith, long)) ∙ append_back done (make done y ∷ []) (length done) 0 (omega arith) in
+      let first : take (length done) (table make more ys) ≡ done = front done (y ∷ ys) in
+      subst (λ k. slice_get (table make more ys) k ≡ Some (make (take k (table make more ys)) x)) (sym z)
+      (here ∙ ap (λ d. Some (make d y)) (sym first) ∙ ap (λ v. Some (make (take (length done) (table make more ys)) v)) same)
+  row_from done (y ∷ ys) (suc j) x is =
+      let more : List B = done ++ (make done y ∷ []) in
+      let long : length more ≡ length done + 1 = append_length done (make done y ∷ []) in
+      let z : length more + j ≡ length done + suc j = omega (arith, long) in
+      subst (λ k. slice_get (table make more ys) k ≡ Some (make (take k (table make more ys)) x)) z (row_from more ys j x is)
+
+  -- each row is made from those before it
+  pub row_is : (xs : List A) (j : ℕ) (x : A) → slice_get xs j ≡ Some x → slice_get (table make [] xs) j ≡ Some (make (take j (table make [] xs)) x)
+  row_is xs j x is = let z : 0 + j ≡ j = omega arith in subst (λ k. slice_get (table make [] xs) k ≡ Some (make (take k (table make [] xs)) x)) z (row_from [] xs j x is)
+
+  pub rows_before : (xs : List A) (j : ℕ) → j ≤ length xs → length (take j (table make [] xs)) ≡ j
+  rows_before xs j le = length-take-le j (table make [] xs) (omega (arith, le, table_length [] xs))

@@ -1,0 +1,6 @@
+pub mod Segments
+pub mod Lines
+pub mod Endings
+pub mod Fitting
+pub mod Short
+mod Views

@@ -1,0 +1,110 @@
+//! The three questions about the code of a part.
+
+ghost use Rattle.std.specs.Prelude.{◌≡◌, ◌≤◌, IsTrue, length, map, min};
+ghost use Rattle.loader_trees.specs.Told.{known_of, told};
+ghost use Rattle.loader_trees.specs.Whole.{is_fitting, monitor_in as stays_of, whole as defined_whole};
+ghost use Rattle.image_format.specs.Stands.{tree_in};
+ghost use Rattle.valid_image.specs.Shape.{is_found};
+ghost use Rattle.valid_image.specs.Tables.{found_or_nothing};
+ghost use Rattle.valid_image_law.specs.Held.{held_cost, hold};
+
+use crate::instructions::results;
+use crate::known::{Found, Known};
+use crate::parts::{only_stay, part_tree_found};
+use base::Cost;
+use image_format::SegBytes;
+use machine_isa::Instr;
+
+/// The monitor of a tree that is one Stay.
+fn monitor_in(tree: SegBytes<'_>) -> Option<u16>
+    ensures { result ≡ stays_of (tree_in tree.entry) }
+{
+    let (monitor, _) = only_stay(tree)?;
+    Some(monitor)
+}
+
+/// The code of a part: that of an entry where its tree is one Stay.
+fn whole_found(code: &[Instr], known: &[Known], tree: SegBytes<'_>, base: u32) -> Option<Found>
+    requires { base ≤ length code.now }
+    ensures { told result ≡ hold (defined_whole code.now (map known_of known.now)
+        (tree_in tree.entry) base) }
+{
+    let part = part_tree_found(code, known, monitor_in(tree), tree, base as usize)?;
+    Some(part.found)
+}
+
+/// Whether the code from an address on is of the tree, and no rule of heights fails. A part that
+/// gives a value back ends in RETV.
+pub fn fits_bytes(
+    code: &[Instr],
+    base: u32,
+    tree: SegBytes<'_>,
+    known: &[Known],
+    gives: bool,
+) -> bool
+    requires { base ≤ length code.now }
+    ensures { result ≡ is_fitting code.now (map known_of known.now) gives (tree_in tree.entry)
+        base }
+{
+    match whole_found(code, known, tree, base) {
+        Some(found) => found.height == results(gives),
+        None => false,
+    }
+}
+
+/// What code that fits costs at most, each number capped.
+pub fn worst_bytes(code: &[Instr], base: u32, tree: SegBytes<'_>, known: &[Known]) -> Cost
+    requires base { base ≤ length code.now }
+    requires fits { IsTrue (is_found (defined_whole code.now (map known_of known.now)
+        (tree_in tree) base)) }
+    ensures { result ≡ held_cost (found_or_nothing
+        (defined_whole code.now (map known_of known.now) (tree_in tree.entry) base)).cost }
+{
+    match whole_found(code, known, tree, base) {
+        Some(found) => found.cost,
+        None => unreachable!(),
+    }
+}
+
+/// The greatest height in code that fits, with those of the routines that it calls, held at 4,097.
+pub fn depth_bytes(code: &[Instr], base: u32, tree: SegBytes<'_>, known: &[Known]) -> u32
+    requires base { base ≤ length code.now }
+    requires fits { IsTrue (is_found (defined_whole code.now (map known_of known.now)
+        (tree_in tree) base)) }
+    ensures { result ≡ min (found_or_nothing (defined_whole code.now (map known_of known.now)
+        (tree_in tree.entry) base)).depth 4097 }
+{
+    match whole_found(code, known, tree, base) {
+        Some(found) => found.depth,
+        None => unreachable!(),
+    }
+}
+
+#[cfg(test)]
+mod tests {
+    use super::*;
+    use image_format::{DEEPEST, Limits, tree_at};
+    use std::test::Fail;
+
+    #[test]
+    #[tactic(auto, using(crate::proofs::Fitting::fitting_is_found))]
+    fn three_puts_in_a_loop(rt: HostRuntime) -> Result<(), Fail> {
+        let code = [
+            Instr::Repeats { turns: 3 },
+            Instr::Push { value: 7 },
+            Instr::Out { device: 0 },
+            Instr::Repeat { to: 1 },
+            Instr::End,
+        ];
+        let bytes = [0, 0, 0, 1, 3, 0, 0, 0, 3, 0, 0, 0, 1, 1, 0, 0, 0, 2];
+        let (tree, _rest) = tree_at(Limits::of_image(0), DEEPEST, &bytes)?;
+        assert!(rt; !fits_bytes(&code, 1, tree, &[], false));
+        assert!(rt; !fits_bytes(&code, 0, tree, &[], true));
+        if !fits_bytes(&code, 0, tree, &[], false) {
+            return Err(Fail::from("the code is not of the tree"));
+        }
+        assert_eq!(rt; worst_bytes(&code, 0, tree, &[]).run, 44);
+        assert_eq!(rt; depth_bytes(&code, 0, tree, &[]), 2);
+        Ok(())
+    }
+}

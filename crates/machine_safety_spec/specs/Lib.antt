@@ -1,0 +1,11 @@
+pub mod Part
+pub mod SafeTerms
+pub mod Walk
+pub mod Path
+pub mod Job
+pub mod Safe
+pub mod Whole
+pub mod Work
+pub mod Stays
+pub mod Queues
+pub mod Waits

@@ -1,0 +1,150 @@
+//! The trusted edge: std's files and standard output. They tell nothing of content.
+
+ghost use Rattle.std.specs.Prelude.{◌≡◌, ◌≤◌, ◌<◌, ℕ, List, vec_len, IfOk, OnOk, OnErr};
+ghost use Rattle.outside.specs.Outside.{next_count};
+
+use crate::outside::{Files, ReadFault, Sink, SinkFailed, WriteFault};
+use std::alloc::Global;
+use std::io::Read;
+use std::{fs, rt};
+
+/// The files of the system, by the runtime that main lends. One number is both counts of faults of
+/// every name, and each Err raises it until it stands at the greatest u64.
+#[derive(Drop)]
+pub struct RealFiles<'a, R: rt::Files> {
+    rt: &'a R,
+    alloc: Global,
+    faults: u64,
+}
+
+/// Standard output, by the runtime that main lends. Each Err raises the count of faults until it
+/// stands at the greatest u64.
+#[derive(Drop)]
+pub struct RealSink<'a, P: Print> {
+    rt: &'a P,
+    faults: u64,
+}
+
+/// All that the reader gives, where it is at most `most` bytes.
+fn read_up_to<F: Read>(alloc: Global, file: &mut F, most: usize) -> Result<Vec<u8>, ReadFault>
+    ensures { IfOk result (λ bytes. vec_len bytes ≤ most) }
+{
+    let mut all = Vec::new(alloc);
+    let mut part = [0u8; 4096];
+    for _ in 0..u64::MAX {
+        let Ok(count) = file.read(&mut part) else {
+            return Err(ReadFault::Failed);
+        };
+        if count == 0 {
+            return Ok(all);
+        }
+        if count > most - all.len() {
+            return Err(ReadFault::Long);
+        }
+        if all.extend_from_slice(&part[..count]).is_err() {
+            return Err(ReadFault::Memory);
+        }
+    }
+    Err(ReadFault::Failed)
+}
+
+impl<'a, R: rt::Files> RealFiles<'a, R> {
+    /// No faults yet. It takes no memory.
+    pub fn new(alloc: Global, rt: &'a R) -> RealFiles<'a, R>
+        ensures reads { (name : List ℕ) → (⟦<RealFiles<'a, R> as Files>⟧.state result).read_faults
+            name ≡ 0 }
+        ensures writes { (name : List ℕ) → (⟦<RealFiles<'a, R> as Files>⟧.state result).write_faults
+            name ≡ 0 }
+    {
+        RealFiles {
+            rt,
+            alloc,
+            faults: 0,
+        }
+    }
+
+    /// Counts an Err.
+    fn raise(&mut self)
+        ensures raised { self.new.faults ≡ next_count self.old.faults }
+        ensures count { self.old.faults ≤ self.new.faults }
+    {
+        self.faults = self.faults.saturating_add(1);
+    }
+}
+
+impl<'a, R: rt::Files> Files for RealFiles<'a, R> {
+    ghost use Rattle.std.specs.Prelude.{false, None};
+
+    ghost tells = { false };
+
+    ghost state = { λ s. record {
+      held = λ _. None;
+      read_faults = λ _. s.faults;
+      write_faults = λ _. s.faults;
+    } };
+
+    fn read(&mut self, name: &str, most: usize) -> Result<Vec<u8>, ReadFault>
+        ensures within { IfOk result (λ bytes. vec_len bytes ≤ most) }
+        ensures raised { let state = ⟦<RealFiles<'a, R> as Files>⟧.state in
+            OnErr result ((state self.new).read_faults name.now ≡
+            next_count ((state self.old).read_faults name.now)) }
+        ensures quiet { let state = ⟦<RealFiles<'a, R> as Files>⟧.state in
+            OnOk result ((state self.new).read_faults name.now ≡
+            (state self.old).read_faults name.now) }
+        ensures count { let state = ⟦<RealFiles<'a, R> as Files>⟧.state in
+            (state self.old).read_faults name.now ≤ (state self.new).read_faults name.now }
+    {
+        let answer = match fs::open(self.rt, name) {
+            Ok(mut file) => read_up_to(self.alloc, &mut file, most),
+            Err(_) => Err(ReadFault::Failed),
+        };
+        if answer.is_err() {
+            self.raise();
+        }
+        answer
+    }
+
+    fn write(&mut self, name: &str, bytes: &[u8]) -> Result<(), WriteFault>
+        ensures raised { let state = ⟦<RealFiles<'a, R> as Files>⟧.state in
+            OnErr result ((state self.new).write_faults name.now ≡
+            next_count ((state self.old).write_faults name.now)) }
+        ensures quiet { let state = ⟦<RealFiles<'a, R> as Files>⟧.state in
+            OnOk result ((state self.new).write_faults name.now ≡
+            (state self.old).write_faults name.now) }
+        ensures count { let state = ⟦<RealFiles<'a, R> as Files>⟧.state in
+            (state self.old).write_faults name.now ≤ (state self.new).write_faults name.now }
+    {
+        match fs::write(self.rt, name, bytes) {
+            Ok(()) => Ok(()),
+            Err(_) => {
+                self.raise();
+                Err(WriteFault::Failed)
+            }
+        }
+    }
+}
+
+impl<'a, P: Print> RealSink<'a, P> {
+    /// No faults yet. It takes no memory.
+    pub fn new(rt: &'a P) -> RealSink<'a, P>
+        ensures { (⟦<RealSink<'a, P> as Sink>⟧.state result).faults ≡ 0 }
+    {
+        RealSink { rt, faults: 0 }
+    }
+}
+
+impl<'a, P: Print> Sink for RealSink<'a, P> {
+    ghost use Rattle.std.specs.Prelude.{None};
+
+    ghost state = { λ s. record { taken = None; faults = s.faults } };
+
+    fn put(&mut self, piece: &[u8]) -> Result<(), SinkFailed> {
+        match self.rt.write_all(piece) {
+            Ok(()) => Ok(()),
+            Err(_) => {
+                self.faults = self.faults.saturating_add(1);
+                Err(SinkFailed)
+            }
+        }
+    }
+}

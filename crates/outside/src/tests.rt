@@ -1,0 +1,33 @@
+//! The calls that reach the system.
+
+use crate::{Files, ReadFault, RealFiles, RealSink, Sink, Stdout, WriteFault};
+use std::fs;
+use std::test::Fail;
+
+#[test]
+fn puts_wait_and_are_written(rt: HostRuntime) -> Result<(), Fail> {
+    let mut out = Stdout::new(rt.alloc(), &rt);
+    out.put(b"one ")?;
+    out.put(b"two\n")?;
+    out.flush()?;
+    RealSink::new(&rt).put(b"three\n")?;
+    Ok(())
+}
+
+#[test]
+fn files_are_written_and_read(rt: HostRuntime) -> Result<(), Fail> {
+    let mut files = RealFiles::new(rt.alloc(), &rt);
+    files.write("rte_stdout.tmp", b"kept")?;
+    assert!(rt; files.read("rte_stdout.tmp", 4)?.as_slice() == b"kept".as_slice());
+    assert_eq!(rt;
+        files.read("rte_stdout.tmp", 3).err(),
+        Some(ReadFault::Long)
+    );
+    fs::remove_file(&rt, "rte_stdout.tmp")?;
+    assert_eq!(rt;
+        files.read("rte_stdout.tmp", 4).err(),
+        Some(ReadFault::Failed)
+    );
+    assert_eq!(rt; files.write("", b"kept").err(), Some(WriteFault::Failed));
+    Ok(())
+}

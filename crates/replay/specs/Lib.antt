@@ -1,0 +1,5 @@
+pub mod Parts
+pub mod Told
+pub mod Held
+pub mod Scripted
+pub mod Lines

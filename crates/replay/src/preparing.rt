@@ -1,0 +1,107 @@
+//! `replay`.
+
+ghost use Rattle.std.specs.Prelude.{◌≡◌, ◌<◌, ◌^◌, Err, IfOk, IsSomeAnd};
+ghost use Rattle.std.specs.Bool.{OnTrue};
+ghost use Rattle.command_answers.specs.Acts.{outcome_of};
+ghost use Rattle.command_answers.specs.Acting.{IsQuiet};
+ghost use Rattle.command_answers.specs.Prepared.{Failed, Prepares};
+ghost use Rattle.outside.specs.Outside.{AllStay, NoneFell};
+ghost use Rattle.replay.specs.Held.{IsSource};
+ghost use Rattle.replay.specs.Scripted.{IsReplayed, LaterFailed};
+ghost use Rattle.command_due.specs.ReplayDue.{IsJudged};
+ghost use Rattle.syntax_tree.specs.Placed.{placed};
+ghost use Rattle.command_words.specs.Calls as call;
+
+use crate::prepare_replay_judging::log_act;
+use crate::sources::{Source, read_source, refuse_source};
+use command_answers::{
+    Act, LONGEST_LOG, LONGEST_PROGRAM, LONGEST_SCRIPT, Unready, judge_script, read, refuse_script,
+};
+use outside::Files;
+use script::Script;
+use std::alloc::Global;
+
+/// The last third of `replay`: the log of a program over a script.
+fn log_on<'a, F: Files>(
+    alloc: Global,
+    source: &Source,
+    script: &Script,
+    log: &str,
+    files: &mut F,
+) -> Result<Act<'a>, Unready>
+    requires source { IsSource source.now }
+    requires end { script.now.end < 2 ^ 61 }
+    ensures due { IfOk result (λ act. OnTrue F.tells
+        (IsSomeAnd ((F.state files.old).held log.now) (λ other.
+        IsJudged (placed source.now.program) script.now.lines script.now.end other
+        (outcome_of act)))) }
+    ensures quiet { IfOk result IsQuiet }
+    ensures unread { result ≡ Err Unready.Unread →
+        Failed (F.state files.old) (F.state files.new) log.now }
+    ensures files { AllStay (F.state files.old).held (F.state files.new).held }
+    ensures read_counts { NoneFell (F.state files.old).read_faults (F.state files.new).read_faults }
+    ensures write_counts { NoneFell (F.state files.old).write_faults
+        (F.state files.new).write_faults }
+{
+    let content = read(files, log, LONGEST_LOG)?;
+    match log_act(alloc, source, script, &content) {
+        Ok(act) => Ok(act),
+        Err(_) => Err(Unready::Memory),
+    }
+}
+
+/// The second third of `replay`: the script for a program, and the log where it is one.
+fn script_on<'a, F: Files>(
+    alloc: Global,
+    source: &Source,
+    script: &str,
+    log: &str,
+    files: &mut F,
+) -> Result<Act<'a>, Unready>
+    requires { IsSource source.now }
+    ensures due { IfOk result (λ act. OnTrue F.tells (IsReplayed (placed source.now.program)
+        ((F.state files.old).held script.now) ((F.state files.old).held log.now)
+        (outcome_of act))) }
+    ensures quiet { IfOk result IsQuiet }
+    ensures unread { result ≡ Err Unready.Unread → LaterFailed F.tells (placed source.now.program)
+        (F.state files.old) (F.state files.new) script.now log.now }
+    ensures files { AllStay (F.state files.old).held (F.state files.new).held }
+    ensures read_counts { NoneFell (F.state files.old).read_faults (F.state files.new).read_faults }
+    ensures write_counts { NoneFell (F.state files.old).write_faults
+        (F.state files.new).write_faults }
+{
+    let content = read(files, script, LONGEST_SCRIPT)?;
+    match judge_script(alloc, &content, &source.names) {
+        Ok(lines) => log_on(alloc, source, &lines, log, files),
+        Err(fault) => match refuse_script(alloc, &fault) {
+            Ok(act) => Ok(act),
+            Err(_) => Err(Unready::Memory),
+        },
+    }
+}
+
+/// `replay`: the program is read and judged, the script only where the program has no fault, and
+/// the log only where the script has none.
+pub fn prepare_replay<'a, F: Files>(
+    alloc: Global,
+    program: &str,
+    script: &str,
+    log: &str,
+    files: &mut F,
+) -> Result<Act<'a>, Unready>
+    ensures prepared { Prepares F.tells (call.replay program.now script.now log.now)
+        (F.state files.old) (F.state files.new) result }
+    ensures files { AllStay (F.state files.old).held (F.state files.new).held }
+    ensures read_counts { NoneFell (F.state files.old).read_faults (F.state files.new).read_faults }
+    ensures write_counts { NoneFell (F.state files.old).write_faults
+        (F.state files.new).write_faults }
+{
+    let content = read(files, program, LONGEST_PROGRAM)?;
+    match read_source(alloc, content) {
+        Ok(source) => script_on(alloc, &source, script, log, files),
+        Err(fault) => match refuse_source(alloc, fault) {
+            Ok(act) => Ok(act),
+            Err(_) => Err(Unready::Memory),
+        },
+    }
+}

@@ -1,0 +1,49 @@
+//! Whether a list of events is a run of a program over a script.
+//!
+//! The events are judged in turn by the source meaning. `judge` tells `Run` exactly where each is
+//! allowed after those before it and at the end no start event is missing, and else the first line
+//! that is refused (`source_semantics::verdict`).
+//!
+//! Events, judged in turn.
+
+ghost use Rattle.std.specs.Prelude.{IfOk, length, ◌<◌, ◌^◌};
+ghost use Rattle.replay_accept.specs.Running.{Stands, program_of};
+ghost use Rattle.replay_state.specs.View.{config_of};
+ghost use Rattle.replay_due_events.specs.Timings.{script_of};
+ghost use Rattle.source_semantics.specs.Verdicts.{Judges};
+
+use base::Event;
+use replay_accept::Running;
+use script::Script;
+use source_semantics::Verdict;
+use std::alloc::AllocError;
+
+/// Whether the events are a run over the script from the configuration at hand, and else the first
+/// line that is refused. It fails only where memory is wanting.
+pub fn judge(
+    running: &mut Running<'_>,
+    script: &Script,
+    events: &[Event],
+) -> Result<Verdict, AllocError>
+    requires stands { Stands running.old }
+    requires end { script.now.end < 2 ^ 61 }
+    requires few { length events.now < 4294967295 }
+    ensures { IfOk result (λ verdict. Judges (program_of running.old.rules)
+        (script_of script.now.lines script.now.end) (config_of running.old.config) events.now
+        verdict) }
+{
+    for (at, event) in events.iter().enumerate() {
+        if !running.accept(script, event)? {
+            return Ok(Verdict::Refused {
+                line: at as u32 + 1,
+            });
+        }
+    }
+    if running.is_complete(script) {
+        Ok(Verdict::Run)
+    } else {
+        Ok(Verdict::Refused {
+            line: events.len() as u32 + 1,
+        })
+    }
+}

@@ -1,0 +1,87 @@
+//! Programs that are to be replayed.
+
+ghost use Rattle.std.specs.Prelude.{◌≡◌, ℕ, List, Option, Some, Err, IfOk, IfErr};
+ghost use Rattle.command_answers.specs.Acts.{outcome_of};
+ghost use Rattle.command_due.specs.Source.{IsWritten};
+ghost use Rattle.compile.specs.Written.{ReadsWritten};
+ghost use Rattle.command_answers.specs.Acting.{IsQuiet};
+ghost use Rattle.command_answers.specs.Contents.{IsContent};
+ghost use Rattle.syntax.specs.Tokens.{longest_text};
+ghost use Rattle.replay.specs.Held.{IsSource};
+ghost use Rattle.command_due.specs.ReplayDue.{IsReplayDue};
+ghost use Rattle.syntax_tree.specs.Placed.{placed};
+
+use crate::names::program_names;
+use command_answers::{Act, Content, put_fault};
+use compile::{TextFault, read_written};
+use image::ImageNames;
+use static_semantics::Checked;
+use std::alloc::{AllocError, Global};
+use syntax_tree::Place;
+
+/// The number of the fault of a text that is too long.
+const TOO_LONG: u8 = 4;
+
+/// Where a fault of a whole text stands.
+const START: Place = Place { line: 1, col: 1 };
+
+/// A program that has no fault, the text that it was read from, and the names of its parts.
+#[derive(Drop)]
+pub struct Source {
+    pub text: Vec<u8>,
+    pub program: Checked,
+    pub names: ImageNames,
+}
+
+/// The program of a text, with the text.
+fn read_text(alloc: Global, text: Vec<u8>) -> Result<Source, TextFault>
+    ensures source { IfOk result IsSource }
+    ensures text { IfOk result (λ source. source.text.items ≡ text.items) }
+    ensures fault { IfErr result (λ why. ReadsWritten text.items (Err why)) }
+{
+    match read_written(alloc, text.as_slice()) {
+        Ok(program) => match program_names(alloc, &program) {
+            Ok(names) => Ok(Source {
+                text,
+                program,
+                names,
+            }),
+            Err(_) => Err(TextFault::Memory),
+        },
+        Err(fault) => Err(fault),
+    }
+}
+
+/// The program of the text that a file holds, with the text.
+///
+/// # Errors
+///
+/// As those of `read_written`; the fault of a text that is too long is 4, at its first byte.
+pub fn read_source(alloc: Global, content: Content) -> Result<Source, TextFault>
+    ensures source { IfOk result IsSource }
+    ensures written { IfOk result (λ source. (text : List ℕ) →
+        IsContent longest_text content text → IsWritten text (placed source.program)) }
+    ensures fault { IfErr result (λ why. (text : List ℕ) →
+        IsContent longest_text content text → ReadsWritten text (Err why)) }
+{
+    match content {
+        Content::Bytes(text) => read_text(alloc, text),
+        Content::Long => Err(TextFault::Text {
+            number: TOO_LONG,
+            place: START,
+        }),
+    }
+}
+
+/// The act for a text that is no program text, or whose program is too large: it puts the line of
+/// its fault.
+pub fn refuse_source<'a>(alloc: Global, fault: TextFault) -> Result<Act<'a>, AllocError>
+    ensures due { IfOk result (λ act. (text : List ℕ) (script log : Option (List ℕ)) →
+        ReadsWritten text (Err fault) → IsReplayDue (Some text) script log (outcome_of act)) }
+    ensures quiet { IfOk result IsQuiet }
+{
+    match fault {
+        TextFault::Text { number, place } => put_fault(alloc, number, place),
+        TextFault::Memory => Err(AllocError),
+    }
+}

@@ -1,0 +1,69 @@
+//! What the events of a program are judged by.
+
+ghost use Rattle.std.specs.Prelude.{◌≡◌, IfOk};
+ghost use Rattle.syntax_tree.specs.Placed.{placed, plain};
+ghost use Rattle.replay_state.specs.Tables.{AreRanksOf};
+ghost use Rattle.replay_due_events.specs.NextDue.{FramesPass};
+ghost use Rattle.replay_state.specs.Texts.{IsText};
+ghost use Rattle.replay_due_events.specs.Timings.{IsTimetableOf};
+ghost use Rattle.replay_accept.specs.Running.{AreRules, program_of};
+
+use crate::order::rank_order;
+use crate::processes::process_list;
+use crate::timings::process_timings;
+use replay_accept::Rules;
+use replay_due_events::Timetable;
+use replay_next::routine_count;
+use replay_state::{Ranks, Text};
+use static_declarations::Declarations;
+use std::alloc::{AllocError, Global};
+
+/// The text of a program.
+fn text_of<'a>(alloc: Global, declarations: &'a Declarations<'a>) -> Result<Text<'a>, AllocError>
+    ensures text { IfOk result IsText }
+    ensures program { IfOk result (λ t. plain (placed t.declarations.now) ≡
+        plain (placed declarations.now)) }
+{
+    let processes = process_list(alloc, declarations.program().decls.as_slice())?;
+    Ok(Text {
+        declarations,
+        processes,
+        alloc,
+    })
+}
+
+/// What the start events of a program go by.
+fn timetable_of(alloc: Global, text: &Text<'_>, ranks: &Ranks) -> Result<Timetable, AllocError>
+    requires text { IsText text.now }
+    requires ranks { AreRanksOf (plain (placed text.now.declarations.now)) ranks.now }
+    ensures { IfOk result (IsTimetableOf (plain (placed text.now.declarations.now))) }
+{
+    let timings = process_timings(alloc, text.declarations, text.processes.as_slice())?;
+    let by_rank = rank_order(alloc, ranks.ranks.as_slice())?;
+    Ok(Timetable { timings, by_rank })
+}
+
+/// What the events of a program are judged by. Where its routines are more than a number can tell,
+/// there is not memory enough for them.
+pub fn rules_of<'a>(
+    alloc: Global,
+    declarations: &'a Declarations<'a>,
+    ranks: Ranks,
+) -> Result<Rules<'a>, AllocError>
+    requires ranks { AreRanksOf (plain (placed declarations.now)) ranks }
+    requires frames { FramesPass (plain (placed declarations.now)) }
+    ensures rules { IfOk result AreRules }
+    ensures program { IfOk result (λ r. program_of r ≡ plain (placed declarations.now)) }
+{
+    let Some(routines) = routine_count(declarations) else {
+        return Err(AllocError);
+    };
+    let text = text_of(alloc, declarations)?;
+    let table = timetable_of(alloc, &text, &ranks)?;
+    Ok(Rules {
+        text,
+        table,
+        ranks,
+        routines,
+    })
+}

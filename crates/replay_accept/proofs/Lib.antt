@@ -1,0 +1,4 @@
+pub mod Steps
+pub mod Handing
+pub mod Judging
+pub mod Fitting

@@ -1,0 +1,4 @@
+pub mod Told
+pub mod Effects
+pub mod Judged
+pub mod Running

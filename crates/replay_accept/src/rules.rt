@@ -1,0 +1,73 @@
+//! What events are judged by.
+
+ghost use Rattle.std.specs.Prelude.{IsTrue, length, option_map, ℕ, ◌<◌, ◌^◌, ◌↔◌, ◌≡◌};
+ghost use Rattle.syntax_tree.specs.Plain.{Prog};
+ghost use Rattle.source_semantics.specs.Source.{before, is_empty, ready_from};
+ghost use Rattle.source_semantics.specs.Starts.{NoneMissing, due};
+ghost use Rattle.replay_state.specs.Tables.{AreRanksOf, Fits};
+ghost use Rattle.replay_state.specs.View.{config_of};
+ghost use Rattle.replay_due_events.specs.NextDue.{FramesPass};
+ghost use Rattle.replay_due_events.specs.Timings.{IsTimetableOf, event_of, first_in, script_of};
+
+use replay_due_events::{Start, Timetable, is_none_missing_before};
+use replay_state::{Config, Ranks, Text};
+use script::ScriptLine;
+
+/// What of a program events are judged by: its text, its timings, its ranks and ceilings, and how
+/// many routines it has.
+#[derive(Drop)]
+pub struct Rules<'a> {
+    pub text: Text<'a>,
+    pub table: Timetable,
+    pub ranks: Ranks,
+    /// Calls are nested at most so deep.
+    pub routines: usize,
+}
+
+impl<'a> Rules<'a> {
+    /// Whether no start event due before the tick is missing.
+    pub(crate) fn is_none_missing(
+        &self,
+        config: &Config<'_>,
+        lines: &[ScriptLine],
+        until: u64,
+    ) -> bool
+        ghost program: { Prog }
+        requires table { IsTimetableOf program self.now.table }
+        requires frames { FramesPass program }
+        requires fits { Fits program (config_of config.now) }
+        requires tick { config.now.tick < 2 ^ 61 }
+        ensures { (end : ℕ) → NoneMissing program (script_of lines.now end)
+            (config_of config.now) until ↔ IsTrue result }
+    {
+        is_none_missing_before(&self.table, config, lines, until)
+    }
+
+    /// The first start event that is due at the tick and has not come, if there is one.
+    pub(crate) fn next_start(
+        &self,
+        config: &Config<'_>,
+        lines: &[ScriptLine],
+        tick: u64,
+    ) -> Option<Start>
+        ghost program: { Prog }
+        requires table { IsTimetableOf program self.now.table }
+        requires frames { FramesPass program }
+        ensures { (end : ℕ) → option_map (event_of tick) result ≡
+            first_in (due program (script_of lines.now end) (config_of config.now) tick) }
+    {
+        self.table.first_due(config, lines, tick)
+    }
+
+    /// Whether no ready process is taken before this one.
+    pub(crate) fn is_first(&self, config: &Config<'_>, process: usize) -> bool
+        ghost program: { Prog }
+        requires ranks { AreRanksOf program self.now.ranks }
+        requires fits { Fits program (config_of config.now) }
+        requires process { process < length (config_of config.now).jobs }
+        ensures { result ≡ is_empty (before program (config_of config.now) process
+            (ready_from 0 (config_of config.now).jobs)) }
+    {
+        self.ranks.is_first(config, process)
+    }
+}

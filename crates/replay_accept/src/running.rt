@@ -1,0 +1,72 @@
+//! A program that runs by its events.
+
+ghost use Rattle.std.specs.Prelude.{IfOk, OnErr, ◌<◌, ◌^◌, ◌≡◌};
+ghost use Rattle.replay_state.specs.Tables.{Fits};
+ghost use Rattle.replay_state.specs.View.{config_of};
+ghost use Rattle.replay_due_events.specs.Accepts.{Accepts, IsComplete};
+ghost use Rattle.replay_due_events.specs.Timings.{script_of};
+ghost use Rattle.replay_accept.specs.Running.{AreRules, Stands, program_of};
+
+use crate::accept_acting::act_by;
+use crate::begin::{Begun, begin};
+use crate::rules::Rules;
+use base::Event;
+use replay_state::Config;
+use script::Script;
+use std::alloc::AllocError;
+
+/// A program's tables, and its configuration.
+#[derive(Drop)]
+pub struct Running<'a> {
+    pub rules: Rules<'a>,
+    pub config: Config<'a>,
+}
+
+/// Whether the event is allowed next; the configuration is then the one after it.
+fn accept_by<'a>(
+    rules: &Rules<'a>,
+    config: &mut Config<'a>,
+    script: &Script,
+    event: &Event,
+) -> Result<bool, AllocError>
+    requires rules { AreRules rules.now }
+    requires fits { Fits (program_of rules.now) (config_of config.old) }
+    requires tick { config.old.tick < 2 ^ 61 }
+    ensures accepts { IfOk result (λ accepted. Accepts (program_of rules.now)
+        (script_of script.now.lines script.now.end) (config_of config.old) event.now accepted
+        (config_of config.new)) }
+    ensures err { OnErr result (config_of config.new ≡ config_of config.old) }
+{
+    match begin(rules, config, script, event)? {
+        Begun::Refused => Ok(false),
+        Begun::Started => Ok(true),
+        Begun::Open => act_by(rules, config, script, event),
+    }
+}
+
+impl<'a> Running<'a> {
+    /// Whether the event is allowed next; the configuration is then the one after it, else the one
+    /// before it. Want of memory leaves the configuration as it was.
+    pub fn accept(&mut self, script: &Script, event: &Event) -> Result<bool, AllocError>
+        requires stands { Stands self.old }
+        requires end { script.now.end < 2 ^ 61 }
+        ensures accepts { IfOk result (λ accepted. Accepts (program_of self.old.rules)
+            (script_of script.now.lines script.now.end) (config_of self.old.config) event.now
+            accepted (config_of self.new.config)) }
+        ensures err { OnErr result (config_of self.new.config ≡ config_of self.old.config) }
+        ensures stands { Stands self.new }
+        ensures rules { self.new.rules ≡ self.old.rules }
+    {
+        accept_by(&self.rules, &mut self.config, script, event)
+    }
+
+    /// Whether no start event that is due before the script's end is missing.
+    pub fn is_complete(&self, script: &Script) -> bool
+        requires stands { Stands self.now }
+        ensures { IsComplete (program_of self.now.rules)
+            (script_of script.now.lines script.now.end) (config_of self.now.config) result }
+    {
+        self.rules
+            .is_none_missing(&self.config, script.lines().as_slice(), script.end())
+    }
+}

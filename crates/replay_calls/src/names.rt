@@ -1,0 +1,73 @@
+//! What names of routines stand for.
+
+ghost use Rattle.std.specs.Prelude.{◌≡◌, filter_map, map, option_map};
+ghost use Rattle.syntax_tree.specs.Placed.{placed, placed_decl, placed_monitor, placed_routine, plain, plain_decl, plain_monitor, plain_routine};
+ghost use Rattle.source_semantics.specs.Names.{monitor_in, named};
+ghost use Rattle.source_semantics.specs.Run.{entry_name, entry_named as named_entry};
+ghost use Rattle.replay_state.specs.View.{home_of};
+ghost use Rattle.replay_values.specs.Lookups.{found_of};
+ghost use Rattle.replay_values.specs.Seen as running;
+
+use crate::numbers::monitor_number;
+use replay_state::Home;
+use replay_values::{Found, Scope, equal};
+use syntax_tree::{Decl, Mon, Name, Routine};
+
+/// The same home.
+pub fn home_in(home: replay_values::Home) -> Home
+    ensures { home_of result ≡ running.home_of home }
+{
+    match home {
+        replay_values::Home::Program => Home::Program,
+        replay_values::Home::Process => Home::Process,
+        replay_values::Home::Monitor(mon) => Home::Monitor(mon),
+    }
+}
+
+/// The first routine of that name.
+fn among<'a>(name: &Name, routines: &'a [Routine]) -> Option<&'a Routine>
+    ensures { option_map (λ r. plain_routine (placed_routine r.now)) result ≡
+        named entry_name name.now (map plain_routine (map placed_routine routines.now)) }
+{
+    for routine in routines {
+        if equal(&routine.name, name) {
+            return Some(routine);
+        }
+    }
+    None
+}
+
+/// The first monitor of that name.
+fn monitor_named<'a>(name: &Name, decls: &'a [Decl]) -> Option<&'a Mon>
+    ensures { option_map (λ m. plain_monitor (placed_monitor m.now)) result ≡
+        named (λ k. k.name) name.now (filter_map monitor_in
+        (map plain_decl (map placed_decl decls.now))) }
+{
+    for decl in decls {
+        if let Decl::Mon(monitor) = decl {
+            if equal(&monitor.name, name) {
+                return Some(monitor);
+            }
+        }
+    }
+    None
+}
+
+/// The entry of that name, of the monitor of that name.
+pub fn entry_named<'a>(scope: &Scope<'a>, mon: &Name, entry: &Name) -> Option<Found<'a>>
+    ensures { option_map found_of result ≡
+        named_entry (plain (placed scope.now.declarations.now)) mon.now entry.now }
+{
+    let decls = scope.declarations.program().decls.as_slice();
+    let number = monitor_number(mon, decls);
+    match monitor_named(mon, decls) {
+        None => None,
+        Some(monitor) => match among(entry, monitor.entries.as_slice()) {
+            None => None,
+            Some(routine) => Some(Found {
+                home: replay_values::Home::Monitor(number),
+                routine,
+            }),
+        },
+    }
+}

@@ -1,0 +1,8 @@
+pub mod Least
+pub mod Periodic
+pub mod DueLemmas
+pub mod Answered
+pub mod Ranked
+pub mod Members
+pub mod Agreeing
+pub mod Nexting

@@ -1,0 +1,4 @@
+pub mod NextDue
+pub mod Accepts
+pub mod Timings
+pub mod Next

@@ -1,0 +1,6 @@
+pub mod Words
+pub mod SoundNames
+pub mod MadeWords
+pub mod RunWords
+pub mod ReplayLaws
+pub mod Once

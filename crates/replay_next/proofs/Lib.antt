@@ -1,0 +1,14 @@
+pub mod Sizes
+pub mod Rooms
+pub mod Parts
+pub mod CallRunsTurning
+pub mod Lists
+pub mod Deeper
+pub mod Aiming
+pub mod ValueArms
+pub mod StmtArms
+pub mod Binding
+pub mod Oks
+pub mod CallArms
+pub mod NextTurning
+pub mod Handing

@@ -1,0 +1,123 @@
+//! Routines that are called.
+
+ghost use Rattle.std.specs.Prelude.{◌≡◌, IfOk, option_map};
+ghost use Rattle.syntax_tree.specs.Placed.{placed, placed_routine, plain, plain_routine};
+ghost use Rattle.source_semantics.specs.Run as run_of;
+ghost use Rattle.replay_state.specs.View.{answers_of, call_of, home_of, target_of, vars_of};
+ghost use Rattle.replay_values.specs.Lookups.{found_of};
+ghost use Rattle.replay_calls.specs.Reach.{memory_of, site_of};
+ghost use Rattle.replay_next.specs.Ran.{bound_of, ran_of, receiving};
+
+use crate::results::{Bound, Ran, Stop, stopped_in};
+use replay_calls::{Memory, add_fresh, home_in};
+use replay_state::{Action, Answering, Call, Home, Item, Slot, Target};
+use replay_values::{Found, Scope};
+use static_declarations::Declarations;
+use std::alloc::{AllocError, Global};
+use std::mem;
+use syntax_tree::Routine;
+
+/// The type and the expression of a routine's result, where it has one.
+pub fn answering<'a>(routine: &'a Routine) -> Option<Answering<'a>>
+    ensures { option_map answers_of result ≡ (plain_routine (placed_routine routine.now)).answers }
+{
+    match &routine.result {
+        None => None,
+        Some(kind) => match &routine.value {
+            None => None,
+            Some(value) => Some(Answering { kind, value }),
+        },
+    }
+}
+
+/// The variables of a call: its parameters, and then the others as they start.
+pub fn own_vars<'a>(
+    alloc: Global,
+    declarations: &Declarations<'_>,
+    routine: &'a Routine,
+    params: Vec<Slot<'a>>,
+) -> Result<Vec<Slot<'a>>, AllocError>
+    ensures { IfOk result (λ own. vars_of own.items ≡
+        run_of.own_vars (plain (placed declarations.now))
+        (plain_routine (placed_routine routine.now)) (vars_of params.entry.items)) }
+{
+    let mut own = params;
+    add_fresh(alloc, declarations, &mut own, routine.vars.as_slice())?;
+    Ok(own)
+}
+
+/// The call of an entry before its first statement.
+fn entry_call<'a>(
+    alloc: Global,
+    found: &Found<'a>,
+    mon: usize,
+    own: Vec<Slot<'a>>,
+) -> Result<Call<'a>, AllocError>
+    ensures { IfOk result (λ call. call_of call ≡
+        run_of.entry_call (found_of found.now) mon (vars_of own.entry.items)) }
+{
+    let mut rest = Vec::new(alloc);
+    rest.push(Item::DoAll(found.routine.body.as_slice()))?;
+    rest.push(Item::LeaveWith {
+        answers: answering(found.routine),
+        mon,
+    })?;
+    Ok(Call {
+        home: home_in(found.home),
+        own,
+        rest,
+    })
+}
+
+/// A call of an entry with these arguments; its answer, if any, is to be stored.
+pub fn entered<'a>(
+    scope: &Scope<'a>,
+    home: Home,
+    depth: usize,
+    found: &Found<'a>,
+    mon: usize,
+    bound: Bound<'a>,
+    target: Option<Target<'a>>,
+) -> Result<Ran<'a>, AllocError>
+    ensures { IfOk result (λ ran. (m : run_of.Memory) → ran_of ran m ≡
+        run_of.entered (site_of scope.now home depth) m (found_of found.now) mon
+        (bound_of bound.entry) (receiving (option_map target_of target.entry))) }
+{
+    match bound {
+        Bound::Unbound(number) => Ok(Ran::Fails(number)),
+        Bound::Params(params) => {
+            let own = own_vars(scope.alloc, scope.declarations, found.routine, params)?;
+            let mut inside = Vec::new(scope.alloc);
+            inside.push(entry_call(scope.alloc, found, mon, own)?)?;
+            let mut rest = Vec::new(scope.alloc);
+            if let Some(target) = target {
+                rest.push(Item::Receive(target))?;
+            }
+            Ok(Ran::Stops(Stop {
+                action: Action::Enters { mon },
+                inside,
+                rest,
+            }))
+        }
+    }
+}
+
+/// What a procedure came to as a part of its caller, whose variables come back.
+pub fn given_back<'a>(
+    alloc: Global,
+    home: Home,
+    memory: &mut Memory<'_, 'a>,
+    callers: Vec<Slot<'a>>,
+    ran: Ran<'a>,
+) -> Result<Ran<'a>, AllocError>
+    ensures { IfOk result (λ all. ran_of all (memory_of memory.new) ≡
+        run_of.within_caller (home_of home) (vars_of callers.entry.items)
+        (ran_of ran.entry (memory_of memory.old))) }
+{
+    let own = mem::replace(&mut memory.own, callers);
+    match ran {
+        Ran::Goes | Ran::Exits => Ok(Ran::Goes),
+        Ran::Fails(number) => Ok(Ran::Fails(number)),
+        Ran::Stops(stop) => stopped_in(alloc, stop, home, own),
+    }
+}

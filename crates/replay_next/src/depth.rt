@@ -1,0 +1,43 @@
+//! How deep calls can be nested.
+
+ghost use Rattle.std.specs.Prelude.{◌≡◌, IfSome, map, sum_by};
+ghost use Rattle.syntax_tree.specs.Placed.{placed, placed_decl, plain, plain_decl};
+ghost use Rattle.source_semantics.specs.Names.{routine_count as count_of, routines_in};
+
+use static_declarations::Declarations;
+use syntax_tree::Decl;
+
+/// How many routines or entries a declaration has.
+fn routines_of(decl: &Decl) -> usize
+    ensures { result ≡ routines_in (plain_decl (placed_decl decl.now)) }
+{
+    match decl {
+        Decl::Routine(_) => 1,
+        Decl::Mon(monitor) => monitor.entries.len(),
+        Decl::Proc(process) => process.routines.len(),
+        Decl::Const { .. } | Decl::Device { .. } | Decl::Event { .. } => 0,
+    }
+}
+
+/// How many routines and entries the declarations have.
+fn routines_among(decls: &[Decl]) -> Option<usize>
+    ensures { IfSome result (λ n. n ≡ sum_by routines_in
+        (map plain_decl (map placed_decl decls.now))) }
+{
+    let mut count: usize = 0;
+    for decl in decls {
+        match count.checked_add(routines_of(decl)) {
+            None => return None,
+            Some(next) => count = next,
+        }
+    }
+    Some(count)
+}
+
+/// How many routines and entries a program has: calls are nested at most so deep. `None` where
+/// they are more than a number can tell.
+pub fn routine_count(declarations: &Declarations<'_>) -> Option<usize>
+    ensures { IfSome result (λ n. n ≡ count_of (plain (placed declarations.now))) }
+{
+    routines_among(declarations.program().decls.as_slice())
+}

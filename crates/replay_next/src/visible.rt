@@ -1,0 +1,146 @@
+//! Statements whose expressions are evaluated.
+
+ghost use Rattle.std.specs.Prelude.{◌≡◌, [], IfOk, cond};
+ghost use Rattle.base.specs.Words.{is_true as is_truth};
+ghost use Rattle.syntax_tree.specs.Placed.{placed, placed_constant, plain, plain_constant};
+ghost use Rattle.source_semantics.specs.Names.{count_value};
+ghost use Rattle.source_semantics.specs.Run as run_of;
+ghost use Rattle.replay_state.specs.View.{home_of};
+ghost use Rattle.replay_values.specs.Seen.{answer_of};
+ghost use Rattle.replay_calls.specs.Reach.{memory_of, site_of};
+ghost use Rattle.replay_next.specs.Ran.{aimed_of, ran_of, tested_run, with_aimed};
+
+use crate::results::{Aim, Ran, stops};
+use replay_calls::{Memory, condition_here, store_to};
+use replay_state::{Action, Home, Item, count};
+use replay_values::{Answer, Scope, is_true};
+use std::alloc::{AllocError, Global};
+use syntax_tree::{Constant, Name};
+
+/// Whether a condition holds, or the number of its exception.
+#[derive(Clone, Copy)]
+pub enum Test {
+    Holds,
+    Not,
+    Raised(u32),
+}
+
+/// Whether the condition holds that has this value.
+pub fn tested(answer: Answer) -> Test
+    ensures { (m : run_of.Memory) → (first : run_of.Run) → (second : run_of.Run) →
+        tested_run result m first second ≡ run_of.with_value (answer_of answer) m
+        (λ v. cond (is_truth v) first second) }
+{
+    match answer {
+        Answer::Raised(number) => Test::Raised(number),
+        Answer::Word(word) => {
+            if is_true(word) {
+                Test::Holds
+            } else {
+                Test::Not
+            }
+        }
+    }
+}
+
+/// What a store came to: the exception of range and index, where it was refused.
+fn after_store<'a>(done: bool) -> Ran<'a>
+    ensures { (m : run_of.Memory) → ran_of result m ≡
+        cond done (run_of.goes m) (run_of.fails 3 m) }
+{
+    if done { Ran::Goes } else { Ran::Fails(3) }
+}
+
+/// An assignment to a variable.
+pub fn assigned<'a>(
+    alloc: Global,
+    home: Home,
+    memory: &mut Memory<'_, 'a>,
+    aim: Aim<'a>,
+    answer: Answer,
+) -> Result<Ran<'a>, AllocError>
+    ensures { IfOk result (λ ran. ran_of ran (memory_of memory.new) ≡
+        with_aimed (aimed_of aim.entry) (memory_of memory.old) (λ t.
+        run_of.with_value (answer_of answer) (memory_of memory.old) (λ v.
+        run_of.store_to (home_of home) (memory_of memory.old) t v))) }
+{
+    match aim {
+        Aim::Raised(number) => Ok(Ran::Fails(number)),
+        Aim::At(target) => match answer {
+            Answer::Raised(number) => Ok(Ran::Fails(number)),
+            Answer::Word(word) => {
+                let done = store_to(alloc, memory, home, target, word)?;
+                Ok(after_store(done))
+            }
+        },
+    }
+}
+
+/// An exit from the innermost loop, where its condition holds.
+pub fn exited<'a>(answer: Answer) -> Ran<'a>
+    ensures { (m : run_of.Memory) → ran_of result m ≡ run_of.with_value (answer_of answer) m
+        (λ v. cond (is_truth v) (run_of.exits m) (run_of.goes m)) }
+{
+    match answer {
+        Answer::Raised(number) => Ran::Fails(number),
+        Answer::Word(word) => { if is_true(word) { Ran::Exits } else { Ran::Goes } }
+    }
+}
+
+/// An assertion.
+pub fn asserted<'a>(answer: Answer) -> Ran<'a>
+    ensures { (m : run_of.Memory) → ran_of result m ≡ run_of.with_value (answer_of answer) m
+        (λ v. cond (is_truth v) (run_of.goes m) (run_of.fails 4 m)) }
+{
+    match answer {
+        Answer::Raised(number) => Ran::Fails(number),
+        Answer::Word(word) => {
+            if is_true(word) {
+                Ran::Goes
+            } else {
+                Ran::Fails(4)
+            }
+        }
+    }
+}
+
+/// A value that is put to a device.
+pub fn puts<'a>(alloc: Global, dev: usize, answer: Answer) -> Result<Ran<'a>, AllocError>
+    ensures { IfOk result (λ ran. (m : run_of.Memory) → ran_of ran m ≡
+        run_of.with_value (answer_of answer) m
+        (λ v. run_of.stops (run_of.puts dev v) [] [] m)) }
+{
+    match answer {
+        Answer::Raised(number) => Ok(Ran::Fails(number)),
+        Answer::Word(value) => stops(alloc, Action::Puts { dev, value }, None),
+    }
+}
+
+/// A wait for a condition of the monitor whose text this is.
+pub fn waits<'a>(
+    scope: &Scope<'a>,
+    home: Home,
+    depth: usize,
+    condition: &Name,
+    limit: &Constant,
+    number: &Constant,
+) -> Result<Ran<'a>, AllocError>
+    ensures { let g = plain (placed scope.now.declarations.now) in
+        IfOk result (λ ran. (m : run_of.Memory) → ran_of ran m ≡ run_of.waits_here
+        (site_of scope.now home depth) condition.now
+        (count_value g (plain_constant (placed_constant limit.now)))
+        (count_value g (plain_constant (placed_constant number.now))) m) }
+{
+    match home {
+        Home::Program | Home::Process => Ok(Ran::Goes),
+        Home::Monitor(mon) => {
+            let condition = condition_here(scope, home, depth, condition)?;
+            let action = Action::Waits {
+                condition,
+                limit: count(scope.declarations, limit),
+                number: count(scope.declarations, number),
+            };
+            stops(scope.alloc, action, Some(Item::EnterAgain { mon }))
+        }
+    }
+}

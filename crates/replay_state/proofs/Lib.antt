@@ -1,0 +1,5 @@
+pub mod Changes
+pub mod Positions
+pub mod Queueing
+pub mod Exceptions
+pub mod Starting

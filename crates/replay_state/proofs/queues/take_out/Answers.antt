@@ -1,0 +1,21 @@
+use Rattle.std.proofs.Common.{arith, refl, length, ◌<◌, ◌≤◌, ◌++◌, ◌∷◌, [], List, ℕ, cond}
+use Rattle.std.specs.Prelude.{is_ok}
+use Rattle.std.specs.Global.{Vec}
+use Rattle.std.proofs.lemmas.Option.{slice_get_read}
+use Rattle.source_semantics.specs.Source.{without}
+use Rattle.replay_state.proofs.Changes.{changed_past, set_changed}
+use Rattle.replay_state.specs.Queues.{tail_of}
+use Rattle.replay_state.proofs.queues.take_out.Goals as goal
+
+pub returns-then-condition-len : goal.returns-then-condition-len
+returns-then-condition-len c =
+    let xs = c.args.queues.now.items in
+    let below : c.args.condition < length xs = omega (arith, c.if-condition-len.true, c.len.ensures) in
+    set_changed (λ (q : Vec ℕ). q.items) (without c.args.process) c.args.condition xs c.index_mut.result.now _
+    (slice_get_read xs (length xs) c.args.condition c.index_mut.result.now refl below c.index_mut.ensures.value) c.leave_queue.ensures
+
+pub returns-else-condition-len : goal.returns-else-condition-len
+returns-else-condition-len c =
+    let xs = c.args.queues.now.items in
+    let past : length xs ≤ c.args.condition = omega (arith, c.if-condition-len.false, c.len.ensures) in
+    changed_past (λ (q : Vec ℕ). q.items) (without c.args.process) c.args.condition xs past

@@ -1,0 +1,22 @@
+use Rattle.std.proofs.Common.{arith, refl, ap, length, ◌<◌, ◌≤◌, ℕ}
+use Rattle.std.proofs.lemmas.Option.{slice_get_read}
+use Rattle.source_semantics.specs.Config.{Hold, Job, active, waiting, job_doing, released_of, woken}
+use Rattle.replay_state.specs.View.{calls_of, hold_of, job_of, vars_of}
+use Rattle.replay_state.proofs.Changes.{changed_past, set_changed}
+use Rattle.replay_state.specs.Texts.{after_of, raised_job}
+use Rattle.replay_state.proofs.raising.set_after.Goals as goal
+
+pub returns-then-process-len : goal.returns-then-process-len
+returns-then-process-len c =
+    let xs = c.args.jobs.now.items in
+    let x = c.index_mut-job.result.now in
+    let below : c.args.process < length xs = omega (arith, c.if-process-len.true, c.len.ensures) in
+    set_changed job_of (raised_job (after_of c.args.after)) c.args.process xs x _
+    (slice_get_read xs (length xs) c.args.process x refl below c.index_mut-job.ensures.value)
+    (ap (λ (r : ℕ). record { vars = vars_of x.vars.items; doing = active r; calls = calls_of c.args.after.calls.items; handling = c.args.after.handling }) c.released-began.ensures)
+
+pub returns-else-process-len : goal.returns-else-process-len
+returns-else-process-len c =
+    let xs = c.args.jobs.now.items in
+    let past : length xs ≤ c.args.process = omega (arith, c.if-process-len.false, c.len.ensures) in
+    changed_past job_of (raised_job (after_of c.args.after)) c.args.process xs past

@@ -1,0 +1,4 @@
+pub mod View
+pub mod Texts
+pub mod Queues
+pub mod Tables

@@ -1,0 +1,25 @@
+//! Values, silent statements.
+//!
+//! The running source meaning in code: values of expressions, and what statements come to.
+//!
+//! Each function answers what the function of the same name of `source_semantics` answers, for
+//! every tree and every memory. Values are kept in 64 bits, so no premise on literals, ranges or
+//! variables is asked.
+#![tactic(auto)]
+
+mod eval;
+mod lookup;
+mod memory;
+mod outer;
+pub mod running;
+mod stmt;
+mod store;
+mod words;
+
+pub use eval::{Around, Fault, value};
+pub use lookup::{Found, Scope, routine_named};
+pub use memory::{Held, Home, Range, Slot, equal};
+pub use outer::{Change, Outer};
+pub use stmt::{Ran, run_all};
+pub use store::place_at;
+pub use words::{Answer, is_true, negated, operated, truth};

@@ -1,5 +1,0 @@
-use Rattle.rte_accept.specs.Running.{program_of}
-use Rattle.rte_accept.proofs.begin.is_in_time.Given as goal
-
-abbrev pub ghost-is_none_missing : goal.ghost-is_none_missing
-ghost-is_none_missing a = program_of a.self.now

@@ -1,4 +1,0 @@
-use Rattle.rte_accept.proofs.rules.Rules.is_first.Given as goal
-
-abbrev pub ghost-is_first : goal.ghost-is_first
-ghost-is_first g a = g.program

@@ -1,4 +1,0 @@
-mod Held
-mod Planned
-mod Runs
-pub mod AsRaw

@@ -1,4 +1,0 @@
-use Rattle.rte_admitted_run.proofs.run.put_log.Given as goal
-
-abbrev pub ghost-run : goal.ghost-run
-ghost-run g a = g.whole

@@ -1,9 +1,0 @@
-use Rattle.std.proofs.Common.{◌≡◌, ◌-◌, codes}
-use Rattle.rte_line_fields.specs.Front.{begins, front}
-use Rattle.rte_asm_lines.specs.Names.{condition_read}
-use Rattle.rte_asm_sections.specs.Sections.{conditions_read, rows_read}
-use Rattle.rte_asm.proofs.RowLoop.{in_front}
-use Rattle.rte_asm.proofs.names.conditions_at.Given as goal
-
-abbrev pub invariant-loop : goal.invariant-loop
-invariant-loop l = in_front l.conditions (rows_read (begins (codes "condition ")) (condition_read l.taken l.monitors) (condition_read l.taken l.monitors) l.conditions (256 - l.counter) (front l.place)) ≡ conditions_read l.taken l.monitors (front l.at)

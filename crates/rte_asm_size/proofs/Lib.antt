@@ -1,5 +1,0 @@
-pub mod Words
-pub mod Trees
-pub mod Lines
-pub mod Ranges
-pub mod Whole

@@ -1,7 +1,0 @@
-pub mod Rows
-pub mod Inserted
-pub mod Counted
-pub mod Costs
-pub mod RoutineTable
-pub mod ProcessTable
-pub mod Tables

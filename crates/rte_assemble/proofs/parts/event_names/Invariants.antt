@@ -1,9 +1,0 @@
-use Rattle.std.proofs.Common.{◌≡◌, ◌++◌, map, drop}
-use Rattle.std.specs.Prelude.{filter_map}
-use Rattle.rte_tree.specs.Placed.{placed_decl, plain_decl}
-use Rattle.rte_source_meaning.specs.Names.{event_in}
-use Rattle.rte_name_list.specs.First.{names_of}
-use Rattle.rte_assemble.proofs.parts.event_names.Given as goal
-
-abbrev pub invariant-loop-decl : goal.invariant-loop-decl
-invariant-loop-decl l = names_of l.names.items ++ filter_map event_in (map plain_decl (map placed_decl (drop l.decl-index l.decls))) ≡ filter_map event_in (map plain_decl (map placed_decl l.decls))

@@ -1,6 +1,0 @@
-use Rattle.std.proofs.Common.{arith}
-use Rattle.rte_assemble.proofs.Counted.{place-most}
-use Rattle.rte_assemble.proofs.releases.event_number.Goals as goal
-
-pub overflow_cast-result : goal.overflow_cast-result
-overflow_cast-result c = omega (arith, c.requires, c.number-place.ensures, place-most c.args.event.now c.args.events.now)

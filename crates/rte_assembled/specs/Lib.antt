@@ -1,2 +1,0 @@
-pub mod Assembled
-pub use Rattle.rte_assemble.specs.Fields

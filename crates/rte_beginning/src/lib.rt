@@ -1,2 +1,0 @@
-//! The beginnings of programs.
-#![tactic(auto)]

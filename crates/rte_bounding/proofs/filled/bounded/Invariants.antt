@@ -1,5 +1,0 @@
-use Rattle.rte_bounding.proofs.Growing.{BoundedSoFar}
-use Rattle.rte_bounding.proofs.filled.bounded.Given as goal
-
-abbrev pub invariant-loop-number : goal.invariant-loop-number
-invariant-loop-number l = BoundedSoFar l.bounds l.processes l.number l.all

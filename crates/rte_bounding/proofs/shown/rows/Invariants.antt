@@ -1,7 +1,0 @@
-use Rattle.std.proofs.Common.{◌≡◌, ◌++◌, map, drop}
-use Rattle.rte_image.specs.Raw.{process_of}
-use Rattle.rte_built.specs.Shown.{rows_of}
-use Rattle.rte_bounding.proofs.shown.rows.Given as goal
-
-abbrev pub invariant-loop-number : goal.invariant-loop-number
-invariant-loop-number l = l.all ++ rows_of (map process_of (drop l.number l.processes)) (drop l.number l.bounds) ≡ rows_of (map process_of l.processes) l.bounds

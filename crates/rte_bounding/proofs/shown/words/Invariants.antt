@@ -1,6 +1,0 @@
-use Rattle.std.proofs.Common.{◌≡◌, map, take}
-use Rattle.rte_image.specs.declared.raw.RawMon.{RawMon}
-use Rattle.rte_bounding.proofs.shown.words.Given as goal
-
-abbrev pub invariant-loop-monitor : goal.invariant-loop-monitor
-invariant-loop-monitor l = l.all ≡ map (λ (x : RawMon). x.words) (take l.monitor-index l.monitors)

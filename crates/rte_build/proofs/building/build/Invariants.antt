@@ -1,4 +1,0 @@
-use Rattle.rte_build.proofs.building.build.Given as goal
-
-abbrev pub ghost-ranked : goal.ghost-ranked
-ghost-ranked g a = g.text

@@ -1,4 +1,0 @@
-pub mod Build
-pub mod Steps
-pub use Rattle.rte_built_limits.specs.Source
-pub use Rattle.rte_bounding.specs.Bounding

@@ -1,4 +1,0 @@
-pub mod Suits
-pub use Rattle.rte_commands.specs.Source
-pub use Rattle.rte_commands.specs.Built
-pub use Rattle.rte_commands.specs.Script

@@ -1,7 +1,0 @@
-use Rattle.std.proofs.Common.{◌≡◌, drop}
-use Rattle.rte_source_meaning.specs.Store.{slot_named}
-use Rattle.rte_config.specs.View.{vars_of}
-use Rattle.rte_call_memory.proofs.slots.slot_named.Given as goal
-
-abbrev pub invariant-loop-slot : goal.invariant-loop-slot
-invariant-loop-slot l = slot_named l.name (vars_of (drop l.slot-index l.slots)) ≡ slot_named l.name (vars_of l.slots)

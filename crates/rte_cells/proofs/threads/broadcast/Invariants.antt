@@ -1,4 +1,0 @@
-use Rattle.rte_cells.proofs.threads.broadcast.Given as goal
-
-abbrev pub ghost-wake_each : goal.ghost-wake_each
-ghost-wake_each g a = g.image

@@ -1,2 +1,0 @@
-pub use Rattle.rte_ruled.specs.Ruled
-pub use Rattle.rte_called.specs.Called

@@ -1,4 +1,0 @@
-pub mod Walk
-pub mod Leads
-pub mod Handlers
-pub use Rattle.rte_checked_names.proofs.Differ

@@ -1,1 +1,0 @@
-pub use Rattle.rte_valid_law.proofs.Firsts

@@ -1,4 +1,0 @@
-use Rattle.rte_compile.proofs.compiling.compiled.Given as goal
-
-abbrev pub ghost-build : goal.ghost-build
-ghost-build g a = g.bytes

@@ -1,4 +1,0 @@
-pub mod Built
-pub mod Compile
-pub mod Told
-pub mod Written

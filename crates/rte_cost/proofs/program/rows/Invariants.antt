@@ -1,9 +1,0 @@
-use Rattle.std.proofs.Common.{◌≡◌, drop, []}
-use Rattle.rte_emits.specs.Numbering.{numbered}
-use Rattle.rte_cost.specs.Parts.{rows_from}
-use Rattle.rte_cost.proofs.program.rows.Given as goal
-
-abbrev pub invariant-loop-number : goal.invariant-loop-number
-invariant-loop-number g l =
-    rows_from (g.P.Lookups.program l.program) (drop l.number (numbered (g.P.Lookups.program l.program))) l.rows
-    ≡ rows_from (g.P.Lookups.program l.program) (numbered (g.P.Lookups.program l.program)) []

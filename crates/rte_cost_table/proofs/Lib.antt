@@ -1,5 +1,0 @@
-pub mod Levels
-pub mod Parts
-pub mod Rows
-pub mod Sizes
-pub mod Total

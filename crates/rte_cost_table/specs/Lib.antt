@@ -1,2 +1,0 @@
-pub mod Defined
-pub use Rattle.rte_cost_laws.specs.Measured

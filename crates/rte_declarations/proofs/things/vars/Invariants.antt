@@ -1,8 +1,0 @@
-use Rattle.std.proofs.Common.{◌≡◌, List, map, drop}
-use Rattle.rte_tree.specs.Placed.{placed_var}
-use Rattle.rte_declarations.specs.Things.{learn, vars_things}
-use Rattle.rte_declarations.specs.Seen.{Declared, known_things}
-use Rattle.rte_declarations.proofs.things.vars.Given as goal
-
-abbrev pub invariant-loop-var : goal.invariant-loop-var
-invariant-loop-var l = (more : List Declared) → learn (known_things l.things.entries) (vars_things l.owner (map placed_var (drop l.var-index l.list)) more) ≡ learn (known_things l.fn.things.entries) (vars_things l.owner (map placed_var l.list) more)

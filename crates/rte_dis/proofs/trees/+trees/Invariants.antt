@@ -1,7 +1,0 @@
-use Rattle.std.proofs.Common.{◌≡◌, ◌++◌, drop}
-use Rattle.rte_seg.specs.View.{views}
-use Rattle.rte_image_text.specs.TreeText.{segs_text}
-use Rattle.rte_dis.proofs.trees.+trees.Given as goal
-
-abbrev pub invariant-put_segs-loop-seg : goal.invariant-put_segs-loop-seg
-invariant-put_segs-loop-seg l = l.text ++ segs_text (views (drop l.seg-index l.segs)) ≡ l.initial.text ++ segs_text (views l.segs)

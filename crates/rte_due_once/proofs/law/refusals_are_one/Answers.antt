@@ -1,5 +1,0 @@
-use Rattle.rte_due_once.proofs.Texts.{refusals_are_one}
-use Rattle.rte_due_once.proofs.law.refusals_are_one.Goals as goal
-
-pub returns : goal.returns
-returns c = refusals_are_one c.written_or_faulty.ensures c.texts_have_one_fault.ensures c.late_reports_are_one.ensures

@@ -1,5 +1,0 @@
-use Rattle.rte_due_once.proofs.Texts.{timely_texts_are_not_late}
-use Rattle.rte_due_once.proofs.law.timely_texts_are_not_late.Goals as goal
-
-pub returns : goal.returns
-returns c = timely_texts_are_not_late c.written_once.ensures c.timely_or_late.ensures

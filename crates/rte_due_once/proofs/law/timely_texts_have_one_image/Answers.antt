@@ -1,5 +1,0 @@
-use Rattle.rte_due_once.proofs.Texts.{timely_texts_have_one_image}
-use Rattle.rte_due_once.proofs.law.timely_texts_have_one_image.Goals as goal
-
-pub returns : goal.returns
-returns c = timely_texts_have_one_image c.written_once.ensures c.built_images_are_one.ensures

@@ -1,5 +1,0 @@
-mod Demanded
-mod Growing
-mod Lasts
-mod Owned
-mod Shaped

@@ -1,4 +1,0 @@
-use Rattle.rte_edf_demands.proofs.shaping.shape.Given as goal
-
-abbrev pub ghost-with_deadlines : goal.ghost-with_deadlines
-ghost-with_deadlines g a = g.text

@@ -1,3 +1,0 @@
-pub mod Waits
-pub mod Report
-pub mod Due

@@ -1,7 +1,0 @@
-mod Due
-mod Elements
-mod Firsts
-mod Images
-mod Judged
-mod Listed
-mod Scripts

@@ -1,7 +1,0 @@
-use Rattle.rte_edf_laws.proofs.Joined.{edf_images_keep_their_word}
-use Rattle.rte_edf_laws.proofs.law.edf_images_keep_their_word.Goals as goal
-
-pub returns : goal.returns
-returns c =
-    edf_images_keep_their_word c.checked_programs_are_ready.ensures c.generated_code_is_code.ensures c.names_have_frames.ensures c.scripts_for_the_names_suit.ensures
-    c.scripts_suit.ensures.framed c.edf_runs_are_right.ensures

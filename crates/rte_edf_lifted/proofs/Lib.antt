@@ -1,5 +1,0 @@
-pub mod Phases
-pub mod Starts
-pub mod Ticks
-pub mod Run
-pub mod Kept

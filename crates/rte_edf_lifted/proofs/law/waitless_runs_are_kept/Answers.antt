@@ -1,5 +1,0 @@
-use Rattle.rte_edf_lifted.proofs.Kept.{waitless_runs_are_kept}
-use Rattle.rte_edf_lifted.proofs.law.waitless_runs_are_kept.Goals as goal
-
-pub returns : goal.returns
-returns c = waitless_runs_are_kept

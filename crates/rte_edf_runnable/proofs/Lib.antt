@@ -1,2 +1,0 @@
-pub mod Runnable
-pub mod Lines

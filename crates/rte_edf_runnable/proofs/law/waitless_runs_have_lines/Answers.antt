@@ -1,5 +1,0 @@
-use Rattle.rte_edf_runnable.proofs.Lines.{waitless_runs_have_lines}
-use Rattle.rte_edf_runnable.proofs.law.waitless_runs_have_lines.Goals as goal
-
-pub returns : goal.returns
-returns c = waitless_runs_have_lines c.waitless_runs_are_awake.ensures

@@ -1,4 +1,0 @@
-//! What is promised of runs under earliest deadline first.
-//!
-//! Definitions alone: `specs/Runs.antt`.
-#![tactic(auto)]

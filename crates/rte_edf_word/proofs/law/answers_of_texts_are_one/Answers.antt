@@ -1,5 +1,0 @@
-use Rattle.rte_edf_word.proofs.Words.{answers_one}
-use Rattle.rte_edf_word.proofs.law.answers_of_texts_are_one.Goals as goal
-
-pub returns : goal.returns
-returns c = answers_one c.written_once.ensures c.edf_images_are_one.ensures c.answers_are_one.ensures

@@ -1,2 +1,0 @@
-pub mod Queueing
-pub mod Exceptions

@@ -1,9 +1,0 @@
-pub mod Lists
-pub mod Reached
-pub mod Ranked
-pub mod Tasks
-pub mod Held
-pub mod Shapes
-pub mod Agreeing
-pub mod Bounded
-pub mod Timely

@@ -1,5 +1,0 @@
-pub mod Words
-pub mod ExprGrammar
-pub mod StmtGrammar
-pub mod Grammar
-pub mod Opening

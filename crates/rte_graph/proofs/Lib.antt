@@ -1,4 +1,0 @@
-pub mod Edges
-pub mod Marking
-pub mod Spreading
-pub mod Rounds

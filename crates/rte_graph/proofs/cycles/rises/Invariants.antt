@@ -1,6 +1,0 @@
-use Rattle.std.proofs.Common.{◌≤◌, take, get_or}
-use Rattle.std.specs.Prelude.{All}
-use Rattle.rte_graph.proofs.cycles.rises.Given as goal
-
-abbrev pub invariant-loop-to : goal.invariant-loop-to
-invariant-loop-to l = All (λ to. l.least ≤ get_or l.numbers to 0) (take l.to-index l.row)

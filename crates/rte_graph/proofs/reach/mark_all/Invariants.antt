@@ -1,6 +1,0 @@
-use Rattle.std.proofs.Common.{take}
-use Rattle.rte_graph.specs.Marks.{AreMarked}
-use Rattle.rte_graph.proofs.reach.mark_all.Given as goal
-
-abbrev pub invariant-loop-node : goal.invariant-loop-node
-invariant-loop-node l = AreMarked l.initial.marks l.initial.found.items (take l.node-index l.nodes) l.marks l.found.items

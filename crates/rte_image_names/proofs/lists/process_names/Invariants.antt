@@ -1,6 +1,0 @@
-use Rattle.std.proofs.Common.{◌≡◌, map, take}
-use Rattle.rte_numbering.specs.Parts.{seen_processes}
-use Rattle.rte_image_names.proofs.lists.process_names.Given as goal
-
-abbrev pub invariant-loop-process : goal.invariant-loop-process
-invariant-loop-process l = l.names ≡ map (λ p. p.name) (seen_processes (take l.process-index l.processes))

@@ -1,2 +1,0 @@
-pub mod ManyNumbers
-pub mod Later

@@ -1,9 +1,0 @@
-use Rattle.std.proofs.Common.{ap, sym}
-use Rattle.std.specs.Prelude.{nat_eq}
-use Rattle.rte_image_parts.specs.Standing.{numbers_in}
-use Rattle.rte_image_parts.proofs.ManyNumbers.{many}
-use Rattle.rte_image_parts.proofs.numbers.HandlerNumbers.is_empty.Goals as goal
-
-pub returns : goal.returns
-unfolding numbers_in
-returns c = ap (λ k. nat_eq k 0) (sym (many c.args.self.now.count c.args.self.now.bytes.now c.args.self.now.are_read))

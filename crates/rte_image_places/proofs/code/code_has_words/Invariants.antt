@@ -1,6 +1,0 @@
-use Rattle.std.proofs.Common.{All, take}
-use Rattle.rte_isa.specs.Bytes.{HasWords}
-use Rattle.rte_image_places.proofs.code.code_has_words.Given as goal
-
-abbrev pub invariant-loop-instr : goal.invariant-loop-instr
-invariant-loop-instr l = All HasWords (take l.instr-index l.code)

@@ -1,4 +1,0 @@
-pub mod Brings
-pub mod Trees
-pub mod Parts
-pub mod Written

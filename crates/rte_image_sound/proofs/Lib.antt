@@ -1,4 +1,0 @@
-pub mod Instructions
-pub mod Fields
-pub mod Whole
-pub mod Files

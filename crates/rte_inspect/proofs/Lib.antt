@@ -1,4 +1,0 @@
-pub mod Looking
-pub mod Occupying
-pub mod Declaring
-pub mod Ticking

@@ -1,8 +1,0 @@
-use Rattle.rte_lex.proofs.LawLemmas.{tokens_or_fault, one_fault}
-use Rattle.rte_lex.proofs.laws.one_fault.Goals as goal
-
-pub returns-clause-apart : goal.returns-clause-apart
-returns-clause-apart c = tokens_or_fault
-
-pub returns-clause-one : goal.returns-clause-one
-returns-clause-one c = one_fault

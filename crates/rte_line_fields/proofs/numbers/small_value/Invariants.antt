@@ -1,7 +1,0 @@
-use Rattle.std.proofs.Common.{◌≡◌, ◌≤◌, fold, drop}
-use Rattle.rte_line_fields.specs.Fields.{value}
-use Rattle.rte_line_fields.proofs.Digits.{with_digit}
-use Rattle.rte_line_fields.proofs.numbers.small_value.Given as goal
-
-abbrev pub invariant-loop-digit : goal.invariant-loop-digit
-invariant-loop-digit l = (l.value ≤ 4294967295) × (fold with_digit l.value (drop l.digit-index l.digits) ≡ value l.digits)

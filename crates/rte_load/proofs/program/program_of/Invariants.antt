@@ -1,8 +1,0 @@
-use Rattle.std.proofs.Common.{◌≡◌, ◌-◌, ◌*◌, ◌++◌}
-use Rattle.rte_load.specs.Draws.{state}
-use Rattle.rte_load.specs.Program.{program_text}
-use Rattle.rte_load.proofs.Pieces.{rest}
-use Rattle.rte_load.proofs.program.program_of.Given as goal
-
-abbrev pub invariant-loop-before : goal.invariant-loop-before
-invariant-loop-before l = (l.draws.state ≡ state l.key (3 * l.before)) × (l.text ++ rest l.key l.count l.before (l.count - l.before) ≡ program_text l.key l.count)

@@ -1,8 +1,0 @@
-use Rattle.std.proofs.Common.{◌≡◌, ◌-◌, ◌++◌}
-use Rattle.rte_load.specs.Draws.{state}
-use Rattle.rte_load.specs.Script.{script_text}
-use Rattle.rte_load.proofs.Lines.{rest}
-use Rattle.rte_load.proofs.script.script_of.Given as goal
-
-abbrev pub invariant-loop-before : goal.invariant-loop-before
-invariant-loop-before l = (l.draws.state ≡ state l.key l.before) × (l.text ++ rest l.key l.count l.before (20 - l.before) ≡ script_text l.key l.count)

@@ -1,3 +1,0 @@
-mod Costs
-mod Held
-mod Joined

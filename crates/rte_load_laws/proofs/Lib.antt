@@ -1,4 +1,0 @@
-mod Rules
-mod Time
-mod Faults
-mod Built

@@ -1,5 +1,0 @@
-use Rattle.rte_load_laws.proofs.Time.{keeps_time}
-use Rattle.rte_load_laws.proofs.law.load_is_in_time.Goals as goal
-
-pub returns : goal.returns
-returns c = keeps_time c.load_is_light.ensures c.light_images_respond.ensures

@@ -1,3 +1,0 @@
-mod Plain
-pub mod Lists
-pub mod Lengths

@@ -1,5 +1,0 @@
-use Rattle.rte_load_stacks.proofs.Joined.{none_large}
-use Rattle.rte_load_stacks.proofs.law.load_stacks.Goals as goal
-
-pub returns : goal.returns
-returns c key count few g same place large = none_large key count g (c.load_size.ensures.same key count g same) place large

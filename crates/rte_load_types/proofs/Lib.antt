@@ -1,9 +1,0 @@
-mod Given
-mod Terms
-mod Statements
-mod Trees
-mod Sites
-mod Processes
-mod Monitors
-mod Programs
-mod Types

@@ -1,8 +1,0 @@
-use Rattle.rte_log_reading.proofs.Once.{line_once, log_once}
-use Rattle.rte_log_reading.proofs.laws.one_log.Goals as goal
-
-pub returns-clause-line : goal.returns-clause-line
-returns-clause-line c = line_once
-
-pub returns-clause-text : goal.returns-clause-text
-returns-clause-text c = log_once

@@ -1,7 +1,0 @@
-use Rattle.std.proofs.Common.{[]}
-use Rattle.std.specs.Prelude.{slice_get, unwrap_or}
-use Rattle.rte_log_reading.specs.Finding.{AreNumbers}
-use Rattle.rte_log_reading.proofs.numbers.numbers_of.Given as goal
-
-abbrev pub invariant-loop-k : goal.invariant-loop-k
-invariant-loop-k l = AreNumbers l.numbers.entries l.k (λ i. unwrap_or (slice_get l.list i) [])

@@ -1,7 +1,0 @@
-use Rattle.std.proofs.Common.{ℕ, ◌<◌, get_or}
-use Rattle.rte_fields.specs.Fields.{IsWord}
-use Rattle.rte_image.specs.declared.names.DevName.{DevName}
-use Rattle.rte_log_reading.proofs.words.are_devices.Given as goal
-
-abbrev pub invariant-loop-device : goal.invariant-loop-device
-invariant-loop-device l = (i : ℕ) (d : DevName) → i < l.device-index → IsWord (get_or l.list i d).name

@@ -1,4 +1,0 @@
-pub mod Logs
-pub mod Parts
-pub mod Finding
-pub mod Laws

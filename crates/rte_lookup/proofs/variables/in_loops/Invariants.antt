@@ -1,6 +1,0 @@
-use Rattle.std.proofs.Common.{◌≡◌, drop}
-use Rattle.rte_lookup.specs.Tables.{loop_told}
-use Rattle.rte_lookup.proofs.variables.in_loops.Given as goal
-
-abbrev pub invariant-loop-around : goal.invariant-loop-around
-invariant-loop-around l = loop_told l.means (drop l.around-index l.loops) l.name ≡ loop_told l.fn.spot l.loops l.name

@@ -1,2 +1,0 @@
-pub mod Loops
-pub use Rattle.rte_cost_table.specs.Defined

@@ -1,4 +1,0 @@
-pub mod Standing
-pub mod Calls
-pub mod Unbound
-pub mod Whole

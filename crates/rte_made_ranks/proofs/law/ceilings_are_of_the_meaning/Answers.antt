@@ -1,7 +1,0 @@
-use Rattle.rte_made_ranks.proofs.Least.{ceilings_are}
-use Rattle.rte_made_ranks.proofs.law.ceilings_are_of_the_meaning.Goals as goal
-
-pub returns : goal.returns
-returns c =
-    ceilings_are c.code_enters_what_texts_touch.ensures c.texts_use_what_they_touch.ensures
-    c.ranks_are_of_the_meaning.ensures

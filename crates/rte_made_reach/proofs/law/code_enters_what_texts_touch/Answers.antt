@@ -1,5 +1,0 @@
-use Rattle.rte_made_reach.proofs.Rows.{code_enters}
-use Rattle.rte_made_reach.proofs.law.code_enters_what_texts_touch.Goals as goal
-
-pub returns : goal.returns
-returns c = code_enters c.routines_call_their_texts.ensures c.processes_call_their_texts.ensures

@@ -1,5 +1,0 @@
-pub mod Numbers
-pub mod Routines
-pub mod Processes
-pub mod Program
-pub mod Meeting

@@ -1,7 +1,0 @@
-use Rattle.std.proofs.Common.{◌≡◌, drop}
-use Rattle.rte_config.specs.View.{jobs_of}
-use Rattle.rte_missing.specs.Timings.{clocked, first_in}
-use Rattle.rte_missing.proofs.due.by_clock.Given as goal
-
-abbrev pub invariant-loop-process : goal.invariant-loop-process
-invariant-loop-process l = first_in (clocked (jobs_of l.jobs) l.tick l.process (drop l.process l.timings)) ≡ first_in (clocked (jobs_of l.jobs) l.tick 0 l.timings)

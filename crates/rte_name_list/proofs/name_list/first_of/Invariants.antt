@@ -1,7 +1,0 @@
-use Rattle.std.proofs.Common.{◌≡◌}
-use Rattle.rte_name_list.specs.First.{index_of, names_of}
-use Rattle.rte_name_list.proofs.Table.{from_on}
-use Rattle.rte_name_list.proofs.name_list.first_of.Given as goal
-
-abbrev pub invariant-loop-index : goal.invariant-loop-index
-invariant-loop-index l = from_on l.index l.name l.names ≡ index_of l.name (names_of l.names)

@@ -1,3 +1,0 @@
-pub mod Covered
-pub mod There
-pub use Rattle.rte_valid_law.proofs.Whole

@@ -1,2 +1,0 @@
-pub mod Operands
-pub use Rattle.rte_valid_law.specs.Laws

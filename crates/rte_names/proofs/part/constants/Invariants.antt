@@ -1,9 +1,0 @@
-use Rattle.std.proofs.Common.{◌≡◌, List, [], map, drop}
-use Rattle.rte_tree.specs.Placed.{placed_constant}
-use Rattle.rte_names.specs.Occurrences.{Occurrence, constants_names}
-use Rattle.rte_names.specs.Findings.{noted}
-use Rattle.rte_names.specs.Seen.{site}
-use Rattle.rte_names.proofs.part.constants.Given as goal
-
-abbrev pub invariant-loop-number : goal.invariant-loop-number
-invariant-loop-number l = (more : List Occurrence) → noted l.findings (constants_names (site l.around []) (map placed_constant (drop l.number-index l.list)) more) ≡ noted l.fn.findings (constants_names (site l.around []) (map placed_constant l.list) more)

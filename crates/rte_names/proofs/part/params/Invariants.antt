@@ -1,9 +1,0 @@
-use Rattle.std.proofs.Common.{◌≡◌, List, [], map, drop}
-use Rattle.rte_tree.specs.Placed.{placed_param}
-use Rattle.rte_names.specs.Occurrences.{Occurrence, params_names}
-use Rattle.rte_names.specs.Findings.{noted}
-use Rattle.rte_names.specs.Seen.{site}
-use Rattle.rte_names.proofs.part.params.Given as goal
-
-abbrev pub invariant-loop-param : goal.invariant-loop-param
-invariant-loop-param l = (more : List Occurrence) → noted l.findings (params_names (site l.around []) (map placed_param (drop l.param-index l.list)) more) ≡ noted l.fn.findings (params_names (site l.around []) (map placed_param l.list) more)

@@ -1,8 +1,0 @@
-use Rattle.std.proofs.Common.{◌≡◌, map, drop}
-use Rattle.rte_tree.specs.Placed.{placed_routine}
-use Rattle.rte_names.specs.Occurrences.{entry_name}
-use Rattle.rte_names.specs.Seen.{entry_meaning, add_entries}
-use Rattle.rte_names.proofs.program.entries.Given as goal
-
-abbrev pub invariant-loop-entry : goal.invariant-loop-entry
-invariant-loop-entry l = add_entries (entry_meaning l.entries.entries) l.fn.monitor (map entry_name (map placed_routine (drop l.entry-index l.list))) ≡ add_entries (entry_meaning l.fn.entries.entries) l.fn.monitor (map entry_name (map placed_routine l.list))

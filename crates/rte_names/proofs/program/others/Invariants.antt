@@ -1,8 +1,0 @@
-use Rattle.std.proofs.Common.{◌≡◌, map, drop}
-use Rattle.rte_tree.specs.Placed.{placed_decl}
-use Rattle.rte_names.specs.Occurrences.{others}
-use Rattle.rte_names.specs.Seen.{meaning, add_all}
-use Rattle.rte_names.proofs.program.others.Given as goal
-
-abbrev pub invariant-loop-one : goal.invariant-loop-one
-invariant-loop-one l = add_all (meaning l.scope.entries) (others (map placed_decl (drop l.one-index l.list))) ≡ add_all (meaning l.fn.scope.entries) (others (map placed_decl l.list))

@@ -1,6 +1,0 @@
-use Rattle.std.proofs.Common.{◌≡◌, drop}
-use Rattle.rte_names.specs.Seen.{in_loops}
-use Rattle.rte_names.proofs.scope.find_in_loops.Given as goal
-
-abbrev pub invariant-loop-local : goal.invariant-loop-local
-invariant-loop-local l = in_loops l.name (drop l.local-index l.loops) l.found ≡ in_loops l.name l.loops l.fn.outer

@@ -1,8 +1,0 @@
-use Rattle.std.proofs.Common.{◌≡◌, drop}
-use Rattle.rte_due.specs.NextDue.{is_after}
-use Rattle.rte_config.specs.View.{jobs_of}
-use Rattle.rte_none_missing.specs.Next.{timings_due}
-use Rattle.rte_none_missing.proofs.next.releases_are_after.Given as goal
-
-abbrev pub invariant-loop-process : goal.invariant-loop-process
-invariant-loop-process l = is_after l.until (timings_due (jobs_of l.jobs) l.from l.process (drop l.process l.timings)) ≡ is_after l.until (timings_due (jobs_of l.jobs) l.from 0 l.timings)

@@ -1,4 +1,0 @@
-pub mod Table
-pub mod Listing
-pub mod Meaning
-pub mod Visiting

@@ -1,3 +1,0 @@
-pub mod Texts
-pub mod Calls
-pub mod Parts

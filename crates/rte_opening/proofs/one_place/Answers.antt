@@ -1,5 +1,0 @@
-use Rattle.rte_opening.proofs.Ends as ends
-use Rattle.rte_opening.proofs.one_place.Goals as goal
-
-pub returns : goal.returns
-returns c text toks p q first second = ends.one_place text toks p q first second

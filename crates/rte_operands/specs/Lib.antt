@@ -1,2 +1,0 @@
-pub mod Fine
-pub mod Texts

@@ -1,8 +1,0 @@
-//! Laws: the operands of each instruction of a well-formed text are in range.
-//!
-//! `specs/Fine.antt` says what is asked of the image: what is outside the text lies where its code
-//! finds it, and what it calls may be called. `specs/Texts.antt` has the laws, of routines and of
-//! processes. Nothing here can run.
-#![tactic(auto)]
-
-pub mod law;

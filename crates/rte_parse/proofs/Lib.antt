@@ -1,4 +1,0 @@
-pub mod Loops
-pub mod Rows
-pub mod Stmts
-pub mod Laws

@@ -1,5 +1,0 @@
-use Rattle.rte_image.specs.Raw.{image_of}
-use Rattle.rte_perform.proofs.performing.make_ready.Given as goal
-
-abbrev pub ghost-new : goal.ghost-new
-ghost-new a = image_of a.run.now.image

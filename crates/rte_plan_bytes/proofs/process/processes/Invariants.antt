@@ -1,6 +1,0 @@
-use Rattle.std.proofs.Common.{take}
-use Rattle.rte_state.specs.Plan.{AreProcesses}
-use Rattle.rte_plan_bytes.proofs.process.processes.Given as goal
-
-abbrev pub invariant-loop-number : goal.invariant-loop-number
-invariant-loop-number l = AreProcesses (take l.number l.image.image.processes) l.processes.items

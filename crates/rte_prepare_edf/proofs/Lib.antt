@@ -1,5 +1,0 @@
-mod Few
-mod Prepared
-mod Runs
-mod Scripted
-mod Sized

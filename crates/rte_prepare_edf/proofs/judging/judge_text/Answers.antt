@@ -1,8 +1,0 @@
-use Rattle.std.proofs.Common.{ℕ, List, Err, subst}
-use Rattle.rte_compile.specs.Written.{ReadsWritten}
-use Rattle.rte_prepare_edf.proofs.Prepared.{unread_stops}
-use Rattle.rte_prepare_edf.proofs.judging.judge_text.Goals as goal
-
-pub returns-in-Err-clause-fault : goal.returns-in-Err-clause-fault
-returns-in-Err-clause-fault c =
-    unread_stops c.args.text.items c.in-Err.fault (subst (λ (x : List ℕ). ReadsWritten x (Err c.in-Err.fault)) c.as_slice.ensures.value c.in-Err.ensures)

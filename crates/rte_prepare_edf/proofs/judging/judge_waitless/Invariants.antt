@@ -1,4 +1,0 @@
-use Rattle.rte_prepare_edf.proofs.judging.judge_waitless.Given as goal
-
-abbrev pub ghost-judge_program : goal.ghost-judge_program
-ghost-judge_program g a = g.source

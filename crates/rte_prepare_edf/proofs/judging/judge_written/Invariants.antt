@@ -1,4 +1,0 @@
-use Rattle.rte_prepare_edf.proofs.judging.judge_written.Given as goal
-
-abbrev pub ghost-judge_waitless : goal.ghost-judge_waitless
-ghost-judge_waitless a = a.text.items

@@ -1,3 +1,0 @@
-pub mod Scripted
-pub mod Held
-pub mod Watched

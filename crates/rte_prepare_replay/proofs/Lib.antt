@@ -1,3 +1,0 @@
-mod Few
-mod Judged
-mod Prepared

@@ -1,8 +1,0 @@
-use Rattle.std.proofs.Common.{◌≡◌, map, drop}
-use Rattle.rte_tree.specs.Placed.{placed_param}
-use Rattle.rte_print.specs.Canonical.{param_words, listed, more_listed}
-use Rattle.rte_print.specs.Pages.{puts}
-use Rattle.rte_print.proofs.page.Page.params.Given as goal
-
-abbrev pub invariant-loop-param : goal.invariant-loop-param
-invariant-loop-param l = puts l.self (more_listed param_words (map placed_param (drop l.param-index l.more))) ≡ puts l.fn.self (listed param_words (map placed_param l.params))

@@ -1,4 +1,0 @@
-use Rattle.rte_program_ranks.proofs.ranks.ranks_of.Given as goal
-
-abbrev pub ghost-ranked : goal.ghost-ranked
-ghost-ranked g a = g.text

@@ -1,6 +1,0 @@
-use Rattle.rte_image.specs.Raw.{image_of}
-use Rattle.rte_ranking.proofs.Filling.{RankedSoFar}
-use Rattle.rte_ranking.proofs.processes.ranked.Given as goal
-
-abbrev pub invariant-loop-number : goal.invariant-loop-number
-invariant-loop-number l = RankedSoFar (image_of l.image) l.image.processes l.number l.all

@@ -1,4 +1,0 @@
-pub mod ExprReading
-pub mod StmtReading
-pub mod Reading
-pub mod TreeWords

@@ -1,3 +1,0 @@
-mod Scripted
-pub mod Logged
-pub mod Replayed

@@ -1,4 +1,0 @@
-mod Logs
-mod Verdicts
-pub mod Judged
-pub mod Replayed

@@ -1,7 +1,0 @@
-use Rattle.rte_replay_once.proofs.Replayed.{replay_is_one}
-use Rattle.rte_replay_once.proofs.law.replay_is_one.Goals as goal
-
-pub returns : goal.returns
-returns c =
-    replay_is_one c.written_once.ensures c.written_or_faulty.ensures c.texts_have_one_fault.ensures c.one_script.ensures.text
-    c.one_answer.ensures.script c.one_answer.ensures.fault c.judgements_are_one.ensures

@@ -1,7 +1,0 @@
-use Rattle.std.proofs.Common.{◌≡◌, ◌++◌, drop, map}
-use Rattle.serde_json.specs.View.{view}
-use Rattle.rte_report.specs.Json.{monitors_data}
-use Rattle.rte_report.proofs.json.monitor_values.Given as goal
-
-abbrev pub invariant-loop-at : goal.invariant-loop-at
-invariant-loop-at l = map view l.values.items ++ monitors_data (drop l.at l.names) (drop l.at l.ceilings) (drop l.at l.words) ≡ monitors_data l.names l.ceilings l.words

@@ -1,4 +1,0 @@
-pub mod Example
-pub mod Json
-pub mod Late
-pub mod Report

@@ -1,4 +1,0 @@
-pub mod Ascending
-pub mod Capping
-pub mod Caps
-pub mod Shares

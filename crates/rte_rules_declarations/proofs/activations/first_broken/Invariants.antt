@@ -1,9 +1,0 @@
-use Rattle.std.proofs.Common.{◌≡◌, map, drop, None}
-use Rattle.rte_tree.specs.Placed.{placed, placed_decl}
-use Rattle.rte_rules.specs.Parts.{noted}
-use Rattle.rte_tree.specs.Parts.{processes}
-use Rattle.rte_rules_declarations.specs.Rules.{process_rules}
-use Rattle.rte_rules_declarations.proofs.activations.first_broken.Given as goal
-
-abbrev pub invariant-loop-one : goal.invariant-loop-one
-invariant-loop-one l = let rules = process_rules (placed l.declarations) in noted rules l.first (processes (map placed_decl (drop l.one-index l.one-items))) ≡ noted rules None (processes (map placed_decl l.one-items))

@@ -1,5 +1,0 @@
-mod Words
-mod Effects
-mod Starting
-mod Queued
-pub mod Ticking

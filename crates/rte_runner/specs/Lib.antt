@@ -1,9 +1,0 @@
-pub mod Waits
-pub mod Runnable
-pub mod Turn
-pub mod Standing
-pub mod Ends
-pub mod Completing
-pub use Rattle.rte_settle.specs.Own
-pub use Rattle.rte_settle.specs.Rows
-pub use Rattle.rte_settle.specs.Settled

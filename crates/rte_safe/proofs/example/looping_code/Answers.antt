@@ -1,8 +1,0 @@
-use Rattle.rte_safe.proofs.Looping.{looping_fits, looping_is_safe}
-use Rattle.rte_safe.proofs.example.looping_code.Goals as goal
-
-pub returns-clause-fits : goal.returns-clause-fits
-returns-clause-fits c = looping_fits
-
-pub returns-clause-safe : goal.returns-clause-safe
-returns-clause-safe c = looping_is_safe

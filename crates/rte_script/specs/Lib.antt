@@ -1,5 +1,0 @@
-pub mod Saying
-pub mod Scripts
-pub mod Faults
-pub mod Reading
-pub mod Laws

@@ -1,9 +1,0 @@
-//! Laws of scripts. These functions do nothing; their contracts are the laws.
-
-ghost use Rattle.rte_script.specs.Laws.{IsOneScript, SaysOneThing};
-
-/// A line says one thing, and a text is one script at most.
-pub fn one_script()
-    ensures line { SaysOneThing }
-    ensures text { IsOneScript }
-{}

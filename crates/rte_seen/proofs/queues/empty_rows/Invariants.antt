@@ -1,7 +1,0 @@
-use Rattle.std.proofs.Common.{◌≡◌, []}
-use Rattle.std.specs.Prelude.{replicate}
-use Rattle.rte_seen.specs.Queues.{HaveRoom, rows_of}
-use Rattle.rte_seen.proofs.queues.empty_rows.Given as goal
-
-abbrev pub invariant-loop : goal.invariant-loop
-invariant-loop l = (rows_of l.rows.items ≡ replicate l.counter []) × HaveRoom l.rows.items

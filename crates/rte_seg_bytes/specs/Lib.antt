@@ -1,5 +1,0 @@
-pub mod TreeCode
-pub mod Rows
-pub mod Stands
-pub mod Items
-pub mod Whole

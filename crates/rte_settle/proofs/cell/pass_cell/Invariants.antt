@@ -1,4 +1,0 @@
-use Rattle.rte_settle.proofs.cell.pass_cell.Given as goal
-
-abbrev pub ghost-pass_own : goal.ghost-pass_own
-ghost-pass_own g a = g.at

@@ -1,4 +1,0 @@
-use Rattle.rte_settle.proofs.ending.end_cell.Given as goal
-
-abbrev pub ghost-end_own : goal.ghost-end_own
-ghost-end_own g a = g.at

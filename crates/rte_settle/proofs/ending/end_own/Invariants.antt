@@ -1,4 +1,0 @@
-use Rattle.rte_settle.proofs.ending.end_own.Given as goal
-
-abbrev pub ghost-see : goal.ghost-see
-ghost-see g a = g.at

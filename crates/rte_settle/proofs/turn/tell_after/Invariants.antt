@@ -1,7 +1,0 @@
-use Rattle.rte_settle.proofs.turn.tell_after.Given as goal
-
-abbrev pub ghost-signal : goal.ghost-signal
-ghost-signal g a = g.image
-
-abbrev pub ghost-broadcast : goal.ghost-broadcast
-ghost-broadcast g a = g.image

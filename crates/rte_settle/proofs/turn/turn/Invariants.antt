@@ -1,4 +1,0 @@
-use Rattle.rte_settle.proofs.turn.turn.Given as goal
-
-abbrev pub ghost-pass_cell : goal.ghost-pass_cell
-ghost-pass_cell g a = g.at

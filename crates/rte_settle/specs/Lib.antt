@@ -1,5 +1,0 @@
-pub mod Own
-pub mod Settled
-pub mod Laws
-pub mod Chosen
-pub mod Rows

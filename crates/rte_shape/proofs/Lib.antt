@@ -1,5 +1,0 @@
-pub mod Loaded
-pub mod Decided
-pub mod Runs
-pub mod Bounded
-pub mod Versions

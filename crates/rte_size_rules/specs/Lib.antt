@@ -1,3 +1,0 @@
-pub mod Rules
-pub mod Example
-pub use Rattle.rte_costs.specs.Valid

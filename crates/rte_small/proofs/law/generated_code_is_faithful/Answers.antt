@@ -1,5 +1,0 @@
-use Rattle.rte_small.proofs.Small.{is_faithful}
-use Rattle.rte_small.proofs.law.generated_code_is_faithful.Goals as goal
-
-pub returns : goal.returns
-returns c = is_faithful c.programs_that_keep_sizes_are_small.ensures c.what_is_made_of_a_checked_program_is_faithful.ensures

@@ -1,9 +1,0 @@
-pub mod Texts
-pub mod Owners
-pub mod Levels
-pub mod Sound
-pub mod Example
-pub use Rattle.rte_numbered.proofs.Lists
-pub use Rattle.rte_numbered.proofs.Numbered
-pub use Rattle.rte_ruled.proofs.Rules
-pub use Rattle.rte_ruled.proofs.Tables

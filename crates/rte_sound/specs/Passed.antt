@@ -1,2 +1,0 @@
--- That names stand apart, passed on to the laws above.
-pub use Rattle.rte_ruled.specs.Ruled.{NamesApart}

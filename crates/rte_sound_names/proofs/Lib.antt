@@ -1,4 +1,0 @@
-mod Differing
-mod Declared
-mod Qualified
-pub mod Sound

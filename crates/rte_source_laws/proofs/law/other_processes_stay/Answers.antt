@@ -1,5 +1,0 @@
-use Rattle.rte_source_laws.proofs.Others.{others_stay}
-use Rattle.rte_source_laws.proofs.law.other_processes_stay.Goals as goal
-
-pub returns : goal.returns
-returns c = λ g s d t k n j apart. others_stay g s d t k n j apart

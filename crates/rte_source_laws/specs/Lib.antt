@@ -1,3 +1,0 @@
-pub mod ByDeadline
-pub mod Example
-pub mod NoRun

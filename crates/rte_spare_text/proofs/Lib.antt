@@ -1,3 +1,0 @@
-mod Growing
-mod Joined
-mod Ranks

@@ -1,6 +1,0 @@
-use Rattle.std.proofs.Common.{◌≡◌, ◌++◌, drop}
-use Rattle.rte_spare.specs.Lines.{spaced}
-use Rattle.rte_spare_text.proofs.lines.add_spaced.Given as goal
-
-abbrev pub invariant-loop-number : goal.invariant-loop-number
-invariant-loop-number l = l.text ++ spaced (drop l.number-index l.numbers) ≡ l.initial.text ++ spaced l.numbers

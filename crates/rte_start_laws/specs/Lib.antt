@@ -1,3 +1,0 @@
-pub mod Due
-pub mod Laws
-pub mod Steps

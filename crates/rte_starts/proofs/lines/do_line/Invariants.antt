@@ -1,4 +1,0 @@
-use Rattle.rte_starts.proofs.lines.do_line.Given as goal
-
-abbrev pub ghost-release_row : goal.ghost-release_row
-ghost-release_row g a = g.image

@@ -1,6 +1,0 @@
-use Rattle.std.proofs.Common.{ap}
-use Rattle.rte_machine_meaning.specs.State.{Job, Ready}
-use Rattle.rte_starts.proofs.release.release_cell.Goals as goal
-
-pub returns-clause-released : goal.returns-clause-released
-returns-clause-released c = λ image whole start locals burn. ap (λ (j : Job). Ready j) (c.release.ensures.released image whole start locals burn)

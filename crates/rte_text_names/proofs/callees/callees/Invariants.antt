@@ -1,8 +1,0 @@
-use Rattle.std.proofs.Common.{◌≡◌, ◌++◌, map, drop}
-use Rattle.rte_tree.specs.Placed.{placed, plain}
-use Rattle.rte_made.specs.Told.{callee}
-use Rattle.rte_numbering.specs.Texts.{texts_of}
-use Rattle.rte_text_names.proofs.callees.callees.Given as goal
-
-abbrev pub invariant-loop-text : goal.invariant-loop-text
-invariant-loop-text l = l.callees.items ++ map (λ t. callee (plain (placed l.tables)) t) (texts_of (drop l.text-index l.text-items)) ≡ map (λ t. callee (plain (placed l.tables)) t) (texts_of l.text-items)

@@ -1,9 +1,0 @@
-use Rattle.std.proofs.Common.{◌≡◌, ◌++◌, map, drop}
-use Rattle.std.specs.Prelude.{filter_map}
-use Rattle.rte_tree.specs.Placed.{placed_member, plain_member}
-use Rattle.rte_source_meaning.specs.Names.{condition_in}
-use Rattle.rte_name_list.specs.First.{names_of}
-use Rattle.rte_text_names.proofs.conditions.own_conditions.Given as goal
-
-abbrev pub invariant-loop-member : goal.invariant-loop-member
-invariant-loop-member l = names_of l.names.items ++ filter_map condition_in (map plain_member (map placed_member (drop l.member-index l.member-items))) ≡ filter_map condition_in (map plain_member (map placed_member l.member-items))

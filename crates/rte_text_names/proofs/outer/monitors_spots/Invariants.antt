@@ -1,8 +1,0 @@
-use Rattle.std.proofs.Common.{◌≡◌, ◌++◌, drop}
-use Rattle.rte_tree.specs.Placed.{placed, plain}
-use Rattle.rte_numbering.specs.Parts.{seen_monitors}
-use Rattle.rte_text_names.specs.Shared.{monitor_tables}
-use Rattle.rte_text_names.proofs.outer.monitors_spots.Given as goal
-
-abbrev pub invariant-loop-monitor : goal.invariant-loop-monitor
-invariant-loop-monitor l = l.tables.items ++ monitor_tables (plain (placed l.values)) l.base (seen_monitors (drop l.monitor-index l.monitors)) ≡ monitor_tables (plain (placed l.values)) 0 (seen_monitors l.monitors)

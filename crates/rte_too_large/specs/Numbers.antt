@@ -1,8 +1,0 @@
--- The premise on the numbers of routines.
-use Rattle.std.specs.Prelude.{◌≡◌, Some, Contains, slice_get}
-use Rattle.rte_tree.specs.Plain.{Prog}
-use Rattle.rte_emits.specs.Numbering.{Text, texts_from, numbered, number_of}
-
--- each routine and entry stands under its number, as in every checked program
-abbrev pub HaveNumbers : Prog → Type 0
-HaveNumbers g = (t : Text) → Contains (texts_from 0 0 g.decls) t → slice_get (numbered g) (number_of g t) ≡ Some t

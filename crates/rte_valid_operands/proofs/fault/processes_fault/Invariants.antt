@@ -1,9 +1,0 @@
-use Rattle.std.proofs.Common.{◌≡◌}
-use Rattle.rte_image.specs.Raw.{image_of, process_of}
-use Rattle.rte_valid.specs.Operands.{operand_fault_in, whose_process, processes_operand_fault}
-use Rattle.rte_valid.specs.Pieces.{piece_number}
-use Rattle.rte_valid_pieces.proofs.Seeking.{from_index}
-use Rattle.rte_valid_operands.proofs.fault.processes_fault.Given as goal
-
-abbrev pub invariant-loop-number : goal.invariant-loop-number
-invariant-loop-number l = from_index process_of (λ k p. operand_fault_in (image_of l.image) (piece_number (image_of l.image) k) (whose_process (image_of l.image) k p)) l.image.processes l.number ≡ processes_operand_fault (image_of l.image)

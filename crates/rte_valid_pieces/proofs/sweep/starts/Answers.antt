@@ -1,6 +1,0 @@
-use Rattle.std.proofs.Common.{arith, ap, length}
-use Rattle.rte_valid_pieces.proofs.Sweeping.{starts_all}
-use Rattle.rte_valid_pieces.proofs.sweep.starts.Goals as goal
-
-pub returns : goal.returns
-returns c = starts_all c.args.image.now c.loop-process.all.items c.loop-process.process-index (omega (arith, c.loop-process-test.false, ap (λ xs. length xs) c.as_slice-process-items.ensures)) c.loop-process.invariant

@@ -1,7 +1,0 @@
-use Rattle.rte_valid_read.proofs.Joined.{joined}
-use Rattle.rte_valid_read.proofs.law.every_valid_image_that_is_read_is_safe_and_in_time.Goals as goal
-
-pub returns : goal.returns
-returns c =
-    joined c.images_read_are_in_their_ranges.ensures.limits
-    c.every_valid_image_is_safe_and_in_time.ensures

@@ -1,5 +1,0 @@
-use Rattle.rte_valid_shape.proofs.Waiting.{BeforeRow}
-use Rattle.rte_valid_shape.proofs.handlers.waits_table.Given as goal
-
-abbrev pub invariant-loop-routine : goal.invariant-loop-routine
-invariant-loop-routine l = BeforeRow l.raw l.waits l.routine-index

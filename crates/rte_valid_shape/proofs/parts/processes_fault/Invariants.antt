@@ -1,5 +1,0 @@
-use Rattle.rte_valid_shape.proofs.Bodies.{BeforeProcess}
-use Rattle.rte_valid_shape.proofs.parts.processes_fault.Given as goal
-
-abbrev pub invariant-loop-process : goal.invariant-loop-process
-invariant-loop-process l = BeforeProcess l.raw l.parts l.process-index

@@ -1,5 +1,0 @@
-pub mod Found
-pub mod Parts
-pub mod Costs
-pub mod Waits
-pub mod Handlers

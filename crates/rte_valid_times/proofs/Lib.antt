@@ -1,3 +1,0 @@
-pub mod Deadlines
-pub mod InOrder
-pub mod Declared

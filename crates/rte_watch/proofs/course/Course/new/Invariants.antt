@@ -1,4 +1,0 @@
-use Rattle.rte_watch.proofs.course.Course.new.Given as goal
-
-abbrev pub ghost-new : goal.ghost-new
-ghost-new g a = g.image

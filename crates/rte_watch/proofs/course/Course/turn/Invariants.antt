@@ -1,4 +1,0 @@
-use Rattle.rte_watch.proofs.course.Course.turn.Given as goal
-
-abbrev pub ghost-follow : goal.ghost-follow
-ghost-follow g a = g.image

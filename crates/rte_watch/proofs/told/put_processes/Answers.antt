@@ -1,8 +1,0 @@
-use Rattle.rte_machine_meaning.specs.Run.{state_at}
-use Rattle.rte_stop.specs.Text.{process_line}
-use Rattle.rte_watch.proofs.Lines.{line_more}
-use Rattle.rte_watch.proofs.told.put_processes.Goals as goal
-
-pub loop-process-preserved : goal.loop-process-preserved
-loop-process-preserved g c =
-    line_more (process_line c.args.image.now.names g.run.image (state_at g.run.image g.run.script c.args.machine.now.tick)) _ _ _ _ c.loop-process.invariant c.in_ok-put_one_process.ensures

@@ -1,8 +1,0 @@
-use Rattle.std.proofs.Common.{ℕ, ap, sym, ◌∙◌}
-use Rattle.std.specs.Prelude.{min}
-use Rattle.rte_watch.proofs.Telling.{monitor_declared}
-use Rattle.rte_watch.proofs.told.shown_of_monitor.Goals as goal
-
-pub returns : goal.returns
-returns c = λ image s same has.
-    c.min.ensures ∙ ap (λ (n : ℕ). min n 16) (sym (monitor_declared c.args.image.now c.as_slice.result.now image s c.args.monitor _ same has c.requires c.as_slice.ensures))

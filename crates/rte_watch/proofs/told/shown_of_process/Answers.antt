@@ -1,8 +1,0 @@
-use Rattle.std.proofs.Common.{ℕ, ap, sym, ◌∙◌}
-use Rattle.std.specs.Prelude.{min}
-use Rattle.rte_watch.proofs.Telling.{process_declared}
-use Rattle.rte_watch.proofs.told.shown_of_process.Goals as goal
-
-pub returns : goal.returns
-returns c = λ image s same has.
-    c.min.ensures ∙ ap (λ (n : ℕ). min n 16) (sym (process_declared c.args.image.now c.as_slice.result.now image s c.args.process _ same has c.requires c.as_slice.ensures))

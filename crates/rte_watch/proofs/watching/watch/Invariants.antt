@@ -1,6 +1,0 @@
-use Rattle.rte_image.specs.Raw.{image_of}
-use Rattle.rte_starts.specs.Begin.{script_of}
-use Rattle.rte_watch.proofs.watching.watch.Given as goal
-
-abbrev pub ghost-watch_by : goal.ghost-watch_by
-ghost-watch_by a = record { image = image_of a.image.now; script = script_of a.script.now }

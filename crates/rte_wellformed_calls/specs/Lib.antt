@@ -1,9 +1,0 @@
-pub mod Levels
-pub use Rattle.rte_wellformed_terms.specs.Places
-pub use Rattle.rte_wellformed_terms.specs.Written
-pub use Rattle.rte_wellformed_terms.specs.Things
-pub use Rattle.rte_wellformed_terms.specs.Mirrors
-pub use Rattle.rte_wellformed_terms.specs.Judged
-pub use Rattle.rte_rules_calls.specs.Reaching
-pub use Rattle.rte_wellformed_terms.specs.Rules
-pub use Rattle.rte_rules_calls.specs.Calls

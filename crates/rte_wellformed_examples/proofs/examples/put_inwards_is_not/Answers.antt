@@ -1,5 +1,0 @@
-use Rattle.rte_wellformed_examples.proofs.Small.{put_inwards_does_not}
-use Rattle.rte_wellformed_examples.proofs.examples.put_inwards_is_not.Goals as goal
-
-pub returns : goal.returns
-returns c = put_inwards_does_not

@@ -1,1 +1,0 @@
-pub use Rattle.rte_wellformed_calls.specs.Mirrors

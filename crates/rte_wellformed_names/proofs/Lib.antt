@@ -1,9 +1,0 @@
-mod Counts
-mod Found
-mod Parts
-mod ExprParts
-mod DeclParts
-mod TokenPlaces
-mod Given
-mod ExprWritten
-mod DeclWritten

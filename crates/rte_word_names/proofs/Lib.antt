@@ -1,3 +1,0 @@
-mod Tokens
-mod Identifiers
-pub mod Named

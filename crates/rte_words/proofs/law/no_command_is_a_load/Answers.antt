@@ -1,8 +1,0 @@
-use Rattle.std.proofs.Common.{◌≡◌, Some, None, ap, sym, ◌∙◌}
-use Rattle.rte_words.specs.Words.{row_of}
-use Rattle.rte_words.proofs.law.no_command_is_a_load.Goals as goal
-
-pub returns : goal.returns
-returns c words call l is make =
-    let none : Some call ≡ None = sym is.row ∙ ap row_of make.row in
-    cc none

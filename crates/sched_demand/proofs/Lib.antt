@@ -1,0 +1,11 @@
+pub mod Ordered
+pub mod Turns
+pub mod Rising
+pub mod Reached
+pub mod Stacking
+pub mod Dues
+pub mod Rows
+pub mod Holding
+pub mod Charging
+pub mod Demanding
+pub mod Missing

@@ -1,0 +1,4 @@
+pub mod Demand
+pub mod Floor
+pub mod Counts
+pub mod Ranked

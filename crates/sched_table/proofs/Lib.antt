@@ -1,0 +1,5 @@
+pub mod Levels
+pub mod Onto
+pub mod Respond
+pub mod NoFloat
+pub mod Passed

@@ -1,0 +1,6 @@
+pub mod Limits
+pub mod Table
+pub mod Example
+pub mod Json
+pub mod Late
+pub mod Report

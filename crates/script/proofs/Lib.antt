@@ -1,0 +1,9 @@
+pub mod Lookups
+pub mod Readings
+pub mod Steps
+pub mod Pasts
+pub mod Endings
+pub mod Once
+pub mod Fronts
+pub mod Right
+pub mod Faults

@@ -1,0 +1,6 @@
+pub mod Saying
+pub mod Scripts
+pub mod Faults
+pub mod Reading
+pub mod Script
+pub mod OneAnswer

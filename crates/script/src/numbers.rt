@@ -1,0 +1,71 @@
+//! Numbers of devices and events by their names.
+
+ghost use Rattle.std.specs.Prelude.{◌≡◌, ◌≤◌, ◌^◌, length, IfOk, OnOk};
+ghost use Rattle.script.specs.Reading.{AddsDevice, AddsNumber, AreNumbers, number_in};
+ghost use Rattle.script.specs.Scripts.{in_device, event_number};
+
+use image::{DevName, ImageNames};
+use indexmap::IndexMap;
+use std::alloc::{AllocError, Global};
+
+/// Numbers by name.
+pub type Numbers<'a> = IndexMap<&'a [u8], u16>;
+
+/// The number of a name.
+pub fn find(numbers: &Numbers<'_>, name: &[u8]) -> Option<u16>
+    ensures { result ≡ number_in numbers.now.entries name.now }
+{
+    numbers.get(name).copied()
+}
+
+/// Gives the name a number, unless it has one.
+fn add<'a>(numbers: &mut Numbers<'a>, name: &'a [u8], number: u16) -> Result<(), AllocError>
+    ensures { OnOk result (AddsNumber numbers.old.entries numbers.new.entries name.now number) }
+{
+    if find(numbers, name).is_some() {
+        return Ok(());
+    }
+    numbers.insert(name, number)?;
+    Ok(())
+}
+
+/// Gives the name of an in device a number, unless it has one.
+fn add_device<'a>(
+    numbers: &mut Numbers<'a>,
+    device: &'a DevName,
+    number: u16,
+) -> Result<(), AllocError>
+    ensures { OnOk result
+        (AddsDevice numbers.old.entries numbers.new.entries device.now number) }
+{
+    if device.out {
+        return Ok(());
+    }
+    add(numbers, device.name.as_bytes(), number)
+}
+
+/// The numbers of the in devices.
+pub fn device_numbers<'a>(alloc: Global, names: &'a ImageNames) -> Result<Numbers<'a>, AllocError>
+    requires { length names.now.devices ≤ 2 ^ 16 }
+    ensures { IfOk result (λ numbers. AreNumbers numbers.entries (in_device names.now)) }
+{
+    let devices = names.devices.as_slice();
+    let mut numbers = Numbers::new(alloc);
+    for (k, device) in devices.iter().enumerate() {
+        add_device(&mut numbers, device, k as u16)?;
+    }
+    Ok(numbers)
+}
+
+/// The numbers of the events.
+pub fn event_numbers<'a>(alloc: Global, names: &'a ImageNames) -> Result<Numbers<'a>, AllocError>
+    requires { length names.now.events ≤ 2 ^ 16 }
+    ensures { IfOk result (λ numbers. AreNumbers numbers.entries (event_number names.now)) }
+{
+    let events = names.events.as_slice();
+    let mut numbers = Numbers::new(alloc);
+    for (k, event) in events.iter().enumerate() {
+        add(&mut numbers, event.name.as_bytes(), k as u16)?;
+    }
+    Ok(numbers)
+}

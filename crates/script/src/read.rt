@@ -1,0 +1,146 @@
+//! Reading a script.
+
+ghost use Rattle.std.specs.Prelude.{◌≡◌, ◌<◌, ◌≤◌, ◌+◌, ◌^◌, ◌⊎◌, [], length, IfOk, IfErr, OnOk};
+ghost use Rattle.script.specs.declared.fault.ScriptFault.TheVariants.{Memory};
+ghost use Rattle.script.specs.Scripts.{IsScript, event_number, in_device, longest_text, most_lines};
+ghost use Rattle.script.specs.Faults.{IsFault, IsFaultHere, IsFaultOfRest};
+ghost use Rattle.script.specs.Reading.{AreNumbers, IsNext, IsPast};
+
+use crate::fault::ScriptFault;
+use crate::names::copy_image_names;
+use crate::numbers::{Numbers, device_numbers, event_numbers};
+use crate::past::Past;
+use crate::reader::{Next, bad, judge_next};
+use crate::script::Script;
+use image::ImageNames;
+use std::alloc::Global;
+
+/// How many bytes a script has at most.
+const LONGEST_TEXT: usize = 16_777_216;
+
+/// How many lines a script has at most, with the one that says the end.
+const MOST_LINES: usize = 1_000_000;
+
+/// Whether the bytes after the line that says the end are none; else their fault.
+fn end_with(
+    names: &ImageNames,
+    devices: &Numbers<'_>,
+    events: &Numbers<'_>,
+    past: &Past,
+    bytes: &[u8],
+    number: u32,
+) -> Result<(), ScriptFault>
+    requires past { IsPast names.now past.now.lines past.now.last past.now.occurred.items }
+    requires devices { AreNumbers devices.now.entries (in_device names.now) }
+    requires events { AreNumbers events.now.entries (event_number names.now) }
+    ensures none { OnOk result (bytes.now ≡ []) }
+    ensures fault { IfErr result (λ fault.
+        IsFaultOfRest names.now past.now.lines bytes.now number fault) }
+{
+    if bytes.is_empty() {
+        return Ok(());
+    }
+    match judge_next(names, devices, events, past, bytes, number) {
+        Err(fault) => Err(fault),
+        Ok(_) => Err(bad(5, number)),
+    }
+}
+
+/// What the first line of the bytes means after the lines read so far, if it is not one too many,
+/// or its fault.
+fn next_within<'a>(
+    names: &ImageNames,
+    devices: &Numbers<'_>,
+    events: &Numbers<'_>,
+    past: &Past,
+    bytes: &'a [u8],
+) -> Result<Next<'a>, ScriptFault>
+    requires some { 0 < length bytes.now }
+    requires few { length past.now.lines ≤ most_lines }
+    requires past { IsPast names.now past.now.lines past.now.last past.now.occurred.items }
+    requires devices { AreNumbers devices.now.entries (in_device names.now) }
+    requires events { AreNumbers events.now.entries (event_number names.now) }
+    ensures next { IfOk result (λ next. IsNext names.now past.now.lines bytes.now next) }
+    ensures few { OnOk result (length past.now.lines + 1 ≤ most_lines) }
+    ensures fault { IfErr result (λ fault. IsFaultHere names.now past.now.lines bytes.now fault) }
+{
+    let number = past.lines.len() as u32 + 1;
+    match judge_next(names, devices, events, past, bytes, number) {
+        Err(fault) => Err(fault),
+        Ok(next) => {
+            if past.lines.len() == MOST_LINES {
+                return Err(bad(6, number));
+            }
+            Ok(next)
+        }
+    }
+}
+
+/// Reads a text that is not too long, line by line.
+fn read_lines(
+    names: &ImageNames,
+    copy: ImageNames,
+    devices: &Numbers<'_>,
+    events: &Numbers<'_>,
+    mut past: Past,
+    text: &[u8],
+) -> Result<Script, ScriptFault>
+    requires copy { copy ≡ names.now }
+    requires short { length text.now ≤ longest_text }
+    requires none { past.lines ≡ [] }
+    requires past { IsPast names.now past.lines past.last past.occurred.items }
+    requires devices { AreNumbers devices.now.entries (in_device names.now) }
+    requires events { AreNumbers events.now.entries (event_number names.now) }
+    ensures script { IfOk result (λ script.
+        IsScript names.now text.now script.lines script.end) }
+    ensures names { IfOk result (λ script. script.names ≡ names.now) }
+    ensures fault { IfErr result (λ fault. (fault ≡ Memory) ⊎ IsFault names.now text.now fault) }
+{
+    let mut rest = text;
+    while !rest.is_empty() {
+        match next_within(names, devices, events, &past, rest) {
+            Err(fault) => return Err(fault),
+            Ok(Next::Line { line, rest: after }) => {
+                past.add(names, line)?;
+                rest = after;
+            }
+            Ok(Next::End { tick, rest: after }) => {
+                let number = past.lines.len() as u32 + 2;
+                if let Err(fault) = end_with(names, devices, events, &past, after, number) {
+                    return Err(fault);
+                }
+                return Ok(Script {
+                    names: copy,
+                    lines: past.lines,
+                    end: tick,
+                });
+            }
+        }
+    }
+    Err(bad(5, past.lines.len() as u32 + 1))
+}
+
+/// The script that the text is, for these names. Devices and events are found by their names.
+///
+/// It is a script where its lines are those of one that respects the frames, the last says an end
+/// above the ticks, and the limits hold: at most 16,777,216 bytes and 1,000,000 lines. Else `Bad`
+/// has the fault: S6 on line 0 where the text is too long, or the first line that breaks a rule
+/// with the least number of those that it breaks, S4 with its two ticks. `Memory` may stand in
+/// place of any answer but S6 on line 0.
+pub fn read_script(alloc: Global, text: &[u8], names: &ImageNames) -> Result<Script, ScriptFault>
+    requires devices { length names.now.devices ≤ 2 ^ 16 }
+    requires events { length names.now.events ≤ 2 ^ 16 }
+    ensures script { IfOk result (λ script.
+        IsScript names.now text.now script.lines script.end) }
+    ensures names { IfOk result (λ script. script.names ≡ names.now) }
+    ensures fault { IfErr result (λ fault. (fault ≡ Memory) ⊎ IsFault names.now text.now fault) }
+{
+    if text.len() > LONGEST_TEXT {
+        return Err(bad(6, 0));
+    }
+    let devices = device_numbers(alloc, names)?;
+    let events = event_numbers(alloc, names)?;
+    let past = Past::new(alloc, names)?;
+    let copy = copy_image_names(alloc, names)?;
+    read_lines(names, copy, &devices, &events, past, text)
+}

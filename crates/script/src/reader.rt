@@ -1,0 +1,105 @@
+//! The next line of a script.
+
+ghost use Rattle.std.specs.Prelude.{◌≡◌, ◌<◌, ℕ, List, length, IfSome, IfNone, IfOk, IfErr};
+ghost use Rattle.script.specs.Saying.{Said, Begins};
+ghost use Rattle.script.specs.Scripts.{event_number, in_device};
+ghost use Rattle.script.specs.Faults.{IsLineFault, flaw_fault};
+ghost use Rattle.script.specs.Reading.{AreNumbers, IsNext, IsPast, seen};
+ghost use Rattle.script.specs.declared.fault.ScriptFault.TheVariants.{Bad};
+
+use crate::fault::{Flaw, ScriptFault};
+use crate::line::{Line, read_line};
+use crate::numbers::Numbers;
+use crate::past::Past;
+use crate::script::ScriptLine;
+use image::ImageNames;
+use text_fields::cut_at;
+
+/// The first line of some bytes, and the bytes after it.
+#[derive(Clone, Copy)]
+struct First<'a> {
+    line: Line<'a>,
+    rest: &'a [u8],
+}
+
+/// What the first line of some bytes means, and the bytes after it.
+#[derive(Clone, Copy)]
+pub enum Next<'a> {
+    Line { line: ScriptLine, rest: &'a [u8] },
+    End { tick: u64, rest: &'a [u8] },
+}
+
+/// A fault with no ticks.
+pub fn bad(number: u8, line: u32) -> ScriptFault
+    ensures { result ≡ Bad number line 0 0 }
+{
+    ScriptFault::Bad {
+        number,
+        line,
+        a: 0,
+        b: 0,
+    }
+}
+
+/// The fault of a flaw on a line.
+fn fault(line: u32, flaw: Flaw) -> ScriptFault
+    ensures { result ≡ flaw_fault line flaw }
+{
+    match flaw {
+        Flaw::Unknown => bad(2, line),
+        Flaw::Early => bad(3, line),
+        Flaw::Soon { last, tick } => ScriptFault::Bad {
+            number: 4,
+            line,
+            a: last,
+            b: tick,
+        },
+    }
+}
+
+/// The first line of the bytes; None where it is in no form.
+fn first_line(bytes: &[u8]) -> Option<First<'_>>
+    ensures found { IfSome result (λ first. Begins bytes.now (seen first.line) first.rest.now) }
+    ensures none { IfNone result ((said : Said) (rest : List ℕ) → ¬ Begins bytes.now said rest) }
+{
+    match cut_at(bytes, b'\n') {
+        None => None,
+        Some(parts) => match read_line(parts.before) {
+            None => None,
+            Some(line) => Some(First {
+                line,
+                rest: parts.after,
+            }),
+        },
+    }
+}
+
+/// What the first line of the bytes means after the lines read so far, or its fault.
+pub fn judge_next<'a>(
+    names: &ImageNames,
+    devices: &Numbers<'_>,
+    events: &Numbers<'_>,
+    past: &Past,
+    bytes: &'a [u8],
+    number: u32,
+) -> Result<Next<'a>, ScriptFault>
+    requires some { 0 < length bytes.now }
+    requires past { IsPast names.now past.now.lines past.now.last past.now.occurred.items }
+    requires devices { AreNumbers devices.now.entries (in_device names.now) }
+    requires events { AreNumbers events.now.entries (event_number names.now) }
+    ensures next { IfOk result (λ next. IsNext names.now past.now.lines bytes.now next) }
+    ensures fault { IfErr result (λ fault.
+        IsLineFault names.now past.now.lines bytes.now number fault) }
+{
+    match first_line(bytes) {
+        None => Err(bad(1, number)),
+        Some(First { line, rest }) => match past.judge(names, devices, events, line) {
+            Err(flaw) => Err(fault(number, flaw)),
+            Ok(Some(line)) => Ok(Next::Line { line, rest }),
+            Ok(None) => match line {
+                Line::End { tick } => Ok(Next::End { tick, rest }),
+                _ => Err(bad(1, number)),
+            },
+        },
+    }
+}

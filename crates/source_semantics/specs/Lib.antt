@@ -1,0 +1,12 @@
+pub mod Names
+pub mod Operators
+pub mod Store
+pub mod Run
+pub mod Next
+pub mod Config
+pub mod Ranks
+pub mod Starts
+pub mod Source
+pub mod Nesting
+pub mod Any
+pub mod Verdicts

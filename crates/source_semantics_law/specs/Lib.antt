@@ -1,0 +1,4 @@
+pub mod ByDeadline
+pub mod Example
+pub mod NoRun
+pub mod Remains

@@ -1,0 +1,9 @@
+pub mod Edges
+pub mod Marking
+pub mod Spreading
+pub mod RoundsLemmas
+pub mod Returning
+pub mod Numbering
+pub mod CallEdges
+pub mod Linking
+pub mod Failing

@@ -1,0 +1,5 @@
+pub mod Graph
+pub mod Marks
+pub mod Calls
+pub mod Reaching
+pub mod Tables

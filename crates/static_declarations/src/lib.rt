@@ -1,0 +1,21 @@
+//! What a used name is declared as; constants.
+//!
+//! Declarations: what each name that is used in a program is declared as, and what its constants
+//! are worth.
+//!
+//! `specs/Things.antt` lists what a program declares, each with its place, and says what the name
+//! that is used at a place is declared as; `specs/Values.antt` says what a constant is worth. The
+//! static rules stand on these two alone: none of them looks at a scope.
+#![tactic(auto)]
+
+mod declarations;
+mod home;
+mod sort;
+mod thing;
+mod things;
+mod values;
+
+pub use declarations::Declarations;
+pub use home::{Home, Where};
+pub use sort::{Shape, Sort, shape_of, sort_of};
+pub use thing::Thing;

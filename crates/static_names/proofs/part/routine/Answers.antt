@@ -1,0 +1,23 @@
+use Rattle.std.proofs.Common.{◌≡◌, List, ap, ◌∙◌}
+use Rattle.syntax_tree.specs.Placed.{placed_routine}
+use Rattle.static_names.specs.Reach.{Reach, nowhere, within, first}
+use Rattle.static_names.specs.Occurrences.{Occurrence, routine_scope, routine_inner}
+use Rattle.static_names.specs.Findings.{noted}
+use Rattle.static_names.specs.Seen.{meaning, outer_site}
+use Rattle.static_names.proofs.Scoping.{made-notes, made-means}
+use Rattle.static_names.proofs.part.routine.Goals as goal
+
+pub returns : goal.returns
+returns c more =
+    let r = placed_routine c.args.routine.now in
+    let o = outer_site c.args.outer.now in
+    let ds = routine_scope r in
+    let f = c.args.findings.now in
+    let g = c.routine.new.findings in
+    let start = meaning c.new-locals.result.entries in
+    let last = meaning c.routine.new.scope.entries in
+    let empty : start ≡ nowhere = ap meaning c.new-locals.ensures.empty in
+    let inner : Reach → List Occurrence = λ m. routine_inner (record { means = within m o.means; members = o.members }) r more in
+    c.in_ok-routine_parts.ensures more
+    ∙ ap (λ m. noted g (inner m)) (made-means o.means f g start last ds empty c.in_ok-routine.ensures)
+    ∙ made-notes o.means f g start last ds empty c.in_ok-routine.ensures (inner (first ds))

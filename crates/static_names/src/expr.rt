@@ -1,0 +1,144 @@
+//! The names in constants, types and expressions.
+
+ghost use Rattle.std.specs.Prelude.{◌≡◌, OnOk, List};
+ghost use Rattle.syntax_tree.specs.Placed.{placed_constant, placed_scalar, placed_kind, placed_expr, placed_exprs, placed_ref};
+ghost use Rattle.static_names.specs.Occurrences.{Occurrence, constant_names, scalar_names, kind_names, expr_names, exprs_names, ref_names};
+ghost use Rattle.static_names.specs.Findings.{noted};
+ghost use Rattle.static_names.specs.Seen.{site};
+
+use crate::around::Around;
+use crate::findings::Findings;
+use crate::kind::Want;
+use crate::scope::Local;
+use std::alloc::AllocError;
+use syntax_tree::{Constant, Expr, Ref, Scalar, Type, Value};
+
+pub fn constant<'a>(
+    findings: &mut Findings,
+    around: &Around<'_, 'a>,
+    loops: &[Local<'a>],
+    constant: &Constant,
+) -> Result<(), AllocError>
+    ensures { OnOk result ((more : List Occurrence) → noted findings.new more ≡
+        noted findings.old (constant_names (site around.now loops.now)
+        (placed_constant constant.now) more)) }
+{
+    if let Value::Name(name) = &constant.value {
+        around.use_name(findings, loops, name, constant.value_place, Want::Constant)?;
+    }
+    Ok(())
+}
+
+pub fn scalar<'a>(
+    findings: &mut Findings,
+    around: &Around<'_, 'a>,
+    loops: &[Local<'a>],
+    kind: &Scalar,
+) -> Result<(), AllocError>
+    ensures { OnOk result ((more : List Occurrence) → noted findings.new more ≡
+        noted findings.old (scalar_names (site around.now loops.now)
+        (placed_scalar kind.now) more)) }
+{
+    if let Scalar::Subrange { low, high } = kind {
+        constant(findings, around, loops, low)?;
+        constant(findings, around, loops, high)?;
+    }
+    Ok(())
+}
+
+pub fn kind<'a>(
+    findings: &mut Findings,
+    around: &Around<'_, 'a>,
+    loops: &[Local<'a>],
+    kind: &Type,
+) -> Result<(), AllocError>
+    ensures { OnOk result ((more : List Occurrence) → noted findings.new more ≡
+        noted findings.old (kind_names (site around.now loops.now) (placed_kind kind.now) more)) }
+{
+    match kind {
+        Type::Scalar(kind) => scalar(findings, around, loops, kind)?,
+        Type::Array { low, high, element } => {
+            constant(findings, around, loops, low)?;
+            constant(findings, around, loops, high)?;
+            scalar(findings, around, loops, element)?;
+        }
+    }
+    Ok(())
+}
+
+pub fn expr<'a>(
+    findings: &mut Findings,
+    around: &Around<'_, 'a>,
+    loops: &[Local<'a>],
+    e: &Expr,
+) -> Result<(), AllocError>
+    ensures { OnOk result ((more : List Occurrence) → noted findings.new more ≡
+        noted findings.old (expr_names (site around.now loops.now) (placed_expr e.now) more)) }
+{
+    match e {
+        Expr::Literal { .. } | Expr::True { .. } | Expr::False { .. } => Ok(()),
+        Expr::Variable { place, name } => {
+            around.use_name(findings, loops, name, *place, Want::Value)?;
+            Ok(())
+        }
+        Expr::Element { place, name, index } => {
+            around.use_name(findings, loops, name, *place, Want::Value)?;
+            expr(findings, around, loops, index)?;
+            Ok(())
+        }
+        Expr::Call { place, name, args } => {
+            around.use_name(findings, loops, name, *place, Want::Routine)?;
+            for arg in args.as_slice() {
+                expr(findings, around, loops, arg)?;
+            }
+            Ok(())
+        }
+        Expr::Minus { operand, .. } | Expr::Not { operand, .. } => {
+            expr(findings, around, loops, operand)?;
+            Ok(())
+        }
+        Expr::Paren { inner, .. } => {
+            expr(findings, around, loops, inner)?;
+            Ok(())
+        }
+        Expr::Chain { first, rest } => {
+            expr(findings, around, loops, first)?;
+            for pair in rest.as_slice() {
+                expr(findings, around, loops, &pair.1)?;
+            }
+            Ok(())
+        }
+    }
+}
+
+pub fn exprs<'a>(
+    findings: &mut Findings,
+    around: &Around<'_, 'a>,
+    loops: &[Local<'a>],
+    list: &[Expr],
+) -> Result<(), AllocError>
+    ensures { OnOk result ((more : List Occurrence) → noted findings.new more ≡
+        noted findings.old (exprs_names (site around.now loops.now) (placed_exprs list.now) more)) }
+{
+    for e in list {
+        expr(findings, around, loops, e)?;
+    }
+    Ok(())
+}
+
+/// What is assigned to.
+pub fn target<'a>(
+    findings: &mut Findings,
+    around: &Around<'_, 'a>,
+    loops: &[Local<'a>],
+    target: &Ref,
+) -> Result<(), AllocError>
+    ensures { OnOk result ((more : List Occurrence) → noted findings.new more ≡
+        noted findings.old (ref_names (site around.now loops.now) (placed_ref target.now) more)) }
+{
+    around.use_name(findings, loops, &target.name, target.place, Want::Target)?;
+    if let Some(index) = &target.index {
+        expr(findings, around, loops, index)?;
+    }
+    Ok(())
+}

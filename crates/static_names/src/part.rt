@@ -1,0 +1,357 @@
+//! The names in routines, monitors, processes and other declarations.
+
+ghost use Rattle.std.specs.Prelude.{◌≡◌, OnOk, List, [], map};
+ghost use Rattle.syntax_tree.specs.Placed.{placed_constant, placed_scalar, placed_expr, placed_param, placed_var, placed_member, placed_routine, placed_monitor, placed_activation, placed_handler, placed_process, placed_decl, optional};
+ghost use Rattle.static_names.specs.Occurrences.{Occurrence, constant_names, constants_names, scalar_names, expr_names, optional_names, params_names, vars_names, member_inner, members_names, routine_inner, routine_names, routines_names, monitor_inner, monitor_names, activation_names, handler_names, process_inner, process_names, inner_names};
+ghost use Rattle.static_names.specs.Findings.{noted};
+ghost use Rattle.static_names.specs.Seen.{site, outer_site, top_site};
+
+use crate::around::{Around, Outer, Top};
+use crate::declare;
+use crate::expr::{constant, expr, kind, scalar};
+use crate::findings::Findings;
+use crate::kind::Want;
+use crate::scope::Scope;
+use crate::stmt::stmts;
+use std::alloc::{AllocError, Global};
+use syntax_tree::{
+    Activation, Constant, Decl, Expr, Handler, Member, Mon, Param, Proc, Routine, Scalar, Var,
+};
+
+fn params<'a>(
+    findings: &mut Findings,
+    around: &Around<'_, 'a>,
+    list: &[Param],
+) -> Result<(), AllocError>
+    ensures { OnOk result ((more : List Occurrence) → noted findings.new more ≡
+        noted findings.old (params_names (site around.now []) (map placed_param list.now) more)) }
+{
+    for param in list {
+        scalar(findings, around, &[], &param.kind)?;
+    }
+    Ok(())
+}
+
+fn vars<'a>(
+    findings: &mut Findings,
+    around: &Around<'_, 'a>,
+    list: &[Var],
+) -> Result<(), AllocError>
+    ensures { OnOk result ((more : List Occurrence) → noted findings.new more ≡
+        noted findings.old (vars_names (site around.now []) (map placed_var list.now) more)) }
+{
+    for var in list {
+        kind(findings, around, &[], &var.kind)?;
+    }
+    Ok(())
+}
+
+fn member<'a>(
+    findings: &mut Findings,
+    around: &Around<'_, 'a>,
+    member: &Member,
+) -> Result<(), AllocError>
+    ensures { OnOk result ((more : List Occurrence) → noted findings.new more ≡
+        noted findings.old (member_inner (site around.now []) (placed_member member.now) more)) }
+{
+    if let Member::Var(var) = member {
+        kind(findings, around, &[], &var.kind)?;
+    }
+    Ok(())
+}
+
+fn members<'a>(
+    findings: &mut Findings,
+    around: &Around<'_, 'a>,
+    list: &[Member],
+) -> Result<(), AllocError>
+    ensures { OnOk result ((more : List Occurrence) → noted findings.new more ≡
+        noted findings.old (members_names (site around.now []) (map placed_member list.now) more)) }
+{
+    for one in list {
+        member(findings, around, one)?;
+    }
+    Ok(())
+}
+
+fn constants<'a>(
+    findings: &mut Findings,
+    around: &Around<'_, 'a>,
+    list: &[Constant],
+) -> Result<(), AllocError>
+    ensures { OnOk result ((more : List Occurrence) → noted findings.new more ≡
+        noted findings.old (constants_names (site around.now [])
+        (map placed_constant list.now) more)) }
+{
+    for number in list {
+        constant(findings, around, &[], number)?;
+    }
+    Ok(())
+}
+
+/// The type of a result.
+fn result<'a>(
+    findings: &mut Findings,
+    around: &Around<'_, 'a>,
+    kind: &Option<Scalar>,
+) -> Result<(), AllocError>
+    ensures { OnOk result ((more : List Occurrence) → noted findings.new more ≡
+        noted findings.old (optional_names (scalar_names (site around.now []))
+        (optional placed_scalar kind.now) more)) }
+{
+    if let Some(kind) = kind {
+        scalar(findings, around, &[], kind)?;
+    }
+    Ok(())
+}
+
+/// The expression of a result.
+fn value<'a>(
+    findings: &mut Findings,
+    around: &Around<'_, 'a>,
+    value: &Option<Expr>,
+) -> Result<(), AllocError>
+    ensures { OnOk result ((more : List Occurrence) → noted findings.new more ≡
+        noted findings.old (optional_names (expr_names (site around.now []))
+        (optional placed_expr value.now) more)) }
+{
+    if let Some(value) = value {
+        expr(findings, around, &[], value)?;
+    }
+    Ok(())
+}
+
+/// A routine, its scope being made.
+fn routine_parts<'a>(
+    alloc: Global,
+    findings: &mut Findings,
+    around: &Around<'_, 'a>,
+    routine: &'a Routine,
+) -> Result<(), AllocError>
+    ensures { OnOk result ((more : List Occurrence) → noted findings.new more ≡
+        noted findings.old (routine_inner (site around.now []) (placed_routine routine.now) more)) }
+{
+    let mut loops = Vec::new(alloc);
+    params(findings, around, routine.params.as_slice())?;
+    result(findings, around, &routine.result)?;
+    vars(findings, around, routine.vars.as_slice())?;
+    stmts(findings, around, &mut loops, routine.body.as_slice())?;
+    value(findings, around, &routine.value)?;
+    findings.close(&routine.close, routine.close_place, &routine.name);
+    Ok(())
+}
+
+fn routine<'a>(
+    alloc: Global,
+    findings: &mut Findings,
+    outer: &Outer<'_, 'a>,
+    routine: &'a Routine,
+) -> Result<(), AllocError>
+    ensures { OnOk result ((more : List Occurrence) → noted findings.new more ≡
+        noted findings.old (routine_names (outer_site outer.now)
+        (placed_routine routine.now) more)) }
+{
+    let mut locals = Scope::new(alloc);
+    declare::routine(findings, &mut locals, outer, routine)?;
+    let around = Around {
+        outer: *outer,
+        locals: Some(&locals),
+    };
+    routine_parts(alloc, findings, &around, routine)?;
+    Ok(())
+}
+
+fn routines<'a>(
+    alloc: Global,
+    findings: &mut Findings,
+    outer: &Outer<'_, 'a>,
+    list: &'a [Routine],
+) -> Result<(), AllocError>
+    ensures { OnOk result ((more : List Occurrence) → noted findings.new more ≡
+        noted findings.old (routines_names (outer_site outer.now)
+        (map placed_routine list.now) more)) }
+{
+    for one in list {
+        routine(alloc, findings, outer, one)?;
+    }
+    Ok(())
+}
+
+/// A monitor, its scope being made.
+fn monitor_parts<'a>(
+    alloc: Global,
+    findings: &mut Findings,
+    outer: &Outer<'_, 'a>,
+    monitor: &'a Mon,
+) -> Result<(), AllocError>
+    ensures { OnOk result ((more : List Occurrence) → noted findings.new more ≡
+        noted findings.old (monitor_inner (outer_site outer.now)
+        (placed_monitor monitor.now) more)) }
+{
+    let around = outer.around();
+    members(findings, &around, monitor.members.as_slice())?;
+    routines(alloc, findings, outer, monitor.entries.as_slice())?;
+    findings.close(&monitor.close, monitor.close_place, &monitor.name);
+    Ok(())
+}
+
+fn monitor<'a>(
+    alloc: Global,
+    findings: &mut Findings,
+    top: &Top<'_, 'a>,
+    monitor: &'a Mon,
+) -> Result<(), AllocError>
+    ensures { OnOk result ((more : List Occurrence) → noted findings.new more ≡
+        noted findings.old (monitor_names (top_site top.now) (placed_monitor monitor.now) more)) }
+{
+    let mut names = Scope::new(alloc);
+    declare::monitor(findings, &mut names, top, monitor)?;
+    let inside = Outer {
+        top: *top,
+        members: Some(&names),
+        monitor: Some(monitor.place),
+    };
+    monitor_parts(alloc, findings, &inside, monitor)?;
+    Ok(())
+}
+
+/// A deadline or a first activation.
+fn limit<'a>(
+    findings: &mut Findings,
+    around: &Around<'_, 'a>,
+    limit: &Option<Constant>,
+) -> Result<(), AllocError>
+    ensures { OnOk result ((more : List Occurrence) → noted findings.new more ≡
+        noted findings.old (optional_names (constant_names (site around.now []))
+        (optional placed_constant limit.now) more)) }
+{
+    if let Some(limit) = limit {
+        constant(findings, around, &[], limit)?;
+    }
+    Ok(())
+}
+
+fn activation<'a>(
+    findings: &mut Findings,
+    around: &Around<'_, 'a>,
+    activation: &Activation,
+) -> Result<(), AllocError>
+    ensures { OnOk result ((more : List Occurrence) → noted findings.new more ≡
+        noted findings.old (activation_names (site around.now [])
+        (placed_activation activation.now) more)) }
+{
+    match activation {
+        Activation::Periodic {
+            frame,
+            deadline,
+            first,
+        } => {
+            constant(findings, around, &[], frame)?;
+            limit(findings, around, deadline)?;
+            limit(findings, around, first)?;
+        }
+        Activation::AtEvent {
+            event,
+            event_place,
+            frame,
+            deadline,
+        } => {
+            around.use_name(findings, &[], event, *event_place, Want::Event)?;
+            constant(findings, around, &[], frame)?;
+            limit(findings, around, deadline)?;
+        }
+    }
+    Ok(())
+}
+
+fn handler<'a>(
+    alloc: Global,
+    findings: &mut Findings,
+    around: &Around<'_, 'a>,
+    handler: &'a Option<Handler>,
+) -> Result<(), AllocError>
+    ensures { OnOk result ((more : List Occurrence) → noted findings.new more ≡
+        noted findings.old (optional_names (handler_names (site around.now []))
+        (optional placed_handler handler.now) more)) }
+{
+    if let Some(handler) = handler {
+        let mut loops = Vec::new(alloc);
+        constants(findings, around, handler.numbers.as_slice())?;
+        stmts(findings, around, &mut loops, handler.body.as_slice())?;
+    }
+    Ok(())
+}
+
+/// A process, its scope being made.
+fn process_parts<'a>(
+    alloc: Global,
+    findings: &mut Findings,
+    outer: &Outer<'_, 'a>,
+    process: &'a Proc,
+) -> Result<(), AllocError>
+    ensures { OnOk result ((more : List Occurrence) → noted findings.new more ≡
+        noted findings.old (process_inner (outer_site outer.now)
+        (placed_process process.now) more)) }
+{
+    let mut loops = Vec::new(alloc);
+    let around = outer.around();
+    activation(findings, &around, &process.activation)?;
+    vars(findings, &around, process.vars.as_slice())?;
+    routines(alloc, findings, outer, process.routines.as_slice())?;
+    stmts(findings, &around, &mut loops, process.body.as_slice())?;
+    handler(alloc, findings, &around, &process.handler)?;
+    findings.close(&process.close, process.close_place, &process.name);
+    Ok(())
+}
+
+fn process<'a>(
+    alloc: Global,
+    findings: &mut Findings,
+    top: &Top<'_, 'a>,
+    process: &'a Proc,
+) -> Result<(), AllocError>
+    ensures { OnOk result ((more : List Occurrence) → noted findings.new more ≡
+        noted findings.old (process_names (top_site top.now) (placed_process process.now) more)) }
+{
+    let mut names = Scope::new(alloc);
+    declare::process(findings, &mut names, top, process)?;
+    let inside = Outer {
+        top: *top,
+        members: Some(&names),
+        monitor: None,
+    };
+    process_parts(alloc, findings, &inside, process)?;
+    Ok(())
+}
+
+/// The names in a declaration, its own aside.
+pub fn decl<'a>(
+    alloc: Global,
+    findings: &mut Findings,
+    top: &Top<'_, 'a>,
+    decl: &'a Decl,
+) -> Result<(), AllocError>
+    ensures { OnOk result ((more : List Occurrence) → noted findings.new more ≡
+        noted findings.old (inner_names (top_site top.now) (placed_decl decl.now) more)) }
+{
+    match decl {
+        Decl::Const { value, .. } => {
+            let around = top.outside().around();
+            constant(findings, &around, &[], value)?;
+            Ok(())
+        }
+        Decl::Device { .. } | Decl::Event { .. } => Ok(()),
+        Decl::Routine(one) => {
+            routine(alloc, findings, &top.outside(), one)?;
+            Ok(())
+        }
+        Decl::Mon(one) => {
+            monitor(alloc, findings, top, one)?;
+            Ok(())
+        }
+        Decl::Proc(one) => {
+            process(alloc, findings, top, one)?;
+            Ok(())
+        }
+    }
+}

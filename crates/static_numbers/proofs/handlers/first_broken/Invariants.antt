@@ -1,0 +1,10 @@
+use Rattle.std.proofs.Common.{◌≡◌, map, drop, None}
+use Rattle.syntax_tree.specs.Placed.{placed, placed_decl}
+use Rattle.static_rule.specs.Parts.{noted}
+use Rattle.syntax_tree.specs.Parts.{processes}
+use Rattle.static_numbers.specs.Processes.{all_handled}
+use Rattle.static_numbers.specs.Rules.{handler_rules}
+use Rattle.static_numbers.proofs.handlers.first_broken.Given as goal
+
+abbrev pub invariant-loop-one : goal.invariant-loop-one
+invariant-loop-one l = let rules = handler_rules (placed l.declarations) in noted rules l.first (all_handled (processes (map placed_decl (drop l.one-index l.one-items)))) ≡ noted rules None (all_handled (processes (map placed_decl l.one-items)))

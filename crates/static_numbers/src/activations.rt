@@ -1,0 +1,111 @@
+//! Frames, deadlines and first activations of processes.
+
+ghost use Rattle.std.specs.Prelude.{◌≡◌, List, ◌∷◌};
+ghost use Rattle.syntax_tree.specs.Placed.{Decl as SpecDecl, placed, placed_constant, placed_activation, placed_process, placed_decl, optional};
+ghost use Rattle.syntax_tree.specs.declared.place.Place.{Place as SpecPlace};
+ghost use Rattle.static_rule.specs.First.{IsFirstOf};
+ghost use Rattle.static_rule.specs.Parts.{FailsAmong, note, noted};
+ghost use Rattle.static_declarations.specs.Values.{value, out_of};
+ghost use Rattle.syntax_tree.specs.Parts.{processes};
+ghost use Rattle.static_numbers.specs.Processes.{frame_of, deadline_of, bad_limit, bad_start as bad_start_of};
+ghost use Rattle.static_numbers.specs.Rules.{process_rules};
+
+use static_declarations::Declarations;
+use static_rule::{Broken, blame};
+use syntax_tree::{Activation, Constant, Decl, Place, Proc};
+
+/// A frame, and a deadline, has at least so many ticks.
+const LEAST_TICKS: u32 = 10;
+
+/// A frame has at most so many ticks, and a first activation is at most so many ticks late.
+const MOST_TICKS: u32 = 1_000_000_000;
+
+fn frame(activation: &Activation) -> &Constant
+    ensures { placed_constant result.now ≡ frame_of (placed_activation activation.now) }
+{
+    match activation {
+        Activation::Periodic { frame, .. } | Activation::AtEvent { frame, .. } => frame,
+    }
+}
+
+fn deadline(activation: &Activation) -> &Option<Constant>
+    ensures { optional placed_constant result.now ≡ deadline_of (placed_activation activation.now) }
+{
+    match activation {
+        Activation::Periodic { deadline, .. } | Activation::AtEvent { deadline, .. } => deadline,
+    }
+}
+
+/// The place of a deadline that is below 10 or above the frame.
+fn bad_deadline(
+    declarations: &Declarations<'_>,
+    frame: &Constant,
+    deadline: &Option<Constant>,
+) -> Option<Place>
+    ensures { let worth = value (placed declarations.now) in result ≡
+        bad_limit worth (placed_constant frame.now) (optional placed_constant deadline.now) }
+{
+    let deadline = deadline.as_ref()?;
+    let ticks = declarations.value(deadline);
+    if i64::from(LEAST_TICKS) <= ticks && ticks <= declarations.value(frame) {
+        None
+    } else {
+        Some(deadline.place)
+    }
+}
+
+/// The place of a first activation that is outside its limits.
+fn bad_start(declarations: &Declarations<'_>, activation: &Activation) -> Option<Place>
+    ensures { result ≡ bad_start_of (value (placed declarations.now))
+        (placed_activation activation.now) }
+{
+    match activation {
+        Activation::Periodic {
+            first: Some(start),
+            ..
+        } => declarations.out_of(0, MOST_TICKS, start),
+        Activation::Periodic { first: None, .. } | Activation::AtEvent { .. } => None,
+    }
+}
+
+/// Tries the rules on a process.
+fn process(first: &mut Option<Broken>, declarations: &Declarations<'_>, process: &Proc)
+    ensures { first.new ≡ note (process_rules (placed declarations.now)) first.old
+        (placed_process process.now) }
+{
+    let activation = &process.activation;
+    let frame = frame(activation);
+    blame(
+        first,
+        36,
+        declarations.out_of(LEAST_TICKS, MOST_TICKS, frame),
+    );
+    blame(
+        first,
+        36,
+        bad_deadline(declarations, frame, deadline(activation)),
+    );
+    blame(first, 36, bad_start(declarations, activation));
+}
+
+fn decl(first: &mut Option<Broken>, declarations: &Declarations<'_>, decl: &Decl)
+    ensures { let rules = process_rules (placed declarations.now) in
+        (rest : List (SpecDecl SpecPlace)) → noted rules first.new (processes rest) ≡
+        noted rules first.old (processes (placed_decl decl.now ∷ rest)) }
+{
+    if let Decl::Proc(one) = decl {
+        process(first, declarations, one);
+    }
+}
+
+/// The rule for frames, deadlines and first activations that fails first, if any does.
+pub fn first_broken(declarations: &Declarations<'_>) -> Option<Broken>
+    ensures { let g = placed declarations.now in IsFirstOf
+        (FailsAmong (process_rules g) (processes g.decls)) result }
+{
+    let mut first = None;
+    for one in declarations.program().decls.as_slice() {
+        decl(&mut first, declarations, one);
+    }
+    first
+}

@@ -1,0 +1,74 @@
+//! How much a program may have.
+
+ghost use Rattle.std.specs.Prelude.{◌≡◌, IfOk, [], ◌∷◌, None};
+ghost use Rattle.syntax_tree.specs.Placed.{placed};
+ghost use Rattle.static_rule.specs.First.{IsFirstOf};
+ghost use Rattle.static_rule.specs.Parts.{FailsAmong, note};
+ghost use Rattle.static_numbers.specs.Counts.{at_none, one_too_many as one_too_many_of};
+ghost use Rattle.static_numbers.specs.Places.{places_of};
+ghost use Rattle.static_numbers.specs.Rules.{count_rules};
+
+use crate::places::Places;
+use crate::words::too_many;
+use static_declarations::Declarations;
+use static_rule::{Broken, blame};
+use std::alloc::{AllocError, Global};
+use syntax_tree::Place;
+
+/// A program has at most so many processes, monitors, devices and events, each.
+const MOST_OF_A_KIND: usize = 64;
+
+const MOST_CONDITIONS: usize = 256;
+
+/// A program has at most so many routines, entries included.
+const MOST_ROUTINES: usize = 512;
+
+/// The place, where there are none.
+fn at_no(place: Place, places: &[Place]) -> Option<Place>
+    ensures { result ≡ at_none place places.now }
+{
+    if places.is_empty() { Some(place) } else { None }
+}
+
+/// The place that is one too many.
+fn one_too_many(most: usize, places: &[Place]) -> Option<Place>
+    ensures { result ≡ one_too_many_of most places.now }
+{
+    places.get(most).copied()
+}
+
+/// Tries the rules, the places of all things being known.
+fn tried(declarations: &Declarations<'_>, places: &Places) -> Option<Broken>
+    ensures { let g = placed declarations.now in places.now ≡ places_of g → result ≡
+        note (count_rules g) None g }
+{
+    let program = declarations.program();
+    let processes = places.processes.as_slice();
+    let mut first = None;
+    blame(&mut first, 40, at_no(program.place, processes));
+    blame(&mut first, 40, one_too_many(MOST_OF_A_KIND, processes));
+    let monitors = places.monitors.as_slice();
+    blame(&mut first, 40, one_too_many(MOST_OF_A_KIND, monitors));
+    let devices = places.devices.as_slice();
+    blame(&mut first, 40, one_too_many(MOST_OF_A_KIND, devices));
+    let events = places.events.as_slice();
+    blame(&mut first, 40, one_too_many(MOST_OF_A_KIND, events));
+    let conditions = places.conditions.as_slice();
+    blame(&mut first, 41, one_too_many(MOST_CONDITIONS, conditions));
+    let routines = places.routines.as_slice();
+    blame(&mut first, 42, one_too_many(MOST_ROUTINES, routines));
+    blame(&mut first, 43, too_many(declarations));
+    first
+}
+
+/// The rule for counts that fails first, if any does.
+pub fn first_broken(
+    alloc: Global,
+    declarations: &Declarations<'_>,
+) -> Result<Option<Broken>, AllocError>
+    ensures { let g = placed declarations.now in IfOk result
+        (IsFirstOf (FailsAmong (count_rules g) (g ∷ []))) }
+{
+    let places = Places::of(alloc, declarations.program())?;
+    Ok(tried(declarations, &places))
+}

@@ -1,0 +1,10 @@
+use Rattle.std.proofs.Common.{◌≡◌, List, map, drop}
+use Rattle.syntax_tree.specs.Placed.{placed, placed_decl}
+use Rattle.static_rule.specs.Parts.{noted}
+use Rattle.static_declarations.specs.Parts.{Part, decls_parts}
+use Rattle.static_types.specs.Rules.{statement_rules}
+use Rattle.static_types.proofs.program.decls.Given as goal
+
+abbrev pub invariant-loop-one : goal.invariant-loop-one
+invariant-loop-one l = let rules = statement_rules (placed l.declarations) in
+    (more : List Part) → noted rules l.first (decls_parts (map placed_decl (drop l.one-index l.list)) more) ≡ noted rules l.fn.first (decls_parts (map placed_decl l.list) more)

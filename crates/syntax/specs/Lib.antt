@@ -1,0 +1,12 @@
+pub mod Spellings
+pub mod Tables
+pub mod Tokens
+pub mod Faults
+pub mod Fronts
+pub mod Reading
+pub mod Lex
+pub mod Words
+pub mod ExprGrammar
+pub mod StmtGrammar
+pub mod Grammar
+pub mod Opening

@@ -1,0 +1,5 @@
+use Rattle.syntax_parser.proofs.Ends as ends
+use Rattle.syntax_parser.proofs.opening.one_place.Goals as goal
+
+pub returns : goal.returns
+returns c text toks p q first second = ends.one_place text toks p q first second

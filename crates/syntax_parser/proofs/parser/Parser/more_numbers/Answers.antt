@@ -1,0 +1,25 @@
+use Rattle.std.proofs.Common.{arith, sym, ◌∙◌}
+use Rattle.std.proofs.lemmas.Grind.{common_steps}
+use Rattle.syntax_tree.specs.Placed.{placed_constant}
+use Rattle.syntax.specs.Words.{COMMA}
+use Rattle.syntax_reading.specs.ExprReading.{is_at, behind_comma, constant}
+use Rattle.syntax_parser.proofs.Loops.{loop-stop, loop-last, loop-turn, each-turn}
+use Rattle.syntax_parser.proofs.parser.Parser.more_numbers.Goals as goal
+
+pub returns-then-not-is_sign : goal.returns-then-not-is_sign
+returns-then-not-is_sign c =
+    sym c.loop-turn.invariant ∙ loop-stop placed_constant (is_at COMMA) (behind_comma constant) _ c.loop-turn.numbers c.loop-turn.self (sym c.is_sign.ensures ∙ c.if-not-is_sign.true)
+
+pub returns : goal.returns
+returns c = sym c.loop-turn.invariant ∙ loop-last placed_constant (is_at COMMA) (behind_comma constant) _ _ c.loop-turn.numbers c.loop-turn.self c.loop-turn-test.false
+
+pub returns-in_err-more : goal.returns-in_err-more
+returns-in_err-more c =
+    let e = each-turn (is_at COMMA) (behind_comma constant) c.left-turns.result c.loop-turn._turn c.loop-turn.self (sym c.is_sign.ensures ∙ c.if-not-is_sign.false) c.loop-turn-test.true in
+    grind (arith, common_steps)
+
+pub loop-turn-preserved : goal.loop-turn-preserved
+loop-turn-preserved c =
+    let go = sym c.is_sign.ensures ∙ c.if-not-is_sign.false in
+    let e = loop-turn placed_constant (is_at COMMA) (behind_comma constant) c.left-turns.result c.loop-turn._turn c.loop-turn.numbers c.loop-turn.self c.next_constant.new.self c.in_ok-more.more go c.loop-turn-test.true c.in_ok-more.ensures in
+    grind (arith, common_steps)

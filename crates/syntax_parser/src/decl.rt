@@ -1,0 +1,133 @@
+//! Reading declarations and programs.
+
+ghost use Rattle.std.specs.Prelude.{◌≡◌, map};
+ghost use Rattle.syntax_tree.specs.Placed.{placed, placed_decl};
+ghost use Rattle.syntax.specs.Grammar.{MOST_LEVELS};
+ghost use Rattle.syntax_reading.specs.Reading as reading;
+ghost use Rattle.syntax_parser.specs.Reads.{Reads};
+
+use crate::fault::Refusal;
+use crate::parser::Parser;
+use std::alloc::Global;
+use syntax::{keyword, sign};
+use syntax_tree::{Decl, List, Prog};
+
+impl Parser<'_> {
+    #[tactic(auto, unfolding(syntax_reading::specs::Reading::const_decl))]
+    fn const_decl(&mut self, alloc: Global) -> Result<Decl, Refusal>
+        ensures { Reads placed_decl (reading.const_decl self.old) result self.new }
+    {
+        self.expect_keyword(keyword::CONST)?;
+        let (name, place) = self.name(alloc)?;
+        self.expect_sign(sign::ASSIGN)?;
+        let value = self.constant(alloc)?;
+        Ok(Decl::Const { name, place, value })
+    }
+
+    /// Whether a device is an out device.
+    #[tactic(auto, unfolding(syntax_reading::specs::Reading::way))]
+    fn is_out_device(&mut self) -> Result<bool, Refusal>
+        ensures { Reads (λ b. b) (reading.way self.old) result self.new }
+    {
+        if self.is_keyword(keyword::OUT) {
+            self.expect_keyword(keyword::OUT)?;
+            return Ok(true);
+        }
+        self.expect_keyword(keyword::IN)?;
+        Ok(false)
+    }
+
+    #[tactic(auto, unfolding(syntax_reading::specs::Reading::device_decl))]
+    fn device_decl(&mut self, alloc: Global) -> Result<Decl, Refusal>
+        ensures { Reads placed_decl (reading.device_decl self.old) result self.new }
+    {
+        self.expect_keyword(keyword::DEVICE)?;
+        let (name, place) = self.name(alloc)?;
+        self.expect_sign(sign::COLON)?;
+        let is_out = self.is_out_device()?;
+        Ok(Decl::Device {
+            name,
+            place,
+            is_out,
+        })
+    }
+
+    #[tactic(auto, unfolding(syntax_reading::specs::Reading::event_decl))]
+    fn event_decl(&mut self, alloc: Global) -> Result<Decl, Refusal>
+        ensures { Reads placed_decl (reading.event_decl self.old) result self.new }
+    {
+        self.expect_keyword(keyword::EVENT)?;
+        let (name, place) = self.name(alloc)?;
+        Ok(Decl::Event { name, place })
+    }
+
+    #[tactic(auto, unfolding(syntax_reading::specs::Reading::decl))]
+    fn decl(&mut self, alloc: Global) -> Result<Decl, Refusal>
+        ensures { Reads placed_decl (reading.decl MOST_LEVELS self.old) result self.new }
+    {
+        if self.is_keyword(keyword::CONST) {
+            return self.const_decl(alloc);
+        }
+        if self.is_keyword(keyword::DEVICE) {
+            return self.device_decl(alloc);
+        }
+        if self.is_keyword(keyword::EVENT) {
+            return self.event_decl(alloc);
+        }
+        if self.is_keyword(keyword::MONITOR) {
+            let monitor = self.monitor(alloc)?;
+            return Ok(Decl::Mon(monitor));
+        }
+        if self.is_keyword(keyword::PROCESS) {
+            let process = self.process(alloc)?;
+            return Ok(Decl::Proc(process));
+        }
+        let routine = self.routine(alloc)?;
+        Ok(Decl::Routine(routine))
+    }
+
+    fn is_decl(&self) -> bool
+        ensures { result ≡ reading.begins_decl self.now }
+    {
+        self.is_keyword(keyword::CONST)
+            || self.is_keyword(keyword::DEVICE)
+            || self.is_keyword(keyword::EVENT)
+            || self.is_keyword(keyword::MONITOR)
+            || self.is_keyword(keyword::PROCESS)
+            || self.is_routine()
+    }
+
+    /// As many declarations as there are.
+    #[tactic(auto, unfolding(syntax_reading::specs::Reading::decls, syntax_reading::specs::ExprReading::many))]
+    fn decls(&mut self, alloc: Global) -> Result<List<Decl>, Refusal>
+        ensures { Reads (map placed_decl) (reading.decls MOST_LEVELS self.old) result self.new }
+    {
+        let mut decls = List::new(alloc);
+        let turns = self.left();
+        for _turn in 0..turns {
+            if !self.is_decl() {
+                return Ok(decls);
+            }
+            let decl = self.decl(alloc)?;
+            decls.push(decl)?;
+        }
+        Ok(decls)
+    }
+
+    #[tactic(auto, unfolding(syntax_reading::specs::Reading::prog))]
+    pub(crate) fn prog(&mut self, alloc: Global) -> Result<Prog, Refusal>
+        ensures { Reads placed (reading.prog MOST_LEVELS self.old) result self.new }
+    {
+        self.expect_keyword(keyword::PROGRAM)?;
+        let (name, place) = self.name(alloc)?;
+        let decls = self.decls(alloc)?;
+        let (close, close_place) = self.close(alloc)?;
+        Ok(Prog {
+            name,
+            place,
+            decls,
+            close,
+            close_place,
+        })
+    }
+}

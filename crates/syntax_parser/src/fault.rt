@@ -1,0 +1,49 @@
+//! Why tokens have no tree.
+
+use std::alloc::{AllocError, AllocFailed};
+use syntax_tree::Place;
+use thiserror::Error;
+
+/// Why a text was refused.
+#[derive(Debug, Drop, Error)]
+pub enum SynFault {
+    /// The first token with which the tokens read no longer begin a program, or the text's end.
+    #[error("E10 {}:{}", .0.line, .0.col)]
+    Syntax(Place),
+    /// The token that opens level 65 of nesting.
+    #[error("E11 {}:{}", .0.line, .0.col)]
+    Nesting(Place),
+    /// There was not enough memory for the tree.
+    #[error("out of memory")]
+    Memory,
+}
+
+/// Why reading stopped. A fault has the number of tokens that are left from its own on.
+#[derive(Debug, Drop)]
+pub enum Refusal {
+    Memory,
+    Syntax { left: usize },
+    Nesting { left: usize },
+}
+
+impl From<AllocError> for Refusal {
+    ghost use Rattle.std.specs.Prelude.{◌≡◌};
+    ghost use Rattle.syntax_parser.specs.declared.fault.Refusal.TheVariants.{Memory};
+
+    ghost from_gives = { λ _ e. e ≡ Memory };
+
+    fn from(_: AllocError) -> Self {
+        Refusal::Memory
+    }
+}
+
+impl<T: Drop> From<AllocFailed<T>> for Refusal {
+    ghost use Rattle.std.specs.Prelude.{◌≡◌};
+    ghost use Rattle.syntax_parser.specs.declared.fault.Refusal.TheVariants.{Memory};
+
+    ghost from_gives = { λ _ e. e ≡ Memory };
+
+    fn from(_: AllocFailed<T>) -> Self {
+        Refusal::Memory
+    }
+}

@@ -1,0 +1,209 @@
+//! Reading routines and monitors.
+
+ghost use Rattle.std.specs.Prelude.{◌≡◌, map};
+ghost use Rattle.syntax_tree.specs.Placed.{placed_expr, placed_scalar, placed_stmt, placed_routine, placed_routine_kind, placed_member, placed_monitor, optional};
+ghost use Rattle.syntax.specs.Grammar.{MOST_LEVELS};
+ghost use Rattle.syntax_reading.specs.Reading as reading;
+ghost use Rattle.syntax_parser.specs.Reads.{Reads};
+
+use crate::fault::Refusal;
+use crate::parser::Parser;
+use std::alloc::Global;
+use syntax::{keyword, sign};
+use syntax_tree::{Expr, List, Member, Mon, Name, Place, Routine, RoutineKind, Scalar, Stmt};
+
+impl Parser<'_> {
+    /// Statements behind their `begin`.
+    #[tactic(auto, unfolding(syntax_reading::specs::Reading::block))]
+    pub(crate) fn block(&mut self, alloc: Global) -> Result<List<Stmt>, Refusal>
+        ensures { Reads (map placed_stmt) (reading.block MOST_LEVELS self.old) result self.new }
+    {
+        self.expect_keyword(keyword::BEGIN)?;
+        self.stmts(alloc, 64)
+    }
+
+    /// The closing name behind its `end`.
+    #[tactic(auto, unfolding(syntax_reading::specs::Reading::close))]
+    pub(crate) fn close(&mut self, alloc: Global) -> Result<(Name, Place), Refusal>
+        ensures { Reads (λ n. n) (reading.close self.old) result self.new }
+    {
+        self.expect_keyword(keyword::END)?;
+        self.name(alloc)
+    }
+
+    #[tactic(auto, unfolding(syntax_reading::specs::Reading::routine_kind))]
+    fn routine_kind(&mut self) -> Result<RoutineKind, Refusal>
+        ensures { Reads placed_routine_kind (reading.routine_kind self.old) result self.new }
+    {
+        if self.is_keyword(keyword::PROCEDURE) {
+            self.expect_keyword(keyword::PROCEDURE)?;
+            return Ok(RoutineKind::Procedure);
+        }
+        self.expect_keyword(keyword::FUNCTION)?;
+        Ok(RoutineKind::Function)
+    }
+
+    /// The type of the result, where the routine is a function.
+    #[tactic(auto, unfolding(syntax_reading::specs::Reading::result))]
+    fn result(&mut self, alloc: Global, kind: RoutineKind) -> Result<Option<Scalar>, Refusal>
+        ensures { Reads (optional placed_scalar)
+            (reading.result (placed_routine_kind kind) self.old) result self.new }
+    {
+        match kind {
+            RoutineKind::Procedure => Ok(None),
+            RoutineKind::Function => {
+                self.expect_keyword(keyword::RETURNS)?;
+                let scalar = self.scalar_type(alloc)?;
+                Ok(Some(scalar))
+            }
+        }
+    }
+
+    /// The expression of the result, where the routine is a function.
+    #[tactic(auto, unfolding(syntax_reading::specs::Reading::value))]
+    fn value(&mut self, alloc: Global, kind: RoutineKind) -> Result<Option<Expr>, Refusal>
+        ensures { Reads (optional placed_expr)
+            (reading.value MOST_LEVELS (placed_routine_kind kind) self.old) result self.new }
+    {
+        match kind {
+            RoutineKind::Procedure => Ok(None),
+            RoutineKind::Function => {
+                self.expect_keyword(keyword::RETURN)?;
+                let value = self.level(alloc, 64, 5)?;
+                Ok(Some(value))
+            }
+        }
+    }
+
+    #[tactic(auto, unfolding(syntax_reading::specs::Reading::routine_decl))]
+    pub(crate) fn routine(&mut self, alloc: Global) -> Result<Routine, Refusal>
+        ensures { Reads placed_routine (reading.routine_decl MOST_LEVELS self.old) result self.new }
+    {
+        let kind = self.routine_kind()?;
+        let (name, place) = self.name(alloc)?;
+        let params = self.params(alloc)?;
+        let result = self.result(alloc, kind)?;
+        let vars = self.vars(alloc)?;
+        let body = self.block(alloc)?;
+        let value = self.value(alloc, kind)?;
+        let (close, close_place) = self.close(alloc)?;
+        Ok(Routine {
+            kind,
+            name,
+            place,
+            params,
+            result,
+            vars,
+            body,
+            value,
+            close,
+            close_place,
+        })
+    }
+
+    pub(crate) fn is_routine(&self) -> bool
+        ensures { result ≡ reading.begins_routine self.now }
+    {
+        self.is_keyword(keyword::PROCEDURE) || self.is_keyword(keyword::FUNCTION)
+    }
+
+    /// As many routines as there are.
+    #[tactic(auto, unfolding(syntax_reading::specs::Reading::routines, syntax_reading::specs::ExprReading::many))]
+    pub(crate) fn routines(&mut self, alloc: Global) -> Result<List<Routine>, Refusal>
+        ensures { Reads (map placed_routine) (reading.routines MOST_LEVELS self.old) result
+            self.new }
+    {
+        let mut routines = List::new(alloc);
+        let turns = self.left();
+        for _turn in 0..turns {
+            if !self.is_routine() {
+                return Ok(routines);
+            }
+            let routine = self.routine(alloc)?;
+            routines.push(routine)?;
+        }
+        Ok(routines)
+    }
+
+    fn is_member(&self) -> bool
+        ensures { result ≡ reading.begins_member self.now }
+    {
+        self.is_keyword(keyword::VAR) || self.is_keyword(keyword::CONDITION)
+    }
+
+    #[tactic(auto, unfolding(syntax_reading::specs::Reading::member))]
+    fn member(&mut self, alloc: Global) -> Result<Member, Refusal>
+        ensures { Reads placed_member (reading.member self.old) result self.new }
+    {
+        if self.is_keyword(keyword::VAR) {
+            let var = self.var(alloc)?;
+            return Ok(Member::Var(var));
+        }
+        self.expect_keyword(keyword::CONDITION)?;
+        let (name, place) = self.name(alloc)?;
+        Ok(Member::Condition { name, place })
+    }
+
+    /// As many variables and conditions as there are.
+    #[tactic(auto, unfolding(syntax_reading::specs::Reading::members, syntax_reading::specs::ExprReading::many))]
+    fn members(&mut self, alloc: Global) -> Result<List<Member>, Refusal>
+        ensures { Reads (map placed_member) (reading.members self.old) result self.new }
+    {
+        let mut members = List::new(alloc);
+        let turns = self.left();
+        for _turn in 0..turns {
+            if !self.is_member() {
+                return Ok(members);
+            }
+            let member = self.member(alloc)?;
+            members.push(member)?;
+        }
+        Ok(members)
+    }
+
+    /// A routine behind its `entry`.
+    #[tactic(auto, unfolding(syntax_reading::specs::Reading::entry_decl))]
+    fn entry_decl(&mut self, alloc: Global) -> Result<Routine, Refusal>
+        ensures { Reads placed_routine (reading.entry_decl MOST_LEVELS self.old) result self.new }
+    {
+        self.expect_keyword(keyword::ENTRY)?;
+        self.routine(alloc)
+    }
+
+    /// As many entries as there are.
+    #[tactic(auto, unfolding(syntax_reading::specs::Reading::entries, syntax_reading::specs::ExprReading::many))]
+    fn entries(&mut self, alloc: Global) -> Result<List<Routine>, Refusal>
+        ensures { Reads (map placed_routine) (reading.entries MOST_LEVELS self.old) result
+            self.new }
+    {
+        let mut entries = List::new(alloc);
+        let turns = self.left();
+        for _turn in 0..turns {
+            if !self.is_keyword(keyword::ENTRY) {
+                return Ok(entries);
+            }
+            let entry = self.entry_decl(alloc)?;
+            entries.push(entry)?;
+        }
+        Ok(entries)
+    }
+
+    #[tactic(auto, unfolding(syntax_reading::specs::Reading::monitor_decl))]
+    pub(crate) fn monitor(&mut self, alloc: Global) -> Result<Mon, Refusal>
+        ensures { Reads placed_monitor (reading.monitor_decl MOST_LEVELS self.old) result self.new }
+    {
+        self.expect_keyword(keyword::MONITOR)?;
+        let (name, place) = self.name(alloc)?;
+        let members = self.members(alloc)?;
+        let entries = self.entries(alloc)?;
+        let (close, close_place) = self.close(alloc)?;
+        Ok(Mon {
+            name,
+            place,
+            members,
+            entries,
+            close,
+            close_place,
+        })
+    }
+}

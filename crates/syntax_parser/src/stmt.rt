@@ -1,0 +1,443 @@
+//! Reading statements.
+
+ghost use Rattle.std.specs.Prelude.{◌≡◌, map};
+ghost use Rattle.syntax_tree.specs.Placed.{placed_expr, placed_ref, placed_stmt};
+ghost use Rattle.syntax.specs.Words.{keyword as keyword_word, IF, FOR};
+ghost use Rattle.syntax_reading.specs.StmtReading as reading;
+ghost use Rattle.syntax_reading.specs.ExprReading.{is_entry as is_entry_at};
+ghost use Rattle.syntax_parser.specs.Reads.{Reads, placed_entry};
+
+use crate::fault::Refusal;
+use crate::parser::Parser;
+use std::alloc::Global;
+use syntax::{TokenKind, keyword, sign};
+use syntax_tree::{Expr, List, Name, Place, Ref, Stmt};
+
+/// The keyword begins a statement.
+fn begins_stmt(at: u8) -> bool
+    ensures { result ≡ reading.begins_by (keyword_word at) }
+{
+    matches!(
+        at,
+        keyword::IF
+            | keyword::FOR
+            | keyword::EXIT
+            | keyword::GET
+            | keyword::PUT
+            | keyword::ASSERT
+            | keyword::WAIT
+            | keyword::SIGNAL
+            | keyword::BROADCAST
+            | keyword::EXCEPT
+    )
+}
+
+impl Parser<'_> {
+    /// A statement is next.
+    fn is_stmt(&self) -> bool
+        ensures { result ≡ reading.begins self.now }
+    {
+        match self.kind() {
+            Some(TokenKind::Name) => true,
+            Some(TokenKind::Keyword { at }) => begins_stmt(at),
+            _ => false,
+        }
+    }
+
+    /// A name with a `.` behind it is next.
+    fn is_entry(&self) -> bool
+        ensures { result ≡ is_entry_at self.now }
+    {
+        match self.toks.split_first() {
+            Some((_, others)) => {
+                let behind = Parser {
+                    text: self.text,
+                    toks: others,
+                };
+                self.is_name() && behind.is_sign(sign::DOT)
+            }
+            None => false,
+        }
+    }
+
+    /// What is assigned to, behind its name.
+    #[tactic(auto, unfolding(syntax_reading::specs::StmtReading::reference_from))]
+    fn reference_from(
+        &mut self,
+        alloc: Global,
+        depth: usize,
+        name: Name,
+        place: Place,
+    ) -> Result<Ref, Refusal>
+        ensures { Reads placed_ref (reading.reference_from depth (name, place) self.old) result
+            self.new }
+    {
+        if self.is_sign(sign::LEFT_BRACKET) {
+            let index = self.index(alloc, depth)?;
+            return Ok(Ref {
+                place,
+                name,
+                index: Some(Box::new(alloc, index)?),
+            });
+        }
+        Ok(Ref {
+            place,
+            name,
+            index: None,
+        })
+    }
+
+    #[tactic(auto, unfolding(syntax_reading::specs::StmtReading::reference))]
+    fn reference(&mut self, alloc: Global, depth: usize) -> Result<Ref, Refusal>
+        ensures { Reads placed_ref (reading.reference depth self.old) result self.new }
+    {
+        let (name, place) = self.name(alloc)?;
+        self.reference_from(alloc, depth, name, place)
+    }
+
+    /// The arguments of an entry.
+    #[tactic(auto, unfolding(syntax_reading::specs::StmtReading::entry_args))]
+    fn entry_args(&mut self, alloc: Global, depth: usize) -> Result<List<Expr>, Refusal>
+        ensures { Reads (map placed_expr) (reading.entry_args depth self.old) result self.new }
+    {
+        if self.is_sign(sign::LEFT_PAREN) {
+            return self.args(alloc, depth);
+        }
+        Err(Refusal::Syntax { left: self.left() })
+    }
+
+    /// The entry that is called and its arguments, behind the monitor's name.
+    #[tactic(auto, unfolding(syntax_reading::specs::StmtReading::entry))]
+    fn entry(&mut self, alloc: Global, depth: usize) -> Result<(Name, Place, List<Expr>), Refusal>
+        ensures { Reads placed_entry (reading.entry depth self.old) result self.new }
+    {
+        self.expect_sign(sign::DOT)?;
+        let (entry, place) = self.name(alloc)?;
+        let args = self.entry_args(alloc, depth)?;
+        Ok((entry, place, args))
+    }
+
+    /// What is assigned to this, behind the `:=`.
+    #[tactic(auto, unfolding(syntax_reading::specs::StmtReading::assigned))]
+    fn assigned(&mut self, alloc: Global, depth: usize, target: Ref) -> Result<Stmt, Refusal>
+        ensures { Reads placed_stmt (reading.assigned depth (placed_ref target) self.old) result
+            self.new }
+    {
+        if self.is_keyword(keyword::EMPTY) {
+            self.expect_keyword(keyword::EMPTY)?;
+            let (cond, cond_place) = self.name(alloc)?;
+            return Ok(Stmt::AssignEmpty {
+                target,
+                cond,
+                cond_place,
+            });
+        }
+        if self.is_entry() {
+            let (mon, mon_place) = self.name(alloc)?;
+            let (entry, entry_place, args) = self.entry(alloc, depth)?;
+            return Ok(Stmt::AssignEntry {
+                target,
+                mon,
+                mon_place,
+                entry,
+                entry_place,
+                args,
+            });
+        }
+        let value = self.level(alloc, depth, 5)?;
+        Ok(Stmt::Assign { target, value })
+    }
+
+    /// A statement that begins with this name.
+    #[tactic(auto, unfolding(syntax_reading::specs::StmtReading::named_stmt))]
+    fn named_stmt(
+        &mut self,
+        alloc: Global,
+        depth: usize,
+        name: Name,
+        place: Place,
+    ) -> Result<Stmt, Refusal>
+        ensures { Reads placed_stmt (reading.named_stmt depth (name, place) self.old) result
+            self.new }
+    {
+        if self.is_sign(sign::LEFT_PAREN) {
+            let args = self.args(alloc, depth)?;
+            return Ok(Stmt::Call { place, name, args });
+        }
+        if self.is_sign(sign::DOT) {
+            let (entry, entry_place, args) = self.entry(alloc, depth)?;
+            return Ok(Stmt::CallEntry {
+                place,
+                mon: name,
+                entry,
+                entry_place,
+                args,
+            });
+        }
+        let target = self.reference_from(alloc, depth, name, place)?;
+        self.expect_sign(sign::ASSIGN)?;
+        self.assigned(alloc, depth, target)
+    }
+
+    #[tactic(auto, unfolding(syntax_reading::specs::StmtReading::exit_stmt))]
+    fn exit_stmt(&mut self, alloc: Global, depth: usize) -> Result<Stmt, Refusal>
+        ensures { Reads placed_stmt (reading.exit_stmt depth self.old) result self.new }
+    {
+        let place = self.expect_keyword(keyword::EXIT)?;
+        self.expect_keyword(keyword::WHEN)?;
+        let test = self.level(alloc, depth, 5)?;
+        Ok(Stmt::ExitWhen { place, test })
+    }
+
+    #[tactic(auto, unfolding(syntax_reading::specs::StmtReading::get_stmt))]
+    fn get_stmt(&mut self, alloc: Global, depth: usize) -> Result<Stmt, Refusal>
+        ensures { Reads placed_stmt (reading.get_stmt depth self.old) result self.new }
+    {
+        let place = self.expect_keyword(keyword::GET)?;
+        let (device, device_place) = self.name(alloc)?;
+        let target = self.reference(alloc, depth)?;
+        Ok(Stmt::Get {
+            place,
+            device,
+            device_place,
+            target,
+        })
+    }
+
+    #[tactic(auto, unfolding(syntax_reading::specs::StmtReading::put_stmt))]
+    fn put_stmt(&mut self, alloc: Global, depth: usize) -> Result<Stmt, Refusal>
+        ensures { Reads placed_stmt (reading.put_stmt depth self.old) result self.new }
+    {
+        let place = self.expect_keyword(keyword::PUT)?;
+        let (device, device_place) = self.name(alloc)?;
+        let value = self.level(alloc, depth, 5)?;
+        Ok(Stmt::Put {
+            place,
+            device,
+            device_place,
+            value,
+        })
+    }
+
+    #[tactic(auto, unfolding(syntax_reading::specs::StmtReading::assert_stmt))]
+    fn assert_stmt(&mut self, alloc: Global, depth: usize) -> Result<Stmt, Refusal>
+        ensures { Reads placed_stmt (reading.assert_stmt depth self.old) result self.new }
+    {
+        let place = self.expect_keyword(keyword::ASSERT)?;
+        let test = self.level(alloc, depth, 5)?;
+        Ok(Stmt::Assert { place, test })
+    }
+
+    #[tactic(auto, unfolding(syntax_reading::specs::StmtReading::wait_stmt))]
+    fn wait_stmt(&mut self, alloc: Global) -> Result<Stmt, Refusal>
+        ensures { Reads placed_stmt (reading.wait_stmt self.old) result self.new }
+    {
+        let place = self.expect_keyword(keyword::WAIT)?;
+        let (cond, cond_place) = self.name(alloc)?;
+        self.expect_keyword(keyword::NO_LONGER_THAN)?;
+        let limit = self.constant(alloc)?;
+        self.expect_sign(sign::COLON)?;
+        let number = self.constant(alloc)?;
+        Ok(Stmt::Wait {
+            place,
+            cond,
+            cond_place,
+            limit: Box::new(alloc, limit)?,
+            number: Box::new(alloc, number)?,
+        })
+    }
+
+    #[tactic(auto, unfolding(syntax_reading::specs::StmtReading::signal_stmt))]
+    fn signal_stmt(&mut self, alloc: Global) -> Result<Stmt, Refusal>
+        ensures { Reads placed_stmt (reading.signal_stmt self.old) result self.new }
+    {
+        let place = self.expect_keyword(keyword::SIGNAL)?;
+        let (cond, cond_place) = self.name(alloc)?;
+        Ok(Stmt::Signal {
+            place,
+            cond,
+            cond_place,
+        })
+    }
+
+    #[tactic(auto, unfolding(syntax_reading::specs::StmtReading::broadcast_stmt))]
+    fn broadcast_stmt(&mut self, alloc: Global) -> Result<Stmt, Refusal>
+        ensures { Reads placed_stmt (reading.broadcast_stmt self.old) result self.new }
+    {
+        let place = self.expect_keyword(keyword::BROADCAST)?;
+        let (cond, cond_place) = self.name(alloc)?;
+        Ok(Stmt::Broadcast {
+            place,
+            cond,
+            cond_place,
+        })
+    }
+
+    #[tactic(auto, unfolding(syntax_reading::specs::StmtReading::except_stmt))]
+    fn except_stmt(&mut self, alloc: Global) -> Result<Stmt, Refusal>
+        ensures { Reads placed_stmt (reading.except_stmt self.old) result self.new }
+    {
+        let place = self.expect_keyword(keyword::EXCEPT)?;
+        let number = self.constant(alloc)?;
+        Ok(Stmt::Except { place, number })
+    }
+
+    /// A statement with no expression.
+    #[tactic(auto, unfolding(syntax_reading::specs::StmtReading::plain_stmt))]
+    fn plain_stmt(&mut self, alloc: Global) -> Result<Stmt, Refusal>
+        ensures { Reads placed_stmt (reading.plain_stmt self.old) result self.new }
+    {
+        if self.is_keyword(keyword::WAIT) {
+            return self.wait_stmt(alloc);
+        }
+        if self.is_keyword(keyword::SIGNAL) {
+            return self.signal_stmt(alloc);
+        }
+        if self.is_keyword(keyword::BROADCAST) {
+            return self.broadcast_stmt(alloc);
+        }
+        self.except_stmt(alloc)
+    }
+
+    /// A statement that begins with its keyword and has no statements inside.
+    #[tactic(auto, unfolding(syntax_reading::specs::StmtReading::simple_stmt))]
+    fn simple_stmt(&mut self, alloc: Global, depth: usize) -> Result<Stmt, Refusal>
+        ensures { Reads placed_stmt (reading.simple_stmt depth self.old) result self.new }
+    {
+        if self.is_keyword(keyword::EXIT) {
+            return self.exit_stmt(alloc, depth);
+        }
+        if self.is_keyword(keyword::GET) {
+            return self.get_stmt(alloc, depth);
+        }
+        if self.is_keyword(keyword::PUT) {
+            return self.put_stmt(alloc, depth);
+        }
+        if self.is_keyword(keyword::ASSERT) {
+            return self.assert_stmt(alloc, depth);
+        }
+        self.plain_stmt(alloc)
+    }
+
+    /// The `end` of a form that begins with this keyword.
+    #[tactic(auto, unfolding(syntax_reading::specs::StmtReading::closing))]
+    fn closing(&mut self, at: u8) -> Result<Place, Refusal>
+        ensures { Reads (λ p. p) (reading.closing (keyword_word at) self.old) result self.new }
+    {
+        self.expect_keyword(keyword::END)?;
+        self.expect_keyword(at)
+    }
+
+    /// A statement, with `depth` levels of nesting left.
+    #[cycle(stmt)]
+    #[tactic(auto, unfolding(syntax_reading::specs::StmtReading::stmt, syntax_reading::specs::StmtReading::stmt_by))]
+    fn stmt(&mut self, alloc: Global, depth: usize) -> Result<Stmt, Refusal>
+        ensures { Reads placed_stmt (reading.stmt depth self.old) result self.new }
+    {
+        if self.is_name() {
+            let (name, place) = self.name(alloc)?;
+            return self.named_stmt(alloc, depth, name, place);
+        }
+        if self.is_keyword(keyword::IF) {
+            let inside = self.deeper(depth)?;
+            return self.choice(alloc, inside);
+        }
+        if self.is_keyword(keyword::FOR) {
+            let inside = self.deeper(depth)?;
+            return self.for_stmt(alloc, inside);
+        }
+        self.simple_stmt(alloc, depth)
+    }
+
+    /// As many statements as there are.
+    #[cycle(stmt)]
+    #[tactic(auto, unfolding(syntax_reading::specs::StmtReading::stmts, syntax_reading::specs::StmtReading::stmts_by, syntax_reading::specs::ExprReading::many))]
+    pub(crate) fn stmts(&mut self, alloc: Global, depth: usize) -> Result<List<Stmt>, Refusal>
+        ensures { Reads (map placed_stmt) (reading.stmts depth self.old) result self.new }
+    {
+        let mut stmts = List::new(alloc);
+        let turns = self.left();
+        for _turn in 0..turns {
+            if !self.is_stmt() {
+                return Ok(stmts);
+            }
+            let stmt = self.stmt(alloc, depth)?;
+            stmts.push(stmt)?;
+        }
+        Ok(stmts)
+    }
+
+    /// A branch, with `depth` levels of nesting left inside it.
+    #[cycle(stmt)]
+    #[tactic(auto, unfolding(syntax_reading::specs::StmtReading::choice, syntax_reading::specs::StmtReading::stmts))]
+    fn choice(&mut self, alloc: Global, depth: usize) -> Result<Stmt, Refusal>
+        ensures { Reads placed_stmt (reading.choice depth (reading.stmt depth) self.old) result
+            self.new }
+    {
+        let place = self.expect_keyword(keyword::IF)?;
+        let test = self.level(alloc, depth, 5)?;
+        self.expect_keyword(keyword::THEN)?;
+        let first = self.stmts(alloc, depth)?;
+        self.choice_from(alloc, depth, place, test, first)
+    }
+
+    /// What stands behind the first statements of a branch.
+    #[cycle(stmt)]
+    #[tactic(auto, unfolding(syntax_reading::specs::StmtReading::else_by, syntax_reading::specs::StmtReading::stmts))]
+    fn choice_from(
+        &mut self,
+        alloc: Global,
+        depth: usize,
+        place: Place,
+        test: Expr,
+        first: List<Stmt>,
+    ) -> Result<Stmt, Refusal>
+        ensures { Reads placed_stmt (reading.else_by (reading.stmt depth) place (placed_expr test)
+            (map placed_stmt first) self.old) result self.new }
+    {
+        if self.is_keyword(keyword::ELSE) {
+            self.expect_keyword(keyword::ELSE)?;
+            let second = self.stmts(alloc, depth)?;
+            self.closing(keyword::IF)?;
+            return Ok(Stmt::If {
+                place,
+                test,
+                first,
+                second: Some(second),
+            });
+        }
+        self.closing(keyword::IF)?;
+        Ok(Stmt::If {
+            place,
+            test,
+            first,
+            second: None,
+        })
+    }
+
+    /// A loop, with `depth` levels of nesting left inside it.
+    #[cycle(stmt)]
+    #[tactic(auto, unfolding(syntax_reading::specs::StmtReading::loop_stmt, syntax_reading::specs::StmtReading::stmts))]
+    fn for_stmt(&mut self, alloc: Global, depth: usize) -> Result<Stmt, Refusal>
+        ensures { Reads placed_stmt (reading.loop_stmt (reading.stmt depth) self.old) result
+            self.new }
+    {
+        let place = self.expect_keyword(keyword::FOR)?;
+        let (name, name_place) = self.name(alloc)?;
+        self.expect_sign(sign::COLON)?;
+        let low = self.constant(alloc)?;
+        self.expect_sign(sign::RANGE)?;
+        let high = self.constant(alloc)?;
+        self.expect_keyword(keyword::DO)?;
+        let body = self.stmts(alloc, depth)?;
+        self.closing(keyword::FOR)?;
+        Ok(Stmt::For {
+            place,
+            name,
+            name_place,
+            low: Box::new(alloc, low)?,
+            high: Box::new(alloc, high)?,
+            body,
+        })
+    }
+}

@@ -1,0 +1,5 @@
+pub mod ExprReading
+pub mod StmtReading
+pub mod Reading
+pub mod TreeWords
+pub mod Beginning

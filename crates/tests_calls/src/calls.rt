@@ -1,0 +1,145 @@
+//! Calls of the top over files and a sink in memory.
+
+use command::rte;
+use outside::{MemFiles, MemSink};
+use std::alloc::Global;
+use std::test::Fail;
+
+/// The bytes that the sink of a call takes.
+const ROOM: usize = 1_048_576;
+
+/// What a call came to: its status, the bytes and the pieces that it put, and what P, S, I and J
+/// hold.
+#[derive(Drop)]
+pub struct Outcome {
+    pub status: u8,
+    pub put: Vec<u8>,
+    pub puts: u64,
+    pub program: Option<Vec<u8>>,
+    pub script: Option<Vec<u8>>,
+    pub image: Option<Vec<u8>>,
+    pub migrated: Option<Vec<u8>>,
+}
+
+/// Which reads, writes and puts fail, by their numbers from 1; 0 is none.
+#[derive(Clone, Copy)]
+pub struct Failures {
+    pub read: u64,
+    pub write: u64,
+    pub put: u64,
+}
+
+pub const NO_FAILURES: Failures = Failures {
+    read: 0,
+    write: 0,
+    put: 0,
+};
+
+/// The words of a line, which has one space between them; an empty line has none.
+fn words_of(alloc: Global, line: &str) -> Result<Vec<String>, Fail> {
+    let mut words = Vec::new(alloc);
+    if line.is_empty() {
+        return Ok(words);
+    }
+    for word in line.split(' ') {
+        words.push(String::from_str(alloc, word)?)?;
+    }
+    Ok(words)
+}
+
+/// A call of the words of the line, where P holds the program and S the script, if there is one.
+pub fn call(
+    alloc: Global,
+    line: &str,
+    program: &[u8],
+    script: Option<&str>,
+) -> Result<Outcome, Fail> {
+    call_with(alloc, line, program, script, NO_FAILURES)
+}
+
+/// The same, with failures.
+pub fn call_with(
+    alloc: Global,
+    line: &str,
+    program: &[u8],
+    script: Option<&str>,
+    failures: Failures,
+) -> Result<Outcome, Fail> {
+    let mut files = failing(alloc, failures)?;
+    files.place("P", program)?;
+    if let Some(text) = script {
+        files.place("S", text.as_bytes())?;
+    }
+    made_call(alloc, line, files, failures)
+}
+
+/// A call where I holds the image and S the script.
+pub fn call_on_image(
+    alloc: Global,
+    line: &str,
+    image: &[u8],
+    script: &str,
+) -> Result<Outcome, Fail> {
+    let mut files = failing(alloc, NO_FAILURES)?;
+    files.place("I", image)?;
+    files.place("S", script.as_bytes())?;
+    made_call(alloc, line, files, NO_FAILURES)
+}
+
+/// A call where P holds the program, S the script, and the file of this name the bytes, with
+/// failures.
+pub fn call_beside(
+    alloc: Global,
+    line: &str,
+    program: &str,
+    script: &str,
+    name: &str,
+    bytes: &[u8],
+    failures: Failures,
+) -> Result<Outcome, Fail> {
+    let mut files = failing(alloc, failures)?;
+    files.place("P", program.as_bytes())?;
+    files.place("S", script.as_bytes())?;
+    files.place(name, bytes)?;
+    made_call(alloc, line, files, failures)
+}
+
+fn failing(alloc: Global, failures: Failures) -> Result<MemFiles, Fail> {
+    let reads = vec![in alloc; failures.read]?;
+    let writes = vec![in alloc; failures.write]?;
+    Ok(MemFiles::new(alloc, reads, writes))
+}
+
+/// What the file of this name holds.
+fn held(alloc: Global, files: &MemFiles, name: &str) -> Result<Option<Vec<u8>>, Fail> {
+    match files.held(name) {
+        Some(bytes) => Ok(Some(Vec::from_slice(alloc, bytes)?)),
+        None => Ok(None),
+    }
+}
+
+fn made_call(
+    alloc: Global,
+    line: &str,
+    mut files: MemFiles,
+    failures: Failures,
+) -> Result<Outcome, Fail> {
+    let words = words_of(alloc, line)?;
+    let mut out = MemSink::new(alloc, ROOM, vec![in alloc; failures.put]?)?;
+    let status = rte(alloc, words.as_slice(), &mut files, &mut out);
+    Ok(Outcome {
+        status: status.code(),
+        put: Vec::from_slice(alloc, out.bytes())?,
+        puts: out.puts(),
+        program: held(alloc, &files, "P")?,
+        script: held(alloc, &files, "S")?,
+        image: held(alloc, &files, "I")?,
+        migrated: held(alloc, &files, "J")?,
+    })
+}
+
+/// Lines that are parted by bars, each with its end.
+pub fn lines(alloc: Global, bars: &str) -> Result<String, Fail> {
+    let parted = bars.replace(alloc, "|", "\n")?;
+    Ok(format!(in alloc; "{parted}\n")?)
+}

@@ -1,0 +1,19 @@
+//! Calls over files in memory.
+//!
+//! Calls of the top over files and a sink in memory, and the programs and images that the worked
+//! examples share.
+//!
+//! What is known of these programs and images was found outside. The crates of examples call the
+//! top through `call`, `call_with`, `call_beside` and `call_on_image`, which place the files, say
+//! what fails, and give the status, what was put and what the files hold then as an `Outcome`.
+#![tactic(auto)]
+
+mod calls;
+mod known;
+mod programs;
+
+pub use calls::{
+    Failures, NO_FAILURES, Outcome, call, call_beside, call_on_image, call_with, lines,
+};
+pub use known::{IDLE_FIRST, IDLE_SECOND, VALVE, VALVE_FIRST, VALVE_SECOND, with_byte};
+pub use programs::{MINE, MINE_LOG, MINE_REPORT, Put, ROWS, Row};

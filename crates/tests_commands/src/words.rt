@@ -1,0 +1,98 @@
+//! Rows of words: those that are a command, whose first file is missing, and those that are none.
+
+use std::test::Fail;
+use tests_calls::call;
+
+/// Words of each command; no file that they name is there.
+const COMMANDS: &[&str] = &[
+    "go p i s",
+    "go p i s 0",
+    "go p i s 1000",
+    "check p",
+    "check p 42",
+    "check 7",
+    "compile p i",
+    "compile p i 9",
+    "json p",
+    "json p 999",
+    "slack p",
+    "slack p 7",
+    "print p",
+    "run i s",
+    "migrate i j",
+    "asm a i",
+    "dis i a",
+    "replay p s l",
+    "edf p s",
+    "watch i s 0",
+    "watch i s 1000000000",
+    "watch i s @0",
+    "watch i s @65534",
+];
+
+/// Words that are in no row of the table: a file or a number too few or too many, a number that is
+/// none, has a zero in front or is too great, an empty word, one that begins with `-`, and names
+/// that are no command's.
+const OTHERS: &[&str] = &[
+    "",
+    " ",
+    "go p i",
+    "go p i s 1001",
+    "go p i s 007",
+    "go p i s 00",
+    "go p i s 7 7",
+    "go  i s",
+    "check",
+    "check ",
+    "check p ",
+    "check p -1",
+    "check p +1",
+    "check p 4294967296",
+    "check p 1x",
+    "compile p",
+    "slack p 07",
+    "slack p 1001",
+    "slack p i",
+    "slack",
+    "print p 1",
+    "print -",
+    "run i s 1",
+    "run -i s",
+    "migrate i",
+    "asm a",
+    "dis i a 1",
+    "replay p s",
+    "replay p s l 0",
+    "edf p",
+    "edf p s 0",
+    "watch i s",
+    "watch i s 1000000001",
+    "watch i s 05",
+    "watch i s @65535",
+    "watch i s @01",
+    "watch i s @",
+    "watch i s @@1",
+    "Check p",
+    "checks p",
+    "-check p",
+];
+
+#[test]
+fn words_of_commands_are_read(rt: HostRuntime) -> Result<(), Fail> {
+    for &line in COMMANDS {
+        let called = call(rt.alloc(), line, b"", None)?;
+        assert_eq!(rt; called.status, 6, "{line}");
+        assert!(rt; called.put.is_empty(), "{line}");
+    }
+    Ok(())
+}
+
+#[test]
+fn other_words_are_refused(rt: HostRuntime) -> Result<(), Fail> {
+    for &line in OTHERS {
+        let called = call(rt.alloc(), line, b"", None)?;
+        assert_eq!(rt; called.status, 1, "{line}");
+        assert!(rt; called.put.as_slice() == b"usage\n".as_slice(), "{line}");
+    }
+    Ok(())
+}

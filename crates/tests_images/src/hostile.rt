@@ -1,0 +1,390 @@
+//! Images that were changed, cut, or made to be deep and wide, through the top call.
+
+use std::alloc::Global;
+use std::process::Abort;
+use std::test::Fail;
+use tests_calls::{IDLE_FIRST, IDLE_SECOND, Outcome, call_on_image, with_byte};
+
+const SCRIPT: &str = "end 10\n";
+
+/// Bytes of the image that are changed, to what, and the line that is put.
+type Changed = (usize, u8, &'static str);
+
+/// Those of the first version: letters and version, counts, names, the process, its tree, its
+/// code.
+const FIRST_CHANGED: &[Changed] = &[
+    (0, 0x58, "I1 0"),
+    (3, 0x75, "I1 0"),
+    (4, 1, "I1 4"),
+    (5, 0, "I1 4"),
+    (5, 2, "I4 8"),
+    (5, 3, "I1 4"),
+    (7, 0, "I4 6"),
+    (7, 2, "I2 98"),
+    (7, 65, "I4 6"),
+    (19, 1, "I4 18"),
+    (21, 0, "I3 85"),
+    (21, 2, "I2 98"),
+    (22, 0, "I5 22"),
+    (22, 64, "I4 22"),
+    (22, 255, "I4 22"),
+    (23, 0x30, "I5 22"),
+    (25, 0x61, "I5 24"),
+    (26, 1, "I4 35"),
+    (26, 2, "I6 26"),
+    (30, 9, "I4 27"),
+    (36, 1, "I7 35"),
+    (38, 2, "V4 2 1"),
+    (42, 3, "V2 3 4"),
+    (54, 1, "V5 4 5"),
+    (58, 0, "I4 55"),
+    (58, 3, "V5 3 4"),
+    (58, 11, "V5 11 10"),
+    (60, 0x11, "V3 1048576 1114112"),
+    (70, 1, "V3 0 1"),
+    (74, 1, "V1 1 0"),
+    (78, 1, "I7 75"),
+    (80, 1, "I8 81"),
+    (84, 1, "I6 85"),
+    (85, 0, "I6 85"),
+    (85, 1, "V1 0 0"),
+    (85, 2, "V6 0 0"),
+    (85, 0x31, "I6 85"),
+    (97, 1, "I7 94"),
+];
+
+/// The same of the second version, where the overhead stands in 6 and 7 and the deadline in 33 to
+/// 36; and changes of these.
+const SECOND_CHANGED: &[Changed] = &[
+    (0, 0x58, "I1 0"),
+    (5, 1, "I4 6"),
+    (5, 3, "I1 4"),
+    (6, 3, "V2 4 1540"),
+    (6, 4, "I4 6"),
+    (7, 1, "V2 4 6"),
+    (9, 0, "I4 8"),
+    (9, 2, "I2 104"),
+    (21, 1, "I4 20"),
+    (23, 0, "I3 91"),
+    (27, 0x61, "I5 26"),
+    (28, 1, "I4 41"),
+    (28, 2, "I6 28"),
+    (32, 9, "I4 29"),
+    (33, 1, "I4 33"),
+    (36, 9, "I4 33"),
+    (36, 11, "I4 33"),
+    (42, 1, "I7 41"),
+    (44, 2, "V4 2 1"),
+    (48, 3, "V2 3 4"),
+    (60, 1, "V5 4 5"),
+    (64, 3, "V5 3 4"),
+    (64, 11, "V5 11 10"),
+    (76, 1, "V3 0 1"),
+    (80, 1, "V1 1 0"),
+    (84, 1, "I7 81"),
+    (86, 1, "I8 87"),
+    (90, 1, "I6 91"),
+    (91, 1, "V1 0 0"),
+    (91, 2, "V6 0 0"),
+    (91, 0x31, "I6 91"),
+    (103, 1, "I7 100"),
+];
+
+/// Both `run` and `migrate` refuse the image with this line, put as one piece; no file changes.
+fn refuses<R: Abort>(rt: &R, alloc: Global, image: &[u8], fault: &str) -> Result<(), Fail> {
+    let line = format!(in alloc; "{fault}\n")?;
+    for words in ["run I S", "migrate I J"] {
+        let Outcome {
+            status,
+            put,
+            puts,
+            script,
+            image: held,
+            migrated,
+            ..
+        } = call_on_image(alloc, words, image, SCRIPT)?;
+        let text = String::from_utf8(put)?;
+        assert_eq!(rt; text.as_str(), line.as_str(), "{words}");
+        assert_eq!(rt; status, 4, "{words}: {fault}");
+        assert_eq!(rt; puts, 1, "{words}: {fault}");
+        assert!(rt;
+            held.ok_or("no image")?.as_slice() == image,
+            "{words}: {fault}"
+        );
+        assert!(rt;
+            script.ok_or("no script")?.as_slice() == SCRIPT.as_bytes(),
+            "{words}: {fault}"
+        );
+        assert!(rt; migrated.is_none(), "{words}: {fault}");
+    }
+    Ok(())
+}
+
+fn refuses_changed<R: Abort>(
+    rt: &R,
+    alloc: Global,
+    digits: &str,
+    rows: &[Changed],
+) -> Result<(), Fail> {
+    let image = hex::decode(alloc, digits)?;
+    for &(at, value, fault) in rows {
+        let bytes = with_byte(alloc, image.as_slice(), at, value)?;
+        refuses(rt, alloc, bytes.as_slice(), fault)?;
+    }
+    Ok(())
+}
+
+#[test]
+fn one_byte_changed(rt: HostRuntime) -> Result<(), Fail> {
+    let alloc = rt.alloc();
+    refuses_changed(&rt, alloc, IDLE_FIRST, FIRST_CHANGED)?;
+    refuses_changed(&rt, alloc, IDLE_SECOND, SECOND_CHANGED)
+}
+
+/// Both versions, and how many bytes they have.
+const WHOLE: &[(&str, usize)] = &[(IDLE_FIRST, 98), (IDLE_SECOND, 104)];
+
+/// Whole they run; cut after each of their bytes but the last they end inside a field.
+#[test]
+fn cut_after_each_byte(rt: HostRuntime) -> Result<(), Fail> {
+    let alloc = rt.alloc();
+    for &(digits, length) in WHOLE {
+        let image = hex::decode(alloc, digits)?;
+        assert_eq!(rt; image.len(), length);
+        let Outcome { status, put, .. } = call_on_image(
+            alloc,
+            "run I S",
+            image.as_slice(),
+            SCRIPT,
+        )?;
+        assert_eq!(rt; status, 0);
+        assert!(rt; put.as_slice() == b"0 p release\n3 p end\n".as_slice());
+        let mut front = Vec::with_capacity(alloc, length)?;
+        for (place, &byte) in image.iter().enumerate() {
+            let fault = format!(in alloc; "I2 {place}")?;
+            refuses(&rt, alloc, front.as_slice(), fault.as_str())?;
+            front.push(byte)?;
+        }
+    }
+    Ok(())
+}
+
+/// The first version up to the tree of its process, which begins at 81.
+const UP_TO_TREE: &str =
+    "5254455500010001000000000000000000000000000101610170000000000a0000000000000001000000040000000000000000000000000000000400000000000000000000000000000000000000000000";
+
+/// What stands there: a front, then a part so many times, and the line that is put. A loop opens a
+/// tree with 9 bytes (a count, its tag, its turns), a fork with 5, a stay with 7, where there is no
+/// monitor. At most 130 trees are open inside one another. A wait has its tag alone.
+const TREES: &[(&str, &str, usize, &str)] = &[
+    ("", "000000010300000001", 129, "I2 1242"),
+    ("", "000000010300000001", 131, "I4 1251"),
+    ("", "000000010300000001", 4_000, "I4 1251"),
+    ("", "0000000102", 129, "I2 726"),
+    ("", "0000000102", 131, "I4 731"),
+    ("", "0000000102", 4_000, "I4 731"),
+    ("", "00000001050000", 1, "I4 86"),
+    ("", "00000001050000", 4_000, "I4 86"),
+    ("ffffffff", "06", 0, "I2 85"),
+    ("ffffffff", "06", 10_000, "I2 10085"),
+    ("ffffffff", "07", 10_000, "I2 10085"),
+    ("ffffffff", "040000", 4_000, "I2 12085"),
+    ("ffffffff", "0100000001", 4_000, "I2 20085"),
+    ("ffffffff", "0100000000", 4_000, "I4 86"),
+    ("ffffffff", "010000ffff", 4_000, "I2 20085"),
+    ("ffffffff", "0100010000", 4_000, "I4 86"),
+    ("ffffffff", "020000000000000000", 4_000, "I2 36085"),
+    ("ffffffff", "0200000000", 4_000, "I6 94"),
+    ("ffffffff", "08", 4_000, "I6 85"),
+    ("ffffffff", "00", 4_000, "I6 85"),
+    ("00000001", "03000f424000000000", 1, "I2 94"),
+    ("00000001", "03000f424100000000", 1, "I4 86"),
+    ("00000001", "030000000000000000", 1, "I4 86"),
+];
+
+#[test]
+fn deep_and_wide_trees(rt: HostRuntime) -> Result<(), Fail> {
+    let alloc = rt.alloc();
+    for &(front, part, times, fault) in TREES {
+        let mut image = hex::decode(alloc, UP_TO_TREE)?;
+        assert_eq!(rt; image.len(), 81);
+        image.extend_from_slice(hex::decode(alloc, front)?.as_slice())?;
+        let bytes = hex::decode(alloc, part)?;
+        for _ in 0..times {
+            image.extend_from_slice(bytes.as_slice())?;
+        }
+        refuses(&rt, alloc, image.as_slice(), fault)?;
+    }
+    Ok(())
+}
+
+/// Loops inside one another, with nothing inside the last one: how many, the turns of each, the
+/// declared run and the declared bound.
+#[derive(Clone, Copy)]
+struct Nest {
+    depth: u32,
+    turns: u32,
+    run: u32,
+    bound: u32,
+}
+
+/// Numbers of 32 bits, high bytes first.
+fn put_numbers(bytes: &mut Vec<u8>, numbers: &[u32]) -> Result<(), Fail> {
+    for number in numbers {
+        bytes.extend_from_slice(number.to_be_bytes().as_slice())?;
+    }
+    Ok(())
+}
+
+fn put_instruction(bytes: &mut Vec<u8>, number: u8, operand: u32) -> Result<(), Fail> {
+    bytes.push(number)?;
+    put_numbers(bytes, [operand, 0, 0].as_slice())
+}
+
+/// The image of one process of these loops, in the first version: each is one REPS and one REP, and
+/// an operand on the stack.
+fn nest_image(alloc: Global, nest: Nest) -> Result<Vec<u8>, Fail> {
+    let depth = nest.depth;
+    let length = depth.saturating_mul(2).saturating_add(1);
+    let mut bytes = hex::decode(alloc, "525445550001000100000000000000000000")?;
+    put_numbers(&mut bytes, [length].as_slice())?;
+    bytes.extend_from_slice(b"\x01a\x01p\x00".as_slice())?;
+    let numbers = [
+        1_000_000_000,
+        0,
+        1,
+        nest.run,
+        0,
+        0,
+        0,
+        nest.bound,
+        0,
+        depth,
+        0,
+        0,
+        0,
+    ];
+    put_numbers(&mut bytes, numbers.as_slice())?;
+    bytes.extend_from_slice([0, 0].as_slice())?;
+    for _ in 0..depth {
+        bytes.extend_from_slice([0, 0, 0, 1, 3].as_slice())?;
+        put_numbers(&mut bytes, [nest.turns].as_slice())?;
+    }
+    put_numbers(&mut bytes, [0].as_slice())?;
+    for _ in 0..depth {
+        put_instruction(&mut bytes, 32, nest.turns)?;
+    }
+    for outer in (0..depth).rev() {
+        put_instruction(&mut bytes, 33, outer.saturating_add(1))?;
+    }
+    put_instruction(&mut bytes, 48, 0)?;
+    Ok(bytes)
+}
+
+/// A loop of one turn costs 5 ticks and what is inside it, END costs 4. 129 loops are 130 trees.
+const DEEPEST: Nest = Nest {
+    depth: 129,
+    turns: 1,
+    run: 649,
+    bound: 649,
+};
+
+/// Loops of so many turns to depth 60 cost more than any frame has.
+const LONGEST: Nest = Nest {
+    depth: 60,
+    turns: 1_000_000,
+    run: 1_000_000_001,
+    bound: 1_000_000_000,
+};
+
+const NESTS: &[(Nest, &str)] = &[
+    (
+        Nest {
+            run: 648,
+            ..DEEPEST
+        },
+        "V2 648 649",
+    ),
+    (
+        Nest {
+            bound: 648,
+            ..DEEPEST
+        },
+        "V5 648 649",
+    ),
+    (
+        Nest {
+            depth: 130,
+            ..DEEPEST
+        },
+        "I4 1251",
+    ),
+    (
+        Nest {
+            depth: 131,
+            ..DEEPEST
+        },
+        "I4 1251",
+    ),
+    (LONGEST, "V5 1000000000 1000000001"),
+    (
+        Nest {
+            run: 1_000_000_000,
+            ..LONGEST
+        },
+        "V2 1000000000 1000000001",
+    ),
+    (
+        Nest {
+            run: 1_000_000_002,
+            ..LONGEST
+        },
+        "I4 39",
+    ),
+];
+
+/// The deepest tree that there may be runs; one that is deeper is refused at the tree too many, and
+/// costs that are declared too low are refused.
+#[test]
+fn loops_in_one_another(rt: HostRuntime) -> Result<(), Fail> {
+    let alloc = rt.alloc();
+    let deepest = nest_image(alloc, DEEPEST)?;
+    let Outcome { status, put, .. } = call_on_image(
+        alloc,
+        "run I S",
+        deepest.as_slice(),
+        "end 1000\n",
+    )?;
+    assert_eq!(rt;
+        String::from_utf8(put)?.as_str(),
+        "0 p release\n648 p end\n"
+    );
+    assert_eq!(rt; status, 0);
+    for &(nest, fault) in NESTS {
+        let image = nest_image(alloc, nest)?;
+        refuses(&rt, alloc, image.as_slice(), fault)?;
+    }
+    Ok(())
+}
+
+/// A byte more than an image may have is told before all others: the letters are none.
+#[test]
+fn longer_than_an_image_may_be(rt: HostRuntime) -> Result<(), Fail> {
+    let alloc = rt.alloc();
+    let mut image = Vec::with_capacity(alloc, 8_388_609)?;
+    for _ in 0..8_388_608 {
+        image.push(0x52)?;
+    }
+    for fault in ["I1 0\n", "I9 8388608\n"] {
+        let Outcome { status, put, .. } = call_on_image(
+            alloc,
+            "run I S",
+            image.as_slice(),
+            SCRIPT,
+        )?;
+        assert_eq!(rt; status, 4, "{fault}");
+        assert!(rt; put.as_slice() == fault.as_bytes(), "{fault}");
+        image.push(0x52)?;
+    }
+    Ok(())
+}

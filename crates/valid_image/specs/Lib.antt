@@ -1,0 +1,10 @@
+pub mod Tasks
+pub mod Fault
+pub mod Found
+pub mod Pieces
+pub mod Tables
+pub mod Operands
+pub mod Shape
+pub mod Sizes
+pub mod Times
+pub mod Valid

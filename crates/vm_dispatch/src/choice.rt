@@ -1,0 +1,87 @@
+//! Which process runs.
+
+ghost use Rattle.std.specs.Prelude.{◌≡◌, ◌+◌, ◌∷◌, List, Some};
+ghost use Rattle.vm_dispatch.specs.Pick.{entry_of, foremost, foremost_from, joined, key, place_of};
+ghost use Rattle.vm_dispatch.specs.declared.choice.Standing.{Standing};
+
+/// How a process stands in the choice: whether it is ready, its active rank, and whether it is
+/// inside a monitor.
+#[derive(Clone, Copy, Debug, PartialEq, Eq)]
+pub struct Standing {
+    pub ready: bool,
+    pub active: u16,
+    pub inside: bool,
+}
+
+/// The foremost of the ready processes that were looked at: its place, and what it is chosen by.
+#[derive(Clone, Copy)]
+pub struct Found {
+    place: usize,
+    key: u32,
+}
+
+/// What a process is chosen by: a lesser number comes before.
+#[inline(always)]
+fn key_of(standing: &Standing) -> u32
+    ensures { result ≡ key standing.now }
+{
+    2 * u32::from(standing.active) + u32::from(!standing.inside)
+}
+
+/// The one that comes before; of two alike the first.
+#[inline(always)]
+fn sooner_of(best: Option<Found>, next: Found) -> Option<Found>
+    ensures { entry_of result ≡ joined (entry_of best) (entry_of (Some next)) }
+{
+    match best {
+        Some(found) => {
+            if next.key < found.key {
+                Some(next)
+            } else {
+                Some(found)
+            }
+        }
+        None => Some(next),
+    }
+}
+
+/// The foremost once the process at this place is looked at too, after all at lesser places: it is
+/// the ready one with the least active rank, one inside a monitor before one outside, then the
+/// least place. `None` exactly where none is ready so far.
+#[inline(always)]
+pub fn foremost_with(best: Option<Found>, place: usize, standing: &Standing) -> Option<Found>
+    ensures { (rest : List Standing) → joined (entry_of result) (foremost_from (place + 1) rest) ≡
+        joined (entry_of best) (foremost_from place (standing.now ∷ rest)) }
+{
+    if !standing.ready {
+        return best;
+    }
+    let next = Found {
+        place,
+        key: key_of(standing),
+    };
+    sooner_of(best, next)
+}
+
+/// The place of the foremost, if there is one.
+pub fn place_found(best: Option<Found>) -> Option<usize>
+    ensures { result ≡ place_of (entry_of best) }
+{
+    match best {
+        Some(found) => Some(found.place),
+        None => None,
+    }
+}
+
+/// The place of the ready one with the least active rank, one inside a monitor before one outside,
+/// then the least place.
+/// `None` exactly where none is ready.
+pub fn pick(all: &[Standing]) -> Option<usize>
+    ensures { result ≡ foremost all.now }
+{
+    let mut best = None;
+    for (k, standing) in all.iter().enumerate() {
+        best = foremost_with(best, k, standing);
+    }
+    place_found(best)
+}

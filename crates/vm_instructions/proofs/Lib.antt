@@ -1,0 +1,5 @@
+pub mod Rows
+pub mod Elements
+pub mod Arms
+pub mod Leading
+pub mod Safe

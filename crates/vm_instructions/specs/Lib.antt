@@ -1,0 +1,5 @@
+pub mod Frames
+pub mod Inside
+pub mod Steps
+pub mod Silent
+pub mod Rows

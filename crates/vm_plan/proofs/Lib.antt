@@ -1,0 +1,5 @@
+pub mod Lists
+pub mod PlanPlanning
+pub mod Growing
+pub mod PlanBytesPlanning
+pub mod Planned

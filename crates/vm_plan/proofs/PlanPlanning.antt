@@ -1,0 +1,76 @@
+-- A plan whose parts are made from an image is that of the image.
+use Rattle.std.proofs.Common.{◌≡◌, ◌≤◌, ◌*◌, arith, ℕ, zero, suc, List, [], ◌∷◌, length, map, Option, Some, None, refl, ap, sym, subst, ◌∙◌}
+use Rattle.std.specs.Prelude.{All, option_map, slice_get}
+use Rattle.std.proofs.lemmas.List.{length-map}
+use Rattle.std.proofs.lemmas.List.Elements.{All-nil, All-cons, All-head, All-tail}
+use Rattle.std.proofs.lemmas.Option.{slice_get-map}
+use Rattle.image.specs.declared.names.CondName.{CondName}
+use Rattle.image.specs.declared.names.DevName.{DevName}
+use Rattle.image.specs.declared.raw.RawImage.{RawImage}
+use Rattle.image.specs.declared.raw.RawMon.{RawMon}
+use Rattle.image.specs.declared.raw.RawProc.{RawProc}
+use Rattle.image.specs.declared.raw.RawRoutine.{RawRoutine}
+use Rattle.image.specs.Raw.{image_of, monitor_of, process_of, routine_of}
+use Rattle.machine_semantics.specs.Image.{Monitor, Routine}
+use Rattle.machine_semantics.specs.Run.{words_of}
+use Rattle.vm_instructions.specs.Silent.{IsCalled}
+use Rattle.vm_state.specs.declared.plan.Plan.{Plan}
+use Rattle.vm_state.specs.declared.plan.Process.{Process}
+use Rattle.vm_state.specs.Plan.{AreProcesses, IsOf}
+use Rattle.vm_instructions.specs.declared.calls.Routine.{Routine as Called}
+use Rattle.vm_plan.specs.HasPlan.{CanRun, HasPlan, called_of}
+
+one_of : {X : Type 0} (P : X → Type 0) (xs : List X) (k : ℕ) (x : X) → All P xs → slice_get xs k ≡ Some x → P x
+one_of P [] k x all at = absurd cc
+one_of P (y ∷ xs) zero x all at = let same : y ≡ x = cc in subst P same (All-head P y xs all)
+one_of P (y ∷ xs) (suc k) x all at = one_of P xs k x (All-tail P y xs all) at
+
+map_twice : (ms : List RawMon) → map (λ (m : Monitor). m.ceiling) (map monitor_of ms) ≡ map (λ (m : RawMon). m.ceiling) ms
+map_twice [] = refl
+map_twice (m ∷ ms) = ap (λ (xs : List ℕ). m.ceiling ∷ xs) (map_twice ms)
+
+-- a routine of the plan is that of the image
+called_is : (raws : List RawRoutine) (called : List Called) → called ≡ map called_of raws → All (λ (r : Routine). r.params ≤ r.locals) (map routine_of raws) → (n : ℕ) (whole : Routine) → slice_get (map routine_of raws) n ≡ Some whole
+    → (r : Called) × (slice_get called n ≡ Some r) × IsCalled whole r
+called_is raws called are all n whole at = by (slice_get raws n) refl where
+  by : (o : Option RawRoutine) → slice_get raws n ≡ o → (r : Called) × (slice_get called n ≡ Some r) × IsCalled whole r
+  by None there = absurd (let e : None ≡ Some whole = sym (slice_get-map routine_of raws n ∙ ap (λ o. option_map routine_of o) there) ∙ at in cc)
+  by (Some raw) there =
+      let same : routine_of raw ≡ whole = (let e : Some (routine_of raw) ≡ Some whole = sym (slice_get-map routine_of raws n ∙ ap (λ o. option_map routine_of o) there) ∙ at in cc) in
+      let order : (routine_of raw).params ≤ (routine_of raw).locals = subst (λ (w : Routine). w.params ≤ w.locals) (sym same) (one_of (λ (r : Routine). r.params ≤ r.locals) (map routine_of raws) n whole all at) in (
+        called_of raw,
+        ap (λ (cs : List Called). slice_get cs n) are ∙ (slice_get-map called_of raws n ∙ ap (λ o. option_map called_of o) there),
+        subst (λ (w : Routine). IsCalled w (called_of raw)) same (record { params = refl; locals = refl; start = refl; order = order }),
+      )
+
+pub planned : (raw : RawImage) (plan : Plan) → HasPlan (image_of raw) → plan.code.items ≡ raw.code → plan.routines.items ≡ map called_of raw.routines → AreProcesses (map process_of raw.processes) plan.processes.items
+    → plan.conditions.items ≡ map (λ (c : CondName). c.mon) raw.names.conditions → plan.ceilings.items ≡ map (λ (m : RawMon). m.ceiling) raw.monitors
+    → plan.shared ≡ words_of (map monitor_of raw.monitors) → plan.devices ≡ length raw.names.devices → plan.burn ≡ 2 * raw.overhead → IsOf (image_of raw) plan
+planned raw plan has code routines processes conditions ceilings shared devices burn = record {
+  code = record { code_is = sym code; routine_is = called_is raw.routines plan.routines.items routines has.params };
+  numbers = has.numbers;
+  processes = processes;
+  few = has.few;
+  conditions = sym conditions;
+  ceilings = map_twice raw.monitors ∙ sym ceilings;
+  shared = sym shared;
+  devices = length-map raw.names.devices (λ (d : DevName). d.out) ∙ sym devices;
+  burn = sym burn;
+}
+
+-- ---- what is asked of the parts
+
+unmapped : {X Y : Type 0} (P : Y → Type 0) (to : X → Y) (xs : List X) → All P (map to xs) → All (λ (x : X). P (to x)) xs
+unmapped P to [] all = All-nil (λ x. P (to x))
+unmapped P to (x ∷ xs) all = All-cons (λ y. P (to y)) x xs (All-head P (to x) (map to xs) all) (unmapped P to xs (All-tail P (to x) (map to xs) all))
+
+pub all_can : (raw : RawImage) (raws : List RawProc) (n : ℕ) → HasPlan (image_of raw) → raws ≡ raw.processes → n ≡ length raw.code → All (λ (p : RawProc). CanRun n (process_of p)) raws
+all_can raw raws n has same count =
+    subst (λ (ps : List RawProc). All (λ (p : RawProc). CanRun n (process_of p)) ps) (sym same)
+    (subst (λ (m : ℕ). All (λ (p : RawProc). CanRun m (process_of p)) raw.processes) (sym count) (unmapped (CanRun (length raw.code)) process_of raw.processes has.processes))
+
+pub few_monitors : (raw : RawImage) (monitors : List RawMon) → HasPlan (image_of raw) → monitors ≡ raw.monitors → length monitors ≤ 64
+few_monitors raw monitors has same = omega (arith, has.monitors, length-map raw.monitors monitor_of, ap length same)
+
+pub the_processes : (raw : RawImage) (raws : List RawProc) (ps : List Process) → raws ≡ raw.processes → AreProcesses (map process_of raws) ps → AreProcesses (map process_of raw.processes) ps
+the_processes raw raws ps same are = subst (λ (rs : List RawProc). AreProcesses (map process_of rs) ps) same are

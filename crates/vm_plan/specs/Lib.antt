@@ -1,0 +1,3 @@
+pub mod HasPlan
+pub mod Called
+pub mod PlanLaws

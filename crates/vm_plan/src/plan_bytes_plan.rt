@@ -1,0 +1,28 @@
+//! The whole plan.
+
+ghost use Rattle.std.specs.Prelude.{IfOk};
+ghost use Rattle.vm_plan.specs.HasPlan.{HasPlan};
+ghost use Rattle.vm_state.specs.Plan.{IsOf};
+
+use crate::plan_bytes_parts::{ceilings, conditions, devices, instructions, routines, words};
+use crate::plan_bytes_process::processes;
+use image_bytes::ImageBytes;
+use std::alloc::{AllocError, Global};
+use vm_state::Plan;
+
+/// The plan of the image; an error says that memory is short.
+pub fn plan_of(alloc: Global, image: &ImageBytes) -> Result<Plan, AllocError>
+    requires { HasPlan image.now.image }
+    ensures { IfOk result (λ plan. IsOf image.now.image plan) }
+{
+    Ok(Plan {
+        code: instructions(alloc, image)?,
+        routines: routines(alloc, image)?,
+        processes: processes(alloc, image)?,
+        conditions: conditions(alloc, image)?,
+        ceilings: ceilings(alloc, image)?,
+        shared: words(image),
+        devices: devices(image),
+        burn: 2 * u32::from(image.overhead()),
+    })
+}

@@ -1,0 +1,54 @@
+//! The run to the end of the script.
+
+ghost use Rattle.std.specs.Prelude.{◌≡◌, ◌≤◌, All, OnOk, OnErr};
+ghost use Rattle.outside.specs.Outside.{Appends, AppendsFront, Rose};
+ghost use Rattle.event_log.specs.InRange.{AreIn};
+ghost use Rattle.machine_semantics.specs.Image.{Image};
+ghost use Rattle.vm_runner.specs.Runnable.{IsRunnable};
+ghost use Rattle.vm_runner.specs.Standing.{StandsIn};
+ghost use Rattle.vm_releases.specs.Begin.{script_of};
+ghost use Rattle.vm_state.specs.Plan.{IsOf};
+ghost use Rattle.vm_run.specs.Coming.{coming, log_to_come};
+
+use crate::put::put_all;
+use event_log::Line;
+use image::ImageNames;
+use outside::{Sink, SinkFailed};
+use script::Script;
+use vm_runner::Machine;
+use vm_state::Plan;
+
+/// Runs from the machine's tick to the end of the script, and puts the line of each event in the
+/// log, one put a line. After a failed put nothing more is put; the machine then stands after the
+/// turns whose lines it was putting. It takes no memory.
+pub fn run<O: Sink>(
+    machine: &mut Machine,
+    plan: &Plan,
+    script: &Script,
+    names: &ImageNames,
+    out: &mut O,
+) -> Result<(), SinkFailed>
+    ghost image: { Image }
+    requires plan { IsOf image plan.now }
+    requires runnable { IsRunnable image (script_of script.now) }
+    requires stands { StandsIn image (script_of script.now) machine.old }
+    // each event that is still to come has a line
+    requires lines { All (AreIn names.now) (coming image (script_of script.now) machine.old.tick) }
+    ensures whole { OnOk result (Appends (O.state out.old).taken (O.state out.new).taken
+        (log_to_come image (script_of script.now) names.now machine.old.tick)) }
+    ensures end { OnOk result (machine.new.tick ≡ script.now.end) }
+    ensures front { OnErr result (AppendsFront (O.state out.old).taken (O.state out.new).taken
+        (log_to_come image (script_of script.now) names.now machine.old.tick)) }
+    ensures failed { OnErr result (Rose (O.state out.old).faults (O.state out.new).faults) }
+    ensures count { (O.state out.old).faults ≤ (O.state out.new).faults }
+    ensures quiet { OnOk result ((O.state out.new).faults ≡ (O.state out.old).faults) }
+    ensures stands { StandsIn image (script_of script.now) machine.new }
+{
+    let end = script.end();
+    let mut text = Line::new();
+    while machine.tick() < end {
+        machine.advance_row(plan, script);
+        put_all(&mut text, names, machine.events(), out)?;
+    }
+    Ok(())
+}

@@ -1,0 +1,475 @@
+-- A row of instructions of the process that is picked, and what ends it.
+use Rattle.std.proofs.Common.{◌≡◌, ◌≤◌, ◌<◌, ◌+◌, ◌-◌, ◌++◌, inl, inr, ℕ, suc, Bool, true, false, List, [], ◌∷◌, Option, Some, length, arith, refl, ap, sym, subst, ◌∙◌}
+use Rattle.std.specs.Prelude.{ℤ, cond, nat_lt, slice_get, slice_set}
+use Rattle.std.proofs.lemmas.Bool.{cases_lt}
+use Rattle.std.proofs.lemmas.Bool.Decides.{nat_tests}
+use Rattle.std.specs.Global.{Vec}
+use Rattle.std.proofs.lemmas.Option.{slice_get_within}
+use Rattle.base.specs.declared.event.Event.{Event}
+use Rattle.machine_isa.specs.declared.instr.Instr.{Instr}
+use Rattle.machine_isa.specs.Ticks.{ticks}
+use Rattle.machine_semantics.specs.Image.{Image, Process, Script}
+use Rattle.machine_semantics.specs.State.{Job, Thread, Ready, State}
+use Rattle.machine_semantics.specs.Starts.{Started, raised, starts}
+use Rattle.machine_semantics.specs.Effect.{Own, Outcome, Goes, Does, Signals, Broadcasts, Waits, Raises, Ends, Stuck, effect}
+use Rattle.machine_semantics.specs.Tick.{Ticked, at_next, owned_of, pick, settle}
+use Rattle.machine_semantics.specs.Run.{events_from, state_at}
+use Rattle.vm_instructions.specs.declared.row.Halt.{Halt}
+use Rattle.vm_instructions.specs.declared.row.Halt.TheVariants as halt
+use Rattle.vm_instructions.specs.Rows.{Ended, Runs, Spends, stays}
+use Rattle.vm_instructions.specs.Silent.{RaisesAs}
+use Rattle.vm_stretch.specs.StretchDue.{time_out_of}
+use Rattle.vm_stretch.specs.Quiet.{AreQuiet, IsQuiet}
+use Rattle.vm_stretch.specs.RowLaws.{IsInStack, IsPicked, IsSafeRun, begun}
+use Rattle.vm_stretch.specs.Silent.{Begins, Follows, IsAt, Leads, is_silent, next_own, with_process}
+use Rattle.vm_stretch.specs.Stretch.{left, left_at, left_of, outcome_at_once, outcomes, pass, pass_thread, place_of}
+use Rattle.vm_stretch.proofs.StretchMoving.{NotStuck, effect_same, get_set, moved, quiet_same, set_set, settled_same}
+use Rattle.vm_stretch.proofs.Quiet.{quiet_starts_nothing}
+use Rattle.vm_stretch.proofs.Rowing.{row_is_safe, row_is_turn, row_keeps_events, row_stays_in_run}
+use Rattle.vm_stretch.proofs.Runs.{turn_stays_in_run}
+use Rattle.vm_turn.specs.Own.{CanCome}
+use Rattle.vm_turn.specs.Rows.{CanEnd, CanRun, EndsIn, HasRun, IsSeenAt, effect_of, outcome_of, own_at}
+use Rattle.vm_state.specs.declared.board.Board.{Board}
+use Rattle.vm_state.specs.Board.{IsBoardOf, rows_of, state_of}
+use Rattle.vm_turn.proofs.Safely.{Found, picked}
+use Rattle.vm_stretch.proofs.Lists.{get_other, same_or_not, there_is}
+use Rattle.machine_safety_spec.specs.Queues.{AreQueued, waits_on}
+use Rattle.vm_runner.specs.Turn.{BurnsNothing, HasPassed, Run, unspent}
+use Rattle.vm_runner.specs.Waits.{WaitsFrom, is_some_at_queue}
+use Rattle.vm_runner.proofs.Passing.{turn_alone}
+use Rattle.vm_runner.proofs.Waiting.{from_then, ready_from, set_same, settle_from, settle_same}
+
+-- ---- the last instruction of a row
+
+-- the activation at its next instruction raises as at this
+raised_next : (p : Process) (e : ℕ) (job : Job) → raised p e (at_next job) ≡ raised p e job
+raised_next p e job = refl
+
+-- no outcome that is not stuck in its turn is stuck
+not_stuck : (image : Image) (u k : ℕ) (p : Process) (job : Job) (s : State) (out : Outcome) → (settle image u k p job s out).stuck ≡ false → NotStuck out
+not_stuck image u k p job s (Goes o) free = tt
+not_stuck image u k p job s Stuck free = absurd cc
+not_stuck image u k p job s _ free = tt
+
+-- what goes on stands the same, however the process stood before
+goes_same : (image : Image) (u k : ℕ) (p : Process) (job : Job) (o next : Own) (s : State) → settle image u k p job (with_process k o s) (Goes next) ≡ record { state = with_process k next s; events = []; stuck = false }
+goes_same image u k p job o next s =
+    ap (λ (ts : List Thread). record { state = record s { threads = ts; owned = slice_set (slice_set s.owned k o.owned) k next.owned; shared = next.shared }; events = []; stuck = false }) (set_set s.threads k (Ready o.job) (Ready next.job))
+    ∙ ap (λ (ws : List (List ℤ)). record { state = record s { threads = slice_set s.threads k (Ready next.job); owned = ws; shared = next.shared }; events = []; stuck = false }) (set_set s.owned k o.owned next.owned)
+
+-- with the same words the process has moved alone
+moved_alone : (k : ℕ) (o new : Own) (s : State) → new.owned ≡ o.owned → new.shared ≡ o.shared → with_process k new s ≡ moved k new.job (with_process k o s)
+moved_alone k o new s owned shared =
+    ap (λ (ws : List ℤ). record s { threads = slice_set s.threads k (Ready new.job); owned = slice_set s.owned k ws; shared = new.shared }) owned
+    ∙ ap (λ (ws : List ℤ). record s { threads = slice_set s.threads k (Ready new.job); owned = slice_set s.owned k o.owned; shared = ws }) shared
+    ∙ ap (λ (ts : List Thread). record s { threads = ts; owned = slice_set s.owned k o.owned; shared = o.shared }) (sym (set_set s.threads k (Ready o.job) (Ready new.job)))
+
+-- what so many ticks of the process come to in the state where it stands so
+abbrev pub comes : Image → State → ℕ → ℕ → Own → Outcome
+comes image s k m o = outcomes image (with_process k o s) o.job o.owned m o.job.burn
+
+-- where a row ended: some ticks of one more instruction are the last of it, and what code does at its end is what they come to
+pub record RowEnds (image : Image) (s : State) (k : ℕ) (p : Process) (first : Own) (passed : ℕ) (h : Halt) (new : Own) : Type 0 where
+  pub n : ℕ
+  pub o : Own
+  pub leads : Leads image first n o
+  pub m : ℕ
+  pub some : 1 ≤ m
+  pub fits : m ≤ left image o.job
+  pub all : n + m ≡ passed
+  pub same : (u : ℕ) → (settle image u k p o.job (with_process k o s) (comes image s k m o)).stuck ≡ false
+      → settle image u k p new.job (with_process k new s) (outcome_of image (with_process k new s) h new) ≡ settle image u k p o.job (with_process k o s) (comes image s k m o)
+
+left_is : (image : Image) (o : Own) (instr : Instr) → IsAt image o instr → left image o.job ≡ ticks instr - o.job.done
+left_is image o instr at = ap (λ (b : ℕ). left_of b o.job.done (slice_get image.code o.job.place)) at.burnt ∙ ap (λ (x : Option Instr). left_at o.job.done x) at.here
+
+-- all ticks of an instruction come to its effect
+comes_all : (image : Image) (s : State) (k m : ℕ) (o : Own) (instr : Instr) → IsAt image o instr → m ≡ ticks instr - o.job.done → (with_process k o s).shared ≡ o.shared → comes image s k m o ≡ effect image (with_process k o s) instr (next_own o)
+comes_all image s k m o instr at time shared =
+    let w : State = with_process k o s in
+    let last : nat_lt (o.job.done + m) (ticks instr) ≡ false = let early = at.early in grind (arith, nat_tests) in
+    ap (λ (b : ℕ). outcomes image w o.job o.owned m b) at.burnt
+    ∙ ap (λ (x : Option Instr). outcome_at_once image w o.job o.owned m x) at.here
+    ∙ ap (λ (b : Bool). cond b (Goes (record { job = record (o.job) { done = o.job.done + m }; owned = o.owned; shared = w.shared })) (effect image w instr (record { job = at_next o.job; owned = o.owned; shared = w.shared }))) last
+
+-- fewer ticks stay within it
+comes_part : (image : Image) (s : State) (k m : ℕ) (o : Own) (instr : Instr) → IsAt image o instr → o.job.done + m < ticks instr → comes image s k m o ≡ Goes (stays m o)
+comes_part image s k m o instr at less =
+    let w : State = with_process k o s in
+    let last : nat_lt (o.job.done + m) (ticks instr) ≡ true = grind (arith, nat_tests) in
+    ap (λ (b : ℕ). outcomes image w o.job o.owned m b) at.burnt
+    ∙ ap (λ (x : Option Instr). outcome_at_once image w o.job o.owned m x) at.here
+    ∙ ap (λ (b : Bool). cond b (Goes (record { job = record (o.job) { done = o.job.done + m }; owned = o.owned; shared = w.shared })) (effect image w instr (record { job = at_next o.job; owned = o.owned; shared = w.shared }))) last
+
+-- a row that goes on
+ends_going : (image : Image) (s : State) (k : ℕ) (p : Process) (first : Own) (passed n m : ℕ) (o new : Own) → Leads image first n o → 1 ≤ m → m ≤ left image o.job → n + m ≡ passed → comes image s k m o ≡ Goes new → RowEnds image s k p first passed halt.Spent new
+ends_going image s k p first passed n m o new leads some fits all goes = record {
+  n = n;
+  o = o;
+  leads = leads;
+  m = m;
+  some = some;
+  fits = fits;
+  all = all;
+  same = λ u free. goes_same image u k p new.job new new s ∙ sym (ap (λ (r : Outcome). settle image u k p o.job (with_process k o s) r) goes ∙ goes_same image u k p o.job o new s);
+}
+
+ends_led : (image : Image) (s : State) (k : ℕ) (p : Process) (first : Own) (passed : ℕ) (n : ℕ) (new : Own) → Leads image first n new → n ≡ passed → 1 ≤ passed → RowEnds image s k p first passed halt.Spent new
+ends_led image s k p first passed n new Begins is some = absurd (omega (arith, is, some))
+ends_led image s k p first passed n' new (Follows {n} {o} before instr next step m' time) is some =
+    let at : IsAt image o instr = step.at in
+    let early = at.early in
+    let m : ℕ = ticks instr - o.job.done in
+    ends_going image s k p first passed n m o new before (omega (arith, early)) (omega (arith, left_is image o instr at)) (omega (arith, time, is))
+    (comes_all image s k m o instr at refl refl ∙ step.goes (with_process k o s))
+
+same_stays : (o : Own) (m : ℕ) → m ≡ 0 → stays m o ≡ o
+same_stays o m is = let e : o.job.done + m ≡ o.job.done = omega (arith, is) in ap (λ (d : ℕ). record o { job = record (o.job) { done = d } }) e
+
+pub spent_ends : (image : Image) (s : State) (k : ℕ) (p : Process) (first : Own) (budget : ℕ) (new : Own) → 1 ≤ budget → Spends image first budget new → RowEnds image s k p first budget halt.Spent new
+spent_ends image s k p first budget new some spends =
+    let n : ℕ = spends.0 in
+    let m : ℕ = spends.1 in
+    let o : Own = spends.2 in
+    let leads : Leads image first n o = spends.3 in
+    let all : n + m ≡ budget = spends.4 in
+    let is : new ≡ stays m o = spends.5 in
+    subst (λ (x : Own). RowEnds image s k p first budget halt.Spent x) (sym is) (elim (cases_lt 0 m) [
+      | inl more ↦ elim (spends.6) [
+        | inl none ↦ absurd (omega (arith, none, more))
+        | inr within ↦
+            let instr : Instr = within.0 in
+            let at : IsAt image o instr = within.1 in
+            let less : o.job.done + m < ticks instr = within.2 in
+            ends_going image s k p first budget n m o (stays m o) leads (omega (arith, more)) (omega (arith, less, left_is image o instr at)) all (comes_part image s k m o instr at less)
+      ]
+      | inr none ↦
+          let zero_m : m ≡ 0 = omega (arith, none) in
+          subst (λ (x : Own). RowEnds image s k p first budget halt.Spent x) (sym (same_stays o m zero_m)) (ends_led image s k p first budget n o leads (omega (arith, zero_m, all)) some)
+    ])
+
+-- a row that an exception ends
+pub raise_ends : (image : Image) (s : State) (k : ℕ) (p : Process) (first : Own) (passed number : ℕ) (last new : Own) (instr : Instr) → slice_get s.threads k ≡ Some (Ready first.job) → Ended image first passed last instr
+    → ((w : State) → effect image w instr (next_own last) ≡ Raises number) → RaisesAs (next_own last) new → (rest : ℕ) → RowEnds image s k p first passed (halt.Raises rest number) new
+raise_ends image s k p first passed number last new instr ready ended raises alike rest =
+    let at = ended.at in
+    let early = at.early in
+    let m : ℕ = ticks instr - last.job.done in
+    let w : State = with_process k last s in
+    let out : comes image s k m last ≡ Raises number = comes_all image s k m last instr at refl refl ∙ raises w in
+    record {
+      n = ended.n;
+      o = last;
+      leads = ended.leads;
+      m = m;
+      some = omega (arith, early);
+      fits = omega (arith, left_is image last instr at);
+      all = ended.time;
+      same = λ u free.
+          ap (λ (x : State). settle image u k p new.job x (Raises number)) (moved_alone k last new s alike.1 alike.2)
+          ∙ settled_same image u k p last.job new.job w (Raises number) tt (λ e is. alike.0 p e)
+          ∙ ap (λ (r : Outcome). settle image u k p last.job w r) (sym out);
+    }
+
+-- a row that ends at an instruction that others see
+pub seen_ends : (image : Image) (s : State) (k : ℕ) (p : Process) (first : Own) (passed : ℕ) (last : Own) (instr : Instr) → slice_get s.threads k ≡ Some (Ready first.job) → Ended image first passed last instr
+    → (rest : ℕ) → RowEnds image s k p first passed (halt.Sees rest) (next_own last)
+seen_ends image s k p first passed last instr ready ended rest =
+    let at = ended.at in
+    let early = at.early in
+    let new : Own = next_own last in
+    let m : ℕ = ticks instr - last.job.done in
+    let w : State = with_process k last s in
+    let w' : State = with_process k new s in
+    let moves : w' ≡ moved k new.job w = moved_alone k last new s refl refl in
+    let there : slice_get w.threads k ≡ Some (Ready last.job) = get_set s.threads k (Ready last.job) (Ready first.job) ready in
+    let place : new.job.place - 1 ≡ last.job.place = omega arith in
+    let here : slice_get image.code (new.job.place - 1) ≡ Some instr = ap (λ (c : ℕ). slice_get image.code c) place ∙ at.here in
+    let out : comes image s k m last ≡ effect image w instr new = comes_all image s k m last instr at refl refl in
+    let out' : outcome_of image w' (halt.Sees rest) new ≡ effect image w instr new =
+    ap (λ (x : Option Instr). effect_of image w' x new) here
+    ∙ ap (λ (x : State). effect image x instr new) moves
+    ∙ effect_same image w instr new k last.job new.job there refl in
+    record {
+      n = ended.n;
+      o = last;
+      leads = ended.leads;
+      m = m;
+      some = omega (arith, early);
+      fits = omega (arith, left_is image last instr at);
+      all = ended.time;
+      same = λ u free.
+          let ok : NotStuck (effect image w instr new) = subst (λ (r : Outcome). NotStuck r) out (not_stuck image u k p last.job w (comes image s k m last) free) in
+          ap (λ (r : Outcome). settle image u k p new.job w' r) out'
+          ∙ ap (λ (x : State). settle image u k p new.job x (effect image w instr new)) moves
+          ∙ settled_same image u k p last.job new.job w (effect image w instr new) ok (λ e is. refl)
+          ∙ ap (λ (r : Outcome). settle image u k p last.job w r) (sym out);
+    }
+
+pub row_ends : (image : Image) (s : State) (k : ℕ) (p : Process) (first : Own) (budget : ℕ) (h : Halt) (new : Own) → slice_get s.threads k ≡ Some (Ready first.job) → 1 ≤ budget → Runs image first budget h new → RowEnds image s k p first (budget - unspent h) h new
+row_ends image s k p first budget halt.Spent new ready some runs = let e : budget - 0 ≡ budget = omega arith in subst (λ (n : ℕ). RowEnds image s k p first n halt.Spent new) (sym e) (spent_ends image s k p first budget new some runs)
+row_ends image s k p first budget (halt.Raises rest number) new ready some runs =
+    raise_ends image s k p first (budget - rest) number runs.0 new runs.1 ready runs.3 runs.4 runs.5 rest
+row_ends image s k p first budget (halt.Sees rest) new ready some runs =
+    subst (λ (x : Own). RowEnds image s k p first (budget - rest) (halt.Sees rest) x) (sym runs.5) (seen_ends image s k p first (budget - rest) runs.0 runs.1 ready runs.3 rest)
+
+-- no more ticks are left than there were
+within_budget : (image : Image) (first : Own) (budget : ℕ) (h : Halt) (new : Own) → Runs image first budget h new → unspent h ≤ budget
+within_budget image first budget halt.Spent new runs = omega arith
+within_budget image first budget (halt.Raises rest number) new runs = runs.2
+within_budget image first budget (halt.Sees rest) new runs = runs.2
+
+-- ---- the process that is picked, and its row
+
+-- the process that is picked, and burns nothing, as it stands
+pub record RowStarts (run : Run) (t most k : ℕ) : Type 0 where
+  pub job : Job
+  pub is : IsPicked run.image run.script t most k (own_at k job (begun run.image run.script t))
+  pub burnt : job.burn ≡ 0
+
+starts_here : (run : Run) (t most k : ℕ) → let s : State = begun run.image run.script t in place_of (pick run.image s.threads) ≡ Some k → length s.owned ≡ length run.image.processes → AreQuiet run.image run.script t most s → BurnsNothing s k → RowStarts run t most k
+starts_here run t most k at words quiet burnt =
+    let s : State = begun run.image run.script t in
+    let f : Found run.image.processes s.threads 0 k = picked run.image s.threads k at in
+    let same : f.i ≡ k = omega (arith, f.place_is) in
+    let process : slice_get run.image.processes k ≡ Some f.p = subst (λ (m : ℕ). slice_get run.image.processes m ≡ Some f.p) same f.process in
+    let ready : slice_get s.threads k ≡ Some (Ready f.job) = subst (λ (m : ℕ). slice_get s.threads m ≡ Some (Ready f.job)) same f.ready in
+    let below = slice_get_within run.image.processes k f.p process in
+    let row = there_is s.owned k (omega (arith, below, words)) in
+    record {
+      job = f.job;
+      is = record {
+        p = f.p;
+        process = process;
+        picked = at;
+        ready = ready;
+        owned = row.1 ∙ ap (λ (o : Option (List ℤ)). Some (owned_of o)) (sym row.1);
+        shared = refl;
+        quiet = quiet;
+      };
+      burnt = burnt f.job ready;
+    }
+
+pub row_starts : (run : Run) (t most k : ℕ) (s : State) → s ≡ begun run.image run.script t → place_of (pick run.image s.threads) ≡ Some k → length s.owned ≡ length run.image.processes → AreQuiet run.image run.script t most s → BurnsNothing s k → RowStarts run t most k
+row_starts run t most k s is at words quiet burnt =
+    starts_here run t most k (subst (λ (x : State). place_of (pick run.image x.threads) ≡ Some k) is at) (subst (λ (x : State). length x.owned ≡ length run.image.processes) is words)
+    (subst (λ (x : State). AreQuiet run.image run.script t most x) is quiet) (subst (λ (x : State). BurnsNothing x k) is burnt)
+
+-- each process has its row of words
+pub words_count : (image : Image) (b : Board) → IsBoardOf image b → length (state_of b).owned ≡ length image.processes
+words_count image b board = count b.owned.items ∙ board.owned where
+  count : (vs : List (Vec ℤ)) → length (rows_of vs) ≡ length vs
+  count [] = refl
+  count (v ∷ vs) = ap suc (count vs)
+
+pub can_run : (run : Run) (t most k : ℕ) (s : State) → IsSafeRun run.image run.script → s ≡ begun run.image run.script t → RowStarts run t most k → CanRun run.image most k s
+can_run run t most k s safe is row =
+    subst (λ (x : State). CanRun run.image most k x) (sym is) (record {
+      p = row.is.p;
+      process = row.is.process;
+      job = row.job;
+      ready = row.is.ready;
+      safe = row_is_safe run.image run.script t most k (own_at k row.job (begun run.image run.script t)) row.is row.burnt safe;
+    })
+
+-- ---- what the row comes to
+
+-- the outcome was not stuck, and what it left is within the stack
+can_come : (image : Image) (u k : ℕ) (p : Process) (job : Job) (s : State) (out : Outcome) → (settle image u k p job s out).stuck ≡ false → ((th : Thread) → slice_get (settle image u k p job s out).state.threads k ≡ Some th → IsInStack p th) → slice_get s.threads k ≡ Some (Ready job) → CanCome p.stack out
+can_come image u k p job s (Goes o) free stack at = stack (Ready o.job) (get_set s.threads k (Ready o.job) (Ready job) at)
+can_come image u k p job s (Does a o) free stack at = stack (Ready o.job) (get_set s.threads k (Ready o.job) (Ready job) at)
+can_come image u k p job s (Signals c o) free stack at = tt
+can_come image u k p job s (Broadcasts c o) free stack at = tt
+can_come image u k p job s (Waits c limit e o) free stack at = tt
+can_come image u k p job s (Raises e) free stack at = tt
+can_come image u k p job s Ends free stack at = tt
+can_come image u k p job s Stuck free stack at = absurd cc
+
+-- a row of so many ticks that has run up to here, and what it comes to in its last tick
+pub record RowRan (run : Run) (t k passed : ℕ) (h : Halt) (new : Own) : Type 0 where
+  pub p : Process
+  pub process : slice_get run.image.processes k ≡ Some p
+  pub seen : IsSeenAt run.image h new.job.place
+  pub some : 1 ≤ passed
+  pub after : Ticked
+  pub settled : after ≡ settle run.image (t + (passed - 1)) k p new.job (with_process k new (begun run.image run.script t)) (outcome_of run.image (with_process k new (begun run.image run.script t)) h new)
+  pub free : after.stuck ≡ false
+  pub state : state_at run.image run.script (t + passed) ≡ after.state
+  pub events : events_from run.image run.script passed t (state_at run.image run.script t) ≡ (starts run.image run.script t (state_at run.image run.script t)).events ++ after.events
+  pub ready : slice_get (with_process k new (begun run.image run.script t)).threads k ≡ Some (Ready new.job)
+  pub words : own_at k new.job (with_process k new (begun run.image run.script t)) ≡ new
+
+-- where n ticks have led
+pub record HasLed (image : Image) (script : Script) (t n k m : ℕ) (o : Own) (all : Ticked) : Type 0 where
+  pub free : all.stuck ≡ false
+  pub state : state_at image script (t + n + m) ≡ all.state
+  pub events : events_from image script (n + m) t (state_at image script t) ≡ (starts image script t (state_at image script t)).events ++ all.events
+
+quiet_with : (image : Image) (script : Script) (u k : ℕ) (o : Own) (s : State) → IsQuiet image script u s → IsQuiet image script u (with_process k o s)
+quiet_with image script u k o s quiet = let q : IsQuiet image script u _ = quiet_same image script u s k o.job quiet in record { lines = q.lines; releases = q.releases; waits = q.waits }
+
+has_led : (image : Image) (script : Script) (t most k n m : ℕ) (first o : Own) → IsSafeRun image script → IsPicked image script t most k first → Leads image first n o → 1 ≤ m → m ≤ left image o.job → n + m ≤ most
+    → HasLed image script t n k m o (pass image (t + n) m (with_process k o (begun image script t)) (Some k))
+has_led image script t most k n m first o safe is leads some fits within =
+    let s : State = begun image script t in
+    let w : State = with_process k o s in
+    let u : ℕ = t + n in
+    let at : State = state_at image script u in
+    let it = row_is_turn image script t most k first is n o leads (omega (arith, some, within)) m some fits within in
+    let stay = turn_stays_in_run image script safe.unstuck u m it.0 in
+    let all : Ticked = pass image u m w (Some k) in
+    let more : events_from image script m u at ≡ (starts image script u at).events ++ all.events =
+    turn_alone image script u m safe it.0 ∙ ap (λ (x : Ticked). (starts image script u at).events ++ x.events) it.1 in
+    record {
+      free = ap (λ (x : Ticked). x.stuck) (sym it.1) ∙ stay.0;
+      state = stay.1 ∙ ap (λ (x : Ticked). x.state) it.1;
+      events = elim (cases_lt 0 n) [
+        | inl later ↦
+            let quiet : IsQuiet image script u w = quiet_with image script u k o s (is.quiet u (omega (arith, later)) (omega (arith, some, within))) in
+            let none : (starts image script u at).events ≡ [] =
+            ap (λ (x : State). (starts image script u x).events) (row_stays_in_run image script t most k first is n o leads later (omega (arith, within))) ∙ ap (λ (a : Started). a.events) (quiet_starts_nothing image script u w quiet) in
+            row_keeps_events image script t most k first is n o leads later (omega (arith, within)) m
+            ∙ ap (λ (es : List Event). (starts image script t (state_at image script t)).events ++ es) (more ∙ ap (λ (es : List Event). es ++ all.events) none)
+        | inr none ↦
+            let same : u ≡ t = omega (arith, none) in
+            let count : n + m ≡ m = omega (arith, none) in
+            ap (λ (c : ℕ). events_from image script c t (state_at image script t)) count
+            ∙ ap (λ (v : ℕ). events_from image script m v (state_at image script v)) (sym same)
+            ∙ more
+            ∙ ap (λ (v : ℕ). (starts image script v (state_at image script v)).events ++ all.events) same
+      ];
+    }
+
+passes_as : (image : Image) (u k m : ℕ) (p : Process) (first o : Own) (s : State) → slice_get image.processes k ≡ Some p → slice_get s.threads k ≡ Some (Ready first.job) → slice_get s.owned k ≡ Some first.owned
+    → pass image u m (with_process k o s) (Some k) ≡ settle image (u + (m - 1)) k p o.job (with_process k o s) (comes image s k m o)
+passes_as image u k m p first o s process ready owned =
+    let w : State = with_process k o s in
+    let there : slice_get w.threads k ≡ Some (Ready o.job) = get_set s.threads k (Ready o.job) (Ready first.job) ready in
+    let words : owned_of (slice_get w.owned k) ≡ o.owned = ap (λ (x : Option (List ℤ)). owned_of x) (get_set s.owned k o.owned first.owned owned) in
+    ap (λ (x : Option Process). pass_thread image u m k w x (slice_get w.threads k)) process
+    ∙ ap (λ (x : Option Thread). pass_thread image u m k w (Some p) x) there
+    ∙ ap (λ (ws : List ℤ). settle image (u + (m - 1)) k p o.job w (outcomes image w o.job ws m o.job.burn)) words
+
+seen_at : (image : Image) (first : Own) (budget : ℕ) (h : Halt) (new : Own) → Runs image first budget h new → IsSeenAt image h new.job.place
+seen_at image first budget halt.Spent new runs = tt
+seen_at image first budget (halt.Raises rest number) new runs = tt
+seen_at image first budget (halt.Sees rest) new runs =
+    let last : Own = runs.0 in
+    let instr : Instr = runs.1 in
+    let ended : Ended image first (budget - rest) last instr = runs.3 in
+    let silent : is_silent instr ≡ false = runs.4 in
+    let is : new ≡ next_own last = runs.5 in
+    let place : (last.job.place + 1) - 1 ≡ last.job.place = omega arith in
+    subst (λ (x : Own). IsSeenAt image (halt.Sees rest) x.job.place) (sym is) (
+      omega arith,
+      λ found at.
+          let both : Some instr ≡ Some found = sym ended.at.here ∙ ap (λ (c : ℕ). slice_get image.code c) (sym place) ∙ at in
+          let same : instr ≡ found = cc in
+          ap (λ (x : Instr). is_silent x) (sym same) ∙ silent,
+    )
+
+row_ran : (run : Run) (t most k : ℕ) (h : Halt) (new : Own) → IsSafeRun run.image run.script → 1 ≤ most → (row : RowStarts run t most k) → Runs run.image (own_at k row.job (begun run.image run.script t)) most h new → RowRan run t k (most - unspent h) h new
+row_ran run t most k h new safe some row runs =
+    let image = run.image in
+    let script = run.script in
+    let s : State = begun image script t in
+    let first : Own = own_at k row.job s in
+    let is = row.is in
+    let passed : ℕ = most - unspent h in
+    let e : RowEnds image s k is.p first passed h new = row_ends image s k is.p first most h new is.ready some runs in
+    let m_some : 1 ≤ e.m = e.some in
+    let all : e.n + e.m ≡ passed = e.all in
+    let l = has_led image script t most k e.n e.m first e.o safe is e.leads e.some e.fits (omega (arith, all)) in
+    let end : t + e.n + (e.m - 1) ≡ t + (passed - 1) = omega (arith, all, m_some) in
+    let there : t + passed ≡ t + e.n + e.m = omega (arith, all) in
+    let by : pass image (t + e.n) e.m (with_process k e.o s) (Some k) ≡ settle image (t + (passed - 1)) k is.p e.o.job (with_process k e.o s) (comes image s k e.m e.o) =
+    passes_as image (t + e.n) k e.m is.p first e.o s is.process is.ready is.owned ∙ ap (λ (u : ℕ). settle image u k is.p e.o.job (with_process k e.o s) (comes image s k e.m e.o)) end in
+    record {
+      p = is.p;
+      process = is.process;
+      seen = seen_at image first most h new runs;
+      some = omega (arith, all, m_some);
+      after = pass image (t + e.n) e.m (with_process k e.o s) (Some k);
+      settled = by ∙ sym (e.same (t + (passed - 1)) (ap (λ (x : Ticked). x.stuck) (sym by) ∙ l.free));
+      free = l.free;
+      state = ap (λ (v : ℕ). state_at image script v) there ∙ l.state;
+      events = ap (λ (c : ℕ). events_from image script c t (state_at image script t)) (sym all) ∙ l.events;
+      ready = get_set s.threads k (Ready new.job) (Ready row.job) is.ready;
+      words = ap (λ (x : Option (List ℤ)). record { job = new.job; owned = owned_of x; shared = new.shared }) (get_set s.owned k new.owned first.owned is.owned);
+    }
+
+-- how it ran, from what code says
+pub record Ran (run : Run) (t k passed : ℕ) (h : Halt) (s' : State) : Type 0 where
+  pub new : Own
+  pub row : RowRan run t k passed h new
+  pub is : s' ≡ with_process k new (begun run.image run.script t)
+
+pub ran : (run : Run) (t most k : ℕ) (s s' : State) (h : Halt) → IsSafeRun run.image run.script → 1 ≤ most → s ≡ begun run.image run.script t → RowStarts run t most k → HasRun run.image most k s h s' → Ran run t k (most - unspent h) h s'
+ran run t most k s s' h safe some is row has =
+    let r = subst (λ (x : State). HasRun run.image most k x h s') is has row.job row.is.ready in
+    record { new = r.0; row = row_ran run t most k h r.0 safe some row r.1; is = r.2 }
+
+pub enough : (run : Run) (t most k : ℕ) (s s' : State) (h : Halt) → s ≡ begun run.image run.script t → RowStarts run t most k → HasRun run.image most k s h s' → unspent h ≤ most
+enough run t most k s s' h is row has =
+    let r = subst (λ (x : State). HasRun run.image most k x h s') is has row.job row.is.ready in
+    within_budget run.image (own_at k row.job (begun run.image run.script t)) most h r.0 r.1
+
+-- ---- what code asks for at its end
+
+queued_row : (k : ℕ) (o : Own) (job : Job) (s : State) → slice_get s.threads k ≡ Some (Ready job) → AreQueued s → AreQueued (with_process k o s)
+queued_row k o job s ready queued c j =
+    queued c j ∙ elim (same_or_not k j) [
+      | inl same ↦ subst (λ (i : ℕ). waits_on c (slice_get s.threads i) ≡ waits_on c (slice_get (slice_set s.threads k (Ready o.job)) i)) same
+          (ap (λ (x : Option Thread). waits_on c x) ready ∙ sym (ap (λ (x : Option Thread). waits_on c x) (get_set s.threads k (Ready o.job) (Ready job) ready)))
+      | inr differ ↦ ap (λ (x : Option Thread). waits_on c x) (sym (get_other s.threads k j (Ready o.job) differ))
+    ]
+
+pub row_queued : (run : Run) (t most k passed : ℕ) (h : Halt) (s' : State) → RowStarts run t most k → Ran run t k passed h s' → AreQueued (begun run.image run.script t) → AreQueued s'
+row_queued run t most k passed h s' row has queued = subst (λ (x : State). AreQueued x) (sym has.is) (queued_row k has.new row.job (begun run.image run.script t) row.is.ready queued)
+
+pub can_end : (run : Run) (t k passed : ℕ) (h : Halt) (s' : State) → IsSafeRun run.image run.script → Ran run t k passed h s' → CanEnd run.image k s' h
+can_end run t k passed h s' safe has =
+    let r = has.row in
+    let w : State = with_process k has.new (begun run.image run.script t) in
+    let u : ℕ = t + (passed - 1) in
+    let out : Outcome = outcome_of run.image w h has.new in
+    let can : CanCome r.p.stack out =
+    can_come run.image u k r.p has.new.job w out (ap (λ (x : Ticked). x.stuck) (sym r.settled) ∙ r.free)
+    (λ th at. safe.stack (t + passed) k r.p th r.process (ap (λ (x : State). slice_get x.threads k) (r.state ∙ ap (λ (x : Ticked). x.state) r.settled) ∙ at)) r.ready in
+    subst (λ (x : State). CanEnd run.image k x h) (sym has.is) (record {
+      p = r.p;
+      process = r.process;
+      job = has.new.job;
+      ready = r.ready;
+      seen = r.seen;
+      can = subst (λ (o : Own). CanCome r.p.stack (outcome_of run.image w h o)) (sym r.words) can;
+    })
+
+-- ---- what has passed
+
+pub row_passes : (run : Run) (t most k passed : ℕ) (h : Halt) (s' s'' : State) (es es' : List Event) → RowStarts run t most k → Ran run t k passed h s' → EndsIn run.image (t + (passed - 1)) k s' h s'' es es' → HasPassed run t passed s'' es es'
+row_passes run t most k passed h s' s'' es es' row has ends =
+    let image = run.image in
+    let s : State = begun image run.script t in
+    let r = has.row in
+    let w : State = with_process k has.new s in
+    let u : ℕ = t + (passed - 1) in
+    let out : Outcome = outcome_of image w h has.new in
+    let e = subst (λ (x : State). EndsIn image u k x h s'' es es') has.is ends r.p has.new.job r.process r.ready in
+    let same : settle image u k r.p has.new.job w (outcome_of image w h (own_at k has.new.job w)) ≡ r.after = ap (λ (o : Own). settle image u k r.p has.new.job w (outcome_of image w h o)) r.words ∙ sym r.settled in
+    let state : s'' ≡ r.after.state = e.0 ∙ ap (λ (x : Ticked). x.state) same in
+    let now : s'' ≡ (settle image u k r.p has.new.job w out).state = state ∙ ap (λ (x : Ticked). x.state) r.settled in
+    let last : t + passed ≤ u + 1 = (let some = r.some in omega (arith, some)) in
+    record {
+      some = r.some;
+      state = state ∙ sym r.state;
+      fell = r.after.events;
+      told = e.1 ∙ ap (λ (x : Ticked). es ++ x.events) same;
+      events = r.events;
+      waits = subst (λ (x : State). WaitsFrom (t + passed) s.threads x.threads) (sym now)
+          (from_then (t + passed) s.threads w.threads (settle image u k r.p has.new.job w out).state.threads (ready_from (t + passed) s.threads k has.new.job) (settle_from image u k r.p has.new.job w out (t + passed) last));
+      same = λ quiet j.
+          ap (λ (x : State). time_out_of (slice_get x.threads j)) now
+          ∙ settle_same image u k r.p has.new.job w out j (ap (λ (x : Ticked). is_some_at_queue x.events) (sym r.settled) ∙ quiet) r.ready
+          ∙ set_same s.threads k j (Ready has.new.job) (Ready row.job) row.is.ready refl refl;
+    }

@@ -1,0 +1,6 @@
+pub mod Waits
+pub mod Runnable
+pub mod Turn
+pub mod Standing
+pub mod Ends
+pub mod Completing

@@ -1,0 +1,31 @@
+//! Board, queues, cells.
+//!
+//! What an instruction of a process does that others see: a sample, each by its effect on the parts
+//! of the process and of the machine that it touches.
+//!
+//! The processes of the machine in code: a trial of how one of many runs.
+//!
+//! What the running machine keeps: the plan of its image, and the board, where all processes stand.
+//!
+//! `specs/Plan.antt` says when a plan is that of an image (`IsOf`), and `specs/Board.antt` which
+//! state of the machine's meaning a board is (`state_of`), and that it has a place for all that
+//! the image has (`IsBoardOf`). `Board::new` is the state at the start. Its parts lie open, so
+//! that one process can run on its own activation and words, and nothing that is made here takes
+//! memory later.
+#![tactic(auto)]
+
+mod board;
+mod cells;
+mod fired;
+mod plan;
+mod queues;
+mod seen;
+mod threads;
+
+pub use board::Board;
+pub use cells::run_process;
+pub use fired::{Fired, MOST, tell};
+pub use plan::{Plan, Process, Release};
+pub use queues::Queues;
+pub use seen::{Waited, empty, end, enter, get, leave, put, wait};
+pub use threads::{Cell, Stand, broadcast, signal, wake_at};

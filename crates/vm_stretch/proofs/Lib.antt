@@ -1,0 +1,14 @@
+pub mod Jumping
+pub mod StretchMoving
+pub mod Quiet
+pub mod Rowing
+pub mod Runs
+pub mod Turning
+pub mod PicksLemmas
+pub mod Lists
+pub mod Waiting
+pub mod StartLawsMoving
+pub mod Counting
+pub mod Leading
+pub mod Parting
+pub mod Setting

@@ -1,0 +1,12 @@
+pub mod Stretch
+pub mod Quiet
+pub mod StretchLaws
+pub mod Silent
+pub mod RowLaws
+pub mod StretchDue
+pub mod Picks
+pub mod StartLawsDue
+pub mod StartLaws
+pub mod Steps
+pub mod View
+pub mod Completed

@@ -1,0 +1,5 @@
+pub mod Own
+pub mod Settled
+pub mod Settle
+pub mod Chosen
+pub mod Rows

@@ -1,0 +1,10 @@
+pub mod Looking
+pub mod Occupying
+pub mod Declaring
+pub mod Ticking
+pub mod StopTextLines
+pub mod Ring
+pub mod WatchLines
+pub mod Stopping
+pub mod Running
+pub mod Telling

@@ -1,0 +1,71 @@
+-- What a run that can be made promises to the machine and to the lines.
+use Rattle.std.proofs.Common.{◌≡◌, ◌≤◌, ◌-◌, ℕ, List, [], ◌∷◌, map, length, refl, arith, ap, subst, ◌∙◌}
+use Rattle.std.specs.Prelude.{All}
+use Rattle.std.proofs.lemmas.List.Elements.{All-drop}
+use Rattle.command_answers.specs.declared.act.Run.{Run}
+use Rattle.command_answers.specs.Acts.{CanRunByRanks}
+use Rattle.command_due.specs.Script.{line_said, run_of}
+use Rattle.base.specs.declared.event.Event.{Event}
+use Rattle.image.specs.Raw.{image_of}
+use Rattle.code_lifting.specs.Compiled as lifted
+use Rattle.event_log.specs.InRange.{AreIn}
+use Rattle.vm_law.proofs.Ticking.{valid_runs_have_lines}
+use Rattle.machine_semantics.specs.Image.{Image, Line, Script}
+use Rattle.machine_semantics.specs.Run.{events, events_from, state_at}
+use Rattle.vm_run.specs.Coming.{coming}
+use Rattle.vm_run.proofs.Rest.{lines_now}
+use Rattle.vm_runner.specs.Runnable.{IsRunnable}
+use Rattle.vm_runner.specs.Standing.{events_between}
+use Rattle.vm_law.proofs.Runnable.{valid_runs_are_runnable}
+use Rattle.script.specs.declared.script.ScriptLine.{ScriptLine}
+use Rattle.script.specs.declared.script.ScriptLine.TheVariants.{Set, Occur}
+use Rattle.script.specs.declared.script.Script.{Script as Read}
+use Rattle.vm_releases.specs.Begin.{line_of, lines_of, script_of}
+use Rattle.command_due.specs.Text.{events_before, recent}
+
+-- ---- the script of what is due is the script of the machine
+
+same_line : (line : ScriptLine) → lifted.line_of (line_said line) ≡ line_of line
+same_line (Set tick dev value) = refl
+same_line (Occur tick event) = refl
+
+same_lines : (lines : List ScriptLine) → map lifted.line_of (map line_said lines) ≡ lines_of lines
+same_lines [] = refl
+same_lines (line ∷ lines) =
+    ap (λ (l : Line). l ∷ map lifted.line_of (map line_said lines)) (same_line line)
+    ∙ ap (λ (ls : List Line). line_of line ∷ ls) (same_lines lines)
+
+pub same_script : (script : Read) → run_of script.lines script.end ≡ script_of script
+same_script script =
+    let with : List Line → Script = λ (ls : List Line). record { lines = ls; end_tick = script.end } in
+    ap with (same_lines script.lines)
+
+-- ---- the machine
+
+pub is_runnable : (run : Run) → CanRunByRanks run → IsRunnable (image_of run.image) (script_of run.script)
+is_runnable run can = valid_runs_are_runnable (image_of run.image) (script_of run.script) can.limits can.valid can.script.frames can.script.order (let end = can.script.end in omega (arith, end))
+
+-- ---- the lines
+
+all_coming : (image : Image) (script : Script) → events image script ≡ coming image script 0
+unfolding events state_at
+all_coming image script =
+    let all : script.end_tick ≡ script.end_tick - 0 = omega arith in
+    ap (λ (n : ℕ). events_from image script n 0 (state_at image script 0)) all
+
+from_start : (image : Image) (script : Script) (t : ℕ) → events_between image script 0 t ≡ events_before image script t
+unfolding state_at
+from_start image script t =
+    let all : t - 0 ≡ t = omega arith in
+    ap (λ (n : ℕ). events_from image script n 0 (state_at image script 0)) all
+
+-- the last events before a tick have lines
+pub recent_lines : (run : Run) (t : ℕ) → CanRunByRanks run → t ≤ run.script.end → All (AreIn run.image.names) (recent (events_before (image_of run.image) (script_of run.script) t))
+recent_lines run t can within =
+    let image : Image = image_of run.image in
+    let script : Script = script_of run.script in
+    let lines : All (AreIn run.image.names) (events image script) = valid_runs_have_lines run.image.names image script can.limits can.valid can.names can.script.end in
+    let come : All (AreIn run.image.names) (coming image script 0) = subst (λ (es : List Event). All (AreIn run.image.names) es) (all_coming image script) lines in
+    let before : All (AreIn run.image.names) (events_between image script 0 t) = lines_now image script run.image.names 0 t (omega arith) within come in
+    let all : All (AreIn run.image.names) (events_before image script t) = subst (λ (es : List Event). All (AreIn run.image.names) es) (from_start image script t) before in
+    All-drop (AreIn run.image.names) (length (events_before image script t) - 16) (events_before image script t) all

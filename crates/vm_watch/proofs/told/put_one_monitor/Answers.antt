@@ -1,0 +1,24 @@
+use Rattle.std.proofs.Common.{◌≡◌, ◌++◌, ℕ, List, OnOk, length, take, arith, subst, ap, ◌∙◌}
+use Rattle.std.specs.Prelude.{min}
+use Rattle.machine_semantics.specs.Run.{state_at}
+use Rattle.vm_stretch.specs.View.{monitor_words}
+use Rattle.vm_watch.proofs.WatchLines.{first_words}
+use Rattle.vm_watch.proofs.Telling.{monitor_told}
+use Rattle.vm_watch.proofs.told.put_one_monitor.Goals as goal
+
+pub words_of_monitor-requires : goal.words_of_monitor-requires
+words_of_monitor-requires g c =
+    let s = state_at g.run.image g.run.script c.args.machine.now.tick in
+    let count : c.shown_of_monitor-count.result ≡ min (length (monitor_words g.run.image s c.args.monitor)) 16 = c.shown_of_monitor-count.ensures g.run.image s c.requires.0 c.requires.1.1.0 in
+    (c.requires.0, (c.requires.1.0, omega (arith, count)))
+
+pub returns : goal.returns
+returns g c =
+    let s = state_at g.run.image g.run.script c.args.machine.now.tick in
+    let all = monitor_words g.run.image s c.args.monitor in
+    let count : c.shown_of_monitor-count.result ≡ min (length all) 16 = c.shown_of_monitor-count.ensures g.run.image s c.requires.0 c.requires.1.1.0 in
+    let read : c.as_slice.result.now ≡ c.in_ok-words.words.items = c.as_slice.ensures.value in
+    let taken : c.in_ok-words.words.items ≡ take c.shown_of_monitor-count.result all = c.in_ok-words.ensures in
+    let first : c.as_slice.result.now ≡ take 16 all = first_words all c.as_slice.result.now (read ∙ (taken ∙ ap (λ (n : ℕ). take n all) count)) in
+    subst (λ (line : List ℕ). OnOk c.put_monitor.result (c.put_monitor.new.text ≡ c.args.text.now ++ line))
+    (monitor_told c.args.image.now.names g.run.image s c.args.monitor c.occupant-inside.result c.as_slice.result.now c.occupant-inside.ensures.occupant first) c.put_monitor.ensures

@@ -1,0 +1,8 @@
+use Rattle.std.proofs.Common.{ℕ, ap, sym, ◌∙◌}
+use Rattle.std.specs.Prelude.{min}
+use Rattle.vm_watch.proofs.Telling.{process_declared}
+use Rattle.vm_watch.proofs.told.shown_of_process.Goals as goal
+
+pub returns : goal.returns
+returns c = λ image s same has.
+    c.min.ensures ∙ ap (λ (n : ℕ). min n 16) (sym (process_declared c.args.image.now c.as_slice.result.now image s c.args.process _ same has c.requires c.as_slice.ensures))

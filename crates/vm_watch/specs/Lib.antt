@@ -1,0 +1,4 @@
+pub mod Inspect
+pub mod Told
+pub mod Follows
+pub mod Shown

@@ -1,0 +1,14 @@
+pub mod Lists
+pub mod Rules
+pub mod Adding
+pub mod Declared
+pub mod Constants
+pub mod WellformedLaw
+pub mod TypesFit
+pub mod Standing
+pub mod Texts
+pub mod Activations
+pub mod ProcessesFit
+pub mod EventsFit
+pub mod CountsFit
+pub mod WellFormed
