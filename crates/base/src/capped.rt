@@ -45,24 +45,3 @@ pub fn cap_mul(a: u64, b: u64) -> u64
 {
     (a * b).min(OVER)
 }
-
-#[cfg(test)]
-mod tests {
-    use super::*;
-
-    #[test]
-    fn quotients_are_rounded_up(rt: HostRuntime) {
-        assert_eq!(rt; ceil_div(59, 20), 3);
-        assert_eq!(rt; ceil_div(60, 20), 3);
-        assert_eq!(rt; ceil_div(61, 20), 4);
-        assert_eq!(rt; ceil_div(u64::MAX, 1), u64::MAX);
-    }
-
-    #[test]
-    fn larger_numbers_are_over(rt: HostRuntime) {
-        assert_eq!(rt; cap_add(999_999_999, 1), 1_000_000_000);
-        assert_eq!(rt; cap_add(OVER, OVER), 1_000_000_001);
-        assert_eq!(rt; cap_mul(31_622, 31_623), 999_982_506);
-        assert_eq!(rt; cap_mul(OVER, 2), 1_000_000_001);
-    }
-}

@@ -25,8 +25,6 @@ mod edf_admit_image;
 mod fault;
 mod file;
 mod run;
-#[cfg(test)]
-mod tests;
 mod waiting;
 
 pub use edf_admit_image::EdfImage;

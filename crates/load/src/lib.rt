@@ -12,8 +12,6 @@ mod draws;
 mod load_script;
 mod program;
 mod summary;
-#[cfg(test)]
-mod tests;
 mod words;
 
 pub use load_script::make_script;

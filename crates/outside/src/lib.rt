@@ -21,8 +21,6 @@ mod outside;
 mod real;
 mod stdout;
 mod sure;
-#[cfg(test)]
-mod tests;
 
 pub use mem_sink::MemSink;
 pub use memory::MemFiles;

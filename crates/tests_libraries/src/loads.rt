@@ -1,4 +1,6 @@
-use crate::{make_program, make_script, mark_after, summary_line};
+//! Generated loads, as they are known from outside.
+
+use load::{make_program, make_script, mark_after, summary_line};
 use std::alloc::AllocError;
 
 #[test]

@@ -1,4 +1,6 @@
-use crate::{AdmittedRun, EdfFault, EdfImage, images_of_files_can_be_run};
+//! Images from any hand under earliest deadline first.
+
+use edf_admission::{AdmittedRun, EdfFault, EdfImage, images_of_files_can_be_run};
 use image_loaded::Shape;
 use outside::MemSink;
 use sched_demand::Judgement;

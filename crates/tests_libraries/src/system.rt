@@ -1,6 +1,6 @@
 //! The calls that reach the system.
 
-use crate::{Files, ReadFault, RealFiles, RealSink, Sink, Stdout, WriteFault};
+use outside::{Files, ReadFault, RealFiles, RealSink, Sink, Stdout, WriteFault};
 use std::fs;
 use std::test::Fail;
 

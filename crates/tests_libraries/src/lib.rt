@@ -1,0 +1,14 @@
+//! Tests of the rooms below the commands.
+//!
+//! Each public call that no test of the commands comes to, once with ample memory, by values that
+//! are known from outside.
+#![tactic(auto)]
+
+#[cfg(test)]
+mod admission;
+#[cfg(test)]
+mod loads;
+#[cfg(test)]
+mod numbers;
+#[cfg(test)]
+mod system;
