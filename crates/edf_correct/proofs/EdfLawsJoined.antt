@@ -1,5 +1,5 @@
 -- From a text without waits to its runs under earliest deadline first.
-use Rattle.std.proofs.Common.{◌≡◌, ◌≤◌, ℕ, List, sym, subst}
+use Rattle.std.proofs.Common.{sym, subst}
 use Rattle.syntax_tree.specs.Placed.{plain}
 use Rattle.machine_semantics.specs.Image.{Image}
 use Rattle.code_lifting.specs.Compiled.{script_of}
