@@ -22,7 +22,8 @@ use Rattle.edf_semantics.specs.Run.{events}
 use Rattle.edf_feasible.specs.Deadlines.{EdfDeadlinesAreMet}
 use Rattle.edf_feasible.specs.Premises.{MeetsPremises, WaitlessImagesMeetPremises}
 use Rattle.edf_feasible.specs.Waits as plain_waits
-use Rattle.edf_machine.specs.Runnable.{HasNoOverrun, IsRunnable}
+use Rattle.edf_timing.specs.Runs.{HasNoOverrun}
+use Rattle.edf_machine.specs.Runnable.{IsRunnable}
 use Rattle.edf_machine.specs.EdfRunnable.{FramesAreShort, WaitlessRunsAreRunnable, WaitlessRunsHaveLines}
 use Rattle.edf_feasible.specs.Ready.{EdfImagesAreReady, EdfImagesHaveParts, HasParts, WaitlessTreesHaveNoWait}
 
