@@ -53,6 +53,7 @@ built_images_are_ready ready_law small_law made_law limits_law valid_law operand
     let frames : HasFrames (names_of p) m = frames_law p m ready.formed made.code in
     let of_program : IsReady (record { program = p.name; names = names_of p; image = m }) = record {
       limits = limits;
+      valid = valid;
       plan = has_plan p m counts made.code limits (valid Sizes) (operands_law m limits valid) (standing m (premises_law m limits valid));
       names = are_names p m counts names;
       range = in_range p m ready.formed made.code valid short counts names;

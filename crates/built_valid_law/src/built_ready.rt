@@ -1,11 +1,9 @@
-//! Law: the image that is built of a program that is written can be run and stored.
+//! Law: the image that is built of a program that is written is valid, and can be run and stored.
 //!
 //! A run and a store ask more of an image than that it is valid (`specs/Ready.antt`): its numbers
 //! are in the ranges of their fields, it has a plan, its names are those of its parts, its counts
 //! fit their fields, and at each event stands the frame of its process. So it is with each image
 //! that is built. Nothing here can run.
-//!
-//! The law.
 
 ghost use Rattle.built_valid_law.specs.Ready.{BuiltImagesAreReady};
 
@@ -20,9 +18,9 @@ use code_measures::whole::code_has_its_length;
 use valid_image_law::valid_law::valid_meets_premises;
 use vm_law::named::valid_operands_are_there;
 
-/// The image that is built of a program that is written can be run and stored: its numbers are in
-/// the ranges of their fields, it has a plan, its names are those of its parts, its counts fit
-/// their fields, and at each event stands the frame of its process.
+/// The image that is built of a program that is written is valid, and can be run and stored: its
+/// numbers are in the ranges of their fields, it has a plan, its names are those of its parts, its
+/// counts fit their fields, and at each event stands the frame of its process.
 pub fn built_images_are_ready()
     ensures { BuiltImagesAreReady }
 {

@@ -2,11 +2,10 @@
 use Rattle.std.specs.Prelude.{◌≡◌, ℕ, Some, length, slice_get}
 use Rattle.syntax_tree.specs.Plain.{Process, Prog}
 use Rattle.base.specs.Capped.{cap}
-use Rattle.base.specs.declared.capped.Cost.{Cost}
 use Rattle.source_semantics.specs.Names.{processes}
 use Rattle.code_spec.specs.Layout.{routine_words}
 use Rattle.code_spec.specs.Numbering.{Text, numbered}
-use Rattle.valid_image.specs.Found.{amount}
+use Rattle.valid_image.specs.Found.{capped}
 use Rattle.code_cost_spec.specs.Heights.{routine_height}
 use Rattle.code_cost_spec.specs.Lengths.{routine_length, process_length}
 use Rattle.code_cost_spec.specs.Levels.{routine_names, process_names, calls_of, cost_of_routine, stay_of_entry, cost_of_process, stack_of_process}
@@ -14,10 +13,6 @@ use Rattle.code_cost.specs.declared.measure.Known.{Known}
 use Rattle.code_cost.specs.declared.program.ProcessMeasure.{ProcessMeasure}
 use Rattle.code_cost.specs.declared.program.Measures.{Measures}
 use Rattle.code_cost.specs.Sums.{held}
-
--- a cost, each component up to where it is counted
-abbrev pub capped : Cost → Cost
-capped c = amount (cap c.run) (cap c.susp) (cap c.waits)
 
 -- a row tells what is defined of a routine, each number up to where it is counted
 pub record IsRowOf (g : Prog) (t : Text) (row : Known) : Type 0 where

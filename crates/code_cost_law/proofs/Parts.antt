@@ -5,7 +5,7 @@ use Rattle.syntax_tree.specs.Plain.{Answers, Routine, Handler, Process, Prog}
 use Rattle.base.specs.Capped.{cap}
 use Rattle.base.specs.declared.capped.Cost.{Cost}
 use Rattle.source_semantics.specs.Store.{range_of}
-use Rattle.valid_image.specs.Found.{amount, plus, longer}
+use Rattle.valid_image.specs.Found.{amount, capped, plus, longer}
 use Rattle.code_spec.specs.Layout.{Owner, by_program, by_process, by_monitor, Scope, routine_vars_words, frame_words}
 use Rattle.code_spec.specs.Numbering.{Text}
 use Rattle.code_spec.specs.Compiled.{routine_scope, process_scope}
@@ -16,7 +16,6 @@ use Rattle.code_cost_spec.specs.Lengths.{check_length, expr_length, stmts_length
 use Rattle.code_cost_spec.specs.Levels.{routine_names, process_names, calls_of}
 use Rattle.code_measures.specs.Sound.{SoundAnswers, SoundRoutine, SoundHandler, SoundProcess}
 use Rattle.codegen_spec.specs.Told.{range_told}
-use Rattle.code_measures.specs.Like.{capped}
 use Rattle.code_cost.specs.declared.measure.Measure.{Measure}
 use Rattle.code_cost.specs.declared.measure.Known.{Known}
 use Rattle.code_cost.specs.Sums.{held, nothing, of, joined}

@@ -18,6 +18,7 @@ use Rattle.machine_semantics.specs.Image as target
 use Rattle.machine_safety_spec.specs.Walk.{Where}
 use Rattle.machine_safety_spec.specs.Safe.{Parts, ImageFits}
 use Rattle.machine_safety_spec.specs.Queues.{AreQueued}
+use Rattle.machine_safety_spec.specs.Whole.{HasNoOverrun}
 use Rattle.code_spec.specs.Boundary.{SameInside, IsFaithful}
 use Rattle.code_lifting.specs.Related.{Whole, Relations}
 
@@ -77,10 +78,6 @@ pub record IsKept (image : target.Image) (script : Script) : Type 0 where
   pub no_overrun : (t : ℕ) → t < script.end_tick → (tick image script t (state_at image script t)).overrun ≡ false
   pub queued : (t : ℕ) → t < script.end_tick → AreQueued (state_at image script t)
   pub queued_started : (t : ℕ) → t < script.end_tick → AreQueued (starts image script t (state_at image script t)).state
-
--- no release finds its process unfinished
-abbrev pub HasNoOverrun : target.Image → Script → Type 0
-HasNoOverrun image script = (t : ℕ) → t < script.end_tick → (tick image script t (state_at image script t)).overrun ≡ false
 
 -- The law: so is each run of a valid image without overrun.
 abbrev pub ValidRunsAreKept : Type 0

@@ -14,10 +14,11 @@ use Rattle.source_semantics.specs.Source.{IsSourceRun}
 use Rattle.machine_semantics.specs.Run.{events}
 use Rattle.machine_safety_spec.specs.Walk.{Where}
 use Rattle.machine_safety_spec.specs.Safe.{Parts, ImageFits}
+use Rattle.machine_safety_spec.specs.Whole.{HasNoOverrun}
 use Rattle.code_spec.specs.Boundary.{Compiled}
 use Rattle.code_spec.specs.Follows.{IsRight}
 use Rattle.code_lifting.specs.Related.{Whole}
-use Rattle.code_lifting.specs.Compiled.{IsFrom, script_of, HasNoOverrun}
+use Rattle.code_lifting.specs.Compiled.{IsFrom, script_of}
 
 -- the words of a monitor hold its variables, each where it lies
 abbrev pub FreeHolds : Whole → ℕ → List ℤ → Vars → Type 0

@@ -9,7 +9,7 @@ use Rattle.machine_isa.specs.declared.instr.Instr.TheVariants as i
 use Rattle.machine_isa.specs.Ticks.{ticks}
 use Rattle.source_semantics.specs.Store.{Range}
 use Rattle.machine_semantics.specs.Trees.{Segs, Fork, Rep, Cons, size}
-use Rattle.valid_image.specs.Found.{Known, Found, amount, plus, greater, longer, turns, guard, arms, loop as loop_found, chain, is_jump_zero, is_jump, is_repeats, is_repeat, founds}
+use Rattle.valid_image.specs.Found.{Known, Found, plus, greater, longer, turns, guard, arms, loop as loop_found, chain, is_jump_zero, is_jump, is_repeats, is_repeat, founds}
 use Rattle.code_spec.specs.Layout.{Area, in_frame, in_process, in_monitor, Spot, Scope, spot_of}
 use Rattle.code_spec.specs.Code.{store, store_at, store_spot, store_shape, store_element, index_code, store_code, put_code, range_code, range_of_spot, ref_name}
 use Rattle.code_spec.specs.Emits.{IsLine, At}
@@ -24,10 +24,6 @@ use Rattle.code_measures.proofs.Lines.{split, one_found, line_more}
 use Rattle.code_measures.proofs.Sizes.{Alike, same_range, free_of}
 use Rattle.code_measures.proofs.Seen.{Sees, range_is, same_as, equal_numbers, no_more}
 use Rattle.code_measures.proofs.Exprs.{expr_found}
-
--- nothing at height 0
-abbrev pub done : Found
-done = record { height = 0; cost = amount 0 0 0; depth = 0 }
 
 passes : (a b : Bool) → a ≡ true → b ≡ true → a && b ≡ true
 passes true b e f = f

@@ -3,9 +3,9 @@ use Rattle.std.specs.Prelude.{◌≡◌, ◌+◌, ◌*◌, ℕ, zero, suc, max}
 use Rattle.std.proofs.Common.{refl, sym, ap, ◌∙◌, arith}
 use Rattle.base.specs.Capped.{cap}
 use Rattle.base.specs.declared.capped.Cost.{Cost}
-use Rattle.valid_image.specs.Found.{plus, greater, longer}
+use Rattle.valid_image.specs.Found.{capped, plus, greater, longer}
 use Rattle.code_cost_spec.specs.Costs.{loop_cost}
-use Rattle.code_measures.specs.Like.{Like, capped}
+use Rattle.code_measures.specs.Like.{Like}
 
 pub sum_like : (a b a' b' : ℕ) → cap a ≡ cap a' → cap b ≡ cap b' → cap (a + b) ≡ cap (a' + b')
 sum_like a b a' b' e f = omega (arith, e, f)

@@ -27,7 +27,7 @@ use Rattle.code_measures.proofs.Lines.{one_found}
 use Rattle.code_measures.proofs.Sizes.{alike, expr_size, line_size, stmts_size}
 use Rattle.code_measures.proofs.Seen.{sees, same_as, equal_numbers}
 use Rattle.code_measures.proofs.Exprs.{expr_found, expr_high}
-use Rattle.code_measures.proofs.Blocks.{done, check_height, check_low}
+use Rattle.code_measures.proofs.Blocks.{check_height, check_low}
 use Rattle.code_measures.proofs.Stmts.{Inside, stmts_found}
 
 passes : (a b : Bool) → a ≡ true → b ≡ true → a && b ≡ true
@@ -236,12 +236,12 @@ routines_are_measured g code known k t r q is_r h ok = by_owner t.owner refl
 
 module _ (g : Prog) (code : List Instr) (known : List Known) (k : Calls) (j : ℕ) (p : Process) where
   process_part : (w from mid : ℕ) (body : Stmts) → SoundAll g (λ y. IsKnown g known k y) (process_scope g j p) body → EmitsAll g code (process_scope g j p) w from mid body → At code mid i.End
-      → part_found code known (stmts_segs g (process_scope g j p) body Nil) from ≡ Some (adds (stmts_cost g (process_names g j p) k body) (stmts_height g (by_process j) k body) done)
+      → part_found code known (stmts_segs g (process_scope g j p) body Nil) from ≡ Some (adds (stmts_cost g (process_names g j p) k body) (stmts_height g (by_process j) k body) nothing_found)
   process_part w from mid body ok h end =
       let sized : mid + size Nil ≡ from + size (stmts_segs g (process_scope g j p) body Nil) = stmts_size g (λ y. IsKnown g known k y) body (process_scope g j p) (process_scope g j p) w from mid Nil code (alike g (process_scope g j p)) h ok in
       ap (λ b. guard b (ended 0 (founds code known None None (stmts_segs g (process_scope g j p) body Nil) from 0)))
       (ap (λ z. is_end z) (subst (λ y. slice_get code y ≡ Some i.End) (straight mid (from + size (stmts_segs g (process_scope g j p) body Nil)) sized) end))
-      ∙ ap (λ z. ended 0 z) (stmts_found g known k code body (process_scope g j p) (process_scope g j p) (process_names g j p) None None w from mid Nil done (alike g (process_scope g j p)) (sees g (process_scope g j p)) refl (λ m e. absurd (outside m e)) ok h refl)
+      ∙ ap (λ z. ended 0 z) (stmts_found g known k code body (process_scope g j p) (process_scope g j p) (process_names g j p) None None w from mid Nil nothing_found (alike g (process_scope g j p)) (sees g (process_scope g j p)) refl (λ m e. absurd (outside m e)) ok h refl)
     where
       straight : (x y : ℕ) → x + 0 ≡ y → x ≡ y
       straight x y e = omega (arith, e)
@@ -263,7 +263,7 @@ module _ (g : Prog) (code : List Instr) (known : List Known) (k : Calls) (j : �
   -- what a handler comes to
   abbrev handler_all : Option Handler → Found
   handler_all None = nothing_found
-  handler_all (Some h) = adds (stmts_cost g (process_names g j p) k h.body) (stmts_height g (by_process j) k h.body) done
+  handler_all (Some h) = adds (stmts_cost g (process_names g j p) k h.body) (stmts_height g (by_process j) k h.body) nothing_found
 
   handler_part_found : (o : Option Handler) (from q : ℕ) (ip : image.Process) → SoundHandler g (λ y. IsKnown g known k y) (process_scope g j p) o → EmitsHandler g code j p o from q ip → handler_part code known ip.handler_tree from ≡ Some (handler_all o)
   handler_part_found None from q ip ok h = ap (λ z. handler_part code known z from) h.3
@@ -280,7 +280,7 @@ module _ (g : Prog) (code : List Instr) (known : List Known) (k : Calls) (j : �
 pub processes_are_measured : ProcessesAreMeasured
 processes_are_measured g code known k j p ip q h ok =
     record {
-      body = adds (stmts_cost g (process_names g j p) k p.body) (stmts_height g (by_process j) k p.body) done;
+      body = adds (stmts_cost g (process_names g j p) k p.body) (stmts_height g (by_process j) k p.body) nothing_found;
       body_is = ap (λ z. part_found code known z ip.start) h.tree ∙ process_part g code known k j p 0 ip.start h.behind p.body ok.0 h.body h.end;
       handler = handler_all g code known k j p p.handler;
       handler_is = ap (λ z. handler_part code known ip.handler_tree z) (sym (place (body_size g code known k j p 0 ip.start h.behind p.body ok.0 h.body) (ap (λ z. size z) h.tree))) ∙ handler_part_found g code known k j p p.handler (h.behind + 1) q ip ok.1 h.handler;

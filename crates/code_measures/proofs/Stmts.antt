@@ -8,7 +8,7 @@ use Rattle.machine_isa.specs.declared.instr.Instr.TheVariants as i
 use Rattle.source_semantics.specs.Names.{constant_value, count_value, device_number}
 use Rattle.machine_semantics.specs.Trees.{Segs, Fork, Rep, Wait, Exit, Nil, Cons, size}
 use Rattle.valid_image.specs.Found.{Known, Found, amount, plus, greater, longer, turns, guard, chain, is_exit, is_reenter, limit_at, wait as wait_found, founds}
-use Rattle.valid_image.specs.Tables.{count as count_of}
+use Rattle.valid_image.specs.Tables.{nothing_found as done, count as count_of}
 use Rattle.code_spec.specs.Layout.{by_monitor, Scope, loops, loops_in}
 use Rattle.code_spec.specs.Numbering.{Text, routine_in, entry_in}
 use Rattle.code_spec.specs.Code.{code_of, args_code, call_code, index_code, store_code, put_code, ref_name}
@@ -23,7 +23,7 @@ use Rattle.code_measures.proofs.Lines.{split, split_one, one_found, line_more}
 use Rattle.code_measures.proofs.Sizes.{Alike, alike_inner, stmts_size, line_size}
 use Rattle.code_measures.proofs.Seen.{Sees, sees_inside, same_as, no_more}
 use Rattle.code_measures.proofs.Exprs.{expr_found, args_found, named_call, expr_high}
-use Rattle.code_measures.proofs.Blocks.{done, adds_three, check_height, check_low, fork_found, rep_found, store_found, put_found, index_found}
+use Rattle.code_measures.proofs.Blocks.{adds_three, check_height, check_low, fork_found, rep_found, store_found, put_found, index_found}
 
 gives_one : (h : ℕ) (o : Option Answers) (y : Answers) → o ≡ Some y → h + 1 ≡ count_of (is_some o) + h
 gives_one h o y e = subst (λ z. h + 1 ≡ count_of (is_some z) + h) (sym e) (omega arith)

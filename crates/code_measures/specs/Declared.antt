@@ -4,13 +4,13 @@ use Rattle.syntax_tree.specs.Plain.{Process, Prog}
 use Rattle.base.specs.Capped.{cap}
 use Rattle.source_semantics.specs.Names.{processes, routine_count}
 use Rattle.machine_semantics.specs.Image as image
+use Rattle.valid_image.specs.Found.{capped}
 use Rattle.valid_image.specs.Sizes.{with_dispatch}
 use Rattle.code_spec.specs.Numbering.{Text, numbered, number_of}
 use Rattle.code_cost_spec.specs.Names.{Calls}
 use Rattle.code_cost_spec.specs.Heights.{routine_height}
 use Rattle.code_cost_spec.specs.Levels.{calls_of, cost_of_routine, stay_of_entry, cost_of_process, stack_of_process}
 use Rattle.code_measures.specs.Sound.{SoundRoutine, SoundProcess}
-use Rattle.code_measures.specs.Like.{capped}
 
 -- ---- what the static rules and the numbering give
 

@@ -14,8 +14,8 @@ use Rattle.command_due.specs.Waits as text
 use Rattle.command_due_law.specs.EdfDueOnce.{AnswersAreOne, EdfImagesAreOne}
 use Rattle.command_due.specs.Image.{IsEdfImage}
 use Rattle.command_due.specs.Tasks.{IsAnswer}
-use Rattle.edf_correct.specs.Waits.{HandlerHasNoWait, HasNoWait}
-use Rattle.edf_correct.specs.EdfWaits.{BodiesDoNotWait, EntriesDoNotWait, HandlersDoNotWait, OwnRoutinesDoNotWait, RoutinesDoNotWait}
+use Rattle.edf_feasible.specs.Waits.{HandlerHasNoWait, HasNoWait}
+use Rattle.edf_feasible.specs.EdfWaits.{BodiesDoNotWait, EntriesDoNotWait, HandlersDoNotWait, OwnRoutinesDoNotWait, RoutinesDoNotWait}
 use Rattle.command_due_law.specs.Word.{AnswersOfTextsAreOne}
 
 handler_waits : (g : placed.Prog Place) (none : text.HasNoWait g) → HandlersDoNotWait → (k : ℕ) (p : Process) → slice_get (processes (plain g)) k ≡ Some p → HandlerHasNoWait p.handler

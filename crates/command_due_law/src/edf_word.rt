@@ -10,7 +10,7 @@ ghost use Rattle.command_due_law.specs.Word.{AnswersOfTextsAreOne, FeasibleTexts
 use crate::due_once::written_once;
 use crate::edf_due_once::{answers_are_one, edf_images_are_one};
 use edf_correct::edf_laws::edf_images_keep_their_word;
-use edf_correct::edf_waits::waitless_programs_have_no_wait;
+use edf_feasible::edf_waits::waitless_programs_have_no_wait;
 
 /// Of a text whose demand is met, every run of its image over a script for its names meets the
 /// deadlines.

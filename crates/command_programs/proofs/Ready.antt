@@ -5,7 +5,6 @@ use Rattle.image.specs.Raw.{image_of, named_of}
 use Rattle.vm_law.specs.ScriptSuits.{ScriptsSuit}
 use Rattle.compile.specs.declared.built.Built.{Built}
 use Rattle.built_valid_law.specs.Ready.{BuiltImagesAreReady}
-use Rattle.command_due.specs.Runs.{BuiltImagesAreFaithful}
 use Rattle.compile.specs.Compile.{Compiles, IsImageOf}
 use Rattle.compile.specs.declared.compiling.CompileFault.{CompileFault}
 use Rattle.compile.specs.declared.compiling.CompileFault.TheVariants as fault
@@ -13,14 +12,14 @@ use Rattle.command_programs.specs.Runnable.{IsRunnableBuilt, Readies}
 
 -- ---- images that are built
 
-runnable_built : BuiltImagesAreReady → BuiltImagesAreFaithful → ScriptsSuit → (over : ℕ) (text : List ℕ) (b : Built) → IsImageOf over text b → IsRunnableBuilt b
-runnable_built ready faithful suits over text b image =
+runnable_built : BuiltImagesAreReady → ScriptsSuit → (over : ℕ) (text : List ℕ) (b : Built) → IsImageOf over text b → IsRunnableBuilt b
+runnable_built ready suits over text b image =
     let t = image.timely in
     let r = ready text t.tree over (named_of b.image) t.written t.built in
     record {
       image = record {
         limits = r.limits;
-        valid = (faithful text t.tree over (named_of b.image) t.written t.built).valid;
+        valid = r.valid;
         plan = r.plan;
         names = r.names;
         suits = λ script lines last is. suits b.image.names (image_of b.image) script lines last r.frames is;
@@ -31,8 +30,8 @@ runnable_built ready faithful suits over text b image =
       named = image.named;
     }
 
-pub readies : BuiltImagesAreReady → BuiltImagesAreFaithful → ScriptsSuit → (over : ℕ) (text : List ℕ) (answer : Result Built CompileFault) → Compiles over text answer → Readies answer
-readies ready faithful suits over text (Ok b) image = runnable_built ready faithful suits over text b image
-readies ready faithful suits over text (Err (fault.Text number place)) is = tt
-readies ready faithful suits over text (Err (fault.Untimely l)) late = late.named
-readies ready faithful suits over text (Err fault.Memory) is = tt
+pub readies : BuiltImagesAreReady → ScriptsSuit → (over : ℕ) (text : List ℕ) (answer : Result Built CompileFault) → Compiles over text answer → Readies answer
+readies ready suits over text (Ok b) image = runnable_built ready suits over text b image
+readies ready suits over text (Err (fault.Text number place)) is = tt
+readies ready suits over text (Err (fault.Untimely l)) late = late.named
+readies ready suits over text (Err fault.Memory) is = tt

@@ -3,9 +3,7 @@
 //!
 //! `compile` says what the answers mean; `specs/Runnable.antt` says of them that an image that
 //! is built can be run over each script for its names and stored, and that a report has a name for
-//! each row. The law on built images is passed on.
-//!
-//! Program texts judged.
+//! each row.
 
 ghost use Rattle.std.specs.Prelude.{◌≡◌, ◌≤◌, ℕ, List, IfOk};
 ghost use Rattle.syntax.specs.Tokens.{longest_text};
@@ -17,7 +15,6 @@ ghost use Rattle.command_programs.specs.Runnable.{Readies};
 use built_valid_law::built_ready::built_images_are_ready;
 use command_answers::Content;
 use compile::{Built, CompileFault, TextFault, compile, read_written};
-use compiler_correct::built_laws::built_images_are_faithful;
 use static_semantics::Checked;
 use std::alloc::Global;
 use syntax_tree::Place;
@@ -40,7 +37,6 @@ pub fn compile_text(alloc: Global, text: &[u8], over: u16) -> Result<Built, Comp
     ensures ready { Readies result }
 {
     built_images_are_ready();
-    built_images_are_faithful();
     scripts_suit();
     compile(alloc, text, over)
 }

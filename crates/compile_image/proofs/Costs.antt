@@ -4,9 +4,9 @@ use Rattle.std.proofs.lemmas.Bool.{cases_lt}
 use Rattle.std.proofs.lemmas.Nat.{mul-le}
 use Rattle.base.specs.Capped.{cap}
 use Rattle.base.specs.declared.capped.Cost.{Cost}
+use Rattle.valid_image.specs.Found.{capped}
 use Rattle.valid_image.specs.Sizes.{with_dispatch}
 use Rattle.code_cost.specs.Sums.{held}
-use Rattle.code_cost.specs.Sizes.{capped}
 use Rattle.compile_image.specs.Rows.{IsCapped}
 
 -- the terms stand by themselves

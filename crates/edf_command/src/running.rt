@@ -14,7 +14,7 @@ ghost use Rattle.script.specs.Scripts.{IsScript, longest_text};
 use crate::judging::Subject;
 use crate::report;
 use command_answers::{Act, Content, Dispatch, Run, Status, judge_script, put, refuse_script};
-use edf_correct::edf_ready::edf_images_are_ready;
+use edf_feasible::edf_ready::edf_images_are_ready;
 use script::Script;
 use std::alloc::{AllocError, Global};
 

@@ -1,35 +1,28 @@
 -- The image of a program without waits, under earliest deadline first: what holds of its runs.
-use Rattle.std.specs.Prelude.{◌≡◌, ◌≤◌, ℕ, false, List, Some, slice_get}
+use Rattle.std.specs.Prelude.{◌≤◌, ℕ, List}
 use Rattle.syntax_tree.specs.declared.place.Place.{Place}
 use Rattle.syntax_tree.specs.Placed.{Prog, plain}
 use Rattle.syntax_tree.specs.Plain as plain_of
 use Rattle.source_semantics.specs.Starts.{Script}
 use Rattle.source_semantics.specs.Any.{IsAnySourceRun}
-use Rattle.machine_semantics.specs.Image.{Image, Process}
-use Rattle.machine_semantics.specs.State.{Thread}
 use Rattle.machine_safety_spec.specs.Walk.{Where}
 use Rattle.machine_safety_spec.specs.Safe.{Parts, ImageFits}
-use Rattle.machine_safety_spec.specs.Whole.{StackFits, Apart}
 use Rattle.code_lifting.specs.Compiled.{IsFrom, script_of}
 use Rattle.sched_timing.specs.Timed.{RespectsFrames}
-use Rattle.sched_demand.specs.declared.tasks.DTask.{DTask}
-use Rattle.sched_demand.specs.declared.judging.Judgement.{Judgement}
 use Rattle.sched_demand.specs.declared.judging.Judgement.TheVariants as judgement
-use Rattle.sched_demand.specs.Demand.{AreTasks}
-use Rattle.edf_semantics.specs.Run.{tick, state_at, events}
+use Rattle.edf_semantics.specs.Run.{events}
 use Rattle.edf_semantics.specs.Safe.{IsWaitless}
-use Rattle.edf_timing.specs.InTime.{AreDemandsOf, MeetsDeadlines}
 use Rattle.edf_timing.specs.Runs.{HasNoOverrun}
 use Rattle.command_answers.specs.Runs.{IsEdfRun}
 use Rattle.command_due.specs.Image.{IsEdfImage}
-use Rattle.command_due.specs.Tasks.{AreDemands, IsAnswer, IsAnswerFor}
+use Rattle.command_due.specs.Tasks.{IsAnswer}
 use Rattle.code_lifting.specs.Image.{IsImageOf, AreRight, whole}
 use Rattle.image.specs.Named.{NamedImage}
 use Rattle.script.specs.declared.script.ScriptLine.{ScriptLine}
 use Rattle.script.specs.Scripts.{IsScript}
 use Rattle.command_due.specs.Source.{IsWritten}
 use Rattle.command_due.specs.Script.{said}
-use Rattle.edf_correct.specs.Waits.{HasNoWait}
+use Rattle.edf_feasible.specs.Waits.{HasNoWait}
 
 -- The law: the events of each run, without overrun, of the image of a program whose code is right
 -- are a run of the program in which any ready process may act. The image fits its trees and waits
@@ -37,25 +30,6 @@ use Rattle.edf_correct.specs.Waits.{HasNoWait}
 abbrev pub CompiledRunsAreRuns : Type 0
 CompiledRunsAreRuns = (e : Where) (ps : ℕ → Parts) (g : plain_of.Prog) (script : Script) → ImageFits e ps → IsWaitless e ps → IsImageOf (whole e.image g) → AreRight (whole e.image g)
     → IsFrom 0 script.lines → HasNoOverrun e.image (script_of script) → IsAnySourceRun g script (events e.image (script_of script))
-
--- what the laws of safety and of time under earliest deadline first ask of an image and its tasks
-pub record MeetsPremises (image : Image) (tasks : List DTask) : Type 0 where
-  pub e : Where
-  pub ps : ℕ → Parts
-  pub of : e.image ≡ image
-  pub fits : ImageFits e ps
-  pub waitless : IsWaitless e ps
-  pub place : ℕ → ℕ
-  pub demands : AreDemandsOf e ps tasks place
-
--- The law: the image of a program without waits meets it, with the tasks that it asks for.
-abbrev pub WaitlessImagesMeetPremises : Type 0
-WaitlessImagesMeetPremises = (text : List ℕ) (g : Prog Place) (n : NamedImage) (tasks : List DTask) → IsWritten text g → HasNoWait (plain g) → IsEdfImage (plain g) n
-    → AreDemands n.image tasks → AreTasks tasks → MeetsPremises n.image tasks
-
--- The law: what the test says of a program, it says of its image.
-abbrev pub AnswersAreOfTheImage : Type 0
-AnswersAreOfTheImage = (g : plain_of.Prog) (n : NamedImage) (answer : Judgement) → IsEdfImage g n → IsAnswerFor g answer → IsAnswer n.image answer
 
 -- The law: where a text is that of a program that keeps to all rules, is not too large and has no
 -- wait, and the test answers that the demand of its image is feasible, so is each run over a script

@@ -1,4 +1,1 @@
-pub mod EdfWaits
-pub mod Waits
 pub mod EdfLaws
-pub mod Ready

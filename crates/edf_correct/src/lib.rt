@@ -2,5 +2,3 @@
 #![tactic(auto)]
 
 pub mod edf_laws;
-pub mod edf_ready;
-pub mod edf_waits;

@@ -1,18 +1,15 @@
 -- The runs that the machine takes.
-use Rattle.std.specs.Prelude.{◌≡◌, ◌<◌, ◌^◌, ℕ, false, Some, slice_get}
+use Rattle.std.specs.Prelude.{◌≡◌, ◌<◌, ◌^◌, ℕ, Some, slice_get}
 use Rattle.machine_semantics.specs.Image.{Image, Script}
 use Rattle.machine_semantics.specs.State.{Job, State, Waiting}
 use Rattle.machine_safety_spec.specs.Queues.{AreQueued}
 use Rattle.vm_stretch.specs.StartLawsDue.{HasOwnRanks}
 use Rattle.vm_releases.specs.Begin.{NextFits}
 use Rattle.vm_stretch.specs.StretchDue.{AreInOrder}
-use Rattle.edf_semantics.specs.Run.{state_at, tick}
+use Rattle.edf_semantics.specs.Run.{state_at}
 use Rattle.edf_semantics.specs.Turn.{begun}
 use Rattle.edf_semantics.specs.Rows.{IsSafeRun}
-
--- no release finds its process unfinished
-abbrev pub HasNoOverrun : Image → Script → Type 0
-HasNoOverrun image script = (t : ℕ) → t < script.end_tick → (tick image script t (state_at image script t)).overrun ≡ false
+use Rattle.edf_timing.specs.Runs.{HasNoOverrun}
 
 abbrev pub NobodyWaits : State → Type 0
 NobodyWaits s = (k c d e : ℕ) (job : Job) → slice_get s.threads k ≡ Some (Waiting c d e job) → ⊥

@@ -5,10 +5,10 @@ ghost use Rattle.loader_trees.specs.Told.{known_of, told};
 ghost use Rattle.loader_trees.specs.Whole.{is_fitting, monitor_in as stays_of, whole as defined_whole};
 ghost use Rattle.machine_semantics.specs.Trees.{Cons, Nil, Stay};
 ghost use Rattle.image_format.specs.View.{views};
-ghost use Rattle.valid_image.specs.Found.{entry};
+ghost use Rattle.valid_image.specs.Found.{capped, entry};
 ghost use Rattle.valid_image.specs.Shape.{is_found};
 ghost use Rattle.valid_image.specs.Tables.{found_or_nothing};
-ghost use Rattle.valid_image_law.specs.Held.{held_cost, hold};
+ghost use Rattle.valid_image_law.specs.Held.{hold};
 
 use crate::found_segs_trees::segs_found;
 use crate::{Around, Found, Known, instr_at, results, stayed};
@@ -93,7 +93,7 @@ pub fn worst(code: &[Instr], base: u32, tree: &Segs, known: &[Known]) -> Cost
     requires base { base ≤ length code.now }
     requires fits { IsTrue (is_found (defined_whole code.now (map known_of known.now)
         (views tree.now) base)) }
-    ensures { result ≡ held_cost (found_or_nothing
+    ensures { result ≡ capped (found_or_nothing
         (defined_whole code.now (map known_of known.now) (views tree.now) base)).cost }
 {
     match whole_found(code, known, tree.as_slice(), base) {

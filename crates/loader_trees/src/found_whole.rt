@@ -4,9 +4,10 @@ ghost use Rattle.std.specs.Prelude.{◌≡◌, ◌≤◌, IsTrue, length, map, m
 ghost use Rattle.loader_trees.specs.Told.{known_of, told};
 ghost use Rattle.loader_trees.specs.Whole.{is_fitting, monitor_in as stays_of, whole as defined_whole};
 ghost use Rattle.image_format.specs.Stands.{tree_in};
+ghost use Rattle.valid_image.specs.Found.{capped};
 ghost use Rattle.valid_image.specs.Shape.{is_found};
 ghost use Rattle.valid_image.specs.Tables.{found_or_nothing};
-ghost use Rattle.valid_image_law.specs.Held.{held_cost, hold};
+ghost use Rattle.valid_image_law.specs.Held.{hold};
 
 use crate::instructions::results;
 use crate::known::{Found, Known};
@@ -57,7 +58,7 @@ pub fn worst_bytes(code: &[Instr], base: u32, tree: SegBytes<'_>, known: &[Known
     requires base { base ≤ length code.now }
     requires fits { IsTrue (is_found (defined_whole code.now (map known_of known.now)
         (tree_in tree) base)) }
-    ensures { result ≡ held_cost (found_or_nothing
+    ensures { result ≡ capped (found_or_nothing
         (defined_whole code.now (map known_of known.now) (tree_in tree.entry) base)).cost }
 {
     match whole_found(code, known, tree, base) {

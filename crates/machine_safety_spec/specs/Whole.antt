@@ -46,6 +46,10 @@ StackFits p Idle = Unit {0}
 StackFits p (Ready job) = stack_of job ≤ p.stack
 StackFits p (Waiting condition due number job) = stack_of job ≤ p.stack
 
+-- no release finds its process unfinished
+abbrev pub HasNoOverrun : Image → Script → Type 0
+HasNoOverrun image script = (t : ℕ) → t < script.end_tick → (tick image script t (state_at image script t)).overrun ≡ false
+
 -- The law: a tick of a valid image is not stuck, and keeps the state so.
 abbrev pub EveryTickIsSafe : Type 0
 EveryTickIsSafe = (e : Where) (ps : ℕ → Parts) (script : Script) (t : ℕ) (s : State) → ImageFits e ps → StateFits e ps s

@@ -4,6 +4,7 @@ use Rattle.std.specs.Prelude.{◌+◌, ◌-◌, ◌*◌, ◌&&◌, ℕ, zero, su
 use Rattle.machine_isa.specs.declared.instr.Instr.{Instr}
 use Rattle.machine_isa.specs.declared.instr.Instr.TheVariants as i
 use Rattle.machine_isa.specs.Ticks.{ticks}
+use Rattle.base.specs.Capped.{cap}
 use Rattle.base.specs.declared.capped.Cost.{Cost}
 use Rattle.machine_semantics.specs.Trees.{Seg, Segs, Line, Fork, Rep, Call, Stay, Wait, Exit, Nil, Cons, size, size_of}
 use Rattle.machine_isa.specs.Operands.{takes, gives}
@@ -28,6 +29,10 @@ pub record Found : Type 0 where
 
 abbrev pub amount : (run susp waits : ℕ) → Cost
 amount r s w = record { run = r; susp = s; waits = w }
+
+-- each component up to where it is counted
+abbrev pub capped : Cost → Cost
+capped c = amount (cap c.run) (cap c.susp) (cap c.waits)
 
 abbrev pub plus : Cost → Cost → Cost
 plus c d = amount (c.run + d.run) (c.susp + d.susp) (c.waits + d.waits)

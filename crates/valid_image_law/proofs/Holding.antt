@@ -8,7 +8,8 @@ use Rattle.machine_isa.specs.Ticks.{ticks}
 use Rattle.base.specs.Capped.{cap}
 use Rattle.machine_isa.specs.Operands.{takes, gives}
 use Rattle.valid_image.specs.Found.{Known, Found, amount, plus, greater, longer, turns, in_line, guard, joined, chain, plain_step, arms, loop, call, ended}
-use Rattle.valid_image_law.specs.Held.{held, hold, held_known, before, nothing_before, HoldingChangesNothing}
+use Rattle.valid_image.specs.Tables.{nothing_found}
+use Rattle.valid_image_law.specs.Held.{held, hold, held_known, before, HoldingChangesNothing}
 
 -- two results that are held alike
 same_held : (f g : Found) → f.height ≡ g.height → cap f.cost.run ≡ cap g.cost.run → cap f.cost.susp ≡ cap g.cost.susp → cap f.cost.waits ≡ cap g.cost.waits → min f.depth 4097 ≡ min g.depth 4097 → Some (held f) ≡ Some (held g)
@@ -86,9 +87,9 @@ holds_end n (Some f) = by (nat_eq f.height n) where
   by true = refl
   by false = refl
 
-starts : (x : Option Found) → hold (joined nothing_before x) ≡ hold x
+starts : (x : Option Found) → hold (joined nothing_found x) ≡ hold x
 starts None = refl
-starts (Some f) = same_held (before nothing_before f) f refl (omega arith) (omega arith) (omega arith) (omega arith)
+starts (Some f) = same_held (before nothing_found f) f refl (omega arith) (omega arith) (omega arith) (omega arith)
 
 fronts : (f g : Found) (x : Option Found) → hold (joined f (joined g x)) ≡ hold (joined (held (before f g)) x)
 fronts f g None = refl

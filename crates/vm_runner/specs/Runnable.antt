@@ -1,17 +1,13 @@
 -- The runs that the machine takes.
-use Rattle.std.specs.Prelude.{◌≡◌, ◌<◌, ◌^◌, ℕ, false}
+use Rattle.std.specs.Prelude.{◌<◌, ◌^◌, ℕ}
 use Rattle.machine_semantics.specs.Image.{Image, Script}
-use Rattle.machine_semantics.specs.Tick.{tick}
 use Rattle.machine_semantics.specs.Run.{state_at}
 use Rattle.machine_safety_spec.specs.Queues.{AreQueued}
+use Rattle.machine_safety_spec.specs.Whole.{HasNoOverrun}
 use Rattle.vm_stretch.specs.StartLawsDue.{HasOwnRanks}
 use Rattle.vm_releases.specs.Begin.{NextFits}
 use Rattle.vm_stretch.specs.StretchDue.{AreInOrder}
 use Rattle.vm_stretch.specs.RowLaws.{IsSafeRun, begun}
-
--- no release finds its process unfinished
-abbrev pub HasNoOverrun : Image → Script → Type 0
-HasNoOverrun image script = (t : ℕ) → t < script.end_tick → (tick image script t (state_at image script t)).overrun ≡ false
 
 -- what holds of the run of a valid image under a script that respects its frames
 pub record IsRunnable (image : Image) (script : Script) : Type 0 where

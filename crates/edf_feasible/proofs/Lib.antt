@@ -1,0 +1,10 @@
+mod Quiet
+pub mod EdfLawsWaits
+pub mod Covering
+pub mod Placing
+pub mod Shapes
+pub mod Premises
+pub mod Meeting
+pub mod EdfReadyWaits
+pub mod Parts
+pub mod EdfReadyJoined

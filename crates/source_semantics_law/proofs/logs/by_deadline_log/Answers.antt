@@ -1,5 +1,0 @@
-use Rattle.source_semantics_law.proofs.Rows.{by_deadline_runs}
-use Rattle.source_semantics_law.proofs.logs.by_deadline_log.Goals as goal
-
-pub returns : goal.returns
-returns c = by_deadline_runs

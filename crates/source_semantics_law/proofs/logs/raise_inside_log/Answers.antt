@@ -1,5 +1,0 @@
-use Rattle.source_semantics_law.proofs.Rows.{raise_inside_runs}
-use Rattle.source_semantics_law.proofs.logs.raise_inside_log.Goals as goal
-
-pub returns : goal.returns
-returns c = raise_inside_runs
