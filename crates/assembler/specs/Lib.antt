@@ -2,4 +2,3 @@ pub mod Sections
 pub mod Faults
 pub mod Answer
 pub mod Refusal
-pub mod Held

@@ -14,7 +14,6 @@
 //! the line of the first fault (`specs/Answer.antt`).
 #![tactic(auto)]
 
-mod assemble;
 mod code;
 mod fault;
 mod names;

@@ -9,7 +9,8 @@ ghost use Rattle.asm_lines.specs.Names.{condition_read, device_read, event_read,
 ghost use Rattle.assembler.specs.Sections.{conditions_read, devices_read, events_read, monitors_read, no_more};
 
 use asm_lines::{condition_line, device_line, event_line, monitor_line};
-use image::{CondName, DevName, RawMon};
+use image::{CondName, DevName};
+use image_reader::Monitors;
 use std::alloc::{AllocError, Global};
 use syntax_tree::{List, Name};
 use text_fields::{At, Fault, ReadError, begins_with};
@@ -108,13 +109,6 @@ pub fn events_at<'a>(
     }
     let place = no_event(alloc, place, taken.as_slice())?;
     Ok((events, place))
-}
-
-/// Monitors, each with its name.
-#[derive(Drop)]
-pub struct Monitors {
-    pub names: List<Name>,
-    pub things: List<RawMon>,
 }
 
 /// No more monitors stand here.

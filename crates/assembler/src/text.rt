@@ -7,28 +7,19 @@ ghost use Rattle.image_reader.specs.Answer.{parts_of};
 ghost use Rattle.image_reader.specs.File.{all_used, image_with, used_by};
 ghost use Rattle.text_fields.specs.Front.{Gives, front};
 ghost use Rattle.assembler.specs.Answer.{Tells};
-ghost use Rattle.assembler.specs.Held as held;
+ghost use Rattle.image_reader.specs.Held as held;
 ghost use Rattle.assembler.specs.Sections.{guarded_read, is_complete as complete_test, line_at, named_read, owners_in, text_read, work_read};
 
-use crate::assemble::assemble;
 use crate::code::{are_used, code_at, finish};
 use crate::fault::AsmFault;
-use crate::names::{Monitors, conditions_at, devices_at, events_at, monitors_at, take};
-use crate::work::{Processes, processes_at, routines_at};
+use crate::names::{conditions_at, devices_at, events_at, monitors_at, take};
+use crate::work::{processes_at, routines_at};
 use asm_lines::head_line;
-use image::{CondName, DevName, RawImage, RawRoutine};
-use machine_isa::Instr;
+use image::RawImage;
+use image_reader::{Guarded, Monitors, Named, Processes, Work, assemble};
 use std::alloc::Global;
 use syntax_tree::{List, Name};
 use text_fields::{At, ReadError, begins_with, cut_at};
-
-/// The routines, the processes and the code.
-#[derive(Drop)]
-pub struct Work {
-    pub routines: List<RawRoutine>,
-    pub processes: Processes,
-    pub code: List<Instr>,
-}
 
 /// Whether there are processes, and each of so many events is used.
 fn serve_all(processes: usize, used: &[u16], events: usize) -> bool
@@ -73,14 +64,6 @@ fn work_at<'a>(
     Ok((work, at))
 }
 
-/// The monitors, the conditions, and all that follows.
-#[derive(Drop)]
-pub struct Guarded {
-    pub monitors: Monitors,
-    pub conditions: List<CondName>,
-    pub work: Work,
-}
-
 /// How many monitors these are.
 fn count_of(monitors: &Monitors) -> usize
     requires { length monitors.now.names ≡ length monitors.now.things }
@@ -114,14 +97,6 @@ fn guarded_at<'a>(
         work,
     };
     Ok((guarded, at))
-}
-
-/// The devices, the events, and all that follows the first line.
-#[derive(Drop)]
-pub struct Named {
-    pub devices: List<DevName>,
-    pub events: List<Name>,
-    pub guarded: Guarded,
 }
 
 #[tactic(auto, unfolding(crate::specs::Sections::named_read))]

@@ -13,6 +13,7 @@ ghost use Rattle.assembler.specs.Sections.{no_more, processes_read, routines_rea
 use crate::names::take;
 use asm_lines::{process_at, process_line, routine_at, routine_line};
 use image::{RawProc, RawRoutine};
+use image_reader::Processes;
 use std::alloc::{AllocError, Global};
 use syntax_tree::{List, Name};
 use text_fields::{At, Fault, ReadError, begins_with};
@@ -69,14 +70,6 @@ fn use_event(used: &mut List<u16>, process: &RawProc) -> Result<(), AllocError>
         used.push(process.event)?;
     }
     Ok(())
-}
-
-/// Processes, each with its name, and the events that release them.
-#[derive(Drop)]
-pub struct Processes {
-    pub names: List<Name>,
-    pub things: List<RawProc>,
-    pub used: List<u16>,
 }
 
 /// No more processes stand here.

@@ -12,7 +12,7 @@ use crate::lengths::code_length;
 use crate::stacks::first_large;
 use code_cost::Measures;
 use code_names::Numbering;
-use static_rule::{Broken, sooner};
+use static_rule::{Broken, rule, sooner};
 use std::alloc::{AllocError, Global};
 use syntax_tree::{Place, Prog};
 
@@ -24,7 +24,10 @@ fn long_code(place: Place, measures: &Measures) -> Option<Broken>
     ensures { result ≡ code_broken place (length_told measures.now) }
 {
     if code_length(measures) > MOST_INSTRUCTIONS {
-        Some(Broken { number: 46, place })
+        Some(Broken {
+            number: rule::LONG_CODE,
+            place,
+        })
     } else {
         None
     }

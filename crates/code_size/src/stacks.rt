@@ -8,14 +8,11 @@ ghost use Rattle.code_size.specs.Told.{Part, over_stack, parts_from, process_ove
 
 use code_cost::Measures;
 use code_names::{Numbering, Owner, Text};
-use static_rule::{Broken, blame};
+use static_rule::{Broken, blame, rule};
 use syntax_tree::{Decl, Place, Proc, Routine};
 
 /// A stack has at most so many words.
 const MOST_WORDS: u64 = 4096;
-
-/// The number of the rule.
-const STACK: u8 = 47;
 
 /// The place, where a stack of so many words and so many more is too large.
 fn over(place: Place, words: u64, more: u64) -> Option<Place>
@@ -67,7 +64,7 @@ fn try_routines(
     for routine in routines {
         blame(
             first,
-            STACK,
+            rule::LARGE_STACK,
             large_routine(numbering, measures, owner, routine),
         );
     }
@@ -86,7 +83,7 @@ pub fn first_large(numbering: &Numbering<'_>, measures: &Measures, decls: &[Decl
             Decl::Const { .. } | Decl::Device { .. } | Decl::Event { .. } => {}
             Decl::Routine(routine) => {
                 let place = large_routine(numbering, measures, Owner::Program, routine);
-                blame(&mut first, STACK, place);
+                blame(&mut first, rule::LARGE_STACK, place);
             }
             Decl::Mon(monitor) => {
                 let owner = Owner::Monitor(monitors);
@@ -97,7 +94,7 @@ pub fn first_large(numbering: &Numbering<'_>, measures: &Measures, decls: &[Decl
             Decl::Proc(process) => {
                 let owner = Owner::Process(processes);
                 let place = large_process(measures, processes, process);
-                blame(&mut first, STACK, place);
+                blame(&mut first, rule::LARGE_STACK, place);
                 let routines = process.routines.as_slice();
                 try_routines(&mut first, numbering, measures, owner, routines);
                 processes += 1;

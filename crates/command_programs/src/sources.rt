@@ -15,13 +15,11 @@ ghost use Rattle.command_programs.specs.Runnable.{Readies};
 use built_valid_law::built_ready::built_images_are_ready;
 use command_answers::Content;
 use compile::{Built, CompileFault, TextFault, compile, read_written};
+use static_rule::rule;
 use static_semantics::Checked;
 use std::alloc::Global;
 use syntax_tree::Place;
 use vm_law::script_suits::scripts_suit;
-
-/// The number of the fault of a text that is too long.
-const TOO_LONG: u8 = 4;
 
 /// Where a fault of a whole text stands.
 const START: Place = Place { line: 1, col: 1 };
@@ -55,7 +53,7 @@ pub fn compile_content(alloc: Global, content: &Content, over: u16) -> Result<Bu
     match content {
         Content::Bytes(text) => compile_text(alloc, text.as_slice(), over),
         Content::Long => Err(CompileFault::Text {
-            number: TOO_LONG,
+            number: rule::LONG_TEXT,
             place: START,
         }),
     }
@@ -72,7 +70,7 @@ pub fn read_content(alloc: Global, content: &Content) -> Result<Checked, TextFau
     match content {
         Content::Bytes(text) => read_written(alloc, text.as_slice()),
         Content::Long => Err(TextFault::Text {
-            number: TOO_LONG,
+            number: rule::LONG_TEXT,
             place: START,
         }),
     }

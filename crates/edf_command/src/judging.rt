@@ -18,18 +18,13 @@ use command_answers::{Act, Content, put_fault};
 use compile::{TextFault, read_written};
 use image::RawImage;
 use sched_demand::Judgement;
+use static_rule::rule;
 use static_semantics::Checked;
 use std::alloc::{AllocError, Global};
 use syntax_tree::Place;
 
-/// The number of the fault of a text that is too long.
-const TOO_LONG: u8 = 4;
-
 /// Where a fault of a whole text stands.
 const START: Place = Place { line: 1, col: 1 };
-
-/// The number of the fault of a program with a wait statement.
-const WAITS: u8 = 48;
 
 /// A program without waits: the text that it was read from, its image, and what the test of the
 /// demand says of it.
@@ -72,7 +67,7 @@ fn judge_written(alloc: Global, text: Vec<u8>, program: &Checked) -> Result<Subj
     match first_wait(program.prog()) {
         None => judge_waitless(alloc, text, program),
         Some(place) => Err(TextFault::Text {
-            number: WAITS,
+            number: rule::WAITS,
             place,
         }),
     }
@@ -107,7 +102,7 @@ pub fn judge_source(alloc: Global, content: Content) -> Result<Subject, TextFaul
     match content {
         Content::Bytes(text) => judge_text(alloc, text),
         Content::Long => Err(TextFault::Text {
-            number: TOO_LONG,
+            number: rule::LONG_TEXT,
             place: START,
         }),
     }

@@ -7,7 +7,7 @@ ghost use Rattle.static_declarations.specs.declared.home.Where.{Where};
 ghost use Rattle.static_declarations.specs.Parts.{Part, statement, stmt_parts, stmts_parts};
 ghost use Rattle.command_due.specs.Waits.{wait_rules};
 
-use static_rule::{Broken, blame};
+use static_rule::{Broken, blame, rule};
 use syntax_tree::Stmt;
 
 /// Notes the place of a statement that waits, the statements in it aside.
@@ -17,7 +17,7 @@ fn note_wait(first: &mut Option<Broken>, s: &Stmt)
         (statement here (placed_stmt s.now)) }
 {
     if let Stmt::Wait { place, .. } = s {
-        blame(first, 48, Some(*place));
+        blame(first, rule::WAITS, Some(*place));
     }
 }
 

@@ -1,5 +1,6 @@
 //! Why a text was refused.
 
+use static_rule::rule;
 use syntax::LexFault;
 use syntax_parser::SynFault;
 use syntax_tree::Place;
@@ -30,19 +31,19 @@ impl From<LexFault> for SourceFault {
     fn from(fault: LexFault) -> Self {
         match fault {
             LexFault::Byte { line, col } => SourceFault::Fault {
-                number: 1,
+                number: rule::BAD_BYTE,
                 place: Place { line, col },
             },
             LexFault::Literal { line, col } => SourceFault::Fault {
-                number: 2,
+                number: rule::LARGE_LITERAL,
                 place: Place { line, col },
             },
             LexFault::Ident { line, col } => SourceFault::Fault {
-                number: 3,
+                number: rule::LONG_NAME,
                 place: Place { line, col },
             },
             LexFault::Long => SourceFault::Fault {
-                number: 4,
+                number: rule::LONG_TEXT,
                 place: START,
             },
             LexFault::Memory => SourceFault::Memory,
@@ -58,8 +59,14 @@ impl From<SynFault> for SourceFault {
 
     fn from(fault: SynFault) -> Self {
         match fault {
-            SynFault::Syntax(place) => SourceFault::Fault { number: 10, place },
-            SynFault::Nesting(place) => SourceFault::Fault { number: 11, place },
+            SynFault::Syntax(place) => SourceFault::Fault {
+                number: rule::SYNTAX,
+                place,
+            },
+            SynFault::Nesting(place) => SourceFault::Fault {
+                number: rule::NESTING,
+                place,
+            },
             SynFault::Memory => SourceFault::Memory,
         }
     }

@@ -1,4 +1,4 @@
--- What the code holds of the parts, as the format tells them.
+-- What a reader holds of the parts, as the format tells them.
 use Rattle.std.specs.Prelude.{List, ℕ, map}
 use Rattle.std.specs.List.{zip}
 use Rattle.machine_isa.specs.declared.instr.Instr.{Instr}
@@ -7,10 +7,18 @@ use Rattle.image.specs.Raw.{monitor_of, process_of, routine_of}
 use Rattle.image.specs.declared.names.CondName.{CondName}
 use Rattle.image.specs.declared.names.DevName.{DevName}
 use Rattle.image_reader.specs.declared.image_reading_image.Guarded.{Guarded}
+use Rattle.image_reader.specs.declared.image_reading_image.Named.{Named}
+use Rattle.image_reader.specs.declared.image_reading_image.Work.{Work}
 use Rattle.image_reader.specs.File.{Parts}
 
+abbrev pub work_of : Work → List Routine × (List (List ℕ × Process) × List Instr)
+work_of w = (map routine_of w.routines, (zip w.processes.names (map process_of w.processes.things), w.code))
+
 abbrev pub guarded_of : Guarded → List (List ℕ × Monitor) × (List CondName × (List Routine × (List (List ℕ × Process) × List Instr)))
-guarded_of g = (zip g.monitors.names (map monitor_of g.monitors.things), (g.conditions, (map routine_of g.work.routines, (zip g.work.processes.names (map process_of g.work.processes.things), g.work.code))))
+guarded_of g = (zip g.monitors.names (map monitor_of g.monitors.things), (g.conditions, work_of g.work))
+
+abbrev pub named_of : Named → List DevName × (List (List ℕ) × (List (List ℕ × Monitor) × (List CondName × (List Routine × (List (List ℕ × Process) × List Instr)))))
+named_of n = (n.devices, (n.events, guarded_of n.guarded))
 
 -- the parts that these are
 abbrev pub parts_with : ℕ → List ℕ → List DevName → List (List ℕ) → List (List ℕ × Monitor) × (List CondName × (List Routine × (List (List ℕ × Process) × List Instr))) → Parts

@@ -101,12 +101,12 @@ fn code_at<'a>(
     }))
 }
 
-/// The routines, the processes and the code.
+/// The routines, the processes and the code of an image.
 #[derive(Drop)]
-struct Work {
-    routines: List<RawRoutine>,
-    processes: Processes,
-    code: List<Instr>,
+pub struct Work {
+    pub routines: List<RawRoutine>,
+    pub processes: Processes,
+    pub code: List<Instr>,
 }
 
 fn work_at<'a>(
@@ -140,12 +140,12 @@ fn work_at<'a>(
     ))
 }
 
-/// The monitors, the conditions, and all that follows.
+/// The monitors and the conditions of an image, and all that follows them.
 #[derive(Drop)]
-struct Guarded {
-    monitors: Monitors,
-    conditions: List<CondName>,
-    work: Work,
+pub struct Guarded {
+    pub monitors: Monitors,
+    pub conditions: List<CondName>,
+    pub work: Work,
 }
 
 fn guarded_at<'a>(
@@ -175,12 +175,12 @@ fn guarded_at<'a>(
     ))
 }
 
-/// The devices, the events, and all that follows the program's name.
+/// The devices and the events of an image, and all that follows them.
 #[derive(Drop)]
-struct Named {
-    devices: List<DevName>,
-    events: List<Name>,
-    guarded: Guarded,
+pub struct Named {
+    pub devices: List<DevName>,
+    pub events: List<Name>,
+    pub guarded: Guarded,
 }
 
 fn named_at<'a>(
@@ -243,8 +243,10 @@ fn framed(
     Ok(framed)
 }
 
-/// The image of these parts.
-fn assemble(
+/// The image of these parts, with each event's frame that of the first process that it releases, or
+/// 0 where it releases none. Each monitor and each process is to have its name. An error is that
+/// memory is short.
+pub fn assemble(
     alloc: Global,
     overhead: u16,
     program: Name,

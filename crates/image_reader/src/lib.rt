@@ -22,4 +22,5 @@ mod taken;
 mod trees;
 
 pub use fault::ImageFault;
-pub use image_reading_image::read_image;
+pub use image_reading_image::{Guarded, Named, Work, assemble, read_image};
+pub use named::{Monitors, Processes};

@@ -15,12 +15,10 @@ use crate::names::program_names;
 use command_answers::{Act, Content, put_fault};
 use compile::{TextFault, read_written};
 use image::ImageNames;
+use static_rule::rule;
 use static_semantics::Checked;
 use std::alloc::{AllocError, Global};
 use syntax_tree::Place;
-
-/// The number of the fault of a text that is too long.
-const TOO_LONG: u8 = 4;
 
 /// Where a fault of a whole text stands.
 const START: Place = Place { line: 1, col: 1 };
@@ -67,7 +65,7 @@ pub fn read_source(alloc: Global, content: Content) -> Result<Source, TextFault>
     match content {
         Content::Bytes(text) => read_text(alloc, text),
         Content::Long => Err(TextFault::Text {
-            number: TOO_LONG,
+            number: rule::LONG_TEXT,
             place: START,
         }),
     }

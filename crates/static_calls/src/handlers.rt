@@ -11,7 +11,7 @@ use crate::is_marked;
 use crate::numbers::{Numbers, number};
 use crate::waits::stmts_wait;
 use static_declarations::Declarations;
-use static_rule::{Broken, blame};
+use static_rule::{Broken, blame, rule};
 use std::alloc::{AllocError, Global};
 use syntax_tree::{Handler, Place, Proc, Stmt};
 
@@ -98,7 +98,7 @@ pub fn first_waiting(
             process.place,
             &process.handler,
         )?;
-        blame(&mut first, 35, fault);
+        blame(&mut first, rule::WRONG_HANDLER, fault);
     }
     Ok(first)
 }

@@ -8,7 +8,7 @@ ghost use Rattle.static_calls.specs.Tables.{seen_routines, ComesBack, OneComesBa
 
 use crate::Cycles;
 use crate::numbers::{Numbers, number};
-use static_rule::{Broken, sooner};
+use static_rule::{Broken, rule, sooner};
 use std::alloc::{AllocError, Global};
 use syntax_tree::Routine;
 
@@ -52,7 +52,7 @@ fn next_round(
         next) }
 {
     let broken = Broken {
-        number: 31,
+        number: rule::RECURSION,
         place: routine.place,
     };
     if !comes_first(broken, first) {

@@ -13,7 +13,7 @@ mod home;
 mod sort;
 mod thing;
 mod things;
-mod values;
+pub mod values;
 
 pub use declarations::Declarations;
 pub use home::{Home, Where};

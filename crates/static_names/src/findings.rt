@@ -6,7 +6,7 @@ ghost use Rattle.static_names.specs.Findings.{blame as blamed, tie as tied, note
 
 use crate::kind::{Declared, Want, suits};
 use crate::near::PlaceMap;
-use static_rule::Broken;
+use static_rule::{Broken, rule};
 use std::alloc::{AllocError, Global};
 use std::hash::BuildHasherDefault;
 use std::marker::Model;
@@ -61,12 +61,12 @@ impl Findings {
         ensures { OnOk result (self.new ≡ note_use self.old place want means) }
     {
         match means {
-            None => self.blame(20, place),
+            None => self.blame(rule::UNDECLARED, place),
             Some(declared) => {
                 if suits(want, declared.kind) {
                     self.tie(place, declared.place)?;
                 } else {
-                    self.blame(22, place);
+                    self.blame(rule::WRONG_KIND, place);
                 }
             }
         }
@@ -78,7 +78,7 @@ impl Findings {
         ensures { self.new ≡ note_declaration self.old place taken }
     {
         if taken {
-            self.blame(21, place);
+            self.blame(rule::REDECLARED, place);
         }
     }
 
@@ -87,7 +87,7 @@ impl Findings {
         ensures { self.new ≡ note self.old (closes name.now place opening.now) }
     {
         if name != opening {
-            self.blame(23, place);
+            self.blame(rule::WRONG_CLOSING, place);
         }
     }
 }

@@ -11,7 +11,7 @@ ghost use Rattle.static_numbers.specs.Processes.{frame_of, deadline_of, bad_limi
 ghost use Rattle.static_numbers.specs.Rules.{process_rules};
 
 use static_declarations::Declarations;
-use static_rule::{Broken, blame};
+use static_rule::{Broken, blame, rule};
 use syntax_tree::{Activation, Constant, Decl, Place, Proc};
 
 /// A frame, and a deadline, has at least so many ticks.
@@ -77,15 +77,19 @@ fn process(first: &mut Option<Broken>, declarations: &Declarations<'_>, process:
     let frame = frame(activation);
     blame(
         first,
-        36,
+        rule::WRONG_ACTIVATION,
         declarations.out_of(LEAST_TICKS, MOST_TICKS, frame),
     );
     blame(
         first,
-        36,
+        rule::WRONG_ACTIVATION,
         bad_deadline(declarations, frame, deadline(activation)),
     );
-    blame(first, 36, bad_start(declarations, activation));
+    blame(
+        first,
+        rule::WRONG_ACTIVATION,
+        bad_start(declarations, activation),
+    );
 }
 
 fn decl(first: &mut Option<Broken>, declarations: &Declarations<'_>, decl: &Decl)

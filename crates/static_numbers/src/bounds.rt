@@ -10,7 +10,7 @@ ghost use Rattle.static_numbers.specs.Rules.{bounds_rules};
 ghost use Rattle.static_numbers.specs.Seen.{Tries, bounds_of};
 
 use static_declarations::Declarations;
-use static_rule::{Broken, blame};
+use static_rule::{Broken, blame, rule};
 use syntax_tree::{Constant, Decl, Member, Param, Place, Routine, Scalar, Type, Var};
 
 /// An array has at most so many elements.
@@ -53,8 +53,8 @@ fn pair(first: &mut Option<Broken>, declarations: &Declarations<'_>, bounds: &Bo
     ensures { first.new ≡ note (bounds_rules (placed declarations.now)) first.old
         (bounds_of bounds.now) }
 {
-    blame(first, 32, crossed(declarations, bounds));
-    blame(first, 44, too_long(declarations, bounds));
+    blame(first, rule::CROSSED_BOUNDS, crossed(declarations, bounds));
+    blame(first, rule::LONG_ARRAY, too_long(declarations, bounds));
 }
 
 fn scalar(first: &mut Option<Broken>, declarations: &Declarations<'_>, kind: &Scalar)

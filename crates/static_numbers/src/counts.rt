@@ -11,7 +11,7 @@ ghost use Rattle.static_numbers.specs.Rules.{count_rules};
 use crate::places::Places;
 use crate::words::too_many;
 use static_declarations::Declarations;
-use static_rule::{Broken, blame};
+use static_rule::{Broken, blame, rule};
 use std::alloc::{AllocError, Global};
 use syntax_tree::Place;
 
@@ -45,19 +45,19 @@ fn tried(declarations: &Declarations<'_>, places: &Places) -> Option<Broken>
     let program = declarations.program();
     let processes = places.processes.as_slice();
     let mut first = None;
-    blame(&mut first, 40, at_no(program.place, processes));
-    blame(&mut first, 40, one_too_many(MOST_OF_A_KIND, processes));
+    blame(&mut first, rule::COUNT, at_no(program.place, processes));
+    blame(&mut first, rule::COUNT, one_too_many(MOST_OF_A_KIND, processes));
     let monitors = places.monitors.as_slice();
-    blame(&mut first, 40, one_too_many(MOST_OF_A_KIND, monitors));
+    blame(&mut first, rule::COUNT, one_too_many(MOST_OF_A_KIND, monitors));
     let devices = places.devices.as_slice();
-    blame(&mut first, 40, one_too_many(MOST_OF_A_KIND, devices));
+    blame(&mut first, rule::COUNT, one_too_many(MOST_OF_A_KIND, devices));
     let events = places.events.as_slice();
-    blame(&mut first, 40, one_too_many(MOST_OF_A_KIND, events));
+    blame(&mut first, rule::COUNT, one_too_many(MOST_OF_A_KIND, events));
     let conditions = places.conditions.as_slice();
-    blame(&mut first, 41, one_too_many(MOST_CONDITIONS, conditions));
+    blame(&mut first, rule::CONDITION_COUNT, one_too_many(MOST_CONDITIONS, conditions));
     let routines = places.routines.as_slice();
-    blame(&mut first, 42, one_too_many(MOST_ROUTINES, routines));
-    blame(&mut first, 43, too_many(declarations));
+    blame(&mut first, rule::ROUTINE_COUNT, one_too_many(MOST_ROUTINES, routines));
+    blame(&mut first, rule::VARIABLE_WORDS, too_many(declarations));
     first
 }
 

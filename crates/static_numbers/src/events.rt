@@ -13,7 +13,7 @@ ghost use Rattle.static_numbers.specs.Seen.{held, known_uses};
 
 use indexmap::IndexMap;
 use static_declarations::Declarations;
-use static_rule::{Broken, blame};
+use static_rule::{Broken, blame, rule};
 use std::alloc::{AllocError, Global};
 use syntax_tree::{Activation, Decl, Place, Proc};
 
@@ -106,7 +106,7 @@ fn event(first: &mut Option<Broken>, uses: &Uses, decl: &Decl)
         noted (event_rules g) first.old (events (placed_decl decl.now ∷ rest)) }
 {
     if let Decl::Event { place, .. } = decl {
-        blame(first, 37, misused(uses, *place));
+        blame(first, rule::EVENT_USE, misused(uses, *place));
     }
 }
 

@@ -13,7 +13,7 @@ ghost use Rattle.static_numbers.specs.Seen.{Tries, HasValues};
 
 use indexmap::IndexSet;
 use static_declarations::Declarations;
-use static_rule::{Broken, blame};
+use static_rule::{Broken, blame, rule};
 use std::alloc::{AllocError, Global};
 use syntax_tree::{Constant, Decl, Handler, Place};
 
@@ -76,8 +76,8 @@ fn number(
         ((before : List (SpecConstant SpecPlace)) → HasValues worth values.old.keys before →
         HasValues worth values.new.keys (before ++ placed_constant number.now ∷ [])) }
 {
-    blame(first, 35, repeated(declarations, values, number)?);
-    blame(first, 39, bad_number(declarations, number));
+    blame(first, rule::WRONG_HANDLER, repeated(declarations, values, number)?);
+    blame(first, rule::WRONG_NUMBER, bad_number(declarations, number));
     Ok(())
 }
 

@@ -9,5 +9,6 @@
 #![tactic(auto)]
 
 mod broken;
+pub mod rule;
 
 pub use broken::{Broken, blame, sooner};

@@ -16,7 +16,7 @@ use crate::conduct::{
 };
 use crate::types::{answer_agrees, stmt_agrees};
 use static_declarations::{Declarations, Where};
-use static_rule::{Broken, blame};
+use static_rule::{Broken, blame, rule};
 use syntax_tree::{Expr, Place, Scalar, Stmt};
 
 /// The place of a statement, which is that of its first token.
@@ -72,14 +72,14 @@ pub fn try_stmt(first: &mut Option<Broken>, declarations: &Declarations<'_>, her
     ensures { first.new ≡ note (statement_rules (placed declarations.now)) first.old
         (statement here (placed_stmt s.now)) }
 {
-    blame(first, 30, mistyped(declarations, s));
-    blame(first, 32, crossed_loop(declarations, s));
-    blame(first, 32, endless_loop(declarations, s));
-    blame(first, 33, long_loop(declarations, s));
-    blame(first, 34, misplaced(declarations, here, s));
-    blame(first, 38, misdirected(declarations, s));
-    blame(first, 39, bad_number(declarations, s));
-    blame(first, 45, bad_limit(declarations, s));
+    blame(first, rule::WRONG_TYPE, mistyped(declarations, s));
+    blame(first, rule::CROSSED_BOUNDS, crossed_loop(declarations, s));
+    blame(first, rule::CROSSED_BOUNDS, endless_loop(declarations, s));
+    blame(first, rule::LONG_LOOP, long_loop(declarations, s));
+    blame(first, rule::MISPLACED, misplaced(declarations, here, s));
+    blame(first, rule::WRONG_DIRECTION, misdirected(declarations, s));
+    blame(first, rule::WRONG_NUMBER, bad_number(declarations, s));
+    blame(first, rule::WAIT_LIMIT, bad_limit(declarations, s));
 }
 
 /// Tries the rules on the result of a function, by the place of its name.
@@ -95,9 +95,9 @@ pub fn try_answer(
         (answer name (placed_scalar kind.now) (placed_expr value.now)) }
 {
     if !answer_agrees(declarations, kind, value) {
-        blame(first, 30, Some(name));
+        blame(first, rule::WRONG_TYPE, Some(name));
     }
     if answer_strays(declarations, value) {
-        blame(first, 34, Some(name));
+        blame(first, rule::MISPLACED, Some(name));
     }
 }

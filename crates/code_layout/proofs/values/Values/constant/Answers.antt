@@ -3,8 +3,8 @@ use Rattle.std.proofs.lemmas.Int.{to_z-of_z}
 use Rattle.source_semantics.specs.Names.{constants, value_among}
 use Rattle.syntax_tree.specs.Placed.{placed, plain}
 use Rattle.syntax_tree.specs.declared.decl.Prog.{Prog}
-use Rattle.code_layout.specs.Values.{kept_worth}
-use Rattle.code_layout.proofs.Worths.{worth-value}
+use Rattle.static_declarations.specs.Seen.{kept_worth}
+use Rattle.static_declarations.proofs.Tables.{worth-value}
 use Rattle.code_layout.proofs.values.Values.constant.Goals as goal
 
 pub returns-clause-exact : goal.returns-clause-exact

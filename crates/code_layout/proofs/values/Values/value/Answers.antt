@@ -3,8 +3,8 @@ use Rattle.std.proofs.lemmas.Int.{to_z-of_z}
 use Rattle.source_semantics.specs.Names.{constant_value}
 use Rattle.syntax_tree.specs.Placed.{placed, placed_constant, plain, plain_constant}
 use Rattle.syntax_tree.specs.declared.decl.Prog.{Prog}
-use Rattle.code_layout.specs.Values.{amount}
-use Rattle.code_layout.proofs.Worths.{amount-value}
+use Rattle.static_declarations.specs.Seen.{amount}
+use Rattle.static_declarations.proofs.Tables.{amount-value}
 use Rattle.code_layout.proofs.values.Values.value.Goals as goal
 
 pub returns-clause-exact : goal.returns-clause-exact

@@ -1,7 +1,0 @@
-use Rattle.std.proofs.Common.{◌≡◌, map, drop}
-use Rattle.syntax_tree.specs.Placed.{placed_decl, plain_decl}
-use Rattle.code_layout.specs.Values.{kept_worth, with_decls, no_worth}
-use Rattle.code_layout.proofs.values.kept_values.Given as goal
-
-abbrev pub invariant-loop-decl : goal.invariant-loop-decl
-invariant-loop-decl l = with_decls (kept_worth l.kept.entries) (map plain_decl (map placed_decl (drop l.decl-index l.decls))) ≡ with_decls no_worth (map plain_decl (map placed_decl l.decls))
