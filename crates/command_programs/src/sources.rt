@@ -3,9 +3,7 @@
 //!
 //! `compile` says what the answers mean; `specs/Runnable.antt` says of them that an image that
 //! is built can be run over each script for its names and stored, and that a report has a name for
-//! each row. The law on built images is passed on.
-//!
-//! Program texts judged.
+//! each row.
 
 ghost use Rattle.std.specs.Prelude.{◌≡◌, ◌≤◌, ℕ, List, IfOk};
 ghost use Rattle.syntax.specs.Tokens.{longest_text};
