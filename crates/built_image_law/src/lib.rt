@@ -1,4 +1,4 @@
-//! Laws of what is built: one shape, one image, timely or late, in its limits.
+//! Laws of what is built: one shape, one image, timely or late.
 //!
 //! `filled`: what does not depend on ranks and bounds, and that a program is timely exactly where
 //! each least bound is there. `built_once`: one image, one table. `built_scripts`, `built_limits`,

@@ -1,4 +1,4 @@
-//! Values of constants, words of variables, and what a name means in a text.
+//! Values of constants, words of variables, what names mean.
 //!
 //! Values are those of the source meaning, words those of the relation of code and text. `laid_..`
 //! lay the variables of a text one after the other, `Tables` answers what is the same in all texts,

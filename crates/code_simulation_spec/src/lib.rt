@@ -1,4 +1,4 @@
-//! When code stands for the calls that a process has in progress.
+//! When code stands for the calls in progress of a process.
 //!
 //! The family Compiler correctness: laws, with nothing to run. What the generator makes is the code
 //! of the program (`codegen_law`); such code does what the meaning says, one process

@@ -1,4 +1,4 @@
-//! What the generator is told, and the code that it makes of each form.
+//! What the generator is told, and what it makes of each form.
 //!
 //! `specs/Told.antt` says what of names the generator is told, `specs/Made.antt` what it makes of
 //! expressions and statements, code with the segments beside it, `specs/Parts.antt` of routines,

@@ -1,4 +1,4 @@
-//! Acts, statuses, lines of faults, and what statuses 0 and 3 promise.
+//! Acts, statuses, fault lines; what statuses 0 and 3 promise.
 //!
 //! `specs/Files.antt` says which files a call reads and writes and what is due of it by what they
 //! hold, `specs/Went.antt` what each status says of the call, `specs/Acts.antt` what an act comes

@@ -1,4 +1,4 @@
-//! Commands that read an image or its text: run, watch, migrate, asm, dis.
+//! Reads an image or its text: run, watch, migrate, asm, dis.
 //!
 //! `load` gives the valid image of the bytes of a file, `load_text` that of a text, or the first
 //! fault, of the bytes or the text, else of validity (`specs/Loading.antt`, `specs/Telling.antt`).

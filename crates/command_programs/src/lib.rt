@@ -1,4 +1,4 @@
-//! Commands that read a program: go, check, json, slack, print, compile.
+//! Reads a program: go, check, json, slack, print, compile.
 //!
 //! `sources` judges program texts: compiled to an image that can be run and stored, or read
 //! whatever their time. `slack_text` puts just the lines that tell how many ticks each process can

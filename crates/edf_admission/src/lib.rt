@@ -1,4 +1,4 @@
-//! Images from any hand that may run under earliest deadline first.
+//! Images from any hand that may run under deadlines.
 //!
 //! An `EdfImage` is a `Shape` of `image_loaded` without a WAIT instruction, whose dispatches take
 //! no ticks, and whose demand the test says is met. `EdfImage::admit` gives one exactly of such a

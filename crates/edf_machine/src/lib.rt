@@ -1,4 +1,4 @@
-//! The choice, the machine and its log, under earliest deadline first.
+//! The choice, the machine and its log, under deadlines.
 //!
 //! A `Mark` is what the choice knows of a process: when its activation is due, and whether it has
 //! had a tick (`specs/Marks.antt`). `choose` gives the process that the meaning chooses, by one

@@ -1,4 +1,4 @@
-//! The machine under earliest deadline first with ceilings; its safety.
+//! The machine under deadlines with ceilings; its safety.
 //!
 //! The family Earliest deadline first: the other dispatch, for programs without waits.
 //! `edf_semantics` and `edf_timing` say what its runs are and that deadlines are met, `edf_machine`

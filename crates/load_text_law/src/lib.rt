@@ -1,4 +1,4 @@
-//! Laws: the load's text has its tree, its script is one; its numbers keep the rules.
+//! Law: the load's texts have their tree and script; numbers keep the rules.
 //!
 //! `load_text_law`: the text of the program is short enough, and its tree is the load's, places
 //! aside. `load_script_law`: the script is one for its names. `load_limits_law`: no rule for

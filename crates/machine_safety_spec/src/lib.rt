@@ -1,4 +1,4 @@
-//! When a state of the machine is safe, and when an image fits its trees.
+//! When a state is safe; when an image fits its trees.
 //!
 //! `specs/` defines code that is of its segment tree (`Part`, `Walk`), what is still to be done in
 //! a frame (`Path`), a process with its calls in progress (`Job`), the state (`Safe`, `Whole`),

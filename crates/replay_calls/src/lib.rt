@@ -1,4 +1,4 @@
-//! Variables that a call has in reach, and what names stand for in its text.
+//! Variables that a call has in reach; what names stand for.
 //!
 //! `specs/Reach.antt` says which memory of the source meaning a `Memory` stands for. Each function
 //! equals the one of that meaning: what a name or an element is worth, stores, the variables of a

@@ -1,4 +1,4 @@
-//! The configuration of a running program, its changes, and who is to act.
+//! The configuration of a program, its changes, who is to act.
 //!
 //! The family Replay: the source meaning in code, by which a log is judged. `replay_state` keeps a
 //! configuration; `replay_due_events`, `replay_values`, `replay_calls` and `replay_next` find what

@@ -1,4 +1,4 @@
-//! The processor demand test of earliest deadline first, and its theorem.
+//! The demand test of earliest deadline first, and its theorem.
 //!
 //! `specs/Demand.antt` defines the demand of tasks in a length of time, and what the test answers:
 //! feasible, late or too many points (Baruah, Rosier and Howell). The calls answer exactly that.

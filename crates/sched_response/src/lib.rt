@@ -1,4 +1,4 @@
-//! Task sets, the recurrence, least bounds; ranks, ceilings, blocking.
+//! The recurrence, least bounds; ranks, ceilings, blocking.
 //!
 //! The family Schedulability: the analysis, over numbers of tasks, and its theorems, over abstract
 //! runs. `sched_response` has the model and finds the least bounds, `sched_theorem` proves that

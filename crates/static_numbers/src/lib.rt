@@ -1,4 +1,4 @@
-//! Rules for declarations: bounds, frames, deadlines, handlers, counts.
+//! Rules for declarations: bounds, frames, deadlines, counts.
 //!
 //! `specs/Rules.antt` lists the rules by number: bounds of types (`specs/Types.antt`), frames,
 //! deadlines, first activations, events and the numbers of handlers (`specs/Processes.antt`), how

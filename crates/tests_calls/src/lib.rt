@@ -1,4 +1,4 @@
-//! Calls of the top over files in memory; the programs that tests share.
+//! Calls of the top over files in memory; programs to share.
 //!
 //! What is known of these programs and images was found outside. The other rooms of tests call the
 //! top through `call`, `call_with`, `call_beside` and `call_on_image`, which place the files, say

@@ -1,4 +1,4 @@
-//! Tests of images: stored, run, migrated, told, changed, cut, hostile.
+//! Tests of images: stored, run, told, changed, cut, hostile.
 //!
 //! Through the top call; and through the loader the worked images with single bytes changed
 //! (`changed_bytes`), and the parts of a loaded image (`references`).

@@ -1,4 +1,4 @@
-//! When an image is valid, and the fault of one that is not; its tasks.
+//! When an image is valid, and the fault of another; its tasks.
 //!
 //! An image is numbers from any hand. It is valid where each of seven tests passes. Each test is a
 //! function of the image to its first fault, with the two numbers that are shown, so that one

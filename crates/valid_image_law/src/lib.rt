@@ -1,4 +1,4 @@
-//! Law: every valid image is safe and in time; worst costs are over all paths.
+//! Law: every valid image is safe and in time; costs are over all paths.
 //!
 //! `valid_law`: a valid image whose numbers are in the ranges of their fields is never stuck,
 //! within its sizes, apart in its monitors, and in time, whoever made it; it joins `machine_safety`

@@ -1,4 +1,4 @@
-//! The machine's meaning over whole stretches of ticks; what is seen of it.
+//! The machine's meaning over many ticks at once; what is seen of it.
 //!
 //! `stretch`: what many ticks come to at once, while nothing starts. `picks`: who is picked stays
 //! so. `start_laws`: only what is due in its slot starts.

@@ -1,4 +1,4 @@
-//! Law: rules for statements and calls give those that are well formed.
+//! Law: rules for statements and calls give well-formed ones.
 //!
 //! `wellformed_statements`: where no rule for names and statements fails, the statements and
 //! results of each text fit as the meaning sees it. `wellformed_calls`: where no routine reaches
