@@ -18,8 +18,8 @@
 #   idle 64                  64 processes released at one tick, again and again, up to tick 1,000,000
 #   events 64                64 events at one tick, again and again, 896,000 in all
 #   image, text, script 1 G  files of 1 GiB; `endless`: one that never ends
-#   full                     a text of 64 processes, the first three of which use the whole processor: the one that takes minutes, since
-#                            the iterates of its recurrences go up to a deadline of 1,000,000,000 ticks in small steps
+#   full                     a text of 64 processes, the first three of which use the whole processor: the search for a least bound
+#                            begins where its work fits what they leave, so its recurrences take 4 evaluations
 #
 # Each line tells the bytes of what is read, seconds of the processor, KiB, and the first line that was put; the status is 1
 # where that is not the one that is due.

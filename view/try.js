@@ -14,7 +14,7 @@ new Function("module", script)(box);
 const logic = box.exports;
 
 const built = process.argv[2];
-const examples = path.join(__dirname, "..", "examples");
+const examples = path.join(__dirname, "..", "crates", "guide", "data");
 const room = mkdtempSync(path.join(tmpdir(), "timeline-"));
 
 /** What `go` puts for a program text and a script. */

@@ -1,12 +1,9 @@
-//! Reader of each line.
-//!
-//! The lines of an image's text, each as it is read.
+//! The reader of each kind of line of an image's text.
 //!
 //! `specs/` says of each kind of line what reading gives: the part of an image that it tells, or
 //! the fault of the line, 1 where it is in no form and 2 where a number or a name of it is out of
-//! its range. The names of parts that came before are `taken`; the events that earlier processes
-//! have are
-//! `used`.
+//! its range. `taken` are the names of the parts before, `used` the events that earlier processes
+//! have. Each reader answers exactly that.
 #![tactic(auto)]
 
 mod form;

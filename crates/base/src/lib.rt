@@ -1,10 +1,13 @@
-//! Words, operations, capped costs; `Event`, `Act`.
+//! Words, operations, capped costs; events.
 //!
-//! Numbers: checked words of 32 bits, and numbers that are capped.
+//! The family Ground: what both meanings, the analysis and the outside share, and what knows no
+//! program. `base` has numbers and events, `outside` files and output, `text_fields` the fields of
+//! a line.
 //!
-//! Its definitions are what each operation of the language makes of its operands, a word or an
-//! exception, and the cap. It promises that each call gives the exact value, or the exception
-//! exactly by the rule, and takes no memory.
+//! Defined are what each operation of the language makes of its operands, a word or an exception
+//! (`specs/Words.antt`), and the cap of costs (`specs/Capped.antt`). An `Event` is an `Act` of one
+//! process at a tick. Each call promises the exact value, or the exception exactly by the rule, and
+//! takes no memory.
 #![tactic(auto)]
 
 mod capped;

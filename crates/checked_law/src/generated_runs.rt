@@ -1,10 +1,7 @@
-//! Law: what the generator makes of a checked program does what the program says.
+//! Law: what the generator makes of a checked program is its code.
 //!
-//! `specs/Runs.antt` has it: of a checked program that is not too large, an image that holds what
-//! is made is its code, and the code of each process does, step by step, what the meaning of
-//! programs says. What `checked_law::checked` knows of a checked program is passed on. Nothing here can run.
-//!
-//! The laws.
+//! `specs/Runs.antt` has it, of a checked program that is not too large. That this code does what
+//! the program says is a law of `code_correct`. Nothing here can run.
 
 ghost use Rattle.checked_law.specs.Runs.{CheckedCodeIsCode};
 

@@ -1,9 +1,9 @@
-//! Cost, height, length of the tree.
+//! Cost, height and length of a program, told of its tree.
 //!
-//! The cost and the sizes of a program, told of its tree alone: ticks of execution, ticks of
-//! suspension and waits of each form, heights, numbers of instructions, and words.
-//!
-//! The definitions stand in `specs/`; `costs` shows them of an example. Nothing here can run.
+//! `specs/Costs.antt` has the ticks of execution, ticks of suspension and waits of each form,
+//! `specs/Heights.antt` words of stack, `specs/Lengths.antt` numbers of instructions, and
+//! `specs/Levels.antt` all of a whole program, a routine's after those that it calls. The law
+//! `costs` shows them of an example. Nothing here can run.
 #![tactic(auto)]
 
 pub mod costs;

@@ -1,15 +1,9 @@
-//! Words of variables, lookups.
+//! Values of constants, words of variables, what names mean.
 //!
-//! What constants are worth, and where variables lie.
-//!
-//! Values are those of the meaning of programs (`constant_value`), words those of the relation of
-//! code and text (`places_from`, `param_places`, `words_of`). `specs/LayoutTables.antt` says what
-//! contracts see of the tables.
-//!
-//! What the generator asks of names, in constant expected time.
-//!
-//! `Tables` answers what is the same in all texts of a program: constants, devices, callees.
-//! `laid_*` lay the variables of a text, and `variable` finds the variable that a name means in it.
+//! Values are those of the source meaning, words those of the relation of code and text. `laid_..`
+//! lay the variables of a text one after the other, `Tables` answers what is the same in all texts,
+//! and `variable` finds the variable that a name means in one. Each gives just what `code_spec`
+//! says, in constant expected time; that tables tell it is a law (`lookup`).
 #![tactic(auto)]
 
 mod callees;

@@ -1,9 +1,9 @@
-//! Name tables, numbering callees first.
+//! Tables of names; the numbers of routines, callees first.
 //!
-//! The numbers of routines and entries: callees come first.
-//!
-//! The order is that of `code_spec` (`numbered` of its `specs/Numbering.antt`); `specs/Texts.antt`
-//! says what contracts see of the code's texts.
+//! `NameList` finds the first of a name in constant expected time (`specs/First.antt`). `Numbering`
+//! gives routines and entries their numbers, in the order of `numbered` of `code_spec`; `Directory`
+//! tells which routine a call names. `specs/Texts.antt` says what contracts see of the texts of a
+//! program.
 #![tactic(auto)]
 
 mod calls;

@@ -1,20 +1,9 @@
-//! Simulation, one process.
+//! Law: the code of one process does, step by step, what its text says.
 //!
-//! Lemmas on the code of expressions: it comes to their values, or to the exceptions that they
-//! raise.
-//!
-//! `specs/Known.antt` says what is known of the routines that a text calls. The lemmas go through
-//! loads, operators, arguments and function calls; the law of one process stands on them.
-//!
-//! Lemmas on the code of a store: with its checks of index and range it comes to the memory that
-//! the meaning has after the store, or to the exception that it raises. The law of one process
-//! stands on them.
-//!
-//! Lemmas on the code of statements: it comes, without an act on the way, to the next act that the
-//! meaning gives, with the calls that remain. The law of one process stands on them.
-//!
-//! Lemmas on calls at every depth, and on what remains of the calls in progress after an act. The
-//! law of one process stands on them.
+//! `faithful` is the law of one process (`specs/Process.antt`), with the lemmas on expressions,
+//! stores, statements and calls at every depth that it stands on; `linked` gives its premises of an
+//! image that is the code of a program. `specs/Known.antt` says what is known of the routines that
+//! a text calls. Nothing here can run.
 #![tactic(auto)]
 
 pub mod faithful;

@@ -1,13 +1,9 @@
-//! E46, E47.
+//! The rules of size: too many instructions (E46), too large a stack (E47).
 //!
-//! Whether a program is too large, told of its measures before its code is made.
-//!
-//! `code_size::size_rules` says where the two rules of size fail: for the number of instructions, and for
-//! the stacks of routines and processes. `specs/Told.antt` says what the measures tell of them, and
-//! `specs/Numbers.antt` what is asked of the numbers of routines.
-//!
-//! Promised: where the measures are those that `code_cost` defines, `too_large` gives the failure
-//! that comes first, and `None` exactly where neither rule fails.
+//! `specs/Rules.antt` says where the two rules fail, `specs/Told.antt` what the measures tell of
+//! them, before any code is made. Where the measures are the defined ones, `too_large` gives the
+//! failure that comes first, and `None` exactly where neither rule fails. `size_rules` has programs
+//! at the limits.
 #![tactic(auto)]
 
 mod lengths;

@@ -1,13 +1,9 @@
-//! Generator.
+//! The code generator: instructions and segment trees.
 //!
-//! The code generator: instructions and segment trees of expressions and statements.
-//!
-//! Promised: where there is memory, each call makes just what `codegen_spec` says of its form.
-//!
-//! The code of a program: all routines and entries by number, then all processes.
-//!
-//! Promised: where there is memory, `generate` makes just what `codegen_spec` says of the program
-//! (`program_made`), in one pass.
+//! `Out` makes the code of expressions and statements, `generate` that of a program, all routines
+//! and entries by number and then all processes, in one pass; `texts` does so from the program
+//! alone, with its measures. Promised: where there is memory, each makes just what `codegen_spec`
+//! says of its form.
 #![tactic(auto)]
 
 mod expr;

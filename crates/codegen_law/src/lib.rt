@@ -1,4 +1,8 @@
-//! Generated is code of the text, has its length, fits.
+//! Law: what the generator makes is the code of the text, and fits.
+//!
+//! `made_right`: the code and the segments that are made of a text are those of the relation of
+//! `code_spec`. `made_whole`: so is the code of a program, in an image that holds it. `made_fits`:
+//! no number of a well-formed program is cut off where it becomes an operand. Nothing here can run.
 #![tactic(auto)]
 
 pub mod made_fits;

@@ -1,11 +1,10 @@
-//! What is generated of each form; `Holds`.
-//!
-//! What the generator asks about names, what it has made so far, and what it makes of a program.
+//! What the generator is told, and what it makes of each form.
 //!
 //! `specs/Told.antt` says what of names the generator is told, `specs/Made.antt` what it makes of
-//! expressions and statements, the code with the segments beside it, and `specs/Parts.antt` what it
-//! makes of routines, processes and a program. The definitions alone stand here, with the traits
-//! that the generator asks.
+//! expressions and statements, code with the segments beside it, `specs/Parts.antt` of routines,
+//! processes and a program, and `specs/Held.antt` when an image holds what is made (`Holds`). The
+//! traits `Lookup` and `Lookups`, which the generator asks, and the types of what it makes stand
+//! here.
 #![tactic(auto)]
 
 mod code;

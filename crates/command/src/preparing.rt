@@ -1,12 +1,9 @@
 //! What is due of a command, prepared: files are read, texts are judged, and what is left is an
 //! act.
 //!
-//! `command_answers` says what is due of a call (`IsDue`) and what an act comes to (`outcome_of`);
-//! `command_answers` what each answer of `prepare` means (`Prepares`): an act that comes to what is
-//! due, and that the machine can run; or a read that failed. Nothing is stored or put here. The law
-//! on built images is passed on, and so are the words of `Prepares`.
-//!
-//! Preparing.
+//! `command_answers` says what is due of a call (`IsDue`), what an act comes to (`outcome_of`), and
+//! what each answer of `prepare` means (`Prepares`): an act that comes to what is due, and that the
+//! machine can run; or a read that failed. Nothing is stored or put here.
 
 ghost use Rattle.std.specs.Prelude.{◌≤◌};
 ghost use Rattle.outside.specs.Outside.{AllStay, NoneFell};

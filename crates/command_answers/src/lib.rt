@@ -1,30 +1,15 @@
-//! Acts, statuses, promise; files judged.
+//! Acts, statuses, fault lines; what statuses 0 and 3 promise.
 //!
-//! What a call of the command is due, what it did, and what is left of it when all is read and
-//! judged.
+//! `specs/Files.antt` says which files a call reads and writes and what is due of it by what they
+//! hold, `specs/Went.antt` what each status says of the call, `specs/Acts.antt` what an act comes
+//! to: an act is what is left of a call when all is read and judged.
 //!
-//! Definitions, and the exit status of each `Status`. `specs/Files.antt` says which files a call
-//! reads and writes and what is due of it by what they hold, `specs/Went.antt` what each status
-//! says of the call, `specs/Acts.antt` what an act comes to.
+//! `specs/Promise.antt` and `specs/Runs.antt` are the sentence that the top call carries: what
+//! statuses 0 and 3 say of texts, images, scripts and runs.
 //!
-//! The sentence that the top call carries: what statuses 0 and 3 say of texts, images and scripts.
-//!
-//! Definitions alone. Of a program text that is accepted, whatever it says: its image is stored,
-//! its report and the log of that image over the script are put, every such log is that of a run of
-//! the program, every activation ends within its declared bound, no process passes its sizes, and
-//! none is stuck. What `slack` puts is what its processes can spare. A program is refused for time
-//! exactly where the recurrence of some process has no solution within its deadline.
-//!
-//! What is promised of runs under earliest deadline first.
-//!
-//! Definitions alone: `specs/Runs.antt`.
-//!
-//! What the files of a call hold: read, judged as scripts, and refused by a line that is put.
-//!
-//! What is promised of a content (`specs/Contents.antt`) holds for each text that it can be, so for
-//! the one in the file: judging is apart from reading. `specs/Prepared.antt` says what it means that
-//! an act is prepared for a call, or that a read failed; `specs/Runnable.antt` what a run asks of an
-//! image, `specs/Scripted.antt` what is due of a script's text. Nothing is stored or put here.
+//! The calls read files, judge scripts, and write the lines of faults. What is promised of a
+//! content (`specs/Contents.antt`) holds for each text that it can be, so for the one in the file.
+//! `specs/Prepared.antt` says what it means that an act is prepared, or that a read failed.
 #![tactic(auto)]
 
 mod act;

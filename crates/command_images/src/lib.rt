@@ -1,18 +1,10 @@
-//! Run, watch, migrate, asm, dis.
+//! Reads an image or its text: run, watch, migrate, asm, dis.
 //!
-//! Valid images in files: from the bytes of a file, or from a text, to the image, or to the fault.
+//! `load` gives the valid image of the bytes of a file, `load_text` that of a text, or the first
+//! fault, of the bytes or the text, else of validity (`specs/Loading.antt`, `specs/Telling.antt`).
 //!
-//! `command_due` says when bytes are those of a valid image (`IsImageFile`), `command_due` when a
-//! text is that of an image (`IsTextOf`). `specs/Loading.antt` says what each answer of `load`
-//! means, `specs/Telling.antt` what each of `load_text` does: a fault of the bytes or of the text,
-//! or else of validity, is the first one.
-//!
-//! What is due of a command that reads an image or its text, prepared: `run`, `watch`, `migrate`,
-//! `asm` and `dis`.
-//!
-//! `command_answers` says what is due of a call (`IsDue`) and what an act comes to, `command_answers` what
-//! it means that an act is prepared. Each call promises an act that comes to what is due, and that
-//! the machine can run; or a read that failed.
+//! For each of the five commands a call promises an act that comes to what is due (`command_due`),
+//! and that the machine can run; or a read that failed (`Prepared` of `command_answers`).
 #![tactic(auto)]
 
 mod images;

@@ -1,17 +1,11 @@
-//! Go, check, json, slack, print, compile.
+//! Reads a program: go, check, json, slack, print, compile.
 //!
-//! The lines that tell how many ticks each process of a valid image can spare.
+//! `sources` judges program texts: compiled to an image that can be run and stored, or read
+//! whatever their time. `slack_text` puts just the lines that tell how many ticks each process can
+//! spare (`IsSlackText` of `command_due`).
 //!
-//! Their definition is `IsSlackText` of `command_due`: for each process the most ticks by which its
-//! run can grow while each process keeps a bound, these bounds, and the process that fails with one
-//! tick more. It promises exactly these lines.
-//!
-//! What is due of a command that reads a program, prepared: `go`, `check`, `json`, `slack`, `print`
-//! and `compile`.
-//!
-//! `command_answers` says what is due of a call (`IsDue`) and what an act comes to, `command_answers` what
-//! it means that an act is prepared. Each call promises an act that comes to what is due, and that
-//! the machine can run; or a read that failed. The law on built images is passed on.
+//! For each of the six commands a call promises an act that comes to what is due, and that the
+//! machine can run; or a read that failed (`Prepared` of `command_answers`).
 #![tactic(auto)]
 
 mod bounds;

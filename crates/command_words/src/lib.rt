@@ -1,10 +1,13 @@
-//! Words.
+//! What words ask for: a command, or a load.
 //!
-//! What words ask for: a command, or a load that is to be made.
+//! The family Commands: from words to a status. `command_words` reads the words; `command_due` says
+//! what is due of each command, `command_answers` what a call did; `command_programs`,
+//! `command_images`, `replay` and `edf_command` prepare it, `command_perform` does it, `command` is
+//! the top call and `rte` `main`.
 //!
-//! Its definitions, of `specs/Words.antt`, are one table of the commands with the words that each
-//! takes, `row_of`, and the row of `make`, `IsMake`. It promises that what the words ask for is
-//! their row, and that words are refused exactly where they are in no row.
+//! `specs/Words.antt` is one table of the commands with the words that each takes, `row_of`, and
+//! the row of `make`, `IsMake`. What the words ask for is their row, and words are refused exactly
+//! where they are in no row.
 #![tactic(auto)]
 
 mod making;

@@ -1,20 +1,10 @@
-//! Image put together.
+//! The image put together, all but its times.
 //!
-//! The names of a program's parts, as an image has them: of its processes and monitors, of its
-//! conditions with their monitors, of its devices with their directions, and of its events with the
-//! frame of the process that they release.
-//!
-//! `built_image` defines them (`names_of`); `specs/Released.antt` says how the frame of an event is
-//! found. Promised: `image_names` gives exactly these names.
-//!
-//! The image of a program, put together from its code and its measures: all but ranks, ceilings,
-//! blocks and bounds, which are 0 here.
-//!
-//! `specs/Fields.antt` says what is asked of the code and of the numbers (`HasParts`,
-//! `FitsFields`),
-//! `specs/Told.antt` what is put into the image. Promised: the image holds the code with the words
-//! and the tables of the text (`Holds`), declares the costs and stacks that are defined of it
-//! (`Declares`), and has the name, the names and the overhead.
+//! `image_names` gives the names of a program's parts as `built_image` defines them. `assemble`
+//! puts the image together from code and measures: it holds the code with the words and tables of
+//! the text (`Holds`), declares the costs and stacks that are defined of it (`Declares`), and has
+//! names and overhead; ranks, ceilings, blocks and bounds are 0 here. `specs/Fields.antt` says what
+//! is asked of the numbers.
 #![tactic(auto)]
 
 mod counts;

@@ -1,19 +1,10 @@
-//! Ranks, ceilings, bounds filled in.
+//! Ranks, ceilings, blocks and least bounds, filled in; the table.
 //!
-//! The ranks, ceilings and blocks of an image, filled in.
-//!
-//! Ranks go by deadlines (Leung and Whitehead): the shorter one ranks higher, and the first of two
-//! that are as long. The ceiling of a monitor is the highest rank of the processes that enter it,
-//! and the block of a process the longest stay of a lower one in a monitor whose ceiling is at
-//! least its rank (immediate ceilings). The definitions are `HasRanks` of `code_measures::whole`. All else
-//! stays as it is but for bounds: each is the deadline until the least one is known.
-//!
-//! The least bounds of an image whose ranks are set, and the table that is shown of it.
-//!
-//! A bound is the least number of ticks that meets the recurrence of the rank within the deadline
-//! (Burns and Wellings), and none where no number does: `AreLeast` of `built_image`. `bounds` finds
-//! them,
-//! `with_bounds` fills them in, and `table` lists them with what the image declares: `table_of`.
+//! `rank` fills in ranks by deadlines (Leung and Whitehead), immediate ceilings, and blocks: the
+//! longest stay of a lower process in a monitor whose ceiling is at least the rank (`HasRanks` of
+//! `code_measures`). `bounds` finds the least bound of each process within its deadline, and none
+//! exactly where there is none; `with_bounds` fills them in, `table` lists them with what the image
+//! declares.
 #![tactic(auto)]
 
 mod copies;

@@ -1,9 +1,7 @@
-//! Text of an image.
-//!
 //! The text of an image.
 //!
 //! `dis` gives the lines that `asm_format` defines, of every image whose processes and monitors
-//! have names.
+//! have names, valid or not.
 #![tactic(auto)]
 
 mod dis_image;

@@ -1,25 +1,11 @@
-//! Demands, verdict, report, `edf`.
+//! What is due of `edf`: demands, verdict, report.
 //!
-//! The image of a program under earliest deadline first, and what the test of the demand says of
-//! it.
+//! All is defined in `command_due`. `shape` gives the image of a program under this dispatch,
+//! `demands` its tasks, `judge_program` what the test says of them; `first_wait` finds the first
+//! wait statement, `report` writes the report. Each call promises exactly these.
 //!
-//! Both are defined in `command_due`: the image has the code, the costs and the ranks that the
-//! compiler gives without overhead, and each bound is the deadline; the tasks are its processes in
-//! the order of ranks. `shape` gives the image of every program that is not too large, `demands`
-//! its tasks; no answer is left for tasks that are no set. `specs/Steps.antt` says what the answers
-//! mean, `specs/Listed.antt` has the tasks as a list.
-//!
-//! Whether a program waits, and the report on one under earliest deadline first.
-//!
-//! Both are defined in `command_due`: the first wait statement by place (`IsFirstWait`), and the
-//! report on an image of which the test of the demand has told something (`edf_report`). The calls
-//! promise exactly these. Each goes once through the program.
-//!
-//! What is due of `edf`, prepared.
-//!
-//! `command_due` says what is due of the texts of a program and of a script, and `command_answers` what
-//! it means that an act is prepared. The program is read, its first wait statement is looked for, and
-//! the demand of its image is judged; the script is read only where the demand is met.
+//! `prepare_edf` reads the program, looks for its first wait statement, judges its demand, and
+//! reads the script only where the demand is met.
 #![tactic(auto)]
 
 mod judged;

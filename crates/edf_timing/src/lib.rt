@@ -1,11 +1,9 @@
-//! Deadlines met; runs lifted.
+//! Law: where the demand is met, every activation ends by its deadline.
 //!
-//! Law: under earliest deadline first every activation ends by its deadline, where the test of the
-//! demand says that it is feasible.
-//!
-//! `specs/InTime.antt` has the premise, that the tasks tested are those of the image, and the law;
-//! `specs/Example.antt` two processes that meet it, although fixed ranks refuse them. The argument
-//! is that of `sched_demand::earliest`. Nothing here can run.
+//! `edf_timed`: by the argument of `sched_demand`, where the tasks tested are those of the image
+//! (`specs/InTime.antt`); `specs/Example.antt` has two processes that meet it, although fixed ranks
+//! refuse them. `edf_lifted`: the run of a compiled image is a source run in which any ready
+//! process may act. Nothing here can run.
 #![tactic(auto)]
 
 pub mod edf_lifted;

@@ -1,11 +1,10 @@
-//! Log lines written and read.
+//! The lines of a log, written and read.
 //!
-//! Reading a log: the events whose lines a text has.
-//!
-//! The text of an event is `line_of` in `event_log::lines`. `specs/Logs.antt` says which events the names of
-//! an image can tell, which text is the log of which events, and which line of a text is the first
-//! that tells none. `read_log` gives the events of a text, or that line, and `one_log` has the law
-//! that a text is the log of one list of events at most.
+//! `line_of` of `specs/Line.antt` is the line of an event, which `write_line` puts.
+//! `specs/Logs.antt` says which events the names of an image can tell, which text is the log of
+//! which events, and which line of a text is the first that tells none. `read_log` gives the events
+//! of a text, or that line; that a text is the log of one list of events at most is a law
+//! (`one_log`).
 #![tactic(auto)]
 
 mod act;

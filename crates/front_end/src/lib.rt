@@ -1,12 +1,11 @@
-//! Text to checked program, or its one fault.
+//! From a text to its checked program, or to its one fault.
 //!
-//! Program texts: from the bytes of a text to the program that keeps to all rules, or to its fault.
+//! `specs/Source.antt` says which tree a text has, and the fault of a text that has none, by
+//! groups: length; bytes, literals and identifiers; grammar and nesting. `specs/Program.antt` goes
+//! on with names and static rules.
 //!
-//! `specs/Source.antt` says which tree a text has, and what its fault is where it has none, by
-//! groups: its length; its bytes, literals and identifiers; its grammar and nesting.
-//! `specs/Program.antt` goes on with the names and the static rules: what a program text is, and
-//! what the fault of another text is. `read_tree` gives exactly that tree or such a fault, `read`
-//! exactly that program or such a fault. A text has one program or a fault, and never both.
+//! `read_tree` gives exactly that tree or fault, `read` exactly that program or fault. Laws: a text
+//! has one program at most, no fault where it has one, and one fault at most.
 #![tactic(auto)]
 
 mod fault;

@@ -1,5 +1,7 @@
-//! Documents, run. The words of the program are documents; behind each command that a document
-//! shows has to stand what that command puts, and behind each wrong line the fault that it has.
+//! Documents, run: each command and each wrong line that they show.
+//!
+//! The words of the program are documents; behind each command that a document shows has to stand
+//! what that command puts, and behind each wrong line the fault that it has.
 //!
 //! - In a block between lines of three back quotes, a line that begins with `$ ` is a command, and
 //!   the lines up to the next command or the block's end are what is shown of it. The commands are

@@ -1,11 +1,9 @@
-//! Image in memory, writer.
+//! An image in memory, and the bytes that are written of it.
 //!
-//! Images: the names of their parts, their declared numbers and their code, and the bytes that a
-//! file holds of them.
-//!
-//! `specs/Raw.antt` says what an image is to the machine, and `specs/Bytes.antt` which bytes it
-//! has.
-//! `write_image` gives exactly these bytes of every image whose counts fit their fields.
+//! `specs/Raw.antt` says what an image is to the machine: the names of its parts, its declared
+//! numbers and its code; `specs/Bytes.antt` which bytes it has. `write_image` gives exactly these
+//! of every image whose counts fit their fields. The bytes of two images are spelled out in
+//! `image_law`.
 #![tactic(auto)]
 
 mod image;

@@ -1,39 +1,14 @@
-//! Image kept as bytes; parts, places.
+//! An image kept as its bytes: references to its parts, and their places.
 //!
-//! Routines and processes as they stand in the bytes of an image, read where they begin.
+//! A reference (`RoutineRef`, `ProcRef`) holds the numbers of a part and borrows its trees;
+//! `specs/Fields.antt` says which bytes these are, `specs/Standing.antt` which part a reference
+//! stands for. Ranges are not asked again, and reading never fails: whoever calls knows which part
+//! the bytes begin with (`specs/Reads.antt`).
 //!
-//! A reference (`RoutineRef`, `ProcRef`) holds the numbers of a part and borrows its trees, which
-//! are gone over when they are asked for; it takes no memory. `specs/Fields.antt` says which bytes
-//! the numbers take, and `specs/Standing.antt` which routine or process a reference stands for: the
-//! one that the bytes are read as. The ranges of numbers are not asked for here, and reading never
-//! fails: whoever calls knows which part the bytes begin with.
-//!
-//! Parts of an image are read as they are written: their numbers fit their fields.
-//!
-//! The types of a part's numbers bound them, so that the fields of `image_bytes` hold them.
-//! `specs/Reads.antt` says what follows: the bytes that are written of a routine, a process or a
-//! monitor are read as this, whatever stands behind them. The calls do nothing; they tell a proof
-//! so of the part at hand.
-//!
-//! Where the parts of an image begin in the bytes that are written of it.
-//!
-//! The bytes of an image are its parts one after the other, each as long as its names, its numbers
-//! and its trees make it (`bytes_of` of `image`). So `places_of` takes the places from the image
-//! alone, by adding up lengths from the program's name on, and needs no bytes. What it
-//! gives is told by `AreOf` of `specs/Places.antt`: from the place of each monitor, routine and
-//! process this part is read, and from the place of the code each instruction stands in its 13
-//! bytes. That a part is read as it is written comes from `image_bytes`.
-//!
-//! A loop over parts knows nothing of bytes: it promises the place after the parts, and that in
-//! any bytes that have the parts where the loop began, each part is read at its place
-//! (`specs/Placing.antt`). No place wraps, since all of them are within the bytes.
-//!
-//! An image kept as its bytes.
-//!
-//! An `ImageBytes` holds the bytes of an image in version 2, its names, and the places where its
-//! parts begin. It is seen as the image with its names whose bytes these are (`specs/Kept.antt`).
-//! Its parts are read where they begin, and take no memory: the numbers of a routine or a process
-//! come in a reference that borrows the trees.
+//! `places_of` finds where parts begin from the image alone, by adding up lengths (`AreOf` of
+//! `specs/Places.antt`; `specs/Placing.antt` for one loop). An `ImageBytes` holds the bytes in
+//! version 2, the names and these places, and is seen as the image whose bytes they are
+//! (`specs/Kept.antt`).
 #![tactic(auto)]
 
 mod code;

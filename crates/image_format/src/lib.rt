@@ -1,23 +1,18 @@
-//! Byte formats; segment trees apart and as bytes.
+//! Formats of bytes; segment trees, apart and as bytes.
 //!
-//! Formats: what the bytes of a thing are, and what is wrong with bytes that are none of it.
+//! The family Images: what a file holds, when it is valid, and how it is loaded. `image` has the
+//! image in memory and its bytes, `image_reader` reads them, `valid_image` says what validity is,
+//! `loader_..` test it; `image_bytes` and `image_loaded` keep an image as its bytes.
 //!
-//! `specs/Format.antt` makes formats of fields, `specs/TreeFormat.antt` that of segment trees, and
-//! `specs/TreeBytes.antt` says which bytes a tree has. A format is sound (`specs/FormatLaw.antt`) where
-//! what is read is what is written, what is written is read, and what is cut ends inside a field;
-//! `proofs/` shows so of each that is made of sound ones, and of trees. Definitions and their laws,
-//! with the types of the faults of which they speak, and numbers as bytes are read as them, and as
-//! they are written to a buffer.
+//! `specs/Format.antt` makes formats of fields, `specs/TreeFormat.antt` that of segment trees. A
+//! format is sound (`specs/FormatLaw.antt`) where what is read is what is written, what is written
+//! is read, and what is cut ends inside a field; `proofs/` shows so of each that is made of sound
+//! ones, and of trees.
 //!
-//! Segment trees that stand in bytes: what the code of a part consists of, read where it is needed.
-//!
-//! A `SegBytes` borrows the bytes of a tree and takes no memory. The tree that it stands for is the
-//! one that these bytes are read as by the format of images (`specs/Stands.antt`); by
-//! `trees_read_are_written` of `image_reader_law::image_sound` it is the one tree whose bytes they are. Its items
-//! are the tree's segments from left to right, with a view of its own for each inner tree.
-//!
-//! A `SegTree` keeps the bytes of a whole tree, and contracts see it as that tree. It is made of
-//! segments or of bytes, and gives its segments, its bytes, or a view.
+//! A `SegTree` keeps the bytes of a whole tree, and contracts see it as that tree. A `SegBytes`
+//! borrows the bytes of one and takes no memory; its items are the tree's segments from left to
+//! right, with a view for each inner tree. `seg` has segments apart, as the compiler and the
+//! assembler put them together.
 #![tactic(auto)]
 
 mod at;

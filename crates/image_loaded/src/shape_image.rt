@@ -17,7 +17,7 @@ use std::alloc::Global;
 use std::marker::Model;
 use valid_image_law::valid_law::every_valid_image_is_safe_and_in_time;
 
-/// A valid image, whoever made it. The machine trusts this type alone.
+/// A valid image, whoever made it.
 #[derive(Drop)]
 pub struct Image {
     shape: Shape,

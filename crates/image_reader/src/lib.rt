@@ -1,11 +1,9 @@
-//! Reader.
-//!
-//! Images as they are read: the bytes of a file, in either version, or their first fault.
+//! The reader of image files, in both versions.
 //!
 //! `specs/Grammar.antt` and `specs/File.antt` say which fields an image has, in the order of its
-//! bytes, each with its range and the number of the fault where it is outside; a fault stands where
-//! its field begins, and fields are read from left to right, so the first one read is the one at
-//! the least offset. `read_image` answers exactly what these formats give.
+//! bytes, each with its range and the number of its fault. A fault stands where its field begins,
+//! and fields are read from left to right, so the first one is that at the least offset.
+//! `read_image` answers exactly what these formats give.
 #![tactic(auto)]
 
 mod counts;

@@ -1,4 +1,9 @@
-//! Round trip, one spelling, cut images, faults, ranges, names.
+//! Laws of image files: round trip, one spelling, faults, ranges, names.
+//!
+//! `image_sound`: what is read is what is written, and a cut image is none. `image_faults`: the
+//! fault that is told is the one that the bytes have, told without reading (`specs/Faults.antt`).
+//! `image_ranges` and `valid_limits`: what is read can be written, and its numbers are in their
+//! ranges. `read_names`: it has a name for each part. Nothing here can run.
 #![tactic(auto)]
 
 mod image_faults;

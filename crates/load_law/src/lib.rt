@@ -1,11 +1,9 @@
-//! No rule fails, never late.
+//! Law: no rule fails of the load, and it is never late.
 //!
-//! Definitions: what is claimed of the load.
-//!
-//! `specs/Rules.antt` says that its program keeps to all rules, whatever the places of its tree,
-//! `specs/Time.antt` that each of its processes responds within the shortest frame, and
-//! `specs/Texts.antt` what follows of its texts: they are those of a timely program, and of a script
-//! for its names.
+//! `specs/Rules.antt`, `specs/Time.antt` and `specs/Texts.antt` say what is claimed.
+//! `load_names_law`, `load_types_law` and `load_stacks_law` are the rules; `light` and `load_costs`
+//! the time: processes that each ask for a small share of the shortest frame respond within it.
+//! `load_laws` joins all. Nothing here can run.
 #![tactic(auto)]
 
 mod light;

@@ -1,19 +1,13 @@
-//! Trees, sizes, ranks, bounds; first fault.
+//! The tests of trees, sizes, ranks and bounds; the first fault of an image.
 //!
-//! The loader's tests of trees, handlers, declared costs and sizes.
+//! The definitions are those of `valid_image`. `shape_fault`, `handler_fault`, `cost_fault` and
+//! `size_fault` promise the first fault of their part with its two numbers, and none exactly where
+//! the part holds; the code of each part is gone through once, and what it comes to is kept in
+//! `Parts`. `rank_of`, `ceiling_of` and `needed_block` give the numbers that are due, `rank_fault`
+//! and `bound_fault` test those that are declared.
 //!
-//! Each has its definition in `valid_image`, and promises the first fault with its two numbers, and
-//! none exactly where the part holds. The code of each routine and process is gone through once, by
-//! the test of trees; what it comes to is kept in `Parts`, which the later tests read.
-//!
-//! The ranks, ceilings, blocks and bounds of an image, as code: the numbers that are due, and the
-//! tests of those that are declared.
-//!
-//! The definitions are `rank_of`, `ceiling_of`, `needed_block`, `rank_fault` and `bound_fault` of
-//! `valid_image` (`specs/Times.antt`): ranks by deadlines, immediate ceilings, the longest stay of a
-//! lower process, and bounds that meet the recurrence. Each call promises exactly that number or
-//! that fault. `Stays` is what they share: the longest stay of each process in each monitor, found
-//! from below with each routine once for each monitor.
+//! `first_fault` of `tests_in_order` is the first fault in the order of the tests, and none exactly
+//! where the image is valid.
 #![tactic(auto)]
 
 mod bounds;

@@ -1,20 +1,12 @@
-//! Pieces, owners, operands.
+//! Pieces of code, their owners, and the operands of instructions.
 //!
-//! The pieces of an image's code, as code: which addresses belong to each, and what each calls.
+//! A piece is the code of a routine or a process. An address belongs to the piece with the greatest
+//! start not above it (`Pieces` of `valid_image`). `addresses_by_piece` promises the addresses of
+//! each piece in ascending order, `calls_by_piece` the routines that each calls.
 //!
-//! A piece is the code of a routine or a process, routines first. An address belongs to the piece
-//! with the greatest start not above it (`valid_image`, `specs/Pieces.antt`); nothing says that the
-//! pieces of an image follow one another.
-//! `addresses_by_piece` promises the addresses of each piece in ascending order, found in one sweep
-//! over the code, and
-//! `calls_by_piece` the routines that each piece calls.
-//!
-//! The operands of an image's instructions, as code.
-//!
-//! Each operand has to be in the range of what it names, and an instruction may touch and call only
-//! what the owner of its code may (`valid_image`, `specs/Operands.antt`). `operand_fault` promises
-//! the first instruction that breaks a rule, routines before processes, with its address and the
-//! operand, and none exactly where no instruction breaks one.
+//! `operand_fault` promises the first instruction whose operand is out of range, or touches what
+//! the owner of its code may not (`Operands` of `valid_image`), routines before processes, and none
+//! exactly where there is none.
 #![tactic(auto)]
 
 mod bases;

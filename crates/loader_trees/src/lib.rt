@@ -1,23 +1,12 @@
-//! Height, worst cost, depth of code and tree.
+//! What code and tree of a part come to: height, worst cost, depth.
 //!
-//! What the code of a part comes to: its height, its worst cost and its depth, or nothing where the
-//! code is not of its segment tree or a rule of heights fails.
+//! The definition is `founds` of `valid_image`: one computation over tree and code, or nothing
+//! where the code is not of its tree or a rule of heights fails. Each call promises just that, with
+//! costs held at one more than a thousand million and depths at 4,097 (`specs/Told.antt`).
 //!
-//! The definition is `founds` of `valid_image`: one computation over tree and code. Each call
-//! promises just what that says, with costs held at one more than a thousand million and depths at
-//! 4,097 (`specs/Told.antt`). Trees are looked at as they stand in bytes (`SegBytes`), so no memory
-//! is taken. The calls recurse down the tree, whose sizes are counted once more for each loop
-//! around it, and whose bytes are gone over once more for each tree around it; a tree that has more
-//! bytes than code of this length can need is of none, and is not gone over.
-//!
-//! What the code of a part comes to by a segment tree whose segments stand apart (`image_format::seg`):
-//! whether the code is of its tree, its worst cost and its depth.
-//!
-//! The definition is that of `loader_trees`, which looks at trees in bytes: `founds` of `valid_image`,
-//! one computation over tree and code. Each call promises just what that says, with costs held at
-//! one more than a thousand million and depths at 4,097 (`specs/Told.antt` of `loader_trees`). No
-//! memory is taken. The calls recurse down the tree, whose sizes are counted once more for each
-//! loop around it.
+//! Trees are looked at as they stand in bytes, so no memory is taken. The calls recurse down the
+//! tree; a tree that has more bytes than code of this length can need is of none, and is not gone
+//! over.
 #![tactic(auto)]
 
 mod found_segs_trees;

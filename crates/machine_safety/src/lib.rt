@@ -1,13 +1,9 @@
-//! Never stuck, within sizes, apart.
+//! Law: never stuck, within sizes, apart in monitors.
 //!
-//! A valid image is never stuck: whoever made it, no process of it meets a missing operand, an
-//! occupied monitor or a full stack, and what an activation may still run, wait and stay falls with
-//! every tick.
-//!
-//! `specs/` defines code that is of its segment tree, what is still to be done in a frame, a
-//! process with its calls in progress, the state, and the premise: a valid image, as far as this
-//! needs. Calls of `safe` state what follows, those of `example` give code that meets the premise.
-//! Nothing here can run.
+//! Whoever made the image: where it meets the premise of `machine_safety_spec`, no process of it
+//! meets a missing operand, an occupied monitor or a full stack, and what an activation may still
+//! run, wait and stay falls with every tick. The calls of `safe` state this, those of `example`
+//! give images that meet the premise. Nothing here can run.
 #![tactic(auto)]
 
 pub mod example;

@@ -1,6 +1,4 @@
-//! Machine, tick by tick.
-//!
-//! What an image does: the effect of each instruction, a tick, and a run.
+//! The meaning of an image, tick by tick.
 //!
 //! `specs/Image.antt` and `specs/State.antt` say what the machine runs and where it stands,
 //! `specs/Effect.antt` what each instruction comes to, `specs/Starts.antt` the start events,

@@ -1,8 +1,7 @@
-//! Worked images.
+//! Worked images: small images and the events of their runs.
 //!
-//! Small images and the events of their runs, computed by the machine's meaning.
-//!
-//! Promised: each image of `specs/Example.antt` has just the events that stand beside it.
+//! Promised: each image of `specs/Example.antt` has just the events that stand beside it, computed
+//! by the machine's meaning.
 #![tactic(auto)]
 
 pub mod log;

@@ -1,18 +1,13 @@
-//! Traits `Files`, `Sink`; in memory, real, standard output.
-//!
-//! The outside of the program: named files, and a sink for the bytes that it puts out.
+//! Files and output, as traits; in memory, and those of the system.
 //!
 //! The traits `Files` and `Sink` say what each call does to the bytes, where these are told, and
 //! that a failure is counted: a call answers Failed only where the count of faults rose. So
 //! whatever stands above can tell its own answers from those of the outside. Files and a sink in
-//! memory fail as they are told, or never; those of the system are the trusted edge.
+//! memory fail as they are told, or never.
 //!
-//! Standard output, with a buffer: what is put is written once there is enough of it, or at the
-//! end.
-//!
-//! `Stdout` tells nothing of content, as `RealSink` of `outside`, by which it writes. A write that
-//! fails is counted, and answered by the put, or the `flush`, that made it; so the caller flushes
-//! at the end, and asks whether that failed.
+//! `RealFiles`, `RealSink` and `Stdout` are the trusted edge: they promise nothing of content.
+//! `Stdout` keeps what is put back until there is enough of it; a write that fails is answered by
+//! the put, or the `flush`, that made it, so the caller flushes at the end.
 #![tactic(auto)]
 
 mod mem_sink;

@@ -1,14 +1,9 @@
-//! Variables in reach.
+//! Variables that a call has in reach; what names stand for.
 //!
-//! The variables that a call has in reach, and what names stand for in its text, in code.
-//!
-//! `specs/Reach.antt` says which memory of the source meaning a `Memory` stands for (`memory_of`).
-//! Each function here equals the one of that meaning: the variable that a name means, what a name
-//! or an element is worth, stores, the variables of a routine as they start, and the numbers of
-//! devices, monitors and conditions.
-//!
-//! The variables beside a call's own are lent until something is stored to one of them. Then they
-//! are copied, so whoever lent them keeps them as they were.
+//! `specs/Reach.antt` says which memory of the source meaning a `Memory` stands for. Each function
+//! equals the one of that meaning: what a name or an element is worth, stores, the variables of a
+//! routine as they start, and the numbers of devices, monitors and conditions. Variables beside a
+//! call's own are lent until something is stored to one of them.
 #![tactic(auto)]
 
 mod answers;

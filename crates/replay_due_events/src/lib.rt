@@ -1,12 +1,9 @@
-//! Missing start events.
+//! Start events that are due and have not come.
 //!
-//! The start events that are due and have not come: releases and time-outs.
-//!
-//! `Timetable` keeps of a program what its start events go by (`specs/Timings.antt`): how each
-//! process is released, and the order of ranks.
-//! `Timetable::first_due` is the first start event that is due at a tick and has not come, exactly
-//! as the source meaning lists them: releases by the events of the script's lines, periodic
-//! releases in the order of the text, time-outs in the order of ranks.
+//! `Timetable` keeps how each process is released and the order of ranks (`specs/Timings.antt`).
+//! `first_due` is the first start event that is due at a tick and has not come, exactly as the
+//! meaning lists them; `next` tells whether one is missing before a tick. `due` has the laws, and
+//! what it means that an event is accepted (`specs/Accepts.antt`).
 #![tactic(auto)]
 
 pub mod due;

@@ -1,31 +1,14 @@
-//! Configuration, effects, choice.
+//! The configuration of a program, its changes, who is to act.
 //!
-//! The configuration of a running program, in code: what each process is doing, each monitor, and
-//! each condition's queue.
+//! The family Replay: the source meaning in code, by which a log is judged. `replay_state` keeps a
+//! configuration; `replay_due_events`, `replay_values`, `replay_calls` and `replay_next` find what
+//! may come next, `replay_accept` takes an event or refuses it, `replay` judges a log.
 //!
 //! `specs/View.antt` says which configuration of the source meaning a `Config` stands for
-//! (`config_of`): one value for one value, with nothing left out. What remains of a call are the
-//! items of the meaning, in their order, whose statements are borrowed from the program's tree, so
-//! none is ever copied.
-//!
-//! Each change here is one of the meaning's own: its contract is an equation between what is seen
-//! before and after.
-//!
-//! Over it stand the choice of the process that is to act (`replay_state::ranks`), the first start event
-//! that is due (`replay_due_events`) and whether one is missing before a tick (`replay_due_events::next`). What
-//! is wanting before an event can be accepted or refused whole: what a start event and an act make
-//! of the configuration; and the next action of a process, which runs its silent statements over a
-//! copy of the innermost call's variables, so that nothing changes where the event is refused. That
-//! one is a recursion down the trees and down the depth of calls: its measure is the depth of calls
-//! times more than the height of any routine, plus the height of the tree at hand.
-//!
-//! Queues of conditions, and exceptions.
-//!
-//! A process joins a queue at its end, is taken out of it, and is ready again. After an exception
-//! it leaves its monitor and its calls, and begins its handler, where that lists the number and
-//! does not run yet, or its end (`specs/Texts.antt`): `prepare` takes the memory that this wants,
-//! and `raise` then does it without fail. Each call here makes the configuration exactly the one
-//! that the source meaning has after it.
+//! (`config_of`): one value for one value, with nothing left out. Statements are borrowed from the
+//! program's tree, none is copied. Each change is one of the meaning's own: releases and time-outs
+//! (`start`), queues and exceptions (`queues`, `raising`), and the choice of the process that is to
+//! act (`ranks`).
 #![tactic(auto)]
 
 mod call;

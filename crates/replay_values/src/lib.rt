@@ -1,6 +1,4 @@
-//! Values, silent statements.
-//!
-//! The running source meaning in code: values of expressions, and what statements come to.
+//! Values of expressions and silent statements, as code.
 //!
 //! Each function answers what the function of the same name of `source_semantics` answers, for
 //! every tree and every memory. Values are kept in 64 bits, so no premise on literals, ranges or

@@ -1,5 +1,7 @@
-//! The command. It lends the system's files and standard output to `command::rte`, passes it the
-//! words after the program's name, and ends with its status.
+//! `main`: the command over the system's files and standard output.
+//!
+//! It lends these to `command::rte`, passes it the words after the program's name, flushes, and
+//! ends with the status.
 #![tactic(auto)]
 
 use command::{rte, system_words};

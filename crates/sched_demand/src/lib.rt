@@ -1,6 +1,10 @@
-//! Processor demand test and its theorem.
+//! The demand test of earliest deadline first, and its theorem.
 //!
-//! The processor demand of tasks with deadlines, and its test for earliest deadline first.
+//! `specs/Demand.antt` defines the demand of tasks in a length of time, and what the test answers:
+//! feasible, late or too many points (Baruah, Rosier and Howell). The calls answer exactly that.
+//!
+//! `earliest` has the theorem over abstract runs (`specs/Earliest.antt`): where the test says
+//! feasible, every activation ends by its deadline.
 #![tactic(auto)]
 
 pub mod demand;

@@ -1,6 +1,7 @@
-//! Ranks of analysis and meaning agree.
+//! Law: the ranks of the analysis are those of the source meaning.
 //!
-//! The ranks and ceilings of the analysis are those of the source meaning.
+//! Ranks and ceilings of `sched_response` are those of `source_semantics` (`specs/Ranked.antt`).
+//! Nothing here can run.
 #![tactic(auto)]
 
 pub mod ranked;

@@ -1,19 +1,17 @@
-//! Task sets, recurrence, least bound, ranks, ceilings, blocking.
+//! The recurrence, least bounds; ranks, ceilings, blocking.
 //!
-//! The demand of periodic tasks of fixed ranks on one processor, with each evaluation counted.
+//! The family Schedulability: the analysis, over numbers of tasks, and its theorems, over abstract
+//! runs. `sched_response` has the model and finds the least bounds, `sched_theorem` proves that
+//! they hold, `sched_timing` that runs of the machine are such runs; `sched_slack` and
+//! `sched_demand` are the two further tests, `sched_table` what is shown.
 //!
-//! Its definition is the recurrence of the response times, in which suspension counts as execution
-//! and blocking is added once for each wait (Burns and Wellings). It promises that a set of tasks
-//! is what its caller gave, that `demand` is the recurrence's function, capped, at the price of one
-//! step, that the cap changes no answer, and that no response meets the recurrence below its floor.
+//! `specs/Demand.antt` is the recurrence of the response times, in which suspension counts as
+//! execution and blocking is added once for each wait (Burns and Wellings). `specs/Ranked.antt` has
+//! ranks by deadlines, immediate ceilings and blocking, `specs/Floor.antt` where the search begins.
 //!
-//! What the analysis makes of the processes: their ranks, the ceilings of the monitors, the
-//! blocking of a rank, and the least bounds of the response times.
-//!
-//! Its definitions are those of fixed ranks by deadlines, of the immediate ceilings, and the least
-//! response within the deadline that meets the recurrence. It promises that each call gives exactly
-//! that, that there is no bound exactly where none is found, and that a bound takes few evaluations
-//! of the demand.
+//! `bound` gives exactly the least bound within the deadline, and none exactly where there is none,
+//! within a bound on evaluations; the other calls give exactly what is defined. That the cap
+//! changes no answer is a law.
 #![tactic(auto)]
 
 mod block;

@@ -1,13 +1,10 @@
-//! Sensitivity: spare ticks.
+//! Sensitivity: how many ticks a process can spare.
 //!
-//! How many ticks a process can spare: by how much its run cost may grow while each level still has
-//! a bound.
-//!
-//! Its definition is the greatest number of ticks with which the set of tasks is timely, that is,
-//! each level has a response within its deadline that meets the recurrence (sensitivity analysis of
-//! fixed priorities: Vestal). It promises exactly that number and the first level that fails with
-//! one tick more, in few evaluations of the demand, and that the set is afterwards as before. That
-//! no set becomes timely by longer runs is a law.
+//! `specs/Slack.antt` defines the greatest number of ticks by which the run cost of a level may
+//! grow while each level has a bound (sensitivity analysis of fixed priorities: Vestal). `slack`
+//! promises exactly that number, `first_failing` the first level that fails with one tick more, and
+//! that the set of tasks is afterwards as before. That no set becomes timely by longer runs is a
+//! law.
 #![tactic(auto)]
 
 mod failing;

@@ -1,16 +1,9 @@
-//! Table, report, JSON.
+//! The table of bounds, the report and its JSON.
 //!
-//! The table of a program's timing, as the report shows it.
-//!
-//! Its definition is a row for each process: its rank by deadlines, its block by the immediate
-//! ceilings, and the least response within its deadline that meets the recurrence of its rank, or
-//! none exactly where there is none. It promises that the table of what the processes use is that,
-//! and that a table in which each process has a bound is one in which each meets the recurrence.
-//!
-//! The report on a program's timing, as text and as JSON.
-//!
-//! Both texts are functions of the table alone, with the names of the program, its processes and
-//! its monitors. The calls promise exactly these texts.
+//! `specs/Table.antt` is the table: a row for each process with what it uses, its rank, its block
+//! and the least bound, or none exactly where there is none. `specs/Report.antt` and
+//! `specs/Json.antt` are the two texts, functions of names and table alone. `report` and
+//! `report_json` promise exactly these; the report on the mine pump is spelled out.
 #![tactic(auto)]
 
 mod blocks;

@@ -1,21 +1,12 @@
-//! Machine runs are runs of the theorem.
+//! Law: runs of the machine are runs of the theorem, so in time.
 //!
-//! Law: in every run of a valid image whose script respects the frames, no release finds its
-//! process unfinished, and every activation ends within its declared bound, which is within its
-//! deadline, and that within its frame.
+//! `timed`: in every run of an image that meets the premise (`ImageIsTimed` of `specs/Timed.antt`),
+//! over a script that respects the frames, no release finds its process unfinished, and every
+//! activation ends within its declared bound, that within its deadline, and that within its frame.
+//! `specs/Views.antt` is what the argument of `sched_theorem` sees of a run.
 //!
-//! `specs/Timed.antt` has the premise (`ImageIsTimed`) and the law, `specs/Views.antt` what the
-//! timing argument of `sched_theorem` sees of a run. The recurrence of the response times is that of
-//! Burns and Wellings. `example` gives images that meet the premise, with a wait and two processes
-//! in one monitor, with overhead, and with a deadline below its frame. Nothing here can run.
-//!
-//! Law: an image whose ranks, ceilings and blocks are those that `sched_response` defines meets what the
-//! law of `sched_timing` asks of them.
-//!
-//! `specs/Defined.antt` has the premises and the law: what each process uses is told by
-//! `sched_response`'s uses, the declared ranks are ranks by deadlines, the declared ceilings the
-//! immediate ceilings, and no declared block is below the defined one. `example` gives an image
-//! that meets the premises. Nothing here can run.
+//! `timed_uses`: ranks, ceilings and blocks as `sched_response` defines them meet that premise
+//! (`specs/Defined.antt`). The examples are images that meet the premises. Nothing here can run.
 #![tactic(auto)]
 
 pub mod timed;

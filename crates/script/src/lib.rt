@@ -1,13 +1,16 @@
-//! Scripts, one fault.
+//! Scripts: at which ticks devices are set and events occur.
 //!
-//! Scripts: at which ticks of a run in devices are set and events occur.
+//! The family Scripts and logs: what a run is given, and what it tells. `script` reads what is
+//! given; `event_log` writes what is told, and reads it for `replay`.
 //!
-//! `specs/Saying.antt` says how a line is spelled, and `specs/Scripts.antt` which text is a script
-//! for the names of an image: its lines have a form and known names, their ticks do not descend,
-//! and two occurrences of an event stand at least the frame of its process apart.
-//! `specs/Faults.antt` says what the fault of any other text is: the first line that breaks a rule,
-//! and the least number of those that it breaks. `read_script` gives the script, or that fault. A
-//! script keeps a copy of the names that it was read for.
+//! `specs/Saying.antt` says how a line is spelled, `specs/Scripts.antt` which text is a script for
+//! the names of an image: its lines have a form and known names, their ticks do not descend, and
+//! two occurrences of an event stand at least the frame of its process apart. `specs/Faults.antt`
+//! is the fault of any other text: the first line that breaks a rule, and the least number of those
+//! that it breaks.
+//!
+//! `read_script` gives the script, or that fault. A text is one script at most, and is none where
+//! it has a fault (`script_laws`).
 #![tactic(auto)]
 
 mod fault;

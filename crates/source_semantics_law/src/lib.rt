@@ -1,12 +1,8 @@
-//! Determinism, worked logs.
+//! Laws of the source meaning: one next configuration; worked logs.
 //!
-//! Laws of the source meaning, and logs that are runs of worked programs.
-//!
-//! Promised: a configuration and an event lead to at most one configuration, values do not depend
-//! on the depth of calls, and each worked log is a run or is none.
-//!
-//! What remains to be done, as places in the program: how a configuration is kept without copies of
-//! statements.
+//! Promised: a configuration and an event lead to at most one configuration, and values do not
+//! depend on the depth of calls. `logs` promises of the worked logs that it names that they are
+//! runs of their program, or are none.
 #![tactic(auto)]
 
 pub mod logs;

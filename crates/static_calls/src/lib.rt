@@ -1,7 +1,11 @@
-//! Call graph: recursion, waits reached.
+//! Rules for calls: no recursion, no wait in a handler; the call graph.
 //!
-//! Graphs whose nodes are the numbers below a size: which nodes reach which by their edges, and
-//! which reach themselves.
+//! `specs/Reaching.antt` says which routine reaches which by one call or more, which reaches itself
+//! (E31), and which handler reaches a wait (E35). `first_broken` gives the failure that comes
+//! first, and none exactly where neither rule fails.
+//!
+//! It asks a graph whose nodes are the numbers below a size (`specs/Graph.antt`): `Graph` and
+//! `Cycles` answer exactly which nodes reach which, and which reach themselves.
 #![tactic(auto)]
 
 mod calls;

@@ -1,11 +1,9 @@
-//! What a used name is declared as; constants.
-//!
-//! Declarations: what each name that is used in a program is declared as, and what its constants
-//! are worth.
+//! What each used name is declared as; what constants are worth.
 //!
 //! `specs/Things.antt` lists what a program declares, each with its place, and says what the name
-//! that is used at a place is declared as; `specs/Values.antt` says what a constant is worth. The
-//! static rules stand on these two alone: none of them looks at a scope.
+//! used at a place is declared as; `specs/Values.antt` says what a constant is worth. The static
+//! rules stand on these two alone: none of them looks at a scope. Each call gives exactly what is
+//! defined.
 #![tactic(auto)]
 
 mod declarations;

@@ -1,16 +1,14 @@
-//! Scopes, E20 to E23.
-//!
-//! Names: every name that is used has its declaration.
+//! Scopes: each name that is used has its declaration (E20 to E23).
 //!
 //! `specs/Reach.antt` says what a name means at a place, `specs/Occurrences.antt` lists the names
-//! of a program with what each does there, and `specs/Rules.antt` says of each rule at which places
-//! it fails. `name` answers `Ok` exactly where none fails at any place, else the rule that fails
-//! first; and `Named::found` tells for each use where its name is declared.
+//! of a program with what each does there, and `specs/Rules.antt` says where each rule fails.
+//! `name` answers `Ok` exactly where none fails at any place, else the one that fails first;
+//! `Named::found` tells for each use where its name is declared.
 //!
-//! A name reaches so: a name of the program everywhere, a constant only after its declaration; a
-//! name of a monitor in that monitor, its entries outside only behind the monitor's name and a full
-//! stop; a name of a process in that process, its header and routines included; a parameter or
-//! variable of a routine in that routine; a loop variable in the body of its loop.
+//! A name of the program reaches everywhere, a constant only behind its declaration; a name of a
+//! monitor in that monitor, its entries outside only behind the monitor's name and a full stop; a
+//! name of a process in that process, its header included; a parameter or variable in its routine;
+//! a loop variable in the body of its loop.
 #![tactic(auto)]
 
 mod around;

@@ -1,10 +1,11 @@
-//! Bounds, frames, deadlines, handlers, counts.
+//! Rules for declarations: bounds, frames, deadlines, counts.
 //!
-//! Rules for declarations: the bounds of types, frames and first activations, events, the numbers
-//! of handlers, and how much a program may have.
+//! `specs/Rules.antt` lists the rules by number: bounds of types (`specs/Types.antt`), frames,
+//! deadlines, first activations, events and the numbers of handlers (`specs/Processes.antt`), how
+//! much there may be (`specs/Counts.antt`).
 //!
-//! `specs/Rules.antt` lists the rules by number. Each of five groups of them goes once through the
-//! declarations; `first_broken` joins what the five find.
+//! Each of five groups goes once through the declarations; `first_broken` joins them: the failure
+//! that comes first, and none exactly where no rule fails.
 #![tactic(auto)]
 
 mod activations;

@@ -1,11 +1,14 @@
-//! A rule that fails at places; the first that fails.
+//! Rules that fail at places, and the failure that comes first.
 //!
-//! Rules that fail at places of a program, and the one that fails first.
+//! The family Static semantics: what a tree has to keep to. Names first (`static_names`), then what
+//! names are declared as (`static_declarations`), the rules in three groups (`static_types`,
+//! `static_numbers`, `static_calls`), all joined (`static_semantics`), and from a text to its
+//! checked program (`front_end`). `wellformed` says what the meaning takes for granted; that a
+//! checked program has it is `wellformed_law`.
 //!
-//! `specs/First.antt` orders failures by their place and then by the number of the rule, and says
-//! what the first of them is. `specs/Parts.antt` says of rules that are tests of single parts of a
-//! program where they fail; `noted` goes through the parts once, and `proofs/Soonest.antt` shows
-//! that it finds the first failure.
+//! `specs/First.antt` orders failures by their place and then by the number of the rule.
+//! `specs/Parts.antt` says where rules fail that are tests of single parts of a program. Going
+//! through the parts once finds the first failure (`noted`, `sooner`; `proofs/Soonest.antt`).
 #![tactic(auto)]
 
 mod broken;

@@ -1,13 +1,12 @@
-//! All rules joined; terms between rules and meaning.
+//! All static rules joined; the terms between rules and meaning.
 //!
-//! What lies between the static rules, which go by places, and the meaning of programs, which goes
-//! by names.
+//! `specs/Static.antt` joins the rules: what fails at a place, and which tree is checked. `check`
+//! of `rules` answers `Ok` exactly where no rule fails at any place, else the one that fails first.
 //!
-//! `specs/Places.antt` says that names stand apart and that each use has its declaration;
-//! `specs/Written.antt` what else holds of every tree that is read; `specs/Things.antt` that
-//! declarations are known by their places; `specs/Mirrors.antt` that what is in reach by the rules
-//! for names is what the meaning looks up; and `specs/Judged.antt` what the rules for statements
-//! give of a text. The crates above prove it.
+//! The other definitions lie between the rules, which go by places, and the meaning, which goes by
+//! names: names stand apart (`specs/Places.antt`), what is declared where (`specs/Things.antt`),
+//! names in reach (`specs/Mirrors.antt`), and what the rules give of a text (`specs/Judged.antt`).
+//! The rooms `wellformed_..` prove them.
 #![tactic(auto)]
 
 mod rules;

@@ -1,6 +1,6 @@
 //! Static rules: what a program whose names are resolved has to keep to besides.
 //!
-//! `specs/Static.antt` joins the rules, which are stated apart in the crates below: those for
+//! `specs/Static.antt` joins the rules, which are stated apart in the rooms below: those for
 //! statements in `static_types`, for declarations in `static_numbers`, and for what
 //! is reached by calls in `static_calls`. `check` answers `Ok` exactly where none fails at any
 //! place, else the rule that fails first. What it passes is well formed, as the meaning of programs

@@ -1,16 +1,12 @@
-//! Tokens (lexer) and the grammar as a relation.
+//! Tokens, the lexer, and the grammar as a relation.
 //!
-//! Tokens: a text is cut into blanks, comments and tokens, each token by longest match.
+//! `specs/Spellings.antt` says what bytes spell, and `specs/Tokens.antt` that a text is cut into
+//! blanks, comments and tokens, each by longest match. `lex` gives exactly that list, or the place
+//! and the cause of the first token that is none.
 //!
-//! `specs/Spellings.antt` says what bytes spell, and `specs/Tokens.antt` what the tokens of a text
-//! are. `lex` gives exactly that list, or the place and the cause of the first token that is none.
-//!
-//! The grammar of programs: which tree a list of tokens has.
-//!
-//! `tree` of `specs/Grammar.antt` relates the tokens of a text and a tree with places, one case for
-//! each production, with at most 64 levels of nesting. The places of the tree are those of its
-//! tokens. `specs/Opening.antt` says which lists of tokens begin a program, with the number of
-//! levels that are open behind them. The definitions alone stand here.
+//! `tree` of `specs/Grammar.antt` relates tokens and a tree, one case for each production, with at
+//! most 64 levels of nesting. `specs/Opening.antt` says which lists of tokens begin a program, with
+//! the levels that are open behind them.
 #![tactic(auto)]
 
 mod fault;

@@ -1,9 +1,9 @@
-//! Parser; the place of a syntax fault.
+//! The parser, and the place of a syntax fault.
 //!
-//! Trees from tokens.
-//!
-//! `specs/Grammar.antt` of `syntax` says which tree a list of tokens has. `parse` gives
-//! exactly that tree, or the place of a fault where there is none.
+//! `parse` gives exactly the tree that `tree` of `syntax` relates to the tokens, or a fault where
+//! there is none: of nesting at the token that opens level 65, else at the token with which the
+//! tokens read no longer begin a program, or at the text's end (`specs/Faults.antt`). `opening` has
+//! the law that tokens have one such place at most.
 #![tactic(auto)]
 
 mod decl;

@@ -1,13 +1,10 @@
-//! Canonical text, read-back law.
+//! The canonical text, and the law that it reads back.
 //!
-//! The canonical text of a program.
+//! `canonical` of `specs/Canonical.antt` says which lines a tree has, each a list of words: one
+//! space between two words, LF after each line, no indentation, literals without leading zeros.
 //!
-//! `canonical` of `specs/Canonical.antt` says which lines a tree has, each a list of words, and the
-//! text of lines: one space between two words, LF after each line, no indentation, and literals
-//! with no leading zeros.
-//!
-//! Promised: `print` gives exactly that text, and what is read of it is the same tree, apart from
-//! places, where the text has at most 1,048,576 bytes.
+//! `print` gives exactly that text, and what is read of it is the same tree, places aside, where
+//! the text has at most 1,048,576 bytes (`reads_back`).
 #![tactic(auto)]
 
 mod decl;

@@ -1,15 +1,16 @@
-//! Placed and plain trees, `Name`, `Place`.
+//! The syntax tree: placed and plain; names and places.
 //!
-//! Syntax trees, and the small types that they and other crates are made of.
+//! The family Syntax: from the bytes of a text to its tree, and back. `syntax` says which tokens a
+//! text has and which tree tokens have, `syntax_parser` finds it, `syntax_reading` proves that
+//! there is one at most, `syntax_printer` writes the tree again.
 //!
-//! A tree has one variant for each form of the grammar, and each named or faultable part has its
-//! place. Contracts see a `List` as the list of its elements, and a `Name` and a `Text` as the list
-//! of their bytes. They see a tree by `placed` of `specs/Placed.antt`, as a tree of plain data with
-//! places; `bare` drops the places and keeps all else, so two trees are equal apart from places
-//! exactly where their bare trees are equal; and `plain` gives the program without places and
-//! closing names, over which its meaning, its costs and its code are defined.
+//! A tree has one variant for each form of the grammar, and each part that a fault can name has its
+//! place. `specs/Placed.antt` sees it with places and closing names, `specs/Plain.antt` without
+//! both: over the plain tree meaning, costs and code are defined. `bare` drops the places alone, so
+//! two trees are equal apart from places exactly where their bare trees are.
 //!
-//! Trees are made and read by their public fields.
+//! Contracts see a `List` as the list of its elements, a `Name` and a `Text` as the list of their
+//! bytes. Trees are made and read by their public fields.
 #![tactic(auto)]
 
 mod decl;

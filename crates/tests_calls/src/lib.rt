@@ -1,9 +1,6 @@
-//! Calls over files in memory.
+//! Calls of the top over files in memory; programs to share.
 //!
-//! Calls of the top over files and a sink in memory, and the programs and images that the worked
-//! examples share.
-//!
-//! What is known of these programs and images was found outside. The crates of examples call the
+//! What is known of these programs and images was found outside. The other rooms of tests call the
 //! top through `call`, `call_with`, `call_beside` and `call_on_image`, which place the files, say
 //! what fails, and give the status, what was put and what the files hold then as an `Outcome`.
 #![tactic(auto)]

@@ -1,4 +1,4 @@
-//! Tests of the commands.
+//! Tests of the commands: words, calls, devices that fail.
 //!
 //! Each command through the top call: words, worked calls, each device call failing in turn, and
 //! words that name one file.

@@ -1,8 +1,7 @@
-//! Tests of images and of the loader.
+//! Tests of images: stored, run, told, changed, cut, hostile.
 //!
-//! Images through the top call: stored, run, migrated, told and assembled, changed, cut and hostile.
-//!
-//! The worked images with single bytes changed, through the loader; and the parts of a loaded image.
+//! Through the top call; and through the loader the worked images with single bytes changed
+//! (`changed_bytes`), and the parts of a loaded image (`references`).
 #![tactic(auto)]
 
 #[cfg(test)]

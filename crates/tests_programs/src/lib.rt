@@ -1,7 +1,7 @@
-//! Tests of programs, run.
+//! Tests of programs: worked runs, texts, scripts and their limits.
 //!
-//! Worked programs, texts, scripts and their limits, through the top call over files and a sink in
-//! memory.
+//! Through the top call over files and a sink in memory. `texts` has both sides of each rule of the
+//! language, `scripts` those of scripts, `limits` programs as large as may be and one more.
 #![tactic(auto)]
 
 #[cfg(test)]

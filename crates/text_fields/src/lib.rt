@@ -1,18 +1,12 @@
-//! Fields of a line, both readers.
+//! Fields of a line: words and decimal numbers.
 //!
-//! Fields of a line of text: bytes up to a separator, and decimal numbers.
+//! Scripts, logs and image texts are lines of fields. `specs/Fields.antt` says what a word is and
+//! how words stand in a line, `specs/LineFields.antt` what the fields of a line are, and
+//! `specs/Front.antt` what is kept while a line is read from left to right.
 //!
-//! `specs/Fields.antt` says what a word is and how words stand in a line. `cut_at` takes the bytes
-//! before the first separator, and `unsigned` and `signed` read exactly the spellings that a
-//! number is printed by: decimal, without leading zeros, and `-` only before a number that is not
-//! zero. Nothing here takes memory.
-//!
-//! Fields of a line of text, read from left to right: words that stand there, and decimal numbers.
-//!
-//! A line that is in no form is refused at once. A number out of its range is noted, and the line
-//! is refused at its end, so a line that is both in no form and out of range is in no form.
-//! `specs/Front.antt` says what is kept while a line is read, and `specs/LineFields.antt` what the
-//! fields are.
+//! `cut_at`, `unsigned` and `signed` read exactly the spellings that are printed: decimal, without
+//! leading zeros, `-` only before a number that is not zero. A line in no form is refused at once,
+//! a number out of range at the end of its line. Nothing here takes memory.
 #![tactic(auto)]
 
 mod at;

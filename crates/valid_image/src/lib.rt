@@ -1,21 +1,11 @@
-//! Tasks of an image; validity as a function to the first fault.
+//! When an image is valid, and the fault of another; its tasks.
 //!
-//! The tasks that an image declares: what each of its processes asks of the processor, in the order
-//! of ranks.
+//! An image is numbers from any hand. It is valid where each of seven tests passes. Each test is a
+//! function of the image to its first fault, with the two numbers that are shown, so that one
+//! definition says when it fails and what it then shows. `specs/Valid.antt` has the whole, and the
+//! order of the tests; `specs/Tasks.antt` what the processes of an image ask of the processor, for
+//! the recurrence.
 //!
-//! `specs/Tasks.antt` defines them, for the recurrence of `sched_response`. The definitions alone
-//! stand here.
-//!
-//! When an image is valid, and the fault of one that is not.
-//!
-//! An image is a list of numbers from any hand: nothing says that its code is of its trees, that
-//! its declared costs, sizes, ranks, ceilings and blocks are those that the code needs, or that its
-//! bounds meet the recurrence. It is valid where each of seven tests passes. Each test is a
-//! function of the image to its first fault, with the two numbers that are shown, so that a
-//! definition says both when a test fails and what it then shows.
-//!
-//! `specs/Valid.antt` has the whole, and says in which order the tests come. The definitions alone
-//! stand here: images that are valid, and images that are not, stand in `valid_image_examples`, and
-//! what a valid image keeps to in
-//! `valid_image_law::valid_law`.
+//! The definitions alone stand here. What a valid image keeps to is in `valid_image_law`; images
+//! that are valid, and near misses, in `valid_image_examples`.
 #![tactic(auto)]

@@ -1,11 +1,9 @@
-//! Frames, steps, silent runs.
+//! What a process does that nobody sees: frames, steps, silent runs.
 //!
-//! The frames of a process as code keeps them: its operands in one row, its locals in another, and
-//! a mark for each call in progress.
-//!
-//! What an instruction of a process does that nobody sees: operands, words, jumps, loops and calls.
-//!
-//! A process that runs while nobody sees what it does.
+//! `frames` keeps the frames of a process: operands in one row, locals in another, a mark for each
+//! call in progress (`specs/Frames.antt`). `step` does an instruction on operands, words, jumps,
+//! loops and calls (`specs/Steps.antt`). `row` runs a process over many of them at once
+//! (`specs/Rows.antt`). Each is equal to the effect that the meaning gives.
 #![tactic(auto)]
 
 pub mod calls;

@@ -1,17 +1,13 @@
-//! Board, queues, cells.
+//! What the running machine keeps: the plan of its image, and the board.
 //!
-//! What an instruction of a process does that others see: a sample, each by its effect on the parts
-//! of the process and of the machine that it touches.
-//!
-//! The processes of the machine in code: a trial of how one of many runs.
-//!
-//! What the running machine keeps: the plan of its image, and the board, where all processes stand.
-//!
-//! `specs/Plan.antt` says when a plan is that of an image (`IsOf`), and `specs/Board.antt` which
-//! state of the machine's meaning a board is (`state_of`), and that it has a place for all that
-//! the image has (`IsBoardOf`). `Board::new` is the state at the start. Its parts lie open, so
-//! that one process can run on its own activation and words, and nothing that is made here takes
+//! `specs/Plan.antt` says when a plan is that of an image (`IsOf`), `specs/Board.antt` which state
+//! of the machine's meaning a board is (`state_of`), and that it has a place for all that the image
+//! has (`IsBoardOf`). `Board::new` is the state at the start; nothing that is made here takes
 //! memory later.
+//!
+//! The parts of the board lie open, so that one process runs on its own activation and words
+//! without a copy. `seen` has the instructions that others see, each by its effect on the parts
+//! that it touches; `cells`, `threads` and `queues` keep the processes and who waits.
 #![tactic(auto)]
 
 mod board;

@@ -1,12 +1,11 @@
-//! Meaning over whole stretches of ticks; views.
+//! The machine's meaning over many ticks at once; what is seen of it.
 //!
-//! What is seen of the machine between two ticks, and the instruction whose effect comes in a tick.
+//! `stretch`: what many ticks come to at once, while nothing starts. `picks`: who is picked stays
+//! so. `start_laws`: only what is due in its slot starts.
 //!
-//! `specs/View.antt` says it over the machine's meaning: how each process stands (`view_of`), the
-//! words that it keeps and those of each monitor (`process_words`, `monitor_words`), and who is
-//! inside a monitor (`occupant`). `specs/Completed.antt` says which instruction has its effect in a
-//! tick of a run (`completed_at`), and in the last tick that has passed (`last_completed`). The
-//! definitions alone stand here, with the types that code tells them by.
+//! `specs/View.antt` says how each process stands between two ticks, the words that it and each
+//! monitor keep, and who is inside a monitor; `specs/Completed.antt` which instruction has its
+//! effect in a tick. The types that code tells these by stand here.
 #![tactic(auto)]
 
 mod completed;

@@ -1,14 +1,10 @@
-//! A turn of the running process.
-//!
 //! A turn of the process that runs, over the board.
 //!
-//! `pass` takes so many ticks at once, no more than are left of what the process is at (`left`):
-//! the board and the events after it are those of the meaning's ticks at once (`pass` of
-//! `vm_stretch::stretch`), where the process can take them (`CanPass` in `specs/Settled.antt`), which `settle`
-//! shows of every turn of a run that is never stuck. `run_row` runs a process over whole
-//! instructions that nobody sees (`HasRun` in `specs/Rows.antt`), and `end_row` does what the row
-//! halted at. `choose` tells the process that is picked (`specs/Chosen.antt`). Nothing takes
-//! memory.
+//! `choose` tells the process that is picked (`specs/Chosen.antt`). `pass` takes so many ticks at
+//! once, no more than are `left` of what the process is at; `run_row` runs it over whole
+//! instructions that nobody sees (`specs/Rows.antt`), and `end_row` does what the row halted at.
+//! Board and events after each are those of the meaning; that the process of a run that is never
+//! stuck can take its turn is the law `turn_can_pass`. Nothing takes memory.
 #![tactic(auto)]
 
 mod cell;

@@ -1,4 +1,8 @@
-//! Rules give well-formed statements and calls.
+//! Law: rules for statements and calls give well-formed ones.
+//!
+//! `wellformed_statements`: where no rule for names and statements fails, the statements and
+//! results of each text fit as the meaning sees it. `wellformed_calls`: where no routine reaches
+//! itself, routines have levels (`specs/Levels.antt`). Nothing here can run.
 #![tactic(auto)]
 
 mod wellformed_calls;

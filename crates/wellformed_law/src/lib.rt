@@ -1,9 +1,6 @@
-//! Checked implies well-formed.
+//! Law: every checked program is well formed.
 //!
-//! The law of the static rules: a program that keeps to them all is well formed as the meaning sees
-//! it.
-//!
-//! Promised: what `static_semantics::rules` calls checked, `wellformed` calls well formed. The lemmas join
+//! Promised: what `static_semantics::rules` calls checked, `wellformed` calls well formed. It joins
 //! the laws of names, scopes, statements and calls with the rules for declarations.
 #![tactic(auto)]
 

@@ -1,4 +1,8 @@
-//! Rules give well-formed names and scopes.
+//! Law: rules for names give well-formed names and scopes.
+//!
+//! `wellformed_names`: at each place stands one name at most, and each use has its declaration.
+//! `wellformed_scopes`: what is in reach by the rules for names is what the meaning looks up.
+//! Stated over the terms of `static_semantics`; nothing here can run.
 #![tactic(auto)]
 
 mod wellformed_names;
