@@ -1,8 +1,8 @@
 -- The names of the instructions, and the line of each: its name and the operands that it names.
-use Rattle.std.specs.Prelude.{◌++◌, ◌-◌, ◌&&◌, ◌||◌, ◌==◌, ℕ, ℤ, List, [], ◌∷◌, codes, nat_le, slice_index_or, take, if◌then◌else◌}
+use Rattle.std.specs.Prelude.{◌++◌, ◌-◌, ℕ, ℤ, List, [], ◌∷◌, codes, slice_index_or, take}
 use Rattle.std.specs.Fmt.{signed_decimal}
 use Rattle.machine_isa.specs.declared.instr.Instr.{Instr}
-use Rattle.machine_isa.specs.Bytes.{number, operands}
+use Rattle.machine_isa.specs.Bytes.{arity, number, operands}
 
 -- by their numbers from 1
 abbrev pub mnemonics : List (List ℕ)
@@ -18,13 +18,6 @@ mnemonics =
 -- the name of the instruction of a number
 abbrev pub mnemonic : (number : ℕ) → List ℕ
 mnemonic number = slice_index_or mnemonics (number - 1) []
-
--- how many operands the instruction of a number names
-abbrev pub arity : (number : ℕ) → ℕ
-arity n =
-    if (nat_le 14 n && nat_le n 28) || n == 36 || n == 37 || n == 48 then 0
-    else (if (nat_le 8 n && nat_le n 13) || n == 40 then 3
-    else (if n == 29 then 2 else 1))
 
 -- the operands that an instruction names
 abbrev pub named : Instr → List ℤ

@@ -2,9 +2,10 @@
 use Rattle.std.specs.Prelude.{◌+◌, ℕ, ℤ, pos, Bool, List, [], ◌∷◌, take, drop, Ok, Err, Result, Option, Some, None, codes, nat_le, nat_eq, if◌then◌else◌}
 use Rattle.std.specs.Cmp.Lexicographic.{pointwise}
 use Rattle.machine_isa.specs.declared.instr.Instr.{Instr}
+use Rattle.machine_isa.specs.Bytes.{arity}
 use Rattle.machine_isa.specs.Numbered.{numbered}
 use Rattle.image_reader.specs.Grammar.{or_end}
-use Rattle.asm_format.specs.Mnemonics.{mnemonics, arity}
+use Rattle.asm_format.specs.Mnemonics.{mnemonics}
 use Rattle.text_fields.specs.declared.fault.Fault.{Fault}
 use Rattle.text_fields.specs.Front.{Front, Read, ◌>>=◌, no_form, moved, skip, end_read}
 use Rattle.text_fields.specs.LineFields.{signed_read}

@@ -1,15 +1,13 @@
 //! The lines of instructions.
 
 ghost use Rattle.std.specs.Prelude.{◌≡◌, ◌≤◌, length};
-ghost use Rattle.machine_isa.specs.Numbered.{numbered};
-ghost use Rattle.image_reader.specs.Grammar.{or_end};
-ghost use Rattle.asm_format.specs.Mnemonics.{arity as arity_of};
 ghost use Rattle.text_fields.specs.Front.{Gives, front};
 ghost use Rattle.asm_lines.specs.Instrs.{instr_read, number_of, numbered_read, operand_read, place_from};
 ghost use Rattle.syntax.specs.Tables.{words_of};
 
 use crate::names::word_len;
-use machine_isa::{Instr, instr_of};
+use image_reader::instr_or_end;
+use machine_isa::{Instr, arity};
 use text_fields::numbers::signed;
 use text_fields::{At, Fault, ReadError, end_line, skip};
 
@@ -41,18 +39,6 @@ fn number_named(word: &[u8]) -> Option<u8>
     number_in(&MNEMONICS, word)
 }
 
-/// How many operands the instruction of a number names.
-fn arity(number: u8) -> u8
-    ensures { result ≡ arity_of number }
-{
-    match number {
-        14..=28 | 36 | 37 | 48 => 0,
-        8..=13 | 40 => 3,
-        29 => 2,
-        _ => 1,
-    }
-}
-
 /// An operand where one is named, else 0.
 #[tactic(auto, unfolding(crate::specs::Instrs::operand_read))]
 fn operand(at: At<'_>, is_named: bool) -> Result<(i32, At<'_>), ReadError>
@@ -63,16 +49,6 @@ fn operand(at: At<'_>, is_named: bool) -> Result<(i32, At<'_>), ReadError>
     }
     let at = skip(at, b" ")?;
     signed(at)
-}
-
-/// The instruction of a number, or END where there is none.
-fn instr_or_end(number: u8, a: i32, b: i32, c: i32) -> Instr
-    ensures { result ≡ or_end (numbered number a b c) }
-{
-    match instr_of(number, a, b, c) {
-        Some(instr) => instr,
-        None => Instr::End,
-    }
 }
 
 /// The operands that the instruction of the number names, to the end of the line.

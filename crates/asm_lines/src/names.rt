@@ -1,59 +1,18 @@
 //! Names in a line, and the lines of the head, devices, events, monitors and conditions.
 
-ghost use Rattle.std.specs.Prelude.{◌≡◌, ◌≤◌, ◌&&◌, not, length};
-ghost use Rattle.std.specs.List.{list_all};
-ghost use Rattle.syntax.specs.Spellings.{is_identifier as identifier_test, is_letter as letter_test, is_word as word_test, keywords};
+ghost use Rattle.std.specs.Prelude.{◌≡◌, ◌≤◌, length};
 ghost use Rattle.image.specs.Raw.{monitor_of};
 ghost use Rattle.image_reader.specs.Grammar.{has, is_again};
 ghost use Rattle.text_fields.specs.Front.{Gives, front};
 ghost use Rattle.asm_lines.specs.Names.{below_none, ceiling_read, condition_read, device_read, direction_read, event_read, head_read, is_in_word as in_word_test, may_be_name as name_test, monitor_read, name_read, named_read, placed, word_len as word_front};
 
 use image::{CondName, DevName, RawMon};
+use image_reader::is_plain_name;
 use std::alloc::Global;
-use syntax::keyword_at;
 use syntax_tree::Name;
 use text_fields::{
     At, Fault, ReadError, begins_with, end_line, field, note, numeral, short_field, skip,
 };
-
-fn is_letter(byte: u8) -> bool
-    ensures { result ≡ letter_test byte }
-{
-    byte.is_ascii_alphabetic()
-}
-
-fn is_word(byte: u8) -> bool
-    ensures { result ≡ word_test byte }
-{
-    is_letter(byte) || byte.is_ascii_digit() || byte == b'_'
-}
-
-/// Whether all bytes are letters, digits and `_`.
-fn are_words(bytes: &[u8]) -> bool
-    ensures { result ≡ list_all word_test bytes.now }
-{
-    bytes.iter().all(|byte| is_word(*byte))
-}
-
-/// Whether the bytes are a letter, and then letters, digits and `_`.
-fn is_identifier(name: &[u8]) -> bool
-    ensures { result ≡ identifier_test name.now }
-{
-    match name {
-        [] => false,
-        [first, rest @ ..] => is_letter(*first) && are_words(rest),
-    }
-}
-
-/// Whether the bytes are a keyword.
-fn is_keyword(name: &[u8]) -> bool
-    ensures { result ≡ has keywords name.now }
-{
-    match keyword_at(name) {
-        Some(_) => true,
-        None => false,
-    }
-}
 
 /// Whether the name is one of these.
 fn is_one_of(name: &[u8], taken: &[Name]) -> bool
@@ -66,7 +25,7 @@ fn is_one_of(name: &[u8], taken: &[Name]) -> bool
 fn may_be_name(name: &[u8], taken: &[Name]) -> bool
     ensures { result ≡ name_test taken.now name.now }
 {
-    name.len() <= 63 && (is_identifier(name) && !is_keyword(name) && !is_one_of(name, taken))
+    name.len() <= 63 && (is_plain_name(name) && !is_one_of(name, taken))
 }
 
 fn is_in_word(byte: u8) -> bool

@@ -11,11 +11,11 @@ use Rattle.std.proofs.lemmas.Bool.{and_parts, ltb-true, ltb-false, leb-true, le-
 use Rattle.std.proofs.lemmas.Bool.Decides.{Decides-int_eq}
 use Rattle.machine_isa.specs.declared.instr.Instr.{Instr}
 use Rattle.machine_isa.specs.declared.instr.Instr.TheVariants as i
-use Rattle.machine_isa.specs.Bytes.{number, operands}
+use Rattle.machine_isa.specs.Bytes.{arity, number, operands}
 use Rattle.machine_isa.specs.Numbered.{numbered}
 use Rattle.image_format.specs.Format.{Format, u8, unless, is_fine, checked}
 use Rattle.image_reader.specs.Grammar.{operand, fields_of, fields_format, instr_format, or_end}
-use Rattle.asm_format.specs.Mnemonics.{mnemonics, mnemonic, arity, named, operands_text, instr_line}
+use Rattle.asm_format.specs.Mnemonics.{mnemonics, mnemonic, named, operands_text, instr_line}
 use Rattle.text_fields.specs.Fields.{Is32}
 use Rattle.text_fields.specs.Front.{Front, Read, ◌>>=◌, end_read, line_start}
 use Rattle.text_fields.specs.LineFields.{is_digit}

@@ -7,12 +7,12 @@ use Rattle.std.specs.List.{list_all}
 use Rattle.std.proofs.lemmas.Bool.{lt-ltb, le-leb}
 use Rattle.std.proofs.lemmas.List.{take-append-drop}
 use Rattle.machine_isa.specs.declared.instr.Instr.{Instr}
-use Rattle.machine_isa.specs.Bytes.{number, operands}
+use Rattle.machine_isa.specs.Bytes.{arity, number, operands}
 use Rattle.machine_isa.specs.Numbered.{in_order, numbered}
 use Rattle.image_reader.specs.Grammar as g
 use Rattle.image_format.proofs.Booleans.{parts}
 use Rattle.image_reader.proofs.Words.{same_words}
-use Rattle.asm_format.specs.Mnemonics.{mnemonics, mnemonic, arity, named, operands_text, instr_line}
+use Rattle.asm_format.specs.Mnemonics.{mnemonics, mnemonic, named, operands_text, instr_line}
 use Rattle.text_fields.specs.Front.{Front, moved}
 use Rattle.asm_lines.specs.Names.{word_len}
 use Rattle.asm_lines.specs.Instrs.{place_from, number_of, operand_read, numbered_read, of_number, instr_read}

@@ -1,11 +1,8 @@
 //! Lines.
 
-ghost use Rattle.std.specs.Prelude.{◌≡◌, ◌++◌, [], decimal, map, slice_index_or, OnOk};
-ghost use Rattle.image.specs.Raw.{process_of};
+ghost use Rattle.std.specs.Prelude.{◌≡◌, ◌++◌, [], decimal, slice_index_or, OnOk};
 ghost use Rattle.command_due.specs.Lines.{slack_line, spaced};
-ghost use Rattle.valid_image.specs.Tasks.{with_rank as index_of_rank};
 
-use image::RawProc;
 use itoa::Buffer;
 use std::alloc::AllocError;
 use syntax_tree::{Name, Text};
@@ -18,18 +15,6 @@ pub fn name_at(names: &[Name], number: usize) -> &[u8]
         Some(name) => name.as_bytes(),
         None => b"",
     }
-}
-
-/// The index of the process of the rank, or how many there are where none has it.
-pub fn with_rank(processes: &[RawProc], rank: usize) -> usize
-    ensures { result ≡ index_of_rank rank 0 (map process_of processes.now) }
-{
-    for number in 0..processes.len() {
-        if processes[number].rank as usize == rank {
-            return number;
-        }
-    }
-    processes.len()
 }
 
 /// Puts a number at the end of a text.

@@ -7,9 +7,9 @@ ghost use Rattle.command_programs.specs.Levels.{AddsLine, AreTimelyTasks};
 ghost use Rattle.valid_image.specs.Valid.{HasLimits, IsValid};
 
 use crate::bounds::{bounds_with, level_of, spare_of};
-use crate::lines::{add_line, name_at, with_rank};
+use crate::lines::{add_line, name_at};
 use image::RawImage;
-use loader::task_set;
+use loader::{task_set, with_rank};
 use sched_response::TaskSet;
 use std::alloc::{AllocError, Global};
 use syntax_tree::Text;

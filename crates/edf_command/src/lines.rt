@@ -2,37 +2,13 @@
 
 ghost use Rattle.std.specs.Prelude.{◌≡◌, ◌++◌, length, map, IfOk, OnOk};
 ghost use Rattle.image.specs.Raw.{named_of, process_of};
-ghost use Rattle.sched_table.specs.Report.{with_number};
 ghost use Rattle.command_due.specs.Report.{edf_report, judgement_lines, points_text, process_line, processes_lines, times_text, verdict_text};
 
 use image::{RawImage, RawProc};
-use itoa::Buffer;
 use sched_demand::Judgement;
+use sched_table::{add_name, add_number};
 use std::alloc::{AllocError, Global};
 use syntax_tree::{Name, Text};
-
-/// The greatest number that is shown.
-const GREATEST: u64 = 1_000_000_000;
-
-/// Puts some words and a number at the end of a text.
-fn add_number(text: &mut Text, words: &str, number: u64) -> Result<(), AllocError>
-    ensures { OnOk result (text.new ≡ text.old ++ with_number words.now number) }
-{
-    text.extend(words.as_bytes())?;
-    if number > GREATEST {
-        return text.extend(b"over");
-    }
-    let mut buffer = Buffer::new();
-    text.extend(buffer.format(number).as_bytes())
-}
-
-/// Puts some words and a name at the end of a text.
-fn add_name(text: &mut Text, words: &str, name: &Name) -> Result<(), AllocError>
-    ensures { OnOk result (text.new ≡ text.old ++ (words.now ++ name.now)) }
-{
-    text.extend(words.as_bytes())?;
-    text.extend(name.as_bytes())
-}
 
 /// Puts the times of a process at the end of a text.
 #[tactic(auto, unfolding(command_due::specs::Report::times_text))]

@@ -1,8 +1,7 @@
 //! The tasks of an image.
 
-ghost use Rattle.std.specs.Prelude.{◌≡◌, map, slice_get, IfOk};
+ghost use Rattle.std.specs.Prelude.{◌≡◌, map, IfOk};
 ghost use Rattle.image.specs.Raw.{image_of, process_of};
-ghost use Rattle.valid_image.specs.Tasks.{task_of as declared_task, with_rank as index_of_rank};
 ghost use Rattle.valid_image.specs.Valid.{HasLimits};
 ghost use Rattle.code_measures.specs.Whole.{HasRanks};
 ghost use Rattle.sched_demand.specs.Demand.{AreTasks};
@@ -10,47 +9,11 @@ ghost use Rattle.command_due.specs.Tasks.{AreDemands, IsAnswer};
 ghost use Rattle.edf_command.specs.Listed.{demand_of, demands_of, last_block as block_of_last};
 
 use image::{RawImage, RawProc};
+use loader::{task_at, with_rank};
 use sched_demand::demand::each_set_has_one_reach;
 use sched_demand::{DTask, DemandSet, Judgement, judge};
 use sched_response::Task;
 use std::alloc::{AllocError, Global};
-
-/// The index of the process of the rank, or how many there are where none has it.
-fn with_rank(processes: &[RawProc], rank: usize) -> usize
-    ensures { result ≡ index_of_rank rank 0 (map process_of processes.now) }
-{
-    for number in 0..processes.len() {
-        if processes[number].rank as usize == rank {
-            return number;
-        }
-    }
-    processes.len()
-}
-
-/// What the process of the number declares of its activations.
-#[tactic(auto, using(loader::proofs::Declared::task_there))]
-fn declared_at(image: &RawImage, number: usize) -> Task
-    ensures { result ≡ declared_task (slice_get (image_of image.now).processes number) }
-{
-    match image.processes.get(number) {
-        Some(process) => Task {
-            frame: process.frame as u64,
-            deadline: process.deadline as u64,
-            run: process.run as u64,
-            susp: process.susp as u64,
-            waits: process.waits as u64,
-            block: process.block as u64,
-        },
-        None => Task {
-            frame: 0,
-            deadline: 0,
-            run: 0,
-            susp: 0,
-            waits: 0,
-            block: 0,
-        },
-    }
-}
 
 /// The block of the last process with the deadline in the order of ranks; 0 where none has it.
 fn last_block(processes: &[RawProc], deadline: u64) -> u64
@@ -87,7 +50,7 @@ fn tasks(alloc: Global, image: &RawImage) -> Result<Vec<DTask>, AllocError>
     let processes = image.processes.as_slice();
     let mut all = Vec::new(alloc);
     for level in 0..processes.len() {
-        let task = declared_at(image, with_rank(processes, level + 1));
+        let task = task_at(image, with_rank(processes, level + 1));
         all.push(task_with_block(processes, task))?;
     }
     Ok(all)

@@ -8,7 +8,7 @@ use Rattle.std.specs.Cmp.Lexicographic.{pointwise}
 use Rattle.syntax.specs.Spellings.{is_identifier, keywords}
 use Rattle.machine_isa.specs.declared.instr.Instr.{Instr}
 use Rattle.machine_isa.specs.declared.instr.Instr.TheVariants as i
-use Rattle.machine_isa.specs.Bytes.{number, operands, word_bytes}
+use Rattle.machine_isa.specs.Bytes.{arity, number, operands, word_bytes}
 use Rattle.machine_isa.specs.Numbered.{numbered}
 use Rattle.machine_semantics.specs.Image.{Monitor, Routine, Process}
 use Rattle.machine_semantics.specs.Trees.{Segs}
@@ -237,13 +237,6 @@ event_of p = if p.kind == 0 then [] else p.event ∷ []
 
 -- ---- code
 
--- how many operands the instruction of a number names
-abbrev pub operands_named : (number : ℕ) → ℕ
-operands_named n =
-    if (nat_le 14 n && nat_le n 28) || n == 36 || n == 37 || n == 48 then 0
-    else (if (nat_le 8 n && nat_le n 13) || n == 40 then 3
-    else (if n == 29 then 2 else 1))
-
 -- a signed number of four bytes
 abbrev pub word : Format ℤ
 word = record { write = word_bytes; is = λ z. int_eq z (cast_signed w32 (cast_unsigned w32 z)); read = field_at 4 (λ bytes. cast_signed w32 (from_be_bytes w32 bytes)) }
@@ -255,8 +248,8 @@ operand is_named = checked word (λ z. unless (is_named || int_eq z (pos 0)) 7)
 -- number and operands
 abbrev pub fields_format : Format (ℕ × (ℤ × (ℤ × ℤ)))
 fields_format =
-    both (checked u8 (λ n. unless (nat_le 1 n && nat_le n 48) 6)) (λ n. both (operand (nat_le 1 (operands_named n))) (λ a. both (operand (nat_le 2 (operands_named n))) (λ b.
-    operand (nat_le 3 (operands_named n)))))
+    both (checked u8 (λ n. unless (nat_le 1 n && nat_le n 48) 6)) (λ n. both (operand (nat_le 1 (arity n))) (λ a. both (operand (nat_le 2 (arity n))) (λ b.
+    operand (nat_le 3 (arity n)))))
 
 -- the instruction that has these, and what it has
 abbrev pub or_end : Option Instr → Instr

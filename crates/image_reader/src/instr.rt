@@ -3,23 +3,11 @@
 ghost use Rattle.std.specs.Prelude.{◌≡◌, ◌&&◌, nat_le};
 ghost use Rattle.image_format.specs.Gives.{Gives};
 ghost use Rattle.image_format.specs.Format.{checked, u8 as one_byte, unless};
-ghost use Rattle.image_reader.specs.Grammar.{instr_format, operand, operands_named as named, or_end, word};
+ghost use Rattle.image_reader.specs.Grammar.{instr_format, operand, or_end, word};
 ghost use Rattle.machine_isa.specs.Numbered.{numbered};
 
 use image_format::{Fault, ReadError, u8_at};
-use machine_isa::{Instr, instr_of};
-
-/// How many operands the instruction of a number names.
-fn operands_named(number: u8) -> u8
-    ensures { result ≡ named number }
-{
-    match number {
-        14..=28 | 36 | 37 | 48 => 0,
-        8..=13 | 40 => 3,
-        29 => 2,
-        _ => 1,
-    }
-}
+use machine_isa::{Instr, arity, instr_of};
 
 /// A signed number of four bytes, the highest first.
 fn word_at(bytes: &[u8]) -> Result<(i32, &[u8]), ReadError>
@@ -65,7 +53,7 @@ fn number_at(bytes: &[u8]) -> Result<(u8, &[u8]), ReadError>
 }
 
 /// The instruction of a number, or END where there is none.
-fn instr_or_end(number: u8, a: i32, b: i32, c: i32) -> Instr
+pub fn instr_or_end(number: u8, a: i32, b: i32, c: i32) -> Instr
     ensures { result ≡ or_end (numbered number a b c) }
 {
     match instr_of(number, a, b, c) {
@@ -79,7 +67,7 @@ pub fn instr_at(bytes: &[u8]) -> Result<(Instr, &[u8]), ReadError>
     ensures { Gives (λ x. (x.0, x.1.now)) result (instr_format.read bytes.now) }
 {
     let (number, rest) = number_at(bytes)?;
-    let named = operands_named(number);
+    let named = arity(number);
     let (first, rest) = operand_at(rest, 1 <= named)?;
     let (second, rest) = operand_at(rest, 2 <= named)?;
     let (third, rest) = operand_at(rest, 3 <= named)?;

@@ -21,4 +21,6 @@ mod trees;
 
 pub use fault::ImageFault;
 pub use image_reading_image::{Guarded, Named, Work, assemble, read_image};
+pub use instr::instr_or_end;
 pub use named::{Monitors, Processes};
+pub use names::is_plain_name;

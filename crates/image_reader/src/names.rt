@@ -81,7 +81,7 @@ fn length_at(bytes: &[u8]) -> Result<(u8, &[u8]), ReadError>
 }
 
 /// Whether the bytes are an identifier and no keyword.
-fn is_plain(name: &[u8]) -> bool
+pub fn is_plain_name(name: &[u8]) -> bool
     ensures { result ≡ (identifier_test name.now && not (has keywords name.now)) }
 {
     is_identifier(name) && !is_keyword(name)
@@ -91,7 +91,7 @@ fn is_plain(name: &[u8]) -> bool
 fn fresh_name(alloc: Global, bytes: &[u8], taken: &Taken) -> Result<Option<Name>, AllocError>
     ensures { IfOk result (Names taken.now bytes.now) }
 {
-    if !is_plain(bytes) {
+    if !is_plain_name(bytes) {
         return Ok(None);
     }
     let name = Name::new(alloc, bytes)?;

@@ -4,7 +4,7 @@ use Rattle.std.specs.Prelude.{nat_lt, nat_le, pos}
 use Rattle.std.specs.Ordering.{int_eq}
 use Rattle.std.proofs.lemmas.Bool.{ltb-true}
 use Rattle.machine_isa.specs.declared.instr.Instr.{Instr}
-use Rattle.machine_isa.specs.Bytes.{number, operands, word_bytes}
+use Rattle.machine_isa.specs.Bytes.{arity, number, operands, word_bytes}
 use Rattle.machine_isa.specs.Numbered.{numbered}
 use Rattle.image_format.specs.Format.{Format, u8, unless, is_fine, checked, both}
 use Rattle.image_reader.specs.Grammar as g
@@ -24,13 +24,13 @@ an_operand : (is_named : Bool) → Known integer (g.operand is_named)
 an_operand is_named = k.a_test integer g.word (λ z. is_named || int_eq z (pos 0)) 7 (omega arith) (omega arith) (k.a_field integer g.word 4 s.of_word)
 
 abbrev after_second : ℕ → Format ℤ
-after_second n = g.operand (nat_le 3 (g.operands_named n))
+after_second n = g.operand (nat_le 3 (arity n))
 
 abbrev after_first : ℕ → Format (ℤ × ℤ)
-after_first n = both (g.operand (nat_le 2 (g.operands_named n))) (λ b. after_second n)
+after_first n = both (g.operand (nat_le 2 (arity n))) (λ b. after_second n)
 
 abbrev after_number : ℕ → Format (ℤ × (ℤ × ℤ))
-after_number n = both (g.operand (nat_le 1 (g.operands_named n))) (λ a. after_first n)
+after_number n = both (g.operand (nat_le 1 (arity n))) (λ a. after_first n)
 
 abbrev number_format : Format ℕ
 number_format = checked u8 (λ n. unless (nat_le 1 n && nat_le n 48) 6)
@@ -41,8 +41,8 @@ fields_sort = pair natural (pair integer (pair integer integer))
 some_fields : Known fields_sort g.fields_format
 some_fields =
     k.a_pair natural (pair integer (pair integer integer)) number_format after_number (k.a_test natural u8 (λ n. nat_le 1 n && nat_le n 48) 6 (omega arith) (omega arith) k.byte) (λ n.
-    k.two integer (pair integer integer) (g.operand (nat_le 1 (g.operands_named n))) (after_first n) (an_operand (nat_le 1 (g.operands_named n)))
-    (k.two integer integer (g.operand (nat_le 2 (g.operands_named n))) (after_second n) (an_operand (nat_le 2 (g.operands_named n))) (an_operand (nat_le 3 (g.operands_named n)))))
+    k.two integer (pair integer integer) (g.operand (nat_le 1 (arity n))) (after_first n) (an_operand (nat_le 1 (arity n)))
+    (k.two integer integer (g.operand (nat_le 2 (arity n))) (after_second n) (an_operand (nat_le 2 (arity n))) (an_operand (nat_le 3 (arity n)))))
 
 -- ---- their bytes
 

@@ -9,7 +9,7 @@ use Rattle.std.proofs.lemmas.Int.{of_z-to_z}
 use Rattle.std.proofs.lemmas.Nat.{from_be_bytes-to_be_bytes_4}
 use Rattle.machine_isa.specs.declared.instr.Instr.{Instr}
 use Rattle.machine_isa.specs.declared.instr.Instr.TheVariants as i
-use Rattle.machine_isa.specs.Bytes.{number, operands, word_bytes, instr_bytes}
+use Rattle.machine_isa.specs.Bytes.{arity, number, operands, word_bytes, instr_bytes}
 use Rattle.machine_isa.specs.Numbered.{in_order, numbered}
 use mir.Val.{sel}
 use Rattle.image_format.specs.Numbers as written
@@ -92,7 +92,7 @@ masked true z = z
 masked false z = pos 0
 
 abbrev fields_with : ℕ → (a b c : ℤ) → ℕ × (ℤ × (ℤ × ℤ))
-fields_with n a b c = (n, (masked (nat_le 1 (g.operands_named n)) a, (masked (nat_le 2 (g.operands_named n)) b, masked (nat_le 3 (g.operands_named n)) c)))
+fields_with n a b c = (n, (masked (nat_le 1 (arity n)) a, (masked (nat_le 2 (arity n)) b, masked (nat_le 3 (arity n)) c)))
 
 abbrev fields_in : Instr → ℕ × (ℤ × (ℤ × ℤ))
 fields_in instr = g.fields_of (operands instr) (number instr)
@@ -259,13 +259,13 @@ operand_sound is_named = checked_sound g.word (λ z. unless (is_named || int_eq 
 -- ---- number and operands
 
 abbrev after_second : ℕ → Format ℤ
-after_second n = g.operand (nat_le 3 (g.operands_named n))
+after_second n = g.operand (nat_le 3 (arity n))
 
 abbrev after_first : ℕ → Format (ℤ × ℤ)
-after_first n = both (g.operand (nat_le 2 (g.operands_named n))) (λ b. after_second n)
+after_first n = both (g.operand (nat_le 2 (arity n))) (λ b. after_second n)
 
 abbrev after_number : ℕ → Format (ℤ × (ℤ × ℤ))
-after_number n = both (g.operand (nat_le 1 (g.operands_named n))) (λ a. after_first n)
+after_number n = both (g.operand (nat_le 1 (arity n))) (λ a. after_first n)
 
 abbrev number_format : Format ℕ
 number_format = checked u8 (λ n. unless (nat_le 1 n && nat_le n 48) 6)
@@ -273,8 +273,8 @@ number_format = checked u8 (λ n. unless (nat_le 1 n && nat_le n 48) 6)
 fields_sound : IsSound g.fields_format
 fields_sound =
     both_sound number_format after_number (checked_sound u8 (λ n. unless (nat_le 1 n && nat_le n 48) 6) u8_sound) (λ n.
-    both_sound (g.operand (nat_le 1 (g.operands_named n))) (λ a. after_first n) (operand_sound (nat_le 1 (g.operands_named n))) (λ a.
-    both_sound (g.operand (nat_le 2 (g.operands_named n))) (λ b. after_second n) (operand_sound (nat_le 2 (g.operands_named n))) (λ b. operand_sound (nat_le 3 (g.operands_named n)))))
+    both_sound (g.operand (nat_le 1 (arity n))) (λ a. after_first n) (operand_sound (nat_le 1 (arity n))) (λ a.
+    both_sound (g.operand (nat_le 2 (arity n))) (λ b. after_second n) (operand_sound (nat_le 2 (arity n))) (λ b. operand_sound (nat_le 3 (arity n)))))
 
 fine_is : (b : Bool) (n : ℕ) → is_fine (unless b n) ≡ true → b ≡ true
 fine_is true n h = refl
@@ -293,11 +293,11 @@ there x h =
     let ends = parts (nat_le 1 n) (nat_le n 48) range in
     let low : 1 ≤ n = leb-true 1 n ends.0 in
     let high : n ≤ 48 = leb-true n 48 ends.1 in
-    let first = parts ((g.operand (nat_le 1 (g.operands_named n))).is x.1.0) ((after_first n).is x.1.1) front.1 in
-    let second = parts ((g.operand (nat_le 2 (g.operands_named n))).is x.1.1.0) ((after_second n).is x.1.1.1) first.1 in
-    let a = unmasked (nat_le 1 (g.operands_named n)) x.1.0 (parts (is_word x.1.0) _ first.0).1 in
-    let b = unmasked (nat_le 2 (g.operands_named n)) x.1.1.0 (parts (is_word x.1.1.0) _ second.0).1 in
-    let c = unmasked (nat_le 3 (g.operands_named n)) x.1.1.1 (parts (is_word x.1.1.1) _ second.1).1 in
+    let first = parts ((g.operand (nat_le 1 (arity n))).is x.1.0) ((after_first n).is x.1.1) front.1 in
+    let second = parts ((g.operand (nat_le 2 (arity n))).is x.1.1.0) ((after_second n).is x.1.1.1) first.1 in
+    let a = unmasked (nat_le 1 (arity n)) x.1.0 (parts (is_word x.1.0) _ first.0).1 in
+    let b = unmasked (nat_le 2 (arity n)) x.1.1.0 (parts (is_word x.1.1.0) _ second.0).1 in
+    let c = unmasked (nat_le 3 (arity n)) x.1.1.1 (parts (is_word x.1.1.1) _ second.1).1 in
     numbered_in n x.1.0 x.1.1.0 x.1.1.1 low high ∙ rw (a, b, c) refl
 
 abbrev instr_with : ℕ × (ℤ × (ℤ × ℤ)) → Instr

@@ -6,7 +6,7 @@ use Rattle.std.specs.Int.{w32, cast_signed, from_be_bytes}
 use Rattle.std.specs.List.{All}
 use Rattle.std.proofs.lemmas.Bool.Decides.{nat_tests}
 use Rattle.machine_isa.specs.declared.instr.Instr.{Instr}
-use Rattle.machine_isa.specs.Bytes.{number, operands}
+use Rattle.machine_isa.specs.Bytes.{arity, number, operands}
 use Rattle.machine_isa.specs.Numbered.{numbered}
 use Rattle.machine_semantics.specs.Image.{Monitor, Routine, Process}
 use Rattle.machine_semantics.specs.Trees.{Segs, Nil}
@@ -272,12 +272,12 @@ operand_brings : {n : ℕ} (is_named : Bool) → Brings n (g.operand is_named) A
 operand_brings is_named = checked_any (λ z. unless (is_named || int_eq z (pos 0)) 7) (word_brings g.word (λ bytes. cast_signed w32 (from_be_bytes w32 bytes)) (λ bytes. refl))
 
 abbrev after_number : ℕ → Format (ℤ × (ℤ × ℤ))
-after_number k = both (g.operand (nat_le 1 (g.operands_named k))) (λ a. both (g.operand (nat_le 2 (g.operands_named k))) (λ b. g.operand (nat_le 3 (g.operands_named k))))
+after_number k = both (g.operand (nat_le 1 (arity k))) (λ a. both (g.operand (nat_le 2 (arity k))) (λ b. g.operand (nat_le 3 (arity k))))
 
 fields_brings : {n : ℕ} → Brings n g.fields_format Any
 fields_brings =
     weaker Any (λ x h. tt) (both_brings after_number (λ k. Any) (checked_any (λ k. unless (nat_le 1 k && nat_le k 48) 6) u8_brings) (λ k h. weaker Any (λ x h. tt)
-    (then_brings (operand_brings (nat_le 1 (g.operands_named k))) (then_brings (operand_brings (nat_le 2 (g.operands_named k))) (operand_brings (nat_le 3 (g.operands_named k)))))))
+    (then_brings (operand_brings (nat_le 1 (arity k))) (then_brings (operand_brings (nat_le 2 (arity k))) (operand_brings (nat_le 3 (arity k)))))))
 
 pub instr_brings : {n : ℕ} → Brings n g.instr_format Any
 instr_brings = via_brings (λ (x : ℕ × (ℤ × (ℤ × ℤ))). g.or_end (numbered x.0 x.1.0 x.1.1.0 x.1.1.1)) (λ instr. g.fields_of (operands instr) (number instr)) Any (λ x h. tt) fields_brings

@@ -20,7 +20,7 @@ mod reached;
 mod sizes;
 mod tests_in_order;
 
-pub use bounds::{bound_fault, declared_fault, task_set};
+pub use bounds::{bound_fault, declared_fault, task_at, task_set, with_rank};
 pub use costs::cost_fault;
 pub use due::{ceiling_of, needed_block, rank_of};
 pub use handlers::{handler_fault, tree_waits, waits_table};

@@ -1,6 +1,6 @@
 -- The 13 bytes of each instruction: its number, and three signed numbers of 32 bits with the
 -- highest byte first, of which those that it does not name are 0.
-use Rattle.std.specs.Prelude.{◌≡◌, ℕ, ℤ, pos, List, [], ◌∷◌, flat_map, FitsSigned}
+use Rattle.std.specs.Prelude.{◌≡◌, ◌&&◌, ◌||◌, ◌==◌, ℕ, ℤ, pos, List, [], ◌∷◌, flat_map, nat_le, if◌then◌else◌, FitsSigned}
 use Rattle.std.specs.Int.{w32, cast_unsigned}
 use Rattle.byteorder.specs.Endian.{big_bytes}
 use Rattle.machine_isa.specs.declared.instr.Instr.{Instr}
@@ -56,6 +56,13 @@ number (i.In device) = 45
 number (i.Out device) = 46
 number (i.Raise raised) = 47
 number i.End = 48
+
+-- how many operands the instruction of a number names
+abbrev pub arity : (number : ℕ) → ℕ
+arity n =
+    if (nat_le 14 n && nat_le n 28) || n == 36 || n == 37 || n == 48 then 0
+    else (if (nat_le 8 n && nat_le n 13) || n == 40 then 3
+    else (if n == 29 then 2 else 1))
 
 -- its three operands: those that it names, then zeros
 abbrev pub operands : Instr → List ℤ

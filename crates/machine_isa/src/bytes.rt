@@ -2,7 +2,7 @@
 
 ghost use Rattle.std.specs.Prelude.{◌≡◌, ◌≤◌, ◌+◌, length, IfSome};
 ghost use Rattle.machine_isa.specs.declared.instr.Instr.{Instr};
-ghost use Rattle.machine_isa.specs.Bytes.{HasWords, instr_bytes, number as number_of, operands};
+ghost use Rattle.machine_isa.specs.Bytes.{HasWords, arity as arity_of, instr_bytes, number as number_of, operands};
 ghost use Rattle.machine_isa.specs.Numbered.{named_by, numbered, word_at as word};
 
 use crate::instr::Instr;
@@ -66,6 +66,18 @@ fn fields_of(instr: &Instr) -> (u8, [i32; 3])
         Instr::Out { device } => (46, [device, 0, 0]),
         Instr::Raise { number } => (47, [number, 0, 0]),
         Instr::End => (48, [0, 0, 0]),
+    }
+}
+
+/// How many operands the instruction of a number names.
+pub fn arity(number: u8) -> u8
+    ensures { result ≡ arity_of number }
+{
+    match number {
+        14..=28 | 36 | 37 | 48 => 0,
+        8..=13 | 40 => 3,
+        29 => 2,
+        _ => 1,
     }
 }
 

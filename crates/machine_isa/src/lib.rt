@@ -15,7 +15,7 @@ mod instr;
 mod isa;
 mod timing;
 
-pub use bytes::{instr_of, read_instr, write_instr};
+pub use bytes::{arity, instr_of, read_instr, write_instr};
 pub use instr::Instr;
 pub use isa::instructions_are_distinct;
 pub use timing::ticks;

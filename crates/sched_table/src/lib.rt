@@ -17,7 +17,7 @@ mod table;
 mod table_law;
 
 pub use json::report_json;
-pub use lines::report;
+pub use lines::{add_name, add_number, report};
 pub use make::make_table;
 pub use table::{Row, Size, Table};
 pub use table_law::timely_tables_respond;

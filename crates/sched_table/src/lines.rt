@@ -16,8 +16,9 @@ use syntax_tree::{Name, Text};
 /// The greatest number that is shown.
 pub(crate) const GREATEST: u64 = 1_000_000_000;
 
-/// Puts some words and a number at the end of a text.
-fn add_number(text: &mut Text, words: &str, number: u64) -> Result<(), AllocError>
+/// Puts some words and a number at the end of a text; `over` in place of a number above
+/// 1,000,000,000. After an error, which is that memory is short, the text may hold a part of it.
+pub fn add_number(text: &mut Text, words: &str, number: u64) -> Result<(), AllocError>
     ensures { OnOk result (text.new ≡ text.old ++ with_number words.now number) }
 {
     text.extend(words.as_bytes())?;
@@ -41,8 +42,9 @@ fn add_optional(text: &mut Text, words: &str, number: Option<u64>) -> Result<(),
     }
 }
 
-/// Puts some words and a name at the end of a text.
-fn add_name(text: &mut Text, words: &str, name: &Name) -> Result<(), AllocError>
+/// Puts some words and a name at the end of a text. After an error, which is that memory is short,
+/// the text may hold a part of it.
+pub fn add_name(text: &mut Text, words: &str, name: &Name) -> Result<(), AllocError>
     ensures { OnOk result (text.new ≡ text.old ++ (words.now ++ name.now)) }
 {
     text.extend(words.as_bytes())?;

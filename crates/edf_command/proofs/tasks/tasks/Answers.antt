@@ -18,8 +18,8 @@ loop-level-preserved c =
     let next : level + 1 ≡ suc level = omega arith in
     one_more_task image level (length c.args.image.now.processes) c.loop-level.all.items c.push.new.self.items c.task_with_block.result low c.loop-level.invariant c.in_ok-push.ensures.items
     (c.task_with_block.ensures
-    ∙ (ap (λ (ps : List Process). demand_of ps c.declared_at-task.result) same
+    ∙ (ap (λ (ps : List Process). demand_of ps c.task_at-task.result) same
     ∙ ap (λ (t : Task). demand_of image.processes t)
-    (c.declared_at-task.ensures
+    (c.task_at-task.ensures
     ∙ ap (λ (k : ℕ). task_of (slice_get image.processes k))
     (c.with_rank.ensures ∙ (ap (λ (ps : List Process). with_rank (level + 1) 0 ps) same ∙ ap (λ (r : ℕ). with_rank r 0 image.processes) next)))))
