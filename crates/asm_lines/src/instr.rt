@@ -9,7 +9,7 @@ use crate::names::word_len;
 use image_reader::instr_or_end;
 use machine_isa::{Instr, arity};
 use text_fields::numbers::signed;
-use text_fields::{At, Fault, ReadError, end_line, skip};
+use text_fields::{At, Fault, ReadError, end_line, refusal, skip};
 
 /// The names of the instructions, by their numbers from 1.
 const MNEMONICS: [&str; 48] = [
@@ -79,7 +79,7 @@ pub fn instr_line(at: At<'_>) -> Result<(Instr, At<'_>), ReadError>
     match number_named(word) {
         Some(number) => numbered_at(number, after),
         None => Err(ReadError::Fault(Fault {
-            number: 1,
+            number: refusal::FORM,
             left: at.start,
         })),
     }

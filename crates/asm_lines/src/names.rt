@@ -11,7 +11,7 @@ use image_reader::is_plain_name;
 use std::alloc::Global;
 use syntax_tree::Name;
 use text_fields::{
-    At, Fault, ReadError, begins_with, end_line, field, note, numeral, short_field, skip,
+    At, Fault, ReadError, begins_with, end_line, field, note, numeral, refusal, short_field, skip,
 };
 
 /// Whether the name is one of these.
@@ -50,7 +50,7 @@ fn name_at<'a>(alloc: Global, at: At<'a>, taken: &[Name]) -> Result<(Name, At<'a
     let len = word_len(at.rest);
     if len == 0 {
         return Err(ReadError::Fault(Fault {
-            number: 1,
+            number: refusal::FORM,
             left: at.start,
         }));
     }
@@ -142,13 +142,13 @@ fn ceiling_below(number: Option<u32>, at: At<'_>) -> Result<(u16, At<'_>), ReadE
                 Ok((ceiling as u16, at))
             } else {
                 Err(ReadError::Fault(Fault {
-                    number: 1,
+                    number: refusal::FORM,
                     left: at.start,
                 }))
             }
         }
         None => Err(ReadError::Fault(Fault {
-            number: 1,
+            number: refusal::FORM,
             left: at.start,
         })),
     }

@@ -14,7 +14,7 @@ use image::RawProc;
 use image_format::SegTree;
 use std::alloc::Global;
 use syntax_tree::{List, Name};
-use text_fields::{At, Fault, ReadError, begins_with, end_line, field, note, short_field};
+use text_fields::{At, Fault, ReadError, begins_with, end_line, field, note, refusal, short_field};
 
 /// The longest time within which an activation may have to end.
 const LONGEST_FRAME: u32 = 1_000_000_000;
@@ -199,7 +199,7 @@ fn more_numbers(alloc: Global, most: usize, at: At<'_>) -> Result<(List<u16>, At
         place = after;
     }
     Err(ReadError::Fault(Fault {
-        number: 1,
+        number: refusal::FORM,
         left: place.start,
     }))
 }
@@ -211,7 +211,7 @@ fn numbers(alloc: Global, at: At<'_>) -> Result<(List<u16>, At<'_>), ReadError>
 {
     if begins_with(at.rest, b"\n") {
         return Err(ReadError::Fault(Fault {
-            number: 1,
+            number: refusal::FORM,
             left: at.start,
         }));
     }

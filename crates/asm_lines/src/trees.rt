@@ -8,7 +8,9 @@ ghost use Rattle.asm_lines.specs.Trees.{arm_read, call_read, fork_read, line_rea
 use crate::form::is_tree_first;
 use image_format::{Seg, SegTree, Segs};
 use std::alloc::Global;
-use text_fields::{At, Fault, ReadError, begins_with, end_line, field, note, short_field, skip};
+use text_fields::{
+    At, Fault, ReadError, begins_with, end_line, field, note, refusal, short_field, skip,
+};
 
 /// How deep trees nest at most.
 const DEEPEST: u32 = 130;
@@ -161,7 +163,7 @@ fn segs_at(
         place = after;
     }
     Err(ReadError::Fault(Fault {
-        number: 1,
+        number: refusal::FORM,
         left: place.start,
     }))
 }
@@ -180,7 +182,7 @@ fn tree_at(
 {
     if depth == 0 {
         return Err(ReadError::Fault(Fault {
-            number: 2,
+            number: refusal::RANGE,
             left: at.start,
         }));
     }
@@ -196,7 +198,7 @@ pub fn tree_line(alloc: Global, monitors: usize, at: At<'_>) -> Result<(SegTree,
     let has_form = is_tree_first(alloc, at.rest)?;
     if !has_form {
         return Err(ReadError::Fault(Fault {
-            number: 1,
+            number: refusal::FORM,
             left: at.start,
         }));
     }

@@ -12,7 +12,7 @@ use asm_lines::instr_line;
 use machine_isa::Instr;
 use std::alloc::Global;
 use syntax_tree::List;
-use text_fields::{At, Fault, ReadError, begins_with, end_line, skip};
+use text_fields::{At, Fault, ReadError, begins_with, end_line, refusal, skip};
 
 /// How many instructions there are at most.
 const MOST_INSTRS: usize = 65_535;
@@ -50,7 +50,7 @@ fn no_line(at: At<'_>) -> ReadError
     ensures { Refuses result (front at.entry) }
 {
     let wrong = ReadError::Fault(Fault {
-        number: 2,
+        number: refusal::RANGE,
         left: at.start,
     });
     if is_end(at.rest) {
@@ -72,7 +72,7 @@ fn no_instr(at: At<'_>) -> Result<At<'_>, ReadError>
     }
     instr_line(at)?;
     Err(ReadError::Fault(Fault {
-        number: 2,
+        number: refusal::RANGE,
         left: at.start,
     }))
 }
@@ -121,7 +121,7 @@ pub fn finish(at: At<'_>) -> Result<At<'_>, ReadError>
         Ok(at)
     } else {
         Err(ReadError::Fault(Fault {
-            number: 1,
+            number: refusal::FORM,
             left: at.start,
         }))
     }

@@ -2,6 +2,9 @@
 
 use thiserror::Error;
 
+/// The number of the fault of a text that is too long.
+pub const LONG_TEXT: u8 = 3;
+
 /// Why a text was refused. A fault of the text prints as its number and its line.
 #[derive(Clone, Copy, Debug, PartialEq, Eq, Error)]
 pub enum AsmFault {

@@ -12,5 +12,5 @@ mod names;
 mod text;
 mod work;
 
-pub use fault::AsmFault;
+pub use fault::{AsmFault, LONG_TEXT};
 pub use text::asm;

@@ -13,7 +13,7 @@ use image::{CondName, DevName};
 use image_reader::Monitors;
 use std::alloc::{AllocError, Global};
 use syntax_tree::{List, Name};
-use text_fields::{At, Fault, ReadError, begins_with};
+use text_fields::{At, Fault, ReadError, begins_with, refusal};
 
 /// How many devices there are at most.
 const MOST_DEVICES: usize = 64;
@@ -43,7 +43,7 @@ fn no_device<'a>(alloc: Global, at: At<'a>, taken: &[Name]) -> Result<At<'a>, Re
     }
     device_line(alloc, at, taken)?;
     Err(ReadError::Fault(Fault {
-        number: 2,
+        number: refusal::RANGE,
         left: at.start,
     }))
 }
@@ -82,7 +82,7 @@ fn no_event<'a>(alloc: Global, at: At<'a>, taken: &[Name]) -> Result<At<'a>, Rea
     }
     event_line(alloc, at, taken)?;
     Err(ReadError::Fault(Fault {
-        number: 2,
+        number: refusal::RANGE,
         left: at.start,
     }))
 }
@@ -121,7 +121,7 @@ fn no_monitor<'a>(alloc: Global, at: At<'a>, taken: &[Name]) -> Result<At<'a>, R
     }
     monitor_line(alloc, at, taken)?;
     Err(ReadError::Fault(Fault {
-        number: 2,
+        number: refusal::RANGE,
         left: at.start,
     }))
 }
@@ -171,7 +171,7 @@ fn no_condition<'a>(
     }
     condition_line(alloc, at, taken, monitors, earlier)?;
     Err(ReadError::Fault(Fault {
-        number: 2,
+        number: refusal::RANGE,
         left: at.start,
     }))
 }

@@ -11,7 +11,7 @@ ghost use Rattle.image_reader.specs.Held as held;
 ghost use Rattle.assembler.specs.Sections.{guarded_read, is_complete as complete_test, line_at, named_read, owners_in, text_read, work_read};
 
 use crate::code::{are_used, code_at, finish};
-use crate::fault::AsmFault;
+use crate::fault::{AsmFault, LONG_TEXT};
 use crate::names::{conditions_at, devices_at, events_at, monitors_at, take};
 use crate::work::{processes_at, routines_at};
 use asm_lines::head_line;
@@ -177,7 +177,10 @@ pub fn asm(alloc: Global, text: &[u8]) -> Result<RawImage, AsmFault>
     ensures { Tells text.now result }
 {
     if LONGEST < text.len() {
-        return Err(AsmFault::Bad { number: 3, line: 0 });
+        return Err(AsmFault::Bad {
+            number: LONG_TEXT,
+            line: 0,
+        });
     }
     match image_at(alloc, text) {
         Ok(image) => Ok(image),

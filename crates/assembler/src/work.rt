@@ -16,7 +16,7 @@ use image::{RawProc, RawRoutine};
 use image_reader::Processes;
 use std::alloc::{AllocError, Global};
 use syntax_tree::{List, Name};
-use text_fields::{At, Fault, ReadError, begins_with};
+use text_fields::{At, Fault, ReadError, begins_with, refusal};
 
 /// How many routines there are at most.
 const MOST_ROUTINES: usize = 512;
@@ -33,7 +33,7 @@ fn no_routine(at: At<'_>, owners: usize, monitors: usize) -> Result<At<'_>, Read
     }
     routine_line(at, owners, monitors)?;
     Err(ReadError::Fault(Fault {
-        number: 2,
+        number: refusal::RANGE,
         left: at.start,
     }))
 }
@@ -88,7 +88,7 @@ fn no_process<'a>(
     }
     process_line(alloc, at, events, taken, used)?;
     Err(ReadError::Fault(Fault {
-        number: 2,
+        number: refusal::RANGE,
         left: at.start,
     }))
 }

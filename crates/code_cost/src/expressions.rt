@@ -12,6 +12,7 @@ ghost use Rattle.code_cost.specs.Forms.{args_size, argument, call_size, check as
 
 use crate::measure::{Known, Measure, run};
 use codegen_spec::{Area, Callee, Lookup, Loop, Range, Spot};
+use machine_isa::Instr;
 use syntax_tree::{Expr, Name, Op};
 
 /// The ticks of a load of what a name means.
@@ -46,7 +47,7 @@ pub fn check(range: Option<Range>) -> Measure
 {
     match range {
         None => Measure::nothing(),
-        Some(_) => Measure::of(3, 0, 1),
+        Some(_) => Measure::instr(&Instr::Range { low: 0, high: 0 }, 0),
     }
 }
 
@@ -193,7 +194,9 @@ pub fn expr<L: Lookup>(names: &L, rows: &[Known], loops: &[Loop], expr: &Expr) -
         (inside loops.now (L.scope names.now)) rows.now (plain_expr (placed_expr expr.now)) }
 {
     match expr {
-        Expr::Literal { .. } | Expr::True { .. } | Expr::False { .. } => Measure::of(1, 1, 1),
+        Expr::Literal { .. } | Expr::True { .. } | Expr::False { .. } => {
+            Measure::instr(&Instr::Push { value: 0 }, 1)
+        }
         Expr::Variable { name, .. } => Measure::of(load(names.variable(loops, name)), 1, 1),
         Expr::Element { name, index, .. } => {
             let element = load_at(names.variable(loops, name));
@@ -201,10 +204,16 @@ pub fn expr<L: Lookup>(names: &L, rows: &[Known], loops: &[Loop], expr: &Expr) -
         }
         Expr::Call { name, args, .. } => routine_call(names, rows, loops, name, args.as_slice()),
         Expr::Minus { operand, .. } => {
-            crate::expressions::expr(names, rows, loops, operand).then(Measure::of(2, 0, 1))
+            crate::expressions::expr(names, rows, loops, operand).then(Measure::instr(
+                &Instr::Neg,
+                0,
+            ))
         }
         Expr::Not { operand, .. } => {
-            crate::expressions::expr(names, rows, loops, operand).then(Measure::of(1, 0, 1))
+            crate::expressions::expr(names, rows, loops, operand).then(Measure::instr(
+                &Instr::Not,
+                0,
+            ))
         }
         Expr::Paren { inner, .. } => crate::expressions::expr(names, rows, loops, inner),
         Expr::Chain { first, rest } => {

@@ -2,9 +2,11 @@
 
 ghost use Rattle.std.specs.Prelude.{◌≡◌, ◌+◌};
 ghost use Rattle.base.specs.Capped.{cap as capped};
+ghost use Rattle.machine_isa.specs.Ticks.{ticks as ticks_of};
 ghost use Rattle.code_cost.specs.Sums.{above, added, called, forked, held, joined, larger, looped, nothing, of, running, uncalled};
 
 use base::{Cost, OVER};
+use machine_isa::{Instr, ticks};
 
 /// What stands for every height and every length above it.
 pub const MOST: u64 = 2_147_483_647;
@@ -83,6 +85,13 @@ impl Measure {
             height,
             length,
         }
+    }
+
+    /// One instruction, and so many words of stack.
+    pub fn instr(instr: &Instr, height: u64) -> Measure
+        ensures { result ≡ of (ticks_of instr.now) height 1 }
+    {
+        Measure::of(u64::from(ticks(instr)), height, 1)
     }
 
     pub fn nothing() -> Measure

@@ -14,6 +14,7 @@ use crate::measure::{Known, Measure, cap, hold};
 use crate::statements::stmts;
 use base::Cost;
 use codegen_spec::{Lookup, Lookups, Owner, Range};
+use machine_isa::Instr;
 use std::alloc::{AllocError, Global};
 use syntax_tree::{Handler, List, Proc, Routine, Scalar};
 
@@ -90,7 +91,7 @@ fn row<L: Lookup>(
     let inner = inner(alloc, names, rows, routine)?;
     let (frame, stay) = match names.owner() {
         Owner::Monitor { .. } => (Measure::of(12, 0, 3), cap(inner.cost.run, 3)),
-        Owner::Program | Owner::Process { .. } => (Measure::of(4, 0, 1), 0),
+        Owner::Program | Owner::Process { .. } => (Measure::instr(&Instr::Return, 0), 0),
     };
     let size = inner.then(frame);
     Ok(Known {
@@ -166,7 +167,7 @@ fn process<L: Lookup>(
     let mut loops = Vec::new(alloc);
     let body = stmts(alloc, names, rows, &mut loops, process.body.as_slice())?;
     let handler = handler(alloc, names, rows, &process.handler)?;
-    let size = body.then(handler).then(Measure::of(4, 0, 1));
+    let size = body.then(handler).then(Measure::instr(&Instr::End, 0));
     Ok(ProcessMeasure {
         cost: size.cost,
         stack: hold(loop_words(process), size.height),

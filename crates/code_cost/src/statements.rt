@@ -14,6 +14,7 @@ use crate::expressions::{call, check, expr, load, load_at, routine_call};
 use crate::measure::{Known, Measure};
 use base::{Cost, OVER};
 use codegen_spec::{Lookup, Loop, Spot};
+use machine_isa::Instr;
 use std::alloc::{AllocError, Global};
 use syntax_tree::{Constant, Expr, Name, Ref, Stmt};
 
@@ -171,7 +172,7 @@ pub fn stmt<L: Lookup>(
                 rows,
                 around,
                 target,
-                Measure::of(3, 1, 1),
+                Measure::instr(&Instr::Empty { condition: 0 }, 1),
                 Measure::of(ticks, 0, 1),
             )
         }
@@ -214,20 +215,24 @@ pub fn stmt<L: Lookup>(
             let turn = body(alloc, names, rows, loops, name, inner.as_slice())?;
             turn.times(turns(names, low, high))
         }
-        Stmt::ExitWhen { test, .. } => expr(names, rows, loops.as_slice(), test).then(Measure::of(
-            3, 0, 1,
-        )),
+        Stmt::ExitWhen { test, .. } => {
+            let exit = Measure::instr(&Instr::Exit { to: 0 }, 0);
+            expr(names, rows, loops.as_slice(), test).then(exit)
+        }
         Stmt::Get { target, .. } => {
             let around = loops.as_slice();
             let store = put(names.variable(around, &target.name), target);
-            assign(names, rows, around, target, Measure::of(10, 1, 1), store)
+            let input = Measure::instr(&Instr::In { device: 0 }, 1);
+            assign(names, rows, around, target, input, store)
         }
-        Stmt::Put { value, .. } => expr(names, rows, loops.as_slice(), value).then(Measure::of(
-            10, 0, 1,
-        )),
+        Stmt::Put { value, .. } => {
+            let output = Measure::instr(&Instr::Out { device: 0 }, 0);
+            expr(names, rows, loops.as_slice(), value).then(output)
+        }
         Stmt::Wait { limit: most, .. } => wait(limit(names, most)),
-        Stmt::Signal { .. } | Stmt::Broadcast { .. } => Measure::of(5, 0, 1),
-        Stmt::Except { .. } => Measure::of(4, 0, 1),
+        Stmt::Signal { .. } => Measure::instr(&Instr::Signal { condition: 0 }, 0),
+        Stmt::Broadcast { .. } => Measure::instr(&Instr::Broadcast { condition: 0 }, 0),
+        Stmt::Except { .. } => Measure::instr(&Instr::Raise { number: 0 }, 0),
         Stmt::Assert { test, .. } => expr(names, rows, loops.as_slice(), test).then(Measure::of(
             6, 0, 3,
         )),

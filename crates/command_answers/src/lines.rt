@@ -16,7 +16,7 @@ ghost use Rattle.script.specs.declared.fault.ScriptFault.TheVariants as bad;
 
 use event_log::LogFault;
 use itoa::Buffer;
-use script::ScriptFault;
+use script::{ScriptFault, refusal};
 use std::alloc::{AllocError, Global};
 use syntax_tree::{Place, Text};
 
@@ -81,7 +81,7 @@ pub fn valid_fault_line(alloc: Global, number: u8, a: u64, b: u64) -> Result<Tex
 fn add_ticks(text: &mut Text, number: u8, a: u64, b: u64) -> Result<(), AllocError>
     ensures { OnOk result (text.new ≡ text.old ++ script.ticks_line number a b) }
 {
-    if number != 4 {
+    if number != refusal::SOON {
         return Ok(());
     }
     add_number(text, " ", a)?;

@@ -12,7 +12,7 @@ use crate::acts::put;
 use crate::reading::Content;
 use crate::{Act, Status, script_fault_line};
 use image::ImageNames;
-use script::{Script, ScriptFault, read_script};
+use script::{Script, ScriptFault, read_script, refusal};
 use std::alloc::{AllocError, Global};
 
 /// The script that the text of a file is, for these names.
@@ -37,7 +37,7 @@ pub fn judge_script(
     match content {
         Content::Bytes(text) => read_script(alloc, text.as_slice(), names),
         Content::Long => Err(ScriptFault::Bad {
-            number: 6,
+            number: refusal::LONG,
             line: 0,
             a: 0,
             b: 0,

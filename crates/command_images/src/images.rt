@@ -21,6 +21,7 @@ use command_answers::{
     valid_fault_line,
 };
 use image::{RawImage, write_image};
+use image_format::refusal;
 use image_reader_law::images_read_can_be_written;
 use outside::Files;
 use std::alloc::{AllocError, Global};
@@ -52,8 +53,8 @@ pub fn load_content(alloc: Global, content: &Content) -> Result<RawImage, FileFa
     match content {
         Content::Bytes(bytes) => load_bytes(alloc, bytes.as_slice()),
         Content::Long => Err(FileFault::Image {
-            number: 9,
-            offset: 8_388_608,
+            number: refusal::LONG,
+            offset: LONGEST_IMAGE as u32,
         }),
     }
 }

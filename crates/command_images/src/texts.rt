@@ -20,12 +20,14 @@ ghost use Rattle.command_images.specs.Held.{HasNames};
 
 use crate::images::store_image;
 use crate::{TextFault, load_text};
+use assembler::LONG_TEXT;
 use command_answers::{
     Act, Content, LONGEST_IMAGE, LONGEST_IMAGE_TEXT, Status, Store, Unready, image_fault_line, put,
     read, text_fault_line, valid_fault_line,
 };
 use disassembler::dis;
 use image::RawImage;
+use image_format::refusal;
 use image_reader::{ImageFault, read_image};
 use image_reader_law::images_read_can_be_written;
 use outside::Files;
@@ -55,7 +57,10 @@ fn load_content(alloc: Global, content: &Content) -> Result<RawImage, TextFault>
 {
     match content {
         Content::Bytes(text) => load_lines(alloc, text.as_slice()),
-        Content::Long => Err(TextFault::Text { number: 3, line: 0 }),
+        Content::Long => Err(TextFault::Text {
+            number: LONG_TEXT,
+            line: 0,
+        }),
     }
 }
 
@@ -137,8 +142,8 @@ fn read_content(alloc: Global, content: &Content) -> Result<RawImage, ImageFault
     match content {
         Content::Bytes(bytes) => read_bytes(alloc, bytes.as_slice()),
         Content::Long => Err(ImageFault::Bad {
-            number: 9,
-            offset: 8_388_608,
+            number: refusal::LONG,
+            offset: LONGEST_IMAGE as u32,
         }),
     }
 }

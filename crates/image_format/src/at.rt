@@ -6,16 +6,20 @@ ghost use Rattle.image_format.specs.Format.{u8 as one_byte, u16 as two_bytes, u3
 ghost use Rattle.image_format.specs.TreeFormat.{u16_below as below, u32_within as long_within};
 
 use crate::fault::Fault;
+use crate::refusal;
 
 /// The fault of bytes that end inside a field.
-const ENDS: Fault = Fault { number: 2, left: 0 };
+const ENDS: Fault = Fault {
+    number: refusal::ENDS,
+    left: 0,
+};
 
 /// The fault of a number outside its range, where so many bytes are left from its place on.
 fn outside(bytes: &[u8]) -> Fault
     ensures { result ≡ record { number = 4; left = length bytes.now } }
 {
     Fault {
-        number: 4,
+        number: refusal::RANGE,
         left: bytes.len(),
     }
 }

@@ -22,6 +22,7 @@ mod format_put;
 mod items;
 mod limits;
 mod reading;
+pub mod refusal;
 mod seg;
 mod seg_bytes_put;
 mod segs;

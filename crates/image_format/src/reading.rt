@@ -7,7 +7,7 @@ ghost use Rattle.image_format.specs.Rows.{row_read, seg_within, tree_within};
 ghost use Rattle.image_format.specs.Stands.{inner_nesting, item_in, nesting, tree_in};
 
 use crate::view::{SegBytes, SegItem};
-use crate::{Fault, Limits, u8_at, u16_at, u16_below, u32_at, u32_within};
+use crate::{Fault, Limits, refusal, u8_at, u16_at, u16_below, u32_at, u32_within};
 
 /// How deep the trees of an image nest at most.
 pub const DEEPEST: u32 = 130;
@@ -52,7 +52,10 @@ fn tagged_at(
         }
         6 => Ok((SegItem::Wait, bytes)),
         7 => Ok((SegItem::Exit, bytes)),
-        _ => Err(Fault { number: 6, left }),
+        _ => Err(Fault {
+            number: refusal::KIND,
+            left,
+        }),
     }
 }
 
@@ -109,7 +112,7 @@ pub fn tree_at(limits: Limits, depth: u32, bytes: &[u8]) -> Result<(SegBytes<'_>
 {
     if depth == 0 {
         return Err(Fault {
-            number: 4,
+            number: refusal::RANGE,
             left: bytes.len(),
         });
     }

@@ -6,7 +6,9 @@ ghost use Rattle.image_format.specs.Gives.{Gives};
 ghost use Rattle.image_format.specs.TreeFormat.{segs_read, tagged, within_limits};
 ghost use Rattle.image_format.specs.Rows.{seg_within, tree_within};
 
-use crate::{Fault, Limits, ReadError, Seg, Segs, u8_at, u16_at, u16_below, u32_at, u32_within};
+use crate::{
+    Fault, Limits, ReadError, Seg, Segs, refusal, u8_at, u16_at, u16_below, u32_at, u32_within,
+};
 use std::alloc::Global;
 
 /// The segment of a tag, whose fields the bytes begin with; `left` counts them and the tag. Its
@@ -49,7 +51,10 @@ fn tagged_at(
         }
         6 => Ok((Seg::Wait, bytes)),
         7 => Ok((Seg::Exit, bytes)),
-        _ => Err(ReadError::Fault(Fault { number: 6, left })),
+        _ => Err(ReadError::Fault(Fault {
+            number: refusal::KIND,
+            left,
+        })),
     }
 }
 
@@ -105,7 +110,7 @@ pub(crate) fn tree_at(
 {
     if depth == 0 {
         return Err(ReadError::Fault(Fault {
-            number: 4,
+            number: refusal::RANGE,
             left: bytes.len(),
         }));
     }

@@ -13,6 +13,7 @@ use crate::bounds::bound_fault;
 use crate::fault::ValidFault;
 use crate::shape::Shape;
 use image::RawImage;
+use loader::part;
 use std::alloc::Global;
 use std::marker::Model;
 use valid_image_law::valid_law::every_valid_image_is_safe_and_in_time;
@@ -49,7 +50,7 @@ impl Image {
         match bound_fault(&shape) {
             None => Ok(Image { shape }),
             Some(shown) => Err(ValidFault::Bad {
-                number: 5,
+                number: part::BOUNDS,
                 a: shown.a,
                 b: shown.b,
             }),

@@ -5,7 +5,7 @@ ghost use Rattle.image_format.specs.Gives.{Gives};
 ghost use Rattle.image_format.specs.TreeFormat.{u16_within as short_within};
 ghost use Rattle.image_reader.specs.Grammar.{cost, flag_format};
 
-use image_format::{Fault, ReadError, u8_at, u16_at, u32_within};
+use image_format::{Fault, ReadError, refusal, u8_at, u16_at, u32_within};
 
 /// The longest time that is told.
 const LONGEST_COST: u32 = 1_000_000_001;
@@ -19,7 +19,7 @@ pub fn u16_within(bytes: &[u8], low: u16, high: u16) -> Result<(u16, &[u8]), Rea
         Ok((number, rest))
     } else {
         Err(ReadError::Fault(Fault {
-            number: 4,
+            number: refusal::RANGE,
             left: bytes.len(),
         }))
     }

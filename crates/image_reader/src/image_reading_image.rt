@@ -17,7 +17,7 @@ use crate::named::{Monitors, Processes, monitors_at, processes_at};
 use crate::names::{bytes_at, name_at};
 use crate::taken::Taken;
 use image::{CondName, DevName, EventName, ImageNames, RawImage, RawProc, RawRoutine};
-use image_format::{Fault, ReadError, u16_at};
+use image_format::{Fault, ReadError, refusal, u16_at};
 use machine_isa::Instr;
 use std::alloc::{AllocError, Global};
 use syntax_tree::{List, Name};
@@ -31,7 +31,7 @@ fn magic_at(bytes: &[u8]) -> Result<((), &[u8]), ReadError>
         Ok(((), rest))
     } else {
         Err(ReadError::Fault(Fault {
-            number: 1,
+            number: refusal::NO_IMAGE,
             left: bytes.len(),
         }))
     }
@@ -46,7 +46,7 @@ fn version_at(bytes: &[u8]) -> Result<(bool, &[u8]), ReadError>
         1 => Ok((false, rest)),
         2 => Ok((true, rest)),
         _ => Err(ReadError::Fault(Fault {
-            number: 1,
+            number: refusal::NO_IMAGE,
             left: bytes.len(),
         })),
     }
@@ -90,10 +90,10 @@ fn code_at<'a>(
         return instrs_at(alloc, bytes, count);
     }
     let number = match (count, bytes) {
-        (0, [_, ..]) => 3,
-        (0, []) => 4,
-        (_, []) => 2,
-        (_, [_, ..]) => 4,
+        (0, [_, ..]) => refusal::MORE,
+        (0, []) => refusal::RANGE,
+        (_, []) => refusal::ENDS,
+        (_, [_, ..]) => refusal::RANGE,
     };
     Err(ReadError::Fault(Fault {
         number,
@@ -323,7 +323,7 @@ fn whole_at(alloc: Global, bytes: &[u8]) -> Result<(bool, RawImage), ReadError>
         Ok((has_deadlines, image))
     } else {
         Err(ReadError::Fault(Fault {
-            number: 3,
+            number: refusal::MORE,
             left: rest.len(),
         }))
     }
@@ -341,8 +341,8 @@ pub fn read_image(alloc: Global, bytes: &[u8]) -> Result<RawImage, ImageFault>
 {
     if LONGEST < bytes.len() {
         return Err(ImageFault::Bad {
-            number: 9,
-            offset: 8_388_608,
+            number: refusal::LONG,
+            offset: LONGEST as u32,
         });
     }
     match whole_at(alloc, bytes) {

@@ -6,7 +6,7 @@ ghost use Rattle.image_format.specs.Format.{checked, u8 as one_byte, unless};
 ghost use Rattle.image_reader.specs.Grammar.{instr_format, operand, or_end, word};
 ghost use Rattle.machine_isa.specs.Numbered.{numbered};
 
-use image_format::{Fault, ReadError, u8_at};
+use image_format::{Fault, ReadError, refusal, u8_at};
 use machine_isa::{Instr, arity, instr_of};
 
 /// A signed number of four bytes, the highest first.
@@ -14,7 +14,10 @@ fn word_at(bytes: &[u8]) -> Result<(i32, &[u8]), ReadError>
     ensures { Gives (λ x. (x.0, x.1.now)) result (word.read bytes.now) }
 {
     if bytes.len() < 4 {
-        return Err(ReadError::Fault(Fault { number: 2, left: 0 }));
+        return Err(ReadError::Fault(Fault {
+            number: refusal::ENDS,
+            left: 0,
+        }));
     }
     let (front, rest) = bytes.split_at(4);
     let number = i32::from_be_bytes([front[0], front[1], front[2], front[3]]);
@@ -30,7 +33,7 @@ fn operand_at(bytes: &[u8], is_named: bool) -> Result<(i32, &[u8]), ReadError>
         Ok((value, rest))
     } else {
         Err(ReadError::Fault(Fault {
-            number: 7,
+            number: refusal::NOT_ZERO,
             left: bytes.len(),
         }))
     }
@@ -46,7 +49,7 @@ fn number_at(bytes: &[u8]) -> Result<(u8, &[u8]), ReadError>
         Ok((number, rest))
     } else {
         Err(ReadError::Fault(Fault {
-            number: 6,
+            number: refusal::KIND,
             left: bytes.len(),
         }))
     }

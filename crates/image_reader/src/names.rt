@@ -10,7 +10,7 @@ ghost use Rattle.image_reader.specs.Grammar.{has, name_format};
 ghost use Rattle.image_reader.specs.Taken.{Names};
 
 use crate::taken::Taken;
-use image_format::{Fault, ReadError, u8_at};
+use image_format::{Fault, ReadError, refusal, u8_at};
 use std::alloc::{AllocError, Global};
 use syntax::keyword_at;
 use syntax_tree::Name;
@@ -59,7 +59,10 @@ pub fn bytes_at(bytes: &[u8], size: usize) -> Result<(&[u8], &[u8]), ReadError>
     ensures { Gives (λ x. (x.0.now, x.1.now)) result ((bytes_as_are size).read bytes.now) }
 {
     if bytes.len() < size {
-        return Err(ReadError::Fault(Fault { number: 2, left: 0 }));
+        return Err(ReadError::Fault(Fault {
+            number: refusal::ENDS,
+            left: 0,
+        }));
     }
     let (front, rest) = bytes.split_at(size);
     Ok((front, rest))
@@ -74,7 +77,7 @@ fn length_at(bytes: &[u8]) -> Result<(u8, &[u8]), ReadError>
         Ok((length, rest))
     } else {
         Err(ReadError::Fault(Fault {
-            number: 4,
+            number: refusal::RANGE,
             left: bytes.len(),
         }))
     }
@@ -115,7 +118,7 @@ pub fn name_at<'a>(
     match fresh_name(alloc, name, taken)? {
         Some(name) => Ok((name, rest)),
         None => Err(ReadError::Fault(Fault {
-            number: 5,
+            number: refusal::NAME,
             left: bytes.len(),
         })),
     }

@@ -12,7 +12,7 @@ use crate::names::name_at;
 use crate::taken::{Earlier, Taken};
 use crate::trees::tree_at;
 use image::{CondName, DevName, RawMon, RawRoutine};
-use image_format::{Fault, ReadError, u8_at, u16_at, u16_below, u32_at, u32_within};
+use image_format::{Fault, ReadError, refusal, u8_at, u16_at, u16_below, u32_at, u32_within};
 use std::alloc::Global;
 
 /// How deep trees nest at most.
@@ -66,7 +66,7 @@ pub fn condition_at<'a>(
     match earlier.unless_again(name, mon) {
         Some(condition) => Ok((condition, rest)),
         None => Err(ReadError::Fault(Fault {
-            number: 5,
+            number: refusal::NAME,
             left: bytes.len(),
         })),
     }
@@ -82,7 +82,7 @@ pub fn kind_at(bytes: &[u8], last: u8) -> Result<(u8, &[u8]), ReadError>
         Ok((kind, rest))
     } else {
         Err(ReadError::Fault(Fault {
-            number: 6,
+            number: refusal::KIND,
             left: bytes.len(),
         }))
     }
@@ -93,9 +93,9 @@ fn owner_fault(counts: &Counts, kind: u8, owner: u16) -> Option<u8>
     ensures { result ≡ wrong_owner counts.now kind owner }
 {
     let (is_right, number) = match kind {
-        0 => (owner == 0, 7),
-        1 => (owner < counts.processes, 4),
-        _ => (owner < counts.monitors, 4),
+        0 => (owner == 0, refusal::NOT_ZERO),
+        1 => (owner < counts.processes, refusal::RANGE),
+        _ => (owner < counts.monitors, refusal::RANGE),
     };
     if is_right { None } else { Some(number) }
 }
@@ -161,7 +161,7 @@ fn stay_at(bytes: &[u8], kind: u8) -> Result<(u32, &[u8]), ReadError>
         Ok((stay, rest))
     } else {
         Err(ReadError::Fault(Fault {
-            number: 7,
+            number: refusal::NOT_ZERO,
             left: bytes.len(),
         }))
     }

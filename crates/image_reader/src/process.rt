@@ -14,7 +14,7 @@ use crate::fields::cost_at;
 use crate::parts::{DEEPEST, kind_at};
 use crate::trees::tree_at;
 use image::RawProc;
-use image_format::{Fault, ReadError, SegTree, u16_at, u32_at, u32_within};
+use image_format::{Fault, ReadError, SegTree, refusal, u16_at, u32_at, u32_within};
 use std::alloc::Global;
 use syntax_tree::List;
 
@@ -44,7 +44,7 @@ fn first_at(bytes: &[u8], kind: u8) -> Result<(u32, &[u8]), ReadError>
         Ok((first, rest))
     } else {
         Err(ReadError::Fault(Fault {
-            number: 7,
+            number: refusal::NOT_ZERO,
             left: bytes.len(),
         }))
     }
@@ -55,8 +55,8 @@ fn event_fault(events: u16, used: &[u16], kind: u8, event: u16) -> Option<u8>
     ensures { result ≡ wrong_event events used.now kind event }
 {
     let (is_right, number) = match kind {
-        0 => (event == 0, 7),
-        _ => (event < events && !used.contains(&event), 4),
+        0 => (event == 0, refusal::NOT_ZERO),
+        _ => (event < events && !used.contains(&event), refusal::RANGE),
     };
     if is_right { None } else { Some(number) }
 }
@@ -198,7 +198,7 @@ fn handler_at(bytes: &[u8]) -> Result<((u32, u16), &[u8]), ReadError>
         Ok(((handler, count), rest))
     } else {
         Err(ReadError::Fault(Fault {
-            number: 7,
+            number: refusal::NOT_ZERO,
             left: bytes.len(),
         }))
     }
@@ -221,7 +221,7 @@ fn number_at(bytes: &[u8], last: u16) -> Result<(u16, &[u8]), ReadError>
         Ok((number, rest))
     } else {
         Err(ReadError::Fault(Fault {
-            number: 8,
+            number: refusal::HANDLER,
             left: bytes.len(),
         }))
     }

@@ -14,6 +14,7 @@ mod bounds;
 mod costs;
 mod due;
 mod handlers;
+pub mod part;
 mod parts;
 mod ranks;
 mod reached;

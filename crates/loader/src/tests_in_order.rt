@@ -16,7 +16,7 @@ ghost use Rattle.valid_image.specs.Valid.{Bounds, Ranks, HasLimits, fault_of, sh
 ghost use Rattle.loader.specs.Verified.{shown_by, code_fault_of, declared_fault_of, fault_before_bounds as first_before_bounds, HasRanges};
 
 use crate::{
-    Parts, bound_fault, cost_fault, handler_fault, longest_stays, rank_fault, shape_fault,
+    Parts, bound_fault, cost_fault, handler_fault, longest_stays, part, rank_fault, shape_fault,
     size_fault, task_set, waits_table,
 };
 use image::RawImage;
@@ -50,7 +50,7 @@ fn bounds_fault(alloc: Global, raw: &RawImage) -> Result<Option<Numbered>, Alloc
 {
     let set = task_set(alloc, raw)?;
     match bound_fault(raw, &set) {
-        Some(shown) => Ok(Some(of_part(5, shown))),
+        Some(shown) => Ok(Some(of_part(part::BOUNDS, shown))),
         None => Ok(None),
     }
 }
@@ -62,7 +62,7 @@ fn ranks_fault(alloc: Global, raw: &RawImage) -> Result<Option<Numbered>, AllocE
 {
     let stays = longest_stays(alloc, raw)?;
     match rank_fault(raw, &stays) {
-        Some(shown) => Ok(Some(of_part(4, shown))),
+        Some(shown) => Ok(Some(of_part(part::RANKS, shown))),
         None => Ok(None),
     }
 }
@@ -87,7 +87,7 @@ pub fn fault_before_bounds(alloc: Global, raw: &RawImage) -> Result<Option<Numbe
     ensures { IfOk result (λ found. shown_by found ≡ first_before_bounds (image_of raw.now)) }
 {
     match operand_fault(alloc, raw)? {
-        Some(shown) => Ok(Some(of_part(6, shown))),
+        Some(shown) => Ok(Some(of_part(part::OPERANDS, shown))),
         None => later_fault(alloc, raw),
     }
 }
@@ -110,9 +110,9 @@ fn declared_fault(raw: &RawImage, parts: &Parts) -> Option<Numbered>
     ensures { shown_by result ≡ declared_fault_of (image_of raw.now) }
 {
     match cost_fault(raw, parts) {
-        Some(shown) => Some(of_part(2, shown)),
+        Some(shown) => Some(of_part(part::COSTS, shown)),
         None => match size_fault(raw, parts) {
-            Some(shown) => Some(of_part(3, shown)),
+            Some(shown) => Some(of_part(part::SIZES, shown)),
             None => None,
         },
     }
@@ -127,7 +127,7 @@ fn after_trees(alloc: Global, raw: &RawImage, parts: &Parts) -> Result<Option<Nu
 {
     let waits = waits_table(alloc, raw)?;
     match handler_fault(raw, waits.as_slice()) {
-        Some(shown) => Ok(Some(of_part(7, shown))),
+        Some(shown) => Ok(Some(of_part(part::HANDLERS, shown))),
         None => Ok(declared_fault(raw, parts)),
     }
 }
@@ -139,7 +139,7 @@ fn code_fault(alloc: Global, raw: &RawImage) -> Result<Option<Numbered>, AllocEr
 {
     let mut parts = Parts::new(alloc);
     match shape_fault(raw, &mut parts)? {
-        Some(shown) => Ok(Some(of_part(1, shown))),
+        Some(shown) => Ok(Some(of_part(part::SHAPE, shown))),
         None => after_trees(alloc, raw, &parts),
     }
 }

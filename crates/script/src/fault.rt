@@ -1,5 +1,6 @@
 //! Why a text is no script.
 
+use crate::refusal;
 use std::alloc::AllocError;
 use std::fmt::{self, Display, Formatter, Write};
 use thiserror::Error;
@@ -49,7 +50,7 @@ struct Ticks {
 
 impl Display for Ticks {
     fn fmt<W: Write>(&self, f: &mut Formatter<W>) -> Result<(), fmt::Error> {
-        if self.number == 4 {
+        if self.number == refusal::SOON {
             write!(f, " {} {}", self.a, self.b)
         } else {
             Ok(())

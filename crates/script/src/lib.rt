@@ -20,6 +20,7 @@ mod numbers;
 mod past;
 mod read;
 mod reader;
+pub mod refusal;
 mod script;
 mod script_law;
 mod script_laws;

@@ -11,6 +11,7 @@ use crate::names::copy_image_names;
 use crate::numbers::{Numbers, device_numbers, event_numbers};
 use crate::past::Past;
 use crate::reader::{Next, bad, judge_next};
+use crate::refusal;
 use crate::script::Script;
 use image::ImageNames;
 use std::alloc::Global;
@@ -42,7 +43,7 @@ fn end_with(
     }
     match judge_next(names, devices, events, past, bytes, number) {
         Err(fault) => Err(fault),
-        Ok(_) => Err(bad(5, number)),
+        Ok(_) => Err(bad(refusal::END, number)),
     }
 }
 
@@ -69,7 +70,7 @@ fn next_within<'a>(
         Err(fault) => Err(fault),
         Ok(next) => {
             if past.lines.len() == MOST_LINES {
-                return Err(bad(6, number));
+                return Err(bad(refusal::LONG, number));
             }
             Ok(next)
         }
@@ -117,7 +118,7 @@ fn read_lines(
             }
         }
     }
-    Err(bad(5, past.lines.len() as u32 + 1))
+    Err(bad(refusal::END, past.lines.len() as u32 + 1))
 }
 
 /// The script that the text is, for these names. Devices and events are found by their names.
@@ -136,7 +137,7 @@ pub fn read_script(alloc: Global, text: &[u8], names: &ImageNames) -> Result<Scr
     ensures fault { IfErr result (λ fault. (fault ≡ Memory) ⊎ IsFault names.now text.now fault) }
 {
     if text.len() > LONGEST_TEXT {
-        return Err(bad(6, 0));
+        return Err(bad(refusal::LONG, 0));
     }
     let devices = device_numbers(alloc, names)?;
     let events = event_numbers(alloc, names)?;

@@ -11,6 +11,7 @@ use crate::fault::{Flaw, ScriptFault};
 use crate::line::{Line, read_line};
 use crate::numbers::Numbers;
 use crate::past::Past;
+use crate::refusal;
 use crate::script::ScriptLine;
 use image::ImageNames;
 use text_fields::cut_at;
@@ -46,10 +47,10 @@ fn fault(line: u32, flaw: Flaw) -> ScriptFault
     ensures { result ≡ flaw_fault line flaw }
 {
     match flaw {
-        Flaw::Unknown => bad(2, line),
-        Flaw::Early => bad(3, line),
+        Flaw::Unknown => bad(refusal::UNKNOWN, line),
+        Flaw::Early => bad(refusal::EARLY, line),
         Flaw::Soon { last, tick } => ScriptFault::Bad {
-            number: 4,
+            number: refusal::SOON,
             line,
             a: last,
             b: tick,
@@ -92,13 +93,13 @@ pub fn judge_next<'a>(
         IsLineFault names.now past.now.lines bytes.now number fault) }
 {
     match first_line(bytes) {
-        None => Err(bad(1, number)),
+        None => Err(bad(refusal::FORM, number)),
         Some(First { line, rest }) => match past.judge(names, devices, events, line) {
             Err(flaw) => Err(fault(number, flaw)),
             Ok(Some(line)) => Ok(Next::Line { line, rest }),
             Ok(None) => match line {
                 Line::End { tick } => Ok(Next::End { tick, rest }),
-                _ => Err(bad(1, number)),
+                _ => Err(bad(refusal::FORM, number)),
             },
         },
     }

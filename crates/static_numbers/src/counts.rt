@@ -46,17 +46,41 @@ fn tried(declarations: &Declarations<'_>, places: &Places) -> Option<Broken>
     let processes = places.processes.as_slice();
     let mut first = None;
     blame(&mut first, rule::COUNT, at_no(program.place, processes));
-    blame(&mut first, rule::COUNT, one_too_many(MOST_OF_A_KIND, processes));
+    blame(
+        &mut first,
+        rule::COUNT,
+        one_too_many(MOST_OF_A_KIND, processes),
+    );
     let monitors = places.monitors.as_slice();
-    blame(&mut first, rule::COUNT, one_too_many(MOST_OF_A_KIND, monitors));
+    blame(
+        &mut first,
+        rule::COUNT,
+        one_too_many(MOST_OF_A_KIND, monitors),
+    );
     let devices = places.devices.as_slice();
-    blame(&mut first, rule::COUNT, one_too_many(MOST_OF_A_KIND, devices));
+    blame(
+        &mut first,
+        rule::COUNT,
+        one_too_many(MOST_OF_A_KIND, devices),
+    );
     let events = places.events.as_slice();
-    blame(&mut first, rule::COUNT, one_too_many(MOST_OF_A_KIND, events));
+    blame(
+        &mut first,
+        rule::COUNT,
+        one_too_many(MOST_OF_A_KIND, events),
+    );
     let conditions = places.conditions.as_slice();
-    blame(&mut first, rule::CONDITION_COUNT, one_too_many(MOST_CONDITIONS, conditions));
+    blame(
+        &mut first,
+        rule::CONDITION_COUNT,
+        one_too_many(MOST_CONDITIONS, conditions),
+    );
     let routines = places.routines.as_slice();
-    blame(&mut first, rule::ROUTINE_COUNT, one_too_many(MOST_ROUTINES, routines));
+    blame(
+        &mut first,
+        rule::ROUTINE_COUNT,
+        one_too_many(MOST_ROUTINES, routines),
+    );
     blame(&mut first, rule::VARIABLE_WORDS, too_many(declarations));
     first
 }

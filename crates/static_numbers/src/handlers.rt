@@ -76,7 +76,11 @@ fn number(
         ((before : List (SpecConstant SpecPlace)) → HasValues worth values.old.keys before →
         HasValues worth values.new.keys (before ++ placed_constant number.now ∷ [])) }
 {
-    blame(first, rule::WRONG_HANDLER, repeated(declarations, values, number)?);
+    blame(
+        first,
+        rule::WRONG_HANDLER,
+        repeated(declarations, values, number)?,
+    );
     blame(first, rule::WRONG_NUMBER, bad_number(declarations, number));
     Ok(())
 }

@@ -4,6 +4,7 @@ ghost use Rattle.std.specs.Prelude.{◌≡◌, length, true};
 ghost use Rattle.text_fields.specs.Front.{Gives, front, begins, noted, skip as skip_read, end_read};
 
 use crate::fault::{Fault, ReadError};
+use crate::refusal;
 
 /// A place in a line: the text from there on, how many bytes of the text were left where the line
 /// begins, and whether all before the place in the line is in its range.
@@ -45,7 +46,7 @@ pub fn skip<'a>(at: At<'a>, word: &[u8]) -> Result<At<'a>, ReadError>
 {
     if !begins_with(at.rest, word) {
         return Err(ReadError::Fault(Fault {
-            number: 1,
+            number: refusal::FORM,
             left: at.start,
         }));
     }
@@ -76,7 +77,7 @@ pub fn end_line(at: At<'_>) -> Result<At<'_>, ReadError>
     let at = skip(at, b"\n")?;
     if !at.is_fine {
         return Err(ReadError::Fault(Fault {
-            number: 2,
+            number: refusal::RANGE,
             left: at.start,
         }));
     }

@@ -14,6 +14,7 @@ mod cut;
 mod fault;
 pub mod fields_number;
 pub mod numbers;
+pub mod refusal;
 
 pub use at::{At, begins_with, end_line, note, skip};
 pub use cut::{Cut, cut_at, is_same, is_word};

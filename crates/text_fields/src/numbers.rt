@@ -6,6 +6,7 @@ ghost use Rattle.text_fields.specs.LineFields.{digits_len as digits_front, field
 
 use crate::at::{At, begins_with, note, skip};
 use crate::fault::{Fault, ReadError};
+use crate::refusal;
 
 /// Whether the byte is a digit.
 pub fn is_digit(byte: u8) -> bool
@@ -56,7 +57,7 @@ pub fn numeral(at: At<'_>) -> Result<(Option<u32>, At<'_>), ReadError>
     let (digits, rest) = at.rest.split_at(len);
     if !is_numeral(digits) {
         return Err(ReadError::Fault(Fault {
-            number: 1,
+            number: refusal::FORM,
             left: at.start,
         }));
     }
@@ -127,7 +128,7 @@ fn negative(number: Option<u32>, at: At<'_>) -> Result<(i32, At<'_>), ReadError>
     match number {
         None => Ok((0, note(at, false))),
         Some(0) => Err(ReadError::Fault(Fault {
-            number: 1,
+            number: refusal::FORM,
             left: at.start,
         })),
         Some(size) => {
