@@ -1,319 +1,88 @@
 //! Logs of small programs that are runs of them, and logs that are none.
 
-ghost use Rattle.source_semantics_law.specs.ByDeadline.{by_deadline, by_deadline_script, shorter_frame_first_log};
-ghost use Rattle.source_semantics_law.specs.Example.{late_signal, late_signal_script, one_put, one_put_script, raise_inside, raise_inside_script, signalled_wait, signalled_wait_script, three_ranks, three_ranks_script, two_waiters};
+ghost use Rattle.source_semantics_law.specs.ByDeadline.{by_deadline, by_deadline_log, by_deadline_script, shorter_frame_first_log};
+ghost use Rattle.source_semantics_law.specs.Example.{by_event, by_event_log, by_event_script, handled_range, handled_range_log, handled_range_script, late_signal, late_signal_log, late_signal_script, least_word, least_word_log, least_word_script, long_wait, long_wait_log, long_wait_script, loop_and_function, loop_and_function_log, loop_and_function_script, mine, mine_log, mine_script, mine_woken, mine_woken_log, mine_woken_script, one_put, one_put_log, one_put_script, overflow, overflow_log, overflow_script, raise_inside, raise_inside_log, raise_inside_script, signalled_wait, signalled_wait_log, signalled_wait_script, three_ranks, three_ranks_log, three_ranks_script, two_waiters, two_waiters_log, two_waiters_script};
 ghost use Rattle.source_semantics_law.specs.NoRun.{before_occupant_log, ends_early_log, last_signalled_log, out_of_order_log, overrun_log, release_missing_log, released_twice_log, signal_late_log, time_out_late_log, until};
 ghost use Rattle.source_semantics.specs.Source.{IsSourceRun};
 
-use base::{Act, Event};
+/// The log of one process that puts a number is a run.
+pub fn one_put_runs()
+    ensures { IsSourceRun one_put one_put_script one_put_log }
+{}
 
-/// The log of one process that puts a number.
-pub fn one_put_log() -> [Event; 3]
-    ensures { IsSourceRun one_put one_put_script result }
-{
-    [
-        Event {
-            tick: 0,
-            proc: 0,
-            act: Act::Release,
-        },
-        Event {
-            tick: 10,
-            proc: 0,
-            act: Act::Put { dev: 0, value: 7 },
-        },
-        Event {
-            tick: 14,
-            proc: 0,
-            act: Act::End,
-        },
-    ]
-}
+/// The log of three processes of which two enter a monitor is a run: one runs on at the
+/// ceiling.
+pub fn three_ranks_runs()
+    ensures { IsSourceRun three_ranks three_ranks_script three_ranks_log }
+{}
 
-/// The log of three processes of which two enter a monitor: one runs on at the ceiling.
-pub fn three_ranks_log() -> [Event; 11]
-    ensures { IsSourceRun three_ranks three_ranks_script result }
-{
-    [
-        Event {
-            tick: 0,
-            proc: 0,
-            act: Act::Release,
-        },
-        Event {
-            tick: 10,
-            proc: 0,
-            act: Act::Enter { mon: 0 },
-        },
-        Event {
-            tick: 12,
-            proc: 1,
-            act: Act::Release,
-        },
-        Event {
-            tick: 14,
-            proc: 2,
-            act: Act::Release,
-        },
-        Event {
-            tick: 24,
-            proc: 2,
-            act: Act::Put { dev: 0, value: 1 },
-        },
-        Event {
-            tick: 28,
-            proc: 2,
-            act: Act::End,
-        },
-        Event {
-            tick: 37,
-            proc: 0,
-            act: Act::Leave { mon: 0 },
-        },
-        Event {
-            tick: 48,
-            proc: 1,
-            act: Act::Enter { mon: 0 },
-        },
-        Event {
-            tick: 60,
-            proc: 1,
-            act: Act::Leave { mon: 0 },
-        },
-        Event {
-            tick: 68,
-            proc: 1,
-            act: Act::End,
-        },
-        Event {
-            tick: 76,
-            proc: 0,
-            act: Act::End,
-        },
-    ]
-}
+/// The log of a wait that is signalled at the last permitted tick is a run.
+pub fn signalled_wait_runs()
+    ensures { IsSourceRun signalled_wait signalled_wait_script signalled_wait_log }
+{}
 
-/// The log of a wait that is signalled at the last permitted tick.
-pub fn signalled_wait_log() -> [Event; 11]
-    ensures { IsSourceRun signalled_wait signalled_wait_script result }
-{
-    [
-        Event {
-            tick: 0,
-            proc: 0,
-            act: Act::Release,
-        },
-        Event {
-            tick: 10,
-            proc: 0,
-            act: Act::Enter { mon: 0 },
-        },
-        Event {
-            tick: 16,
-            proc: 0,
-            act: Act::Wait { cond: 0 },
-        },
-        Event {
-            tick: 31,
-            proc: 1,
-            act: Act::Release,
-        },
-        Event {
-            tick: 41,
-            proc: 1,
-            act: Act::Enter { mon: 0 },
-        },
-        Event {
-            tick: 46,
-            proc: 1,
-            act: Act::Signal {
-                cond: 0,
-                woken: Some(0),
-            },
-        },
-        Event {
-            tick: 49,
-            proc: 1,
-            act: Act::Leave { mon: 0 },
-        },
-        Event {
-            tick: 53,
-            proc: 0,
-            act: Act::Enter { mon: 0 },
-        },
-        Event {
-            tick: 56,
-            proc: 0,
-            act: Act::Leave { mon: 0 },
-        },
-        Event {
-            tick: 64,
-            proc: 0,
-            act: Act::End,
-        },
-        Event {
-            tick: 72,
-            proc: 1,
-            act: Act::End,
-        },
-    ]
-}
+/// The log of the same wait, which times out a tick before the signal, is a run.
+pub fn late_signal_runs()
+    ensures { IsSourceRun late_signal late_signal_script late_signal_log }
+{}
 
-/// The log of the same wait, which times out a tick before the signal.
-pub fn late_signal_log() -> [Event; 11]
-    ensures { IsSourceRun late_signal late_signal_script result }
-{
-    [
-        Event {
-            tick: 0,
-            proc: 0,
-            act: Act::Release,
-        },
-        Event {
-            tick: 10,
-            proc: 0,
-            act: Act::Enter { mon: 0 },
-        },
-        Event {
-            tick: 16,
-            proc: 0,
-            act: Act::Wait { cond: 0 },
-        },
-        Event {
-            tick: 32,
-            proc: 1,
-            act: Act::Release,
-        },
-        Event {
-            tick: 42,
-            proc: 1,
-            act: Act::Enter { mon: 0 },
-        },
-        Event {
-            tick: 47,
-            proc: 0,
-            act: Act::TimeOut {
-                cond: 0,
-                number: 10,
-            },
-        },
-        Event {
-            tick: 47,
-            proc: 1,
-            act: Act::Signal {
-                cond: 0,
-                woken: None,
-            },
-        },
-        Event {
-            tick: 50,
-            proc: 1,
-            act: Act::Leave { mon: 0 },
-        },
-        Event {
-            tick: 61,
-            proc: 0,
-            act: Act::Put { dev: 0, value: 1 },
-        },
-        Event {
-            tick: 65,
-            proc: 0,
-            act: Act::End,
-        },
-        Event {
-            tick: 73,
-            proc: 1,
-            act: Act::End,
-        },
-    ]
-}
+/// The log of an exception that is raised inside a monitor, which it leaves, is a run.
+pub fn raise_inside_runs()
+    ensures { IsSourceRun raise_inside raise_inside_script raise_inside_log }
+{}
 
-/// The log of an exception that is raised inside a monitor, which it leaves.
-pub fn raise_inside_log() -> [Event; 8]
-    ensures { IsSourceRun raise_inside raise_inside_script result }
-{
-    [
-        Event {
-            tick: 0,
-            proc: 0,
-            act: Act::Release,
-        },
-        Event {
-            tick: 0,
-            proc: 1,
-            act: Act::Release,
-        },
-        Event {
-            tick: 10,
-            proc: 0,
-            act: Act::Enter { mon: 0 },
-        },
-        Event {
-            tick: 14,
-            proc: 0,
-            act: Act::Raise { number: 12 },
-        },
-        Event {
-            tick: 18,
-            proc: 0,
-            act: Act::End,
-        },
-        Event {
-            tick: 29,
-            proc: 1,
-            act: Act::Enter { mon: 0 },
-        },
-        Event {
-            tick: 32,
-            proc: 1,
-            act: Act::Leave { mon: 0 },
-        },
-        Event {
-            tick: 40,
-            proc: 1,
-            act: Act::End,
-        },
-    ]
-}
+/// The log of a value outside its subrange, and of the handler that takes this, is a run.
+pub fn handled_range_runs()
+    ensures { IsSourceRun handled_range handled_range_script handled_range_log }
+{}
 
-/// The log of two processes whose ranks go by the deadline: the one with the longer frame acts
-/// first.
-pub fn by_deadline_log() -> [Event; 6]
-    ensures { IsSourceRun by_deadline by_deadline_script result }
-{
-    [
-        Event {
-            tick: 0,
-            proc: 0,
-            act: Act::Release,
-        },
-        Event {
-            tick: 0,
-            proc: 1,
-            act: Act::Release,
-        },
-        Event {
-            tick: 11,
-            proc: 1,
-            act: Act::Put { dev: 0, value: 2 },
-        },
-        Event {
-            tick: 15,
-            proc: 1,
-            act: Act::End,
-        },
-        Event {
-            tick: 27,
-            proc: 0,
-            act: Act::Put { dev: 0, value: 1 },
-        },
-        Event {
-            tick: 33,
-            proc: 0,
-            act: Act::End,
-        },
-    ]
-}
+/// The log of a sum that is no word, and raises, is a run.
+pub fn overflow_runs()
+    ensures { IsSourceRun overflow overflow_script overflow_log }
+{}
+
+/// The log of a quotient that is no word, and raises, is a run.
+pub fn least_word_runs()
+    ensures { IsSourceRun least_word least_word_script least_word_log }
+{}
+
+/// The log of a process that events release is a run.
+pub fn by_event_runs()
+    ensures { IsSourceRun by_event by_event_script by_event_log }
+{}
+
+/// The log of a function with a loop and an exit, and of a procedure that acts inside a loop,
+/// is a run.
+pub fn loop_and_function_runs()
+    ensures { IsSourceRun loop_and_function loop_and_function_script loop_and_function_log }
+{}
+
+/// The log of two processes whose ranks go by the deadline is a run: the one with the longer
+/// frame acts first.
+pub fn by_deadline_runs()
+    ensures { IsSourceRun by_deadline by_deadline_script by_deadline_log }
+{}
+
+/// The log of the mine pump control is a run.
+pub fn mine_runs()
+    ensures { IsSourceRun mine mine_script mine_log }
+{}
+
+/// The log of a wait of a hundred and fifty ticks beside two users of another monitor is a run.
+pub fn long_wait_runs()
+    ensures { IsSourceRun long_wait long_wait_script long_wait_log }
+{}
+
+/// The log of the mine pump control with an event, low air, and a fetch that is woken by a
+/// store, is a run.
+pub fn mine_woken_runs()
+    ensures { IsSourceRun mine_woken mine_woken_script mine_woken_log }
+{}
+
+/// The log of two waits in one queue, signalled in turn, is a run.
+pub fn two_waiters_runs()
+    ensures { IsSourceRun two_waiters two_waiters_script two_waiters_log }
+{}
 
 /// An end in place of the put is no run.
 pub fn ends_early_is_none()

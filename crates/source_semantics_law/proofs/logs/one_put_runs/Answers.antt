@@ -1,5 +1,5 @@
 use Rattle.source_semantics_law.proofs.Rows.{one_put_runs}
-use Rattle.source_semantics_law.proofs.logs.one_put_log.Goals as goal
+use Rattle.source_semantics_law.proofs.logs.one_put_runs.Goals as goal
 
 pub returns : goal.returns
 returns c = one_put_runs
