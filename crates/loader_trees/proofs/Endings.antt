@@ -34,22 +34,6 @@ stay_comes code known owner monitor body at last inside x y told is enter leave 
     ap (λ o. hold (stays_in o)) one ∙ sym (holding_changes_nothing.in_chain f (λ h. Some (record { height = h; cost = amount 8 0 0; depth = 0 }))) in
     whole ∙ ap (λ t. hold (guard (nat_eq monitor owner && t) (stays_in (Some inside)))) tests ∙ guard_held _ _ _ inner
 
-two_are_none : (code : List Instr) (known : List Known) (owner : ℕ) (first second : tree.Seg) (rest : tree.Segs) (at : ℕ) → entry code known owner (tree.Cons first (tree.Cons second rest)) at ≡ None
-two_are_none code known owner (tree.Stay n body) second rest at = refl
-two_are_none code known owner _ second rest at = refl
-
--- what is not one Stay is no entry
-pub no_entry : (code : List Instr) (known : List Known) (owner : ℕ) (t : tree.Segs) (at : ℕ) → monitor_in t ≡ None → None ≡ hold (entry code known owner t at)
-no_entry code known owner tree.Nil at none = refl
-no_entry code known owner (tree.Cons (tree.Stay m body) tree.Nil) at none = absurd cc
-no_entry code known owner (tree.Cons (tree.Line n) tree.Nil) at none = refl
-no_entry code known owner (tree.Cons (tree.Fork a b) tree.Nil) at none = refl
-no_entry code known owner (tree.Cons (tree.Rep n a) tree.Nil) at none = refl
-no_entry code known owner (tree.Cons (tree.Call n) tree.Nil) at none = refl
-no_entry code known owner (tree.Cons tree.Wait tree.Nil) at none = refl
-no_entry code known owner (tree.Cons tree.Exit tree.Nil) at none = refl
-no_entry code known owner (tree.Cons s (tree.Cons u rest)) at none = ap hold (sym (two_are_none code known owner s u rest at))
-
 -- ---- the end of a part
 
 pub ends_nothing : (b : Bool) (n : ℕ) (x : Option Found) → None ≡ hold x → None ≡ hold (guard b (ended n x))

@@ -1,10 +1,7 @@
 -- The greatest number so far, and more numbers.
-use Rattle.std.proofs.Common.{◌≡◌, ◌⊎◌, inl, inr, ℕ, max, sym, subst, arith, refl}
+use Rattle.std.proofs.Common.{◌≡◌, ◌⊎◌, inl, inr, ℕ, max, sym, subst, arith}
 use Rattle.std.proofs.lemmas.Bool.{cases_lt}
 use Rattle.sched_response.specs.Ranked.{IsGreatest}
-
-pub greatest_none : (P : ℕ → Type 0) → ((n : ℕ) → P n → ⊥) → IsGreatest P 0
-greatest_none P none = record { most = λ n h. absurd (none n h); one = inl refl }
 
 pub greatest_one : (P : ℕ → Type 0) (b : ℕ) → P b → ((n : ℕ) → P n → n ≡ b) → IsGreatest P b
 greatest_one P b here only = record { most = λ n h. let e = only n h in omega (arith, e); one = inr here }
