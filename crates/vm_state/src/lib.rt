@@ -1,9 +1,7 @@
 //! Board, queues, cells.
 //!
-//! What an instruction of a process does that others see: a sample, each by its effect on the parts
-//! of the process and of the machine that it touches.
-//!
-//! The processes of the machine in code: a trial of how one of many runs.
+//! What an instruction of a process does that others see, each by its effect on the parts of the
+//! process and of the machine that it touches.
 //!
 //! What the running machine keeps: the plan of its image, and the board, where all processes stand.
 //!
@@ -15,7 +13,6 @@
 #![tactic(auto)]
 
 mod board;
-mod cells;
 mod fired;
 mod plan;
 mod queues;
@@ -23,9 +20,8 @@ mod seen;
 mod threads;
 
 pub use board::Board;
-pub use cells::run_process;
 pub use fired::{Fired, MOST, tell};
 pub use plan::{Plan, Process, Release};
 pub use queues::Queues;
-pub use seen::{Waited, empty, end, enter, get, leave, put, wait};
+pub use seen::{Waited, empty, enter, get, leave, put, wait};
 pub use threads::{Cell, Stand, broadcast, signal, wake_at};
