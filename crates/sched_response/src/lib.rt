@@ -7,17 +7,14 @@
 //! is what its caller gave, that `demand` is the recurrence's function, capped, at the price of one
 //! step, that the cap changes no answer, and that no response meets the recurrence below its floor.
 //!
-//! What the analysis makes of the processes: their ranks, the ceilings of the monitors, the
-//! blocking of a rank, and the least bounds of the response times.
+//! What the analysis makes of the processes: the least bounds of the response times.
 //!
-//! Its definitions are those of fixed ranks by deadlines, of the immediate ceilings, and the least
-//! response within the deadline that meets the recurrence. It promises that each call gives exactly
-//! that, that there is no bound exactly where none is found, and that a bound takes few evaluations
-//! of the demand.
+//! Its definitions are those of fixed ranks by deadlines, of the immediate ceilings, of the blocking
+//! of a rank, and the least response within the deadline that meets the recurrence. It promises that
+//! each call gives exactly that bound, that there is none exactly where none is found, and that a
+//! bound takes few evaluations of the demand. `loader` finds ranks, ceilings and blocks.
 #![tactic(auto)]
 
-mod block;
-mod ceiling;
 mod floor;
 mod least;
 mod ranking;
@@ -27,11 +24,9 @@ mod tasks;
 mod uncounted;
 mod uses;
 
-pub use block::blocking;
-pub use ceiling::ceilings;
 pub use floor::response_floor;
 pub use least::bound;
-pub use ranking::{ranks, ranks_are_counted};
+pub use ranking::ranks_are_counted;
 pub use response::capping_changes_no_answer;
 pub use steps::Steps;
 pub use tasks::{Task, TaskSet, demand};

@@ -4,8 +4,8 @@
 //!
 //! Its definition is a row for each process: its rank by deadlines, its block by the immediate
 //! ceilings, and the least response within its deadline that meets the recurrence of its rank, or
-//! none exactly where there is none. It promises that the table of what the processes use is that,
-//! and that a table in which each process has a bound is one in which each meets the recurrence.
+//! none exactly where there is none. It promises that a table in which each process has a bound is
+//! one in which each meets the recurrence.
 //!
 //! The report on a program's timing, as text and as JSON.
 //!
@@ -13,18 +13,14 @@
 //! its monitors. The calls promise exactly these texts.
 #![tactic(auto)]
 
-mod blocks;
 mod json;
 mod late;
 mod lines;
-mod make;
-mod order;
 pub mod report_law;
 mod table;
 mod table_law;
 
 pub use json::report_json;
 pub use lines::report;
-pub use make::make_table;
 pub use table::{Row, Size, Table};
 pub use table_law::timely_tables_respond;
