@@ -9,7 +9,6 @@ use Rattle.valid_image.specs.Found.{Known, Found, amount, is_enter, is_leave, gu
 use Rattle.valid_image_law.specs.Held.{held, hold}
 use Rattle.valid_image_law.proofs.Holding.{holding_changes_nothing}
 use Rattle.loader_trees.specs.Steps.{stays_in}
-use Rattle.loader_trees.specs.Whole.{monitor_in}
 use Rattle.loader_trees.specs.Told.{found_of, told_part}
 use Rattle.loader_trees.specs.declared.known.PartFound.{PartFound}
 use Rattle.base.specs.Capped.{cap}
@@ -55,12 +54,6 @@ ends_well true n f (Some g) is height one =
     let same : f ≡ held g = cc in
     let at : g.height ≡ n = sym (ap (λ k. k.height) same) ∙ height in
     one ∙ ap hold (ends_true (nat_eq g.height n) g (same_number g.height n at))
-
--- ---- a tree that is one Stay
-
-pub two_are_no_stay : (first second : tree.Seg) (rest : tree.Segs) → monitor_in (tree.Cons first (tree.Cons second rest)) ≡ None
-two_are_no_stay (tree.Stay n body) second rest = refl
-two_are_no_stay _ second rest = refl
 
 -- ---- how long an entry stays
 

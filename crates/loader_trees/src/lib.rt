@@ -9,19 +9,8 @@
 //! is taken. The calls recurse down the tree, whose sizes are counted once more for each loop
 //! around it, and whose bytes are gone over once more for each tree around it; a tree that has more
 //! bytes than code of this length can need is of none, and is not gone over.
-//!
-//! What the code of a part comes to by a segment tree whose segments stand apart (`image_format::seg`):
-//! whether the code is of its tree, its worst cost and its depth.
-//!
-//! The definition is that of `loader_trees`, which looks at trees in bytes: `founds` of `valid_image`,
-//! one computation over tree and code. Each call promises just what that says, with costs held at
-//! one more than a thousand million and depths at 4,097 (`specs/Told.antt` of `loader_trees`). No
-//! memory is taken. The calls recurse down the tree, whose sizes are counted once more for each
-//! loop around it.
 #![tactic(auto)]
 
-mod found_segs_trees;
-mod found_segs_whole;
 mod found_trees;
 mod found_whole;
 mod instructions;
@@ -30,10 +19,7 @@ mod parts;
 mod seams;
 mod steps;
 
-pub use found_segs_whole::{depth, fits, worst};
-pub use found_trees::{line_found, past, tree_end, tree_found};
+pub use found_trees::tree_end;
 pub use found_whole::{depth_bytes, fits_bytes, worst_bytes};
-pub use instructions::{instr_at, results};
-pub use known::{Around, Found, Known, PartFound, TOO_DEEP};
-pub use parts::{entry_found, only_stay, part_found, part_tree_found, routine_found, stayed};
-pub use steps::{called, exited, forked, repeated, waited};
+pub use known::{Found, Known, PartFound, TOO_DEEP};
+pub use parts::{part_found, routine_found};
