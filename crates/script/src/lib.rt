@@ -6,13 +6,11 @@
 //! for the names of an image: its lines have a form and known names, their ticks do not descend,
 //! and two occurrences of an event stand at least the frame of its process apart.
 //! `specs/Faults.antt` says what the fault of any other text is: the first line that breaks a rule,
-//! and the least number of those that it breaks. `read_script` gives the script, or that fault. A
-//! script keeps a copy of the names that it was read for.
+//! and the least number of those that it breaks. `read_script` gives the script, or that fault.
 #![tactic(auto)]
 
 mod fault;
 mod line;
-mod names;
 mod numbers;
 mod past;
 mod read;
@@ -22,7 +20,6 @@ mod script_law;
 mod script_laws;
 
 pub use fault::ScriptFault;
-pub use names::copy_image_names;
 pub use read::read_script;
 pub use script::{Script, ScriptLine};
 pub use script_law::one_script;
