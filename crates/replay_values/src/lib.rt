@@ -1,25 +1,14 @@
-//! Values, silent statements.
+//! Words and names.
 //!
-//! The running source meaning in code: values of expressions, and what statements come to.
-//!
-//! Each function answers what the function of the same name of `source_semantics` answers, for
-//! every tree and every memory. Values are kept in 64 bits, so no premise on literals, ranges or
-//! variables is asked.
+//! What operators make of words, and what names of routines stand for, in code. Each function
+//! answers what the function of the same name of `source_semantics` answers. Values are kept in 64
+//! bits, so no premise on literals, ranges or variables is asked.
 #![tactic(auto)]
 
-mod eval;
 mod lookup;
-mod memory;
-mod outer;
-pub mod running;
-mod stmt;
-mod store;
+mod places;
 mod words;
 
-pub use eval::{Around, Fault, value};
-pub use lookup::{Found, Scope, routine_named};
-pub use memory::{Held, Home, Range, Slot, equal};
-pub use outer::{Change, Outer};
-pub use stmt::{Ran, run_all};
-pub use store::place_at;
+pub use lookup::{Found, Home, Scope, equal, routine_named};
+pub use places::place_at;
 pub use words::{Answer, is_true, negated, operated, truth};
