@@ -9,10 +9,11 @@
 //!
 //! What the analysis makes of the processes: the least bounds of the response times.
 //!
-//! Its definitions are those of fixed ranks by deadlines, of the immediate ceilings, of the blocking
-//! of a rank, and the least response within the deadline that meets the recurrence. It promises that
-//! each call gives exactly that bound, that there is none exactly where none is found, and that a
-//! bound takes few evaluations of the demand. `loader` finds ranks, ceilings and blocks.
+//! Its definitions are those of fixed ranks by deadlines, of the immediate ceilings, of the
+//! blocking of a rank, and the least response within the deadline that meets the recurrence. It
+//! promises that each call gives exactly that bound, that there is none exactly where none is
+//! found, and that a bound takes few evaluations of the demand. `loader` finds ranks, ceilings and
+//! blocks.
 #![tactic(auto)]
 
 mod floor;

@@ -24,4 +24,4 @@ pub use fired::{Fired, MOST, tell};
 pub use plan::{Plan, Process, Release};
 pub use queues::Queues;
 pub use seen::{Waited, empty, enter, get, leave, put, wait};
-pub use threads::{Cell, Stand, broadcast, signal, wake_at};
+pub use threads::{Cell, Stand, broadcast, signal};
