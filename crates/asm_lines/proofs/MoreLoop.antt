@@ -13,12 +13,6 @@ regroup : (front : List ℕ) (n : ℕ) (read : Read (List ℕ)) → with_front f
 regroup front n (Ok x) = ap (λ (ys : List ℕ). Ok (ys, x.1)) (sym (append_assoc front (n ∷ []) x.0))
 regroup front n (Err f) = refl
 
-pub begins : (most last : ℕ) (s : Front) → with_front [] (more_read most last s) ≡ more_read most last s
-begins most last s = go (more_read most last s) where
-  go : (r : Read (List ℕ)) → with_front [] r ≡ r
-  go (Ok x) = refl
-  go (Err e) = refl
-
 pub goes_on : (front : List ℕ) (most i last : ℕ) (s : Front) (n : ℕ) (after : Front) (total : Read (List ℕ)) → i < most → is_next (codes "\n") s.rest ≡ false → taken_read last s ≡ Ok (n, after)
     → with_front front (more_read (most - i) last s) ≡ total → with_front (front ++ n ∷ []) (more_read (most - (i + 1)) n after) ≡ total
 unfolding more_read

@@ -24,12 +24,6 @@ regroup : (front : Segs) (t : tree.Seg) (read : Read Segs) → with_front front 
 regroup front t (Ok x) = ap (λ (ts : Segs). Ok (ts, x.1)) (sym (join_assoc front (Cons t Nil) x.0))
 regroup front t (Err f) = refl
 
-pub begins : (one : Front → Read tree.Seg) (most : ℕ) (s : Front) → with_front Nil (segs_read one most s) ≡ segs_read one most s
-begins one most s = go (segs_read one most s) where
-  go : (r : Read Segs) → with_front Nil r ≡ r
-  go (Ok x) = refl
-  go (Err e) = refl
-
 pub goes_on : (one : Front → Read tree.Seg) (front : Segs) (most i : ℕ) (s : Front) (t : tree.Seg) (after : Front) (total : Read Segs) → i < most → tree_ends s.rest ≡ false → one s ≡ Ok (t, after)
     → with_front front (segs_read one (most - i) s) ≡ total → with_front (join front (Cons t Nil)) (segs_read one (most - (i + 1)) after) ≡ total
 unfolding segs_read

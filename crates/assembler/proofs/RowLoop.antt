@@ -13,13 +13,6 @@ regroup : {A : Type 0} (front : List A) (x : A) (read : Read (List A)) → in_fr
 regroup {A = A} front x (Ok xs) = ap (λ (ys : List A). Ok (ys, xs.1)) (sym (append_assoc front (x ∷ []) xs.0))
 regroup {A = A} front x (Err f) = refl
 
-pub begins : {A B : Type 0} (is_next : List ℕ → Bool) (one : List A → Front → Read A) (line : List A → Front → Read B) (most : ℕ) (s : Front)
-    → in_front [] (rows_read is_next one line [] most s) ≡ rows_read is_next one line [] most s
-begins {A = A} is_next one line most s = go (rows_read is_next one line [] most s) where
-  go : (r : Read (List A)) → in_front [] r ≡ r
-  go (Ok x) = refl
-  go (Err e) = refl
-
 pub goes_on : {A B : Type 0} (is_next : List ℕ → Bool) (one : List A → Front → Read A) (line : List A → Front → Read B) (front : List A) (most i : ℕ) (s : Front) (x : A) (after : Front) (total : Read (List A))
     → i < most → is_next s.rest ≡ true → one front s ≡ Ok (x, after)
     → in_front front (rows_read is_next one line front (most - i) s) ≡ total → in_front (front ++ x ∷ []) (rows_read is_next one line (front ++ x ∷ []) (most - (i + 1)) after) ≡ total

@@ -19,12 +19,6 @@ use Rattle.checked_law.specs.Quiet.{stmt_waits, stmts_wait, quiet_some, all_quie
 no_true : false ≡ true → ⊥
 no_true e = cc
 
-some_same : {A : Type 0} (x y : A) → Some x ≡ Some y → x ≡ y
-some_same x y e = cc
-
-none_some : {A : Type 0} (x : A) → None ≡ Some x → ⊥
-none_some x e = cc
-
 neither : (a b : Bool) → (a || b) ≡ false → (a ≡ false) × (b ≡ false)
 neither false b e = (refl, e)
 neither true b e = absurd (no_true (sym e))

@@ -10,7 +10,7 @@ use Rattle.source_semantics.specs.Ranks.{uses_all, reached, monitors_of, include
 use Rattle.code_spec.specs.Layout.{Owner, by_program, by_process, by_monitor, home_of}
 use Rattle.code_spec.specs.Numbering.{Text, routine_in, entry_of, routine_calls, stmts_calls}
 use Rattle.code_spec.specs.Compiled.{routine_scope, process_scope, is_function, IsCodeOf}
-use Rattle.code_simulation_spec.specs.Memory.{Order, Setting}
+use Rattle.code_simulation_spec.specs.Memory.{Setting}
 use Rattle.code_simulation_spec.specs.Proper.{found_of, IsMine, Entry, Reaches, ProperAll}
 use Rattle.code_simulation.specs.Known.{IsProper}
 use Rattle.code_spec.specs.Boundary.{Compiled}
@@ -92,18 +92,12 @@ module _ (g : Prog) (p : Process) (fits : ProcessFits g p) where
 not_process : of_program ≡ of_process → ⊥
 not_process e = cc
 
-not_program : of_process ≡ of_program → ⊥
-not_program e = cc
-
 not_function : (an : Option Answers) (a : Answers) → an ≡ Some a → not (is_some an) ≡ false
 not_function an a e = ap (λ y. not (is_some y)) e
 
 module _ (c : Compiled) (form : IsWellFormed c.program) (names : NamesApart c.program) (code : IsCodeOf c.program c.image) (at : slice_get (processes c.program) c.number ≡ Some c.text) (ip : slice_get c.image.processes c.number ≡ Some c.process) where
   pub fits : ProcessFits c.program c.text
   fits = one_of (λ p. ProcessFits c.program p) (processes c.program) c.number c.text form.processes_fit at
-
-  abbrev order : Order
-  order = record { level = fits.levels.0; runs = runs_of c.program c.text }
 
   levels : Levels c.program c.text fits.levels.0
   levels = fits.levels.1

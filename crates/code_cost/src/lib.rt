@@ -15,7 +15,5 @@ mod measure;
 mod program;
 mod statements;
 
-pub use expressions::expr;
 pub use measure::{Known, MOST, Measure};
 pub use program::{Measures, ProcessMeasure, measure_program};
-pub use statements::stmts;

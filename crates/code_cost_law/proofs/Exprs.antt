@@ -109,9 +109,6 @@ row_tells g rows k t c h n is =
 -- ---- expressions
 
 module _ (g : Prog) (rows : List Known) (k : Calls) where
-  Row : Text → Type 0
-  Row t = IsRow g rows k t
-
   abbrev pub ExprIs : (d : Scope) (n : Names) → Expr → Type 0
   ExprIs d n e = expr_size g d rows e ≡ measured (expr_cost g n k e) (expr_height g n.owner k e) (expr_length g n.owner e)
 

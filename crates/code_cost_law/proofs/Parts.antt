@@ -5,7 +5,7 @@ use Rattle.syntax_tree.specs.Plain.{Answers, Routine, Handler, Process, Prog}
 use Rattle.base.specs.Capped.{cap}
 use Rattle.base.specs.declared.capped.Cost.{Cost}
 use Rattle.source_semantics.specs.Store.{range_of}
-use Rattle.valid_image.specs.Found.{amount, capped, plus, longer}
+use Rattle.valid_image.specs.Found.{capped, plus, longer}
 use Rattle.code_spec.specs.Layout.{Owner, by_program, by_process, by_monitor, Scope, routine_vars_words, frame_words}
 use Rattle.code_spec.specs.Numbering.{Text}
 use Rattle.code_spec.specs.Compiled.{routine_scope, process_scope}
@@ -32,9 +32,6 @@ use Rattle.code_cost_law.specs.Defined.{HandlerLoopsFit}
 
 none : nothing ≡ measured (run 0) 0 0
 none = same (omega arith) (omega arith) (omega arith) (omega arith) (omega arith)
-
-costs : {a a' b b' c c' : ℕ} → a ≡ a' → b ≡ b' → c ≡ c' → amount a b c ≡ amount a' b' c'
-costs {a} {a'} {b} {b'} {c} {c'} e1 e2 e3 = ap (λ x. amount x b c) e1 ∙ (ap (λ x. amount a' x c) e2 ∙ ap (λ x. amount a' b' x) e3)
 
 -- a routine with what enters and leaves it
 framed : (o : Owner) (c : Cost) (h n : ℕ) → joined (measured c h n) (frame_size o) ≡ measured (longer (4 + monitor_ticks o) c) h (n + monitor_length o + 1)

@@ -3,7 +3,7 @@ use Rattle.std.specs.Prelude.{ℕ, zero, suc, ◌+◌, List, [], ◌∷◌}
 use Rattle.syntax_tree.specs.Plain.{Process, Prog}
 use Rattle.base.specs.declared.capped.Cost.{Cost}
 use Rattle.source_semantics.specs.Names.{processes, routine_count}
-use Rattle.code_spec.specs.Layout.{by_process, words_of}
+use Rattle.code_spec.specs.Layout.{by_process}
 use Rattle.code_spec.specs.Numbering.{Text, numbered}
 use Rattle.code_spec.specs.Compiled.{routine_scope, process_scope}
 use Rattle.code_cost_spec.specs.Names.{Names, Calls, names_of}
@@ -46,10 +46,6 @@ cost_of_process g k p = process_cost g (process_names g k p) (calls_of g) p
 -- the words of stack that a process takes
 abbrev pub stack_of_process : Prog → ℕ → Process → ℕ
 stack_of_process g k p = stack_of g (by_process k) (calls_of g) p
-
--- the words of data that a process has
-abbrev pub data_of_process : Prog → Process → ℕ
-data_of_process g p = words_of g p.vars
 
 -- ---- the number of instructions
 

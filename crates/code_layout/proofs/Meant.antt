@@ -1,6 +1,6 @@
 -- What the tables tell of a name is what the relation of code and text says of it.
 use Rattle.std.proofs.Common.{◌≡◌, ◌∙◌, ap, refl, ℕ, Bool, true, false, cond, List, [], ◌∷◌, Option, Some, None, map}
-use Rattle.std.specs.Prelude.{ℤ, pos, option_map, unwrap_or, bytes_eq}
+use Rattle.std.specs.Prelude.{option_map, bytes_eq}
 use Rattle.std.proofs.lemmas.Option.{slice_get-map}
 use Rattle.syntax_tree.specs.Plain.{Name, Prog}
 use Rattle.source_semantics.specs.Run.{or_else}
@@ -8,16 +8,12 @@ use Rattle.code_spec.specs.Layout as layout
 use Rattle.code_spec.specs.Layout.{Place, Scope, in_frame, in_area, place_named, outer_spot, spot_of}
 use Rattle.code_names.specs.First.{index_of}
 use Rattle.code_names.proofs.NameListTable.{get_some, named-index}
-use Rattle.codegen_spec.specs.Told.{told_area, told_spot, value_told, inside, within, counter}
+use Rattle.codegen_spec.specs.Told.{told_area, told_spot, inside, within, counter}
 use Rattle.codegen_spec.specs.declared.spot.Area.{Area}
 use Rattle.codegen_spec.specs.declared.spot.Loop.{Loop}
 use Rattle.codegen_spec.specs.declared.spot.Spot.{Spot}
 use Rattle.code_layout.specs.LayoutTables.{told_in, table_of, spot_in}
 use Rattle.code_layout.specs.LookupTables.{in_loop, loop_told}
-
-pub value-told : (o : Option (Name × ℤ)) → unwrap_or (option_map (λ (k : Name × ℤ). k.1) o) (pos 0) ≡ value_told o
-value-told None = refl
-value-told (Some k) = refl
 
 got-map : (a : Area) (ps : List Place) (o : Option ℕ) → get_some (map (told_in a) ps) o ≡ option_map (told_in a) (get_some ps o)
 got-map a ps None = refl

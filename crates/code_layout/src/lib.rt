@@ -24,4 +24,4 @@ pub use lookup::{tables_tell, variables_are_told};
 pub use spots::Spots;
 pub use tables::{Tables, number};
 pub use values::Values;
-pub use variables::{in_loops, variable};
+pub use variables::variable;

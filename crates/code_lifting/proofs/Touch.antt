@@ -33,14 +33,8 @@ text_of w r compiled k p at = by (slice_get (processes w.program) k) refl (subst
 
 -- ---- words
 
-outside_none : (w : Whole) (before after : List ℤ) → SameOutside w.image None before after → (v : ℕ) → slice_get after v ≡ slice_get before v
-outside_none w before after same v = same v refl
-
 pub same_nowhere : (w : Whole) (before after : List ℤ) → SameInside w.image None before after
 same_nowhere w before after v is = absurd cc
-
-pub same_words : (w : Whole) (inside : Option ℕ) (words : List ℤ) → SameInside w.image inside words words
-same_words w inside words v is = refl
 
 module _ (w : Whole) (r : Relations) (compiled : IsCompiled w r) where
   -- words out of the reach of who is inside m are those of another monitor

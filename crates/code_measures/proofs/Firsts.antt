@@ -1,38 +1,8 @@
 -- What it says that a search for a fault finds none, and what a table from below is.
-use Rattle.std.proofs.Common.{◌≡◌, ◌≤◌, ◌<◌, ◌+◌, ◌++◌, inl, inr, ℕ, zero, suc, List, [], ◌∷◌, length, Option, Some, None, arith, refl, ap, sym, subst, ◌∙◌, true, false, Bool}
-use Rattle.std.specs.Prelude.{take, slice_get, nat_eq, ◌⊎◌}
+use Rattle.std.proofs.Common.{◌≡◌, ◌≤◌, ◌<◌, ◌+◌, ◌++◌, ℕ, zero, suc, List, [], ◌∷◌, length, Some, arith, refl, ap, sym, subst, ◌∙◌}
+use Rattle.std.specs.Prelude.{take, slice_get}
 use Rattle.std.proofs.lemmas.List.{length-take-le}
-use Rattle.std.proofs.lemmas.Option.{slice_get_within}
-use Rattle.valid_image.specs.Fault.{unless, or_else, first_of, of_some}
 use Rattle.valid_image.specs.Tables.{table}
-use Rattle.std.proofs.lemmas.Bool.{cases_Bool}
-use Rattle.std.proofs.lemmas.Bool.Decides.{nat_tests}
-
-meet : (a b : ℕ) → a ≤ b → (a ≡ b) ⊎ (a + 1 ≤ b)
-meet a b le = elim (cases_Bool (nat_eq a b)) [ inl is ↦ inl (grind (arith, nat_tests, is)) | inr is ↦ inr (grind (arith, nat_tests, is, le)) ]
-
--- ---- faults
-
-pub neither : {A : Type 0} (x y : Option A) → or_else x y ≡ None → (x ≡ None) × (y ≡ None)
-neither (Some a) y is = absurd cc
-neither None y is = (refl, is)
-
-pub passed_test : (b : Bool) (a c : ℕ) → unless b a c ≡ None → b ≡ true
-passed_test true a c is = refl
-passed_test false a c is = absurd cc
-
-pub none_of : {A : Type 0} (f : ℕ → Option A) (n at j : ℕ) → first_of f n at ≡ None → at ≤ j → j < at + n → f j ≡ None
-none_of f zero at j is from to = absurd (omega (arith, from, to))
-none_of f (suc n) at j is from to =
-    let p = neither (f at) (first_of f n (at + 1)) is in
-    elim (meet at j from) [ inl same ↦ ap f (sym same) ∙ p.0 | inr later ↦ none_of f n (at + 1) j p.1 later (omega (arith, to)) ]
-
--- no element of a list has a fault
-pub none_of_all : {A B : Type 0} (g : ℕ → A → Option B) (xs : List A) → first_of (λ k. of_some (g k) (slice_get xs k)) (length xs) 0 ≡ None
-    → (k : ℕ) (x : A) → slice_get xs k ≡ Some x → g k x ≡ None
-none_of_all g xs is k x at =
-    let f : of_some (g k) (slice_get xs k) ≡ None = none_of (λ k. of_some (g k) (slice_get xs k)) (length xs) 0 k is (omega arith) (omega (arith, slice_get_within xs k x at)) in
-    ap (λ o. of_some (g k) o) (sym at) ∙ f
 
 -- ---- lists
 
@@ -47,13 +17,6 @@ take_get zero j xs low = absurd (omega (arith, low))
 take_get (suc n) j [] low = refl
 take_get (suc n) zero (x ∷ xs) low = refl
 take_get (suc n) (suc j) (x ∷ xs) low = take_get n j xs (omega (arith, low))
-
-pub take_past : {A : Type 0} (n j : ℕ) (xs : List A) → n ≤ j → slice_get (take n xs) j ≡ None
-take_past zero j [] le = refl
-take_past zero j (x ∷ xs) le = refl
-take_past (suc n) j [] le = refl
-take_past (suc n) zero (x ∷ xs) le = absurd (omega (arith, le))
-take_past (suc n) (suc j) (x ∷ xs) le = take_past n j xs (omega (arith, le))
 
 pub append_front : {A : Type 0} (xs ys : List A) (j : ℕ) → j < length xs → slice_get (xs ++ ys) j ≡ slice_get xs j
 append_front [] ys j low = absurd (omega (arith, low))

@@ -37,9 +37,6 @@ split code p q is js l =
     let end : q ≡ p + length (is ++ js) = l.end in
     (record { has = has_first code p is js l.has; end = refl }, record { has = has_second code p is js l.has; end = omega arith })
 
-pub first_at : (code : List Instr) (p q : ℕ) (x : Instr) (js : List Instr) → IsLine code p q (x ∷ js) → slice_get code p ≡ Some x
-first_at code p q x js l = l.has.0
-
 -- the first instruction apart
 pub split_one : (code : List Instr) (p q : ℕ) (x : Instr) (js : List Instr) → IsLine code p q (x ∷ js) → IsLine code p (p + 1) (x ∷ []) × IsLine code (p + 1) q js
 split_one code p q x js l =
@@ -68,10 +65,6 @@ line_more k (Cons Wait rest) = ap (line_of (Cons Wait rest)) (one_plus (suc k))
 line_more k (Cons Exit rest) = ap (line_of (Cons Exit rest)) (one_plus (suc k))
 
 module _ (code : List Instr) (known : List Known) (out held : Option ℕ) where
-  -- a tree is read from a place and a height on
-  abbrev pub Finds : Segs → (at h : ℕ) → Found → Type 0
-  Finds tree at h f = founds code known out held tree at h ≡ Some f
-
   stepped : (x : Instr) (p h : ℕ) (next : ℕ → Option Found) → slice_get code p ≡ Some x → in_line x ≡ true → nat_le (takes x) h ≡ true
       → plain_step (slice_get code p) h next ≡ joined (record { height = gives x + (h - takes x); cost = amount (ticks x) 0 0; depth = gives x + (h - takes x) }) (next (gives x + (h - takes x)))
   stepped x p h next here plain enough =

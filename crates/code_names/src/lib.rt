@@ -15,7 +15,7 @@ mod parts;
 mod text;
 mod text_list;
 
-pub use calls::{Called, routine_calls};
+pub use calls::Called;
 pub use directory::Directory;
 pub use name_list::NameList;
 pub use numbering::Numbering;

@@ -40,10 +40,6 @@ pub called_all : (P : Called → Type 0) (cs : List Called) → ((c : Called) �
 called_all P [] h = tt
 called_all P (c ∷ cs) h = (h c (0, omega arith, refl), called_all P cs (λ d i. h d (suc i.0, let k = i.1 in omega arith, i.2)))
 
-pub called_maps : (P Q : Called → Type 0) → ((c : Called) → P c → Q c) → (cs : List Called) → AllCalled P cs → AllCalled Q cs
-called_maps P Q f [] h = tt
-called_maps P Q f (c ∷ cs) h = (f c h.0, called_maps P Q f cs h.1)
-
 -- ---- what is found
 
 none_some : {A : Type 0} (x : A) → None ≡ Some x → ⊥

@@ -28,9 +28,6 @@ IsLower level n (calls_routine f) = level f < n
 IsLower level n (calls_entry m e) = Unit {0}
 
 module _ (level : Name → ℕ) (n : ℕ) where
-  abbrev L : Called → Type 0
-  L = IsLower level n
-
   mutual
     expr_lower : (x : Expr) → ExprBelow level n x → AllCalled (IsLower level n) (expr_calls x)
     expr_lower (literal v) h = tt

@@ -156,9 +156,6 @@ array_meant g (outer_variable kind) sp k s h w = subst (λ t. IsArray t) (sym h.
 array_meant g value sp k s h w = absurd (none_some s w)
 array_meant g nothing sp k s h w = absurd (none_some s w)
 
-not_both : (b : Bool) → b ≡ true → b ≡ false → ⊥
-not_both b t f = absurd cc
-
 false_true : false ≡ true → ⊥
 false_true h = cc
 

@@ -116,15 +116,6 @@ inside_itself : (m : ℕ) (inside : Option ℕ) → inside ≡ Some m → is_ins
 inside_itself m inside e = ap (λ t. is_inside m t) e ∙ eq-eqb m m refl
 
 module _ (c : Compiled) (order : Order) (is : IsEmitted c order) where
-  abbrev St : Own → View → Type 0
-  St o v = StandsFor c order o v
-
-  abbrev Fr : ℕ → List ℤ → Vars → Type 0
-  Fr m shared vars = FreeHolds c m shared vars
-
-  abbrev Re : List ℤ → Vars → Type 0
-  Re owned vars = RestHolds c owned vars
-
   -- the words hold the variables of the monitor that the process is inside, or none
   kept_others : (inside : Option ℕ) (owned shared : List ℤ) (process monitor : Vars) → FitsOthers (setting_of c order) inside owned shared process monitor → FitsOthers (setting_of c order) inside owned shared process (kept inside monitor)
   kept_others None owned shared process monitor f = record { process_words = f.process_words; monitor_words = tt }

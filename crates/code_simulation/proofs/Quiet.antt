@@ -20,9 +20,6 @@ abbrev pub Quiet : Image → Own → Outcome → Type 0
 Quiet image o (Goes p) = Kept image o p
 Quiet image o r = Unit {0}
 
-same_kept : (image : Image) (o : Own) → Kept image o o
-same_kept image o = record { inside = refl; handling = refl; words = λ w out. refl }
-
 true_false : (b : Bool) → b ≡ true → b ≡ false → ⊥
 true_false b t f = absurd cc
 

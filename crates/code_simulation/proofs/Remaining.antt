@@ -5,7 +5,7 @@ use Rattle.syntax_tree.specs.Plain.{Name, Stmts}
 use Rattle.base.specs.Words.{Answer, word, raised, with_word}
 use Rattle.source_semantics.specs.Names.{routine_count}
 use Rattle.source_semantics.specs.Store.{range_of, checked}
-use Rattle.source_semantics.specs.Run.{Memory, Calls, Item, do_all, turns_left, receive, store, enter_again, leave_with, give, Run, goes, exits, answers, stops, followed, Action, enters, leaves, value, with_value, store_to, turns, without_turn, run_all}
+use Rattle.source_semantics.specs.Run.{Memory, Item, do_all, turns_left, receive, store, enter_again, leave_with, give, Run, goes, exits, answers, stops, followed, Action, enters, leaves, value, with_value, store_to, turns, without_turn, run_all}
 use Rattle.source_semantics.specs.Next.{calls_to, run_items, leave_loop}
 use Rattle.machine_isa.specs.declared.instr.Instr.{Instr}
 use Rattle.machine_isa.specs.declared.instr.Instr.TheVariants as i
@@ -56,17 +56,10 @@ acting_at e o c fixed before m frame acts z w p os below j a rest f at does awai
   };
 }
 
-no_value : {v : ℤ} {os rest : List Operand} {n : ℕ} → Value v ∷ os ≡ Counter n ∷ rest → ⊥
-no_value h = cc
-
 no_counter : {rest : List Operand} {n : ℕ} → [] ≡ Counter n ∷ rest → ⊥
 no_counter h = cc
 
 module _ (e : Setting) (code : HasCode e) (laid : Laid e) (o : Own) (before : Before) where
-  -- calls nested as deep as there are routines
-  abbrev pub all_calls : Calls
-  all_calls = calls_to e.program e.text (routine_count e.program)
-
   known : CallsCome e (routine_count e.program) (calls_to e.program e.text (routine_count e.program))
   known = calls_come e code laid (routine_count e.program)
 

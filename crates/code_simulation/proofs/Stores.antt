@@ -141,9 +141,6 @@ pub record Laid (e : Setting) : Type 0 where
   pub process : AllApart (process_places e.program e.number)
   pub monitor : (m : ℕ) → AllApart (monitor_places e.program m)
 
-not_frame : (a : Area) (is_function : Bool) → (a ≡ in_frame → ⊥) → (is_function ≡ true → a ≡ in_frame) → is_function ≡ true → ⊥
-not_frame a b ne h is = ne (h is)
-
 process_frame : in_process ≡ in_frame → ⊥
 process_frame p = cc
 

@@ -67,14 +67,6 @@ when_made g c e a b p w m n =
           );
     }
 
--- the first arm's jump is not aimed yet, and the second arm begins
-abbrev arm_between : List Instr → ℕ → List Instr
-arm_between z at = slice_set (z ++ i.Jump (pos 0) ∷ []) at (i.JumpZero (fit (pos (length z + 1))))
-
--- the end of the second arm is that of the choice
-abbrev arms_end : List Instr → ℕ → List Instr
-arms_end z mid = slice_set z mid (i.Jump (fit (pos (length z))))
-
 -- the jump behind the first arm is patched when the second arm is there
 met : (pre ca cd : List Instr) (z old j : Instr) (mid : ℕ) → length ((pre ++ z ∷ []) ++ ca) ≡ mid → slice_set ((pre ++ z ∷ (ca ++ old ∷ [])) ++ cd) mid j ≡ pre ++ z ∷ (ca ++ j ∷ cd)
 met pre ca cd z old j mid size =

@@ -1,26 +1,17 @@
 -- What the tables of a program tell of variables and conditions.
-use Rattle.std.proofs.Common.{◌≡◌, ◌∙◌, refl, ℕ, zero, suc, ◌+◌, List, [], ◌∷◌, Option, Some, None, length}
+use Rattle.std.proofs.Common.{◌≡◌, refl, ℕ, zero, suc, ◌+◌, List, [], ◌∷◌, Option, Some, None, length}
 use Rattle.std.specs.Prelude.{slice_get}
 use Rattle.std.specs.Borrow.{Bor}
 use Rattle.std.specs.Option.{option_copied}
 use Rattle.syntax_tree.specs.Plain.{Name, Monitor, Process, Prog}
 use Rattle.source_semantics.specs.Names.{condition_from, conditions_of}
-use Rattle.code_spec.specs.Layout.{in_area, in_monitor, in_process, base_from, monitor_vars, place_named, places_from, vars_of_monitor, vars_of_process, words_of, Place}
+use Rattle.code_spec.specs.Layout.{in_area, in_monitor, in_process, base_from, monitor_vars, place_named, places_from, vars_of_monitor, vars_of_process, words_of}
 use Rattle.codegen_spec.specs.Told.{told_spot}
-use Rattle.codegen_spec.specs.declared.spot.Area.{Area}
 use Rattle.codegen_spec.specs.declared.spot.Spot.{Spot}
-use Rattle.code_names.specs.First.{names_of}
-use Rattle.code_layout.specs.LayoutTables.{Table, table_of, spot_in}
-use Rattle.code_layout.specs.LookupTables.{IsLaid, outer_in}
+use Rattle.code_layout.specs.LayoutTables.{Table, spot_in}
+use Rattle.code_layout.specs.LookupTables.{outer_in}
 use Rattle.code_layout.proofs.Meant.{table-spot}
 use Rattle.codegen_texts.specs.Shared.{process_tables, monitor_tables, conditions_from, count_from, number_among}
-
--- the table of variables that are laid
-pub table-is : (t : Table) (a : Area) (ps : List Place) (names : List (Bor Name)) (spots : List Spot) → t.names ≡ names_of names → t.spots ≡ spots → IsLaid a ps names spots → t ≡ table_of a ps
-table-is t a ps names spots e f laid =
-    let n = e ∙ laid.names_are in
-    let s = f ∙ laid.spots_are in
-    λ i. record { names = n i; spots = s i }
 
 -- ---- variables beside those of a frame
 

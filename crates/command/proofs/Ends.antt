@@ -1,7 +1,7 @@
 -- How a call of `make` ends.
 use Rattle.std.proofs.Common.{◌≡◌, ◌≢◌, ◌≤◌, ◌⊎◌, ◌∙◌, ℕ, Bool, true, false, List, Option, Some, inl, inr, refl, sym, ap, arith}
 use Rattle.std.specs.Bool.{OnTrue}
-use Rattle.outside.specs.Outside.{FilesState, SinkState, Outside, outside, AllStay, OthersStay, NoneFell, Rose, Appends, AppendsFront}
+use Rattle.outside.specs.Outside.{FilesState, SinkState, Outside, outside, OthersStay, NoneFell, Rose, AppendsFront}
 use Rattle.command_words.specs.Calls.{Load}
 use Rattle.load.specs.Program.{program_text}
 use Rattle.load.specs.Script.{script_text}
@@ -28,65 +28,6 @@ both false f p q = tt
 -- a count that rose since a later state rose since an earlier one
 rose_since : (before then now : ℕ) → before ≤ then → Rose then now → Rose before now
 rose_since before then now less rose = omega (arith, less, rose)
-
--- ---- once the program is stored
-
-module _ (tells : Bool) (load : Load) (texts : Texts) (m n : FilesState) (o p : SinkState) (others : OthersStay m.held n.held load.script) where
-  pub done : OnTrue tells (HasScript load (outside n p)) → Appends o.taken p.taken texts.summary → p.faults ≡ o.faults
-      → GoesOn tells load texts (outside m o) (outside n p) 0
-  done stored put quiet = record {
-    range = inl refl;
-    line = λ zero. put;
-    stored = told tells (λ has zero. has) stored;
-    unwritten = λ seven. absurd cc;
-    cut = always tells (λ seven. absurd cc);
-    nothing = λ eight. absurd cc;
-    kept = λ eight. absurd cc;
-    quiet = λ other. quiet;
-    others = others;
-  }
-
-  pub unput : OnTrue tells (HasScript load (outside n p)) → AppendsFront o.taken p.taken texts.summary → Rose o.faults p.faults
-      → GoesOn tells load texts (outside m o) (outside n p) 7
-  unput stored front failed = record {
-    range = inr (inl refl);
-    line = λ zero. absurd cc;
-    stored = always tells (λ zero. absurd cc);
-    unwritten = λ seven. inr failed;
-    cut = told tells (λ has seven. inr (failed, has, front)) stored;
-    nothing = λ eight. absurd cc;
-    kept = λ eight. absurd cc;
-    quiet = λ other. absurd (other refl);
-    others = others;
-  }
-
-module _ (tells : Bool) (load : Load) (texts : Texts) (m n : FilesState) (o : SinkState) where
-  pub unscripted : OthersStay m.held n.held load.script → ScriptFailed load (outside m o) (outside n o)
-      → GoesOn tells load texts (outside m o) (outside n o) 7
-  unscripted others failed = record {
-    range = inr (inl refl);
-    line = λ zero. absurd cc;
-    stored = always tells (λ zero. absurd cc);
-    unwritten = λ seven. inl failed;
-    cut = always tells (λ seven. inl (failed, refl));
-    nothing = λ eight. absurd cc;
-    kept = λ eight. absurd cc;
-    quiet = λ other. refl;
-    others = others;
-  }
-
-  pub lacking : AllStay m.held n.held → GoesOn tells load texts (outside m o) (outside n o) 8
-  lacking stay = record {
-    range = inr (inr refl);
-    line = λ zero. absurd cc;
-    stored = always tells (λ zero. absurd cc);
-    unwritten = λ seven. absurd cc;
-    cut = always tells (λ seven. absurd cc);
-    nothing = λ eight. refl;
-    kept = λ eight. stay;
-    quiet = λ other. refl;
-    others = λ name other. stay name;
-  }
 
 -- ---- the whole call
 
@@ -145,17 +86,4 @@ module _ (tells : Bool) (load : Load) (b n : FilesState) (o : SinkState) where
     kept = always tells (λ eight. absurd cc);
     quiet = λ other. refl;
     others = λ name one two. others name one;
-  }
-
-  pub wanting : AllStay b.held n.held → Made tells load (outside b o) (outside n o) 8
-  wanting stay = record {
-    range = inr (inr refl);
-    line = λ zero. absurd cc;
-    stored = always tells (λ zero. absurd cc);
-    unwritten = λ seven. absurd cc;
-    cut = always tells (λ seven. absurd cc);
-    nothing = λ eight. refl;
-    kept = always tells (λ eight. inl stay);
-    quiet = λ other. refl;
-    others = λ name one two. stay name;
   }

@@ -153,17 +153,3 @@ unread tells call b n o stay failed = record {
   others = λ name other. stay name;
   stays = λ some other. stay;
 }
-
-pub wanting : (tells : Bool) (call : Call) (b n : FilesState) (o : SinkState) → AllStay b.held n.held → Went tells call (outside b o) (outside n o) 8
-wanting tells call b n o stay = record {
-  range = omega arith;
-  is_command = λ one. absurd cc;
-  whole = no_whole tells call (outside b o) (outside n o) 8 (λ answer. answer.2 refl);
-  unread = λ six. absurd cc;
-  unwritten = λ seven. absurd cc;
-  cut = no_cut tells call (outside b o) (outside n o) 8 (λ seven. absurd cc);
-  nothing = λ both. refl;
-  quiet = λ other. refl;
-  others = λ name other. stay name;
-  stays = λ some other. stay;
-}

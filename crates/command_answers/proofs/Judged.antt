@@ -12,7 +12,7 @@ use Rattle.command_due.specs.Script.{script_fault_line}
 use Rattle.command_answers.specs.declared.act.Act.{Act}
 use Rattle.command_answers.specs.declared.status.Status.TheVariants as status
 use Rattle.command_answers.specs.Acts.{outcome_of}
-use Rattle.command_answers.specs.Acting.{CanBeDone, IsQuiet, puts}
+use Rattle.command_answers.specs.Acting.{puts}
 use Rattle.command_answers.specs.Scripted.{IsRunOver, misspelled, is_run, ran}
 use Rattle.command_answers.proofs.Coming.{put_comes_to}
 use Rattle.command_answers.specs.Runnable.{IsRunnable, RunsRaw}
@@ -39,10 +39,6 @@ bad_over front image n why P (Ok act) answer is other = λ text p. elim (answer 
   | inr found ↦ misspelled why (record { is = found; is_fault = other }) (put_comes_to status.Script (script_fault_line why) act is)
 ]
 bad_over front image n why P (Err e) answer is other = tt
-
-pub quiet_for : {E : Type 0} (target : Option (List ℕ)) (made : Result Act E) → IfOk made IsQuiet → IfOk made (CanBeDone target)
-quiet_for target (Ok act) quiet = quiet target
-quiet_for target (Err e) quiet = tt
 
 -- ---- over a script
 

@@ -11,9 +11,6 @@ use Rattle.built_image_law.specs.Filled.{declared_bounds}
 use Rattle.built_image_law.proofs.Lists.{as_many}
 use Rattle.compile_schedule.specs.Bounding.{HasBounds}
 
-pub same_code : (before now : RawImage) → DiffersInBounds (named_of before) (named_of now) → now.code ≡ before.code
-same_code before now same = ap (λ (m : Image). m.code) same.image
-
 pub same_number : (before now : RawImage) → DiffersInBounds (named_of before) (named_of now) → length now.processes ≡ length before.processes
 same_number before now same =
     let many : length (map process_of now.processes) ≡ length (map process_of before.processes) =

@@ -1,5 +1,5 @@
 -- What is due of `edf`, by what files hold.
-use Rattle.std.proofs.Common.{◌≡◌, ◌∙◌, ℕ, List, Option, Some, None, Bool, true, false, Ok, Err, inl, inr, refl, ap, subst, sym}
+use Rattle.std.proofs.Common.{◌≡◌, ◌∙◌, ℕ, List, Option, Some, None, Bool, true, false, Ok, Err, inl, inr, refl, ap, subst}
 use Rattle.std.specs.Prelude.{Result, IfOk, IsSomeAnd}
 use Rattle.std.specs.Bool.{OnTrue}
 use Rattle.syntax_tree.specs.declared.place.Place.{Place}
@@ -20,10 +20,9 @@ use Rattle.command_answers.specs.declared.unready.Unready.{Unready}
 use Rattle.command_answers.specs.declared.unready.Unready.TheVariants as unready
 use Rattle.command_answers.specs.Acting.{CanBeDone, puts}
 use Rattle.command_answers.specs.Prepared.{Failed, Prepares}
-use Rattle.command_answers.proofs.Coming.{outcome_of_puts, put_comes_to}
+use Rattle.command_answers.proofs.Coming.{outcome_of_puts}
 use Rattle.command_answers.proofs.Held.{acted, of_held, rose_since}
-use Rattle.command_due.specs.EdfDue.{IsEdfDue, IsFeasibleText, IsJudgedText, IsUnfit, edf_bad_script, edf_faulty, edf_ran, edf_unfit, edf_waits}
-use Rattle.command_due.specs.Report.{edf_report}
+use Rattle.command_due.specs.EdfDue.{IsEdfDue, IsFeasibleText, IsJudgedText, edf_bad_script, edf_faulty, edf_ran, edf_unfit, edf_waits}
 use Rattle.edf_command.specs.Judged.{IsMet, IsScriptDue, IsStopped, IsSubjectDue, Stops, faulty, misspelled, ran, scripted, unfit, waits}
 
 -- ---- texts that are not judged
@@ -48,14 +47,6 @@ stopped true None script P outcome is due = absurd is
 stopped false held script P outcome is due = tt
 
 -- ---- programs that are judged
-
-is_unfit : (answer : Judgement) → (IsMet answer → ⊥) → IsUnfit answer
-is_unfit answer other points is = other (subst IsMet (sym is) tt)
-
-pub unfit_due : (n : NamedImage) (answer : Judgement) (tells : Bool) (held : Option (List ℕ)) (act : Act) → (IsMet answer → ⊥) → act ≡ puts status.Late (edf_report n answer)
-    → OnTrue tells (IsSubjectDue n answer held (outcome_of act))
-unfit_due n answer true held act other is = unfit (is_unfit answer other) (put_comes_to status.Late (edf_report n answer) act is)
-unfit_due n answer false held act other is = tt
 
 module _ (n : NamedImage) where
   of_script : (text other : List ℕ) (answer : Judgement) (script : Option (List ℕ)) (outcome : Outcome) → IsJudgedText text n answer → IsMet answer → script ≡ Some other

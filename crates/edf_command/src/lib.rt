@@ -21,6 +21,5 @@ mod walk;
 pub use judged::{Judged, judge_program};
 pub use lines::report;
 pub use preparing::prepare_edf;
-pub use shaping::{ShapeFault, shape};
-pub use tasks::{demands, judge_image};
+pub use shaping::ShapeFault;
 pub use waits::first_wait;

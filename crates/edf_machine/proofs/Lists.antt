@@ -1,5 +1,5 @@
 -- Elements of lists, and how many there are.
-use Rattle.std.proofs.Common.{◌≡◌, ◌≤◌, ◌<◌, ◌+◌, ◌⊎◌, inl, inr, ℕ, zero, suc, List, [], ◌∷◌, Some, length, drop, map, get_or, arith, refl, ap, sym, subst, ◌∙◌}
+use Rattle.std.proofs.Common.{◌≡◌, ◌<◌, ◌+◌, ◌⊎◌, inl, inr, ℕ, zero, suc, List, [], ◌∷◌, Some, length, drop, map, get_or, arith, refl, ap, sym, subst, ◌∙◌}
 use Rattle.std.specs.Prelude.{slice_get, slice_set}
 use Rattle.std.proofs.lemmas.Option.{slice_get-get_or}
 use Rattle.machine_semantics.specs.Image.{Image, Process}
@@ -22,12 +22,6 @@ pub drop_at : {X : Type 0} (xs : List X) (k : ℕ) (x : X) → slice_get xs k �
 drop_at [] k x at = absurd cc
 drop_at (y ∷ ys) zero x at = let same : y ≡ x = cc in ap (λ (z : _). z ∷ ys) same
 drop_at (y ∷ ys) (suc k) x at = drop_at ys k x at ∙ (let e : suc k + 1 ≡ suc (k + 1) = omega arith in ap (λ (z : _). x ∷ z) (sym (ap (λ (n : ℕ). drop n (y ∷ ys)) e)))
-
-pub drop_past : {X : Type 0} (xs : List X) (k : ℕ) → length xs ≤ k → drop k xs ≡ []
-drop_past [] zero past = refl
-drop_past [] (suc k) past = refl
-drop_past (x ∷ xs) zero past = absurd (omega arith)
-drop_past (x ∷ xs) (suc k) past = drop_past xs k (omega arith)
 
 -- ---- processes, and cells of a board
 

@@ -103,13 +103,6 @@ pub record Releasing (t : ℕ) (image : Image) (olds news : List Thread) (kepts 
   pub done : (j : ℕ) (p : Process) (kept : Kept) (o n : Thread) (m : Mark) → j < k → slice_get image.processes j ≡ Some p → slice_get kepts j ≡ Some kept → slice_get olds j ≡ Some o → slice_get news j ≡ Some n → slice_get ms j ≡ Some m → IsMark p kept (mark_of t o n m)
   pub coming : (j : ℕ) (p : Process) (kept : Kept) (o : Thread) (m : Mark) → k ≤ j → slice_get image.processes j ≡ Some p → slice_get kepts j ≡ Some kept → slice_get olds j ≡ Some o → slice_get ms j ≡ Some m → IsMark p kept m × (kept.idle ≡ is_idle o)
 
-pub release_none : (t : ℕ) (image : Image) (olds news : List Thread) (kepts : List Kept) (ms : List Mark) → AreMarks image kepts ms → AreNoted olds kepts → Releasing t image olds news kepts ms 0
-release_none t image olds news kepts ms are noted = record {
-  many = are.many;
-  done = λ j p kept o n m below at_p at at_o at_n at_m. absurd (omega (arith, below));
-  coming = λ j p kept o m above at_p at at_o at_m. (are.each j p kept m at_p at at_m, noted j o kept at_o at);
-}
-
 pub release_one : (t : ℕ) (image : Image) (olds news : List Thread) (kepts : List Kept) (ms : List Mark) (k : ℕ) (kept new : Kept) (th : Thread) → Releasing t image olds news kepts ms k → slice_get kepts k ≡ Some kept → slice_get news k ≡ Some th
     → ((p : Process) (old : Thread) (m : Mark) → IsMark p kept m → kept.idle ≡ is_idle old → IsMark p new (mark_of t old th m)) → Releasing t image olds news (slice_set kepts k new) ms (k + 1)
 release_one t image olds news kepts ms k kept new th was at at_th released = record {

@@ -42,8 +42,6 @@ same_number : (j k : ℕ) → Some j ≡ Some k → j ≡ k
 same_number j k is = cc
 
 module _ (e : Where) (ps : ℕ → Parts) (image_fits : ImageFits e ps) (waitless : IsWaitless e ps) where
-  n : ℕ
-  n = length e.image.processes
 
   pub distinct : AreDistinct (length e.image.processes) (rank_at e.image)
   distinct p q p_below q_below same =
@@ -66,9 +64,6 @@ module _ (e : Where) (ps : ℕ → Parts) (image_fits : ImageFits e ps) (waitles
   -- ---- the start events
 
   module _ (script : Script) (t : ℕ) (s : Marked) (kept : Kept t s) where
-    abbrev pub during : State
-    during = (starts e.image script t s.state).state
-
     abbrev pub marks : List Mark
     marks = marks_during e.image script t s
 
@@ -227,9 +222,6 @@ module _ (e : Where) (ps : ℕ → Parts) (image_fits : ImageFits e ps) (waitles
         woken_same (Ready job) u calm (inl is) = is
         woken_same (Ready job) u calm (inr is) = is
         woken_same (Waiting c d number job) u calm is = absurd calm
-
-    abbrev next_marks : List Mark
-    next_marks = begin_some (chosen_at e.image script t s) (marks_during e.image script t s)
 
     pub marks_rest : (k : ℕ) (o : Option ℕ) (ms : List Mark) → (o ≡ Some k → ⊥) → slice_get (begin_some o ms) k ≡ slice_get ms k
     marks_rest k None ms differ = refl

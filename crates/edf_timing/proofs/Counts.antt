@@ -57,9 +57,6 @@ module _ (e : Where) (ps : ℕ → Parts) (image_fits : ImageFits e ps) (waitles
   abbrev pub mid : State
   mid = (starts e.image script t s.state).state
 
-  abbrev pub next : State
-  next = (run_picked e.image t (starts e.image script t s.state).state (candidate (chosen_at e.image script t s))).state
-
   -- ---- the start events
 
   pub record MidCount (k : ℕ) (p : Process) (x : About e ps image_fits waitless script t s kept k p) (c : Count e ps s.state k) : Type 0 where

@@ -107,11 +107,6 @@ unsaid_bare names bytes v l is none a told e =
     let r = spoken_bare bytes (verb_text (verb_of a)) (args_text names a) l e in
     unsaid names v None none a (verb_once (verb_of a) v (sym r.0 ∙ is)) told r.1
 
-pub unsaid_args : (names : ImageNames) (bytes before after : List ℕ) (v : Verb) → IsCutAt 32 bytes before after → before ≡ verb_text v → IsUnsaid names v (Some after) → (a : Act) → ActIsTold names a → bytes ≢ act_words names a
-unsaid_args names bytes before after v cut is none a told e =
-    let r = spoken_cut bytes before after (verb_text (verb_of a)) (args_text names a) cut (verb_lacks (verb_of a)) e in
-    unsaid names v (Some after) none a (verb_once (verb_of a) v (sym r.0 ∙ is)) told r.1
-
 pub unsaid_verb : (names : ImageNames) (bytes before after : List ℕ) → IsCutAt 32 bytes before after → ((v : Verb) → before ≢ verb_text v) → (a : Act) → ActIsTold names a → bytes ≢ act_words names a
 unsaid_verb names bytes before after cut none a told e =
     let r = spoken_cut bytes before after (verb_text (verb_of a)) (args_text names a) cut (verb_lacks (verb_of a)) e in none (verb_of a) r.0

@@ -1,5 +1,5 @@
 -- Names that are words.
-use Rattle.std.proofs.Common.{◌≡◌, ◌≢◌, ℕ, ◌+◌, ◌<◌, suc, zero, List, [], ◌∷◌, ◌++◌, length, Some, refl, sym, ap, subst, ◌∙◌, arith, append_assoc, ◌⊎◌, inl, inr, All}
+use Rattle.std.proofs.Common.{◌≡◌, ◌≢◌, ℕ, ◌+◌, ◌<◌, suc, zero, List, [], ◌∷◌, ◌++◌, length, refl, sym, ap, subst, ◌∙◌, arith, append_assoc, ◌⊎◌, inl, inr, All}
 use Rattle.std.specs.Prelude.{slice_get, unwrap_or, option_map}
 use Rattle.std.proofs.lemmas.Option.{unwrap_or-slice_get}
 use Rattle.std.proofs.lemmas.List.Elements.{All-head, All-tail}
@@ -63,22 +63,6 @@ condition_pair names c words below = pair_at names names.conditions c below word
 -- two cuts at one byte are one
 pub same_cut : (stop : ℕ) (bytes before after a b : List ℕ) → IsCutAt stop bytes before after → Lacks stop a → bytes ≡ a ++ stop ∷ b → (before ≡ a) × (after ≡ b)
 same_cut stop bytes before after a b cut l e = cut_once stop before after a b cut.first l (sym cut.whole ∙ e)
-
--- the monitor and the name of a condition as they are found
-pub other_monitor : (names : ImageNames) (condition : CondName) (own monitor name : List ℕ) → AreWords names → condition.mon < length names.monitors → Lacks 32 monitor → own ≡ monitor_name names condition.mon → own ≢ monitor → qualified names (Some condition) ≢ monitor ++ 32 ∷ name
-other_monitor names condition own monitor name words placed first is other e =
-    let word = word_at names.monitors condition.mon placed words.monitors in
-    let r = cut_once 32 (monitor_name names condition.mon) condition.name monitor name word.no_space first e in
-    other (is ∙ r.0)
-
-pub other_name : (names : ImageNames) (condition : CondName) (monitor name : List ℕ) → AreWords names → condition.mon < length names.monitors → Lacks 32 monitor → condition.name ≢ name → qualified names (Some condition) ≢ monitor ++ 32 ∷ name
-other_name names condition monitor name words placed first other e =
-    let word = word_at names.monitors condition.mon placed words.monitors in
-    let r = cut_once 32 (monitor_name names condition.mon) condition.name monitor name word.no_space first e in
-    other r.1
-
-pub named : (names : ImageNames) (condition : CondName) (own monitor name : List ℕ) → own ≡ monitor_name names condition.mon → own ≡ monitor → condition.name ≡ name → qualified names (Some condition) ≡ monitor ++ 32 ∷ name
-named names condition own monitor name is same e = ap (λ m. m ++ 32 ∷ condition.name) (sym is ∙ same) ∙ ap (λ n. monitor ++ 32 ∷ n) e
 
 -- ---- what stands behind a condition
 

@@ -34,10 +34,6 @@ pub name_only : HasOneTree → (text : List ℕ) (t g : Prog Place) (fault : Nam
 name_only one text t g (name_fault.Rule number place) tree first is = absurd (subst IsNamed (one text g t is.tree tree) is.checked.named number place first.broken)
 name_only one text t g name_fault.Memory tree first is = refl
 
-pub name_fault_is : (text : List ℕ) (t : Prog Place) (fault : NameFault) → IsTreeOf text t → IsNameFault t fault → IsFaultOf text (nominal fault)
-name_fault_is text t (name_fault.Rule number place) tree first = of_names (record { program = t; tree = tree; first = first })
-name_fault_is text t name_fault.Memory tree first = tt
-
 pub rule_only : HasOneTree → (text : List ℕ) (t g : Prog Place) (fault : RuleFault) → IsTreeOf text t → IsRuleFault t fault → IsProgramOf text g → regular fault ≡ Memory
 rule_only one text t g (rule_fault.Rule number place) tree first is = absurd (subst (λ h. (n : ℕ) (p : Place) → ¬ Fails h n p) (one text g t is.tree tree) is.checked.checked number place first.broken)
 rule_only one text t g rule_fault.Memory tree first is = refl

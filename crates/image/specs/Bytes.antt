@@ -1,6 +1,6 @@
 -- The bytes of an image, in each of two versions: a head with all counts, the names of devices,
 -- events, monitors and conditions, the routines, the processes, the code.
-use Rattle.std.specs.Prelude.{◌≡◌, ◌++◌, ℕ, All, List, [], ◌∷◌, Option, Some, length, codes}
+use Rattle.std.specs.Prelude.{◌++◌, ℕ, List, [], ◌∷◌, Option, Some, length, codes}
 use Rattle.std.specs.List.{flat_map}
 use Rattle.machine_isa.specs.Bytes.{instr_bytes}
 use Rattle.machine_semantics.specs.Image.{Image, Monitor, Routine, Process}
@@ -23,11 +23,6 @@ counts_bytes names image =
 pub data Version : Type 0 where
   First : Version
   Second : Version
-
--- what the first version cannot tell: there is no overhead, and each deadline is the frame
-abbrev pub IsTold : Version → Image → Type 0
-IsTold First image = (image.over ≡ 0) × All (λ p. p.deadline ≡ p.frame) image.processes
-IsTold Second image = Unit {0}
 
 -- the number of the version, and the overhead where it stands
 abbrev pub version_bytes : Version → (over : ℕ) → List ℕ

@@ -1,5 +1,5 @@
 -- What is read at the places of an image is the image.
-use Rattle.std.proofs.Common.{◌≡◌, ◌+◌, ℕ, zero, suc, Bool, List, [], ◌∷◌, length, map, refl, sym, ap, ◌∙◌, subst}
+use Rattle.std.proofs.Common.{◌≡◌, ◌+◌, ℕ, suc, Bool, List, [], ◌∷◌, length, map, refl, sym, ap, ◌∙◌, subst}
 use Rattle.image_format.specs.Format.{Format}
 use Rattle.image.specs.Bytes.{Second, bytes_of}
 use Rattle.image.specs.InRange.{IsInRange}
@@ -142,8 +142,3 @@ stands bytes places raw written are begin =
 pub as_many : {A : Type 0} (none : A) (f : Format A) (bytes places : List ℕ) → length (things_at none f bytes places) ≡ length places
 as_many none f bytes [] = refl
 as_many none f bytes (at ∷ places) = ap (λ k. suc k) (as_many none f bytes places)
-
--- and so many instructions
-pub as_long : (bytes : List ℕ) (at count : ℕ) → length (instrs_at bytes at count) ≡ count
-as_long bytes at zero = refl
-as_long bytes at (suc n) = ap (λ k. suc k) (as_long bytes (at + 13) n)

@@ -3,10 +3,9 @@ use Rattle.std.proofs.Common.{◌≡◌, ℕ, suc, ◌-◌, ◌+◌, ◌≤◌, 
 use Rattle.std.specs.Result.{is_ok}
 use Rattle.machine_semantics.specs.Trees.{Seg, Segs, Nil, Cons}
 use Rattle.image_format.specs.declared.fault.Fault.{Fault}
-use Rattle.image_format.specs.declared.limits.Limits.{Limits}
-use Rattle.image_format.specs.Format.{◌>>=◌, Format, Read, u32}
-use Rattle.image_format.specs.TreeFormat.{seg_format, segs_read, tree_format, within_limits}
-use Rattle.image_format.specs.Rows.{left_of, row_in, row_read}
+use Rattle.image_format.specs.Format.{◌>>=◌, Format, Read}
+use Rattle.image_format.specs.TreeFormat.{segs_read}
+use Rattle.image_format.specs.Rows.{left_of, row_in}
 
 more : (s : Seg) (r : Read Segs) → left_of (r >>= λ rest. Ok (Cons s rest.0, rest.1)) ≡ left_of r
 more s (Ok x) = refl
@@ -50,14 +49,6 @@ is_done f count i bytes total le so_far =
 
 pub went_well : (r : Read Segs) (x : Segs) (rest : List ℕ) → r ≡ Ok (x, rest) → is_ok r ≡ true
 went_well r x rest h = ap is_ok h
-
--- a tree at a depth above 0 is a row of segments of one less
-pub deeper : (limits : Limits) (depth count : ℕ) (bytes rest : List ℕ) → 0 < depth → u32.read bytes ≡ Ok (count, rest)
-    → (tree_format (within_limits limits) depth).read bytes ≡ row_read limits (depth - 1) count rest
-unfolding tree_format
-deeper limits depth count bytes rest pos number =
-    let k : depth ≡ suc (depth - 1) = omega arith in
-    ap (λ d. (tree_format (within_limits limits) d).read bytes) k ∙ ap (λ (r : Result (ℕ × List ℕ) Fault). r >>= λ n. segs_read (seg_format (within_limits limits) (tree_format (within_limits limits) (depth - 1))) n.0 n.1) number
 
 -- the first of some segments, and the rest
 pub record Split (f : Format Seg) (count : ℕ) (bytes : List ℕ) (s : Seg) (after : List ℕ) : Type 0 where

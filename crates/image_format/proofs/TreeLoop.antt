@@ -62,9 +62,3 @@ is_done f front count i bytes total le so_far =
     let k : count - i ≡ 0 = omega arith in
     let one : with_front front (segs_read f (count - i) bytes) ≡ Ok (front, bytes) = rw k (ap (λ (ts : Segs). Ok (ts, bytes)) (join-none front)) in
     sym so_far ∙ one
-
-pub begins : (f : Format tree.Seg) (count : ℕ) (bytes : List ℕ) → with_front Nil (segs_read f count bytes) ≡ segs_read f count bytes
-begins f count bytes = go (segs_read f count bytes) where
-  go : (r : Read Segs) → with_front Nil r ≡ r
-  go (Ok x) = refl
-  go (Err e) = refl

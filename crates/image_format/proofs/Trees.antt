@@ -16,9 +16,6 @@ use Rattle.image_format.proofs.Alike.{alike, same_ok}
 
 -- ---- one segment: its tag, and what stands after it
 
-abbrev Payload : Type 0 → Type 0
-Payload B = Format B
-
 abbrev nothing : Format (Unit {0})
 nothing = given (λ x y. true) tt
 
@@ -47,9 +44,6 @@ pub record AreSound (numbers : SegNumbers) : Type 0 where
 module _ (numbers : SegNumbers) (are_sound : AreSound numbers) (sub : Format Segs) (sound : IsSound sub) where
   abbrev one : Format Seg
   one = record { write = seg_write numbers sub; is = seg_is numbers sub; read = seg_read numbers sub }
-
-  abbrev after_tag : ℕ → ℕ → List ℕ → Read Seg
-  after_tag tag left bytes = tagged numbers sub tag left bytes
 
   -- a kind of segment
   record Kind {B : Type 0} (tag : ℕ) (payload : Format B) (of : B → Seg) : Type 0 where

@@ -1,5 +1,5 @@
 -- A search for the first bound that fails, from a process on.
-use Rattle.std.proofs.Common.{◌≡◌, ◌≤◌, ◌<◌, ◌+◌, ◌-◌, ℕ, List, length, Option, Some, None, arith, ap, sym, ◌∙◌}
+use Rattle.std.proofs.Common.{◌≡◌, ◌<◌, ◌+◌, ◌-◌, ℕ, List, length, Option, Some, None, arith, ap, sym, ◌∙◌}
 use Rattle.std.specs.Prelude.{nat_le, slice_get}
 use Rattle.std.proofs.lemmas.Option.{slice_get_within}
 use Rattle.machine_semantics.specs.Image.{Image, Process}
@@ -9,7 +9,7 @@ use Rattle.valid_image.specs.Fault.{Fault, first_of, of_some, or_else, unless}
 use Rattle.valid_image.specs.Sizes.{below}
 use Rattle.sched_response.specs.Demand.{demand_at}
 use Rattle.valid_image.specs.Times.{process_bound_fault, rank_fault}
-use Rattle.loader_code.proofs.Searching.{none_here, none_left, of_element, one_here}
+use Rattle.loader_code.proofs.Searching.{none_here, of_element, one_here}
 use Rattle.valid_image_law.proofs.Ranking.{ranked}
 use Rattle.loader.proofs.InOrder.{tasks_long}
 
@@ -40,11 +40,6 @@ module _ (image : Image) (number : ℕ) (p : Process) (at : slice_get image.proc
   level_there tasks none is =
       let r = ranked image none number p at in
       omega (arith, r.0, r.1, ap (λ ts. length ts) is, tasks_long image 0 (length image.processes))
-
-pub ends : (image : Image) (number : ℕ) (whole : Option Fault) → length image.processes ≤ number → from_number image number ≡ whole → None ≡ whole
-ends image number whole past held =
-    let none : length image.processes - number ≡ 0 = omega (arith, past) in
-    sym (none_left (fault_at image) (length image.processes - number) number none) ∙ held
 
 -- a fault by the tasks of an image
 pub own_fault : (image : Image) (p : Process) (tasks : List Task) → tasks ≡ tasks_of image

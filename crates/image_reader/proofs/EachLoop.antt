@@ -14,12 +14,6 @@ regroup : {A : Type 0} (front : List A) (x : A) (read : Read (List A)) → in_fr
 regroup {A = A} front x (Ok xs) = ap (λ (ys : List A). Ok (ys, xs.1)) (sym (append_assoc front (x ∷ []) xs.0))
 regroup {A = A} front x (Err f) = refl
 
-pub begins : {A : Type 0} (f : List A → Format A) (count : ℕ) (bytes : List ℕ) → in_front [] (each_read f [] count bytes) ≡ each_read f [] count bytes
-begins {A = A} f count bytes = go (each_read f [] count bytes) where
-  go : (r : Read (List A)) → in_front [] r ≡ r
-  go (Ok x) = refl
-  go (Err e) = refl
-
 pub goes_on : {A : Type 0} (f : List A → Format A) (front : List A) (count i : ℕ) (bytes : List ℕ) (x : A) (after : List ℕ) (total : Read (List A)) → i < count → (f front).read bytes ≡ Ok (x, after)
     → in_front front (each_read f front (count - i) bytes) ≡ total → in_front (front ++ x ∷ []) (each_read f (front ++ x ∷ []) (count - (i + 1)) after) ≡ total
 unfolding each_read

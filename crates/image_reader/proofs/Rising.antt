@@ -1,6 +1,5 @@
 -- Numbers that rise.
-use Rattle.std.proofs.Common.{◌≡◌, ◌&&◌, ◌++◌, ℕ, zero, suc, List, [], ◌∷◌, Option, Ok, Err, refl, sym, ap, arith}
-use Rattle.std.proofs.lemmas.Bool.{lt-ltb}
+use Rattle.std.proofs.Common.{◌≡◌, ◌&&◌, ◌++◌, ℕ, List, [], ◌∷◌, Option, Ok, Err, refl, ap}
 use Rattle.std.specs.Prelude.{nat_lt}
 use Rattle.image_format.specs.Format.{◌>>=◌, Read, checked, u16, unless, passed}
 use Rattle.image_reader.specs.Grammar.{is_above, is_taken, wrong_number}
@@ -10,11 +9,6 @@ pub above_last : (earlier : List ℕ) (last n : ℕ) → is_above (earlier ++ la
 above_last [] last n = refl
 above_last (x ∷ []) last n = refl
 above_last (x ∷ y ∷ ys) last n = above_last (y ∷ ys) last n
-
--- before any number, 0 serves as the last
-pub above_none : (n : ℕ) → (is_above [] n && is_taken n) ≡ (nat_lt 0 n && is_taken n)
-above_none zero = refl
-above_none (suc n) = ap (λ b. b && is_taken (suc n)) (sym (lt-ltb 0 (suc n) (omega arith)))
 
 same_rule : (r : Read ℕ) (left : ℕ) (a b : ℕ → Option ℕ) → ((n : ℕ) → a n ≡ b n) → (r >>= λ x. passed (a x.0) left x) ≡ (r >>= λ x. passed (b x.0) left x)
 same_rule (Ok x) left a b same = ap (λ w. passed w left x) (same x.0)

@@ -3,7 +3,7 @@ use Rattle.std.proofs.Common.{◌≡◌, ◌≤◌, ◌<◌, ◌||◌, ◌==◌,
 use Rattle.std.specs.Prelude.{not, nat_lt, nat_le, nat_eq}
 use Rattle.std.proofs.lemmas.Bool.{eqb-true, leb-true, eq-eqb}
 use Rattle.machine_semantics.specs.Image.{Process}
-use Rattle.machine_semantics.specs.Trees.{Segs, Nil}
+use Rattle.machine_semantics.specs.Trees.{Segs}
 use Rattle.image.specs.Bytes.{Version, First, Second}
 use Rattle.image.specs.declared.names.CondName.{CondName}
 use Rattle.image_reader.specs.declared.counts.Counts.{Counts}
@@ -248,11 +248,6 @@ each_long f earlier zero [] h = refl
 each_long f earlier zero (x ∷ xs) h = cc
 each_long f earlier (suc n) [] h = cc
 each_long f earlier (suc n) (x ∷ xs) h = ap (λ k. suc k) (each_long f (earlier ++ x ∷ []) n xs (parts ((f earlier).is x) (each_is f (earlier ++ x ∷ []) n xs) h).1)
-
--- the tree of a handler, which is there where it takes numbers
-abbrev some_of : Option Segs → Segs
-some_of None = Nil
-some_of (Some tree) = tree
 
 some_sound : (f : Format Segs) → IsSound f → IsSound (g.some_format f)
 some_sound f s = record {

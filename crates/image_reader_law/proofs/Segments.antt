@@ -22,10 +22,6 @@ first_of : Seg → Segs → Seg
 first_of s Nil = s
 first_of s (Cons head rest) = head
 
-first_is : (s head : Seg) → first_of s (Cons head Nil) ≡ head
-unfolding first_of
-first_is s head = refl
-
 abbrev alone : Read Seg → Read Segs
 alone r = r >>= λ s. Ok (Cons s.0 Nil, s.1)
 

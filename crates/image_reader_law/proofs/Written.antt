@@ -67,9 +67,6 @@ module _ (n : ℕ) where
     abbrev with_code : List (List ℕ × Process) → Format (List Instr)
     with_code processes = f.code_format (f.all_used (f.used_by processes) 0 counts.events) counts.code
 
-    abbrev with_processes : List (List ℕ) → Format (List (List ℕ × Process) × List Instr)
-    with_processes taken = both (f.processes_format version counts taken) with_code
-
     processes_bring : (taken : List (List ℕ)) → Brings n (f.processes_format version counts taken) (Each IsFit counts.processes)
     processes_bring taken =
         each_brings (λ earlier. g.named_process_format version counts (taken ++ map (λ p. p.0) earlier) (f.used_by earlier)) IsFit

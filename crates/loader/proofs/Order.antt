@@ -1,5 +1,5 @@
 -- An image without a fault is valid, and the parts before bounds come first.
-use Rattle.std.proofs.Common.{◌≡◌, Option, Some, None, refl, sym, ap, ◌∙◌}
+use Rattle.std.proofs.Common.{◌≡◌, Option, Some, None, refl, sym}
 use Rattle.machine_semantics.specs.Image.{Image}
 use Rattle.valid_image.specs.Fault.{Fault, or_else}
 use Rattle.valid_image.specs.Times.{rank_fault}
@@ -11,26 +11,6 @@ pub is_valid : (image : Image) → None ≡ fault_of image → IsValid image
 is_valid image none = (valid_is_without_fault image).1 (sym none)
 
 -- ---- the order of the tests
-
-either : {A : Type 0} (x y z : Option A) → or_else x (or_else y z) ≡ or_else (or_else x y) z
-either None y z = refl
-either (Some x) y z = refl
-
--- bounds come last
-pub bounds_come_last : (image : Image) → fault_of image ≡ or_else (fault_before_bounds image) (shown image Bounds)
-bounds_come_last image =
-    let a = shown image Operands in
-    let b = shown image Shape in
-    let c = shown image Handlers in
-    let d = shown image Costs in
-    let e = shown image Sizes in
-    let f = shown image Ranks in
-    let z = shown image Bounds in
-    let ef = either e f z in
-    let df = ap (λ o. or_else d o) ef ∙ either d (or_else e f) z in
-    let cf = ap (λ o. or_else c o) df ∙ either c (or_else d (or_else e f)) z in
-    let bf = ap (λ o. or_else b o) cf ∙ either b (or_else c (or_else d (or_else e f))) z in
-    ap (λ o. or_else a o) bf ∙ either a (or_else b (or_else c (or_else d (or_else e f)))) z
 
 after_none : {A : Type 0} (x y : Option A) → or_else x y ≡ None → (x ≡ None) × (y ≡ None)
 after_none None y none = (refl, none)

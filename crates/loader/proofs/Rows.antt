@@ -6,11 +6,6 @@ use Rattle.valid_image.specs.Tables.{table}
 
 -- ---- lists
 
-pub some_at : {A : Type 0} (xs : List A) (j : ℕ) → j < length xs → (x : A) × (slice_get xs j ≡ Some x)
-some_at [] j low = absurd (omega (arith, low))
-some_at (x ∷ xs) zero low = (x, refl)
-some_at (x ∷ xs) (suc j) low = some_at xs j (omega (arith, low))
-
 -- the elements before a place
 pub take_get : {A : Type 0} (n j : ℕ) (xs : List A) → j < n → slice_get (take n xs) j ≡ slice_get xs j
 take_get zero j xs low = absurd (omega (arith, low))
@@ -92,6 +87,3 @@ module _ {A B : Type 0} (make : List B → A → B) where
   -- each row is made from those before it
   pub row_is : (xs : List A) (j : ℕ) (x : A) → slice_get xs j ≡ Some x → slice_get (table make [] xs) j ≡ Some (make (take j (table make [] xs)) x)
   row_is xs j x is = let z : 0 + j ≡ j = omega arith in subst (λ k. slice_get (table make [] xs) k ≡ Some (make (take k (table make [] xs)) x)) z (row_from [] xs j x is)
-
-  pub rows_before : (xs : List A) (j : ℕ) → j ≤ length xs → length (take j (table make [] xs)) ≡ j
-  rows_before xs j le = length-take-le j (table make [] xs) (omega (arith, le, table_length [] xs))

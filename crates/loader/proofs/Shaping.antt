@@ -37,27 +37,9 @@ pub record Before (raw : RawImage) (parts : Parts) (r : ℕ) : Type 0 where
   pub kept : (j : ℕ) (x : RawRoutine) → j < r → slice_get raw.routines j ≡ Some x → IsKept raw j x (slice_get parts.routines j)
   pub rest : first_of (test_at raw) (length raw.routines - r) r ≡ first_in (routine_shape_fault (image_of raw)) (image_of raw).routines
 
-none_get : {A : Type 0} (xs : List A) (j : ℕ) → xs ≡ [] → slice_get xs j ≡ None
-none_get xs j none = ap (λ ys. slice_get ys j) none
-
-pub at_first : (raw : RawImage) (parts : Parts) → parts.known ≡ [] → parts.routines ≡ [] → parts.end ≡ 0 → Before raw parts 0
-at_first raw parts no_known no_routines start = record {
-  due = start;
-  within = omega (arith, start);
-  known_rows = λ j. ap (λ ys. option_map held_known (slice_get (map known_of ys) j)) no_known ∙ ap (option_map held_known) (sym (take_past 0 j (known (image_of raw)) (omega arith)));
-  known_count = ap length no_known;
-  count = ap length no_routines;
-  kept = λ j x low is. absurd (omega (arith, low));
-  rest = (let e : length raw.routines - 0 ≡ length (map routine_of raw.routines) = omega (arith, length-map raw.routines routine_of) in ap (λ n. first_of (test_at raw) n 0) e);
-}
-
 pub none_found : (x : Option Found) → None ≡ hold x → is_found x ≡ false
 none_found None is = refl
 none_found (Some f) is = absurd cc
-
-and_false : (b : Bool) → b && false ≡ false
-and_false true = refl
-and_false false = refl
 
 pub shape_none : (b : Bool) (x y : Option Found) → None ≡ hold (guard b x) → hold x ≡ hold y → b && is_found y ≡ false
 shape_none false x y none same = refl

@@ -41,9 +41,6 @@ pub record BeforeRow (raw : RawImage) (waits : List Bool) (r : ℕ) : Type 0 whe
   pub count : length waits ≡ r
   pub alike : IsAlike (map bare waits) (take r (rows_of raw))
 
-pub first_row : (raw : RawImage) (waits : List Bool) → waits ≡ [] → BeforeRow raw waits 0
-first_row raw waits none = record { count = ap length none; alike = λ j. ap (λ ws. waits_at (map bare ws) j) none ∙ ap waits_of (sym (take_past 0 j (rows_of raw) (omega arith))) }
-
 next_alike : (raw : RawImage) (waits : List Bool) (next : Bool) (r : ℕ) (x : RawRoutine) → BeforeRow raw waits r → slice_get raw.routines r ≡ Some x → next ≡ tree_waits (map bare waits) x.tree
     → IsAlike (map bare (waits ++ next ∷ [])) (take (r + 1) (rows_of raw))
 next_alike raw waits next r x before at is j = elim (cases j r) [

@@ -24,7 +24,7 @@ mod tests_in_order;
 pub use bounds::{bound_fault, declared_fault, task_at, task_set, with_rank};
 pub use costs::cost_fault;
 pub use due::{ceiling_of, needed_block, rank_of};
-pub use handlers::{handler_fault, tree_waits, waits_table};
+pub use handlers::{handler_fault, waits_table};
 pub use parts::{Parts, ProcessFound, shape_fault};
 pub use ranks::rank_fault;
 pub use reached::{Stays, longest_stays};

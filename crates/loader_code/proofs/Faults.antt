@@ -5,15 +5,14 @@ use Rattle.std.proofs.lemmas.Option.{slice_get-get_or}
 use Rattle.image.specs.declared.raw.RawImage.{RawImage}
 use Rattle.image.specs.declared.raw.RawProc.{RawProc}
 use Rattle.image.specs.declared.raw.RawRoutine.{RawRoutine}
-use Rattle.image.specs.Raw.{image_of, routine_of, process_of}
+use Rattle.image.specs.Raw.{image_of, routine_of}
 use Rattle.machine_semantics.specs.Image.{Image, Process}
 use Rattle.valid_image.specs.Fault.{Fault, or_else, first_of}
-use Rattle.valid_image.specs.Operands.{Whose, operand_fault_at, operand_fault_in, whose_routine, whose_process, routines_operand_fault, processes_operand_fault}
+use Rattle.valid_image.specs.Operands.{Whose, operand_fault_at, operand_fault_in, whose_process}
 use Rattle.valid_image.specs.Pieces.{belongs, called, piece_number}
 use Rattle.valid_image.specs.Tables.{reach, bound_at, some_of}
 use Rattle.loader_code.proofs.Searching.{at_image}
 use Rattle.loader_code.specs.Owned.{owned, owned_from, AreCalls}
-use Rattle.loader_code.proofs.Seeking.{from_index, from_first}
 use Rattle.loader_code.proofs.Tables.{bound_row}
 use Rattle.loader_code.proofs.Sweeping.{one_more, pieces_long}
 use Rattle.std.proofs.Math.ListN.{length-append}
@@ -34,18 +33,6 @@ pub piece_fault : (image : Image) (k : ℕ) (w : Whose) (addresses : List ℕ) (
 piece_fault image k w addresses o is found = found ∙ (ap (λ xs. first_at (fault_at image w) xs) is ∙ sym (piece_from image k w (length image.code) 0))
 
 -- ---- the loops
-
-abbrev pub by_routine : RawImage → ℕ → Option Fault
-by_routine image i = from_index routine_of (λ r x. operand_fault_in (image_of image) r (whose_routine r x)) image.routines i
-
-abbrev pub by_process : RawImage → ℕ → Option Fault
-by_process image i = from_index process_of (λ k p. operand_fault_in (image_of image) (piece_number (image_of image) k) (whose_process (image_of image) k p)) image.processes i
-
-pub routines_start : (image : RawImage) → by_routine image 0 ≡ routines_operand_fault (image_of image)
-routines_start image = from_first routine_of (λ r x. operand_fault_in (image_of image) r (whose_routine r x)) image.routines
-
-pub processes_start : (image : RawImage) → by_process image 0 ≡ processes_operand_fault (image_of image)
-processes_start image = from_first process_of (λ k p. operand_fault_in (image_of image) (piece_number (image_of image) k) (whose_process (image_of image) k p)) image.processes
 
 routine_at : (image : RawImage) (rs : List RawRoutine) (r : ℕ) (d : RawRoutine) → rs ≡ image.routines → r < length image.routines → slice_get (image_of image).routines r ≡ Some (routine_of (get_or rs r d))
 routine_at image rs r d same low = at_image routine_of image.routines r (get_or rs r d) (slice_get-get_or image.routines r d low ∙ ap (λ xs. Some (get_or xs r d)) (sym same))

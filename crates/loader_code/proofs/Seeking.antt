@@ -1,17 +1,13 @@
 -- A search through a list from the left, for a loop over it: the first fault from an index on.
-use Rattle.std.proofs.Common.{◌≡◌, ◌≤◌, ◌<◌, ◌+◌, ◌-◌, ℕ, List, length, Option, Some, None, arith, ap, sym, ◌∙◌, map, get_or}
+use Rattle.std.proofs.Common.{◌≡◌, ◌<◌, ◌+◌, ◌-◌, ℕ, List, length, Option, Some, None, arith, ap, sym, ◌∙◌, map, get_or}
 use Rattle.std.specs.Prelude.{slice_get}
-use Rattle.std.proofs.lemmas.List.{length-map}
 use Rattle.std.proofs.lemmas.Option.{slice_get-map, slice_get-get_or}
-use Rattle.valid_image.specs.Fault.{first_of, first_in, of_some}
-use Rattle.loader_code.proofs.Searching.{none_here, one_here, none_left, of_element, at_image}
+use Rattle.valid_image.specs.Fault.{first_of, of_some}
+use Rattle.loader_code.proofs.Searching.{none_here, one_here, of_element, at_image}
 
 -- the elements are seen by v
 abbrev pub from_index : {A B C : Type 0} → (A → B) → (ℕ → B → Option C) → List A → ℕ → Option C
 from_index v f xs i = first_of (λ k. of_some (f k) (slice_get (map v xs) k)) (length xs - i) i
-
-pub from_first : {A B C : Type 0} (v : A → B) (f : ℕ → B → Option C) (xs : List A) → from_index v f xs 0 ≡ first_in f (map v xs)
-from_first v f xs = let e : length xs - 0 ≡ length (map v xs) = omega (arith, length-map xs v) in ap (λ n. first_of (λ k. of_some (f k) (slice_get (map v xs) k)) n 0) e
 
 there : {A B : Type 0} (v : A → B) (xs : List A) (i : ℕ) (x : A) → i < length xs → x ≡ get_or xs i x → slice_get (map v xs) i ≡ Some (v x)
 there v xs i x low is = at_image v xs i x (slice_get-get_or xs i x low ∙ ap (λ y. Some y) (sym is))
@@ -25,9 +21,6 @@ goes_on v f xs i x low is none =
 pub stops_at : {A B C : Type 0} (v : A → B) (f : ℕ → B → Option C) (xs : List A) (i : ℕ) (x : A) (y : C) → i < length xs → x ≡ get_or xs i x → f i (v x) ≡ Some y → from_index v f xs i ≡ Some y
 stops_at v f xs i x y low is some =
     one_here (λ k. of_some (f k) (slice_get (map v xs) k)) (length xs - i) i y (omega (arith, low)) (of_element (f i) (slice_get (map v xs) i) (v x) (there v xs i x low is) ∙ some)
-
-pub at_end : {A B C : Type 0} (v : A → B) (f : ℕ → B → Option C) (xs : List A) (i : ℕ) → length xs ≤ i → from_index v f xs i ≡ None
-at_end v f xs i past = none_left (λ k. of_some (f k) (slice_get (map v xs) k)) (length xs - i) i (omega (arith, past))
 
 -- the same in a loop over a slice of the list, for an answer that is held
 pub stops_in : {A B C : Type 0} (v : A → B) (f : ℕ → B → Option C) (xs ys : List A) (i : ℕ) (x : A) (y : C) (whole : Option C) → ys ≡ xs → i < length ys → x ≡ get_or ys i x → Some y ≡ f i (v x) → from_index v f xs i ≡ whole → Some y ≡ whole

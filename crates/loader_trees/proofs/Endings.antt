@@ -9,7 +9,6 @@ use Rattle.valid_image.specs.Found.{Known, Found, amount, is_enter, is_leave, gu
 use Rattle.valid_image_law.specs.Held.{held, hold}
 use Rattle.valid_image_law.proofs.Holding.{holding_changes_nothing}
 use Rattle.loader_trees.specs.Steps.{stays_in}
-use Rattle.loader_trees.specs.Whole.{monitor_in}
 use Rattle.loader_trees.specs.Told.{found_of, told_part}
 use Rattle.loader_trees.specs.declared.known.PartFound.{PartFound}
 use Rattle.base.specs.Capped.{cap}
@@ -34,22 +33,6 @@ stay_comes code known owner monitor body at last inside x y told is enter leave 
     ap (λ o. hold (stays_in o)) one ∙ sym (holding_changes_nothing.in_chain f (λ h. Some (record { height = h; cost = amount 8 0 0; depth = 0 }))) in
     whole ∙ ap (λ t. hold (guard (nat_eq monitor owner && t) (stays_in (Some inside)))) tests ∙ guard_held _ _ _ inner
 
-two_are_none : (code : List Instr) (known : List Known) (owner : ℕ) (first second : tree.Seg) (rest : tree.Segs) (at : ℕ) → entry code known owner (tree.Cons first (tree.Cons second rest)) at ≡ None
-two_are_none code known owner (tree.Stay n body) second rest at = refl
-two_are_none code known owner _ second rest at = refl
-
--- what is not one Stay is no entry
-pub no_entry : (code : List Instr) (known : List Known) (owner : ℕ) (t : tree.Segs) (at : ℕ) → monitor_in t ≡ None → None ≡ hold (entry code known owner t at)
-no_entry code known owner tree.Nil at none = refl
-no_entry code known owner (tree.Cons (tree.Stay m body) tree.Nil) at none = absurd cc
-no_entry code known owner (tree.Cons (tree.Line n) tree.Nil) at none = refl
-no_entry code known owner (tree.Cons (tree.Fork a b) tree.Nil) at none = refl
-no_entry code known owner (tree.Cons (tree.Rep n a) tree.Nil) at none = refl
-no_entry code known owner (tree.Cons (tree.Call n) tree.Nil) at none = refl
-no_entry code known owner (tree.Cons tree.Wait tree.Nil) at none = refl
-no_entry code known owner (tree.Cons tree.Exit tree.Nil) at none = refl
-no_entry code known owner (tree.Cons s (tree.Cons u rest)) at none = ap hold (sym (two_are_none code known owner s u rest at))
-
 -- ---- the end of a part
 
 pub ends_nothing : (b : Bool) (n : ℕ) (x : Option Found) → None ≡ hold x → None ≡ hold (guard b (ended n x))
@@ -71,12 +54,6 @@ ends_well true n f (Some g) is height one =
     let same : f ≡ held g = cc in
     let at : g.height ≡ n = sym (ap (λ k. k.height) same) ∙ height in
     one ∙ ap hold (ends_true (nat_eq g.height n) g (same_number g.height n at))
-
--- ---- a tree that is one Stay
-
-pub two_are_no_stay : (first second : tree.Seg) (rest : tree.Segs) → monitor_in (tree.Cons first (tree.Cons second rest)) ≡ None
-two_are_no_stay (tree.Stay n body) second rest = refl
-two_are_no_stay _ second rest = refl
 
 -- ---- how long an entry stays
 

@@ -3,4 +3,3 @@ pub mod Lines
 pub mod Endings
 pub mod Fitting
 pub mod Short
-mod Views

@@ -9,8 +9,6 @@
 //! over.
 #![tactic(auto)]
 
-mod found_segs_trees;
-mod found_segs_whole;
 mod found_trees;
 mod found_whole;
 mod instructions;
@@ -19,10 +17,7 @@ mod parts;
 mod seams;
 mod steps;
 
-pub use found_segs_whole::{depth, fits, worst};
-pub use found_trees::{line_found, past, tree_end, tree_found};
+pub use found_trees::tree_end;
 pub use found_whole::{depth_bytes, fits_bytes, worst_bytes};
-pub use instructions::{instr_at, results};
-pub use known::{Around, Found, Known, PartFound, TOO_DEEP};
-pub use parts::{entry_found, only_stay, part_found, part_tree_found, routine_found, stayed};
-pub use steps::{called, exited, forked, repeated, waited};
+pub use known::{Found, Known, PartFound, TOO_DEEP};
+pub use parts::{part_found, routine_found};

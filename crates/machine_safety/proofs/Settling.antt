@@ -39,9 +39,6 @@ woken_fits e p ps job b owned shared left w = record {
   waits = w.waits;
 }
 
-with_threads : State → List Thread → State
-with_threads s ts = record s { threads = ts }
-
 module _ (e : Where) (ps : ℕ → Parts) (image_fits : ImageFits e ps) where
   wake_keeps : (j : ℕ) (s : State) → StateFits e ps s → StateFits e ps (record s { threads = wake e.image j s.threads })
   wake_keeps j s fits = by_thread (slice_get s.threads j) refl where

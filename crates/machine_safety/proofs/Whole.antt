@@ -56,10 +56,6 @@ IsClear image threads k p t = (job : Job) (m : ℕ) → t ≡ Ready job → job.
 outside_clear : (image : Image) (threads : List Thread) (k : ℕ) (p : Process) (t : Thread) → IsOutside t → IsClear image threads k p t
 outside_clear image threads k p t out job m is inside j n q other there = absurd (let o : job.inside ≡ None = subst IsOutside is out in cc)
 
-other_side : {A B : Type 0} → A ⊎ B → B ⊎ A
-other_side (inl a) = inr a
-other_side (inr b) = inl b
-
 apart_set : (image : Image) (threads : List Thread) (k : ℕ) (p : Process) (t : Thread) → slice_get image.processes k ≡ Some p → IsClear image threads k p t → Apart image threads → Apart image (slice_set threads k t)
 apart_set image threads k p t process clear apart i j m n q r differ a b =
     elim (get_of_set threads k t i (Ready a.job) a.ready) [

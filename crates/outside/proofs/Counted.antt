@@ -1,5 +1,5 @@
 -- The counts of names kept.
-use Rattle.std.proofs.Common.{◌≡◌, ◌≢◌, ◌≤◌, ◌+◌, ℕ, List, [], ◌∷◌, ◌++◌, String, string_bytes, arith}
+use Rattle.std.proofs.Common.{◌≡◌, ◌≢◌, ◌+◌, ℕ, List, [], ◌∷◌, ◌++◌, String, string_bytes, arith}
 use Rattle.std.specs.Global.{Global}
 use Rattle.std.proofs.lemmas.Grind.{common_steps}
 use Rattle.std.proofs.lemmas.Slice.Eq.{bytes_eq-Decides}
@@ -9,10 +9,6 @@ use Rattle.outside.specs.Outside.{OneMore}
 -- a name more counts for itself
 pub count_of-append_same : (names : List (String Global)) (s : String Global) (name : List ℕ) → string_bytes s ≡ name → count_of (names ++ s ∷ []) name ≡ count_of names name + 1
 count_of-append_same names s name same = grind (arith, common_steps, bytes_eq-Decides)
-
--- and takes nothing from the others
-pub count_of-append_le : (names : List (String Global)) (s : String Global) (name : List ℕ) → count_of names name ≤ count_of (names ++ s ∷ []) name
-count_of-append_le names s name = grind (arith, common_steps)
 
 pub count_of-append_other : (names : List (String Global)) (s : String Global) (name other : List ℕ) → string_bytes s ≡ name → other ≢ name → count_of (names ++ s ∷ []) other ≡ count_of names other
 count_of-append_other names s name other same differs = grind (arith, common_steps, bytes_eq-Decides)

@@ -1,4 +1,3 @@
 pub mod Steps
-pub mod Handing
 pub mod Judging
 pub mod Fitting

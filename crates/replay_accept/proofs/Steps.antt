@@ -1,9 +1,9 @@
 -- What actions make of a configuration, from what was changed in turn.
-use Rattle.std.specs.Prelude.{◌≡◌, ℕ, ℤ, zero, suc, Bool, true, false, OnErr, Result, Ok, Err, List, [], ◌∷◌, ◌++◌, Option, Some, None, length, option_map, slice_get, unwrap_or}
+use Rattle.std.specs.Prelude.{◌≡◌, ℕ, ℤ, zero, suc, Bool, true, false, OnErr, Result, Ok, Err, List, [], ◌∷◌, Option, Some, None, length, option_map, slice_get, unwrap_or}
 use Rattle.std.proofs.Common.{refl, sym, ◌∙◌, ap}
 use Rattle.base.specs.declared.event.Act.TheVariants as act
 use Rattle.syntax_tree.specs.Plain.{Prog}
-use Rattle.source_semantics.specs.Config.{Config, Job, at_tick, changed, inside, job_calls, job_doing, leave, queue, released_of, vacate, waiting, with_jobs, with_queues, woken}
+use Rattle.source_semantics.specs.Config.{Config, Job, at_tick, changed, inside, job_calls, leave, queue, vacate, with_jobs, with_queues, woken}
 use Rattle.source_semantics.specs.Next.{Next, given}
 use Rattle.source_semantics.specs.Run.{Action, gets, puts, enters, leaves, waits, signals, broadcasts, asks_empty, raises, ends}
 use Rattle.source_semantics.specs.Source.{acts, after_raise, effect, give_to, is_empty, save_hold, save_job, saved, signalled}
@@ -18,26 +18,10 @@ same_changed k [] = refl
 same_changed zero (x ∷ xs) = refl
 same_changed (suc k) (x ∷ xs) = ap (λ l. x ∷ l) (same_changed k xs)
 
-leave_queued : (c : Config) (q : List (List ℕ)) (k : ℕ) → leave (with_queues c q) k ≡ with_queues (leave c k) q
-leave_queued c q k = by_case (inside c k)
-  where
-    by_case : (o : Option ℕ) → vacate o (with_queues c q) ≡ with_queues (vacate o c) q
-    by_case None = refl
-    by_case (Some m) = refl
-
 leave_jobs : (c : Config) (k : ℕ) → (leave c k).jobs ≡ c.jobs
 leave_jobs c k = by_case (inside c k)
   where
     by_case : (o : Option ℕ) → (vacate o c).jobs ≡ c.jobs
-    by_case None = refl
-    by_case (Some m) = refl
-
-saved_queued : (c : Config) (q : List (List ℕ)) (t k : ℕ) (n : Next) → saved (at_tick (with_queues c q) t true) k n ≡ with_queues (saved (at_tick c t true) k n) q
-saved_queued c q t k n = by_case (inside c k)
-  where
-    by_case : (o : Option ℕ)
-        → save_hold o n.monitor (with_jobs (at_tick (with_queues c q) t true) (changed (save_job n) k c.jobs))
-        ≡ with_queues (save_hold o n.monitor (with_jobs (at_tick c t true) (changed (save_job n) k c.jobs))) q
     by_case None = refl
     by_case (Some m) = refl
 
@@ -72,20 +56,6 @@ pub raised : (g : Prog) (c d : Config) (t k number : ℕ) (n : Next) (a : Option
     → d ≡ after_put a k (leave (saved (at_tick c t true) k n) k) → d ≡ after_raise g k number (saved (at_tick c t true) k n)
 raised g c d t k number n a prepared is = is ∙ sym (prepared (leave (saved (at_tick c t true) k n) k) (raised_handling c t k n))
 
-pub waited : (g : Prog) (s : Script) (c : Config) (t k x limit number : ℕ) (n : Next) (qs : List (List ℕ)) (saves left : Config) (js : List Job)
-    → qs ≡ changed (λ q. q ++ k ∷ []) x c.queues → saves ≡ saved (at_tick (with_queues c qs) t true) k n → left ≡ leave saves k
-    → js ≡ changed (λ j. job_doing (waiting (released_of j.doing) x t limit number) j) k left.jobs
-    → with_jobs left js ≡ (effect g s t k (waits x limit number) (saved (at_tick c t true) k n)).config
-waited g s c t k x limit number n qs saves left js joined save leaves_it waits_now =
-    let d = saved (at_tick c t true) k n in
-    let wait = λ (j : Job). job_doing (waiting (released_of j.doing) x t limit number) j in
-    let after_save : saves ≡ with_queues d qs = save ∙ saved_queued c qs t k n in
-    let after_leave : left ≡ with_queues (leave d k) qs = leaves_it ∙ (ap (λ (b : Config). leave b k) after_save ∙ leave_queued d qs k) in
-    let jobs : left.jobs ≡ d.jobs = ap (λ (b : Config). b.jobs) after_leave ∙ leave_jobs d k in
-    ap (λ (b : Config). with_jobs b js) after_leave
-    ∙ (ap (λ l. with_queues (with_jobs (leave d k) l) qs) (waits_now ∙ ap (changed wait k) jobs)
-    ∙ ap (λ q. with_queues (with_jobs (leave d k) (changed wait k d.jobs)) q) (joined ∙ ap (changed (λ q. q ++ k ∷ []) x) (sym (saved_queues c t k n))))
-
 first_dropped : (x k : ℕ) (ks : List ℕ) (qs : List (List ℕ)) → unwrap_or (slice_get qs x) [] ≡ k ∷ ks → changed tail_of x qs ≡ changed (λ q. ks) x qs
 first_dropped x k ks [] e = refl
 first_dropped zero k ks (q ∷ qs) e = ap (λ l. l ∷ qs) (ap tail_of e)
@@ -101,13 +71,6 @@ signalled_some x k c js qs first wakes drops = by_case (queue c x) refl first
         let which : k ≡ i = cc in
         ap (λ l. with_queues (with_jobs c l) qs) (wakes ∙ ap (λ j. changed woken j c.jobs) which)
         ∙ ap (λ q. with_queues (with_jobs c (changed woken i c.jobs)) q) (drops ∙ first_dropped x i is c.queues e)
-
-pub signalled_none : (x : ℕ) (c : Config) → None ≡ first_of (queue c x) → c ≡ (signalled x (queue c x) c).config
-signalled_none x c first = by_case (queue c x) first
-  where
-    by_case : (l : List ℕ) → None ≡ first_of l → c ≡ (signalled x l c).config
-    by_case [] is = refl
-    by_case (i ∷ is) same = absurd cc
 
 pub signal_told : (x : ℕ) (l : List ℕ) (c : Config) → (signalled x l c).act ≡ act.Signal x (first_of l)
 signal_told x [] c = refl

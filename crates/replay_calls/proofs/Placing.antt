@@ -1,12 +1,9 @@
 -- A store to the variable at a place, and the variable of an argument.
 use Rattle.std.specs.Prelude.{◌≡◌, ℕ, zero, suc, Bool, true, false, cond, List, [], ◌∷◌, Option, Some, None, ℤ, option_map, map, slice_get, slice_set}
 use Rattle.std.proofs.Common.{refl, sym, ◌∙◌, ap}
-use Rattle.base.specs.Words.{Answer, word, raised, with_word}
-use Rattle.syntax_tree.specs.Plain.{Name, Param, Prog}
-use Rattle.source_semantics.specs.Store.{Held, Slot, Vars, range_of, checked, slot_named, replaced}
-use Rattle.source_semantics.specs.Run as run
-use Rattle.replay_values.specs.Journal.{at_place}
-use Rattle.replay_values.specs.Stores.{with_held}
+use Rattle.syntax_tree.specs.Plain.{Name}
+use Rattle.source_semantics.specs.Store.{Held, Slot, Vars, slot_named, replaced}
+use Rattle.replay_values.specs.Stores.{at_place, with_held}
 use Rattle.replay_calls.specs.Stores.{IsTried, IsStored, put, put_slot, put_found, put_named, tried}
 use Rattle.replay_calls.specs.declared.storing.Stored.TheVariants as stored_is
 
@@ -40,16 +37,3 @@ stored_at x i v old new k s t false named over got is done = (
   ap (put_found x i v old) (named ∙ got) ∙ ap (λ o. Some o) (put_past x old s (put i v s) done.0),
   is ∙ (ap (slice_set old k) done.1 ∙ set_same old k s got),
 )
-
--- the argument that keeps to its range, or its exception
-abbrev pub bound_by : Answer → (ℤ → run.Bound) → run.Bound
-bound_by (word v) next = next v
-bound_by (raised n) next = run.unbound n
-
-pub argument_by : (g : Prog) (p : Param) (a : Answer) (next : ℤ → run.Bound) → run.with_argument g p a next ≡ bound_by (with_word a (λ v. checked (range_of g p.kind) v)) next
-argument_by g p (raised n) next = refl
-argument_by g p (word v) next = by_answer (checked (range_of g p.kind) v)
-  where
-    by_answer : (a : Answer) → elim a [ word w ↦ next w | raised n ↦ run.unbound n ] ≡ bound_by a next
-    by_answer (word w) = refl
-    by_answer (raised n) = refl

@@ -30,26 +30,12 @@ abbrev put_run : (Vars → run.Memory) → run.Memory → Option Vars → run.Ru
 put_run into m None = run.fails 3 m
 put_run into m (Some vs) = run.goes (into vs)
 
-own_held : (h : run.Home) (m : run.Memory) (x : Name) (s : Slot) (p : Option Held) → slot_named x m.own ≡ Some s → after_put h m x p ≡ put_run (λ vs. run.with_own m vs) m (option_map (λ k. replaced x k m.own) p)
-own_held h m x s None is = refl
-own_held h m x s (Some held) is = ap (λ o. run.goes (run.memory_after h m x o held)) is
-
 beside_held : (h : run.Home) (m : run.Memory) (x : Name) (p : Option Held) → slot_named x m.own ≡ None → after_put h m x p ≡ put_run (λ vs. run.with_outer h m vs) m (option_map (λ k. replaced x k (run.outer h m)) p)
 beside_held h m x None is = refl
 beside_held h m x (Some held) is = ap (λ o. run.goes (run.memory_after h m x o held)) is
 
 one_some : {A : Type 0} {a b : A} → Some a ≡ Some b → a ≡ b
 one_some e = cc
-
-own_put : (h : run.Home) (m : run.Memory) (t : run.Target) (v : ℤ) (e : Option Vars) → put_named t.name t.index v m.own ≡ Some e → run.store_to h m t v ≡ put_run (λ vs. run.with_own m vs) m e
-own_put h m t v e told = by_slot (slot_named t.name m.own) refl
-  where
-    by_slot : (o : Option Slot) → slot_named t.name m.own ≡ o → run.store_to h m t v ≡ put_run (λ vs. run.with_own m vs) m e
-    by_slot None is = let none : None ≡ Some e = sym (ap (put_found t.name t.index v m.own) is) ∙ told in absurd cc
-    by_slot (Some s) is =
-        let found : run.slot_in h m t.name ≡ Some s = ap (λ o. run.or_else o (slot_named t.name (run.outer h m))) is in
-        let one : option_map (λ k. replaced t.name k m.own) (put t.index v s) ≡ e = one_some (sym (ap (put_found t.name t.index v m.own) is) ∙ told) in
-        found_put h m t v s found ∙ (own_held h m t.name s (put t.index v s) is ∙ ap (put_run (λ vs. run.with_own m vs) m) one)
 
 -- no variable of that name, where no store finds one
 none_named : (x : Name) (i : Option ℤ) (v : ℤ) (vs : Vars) → put_named x i v vs ≡ None → slot_named x vs ≡ None
@@ -76,13 +62,6 @@ absent_put h m t v none beside =
     let out : slot_named t.name (run.outer h m) ≡ None = none_named t.name t.index v (run.outer h m) beside in
     ap (run.stored_slot h m t v) (ap (λ o. run.or_else o (slot_named t.name (run.outer h m))) own ∙ out)
 
--- a store that was made among the call's own variables, or refused there
-pub own_done : (h : run.Home) (m : run.Memory) (t : run.Target) (v : ℤ) (new : Vars) → put_named t.name t.index v m.own ≡ Some (Some new) → run.goes (run.with_own m new) ≡ run.store_to h m t v
-own_done h m t v new told = sym (own_put h m t v (Some new) told)
-
-pub own_refused : (h : run.Home) (m : run.Memory) (t : run.Target) (v : ℤ) (new : Vars) → put_named t.name t.index v m.own ≡ Some None → new ≡ m.own → run.fails 3 (run.with_own m new) ≡ run.store_to h m t v
-own_refused h m t v new told same = ap (λ vs. run.fails 3 (run.with_own m vs)) same ∙ sym (own_put h m t v None told)
-
 kept_outer : (h : run.Home) (m : run.Memory) → run.with_outer h m (run.outer h m) ≡ m
 kept_outer run.of_program m = refl
 kept_outer run.of_process m = refl
@@ -94,9 +73,6 @@ pub beside_done : (h : run.Home) (m : run.Memory) (t : run.Target) (v : ℤ) (r 
 beside_done h m t v stored_is.Absent new none told = ap (λ vs. run.goes (run.with_outer h m vs)) told.1 ∙ (ap run.goes (kept_outer h m) ∙ sym (absent_put h m t v none told.0))
 beside_done h m t v stored_is.Refused new none told = ap (λ vs. run.fails 3 (run.with_outer h m vs)) told.1 ∙ (ap (run.fails 3) (kept_outer h m) ∙ sym (beside_put h m t v None none told.0))
 beside_done h m t v stored_is.Done new none told = sym (beside_put h m t v (Some new) none told)
-
-pub program_done : (m : run.Memory) (t : run.Target) (v : ℤ) (new : Vars) → put_named t.name t.index v m.own ≡ None → new ≡ m.own → run.goes (run.with_own m new) ≡ run.store_to run.of_program m t v
-program_done m t v new none same = ap (λ vs. run.goes (run.with_own m vs)) same ∙ sym (absent_put run.of_program m t v none refl)
 
 pub beside_over : (h : run.Home) (m : run.Memory) (t : run.Target) (v : ℤ) (r : Stored) (own new : Vars) → put_named t.name t.index v m.own ≡ None → own ≡ m.own → IsStored (put_named t.name t.index v (run.outer h m)) (run.outer h m) r new
     → store_run (accepted r) (run.with_outer h (run.with_own m own) new) ≡ run.store_to h m t v

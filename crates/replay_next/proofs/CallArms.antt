@@ -3,7 +3,6 @@ use Rattle.std.specs.Prelude.{◌≡◌, ℕ, List, Some, None, pos}
 use Rattle.std.proofs.Common.{◌∙◌, ap}
 use Rattle.base.specs.Words.{word, raised}
 use Rattle.syntax_tree.specs.Plain.{Name, Param, Exprs, call}
-use Rattle.source_semantics.specs.Names.{monitor_number}
 use Rattle.source_semantics.specs.Store.{Vars}
 use Rattle.source_semantics.specs.Run as run
 
@@ -26,35 +25,3 @@ pub call_bound : (c : run.Site) (m : run.Memory) (n : Name) (es : Exprs) (f : ru
     → c.calls.answer f (run.with_own m own) ≡ run.value c m (call n es)
 call_bound c m n es f b ps vs own is args same un made =
     ap (λ k. c.calls.answer f (run.with_own m k)) made ∙ (ap (run.answer_of c m f) un ∙ call_found c m n es f b ps is args same)
-
--- ---- procedures
-
-pub perform_none : (c : run.Site) (m : run.Memory) (n : Name) (es : Exprs) → None ≡ run.routine_named c.program c.process n → run.goes m ≡ run.perform_named c m n es
-perform_none c m n es is = ap (λ o. run.perform_found c m o (λ ps. run.arguments c m es ps)) is
-
-perform_some : (c : run.Site) (m : run.Memory) (n : Name) (es : Exprs) (f : run.Found) (b : run.Bound) (ps : List Param) → Some f ≡ run.routine_named c.program c.process n → b ≡ run.arguments c m es ps → ps ≡ f.routine.params
-    → run.performed c m f b ≡ run.perform_named c m n es
-perform_some c m n es f b ps is args same =
-    ap (run.performed c m f) (args ∙ ap (run.arguments c m es) same) ∙ ap (λ o. run.perform_found c m o (λ qs. run.arguments c m es qs)) is
-
-pub perform_unbound : (c : run.Site) (m : run.Memory) (n : Name) (es : Exprs) (f : run.Found) (b : run.Bound) (ps : List Param) (k : ℕ)
-    → Some f ≡ run.routine_named c.program c.process n → b ≡ run.arguments c m es ps → ps ≡ f.routine.params → run.unbound k ≡ b → run.fails k m ≡ run.perform_named c m n es
-perform_unbound c m n es f b ps k is args same un = ap (run.performed c m f) un ∙ perform_some c m n es f b ps is args same
-
-pub perform_bound : (c : run.Site) (m : run.Memory) (n : Name) (es : Exprs) (f : run.Found) (b : run.Bound) (ps : List Param) (vs own : Vars)
-    → Some f ≡ run.routine_named c.program c.process n → b ≡ run.arguments c m es ps → ps ≡ f.routine.params → run.bound vs ≡ b → own ≡ run.own_vars c.program f.routine vs
-    → run.within_caller f.home m.own (c.calls.run f (run.with_own m own)) ≡ run.perform_named c m n es
-perform_bound c m n es f b ps vs own is args same un made =
-    ap (λ k. run.within_caller f.home m.own (c.calls.run f (run.with_own m k))) made ∙ (ap (run.performed c m f) un ∙ perform_some c m n es f b ps is args same)
-
--- ---- entries
-
-pub enter_none : (c : run.Site) (m : run.Memory) (mon e : Name) (es : Exprs) (rest : List run.Item) → None ≡ run.entry_named c.program mon e → run.goes m ≡ run.enter_named c m mon e es rest
-enter_none c m mon e es rest is = ap (λ o. run.enter_found c m (monitor_number c.program mon) o (λ ps. run.arguments c m es ps) rest) is
-
-pub enter_some : (c : run.Site) (m : run.Memory) (mon e : Name) (es : Exprs) (rest : List run.Item) (f : run.Found) (b : run.Bound) (ps : List Param) (k : ℕ)
-    → Some f ≡ run.entry_named c.program mon e → b ≡ run.arguments c m es ps → ps ≡ f.routine.params → k ≡ monitor_number c.program mon → run.entered c m f k b rest ≡ run.enter_named c m mon e es rest
-enter_some c m mon e es rest f b ps k is args same at =
-    ap (λ n. run.entered c m f n b rest) at
-    ∙ (ap (λ x. run.entered c m f (monitor_number c.program mon) x rest) (args ∙ ap (run.arguments c m es) same)
-    ∙ ap (λ o. run.enter_found c m (monitor_number c.program mon) o (λ qs. run.arguments c m es qs) rest) is)

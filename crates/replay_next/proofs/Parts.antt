@@ -34,10 +34,6 @@ stmt_left s = stmt_size (plain_stmt (placed_stmt s))
 abbrev pub stmts_left : List Stmt → ℕ
 stmts_left ss = stmts_size (plain_stmts (placed_stmts ss))
 
--- where there is the same room, what is smaller is left less of
-pub falls : (n a b t : ℕ) → t ≡ n + b → a < b → n + a < t
-falls n a b t is less = omega (arith, is, less)
-
 -- ---- expressions
 
 in_box : (i : Box Expr Global) (x : Expr) (b : ℕ) → x ≡ i.value → expr_left i.value < b → expr_left x < b

@@ -17,10 +17,9 @@ mod results;
 mod runs;
 mod visible;
 
-pub use calling::answering;
 pub use depth::routine_count;
-pub use items::{Came, run_items};
-pub use next::{next_action, next_from};
+pub use items::Came;
+pub use next::next_action;
 pub use results::{Aim, Ran, Stop, stops};
 pub use runs::{run_all, turns, value};
 pub use visible::assigned;

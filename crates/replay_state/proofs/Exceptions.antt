@@ -1,37 +1,11 @@
 -- What a process does after an exception.
-use Rattle.std.specs.Prelude.{◌≡◌, ℕ, zero, suc, Bool, true, false, cond, not, ◌&&◌, List, [], ◌∷◌, Option, Some, None, map, option_map, slice_get}
+use Rattle.std.specs.Prelude.{◌≡◌, ℕ, zero, suc, List, [], ◌∷◌, Option, Some, None, map, option_map, slice_get}
 use Rattle.std.proofs.Common.{refl, sym, ◌∙◌, ap}
-use Rattle.syntax_tree.specs.Plain.{Handler, Process, Prog}
+use Rattle.syntax_tree.specs.Plain.{Process, Prog}
 use Rattle.source_semantics.specs.Names.{processes}
-use Rattle.source_semantics.specs.Run.{Call}
-use Rattle.source_semantics.specs.Config.{Config, Job, active, changed, released_of, with_jobs}
-use Rattle.source_semantics.specs.Source.{call_of, job_after_raise, lists, on_job, on_text}
+use Rattle.source_semantics.specs.Config.{Config, Job, changed, with_jobs}
+use Rattle.source_semantics.specs.Source.{job_after_raise, on_job, on_text}
 use Rattle.replay_state.specs.Texts.{After, IsAfter, IsPrepared, after_put, handling_at, raised_job}
-
-pub after_none : (g : Prog) (p : Process) (n : ℕ) (handling : Bool) → p.handler ≡ None → IsAfter g p n handling (record { calls = []; handling = handling })
-after_none g p n handling e = λ j same.
-    ap (λ o. job_after_raise g n o j) e
-    ∙ ap (λ b. record { vars = j.vars; doing = active (released_of j.doing); calls = []; handling = b }) same
-
-pub after_unlisted : (g : Prog) (p : Process) (n : ℕ) (handling : Bool) (h : Handler) → p.handler ≡ Some h → lists g n h.numbers && not handling ≡ false
-    → IsAfter g p n handling (record { calls = []; handling = handling })
-after_unlisted g p n handling h e stays = λ j same.
-    ap (λ o. job_after_raise g n o j) e
-    ∙ (ap (λ b. cond b
-    (record { vars = j.vars; doing = active (released_of j.doing); calls = call_of h.body ∷ []; handling = true })
-    (record { vars = j.vars; doing = active (released_of j.doing); calls = []; handling = j.handling }))
-    (ap (λ b. lists g n h.numbers && not b) same ∙ stays)
-    ∙ ap (λ b. record { vars = j.vars; doing = active (released_of j.doing); calls = []; handling = b }) same)
-
-pub after_handled : (g : Prog) (p : Process) (n : ℕ) (handling : Bool) (h : Handler) (calls : List Call) → p.handler ≡ Some h → lists g n h.numbers && not handling ≡ true
-    → calls ≡ call_of h.body ∷ [] → IsAfter g p n handling (record { calls = calls; handling = true })
-after_handled g p n handling h calls e goes made = λ j same.
-    ap (λ o. job_after_raise g n o j) e
-    ∙ (ap (λ b. cond b
-    (record { vars = j.vars; doing = active (released_of j.doing); calls = call_of h.body ∷ []; handling = true })
-    (record { vars = j.vars; doing = active (released_of j.doing); calls = []; handling = j.handling }))
-    (ap (λ b. lists g n h.numbers && not b) same ∙ goes)
-    ∙ ap (λ cs. record { vars = j.vars; doing = active (released_of j.doing); calls = cs; handling = true }) (sym made))
 
 changed_alike : {A : Type 0} (f h : A → A) (k : ℕ) (xs : List A) → ((x : A) → slice_get xs k ≡ Some x → f x ≡ h x) → changed f k xs ≡ changed h k xs
 changed_alike f h k [] same = refl
@@ -49,9 +23,6 @@ prepared_some g k n c p j a text state is = λ d same.
     ap (λ o. on_text (λ q i. job_after_raise g n q.handler i) o k d) text
     ∙ ap (with_jobs d) (changed_alike (job_after_raise g n p.handler) (raised_job a) k d.jobs (λ i got.
     is i (let e : Some i.handling ≡ Some j.handling = sym (ap (option_map (λ (x : Job). x.handling)) got) ∙ (same ∙ ap (option_map (λ (x : Job). x.handling)) state) in cc)))
-
-pub prepared_no_text : (g : Prog) (k n : ℕ) (c : Config) → slice_get (processes g) k ≡ None → IsPrepared g k n c None
-prepared_no_text g k n c none = λ d same. ap (λ o. on_text (λ q i. job_after_raise g n q.handler i) o k d) none
 
 pub prepared_no_job : (g : Prog) (k n : ℕ) (c : Config) → slice_get c.jobs k ≡ None → IsPrepared g k n c None
 prepared_no_job g k n c none = λ d same. by_case (slice_get (processes g) k) d (nobody d (slice_get d.jobs k) refl same)

@@ -24,7 +24,7 @@ mod variables;
 pub use call::{Action, Answering, Call, Home, Item, Next, Target};
 pub use config::{Config, Hold, Job};
 pub use doing::{Doing, Wait};
-pub use moves::{beginning, set_doing, set_job, set_occupant};
+pub use moves::{beginning, set_doing, set_job};
 pub use queues::{drop_all, drop_first, join, queue_at, released, take_out, wake, wake_all};
 pub use raising::{After, Text, count, prepare, raise};
 pub use ranks::Ranks;

@@ -1,5 +1,5 @@
--- An element of an array.
-use Rattle.std.specs.Prelude.{◌≡◌, ◌<◌, ℕ, zero, suc, [], ◌∷◌, slice_set, Bool, true, false, cond, List, Some, None, ℤ, pos, negsuc, ◌-ℤ◌, length, slice_get, nat_lt}
+-- Elements of arrays and of lists.
+use Rattle.std.specs.Prelude.{◌≡◌, ◌<◌, ℕ, zero, suc, Bool, true, false, cond, List, [], ◌∷◌, Some, None, ℤ, pos, negsuc, ◌-ℤ◌, length, map, slice_get, nat_lt}
 use Rattle.std.proofs.Common.{refl, sym, ◌∙◌, ap, arith, get_or}
 use Rattle.std.proofs.lemmas.Option.{slice_get_read}
 use Rattle.std.proofs.lemmas.Bool.Decides.{nat_tests}
@@ -19,8 +19,7 @@ element_read low ws i k v e got =
     let found : slice_get ws k ≡ Some v = slice_get_read ws (length ws) k v refl (place_below low ws (i -ℤ low) k e) got in
     sym (ap (element_at ws) (sym e) ∙ ap (λ o. elim o [ Some v ↦ word v | None ↦ raised 3 ]) found)
 
--- a word that is changed and put back
-pub set_back : (ws : List ℤ) (k : ℕ) (v old : ℤ) → old ≡ get_or ws k old → slice_set (slice_set ws k v) k old ≡ ws
-set_back [] k v old is = refl
-set_back (w ∷ ws) zero v old is = ap (λ x. x ∷ ws) is
-set_back (w ∷ ws) (suc k) v old is = ap (λ l. w ∷ l) (set_back ws k v old is)
+pub mapped_get : {A B : Type 0} (f : A → B) (xs : List A) (k : ℕ) (x : A) → slice_get xs k ≡ Some x → slice_get (map f xs) k ≡ Some (f x)
+mapped_get f [] k x h = absurd cc
+mapped_get f (y ∷ xs) zero x h = let e : y ≡ x = cc in ap (λ z. Some (f z)) e
+mapped_get f (y ∷ xs) (suc k) x h = mapped_get f xs k x h

@@ -1,6 +1,6 @@
 -- The place of the first variable of a name.
-use Rattle.std.specs.Prelude.{◌≡◌, ◌+◌, ℕ, suc, true, false, cond, [], ◌∷◌, Option, Some, None, option_map, slice_get, slice_set, bytes_eq}
-use Rattle.std.proofs.Common.{refl, sym, ◌∙◌, ap, arith, subst}
+use Rattle.std.specs.Prelude.{◌≡◌, ◌+◌, ℕ, suc, true, false, cond, ◌∷◌, Option, Some, None, option_map, slice_get, slice_set, bytes_eq}
+use Rattle.std.proofs.Common.{refl, ◌∙◌, ap, arith, subst}
 use Rattle.syntax_tree.specs.Plain.{Name}
 use Rattle.source_semantics.specs.Store.{Held, Slot, Vars, slot_named, replaced}
 use Rattle.replay_values.specs.Stores.{IsPlace, with_held}
@@ -23,6 +23,3 @@ place_next x s ss (Some k) e h = (
 pub place_on : (x : Name) (vs : Vars) (at : ℕ) (o : Option ℕ) → IsPlace x vs (option_map (λ k. at + k) (option_map suc o)) → IsPlace x vs (option_map (λ k. at + 1 + k) o)
 place_on x vs at None h = h
 place_on x vs at (Some k) h = let e : at + suc k ≡ at + 1 + k = omega arith in subst (λ n. IsPlace x vs (Some n)) e h
-
-pub place_none : (x : Name) (vs : Vars) (at : ℕ) → vs ≡ [] → IsPlace x vs None
-place_none x vs at e = subst (λ v. slot_named x v ≡ None) (sym e) refl

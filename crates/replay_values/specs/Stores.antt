@@ -1,15 +1,11 @@
--- What a store comes to.
-use Rattle.std.specs.Prelude.{◌≡◌, ◌<◌, ℕ, Option, Some, None, ℤ, length, slice_get}
+-- Variables at a place of a list.
+use Rattle.std.specs.Prelude.{◌≡◌, ◌<◌, ℕ, List, Option, Some, None, length, slice_get, slice_set}
 use Rattle.syntax_tree.specs.Plain.{Name}
-use Rattle.source_semantics.specs.Store.{Held, Slot, Vars, slot_named, replaced, stored}
-use Rattle.replay_values.specs.declared.store.Set.{Set}
-use Rattle.replay_values.specs.declared.store.Set.TheVariants as set_is
-use Rattle.replay_values.specs.Journal.{at_place, put_back}
+use Rattle.source_semantics.specs.Store.{Held, Slot, Vars, slot_named, replaced}
 
-abbrev pub IsSet : Held → Option ℤ → ℤ → Set → Held → Type 0
-IsSet old index v (set_is.Changed at was) new = (stored old index v ≡ Some new) × (put_back at was new ≡ old)
-IsSet old index v set_is.Same new = (stored old index v ≡ Some new) × (new ≡ old)
-IsSet old index v set_is.Out new = (stored old index v ≡ None) × (new ≡ old)
+-- the thing at a place is changed, where there is one
+abbrev pub at_place : {A : Type 0} → (A → A) → ℕ → List A → List A
+at_place f k xs = elim (slice_get xs k) [ None ↦ xs | Some x ↦ slice_set xs k (f x) ]
 
 abbrev pub with_held : Held → Slot → Slot
 with_held h s = record { name = s.name; range = s.range; held = h }

@@ -5,19 +5,10 @@
 //! variables is asked.
 #![tactic(auto)]
 
-mod eval;
 mod lookup;
-mod memory;
-mod outer;
-pub mod running;
-mod stmt;
-mod store;
+mod places;
 mod words;
 
-pub use eval::{Around, Fault, value};
-pub use lookup::{Found, Scope, routine_named};
-pub use memory::{Held, Home, Range, Slot, equal};
-pub use outer::{Change, Outer};
-pub use stmt::{Ran, run_all};
-pub use store::place_at;
+pub use lookup::{Found, Home, Scope, equal, routine_named};
+pub use places::place_at;
 pub use words::{Answer, is_true, negated, operated, truth};

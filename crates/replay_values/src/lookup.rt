@@ -1,15 +1,22 @@
 //! What names stand for in a program.
 
-ghost use Rattle.std.specs.Prelude.{◌≡◌, map, option_map, filter_map};
+ghost use Rattle.std.specs.Prelude.{◌≡◌, bytes_eq, map, option_map, filter_map};
 ghost use Rattle.syntax_tree.specs.Placed.{placed, placed_routine, placed_process, placed_decl, plain, plain_routine, plain_process, plain_decl};
 ghost use Rattle.source_semantics.specs.Names.{named, routine_in};
 ghost use Rattle.source_semantics.specs.Run.{routine_named as named_routine, entry_name};
 ghost use Rattle.replay_values.specs.Lookups.{found_of};
 
-use crate::memory::{Home, equal};
 use static_declarations::Declarations;
 use std::alloc::Global;
 use syntax_tree::{Decl, Name, Proc, Routine};
+
+/// Whose text a call is in.
+#[derive(Clone, Copy, Debug)]
+pub enum Home {
+    Program,
+    Process,
+    Monitor(usize),
+}
 
 /// A program and the process that runs.
 #[derive(Drop)]
@@ -24,6 +31,13 @@ pub struct Scope<'a> {
 pub struct Found<'a> {
     pub home: Home,
     pub routine: &'a Routine,
+}
+
+/// Whether two names are the same.
+pub fn equal(a: &Name, b: &Name) -> bool
+    ensures { result ≡ bytes_eq a.now b.now }
+{
+    a == b
 }
 
 /// The first routine of that name.

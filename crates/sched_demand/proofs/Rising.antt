@@ -8,7 +8,7 @@ use Rattle.std.proofs.lemmas.Grind.{div_ceil_times}
 use Rattle.std.proofs.lemmas.List.Sums.{sum_by-cons}
 use Rattle.std.proofs.Math.Nat.{mul-le-mul_right}
 use Rattle.sched_demand.specs.declared.tasks.DTask.{DTask}
-use Rattle.sched_demand.specs.Demand.{IsTask, AreTasks, due_by, asked, points, points_of, Covers, IsReach, NoneCovers, IsMost}
+use Rattle.sched_demand.specs.Demand.{IsTask, AreTasks, due_by, asked, points, points_of, IsReach, NoneCovers, IsMost}
 use Rattle.sched_demand.proofs.Turns.{due_none, due_some}
 
 div_ceil_mono : (a b n : ℕ) → 0 < n → a ≤ b → div_ceil a n ≤ div_ceil b n
@@ -84,7 +84,3 @@ one_reach ts r s is_r is_s =
     let a = reach_above ts r s is_r.within is_r.least is_s in
     let b = reach_above ts s r is_s.within is_s.least is_r in
     omega arith
-
--- the largest block covers each
-pub covers_of : (ts : List DTask) (block r : ℕ) → IsMost ts block → block + asked ts r ≤ r → Covers ts r
-covers_of ts block r most met j below = let h = most.most j below in omega arith

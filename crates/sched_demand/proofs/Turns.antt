@@ -84,19 +84,6 @@ next_kept ts t i next turns are below old is later =
       ];
     }
 
--- the first next
-pub next_first : (ts : List DTask) (t turns : ℕ) → AreTasks ts → turns ≡ due_by t (task_at ts 0) → IsNext ts t 0 ((task_at ts 0).deadline + turns * (task_at ts 0).frame)
-next_first ts t turns are is =
-    let same : turns * (task_at ts 0).frame ≡ due_by t (task_at ts 0) * (task_at ts 0).frame = ap (λ n. n * (task_at ts 0).frame) is in
-    record {
-      level = 0;
-      of_these = are.some;
-      turn = turns;
-      here = refl;
-      after = let h = turn_after t (task_at ts 0) (is_task ts 0 are are.some) in omega arith;
-      least = λ j m low after. absurd (omega arith);
-    }
-
 -- the block with one more task
 pub block_some : (ts : List DTask) (t i turns : ℕ) → turns ≡ due_by t (task_at ts i) → 0 < turns → block_of ts t (i + 1) ≡ (task_at ts i).block
 block_some ts t i turns is some = elim (cases_lt t (task_at ts i).deadline) [

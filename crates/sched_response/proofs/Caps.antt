@@ -20,6 +20,3 @@ cap-mul (suc n) a = elim (cases_lt a 1000000001) [
 -- one more product in a capped sum
 pub cap_added : (total n a : ℕ) → cap (total + cap (n * cap a)) ≡ cap (total + n * a)
 cap_added total n a = ap (λ x. cap (total + x)) (cap-mul n a) ∙ cap-add total (n * a)
-
-pub cap-first : (a b : ℕ) → cap (cap a + b) ≡ cap (a + b)
-cap-first a b = omega arith

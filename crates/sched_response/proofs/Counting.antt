@@ -4,9 +4,6 @@ use Rattle.std.proofs.lemmas.Bool.{cases_lt}
 use Rattle.std.specs.Prelude.{if◌then◌else◌}
 use Rattle.sched_response.specs.Counts.{count_below}
 
-one_if : Bool → ℕ
-one_if b = if b then 1 else 0
-
 step_le : (a b : Bool) → (a ≡ true → b ≡ true) → (if a then 1 else 0) ≤ (if b then 1 else 0)
 step_le false b h = omega arith
 step_le true true h = omega arith

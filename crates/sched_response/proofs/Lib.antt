@@ -4,8 +4,4 @@ pub mod Caps
 pub mod Shares
 pub mod Counted
 pub mod Counting
-pub mod Greatest
-pub mod LeastRank
-pub mod Order
 pub mod Rising
-pub mod Stays

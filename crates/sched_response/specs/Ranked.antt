@@ -1,6 +1,6 @@
 -- The ranks of processes, the ceilings of monitors, and how long a lower process can keep a higher
 -- one from running.
-use Rattle.std.specs.Prelude.{◌≡◌, ◌<◌, ◌≤◌, ◌+◌, ◌==◌, ◌&&◌, ◌||◌, ◌⊎◌, ℕ, Bool, nat_lt, List, [], length, Option, Some, None, IsTrue, IsSomeAnd, slice_index, slice_index_or, min, Any}
+use Rattle.std.specs.Prelude.{◌≡◌, ◌<◌, ◌≤◌, ◌+◌, ◌==◌, ◌&&◌, ◌||◌, ◌⊎◌, ℕ, Bool, nat_lt, List, [], length, Option, Some, None, IsTrue, IsSomeAnd, slice_index, slice_index_or, Any}
 use Rattle.sched_response.specs.Counts.{count_below}
 use Rattle.sched_response.specs.declared.uses.Stay.{Stay}
 use Rattle.sched_response.specs.declared.uses.Use.{Use}
@@ -36,11 +36,6 @@ pub record IsLeastRank (n : ℕ) (us : List Use) (ranks : List ℕ) (mon rank : 
 abbrev pub IsCeilingAmong : ℕ → List Use → List ℕ → ℕ → Option ℕ → Type 0
 IsCeilingAmong n us ranks mon None = (p : ℕ) → p < n → ¬ Reaches mon (use_at us p)
 IsCeilingAmong n us ranks mon (Some rank) = IsLeastRank n us ranks mon rank
-
--- the lesser of what was found so far and one more
-abbrev pub lesser_of : Option ℕ → ℕ → ℕ
-lesser_of None rank = rank
-lesser_of (Some other) rank = min other rank
 
 -- one ceiling for each monitor, by its number
 pub record AreCeilings (us : List Use) (ranks : List ℕ) (monitors : ℕ) (ceilings : List (Option ℕ)) : Type 0 where

@@ -14,8 +14,6 @@
 //! changes no answer is a law.
 #![tactic(auto)]
 
-mod block;
-mod ceiling;
 mod floor;
 mod least;
 mod ranking;
@@ -25,11 +23,9 @@ mod tasks;
 mod uncounted;
 mod uses;
 
-pub use block::blocking;
-pub use ceiling::ceilings;
 pub use floor::response_floor;
 pub use least::bound;
-pub use ranking::{ranks, ranks_are_counted};
+pub use ranking::ranks_are_counted;
 pub use response::capping_changes_no_answer;
 pub use steps::Steps;
 pub use tasks::{Task, TaskSet, demand};

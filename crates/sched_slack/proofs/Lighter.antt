@@ -100,13 +100,3 @@ evaluations_up ts n (suc m) low = elim (eq-or-lt_of_le low) [
   | inl e ↦ let same : evaluations ts n ≡ evaluations ts (suc m) = ap (λ k. evaluations ts k) e in omega (arith, same)
   | inr lt ↦ let rest = evaluations_up ts n m (omega arith) in omega (arith, rest)
 ]
-
--- runs don't count for them
-pub evaluations_lighter : (n : ℕ) (ss ts : List Task) → AreLighter n ss ts → evaluations ss n ≡ evaluations ts n
-evaluations_lighter zero ss ts light = refl
-evaluations_lighter (suc n) ss ts light =
-    let rest = evaluations_lighter n ss ts (fewer (suc n) n ss ts (omega arith) light) in
-    let e : suc n ≡ n + 1 = omega arith in
-    let due : starts_in (deadline_at ss n) (take (n + 1) ss) ≡ starts_in (deadline_at ts n) (take (n + 1) ss) = ap (λ d. starts_in d (take (n + 1) ss)) (light.each n (omega arith)).deadline in
-    let starts : starts_in (deadline_at ts n) (take (n + 1) ss) ≡ starts_in (deadline_at ts n) (take (n + 1) ts) = starts_lighter (deadline_at ts n) (n + 1) ss ts (fewer (suc n) (n + 1) ss ts (omega arith) light) in
-    omega (arith, rest, due, starts)

@@ -6,8 +6,8 @@ use Rattle.std.proofs.lemmas.List.{get_or-set_same, get_or-set_other, set-get_or
 use Rattle.sched_response.specs.declared.tasks.Task.{Task}
 use Rattle.sched_response.specs.Demand.{task_at, deadline_at, starts_in, with_run}
 use Rattle.sched_slack.specs.declared.spare.Spare.{Spare}
-use Rattle.sched_slack.specs.Slack.{evaluations, evaluations_at, with_more, IsFirstFailing, IsSlack, IsSpare, IsSpareFrom, IsTimely, Responds}
-use Rattle.sched_slack.proofs.Lighter.{nobody, IsLighter, AreLighter, fewer, solves_lighter, starts_lighter, run_within, evaluations_lighter}
+use Rattle.sched_slack.specs.Slack.{evaluations_at, with_more, IsFirstFailing, IsSlack, IsSpare, IsSpareFrom, IsTimely, Responds}
+use Rattle.sched_slack.proofs.Lighter.{nobody, IsLighter, AreLighter, fewer, solves_lighter, starts_lighter, run_within}
 
 pub length_more : (ts : List Task) (level x : ℕ) → length (with_more ts level x) ≡ length ts
 length_more ts level x = length-set ts level (record (task_at ts level) { run = (task_at ts level).run + x })
@@ -62,12 +62,6 @@ timely_falls ts level x y below low timely = λ other within.
     let solved = timely other (omega (arith, fits, length_more ts level y)) in
     let light = fewer (length ts) (suc other) (with_more ts level x) (with_more ts level y) (omega arith) (are_lighter ts level x y below low) in
     (solved.0, solves_lighter (with_more ts level x) (with_more ts level y) other solved.0 light solved.1)
-
-pub evaluations_same : (ts : List Task) (level x : ℕ) → level < length ts → evaluations (with_more ts level x) (length (with_more ts level x)) ≡ evaluations ts (length ts)
-evaluations_same ts level x below =
-    ap (λ (n : ℕ). evaluations (with_more ts level x) n) (length_more ts level x)
-    ∙ sym (evaluations_lighter (length ts) (with_more ts level 0) (with_more ts level x) (are_lighter ts level 0 x below (omega arith)))
-    ∙ ap (λ (us : List Task). evaluations us (length ts)) (more_none ts level)
 
 pub timely_as_it_is : (ts : List Task) (level : ℕ) → IsTimely ts → IsTimely (with_more ts level 0)
 timely_as_it_is ts level timely = subst (λ (us : List Task). IsTimely us) (sym (more_none ts level)) timely

@@ -1,4 +1,3 @@
-pub mod Levels
 pub mod Onto
 pub mod Respond
 pub mod NoFloat

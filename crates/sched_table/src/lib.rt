@@ -6,18 +6,14 @@
 //! `report_json` promise exactly these; the report on the mine pump is spelled out.
 #![tactic(auto)]
 
-mod blocks;
 mod json;
 mod late;
 mod lines;
-mod make;
-mod order;
 pub mod report_law;
 mod table;
 mod table_law;
 
 pub use json::report_json;
 pub use lines::{add_name, add_number, report};
-pub use make::make_table;
 pub use table::{Row, Size, Table};
 pub use table_law::timely_tables_respond;

@@ -1,5 +1,5 @@
 -- Sums over the ranks below a number.
-use Rattle.std.proofs.Common.{◌≡◌, ℕ, zero, suc, ◌+◌, ◌*◌, ◌<◌, ◌≤◌, ◌⊎◌, inl, inr, refl, arith, sym, subst}
+use Rattle.std.proofs.Common.{◌≡◌, ℕ, zero, suc, ◌+◌, ◌<◌, ◌≤◌, ◌⊎◌, inl, inr, refl, arith, sym, subst}
 use Rattle.std.proofs.lemmas.Bool.{cases_lt}
 use Rattle.sched_theorem.specs.Charges.{total}
 
@@ -29,13 +29,6 @@ total_less (suc n) i f g each below less =
 pub total_add : (n : ℕ) (f g : ℕ → ℕ) → total n (λ j. f j + g j) ≡ total n f + total n g
 total_add zero f g = refl
 total_add (suc n) f g = let rest = total_add n f g in omega arith
-
-pub total_times : (n k : ℕ) (f : ℕ → ℕ) → total n (λ j. f j * k) ≡ total n f * k
-total_times zero k f = omega arith
-total_times (suc n) k f =
-    let rest = total_times n k f in
-    let split : (total n f + f n) * k ≡ total n f * k + f n * k = grind arith in
-    omega arith
 
 pub total_zero : (n : ℕ) (f : ℕ → ℕ) → ((j : ℕ) → j < n → f j ≡ 0) → total n f ≡ 0
 total_zero zero f each = refl

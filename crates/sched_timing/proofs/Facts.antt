@@ -112,9 +112,6 @@ opens_idle image p false cost mid a b is of run susp waits some none =
 
 -- ---- the rest of the tick
 
-spent_idle : (was : Bool) (mid : Option Thread) (a : Life) → spent was mid (Some Idle) a ≡ nothing_left
-spent_idle was mid a = refl
-
 -- nobody who waits ends
 pub woken_busy : (image : Image) (mid new : Thread) → IsWoken image mid new → IsBusy mid → IsBusy new
 woken_busy image Idle new woke busy = absurd busy

@@ -45,36 +45,12 @@ event_lacks = ((λ e. omega arith), ((λ e. omega arith), ((λ e. omega arith), 
 pub end_lacks : Lacks 32 (codes "end")
 end_lacks = ((λ e. omega arith), ((λ e. omega arith), ((λ e. omega arith), tt)))
 
-pub untimed_lacks : (tick : ℕ) (bytes : List ℕ) → Lacks 32 bytes → (said : Said) → ¬ IsTimed tick bytes said
-untimed_lacks tick bytes l (set t dev value) timed = cut_lacks 32 bytes (codes "set") (spaced (dev ∷ signed_decimal value ∷ [])) l timed.text
-untimed_lacks tick bytes l (event t name) timed = cut_lacks 32 bytes (codes "event") name l timed.text
-untimed_lacks tick bytes l (end t) timed = absurd timed.at
-
-pub untimed_setting : (tick : ℕ) (bytes before after : List ℕ) → IsCutAt 32 bytes before after → before ≡ codes "set" → ((dev : List ℕ) (value : ℤ) → IsWord dev → Is32 value → after ≢ spaced (dev ∷ signed_decimal value ∷ [])) → (said : Said) → ¬ IsTimed tick bytes said
-untimed_setting tick bytes before after cut is none (set t dev value) timed =
-    let same = same_cut 32 bytes before after (codes "set") (spaced (dev ∷ signed_decimal value ∷ [])) cut set_lacks timed.text in
-    let form = timed.form in
-    none dev value form.1 form.2 same.1
-untimed_setting tick bytes before after cut is none (event t name) timed =
-    let same = same_cut 32 bytes before after (codes "event") name cut event_lacks timed.text in
-    let first = same.0 in cc
-untimed_setting tick bytes before after cut is none (end t) timed = absurd timed.at
-
 pub untimed_other : (tick : ℕ) (bytes before after : List ℕ) → IsCutAt 32 bytes before after → before ≢ codes "set" → before ≢ codes "event" → (said : Said) → ¬ IsTimed tick bytes said
 untimed_other tick bytes before after cut no_set no_event (set t dev value) timed =
     let same = same_cut 32 bytes before after (codes "set") (spaced (dev ∷ signed_decimal value ∷ [])) cut set_lacks timed.text in no_set same.0
 untimed_other tick bytes before after cut no_set no_event (event t name) timed =
     let same = same_cut 32 bytes before after (codes "event") name cut event_lacks timed.text in no_event same.0
 untimed_other tick bytes before after cut no_set no_event (end t) timed = absurd timed.at
-
-pub untimed_event : (tick : ℕ) (bytes before after : List ℕ) → IsCutAt 32 bytes before after → before ≢ codes "set" → ¬ IsWord after → (said : Said) → ¬ IsTimed tick bytes said
-untimed_event tick bytes before after cut no_set no_word (set t dev value) timed =
-    let same = same_cut 32 bytes before after (codes "set") (spaced (dev ∷ signed_decimal value ∷ [])) cut set_lacks timed.text in no_set same.0
-untimed_event tick bytes before after cut no_set no_word (event t name) timed =
-    let same = same_cut 32 bytes before after (codes "event") name cut event_lacks timed.text in
-    let form = timed.form in
-    no_word (subst IsWord (sym same.1) form.1)
-untimed_event tick bytes before after cut no_set no_word (end t) timed = absurd timed.at
 
 -- ---- whole lines
 

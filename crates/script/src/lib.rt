@@ -15,7 +15,6 @@
 
 mod fault;
 mod line;
-mod names;
 mod numbers;
 mod past;
 mod read;
@@ -26,7 +25,6 @@ mod script_law;
 mod script_laws;
 
 pub use fault::ScriptFault;
-pub use names::copy_image_names;
 pub use read::read_script;
 pub use script::{Script, ScriptLine};
 pub use script_law::one_script;

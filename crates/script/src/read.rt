@@ -7,7 +7,6 @@ ghost use Rattle.script.specs.Faults.{IsFault, IsFaultHere, IsFaultOfRest};
 ghost use Rattle.script.specs.Reading.{AreNumbers, IsNext, IsPast};
 
 use crate::fault::ScriptFault;
-use crate::names::copy_image_names;
 use crate::numbers::{Numbers, device_numbers, event_numbers};
 use crate::past::Past;
 use crate::reader::{Next, bad, judge_next};
@@ -80,13 +79,11 @@ fn next_within<'a>(
 /// Reads a text that is not too long, line by line.
 fn read_lines(
     names: &ImageNames,
-    copy: ImageNames,
     devices: &Numbers<'_>,
     events: &Numbers<'_>,
     mut past: Past,
     text: &[u8],
 ) -> Result<Script, ScriptFault>
-    requires copy { copy ≡ names.now }
     requires short { length text.now ≤ longest_text }
     requires none { past.lines ≡ [] }
     requires past { IsPast names.now past.lines past.last past.occurred.items }
@@ -94,7 +91,6 @@ fn read_lines(
     requires events { AreNumbers events.now.entries (event_number names.now) }
     ensures script { IfOk result (λ script.
         IsScript names.now text.now script.lines script.end) }
-    ensures names { IfOk result (λ script. script.names ≡ names.now) }
     ensures fault { IfErr result (λ fault. (fault ≡ Memory) ⊎ IsFault names.now text.now fault) }
 {
     let mut rest = text;
@@ -111,7 +107,6 @@ fn read_lines(
                     return Err(fault);
                 }
                 return Ok(Script {
-                    names: copy,
                     lines: past.lines,
                     end: tick,
                 });
@@ -133,7 +128,6 @@ pub fn read_script(alloc: Global, text: &[u8], names: &ImageNames) -> Result<Scr
     requires events { length names.now.events ≤ 2 ^ 16 }
     ensures script { IfOk result (λ script.
         IsScript names.now text.now script.lines script.end) }
-    ensures names { IfOk result (λ script. script.names ≡ names.now) }
     ensures fault { IfErr result (λ fault. (fault ≡ Memory) ⊎ IsFault names.now text.now fault) }
 {
     if text.len() > LONGEST_TEXT {
@@ -142,6 +136,5 @@ pub fn read_script(alloc: Global, text: &[u8], names: &ImageNames) -> Result<Scr
     let devices = device_numbers(alloc, names)?;
     let events = event_numbers(alloc, names)?;
     let past = Past::new(alloc, names)?;
-    let copy = copy_image_names(alloc, names)?;
-    read_lines(names, copy, &devices, &events, past, text)
+    read_lines(names, &devices, &events, past, text)
 }

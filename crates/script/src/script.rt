@@ -1,9 +1,7 @@
 //! Scripts.
 
-ghost use Rattle.std.specs.Prelude.{◌≡◌, ◌≢◌, true, false};
+ghost use Rattle.std.specs.Prelude.{◌≡◌};
 
-use crate::names::are_same_image_names;
-use image::ImageNames;
 use syntax_tree::List;
 
 /// A line of a script: at a tick an in device is set to a value, or an event occurs. Devices and
@@ -14,24 +12,14 @@ pub enum ScriptLine {
     Occur { tick: u64, event: u16 },
 }
 
-/// The lines of a script, the tick before which its run ends, and the names that it was read for.
+/// The lines of a script, and the tick before which its run ends.
 #[derive(Debug, Drop)]
 pub struct Script {
-    pub(crate) names: ImageNames,
     pub(crate) lines: List<ScriptLine>,
     pub(crate) end: u64,
 }
 
 impl Script {
-    /// Whether these are the names, the directions of devices and the frames of events that the
-    /// script was read for.
-    pub fn made_for(&self, names: &ImageNames) -> bool
-        ensures yes { result ≡ true → self.now.names ≡ names.now }
-        ensures no { result ≡ false → self.now.names ≢ names.now }
-    {
-        are_same_image_names(&self.names, names)
-    }
-
     /// The lines, in the order of the text.
     pub fn lines(&self) -> &List<ScriptLine>
         ensures { result.now ≡ self.now.lines }

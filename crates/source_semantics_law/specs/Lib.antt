@@ -1,4 +1,3 @@
 pub mod ByDeadline
 pub mod Example
 pub mod NoRun
-pub mod Remains

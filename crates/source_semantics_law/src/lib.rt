@@ -6,8 +6,4 @@
 #![tactic(auto)]
 
 pub mod logs;
-mod remains;
-pub mod remains_law;
 pub mod source_laws;
-
-pub use remains::{Arm, Level, Pending};

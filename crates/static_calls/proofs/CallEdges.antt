@@ -37,9 +37,6 @@ pub record Leads (declared : Declared) (keys : List Key) (rs : List (Routine Pla
   pub numbered : number keys caller.place ≡ Some a
   pub goes : Goes keys (routine_calls declared caller) b
 
-some-injective : (a b : ℕ) → Some a ≡ Some b → a ≡ b
-some-injective a b e = cc
-
 abbrev pair : ℕ → ℕ → ℕ × ℕ
 pair a b = (a, b)
 

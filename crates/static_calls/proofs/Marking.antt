@@ -2,10 +2,9 @@
 use Rattle.std.proofs.Common.{◌≡◌, ℕ, zero, suc, ◌+◌, ◌<◌, ◌≤◌, ◌⊎◌, inl, inr, Bool, true, false, cond, List, [], ◌∷◌, ◌++◌, length, take, set, get_or, replicate, refl, ap, sym, ◌∙◌, subst, arith, get_or-set_same, get_or-set_other}
 use Rattle.std.specs.Prelude.{Contains, count_by, sum_by}
 use Rattle.std.proofs.lemmas.Bool.{cases_eq}
-use Rattle.std.proofs.lemmas.List.{take_all, take_at, take-take, length-take, length_push}
+use Rattle.std.proofs.lemmas.List.{take_at, take-take, length-take, length_push}
 use Rattle.std.proofs.lemmas.List.Elements.{All-nil, All-cons, All-append, All-push, All-weaker, Contains-append_left, Contains-append_right, Contains-push}
 use Rattle.std.proofs.lemmas.List.Sums.{sum_by-set}
-use Rattle.std.proofs.lemmas.List.Folds.{sum_by-replicate}
 use Rattle.static_calls.specs.Graph.{marked}
 use Rattle.static_calls.specs.Marks.{AreListed, AreMarked}
 
@@ -60,15 +59,6 @@ mark-one marks found node below unset = record {
         by (inl was) = Contains-append_left found (node ∷ []) n (l.listed n was)
         by (inr is) = subst (λ m. Contains (found ++ node ∷ []) m) is (Contains-push found node)
 
-pub mark-none : (marks : List Bool) (found : List ℕ) → AreMarked marks found [] marks found
-mark-none marks found = record {
-  kept = λ n h. h;
-  all = All-nil (λ n. marked marks n ≡ true);
-  only = λ n h. inl h;
-  front = take_all (length found) found (omega arith);
-  listed = λ l. l;
-}
-
 pub mark-then : (marks : List Bool) (found xs : List ℕ) (marks1 : List Bool) (found1 ys : List ℕ) (marks2 : List Bool) (found2 : List ℕ) → AreMarked marks found xs marks1 found1 → AreMarked marks1 found1 ys marks2 found2 → AreMarked marks found (xs ++ ys) marks2 found2
 mark-then marks found xs marks1 found1 ys marks2 found2 one two = record {
   kept = λ n h. two.kept n (one.kept n h);
@@ -97,10 +87,3 @@ pub none-marked : (size n : ℕ) → marked (replicate size false) n ≡ true �
 none-marked zero n h = cc
 none-marked (suc size) zero h = cc
 none-marked (suc size) (suc n) h = none-marked size n h
-
-pub none-listed : (size : ℕ) → AreListed (replicate size false) []
-none-listed size = record {
-  listed = λ n h. absurd (none-marked size n h);
-  marks_them = All-nil (λ n. marked (replicate size false) n ≡ true);
-  count = let e = sum_by-replicate (λ (m : Bool). cond m 1 0) size false in omega arith;
-}

@@ -17,16 +17,10 @@ use Rattle.static_calls.specs.Tables.{places, number}
 keys-true : (x y : Key) → same_key x y ≡ true → x ≡ y
 keys-true x y h = let parts = and_parts _ _ h in λ i. (eqb-true x.0 y.0 parts.0 i, eqb-true x.1 y.1 parts.1 i)
 
-key-injective : (p q : Place) → key_of p ≡ key_of q → p ≡ q
-key-injective p q e = λ i. record { line = (e i).0; col = (e i).1 }
-
 -- a place with a number
 pub record HasNumber (keys : List Key) (p : Place) : Type 0 where
   pub n : ℕ
   pub is : number keys p ≡ Some n
-
-some-injective : (a b : ℕ) → Some a ≡ Some b → a ≡ b
-some-injective a b e = cc
 
 -- a listed place has a number
 pub number-listed : (keys : List Key) (p : Place) → Contains keys (key_of p) → HasNumber keys p
@@ -48,9 +42,6 @@ number-within keys p n e = (position-Some (same_key (key_of p)) keys n (key_of p
 pub number-key : (keys : List Key) (p : Place) (n : ℕ) → number keys p ≡ Some n → get_or keys n (key_of p) ≡ key_of p
 number-key keys p n e = sym (keys-true (key_of p) (get_or keys n (key_of p)) (position-Some (same_key (key_of p)) keys n (key_of p) e).1)
 
-pub number-from : (keys : List Key) (p : Place) (n : ℕ) → number keys p ≡ Some n → Contains keys (key_of p)
-number-from keys p n e = (n, number-within keys p n e, number-key keys p n e)
-
 -- places of one number are one
 pub number-injective : (keys : List Key) (p q : Place) (n : ℕ) → number keys p ≡ Some n → number keys q ≡ Some n → p ≡ q
 number-injective keys p q n e f =
@@ -65,13 +56,6 @@ insert-kept ks k x h = by (list_any (same_key k) ks)
     by : (b : Bool) → Contains (if b then ks else ks ++ k ∷ []) x
     by true = h
     by false = Contains-append_left ks (k ∷ []) x h
-
-insert-cases : (ks : List Key) (k x : Key) → Contains (insert_key same_key ks k) x → Contains ks x ⊎ (k ≡ x)
-insert-cases ks k x h = by (list_any (same_key k) ks) h
-  where
-    by : (b : Bool) → Contains (if b then ks else ks ++ k ∷ []) x → Contains ks x ⊎ (k ≡ x)
-    by true h = inl h
-    by false h = Contains-push_cases ks k x h
 
 all-kept : (ks xs : List Key) (x : Key) → Contains ks x → Contains (insert_all same_key ks xs) x
 all-kept ks [] x h = h
@@ -89,18 +73,6 @@ all-listed ks (k ∷ xs) x h = by (Contains-append_cases (k ∷ []) xs x h) (all
         head (inr is) = subst (Contains (insert_key same_key ks k)) is (Contains-insert_key same_key keys-true ks k)
     by (inr there) rest = rest there
 
-all-cases : (ks xs : List Key) (x : Key) → Contains (insert_all same_key ks xs) x → Contains ks x ⊎ Contains xs x
-all-cases ks [] x h = inl h
-all-cases ks (k ∷ xs) x h = by (all-cases (insert_key same_key ks k) xs x h)
-  where
-    by : Contains (insert_key same_key ks k) x ⊎ Contains xs x → Contains ks x ⊎ Contains (k ∷ xs) x
-    by (inr there) = inr (Contains-append_right (k ∷ []) xs x there)
-    by (inl first) = one (insert-cases ks k x first)
-      where
-        one : Contains ks x ⊎ (k ≡ x) → Contains ks x ⊎ Contains (k ∷ xs) x
-        one (inl known) = inl known
-        one (inr is) = inr (0, omega arith, is)
-
 key-listed : (rs : List (Routine Place)) (r : Routine Place) → Contains rs r → Contains (map (λ q. key_of q.place) rs) (key_of r.place)
 key-listed [] r h = absurd (omega (arith, h.1))
 key-listed (q ∷ rs) r h = by (Contains-append_cases (q ∷ []) rs r h) (key-listed rs r)
@@ -113,32 +85,6 @@ key-listed (q ∷ rs) r h = by (Contains-append_cases (q ∷ []) rs r h) (key-li
         head (inr is) = (0, omega arith, ap (λ (s : Routine Place). key_of s.place) is)
     by (inr there) rest = Contains-append_right (key_of q.place ∷ []) (map (λ s. key_of s.place) rs) (key_of r.place) (rest there)
 
--- one of the routines has its name at the place
-pub record Stands (rs : List (Routine Place)) (p : Place) : Type 0 where
-  pub one : Routine Place
-  pub listed : Contains rs one
-  pub is : one.place ≡ p
-
-key-from : (rs : List (Routine Place)) (p : Place) → Contains (map (λ q. key_of q.place) rs) (key_of p) → Stands rs p
-key-from [] p h = absurd (omega (arith, h.1))
-key-from (q ∷ rs) p h = by (Contains-append_cases (key_of q.place ∷ []) (map (λ s. key_of s.place) rs) (key_of p) h) (key-from rs p)
-  where
-    by : Contains (key_of q.place ∷ []) (key_of p) ⊎ Contains (map (λ s. key_of s.place) rs) (key_of p) → (Contains (map (λ s. key_of s.place) rs) (key_of p) → Stands rs p) → Stands (q ∷ rs) p
-    by (inl here) rest = head (Contains-push_cases [] (key_of q.place) (key_of p) here)
-      where
-        head : Contains [] (key_of p) ⊎ (key_of q.place ≡ key_of p) → Stands (q ∷ rs) p
-        head (inl none) = absurd (omega (arith, none.1))
-        head (inr is) = record { one = q; listed = (0, omega arith, refl); is = key-injective q.place p is }
-    by (inr there) rest = let s = rest there in record { one = s.one; listed = Contains-append_right (q ∷ []) rs s.one s.listed; is = s.is }
-
 -- the place of each routine has a number
 pub routine-number : (rs : List (Routine Place)) (r : Routine Place) → Contains rs r → HasNumber (places rs) r.place
 routine-number rs r h = number-listed (places rs) r.place (all-listed [] (map (λ q. key_of q.place) rs) (key_of r.place) (key-listed rs r h))
-
--- and no other place
-pub number-routine : (rs : List (Routine Place)) (p : Place) (n : ℕ) → number (places rs) p ≡ Some n → Stands rs p
-number-routine rs p n e = by (all-cases [] (map (λ q. key_of q.place) rs) (key_of p) (number-from (places rs) p n e))
-  where
-    by : Contains [] (key_of p) ⊎ Contains (map (λ q. key_of q.place) rs) (key_of p) → Stands rs p
-    by (inl none) = absurd (omega (arith, none.1))
-    by (inr h) = key-from rs p h

@@ -1,5 +1,5 @@
 -- Marking what the marked nodes reach.
-use Rattle.std.proofs.Common.{◌≡◌, ℕ, ◌+◌, ◌<◌, ◌≤◌, ◌⊎◌, inl, inr, Bool, true, false, List, [], length, get_or, replicate, refl, ap, sym, ◌∙◌, subst, arith}
+use Rattle.std.proofs.Common.{◌≡◌, ℕ, ◌+◌, ◌<◌, ◌≤◌, ◌⊎◌, inl, inr, Bool, true, false, List, [], length, get_or, replicate, ap, sym, ◌∙◌, subst, arith}
 use Rattle.std.specs.Prelude.{Contains}
 use Rattle.std.proofs.lemmas.Bool.{cases_eq}
 use Rattle.std.proofs.lemmas.List.{get_or-take, get_or_default, length-take}
@@ -21,15 +21,6 @@ pub record AreFollowed (g : Graph) (marks : List Bool) (turn : ℕ) (found : Lis
   pub kept : (node : ℕ) → marked marks node ≡ true → marked new_marks node ≡ true
   pub closed : (k : ℕ) → k < turn → (b : ℕ) → HasEdge g (get_or found k 0) b → marked new_marks b ≡ true
   pub only : (node : ℕ) → marked new_marks node ≡ true → ComesFrom g marks node
-
-pub follow-none : (g : Graph) (marks : List Bool) (found : List ℕ) → AreListed marks found → AreFollowed g marks 0 found marks
-follow-none g marks found l = record {
-  listed = l;
-  come = omega arith;
-  kept = λ n h. h;
-  closed = λ k below b e. absurd (omega arith);
-  only = λ n h. record { start = n; was = h; reached = inl refl };
-}
 
 pub follow-more : (g : Graph) (marks : List Bool) (turn : ℕ) (found : List ℕ) (marks1 : List Bool) (node : ℕ) (found2 : List ℕ) (marks2 : List Bool) → AreFollowed g marks turn found marks1 → turn < length found → node ≡ get_or found turn 0 → AreMarked marks1 found (get_or g node []) marks2 found2 → AreFollowed g marks (turn + 1) found2 marks2
 follow-more g marks turn found marks1 node found2 marks2 before below is m = record {

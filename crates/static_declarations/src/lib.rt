@@ -15,5 +15,5 @@ pub mod values;
 
 pub use declarations::Declarations;
 pub use home::{Home, Where};
-pub use sort::{Shape, Sort, shape_of, sort_of};
+pub use sort::{Shape, Sort, sort_of};
 pub use thing::Thing;

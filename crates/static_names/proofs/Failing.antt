@@ -76,9 +76,6 @@ which (used name place want (Some d)) m h = by (suits want d.kind) refl
     by true e = absurd (none-is m (ap (λ b. if b then None else Some 22) (sym e) ∙ h))
     by false e = inr (inr (inl (some-is m 22 (ap (λ b. if b then None else Some 22) (sym e) ∙ h), ap not e)))
 
-Standing : ℕ → Place → List Occurrence → Type 0
-Standing m p os = ((m ≡ 20) × Among (λ o. (place_of o ≡ p) × (undeclared o ≡ true)) os) ⊎ (((m ≡ 21) × Among (λ o. (place_of o ≡ p) × (shadows o ≡ true)) os) ⊎ (((m ≡ 22) × Among (λ o. (place_of o ≡ p) × (misused o ≡ true)) os) ⊎ ((m ≡ 23) × Among (λ o. (place_of o ≡ p) × (misclosed o ≡ true)) os)))
-
 breaks-standing : (os : List Occurrence) (m : ℕ) (p : Place) → Among (Breaks m p) os
     → ((m ≡ 20) × Among (λ o. (place_of o ≡ p) × (undeclared o ≡ true)) os) ⊎ (((m ≡ 21) × Among (λ o. (place_of o ≡ p) × (shadows o ≡ true)) os) ⊎ (((m ≡ 22) × Among (λ o. (place_of o ≡ p) × (misused o ≡ true)) os) ⊎ ((m ≡ 23) × Among (λ o. (place_of o ≡ p) × (misclosed o ≡ true)) os)))
 breaks-standing [] m p a = elim a [ ]

@@ -1,5 +1,5 @@
 -- Entering a loop puts its variable inside.
-use Rattle.std.proofs.Common.{◌≡◌, ◌-◌, List, [], ◌∷◌, ◌++◌, Option, Some, None, if◌then◌else◌, length, take, length-append, take_at, refl, ap, ◌∙◌, arith}
+use Rattle.std.proofs.Common.{◌≡◌, ◌-◌, List, [], ◌∷◌, ◌++◌, Option, Some, None, if◌then◌else◌, refl, ap, ◌∙◌}
 use Rattle.syntax_tree.specs.Plain.{Name}
 use Rattle.static_names.specs.declared.kind.Declared.{Declared}
 use Rattle.static_names.specs.declared.scope.Local.{Local}
@@ -16,9 +16,6 @@ site-enter a ls l = λ i. record {
   means = λ name. in_loops-end name ls l (within (meaning_in a.locals) (outer_site a.outer).means name) i;
   members = (outer_site a.outer).members;
 }
-
-pub take-front : (ls : List Local) (l : Local) → take (length (ls ++ l ∷ []) - 1) (ls ++ l ∷ []) ≡ ls
-take-front ls l = take_at ls (l ∷ []) (length (ls ++ l ∷ []) - 1) (omega (arith, length-append ls (l ∷ [])))
 
 or_else-assoc : (c o p : Option Declared) → or_else c (or_else o p) ≡ or_else (or_else c o) p
 or_else-assoc (Some d) o p = refl

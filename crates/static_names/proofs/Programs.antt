@@ -66,17 +66,6 @@ module _ (s : Reach) (d : Name × Declared) (ds : Names) (respects : (n : Name) 
           ∙ ap (λ b. or_else (or_else (s n) (cond b (Some d.1) None)) (first ds n)) (sym e)
           ∙ sym (add_all-split (add s d) ds n)
 
-  pub known-before : is_some (s d.0) ≡ true → add_all s ds ≡ add_all (add s d) ds
-  known-before old = λ i n. at n i
-    where
-      keeps : (o : Option Declared) (b : Bool) → (b ≡ true → is_some o ≡ true) → o ≡ or_else o (cond b (Some d.1) None)
-      keeps (Some x) b h = refl
-      keeps None false h = refl
-      keeps None true h = let e = h refl in cc
-
-      at : (n : Name) → add_all s ds n ≡ add_all (add s d) ds n
-      at n = add_all-split s ds n ∙ ap (λ o. or_else o (first ds n)) (keeps (s n) (same n d.0) (λ e. ap is_some (respects n e) ∙ old)) ∙ sym (add_all-split (add s d) ds n)
-
 cond-same : (b : Bool) (x : Option Declared) → x ≡ cond b x x
 cond-same true x = refl
 cond-same false x = refl

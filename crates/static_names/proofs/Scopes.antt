@@ -1,6 +1,5 @@
 -- Look-ups in the maps of names beside those in lists.
 use Rattle.std.proofs.Common.{◌≡◌, List, [], ◌∷◌, map, Option, Some, None, Bool, true, false, cond, ◌&&◌, is_some, nat_eq, refl, ap, sym, ◌∙◌}
-use Rattle.std.specs.Option.{option_copied}
 use Rattle.std.specs.Borrow.{Bor}
 use Rattle.std.specs.Map.{lookup}
 use Rattle.std.specs.Cmp.{IsEquivalence}
@@ -12,18 +11,11 @@ use Rattle.syntax_tree.specs.Parts.{same_place}
 use Rattle.static_names.specs.Reach.{same, Names, Reach, first, or_else}
 use Rattle.static_names.specs.Seen.{entry_of, meaning, add, EntryKey, entry_meaning, add_entry}
 
-pub same-refl : (n : Name) → same n n ≡ true
-same-refl n = nat_list_eq_equiv.refl n
-
 pub same-symm : (n k : Name) → same n k ≡ same k n
 same-symm n k = nat_list_eq_equiv.symm n k
 
 pub same-congr : (n k m : Name) → same n k ≡ true → same n m ≡ same k m
 same-congr n k m h = nat_list_eq_equiv.congr n k m h
-
-pub copied_none : {X : Type 0} (o : Option (Bor X)) → is_some o ≡ false → option_copied o ≡ None
-copied_none None e = refl
-copied_none (Some x) e = cc
 
 pub none-of : {X : Type 0} (o : Option X) → is_some o ≡ false → o ≡ None
 none-of None e = refl
@@ -56,9 +48,6 @@ module _ (n k : Name) (v : Declared) (was : Option Declared) where
       at : (o : Option Declared) → o ≡ or_else o None
       at None = refl
       at (Some x) = refl
-
-Puts : Bor Name → Declared → List (Bor Name × Declared) → List (Bor Name × Declared) → Type 0
-Puts k v old new = (q : Bor Name) → lookup (λ x. same q.now x.now) new ≡ cond (same k.now q.now) (Some v) (lookup (λ x. same q.now x.now) old)
 
 pub put-meaning : (k : Bor Name) (v : Declared) (old new : List (Bor Name × Declared)) → ((q : Bor Name) → lookup (λ x. same q.now x.now) new ≡ cond (same k.now q.now) (Some v) (lookup (λ x. same q.now x.now) old)) → (n : Name) → meaning new n ≡ cond (same n k.now) (Some v) (meaning old n)
 put-meaning k v old new puts n =

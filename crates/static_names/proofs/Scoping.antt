@@ -10,9 +10,6 @@ use Rattle.static_names.specs.Seen.{Scoped, add, add_all, declared_after}
 use Rattle.static_names.proofs.Walks.{drop-item}
 
 module _ (outside : Reach) (f : Found) (s : Reach) (ds : Names) where
-  pub scoped-start : Scoped outside f s ds f s ds
-  scoped-start = record { notes = λ rest more. refl; scope = λ rest. refl }
-
   pub scoped-step : (g h : Found) (t u : Reach) (d : Name × Declared) (es : Names) → Scoped outside f s ds g t (d ∷ es) → Scoped outside g t (d ∷ []) h u [] → Scoped outside f s ds h u es
   scoped-step g h t u d es left one = record {
     notes = λ rest more. one.notes (es ++ rest) more ∙ left.notes rest more;

@@ -117,10 +117,6 @@ pub same : (f g : ℕ → Place → Type 0) (x : Option Broken) → ((m : ℕ) (
 same f g None to back h = λ m p a. h m p (back m p a)
 same f g (Some b) to back h = record { broken = to b.number b.place h.broken; none_before = λ m p a. h.none_before m p (back m p a) }
 
--- one rule tried on one part
-one : {X : Type 0} (r : Rule X) (x : X) (number : ℕ) (place : Place) → Type 0
-one r x number place = (r.number ≡ number) × (r.fails x ≡ Some place)
-
 blamed : {X : Type 0} (f : ℕ → Place → Type 0) (r : Rule X) (x : X) (first : Option Broken) → IsFirstOf f first → IsFirstOf (Either (λ n p. (r.number ≡ n) × (r.fails x ≡ Some p)) f) (blame first r.number (r.fails x))
 blamed f r x first h = by (r.fails x) refl
   where

@@ -1,45 +1,17 @@
 -- What expressions and rows are judged as.
 use Rattle.std.proofs.Common.{◌≡◌, Bool, true, false, ◌&&◌, Option, Some, None, unwrap_or, cond, List, ◌∷◌, refl, ap, ◌∙◌}
-use Rattle.syntax_tree.specs.Plain.{Op}
-use Rattle.syntax_tree.specs.Placed.{Param, Expr, Exprs, exprs, Operands, operand, row}
+use Rattle.syntax_tree.specs.Placed.{Param, Expr, Exprs, exprs, Operands, row}
 use Rattle.syntax_tree.specs.declared.place.Place.{Place}
 use Rattle.static_declarations.specs.declared.sort.Sort.{Sort}
 use Rattle.static_declarations.specs.Things.{sort_of}
 use Rattle.static_types.specs.Types.{is_of}
-use Rattle.static_declarations.specs.Sorts.{fits, takes, gives}
+use Rattle.static_declarations.specs.Sorts.{fits}
 use Rattle.static_types.specs.Sorts.{Named, sort, row_sort, agrees, call_agrees, operands_agree, judged, row_judged}
 
 -- what a choice gave
 gave : {X : Type 0} (b : Bool) (x y : X) → cond b (Some x) None ≡ Some y → (b ≡ true) × (x ≡ y)
 gave true x y is = (refl, ap (λ o. unwrap_or o x) is)
 gave false x y is = cc
-
-gave-none : {X : Type 0} (b : Bool) (x : X) → cond b (Some x) None ≡ None → b ≡ false
-gave-none true x is = cc
-gave-none false x is = refl
-
--- an operator that takes its operands, the right one being of the sort t
-pub row-goes : (named : Named) (s t : Option Sort) (op : Op) (e : Expr Place) (rs : Operands Place) → judged named e ≡ Some t → takes op s t ≡ true
-    → row_judged named s (operand op e rs) ≡ row_judged named (Some (gives op)) rs
-row-goes named s t op e rs is takes-it =
-    let both = gave (agrees named e) (sort named e) t is in
-    ap (λ b. cond (b && (takes op s (sort named e) && operands_agree named (Some (gives op)) rs)) (Some (row_sort (Some (gives op)) rs)) None) both.0
-    ∙ ap (λ u. cond (takes op s u && operands_agree named (Some (gives op)) rs) (Some (row_sort (Some (gives op)) rs)) None) both.1
-    ∙ ap (λ b. cond (b && operands_agree named (Some (gives op)) rs) (Some (row_sort (Some (gives op)) rs)) None) takes-it
-
--- the right operand does not agree
-pub row-breaks : (named : Named) (s : Option Sort) (op : Op) (e : Expr Place) (rs : Operands Place) → judged named e ≡ None → row_judged named s (operand op e rs) ≡ None
-row-breaks named s op e rs is =
-    ap (λ b. cond (b && (takes op s (sort named e) && operands_agree named (Some (gives op)) rs)) (Some (row_sort (Some (gives op)) rs)) None) (gave-none (agrees named e) (sort named e) is)
-
--- the operator does not take its operands
-pub row-refuses : (named : Named) (s t : Option Sort) (op : Op) (e : Expr Place) (rs : Operands Place) → judged named e ≡ Some t → takes op s t ≡ false
-    → row_judged named s (operand op e rs) ≡ None
-row-refuses named s t op e rs is refuses =
-    let both = gave (agrees named e) (sort named e) t is in
-    ap (λ b. cond (b && (takes op s (sort named e) && operands_agree named (Some (gives op)) rs)) (Some (row_sort (Some (gives op)) rs)) None) both.0
-    ∙ ap (λ u. cond (takes op s u && operands_agree named (Some (gives op)) rs) (Some (row_sort (Some (gives op)) rs)) None) both.1
-    ∙ ap (λ b. cond (b && operands_agree named (Some (gives op)) rs) (Some (row_sort (Some (gives op)) rs)) None) refuses
 
 -- a row whose first operand has the sort t
 pub row-from : (named : Named) (t : Option Sort) (e : Expr Place) (rs : Operands Place) → judged named e ≡ Some t → judged named (row e rs) ≡ row_judged named t rs

@@ -1,10 +1,6 @@
 -- The value of digits, one after another.
-use Rattle.std.proofs.Common.{◌≡◌, ℕ, suc, ◌+◌, ◌-◌, ◌*◌, ◌<◌, ◌≤◌, List, [], ◌∷◌, length, drop, fold, slice_index_or, IsTrue, ap, ◌∙◌, arith, nat_le}
+use Rattle.std.proofs.Common.{◌≡◌, ℕ, suc, ◌+◌, ◌-◌, ◌*◌, ◌<◌, ◌≤◌, List, [], ◌∷◌, length, drop, fold, slice_index_or, ap, ◌∙◌, arith}
 use Rattle.std.proofs.Math.Seq.{drop-cons}
-use Rattle.std.proofs.lemmas.Bool.{leb-true}
-use Rattle.std.specs.List.{list_all}
-use Rattle.syntax.specs.Spellings.{is_digit}
-use Rattle.syntax.proofs.TableLemmas.{both, all_at}
 
 -- a number with one more digit behind it
 abbrev pub with_digit : ℕ → ℕ → ℕ
@@ -19,8 +15,3 @@ pub next_digit : (n : ℕ) (digits : List ℕ) (i : ℕ) → i < length digits
 next_digit n digits i below =
     let s : suc i ≡ i + 1 = omega arith in
     ap (fold with_digit n) (drop-cons digits i 0 below ∙ ap (λ k. slice_index_or digits i 0 ∷ drop k digits) s)
-
-pub digit_range : (digits : List ℕ) (i : ℕ) → IsTrue (list_all is_digit digits) → i < length digits → (48 ≤ slice_index_or digits i 0) × (slice_index_or digits i 0 ≤ 57)
-digit_range digits i all below =
-    let parts = both (nat_le 48 (slice_index_or digits i 0)) (nat_le (slice_index_or digits i 0) 57) (all_at is_digit digits i 0 all below) in
-    (leb-true 48 (slice_index_or digits i 0) parts.0, leb-true (slice_index_or digits i 0) 57 parts.1)

@@ -54,10 +54,3 @@ loop-turn view b p last turn xs ts us x go h read =
     ap (with_front (map view xs)) (each-turn b p last turn ts go h)
     ∙ ap (λ r. with_front (map view xs) (r >>= λ x. each b p (last - (turn + 1)) x.1 >>= λ xs. Ok (x.0 ∷ xs.0, xs.1))) read
     ∙ front-step view xs x (each b p (last - (turn + 1)) us)
-
--- the next one is at fault
-pub loop-fault : {P A B : Type 0} (view : A → B) (b : List (Tok P) → Bool) (p : Parse P B) (last turn : ℕ) (xs : List A) (ts : List (Tok P)) (f : Fault)
-    → b ts ≡ true → turn < last → p ts ≡ Err f → with_front (map view xs) (each b p (last - turn) ts) ≡ Err f
-loop-fault view b p last turn xs ts f go h read =
-    ap (with_front (map view xs)) (each-turn b p last turn ts go h)
-    ∙ ap (λ r. with_front (map view xs) (r >>= λ x. each b p (last - (turn + 1)) x.1 >>= λ xs. Ok (x.0 ∷ xs.0, xs.1))) read

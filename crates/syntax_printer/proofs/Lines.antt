@@ -1,5 +1,5 @@
 -- The words of the canonical lines are those of the grammar.
-use Rattle.std.proofs.Common.{◌≡◌, true, false, List, [], ◌∷◌, ◌++◌, Option, Some, None, refl, ap, sym, ◌∙◌, append_assoc}
+use Rattle.std.proofs.Common.{◌≡◌, true, false, List, [], ◌∷◌, ◌++◌, Option, Some, None, refl, ap, ◌∙◌, append_assoc}
 use Rattle.syntax_tree.specs.Placed.{Constant, literal_constant, named_constant, Scalar, int, boolean, subrange, Kind, scalar, array, Var, Param, Expr, literal, truth, variable, element, call, minus, negation, paren, row, Exprs, no_exprs, exprs, Operands, no_operands, operand, Ref, whole, part, Stmt, assign, assign_entry, assign_empty, perform, perform_entry, when, when_else, loop, exit_when, get, put, wait, signal, broadcast, except, assert, Stmts, no_stmts, stmts, Routine, Member, variable_member, condition_member, Monitor, Activation, periodic, at_event, Handler, Process, Decl, constant, device, event, routine, monitor, process, Prog}
 use Rattle.syntax.specs.Words as w
 use Rattle.syntax.specs.Words.{Word, named, number}
@@ -9,11 +9,6 @@ use Rattle.syntax_reading.specs.TreeWords as g
 use Rattle.syntax_printer.specs.Canonical as c
 use Rattle.syntax_printer.specs.Canonical.{Line}
 use Rattle.syntax_printer.proofs.Spelled.{flat}
-
--- the words of some lines, and then others
-pub flat_append : (xs ys : List Line) → flat (xs ++ ys) ≡ flat xs ++ flat ys
-flat_append [] ys = refl
-flat_append (x ∷ xs) ys = ap (λ (ws : List Word). x ++ ws) (flat_append xs ys) ∙ sym (append_assoc x (flat xs) (flat ys))
 
 -- words in front of others
 abbrev pub Says : Line → (List Word → List Word) → Type 0

@@ -5,8 +5,8 @@ use Rattle.syntax_tree.specs.Plain.{Name, Op, or, and, equal, unequal, less, les
 use Rattle.syntax.specs.Words as w
 use Rattle.syntax.specs.Words.{Word, named, number, keyword, sign, Tok}
 use Rattle.syntax.specs.ExprGrammar.{at, a, ◌▷◌, Each, Listed, SomeListed, OfLevel, op_word, height}
-use Rattle.syntax_reading.specs.ExprReading.{Fault, ◌>>=◌, Parse, refuse, same_word, is_at, expect, name, numeral, each, many, behind_comma, listed, some_listed, in_parens, op_of, of_level, op_at}
-use Rattle.syntax_reading.proofs.Basics.{IsName, IsNumeral}
+use Rattle.syntax_reading.specs.ExprReading.{Fault, ◌>>=◌, Parse, refuse, same_word, is_at, expect, name, each, many, behind_comma, listed, some_listed, in_parens, op_of, of_level, op_at}
+use Rattle.syntax_reading.proofs.Basics.{IsName}
 use Rattle.syntax_reading.proofs.Shorter.{Shorter, each-long, a-then, weak}
 
 pub step : {A B : Type 0} (r : Result A Fault) (f : A → Result B Fault) (x : A) (y : Result B Fault) → r ≡ Ok x → f x ≡ y → (r >>= f) ≡ y
@@ -72,10 +72,6 @@ module _ {P : Type 0} where
   pub name_again : (n : Name × P) (ts us : List (Tok P)) → IsName n ts us → name ts ≡ Ok (n, us)
   unfolding name
   name_again n ts us took = ap name took
-
-  pub numeral_again : (n : ℕ × P) (ts us : List (Tok P)) → IsNumeral n ts us → numeral ts ≡ Ok (n, us)
-  unfolding numeral
-  numeral_again n ts us took = ap numeral took
 
   -- ---- what ends an expression
 

@@ -17,9 +17,6 @@ module _ {P : Type 0} where
   abbrev pub Reads : {A : Type 0} → Parse P A → (A → List (Tok P) → List (Tok P) → Type 0) → Type 0
   Reads {A} p R = (x : A) (ts us : List (Tok P)) → R x ts us → p ts ≡ Ok (x, us)
 
-  pub anywhere : List (Tok P) → Type 0
-  anywhere ts = Unit {0}
-
   -- a list of parts, where each begins with a token that tells it and what follows does not
   pub all : {A : Type 0} (begins : List (Tok P) → Bool) (p : Parse P A) (R : A → List (Tok P) → List (Tok P) → Type 0) → Reads p R
       → ((x : A) (ts us : List (Tok P)) → R x ts us → begins ts ≡ true) → ((x : A) → Shorter (R x)) → (xs : List A) (ts us : List (Tok P)) → Each R xs ts us → begins us ≡ false

@@ -3,7 +3,7 @@ use Rattle.std.proofs.Common.{ℕ, zero, suc, ◌+◌, ◌≤◌, ◌<◌, List,
 use Rattle.syntax_tree.specs.Placed.{Constant, literal_constant, named_constant, Expr, literal, truth, variable, element, call, minus, negation, paren, row, Exprs, no_exprs, exprs, Operands, no_operands, operand, Ref, whole, part, Stmt, assign, assign_entry, assign_empty, perform, perform_entry, when, when_else, loop, exit_when, get, put, wait, signal, broadcast, except, assert, Stmts, no_stmts, stmts}
 use Rattle.syntax.specs.Words as w
 use Rattle.syntax.specs.Words.{Word, named, number, Tok}
-use Rattle.syntax.specs.ExprGrammar.{at, a, ◌▷◌, nothing, Each, Deeper, IsConstant, op_word, IsExpr, AreOperands, AreArgs, AreMoreArgs, InParens}
+use Rattle.syntax.specs.ExprGrammar.{at, a, ◌▷◌, nothing, Each, IsConstant, op_word, IsExpr, AreOperands, AreArgs, AreMoreArgs, InParens}
 use Rattle.syntax.specs.StmtGrammar.{IsRef, IsStmt, AreStmts}
 
 module _ {P : Type 0} where
@@ -47,10 +47,6 @@ module _ {P : Type 0} where
       → length xs + length us ≤ length ts
   each-long R r [] ts us took = let e = ap length took in omega (arith, e)
   each-long R r (x ∷ xs) ts us (vs, took, more) = let e = r x ts vs took in let f = each-long R r xs vs us more in omega (arith, e, f)
-
-  deeper-shorter : (depth : ℕ) (R : ℕ → List (Tok P) → List (Tok P) → Type 0) → ((d : ℕ) → Shorter (R d)) → Shorter (Deeper depth R)
-  deeper-shorter zero R r ts us took = absurd took
-  deeper-shorter (suc depth) R r ts us took = r depth ts us took
 
   pub constant-shorter : (c : Constant P) → Shorter (IsConstant c)
   constant-shorter (literal_constant p true n q) ts us took = at-then w.MINUS p (at (number n) q) (weak (at (number n) q) (at-shorter (number n) q)) ts us took

@@ -118,7 +118,6 @@ fn the_lines_of_a_script(rt: HostRuntime) -> Result<(), Fail> {
         "lines"
     );
     assert!(rt; script.end() == 30, "end");
-    assert!(rt; script.made_for(&names), "names");
     Ok(())
 }
 

@@ -72,10 +72,6 @@ negative_zero digits zero_is (negsuc n) small e =
     let equal : 0 ≡ suc n = decimal_injective 0 (suc n) (omega arith) (omega arith) (sym zero_is ∙ same) in
     omega arith
 
-pub positive_none : (word : List ℕ) → get_or word 0 0 ≢ 45 → ((n : ℕ) → n ≤ 2147483647 → word ≢ decimal n) → (z : ℤ) → Is32 z → word ≢ signed_decimal z
-positive_none word first none (pos n) small e = none n (omega arith) e
-positive_none word first none (negsuc n) small e = first (ap (λ w. get_or w 0 0) e)
-
 pub empty_none : (word : List ℕ) → length word ≡ 0 → (z : ℤ) → Is32 z → word ≢ signed_decimal z
 empty_none word none (pos n) small e = no_empty word n (omega arith) none e
 empty_none word none (negsuc n) small e = let l = ap length e in omega (arith, l)

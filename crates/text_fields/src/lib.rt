@@ -20,4 +20,4 @@ pub use at::{At, begins_with, end_line, note, skip};
 pub use cut::{Cut, cut_at, is_same, is_word};
 pub use fault::{Fault, ReadError};
 pub use fields_number::unsigned;
-pub use numbers::{field, is_digit, is_numeral, number, numeral, short_field};
+pub use numbers::{field, is_digit, is_numeral, numeral, short_field};

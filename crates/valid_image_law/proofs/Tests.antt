@@ -15,9 +15,6 @@ same_number m n is = grind (arith, nat_tests)
 pub at_most : (m n : ℕ) → nat_le m n ≡ true → m ≤ n
 at_most m n is = grind (arith, nat_tests)
 
-pub at_least : (m n : ℕ) → m ≤ max m n
-at_least m n = omega arith
-
 pub below : (m n : ℕ) → nat_lt m n ≡ true → m + 1 ≤ n
 below m n is = grind (arith, nat_tests)
 

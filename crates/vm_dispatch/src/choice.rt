@@ -1,7 +1,7 @@
 //! Which process runs.
 
 ghost use Rattle.std.specs.Prelude.{◌≡◌, ◌+◌, ◌∷◌, List, Some};
-ghost use Rattle.vm_dispatch.specs.Pick.{entry_of, foremost, foremost_from, joined, key, place_of};
+ghost use Rattle.vm_dispatch.specs.Pick.{entry_of, foremost_from, joined, key, place_of};
 ghost use Rattle.vm_dispatch.specs.declared.choice.Standing.{Standing};
 
 /// How a process stands in the choice: whether it is ready, its active rank, and whether it is
@@ -71,17 +71,4 @@ pub fn place_found(best: Option<Found>) -> Option<usize>
         Some(found) => Some(found.place),
         None => None,
     }
-}
-
-/// The place of the ready one with the least active rank, one inside a monitor before one outside,
-/// then the least place.
-/// `None` exactly where none is ready.
-pub fn pick(all: &[Standing]) -> Option<usize>
-    ensures { result ≡ foremost all.now }
-{
-    let mut best = None;
-    for (k, standing) in all.iter().enumerate() {
-        best = foremost_with(best, k, standing);
-    }
-    place_found(best)
 }

@@ -14,9 +14,7 @@
 mod choice;
 mod due;
 mod order;
-mod scan;
 
-pub use choice::{Found, Standing, foremost_with, pick, place_found};
+pub use choice::{Found, Standing, foremost_with, place_found};
 pub use due::Due;
 pub use order::OrderDue;
-pub use scan::ScanDue;

@@ -1,7 +1,6 @@
 -- Elements of arrays.
-use Rattle.std.proofs.Common.{◌≡◌, ◌<◌, ◌+◌, ℕ, zero, suc, Bool, true, false, List, ◌∷◌, Option, Some, None, length, set, get_or, arith, refl, ap, sym, subst, ◌∙◌}
-use Rattle.std.specs.Prelude.{ℤ, pos, negsuc, ◌+ℤ◌, ◌-ℤ◌, ◌≤ℤ◌, slice_get, slice_set}
-use Rattle.std.proofs.lemmas.Int.{ints}
+use Rattle.std.proofs.Common.{◌≡◌, ◌<◌, ◌+◌, ℕ, zero, suc, Bool, true, false, List, ◌∷◌, Option, Some, None, length, set, get_or, refl, ap, sym, subst, ◌∙◌}
+use Rattle.std.specs.Prelude.{ℤ, pos, ◌+ℤ◌, ◌-ℤ◌, slice_get, slice_set}
 use Rattle.std.proofs.lemmas.Option.{slice_get-get_or}
 use Rattle.machine_isa.specs.declared.instr.Instr.TheVariants as i
 use Rattle.machine_semantics.specs.Image.{Image}
@@ -10,11 +9,6 @@ use Rattle.machine_semantics.specs.Effect.{Own, Outcome, Goes, effect, word_at, 
 use Rattle.vm_instructions.specs.Frames.{Frames, with_operands}
 use Rattle.vm_instructions.specs.Steps.{Does, DoesOwned, LoadsShared, StoresShared, ReachesMon, ReachesMonFirst, ReachesMonLast, with_frames, with_owned, is_inside_array, HasWord, Reaches, ReachesFirst, ReachesLast, comes_to}
 use Rattle.vm_instructions.specs.declared.came.Came.TheVariants as came
-
--- a word that is there is not negative
-pub not_negative : (words : List ℤ) (z : ℤ) → HasWord words z → pos 0 ≤ℤ z
-not_negative words (pos n) h = omega (arith, ints)
-not_negative words (negsuc n) h = absurd h
 
 -- and is within
 pub within : (words : List ℤ) (z : ℤ) (n : ℕ) → HasWord words z → z ≡ pos n → n < length words

@@ -1,5 +1,5 @@
 -- One more instruction of a row.
-use Rattle.std.proofs.Common.{◌≡◌, ◌≤◌, ◌<◌, ◌+◌, ◌-◌, ◌⊎◌, inl, inr, ℕ, true, false, Some, length, refl, ap, sym, subst, ◌∙◌, arith}
+use Rattle.std.proofs.Common.{◌≡◌, ◌≤◌, ◌<◌, ◌+◌, ◌-◌, ◌⊎◌, ℕ, true, false, Some, length, sym, subst, ◌∙◌}
 use Rattle.std.specs.Prelude.{slice_get}
 use Rattle.std.proofs.lemmas.Option.{slice_get_within}
 use Rattle.machine_isa.specs.declared.instr.Instr.{Instr}
@@ -8,7 +8,6 @@ use Rattle.machine_semantics.specs.Image.{Image}
 use Rattle.machine_semantics.specs.State.{State}
 use Rattle.machine_semantics.specs.Effect.{Own, Goes, effect}
 use Rattle.vm_stretch.specs.Silent.{CanGo, IsAt, IsSafeFor, IsWithin, GoesTo, Leads, Begins, Follows, is_silent, next_own, nowhere}
-use Rattle.vm_instructions.specs.Rows.{Spends, stays}
 
 pub begins : (image : Image) (first : Own) (n : ℕ) → n ≡ 0 → Leads image first n first
 begins image first n is = subst (λ (k : ℕ). Leads image first k first) (sym is) Begins
@@ -30,11 +29,3 @@ fetched image room budget n o r can is =
 pub follows : (image : Image) (first o next : Own) (n m : ℕ) (r : Instr) → Leads image first n o → IsAt image o r → ((s : State) → effect image s r (next_own o) ≡ Goes next) → next.job.inside ≡ o.job.inside → next.job.burn ≡ o.job.burn → m ≡ n + (ticks r - o.job.done)
     → Leads image first m next
 follows image first o next n m r leads at is inside burn time = Follows leads r next (record { at = at; goes = is; inside = inside; burn = burn }) m time
-
-pub stays_at_last : (image : Image) (first o : Own) (n left budget : ℕ) (r : Instr) → Leads image first n o → IsAt image o r → n + left ≡ budget → left < ticks r - o.job.done → Spends image first budget (stays left o)
-stays_at_last image first o n left budget r leads at time less = (n, left, o, leads, time, refl, inr (r, at, omega (arith, less)))
-
-pub spent : (image : Image) (first o : Own) (n budget : ℕ) → Leads image first n o → n ≡ budget → Spends image first budget o
-spent image first o n budget leads is = (n, 0, o, leads, omega (arith, is), same o, inl refl) where
-  same : (p : Own) → p ≡ stays 0 p
-  same p = let e : p.job.done ≡ p.job.done + 0 = omega arith in ap (λ (d : ℕ). record p { job = record (p.job) { done = d } }) e

@@ -54,9 +54,6 @@ rest_is_moved image t k slots tick slot differ = record {
   others = λ j apart. refl;
 }
 
-pub moved_none : (image : Image) (t : ℕ) (slots : List (Option ℕ)) → MovedBelow image t 0 slots slots
-moved_none image t slots = record { count = refl; moved = λ k p tick below. absurd (omega arith); others = λ k le. refl }
-
 pub moved_more : (image : Image) (t n : ℕ) (a b c : List (Option ℕ)) → MovedBelow image t n a b → MovedAt image t n b c → MovedBelow image t (n + 1) a c
 moved_more image t n a b c below here = record {
   count = here.count ∙ below.count;

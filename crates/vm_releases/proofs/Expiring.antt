@@ -1,5 +1,5 @@
 -- Time-outs in the order of ranks.
-use Rattle.std.proofs.Common.{◌≡◌, ◌≢◌, ◌<◌, ◌+◌, ◌-◌, ◌*◌, ℕ, suc, List, Option, Some, None, length, arith, refl, ap, sym, subst, ◌∙◌, inl, inr}
+use Rattle.std.proofs.Common.{◌≡◌, ◌≢◌, ◌<◌, ◌+◌, ◌-◌, ◌*◌, ℕ, suc, List, Option, Some, None, length, arith, ap, sym, subst, ◌∙◌, inl, inr}
 use Rattle.std.specs.Prelude.{slice_get, slice_set}
 use Rattle.base.specs.declared.event.Event.{Event}
 use Rattle.machine_semantics.specs.Image.{Image, Process}
@@ -86,9 +86,6 @@ rank_skips image t i n ranks go s s' es es' by_rank at below left =
           cc
 
 -- ---- slots
-
-pub alone_none : (n : ℕ) (slots : List (Option ℕ)) → WaitsAlone n slots slots
-alone_none n slots = record { count = refl; releases = λ k below. refl; line = refl }
 
 pub alone_more : (n k : ℕ) (a b c : List (Option ℕ)) → k < n → WaitsAlone n a b → ((j : ℕ) → j ≢ n + k → slice_get c j ≡ slice_get b j) → length c ≡ length b → WaitsAlone n a c
 alone_more n k a b c below alone others count = record {

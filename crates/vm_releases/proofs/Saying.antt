@@ -1,6 +1,6 @@
 -- The lines of a script, one by one.
 use Rattle.std.proofs.Common.{◌≡◌, ◌≢◌, ◌≤◌, ◌<◌, ◌+◌, ◌++◌, ℕ, zero, suc, List, [], ◌∷◌, Some, length, get_or, drop, arith, refl, ap, sym, subst, ◌∙◌, true, false, Bool, inl, inr}
-use Rattle.std.specs.Prelude.{ℤ, slice_get, slice_set, cond, nat_eq, ◌&&◌}
+use Rattle.std.specs.Prelude.{slice_get, cond, nat_eq, ◌&&◌}
 use Rattle.std.specs.Global.{Vec}
 use Rattle.std.proofs.lemmas.List.{append-nil}
 use Rattle.std.proofs.lemmas.Option.{slice_get_within}
@@ -8,7 +8,7 @@ use Rattle.std.proofs.lemmas.Bool.{cases_lt}
 use Rattle.std.proofs.lemmas.Bool.Decides.{nat_tests}
 use Rattle.vm_stretch.proofs.Lists.{get_drop}
 use Rattle.base.specs.declared.event.Event.{Event}
-use Rattle.machine_semantics.specs.Image.{Image, Process, Line, Sets, Occurs}
+use Rattle.machine_semantics.specs.Image.{Image, Process, Line, Occurs}
 use Rattle.machine_semantics.specs.State.{State}
 use Rattle.machine_semantics.specs.Starts.{Started, followed, line, lines, occurs, queue_of, unchanged}
 use Rattle.vm_stretch.specs.Quiet.{line_tick}
@@ -58,12 +58,6 @@ none_started go s es none = record {
   events = sym (append-nil es) ∙ ap (λ (xs : List Event). es ++ xs) (sym (ap (λ (x : Started). x.events) none));
   calm = ap (λ (x : Started). x.overrun) none;
 }
-
-pub set_started : (image : Image) (t u d : ℕ) (v : ℤ) (s : State) (es : List Event) (ds : List ℤ) → u ≡ t → ds ≡ slice_set s.devices d v → HasStarted (line image t (Sets u d v)) s es (record s { devices = ds }) es
-set_started image t u d v s es ds now set = by (nat_eq u t) (grind (arith, nat_tests, now)) where
-  by : (b : Bool) → b ≡ true → HasStarted (λ (x : State). cond b (unchanged (record x { devices = slice_set x.devices d v })) (unchanged x)) s es (record s { devices = ds }) es
-  by true is = record { state = ap (λ (xs : List ℤ). record s { devices = xs }) set; events = sym (append-nil es); calm = refl }
-  by false is = absurd (let no : false ≡ true = is in cc)
 
 pub line_releases : (image : Image) (t u e : ℕ) (s : State) → u ≡ t → line image t (Occurs u e) s ≡ releases image t (named e 0 image.processes) s
 line_releases image t u e s now =

@@ -10,7 +10,7 @@ use Rattle.machine_isa.specs.declared.instr.Instr.{Instr}
 use Rattle.machine_isa.specs.Ticks.{ticks}
 use Rattle.machine_semantics.specs.Image.{Image, Process, Script}
 use Rattle.machine_semantics.specs.State.{Job, Thread, Ready, State}
-use Rattle.machine_semantics.specs.Starts.{Started, raised, starts}
+use Rattle.machine_semantics.specs.Starts.{Started, starts}
 use Rattle.machine_semantics.specs.Effect.{Own, Outcome, Goes, Does, Signals, Broadcasts, Waits, Raises, Ends, Stuck, effect}
 use Rattle.machine_semantics.specs.Tick.{Ticked, at_next, owned_of, pick, settle}
 use Rattle.machine_semantics.specs.Run.{events_from, state_at}
@@ -40,10 +40,6 @@ use Rattle.vm_runner.proofs.Passing.{turn_alone}
 use Rattle.vm_runner.proofs.Waiting.{from_then, ready_from, set_same, settle_from, settle_same}
 
 -- ---- the last instruction of a row
-
--- the activation at its next instruction raises as at this
-raised_next : (p : Process) (e : ℕ) (job : Job) → raised p e (at_next job) ≡ raised p e job
-raised_next p e job = refl
 
 -- no outcome that is not stuck in its turn is stuck
 not_stuck : (image : Image) (u k : ℕ) (p : Process) (job : Job) (s : State) (out : Outcome) → (settle image u k p job s out).stuck ≡ false → NotStuck out

@@ -22,11 +22,6 @@ pub woken_at : (image : Image) (cs : List Cell) (k : ℕ) (old new : Cell) → k
 woken_at image cs k old new below is wakes =
     threads_set cs k new ∙ ap (λ (t : Thread). slice_set (threads_of cs) k t) (wakes ∙ ap (λ (o : Option Thread). woken image o) (sym (thread_at cs k old below is)))
 
-rooms_set : (cs : List Cell) (k : ℕ) (c : Cell) → rooms_of (slice_set cs k c) ≡ slice_set (rooms_of cs) k c.job.frames.room
-rooms_set [] k c = refl
-rooms_set (x ∷ cs) zero c = refl
-rooms_set (x ∷ cs) (suc k) c = ap (λ (ns : List ℕ). x.job.frames.room ∷ ns) (rooms_set cs k c)
-
 -- a place whose room stays leaves all rooms as they were
 pub rooms_at : (cs : List Cell) (k : ℕ) (old new : Cell) → k < length cs → old ≡ get_or cs k old → new.job.frames.room ≡ old.job.frames.room → rooms_of (slice_set cs k new) ≡ rooms_of cs
 rooms_at [] k old new below is same = refl

@@ -11,7 +11,6 @@
 #![tactic(auto)]
 
 mod board;
-mod cells;
 mod fired;
 mod plan;
 mod queues;
@@ -19,9 +18,8 @@ mod seen;
 mod threads;
 
 pub use board::Board;
-pub use cells::run_process;
 pub use fired::{Fired, MOST, tell};
 pub use plan::{Plan, Process, Release};
 pub use queues::Queues;
-pub use seen::{Waited, empty, end, enter, get, leave, put, wait};
-pub use threads::{Cell, Stand, broadcast, signal, wake_at};
+pub use seen::{Waited, empty, enter, get, leave, put, wait};
+pub use threads::{Cell, Stand, broadcast, signal};

@@ -2,7 +2,6 @@
 
 ghost use Rattle.std.specs.Prelude.{◌≡◌, ◌<◌, Some, None, unsigned_abs, true, ℤ, length};
 ghost use Rattle.machine_isa.specs.declared.instr.Instr.TheVariants as i;
-ghost use Rattle.base.specs.declared.event.Act.TheVariants as act;
 ghost use Rattle.vm_instructions.specs.Frames.{IsValueFirst, used};
 ghost use Rattle.vm_instructions.specs.Steps.{HasWord};
 ghost use Rattle.vm_state.specs.Seen.{DoesEmpty, DoesEnter, DoesGet, DoesLeave, DoesPut, DoesWait, IsLimit, IsSmall};
@@ -107,12 +106,4 @@ pub fn wait(inside: &mut Option<u16>, condition: i32, limit: i32, number: i32) -
         limit: limit as u32,
         number: number as u16,
     }
-}
-
-/// Ends the activation.
-#[inline(always)]
-pub fn end() -> Act
-    ensures { result ≡ act.End }
-{
-    Act::End
 }

@@ -5,7 +5,7 @@ use Rattle.std.proofs.lemmas.Bool.Decides.{nat_tests}
 use Rattle.base.specs.declared.event.Event.{Event}
 use Rattle.machine_semantics.specs.Image.{Image, Process, Line, Sets, Occurs}
 use Rattle.machine_semantics.specs.State.{Thread, Idle, Ready, Waiting, State}
-use Rattle.machine_semantics.specs.Starts.{Started, unchanged, followed, release, occurs, line, lines, is_periodic_due, periodic, time_out, at_rank, time_outs}
+use Rattle.machine_semantics.specs.Starts.{Started, unchanged, followed, release, occurs, line, lines, time_out, at_rank}
 use Rattle.vm_stretch.specs.Quiet.{line_tick}
 use Rattle.vm_stretch.specs.StretchDue.{time_out_of}
 use Rattle.vm_stretch.specs.Steps.{named, release_of, releases}
@@ -63,12 +63,6 @@ lines_skip image t (suc done) (l ∷ ls) s none =
 
 -- ---- releases
 
-pub periodic_none : (image : Image) (t k : ℕ) (ps : List Process) (s : State) → ((j : ℕ) (p : Process) → slice_get ps j ≡ Some p → is_periodic_due t p ≡ false) → periodic image t k ps s ≡ unchanged s
-periodic_none image t k [] s none = refl
-periodic_none image t k (p ∷ ps) s none =
-    none_then s (cond (is_periodic_due t p) (release image t k p s) (unchanged s)) (periodic image t (k + 1) ps) (other_way (is_periodic_due t p) _ _ (none 0 p refl))
-    ∙ periodic_none image t (k + 1) ps s (λ j q at. none (suc j) q at)
-
 pub occurs_releases : (image : Image) (t e k : ℕ) (ps : List Process) (s : State) → ((j : ℕ) (p : Process) → slice_get ps j ≡ Some p → slice_get image.processes (k + j) ≡ Some p) → occurs image t e k ps s ≡ releases image t (named e k ps) s
 occurs_releases image t e k [] s there = refl
 occurs_releases image t e k (p ∷ ps) s there = by (nat_eq p.kind 1 && nat_eq p.event e) (λ (x : State). occurs_releases image t e (k + 1) ps x later) where
@@ -122,16 +116,3 @@ at_rank_one image t rank i (suc k) (q ∷ ps) p s at is own =
     none_then s (cond (nat_eq q.rank rank) (time_out image t i q s (slice_get s.threads i)) (unchanged s)) (at_rank image t rank (i + 1) ps) (other_way (nat_eq q.rank rank) _ _ (apart q.rank rank differ))
     ∙ at_rank_one image t rank (i + 1) k ps p s at is (λ j r there ranked. (let e : suc j ≡ suc k = own (suc j) r there ranked in omega (arith, e)))
     ∙ ap (λ (n : ℕ). time_out image t n p s (slice_get s.threads n)) here
-
-pub time_outs_none : (image : Image) (t rank n : ℕ) (s : State) → ((k : ℕ) → due_of k s ≢ Some t) → time_outs image t rank n s ≡ unchanged s
-time_outs_none image t rank n s none = by n rank where
-  each : (rank i : ℕ) (ps : List Process) → at_rank image t rank i ps s ≡ unchanged s
-  each rank i [] = refl
-  each rank i (p ∷ ps) = none_then s (cond (nat_eq p.rank rank) (time_out image t i p s (slice_get s.threads i)) (unchanged s)) (at_rank image t rank (i + 1) ps) (either (nat_eq p.rank rank) (time_out_none image t i p s (none i))) ∙ each rank (i + 1) ps where
-    either : (b : Bool) → time_out image t i p s (slice_get s.threads i) ≡ unchanged s → cond b (time_out image t i p s (slice_get s.threads i)) (unchanged s) ≡ unchanged s
-    either true e = e
-    either false e = refl
-
-  by : (n rank : ℕ) → time_outs image t rank n s ≡ unchanged s
-  by zero rank = refl
-  by (suc n) rank = none_then s (at_rank image t rank 0 image.processes s) (time_outs image t (rank + 1) n) (each rank 0 image.processes) ∙ by n (rank + 1)

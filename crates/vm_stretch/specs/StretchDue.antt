@@ -23,10 +23,6 @@ abbrev pub first_tick : List Line → Option ℕ
 first_tick [] = None
 first_tick (l ∷ ls) = Some (line_tick l)
 
--- each line is no earlier than the one before, and the first is after tick t
-abbrev pub AreAfter : ℕ → List Line → Type 0
-AreAfter t ls = (i : ℕ) (l : Line) → slice_get ls i ≡ Some l → t < line_tick l
-
 abbrev pub AreInOrder : List Line → Type 0
 AreInOrder ls = (i j : ℕ) (l m : Line) → slice_get ls i ≡ Some l → slice_get ls j ≡ Some m → i ≤ j → line_tick l ≤ line_tick m
 

@@ -1,5 +1,5 @@
 -- What an instruction that others see finds, and what its code has done.
-use Rattle.std.proofs.Common.{rules, ◌≡◌, ◌<◌, ◌∙◌, ℕ, Bool, true, false, List, [], ◌∷◌, Option, Some, None, length, refl, ap, sym, subst, arith}
+use Rattle.std.proofs.Common.{rules, ◌≡◌, ◌<◌, ℕ, Bool, true, false, List, [], ◌∷◌, Option, Some, None, length, refl, ap, sym, subst, arith}
 use Rattle.std.specs.Prelude.{ℤ, pos, negsuc, nat_eq, slice_get, unsigned_abs}
 use Rattle.std.proofs.lemmas.Option.{slice_get_within}
 use Rattle.machine_isa.specs.declared.instr.Instr.{Instr}
@@ -7,11 +7,11 @@ use Rattle.machine_isa.specs.declared.instr.Instr.TheVariants as i
 use Rattle.base.specs.declared.event.Act.{Act}
 use Rattle.machine_semantics.specs.Image.{Image}
 use Rattle.machine_semantics.specs.State.{Operand, Value, Counter, State, is_free, is_inside}
-use Rattle.machine_semantics.specs.Effect.{Own, Outcome, Does, Signals, Broadcasts, Waits, effect, enter, enters, leave, leaves, wait, waits, monitor_of, queue, signal, broadcast, empty, get, put, take_one, holding, word_at}
-use Rattle.vm_instructions.specs.Frames.{Frames, IsValueFirst, used}
+use Rattle.machine_semantics.specs.Effect.{Own, Outcome, Does, Waits, effect, enter, enters, wait, waits, monitor_of, queue, signal, broadcast, put, take_one, holding, word_at}
+use Rattle.vm_instructions.specs.Frames.{Frames, IsValueFirst}
 use Rattle.vm_state.specs.declared.seen.Waited.{Waited}
 use Rattle.vm_state.specs.Seen.{DoesEmpty, DoesEnter, DoesGet, DoesLeave, DoesPut, DoesWait, with_inside}
-use Rattle.vm_instructions.specs.Steps.{HasWord, with_frames}
+use Rattle.vm_instructions.specs.Steps.{HasWord}
 use Rattle.vm_instructions.specs.declared.job.Job.{Job as Kept}
 use Rattle.vm_instructions.specs.Silent.{own_of}
 use Rattle.vm_turn.specs.Own.{CanCome}
@@ -30,17 +30,6 @@ outside_of image s (pos m) o room can = by (is_free m s.threads) o.job.inside re
   by true None free none can' = record { free = free; none = none }
   by true (Some n) free none can' = absurd can'
   by false inside free none can' = absurd can'
-
-pub inside_of : (m : ℤ) (o : Own) (room : ℕ) → CanCome room (leave m o) → o.job.inside ≡ Some (unsigned_abs m)
-inside_of (negsuc n) o room can = absurd can
-inside_of (pos m) o room can = by o.job.inside refl (λ b. is_true_of b) can where
-  is_true_of : (b : Bool) → CanCome room (leaves b m o) → b ≡ true
-  is_true_of true can' = refl
-  is_true_of false can' = absurd can'
-
-  by : (inside : Option ℕ) → o.job.inside ≡ inside → ((b : Bool) → CanCome room (leaves b m o) → b ≡ true) → CanCome room (leaves (is_inside m inside) m o) → o.job.inside ≡ Some m
-  by None is left can' = absurd can'
-  by (Some n) is left can' = let e : m ≡ n = search (rules, left _ can') in is ∙ ap (λ (k : ℕ). Some k) (sym e)
 
 -- the monitor that the process waits outside
 pub record WaitsIn (image : Image) (c : ℤ) (o : Own) : Type 0 where
@@ -81,40 +70,7 @@ signals_below s c room o can = below_queues s c room (λ q. signal q c o) (λ n.
 pub broadcasts_below : (s : State) (c : ℤ) (room : ℕ) (o : Own) → CanCome room (broadcast (queue s c) c o) → unsigned_abs c < length s.queues
 broadcasts_below s c room o can = below_queues s c room (λ q. broadcast q c o) (λ n. n) can
 
-pub empties_below : (s : State) (c : ℤ) (room : ℕ) (o : Own) → CanCome room (empty (queue s c) c o) → unsigned_abs c < length s.queues
-empties_below s c room o can = below_queues s c room (λ q. empty q c o) (λ n. n) can
-
-pub signals_is : (s : State) (c : ℤ) (room : ℕ) (o : Own) → CanCome room (signal (queue s c) c o) → signal (queue s c) c o ≡ Signals (unsigned_abs c) o
-signals_is s c room o can = by (queue s c) can where
-  by : (q : Option (List ℕ)) → CanCome room (signal q c o) → signal q c o ≡ Signals (unsigned_abs c) o
-  by None can' = absurd can'
-  by (Some q) can' = refl
-
-pub broadcasts_is : (s : State) (c : ℤ) (room : ℕ) (o : Own) → CanCome room (broadcast (queue s c) c o) → broadcast (queue s c) c o ≡ Broadcasts (unsigned_abs c) o
-broadcasts_is s c room o can = by (queue s c) can where
-  by : (q : Option (List ℕ)) → CanCome room (broadcast q c o) → broadcast q c o ≡ Broadcasts (unsigned_abs c) o
-  by None can' = absurd can'
-  by (Some q) can' = refl
-
--- one more operand has room
-pub empties_room : (s : State) (c : ℤ) (f : Frames) (o : Own) → CanCome f.room (empty (queue s c) c (with_frames f o)) → used f < f.room
-empties_room s c f o can = by (queue s c) can where
-  by : (q : Option (List ℕ)) → CanCome f.room (empty q c (with_frames f o)) → used f < f.room
-  by None can' = absurd can'
-  by (Some q) can' = omega (arith, can')
-
 -- ---- devices
-
-pub gets_word : (devices : List ℤ) (d : ℤ) (room : ℕ) (o : Own) → CanCome room (get (word_at devices d) d o) → HasWord devices d
-gets_word devices (negsuc n) room o can = can
-gets_word devices (pos d) room o can = by (slice_get devices d) refl can where
-  by : (w : Option ℤ) → slice_get devices d ≡ w → CanCome room (get w (pos d) o) → d < length devices
-  by None is can' = absurd can'
-  by (Some z) is can' = slice_get_within devices d z is
-
-pub gets_room : (w : Option ℤ) (d : ℤ) (f : Frames) (o : Own) → CanCome f.room (get w d (with_frames f o)) → used f < f.room
-gets_room None d f o can = absurd can
-gets_room (Some z) d f o can = omega (arith, can)
 
 -- the top operand is a value, and there is such a device
 pub record Puts (devices : List ℤ) (d : ℤ) (operands : List Operand) : Type 0 where

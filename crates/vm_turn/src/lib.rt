@@ -17,11 +17,7 @@ mod seen;
 pub mod settle;
 mod turn;
 
-pub use cell::pass_cell;
 pub use choice::{choose, left};
-pub use ending::end_cell;
 pub use outcome::Outcome;
-pub use own::pass_own;
 pub use rows::{end_row, run_row};
-pub use seen::see;
 pub use turn::pass;

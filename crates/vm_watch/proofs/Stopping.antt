@@ -55,10 +55,6 @@ module _ (image : Image) (script : Script) (address : ℕ) where
     by e (inl same) = λ has. other (subst (λ (x : ℕ). HasEffect image script address x) same has)
     by e (inr low) = none e low
 
-  -- at the end
-  pub stops_at_end : (t : ℕ) → t ≡ script.end_tick → HasNoneBefore t → IsStop image script (Effect address) t
-  stops_at_end t over none = inr ((λ e below. none e (omega (arith, below, over))), over)
-
 -- a turn ends at its limit at the latest
 pub turn_within : (image : Image) (script : Script) (limit t u : ℕ) → t < limit → IsTurnEnd image script limit t u → u ≤ limit
 turn_within image script limit t u low turn = elim (cases_lt limit u) [

@@ -6,7 +6,7 @@ use Rattle.syntax_tree.specs.declared.place.Place.{Place}
 use Rattle.static_names.specs.Reach.{Names, Reach, Site, inside, inside_monitor}
 use Rattle.static_names.specs.Occurrences.{Occurrence, declarations, constant_names, constants_names, scalar_names, kind_names, expr_names, exprs_names, operands_names, ref_names, entry_names, loop_name, stmt_names, stmts_names, vars_names, params_names, member_inner, members_names, optional_names, routine_scope, routine_inner, routine_names, routines_names, monitor_scope, monitor_inner, monitor_names, activation_names, handler_names, process_scope, process_inner, process_names, inner_names}
 use Rattle.static_declarations.specs.declared.home.Where.{Where}
-use Rattle.static_declarations.specs.Parts.{looped, stmt_parts, stmts_parts, outside_loops, home_of, answer_parts, routine_parts, routines_parts, handler_parts}
+use Rattle.static_declarations.specs.Parts.{looped, stmt_parts, stmts_parts, outside_loops, home_of, answer_parts, routine_parts, routines_parts}
 use Rattle.static_numbers.specs.Types.{scalar_bounds, kind_bounds, vars_bounds, params_bounds, result_bounds, routine_bounds, routines_bounds, member_bounds, members_bounds, decl_bounds}
 use Rattle.wellformed_law.proofs.Lists.{Adds, nothing_more, both, one_more}
 
@@ -177,10 +177,6 @@ routine_parts_add is_entry r = both (stmts_parts_add (outside_loops (home_of is_
 pub routines_parts_add : (is_entry : Bool) (rs : List (Routine Place)) → Adds (routines_parts is_entry rs)
 routines_parts_add is_entry [] = nothing_more
 routines_parts_add is_entry (r ∷ rs) = both (routine_parts_add is_entry r) (routines_parts_add is_entry rs)
-
-pub handler_parts_add : (h : Option (Handler Place)) → Adds (handler_parts h)
-handler_parts_add None = nothing_more
-handler_parts_add (Some h) = stmts_parts_add _ h.body
 
 -- ---- bounds
 

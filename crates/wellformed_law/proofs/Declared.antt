@@ -47,22 +47,11 @@ first_some (n ∷ ns) x d h = by (first_some ns x d) (same x n.0) refl (front_or
     by again false s (inl e) = absurd (true≢false (sym (same_itself x) ∙ ap (λ m. same x m.0) (sym e) ∙ s))
     by again false s (inr m) = again m
 
-first_append : (ns ms : Names) (x : Name) → first (ns ++ ms) x ≡ or_else (first ns x) (first ms x)
-first_append [] ms x = refl
-first_append (n ∷ ns) ms x = ap (λ o. if same x n.0 then Some n.1 else o) (first_append ns ms x) ∙ by (same x n.0)
-  where
-    by : (b : Bool) → (if b then Some n.1 else or_else (first ns x) (first ms x)) ≡ or_else (if b then Some n.1 else first ns x) (first ms x)
-    by true = refl
-    by false = refl
-
 -- ---- what a scope does not declare
 
 -- no name in it is declared as this
 abbrev pub Lacks : NameKind → Names → Type 0
 Lacks k ns = (n : Name × Declared) → Contains ns n → n.1.kind ≡ k → ⊥
-
-pub lacks_none : (k : NameKind) → Lacks k []
-lacks_none k n h = absurd (none_in n h)
 
 pub lacks_both : (k : NameKind) (ns ms : Names) → Lacks k ns → Lacks k ms → Lacks k (ns ++ ms)
 lacks_both k ns ms l r n h = by (Contains-append_cases ns ms n h)

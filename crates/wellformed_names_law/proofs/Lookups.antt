@@ -37,20 +37,6 @@ first-append (d ∷ ds) ys x = by (same x d.0) (first-append ds ys x)
     by true h = refl
     by false h = h
 
-pub record FoundIn (ds : Names) (x : Name) (d : Declared) : Type 0 where
-  pub one : Name × Declared
-  pub listed : In ds one
-  pub name : one.0 ≡ x
-  pub is : one.1 ≡ d
-
-pub first-in : (ds : Names) (x : Name) (d : Declared) → first ds x ≡ Some d → FoundIn ds x d
-first-in [] x d e = absurd (none-some d e)
-first-in (c ∷ ds) x d e = by (same x c.0) refl e (first-in ds x d)
-  where
-    by : (b : Bool) → same x c.0 ≡ b → cond b (Some c.1) (first ds x) ≡ Some d → (first ds x ≡ Some d → FoundIn ds x d) → FoundIn (c ∷ ds) x d
-    by true s f h = record { one = c; listed = inl refl; name = sym (same-is x c.0 s); is = some-is c.1 d f }
-    by false s f h = let l = h f in record { one = l.one; listed = inr l.listed; name = l.name; is = l.is }
-
 -- what is declared in a scope is found there
 pub first-not : (ds : Names) (e : Name × Declared) → In ds e → first ds e.0 ≡ None → ⊥
 first-not [] e i n = i

@@ -1,5 +1,5 @@
 -- Members of lists by recursion, and lists that end in other lists.
-use Rattle.std.proofs.Common.{◌≡◌, ℕ, ◌+◌, ◌<◌, ◌≤◌, zero, suc, ◌⊎◌, inl, inr, Bool, true, cond, List, [], ◌∷◌, ◌++◌, length, map, refl, ap, sym, subst, ◌∙◌, arith, append_assoc}
+use Rattle.std.proofs.Common.{◌≡◌, ℕ, ◌+◌, ◌<◌, ◌≤◌, zero, suc, ◌⊎◌, inl, inr, Bool, cond, List, [], ◌∷◌, ◌++◌, length, map, refl, ap, sym, subst, ◌∙◌, arith, append_assoc}
 use Rattle.std.specs.Prelude.{Contains, count_by, slice_index_or}
 use Rattle.std.proofs.lemmas.List.Sums.{sum_by-append}
 
@@ -71,14 +71,3 @@ count-cons p y ys = sum_by-append (λ x. cond (p x) 1 0) (y ∷ []) ys ∙ ap (�
   where
     zero-first : (n : ℕ) → 0 + n ≡ n
     zero-first n = omega arith
-
-sum-first : (a b c : ℕ) → c ≡ a + b → a ≡ 1 → 1 ≤ c
-sum-first a b c s e = omega arith
-
-sum-second : (a b c : ℕ) → c ≡ a + b → 1 ≤ b → 1 ≤ c
-sum-second a b c s e = omega arith
-
-pub count-in : {X : Type 0} (p : X → Bool) (xs : List X) (x : X) → In xs x → p x ≡ true → 1 ≤ count_by p xs
-count-in p [] x i t = absurd i
-count-in p (y ∷ ys) x (inl e) t = sum-first (cond (p y) 1 0) (count_by p ys) (count_by p (y ∷ ys)) (count-cons p y ys) (ap (λ b. cond b 1 0) (ap p e ∙ t))
-count-in p (y ∷ ys) x (inr i) t = sum-second (cond (p y) 1 0) (count_by p ys) (count_by p (y ∷ ys)) (count-cons p y ys) (count-in p ys x i t)

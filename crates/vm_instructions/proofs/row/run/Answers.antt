@@ -6,7 +6,7 @@ use Rattle.machine_isa.specs.Ticks.{ticks}
 use Rattle.machine_semantics.specs.Effect.{Own, effect}
 use Rattle.vm_stretch.specs.Silent.{IsWithin, is_silent, next_own, nowhere}
 use Rattle.vm_instructions.specs.Silent.{own_of}
-use Rattle.vm_instructions.proofs.Leading.{begins, address, fetched, follows, stays_at_last, spent}
+use Rattle.vm_instructions.proofs.Leading.{begins, address, fetched, follows}
 use Rattle.vm_instructions.proofs.row.run.Goals as goal
 
 pub loop-left-init : goal.loop-left-init

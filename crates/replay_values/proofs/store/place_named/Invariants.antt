@@ -1,8 +1,0 @@
-use Rattle.std.proofs.Common.{◌+◌, ℕ, drop, Option}
-use Rattle.std.specs.Prelude.{option_map}
-use Rattle.replay_values.specs.Seen.{vars_of}
-use Rattle.replay_values.specs.Stores.{IsPlace}
-use Rattle.replay_values.proofs.store.place_named.Given as goal
-
-abbrev pub invariant-loop-at : goal.invariant-loop-at
-invariant-loop-at l = (o : Option ℕ) → IsPlace l.name (vars_of (drop l.at l.slots)) o → IsPlace l.name (vars_of l.slots) (option_map (λ k. l.at + k) o)
