@@ -19,5 +19,5 @@ mod token;
 pub use fault::LexFault;
 pub use lex_law::{one_fault, one_list, tokens_in_order};
 pub use lexer::lex;
-pub use table::keyword_at;
+pub use table::{keyword_at, keyword_spelling, sign_spelling};
 pub use token::{Token, TokenKind, Tokens, keyword, sign};

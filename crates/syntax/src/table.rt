@@ -1,4 +1,4 @@
-//! The places of keywords and signs in their lists, by their spellings.
+//! Keywords and signs: their spellings, and their places in their lists by these.
 
 ghost use Rattle.std.specs.Prelude.{◌≡◌, ◌<◌, ◌≤◌, ℕ, Some, Contains, [], ◌∷◌, length, slice_get, IfSome, IfNone};
 ghost use Rattle.syntax.specs.Spellings.{keywords, signs};
@@ -61,6 +61,11 @@ const KEYWORDS: [&str; 51] = [
     "false",
 ];
 
+/// The signs, each at its place in their list.
+const SIGNS: [&str; 18] = [
+    ":=", "..", ".", ":", ",", "(", ")", "[", "]", "+", "-", "*", "=", "<>", "<", "<=", ">", ">=",
+];
+
 /// The place in the list of keywords for each slot that one of them has, 0 for the others.
 const PLACES: [u8; 128] = [
     16, 0, 0, 15, 0, 34, 0, 0, 0, 0, 5, 21, 0, 0, 0, 35, 0, 0, 0, 37, 0, 0, 13, 23, 0, 0, 0, 0, 12,
@@ -105,12 +110,20 @@ fn bytes_at(table: &[&'static str], at: u8) -> &'static [u8]
     table[usize::from(at)].as_bytes()
 }
 
-/// The bytes of the keyword at a place.
-fn spelling(at: u8) -> &'static [u8]
+/// The bytes that spell the keyword at this place of the list of keywords, from 0.
+pub fn keyword_spelling(at: u8) -> &'static [u8]
     requires { at < length keywords }
     ensures { slice_get keywords at ≡ Some result.now }
 {
     bytes_at(&KEYWORDS, at)
+}
+
+/// The bytes that spell the sign at this place of the list of signs, from 0.
+pub fn sign_spelling(at: u8) -> &'static [u8]
+    requires { at < length signs }
+    ensures { slice_get signs at ≡ Some result.now }
+{
+    bytes_at(&SIGNS, at)
 }
 
 /// The place of the word in the list of keywords, from 0.
@@ -122,7 +135,11 @@ pub fn keyword_at(word: &[u8]) -> Option<u8>
         return None;
     }
     let at = place(word);
-    if spelling(at) == word { Some(at) } else { None }
+    if keyword_spelling(at) == word {
+        Some(at)
+    } else {
+        None
+    }
 }
 
 /// The place of the byte in the list of signs, from 0.

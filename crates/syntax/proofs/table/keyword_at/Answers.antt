@@ -12,5 +12,5 @@ pub returns-else-eq-clause-none : goal.returns-else-eq-clause-none
 returns-else-eq-clause-none c is =
     let stands = slice_get_at keywords c.args.word.now is in
     let place = c.place-at.ensures.only stands.0 stands.1 in
-    let same = some_is _ _ (sym c.spelling.ensures ∙ ap (slice_get keywords) place ∙ stands.1) in
+    let same = some_is _ _ (sym c.keyword_spelling.ensures ∙ ap (slice_get keywords) place ∙ stands.1) in
     other_text _ _ (sym c.if-eq.false ∙ c.eq.ensures) same
