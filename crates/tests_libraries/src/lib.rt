@@ -12,3 +12,5 @@ mod loads;
 mod numbers;
 #[cfg(test)]
 mod system;
+#[cfg(test)]
+mod trees;
