@@ -42,7 +42,6 @@ same_number : (j k : ℕ) → Some j ≡ Some k → j ≡ k
 same_number j k is = cc
 
 module _ (e : Where) (ps : ℕ → Parts) (image_fits : ImageFits e ps) (waitless : IsWaitless e ps) where
-
   pub distinct : AreDistinct (length e.image.processes) (rank_at e.image)
   distinct p q p_below q_below same =
       let a = has_process e.image.processes p p_below in
