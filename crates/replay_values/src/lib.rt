@@ -1,8 +1,8 @@
-//! Values of expressions and silent statements, as code.
+//! Words, operators and names of routines, as code.
 //!
-//! Each function answers what the function of the same name of `source_semantics` answers, for
-//! every tree and every memory. Values are kept in 64 bits, so no premise on literals, ranges or
-//! variables is asked.
+//! What operators make of words, and what names of routines stand for: each function answers what
+//! the function of the same name of `source_semantics` answers. Values are kept in 64 bits, so no
+//! premise on literals, ranges or variables is asked.
 #![tactic(auto)]
 
 mod lookup;

@@ -7,7 +7,7 @@
 //!
 //! The parts of the board lie open, so that one process runs on its own activation and words
 //! without a copy. `seen` has the instructions that others see, each by its effect on the parts
-//! that it touches; `cells`, `threads` and `queues` keep the processes and who waits.
+//! that it touches; `threads` and `queues` keep the processes and who waits.
 #![tactic(auto)]
 
 mod board;
