@@ -10,7 +10,7 @@ use Rattle.syntax_reading.specs.ExprReading.{Fault, nesting}
 use Rattle.syntax_reading.specs.Reading.{whole}
 use Rattle.syntax_parser.specs.Faults.{OpensAt, StopsAt, place}
 use Rattle.syntax_reading.proofs.Stops.{one-stop, no-end}
-use Rattle.syntax_parser.proofs.Parse.{stopped}
+use Rattle.syntax_parser.proofs.Refusals.{stopped}
 
 same_end : {A : Type 0} (front other : List A) (x y : A) (xs ys : List A) → front ++ x ∷ xs ≡ other ++ y ∷ ys → length (x ∷ xs) ≡ length (y ∷ ys) → x ≡ y
 same_end [] [] x y xs ys e n = cc

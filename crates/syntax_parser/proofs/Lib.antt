@@ -1,5 +1,5 @@
 pub mod Loops
 pub mod Rows
 pub mod Stmts
-pub mod Parse
+pub mod Refusals
 pub mod Ends

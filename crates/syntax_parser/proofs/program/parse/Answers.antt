@@ -10,7 +10,7 @@ use Rattle.syntax_parser.specs.declared.fault.Refusal.TheVariants as refusal
 use Rattle.syntax_parser.specs.declared.fault.SynFault.TheVariants as fault
 use Rattle.syntax_parser.specs.Reads.{Gives}
 use Rattle.syntax_reading.proofs.Stops.{fault-stops}
-use Rattle.syntax_parser.proofs.Parse.{no_tree, opening, stopped}
+use Rattle.syntax_parser.proofs.Refusals.{no_tree, opening, stopped}
 use Rattle.syntax_parser.proofs.program.parse.Goals as goal
 
 pub returns-in-Ok-clause-found : goal.returns-in-Ok-clause-found
