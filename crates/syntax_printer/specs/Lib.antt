@@ -1,4 +1,3 @@
 pub mod Canonical
 pub mod Pages
-pub mod Tables
 pub mod ReadBack

@@ -13,7 +13,6 @@ mod page;
 mod print_law;
 mod program;
 mod stmt;
-mod table;
 
 pub use print_law::{reads_back, tokens_are_spelled};
 pub use program::print;

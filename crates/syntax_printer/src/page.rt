@@ -5,10 +5,10 @@ ghost use Rattle.syntax.specs.Spellings.{keywords, signs};
 ghost use Rattle.syntax.specs.Words as w;
 ghost use Rattle.syntax_printer.specs.Pages.{put, ended, gap as gap_of};
 
-use crate::table::{keyword_bytes, sign_bytes};
 use itoa::Buffer;
 use std::alloc::AllocError;
 use std::marker::Model;
+use syntax::{keyword_spelling, sign_spelling};
 use syntax_tree::{Name, Text};
 
 /// A text, and whether a line begins at its end.
@@ -64,12 +64,12 @@ impl Page {
     }
 
     /// The keyword at this place of the list of keywords.
-    #[tactic(auto, unfolding(crate::specs::Pages::put))]
+    #[tactic(auto, unfolding(crate::specs::Pages::put), using(crate::proofs::Tables::word_at))]
     pub fn keyword(&mut self, at: u8) -> Result<(), AllocError>
         requires { at < length keywords }
         ensures { OnOk result (self.new ≡ put self.old (w.keyword at)) }
     {
-        self.word(keyword_bytes(at))?;
+        self.word(keyword_spelling(at))?;
         Ok(())
     }
 
@@ -83,12 +83,12 @@ impl Page {
     }
 
     /// The sign at this place of the list of signs.
-    #[tactic(auto, unfolding(crate::specs::Pages::put))]
+    #[tactic(auto, unfolding(crate::specs::Pages::put), using(crate::proofs::Tables::word_at))]
     pub fn sign(&mut self, at: u8) -> Result<(), AllocError>
         requires { at < length signs }
         ensures { OnOk result (self.new ≡ put self.old (w.sign at)) }
     {
-        self.word(sign_bytes(at))?;
+        self.word(sign_spelling(at))?;
         Ok(())
     }
 
