@@ -1,8 +1,7 @@
 //! The lines that refusals put: of a text, of an image or its text, of a script, of a log; and those
 //! of verdicts.
 //!
-//! `command_due`, `command_due` and `command_due` say which line is that of which fault. The
-//! calls promise exactly these lines.
+//! `command_due` says which line is that of which fault. The calls promise exactly these lines.
 //!
 //! Lines.
 

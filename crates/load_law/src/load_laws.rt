@@ -1,8 +1,9 @@
 //! Laws of the generated load: its program keeps to all rules and is timely, and its texts are
 //! those of a timely program and of a script for its names.
 //!
-//! `specs/` of `load_law` says what is claimed. The laws join what stands in crates of their
-//! own: names, types, limits, stacks, costs and lengths of the load, and that light images respond.
+//! `specs/` of `load_law` says what is claimed. The laws join those of this room and of
+//! `load_text_law`: names, types, limits, stacks, costs and lengths of the load, and that light
+//! images respond.
 //! Nothing is to run.
 //!
 //! The laws.
