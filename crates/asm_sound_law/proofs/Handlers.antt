@@ -2,10 +2,9 @@
 use Rattle.std.proofs.Common.{◌≡◌, ◌≤◌, ◌<◌, ◌^◌, ◌+◌, ◌++◌, ◌&&◌, ◌||◌, ℕ, zero, suc, Bool, true, false, List, [], ◌∷◌, length, refl, sym, ap, ◌∙◌, arith, append_assoc}
 use Rattle.std.specs.Prelude.{codes, nat_lt, nat_le}
 use Rattle.std.specs.List.{flat_map}
-use Rattle.std.proofs.lemmas.Bool.{lt-ltb, ltb-true, leb-true}
+use Rattle.std.proofs.lemmas.Bool.{lt-ltb, ltb-true, leb-true, and_parts}
 use Rattle.image_format.specs.Format.{u16, each_is, checked}
 use Rattle.image_reader.specs.Grammar as g
-use Rattle.image_format.proofs.Booleans.{parts}
 use Rattle.asm_format.specs.Text.{field, numbers_text, handler_text, handler_line}
 use Rattle.text_fields.specs.Front.{Front, begins}
 use Rattle.asm_lines.specs.Processes.{taken_read, more_read, numbers_read, handler_read, handler_tree_read}
@@ -23,8 +22,8 @@ AreTaken last (n ∷ ns) = (u16.is n ≡ true) × (nat_lt last n ≡ true) × (g
 taken_small : (n : ℕ) → g.is_taken n ≡ true → n ≤ 999
 taken_small n h = by (nat_le 1 n && nat_le n 4) (nat_le 10 n && nat_le n 999) refl refl h where
   by : (a b : Bool) → (nat_le 1 n && nat_le n 4) ≡ a → (nat_le 10 n && nat_le n 999) ≡ b → (a || b) ≡ true → n ≤ 999
-  by true b p q h = let low = leb-true n 4 (parts (nat_le 1 n) (nat_le n 4) p).1 in omega (arith, low)
-  by false true p q h = leb-true n 999 (parts (nat_le 10 n) (nat_le n 999) q).1
+  by true b p q h = let low = leb-true n 4 (and_parts (nat_le 1 n) (nat_le n 4) p).1 in omega (arith, low)
+  by false true p q h = leb-true n 999 (and_parts (nat_le 10 n) (nat_le n 999) q).1
   by false false p q h = cc
 
 -- there are no more of them than lie between
@@ -58,7 +57,7 @@ unfolding taken_read
 taken_took last s =
     next (field_took (codes " ") 0 65535 s (inside (codes " ") refl)) (λ n a.
     let took = note (nat_lt last n.0 && g.is_taken n.0) a in
-    went (shown took refl (λ held. let p = parts (nat_lt last n.0) (g.is_taken n.0) held.1 in (any_u16 0 n.0 held.0, p.0, p.1))))
+    went (shown took refl (λ held. let p = and_parts (nat_lt last n.0) (g.is_taken n.0) held.1 in (any_u16 0 n.0 held.0, p.0, p.1))))
 
 more_took : (most last : ℕ) (s : Front) → Holds (λ z. Takes Within Within 0 s z.1 (flat_map (field (codes " ")) z.0) (AreTaken last z.0)) (more_read most last s)
 unfolding more_read

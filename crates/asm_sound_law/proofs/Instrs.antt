@@ -4,13 +4,12 @@ use Rattle.std.specs.Prelude.{codes, nat_le, nat_eq, slice_index_or, slice_get, 
 use Rattle.std.specs.Cmp.Lexicographic.{pointwise}
 use Rattle.std.specs.Fmt.{signed_decimal}
 use Rattle.std.specs.List.{list_all}
-use Rattle.std.proofs.lemmas.Bool.{lt-ltb, le-leb}
+use Rattle.std.proofs.lemmas.Bool.{lt-ltb, le-leb, and_parts}
 use Rattle.std.proofs.lemmas.List.{take-append-drop}
 use Rattle.machine_isa.specs.declared.instr.Instr.{Instr}
 use Rattle.machine_isa.specs.Bytes.{number, operands}
 use Rattle.machine_isa.specs.Numbered.{in_order, numbered}
 use Rattle.image_reader.specs.Grammar as g
-use Rattle.image_format.proofs.Booleans.{parts}
 use Rattle.image_reader.proofs.Words.{same_words}
 use Rattle.asm_format.specs.Mnemonics.{mnemonics, mnemonic, arity, named, operands_text, instr_line}
 use Rattle.text_fields.specs.Front.{Front, moved}
@@ -72,7 +71,7 @@ placed : (from : ℕ) (words : List (List ℕ)) (word : List ℕ) (n : ℕ) → 
 placed from [] word n all h = cc
 placed from (w ∷ words) word n all h = by (pointwise nat_eq word w) refl h (λ later. placed (from + 1) words word n others later) where
   others : list_all opens_other words ≡ true
-  others = (parts (opens_other w) (list_all opens_other words) all).1
+  others = (and_parts (opens_other w) (list_all opens_other words) all).1
 
   by : (b : Bool) → pointwise nat_eq word w ≡ b → (if b then Some from else place_from (from + 1) words word) ≡ Some n
       → (place_from (from + 1) words word ≡ Some n → Placed (from + 1) n words word) → Placed from n (w ∷ words) word
@@ -84,7 +83,7 @@ placed from (w ∷ words) word n all h = by (pointwise nat_eq word w) refl h (λ
         low = omega (arith, here);
         high = omega (arith, here);
         is = word_is ∙ ap (λ k. slice_index_or (w ∷ words) k []) (sym first);
-        opens = ap opens_other word_is ∙ (parts (opens_other w) (list_all opens_other words) all).0;
+        opens = ap opens_other word_is ∙ (and_parts (opens_other w) (list_all opens_other words) all).0;
       }
   by false same h later =
       let r = later h in

@@ -1,9 +1,9 @@
 -- An image that is built has a plan.
-use Rattle.std.proofs.Common.{◌≡◌, ◌≤◌, ◌<◌, ◌+◌, ◌∙◌, ℕ, suc, Bool, true, false, List, [], ◌∷◌, length, Option, Some, None, arith, refl, ap}
-use Rattle.std.specs.Prelude.{ℤ, pos, negsuc, All, cond, nat_eq, slice_get}
+use Rattle.std.proofs.Common.{◌≡◌, ◌≤◌, ◌<◌, ◌+◌, ◌∙◌, ℕ, Bool, true, false, List, [], ◌∷◌, length, Option, Some, None, arith, refl, ap}
+use Rattle.std.specs.Prelude.{ℤ, pos, negsuc, cond, nat_eq, slice_get}
 use Rattle.std.proofs.lemmas.Bool.Decides.{nat_tests}
-use Rattle.std.proofs.lemmas.List.Elements.{All-nil, All-cons}
 use Rattle.std.proofs.lemmas.Option.{slice_get_within}
+use Rattle.base.proofs.Lists.{all_of}
 use Rattle.machine_isa.specs.declared.instr.Instr.{Instr}
 use Rattle.machine_isa.specs.declared.instr.Instr.TheVariants as i
 use Rattle.syntax_tree.specs.Plain.{Activation, periodic, at_event, Prog}
@@ -23,10 +23,6 @@ use Rattle.valid_image.specs.Valid.{HasHandler, HasLimits, Sizes, fault_of_part}
 use Rattle.valid_image_law.proofs.Passing.{params_fit}
 use Rattle.built_image_law.proofs.Texts.{Emitted, emitted}
 use Rattle.built_valid_law.proofs.Counts.{Counted}
-
-pub all_of : {X : Type 0} (P : X → Type 0) (xs : List X) → ((k : ℕ) (x : X) → slice_get xs k ≡ Some x → P x) → All P xs
-all_of P [] each = All-nil P
-all_of P (x ∷ xs) each = All-cons P x xs (each 0 x refl) (all_of P xs (λ k y at. each (suc k) y at))
 
 -- ---- numbers
 

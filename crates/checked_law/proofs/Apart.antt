@@ -1,6 +1,7 @@
 -- The names of a checked program stand apart.
 use Rattle.std.proofs.Common.{◌≡◌, ℕ, List, [], ◌∷◌, map, Some, None, inr, ap, sym, ◌∙◌, subst}
 use Rattle.std.specs.Prelude.{All, option_map, slice_get}
+use Rattle.base.proofs.Lists.{one_of}
 use Rattle.syntax_tree.specs.Plain as plain_of
 use Rattle.syntax_tree.specs.Plain.{Name}
 use Rattle.syntax_tree.specs.Placed.{Routine, Monitor, Process, monitor, process, Prog, plain, plain_routine, plain_process}
@@ -25,7 +26,6 @@ use Rattle.wellformed_law.proofs.WellFormed.{RuleLaws, laws_of}
 use Rattle.code_names_law.specs.Kept.{AllFound, NamesDiffer}
 use Rattle.code_names_law.proofs.Numbers.{found_name, found_there}
 use Rattle.code_names_law.specs.Ruled.{NamesApart}
-use Rattle.code_names_law.proofs.Rules.{one_of}
 use Rattle.checked_law.proofs.Differ.{Differ, differ_behind, scope_differs, DeclsDiffer, decls_differ, differ_found, program_found}
 use Rattle.checked_law.proofs.Standing.{mapped_at, routine_at, process_at, monitor_at as monitor_placed}
 use Rattle.checked_law.proofs.Shared.{nobody, nothing_hidden, calls_program}

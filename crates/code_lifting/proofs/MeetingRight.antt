@@ -1,6 +1,7 @@
 -- The code of the example is right: each process follows the source meaning.
 use Rattle.std.proofs.Common.{◌≡◌, ◌*◌, ℕ, zero, suc, List, [], ◌∷◌, Option, Some, None, refl, sym, subst, true, false, Bool}
 use Rattle.std.specs.Prelude.{ℤ, pos, slice_get}
+use Rattle.base.proofs.Lists.{one_some}
 use Rattle.machine_isa.specs.declared.instr.Instr.TheVariants as i
 use Rattle.syntax_tree.specs.Plain.{Prog, no_stmts, periodic, literal_constant}
 use Rattle.syntax_tree.specs.Plain as tree
@@ -17,7 +18,6 @@ use Rattle.machine_semantics.specs.Effect as effects
 use Rattle.machine_semantics_law.specs.Example.{alone}
 use Rattle.code_spec.specs.Boundary.{Compiled, View, view, view_released, view_raised, next_of, Agrees}
 use Rattle.code_spec.specs.Follows.{Follows, IsRight}
-use Rattle.code_lifting.proofs.Lists.{one_some}
 use Rattle.code_lifting.specs.Image.{FreeHolds, RestHolds, compiled_of}
 use Rattle.code_lifting.specs.Example.{meeting, MeetingIsRight}
 

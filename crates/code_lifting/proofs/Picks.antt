@@ -4,6 +4,7 @@ use Rattle.std.specs.Prelude.{ℤ, slice_get, cond, nat_lt, nat_eq, ◌||◌, �
 use Rattle.std.proofs.lemmas.Bool.{cases_Bool}
 use Rattle.std.proofs.lemmas.Bool.Decides.{nat_tests}
 use Rattle.std.proofs.lemmas.Option.{slice_get_within}
+use Rattle.base.proofs.Lists.{one_some, some_at}
 use Rattle.syntax_tree.specs.Plain as tree
 use Rattle.syntax_tree.specs.Plain.{Prog}
 use Rattle.source_semantics.specs.Names.{processes}
@@ -18,7 +19,6 @@ use Rattle.machine_semantics.specs.Tick.{Candidate, is_before, first_of_two, act
 use Rattle.machine_semantics.specs.Tick as tick
 use Rattle.code_lifting.specs.Related.{Whole, Relations, inside_of, Same, Related}
 use Rattle.code_lifting.specs.Compiled.{IsCompiled}
-use Rattle.code_lifting.proofs.Lists.{one_some, some_at}
 use Rattle.code_lifting.proofs.Touch.{Text, text_of, inside_is}
 
 -- ---- the order of candidates

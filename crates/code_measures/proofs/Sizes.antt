@@ -1,6 +1,7 @@
 -- The tree of a text covers as many instructions as its code has.
 use Rattle.std.specs.Prelude.{◌≡◌, ◌+◌, ℕ, zero, suc, Bool, true, false, cond, List, [], ◌∷◌, ◌++◌, Option, Some, None, ℤ, pos, length, bytes_eq}
 use Rattle.std.proofs.Common.{refl, sym, ap, subst, arith}
+use Rattle.std.proofs.lemmas.Bool.{both_ways}
 use Rattle.syntax_tree.specs.Plain.{Name, Param, Expr, literal, truth, variable, element, call, minus, negation, paren, row, Exprs, no_exprs, exprs, Operands, no_operands, operand, Ref, whole, part, Stmt, assign, assign_entry, assign_empty, perform, perform_entry, when, when_else, loop, exit_when, get, put, wait, signal, broadcast, except, assert, Stmts, no_stmts, stmts, Prog}
 use Rattle.source_semantics.specs.Store.{range_of}
 use Rattle.machine_isa.specs.declared.instr.Instr.{Instr}
@@ -49,9 +50,6 @@ some_same x y e = ap (λ o. unwrapped o) e
     unwrapped None = y
     unwrapped (Some z) = z
 
-true_false : (b : Bool) → b ≡ true → b ≡ false → ⊥
-true_false b t f = absurd cc
-
 pub alike_inner : (g : Prog) (c d : Scope) (x : Name) (w q : ℕ) → Alike g c d → Alike g (inner c x w q) d
 alike_inner g c d x w q a = record {
   owner = a.owner;
@@ -60,7 +58,7 @@ alike_inner g c d x w q a = record {
   where
     by_case : (y : Name) (sp : Spot) → sp.place.fixed ≡ false → (b : Bool)
         → or_else (in_area in_frame (cond b (Some (counter_place x w)) (place_named y c.own))) (outer_spot g c.owner y) ≡ Some sp → range_of_spot (spot_of g d y) ≡ sp.place.range
-    by_case y sp free true is = absurd (true_false sp.place.fixed (ap (λ t. t.place.fixed) (sym (some_same (record { area = in_frame; place = counter_place x w }) sp is))) free)
+    by_case y sp free true is = absurd (both_ways sp.place.fixed free (ap (λ t. t.place.fixed) (sym (some_same (record { area = in_frame; place = counter_place x w }) sp is))))
     by_case y sp free false is = a.range y sp is free
 
 -- ---- expressions

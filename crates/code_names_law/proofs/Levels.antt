@@ -3,6 +3,7 @@ use Rattle.std.specs.Prelude.{◌≡◌, ◌+◌, ◌<◌, ◌⊎◌, ℕ, Bool,
 use Rattle.std.proofs.Common.{inl, inr, refl, sym, ◌∙◌, ap, subst, arith, ltb}
 use Rattle.std.proofs.lemmas.Bool.{lt-ltb, ltb-true}
 use Rattle.std.proofs.lemmas.List.Sums.{count_by-le-length}
+use Rattle.std.proofs.lemmas.Option.{none-some, same_Some}
 use Rattle.syntax_tree.specs.Plain.{Name, Answers, Expr, literal, truth, variable, element, call, minus, negation, paren, row, Exprs, no_exprs, exprs, Operands, no_operands, operand, Ref, whole, part, Stmt, assign, assign_entry, assign_empty, perform, perform_entry, when, when_else, loop, exit_when, get, put, wait, signal, broadcast, except, assert, Stmts, no_stmts, stmts, Routine, Monitor, Process, Prog}
 use Rattle.source_semantics.specs.Names.{named, routines, monitors, processes, monitor_number, routine_count}
 use Rattle.source_semantics.specs.Run.{Home, of_program, of_process, of_monitor, or_else, entry_name, routine_named}
@@ -12,7 +13,7 @@ use Rattle.code_spec.specs.Numbering.{Text, routine_of, process_routines, entry_
 use Rattle.wellformed.specs.Here.{in_routine}
 use Rattle.wellformed.specs.Statements.{may_call}
 use Rattle.wellformed.specs.WellFormed.{IsWellFormed, RoutineFits}
-use Rattle.code_names_law.proofs.Numbers.{none_some, some_same, found_name, IsText, of_list, called_is_text}
+use Rattle.code_names_law.proofs.Numbers.{found_name, IsText, of_list, called_is_text}
 use Rattle.code_names_law.specs.Ruled.{NamesApart}
 use Rattle.code_names_law.specs.Numbered.{texts, CallsText, AreLevels}
 use Rattle.code_names_law.proofs.Lists.{count_lt}
@@ -126,10 +127,10 @@ module _ (g : Prog) (form : IsWellFormed g) (names : NamesApart g) where
   levels_of k = by (slice_get (processes g) k) refl
     where
       by : (x : Option Process) → slice_get (processes g) k ≡ x → (level : Name → ℕ) × ((p : Process) → slice_get (processes g) k ≡ Some p → Levels g p level)
-      by None is = (λ f. 0, λ p at. absurd (none_some p (sym is ∙ at)))
+      by None is = (λ f. 0, λ p at. absurd (none-some p (sym is ∙ at)))
       by (Some q) is =
           let l = (process_fits g form names k q is).levels in
-          (l.0, λ p at. subst (λ r. Levels g r l.0) (some_same q p (sym is ∙ at)) l.1)
+          (l.0, λ p at. subst (λ r. Levels g r l.0) (same_Some q p (sym is ∙ at)) l.1)
 
   abbrev level_at : ℕ → Name → ℕ
   level_at k = (levels_of k).0
@@ -181,7 +182,7 @@ module _ (g : Prog) (form : IsWellFormed g) (names : NamesApart g) where
   is_function may f r is x = by x.allowed
     where
       same : record { home = of_program; routine = r } ≡ x.found
-      same = some_same (record { home = of_program; routine = r }) x.found (sym (program_found f r is) ∙ x.is)
+      same = same_Some (record { home = of_program; routine = r }) x.found (sym (program_found f r is) ∙ x.is)
 
       by : IsSome x.found.routine.answers ⊎ (may ≡ true) → (is_some r.answers ≡ true) ⊎ (may ≡ true)
       by (inl h) = inl (some_answers r.answers (subst (λ y. IsSome y.routine.answers) (sym same) h))
@@ -194,7 +195,7 @@ module _ (g : Prog) (form : IsWellFormed g) (names : NamesApart g) where
   entry_height m e u o is = by (named (λ k. k.name) m (monitors g)) is
     where
       by : (x : Option Monitor) → entry_of (monitor_number g m) x e ≡ Some u → raw u ≡ routine_count g
-      by None h = absurd (none_some u h)
+      by None h = absurd (none-some u h)
       by (Some d) h = ap (λ o. height o u.routine) (of_list (by_monitor (monitor_number g m)) d.entries e u h).0
 
   -- ---- each call falls
@@ -235,7 +236,7 @@ module _ (g : Prog) (form : IsWellFormed g) (names : NamesApart g) where
 
       by : (x : Option Routine) → named (λ y. y.name) f p.routines ≡ x → or_else (option_map (λ y. record { owner = by_process k; routine = y }) x) (routine_of by_program (routines g) f) ≡ Some u → raw u < height (by_process k) r
       by (Some q) found h =
-          subst (λ v. raw v < height (by_process k) r) (some_same (record { owner = by_process k; routine = q }) u h)
+          subst (λ v. raw v < height (by_process k) r) (same_Some (record { owner = by_process k; routine = q }) u h)
           (subst (λ y. routine_count g + routine_count g + 1 + level_at k y < routine_count g + routine_count g + 1 + level_at k r.name) (sym (named_is f p.routines q found)) (let l = lower in omega arith))
       by None found h =
           let n = shared_named f u h in

@@ -1,6 +1,7 @@
 -- The operands of statements, routines and processes.
 use Rattle.std.specs.Prelude.{◌≡◌, ◌≤◌, ◌<◌, ◌+◌, ℕ, suc, true, false, pos, List, [], ◌∷◌, ◌++◌, Option, Some, None, All, Contains}
 use Rattle.std.proofs.Common.{refl, arith}
+use Rattle.base.proofs.Members.{none_in}
 use Rattle.syntax_tree.specs.Plain.{Name, Var, Stmt, assign, assign_entry, assign_empty, perform, perform_entry, when, when_else, loop, exit_when, get, put, wait, signal, broadcast, except, assert, Stmts, no_stmts, stmts, Answers, Routine, Handler, Process, Prog}
 use Rattle.source_semantics.specs.Names.{constant_value, count_value, device_number}
 use Rattle.source_semantics.specs.Store.{range_of}
@@ -24,9 +25,6 @@ use Rattle.codegen_operands.specs.Fine.{IsFine, MayCall, Stands}
 use Rattle.codegen_operands.specs.Texts.{RoutinesAreFine, ProcessesAreFine}
 use Rattle.codegen_operands.proofs.Lines.{all_both, not_bad, number_between, range_fine, wait_fine, raise_fine, Reaches, call_fine, expr_fine, args_fine, index_fine, store_code_fine, put_fine}
 
-nothing_there : (x : Name) → Contains [] x → ⊥
-nothing_there x h = let below : h.0 < 0 = h.1 in omega arith
-
 -- where a text stands, by the rules
 abbrev here_at : Prog → Process → Scope → List Name → List Var → Here
 here_at g p c turns vars = record { program = g; process = p; home = home_of c.owner; is_function = c.is_function; turns = turns; own = vars }
@@ -46,8 +44,8 @@ module _ (g : Prog) (m : Image) (w : Whose) (p : Process) where
 
   -- a condition is named only in an entry
   own_monitor : (o : Owner) (x : Name) → Contains (conditions_here g (home_of o)) x → Stands g m w o → is_own_monitor w (pos (monitor_of o)) ≡ true
-  own_monitor by_program x h s = absurd (nothing_there x h)
-  own_monitor (by_process k) x h s = absurd (nothing_there x h)
+  own_monitor by_program x h s = absurd (none_in x h)
+  own_monitor (by_process k) x h s = absurd (none_in x h)
   own_monitor (by_monitor j) x h s = s.monitor j refl
 
   mutual

@@ -1,8 +1,8 @@
 -- The code of a process reaches an entry of a monitor where its text comes to one.
 use Rattle.std.specs.Prelude.{◌≡◌, ◌<◌, ◌≤◌, ◌||◌, ◌&&◌, ℕ, zero, suc, Bool, true, false, cond, List, Some, None, length, nat_eq, slice_get, take}
 use Rattle.std.proofs.Common.{refl, ap, ◌∙◌, arith}
-use Rattle.std.proofs.lemmas.Bool.Decides.{nat_tests}
 use Rattle.std.proofs.lemmas.Option.{slice_get_within}
+use Rattle.base.proofs.Lists.{take_get}
 use Rattle.syntax_tree.specs.Plain.{Process, Prog}
 use Rattle.source_semantics.specs.Names.{processes, routine_count}
 use Rattle.machine_semantics.specs.Image as image
@@ -15,7 +15,7 @@ use Rattle.code_spec.specs.Compiled.{kind_number, owner_number, IsRoutine, IsCod
 use Rattle.wellformed.specs.WellFormed.{IsWellFormed}
 use Rattle.code_names_law.specs.Ruled.{NamesApart}
 use Rattle.code_measures.specs.Declared.{IsBelow}
-use Rattle.code_measures.proofs.Firsts.{take_get, row_is, rows_before}
+use Rattle.code_measures.proofs.Firsts.{row_is, rows_before}
 use Rattle.code_measures.proofs.Rows.{stands}
 use Rattle.code_names_law.proofs.SoundLemmas.{below, below_all, well_formed_programs_are_sound}
 use Rattle.codegen_ranks.specs.Calls.{some_called, by_number, process_calls, RoutinesCallTheirTexts, ProcessesCallTheirTexts}
@@ -27,9 +27,6 @@ use Rattle.codegen_ranks.proofs.Lists.{called_alike, longer_some, longest_some}
 some_where : (b : Bool) (n : ℕ) → is_some (cond b (Some n) None) ≡ b
 some_where true n = refl
 some_where false n = refl
-
-same_number : (n : ℕ) → nat_eq n n ≡ true
-same_number n = grind (arith, nat_tests)
 
 entry_numbers : (j : ℕ) (o : Owner) → (nat_eq (kind_number o) 2 && nat_eq (owner_number o) j) ≡ is_entry_of j o
 entry_numbers j by_program = refl

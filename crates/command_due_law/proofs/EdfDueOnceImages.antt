@@ -1,9 +1,9 @@
 -- The image of a program with deadlines for bounds is one.
 use Rattle.std.proofs.Common.{◌≡◌, ℕ, List, Option, Some, map, ap, sym, ◌∙◌}
 use Rattle.std.specs.Prelude.{slice_get}
+use Rattle.base.proofs.Lists.{same_elements}
 use Rattle.machine_semantics.specs.Image.{Image, Process}
 use Rattle.built_image.specs.Filled.{without_bound, without_bounds}
-use Rattle.command_due_law.proofs.Elements.{same_elements}
 use Rattle.built_image_law.proofs.Lists.{as_many, same_at}
 use Rattle.built_image_law.specs.FilledLaws.{ShapesAgree}
 use Rattle.command_due.specs.Image.{HasDeadlinesAsBounds}

@@ -1,16 +1,16 @@
 -- An image with its ranks, ceilings and blocks has no fault there.
 use Rattle.std.specs.Prelude.{◌≡◌, ◌≤◌, ℕ, None}
 use Rattle.std.proofs.Common.{ap, arith}
+use Rattle.std.proofs.lemmas.Bool.{eq-eqb}
 use Rattle.machine_semantics.specs.Image.{Image}
 use Rattle.valid_image.specs.Fault.{unless}
 use Rattle.valid_image.specs.Sizes.{below, other}
 use Rattle.valid_image.specs.Times.{rank_of, ceiling_of, needed_block, rank_fault}
-use Rattle.code_measures.proofs.Seen.{equal_numbers}
 use Rattle.code_measures.specs.Whole.{HasRanks}
 use Rattle.code_measures.proofs.CostPart.{none_all, both_none, enough}
 
 same_none : (d n : ℕ) → d ≡ n → other d n ≡ None
-same_none d n e = ap (λ b. unless b d n) (equal_numbers d n e)
+same_none d n e = ap (λ b. unless b d n) (eq-eqb d n e)
 
 pub no_rank_fault : (m : Image) → HasRanks m → rank_fault m ≡ None
 no_rank_fault m h =

@@ -4,10 +4,10 @@ use Rattle.std.specs.Prelude.{slice_get, get_or}
 use Rattle.std.proofs.lemmas.Bool.{cases_lt}
 use Rattle.std.proofs.lemmas.List.{same_lists}
 use Rattle.std.proofs.lemmas.Option.{get_or_from_slice_get, slice_get-get_or}
+use Rattle.base.proofs.Lists.{some_at}
 use Rattle.base.specs.Capped.{cap}
 use Rattle.machine_semantics.specs.Image.{Image, Process}
 use Rattle.valid_image.specs.Times.{rank_fault}
-use Rattle.valid_image_law.proofs.Firsts.{some_at}
 use Rattle.loader.proofs.Order.{ranks_none}
 use Rattle.sched_demand.specs.declared.tasks.DTask.{DTask}
 use Rattle.sched_demand.specs.declared.judging.Judgement.{Judgement}

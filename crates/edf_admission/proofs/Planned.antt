@@ -1,10 +1,11 @@
 -- What a run asks of an image, from the tests of validity and the ranges of a file.
-use Rattle.std.proofs.Common.{◌≡◌, ◌≤◌, ◌+◌, ◌∙◌, ℕ, zero, suc, Bool, true, false, List, [], ◌∷◌, length, map, Option, Some, None, arith, refl, ap, sym, subst}
-use Rattle.std.specs.Prelude.{ℤ, pos, negsuc, All, cond, nat_eq, slice_get}
+use Rattle.std.proofs.Common.{◌≡◌, ◌≤◌, ◌+◌, ◌∙◌, ℕ, Bool, true, false, List, [], ◌∷◌, length, map, Option, Some, None, arith, refl, ap, sym, subst}
+use Rattle.std.specs.Prelude.{ℤ, pos, negsuc, cond, nat_eq, slice_get}
 use Rattle.std.proofs.lemmas.Bool.Decides.{nat_tests}
 use Rattle.std.proofs.lemmas.List.{length-map}
-use Rattle.std.proofs.lemmas.List.Elements.{All-nil, All-cons, All-head, All-tail, All-map}
+use Rattle.std.proofs.lemmas.List.Elements.{All-map}
 use Rattle.std.proofs.lemmas.Option.{slice_get_within}
+use Rattle.base.proofs.Lists.{one_of, all_of}
 use Rattle.image.specs.declared.names.CondName.{CondName}
 use Rattle.image.specs.declared.names.DevName.{DevName}
 use Rattle.image.specs.declared.raw.RawImage.{RawImage}
@@ -40,17 +41,6 @@ use Rattle.edf_admission.specs.Admitted.{IsAdmitted}
 use Rattle.edf_admission.proofs.Premises.{fits}
 use Rattle.edf_admission.specs.Ready.{CanBeRun}
 use Rattle.edf_admission.proofs.Held.{holds}
-
--- ---- lists
-
-all_of : {X : Type 0} (P : X → Type 0) (xs : List X) → ((k : ℕ) (x : X) → slice_get xs k ≡ Some x → P x) → All P xs
-all_of P [] each = All-nil P
-all_of P (x ∷ xs) each = All-cons P x xs (each 0 x refl) (all_of P xs (λ k y at. each (suc k) y at))
-
-one_of : {X : Type 0} (P : X → Type 0) (xs : List X) (k : ℕ) (x : X) → All P xs → slice_get xs k ≡ Some x → P x
-one_of P [] k x all at = absurd cc
-one_of P (y ∷ xs) zero x all at = let same : y ≡ x = cc in subst P same (All-head P y xs all)
-one_of P (y ∷ xs) (suc k) x all at = one_of P xs k x (All-tail P y xs all) at
 
 -- ---- numbers
 

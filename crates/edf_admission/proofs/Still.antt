@@ -3,6 +3,7 @@ use Rattle.std.proofs.Common.{◌≡◌, ◌<◌, ◌+◌, ◌*◌, ◌∙◌, i
 use Rattle.std.specs.Prelude.{◌&&◌, nat_eq, nat_lt, slice_get, take}
 use Rattle.std.proofs.lemmas.Bool.{cases_lt}
 use Rattle.std.proofs.lemmas.Option.{slice_get_within}
+use Rattle.base.proofs.Lists.{some_at, take_get, take_past}
 use Rattle.machine_isa.specs.declared.instr.Instr.{Instr}
 use Rattle.machine_isa.specs.declared.instr.Instr.TheVariants as i
 use Rattle.machine_semantics.specs.Image.{Image, Process, Routine}
@@ -13,7 +14,7 @@ use Rattle.valid_image.specs.Shape.{shape_fault}
 use Rattle.valid_image.specs.Sizes.{cost_fault}
 use Rattle.valid_image.specs.Tables.{count, found_or_nothing, monitor_of, part_found, routine_found}
 use Rattle.valid_image_law.proofs.Exact.{ended_is, part_same}
-use Rattle.valid_image_law.proofs.Firsts.{some_at, table_length, take_get, take_past}
+use Rattle.valid_image_law.proofs.Firsts.{table_length}
 use Rattle.valid_image_law.proofs.Rows.{alike, exact, exact_of, exact_routine}
 use Rattle.valid_image_law.proofs.Shapes.{process_shaped}
 use Rattle.valid_image_law.proofs.Processes.{exact_body}

@@ -1,7 +1,8 @@
 -- The image of a program without waits meets what the laws of earliest deadline first ask for.
 use Rattle.std.proofs.Common.{◌≡◌, ◌≤◌, ◌<◌, ◌-◌, inl, inr, ℕ, List, length, Option, Some, None, arith, refl, ap, sym, ◌∙◌, Bool}
 use Rattle.std.specs.Prelude.{slice_get}
-use Rattle.std.proofs.lemmas.Bool.{cases_lt}
+use Rattle.std.proofs.lemmas.Bool.{cases_lt, eq-eqb}
+use Rattle.base.proofs.Lists.{some_at}
 use Rattle.base.specs.Capped.{cap}
 use Rattle.syntax_tree.specs.Plain.{Prog}
 use Rattle.syntax_tree.specs.Plain as tree
@@ -22,10 +23,8 @@ use Rattle.valid_image_law.proofs.Processes.{parts_in, image_fits}
 use Rattle.valid_image_law.proofs.Ranking.{ranked, one_each, within_rank, blocks}
 use Rattle.code_spec.specs.Compiled.{IsCodeOf}
 use Rattle.code_cost_spec.specs.Levels.{cost_of_process}
-use Rattle.code_measures.proofs.Seen.{equal_numbers}
 use Rattle.code_measures.specs.Declared.{Declares}
 use Rattle.code_measures.specs.Whole.{HasRanks}
-use Rattle.code_measures.proofs.Firsts.{some_at}
 use Rattle.code_measures.proofs.CostPart.{none_all, both_none, enough, no_cost_fault}
 use Rattle.code_measures.proofs.ShapePart.{no_shape_fault}
 use Rattle.code_measures.proofs.HandlerPart.{no_handler_fault}
@@ -41,7 +40,7 @@ use Rattle.edf_correct.proofs.Covering.{covered, stays_are}
 use Rattle.edf_correct.proofs.Placing.{place_in, are_ranks, last_of}
 
 same_none : (d n : ℕ) → d ≡ n → other d n ≡ None
-same_none d n e = ap (λ b. unless b d n) (equal_numbers d n e)
+same_none d n e = ap (λ b. unless b d n) (eq-eqb d n e)
 
 no_rank_fault : (m : Image) → HasRanks m → rank_fault m ≡ None
 no_rank_fault m h =

@@ -1,5 +1,5 @@
 -- Elements of lists, and how many there are.
-use Rattle.std.proofs.Common.{◌≡◌, ◌≤◌, ◌<◌, ◌+◌, ◌⊎◌, inl, inr, ℕ, zero, suc, List, [], ◌∷◌, Some, length, drop, map, get_or, arith, refl, ap, sym, subst, ◌∙◌}
+use Rattle.std.proofs.Common.{◌≡◌, ◌<◌, ◌⊎◌, inl, inr, ℕ, zero, suc, List, [], ◌∷◌, Some, length, map, get_or, arith, refl, ap, sym, subst, ◌∙◌}
 use Rattle.std.specs.Prelude.{slice_get, slice_set}
 use Rattle.std.proofs.lemmas.Option.{slice_get-get_or}
 use Rattle.machine_semantics.specs.Image.{Image, Process}
@@ -17,17 +17,6 @@ at_set (z ∷ zs) (suc k) x (suc j) y at = elim (at_set zs k x j y at) [ inl h �
 
 pub read_at : {X : Type 0} (xs : List X) (k : ℕ) (x : X) → k < length xs → x ≡ get_or xs k x → slice_get xs k ≡ Some x
 read_at xs k x below is = slice_get-get_or xs k x below ∙ ap (λ (y : _). Some y) (sym is)
-
-pub drop_at : {X : Type 0} (xs : List X) (k : ℕ) (x : X) → slice_get xs k ≡ Some x → drop k xs ≡ x ∷ drop (k + 1) xs
-drop_at [] k x at = absurd cc
-drop_at (y ∷ ys) zero x at = let same : y ≡ x = cc in ap (λ (z : _). z ∷ ys) same
-drop_at (y ∷ ys) (suc k) x at = drop_at ys k x at ∙ (let e : suc k + 1 ≡ suc (k + 1) = omega arith in ap (λ (z : _). x ∷ z) (sym (ap (λ (n : ℕ). drop n (y ∷ ys)) e)))
-
-pub drop_past : {X : Type 0} (xs : List X) (k : ℕ) → length xs ≤ k → drop k xs ≡ []
-drop_past [] zero past = refl
-drop_past [] (suc k) past = refl
-drop_past (x ∷ xs) zero past = absurd (omega arith)
-drop_past (x ∷ xs) (suc k) past = drop_past xs k (omega arith)
 
 -- ---- processes, and cells of a board
 
@@ -62,8 +51,3 @@ pub thread_at : (cs : List Cell) (k : ℕ) (c : Cell) → slice_get cs k ≡ Som
 thread_at [] k c at = absurd cc
 thread_at (d ∷ cs) zero c at = let e : d ≡ c = cc in ap (λ (x : Cell). Some (thread_of x)) e
 thread_at (d ∷ cs) (suc k) c at = thread_at cs k c at
-
-pub there_is : {X : Type 0} (xs : List X) (k : ℕ) → k < length xs → (x : X) × (slice_get xs k ≡ Some x)
-there_is [] k below = absurd (omega arith)
-there_is (x ∷ xs) zero below = (x, refl)
-there_is (x ∷ xs) (suc k) below = there_is xs k (omega arith)

@@ -3,6 +3,7 @@ use Rattle.std.proofs.Common.{◌≡◌, ◌≤◌, ◌<◌, ◌+◌, ◌-◌, �
 use Rattle.std.specs.Prelude.{slice_get}
 use Rattle.std.proofs.lemmas.List.{append-nil}
 use Rattle.std.proofs.lemmas.Option.{slice_get_within}
+use Rattle.base.proofs.Lists.{get_set}
 use Rattle.base.specs.declared.event.Event.{Event}
 use Rattle.machine_isa.specs.declared.instr.Instr.{Instr}
 use Rattle.machine_semantics.specs.Image.{Image, Process, Script}
@@ -12,7 +13,6 @@ use Rattle.machine_semantics.specs.Tick.{Ticked, owned_of, settle}
 use Rattle.vm_stretch.specs.Stretch.{FitsIn, FitsThread, left, left_of, outcomes, pass, pass_thread}
 use Rattle.vm_stretch.specs.Quiet.{AreQuiet}
 use Rattle.vm_stretch.specs.RowLaws.{IsInStack}
-use Rattle.vm_stretch.proofs.StretchMoving.{get_set}
 use Rattle.vm_turn.specs.Own.{CanCome, IsEarly}
 use Rattle.vm_turn.specs.Settled.{CanPass}
 use Rattle.edf_semantics.specs.Run.{Marked, events_from, state_at}

@@ -3,6 +3,7 @@ use Rattle.std.proofs.Common.{◌≡◌, ◌≤◌, ◌+◌, ◌-◌, ◌++◌, 
 use Rattle.std.specs.Prelude.{ℤ, slice_get, slice_set}
 use Rattle.std.specs.Global.{Vec}
 use Rattle.std.proofs.lemmas.Option.{slice_get_within}
+use Rattle.base.proofs.Lists.{get_set, get_other, some_at}
 use Rattle.base.specs.declared.event.Event.{Event}
 use Rattle.machine_isa.specs.declared.instr.Instr.{Instr}
 use Rattle.machine_semantics.specs.Image.{Image, Process}
@@ -15,12 +16,11 @@ use Rattle.vm_instructions.specs.Rows.{Ended, Runs}
 use Rattle.vm_stretch.specs.Quiet.{AreQuiet}
 use Rattle.vm_stretch.specs.Silent.{is_silent, next_own, with_process}
 use Rattle.vm_stretch.specs.Stretch.{outcomes, pass, pass_thread}
-use Rattle.vm_stretch.proofs.StretchMoving.{get_set}
 use Rattle.vm_turn.specs.Own.{CanCome}
 use Rattle.vm_turn.specs.Rows.{CanEnd, CanRun, EndsIn, HasRun, IsSeenAt, outcome_of, own_at}
 use Rattle.vm_state.specs.declared.board.Board.{Board}
 use Rattle.vm_state.specs.Board.{IsBoardOf, rows_of, state_of}
-use Rattle.vm_stretch.proofs.Lists.{get_other, same_or_not, there_is}
+use Rattle.vm_stretch.proofs.Lists.{same_or_not}
 use Rattle.machine_safety_spec.specs.Queues.{AreQueued, waits_on}
 use Rattle.vm_runner.specs.Turn.{BurnsNothing, unspent}
 use Rattle.vm_runner.proofs.Rowing.{RowEnds, comes, row_ends}
@@ -51,7 +51,7 @@ starts_here run most k at words quiet burnt =
     let s : State = start run in
     let r : IsReady run.image s.threads k = is_ready run k at in
     let below = slice_get_within run.image.processes k r.p r.process in
-    let row = there_is s.owned k (omega (arith, below, words)) in
+    let row = some_at s.owned k (omega (arith, below, words)) in
     record {
       job = r.job;
       is = record {

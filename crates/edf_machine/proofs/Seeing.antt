@@ -1,12 +1,13 @@
 -- One process more in the choice.
 use Rattle.std.proofs.Common.{◌≡◌, ◌≤◌, ◌+◌, ℕ, List, [], ◌∷◌, None, Some, length, drop, refl, ap, ◌∙◌}
 use Rattle.std.specs.Prelude.{slice_get}
+use Rattle.std.proofs.lemmas.List.{drop_all}
+use Rattle.base.proofs.Lists.{drop_at}
 use Rattle.machine_semantics.specs.Image.{Image, Process}
 use Rattle.machine_semantics.specs.State.{Thread, Idle, Ready, Waiting}
 use Rattle.edf_semantics.specs.Choice as ch
 use Rattle.edf_semantics.specs.Choice.{Mark, choose, place_of, taken}
 use Rattle.edf_machine.specs.Sights.{Seen, looked, seen_from}
-use Rattle.edf_machine.proofs.Lists.{drop_at, drop_past}
 
 head : (image : Image) (k : ℕ) (p : Process) (ps : List Process) (t : Thread) (ts : List Thread) (m : Mark) (ms : List Mark) → seen_from image k (p ∷ ps) (t ∷ ts) (m ∷ ms) ≡ looked image k p t m (seen_from image (k + 1) ps ts ms)
 head image k p ps Idle ts m ms = refl
@@ -23,8 +24,8 @@ seen_more image k ps ts ms p t m at_p at_t at_m =
 
 pub seen_none : (image : Image) (k : ℕ) (ps : List Process) (ts : List Thread) (ms : List Mark) → length ps ≤ k → length ts ≤ k → seen_from image k (drop k ps) (drop k ts) (drop k ms) ≡ record { first = None; begun = None; least = None }
 seen_none image k ps ts ms few_p few_t =
-    ap (λ (xs : List Process). seen_from image k xs (drop k ts) (drop k ms)) (drop_past ps k few_p)
-    ∙ ap (λ (xs : List Thread). seen_from image k [] xs (drop k ms)) (drop_past ts k few_t)
+    ap (λ (xs : List Process). seen_from image k xs (drop k ts) (drop k ms)) (drop_all k ps few_p)
+    ∙ ap (λ (xs : List Thread). seen_from image k [] xs (drop k ms)) (drop_all k ts few_t)
 
 pub chosen_of : (image : Image) (ts : List Thread) (ms : List Mark) (s : Seen) → s ≡ seen_from image 0 image.processes ts ms → taken s.least (place_of s.begun) s.first ≡ choose image ts ms
 unfolding ch.choose

@@ -1,9 +1,10 @@
 -- Rows of instructions in runs.
-use Rattle.std.proofs.Common.{◌≡◌, ◌≤◌, ◌<◌, ◌+◌, ◌-◌, ◌++◌, inl, inr, ℕ, List, [], ◌∷◌, Option, Some, None, length, arith, refl, ap, sym, subst, ◌∙◌, zero, suc, false, Bool, append_assoc}
+use Rattle.std.proofs.Common.{◌≡◌, ◌≤◌, ◌<◌, ◌+◌, ◌-◌, ◌++◌, inl, inr, ℕ, List, [], Option, Some, None, length, arith, refl, ap, sym, subst, ◌∙◌, false, Bool, append_assoc}
 use Rattle.std.specs.Prelude.{ℤ, slice_get, slice_set, nat_lt, cond}
 use Rattle.std.proofs.lemmas.Bool.{cases_lt}
 use Rattle.std.proofs.lemmas.List.{append-nil, length-set}
 use Rattle.std.proofs.lemmas.Bool.Decides.{nat_tests}
+use Rattle.base.proofs.Lists.{set_same, get_set}
 use Rattle.machine_isa.specs.declared.instr.Instr.{Instr}
 use Rattle.machine_isa.specs.Ticks.{ticks}
 use Rattle.base.specs.declared.event.Event.{Event}
@@ -16,7 +17,7 @@ use Rattle.vm_stretch.specs.Stretch.{FitsIn, FitsThread, left, left_at, left_of,
 use Rattle.vm_stretch.specs.Quiet.{IsQuiet}
 use Rattle.vm_stretch.specs.RowLaws.{IsInStack}
 use Rattle.vm_stretch.specs.Silent.{Begins, Follows, GoesTo, IsAt, IsWithin, Leads, next_own, nowhere, with_process}
-use Rattle.vm_stretch.proofs.StretchMoving.{get_set, quiet_same, set_set}
+use Rattle.vm_stretch.proofs.StretchMoving.{quiet_same, set_set}
 use Rattle.vm_stretch.proofs.Quiet.{quiet_starts_nothing}
 use Rattle.vm_stretch.proofs.Rowing.{silent_anywhere}
 use Rattle.edf_semantics.specs.Choice.{Mark, choose}
@@ -25,11 +26,6 @@ use Rattle.edf_semantics.specs.Turn.{IsTaken, IsTurn, IsUnstuck, begun, chosen, 
 use Rattle.edf_semantics.specs.Rows.{HasLed, IsChosen, IsRowTaken, RowIsSafe, RowIsTaken, RowStaysInRun}
 use Rattle.edf_semantics.proofs.Staying.{begin_twice, choice_stays, length_begin, marks_few, marks_same}
 use Rattle.edf_semantics.proofs.Turning.{both, tick_is, turn_stays_in_run}
-
-set_same : {X : Type 0} (xs : List X) (k : ℕ) (x : X) → slice_get xs k ≡ Some x → slice_set xs k x ≡ xs
-set_same [] k x at = refl
-set_same (z ∷ zs) zero x at = let e : x ≡ z = cc in ap (λ (y : _). y ∷ zs) e
-set_same (z ∷ zs) (suc k) x at = ap (λ (ys : List _). z ∷ ys) (set_same zs k x at)
 
 inside_same : (image : Image) (first : Own) (n : ℕ) (o : Own) → Leads image first n o → o.job.inside ≡ first.job.inside
 inside_same image first n o Begins = refl

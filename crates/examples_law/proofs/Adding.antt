@@ -2,6 +2,7 @@
 use Rattle.std.proofs.Common.{[], ◌≡◌, inl, inr, ℕ, zero, suc, Some, None, refl, ap, sym, subst, ◌∙◌, Bool, arith}
 use Rattle.std.specs.Prelude.{slice_get, bytes_eq, cond, codes, option_map, unwrap_or}
 use Rattle.std.proofs.lemmas.Bool.{cases_Bool}
+use Rattle.base.proofs.Lists.{one_some}
 use Rattle.syntax_tree.specs.Plain.{Name}
 use Rattle.syntax_tree.specs.Plain as tree
 use Rattle.source_semantics.specs.Names.{processes, monitors, named, routine_count}
@@ -19,7 +20,7 @@ use Rattle.code_names_law.specs.Kept.{AllFound, NamesDiffer}
 use Rattle.code_simulation.specs.Kept.{KeepsRules}
 use Rattle.code_simulation.specs.Process.{setting_of, ProperHandler}
 use Rattle.code_lifting.specs.Image.{compiled_of}
-use Rattle.code_lifting.proofs.Lists.{one_some, none_some}
+use Rattle.code_lifting.proofs.Lists.{none_some}
 use Rattle.examples_law.specs.Headline.{flat}
 use Rattle.code_correct.specs.Headline.{IsProper}
 use Rattle.examples_law.specs.Adding.{adding, AddingIsImage, AddingIsRight, LowCeilingIsNone}

@@ -2,6 +2,7 @@
 use Rattle.std.proofs.Common.{◌≡◌, ◌⊎◌, inl, inr, ℕ, zero, suc, List, [], ◌∷◌, Some, None, refl, ap, sym, subst, ◌∙◌, false, Bool}
 use Rattle.std.specs.Prelude.{slice_get, bytes_eq, cond, codes, option_map}
 use Rattle.std.proofs.lemmas.Bool.{cases_Bool}
+use Rattle.base.proofs.Lists.{one_some}
 use Rattle.syntax_tree.specs.Plain.{Name, Prog}
 use Rattle.syntax_tree.specs.Plain as tree
 use Rattle.source_semantics.specs.Names.{named, processes, monitors, routine_count}
@@ -20,7 +21,7 @@ use Rattle.code_simulation.specs.Kept.{KeepsRules}
 use Rattle.code_simulation.specs.Process.{setting_of, ProperHandler}
 use Rattle.code_lifting.specs.Image.{compiled_of}
 use Rattle.code_lifting.specs.Example.{meeting}
-use Rattle.code_lifting.proofs.Lists.{one_some, none_some}
+use Rattle.code_lifting.proofs.Lists.{none_some}
 use Rattle.examples_law.specs.Headline.{flat, MeetingIsProper}
 
 abbrev pub nth_monitor : List tree.Monitor → tree.Monitor

@@ -2,6 +2,7 @@
 use Rattle.std.proofs.Common.{◌≡◌, ◌⊎◌, inl, inr, ◌++◌, ℕ, Bool, true, false, List, [], ◌∷◌, length, Ok, Err, refl, ap, ◌∙◌}
 use Rattle.std.specs.Prelude.{codes, nat_eq}
 use Rattle.std.specs.Cmp.Lexicographic.{pointwise}
+use Rattle.std.proofs.lemmas.Bool.{and_parts as parts}
 use Rattle.image.specs.Bytes.{Version}
 use Rattle.image_reader.specs.declared.counts.Counts.{Counts}
 use Rattle.image_format.specs.declared.fault.Fault.{Fault}
@@ -9,7 +10,6 @@ use Rattle.image_format.specs.Format.{Format, fault, bytes_as_are, is_fine, both
 use Rattle.image_reader.specs.Grammar as g
 use Rattle.image_reader.specs.File as f
 use Rattle.image_format.specs.FormatLaw.{AreBytes}
-use Rattle.image_format.proofs.Booleans.{parts}
 use Rattle.image_reader.proofs.Words.{same_words}
 use Rattle.image_reader_law.specs.Faults as s
 use Rattle.image_reader_law.specs.Faults.{Sort, Thing, Form, IsMade, Begins, natural, device, monitor, condition, routine, process, pair, list}

@@ -1,7 +1,7 @@
 -- The names, counts, routines and processes of an image are put together of fields.
 use Rattle.std.proofs.Common.{◌≡◌, ◌||◌, ◌==◌, ◌&&◌, ℕ, zero, suc, Bool, true, List, length, refl, ap, arith}
 use Rattle.std.specs.Prelude.{not, nat_lt, nat_le}
-use Rattle.std.proofs.lemmas.Bool.{eqb-true}
+use Rattle.std.proofs.lemmas.Bool.{eqb-true, and_parts}
 use Rattle.syntax.specs.Spellings.{is_identifier, keywords}
 use Rattle.machine_semantics.specs.Trees.{Segs}
 use Rattle.image.specs.declared.names.CondName.{CondName}
@@ -9,7 +9,6 @@ use Rattle.image_reader.specs.declared.counts.Counts.{Counts}
 use Rattle.image_format.specs.Format.{Format, u8, u16, u32, bytes_as_are, unless, checked, both, via}
 use Rattle.image_format.specs.TreeFormat.{in_image, within, u32_within, u16_within, u16_below, tree_format}
 use Rattle.image_reader.specs.Grammar as g
-use Rattle.image_format.proofs.Booleans.{parts}
 use Rattle.image_reader_law.specs.Faults as s
 use Rattle.image_reader_law.specs.Faults.{Sort, natural, truth, device, monitor, condition, routine, process, tree, optional, pair, list}
 use Rattle.image_reader_law.proofs.Known as k
@@ -35,7 +34,7 @@ a_name taken =
   where
     sized : (x : ℕ × List ℕ) → (both size_format bytes_as_are).is x ≡ true → (length x.1, x.1) ≡ x
     sized x h =
-        let e : length x.1 ≡ x.0 = eqb-true (length x.1) x.0 (parts (size_format.is x.0) (length x.1 == x.0) h).1 in
+        let e : length x.1 ≡ x.0 = eqb-true (length x.1) x.0 (and_parts (size_format.is x.0) (length x.1 == x.0) h).1 in
         ap (λ n. (n, x.1)) e
 
 -- ---- devices, monitors and conditions

@@ -3,7 +3,7 @@ use Rattle.std.proofs.Common.{◌≡◌, ◌≤◌, ◌<◌, ◌^◌, ◌==◌, 
 use Rattle.std.specs.Prelude.{nat_lt, nat_le, pos, negsuc, slice_index}
 use Rattle.std.specs.Ordering.{int_eq}
 use Rattle.std.specs.Int.{w16, w32, cast_signed, cast_unsigned, from_be_bytes}
-use Rattle.std.proofs.lemmas.Bool.{lt-ltb, ltb-true, leb-true}
+use Rattle.std.proofs.lemmas.Bool.{lt-ltb, ltb-true, leb-true, and_parts}
 use Rattle.std.proofs.lemmas.Bool.Decides.{Decides-int_eq}
 use Rattle.std.proofs.lemmas.Int.{of_z-to_z}
 use Rattle.std.proofs.lemmas.Nat.{from_be_bytes-to_be_bytes_4}
@@ -13,7 +13,6 @@ use Rattle.image_format.specs.Numbers as written
 use Rattle.image_format.specs.Format.{Format, ◌>>=◌, fault, field_at, u8, unless, is_fine, checked, via}
 use Rattle.image_reader.specs.Grammar as g
 use Rattle.image_format.specs.FormatLaw.{AreBytes, IsSound}
-use Rattle.image_format.proofs.Booleans.{parts}
 use Rattle.image_format.proofs.Sound.{came, field_sound, checked_sound, via_sound}
 use Rattle.image_format.proofs.SoundFields.{u8_sound, u16_sound, u32_sound, bytes_sound}
 use Rattle.image_format.proofs.Alike.{alike, same_ok}
@@ -114,7 +113,7 @@ flag_sound number =
     small (suc (suc x)) h = absurd (omega (arith, h))
 
     there : (x : ℕ) → (checked u8 (flag_rule number)).is x ≡ true → number_of (x == 1) ≡ x
-    there x h = small x (leb-true x 1 (fine_is (nat_le x 1) number (parts (nat_lt x 256) (is_fine (flag_rule number x)) h).1))
+    there x h = small x (leb-true x 1 (fine_is (nat_le x 1) number (and_parts (nat_lt x 256) (is_fine (flag_rule number x)) h).1))
 
 -- ---- what there may be
 

@@ -2,14 +2,13 @@
 use Rattle.std.proofs.Common.{◌≡◌, ◌<◌, ◌||◌, ◌&&◌, ◌++◌, ℕ, Bool, true, ℤ, List, [], ◌∷◌, arith}
 use Rattle.std.specs.Prelude.{nat_lt, nat_le, pos}
 use Rattle.std.specs.Ordering.{int_eq}
-use Rattle.std.proofs.lemmas.Bool.{ltb-true}
+use Rattle.std.proofs.lemmas.Bool.{ltb-true, and_parts}
 use Rattle.machine_isa.specs.declared.instr.Instr.{Instr}
 use Rattle.machine_isa.specs.Bytes.{number, operands, word_bytes}
 use Rattle.machine_isa.specs.Numbered.{numbered}
 use Rattle.image_format.specs.Format.{Format, u8, unless, is_fine, checked, both}
 use Rattle.image_reader.specs.Grammar as g
 use Rattle.image_format.specs.FormatLaw.{AreBytes}
-use Rattle.image_format.proofs.Booleans.{parts}
 use Rattle.image_reader_law.proofs.ImageSoundInstructions.{instr_sound}
 use Rattle.image_reader_law.specs.Faults as s
 use Rattle.image_reader_law.specs.Faults.{Sort, natural, integer, instruction, pair}
@@ -55,8 +54,8 @@ word_is z = (omega arith, (omega arith, (omega arith, (omega arith, tt))))
 
 fields_are : (x : ℕ × (ℤ × (ℤ × ℤ))) → g.fields_format.is x ≡ true → AreBytes (g.fields_format.write x ++ [])
 fields_are x h =
-    let front = parts (number_format.is x.0) ((after_number x.0).is x.1) h in
-    let low : x.0 < 256 = ltb-true x.0 256 (parts (nat_lt x.0 256) (is_fine (unless (nat_le 1 x.0 && nat_le x.0 48) 6)) front.0).0 in
+    let front = and_parts (number_format.is x.0) ((after_number x.0).is x.1) h in
+    let low : x.0 < 256 = ltb-true x.0 256 (and_parts (nat_lt x.0 256) (is_fine (unless (nat_le 1 x.0 && nat_le x.0 48) 6)) front.0).0 in
     joined (g.fields_format.write x) [] (low, joined (word_bytes x.1.0) (word_bytes x.1.1.0 ++ word_bytes x.1.1.1) (word_is x.1.0) (joined (word_bytes x.1.1.0) (word_bytes x.1.1.1) (word_is x.1.1.0) (word_is x.1.1.1))) tt
 
 -- ---- an instruction

@@ -1,7 +1,7 @@
 -- The bytes of names, counts, routines and processes are those that they are read from.
 use Rattle.std.proofs.Common.{◌≡◌, ◌≤◌, ◌<◌, ◌||◌, ◌==◌, ◌++◌, ℕ, zero, suc, Bool, true, false, List, [], ◌∷◌, length, take, Ok, Err, Option, Some, None, refl, ap, subst, arith}
 use Rattle.std.specs.Prelude.{not, nat_lt, nat_le, nat_eq}
-use Rattle.std.proofs.lemmas.Bool.{eqb-true, leb-true, eq-eqb}
+use Rattle.std.proofs.lemmas.Bool.{eqb-true, leb-true, eq-eqb, and_parts}
 use Rattle.machine_semantics.specs.Image.{Process}
 use Rattle.machine_semantics.specs.Trees.{Segs, Nil}
 use Rattle.image.specs.Bytes.{Version, First, Second}
@@ -11,7 +11,6 @@ use Rattle.image_format.specs.Format.{Format, ◌>>=◌, fault, u8, u16, u32, by
 use Rattle.image_format.specs.TreeFormat.{in_image, within, u32_within, u16_within, u16_below, tree_format}
 use Rattle.image_reader.specs.Grammar as g
 use Rattle.image_format.specs.FormatLaw.{IsSound}
-use Rattle.image_format.proofs.Booleans.{parts}
 use Rattle.image_format.proofs.Sound.{came, checked_sound, both_sound, via_sound, given_sound, each_sound}
 use Rattle.image_format.proofs.SoundFields.{u8_sound, u16_sound, u32_sound, bytes_sound}
 use Rattle.image_format.proofs.Alike.{alike, same_ok}
@@ -43,7 +42,7 @@ name_sound taken =
   where
     sized : (x : ℕ × List ℕ) → (both size_format bytes_as_are).is x ≡ true → (length x.1, x.1) ≡ x
     sized x h =
-        let e : length x.1 ≡ x.0 = eqb-true (length x.1) x.0 (parts (size_format.is x.0) (length x.1 == x.0) h).1 in
+        let e : length x.1 ≡ x.0 = eqb-true (length x.1) x.0 (and_parts (size_format.is x.0) (length x.1 == x.0) h).1 in
         ap (λ n. (n, x.1)) e
 
 -- ---- flags
@@ -82,7 +81,7 @@ flag_sound number =
     small (suc (suc x)) h = absurd (omega (arith, h))
 
     there : (x : ℕ) → (checked u8 (flag_rule number)).is x ≡ true → number_of (x == 1) ≡ x
-    there x h = small x (leb-true x 1 (fine_is (nat_le x 1) number (parts (nat_lt x 256) (is_fine (flag_rule number x)) h).1))
+    there x h = small x (leb-true x 1 (fine_is (nat_le x 1) number (and_parts (nat_lt x 256) (is_fine (flag_rule number x)) h).1))
 
 -- ---- devices, monitors and conditions
 
@@ -247,7 +246,7 @@ pub each_long : {A : Type 0} (f : List A → Format A) (earlier : List A) (count
 each_long f earlier zero [] h = refl
 each_long f earlier zero (x ∷ xs) h = cc
 each_long f earlier (suc n) [] h = cc
-each_long f earlier (suc n) (x ∷ xs) h = ap (λ k. suc k) (each_long f (earlier ++ x ∷ []) n xs (parts ((f earlier).is x) (each_is f (earlier ++ x ∷ []) n xs) h).1)
+each_long f earlier (suc n) (x ∷ xs) h = ap (λ k. suc k) (each_long f (earlier ++ x ∷ []) n xs (and_parts ((f earlier).is x) (each_is f (earlier ++ x ∷ []) n xs) h).1)
 
 -- the tree of a handler, which is there where it takes numbers
 abbrev some_of : Option Segs → Segs
@@ -350,11 +349,11 @@ module _ (version : Version) (counts : Counts) (used : List ℕ) where
 
   long : (x : Fields) → all.is x ≡ true → length x.1.1.1.1.0 ≡ x.1.1.1.0.1
   long x h =
-      let a = parts ((g.release_format version counts.events used).is x.0) (time.is x.1) h in
-      let b = parts (g.time_format.is x.1.0) (room.is x.1.1) a.1 in
-      let c = parts (g.room_format.is x.1.1.0) (numbers.is x.1.1.1) b.1 in
-      let d = parts (g.handler_format.is x.1.1.1.0) ((after_handler x.1.1.1.0).is x.1.1.1.1) c.1 in
-      let e = parts ((g.numbers_format x.1.1.1.0.1).is x.1.1.1.1.0) ((trees x.1.1.1.0.1).is x.1.1.1.1.1) d.1 in
+      let a = and_parts ((g.release_format version counts.events used).is x.0) (time.is x.1) h in
+      let b = and_parts (g.time_format.is x.1.0) (room.is x.1.1) a.1 in
+      let c = and_parts (g.room_format.is x.1.1.0) (numbers.is x.1.1.1) b.1 in
+      let d = and_parts (g.handler_format.is x.1.1.1.0) ((after_handler x.1.1.1.0).is x.1.1.1.1) c.1 in
+      let e = and_parts ((g.numbers_format x.1.1.1.0.1).is x.1.1.1.1.0) ((trees x.1.1.1.0.1).is x.1.1.1.1.1) d.1 in
       each_long (λ earlier. checked u16 (g.wrong_number earlier)) [] x.1.1.1.0.1 x.1.1.1.1.0 e.0
 
   pub process_sound : IsSound (g.process_format version counts used)

@@ -3,7 +3,7 @@ use Rattle.std.proofs.Common.{◌≡◌, ◌≤◌, ◌<◌, ◌^◌, ◌&&◌, 
 use Rattle.std.specs.Prelude.{nat_lt, nat_le, pos, negsuc, slice_get, flat_map}
 use Rattle.std.specs.Ordering.{int_eq}
 use Rattle.std.specs.Int.{w32, cast_signed, cast_unsigned, from_be_bytes}
-use Rattle.std.proofs.lemmas.Bool.{ltb-true, leb-true}
+use Rattle.std.proofs.lemmas.Bool.{ltb-true, leb-true, and_parts}
 use Rattle.std.proofs.lemmas.Bool.Decides.{Decides-int_eq}
 use Rattle.std.proofs.lemmas.Int.{of_z-to_z}
 use Rattle.std.proofs.lemmas.Nat.{from_be_bytes-to_be_bytes_4}
@@ -16,7 +16,6 @@ use Rattle.image_format.specs.Numbers as written
 use Rattle.image_format.specs.Format.{Format, unless, is_fine, u8, checked, both}
 use Rattle.image_reader.specs.Grammar as g
 use Rattle.image_format.specs.FormatLaw.{AreBytes, IsSound}
-use Rattle.image_format.proofs.Booleans.{parts}
 use Rattle.image_format.proofs.Sound.{field_sound, checked_sound, both_sound, via_sound}
 use Rattle.image_format.proofs.SoundFields.{u8_sound, u32_sound}
 
@@ -288,16 +287,16 @@ numbered_in (suc k) a b c low high =
 there : (x : ℕ × (ℤ × (ℤ × ℤ))) → g.fields_format.is x ≡ true → fields_in (g.or_end (numbered x.0 x.1.0 x.1.1.0 x.1.1.1)) ≡ x
 there x h =
     let n = x.0 in
-    let front = parts (number_format.is n) ((after_number n).is x.1) h in
-    let range = fine_is (nat_le 1 n && nat_le n 48) 6 (parts (nat_lt n 256) (is_fine (unless (nat_le 1 n && nat_le n 48) 6)) front.0).1 in
-    let ends = parts (nat_le 1 n) (nat_le n 48) range in
+    let front = and_parts (number_format.is n) ((after_number n).is x.1) h in
+    let range = fine_is (nat_le 1 n && nat_le n 48) 6 (and_parts (nat_lt n 256) (is_fine (unless (nat_le 1 n && nat_le n 48) 6)) front.0).1 in
+    let ends = and_parts (nat_le 1 n) (nat_le n 48) range in
     let low : 1 ≤ n = leb-true 1 n ends.0 in
     let high : n ≤ 48 = leb-true n 48 ends.1 in
-    let first = parts ((g.operand (nat_le 1 (g.operands_named n))).is x.1.0) ((after_first n).is x.1.1) front.1 in
-    let second = parts ((g.operand (nat_le 2 (g.operands_named n))).is x.1.1.0) ((after_second n).is x.1.1.1) first.1 in
-    let a = unmasked (nat_le 1 (g.operands_named n)) x.1.0 (parts (is_word x.1.0) _ first.0).1 in
-    let b = unmasked (nat_le 2 (g.operands_named n)) x.1.1.0 (parts (is_word x.1.1.0) _ second.0).1 in
-    let c = unmasked (nat_le 3 (g.operands_named n)) x.1.1.1 (parts (is_word x.1.1.1) _ second.1).1 in
+    let first = and_parts ((g.operand (nat_le 1 (g.operands_named n))).is x.1.0) ((after_first n).is x.1.1) front.1 in
+    let second = and_parts ((g.operand (nat_le 2 (g.operands_named n))).is x.1.1.0) ((after_second n).is x.1.1.1) first.1 in
+    let a = unmasked (nat_le 1 (g.operands_named n)) x.1.0 (and_parts (is_word x.1.0) _ first.0).1 in
+    let b = unmasked (nat_le 2 (g.operands_named n)) x.1.1.0 (and_parts (is_word x.1.1.0) _ second.0).1 in
+    let c = unmasked (nat_le 3 (g.operands_named n)) x.1.1.1 (and_parts (is_word x.1.1.1) _ second.1).1 in
     numbered_in n x.1.0 x.1.1.0 x.1.1.1 low high ∙ rw (a, b, c) refl
 
 abbrev instr_with : ℕ × (ℤ × (ℤ × ℤ)) → Instr

@@ -2,7 +2,7 @@
 use Rattle.std.proofs.Common.{◌≡◌, ◌||◌, ◌==◌, ◌++◌, ◌+◌, ℕ, zero, suc, Bool, true, false, List, [], ◌∷◌, length, Option, Some, None, refl, sym, ap, ◌∙◌, append_assoc}
 use Rattle.std.specs.Prelude.{nat_lt, nat_eq, map, flat_map, codes, if◌then◌else◌}
 use Rattle.std.specs.Cmp.Lexicographic.{pointwise}
-use Rattle.std.proofs.lemmas.Bool.{eqb-true}
+use Rattle.std.proofs.lemmas.Bool.{eqb-true, and_parts}
 use Rattle.std.proofs.lemmas.List.{length-map}
 use Rattle.machine_isa.specs.declared.instr.Instr.{Instr}
 use Rattle.machine_isa.specs.Bytes.{instr_bytes}
@@ -20,7 +20,6 @@ use Rattle.image_format.specs.TreeFormat.{in_image, tree_format}
 use Rattle.image_reader.specs.Grammar as g
 use Rattle.image_reader.specs.File as f
 use Rattle.image_format.specs.FormatLaw.{IsSound}
-use Rattle.image_format.proofs.Booleans.{parts}
 use Rattle.image_reader.proofs.Words.{same_words}
 use Rattle.image_format.proofs.Sound.{checked_sound, both_sound, via_sound, given_sound, each_sound}
 use Rattle.image_format.proofs.SoundFields.{u16_sound, bytes_sound}
@@ -132,15 +131,15 @@ counted version x h =
     let taken = f.with_devices (program ∷ []) named.0 ++ named.1.0 in
     let inner = f.with_monitors taken guarded.0 in
     let work = guarded.1.1 in
-    let a = parts ((f.over_format version).is x.0) ((both g.counts_format (after_counts version)).is x.1) h in
-    let b = parts (g.counts_format.is counts) ((after_counts version counts).is x.1.1) a.1 in
-    let c = parts ((g.name_format []).is program) ((f.named_format version counts program).is named) b.1 in
-    let d = parts ((f.devices_format counts (program ∷ [])).is named.0) ((after_devices version counts (program ∷ []) named.0).is named.1) c.1 in
-    let e = parts ((f.events_format counts (f.with_devices (program ∷ []) named.0)).is named.1.0) ((f.guarded_format version counts taken).is guarded) d.1 in
-    let m = parts ((f.monitors_format counts taken).is guarded.0) ((after_monitors version counts taken guarded.0).is guarded.1) e.1 in
-    let k = parts ((f.conditions_format counts inner).is guarded.1.0) ((f.work_format version counts inner).is work) m.1 in
-    let r = parts ((f.routines_format counts).is work.0) ((with_processes version counts inner).is work.1) k.1 in
-    let p = parts ((f.processes_format version counts inner).is work.1.0) ((with_code version counts work.1.0).is work.1.1) r.1 in
+    let a = and_parts ((f.over_format version).is x.0) ((both g.counts_format (after_counts version)).is x.1) h in
+    let b = and_parts (g.counts_format.is counts) ((after_counts version counts).is x.1.1) a.1 in
+    let c = and_parts ((g.name_format []).is program) ((f.named_format version counts program).is named) b.1 in
+    let d = and_parts ((f.devices_format counts (program ∷ [])).is named.0) ((after_devices version counts (program ∷ []) named.0).is named.1) c.1 in
+    let e = and_parts ((f.events_format counts (f.with_devices (program ∷ []) named.0)).is named.1.0) ((f.guarded_format version counts taken).is guarded) d.1 in
+    let m = and_parts ((f.monitors_format counts taken).is guarded.0) ((after_monitors version counts taken guarded.0).is guarded.1) e.1 in
+    let k = and_parts ((f.conditions_format counts inner).is guarded.1.0) ((f.work_format version counts inner).is work) m.1 in
+    let r = and_parts ((f.routines_format counts).is work.0) ((with_processes version counts inner).is work.1) k.1 in
+    let p = and_parts ((f.processes_format version counts inner).is work.1.0) ((with_code version counts work.1.0).is work.1.1) r.1 in
     let devices = each_long (λ earlier. g.device_format ((program ∷ []) ++ map (λ d. d.name) earlier)) [] counts.devices named.0 d.0 in
     let events = each_long (λ earlier. g.name_format (f.with_devices (program ∷ []) named.0 ++ earlier)) [] counts.events named.1.0 e.0 in
     let monitors = each_long (λ earlier. g.named_monitor_format (taken ++ map (λ m. m.0) earlier)) [] counts.monitors guarded.0 m.0 in
@@ -174,7 +173,7 @@ version_sound = via_sound f.version_of f.number_of (checked u16 version_rule) th
   by n false false one two h = absurd cc
 
   there : (n : ℕ) → (checked u16 version_rule).is n ≡ true → f.number_of (f.version_of n) ≡ n
-  there n h = by n (n == 1) (n == 2) refl refl (fine_is (n == 1 || n == 2) 1 (parts (nat_lt n 65536) (is_fine (version_rule n)) h).1)
+  there n h = by n (n == 1) (n == 2) refl refl (fine_is (n == 1 || n == 2) 1 (and_parts (nat_lt n 65536) (is_fine (version_rule n)) h).1)
 
   again : (v : Version) → (checked u16 version_rule).is (f.number_of v) ≡ true → f.version_of (f.number_of v) ≡ v
   again First h = refl
@@ -186,7 +185,7 @@ after_magic = both f.version_format f.parts_format
 pub image_sound : IsSound f.image_format
 image_sound =
     via_sound (λ (x : List ℕ × (Version × f.Parts)). x.1) (λ x. (codes "RTEU", x)) (both f.magic_format (λ magic. after_magic))
-    (λ x h. ap (λ (magic : List ℕ). (magic, x.1)) (sym (same_words x.0 (codes "RTEU") (fine_is (pointwise nat_eq x.0 (codes "RTEU")) 1 (parts ((bytes_as_are 4).is x.0) (is_fine (magic_rule x.0)) (parts (f.magic_format.is x.0) (after_magic.is x.1) h).0).1))))
+    (λ x h. ap (λ (magic : List ℕ). (magic, x.1)) (sym (same_words x.0 (codes "RTEU") (fine_is (pointwise nat_eq x.0 (codes "RTEU")) 1 (and_parts ((bytes_as_are 4).is x.0) (is_fine (magic_rule x.0)) (and_parts (f.magic_format.is x.0) (after_magic.is x.1) h).0).1))))
     (λ y h. refl)
     (pair_sound f.magic_format after_magic (checked_sound (bytes_as_are 4) magic_rule (bytes_sound 4)) (both_sound f.version_format f.parts_format version_sound parts_sound))
 
@@ -297,4 +296,4 @@ module _ (version : Version) (ps : f.Parts) where
       (flat_map instr_bytes ps.code))
 
 pub code_is : (version : Version) (ps : f.Parts) → f.image_format.is (version, ps) ≡ true → (f.code_format (f.all_used (f.used_by ps.processes) 0 (length ps.events)) (length ps.code)).is ps.code ≡ true
-code_is version ps h = (counted version (content_of ps) (parts (f.version_format.is version) ((f.parts_format version).is ps) (parts (f.magic_format.is (codes "RTEU")) (after_magic.is (version, ps)) h).1).1).code
+code_is version ps h = (counted version (content_of ps) (and_parts (f.version_format.is version) ((f.parts_format version).is ps) (and_parts (f.magic_format.is (codes "RTEU")) (after_magic.is (version, ps)) h).1).1).code

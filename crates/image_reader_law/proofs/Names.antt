@@ -2,8 +2,9 @@
 use Rattle.std.proofs.Common.{◌≡◌, ◌≤◌, ◌<◌, ◌++◌, ◌-◌, ℕ, zero, suc, Bool, true, false, List, [], ◌∷◌, length, map, Ok, Err, Option, Some, None, refl, sym, ap, ◌∙◌, subst, arith, append_assoc}
 use Rattle.std.specs.Prelude.{All, nat_lt, option_map, slice_get, take, if◌then◌else◌}
 use Rattle.std.proofs.lemmas.List.{append-nil, length-map}
-use Rattle.std.proofs.lemmas.List.Elements.{All-nil, All-cons, All-head, All-tail}
+use Rattle.std.proofs.lemmas.List.Elements.{All-nil, All-cons}
 use Rattle.std.proofs.lemmas.Option.{slice_get-map}
+use Rattle.base.proofs.Lists.{all_of, unmapped}
 use Rattle.machine_isa.specs.declared.instr.Instr.{Instr}
 use Rattle.machine_semantics.specs.Image.{Monitor, Routine, Process}
 use Rattle.image.specs.Bytes.{Version}
@@ -238,17 +239,9 @@ file_read_known bytes version ps is = by (nat_lt f.longest (length bytes)) is wh
 
 -- ---- lists
 
-all_of : {X : Type 0} (P : X → Type 0) (xs : List X) → ((k : ℕ) (x : X) → slice_get xs k ≡ Some x → P x) → All P xs
-all_of P [] each = All-nil P
-all_of P (x ∷ xs) each = All-cons P x xs (each 0 x refl) (all_of P xs (λ k y at. each (suc k) y at))
-
 mapped : {X Y : Type 0} (P : Y → Type 0) (to : X → Y) (xs : List X) → ((k : ℕ) (x : X) → slice_get xs k ≡ Some x → P (to x)) → All P (map to xs)
 mapped P to [] each = All-nil P
 mapped P to (x ∷ xs) each = All-cons P (to x) (map to xs) (each 0 x refl) (mapped P to xs (λ k y at. each (suc k) y at))
-
-unmapped : {X Y : Type 0} (P : Y → Type 0) (to : X → Y) (xs : List X) → All P (map to xs) → All (λ (x : X). P (to x)) xs
-unmapped P to [] all = All-nil (λ x. P (to x))
-unmapped P to (x ∷ xs) all = All-cons (λ y. P (to y)) x xs (All-head P (to x) (map to xs) all) (unmapped P to xs (All-tail P (to x) (map to xs) all))
 
 -- ---- the frames of events
 

@@ -5,6 +5,7 @@ use Rattle.std.specs.Ordering.{int_eq}
 use Rattle.std.specs.Int.{w32, cast_signed, from_be_bytes}
 use Rattle.std.specs.List.{All}
 use Rattle.std.proofs.lemmas.Bool.Decides.{nat_tests}
+use Rattle.std.proofs.lemmas.Bool.{and_parts}
 use Rattle.machine_isa.specs.declared.instr.Instr.{Instr}
 use Rattle.machine_isa.specs.Bytes.{number, operands}
 use Rattle.machine_isa.specs.Numbered.{numbered}
@@ -164,18 +165,13 @@ is_taken_means x h = by (nat_le 1 x) (nat_le x 4) (nat_le 10 x) (nat_le x 999) r
   by false b true false four high e = absurd cc
   by false b false d four high e = absurd cc
 
-both_hold : (a b : Bool) → (a && b) ≡ true → (a ≡ true) × (b ≡ true)
-both_hold true true h = (refl, refl)
-both_hold true false h = absurd cc
-both_hold false b h = absurd cc
-
 record IsNext (earlier : List ℕ) (x : ℕ) : Type 0 where
   low : above earlier ≤ x
   high : x ≤ 999
 
 next : (earlier : List ℕ) (x : ℕ) → g.wrong_number earlier x ≡ None → IsNext earlier x
 next earlier x fine =
-    let h = both_hold (g.is_above earlier x) (g.is_taken x) (fine_is (g.is_above earlier x && g.is_taken x) 8 fine) in
+    let h = and_parts (g.is_above earlier x) (g.is_taken x) (fine_is (g.is_above earlier x && g.is_taken x) 8 fine) in
     record { low = is_above_means earlier x h.0; high = is_taken_means x h.1 }
 
 abbrev number_after : List ℕ → Format ℕ

@@ -2,7 +2,7 @@
 use Rattle.std.proofs.Common.{◌≡◌, ◌||◌, ◌==◌, ◌&&◌, ℕ, zero, suc, true, List, [], length, Option, Some, None, refl, ap, arith}
 use Rattle.std.specs.Prelude.{not, nat_lt, nat_eq}
 use Rattle.std.specs.List.{list_any}
-use Rattle.std.proofs.lemmas.Bool.{eqb-true, eq-eqb}
+use Rattle.std.proofs.lemmas.Bool.{eqb-true, eq-eqb, and_parts}
 use Rattle.machine_semantics.specs.Image.{Process}
 use Rattle.machine_semantics.specs.Trees.{Segs}
 use Rattle.image.specs.Bytes.{Version, First, Second}
@@ -10,7 +10,6 @@ use Rattle.image_reader.specs.declared.counts.Counts.{Counts}
 use Rattle.image_format.specs.Format.{Format, u16, u32, checked, both}
 use Rattle.image_format.specs.TreeFormat.{in_image, u32_within, tree_format}
 use Rattle.image_reader.specs.Grammar as g
-use Rattle.image_format.proofs.Booleans.{parts}
 use Rattle.image_reader_law.proofs.ImageSoundFields.{each_long}
 use Rattle.image_reader_law.specs.Faults.{Sort, natural, process, tree, optional, pair, list}
 use Rattle.image_reader_law.proofs.Known as k
@@ -175,11 +174,11 @@ module _ (version : Version) (counts : Counts) (used : List ℕ) where
 
   long : (x : Fields) → all.is x ≡ true → length x.1.1.1.1.0 ≡ x.1.1.1.0.1
   long x h =
-      let a = parts ((g.release_format version counts.events used).is x.0) (time.is x.1) h in
-      let b = parts (g.time_format.is x.1.0) (room.is x.1.1) a.1 in
-      let c = parts (g.room_format.is x.1.1.0) (numbers.is x.1.1.1) b.1 in
-      let d = parts (g.handler_format.is x.1.1.1.0) ((after_handler x.1.1.1.0).is x.1.1.1.1) c.1 in
-      let e = parts ((g.numbers_format x.1.1.1.0.1).is x.1.1.1.1.0) ((trees x.1.1.1.0.1).is x.1.1.1.1.1) d.1 in
+      let a = and_parts ((g.release_format version counts.events used).is x.0) (time.is x.1) h in
+      let b = and_parts (g.time_format.is x.1.0) (room.is x.1.1) a.1 in
+      let c = and_parts (g.room_format.is x.1.1.0) (numbers.is x.1.1.1) b.1 in
+      let d = and_parts (g.handler_format.is x.1.1.1.0) ((after_handler x.1.1.1.0).is x.1.1.1.1) c.1 in
+      let e = and_parts ((g.numbers_format x.1.1.1.0.1).is x.1.1.1.1.0) ((trees x.1.1.1.0.1).is x.1.1.1.1.1) d.1 in
       each_long (λ earlier. checked u16 (g.wrong_number earlier)) [] x.1.1.1.0.1 x.1.1.1.1.0 e.0
 
   a_process : Known process (g.process_format version counts used)

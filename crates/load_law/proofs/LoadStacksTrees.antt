@@ -1,7 +1,7 @@
 -- The routines and the processes of a tree with places are those of the tree without.
-use Rattle.std.proofs.Common.{◌≡◌, ℕ, suc, List, [], ◌∷◌, ◌++◌, Contains, map, refl, ap, ◌∙◌, arith}
+use Rattle.std.proofs.Common.{◌≡◌, ℕ, suc, List, [], ◌∷◌, ◌++◌, map, refl, ap, ◌∙◌}
 use Rattle.std.specs.Prelude.{filter_map}
-use Rattle.std.proofs.lemmas.List.{map-append, length-map, get_or-map}
+use Rattle.std.proofs.lemmas.List.{map-append}
 use Rattle.syntax_tree.specs.declared.place.Place.{Place}
 use Rattle.syntax_tree.specs.Plain as plain_of
 use Rattle.syntax_tree.specs.Placed.{Routine, Decl, constant, device, event, routine, monitor, process, plain_decl, plain_process, plain_routine}
@@ -45,8 +45,3 @@ texts_are k m (event n p ∷ ds) = texts_are k m ds
 texts_are k m (routine r ∷ ds) = ap (λ (ts : List Text). record { owner = by_program; routine = plain_routine r } ∷ ts) (texts_are k m ds)
 texts_are k m (monitor d ∷ ds) = both_are (by_monitor m) d.entries (rules.texts_from k (suc m) ds) (texts_from k (suc m) (map plain_decl ds)) (texts_are k (suc m) ds)
 texts_are k m (process p ∷ ds) = both_are (by_process k) p.routines (rules.texts_from (suc k) m ds) (texts_from (suc k) m (map plain_decl ds)) (texts_are (suc k) m ds)
-
-pub mapped : {A B : Type 0} (f : A → B) (xs : List A) (x : A) → Contains xs x → Contains (map f xs) (f x)
-mapped f xs x has =
-    let below = has.1 in
-    (has.0, omega (arith, below, length-map xs f), get_or-map f xs has.0 x (f x) below ∙ ap f has.2)

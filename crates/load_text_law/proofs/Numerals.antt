@@ -3,9 +3,9 @@ use Rattle.std.proofs.Common.{◌≡◌, ℕ, ◌+◌, ◌-◌, ◌*◌, ◌%◌
 use Rattle.std.specs.List.{list_all}
 use Rattle.std.specs.Prelude.{Contains}
 use Rattle.std.proofs.lemmas.Fmt.{decimal_by_steps, length-decimal-le}
+use Rattle.std.proofs.lemmas.Bool.{and_parts}
 use Rattle.syntax.specs.Spellings as spells
 use Rattle.syntax.specs.Spellings.{keywords, is_letter, is_digit, is_word, is_number}
-use Rattle.syntax.proofs.TableLemmas.{both}
 use Rattle.syntax.proofs.SpellLemmas.{listed}
 use Rattle.syntax.specs.Words.{named, number}
 use Rattle.syntax_printer.proofs.Spelled.{IsSpelled}
@@ -24,7 +24,7 @@ digit_is d below =
 all_with_last : (digits : List ℕ) (d : ℕ) → list_all is_digit digits ≡ true → is_digit d ≡ true → list_all is_digit (digits ++ d ∷ []) ≡ true
 all_with_last [] d all is = ap (λ b. b && true) is
 all_with_last (c ∷ cs) d all is =
-    let parts = both (is_digit c) (list_all is_digit cs) all in
+    let parts = and_parts (is_digit c) (list_all is_digit cs) all in
     ap (λ b. b && list_all is_digit (cs ++ d ∷ [])) parts.0 ∙ all_with_last cs d parts.1 is
 
 number_with_last : (digits : List ℕ) (d : ℕ) → is_number digits ≡ true → is_digit d ≡ true → is_number (digits ++ d ∷ []) ≡ true
@@ -60,7 +60,7 @@ denied false off on = cc
 no_keyword : (digits : List ℕ) → is_number digits ≡ true → ¬ Contains keywords (112 ∷ digits)
 unfolding second_is_digit
 no_keyword [] are has = cc
-no_keyword (d ∷ ds) are has = denied (is_digit d) (listed (λ k. not (second_is_digit k)) keywords (112 ∷ d ∷ ds) refl has) (both (is_digit d) (list_all is_digit ds) are).0
+no_keyword (d ∷ ds) are has = denied (is_digit d) (listed (λ k. not (second_is_digit k)) keywords (112 ∷ d ∷ ds) refl has) (and_parts (is_digit d) (list_all is_digit ds) are).0
 
 digit_word : (d : ℕ) → is_digit d ≡ true → is_word d ≡ true
 digit_word d is = by (is_letter d) is
@@ -72,7 +72,7 @@ digit_word d is = by (is_letter d) is
 digits_words : (ds : List ℕ) → list_all is_digit ds ≡ true → list_all is_word ds ≡ true
 digits_words [] are = refl
 digits_words (d ∷ ds) are =
-    let parts = both (is_digit d) (list_all is_digit ds) are in
+    let parts = and_parts (is_digit d) (list_all is_digit ds) are in
     ap (λ b. b && list_all is_word ds) (digit_word d parts.0) ∙ digits_words ds parts.1
 
 number_words : (ds : List ℕ) → is_number ds ≡ true → list_all is_word ds ≡ true

@@ -3,8 +3,9 @@ use Rattle.std.proofs.Common.{◌≡◌, ◌≤◌, ◌<◌, ◌+◌, ◌-◌, �
 use Rattle.std.specs.Prelude.{slice_get}
 use Rattle.std.proofs.lemmas.List.{length-map}
 use Rattle.std.proofs.lemmas.Option.{slice_get-map, slice_get-get_or}
+use Rattle.base.proofs.Lists.{map_get}
 use Rattle.valid_image.specs.Fault.{first_of, first_in, of_some}
-use Rattle.loader_code.proofs.Searching.{none_here, one_here, none_left, of_element, at_image}
+use Rattle.loader_code.proofs.Searching.{none_here, one_here, none_left, of_element}
 
 -- the elements are seen by v
 abbrev pub from_index : {A B C : Type 0} → (A → B) → (ℕ → B → Option C) → List A → ℕ → Option C
@@ -14,7 +15,7 @@ pub from_first : {A B C : Type 0} (v : A → B) (f : ℕ → B → Option C) (xs
 from_first v f xs = let e : length xs - 0 ≡ length (map v xs) = omega (arith, length-map xs v) in ap (λ n. first_of (λ k. of_some (f k) (slice_get (map v xs) k)) n 0) e
 
 there : {A B : Type 0} (v : A → B) (xs : List A) (i : ℕ) (x : A) → i < length xs → x ≡ get_or xs i x → slice_get (map v xs) i ≡ Some (v x)
-there v xs i x low is = at_image v xs i x (slice_get-get_or xs i x low ∙ ap (λ y. Some y) (sym is))
+there v xs i x low is = map_get v xs i x (slice_get-get_or xs i x low ∙ ap (λ y. Some y) (sym is))
 
 pub goes_on : {A B C : Type 0} (v : A → B) (f : ℕ → B → Option C) (xs : List A) (i : ℕ) (x : A) → i < length xs → x ≡ get_or xs i x → f i (v x) ≡ None → from_index v f xs i ≡ from_index v f xs (i + 1)
 goes_on v f xs i x low is none =

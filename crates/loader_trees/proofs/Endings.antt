@@ -1,7 +1,7 @@
 -- What a whole part comes to, from what its tree comes to, held.
 use Rattle.std.proofs.Common.{◌≡◌, ◌≤◌, ◌+◌, ◌-◌, ℕ, Bool, true, false, List, [], ◌∷◌, length, Option, Some, None, arith, refl, ap, sym, ◌∙◌}
 use Rattle.std.specs.Prelude.{◌&&◌, IfSome, nat_eq, slice_get}
-use Rattle.std.proofs.lemmas.Bool.Decides.{nat_tests}
+use Rattle.std.proofs.lemmas.Bool.{eq-eqb}
 use Rattle.machine_isa.specs.declared.instr.Instr.{Instr}
 use Rattle.machine_semantics.specs.Trees as tree
 use Rattle.machine_semantics.specs.Trees.{size}
@@ -57,9 +57,6 @@ ends_nothing true n None is = refl
 ends_nothing false n x is = refl
 ends_nothing true n (Some f) is = absurd cc
 
-same_number : (m n : ℕ) → m ≡ n → nat_eq m n ≡ true
-same_number m n is = grind (arith, nat_tests, is)
-
 ends_true : (b : Bool) (f : Found) → b ≡ true → Some f ≡ guard b (Some f)
 ends_true true f is = refl
 ends_true false f is = absurd cc
@@ -70,7 +67,7 @@ ends_well true n f None is height one = absurd cc
 ends_well true n f (Some g) is height one =
     let same : f ≡ held g = cc in
     let at : g.height ≡ n = sym (ap (λ k. k.height) same) ∙ height in
-    one ∙ ap hold (ends_true (nat_eq g.height n) g (same_number g.height n at))
+    one ∙ ap hold (ends_true (nat_eq g.height n) g (eq-eqb g.height n at))
 
 -- ---- a tree that is one Stay
 
@@ -107,7 +104,7 @@ part_stay None code known owner monitor body at inside one is whole = tt
 part_stay (Some f) code known owner monitor body at inside one is whole = entry_stay code known owner monitor body at inside (found_of f.found) f.stay one is whole
 
 ended_same : (n : ℕ) (g : Found) → g.height ≡ n → ended n (Some g) ≡ Some g
-ended_same n g is = sym (ends_true (nat_eq g.height n) g (same_number g.height n is))
+ended_same n g is = sym (ends_true (nat_eq g.height n) g (eq-eqb g.height n is))
 
 -- an end that is right leaves what was found
 pub ends_same : (b : Bool) (n : ℕ) (f : Found) (x : Option Found) → b ≡ true → f.height ≡ n → Some f ≡ hold x → guard b (ended n x) ≡ x

@@ -1,9 +1,10 @@
 -- Identifiers are words, and so are the names of the parts of a program.
-use Rattle.std.proofs.Common.{◌≡◌, ◌≢◌, ◌≤◌, ◌<◌, ◌+◌, ℕ, suc, Bool, true, false, ◌&&◌, List, [], ◌∷◌, length, map, filter_map, arith, refl, sym, ap, ◌∙◌}
+use Rattle.std.proofs.Common.{◌≡◌, ◌≢◌, ◌≤◌, ◌<◌, ◌+◌, ℕ, suc, Bool, true, false, List, [], ◌∷◌, length, map, filter_map, arith, refl, sym, ap, ◌∙◌}
 use Rattle.std.specs.Prelude.{All}
 use Rattle.std.specs.List.{list_all}
 use Rattle.std.proofs.lemmas.List.{length-map}
 use Rattle.std.proofs.lemmas.List.Elements.{All-nil, All-cons, All-head, All-tail, All-map, All-append, All-weaker}
+use Rattle.std.proofs.lemmas.Bool.{and_parts}
 use Rattle.syntax_tree.specs.Placed.{plain}
 use Rattle.syntax_tree.specs.Plain.{Name, Monitor, Process, Decl, constant, device, event, routine, monitor, process, Prog}
 use Rattle.source_semantics.specs.Names.{processes, monitors, conditions_of, device_in}
@@ -17,11 +18,6 @@ use Rattle.replay_law.specs.Words.{IsIdentifier, MonitorIsNamed, NamesAreIdentif
 
 -- ---- bytes
 
-both : (a b : Bool) → a && b ≡ true → (a ≡ true) × (b ≡ true)
-both true true e = (e, e)
-both true false e = absurd cc
-both false b e = absurd cc
-
 -- a byte that passes a test is none that does not
 passes : (test : ℕ → Bool) (b stop : ℕ) → test b ≡ true → test stop ≡ false → b ≢ stop
 passes test b stop passed failed e = let clash : true ≡ false = sym passed ∙ ap test e ∙ failed in cc
@@ -29,12 +25,12 @@ passes test b stop passed failed e = let clash : true ≡ false = sym passed ∙
 lacks : (stop : ℕ) (bs : List ℕ) → is_word stop ≡ false → list_all is_word bs ≡ true → Lacks stop bs
 lacks stop [] failed all = tt
 lacks stop (b ∷ bs) failed all =
-    let parts = both (is_word b) (list_all is_word bs) all in
+    let parts = and_parts (is_word b) (list_all is_word bs) all in
     (passes is_word b stop parts.0 failed, lacks stop bs failed parts.1)
 
 whole_lacks : (stop b : ℕ) (bs : List ℕ) → is_letter stop ≡ false → is_word stop ≡ false → is_identifier (b ∷ bs) ≡ true → Lacks stop (b ∷ bs)
 whole_lacks stop b bs letter failed is =
-    let parts = both (is_letter b) (list_all is_word bs) is in
+    let parts = and_parts (is_letter b) (list_all is_word bs) is in
     (passes is_letter b stop parts.0 letter, lacks stop bs failed parts.1)
 
 pub identifier_is_word : (name : Name) → IsIdentifier name → IsWord name

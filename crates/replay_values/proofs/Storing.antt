@@ -1,5 +1,5 @@
 -- What a store comes to, where its variable is found among the call's own.
-use Rattle.std.specs.Prelude.{◌≡◌, ℕ, zero, suc, true, false, cond, List, [], ◌∷◌, Option, Some, None, ℤ, slice_get, slice_set, map}
+use Rattle.std.specs.Prelude.{◌≡◌, ℕ, zero, suc, true, false, cond, [], ◌∷◌, Option, Some, None, ℤ, slice_get, slice_set}
 use Rattle.std.proofs.Common.{refl, sym, ◌∙◌, ap}
 use Rattle.syntax_tree.specs.Plain.{Name}
 use Rattle.base.specs.Words.{word, raised}
@@ -55,8 +55,3 @@ at_past h m x i v old new k s held own named got is near past same =
     let e : slot_named x m.own ≡ Some s = ap (slot_named x) own ∙ (named ∙ got) in
     let stays : new ≡ m.own = is ∙ (ap (λ f. at_place (with_held f) k old) same ∙ (same_place k old s got ∙ sym own)) in
     ap (λ n. run.fails 3 (run.with_own m n)) stays ∙ sym (store_past h m x i v s e near past)
-
-pub mapped_get : {A B : Type 0} (f : A → B) (xs : List A) (k : ℕ) (x : A) → slice_get xs k ≡ Some x → slice_get (map f xs) k ≡ Some (f x)
-mapped_get f [] k x h = absurd cc
-mapped_get f (y ∷ xs) zero x h = let e : y ≡ x = cc in ap (λ z. Some (f z)) e
-mapped_get f (y ∷ xs) (suc k) x h = mapped_get f xs k x h

@@ -25,9 +25,6 @@ pub record HasNumber (keys : List Key) (p : Place) : Type 0 where
   pub n : ℕ
   pub is : number keys p ≡ Some n
 
-some-injective : (a b : ℕ) → Some a ≡ Some b → a ≡ b
-some-injective a b e = cc
-
 -- a listed place has a number
 pub number-listed : (keys : List Key) (p : Place) → Contains keys (key_of p) → HasNumber keys p
 number-listed keys p h = by (cases_lt (position_or_len (same_key (key_of p)) keys) (length keys))

@@ -1,5 +1,6 @@
 -- What expressions and rows are judged as.
-use Rattle.std.proofs.Common.{◌≡◌, Bool, true, false, ◌&&◌, Option, Some, None, unwrap_or, cond, List, ◌∷◌, refl, ap, ◌∙◌}
+use Rattle.std.proofs.Common.{◌≡◌, Bool, true, false, ◌&&◌, Option, Some, None, cond, List, ◌∷◌, refl, ap, ◌∙◌}
+use Rattle.std.proofs.lemmas.Option.{cond_some}
 use Rattle.syntax_tree.specs.Plain.{Op}
 use Rattle.syntax_tree.specs.Placed.{Param, Expr, Exprs, exprs, Operands, operand, row}
 use Rattle.syntax_tree.specs.declared.place.Place.{Place}
@@ -9,11 +10,6 @@ use Rattle.static_types.specs.Types.{is_of}
 use Rattle.static_declarations.specs.Sorts.{fits, takes, gives}
 use Rattle.static_types.specs.Sorts.{Named, sort, row_sort, agrees, call_agrees, operands_agree, judged, row_judged}
 
--- what a choice gave
-gave : {X : Type 0} (b : Bool) (x y : X) → cond b (Some x) None ≡ Some y → (b ≡ true) × (x ≡ y)
-gave true x y is = (refl, ap (λ o. unwrap_or o x) is)
-gave false x y is = cc
-
 gave-none : {X : Type 0} (b : Bool) (x : X) → cond b (Some x) None ≡ None → b ≡ false
 gave-none true x is = cc
 gave-none false x is = refl
@@ -22,7 +18,7 @@ gave-none false x is = refl
 pub row-goes : (named : Named) (s t : Option Sort) (op : Op) (e : Expr Place) (rs : Operands Place) → judged named e ≡ Some t → takes op s t ≡ true
     → row_judged named s (operand op e rs) ≡ row_judged named (Some (gives op)) rs
 row-goes named s t op e rs is takes-it =
-    let both = gave (agrees named e) (sort named e) t is in
+    let both = cond_some (agrees named e) (sort named e) t is in
     ap (λ b. cond (b && (takes op s (sort named e) && operands_agree named (Some (gives op)) rs)) (Some (row_sort (Some (gives op)) rs)) None) both.0
     ∙ ap (λ u. cond (takes op s u && operands_agree named (Some (gives op)) rs) (Some (row_sort (Some (gives op)) rs)) None) both.1
     ∙ ap (λ b. cond (b && operands_agree named (Some (gives op)) rs) (Some (row_sort (Some (gives op)) rs)) None) takes-it
@@ -36,7 +32,7 @@ row-breaks named s op e rs is =
 pub row-refuses : (named : Named) (s t : Option Sort) (op : Op) (e : Expr Place) (rs : Operands Place) → judged named e ≡ Some t → takes op s t ≡ false
     → row_judged named s (operand op e rs) ≡ None
 row-refuses named s t op e rs is refuses =
-    let both = gave (agrees named e) (sort named e) t is in
+    let both = cond_some (agrees named e) (sort named e) t is in
     ap (λ b. cond (b && (takes op s (sort named e) && operands_agree named (Some (gives op)) rs)) (Some (row_sort (Some (gives op)) rs)) None) both.0
     ∙ ap (λ u. cond (takes op s u && operands_agree named (Some (gives op)) rs) (Some (row_sort (Some (gives op)) rs)) None) both.1
     ∙ ap (λ b. cond (b && operands_agree named (Some (gives op)) rs) (Some (row_sort (Some (gives op)) rs)) None) refuses
@@ -44,7 +40,7 @@ row-refuses named s t op e rs is refuses =
 -- a row whose first operand has the sort t
 pub row-from : (named : Named) (t : Option Sort) (e : Expr Place) (rs : Operands Place) → judged named e ≡ Some t → judged named (row e rs) ≡ row_judged named t rs
 row-from named t e rs is =
-    let both = gave (agrees named e) (sort named e) t is in
+    let both = cond_some (agrees named e) (sort named e) t is in
     ap (λ b. cond (b && operands_agree named (sort named e) rs) (Some (row_sort (sort named e) rs)) None) both.0
     ∙ ap (λ u. cond (operands_agree named u rs) (Some (row_sort u rs)) None) both.1
 

@@ -1,10 +1,10 @@
 -- The value of digits, one after another.
 use Rattle.std.proofs.Common.{◌≡◌, ℕ, suc, ◌+◌, ◌-◌, ◌*◌, ◌<◌, ◌≤◌, List, [], ◌∷◌, length, drop, fold, slice_index_or, IsTrue, ap, ◌∙◌, arith, nat_le}
 use Rattle.std.proofs.Math.Seq.{drop-cons}
-use Rattle.std.proofs.lemmas.Bool.{leb-true}
+use Rattle.std.proofs.lemmas.Bool.{leb-true, and_parts}
 use Rattle.std.specs.List.{list_all}
 use Rattle.syntax.specs.Spellings.{is_digit}
-use Rattle.syntax.proofs.TableLemmas.{both, all_at}
+use Rattle.syntax.proofs.TableLemmas.{all_at}
 
 -- a number with one more digit behind it
 abbrev pub with_digit : ℕ → ℕ → ℕ
@@ -22,5 +22,5 @@ next_digit n digits i below =
 
 pub digit_range : (digits : List ℕ) (i : ℕ) → IsTrue (list_all is_digit digits) → i < length digits → (48 ≤ slice_index_or digits i 0) × (slice_index_or digits i 0 ≤ 57)
 digit_range digits i all below =
-    let parts = both (nat_le 48 (slice_index_or digits i 0)) (nat_le (slice_index_or digits i 0) 57) (all_at is_digit digits i 0 all below) in
+    let parts = and_parts (nat_le 48 (slice_index_or digits i 0)) (nat_le (slice_index_or digits i 0) 57) (all_at is_digit digits i 0 all below) in
     (leb-true 48 (slice_index_or digits i 0) parts.0, leb-true (slice_index_or digits i 0) 57 parts.1)

@@ -1,7 +1,7 @@
 -- A valid image is timed.
 use Rattle.std.proofs.Common.{◌≡◌, ◌≤◌, ◌<◌, ◌+◌, ◌*◌, ◌-◌, inl, inr, ℕ, zero, suc, List, [], ◌∷◌, length, Option, Some, None, arith, refl, ap, sym, subst, ◌∙◌, true, false, Bool}
 use Rattle.std.specs.Prelude.{cond, nat_eq, nat_le, slice_get, slice_index_or}
-use Rattle.std.proofs.lemmas.Bool.{cases_lt, cases_Bool}
+use Rattle.std.proofs.lemmas.Bool.{cases_lt, cases_Bool, leb-true}
 use Rattle.std.proofs.lemmas.Bool.Decides.{nat_tests}
 use Rattle.base.specs.Capped.{cap}
 use Rattle.base.specs.declared.capped.Cost.{Cost}
@@ -20,7 +20,6 @@ use Rattle.valid_image.specs.Sizes.{below, cost_fault}
 use Rattle.valid_image.specs.Times.{process_bound_fault, bound_fault, rank_fault}
 use Rattle.valid_image.specs.Tables.{known, body_found, handler_start, handler_found, nothing_found, found_or_nothing, stay_of_process}
 use Rattle.valid_image.specs.Valid.{IsInLimits}
-use Rattle.valid_image_law.proofs.Tests.{at_most}
 use Rattle.valid_image_law.proofs.Firsts.{neither, passed_test, none_of_all}
 use Rattle.valid_image_law.proofs.Shapes.{process_shaped}
 use Rattle.valid_image_law.proofs.Exact.{IsWithin, itself, many, part_same}
@@ -118,7 +117,7 @@ module _ (image : Image) (shaped : shape_fault image ≡ None) (costs : cost_fau
   bound_meets : (k : ℕ) (p : Process) → slice_get image.processes k ≡ Some p → (demand_at (tasks_of image) (p.rank - 1) p.bound ≤ p.bound) × (p.bound ≤ p.deadline)
   bound_meets k p at =
       let t = neither (below p.bound (demand_at (tasks_of image) (p.rank - 1) p.bound)) (unless (nat_le p.bound (p.deadline)) p.bound (p.deadline)) (none_of_all (λ k p. process_bound_fault image p) image.processes bounds k p at) in
-      (at_least_needed p.bound (demand_at (tasks_of image) (p.rank - 1) p.bound) t.0, at_most p.bound (p.deadline) (passed_test (nat_le p.bound (p.deadline)) p.bound (p.deadline) t.1))
+      (at_least_needed p.bound (demand_at (tasks_of image) (p.rank - 1) p.bound) t.0, leb-true p.bound (p.deadline) (passed_test (nat_le p.bound (p.deadline)) p.bound (p.deadline) t.1))
 
   solved : (k : ℕ) (p : Process) → slice_get image.processes k ≡ Some p → Solves (tasks_of image) (p.rank - 1) p.bound
   solved k p at =

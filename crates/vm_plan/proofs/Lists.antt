@@ -1,6 +1,7 @@
 -- Lists that grow by one.
-use Rattle.std.proofs.Common.{◌≡◌, ◌+◌, ◌++◌, ℕ, zero, suc, List, [], ◌∷◌, map, take, Some, arith, refl, ap, sym, subst, ◌∙◌}
+use Rattle.std.proofs.Common.{◌≡◌, ◌+◌, ◌++◌, ℕ, zero, suc, List, [], ◌∷◌, map, take, Some, arith, ap, sym, subst, ◌∙◌}
 use Rattle.std.specs.Prelude.{slice_get}
+use Rattle.std.proofs.lemmas.List.{map-append}
 use Rattle.image.specs.declared.raw.RawMon.{RawMon}
 use Rattle.image.specs.declared.raw.RawProc.{RawProc}
 use Rattle.image.specs.Raw.{monitor_of, process_of}
@@ -8,10 +9,6 @@ use Rattle.machine_semantics.specs.Image.{Monitor, Process as Whole}
 use Rattle.machine_semantics.specs.Run.{words_of}
 use Rattle.vm_state.specs.declared.plan.Process.{Process}
 use Rattle.vm_state.specs.Plan.{AreProcesses, IsProcess}
-
-map_append : {X Y : Type 0} (f : X → Y) (xs ys : List X) → map f (xs ++ ys) ≡ map f xs ++ map f ys
-map_append f [] ys = refl
-map_append f (x ∷ xs) ys = ap (λ (zs : List _). f x ∷ zs) (map_append f xs ys)
 
 grown_suc : {X : Type 0} (xs : List X) (i : ℕ) (x : X) → slice_get xs i ≡ Some x → take (suc i) xs ≡ take i xs ++ x ∷ []
 grown_suc [] i x at = absurd cc
@@ -23,7 +20,7 @@ grown_suc (y ∷ ys) (suc i) x at = ap (λ (zs : List _). y ∷ zs) (grown_suc y
 grown : {X Y : Type 0} (f : X → Y) (xs : List X) (i : ℕ) (x : X) → slice_get xs i ≡ Some x → map f (take (i + 1) xs) ≡ map f (take i xs) ++ f x ∷ []
 grown f xs i x at =
     let next : i + 1 ≡ suc i = omega arith in
-    ap (λ (n : ℕ). map f (take n xs)) next ∙ (ap (λ (ys : List _). map f ys) (grown_suc xs i x at) ∙ map_append f (take i xs) (x ∷ []))
+    ap (λ (n : ℕ). map f (take n xs)) next ∙ (ap (λ (ys : List _). map f ys) (grown_suc xs i x at) ∙ map-append f (take i xs) (x ∷ []))
 
 -- ---- words
 

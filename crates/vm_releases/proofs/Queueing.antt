@@ -2,11 +2,12 @@
 use Rattle.std.proofs.Common.{◌≡◌, ◌≢◌, ◌+◌, ◌*◌, ℕ, zero, suc, List, [], ◌∷◌, Option, Some, None, length, arith, refl, sym, subst, ◌∙◌, true, false, Bool, inl, inr}
 use Rattle.std.specs.Prelude.{slice_get, slice_set, cond, nat_eq, ◌&&◌}
 use Rattle.std.proofs.lemmas.List.{length-set}
+use Rattle.base.proofs.Lists.{get_other}
 use Rattle.base.specs.declared.event.Act.TheVariants as act
 use Rattle.machine_semantics.specs.Image.{Image, Process, Line, Sets, Occurs}
 use Rattle.machine_semantics.specs.State.{Job, Thread, Idle, Ready, Waiting, State}
 use Rattle.machine_semantics.specs.Starts.{Started, is_periodic_due, line, lines, occurs, periodic, queue_of, raised, release, release_thread, released, time_out, told, unchanged, without}
-use Rattle.vm_stretch.proofs.Lists.{get_other, same_or_not}
+use Rattle.vm_stretch.proofs.Lists.{same_or_not}
 use Rattle.vm_releases.specs.Begin.{HaveQueues}
 
 got_set : {X : Type 0} (xs : List X) (k : ℕ) (x y : X) → slice_get (slice_set xs k x) k ≡ Some y → y ≡ x

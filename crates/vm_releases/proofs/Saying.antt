@@ -6,7 +6,7 @@ use Rattle.std.proofs.lemmas.List.{append-nil}
 use Rattle.std.proofs.lemmas.Option.{slice_get_within}
 use Rattle.std.proofs.lemmas.Bool.{cases_lt}
 use Rattle.std.proofs.lemmas.Bool.Decides.{nat_tests}
-use Rattle.vm_stretch.proofs.Lists.{get_drop}
+use Rattle.base.proofs.Lists.{get_drop, drop_at}
 use Rattle.base.specs.declared.event.Event.{Event}
 use Rattle.machine_semantics.specs.Image.{Image, Process, Line, Sets, Occurs}
 use Rattle.machine_semantics.specs.State.{State}
@@ -15,7 +15,7 @@ use Rattle.vm_stretch.specs.Quiet.{line_tick}
 use Rattle.vm_stretch.specs.StartLawsDue.{AreDone}
 use Rattle.vm_stretch.specs.Steps.{AreLeft, HasStarted, named, releases}
 use Rattle.vm_stretch.proofs.Leading.{left_begin, left_end, left_same}
-use Rattle.vm_stretch.proofs.Parting.{drop_at, lines_none, lines_skip, occurs_releases}
+use Rattle.vm_stretch.proofs.Parting.{lines_none, lines_skip, occurs_releases}
 use Rattle.script.specs.declared.script.ScriptLine.{ScriptLine}
 use Rattle.vm_releases.specs.Begin.{AreBelow, AreToCome, line_of, lines_of}
 use Rattle.vm_releases.specs.Order.{rows_of}

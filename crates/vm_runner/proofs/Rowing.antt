@@ -5,6 +5,7 @@ use Rattle.std.proofs.lemmas.Bool.{cases_lt}
 use Rattle.std.proofs.lemmas.Bool.Decides.{nat_tests}
 use Rattle.std.specs.Global.{Vec}
 use Rattle.std.proofs.lemmas.Option.{slice_get_within}
+use Rattle.base.proofs.Lists.{get_set, get_other, some_at}
 use Rattle.base.specs.declared.event.Event.{Event}
 use Rattle.machine_isa.specs.declared.instr.Instr.{Instr}
 use Rattle.machine_isa.specs.Ticks.{ticks}
@@ -23,7 +24,7 @@ use Rattle.vm_stretch.specs.Quiet.{AreQuiet, IsQuiet}
 use Rattle.vm_stretch.specs.RowLaws.{IsInStack, IsPicked, IsSafeRun, begun}
 use Rattle.vm_stretch.specs.Silent.{Begins, Follows, IsAt, Leads, is_silent, next_own, with_process}
 use Rattle.vm_stretch.specs.Stretch.{left, left_at, left_of, outcome_at_once, outcomes, pass, pass_thread, place_of}
-use Rattle.vm_stretch.proofs.StretchMoving.{NotStuck, effect_same, get_set, moved, quiet_same, set_set, settled_same}
+use Rattle.vm_stretch.proofs.StretchMoving.{NotStuck, effect_same, moved, quiet_same, set_set, settled_same}
 use Rattle.vm_stretch.proofs.Quiet.{quiet_starts_nothing}
 use Rattle.vm_stretch.proofs.Rowing.{row_is_safe, row_is_turn, row_keeps_events, row_stays_in_run}
 use Rattle.vm_stretch.proofs.Runs.{turn_stays_in_run}
@@ -32,7 +33,7 @@ use Rattle.vm_turn.specs.Rows.{CanEnd, CanRun, EndsIn, HasRun, IsSeenAt, effect_
 use Rattle.vm_state.specs.declared.board.Board.{Board}
 use Rattle.vm_state.specs.Board.{IsBoardOf, rows_of, state_of}
 use Rattle.vm_turn.proofs.Safely.{Found, picked}
-use Rattle.vm_stretch.proofs.Lists.{get_other, same_or_not, there_is}
+use Rattle.vm_stretch.proofs.Lists.{same_or_not}
 use Rattle.machine_safety_spec.specs.Queues.{AreQueued, waits_on}
 use Rattle.vm_runner.specs.Turn.{BurnsNothing, HasPassed, Run, unspent}
 use Rattle.vm_runner.specs.Waits.{WaitsFrom, is_some_at_queue}
@@ -235,7 +236,7 @@ starts_here run t most k at words quiet burnt =
     let process : slice_get run.image.processes k ≡ Some f.p = subst (λ (m : ℕ). slice_get run.image.processes m ≡ Some f.p) same f.process in
     let ready : slice_get s.threads k ≡ Some (Ready f.job) = subst (λ (m : ℕ). slice_get s.threads m ≡ Some (Ready f.job)) same f.ready in
     let below = slice_get_within run.image.processes k f.p process in
-    let row = there_is s.owned k (omega (arith, below, words)) in
+    let row = some_at s.owned k (omega (arith, below, words)) in
     record {
       job = f.job;
       is = record {

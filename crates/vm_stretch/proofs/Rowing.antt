@@ -1,9 +1,10 @@
 -- Rows of instructions in runs.
-use Rattle.std.proofs.Common.{◌≡◌, ◌≤◌, ◌<◌, ◌+◌, ◌-◌, ◌++◌, ◌⊎◌, inl, inr, ℕ, zero, suc, List, [], ◌∷◌, Option, Some, None, arith, refl, ap, sym, subst, ◌∙◌, true, false, Bool, append_assoc}
+use Rattle.std.proofs.Common.{◌≡◌, ◌≤◌, ◌<◌, ◌+◌, ◌-◌, ◌++◌, ◌⊎◌, inl, inr, ℕ, List, [], Option, Some, None, arith, refl, ap, sym, subst, ◌∙◌, true, false, Bool, append_assoc}
 use Rattle.std.specs.Prelude.{ℤ, slice_get, slice_set, nat_lt, cond}
 use Rattle.std.proofs.lemmas.Bool.{cases_lt}
 use Rattle.std.proofs.lemmas.List.{append-nil}
 use Rattle.std.proofs.lemmas.Bool.Decides.{nat_tests}
+use Rattle.base.proofs.Lists.{set_same, get_set}
 use Rattle.machine_isa.specs.declared.instr.Instr.{Instr}
 use Rattle.machine_isa.specs.declared.instr.Instr.TheVariants as i
 use Rattle.machine_isa.specs.Ticks.{ticks}
@@ -19,7 +20,7 @@ use Rattle.vm_stretch.specs.Quiet.{IsQuiet, AreQuiet}
 use Rattle.vm_stretch.specs.Silent.{GoesTo, IsAt, Leads, Begins, Follows, is_silent, next_own, nowhere, CanGo, IsWithin, with_process}
 use Rattle.vm_stretch.specs.StretchLaws.{IsTurn, turn, turned, turn_events}
 use Rattle.vm_stretch.specs.RowLaws.{IsPicked, RowIsTurn, RowIsSafe, IsInStack, RowKeepsEvents, RowStaysInRun, SilentAnywhere, begun}
-use Rattle.vm_stretch.proofs.StretchMoving.{get_set, pick_same, quiet_same, set_set}
+use Rattle.vm_stretch.proofs.StretchMoving.{pick_same, quiet_same, set_set}
 use Rattle.vm_stretch.proofs.Quiet.{quiet_starts_nothing}
 use Rattle.vm_stretch.proofs.Runs.{on_from, tick_is, turn_keeps_state, turn_keeps_events, turn_stays_in_run}
 
@@ -32,11 +33,6 @@ silent_anywhere image s (i.Empty c) o silent = absurd cc
 silent_anywhere image s (i.In d) o silent = absurd cc
 silent_anywhere image s (i.Out d) o silent = absurd cc
 silent_anywhere image s _ o silent = refl
-
-set_same : {X : Type 0} (xs : List X) (k : ℕ) (x : X) → slice_get xs k ≡ Some x → slice_set xs k x ≡ xs
-set_same [] k x at = refl
-set_same (z ∷ zs) zero x at = let e : x ≡ z = cc in ap (λ (y : _). y ∷ zs) e
-set_same (z ∷ zs) (suc k) x at = ap (λ (ys : List _). z ∷ ys) (set_same zs k x at)
 
 inside_same : (image : Image) (first : Own) (n : ℕ) (o : Own) → Leads image first n o → o.job.inside ≡ first.job.inside
 inside_same image first n o Begins = refl

@@ -5,6 +5,8 @@ use Rattle.std.proofs.lemmas.Option.{none-some, same_Some}
 use Rattle.std.proofs.lemmas.List.Elements.{Contains-append_left, Contains-append_right, Contains-append_cases}
 use Rattle.std.proofs.lemmas.Slice.Eq.{bytes_eq-Decides}
 use Rattle.std.proofs.lemmas.Bool.Decides.{nat_tests}
+use Rattle.std.proofs.lemmas.List.{append-nil}
+use Rattle.base.proofs.Members.{at_front, behind, none_in, front_or_behind, in_map}
 use Rattle.syntax_tree.specs.Plain.{Name}
 use Rattle.syntax_tree.specs.Placed.{Constant, Decl, constant, device, event, routine, monitor, process, Prog}
 use Rattle.syntax_tree.specs.declared.place.Place.{Place}
@@ -17,7 +19,7 @@ use Rattle.static_names.specs.Occurrences.{Occurrence, declares, closes, used, d
 use Rattle.static_names.specs.Rules.{place_of}
 use Rattle.static_semantics.specs.Places.{StandApart, NamesFound}
 use Rattle.static_semantics.specs.Mirrors.{program_site}
-use Rattle.wellformed_law.proofs.Lists.{at_front, behind, none_in, front_or_behind, append_nil, in_map, Pictured, from_map, Split, split, rest_part, one_of}
+use Rattle.wellformed_law.proofs.Lists.{Pictured, from_map, Split, split, rest_part, one_of}
 use Rattle.wellformed_law.proofs.Adding.{inner_adds}
 
 -- ---- names
@@ -160,7 +162,7 @@ event_declared g before rest x d e k = by (Contains-append_cases (program_name g
 decls_declare : (members : Place → Reach) (earlier : Names) (before : List (Decl Place)) (d : Decl Place) (after : List (Decl Place)) (more : List Occurrence)
     → Contains (decls_names members earlier (before ++ d ∷ after) more) (declares (decl_name d).0 (decl_name d).1.place (is_some (first (earlier ++ map decl_name before) (decl_name d).0)))
 decls_declare members earlier [] d after more =
-    subst (λ ns. Contains (decls_names members earlier (d ∷ after) more) (declares (decl_name d).0 (decl_name d).1.place (is_some (first ns (decl_name d).0)))) (sym (append_nil earlier)) (at_front _ _)
+    subst (λ ns. Contains (decls_names members earlier (d ∷ after) more) (declares (decl_name d).0 (decl_name d).1.place (is_some (first ns (decl_name d).0)))) (sym (append-nil earlier)) (at_front _ _)
 decls_declare members earlier (b ∷ before) d after more =
     behind _ _ _ (rest_part (inner_adds (record { means = first (earlier ++ others (b ∷ before ++ d ∷ after)); members = members }) b) _ _
     (subst (λ ns. Contains (decls_names members (earlier ++ decl_name b ∷ []) (before ++ d ∷ after) more) (declares (decl_name d).0 (decl_name d).1.place (is_some (first ns (decl_name d).0))))

@@ -2,6 +2,7 @@
 use Rattle.std.proofs.Common.{◌≡◌, ℕ, suc, ◌+◌, Bool, true, false, cond, if◌then◌else◌, List, [], ◌∷◌, ◌++◌, map, Option, ◌⊎◌, inl, inr, refl, ap, sym, ◌∙◌, subst, arith, true≢false}
 use Rattle.std.specs.Prelude.{Contains, count_by, bytes_eq, nat_eq}
 use Rattle.std.proofs.lemmas.Bool.{eqb-true}
+use Rattle.base.proofs.Members.{at_front, behind, none_in, front_or_behind}
 use Rattle.syntax_tree.specs.Plain.{Name}
 use Rattle.syntax_tree.specs.Plain as plain_of
 use Rattle.syntax_tree.specs.Placed.{Activation, periodic, at_event, Process, process, Decl, constant, device, event, routine, monitor, Prog, plain, plain_activation, plain_process, plain_decl}
@@ -12,7 +13,7 @@ use Rattle.static_names.specs.Occurrences.{names, declared_at, constant_names, o
 use Rattle.static_numbers.specs.Processes.{is_at, is_activated_by, users}
 use Rattle.wellformed.specs.WellFormed.{is_event_of, EventsFit}
 use Rattle.static_semantics.specs.Mirrors.{process_site}
-use Rattle.wellformed_law.proofs.Lists.{at_front, behind, none_in, front_or_behind, sum_cons, Pictured, from_map, split, Within}
+use Rattle.wellformed_law.proofs.Lists.{sum_cons, Pictured, from_map, split, Within}
 use Rattle.wellformed_law.proofs.Declared.{same_names, same_itself, same_places, same_place_itself, one_named, one_placed}
 use Rattle.wellformed_law.proofs.WellformedLaw.{Laws}
 use Rattle.wellformed_law.proofs.TypesFit.{is_then}

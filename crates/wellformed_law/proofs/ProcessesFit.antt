@@ -2,6 +2,7 @@
 use Rattle.std.proofs.Common.{◌≡◌, ℕ, true, false, List, [], ◌∷◌, ◌++◌, map, Some, None, ◌⊎◌, inl, inr, refl, subst}
 use Rattle.std.specs.Prelude.{Contains, All, filter_map}
 use Rattle.std.proofs.lemmas.List.Elements.{All-contains}
+use Rattle.base.proofs.Members.{front_or_behind, none_in}
 use Rattle.syntax_tree.specs.Plain as plain_of
 use Rattle.syntax_tree.specs.Placed.{Routine, Member, variable_member, condition_member, Monitor, Process, Decl, routine, monitor, process, Prog, plain, plain_decl, plain_routine, plain_monitor, plain_process}
 use Rattle.syntax_tree.specs.Parts.{program_routines, processes, monitors}
@@ -19,7 +20,7 @@ use Rattle.wellformed.specs.Here.{in_routine, in_process}
 use Rattle.wellformed.specs.WellFormed.{RoutineFits, ProcessFits, MonitorFits}
 use Rattle.static_semantics.specs.Written.{DeclWritten, RoutineWritten, ProcessWritten, MonitorWritten}
 use Rattle.static_semantics.specs.Mirrors.{Mirrors, program_site, process_site, monitor_site, monitors_in}
-use Rattle.wellformed_law.proofs.Lists.{front_or_behind, none_in, each_map, same_members, in_split, Split, split, Within, front, rest}
+use Rattle.wellformed_law.proofs.Lists.{each_map, same_members, in_split, Split, split, Within, front, rest}
 use Rattle.wellformed_law.proofs.Adding.{activation_adds, vars_add, members_add, routines_add, stmts_add, optional_adds, handler_adds, declarations_add, routines_parts_add, stmts_parts_add, vars_bounds_add, members_bounds_add}
 use Rattle.wellformed_law.proofs.Declared.{Lacks, lacks_both, lacks_map}
 use Rattle.wellformed_law.proofs.Constants.{Reaches, reaches_program, reaches_inside, reaches_monitor}

@@ -2,6 +2,7 @@
 use Rattle.std.proofs.Common.{◌≡◌, ℕ, zero, suc, Bool, List, [], ◌∷◌, ◌++◌, map, Some, ◌⊎◌, inl, inr, refl, ap, ◌∙◌, subst}
 use Rattle.std.specs.Prelude.{Contains, filter_map, slice_get}
 use Rattle.std.proofs.lemmas.Option.{none-some, same_Some}
+use Rattle.base.proofs.Members.{at_front, behind, none_in, front_or_behind}
 use Rattle.syntax_tree.specs.Plain as plain_of
 use Rattle.syntax_tree.specs.Placed.{Routine, Monitor, Process, Decl, constant, device, event, routine, monitor, process, plain_routine, plain_monitor, plain_process, plain_decl}
 use Rattle.syntax_tree.specs.Parts.{program_routines, processes, monitors}
@@ -12,7 +13,7 @@ use Rattle.static_declarations.specs.Parts.{Part, routine_parts, routines_parts}
 use Rattle.static_numbers.specs.Types.{Bounds, decls_bounds, decl_bounds, routine_bounds, routines_bounds}
 use Rattle.source_semantics.specs.Names.{routine_in, monitor_in, process_in}
 use Rattle.static_semantics.specs.Mirrors.{monitors_in}
-use Rattle.wellformed_law.proofs.Lists.{at_front, behind, none_in, front_or_behind, Within, front, rest}
+use Rattle.wellformed_law.proofs.Lists.{Within, front, rest}
 use Rattle.wellformed_law.proofs.Adding.{routine_adds, routine_parts_add, routine_bounds_add, decl_bounds_add}
 
 -- ---- plain lists

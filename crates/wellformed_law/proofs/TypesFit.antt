@@ -4,6 +4,7 @@ use Rattle.std.specs.Prelude.{Contains, ℤ, pos, negsuc, ◌+ℤ◌, int_le, in
 use Rattle.std.proofs.lemmas.Option.{none-some}
 use Rattle.std.proofs.lemmas.Bool.Decides.{nat_tests}
 use Rattle.std.proofs.lemmas.List.Elements.{All-nil, All-cons, All-head, All-tail}
+use Rattle.base.proofs.Members.{at_front, behind}
 use Rattle.syntax_tree.specs.Placed.{Constant, Scalar, int, boolean, subrange, Kind, scalar, array, Var, Param, Member, variable_member, condition_member, Prog, plain, plain_constant, plain_scalar, plain_kind, plain_var, plain_param, plain_member}
 use Rattle.syntax_tree.specs.declared.place.Place.{Place}
 use Rattle.static_names.specs.Reach.{Site}
@@ -14,7 +15,7 @@ use Rattle.source_semantics.specs.Names.{constants, variable_in}
 use Rattle.wellformed.specs.Statements.{IsConstant}
 use Rattle.wellformed.specs.WellFormed.{AreBounds, ScalarFits, KindFits, VarFits, ParamFits}
 use Rattle.static_semantics.specs.Written.{ScalarWritten, KindWritten, VarWritten, ParamWritten, MemberWritten}
-use Rattle.wellformed_law.proofs.Lists.{at_front, behind, Within, front, rest}
+use Rattle.wellformed_law.proofs.Lists.{Within, front, rest}
 use Rattle.wellformed_law.proofs.Adding.{constant_adds, scalar_adds, kind_adds, scalar_bounds_add, kind_bounds_add}
 use Rattle.wellformed_law.proofs.Constants.{Reaches}
 use Rattle.wellformed_law.proofs.WellformedLaw.{Laws, constant_fits}

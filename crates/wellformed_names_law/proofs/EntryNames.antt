@@ -3,6 +3,7 @@ use Rattle.std.proofs.Common.{◌≡◌, ℕ, ◌+◌, ◌≤◌, inl, inr, Bool
 use Rattle.std.specs.Prelude.{option_map}
 use Rattle.std.proofs.lemmas.Cmp.{nat_eq_equiv}
 use Rattle.std.proofs.lemmas.List.Elements.{All-contains}
+use Rattle.std.proofs.lemmas.Option.{none-some}
 use Rattle.syntax_tree.specs.Plain.{Name}
 use Rattle.syntax_tree.specs.Plain as plain_of
 use Rattle.syntax_tree.specs.Placed.{Routine, Monitor, Process, Decl, constant, device, event, routine, monitor, process, Prog, plain, plain_routine, plain_monitor}
@@ -23,7 +24,7 @@ use Rattle.static_semantics.specs.Things.{ThingsKnown}
 use Rattle.static_semantics.specs.Places.{count_at, StandApart}
 use Rattle.static_semantics.specs.Mirrors.{IsEntryOf}
 use Rattle.wellformed_names_law.proofs.Members.{In, in-contains, ends-count, count-cons}
-use Rattle.wellformed_names_law.proofs.Lookups.{named-map, none-some, first-append, FoundBy, found-by, Either, in_first, in_second, either}
+use Rattle.wellformed_names_law.proofs.Lookups.{named-map, first-append, FoundBy, found-by, Either, in_first, in_second, either}
 use Rattle.wellformed_names_law.proofs.NamesAfter.{ends-inner}
 use Rattle.wellformed_names_law.proofs.ThingsListed.{thing-known, routine-always, entry-always}
 use Rattle.wellformed_names_law.proofs.ProgramScope.{Listed, Looks, monitors-plain, monitor_called}

@@ -3,6 +3,7 @@ use Rattle.std.proofs.Common.{◌≡◌, inl, inr, Bool, true, false, cond, List
 use Rattle.std.specs.Prelude.{option_map}
 use Rattle.std.proofs.lemmas.Cmp.{nat_list_eq_equiv}
 use Rattle.std.proofs.lemmas.Slice.Eq.{bytes_eq-Decides}
+use Rattle.std.proofs.lemmas.Option.{same_Some, none-some}
 use Rattle.syntax_tree.specs.Plain.{Name}
 use Rattle.static_names.specs.declared.kind.Declared.{Declared}
 use Rattle.static_names.specs.Reach.{same, Names, first, or_else}
@@ -17,12 +18,6 @@ same-symm n k = nat_list_eq_equiv.symm n k
 
 pub same-is : (n k : Name) → same n k ≡ true → n ≡ k
 same-is n k e = (bytes_eq-Decides n k).0 e
-
-pub some-is : {X : Type 0} (a b : X) → Some a ≡ Some b → a ≡ b
-some-is a b e = cc
-
-pub none-some : {X : Type 0} (a : X) → None ≡ Some a → ⊥
-none-some a e = cc
 
 pub some-none : {X : Type 0} (a : X) → Some a ≡ None → ⊥
 some-none a e = cc
@@ -48,7 +43,7 @@ first-in [] x d e = absurd (none-some d e)
 first-in (c ∷ ds) x d e = by (same x c.0) refl e (first-in ds x d)
   where
     by : (b : Bool) → same x c.0 ≡ b → cond b (Some c.1) (first ds x) ≡ Some d → (first ds x ≡ Some d → FoundIn ds x d) → FoundIn (c ∷ ds) x d
-    by true s f h = record { one = c; listed = inl refl; name = sym (same-is x c.0 s); is = some-is c.1 d f }
+    by true s f h = record { one = c; listed = inl refl; name = sym (same-is x c.0 s); is = same_Some c.1 d f }
     by false s f h = let l = h f in record { one = l.one; listed = inr l.listed; name = l.name; is = l.is }
 
 -- what is declared in a scope is found there
@@ -79,7 +74,7 @@ module _ {A : Type 0} (name_of : A → Name) where
   named-in (c ∷ things) x a e = by (same (name_of c) x) refl e (named-in things x a)
     where
       by : (b : Bool) → same (name_of c) x ≡ b → cond b (Some c) (named name_of x things) ≡ Some a → (named name_of x things ≡ Some a → NamedIn things x a) → NamedIn (c ∷ things) x a
-      by true s f h = record { listed = inl (some-is c a f); name = ap name_of (sym (some-is c a f)) ∙ same-is (name_of c) x s }
+      by true s f h = record { listed = inl (same_Some c a f); name = ap name_of (sym (same_Some c a f)) ∙ same-is (name_of c) x s }
       by false s f h = let l = h f in record { listed = inr l.listed; name = l.name }
 
 -- names are kept where things are changed
@@ -125,7 +120,7 @@ module _ {A : Type 0} (label : A → Name × Declared) where
   found-by (a ∷ things) x d e = by (same x (label a).0) refl e (found-by things x d)
     where
       by : (b : Bool) → same x (label a).0 ≡ b → cond b (Some (label a).1) (first (map label things) x) ≡ Some d → (first (map label things) x ≡ Some d → FoundBy things x d) → FoundBy (a ∷ things) x d
-      by true s f h = record { one = a; listed = inl refl; is = some-is (label a).1 d f; found = named-here label_name x a things s }
+      by true s f h = record { one = a; listed = inl refl; is = same_Some (label a).1 d f; found = named-here label_name x a things s }
       by false s f h = let l = h f in record { one = l.one; listed = inr l.listed; is = l.is; found = named-step label_name x a things s ∙ l.found }
 
   pub not-found-by : (things : List A) (x : Name) → first (map label things) x ≡ None → named label_name x things ≡ None

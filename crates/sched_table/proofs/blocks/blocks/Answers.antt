@@ -1,6 +1,6 @@
 use Rattle.std.proofs.Common.{subst, get_or}
+use Rattle.base.proofs.Lists.{one_more, one_longer}
 use Rattle.sched_response.specs.Ranked.{IsBlocking}
-use Rattle.sched_table.proofs.Levels.{one_more, one_longer}
 use Rattle.sched_table.proofs.blocks.blocks.Goals as goal
 
 pub loop-rank-preserved : goal.loop-rank-preserved
