@@ -17,7 +17,8 @@ use Rattle.text_fields.specs.Front.{line_start}
 use Rattle.text_fields.specs.LineFields.{is_digit}
 use Rattle.asm_lines.specs.Names.{is_in_word, may_be_name, name_read, named_read, head_read, direction_read, device_read, event_read, ceiling_read, monitor_read, condition_read}
 use Rattle.asm_reads_law.proofs.Pieces.{named_2}
-use Rattle.asm_reads_law.proofs.Numbers.{place, Stops, begins_self, begins_not, skips, ends, prefix_is, all_pass, numeral, digit_first, numeral_reads, field_reads}
+use Rattle.asm_reads_law.proofs.Numbers.{place, Stops, begins_self, begins_not, skips, ends, prefix_is, numeral, digit_first, numeral_reads, field_reads}
+use Rattle.syntax.proofs.ReadLemmas.{weaker}
 
 -- ---- ranges
 
@@ -56,7 +57,7 @@ identifier_bytes : (name : List ℕ) → is_identifier name ≡ true → list_al
 identifier_bytes [] h = cc
 identifier_bytes (b ∷ bs) h =
     let p = and_parts (is_letter b) (list_all is_word bs) h in
-    and_from (is_in_word b) (list_all is_in_word bs) (letter_byte b p.0) (all_pass is_word is_in_word word_byte bs p.1)
+    and_from (is_in_word b) (list_all is_in_word bs) (letter_byte b p.0) (weaker is_word is_in_word word_byte bs p.1)
 
 identifier_some : (name : List ℕ) → is_identifier name ≡ true → 0 < length name
 identifier_some [] h = cc

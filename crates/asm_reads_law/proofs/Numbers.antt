@@ -53,12 +53,6 @@ prefix_is test (b ∷ bs) rest all stops =
     let h = and_parts (test b) (list_all test bs) all in
     rw (h.0, prefix_is test bs rest h.1 stops) (omega arith)
 
-pub all_pass : (test other : ℕ → Bool) → ((b : ℕ) → test b ≡ true → other b ≡ true) → (bs : List ℕ) → list_all test bs ≡ true → list_all other bs ≡ true
-all_pass test other passes [] all = refl
-all_pass test other passes (b ∷ bs) all =
-    let h = and_parts (test b) (list_all test bs) all in
-    and_from (other b) (list_all other bs) (passes b h.0) (all_pass test other passes bs h.1)
-
 -- ---- numerals
 
 pub record IsNumeral (n : ℕ) (digits : List ℕ) : Type 0 where

@@ -12,6 +12,7 @@ use Rattle.asm_sound_law.proofs.Took.{Start, Within, Takes, on, shown, note, not
 use Rattle.asm_sound_law.proofs.Passing.{inside}
 use Rattle.asm_sound_law.proofs.Numbers.{both_true, fine_of, IsIn, any_u16, any_u32, field_took}
 use Rattle.asm_sound_law.proofs.Trees.{tree_line_took}
+use Rattle.image_reader.proofs.Rising.{above_last}
 
 -- ---- numbers, each above the last one
 
@@ -36,11 +37,6 @@ few last (n ∷ ns) low taken =
 
 pub few_numbers : (ns : List ℕ) → AreTaken 0 ns → u16.is (length ns) ≡ true
 few_numbers ns taken = let low : length ns + 0 ≤ 999 = few 0 ns (omega arith) taken in lt-ltb (length ns) (2 ^ 16) (omega (arith, low))
-
-above_last : (earlier : List ℕ) (x n : ℕ) → g.is_above (earlier ++ x ∷ []) n ≡ nat_lt x n
-above_last [] x n = refl
-above_last (a ∷ []) x n = refl
-above_last (a ∷ b ∷ earlier) x n = above_last (b ∷ earlier) x n
 
 above_is : (earlier : List ℕ) (last : ℕ) (ns : List ℕ) → AreTaken last ns → each_is (λ before. checked u16 (g.wrong_number before)) (earlier ++ last ∷ []) (length ns) ns ≡ true
 above_is earlier last [] taken = refl

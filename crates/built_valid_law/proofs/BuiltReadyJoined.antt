@@ -24,9 +24,10 @@ use Rattle.vm_law.specs.Suits.{HasFrames}
 use Rattle.built_image_law.specs.Short.{NamesAreShort, NamesOfTextsAreShort}
 use Rattle.built_valid_law.specs.Ready.{BuiltImagesAreReady, IsReady}
 use Rattle.built_valid_law.proofs.Counts.{Counted, counted}
-use Rattle.built_valid_law.proofs.Plans.{Stands, has_plan, stands}
+use Rattle.built_valid_law.proofs.Plans.{has_plan, stands}
 use Rattle.built_valid_law.proofs.Names.{are_names}
 use Rattle.built_valid_law.proofs.Ranges.{in_range}
+use Rattle.vm_plan.proofs.Planned.{Stands}
 
 -- the image that is built of a program is its image, with its names
 same_image : (g : Prog) (over : ℕ) (n : NamedImage) → IsBuilt g over n → ◌≡◌ {A = NamedImage} (record { program = g.name; names = names_of g; image = n.image }) n

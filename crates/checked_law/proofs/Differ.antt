@@ -8,10 +8,11 @@ use Rattle.static_names.specs.declared.kind.Declared.{Declared}
 use Rattle.static_names.specs.Reach.{same, Names, Reach, first, Site}
 use Rattle.static_names.specs.Occurrences.{Occurrence, declares, declarations, decl_name, others, decls_names}
 use Rattle.source_semantics.specs.Names.{named}
-use Rattle.wellformed_names_law.proofs.Members.{In, ends-in}
-use Rattle.wellformed_names_law.proofs.Lookups.{same-refl, some-none, first-append, named-step, named-here, or_else-first, or_else-second}
+use Rattle.wellformed_names_law.proofs.Members.{In, ends-in, in-map}
+use Rattle.wellformed_names_law.proofs.Lookups.{same-refl, some-none, named-step, named-here, or_else-first, or_else-second}
 use Rattle.wellformed_names_law.proofs.NamesAfter.{ends-inner}
 use Rattle.wellformed_names_law.proofs.ProgramScope.{routine_called}
+use Rattle.static_names.proofs.Programs.{first-append}
 
 -- each name differs from those behind it
 abbrev pub Differ : Names → Type 0
@@ -92,15 +93,10 @@ decls_differ members earlier (d ∷ ds) more free = (
 
 -- ---- whoever stands in a scope is found by the name
 
-in_mapped : {X Y : Type 0} (f : X → Y) (xs : List X) (x : X) → In xs x → In (map f xs) (f x)
-in_mapped f [] x i = absurd i
-in_mapped f (y ∷ ys) x (inl e) = inl (ap f e)
-in_mapped f (y ∷ ys) x (inr i) = inr (in_mapped f ys x i)
-
 pub differ_found : {A : Type 0} (label : A → Name × Declared) (things : List A) → Differ (map label things) → (t : A) → In things t → named (λ a. (label a).0) (label t).0 things ≡ Some t
 differ_found label [] h t i = absurd i
 differ_found label (a ∷ things) h t (inl is) = named-here (λ b. (label b).0) (label t).0 a things (ap (λ b. same (label t).0 (label b).0) is ∙ same-refl (label t).0) ∙ ap (λ b. Some b) is
-differ_found label (a ∷ things) h t (inr i) = named-step (λ b. (label b).0) (label t).0 a things (h.0 (label t) (in_mapped label things t i)) ∙ differ_found label things h.1 t i
+differ_found label (a ∷ things) h t (inr i) = named-step (λ b. (label b).0) (label t).0 a things (h.0 (label t) (in-map label things t i)) ∙ differ_found label things h.1 t i
 
 pub program_found : (ds : List (Decl Place)) → DeclsDiffer ds → (r : Routine Place) → In ds (routine r) → named routine_called r.name (program_routines ds) ≡ Some r
 program_found [] h r i = absurd i

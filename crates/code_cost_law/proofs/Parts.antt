@@ -19,20 +19,17 @@ use Rattle.codegen_spec.specs.Told.{range_told}
 use Rattle.code_measures.specs.Like.{capped}
 use Rattle.code_cost.specs.declared.measure.Measure.{Measure}
 use Rattle.code_cost.specs.declared.measure.Known.{Known}
-use Rattle.code_cost.specs.Sums.{held, nothing, of, joined}
+use Rattle.code_cost.specs.Sums.{held, of, joined}
 use Rattle.code_cost.specs.Forms.{check, stmts_size}
 use Rattle.code_cost.specs.Parts.{answers_size, inner_size, frame_size, stay_time, row_of, handler_size, loop_words, part_size, process_size}
 use Rattle.code_cost_law.specs.Measured.{measured, IsRow, AllBoundsFit}
 use Rattle.code_cost_law.proofs.Sums.{same, joined_is, of_is, measured_same}
 use Rattle.code_cost_law.proofs.Exprs.{check_is}
-use Rattle.code_cost_law.proofs.Stmts.{expressions, statements}
+use Rattle.code_cost_law.proofs.Stmts.{expressions, statements, none}
 use Rattle.code_cost.specs.Sizes.{IsRowOf, IsSizeOf}
 use Rattle.code_cost_law.specs.Defined.{HandlerLoopsFit}
 
 -- ---- ends
-
-none : nothing ≡ measured (run 0) 0 0
-none = same (omega arith) (omega arith) (omega arith) (omega arith) (omega arith)
 
 costs : {a a' b b' c c' : ℕ} → a ≡ a' → b ≡ b' → c ≡ c' → amount a b c ≡ amount a' b' c'
 costs {a} {a'} {b} {b'} {c} {c'} e1 e2 e3 = ap (λ x. amount x b c) e1 ∙ (ap (λ x. amount a' x c) e2 ∙ ap (λ x. amount a' b' x) e3)

@@ -26,7 +26,7 @@ nth [] k = alone 0 0 0 0 Nil
 nth (p ∷ ps) zero = p
 nth (p ∷ ps) (suc k) = nth ps k
 
-abbrev nth_text : List tree.Process → ℕ → tree.Process
+abbrev pub nth_text : List tree.Process → ℕ → tree.Process
 nth_text [] k = record { name = []; activation = periodic (literal_constant false 0) None None; vars = []; routines = []; body = no_stmts; handler = None }
 nth_text (p ∷ ps) zero = p
 nth_text (p ∷ ps) (suc k) = nth_text ps k

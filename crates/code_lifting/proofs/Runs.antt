@@ -15,7 +15,7 @@ use Rattle.code_lifting.specs.Image.{FreeHolds, RestHolds, compiled_of, AreRight
 use Rattle.code_lifting.proofs.Assembled.{r, AreFaithful, is_compiled}
 
 -- process k follows the source meaning for any number of ticks, where both have such a process
-abbrev stands_of : Whole → ℕ → Option Process → Option tree.Process → Own → View → Type 0
+abbrev pub stands_of : Whole → ℕ → Option Process → Option tree.Process → Own → View → Type 0
 stands_of w k (Some p) (Some text) o v = Always (compiled_of w k p text) (FreeHolds w) (RestHolds w k) o v
 stands_of w k None text o v = ⊥
 stands_of w k (Some p) None o v = ⊥

@@ -16,7 +16,7 @@ has_first : (code : List Instr) (p : ℕ) (is js : List Instr) → Has code p (i
 has_first code p [] js h = tt
 has_first code p (x ∷ is) js h = (h.0, has_first code (p + 1) is js h.1)
 
-has_second : (code : List Instr) (p : ℕ) (is js : List Instr) → Has code p (is ++ js) → Has code (p + length is) js
+pub has_second : (code : List Instr) (p : ℕ) (is js : List Instr) → Has code p (is ++ js) → Has code (p + length is) js
 has_second code p [] js h = subst (λ q. Has code q js) (zero_more p) h
   where
     zero_more : (p : ℕ) → p ≡ p + 0

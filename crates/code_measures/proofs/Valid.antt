@@ -18,7 +18,7 @@ use Rattle.code_measures.proofs.SizePart.{no_size_fault}
 same_none : (d n : ℕ) → d ≡ n → other d n ≡ None
 same_none d n e = ap (λ b. unless b d n) (eq-eqb d n e)
 
-no_rank_fault : (m : image.Image) → HasRanks m → rank_fault m ≡ None
+pub no_rank_fault : (m : image.Image) → HasRanks m → rank_fault m ≡ None
 no_rank_fault m h =
     both_none _ _ (none_all (λ k p. other p.rank (rank_of m k)) m.processes (λ k p at. same_none p.rank (rank_of m k) (h.ranks k p at)))
     (both_none _ _ (none_all (λ j x. other x.ceiling (ceiling_of m j)) m.monitors (λ j x at. same_none x.ceiling (ceiling_of m j) (h.ceilings j x at)))

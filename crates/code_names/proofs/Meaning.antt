@@ -1,5 +1,5 @@
 -- The routines that names mean, found among all of a program.
-use Rattle.std.proofs.Common.{◌≡◌, ◌∙◌, sym, ap, refl, ℕ, zero, suc, ◌+◌, Bool, true, false, cond, ◌&&◌, List, [], ◌∷◌, ◌++◌, Option, Some, None, map, length, subst, arith}
+use Rattle.std.proofs.Common.{◌≡◌, ◌∙◌, sym, ap, refl, ℕ, zero, suc, ◌+◌, Bool, true, false, cond, ◌&&◌, List, [], ◌∷◌, ◌++◌, Some, None, map, length, subst, arith}
 use Rattle.std.specs.Prelude.{option_map, bytes_eq, filter_map, slice_get, unwrap_or}
 use Rattle.std.specs.Borrow.{Bor}
 use Rattle.std.proofs.lemmas.Cmp.{nat_eq_equiv}
@@ -10,14 +10,10 @@ use Rattle.source_semantics.specs.Run.{or_else}
 use Rattle.code_spec.specs.Layout.{Owner, by_program, by_process, by_monitor}
 use Rattle.code_spec.specs.Numbering.{Text, same_owner, routine_of, process_routines, entry_of, entry_in, texts_of as owned, texts_from}
 use Rattle.code_names.specs.First.{index_of}
-use Rattle.code_names.proofs.NameListTable.{get_some, named-index, place-index}
+use Rattle.code_names.proofs.NameListTable.{get_some, named-index, place-index, or-none}
 use Rattle.syntax_tree.specs.declared.decl.Mon as code_monitor
 use Rattle.code_names.specs.Parts.{all_texts, monitor_of, seen_monitors}
 use Rattle.code_names.specs.Texts.{is_text, text_named}
-
-or-none : {A : Type 0} (o : Option A) → or_else o None ≡ o
-or-none None = refl
-or-none (Some x) = refl
 
 -- what is found in two lists, one after the other
 found-append : (o : Owner) (f : Name) (ts us : List Text) → text_named o f (ts ++ us) ≡ or_else (text_named o f ts) (text_named o f us)

@@ -8,7 +8,7 @@ use Rattle.std.proofs.lemmas.Cmp.{nat_list_eq_equiv, nat_eq_equiv}
 use Rattle.std.proofs.lemmas.Option.{slice_get-map}
 use Rattle.std.proofs.lemmas.Slice.Eq.{bytes_eq-Decides}
 use Rattle.syntax_tree.specs.Plain.{Name}
-use Rattle.code_names.proofs.NameListTable.{get_some}
+use Rattle.code_names.proofs.NameListTable.{get_some, or-none}
 use Rattle.source_semantics.specs.Run.{or_else}
 use Rattle.code_spec.specs.Layout as layout
 use Rattle.code_spec.specs.Numbering.{Text, same_owner}
@@ -17,10 +17,6 @@ use Rattle.code_names.specs.declared.text.Owner.TheVariants.{Program, Process, M
 use Rattle.code_names.specs.declared.text.Text as code_text
 use Rattle.code_names.specs.contracts.text.OwnerPartialEq.TheImpl as owner_impl
 use Rattle.code_names.specs.Texts.{owner_of, text_of, texts_of, is_text, text_index, text_named, same_key, first_text, with_first, HasFirsts}
-
-or-none : {A : Type 0} (o : Option A) → or_else o None ≡ o
-or-none None = refl
-or-none (Some x) = refl
 
 owner-true : (o p : Owner) → same_owner (owner_of o) (owner_of p) ≡ true → o ≡ p
 owner-true Program Program e = refl

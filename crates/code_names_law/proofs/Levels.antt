@@ -1,5 +1,5 @@
 -- Levels of all routines and entries: functions of the program, then entries, then procedures of the program, then routines of processes.
-use Rattle.std.specs.Prelude.{◌≡◌, ◌+◌, ◌<◌, ◌⊎◌, ℕ, Bool, true, false, cond, not, List, ◌∷◌, ◌++◌, Option, Some, None, IsSome, slice_get, option_map, is_some, count_by, Contains}
+use Rattle.std.specs.Prelude.{◌≡◌, ◌+◌, ◌<◌, ◌⊎◌, ℕ, Bool, true, false, cond, not, ◌∷◌, ◌++◌, Option, Some, None, IsSome, slice_get, option_map, is_some, count_by, Contains}
 use Rattle.std.proofs.Common.{inl, inr, refl, sym, ◌∙◌, ap, subst, arith, ltb}
 use Rattle.std.proofs.lemmas.Bool.{lt-ltb, ltb-true}
 use Rattle.std.proofs.lemmas.List.Sums.{count_by-le-length}
@@ -88,9 +88,6 @@ module _ (level : Name → ℕ) (n : ℕ) where
   routine_lower r h k = called_both (IsLower level n) (stmts_calls r.body) (answers_calls r.answers) (stmts_lower r.body h) (answers_lower r.answers k)
 
 -- ---- names that are found
-
-named_is : (f : Name) (rs : List Routine) (r : Routine) → named (λ k. k.name) f rs ≡ Some r → r.name ≡ f
-named_is f rs r e = found_name f rs r e
 
 some_answers : (a : Option Answers) → IsSome a → is_some a ≡ true
 some_answers a h = h
@@ -189,7 +186,7 @@ module _ (g : Prog) (form : IsWellFormed g) (names : NamesApart g) where
       by (inr h) = inr h
 
   height_of : (f : Name) (u : Text) → (u.owner ≡ by_program) × (named (λ k. k.name) f (routines g) ≡ Some u.routine) → raw u ≡ cond (is_some u.routine.answers) (level_at 0 f) (routine_count g + 1 + level_at 0 f)
-  height_of f u h = ap (λ o. height o u.routine) h.0 ∙ ap (λ x. cond (is_some u.routine.answers) (level_at 0 x) (routine_count g + 1 + level_at 0 x)) (named_is f (routines g) u.routine h.1)
+  height_of f u h = ap (λ o. height o u.routine) h.0 ∙ ap (λ x. cond (is_some u.routine.answers) (level_at 0 x) (routine_count g + 1 + level_at 0 x)) (found_name f (routines g) u.routine h.1)
 
   entry_height : (m e : Name) (u : Text) (o : Owner) → called_text g o (calls_entry m e) ≡ Some u → raw u ≡ routine_count g
   entry_height m e u o is = by (named (λ k. k.name) m (monitors g)) is
@@ -237,7 +234,7 @@ module _ (g : Prog) (form : IsWellFormed g) (names : NamesApart g) where
       by : (x : Option Routine) → named (λ y. y.name) f p.routines ≡ x → or_else (option_map (λ y. record { owner = by_process k; routine = y }) x) (routine_of by_program (routines g) f) ≡ Some u → raw u < height (by_process k) r
       by (Some q) found h =
           subst (λ v. raw v < height (by_process k) r) (same_Some (record { owner = by_process k; routine = q }) u h)
-          (subst (λ y. routine_count g + routine_count g + 1 + level_at k y < routine_count g + routine_count g + 1 + level_at k r.name) (sym (named_is f p.routines q found)) (let l = lower in omega arith))
+          (subst (λ y. routine_count g + routine_count g + 1 + level_at k y < routine_count g + routine_count g + 1 + level_at k r.name) (sym (found_name f p.routines q found)) (let l = lower in omega arith))
       by None found h =
           let n = shared_named f u h in
           subst (λ v. v < height (by_process k) r) (sym (height_of f u n)) (program_below (is_some u.routine.answers) (level_at 0 f) (routine_count g) (level_at k r.name) (program_few f u.routine n.1))

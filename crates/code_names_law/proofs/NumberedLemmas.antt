@@ -1,5 +1,5 @@
 -- The law: each routine and entry stands once in the list by number, behind all that it calls.
-use Rattle.std.specs.Prelude.{◌≡◌, ◌+◌, ◌⊎◌, ◌||◌, ℕ, suc, Bool, true, false, List, [], ◌∷◌, Option, Some, None, slice_get, length, sum_by, Contains}
+use Rattle.std.specs.Prelude.{◌≡◌, ◌⊎◌, ◌||◌, ℕ, suc, Bool, true, false, List, [], ◌∷◌, Option, Some, None, slice_get, length, sum_by, Contains}
 use Rattle.std.proofs.Common.{inl, inr, refl, sym, subst, arith, length-append}
 use Rattle.std.proofs.lemmas.List.{length-map}
 use Rattle.std.proofs.lemmas.List.Sums.{sum_by-cons, count_by-le-length}
@@ -12,14 +12,11 @@ use Rattle.code_spec.specs.Layout.{Owner, by_program, by_process, by_monitor}
 use Rattle.code_spec.specs.Numbering.{Text, same_text, routine_of, process_routines, entry_of, is_among, texts_of, texts_from, numbered, number_of}
 use Rattle.code_names_law.specs.Kept.{NamesDiffer}
 use Rattle.code_names_law.proofs.Numbers.{text_named, IsText, AllTexts, of_list}
-use Rattle.code_names_law.proofs.Rows.{program_texts, numbered_texts, numbered_at, text_at, text_same, among_program, among_process, among_monitor}
+use Rattle.code_names_law.proofs.Rows.{program_texts, numbered_texts, numbered_at, text_at, text_same, among_program, among_process, among_monitor, from_zero}
 use Rattle.code_names_law.specs.Numbered.{texts, RoutinesAreNumbered}
 use Rattle.code_names_law.proofs.Visits.{Good, nothing_done, all_good}
 
 -- ---- texts are those of the declarations
-
-from_zero : (n : ℕ) → n ≡ 0 + n
-from_zero n = omega arith
 
 is_among_texts : (g : Prog) (t : Text) → IsText g t → is_among t (texts g) ≡ true
 is_among_texts g t is = by t.owner refl is

@@ -266,7 +266,7 @@ routine_is_text e f t differ at is mine = by_owner t.owner refl mine (meant e.te
         none n = omega arith
     by_owner (by_monitor k) same m h = absurd m
 
-from_zero : (n : ℕ) → n ≡ 0 + n
+pub from_zero : (n : ℕ) → n ≡ 0 + n
 from_zero n = omega arith
 
 -- the text of an entry that a process may call

@@ -6,30 +6,21 @@ use Rattle.syntax_tree.specs.Plain.{Name, Param, Expr, literal, truth, variable,
 use Rattle.source_semantics.specs.Store.{range_of}
 use Rattle.machine_isa.specs.declared.instr.Instr.{Instr}
 use Rattle.machine_isa.specs.declared.instr.Instr.TheVariants as i
-use Rattle.machine_semantics.specs.Trees.{Segs, Line, Fork, Rep, Call, Stay, Wait, Exit, Nil, Cons, size}
+use Rattle.machine_semantics.specs.Trees.{Segs, Fork, Rep, Call, Exit, Nil, Cons, size}
 use Rattle.code_spec.specs.Layout.{Shape, single, array, Spot, Scope, spot_of, place_named, in_area, in_frame, outer_spot, loops, loops_in}
 use Rattle.source_semantics.specs.Names.{device_number, constant_value}
 use Rattle.source_semantics.specs.Run.{or_else}
 use Rattle.code_spec.specs.Numbering.{Text, routine_in, entry_in, number_of}
 use Rattle.code_spec.specs.Code.{code_of, row_code, args_code, call_code, index_code, store_code, store_spot, store_element, store_shape, put_code, range_code, range_of_spot, ref_name}
 use Rattle.code_spec.specs.Emits.{IsLine, inner, counter_place, Emits, EmitsAll, condition_of, turns_of}
-use Rattle.code_spec.specs.Segments.{before, line, call_segs, expr_segs, row_segs, args_segs, index_segs, put_segs, stmt_segs, stmts_segs}
+use Rattle.code_spec.specs.Segments.{line, call_segs, expr_segs, row_segs, args_segs, index_segs, put_segs, stmt_segs, stmts_segs}
 use Rattle.code_simulation_spec.specs.Memory.{Setting}
 use Rattle.code_simulation_spec.specs.Proper.{IsSingle, IsArray, IsFree, ProperRef, Proper, ProperAll}
+use Rattle.code_measures.proofs.Sizes.{before_size, some_same}
 
 length_joined : (is js : List Instr) → length (is ++ js) ≡ length is + length js
 length_joined [] js = omega arith
 length_joined (i ∷ is) js = let e : length (is ++ js) ≡ length is + length js = length_joined is js in omega arith
-
-before_size : (k : ℕ) (after : Segs) → size (before k after) ≡ k + size after
-before_size k Nil = refl
-before_size k (Cons (Line n) rest) = omega arith
-before_size k (Cons (Fork a b) rest) = refl
-before_size k (Cons (Rep n a) rest) = refl
-before_size k (Cons (Call r) rest) = refl
-before_size k (Cons (Stay m a) rest) = refl
-before_size k (Cons Wait rest) = refl
-before_size k (Cons Exit rest) = refl
 
 line_size : (k : ℕ) (after : Segs) → size (line k after) ≡ k + size after
 line_size zero after = omega arith
@@ -42,13 +33,6 @@ pub record Alike (g : Prog) (c d : Scope) : Type 0 where
 
 pub alike : (g : Prog) (c : Scope) → Alike g c c
 alike g c = record { owner = refl; range = λ y sp is free. ap (λ t. range_of_spot t) is }
-
-some_same : (x y : Spot) → Some x ≡ Some y → x ≡ y
-some_same x y e = ap (λ o. unwrapped o) e
-  where
-    unwrapped : Option Spot → Spot
-    unwrapped None = y
-    unwrapped (Some z) = z
 
 pub alike_inner : (g : Prog) (c d : Scope) (x : Name) (w q : ℕ) → Alike g c d → Alike g (inner c x w q) d
 alike_inner g c d x w q a = record {

@@ -4,7 +4,7 @@ use Rattle.std.proofs.lemmas.List.{map-append}
 use Rattle.std.proofs.lemmas.List.Elements.{Contains-append_left, Contains-append_right, Contains-append_cases}
 use Rattle.std.specs.Prelude.{Contains, filter_map, slice_get}
 use Rattle.std.proofs.lemmas.Option.{same_Some, none-some}
-use Rattle.base.proofs.Members.{at_front, behind, none_in, front_or_behind}
+use Rattle.base.proofs.Members.{at_front, behind as later, none_in, front_or_behind}
 use Rattle.syntax_tree.specs.Placed.{Routine, Process, Decl, constant, device, event, routine, monitor, process, plain_routine, plain_decl, plain_process}
 use Rattle.syntax_tree.specs.Parts.{processes}
 use Rattle.syntax_tree.specs.Plain as plain_of
@@ -78,7 +78,7 @@ module _ (g : plain_of.Prog) (s : Measures) (p : Place) where
   behind ts us r = record { text = r.text; listed = Contains-append_right ts us r.text r.listed; fails = r.fails }
 
   one_more : (t : Text) (ts : List Text) → RoutineOver g s ts p → RoutineOver g s (t ∷ ts) p
-  one_more t ts r = record { text = r.text; listed = behind t ts r.text r.listed; fails = r.fails }
+  one_more t ts r = record { text = r.text; listed = later t ts r.text r.listed; fails = r.fails }
 
   next : (k : ℕ) (q : Process Place) (ps : List (Process Place)) → ProcessOver s (suc k) ps p → ProcessOver s k (q ∷ ps) p
   next k q ps r =

@@ -26,7 +26,7 @@ ends_inside x k n high = le-leb (k + n) (x.base + x.words) high
 between : (low high k : ℕ) → low ≤ k → k ≤ high → is_between low high (pos k) ≡ true
 between low high k l h = and_from (nat_le low k) (nat_le k high) (le-leb low k l) (le-leb k high h)
 
-none_bad : (b : Bool) (z : ℤ) → b ≡ true → bad b z ≡ None
+pub none_bad : (b : Bool) (z : ℤ) → b ≡ true → bad b z ≡ None
 none_bad b z e = ap (λ t. bad t z) e
 
 neither : {A : Type 0} (x y : Option A) → x ≡ None → y ≡ None → or_else x y ≡ None

@@ -8,9 +8,7 @@ use Rattle.script.specs.Faults.{IsFault}
 use Rattle.script.specs.Script.{IsOneScript}
 use Rattle.script.specs.OneAnswer.{NoScriptIsFaulty, FaultsAreOne}
 use Rattle.command_due.specs.CommandsDue.{Outcome, bad_script}
-
-pub text_once : (file : Option (List ℕ)) (text other : List ℕ) → file ≡ Some text → file ≡ Some other → text ≡ other
-text_once file text other one two = cc
+use Rattle.command_due_law.proofs.DueOnceScripts.{text_once}
 
 -- what is due of a script for some names: the line of its fault, or what comes of its lines and its end
 pub data Played (names : ImageNames) (script : Option (List ℕ)) (comes : List ScriptLine → ℕ → Outcome) (outcome : Outcome) : Type 0 where

@@ -7,7 +7,6 @@ mod Spares
 pub mod Told
 pub mod Stops
 mod Due
-mod EdfDueOnceFirsts
 mod EdfDueOnceImages
 mod Judged
 mod Listed

@@ -8,11 +8,11 @@ use Rattle.base.proofs.Lists.{same_elements, some_at}
 use Rattle.machine_semantics.specs.Image.{Process}
 use Rattle.image.specs.Named.{NamedImage}
 use Rattle.sched_response.specs.declared.tasks.Task.{Task}
-use Rattle.sched_response.specs.Demand.{IsBound}
 use Rattle.valid_image.specs.Tasks.{process_at, tasks_of}
 use Rattle.sched_slack.specs.Slack.{with_more, IsFirstFailing, IsSlack}
 use Rattle.command_due.specs.Lines.{name_at, slack_line, AreLeastBounds, IsSlackLine, IsSlackText}
 use Rattle.command_due_law.specs.DueOnce.{SlackTextsAreOne}
+use Rattle.built_image_law.proofs.Bounds.{one_bound}
 
 -- the greatest number of ticks is one
 one_extra : (ts : List Task) (level x y : ℕ) → IsSlack ts level x → IsSlack ts level y → x ≡ y
@@ -27,12 +27,6 @@ one_failing ts f g one two = elim (cases_lt f g) [
   | inl less ↦ absurd (let solved = two.before f less in one.fails solved.0 solved.1)
   | inr more ↦ elim (cases_lt g f) [ inl less ↦ absurd (let solved = one.before g less in two.fails solved.0 solved.1) | inr le ↦ omega (arith, more, le) ]
 ]
-
-one_bound : (ts : List Task) (level r s : ℕ) → IsBound ts level r → IsBound ts level s → r ≡ s
-one_bound ts level r s one two =
-    let low : r ≤ s = one.least s two.solves in
-    let high : s ≤ r = two.least r one.solves in
-    omega (arith, low, high)
 
 one_bounds : (ps : List Process) (ts : List Task) (bounds others : List ℕ) → AreLeastBounds ps ts bounds → AreLeastBounds ps ts others → bounds ≡ others
 one_bounds ps ts bounds others one two = same_elements bounds others (one.one_each ∙ sym two.one_each) each_is_one where

@@ -1,12 +1,11 @@
 -- Elements of lists, and how many there are.
-use Rattle.std.proofs.Common.{◌≡◌, ◌<◌, ◌⊎◌, inl, inr, ℕ, zero, suc, List, [], ◌∷◌, Some, length, map, get_or, arith, refl, ap, sym, subst, ◌∙◌}
+use Rattle.std.proofs.Common.{◌≡◌, ◌<◌, ◌⊎◌, inl, inr, ℕ, zero, suc, List, [], ◌∷◌, Some, length, map, get_or, arith, refl, ap, sym, ◌∙◌}
 use Rattle.std.specs.Prelude.{slice_get, slice_set}
 use Rattle.std.proofs.lemmas.Option.{slice_get-get_or}
 use Rattle.machine_semantics.specs.Image.{Image, Process}
 use Rattle.vm_state.specs.declared.threads.Cell.{Cell}
 use Rattle.vm_state.specs.Threads.{rooms_of, thread_of, threads_of}
-use Rattle.vm_state.specs.declared.plan.Process.{Process as Planned}
-use Rattle.vm_state.specs.Plan.{AreProcesses, IsProcess}
+use Rattle.vm_releases.proofs.Boards.{as_long}
 
 pub at_set : {X : Type 0} (xs : List X) (k : ℕ) (x : X) (j : ℕ) (y : X) → slice_get (slice_set xs k x) j ≡ Some y → ((k ≡ j) × (x ≡ y)) ⊎ ((k ≡ j → ⊥) × (slice_get xs j ≡ Some y))
 at_set [] k x j y at = absurd cc
@@ -19,26 +18,6 @@ pub read_at : {X : Type 0} (xs : List X) (k : ℕ) (x : X) → k < length xs →
 read_at xs k x below is = slice_get-get_or xs k x below ∙ ap (λ (y : _). Some y) (sym is)
 
 -- ---- processes, and cells of a board
-
-pub as_many : (ws : List Process) (ps : List Planned) → AreProcesses ws ps → length ws ≡ length ps
-as_many [] [] are = refl
-as_many [] (p ∷ ps) are = absurd are
-as_many (w ∷ ws) [] are = absurd are
-as_many (w ∷ ws) (p ∷ ps) are = ap suc (as_many ws ps are.1)
-
-pub process_is : (ws : List Process) (ps : List Planned) (k : ℕ) (w : Process) (p : Planned) → AreProcesses ws ps → slice_get ws k ≡ Some w → slice_get ps k ≡ Some p → IsProcess w p
-process_is [] ps k w p are at_w at_p = absurd cc
-process_is (x ∷ ws) [] k w p are at_w at_p = absurd are
-process_is (x ∷ ws) (y ∷ ps) zero w p are at_w at_p =
-    let a : x ≡ w = cc in let b : y ≡ p = cc in
-    subst (λ (u : Process). IsProcess u p) a (subst (λ (v : Planned). IsProcess x v) b are.0)
-process_is (x ∷ ws) (y ∷ ps) (suc k) w p are at_w at_p = process_is ws ps k w p are.1 at_w at_p
-
-as_long : (cs : List Cell) (ws : List Process) → rooms_of cs ≡ map (λ (p : Process). p.stack) ws → length cs ≡ length ws
-as_long [] [] rooms = refl
-as_long [] (w ∷ ws) rooms = absurd cc
-as_long (c ∷ cs) [] rooms = absurd cc
-as_long (c ∷ cs) (w ∷ ws) rooms = let rest : rooms_of cs ≡ map (λ (p : Process). p.stack) ws = cc in ap suc (as_long cs ws rest)
 
 pub cells_count : (image : Image) (cs : List Cell) → rooms_of cs ≡ map (λ (p : Process). p.stack) image.processes → length cs ≡ length image.processes
 cells_count image cs rooms = as_long cs image.processes rooms

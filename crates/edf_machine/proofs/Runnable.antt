@@ -4,13 +4,12 @@ use Rattle.std.specs.Prelude.{◌^◌}
 use Rattle.std.proofs.lemmas.Option.{slice_get_within}
 use Rattle.base.proofs.Lists.{some_at}
 use Rattle.machine_isa.specs.declared.instr.Instr.{Instr}
-use Rattle.machine_semantics.specs.Image.{Process, Script}
-use Rattle.machine_semantics.specs.State.{Job, Thread, Idle, Ready, Waiting, State}
+use Rattle.machine_semantics.specs.Image.{Script}
+use Rattle.machine_semantics.specs.State.{Job, Thread, Ready, State}
 use Rattle.machine_safety_spec.specs.Walk.{Where}
 use Rattle.machine_safety_spec.specs.Safe.{Parts, ImageFits}
-use Rattle.machine_safety_spec.specs.Whole.{StateFits, StackFits}
+use Rattle.machine_safety_spec.specs.Whole.{StateFits}
 use Rattle.machine_safety.proofs.Starting.{starts_keep}
-use Rattle.vm_stretch.specs.RowLaws.{IsInStack}
 use Rattle.edf_semantics.specs.Run.{state_at}
 use Rattle.edf_semantics.specs.Safe.{EveryRunIsSafe, IsWaitless}
 use Rattle.edf_semantics.proofs.Keeping.{kept}
@@ -20,11 +19,7 @@ use Rattle.edf_machine.specs.Runnable.{NobodyWaits}
 use Rattle.edf_semantics.specs.Rows.{IsSafeRun}
 use Rattle.edf_semantics.specs.Turn.{begun}
 use Rattle.edf_machine.specs.EdfRunnable.{WaitlessRunsAreRunnable}
-
-in_stack : (p : Process) (th : Thread) → StackFits p th → IsInStack p th
-in_stack p Idle fits = tt
-in_stack p (Ready job) fits = fits
-in_stack p (Waiting c due n job) fits = fits
+use Rattle.vm_law.proofs.Valid.{in_stack}
 
 -- the same in other words
 nobody : (s : State) → lifted.NobodyWaits s → NobodyWaits s

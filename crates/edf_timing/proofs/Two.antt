@@ -22,6 +22,7 @@ use Rattle.edf_timing.specs.Example.{two_place, two_parts, two_tasks, TwoMeetPre
 use Rattle.edf_timing.proofs.Meeting.{every_run_meets_deadlines}
 use Rattle.machine_semantics_law.specs.Example.{alone}
 use Rattle.machine_semantics.specs.Trees.{Line, Nil, Cons}
+use Rattle.sched_theorem.proofs.Meeting.{two as two_of}
 
 abbrev first_process : Process
 first_process = record (alone 30 15 0 1 (Cons (Line 2) Nil)) { bound = 30 }
@@ -34,12 +35,6 @@ both : (P : ℕ → Process → Type 0) → P 0 first_process → P 1 second_pro
 both P one other zero p at = let is : first_process ≡ p = cc in subst (λ (x : Process). P 0 x) is one
 both P one other (suc zero) p at = let is : second_process ≡ p = cc in subst (λ (x : Process). P 1 x) is other
 both P one other (suc (suc k)) p at = absurd cc
-
--- a fact of both places
-two_of : (P : ℕ → Type 0) → P 0 → P 1 → (j : ℕ) → j < 2 → P j
-two_of P one other zero below = one
-two_of P one other (suc zero) below = other
-two_of P one other (suc (suc j)) below = absurd (omega arith)
 
 first_fits : ProcessFits two_place first_process (two_parts 0)
 first_fits = record {

@@ -8,6 +8,7 @@ use Rattle.image_format.specs.declared.fault.Fault.{Fault}
 use Rattle.image_format.specs.Format.{Format, Read, ◌>>=◌, fault, field_at, given, is_fine, passed, checked, both, via, each, each_read, each_write, each_is}
 use Rattle.image_format.specs.FormatLaw.{AreBytes, IsSound}
 use Rattle.image_format.proofs.Booleans.{together}
+use Rattle.image_format.proofs.Alike.{same_ok}
 
 -- ---- bytes
 
@@ -29,15 +30,6 @@ pub record Came {A B : Type 0} (r : Result A Fault) (g : A → Result B Fault) (
 pub came : {A B : Type 0} (r : Result A Fault) (g : A → Result B Fault) (y : B) → (r >>= g) ≡ Ok y → Came r g y
 came (Ok x) g y h = record { x = x; was = refl; then_is = h }
 came (Err e) g y h = cc
-
-abbrev okay : {A : Type 0} → A → Result A Fault
-okay x = Ok x
-
-same_ok : {A : Type 0} (x y : A) → okay x ≡ okay y → x ≡ y
-same_ok {A = A} x y h = ap value h where
-  value : Result A Fault → A
-  value (Ok z) = z
-  value (Err e) = x
 
 fine_passes : {A : Type 0} (w : Option ℕ) (left : ℕ) (x : A × List ℕ) → is_fine w ≡ true → passed w left x ≡ Ok x
 fine_passes None left x h = refl

@@ -21,6 +21,7 @@ use Rattle.image_reader_law.proofs.Known.{Known}
 use Rattle.image_reader_law.proofs.Grammar.{a_name, a_device, a_named_monitor, a_condition, some_counts, a_routine}
 use Rattle.image_reader_law.proofs.Processes.{a_named_process}
 use Rattle.image_reader_law.proofs.ImageFaultsInstructions.{an_instruction}
+use Rattle.image_reader_law.proofs.ImageFaultsFields.{fine_is}
 
 made_pair : (a b : Sort) (f : Form a) (g : Thing a → Form b) → IsMade a f → ((x : Thing a) → IsMade b (g x)) → IsMade (pair a b) (both f g)
 made_pair a b f g m ms = s.a_pair m ms
@@ -159,7 +160,7 @@ parts_with x = record {
 abbrev pub content_of : f.Parts → Content
 content_of p = (p.over, (f.counts_of p, (p.program, (p.devices, (p.events, (p.monitors, (p.conditions, (p.routines, (p.processes, p.code)))))))))
 
-code_long : (is_used : Bool) (count : ℕ) (code : List Instr) → (f.code_format is_used count).is code ≡ true → length code ≡ count
+pub code_long : (is_used : Bool) (count : ℕ) (code : List Instr) → (f.code_format is_used count).is code ≡ true → length code ≡ count
 code_long true count code h = each_long (λ earlier. g.instr_format) [] count code h
 code_long false count code h = cc
 
@@ -197,10 +198,6 @@ parts_made version =
     (content_made version)
 
 -- ---- the file
-
-pub fine_is : (b : Bool) (n : ℕ) → is_fine (unless b n) ≡ true → b ≡ true
-fine_is true n h = refl
-fine_is false n h = absurd cc
 
 abbrev pub magic_rule : List ℕ → Option ℕ
 magic_rule bytes = unless (pointwise nat_eq bytes (codes "RTEU")) 1

@@ -12,7 +12,7 @@ use Rattle.image_reader_law.specs.ImageSound.{CutImagesEndInsideAField, ImagesRe
 use Rattle.image_format.proofs.Alike.{okay, same_ok}
 use Rattle.image_reader_law.proofs.ImageSoundWhole.{code_is, image_is_written, image_sound}
 
-ended_is : (z : (Version × f.Parts) × List ℕ) (y : (Version × f.Parts) × List ℕ) → f.ended z ≡ Ok y → z ≡ y
+pub ended_is : (z : (Version × f.Parts) × List ℕ) (y : (Version × f.Parts) × List ℕ) → f.ended z ≡ Ok y → z ≡ y
 ended_is (x, []) y is = same_ok (x, []) y is
 ended_is (x, b ∷ bs) y is = absurd cc
 

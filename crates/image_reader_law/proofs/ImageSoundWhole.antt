@@ -15,7 +15,7 @@ use Rattle.image.specs.Named.{NamedImage}
 use Rattle.image.specs.declared.names.CondName.{CondName}
 use Rattle.image.specs.declared.names.DevName.{DevName}
 use Rattle.image_reader.specs.declared.counts.Counts.{Counts}
-use Rattle.image_format.specs.Format.{Format, u16, bytes_as_are, unless, is_fine, checked, both, each_write}
+use Rattle.image_format.specs.Format.{Format, u16, bytes_as_are, is_fine, checked, both, each_write}
 use Rattle.image_format.specs.TreeFormat.{in_image, tree_format}
 use Rattle.image_reader.specs.Grammar as g
 use Rattle.image_reader.specs.File as f
@@ -25,20 +25,10 @@ use Rattle.image_format.proofs.Sound.{checked_sound, both_sound, via_sound, give
 use Rattle.image_format.proofs.SoundFields.{u16_sound, bytes_sound}
 use Rattle.image_reader_law.proofs.ImageSoundFields.{pair_sound, u16_within_sound, each_long, name_sound, device_sound, named_monitor_sound, condition_sound, counts_sound, routine_sound, named_process_sound}
 use Rattle.image_reader_law.proofs.ImageSoundInstructions.{instr_sound, instr_is_written}
+use Rattle.image_reader_law.proofs.ImageFaultsFields.{fine_is}
+use Rattle.image_reader_law.proofs.ImageFaultsWhole.{code_long, Work, Guarded, Content, after_counts, content, parts_with, content_of, magic_rule, version_rule, after_magic}
 
 -- ---- the lists of a file
-
-abbrev Work : Type 0
-Work = List Routine × (List (List ℕ × Process) × List Instr)
-
-abbrev Guarded : Type 0
-Guarded = List (List ℕ × Monitor) × (List CondName × Work)
-
-abbrev Named : Type 0
-Named = List DevName × (List (List ℕ) × Guarded)
-
-abbrev Content : Type 0
-Content = ℕ × (Counts × (List ℕ × Named))
 
 code_sound : (is_used : Bool) (count : ℕ) → IsSound (f.code_format is_used count)
 code_sound true count = each_sound (λ earlier. g.instr_format) (λ earlier. instr_sound) [] count
@@ -86,36 +76,10 @@ over_sound : (version : Version) → IsSound (f.over_format version)
 over_sound First = given_sound nat_eq 0 (λ y h. eqb-true 0 y h) refl
 over_sound Second = u16_within_sound 0 1000
 
-abbrev after_counts : Version → Counts → Format (List ℕ × Named)
-after_counts version counts = both (g.name_format []) (λ program. f.named_format version counts program)
-
-abbrev content : Version → Format Content
-content version = both (f.over_format version) (λ over. both g.counts_format (after_counts version))
-
 content_sound : (version : Version) → IsSound (content version)
 content_sound version =
     pair_sound (f.over_format version) (both g.counts_format (after_counts version)) (over_sound version) (both_sound g.counts_format (after_counts version) counts_sound
     (λ counts. both_sound (g.name_format []) (λ program. f.named_format version counts program) (name_sound []) (λ program. named_sound version counts program)))
-
-abbrev parts_with : Content → f.Parts
-parts_with x = record {
-  over = x.0;
-  program = x.1.1.0;
-  devices = x.1.1.1.0;
-  events = x.1.1.1.1.0;
-  monitors = x.1.1.1.1.1.0;
-  conditions = x.1.1.1.1.1.1.0;
-  routines = x.1.1.1.1.1.1.1.0;
-  processes = x.1.1.1.1.1.1.1.1.0;
-  code = x.1.1.1.1.1.1.1.1.1;
-}
-
-abbrev content_of : f.Parts → Content
-content_of p = (p.over, (f.counts_of p, (p.program, (p.devices, (p.events, (p.monitors, (p.conditions, (p.routines, (p.processes, p.code)))))))))
-
-code_long : (is_used : Bool) (count : ℕ) (code : List Instr) → (f.code_format is_used count).is code ≡ true → length code ≡ count
-code_long true count code h = each_long (λ earlier. g.instr_format) [] count code h
-code_long false count code h = cc
 
 -- the counts are those of the lists, and the code is in its range
 record IsCounted (version : Version) (x : Content) : Type 0 where
@@ -155,16 +119,6 @@ parts_sound version =
 
 -- ---- the file
 
-fine_is : (b : Bool) (n : ℕ) → is_fine (unless b n) ≡ true → b ≡ true
-fine_is true n h = refl
-fine_is false n h = absurd cc
-
-abbrev magic_rule : List ℕ → Option ℕ
-magic_rule bytes = unless (pointwise nat_eq bytes (codes "RTEU")) 1
-
-abbrev version_rule : ℕ → Option ℕ
-version_rule n = unless (n == 1 || n == 2) 1
-
 version_sound : IsSound f.version_format
 version_sound = via_sound f.version_of f.number_of (checked u16 version_rule) there again (checked_sound u16 version_rule u16_sound) where
   by : (n : ℕ) (a b : Bool) → n == 1 ≡ a → n == 2 ≡ b → (a || b) ≡ true → f.number_of (if a then First else Second) ≡ n
@@ -178,9 +132,6 @@ version_sound = via_sound f.version_of f.number_of (checked u16 version_rule) th
   again : (v : Version) → (checked u16 version_rule).is (f.number_of v) ≡ true → f.version_of (f.number_of v) ≡ v
   again First h = refl
   again Second h = refl
-
-abbrev after_magic : Format (Version × f.Parts)
-after_magic = both f.version_format f.parts_format
 
 pub image_sound : IsSound f.image_format
 image_sound =
@@ -236,7 +187,7 @@ events_are_written : (at : ℕ) (events : List (List ℕ)) (processes : List Pro
 events_are_written at [] processes = refl
 events_are_written at (e ∷ es) processes = ap (λ (more : List ℕ). written.name_bytes e ++ more) (events_are_written (at + 1) es processes)
 
-framed_long : (at : ℕ) (events : List (List ℕ)) (processes : List Process) → length (f.framed at events processes) ≡ length events
+pub framed_long : (at : ℕ) (events : List (List ℕ)) (processes : List Process) → length (f.framed at events processes) ≡ length events
 framed_long at [] processes = refl
 framed_long at (e ∷ es) processes = ap (λ k. suc k) (framed_long (at + 1) es processes)
 

@@ -6,7 +6,7 @@ use Rattle.std.proofs.lemmas.List.Elements.{All-nil, All-cons}
 use Rattle.std.proofs.lemmas.Option.{slice_get-map}
 use Rattle.base.proofs.Lists.{all_of, unmapped}
 use Rattle.machine_isa.specs.declared.instr.Instr.{Instr}
-use Rattle.machine_semantics.specs.Image.{Monitor, Routine, Process}
+use Rattle.machine_semantics.specs.Image.{Monitor, Process}
 use Rattle.image.specs.Bytes.{Version}
 use Rattle.image.specs.Raw.{monitor_of, process_of}
 use Rattle.image.specs.Named.{NamedImage}
@@ -28,31 +28,9 @@ use Rattle.image_reader_law.proofs.Readings.{okay, same_ok, two, seen, many, in_
 use Rattle.image_reader_law.specs.ReadNames.{ImagesReadAreNamed}
 use Rattle.image_reader_law.proofs.Frames.{frame_at, frame_is}
 use Rattle.image_reader_law.proofs.ReadNamesFields.{IsKnown, IsPlaced, condition_placed, device_short, monitor_short, process_known}
-
-abbrev Work : Type 0
-Work = List Routine × (List (List ℕ × Process) × List Instr)
-
-abbrev Guarded : Type 0
-Guarded = List (List ℕ × Monitor) × (List CondName × Work)
-
-abbrev Named : Type 0
-Named = List DevName × (List (List ℕ) × Guarded)
-
-abbrev Content : Type 0
-Content = ℕ × (Counts × (List ℕ × Named))
-
-abbrev parts_with : Content → f.Parts
-parts_with x = record {
-  over = x.0;
-  program = x.1.1.0;
-  devices = x.1.1.1.0;
-  events = x.1.1.1.1.0;
-  monitors = x.1.1.1.1.1.0;
-  conditions = x.1.1.1.1.1.1.0;
-  routines = x.1.1.1.1.1.1.1.0;
-  processes = x.1.1.1.1.1.1.1.1.0;
-  code = x.1.1.1.1.1.1.1.1.1;
-}
+use Rattle.image_reader_law.proofs.ImageSoundFiles.{ended_is}
+use Rattle.image_reader_law.proofs.ImageFaultsWhole.{Work, Guarded, Named, Content, parts_with}
+use Rattle.image_reader_law.proofs.Limits.{further_counts, other_counts, all_counts, counts_with, Full}
 
 -- ---- one after another
 
@@ -143,23 +121,11 @@ module _ (version : Version) (counts : Counts) where
         processes = work_known version counts (f.with_monitors taken x.0) c.rest x.1.1 rest c.two;
       }
 
-abbrev further_counts : Format (ℕ × (ℕ × (ℕ × (ℕ × ℕ))))
-further_counts = both (u16_within 0 256) (λ conditions. both (u16_within 0 64) (λ devices. both (u16_within 0 64) (λ events. both (u16_within 0 512) (λ routines. u32_within 0 65535))))
-
 abbrev last_counts : Format (ℕ × (ℕ × (ℕ × ℕ)))
 last_counts = both (u16_within 0 64) (λ devices. both (u16_within 0 64) (λ events. both (u16_within 0 512) (λ routines. u32_within 0 65535)))
 
 abbrev end_counts : Format (ℕ × (ℕ × ℕ))
 end_counts = both (u16_within 0 64) (λ events. both (u16_within 0 512) (λ routines. u32_within 0 65535))
-
-abbrev other_counts : Format (ℕ × (ℕ × (ℕ × (ℕ × (ℕ × ℕ)))))
-other_counts = both (u16_within 0 64) (λ monitors. further_counts)
-
-abbrev all_counts : Format (ℕ × (ℕ × (ℕ × (ℕ × (ℕ × (ℕ × ℕ))))))
-all_counts = both (u16_within 1 64) (λ processes. other_counts)
-
-abbrev counts_with : ℕ × (ℕ × (ℕ × (ℕ × (ℕ × (ℕ × ℕ))))) → Counts
-counts_with x = record { processes = x.0; monitors = x.1.0; conditions = x.1.1.0; devices = x.1.1.1.0; events = x.1.1.1.1.0; routines = x.1.1.1.1.1.0; code = x.1.1.1.1.1.1 }
 
 record AreFew (c : Counts) : Type 0 where
   conditions : c.conditions ≤ 256
@@ -212,9 +178,6 @@ module _ (version : Version) where
       let s = seen parts_with content bytes (ps, rest) is in
       subst AreKnown s.seen (content_known bytes s.x rest s.was)
 
-abbrev Full : Type 0
-Full = List ℕ × (Version × f.Parts)
-
 file_known : (bytes : List ℕ) (version : Version) (ps : f.Parts) (rest : List ℕ) → f.image_format.read bytes ≡ Ok ((version, ps), rest) → AreKnown ps
 file_known bytes version ps rest is =
     let s = seen (λ (x : Full). x.1) (both f.magic_format (λ magic. both f.version_format f.parts_format)) bytes ((version, ps), rest) is in
@@ -222,10 +185,6 @@ file_known bytes version ps rest is =
     let v = two f.version_format f.parts_format m.rest (s.x.1, rest) m.two in
     let e : s.x.1.1 ≡ ps = ap (λ (y : Version × f.Parts). y.1) s.seen in
     subst AreKnown e (parts_known s.x.1.0 v.rest s.x.1.1 rest v.two)
-
-ended_is : (z : (Version × f.Parts) × List ℕ) (y : (Version × f.Parts) × List ℕ) → f.ended z ≡ Ok y → z ≡ y
-ended_is (x, []) y is = same_ok (x, []) y is
-ended_is (x, b ∷ bs) y is = absurd cc
 
 file_read_known : (bytes : List ℕ) (version : Version) (ps : f.Parts) → f.read_file bytes ≡ Ok ((version, ps), []) → AreKnown ps
 unfolding f.read_file

@@ -24,6 +24,8 @@ use Rattle.image_format.proofs.Sound.{came}
 use Rattle.image_reader_law.proofs.Readings.{same_ok, kept, between, fine_is}
 use Rattle.image_reader_law.proofs.Brings.{Brings, Any, weaker, u8_brings, u16_brings, u32_brings, word_brings, bytes_brings, given_brings, checked_brings, checked_any, both_brings, then_brings, via_brings, u32_brings_within, u16_brings_within, Each, each_brings}
 use Rattle.image_reader_law.proofs.ImageRangesTrees.{tree_brings}
+use Rattle.image_reader_law.proofs.Grammar.{Whole}
+use Rattle.image_reader_law.proofs.ImageSoundFields.{Numbers}
 
 -- ---- names
 
@@ -87,9 +89,6 @@ owner_brings counts =
 
 costs_brings : {n : ℕ} (kind : ℕ) → Brings n (g.cost_format kind) Any
 costs_brings kind = weaker Any (λ x h. tt) (then_brings u32_brings (then_brings cost_any (then_brings cost_any (then_brings cost_any (checked_any (g.wrong_stay kind) cost_any)))))
-
-abbrev Whole : Type 0
-Whole = (ℕ × (ℕ × (ℕ × (ℕ × Bool)))) × ((ℕ × (ℕ × (ℕ × (ℕ × ℕ)))) × Segs)
 
 pub routine_brings : {n : ℕ} (counts : Counts) → Brings n (g.routine_format counts) (λ r. segments r.tree ≤ n)
 routine_brings {n = n} counts =
@@ -209,9 +208,6 @@ pub record IsProcessFit (n : ℕ) (p : Process) : Type 0 where
   pub numbers : length p.numbers ≤ 1000
   pub body : segments p.body ≤ n
   pub handler_tree : IsSmallTree n p.handler_tree
-
-abbrev Numbers : Type 0
-Numbers = (ℕ × ℕ) × (List ℕ × (Segs × Option Segs))
 
 abbrev Fields : Type 0
 Fields = (ℕ × (ℕ × (ℕ × (ℕ × (ℕ × ℕ))))) × ((ℕ × (ℕ × (ℕ × (ℕ × ℕ)))) × ((ℕ × (ℕ × (ℕ × ℕ))) × Numbers))

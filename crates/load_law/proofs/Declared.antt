@@ -13,10 +13,11 @@ use Rattle.static_names.specs.Reach.{same, Names, Reach, first, Site}
 use Rattle.static_names.specs.Occurrences.{Occurrence, decl_name, others, decls_names}
 use Rattle.load.specs.Program.{drawn, process_name}
 use Rattle.load_text_law.proofs.Shapes.{AreLoad, no_more, one_more}
-use Rattle.load_law.proofs.Knowing.{same_names, Agrees}
+use Rattle.load_law.proofs.Knowing.{Agrees}
 use Rattle.load_law.proofs.Fine.{Fine}
 use Rattle.load_law.proofs.Outside.{outside}
 use Rattle.load_law.proofs.LoadNamesProcesses.{process_fine}
+use Rattle.wellformed_names_law.proofs.Lookups.{same-is}
 
 -- ---- names
 
@@ -26,7 +27,7 @@ apart j k low small differ = by (same (process_name j) (process_name k)) refl
     by : (b : Bool) → same (process_name j) (process_name k) ≡ b → b ≡ false
     by false is = refl
     by true is =
-        let names : process_name j ≡ process_name k = same_names (process_name j) (process_name k) is in
+        let names : process_name j ≡ process_name k = same-is (process_name j) (process_name k) is in
         let digits : decimal j ≡ decimal k = cc in
         absurd (differ (decimal_injective j k low small digits))
 

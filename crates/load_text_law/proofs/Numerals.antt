@@ -1,5 +1,5 @@
 -- Numbers, and names with a number, as words.
-use Rattle.std.proofs.Common.{◌≡◌, ℕ, ◌+◌, ◌-◌, ◌*◌, ◌%◌, ◌^◌, ◌<◌, ◌≤◌, Bool, true, false, not, ◌&&◌, ◌||◌, nat_le, nat_eq, List, [], ◌∷◌, ◌++◌, fold, refl, ap, ◌∙◌, arith, le-leb, decimal}
+use Rattle.std.proofs.Common.{◌≡◌, ℕ, ◌+◌, ◌-◌, ◌*◌, ◌%◌, ◌^◌, ◌<◌, ◌≤◌, Bool, true, false, not, ◌&&◌, ◌||◌, nat_eq, List, [], ◌∷◌, ◌++◌, fold, refl, ap, ◌∙◌, arith, decimal}
 use Rattle.std.specs.List.{list_all}
 use Rattle.std.specs.Prelude.{Contains}
 use Rattle.std.proofs.lemmas.Fmt.{decimal_by_steps, length-decimal-le}
@@ -8,24 +8,12 @@ use Rattle.syntax.specs.Spellings as spells
 use Rattle.syntax.specs.Spellings.{keywords, is_letter, is_digit, is_word, is_number}
 use Rattle.syntax.proofs.SpellLemmas.{listed}
 use Rattle.syntax.specs.Words.{named, number}
-use Rattle.syntax_printer.proofs.Spelled.{IsSpelled}
+use Rattle.syntax_printer.proofs.Spelled.{IsSpelled, digit_is, all_with_last}
 use Rattle.load.specs.Program.{process_name}
 
 record Reads (n : ℕ) (digits : List ℕ) : Type 0 where
   are : is_number digits ≡ true
   value : n ≡ spells.decimal digits
-
-digit_is : (d : ℕ) → d < 10 → is_digit (48 + d) ≡ true
-digit_is d below =
-    let low : nat_le 48 (48 + d) ≡ true = le-leb 48 (48 + d) (omega arith) in
-    let high : nat_le (48 + d) 57 ≡ true = le-leb (48 + d) 57 (omega arith) in
-    ap (λ b. b && nat_le (48 + d) 57) low ∙ high
-
-all_with_last : (digits : List ℕ) (d : ℕ) → list_all is_digit digits ≡ true → is_digit d ≡ true → list_all is_digit (digits ++ d ∷ []) ≡ true
-all_with_last [] d all is = ap (λ b. b && true) is
-all_with_last (c ∷ cs) d all is =
-    let parts = and_parts (is_digit c) (list_all is_digit cs) all in
-    ap (λ b. b && list_all is_digit (cs ++ d ∷ [])) parts.0 ∙ all_with_last cs d parts.1 is
 
 number_with_last : (digits : List ℕ) (d : ℕ) → is_number digits ≡ true → is_digit d ≡ true → is_number (digits ++ d ∷ []) ≡ true
 number_with_last [] d are is = cc

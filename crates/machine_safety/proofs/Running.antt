@@ -12,8 +12,8 @@ use Rattle.machine_safety_spec.specs.Walk.{Where, Cost}
 use Rattle.machine_safety_spec.specs.Job.{Chain, Stands, Comes}
 use Rattle.machine_safety_spec.specs.Safe.{Parts, ProcessFits, ImageFits, own_of, part_of}
 use Rattle.machine_safety_spec.specs.Whole.{ThreadFits, StateFits, StackFits, EveryRunIsSafe}
-use Rattle.machine_safety.proofs.Starting.{length-zeros}
 use Rattle.machine_safety.proofs.Settling.{every_tick_is_safe}
+use Rattle.machine_safety.proofs.Jobs.{length-zeros}
 
 -- ---- the stack
 

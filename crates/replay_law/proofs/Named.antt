@@ -1,5 +1,5 @@
 -- Identifiers are words, and so are the names of the parts of a program.
-use Rattle.std.proofs.Common.{◌≡◌, ◌≢◌, ◌≤◌, ◌<◌, ◌+◌, ℕ, suc, Bool, true, false, List, [], ◌∷◌, length, map, filter_map, arith, refl, sym, ap, ◌∙◌}
+use Rattle.std.proofs.Common.{◌≡◌, ◌≢◌, ℕ, suc, Bool, true, false, List, [], ◌∷◌, length, map, filter_map, arith, refl, sym, ap, ◌∙◌}
 use Rattle.std.specs.Prelude.{All}
 use Rattle.std.specs.List.{list_all}
 use Rattle.std.proofs.lemmas.List.{length-map}
@@ -15,6 +15,7 @@ use Rattle.image.specs.declared.names.DevName.{DevName}
 use Rattle.built_image.specs.Named.{named_conditions, named_device, names_of}
 use Rattle.event_log.specs.Logs.{AreWords}
 use Rattle.replay_law.specs.Words.{IsIdentifier, MonitorIsNamed, NamesAreIdentifiers, NamesOfTextsAreIdentifiers, NamesOfTextsAreWords}
+use Rattle.built_valid_law.proofs.Names.{conditions_placed}
 
 -- ---- bytes
 
@@ -56,15 +57,6 @@ conditions_are_words k (m ∷ ms) all =
     All-append ConditionIsWord (map (named_in k) (conditions_of m)) (named_conditions (suc k) ms)
     (All-map ConditionIsWord (named_in k) (conditions_of m) (All-weaker IsIdentifier IsWord identifier_is_word (conditions_of m) (All-head MonitorIsNamed m ms all).conditions))
     (conditions_are_words (suc k) ms (All-tail MonitorIsNamed m ms all))
-
--- each stands in one of so many monitors
-conditions_placed : (n k : ℕ) (ms : List Monitor) → k + length ms ≤ n → All (λ (c : CondName). c.mon < n) (named_conditions k ms)
-conditions_placed n k [] within = All-nil (λ (c : CondName). c.mon < n)
-conditions_placed n k (m ∷ ms) within =
-    let here : k < n = omega (arith, within) in
-    All-append (λ (c : CondName). c.mon < n) (map (named_in k) (conditions_of m)) (named_conditions (suc k) ms)
-    (All-map (λ (c : CondName). c.mon < n) (named_in k) (conditions_of m) (λ j x low. here))
-    (conditions_placed n (suc k) ms (omega (arith, within)))
 
 devices_are_words : (ds : List Decl) → All IsIdentifier (filter_map device_in ds) → All DeviceIsWord (filter_map named_device ds)
 devices_are_words [] all = All-nil DeviceIsWord

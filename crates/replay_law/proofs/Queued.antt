@@ -1,12 +1,11 @@
 -- No queue is longer than there are processes.
-use Rattle.std.proofs.Common.{◌≡◌, ◌≤◌, ◌<◌, ◌+◌, ℕ, zero, suc, Bool, true, false, inl, inr, List, [], ◌∷◌, Option, Some, None, length, refl, sym, subst, arith}
+use Rattle.std.proofs.Common.{◌≡◌, ◌≤◌, ◌<◌, ◌+◌, ℕ, suc, Bool, true, false, List, [], ◌∷◌, length, refl, sym, subst, arith}
 use Rattle.std.specs.Prelude.{nat_eq, slice_get}
-use Rattle.std.proofs.lemmas.Bool.{cases_lt}
 use Rattle.std.proofs.lemmas.Bool.Decides.{nat_tests}
-use Rattle.std.proofs.lemmas.Option.{slice_get_within}
-use Rattle.machine_semantics.specs.State.{Thread, Idle, Ready, Waiting, State}
+use Rattle.machine_semantics.specs.State.{State}
 use Rattle.machine_semantics.specs.Starts.{queue_of, without}
-use Rattle.machine_safety_spec.specs.Queues.{AreQueued, times, waits_on}
+use Rattle.machine_safety_spec.specs.Queues.{AreQueued, times}
+use Rattle.vm_turn.proofs.Room.{few, once_waits, there}
 
 -- ---- how often a number stands in a list
 
@@ -45,38 +44,7 @@ gone : (n : ℕ) (q : List ℕ) → times n (without n q) ≡ 0
 gone n [] = refl
 gone n (j ∷ js) = gone_by n j js (nat_eq j n) refl (gone n js)
 
--- numbers below n, each once, are at most n
-few : (n : ℕ) (q : List ℕ) → ((j : ℕ) → times j q ≤ 1) → ((j : ℕ) → 0 < times j q → j < n) → length q ≤ n
-few zero [] once below = omega arith
-few zero (x ∷ xs) once below = absurd (omega (arith, below x (omega (arith, head x xs))))
-few (suc n) q once below =
-    let rest = few n (without n q) (λ j. omega (arith, fewer n j q, once j)) (λ j some. lower j some) in
-    omega (arith, rest, length_without n q, once n) where
-      lower : (j : ℕ) → 0 < times j (without n q) → j < n
-      lower j some = elim (cases_lt j n) [
-        | inl lt ↦ lt
-        | inr ge ↦
-            let e : j ≡ n = omega (arith, ge, below j (omega (arith, some, fewer n j q))) in
-            let none = subst (λ (i : ℕ). times i (without n q) ≡ 0) (sym e) (gone n q) in
-            absurd (omega (arith, some, none))
-      ]
-
 -- ---- queues
-
-once_waits : (c : ℕ) (th : Option Thread) → waits_on c th ≤ 1
-once_waits c None = omega arith
-once_waits c (Some Idle) = omega arith
-once_waits c (Some (Ready job)) = omega arith
-once_waits c (Some (Waiting d due number job)) = by (nat_eq d c) refl where
-  by : (b : Bool) → nat_eq d c ≡ b → waits_on c (Some (Waiting d due number job)) ≤ 1
-  by true is = rw is (omega arith)
-  by false is = rw is (omega arith)
-
-there : (c j : ℕ) (threads : List Thread) → 0 < waits_on c (slice_get threads j) → j < length threads
-there c j threads some = by (slice_get threads j) refl some where
-  by : (th : Option Thread) → slice_get threads j ≡ th → 0 < waits_on c th → j < length threads
-  by None is some' = absurd (omega arith)
-  by (Some th) is some' = slice_get_within threads j th is
 
 pub queues_are_short : (s : State) (c : ℕ) → AreQueued s → length (queue_of s.queues c) ≤ length s.threads
 queues_are_short s c queued = few (length s.threads) (queue_of s.queues c) once low where

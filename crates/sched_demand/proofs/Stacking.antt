@@ -3,9 +3,10 @@ use Rattle.std.proofs.Common.{◌≡◌, ℕ, suc, ◌+◌, ◌<◌, ◌≤◌, 
 use Rattle.std.specs.Prelude.{Bool, true, Option, Some, None}
 use Rattle.std.proofs.lemmas.Bool.{cases_lt, cases_eq, cases_Bool}
 use Rattle.std.proofs.lemmas.Option.{same_Some}
-use Rattle.sched_theorem.specs.Dispatched.{Stay, TakesOne, KeepsStays}
+use Rattle.sched_theorem.specs.Dispatched.{Stay, KeepsStays}
 use Rattle.sched_demand.specs.Activations.{Activation, IsSooner, IsBefore, IsBegun, IsFirst, IsFirstBegun, IsAbove, IsChosen, Chooses, Starts, Moves, Continues, Passes, KeepsCeilings}
 use Rattle.sched_demand.specs.Stacked.{AreStacked, AreDistinct, AreApart}
+use Rattle.sched_theorem.proofs.Apart.{was_inside}
 
 -- ---- the order
 
@@ -117,16 +118,6 @@ chosen_above n rank deadline now a inside p stack chosen q s below other is = el
       stack.above p q s chosen.of_these below (record { active = chosen.active; had = had }) is (chosen_first n rank deadline inside a p chosen q below other begun)
   | inr none ↦ (chosen_new n rank deadline inside a p chosen (omega arith)).1 q s below is
 ]
-
--- who runs and is inside after it was outside before, or inside with the same ceiling
-was_inside : (o r : Option Stay) (s : Stay) → TakesOne o r → r ≡ Some s → (o ≡ None) ⊎ ((t : Stay) × (o ≡ Some t) × (t.ceiling ≡ s.ceiling))
-was_inside None r s takes is = inl refl
-was_inside (Some t) None s takes is = absurd (cc)
-was_inside (Some t) (Some u) s takes is = inr (t, refl, sym takes.0 ∙ ap ceiling_of is)
-  where
-    ceiling_of : Option Stay → ℕ
-    ceiling_of None = 0
-    ceiling_of (Some v) = v.ceiling
 
 -- a tick that takes one from what is left passes
 pub moves_pass : (n : ℕ) (picked : Option ℕ) (a b : ℕ → Activation) → Moves n picked a b → Passes n picked a b

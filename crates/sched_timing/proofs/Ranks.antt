@@ -27,7 +27,7 @@ length_tasks : (image : Image) (j n : ℕ) → length (tasks_from image j n) ≡
 length_tasks image j zero = refl
 length_tasks image j (suc n) = ap suc (length_tasks image (suc j) n)
 
-tasks_at : (image : Image) (j n i : ℕ) (d : Task) → i < n → slice_index_or (tasks_from image j n) i d ≡ task_of (slice_get image.processes (process_at image (j + i)))
+pub tasks_at : (image : Image) (j n i : ℕ) (d : Task) → i < n → slice_index_or (tasks_from image j n) i d ≡ task_of (slice_get image.processes (process_at image (j + i)))
 tasks_at image j zero i d below = absurd (omega (arith, below))
 tasks_at image j (suc n) zero d below = let z : j ≡ j + 0 = omega arith in ap (λ (x : ℕ). task_of (slice_get image.processes (process_at image x))) z
 tasks_at image j (suc n) (suc i) d below =

@@ -49,7 +49,7 @@ in_line_from text at n within all k below =
 
 -- ---- no spelling holds an LF
 
-weaker : (p q : ℕ → Bool) → ((b : ℕ) → p b ≡ true → q b ≡ true) → (bs : List ℕ) → list_all p bs ≡ true → list_all q bs ≡ true
+pub weaker : (p q : ℕ → Bool) → ((b : ℕ) → p b ≡ true → q b ≡ true) → (bs : List ℕ) → list_all p bs ≡ true → list_all q bs ≡ true
 weaker p q w [] all = refl
 weaker p q w (b ∷ bs) all =
     let parts = and_parts (p b) (list_all p bs) all in

@@ -41,13 +41,13 @@ record Reads (n : ℕ) (digits : List ℕ) : Type 0 where
   are : is_number digits ≡ true
   value : n ≡ spells.decimal digits
 
-digit_is : (d : ℕ) → d < 10 → is_digit (48 + d) ≡ true
+pub digit_is : (d : ℕ) → d < 10 → is_digit (48 + d) ≡ true
 digit_is d below =
     let low : nat_le 48 (48 + d) ≡ true = le-leb 48 (48 + d) (omega arith) in
     let high : nat_le (48 + d) 57 ≡ true = le-leb (48 + d) 57 (omega arith) in
     ap (λ b. b && nat_le (48 + d) 57) low ∙ high
 
-all_with_last : (digits : List ℕ) (d : ℕ) → list_all is_digit digits ≡ true → is_digit d ≡ true → list_all is_digit (digits ++ d ∷ []) ≡ true
+pub all_with_last : (digits : List ℕ) (d : ℕ) → list_all is_digit digits ≡ true → is_digit d ≡ true → list_all is_digit (digits ++ d ∷ []) ≡ true
 all_with_last [] d all is = ap (λ b. b && true) is
 all_with_last (c ∷ cs) d all is =
     let parts = and_parts (is_digit c) (list_all is_digit cs) all in

@@ -77,14 +77,14 @@ conditioned image w (pos c) is =
     record { number = c; is = refl; kind = t.0; of = same_some w.owner (slice_get image.conditions c) t.1 }
 conditioned image w (negsuc c) is = absurd cc
 
-condition_below : (image : Image) (w : Whose) (c : ℤ) → bad (is_own_condition image w c) c ≡ None → IsBelow c (length image.conditions)
+pub condition_below : (image : Image) (w : Whose) (c : ℤ) → bad (is_own_condition image w c) c ≡ None → IsBelow c (length image.conditions)
 condition_below image w c is = let x = conditioned image w c (no_bad (is_own_condition image w c) c is) in (x.number, x.is, slice_get_within image.conditions x.number w.owner x.of)
 
 device_there : (out : Bool) (o : Option Bool) → goes out o ≡ true → (b : Bool) × (o ≡ Some b)
 device_there out (Some b) is = (b, refl)
 device_there out None is = absurd cc
 
-device_below : (image : Image) (out : Bool) (d : ℤ) → bad (is_device image out d) d ≡ None → IsBelow d (length image.devices)
+pub device_below : (image : Image) (out : Bool) (d : ℤ) → bad (is_device image out d) d ≡ None → IsBelow d (length image.devices)
 device_below image out (pos d) is = let x = device_there out (slice_get image.devices d) (no_bad (goes out (slice_get image.devices d)) (pos d) is) in (d, refl, slice_get_within image.devices d x.0 x.1)
 device_below image out (negsuc d) is = absurd cc
 

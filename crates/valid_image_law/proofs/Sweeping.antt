@@ -20,7 +20,7 @@ eq_false m n (inl less) = grind (arith, nat_tests, less)
 eq_false m n (inr more) = grind (arith, nat_tests, more)
 
 -- what starts past the address comes no closer, what starts before is tested against the best alone
-past : (best : Option Owner) (start a : ℕ) → a < start → comes_closer best start a ≡ false
+pub past : (best : Option Owner) (start a : ℕ) → a < start → comes_closer best start a ≡ false
 past None start a far = lt-leb start a far
 past (Some b) start a far = ap (λ t. t && nat_le b.start start) (lt-leb start a far)
 

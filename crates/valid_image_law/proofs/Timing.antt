@@ -1,6 +1,6 @@
 -- A valid image is timed.
 use Rattle.std.proofs.Common.{◌≡◌, ◌≤◌, ◌<◌, ◌+◌, ◌*◌, ◌-◌, inl, inr, ℕ, zero, suc, List, [], ◌∷◌, length, Option, Some, None, arith, refl, ap, sym, subst, ◌∙◌, true, false, Bool}
-use Rattle.std.specs.Prelude.{cond, nat_eq, nat_le, slice_get, slice_index_or}
+use Rattle.std.specs.Prelude.{cond, nat_eq, nat_le, slice_get}
 use Rattle.std.proofs.lemmas.Bool.{cases_lt, cases_Bool, leb-true}
 use Rattle.std.proofs.lemmas.Bool.Decides.{nat_tests}
 use Rattle.base.specs.Capped.{cap}
@@ -11,7 +11,7 @@ use Rattle.machine_semantics.specs.Trees.{Segs}
 use Rattle.machine_semantics.specs.Image.{Image, Process}
 use Rattle.machine_safety_spec.specs.Safe.{Parts, part_of}
 use Rattle.machine_safety_spec.specs.Work.{worst_of}
-use Rattle.valid_image.specs.Tasks.{with_rank, process_at, task_of, tasks_from, tasks_of}
+use Rattle.valid_image.specs.Tasks.{with_rank, process_at, task_of, tasks_of}
 use Rattle.sched_timing.specs.Timed.{IsCovered, ImageIsTimed}
 use Rattle.valid_image.specs.Found.{Found}
 use Rattle.valid_image.specs.Fault.{unless}
@@ -27,17 +27,12 @@ use Rattle.valid_image_law.proofs.Rows.{exact, alike, process_costs, at_least_ne
 use Rattle.valid_image_law.proofs.Parts.{no_part, where_in, stay_by}
 use Rattle.valid_image_law.proofs.Processes.{exact_body, exact_handler, parts_some, parts_in}
 use Rattle.valid_image_law.proofs.Ranking.{ranked, one_each, blocks}
+use Rattle.sched_timing.proofs.Ranks.{tasks_at}
 
 -- ---- tasks in the order of ranks
 
-tasks_at : (image : Image) (j n i : ℕ) (d : Task) → i < n → slice_index_or (tasks_from image j n) i d ≡ task_of (slice_get image.processes (process_at image (j + i)))
-tasks_at image j zero i d below = absurd (omega (arith, below))
-tasks_at image j (suc n) zero d below = let z : j ≡ j + 0 = omega arith in ap (λ (x : ℕ). task_of (slice_get image.processes (process_at image x))) z
-tasks_at image j (suc n) (suc i) d below =
-    let z : suc j + i ≡ j + suc i = omega arith in tasks_at image (suc j) n i d (omega (arith, below)) ∙ ap (λ (x : ℕ). task_of (slice_get image.processes (process_at image x))) z
-
 -- the search for a rank that one process alone has ends there
-search : (rank i j : ℕ) (qs : List Process) (p : Process) → slice_get qs j ≡ Some p → p.rank ≡ rank → ((l : ℕ) (q : Process) → slice_get qs l ≡ Some q → q.rank ≡ rank → l ≡ j) → with_rank rank i qs ≡ i + j
+pub search : (rank i j : ℕ) (qs : List Process) (p : Process) → slice_get qs j ≡ Some p → p.rank ≡ rank → ((l : ℕ) (q : Process) → slice_get qs l ≡ Some q → q.rank ≡ rank → l ≡ j) → with_rank rank i qs ≡ i + j
 search rank i j [] p at is alone = absurd cc
 search rank i zero (q ∷ qs) p at is alone =
     let same : q ≡ p = cc in
@@ -67,7 +62,7 @@ own_task image ranked_all alone k p at =
 -- ---- costs
 
 -- a product of what is within
-times_within : (n a b : ℕ) → cap a ≤ cap b → cap (n * a) ≤ cap (n * b)
+pub times_within : (n a b : ℕ) → cap a ≤ cap b → cap (n * a) ≤ cap (n * b)
 times_within n a b le = elim (cases_lt 0 n) [
   | inl some ↦ many n a b some le
   | inr none ↦ (let z : n ≡ 0 = omega (arith, none) in let l : n * a ≡ 0 = ap (λ k. k * a) z ∙ omega arith in omega (arith, l))

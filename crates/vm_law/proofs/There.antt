@@ -11,7 +11,7 @@ use Rattle.machine_semantics.specs.Image.{Image, Routine, Process}
 use Rattle.machine_safety_spec.specs.Part.{IsBelow}
 use Rattle.valid_image.specs.Fault.{or_else}
 use Rattle.valid_image.specs.Pieces.{piece_of_routine, piece_of_process, pieces, belongs, piece_number}
-use Rattle.valid_image.specs.Operands.{Whose, whose_routine, whose_process, is_between, is_own_monitor, is_same, is_own_condition, goes, is_device, bad, is_user_number, bad_operand}
+use Rattle.valid_image.specs.Operands.{Whose, whose_routine, whose_process, is_between, is_own_monitor, is_same, is_own_condition, goes, bad, is_user_number, bad_operand}
 use Rattle.valid_image.specs.Valid.{HasOwner, Operands, Shape, fault_of_part}
 use Rattle.valid_image_law.proofs.Firsts.{neither}
 use Rattle.valid_image_law.proofs.Owners.{owned}
@@ -19,6 +19,7 @@ use Rattle.valid_image_law.proofs.Passing.{routine_operands, process_operands}
 use Rattle.valid_image_law.proofs.Shapes.{follow}
 use Rattle.vm_law.specs.Operands.{IsThere, AreThere, ValidOperandsAreThere}
 use Rattle.vm_law.proofs.Covered.{Has, covered, all_covered}
+use Rattle.valid_image_law.proofs.Standing.{condition_below, device_below}
 
 no_bad : (b : Bool) (z : ℤ) → bad b z ≡ None → b ≡ true
 no_bad true z is = refl
@@ -37,22 +38,9 @@ some_same : (n : ℕ) (o : Option ℕ) → is_same n o ≡ true → (m : ℕ) ×
 some_same n (Some m) is = (m, refl)
 some_same n None is = absurd cc
 
-condition_below : (image : Image) (w : Whose) (c : ℤ) → bad (is_own_condition image w c) c ≡ None → IsBelow c (length image.conditions)
-condition_below image w (pos c) fine =
-    let t = and_parts (nat_eq w.kind 2) (is_same w.owner (slice_get image.conditions c)) (no_bad (is_own_condition image w (pos c)) (pos c) fine) in
-    let there = some_same w.owner (slice_get image.conditions c) t.1 in
-    (c, refl, slice_get_within image.conditions c there.0 there.1)
-condition_below image w (negsuc c) fine = absurd cc
-
 some_device : (out : Bool) (o : Option Bool) → goes out o ≡ true → (b : Bool) × (o ≡ Some b)
 some_device out (Some b) is = (b, refl)
 some_device out None is = absurd cc
-
-device_below : (image : Image) (out : Bool) (d : ℤ) → bad (is_device image out d) d ≡ None → IsBelow d (length image.devices)
-device_below image out (pos d) fine =
-    let there = some_device out (slice_get image.devices d) (no_bad (goes out (slice_get image.devices d)) (pos d) fine) in
-    (d, refl, slice_get_within image.devices d there.0 there.1)
-device_below image out (negsuc d) fine = absurd cc
 
 between_below : (low high n : ℕ) (z : ℤ) → high < n → is_between low high z ≡ true → IsBelow z n
 between_below low high n (pos k) above is =

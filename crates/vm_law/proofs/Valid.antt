@@ -17,7 +17,7 @@ use Rattle.machine_safety.proofs.Starting.{starts_keep}
 use Rattle.vm_stretch.specs.RowLaws.{IsInStack, IsSafeRun, begun}
 use Rattle.vm_law.specs.SafeRun.{ValidRunsAreSafe}
 
-in_stack : (p : Process) (th : Thread) → StackFits p th → IsInStack p th
+pub in_stack : (p : Process) (th : Thread) → StackFits p th → IsInStack p th
 in_stack p Idle fits = tt
 in_stack p (Ready job) fits = fits
 in_stack p (Waiting c due n job) fits = fits

@@ -59,10 +59,10 @@ module _ (image : Image) (monitors : length image.monitors ≤ 64) (conditions :
 -- ---- a process
 
 -- where the parts of a process stand
-record Stands (code : List Instr) (p : Process) : Type 0 where
-  locals : p.locals ≤ p.stack
-  body : end_of p false ≤ length code
-  handler : (number : ℕ) → lists p.numbers number ≡ true → end_of p true ≤ length code
+pub record Stands (code : List Instr) (p : Process) : Type 0 where
+  pub locals : p.locals ≤ p.stack
+  pub body : end_of p false ≤ length code
+  pub handler : (number : ℕ) → lists p.numbers number ≡ true → end_of p true ≤ length code
 
 stands : (image : Image) → MeetsPremises image → (k : ℕ) (p : Process) → slice_get image.processes k ≡ Some p → Stands image.code p
 stands image m = subst (λ (x : Image). (k : ℕ) (p : Process) → slice_get x.processes k ≡ Some p → Stands x.code p) m.of by where
@@ -76,7 +76,7 @@ stands image m = subst (λ (x : Image). (k : ℕ) (p : Process) → slice_get x.
         handler = λ number listed. (let h = fits.handles number listed in let within : end_of p true < length m.e.image.code = slice_get_within m.e.image.code (end_of p true) i.End h.1.ends in omega (arith, within));
       }
 
-handler_ends : (code : ℕ) (p : Process) (o : Option Segs) → p.handler_tree ≡ o → HasHandler p o → ((number : ℕ) → lists p.numbers number ≡ true → end_of p true ≤ code) → HandlerEnds code p.handler o
+pub handler_ends : (code : ℕ) (p : Process) (o : Option Segs) → p.handler_tree ≡ o → HasHandler p o → ((number : ℕ) → lists p.numbers number ≡ true → end_of p true ≤ code) → HandlerEnds code p.handler o
 handler_ends code p None is has ends = tt
 handler_ends code p (Some tree) is has ends = by p.numbers refl where
   by : (ns : List ℕ) → p.numbers ≡ ns → p.handler + size tree ≤ code

@@ -16,13 +16,13 @@ use Rattle.vm_stretch.specs.Steps.{HasWaits}
 use Rattle.vm_stretch.proofs.Lists.{same_or_not}
 use Rattle.vm_state.specs.declared.threads.Cell.{Cell}
 use Rattle.vm_state.specs.Threads.{thread_of, threads_of}
-use Rattle.vm_releases.proofs.Boards.{thread_at}
 use Rattle.vm_releases.specs.Begin.{WaitsAlone}
 use Rattle.vm_runner.specs.Turn.{HasPassed, Run}
 use Rattle.vm_runner.specs.Waits.{WaitsFrom}
 use Rattle.vm_runner.specs.Standing.{events_between}
 use Rattle.vm_runner.specs.Runnable.{HasNoOverrun}
 use Rattle.vm_runner.proofs.Waiting.{is_waiting}
+use Rattle.vm_state.proofs.Waking.{thread_at}
 
 -- ---- slots
 

@@ -97,7 +97,7 @@ is_waiting (Some (Waiting c due e job)) r is = let same : due ≡ r = cc in (c, 
 
 -- ---- queues
 
-in_queue : (k c : ℕ) (qs : List (List ℕ)) → times k (queue_of qs c) ≡ 1 → c < length qs
+pub in_queue : (k c : ℕ) (qs : List (List ℕ)) → times k (queue_of qs c) ≡ 1 → c < length qs
 in_queue k c [] is = absurd cc
 in_queue k zero (q ∷ qs) is = omega arith
 in_queue k (suc c) (q ∷ qs) is = let below = in_queue k c qs is in omega (arith, below)

@@ -6,7 +6,7 @@ use Rattle.std.proofs.lemmas.Bool.{cond-false}
 use Rattle.base.specs.declared.event.Event.{Event}
 use Rattle.machine_semantics.specs.Image.{Image, Process, Line, Sets, Occurs}
 use Rattle.machine_semantics.specs.State.{Thread, Idle, Ready, Waiting, State}
-use Rattle.machine_semantics.specs.Starts.{Started, unchanged, followed, release, occurs, line, lines, is_periodic_due, periodic, time_out, at_rank, time_outs}
+use Rattle.machine_semantics.specs.Starts.{Started, unchanged, followed, release, occurs, line, lines, time_out, at_rank, time_outs}
 use Rattle.vm_stretch.specs.Quiet.{line_tick}
 use Rattle.vm_stretch.specs.StretchDue.{time_out_of}
 use Rattle.vm_stretch.specs.Steps.{named, release_of, releases}
@@ -29,17 +29,12 @@ none_then s a go none = ap (λ (x : Started). followed x go) none
 
 -- ---- lines
 
-apart : (a b : ℕ) → a ≢ b → nat_eq a b ≡ false
+pub apart : (a b : ℕ) → a ≢ b → nat_eq a b ≡ false
 apart a b differ = grind (arith, nat_tests, differ)
 
 pub line_none : (image : Image) (t : ℕ) (l : Line) (s : State) → line_tick l ≢ t → line image t l s ≡ unchanged s
 line_none image t (Sets u d v) s differ = cond-false (nat_eq u t) _ _ (apart u t differ)
 line_none image t (Occurs u e) s differ = cond-false (nat_eq u t) _ _ (apart u t differ)
-
-pub lines_none : (image : Image) (t : ℕ) (ls : List Line) (s : State) → ((i : ℕ) (l : Line) → slice_get ls i ≡ Some l → line_tick l ≢ t) → lines image t ls s ≡ unchanged s
-lines_none image t [] s none = refl
-lines_none image t (l ∷ ls) s none =
-    none_then s (line image t l s) (lines image t ls) (line_none image t l s (none 0 l refl)) ∙ lines_none image t ls s (λ i m at. none (suc i) m at)
 
 -- lines of other ticks at the front do nothing
 pub lines_skip : (image : Image) (t done : ℕ) (ls : List Line) (s : State) → ((i : ℕ) (l : Line) → slice_get ls i ≡ Some l → i < done → line_tick l ≢ t) → lines image t ls s ≡ lines image t (drop done ls) s
@@ -49,12 +44,6 @@ lines_skip image t (suc done) (l ∷ ls) s none =
     none_then s (line image t l s) (lines image t ls) (line_none image t l s (none 0 l refl (omega arith))) ∙ lines_skip image t done ls s (λ i m at early. none (suc i) m at (omega (arith, early)))
 
 -- ---- releases
-
-pub periodic_none : (image : Image) (t k : ℕ) (ps : List Process) (s : State) → ((j : ℕ) (p : Process) → slice_get ps j ≡ Some p → is_periodic_due t p ≡ false) → periodic image t k ps s ≡ unchanged s
-periodic_none image t k [] s none = refl
-periodic_none image t k (p ∷ ps) s none =
-    none_then s (cond (is_periodic_due t p) (release image t k p s) (unchanged s)) (periodic image t (k + 1) ps) (cond-false (is_periodic_due t p) _ _ (none 0 p refl))
-    ∙ periodic_none image t (k + 1) ps s (λ j q at. none (suc j) q at)
 
 pub occurs_releases : (image : Image) (t e k : ℕ) (ps : List Process) (s : State) → ((j : ℕ) (p : Process) → slice_get ps j ≡ Some p → slice_get image.processes (k + j) ≡ Some p) → occurs image t e k ps s ≡ releases image t (named e k ps) s
 occurs_releases image t e k [] s there = refl

@@ -43,7 +43,7 @@ quiet_with : (image : Image) (script : Script) (u k : ℕ) (o : Own) (s : State)
 quiet_with image script u k o s quiet = let q : IsQuiet image script u _ = quiet_same image script u s k o.job quiet in record { lines = q.lines; releases = q.releases; waits = q.waits }
 
 -- all ticks that are left of an instruction, at once
-passes_to : (image : Image) (t k m : ℕ) (p : Process) (first o : Own) (instr : Instr) (s : State) → slice_get image.processes k ≡ Some p → slice_get s.threads k ≡ Some (Ready first.job) → slice_get s.owned k ≡ Some first.owned
+pub passes_to : (image : Image) (t k m : ℕ) (p : Process) (first o : Own) (instr : Instr) (s : State) → slice_get image.processes k ≡ Some p → slice_get s.threads k ≡ Some (Ready first.job) → slice_get s.owned k ≡ Some first.owned
     → IsAt image o instr → m ≡ ticks instr - o.job.done → pass image t m (with_process k o s) (Some k) ≡ settle image (t + (m - 1)) k p o.job (with_process k o s) (effect image (with_process k o s) instr (next_own o))
 passes_to image t k m p first o instr s process ready owned at time =
     let w : State = with_process k o s in
@@ -59,7 +59,7 @@ passes_to image t k m p first o instr s process ready owned at time =
     ∙ ap (λ (x : Option Thread). pass_thread image t m k w (Some p) x) there
     ∙ ap (λ (r : Outcome). settle image (t + (m - 1)) k p o.job w r) out
 
-passes : (image : Image) (t k m : ℕ) (p : Process) (first o next : Own) (instr : Instr) (s : State) → slice_get image.processes k ≡ Some p → slice_get s.threads k ≡ Some (Ready first.job) → slice_get s.owned k ≡ Some first.owned
+pub passes : (image : Image) (t k m : ℕ) (p : Process) (first o next : Own) (instr : Instr) (s : State) → slice_get image.processes k ≡ Some p → slice_get s.threads k ≡ Some (Ready first.job) → slice_get s.owned k ≡ Some first.owned
     → IsAt image o instr → effect image (with_process k o s) instr (next_own o) ≡ Goes next → m ≡ ticks instr - o.job.done → pass image t m (with_process k o s) (Some k) ≡ record { state = with_process k next s; events = []; stuck = false }
 passes image t k m p first o next instr s process ready owned at goes time =
     let w : State = with_process k o s in
@@ -68,7 +68,7 @@ passes image t k m p first o next instr s process ready owned at goes time =
     ∙ ap (λ (ts : List Thread). record { state = record w { threads = ts; owned = slice_set w.owned k next.owned; shared = next.shared }; events = []; stuck = false }) (set_set s.threads k (Ready o.job) (Ready next.job))
     ∙ ap (λ (ws : List (List ℤ)). record { state = record s { threads = slice_set s.threads k (Ready next.job); owned = ws; shared = next.shared }; events = []; stuck = false }) (set_set s.owned k o.owned next.owned)
 
-fits_left : (image : Image) (o : Own) (instr : Instr) (m : ℕ) → IsAt image o instr → m ≡ ticks instr - o.job.done → m ≤ left image o.job
+pub fits_left : (image : Image) (o : Own) (instr : Instr) (m : ℕ) → IsAt image o instr → m ≡ ticks instr - o.job.done → m ≤ left image o.job
 fits_left image o instr m at time =
     let e : left image o.job ≡ ticks instr - o.job.done = ap (λ (b : ℕ). left_of b o.job.done (slice_get image.code o.job.place)) at.burnt ∙ ap (λ (x : Option Instr). left_at o.job.done x) at.here in
     omega (arith, e)
@@ -180,7 +180,7 @@ burn_same image first n o Begins = refl
 burn_same image first n o (Follows before instr next step m time) = step.burn ∙ burn_same image first _ _ before
 
 -- the outcome of the last tick is within the stack, where it was not stuck, and the state after it is
-within_of : (image : Image) (u k : ℕ) (p : Process) (job : Job) (w after : State) (out : Outcome) → (settle image u k p job w out).stuck ≡ false → after ≡ (settle image u k p job w out).state
+pub within_of : (image : Image) (u k : ℕ) (p : Process) (job : Job) (w after : State) (out : Outcome) → (settle image u k p job w out).stuck ≡ false → after ≡ (settle image u k p job w out).state
     → ((th : Thread) → slice_get after.threads k ≡ Some th → IsInStack p th) → slice_get w.threads k ≡ Some (Ready job) → IsWithin p.stack out
 within_of image u k p job w after (Goes o) free is stack there =
     stack (Ready o.job) (ap (λ (x : State). slice_get x.threads k) is ∙ get_set w.threads k (Ready o.job) (Ready job) there)

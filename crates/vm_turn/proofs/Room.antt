@@ -51,7 +51,7 @@ gone m [] = refl
 gone m (j ∷ js) = gone_by m j js (nat_eq j m) refl (gone m js)
 
 -- numbers below n, each once, are at most n
-few : (n : ℕ) (q : List ℕ) → ((j : ℕ) → times j q ≤ 1) → ((j : ℕ) → 0 < times j q → j < n) → length q ≤ n
+pub few : (n : ℕ) (q : List ℕ) → ((j : ℕ) → times j q ≤ 1) → ((j : ℕ) → 0 < times j q → j < n) → length q ≤ n
 few zero [] once below = omega arith
 few zero (x ∷ xs) once below = absurd (omega (arith, below x (omega (arith, head x xs))))
 few (suc m) q once below =
@@ -72,7 +72,7 @@ below_all n (x ∷ xs) below = (below x (omega (arith, head x xs)), below_all n 
 
 -- ---- queues
 
-once_waits : (c : ℕ) (th : Option Thread) → waits_on c th ≤ 1
+pub once_waits : (c : ℕ) (th : Option Thread) → waits_on c th ≤ 1
 once_waits c None = omega arith
 once_waits c (Some Idle) = omega arith
 once_waits c (Some (Ready job)) = omega arith
@@ -81,7 +81,7 @@ once_waits c (Some (Waiting d due number job)) = by (nat_eq d c) refl where
   by true is = rw is (omega arith)
   by false is = rw is (omega arith)
 
-there : (c j : ℕ) (threads : List Thread) → 0 < waits_on c (slice_get threads j) → j < length threads
+pub there : (c j : ℕ) (threads : List Thread) → 0 < waits_on c (slice_get threads j) → j < length threads
 there c j threads some = by (slice_get threads j) refl some where
   by : (th : Option Thread) → slice_get threads j ≡ th → 0 < waits_on c th → j < length threads
   by None is some' = absurd (omega arith)

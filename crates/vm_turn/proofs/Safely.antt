@@ -56,7 +56,7 @@ picked image ts k is = by (least image 0 image.processes ts) refl is where
 
 -- ---- what its outcome is
 
-can_of : (image : Image) (u k : ℕ) (p : Process) (job : Job) (s : State) (out : Outcome) → (settle image u k p job s out).stuck ≡ false → ((th : Thread) → slice_get (settle image u k p job s out).state.threads k ≡ Some th → IsInStack p th) → slice_get s.threads k ≡ Some (Ready job) → CanCome p.stack out
+pub can_of : (image : Image) (u k : ℕ) (p : Process) (job : Job) (s : State) (out : Outcome) → (settle image u k p job s out).stuck ≡ false → ((th : Thread) → slice_get (settle image u k p job s out).state.threads k ≡ Some th → IsInStack p th) → slice_get s.threads k ≡ Some (Ready job) → CanCome p.stack out
 can_of image u k p job s (Goes o) free stack at = stack (Ready o.job) (get_set s.threads k (Ready o.job) (Ready job) at)
 can_of image u k p job s (Does a o) free stack at = stack (Ready o.job) (get_set s.threads k (Ready o.job) (Ready job) at)
 can_of image u k p job s (Signals c o) free stack at = tt

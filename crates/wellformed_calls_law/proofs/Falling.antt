@@ -14,7 +14,7 @@ use Rattle.wellformed_calls_law.specs.Levels.{HasPlaceLevels}
 use Rattle.wellformed_calls_law.proofs.Lists.{Passing, any-passes, any-from, count-lt, count-few}
 use Rattle.wellformed_calls_law.proofs.Through.{through, through-edge, through-joined, through-holds}
 
-place-true : (p q : Place) → same_place p q ≡ true → p ≡ q
+pub place-true : (p q : Place) → same_place p q ≡ true → p ≡ q
 place-true p q h = let parts = and_parts _ _ h in λ i. record { line = eqb-true p.line q.line parts.0 i; col = eqb-true p.col q.col parts.1 i }
 
 place-same : (p q : Place) → p ≡ q → same_place p q ≡ true

@@ -19,8 +19,9 @@ use Rattle.static_names.specs.Occurrences.{Occurrence, declares, closes, used, d
 use Rattle.static_names.specs.Rules.{place_of}
 use Rattle.static_semantics.specs.Places.{StandApart, NamesFound}
 use Rattle.static_semantics.specs.Mirrors.{program_site}
-use Rattle.wellformed_law.proofs.Lists.{Pictured, from_map, Split, split, rest_part, one_of}
+use Rattle.wellformed_law.proofs.Lists.{Pictured, from_map, rest_part, one_of}
 use Rattle.wellformed_law.proofs.Adding.{inner_adds}
+use Rattle.wellformed_calls_law.proofs.Named.{Split, split-listed}
 
 -- ---- names
 
@@ -48,14 +49,6 @@ first_some (n ∷ ns) x d h = by (first_some ns x d) (same x n.0) refl (front_or
     by again true s c = refl
     by again false s (inl e) = absurd (true≢false (sym (same_itself x) ∙ ap (λ m. same x m.0) (sym e) ∙ s))
     by again false s (inr m) = again m
-
-first_append : (ns ms : Names) (x : Name) → first (ns ++ ms) x ≡ or_else (first ns x) (first ms x)
-first_append [] ms x = refl
-first_append (n ∷ ns) ms x = ap (λ o. if same x n.0 then Some n.1 else o) (first_append ns ms x) ∙ by (same x n.0)
-  where
-    by : (b : Bool) → (if b then Some n.1 else or_else (first ns x) (first ms x)) ≡ or_else (if b then Some n.1 else first ns x) (first ms x)
-    by true = refl
-    by false = refl
 
 -- ---- what a scope does not declare
 
@@ -195,11 +188,11 @@ pub one_named : (g : Prog Place) → NamesFound g → (d e : Decl Place) → Con
 one_named g found d e h k same_name = by (Contains-append_cases s.before (d ∷ s.after) e (subst (λ ds. Contains ds e) s.is k))
   where
     s : Split g.decls d
-    s = split g.decls d h
+    s = split-listed g.decls d h
 
     later : (d ≡ e) ⊎ Contains s.after e → d ≡ e
     later (inl w) = w
-    later (inr m) = let t = split s.after e m in
+    later (inr m) = let t = split-listed s.after e m in
         absurd (name_free g found (s.before ++ d ∷ t.before) e t.after (s.is ∙ ap (λ ds. s.before ++ d ∷ ds) t.is ∙ sym (append_assoc s.before (d ∷ t.before) (e ∷ t.after))) d (Contains-append_right s.before (d ∷ t.before) d (at_front d t.before)) same_name)
 
     by : Contains s.before e ⊎ Contains (d ∷ s.after) e → d ≡ e
@@ -210,15 +203,6 @@ one_named g found d e h k same_name = by (Contains-append_cases s.before (d ∷ 
 
 pub same_place_itself : (p : Place) → same_place p p ≡ true
 same_place_itself p = grind (arith, nat_tests)
-
-pub same_places : (p q : Place) → same_place p q ≡ true → p ≡ q
-same_places p q e = λ i. record { line = lines i; col = cols i }
-  where
-    lines : p.line ≡ q.line
-    lines = grind (arith, nat_tests)
-
-    cols : p.col ≡ q.col
-    cols = grind (arith, nat_tests)
 
 -- two declarations whose names stand at one place have one name
 pub one_placed : (g : Prog Place) → StandApart g → (d e : Decl Place) → Contains g.decls d → Contains g.decls e → (decl_name d).1.place ≡ (decl_name e).1.place → (decl_name d).0 ≡ (decl_name e).0
@@ -232,5 +216,5 @@ one_placed g apart d e h k same_one = ap name_of (one_of (λ o. same_place (plac
     name_of (closes name place opening) = name
     name_of (used name place want means) = name
 
-    declared : (f : Decl Place) → (c : Contains g.decls f) → Contains (names g) (declares (decl_name f).0 (decl_name f).1.place (is_some (first (program_name g ∷ map decl_name (split g.decls f c).before) (decl_name f).0)))
-    declared f c = let s = split g.decls f c in declaration g s.before f s.after s.is
+    declared : (f : Decl Place) → (c : Contains g.decls f) → Contains (names g) (declares (decl_name f).0 (decl_name f).1.place (is_some (first (program_name g ∷ map decl_name (split-listed g.decls f c).before) (decl_name f).0)))
+    declared f c = let s = split-listed g.decls f c in declaration g s.before f s.after s.is

@@ -13,13 +13,15 @@ use Rattle.static_names.specs.Occurrences.{names, declared_at, constant_names, o
 use Rattle.static_numbers.specs.Processes.{is_at, is_activated_by, users}
 use Rattle.wellformed.specs.WellFormed.{is_event_of, EventsFit}
 use Rattle.static_semantics.specs.Mirrors.{process_site}
-use Rattle.wellformed_law.proofs.Lists.{sum_cons, Pictured, from_map, split, Within}
-use Rattle.wellformed_law.proofs.Declared.{same_names, same_itself, same_places, same_place_itself, one_named, one_placed}
+use Rattle.wellformed_law.proofs.Lists.{sum_cons, Pictured, from_map, Within}
+use Rattle.wellformed_law.proofs.Declared.{same_names, same_itself, same_place_itself, one_named, one_placed}
 use Rattle.wellformed_law.proofs.WellformedLaw.{Laws}
 use Rattle.wellformed_law.proofs.TypesFit.{is_then}
 use Rattle.wellformed_law.proofs.Standing.{plain_processes, process_declared}
 use Rattle.wellformed_law.proofs.Activations.{EventAt, event_at}
 use Rattle.wellformed_law.proofs.ProcessesFit.{in_process_names}
+use Rattle.wellformed_calls_law.proofs.Named.{split-listed}
+use Rattle.wellformed_calls_law.proofs.Falling.{place-true}
 
 event_listed : (ds : List (Decl Place)) (n : Name) (q : Place) → Contains ds (event n q) → Contains (events ds) q
 event_listed [] n q h = absurd (none_in (event n q) h)
@@ -83,7 +85,7 @@ module _ (g : Prog Place) (l : Laws g) where
 
       apart : (b : Bool) → same_place r q ≡ b → bytes_eq n e ≡ false → same_place r q ≡ false
       apart false s w = s
-      apart true s w = absurd (true≢false (sym (ap (λ x. same x e) (one_placed g l.apart (event n r) (event e q) h k (same_places r q s)) ∙ same_itself e) ∙ w))
+      apart true s w = absurd (true≢false (sym (ap (λ x. same x e) (one_placed g l.apart (event n r) (event e q) h k (place-true r q s)) ∙ same_itself e) ∙ w))
 
       by : (b : Bool) → bytes_eq n e ≡ b → same_place r q ≡ b
       by true w = ap (λ p. same_place p q) (ap place_of (one_named g l.found (event n r) (event e q) h k (same_names n e w))) ∙ same_place_itself q
@@ -108,5 +110,5 @@ module _ (g : Prog Place) (l : Laws g) where
       of = event_of g.decls e pictured.one pictured.listed pictured.is
 
       agree : (p : Process Place) → Contains (processes g.decls) p → is_activated_by (declared_at (names g)) of.place p.activation ≡ is_event_of e (plain_activation p.activation)
-      agree p m = let s = split g.decls (process p) (process_declared g.decls p m) in
+      agree p m = let s = split-listed g.decls (process p) (process_declared g.decls p m) in
           activated e of.place of.listed s.before p s.after s.is p.activation (in_process_names g l s.before p s.after s.is).activation

@@ -6,23 +6,6 @@ use Rattle.std.proofs.Math.Nat.{zero-add}
 use Rattle.std.proofs.lemmas.List.Elements.{Contains-append_left, Contains-append_right, All-map}
 use Rattle.base.proofs.Members.{at_front, behind, none_in, front_or_behind, each}
 
--- where a member stands
-pub record Split {X : Type 0} (xs : List X) (x : X) : Type 0 where
-  pub before : List X
-  pub after : List X
-  pub is : xs ≡ before ++ x ∷ after
-
-pub split : {X : Type 0} (xs : List X) (x : X) → Contains xs x → Split xs x
-split [] x h = absurd (none_in x h)
-split (y ∷ xs) x h = by (split xs x) (front_or_behind y xs x h)
-  where
-    further : Split xs x → Split (y ∷ xs) x
-    further s = record { before = y ∷ s.before; after = s.after; is = ap (λ zs. y ∷ zs) s.is }
-
-    by : (Contains xs x → Split xs x) → (y ≡ x) ⊎ Contains xs x → Split (y ∷ xs) x
-    by again (inl e) = record { before = []; after = xs; is = ap (λ z. z ∷ xs) e }
-    by again (inr m) = further (again m)
-
 pub in_split : {X : Type 0} (xs before after : List X) (x : X) → xs ≡ before ++ x ∷ after → Contains xs x
 in_split xs before after x is = subst (λ ys. Contains ys x) (sym is) (Contains-append_right before (x ∷ after) x (at_front x after))
 

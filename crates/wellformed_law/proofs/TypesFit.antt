@@ -19,6 +19,7 @@ use Rattle.wellformed_law.proofs.Lists.{Within, front, rest}
 use Rattle.wellformed_law.proofs.Adding.{constant_adds, scalar_adds, kind_adds, scalar_bounds_add, kind_bounds_add}
 use Rattle.wellformed_law.proofs.Constants.{Reaches}
 use Rattle.wellformed_law.proofs.WellformedLaw.{Laws, constant_fits}
+use Rattle.wellformed_calls_law.proofs.Numbers.{in_order}
 
 pub not_then : (b : Bool) (p : Place) → (if b then Some p else None) ≡ None → b ≡ false
 not_then true p e = absurd (none-some p (sym e))
@@ -27,13 +28,6 @@ not_then false p e = refl
 pub is_then : (b : Bool) (p : Place) → (if b then None else Some p) ≡ None → b ≡ true
 is_then true p e = refl
 is_then false p e = absurd (none-some p (sym e))
-
--- the order of numbers
-not_above : (a b : ℤ) → int_lt b a ≡ false → int_le a b ≡ true
-not_above (pos a) (pos b) e = grind (arith, nat_tests)
-not_above (pos a) (negsuc b) e = grind (arith, nat_tests)
-not_above (negsuc a) (pos b) e = grind (arith, nat_tests)
-not_above (negsuc a) (negsuc b) e = grind (arith, nat_tests)
 
 not_from : (a b : ℤ) → int_le b a ≡ false → int_lt a b ≡ true
 not_from (pos a) (pos b) e = grind (arith, nat_tests)
@@ -50,7 +44,7 @@ module _ (g : Prog Place) (l : Laws g) where
   bounds_fit of_array low high listed a b = record {
     low_constant = a;
     high_constant = b;
-    order = not_above (value g low) (value g high) (not_then (int_lt (value g high) (value g low)) (constant_place low) (l.limits.crossed_none (record { of_array = of_array; low = low; high = high }) listed));
+    order = in_order (value g low) (value g high) (not_then (int_lt (value g high) (value g low)) (constant_place low) (l.limits.crossed_none (record { of_array = of_array; low = low; high = high }) listed));
   }
 
   pub scalar_fits : (site : Site) → Reaches (constants (plain g)) site → (s : Scalar Place) → ScalarWritten s → Within (scalar_names site s []) (names g) → Within (scalar_bounds s []) all_bounds

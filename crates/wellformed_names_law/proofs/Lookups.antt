@@ -24,14 +24,6 @@ some-none a e = cc
 
 -- ---- in a scope
 
-pub first-append : (xs ys : Names) (x : Name) → first (xs ++ ys) x ≡ or_else (first xs x) (first ys x)
-first-append [] ys x = refl
-first-append (d ∷ ds) ys x = by (same x d.0) (first-append ds ys x)
-  where
-    by : (b : Bool) → first (ds ++ ys) x ≡ or_else (first ds x) (first ys x) → cond b (Some d.1) (first (ds ++ ys) x) ≡ or_else (cond b (Some d.1) (first ds x)) (first ys x)
-    by true h = refl
-    by false h = h
-
 pub record FoundIn (ds : Names) (x : Name) (d : Declared) : Type 0 where
   pub one : Name × Declared
   pub listed : In ds one

@@ -67,7 +67,7 @@ count-cons p y ys = sum_by-append (λ x. cond (p x) 1 0) (y ∷ []) ys ∙ ap (�
     zero-first : (n : ℕ) → 0 + n ≡ n
     zero-first n = omega arith
 
-sum-first : (a b c : ℕ) → c ≡ a + b → a ≡ 1 → 1 ≤ c
+pub sum-first : (a b c : ℕ) → c ≡ a + b → a ≡ 1 → 1 ≤ c
 sum-first a b c s e = omega arith
 
 sum-second : (a b c : ℕ) → c ≡ a + b → 1 ≤ b → 1 ≤ c

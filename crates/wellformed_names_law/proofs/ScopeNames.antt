@@ -19,10 +19,11 @@ use Rattle.static_semantics.specs.Written.{IsWritten, DeclWritten, RoutineWritte
 use Rattle.static_semantics.specs.Things.{ThingsKnown}
 use Rattle.static_semantics.specs.Mirrors.{StandsAs, process_site, monitor_site, program_site, monitors_in}
 use Rattle.wellformed_names_law.proofs.Members.{In, in-contains, in-middle}
-use Rattle.wellformed_names_law.proofs.Lookups.{named-map, named-append, named-front, named-in, some-none, first-append, FoundBy, found-by, not-found-by, or_else-first, or_else-second, Either, in_first, in_second, either}
+use Rattle.wellformed_names_law.proofs.Lookups.{named-map, named-append, named-front, named-in, some-none, FoundBy, found-by, not-found-by, or_else-first, or_else-second, Either, in_first, in_second, either}
 use Rattle.wellformed_names_law.proofs.ThingsListed.{Always, thing-known, routine-always, param-always, own-always, process_var-always, process_routine-always, member-always, entry-always}
 use Rattle.wellformed_names_law.proofs.ProgramScope.{program-means, routine_called}
 use Rattle.wellformed_names_law.proofs.ProgramNames.{text_at, program-stands, process-routine-found, process-routine-listed}
+use Rattle.static_names.proofs.Programs.{first-append}
 
 -- ---- variables by their names
 
