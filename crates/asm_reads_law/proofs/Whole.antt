@@ -48,12 +48,6 @@ module _ {A B : Type 0} (is_next : List ℕ → Bool) (one : List A → Front �
       ap (λ t. rows_read is_next one line earlier (suc most) (line_start t)) (append_assoc (write x) (flat_map write xs) rest)
       ∙ rw (next x after, reads earlier x after p.0, rows (earlier ++ x ∷ []) n most xs (omega (arith, few)) p.1) refl
 
-each_long : {A : Type 0} (f : List A → Format A) (earlier : List A) (count : ℕ) (xs : List A) → each_is f earlier count xs ≡ true → length xs ≡ count
-each_long f earlier zero [] h = refl
-each_long f earlier zero (x ∷ xs) h = absurd cc
-each_long f earlier (suc n) [] h = absurd cc
-each_long f earlier (suc n) (x ∷ xs) h = ap (λ k. suc k) (each_long f (earlier ++ x ∷ []) n xs (and_parts ((f earlier).is x) (each_is f (earlier ++ x ∷ []) n xs) h).1)
-
 -- lines of another kind, and what is after them, do not begin with a byte
 rows_stop : {A : Type 0} (test : ℕ → Bool) (write : A → List ℕ) → ((x : A) (rest : List ℕ) → Stops test (write x ++ rest)) → (xs : List A) (rest : List ℕ) → Stops test rest → Stops test (flat_map write xs ++ rest)
 rows_stop test write first [] rest h = h
@@ -101,11 +95,11 @@ events_text : (at_event : ℕ) (events : List (List ℕ)) (processes : List Proc
 events_text n [] processes = refl
 events_text n (e ∷ es) processes = ap (λ (more : List ℕ). event_line e ++ more) (events_text (n + 1) es processes)
 
-monitors_are_rows : (ms : List (List ℕ × Monitor)) → monitors_text (map (λ m. m.0) ms) (map (λ m. m.1) ms) ≡ flat_map (λ m. monitor_line m.0 m.1) ms
+pub monitors_are_rows : (ms : List (List ℕ × Monitor)) → monitors_text (map (λ m. m.0) ms) (map (λ m. m.1) ms) ≡ flat_map (λ m. monitor_line m.0 m.1) ms
 monitors_are_rows [] = refl
 monitors_are_rows (m ∷ ms) = ap (λ (more : List ℕ). monitor_line m.0 m.1 ++ more) (monitors_are_rows ms)
 
-processes_are_rows : (ps : List (List ℕ × Process)) → processes_text (map (λ p. p.0) ps) (map (λ p. p.1) ps) ≡ flat_map (λ p. process_lines p.0 p.1) ps
+pub processes_are_rows : (ps : List (List ℕ × Process)) → processes_text (map (λ p. p.0) ps) (map (λ p. p.1) ps) ≡ flat_map (λ p. process_lines p.0 p.1) ps
 processes_are_rows [] = refl
 processes_are_rows (p ∷ ps) = ap (λ (more : List ℕ). process_lines p.0 p.1 ++ more) (processes_are_rows ps)
 

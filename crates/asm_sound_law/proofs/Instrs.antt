@@ -1,5 +1,5 @@
 -- The lines of instructions.
-use Rattle.std.proofs.Common.{◌≡◌, ◌≤◌, ◌<◌, ◌-◌, ◌+◌, ◌++◌, ◌&&◌, ◌||◌, ◌==◌, ℕ, zero, suc, ℤ, pos, Bool, true, false, List, [], ◌∷◌, length, take, drop, map, Option, Some, None, refl, sym, ap, ◌∙◌, arith}
+use Rattle.std.proofs.Common.{◌≡◌, ◌≤◌, ◌<◌, ◌-◌, ◌+◌, ◌++◌, ◌&&◌, ◌||◌, ◌==◌, ℕ, zero, suc, ℤ, Bool, true, false, List, [], ◌∷◌, length, take, drop, map, Option, Some, None, refl, sym, ap, ◌∙◌, arith}
 use Rattle.std.specs.Prelude.{codes, nat_le, nat_eq, slice_index_or, slice_get, if◌then◌else◌}
 use Rattle.std.specs.Cmp.Lexicographic.{pointwise}
 use Rattle.std.specs.Fmt.{signed_decimal}
@@ -18,12 +18,9 @@ use Rattle.asm_lines.specs.Instrs.{place_from, number_of, operand_read, numbered
 use Rattle.asm_sound_law.proofs.Took.{Start, Within, Takes, on, shown, nothing, Holds, went, failed, next, mapped}
 use Rattle.asm_sound_law.proofs.Passing.{opens_other, inside, other_line, moved_over, skip_took, end_took}
 use Rattle.asm_sound_law.proofs.Numbers.{both_true, fine_of, signed_took}
+use Rattle.image_reader_law.proofs.ImageSoundInstructions.{masked}
 
 -- ---- an instruction by its number and its operands
-
-abbrev masked : Bool → ℤ → ℤ
-masked true z = z
-masked false z = pos 0
 
 -- those that the instruction of the number names, and zeros for the others
 abbrev operands_with : ℕ → (a b c : ℤ) → List ℤ

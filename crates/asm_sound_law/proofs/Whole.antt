@@ -18,7 +18,8 @@ use Rattle.asm_sound_law.proofs.Took.{Start, ahead, Takes, along, Holds, went, n
 use Rattle.asm_sound_law.proofs.Numbers.{both_true, fine_of, IsIn, at_most}
 use Rattle.asm_sound_law.proofs.Names.{IsName, head_took}
 use Rattle.asm_sound_law.proofs.Rows.{EachHeld, each_held}
-use Rattle.asm_sound_law.proofs.Sections.{monitor_text, process_text, IsDevice, IsEvent, IsMonitor, IsCondition, IsRoutineOf, IsProcessOf, IsInstr, work_text, guarded_text, Named, named_text, NamedFits, IsNamed, named_took, finish_took}
+use Rattle.asm_sound_law.proofs.Sections.{monitor_text, process_text, IsDevice, IsEvent, IsMonitor, IsCondition, IsRoutineOf, IsProcessOf, IsInstr, work_text, guarded_text, named_text, NamedFits, IsNamed, named_took, finish_took}
+use Rattle.image_reader_law.proofs.ImageFaultsWhole.{Named}
 
 -- ---- the text
 

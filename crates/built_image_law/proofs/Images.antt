@@ -11,10 +11,10 @@ use Rattle.built_image_law.specs.FilledLaws.{ShapesAgree}
 use Rattle.built_image_law.specs.Once.{BuiltImagesAreOne, TimelyOrLate}
 use Rattle.built_image_law.proofs.Bounds.{one_bound, same_responses, same_bound}
 
-one_process : (p q : Process) → without_bound p ≡ without_bound q → p.bound ≡ q.bound → p ≡ q
+pub one_process : (p q : Process) → without_bound p ≡ without_bound q → p.bound ≡ q.bound → p ≡ q
 one_process p q alike bounds = ap (λ (x : Process). record x { bound = p.bound }) alike ∙ ap (λ b. record q { bound = b }) bounds
 
-found : {A : Type 0} (o : Option A) (x y : A) → o ≡ Some x → o ≡ Some y → x ≡ y
+pub found : {A : Type 0} (o : Option A) (x y : A) → o ≡ Some x → o ≡ Some y → x ≡ y
 found o x y one two = cc
 
 module _ (m n : Image) (same : without_bounds m ≡ without_bounds n) (least : HasLeastBounds m) (lowest : HasLeastBounds n) where

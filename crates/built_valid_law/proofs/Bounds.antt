@@ -1,13 +1,10 @@
 -- Least bounds are bounds: the task of a rank is that of the process that has it.
 use Rattle.std.proofs.Common.{◌≡◌, ◌≤◌, ◌<◌, ◌+◌, ◌-◌, ℕ, zero, suc, length, Option, Some, None, arith, ap, sym, ◌∙◌, false, Bool}
 use Rattle.std.specs.Prelude.{slice_get, slice_index_or}
-use Rattle.std.proofs.lemmas.Bool.{eq-eqb}
 use Rattle.sched_response.specs.declared.tasks.Task.{Task}
 use Rattle.sched_response.specs.Demand.{Solves, task_at}
 use Rattle.machine_semantics.specs.Image.{Image, Process}
 use Rattle.valid_image.specs.Tasks.{process_at, task_of, tasks_from, tasks_of}
-use Rattle.valid_image.specs.Fault.{unless}
-use Rattle.valid_image.specs.Sizes.{other}
 use Rattle.valid_image.specs.Times.{rank_fault}
 use Rattle.code_measures.specs.Whole.{HasRanks}
 use Rattle.valid_image_law.proofs.Ranking.{ranked, one_each}
@@ -16,9 +13,6 @@ use Rattle.code_measures.proofs.Valid.{no_rank_fault}
 use Rattle.valid_image_law.proofs.Timing.{search}
 
 -- ---- ranks
-
-same_none : (d n : ℕ) → d ≡ n → other d n ≡ None
-same_none d n e = ap (λ b. unless b d n) (eq-eqb d n e)
 
 no_less : {a b : ℕ} → a ≡ b → b ≤ a
 no_less e = omega (arith, e)

@@ -1,6 +1,6 @@
 -- An image that is built has a plan.
 use Rattle.std.proofs.Common.{◌≡◌, ◌≤◌, ◌<◌, ℕ, true, false, length, Some, None, arith, refl}
-use Rattle.std.specs.Prelude.{ℤ, pos, negsuc, slice_get}
+use Rattle.std.specs.Prelude.{slice_get}
 use Rattle.std.proofs.lemmas.Option.{slice_get_within}
 use Rattle.base.proofs.Lists.{all_of}
 use Rattle.machine_isa.specs.declared.instr.Instr.{Instr}
@@ -11,26 +11,16 @@ use Rattle.machine_semantics.specs.Image.{Image, Process, Routine, end_of}
 use Rattle.code_spec.specs.Compiled.{IsCodeOf, IsReleased}
 use Rattle.vm_law.specs.Operands.{AreThere, IsThere}
 use Rattle.vm_plan.specs.HasPlan.{CanRun, HasPlan}
-use Rattle.machine_safety_spec.specs.Part.{IsBelow}
 use Rattle.machine_safety_spec.specs.Safe.{Parts, ImageFits}
 use Rattle.machine_safety_spec.specs.Walk.{Where}
-use Rattle.vm_state.specs.Seen.{IsLimit, IsSmall}
 use Rattle.vm_state.specs.Plan.{HasNumbers}
 use Rattle.valid_image.specs.Valid.{HasLimits, Sizes, fault_of_part}
 use Rattle.valid_image_law.proofs.Passing.{params_fit}
 use Rattle.built_image_law.proofs.Texts.{Emitted, emitted}
 use Rattle.built_valid_law.proofs.Counts.{Counted}
-use Rattle.vm_plan.proofs.Planned.{handler_ends, Stands}
+use Rattle.vm_plan.proofs.Planned.{handler_ends, Stands, small, limit_is}
 
 -- ---- numbers
-
-small : (z : ℤ) (n : ℕ) → n ≤ 65536 → IsBelow z n → IsSmall z
-small (pos k) n le below = let same : k ≡ below.0 = (let is : pos k ≡ pos below.0 = below.1 in cc) in omega (arith, same, below.2, le)
-small (negsuc k) n le below = absurd (let is = below.1 in cc)
-
-limit_is : (z : ℤ) (n : ℕ) → IsBelow z n → IsLimit z
-limit_is (pos k) n below = tt
-limit_is (negsuc k) n below = absurd (let is = below.1 in cc)
 
 module _ (m : Image) (monitors : length m.monitors ≤ 64) (conditions : length m.conditions ≤ 256) (devices : length m.devices ≤ 64) where
   has_numbers : (instr : Instr) → IsThere m instr → HasNumbers instr

@@ -19,7 +19,7 @@ use Rattle.code_spec.specs.Boundary.{Compiled}
 use Rattle.code_simulation.specs.Process.{setting_of, ProperHandler}
 use Rattle.code_simulation.proofs.FaithfulLemmas.{emitted_is_faithful}
 use Rattle.code_simulation.specs.Kept.{KeepsRules}
-use Rattle.code_names_law.proofs.Numbers.{found_there, monitor_there, of_list}
+use Rattle.code_names_law.proofs.Numbers.{found_there, monitor_there, of_list, or_true}
 use Rattle.code_simulation.proofs.Emitted.{code_is_emitted}
 use Rattle.wellformed.specs.Here.{Here, own_of, is_function_at, in_routine, in_process}
 use Rattle.wellformed.specs.Statements.{AllFit}
@@ -32,12 +32,9 @@ use Rattle.code_names_law.proofs.Rules.{stmts_below, stmts_quiet, process_agrees
 use Rattle.code_correct.proofs.Rules.{routine_proper}
 use Rattle.code_names_law.proofs.Tables.{monitor_row, condition_row}
 use Rattle.code_names_law.proofs.Turns.{turns_count}
+use Rattle.code_names_law.proofs.Rows.{not_process}
 
 -- ---- numbers among numbers
-
-or_true : (b : Bool) → b || true ≡ true
-or_true true = refl
-or_true false = refl
 
 includes_front : (k : ℕ) (xs ys : List ℕ) → includes k xs ≡ true → includes k (xs ++ ys) ≡ true
 includes_front k [] ys h = absurd (false≢true h)
@@ -86,12 +83,6 @@ module _ (g : Prog) (p : Process) (fits : ProcessFits g p) where
         inr (ap (λ y. y.home) (sym (same (record { home = of_program; routine = r }) h)), eb ∙ ap (λ y. Some y.routine) (same (record { home = of_program; routine = r }) h)),
       )
       by_found None None ea eb h = absurd (none-some x h)
-
-not_process : of_program ≡ of_process → ⊥
-not_process e = cc
-
-not_program : of_process ≡ of_program → ⊥
-not_program e = cc
 
 not_function : (an : Option Answers) (a : Answers) → an ≡ Some a → not (is_some an) ≡ false
 not_function an a e = ap (λ y. not (is_some y)) e

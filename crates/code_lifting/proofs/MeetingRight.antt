@@ -31,7 +31,7 @@ nth_text [] k = record { name = []; activation = periodic (literal_constant fals
 nth_text (p ∷ ps) zero = p
 nth_text (p ∷ ps) (suc k) = nth_text ps k
 
-abbrev text : ℕ → tree.Process
+abbrev pub text : ℕ → tree.Process
 text k = nth_text (processes signalled_wait) k
 
 abbrev g : Prog

@@ -20,6 +20,7 @@ use Rattle.machine_semantics.specs.Tick as tick
 use Rattle.code_lifting.specs.Related.{Whole, Relations, inside_of, Same, Related}
 use Rattle.code_lifting.specs.Compiled.{IsCompiled}
 use Rattle.code_lifting.proofs.Touch.{Text, text_of, inside_is}
+use Rattle.machine_safety.proofs.Picked.{NoneReady}
 
 -- ---- the order of candidates
 
@@ -47,9 +48,6 @@ pub record Least (image : Image) (from : ℕ) (ps : List Process) (ts : List Thr
   pub ready : slice_get ts index ≡ Some (Ready job)
   pub key : IsKey image c p job
   pub least : (j : ℕ) (q : Process) (other : target.Job) (a : Candidate) → slice_get ps j ≡ Some q → slice_get ts j ≡ Some (Ready other) → IsKey image a q other → is_before a c ≡ false
-
-abbrev pub NoneReady : List Process → List Thread → Type 0
-NoneReady ps ts = (j : ℕ) (q : Process) (other : target.Job) → slice_get ps j ≡ Some q → slice_get ts j ≡ Some (Ready other) → ⊥
 
 abbrev pub LeastOf : Image → ℕ → List Process → List Thread → Option Candidate → Type 0
 LeastOf image from ps ts None = NoneReady ps ts

@@ -39,10 +39,10 @@ queued_once s queued c k = omega (arith, queued c k, most c (slice_get s.threads
 
 -- ---- at the start
 
-abbrev empty : List ℕ
+abbrev pub empty : List ℕ
 empty = []
 
-no_queues : (cs : List ℕ) → map (λ (c : ℕ). empty) cs ≡ replicate (length cs) empty
+pub no_queues : (cs : List ℕ) → map (λ (c : ℕ). empty) cs ≡ replicate (length cs) empty
 no_queues [] = refl
 no_queues (c ∷ cs) = ap (λ (qs : List (List ℕ)). [] ∷ qs) (no_queues cs)
 

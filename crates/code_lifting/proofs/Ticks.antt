@@ -32,7 +32,7 @@ pub record At (w : Whole) (r : Relations) (script : Script) (t limit : ℕ) (s :
   pub fresh : c.acted && nat_eq c.tick t ≡ false
   pub none : NoneMissing w.program script c limit
 
-vars_same : (c : Config) (o : Option ℕ) → vars_of c o ≡ monitor_vars c.holds o
+pub vars_same : (c : Config) (o : Option ℕ) → vars_of c o ≡ monitor_vars c.holds o
 vars_same c None = refl
 vars_same c (Some m) = refl
 

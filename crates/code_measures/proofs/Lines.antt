@@ -12,7 +12,7 @@ use Rattle.code_measures.proofs.Adding.{adds, found_same, some_found, chain_some
 
 -- ---- code in pieces
 
-has_first : (code : List Instr) (p : ℕ) (is js : List Instr) → Has code p (is ++ js) → Has code p is
+pub has_first : (code : List Instr) (p : ℕ) (is js : List Instr) → Has code p (is ++ js) → Has code p is
 has_first code p [] js h = tt
 has_first code p (x ∷ is) js h = (h.0, has_first code (p + 1) is js h.1)
 

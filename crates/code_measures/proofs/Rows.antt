@@ -27,11 +27,11 @@ use Rattle.code_measures.proofs.Maps.{map_routine}
 
 -- ---- levels
 
-cost_at : (n : ℕ) (g : Prog) (t : Text) → (calls_at (suc n) g).cost t ≡ routine_cost g (routine_names g t) (calls_at n g) t
+pub cost_at : (n : ℕ) (g : Prog) (t : Text) → (calls_at (suc n) g).cost t ≡ routine_cost g (routine_names g t) (calls_at n g) t
 unfolding calls_at
 cost_at n g t = refl
 
-height_at : (n : ℕ) (g : Prog) (t : Text) → (calls_at (suc n) g).height t ≡ routine_height g t.owner (calls_at n g) t.routine
+pub height_at : (n : ℕ) (g : Prog) (t : Text) → (calls_at (suc n) g).height t ≡ routine_height g t.owner (calls_at n g) t.routine
 unfolding calls_at
 height_at n g t = refl
 

@@ -15,7 +15,7 @@ use Rattle.code_measures.proofs.ShapePart.{no_shape_fault}
 use Rattle.code_measures.proofs.HandlerPart.{no_handler_fault}
 use Rattle.code_measures.proofs.SizePart.{no_size_fault}
 
-same_none : (d n : ℕ) → d ≡ n → other d n ≡ None
+pub same_none : (d n : ℕ) → d ≡ n → other d n ≡ None
 same_none d n e = ap (λ b. unless b d n) (eq-eqb d n e)
 
 pub no_rank_fault : (m : image.Image) → HasRanks m → rank_fault m ≡ None

@@ -232,10 +232,10 @@ meant p g f x e = by_found (named entry_name f p.routines) (named entry_name f (
     by_found None (Some r) ea eb h = inr (ap (λ y. y.home) (sym (same_Some (record { home = of_program; routine = r }) x h)), eb ∙ ap (λ y. Some y.routine) (same_Some (record { home = of_program; routine = r }) x h))
     by_found None None ea eb h = absurd (none-some x h)
 
-not_process : of_program ≡ of_process → ⊥
+pub not_process : of_program ≡ of_process → ⊥
 not_process e = cc
 
-not_program : of_process ≡ of_program → ⊥
+pub not_program : of_process ≡ of_program → ⊥
 not_program e = cc
 
 -- the text of a routine that a process may call

@@ -13,11 +13,6 @@ pub get_at : {A : Type 0} (xs : List A) (x : A) (ys : List A) → slice_get (xs 
 get_at [] x ys = refl
 get_at (z ∷ xs) x ys = get_at xs x ys
 
--- code that stands there is that of two parts, one after the other
-pub has_first : (all : List Instr) (p : ℕ) (xs ys : List Instr) → Has all p (xs ++ ys) → Has all p xs
-has_first all p [] ys h = tt
-has_first all p (x ∷ xs) ys h = (h.0, has_first all (p + 1) xs ys h.1)
-
 pub has_rest : (all : List Instr) (p q : ℕ) (xs ys : List Instr) → q ≡ p + length xs → Has all p (xs ++ ys) → Has all q ys
 has_rest all p q [] ys e h = let f : p ≡ q = omega arith in subst (λ k. Has all k ys) f h
 has_rest all p q (x ∷ xs) ys e h = let f : q ≡ p + 1 + length xs = omega arith in has_rest all (p + 1) q xs ys f h.1

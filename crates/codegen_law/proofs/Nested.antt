@@ -12,10 +12,11 @@ use Rattle.code_spec.specs.Emits.{Has, At, turns_of, condition_of, monitor_of, E
 use Rattle.codegen_spec.specs.Told.{fit, told_callee, within}
 use Rattle.codegen_spec.specs.Made.{Out, push, aimed, aims, call_out, args_out, index_out, store_out, put_out, condition_told, count_told, choice, between, turning, counting, stepped, expr_out, stmt_out, stmts_out, looped, closed}
 use Rattle.codegen_law.specs.MadeRightFits.{Fit, CallFits, ArgsFit, StmtFits, StmtsFit}
-use Rattle.codegen_law.proofs.Lists.{set_at, has_first, has_rest, aims_all}
+use Rattle.codegen_law.proofs.Lists.{set_at, has_rest, aims_all}
 use Rattle.codegen_law.proofs.Twice.{all_twice}
 use Rattle.codegen_law.proofs.Expressions.{still_more, aiming, exit_of, to_of, LineMade, one_made, both_made, call_made, ExprMade, expr_made, args_made}
 use Rattle.codegen_law.proofs.Statements.{fit_small, StmtMade, StmtsMade, store_made, put_made, index_made, line_made, assert_made, exit_made}
+use Rattle.code_measures.proofs.Lines.{has_first}
 
 -- the jump of a choice is patched when the arm behind it is there
 armed : (pre ca : List Instr) (begun jump done : Instr) → slice_set (((pre ++ begun ∷ []) ++ ca) ++ jump ∷ []) (length pre) done ≡ pre ++ done ∷ (ca ++ jump ∷ [])

@@ -18,7 +18,7 @@ use Rattle.code_measures.proofs.Seen.{sees}
 use Rattle.codegen_spec.specs.declared.code.ProcessParts.{ProcessParts}
 use Rattle.codegen_spec.specs.Made.{Out, begun, stmts_out}
 use Rattle.codegen_spec.specs.Parts.{opened, part_of, body_out, ended, process_out, handler_part}
-use Rattle.codegen_law.proofs.Lists.{has_first, has_rest}
+use Rattle.codegen_law.proofs.Lists.{has_rest}
 use Rattle.codegen_law.proofs.Statements.{StmtsMade}
 use Rattle.codegen_law.proofs.Nested.{stmts_made}
 use Rattle.codegen_law.proofs.Bounds.{all_bounds_fit}
@@ -26,6 +26,7 @@ use Rattle.codegen_law.proofs.Growth.{Grows, part_tree}
 use Rattle.codegen_law.proofs.Segments.{stmts_grows}
 use Rattle.codegen_law.specs.MadeWholeFits.{HandlerFits, ProcessFits}
 use Rattle.codegen_spec.specs.Held.{HoldsHandler, HoldsProcess}
+use Rattle.code_measures.proofs.Lines.{has_first}
 
 -- what is made of a process behind so much code, and its parts
 abbrev pub body_of : Prog → ℕ → Process → List Instr → Out

@@ -17,7 +17,7 @@ use Rattle.codegen_spec.specs.declared.code.ProcessParts.{ProcessParts}
 use Rattle.codegen_spec.specs.declared.code.Code.{Code}
 use Rattle.codegen_spec.specs.Made.{push}
 use Rattle.codegen_spec.specs.Parts.{part_of, return_of, text_made, texts_made, process_made, processes_made, nothing_made, program_made}
-use Rattle.codegen_law.proofs.Lists.{has_first, has_rest}
+use Rattle.codegen_law.proofs.Lists.{has_rest}
 use Rattle.codegen_law.proofs.Emitted.{has_there}
 use Rattle.codegen_law.specs.MadeWholeFits.{RoutineFits, ProcessFits}
 use Rattle.codegen_spec.specs.Held.{HoldsRoutine, HoldRoutines, HoldProcesses}
@@ -25,6 +25,7 @@ use Rattle.codegen_law.specs.Whole.{MadeHasItsLength, MadeIsCode}
 use Rattle.codegen_law.proofs.Numbers.{few_routines}
 use Rattle.codegen_law.proofs.Routines.{whole_out, RoutineCode, routine_code, routine_long, routine_tree}
 use Rattle.codegen_law.proofs.Processes.{parts_of, ProcessCode, process_code, process_long}
+use Rattle.code_measures.proofs.Lines.{has_first}
 
 -- ---- the length, which does not ask how large anything is
 

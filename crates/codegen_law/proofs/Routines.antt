@@ -24,7 +24,7 @@ use Rattle.code_measures.proofs.Seen.{sees}
 use Rattle.codegen_spec.specs.Told.{fit, range_told}
 use Rattle.codegen_spec.specs.Made.{Out, push, closed, line_of, expr_out, range_out, stmts_out}
 use Rattle.codegen_spec.specs.Parts.{opened, answer_out, inner_out, entered, routine_out, return_of}
-use Rattle.codegen_law.proofs.Lists.{has_first, has_rest}
+use Rattle.codegen_law.proofs.Lists.{has_rest}
 use Rattle.codegen_law.proofs.Expressions.{aiming, LineMade, none_made, both_made, range_made, expr_made}
 use Rattle.codegen_law.proofs.Statements.{fit_small, StmtsMade}
 use Rattle.codegen_law.proofs.Nested.{stmts_made}
@@ -33,6 +33,7 @@ use Rattle.codegen_law.proofs.Bounds.{all_bounds_fit}
 use Rattle.codegen_law.proofs.Growth.{Grows, none, both, part_tree}
 use Rattle.codegen_law.proofs.Segments.{range_grows, expr_grows, stmts_grows}
 use Rattle.codegen_law.specs.MadeWholeFits.{AnswersFit, OwnerFits, RoutineFits}
+use Rattle.code_measures.proofs.Lines.{has_first}
 
 -- ---- the result
 

@@ -10,8 +10,9 @@ use Rattle.code_spec.specs.Emits.{Has, At, IsLine, Emits, EmitsAll}
 use Rattle.codegen_spec.specs.Told.{fit, told_area, told_range, told_shape, told_spot}
 use Rattle.codegen_spec.specs.Made.{Out, aimed, range_out, store_to, store_at_out, put_whole, put_part, put_out, store_whole, store_part, store_out, index_out, expr_out, stmt_out, stmts_out, open_exit}
 use Rattle.codegen_law.specs.MadeRightFits.{Fit, ShapeFits, SpotFits, RefFits}
-use Rattle.codegen_law.proofs.Lists.{has_first, has_rest}
+use Rattle.codegen_law.proofs.Lists.{has_rest}
 use Rattle.codegen_law.proofs.Expressions.{Still, still_more, aiming, Exits, exit_of, to_of, Outside, LineMade, none_made, one_made, both_made, range_made, ExprMade, expr_made}
+use Rattle.code_measures.proofs.Lines.{has_first}
 
 pub fit_small : (n : ℕ) → n ≤ 2147483647 → fit (pos n) ≡ pos n
 fit_small n h = let e : min n 2147483647 ≡ n = omega arith in ap pos e

@@ -1,6 +1,6 @@
 -- The operands of loads, stores, checks and calls.
 use Rattle.std.specs.Prelude.{◌≡◌, ◌||◌, ℕ, Bool, true, false, ℤ, pos, negsuc, List, [], ◌∷◌, ◌++◌, Option, Some, None, int_le, All}
-use Rattle.std.proofs.Common.{refl, sym, ap, subst, ◌∙◌}
+use Rattle.std.proofs.Common.{refl, sym, subst}
 use Rattle.std.proofs.lemmas.List.Elements.{All-head, All-tail}
 use Rattle.base.specs.Words.{within}
 use Rattle.syntax_tree.specs.Plain.{Name, Param, Op, or, and, equal, unequal, less, less_equal, greater, greater_equal, add, sub, mul, div, remainder, Expr, literal, truth, variable, element, call, minus, negation, paren, row, Exprs, no_exprs, exprs, Operands, no_operands, operand, Ref, whole, part, Prog}
@@ -20,13 +20,11 @@ use Rattle.codegen_operands.specs.Lies.{ShapeLies, InOrder, AllLie, area_of, Spo
 use Rattle.codegen_operands.proofs.AreasLemmas.{scalar_order, spot_lies, none_bad}
 use Rattle.codegen_operands.specs.Has.{AllOf}
 use Rattle.codegen_operands.specs.Fine.{IsFine, MayCall}
+use Rattle.code_measures.proofs.CostPart.{both_none}
 
 pub all_both : (P : Instr → Type 0) (xs ys : List Instr) → AllOf P xs → AllOf P ys → AllOf P (xs ++ ys)
 all_both P [] ys h k = k
 all_both P (x ∷ xs) ys h k = (h.0, all_both P xs ys h.1 k)
-
-pub neither_bad : {A : Type 0} (x y : Option A) → x ≡ None → y ≡ None → or_else x y ≡ None
-neither_bad x y e f = ap (λ o. or_else o y) e ∙ f
 
 first_good : (b : Bool) (z : ℤ) (later : Option ℤ) → or_else (bad b z) later ≡ None → b ≡ true
 first_good true z later e = refl
@@ -113,8 +111,8 @@ module _ (m : Image) (w : Whose) where
 
   pub wait_fine : (c limit number : ℕ) → is_own_condition m w (pos c) ≡ true → is_between 1 1000000000 (pos limit) ≡ true → is_user_number (pos number) ≡ true → IsFine m w (i.Wait (pos c) (pos limit) (pos number))
   wait_fine c limit number own some user =
-      neither_bad (bad (is_own_condition m w (pos c)) (pos c)) (or_else (bad (is_between 1 1000000000 (pos limit)) (pos limit)) (bad (is_user_number (pos number)) (pos number))) (none_bad _ (pos c) own)
-      (neither_bad (bad (is_between 1 1000000000 (pos limit)) (pos limit)) (bad (is_user_number (pos number)) (pos number)) (none_bad _ (pos limit) some) (none_bad _ (pos number) user))
+      both_none (bad (is_own_condition m w (pos c)) (pos c)) (or_else (bad (is_between 1 1000000000 (pos limit)) (pos limit)) (bad (is_user_number (pos number)) (pos number))) (none_bad _ (pos c) own)
+      (both_none (bad (is_between 1 1000000000 (pos limit)) (pos limit)) (bad (is_user_number (pos number)) (pos number)) (none_bad _ (pos limit) some) (none_bad _ (pos number) user))
 
   pub raise_fine : (n : ℕ) → is_user_number (pos n) ≡ true → IsFine m w (i.Raise (pos n))
   raise_fine n user = none_bad (is_between 4 4 (pos n) || is_user_number (pos n)) (pos n) (either (is_between 4 4 (pos n)) (is_user_number (pos n)) user)

@@ -1,7 +1,7 @@
 -- The numbers of a checked program that keeps to the rules of size fit their fields.
 use Rattle.std.specs.Prelude.{All, Contains, slice_get, sum_by, int_le}
-use Rattle.std.proofs.Common.{◌≡◌, ◌≤◌, ◌<◌, ◌+◌, ◌⊎◌, ◌||◌, ◌&&◌, inl, inr, refl, subst, ℕ, zero, suc, Bool, true, false, ℤ, pos, negsuc, List, [], ◌∷◌, Option, Some, None, map, filter_map, arith}
-use Rattle.std.proofs.lemmas.Bool.{cases_lt, leb-true}
+use Rattle.std.proofs.Common.{◌≡◌, ◌≤◌, ◌+◌, ◌⊎◌, ◌||◌, ◌&&◌, inl, inr, refl, subst, ℕ, zero, suc, Bool, true, false, ℤ, pos, negsuc, List, [], ◌∷◌, Option, Some, None, map, filter_map, arith}
+use Rattle.std.proofs.lemmas.Bool.{leb-true}
 use Rattle.std.proofs.lemmas.Option.{get_or_from_slice_get, slice_get_within, none-some, same_Some}
 use Rattle.std.proofs.lemmas.List.Sums.{sum_by-cons}
 use Rattle.base.proofs.Members.{front_or_behind, at_front, behind, none_in}
@@ -24,9 +24,7 @@ use Rattle.compile_image.specs.Fields.{AreExceptions, FitsHandler, monitors_word
 use Rattle.compile.specs.Assembled.{CheckedProgramsFitFields, KeepsToSizes}
 use Rattle.compile.proofs.Made.{routine_parts, process_parts}
 use Rattle.compile.proofs.Owners.{owners-low}
-
-not-over : (m n : ℕ) → (m < n → ⊥) → n ≤ m
-not-over m n h = elim (cases_lt m n) [ inl less ↦ absurd (h less) | inr low ↦ low ]
+use Rattle.checked_law.proofs.SmallLemmas.{not_over}
 
 -- ---- texts
 
@@ -42,7 +40,7 @@ text-small : (g : Prog Place) → KeepsToSizes g → (t : Text) → Contains (te
 text-small g sizes t listed =
     let d = unmapped plain_text (placed_texts 0 0 g.decls) t (subst (λ ts. Contains ts t) (plain_texts 0 0 g.decls) listed) in
     let low : routine_stack (plain g) d.0.owner (plain_routine d.0.routine) ≤ 4096 =
-    not-over 4096 (routine_stack (plain g) d.0.owner (plain_routine d.0.routine)) (λ over. sizes 47 d.0.routine.place (inr (refl, inl (record { text = d.0; listed = d.1; is = refl; over = over })))) in
+    not_over 4096 (routine_stack (plain g) d.0.owner (plain_routine d.0.routine)) (λ over. sizes 47 d.0.routine.place (inr (refl, inl (record { text = d.0; listed = d.1; is = refl; over = over })))) in
     let words : routine_words (plain g) (plain_text d.0).routine ≤ 4096 = omega (arith, low) in
     subst (λ u. routine_words (plain g) u.routine ≤ 4096) d.2 words
 
@@ -62,7 +60,7 @@ process-small : (g : Prog Place) → KeepsToSizes g → (n : ℕ) (p : plain_of.
 process-small g sizes n p there =
     let d = placed-at g.decls n p there in
     let low : stack_of_process (plain g) n (plain_process d.0) ≤ 4096 =
-    not-over 4096 (stack_of_process (plain g) n (plain_process d.0)) (λ over. sizes 47 d.0.place (inr (refl, inr (record { number = n; text = d.0; listed = d.1; is = refl; over = over })))) in
+    not_over 4096 (stack_of_process (plain g) n (plain_process d.0)) (λ over. sizes 47 d.0.place (inr (refl, inr (record { number = n; text = d.0; listed = d.1; is = refl; over = over })))) in
     subst (λ q. stack_of_process (plain g) n q ≤ 4096) d.2 low
 
 either : (a b c d : Bool) → (a && b) || (c && d) ≡ true → (b ≡ true) ⊎ (d ≡ true)
@@ -109,7 +107,7 @@ fits-fields all_ready g checked sizes =
     let p : plain_of.Prog = plain g in
     let ready : IsReady p = all_ready g checked in
     let formed : IsWellFormed p = ready.formed in
-    let low : code_length p ≤ 65535 = not-over 65535 (code_length p) (λ over. sizes 46 g.place (inl (refl, record { is = refl; over = over }))) in
+    let low : code_length p ≤ 65535 = not_over 65535 (code_length p) (λ over. sizes 46 g.place (inl (refl, record { is = refl; over = over }))) in
     record {
       few_monitors = formed.counts_fit.few_monitors;
       few_events = formed.counts_fit.few_events;

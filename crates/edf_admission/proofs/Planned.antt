@@ -1,6 +1,6 @@
 -- What a run asks of an image, from the tests of validity and the ranges of a file.
 use Rattle.std.proofs.Common.{◌≡◌, ◌≤◌, ◌∙◌, ℕ, true, false, List, length, map, Some, arith, refl, sym, subst}
-use Rattle.std.specs.Prelude.{ℤ, pos, negsuc, slice_get}
+use Rattle.std.specs.Prelude.{slice_get}
 use Rattle.std.proofs.lemmas.List.{length-map}
 use Rattle.std.proofs.lemmas.List.Elements.{All-map}
 use Rattle.std.proofs.lemmas.Option.{slice_get_within}
@@ -19,13 +19,11 @@ use Rattle.vm_law.proofs.There.{all_there}
 use Rattle.vm_plan.specs.HasPlan.{CanRun, HasPlan}
 use Rattle.image_reader_law.specs.ReadNames.{IsNamed}
 use Rattle.image_reader_law.proofs.Names.{read_names}
-use Rattle.machine_safety_spec.specs.Part.{IsBelow}
 use Rattle.machine_safety_spec.specs.Safe.{ImageFits}
 use Rattle.script.specs.declared.script.ScriptLine.{ScriptLine}
 use Rattle.script.specs.Scripts.{IsScript}
 use Rattle.vm_law.specs.ScriptSuits.{ScriptsForImagesReadSuit, script_with}
 use Rattle.vm_law.specs.Suits.{Suits}
-use Rattle.vm_state.specs.Seen.{IsLimit, IsSmall}
 use Rattle.image_loaded.specs.Shape.{AreOf, IsShape}
 use Rattle.vm_state.specs.Plan.{HasNumbers}
 use Rattle.valid_image_law.proofs.Parts.{no_part, where_in}
@@ -37,17 +35,9 @@ use Rattle.edf_admission.specs.Admitted.{IsAdmitted}
 use Rattle.edf_admission.proofs.Premises.{fits}
 use Rattle.edf_admission.specs.Ready.{CanBeRun}
 use Rattle.edf_admission.proofs.Held.{holds}
-use Rattle.vm_plan.proofs.Planned.{handler_ends}
+use Rattle.vm_plan.proofs.Planned.{handler_ends, small, limit_is}
 
 -- ---- numbers
-
-small : (z : ℤ) (n : ℕ) → n ≤ 65536 → IsBelow z n → IsSmall z
-small (pos k) n le below = let same : k ≡ below.0 = (let is : pos k ≡ pos below.0 = below.1 in cc) in omega (arith, same, below.2, le)
-small (negsuc k) n le below = absurd (let is = below.1 in cc)
-
-limit_is : (z : ℤ) (n : ℕ) → IsBelow z n → IsLimit z
-limit_is (pos k) n below = tt
-limit_is (negsuc k) n below = absurd (let is = below.1 in cc)
 
 module _ (image : Image) (monitors : length image.monitors ≤ 64) (conditions : length image.conditions ≤ 256) (devices : length image.devices ≤ 64) where
   has_numbers : (instr : Instr) → IsThere image instr → HasNumbers instr

@@ -1,7 +1,7 @@
 -- The image of a program without waits meets what the laws of earliest deadline first ask for.
 use Rattle.std.proofs.Common.{◌≡◌, ◌≤◌, ◌<◌, ◌-◌, inl, inr, ℕ, List, length, Option, Some, None, arith, refl, ap, sym, ◌∙◌, Bool}
 use Rattle.std.specs.Prelude.{slice_get}
-use Rattle.std.proofs.lemmas.Bool.{cases_lt, eq-eqb}
+use Rattle.std.proofs.lemmas.Bool.{cases_lt}
 use Rattle.base.proofs.Lists.{some_at}
 use Rattle.base.specs.Capped.{cap}
 use Rattle.syntax_tree.specs.Plain.{Prog}
@@ -13,8 +13,7 @@ use Rattle.sched_demand.specs.declared.tasks.DTask.{DTask}
 use Rattle.sched_demand.specs.Demand.{task_at, AreTasks}
 use Rattle.sched_demand.proofs.Demanding.{sorted}
 use Rattle.valid_image.specs.Shape.{shape_fault, handler_fault}
-use Rattle.valid_image.specs.Sizes.{other, cost_fault, size_fault, words_over_all}
-use Rattle.valid_image.specs.Fault.{unless}
+use Rattle.valid_image.specs.Sizes.{cost_fault, size_fault, words_over_all}
 use Rattle.valid_image.specs.Times.{rank_fault}
 use Rattle.valid_image.specs.Tables.{stay_of_process}
 use Rattle.valid_image.specs.Valid.{Operands, fault_of_part, HasLimits}
@@ -39,9 +38,6 @@ use Rattle.edf_correct.specs.EdfLaws.{MeetsPremises}
 use Rattle.edf_correct.proofs.Covering.{covered, stays_are}
 use Rattle.edf_correct.proofs.Placing.{place_in, are_ranks, last_of}
 use Rattle.code_measures.proofs.Valid.{no_rank_fault}
-
-same_none : (d n : ℕ) → d ≡ n → other d n ≡ None
-same_none d n e = ap (λ b. unless b d n) (eq-eqb d n e)
 
 module _ (g : Prog) (m : Image) (ready : IsReady g) (code : IsCodeOf g m) (declares : Declares g m) (few : words_over_all m ≤ 1048576) (has_ranks : HasRanks m) (operands : fault_of_part m Operands ≡ None) (limits : HasLimits m)
     (no_waits : (k : ℕ) (p : tree.Process) → slice_get (processes g) k ≡ Some p → (cost_of_process g k p).waits ≡ 0) where

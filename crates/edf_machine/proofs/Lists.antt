@@ -1,11 +1,8 @@
 -- Elements of lists, and how many there are.
-use Rattle.std.proofs.Common.{◌≡◌, ◌<◌, ◌⊎◌, inl, inr, ℕ, zero, suc, List, [], ◌∷◌, Some, length, map, get_or, arith, refl, ap, sym, ◌∙◌}
+use Rattle.std.proofs.Common.{◌≡◌, ◌⊎◌, inl, inr, ℕ, zero, suc, List, [], ◌∷◌, Some, arith, refl, ap}
 use Rattle.std.specs.Prelude.{slice_get, slice_set}
-use Rattle.std.proofs.lemmas.Option.{slice_get-get_or}
-use Rattle.machine_semantics.specs.Image.{Image, Process}
 use Rattle.vm_state.specs.declared.threads.Cell.{Cell}
-use Rattle.vm_state.specs.Threads.{rooms_of, thread_of, threads_of}
-use Rattle.vm_releases.proofs.Boards.{as_long}
+use Rattle.vm_state.specs.Threads.{thread_of, threads_of}
 
 pub at_set : {X : Type 0} (xs : List X) (k : ℕ) (x : X) (j : ℕ) (y : X) → slice_get (slice_set xs k x) j ≡ Some y → ((k ≡ j) × (x ≡ y)) ⊎ ((k ≡ j → ⊥) × (slice_get xs j ≡ Some y))
 at_set [] k x j y at = absurd cc
@@ -14,17 +11,7 @@ at_set (z ∷ zs) zero x (suc j) y at = inr (λ e. absurd (omega (arith, e)), at
 at_set (z ∷ zs) (suc k) x zero y at = inr (λ e. absurd (omega (arith, e)), at)
 at_set (z ∷ zs) (suc k) x (suc j) y at = elim (at_set zs k x j y at) [ inl h ↦ inl (ap suc h.0, h.1) | inr h ↦ inr (λ e. h.0 (omega (arith, e)), h.1) ]
 
-pub read_at : {X : Type 0} (xs : List X) (k : ℕ) (x : X) → k < length xs → x ≡ get_or xs k x → slice_get xs k ≡ Some x
-read_at xs k x below is = slice_get-get_or xs k x below ∙ ap (λ (y : _). Some y) (sym is)
-
 -- ---- processes, and cells of a board
-
-pub cells_count : (image : Image) (cs : List Cell) → rooms_of cs ≡ map (λ (p : Process). p.stack) image.processes → length cs ≡ length image.processes
-cells_count image cs rooms = as_long cs image.processes rooms
-
-pub threads_count : (cs : List Cell) → length (threads_of cs) ≡ length cs
-threads_count [] = refl
-threads_count (c ∷ cs) = ap suc (threads_count cs)
 
 pub thread_at : (cs : List Cell) (k : ℕ) (c : Cell) → slice_get cs k ≡ Some c → slice_get (threads_of cs) k ≡ Some (thread_of c)
 thread_at [] k c at = absurd cc

@@ -6,7 +6,7 @@ use Rattle.std.proofs.lemmas.Option.{slice_get_within}
 use Rattle.base.specs.declared.event.Event.{Event}
 use Rattle.machine_isa.specs.declared.instr.Instr.{Instr}
 use Rattle.machine_semantics.specs.Image.{Image, Process, Script}
-use Rattle.machine_semantics.specs.State.{Job, Thread, Ready, State}
+use Rattle.machine_semantics.specs.State.{Thread, Ready, State}
 use Rattle.machine_semantics.specs.Tick.{Ticked, owned_of, settle}
 use Rattle.vm_stretch.specs.Stretch.{FitsIn, FitsThread, left, left_of, outcomes, pass, pass_thread}
 use Rattle.vm_stretch.specs.Quiet.{AreQuiet}
@@ -44,9 +44,6 @@ some_left run k safe is = by (is_ready run k is).job.burn (slice_get run.image.c
   by (suc b) o at = omega arith
   by zero None at = omega arith
   by zero (Some instr) at = let below = early_now run k safe is instr at in omega (arith, below)
-
-pub fits_in : (image : Image) (n k : ℕ) (s : State) (job : Job) → slice_get s.threads k ≡ Some (Ready job) → n ≤ left image job → FitsIn image n s (Some k)
-fits_in image n k s job ready fits = subst (λ (x : Option Thread). FitsThread image n x) (sym ready) fits
 
 -- ---- the turn
 

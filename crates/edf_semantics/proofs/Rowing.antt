@@ -1,5 +1,5 @@
 -- Rows of instructions in runs.
-use Rattle.std.proofs.Common.{◌≡◌, ◌≤◌, ◌<◌, ◌+◌, ◌-◌, ◌++◌, inl, inr, ℕ, List, [], Option, Some, None, length, arith, refl, ap, sym, subst, ◌∙◌, false, append_assoc}
+use Rattle.std.proofs.Common.{◌≡◌, ◌≤◌, ◌<◌, ◌+◌, ◌-◌, ◌++◌, inl, inr, ℕ, List, [], Option, Some, length, arith, refl, ap, sym, subst, ◌∙◌, false, append_assoc}
 use Rattle.std.specs.Prelude.{ℤ, slice_get, slice_set}
 use Rattle.std.proofs.lemmas.Bool.{cases_lt}
 use Rattle.std.proofs.lemmas.List.{append-nil, length-set}
@@ -8,16 +8,15 @@ use Rattle.machine_isa.specs.declared.instr.Instr.{Instr}
 use Rattle.machine_isa.specs.Ticks.{ticks}
 use Rattle.base.specs.declared.event.Event.{Event}
 use Rattle.machine_semantics.specs.Image.{Image, Process, Script}
-use Rattle.machine_semantics.specs.State.{Job, Thread, Ready, State}
+use Rattle.machine_semantics.specs.State.{Thread, Ready, State}
 use Rattle.machine_semantics.specs.Effect.{Own, Outcome, effect}
 use Rattle.machine_semantics.specs.Starts.{Started, starts, unchanged}
 use Rattle.machine_semantics.specs.Tick.{Ticked, owned_of, settle}
 use Rattle.vm_stretch.specs.Stretch.{FitsIn, FitsThread, left, outcome_at_once, outcomes, pass, pass_thread}
 use Rattle.vm_stretch.specs.Quiet.{IsQuiet}
 use Rattle.vm_stretch.specs.Silent.{Begins, Follows, GoesTo, IsAt, Leads, next_own, nowhere, with_process}
-use Rattle.vm_stretch.proofs.StretchMoving.{quiet_same}
 use Rattle.vm_stretch.proofs.Quiet.{quiet_starts_nothing}
-use Rattle.vm_stretch.proofs.Rowing.{silent_anywhere, passes_to, passes, fits_left, within_of}
+use Rattle.vm_stretch.proofs.Rowing.{silent_anywhere, passes_to, passes, fits_left, within_of, inside_same, burn_same, quiet_with, there_is}
 use Rattle.edf_semantics.specs.Choice.{Mark, choose}
 use Rattle.edf_semantics.specs.Run.{Marked, Passed, begin, begin_some, events_from, marks_of, state_at}
 use Rattle.edf_semantics.specs.Turn.{IsTaken, IsTurn, IsUnstuck, begun, chosen, marked, started, turn}
@@ -25,18 +24,6 @@ use Rattle.edf_semantics.specs.Rows.{HasLed, IsChosen, IsRowTaken, RowIsSafe, Ro
 use Rattle.edf_semantics.proofs.Staying.{begin_twice, choice_stays, marks_few, marks_same}
 use Rattle.edf_semantics.proofs.Turning.{both, tick_is, turn_stays_in_run}
 use Rattle.edf_semantics.proofs.Marking.{length_begin}
-
-inside_same : (image : Image) (first : Own) (n : ℕ) (o : Own) → Leads image first n o → o.job.inside ≡ first.job.inside
-inside_same image first n o Begins = refl
-inside_same image first n o (Follows before instr next step m time) = step.inside ∙ inside_same image first _ _ before
-
-burn_same : (image : Image) (first : Own) (n : ℕ) (o : Own) → Leads image first n o → o.job.burn ≡ first.job.burn
-burn_same image first n o Begins = refl
-burn_same image first n o (Follows before instr next step m time) = step.burn ∙ burn_same image first _ _ before
-
--- the quiet of a state is that of its threads
-pub quiet_with : (image : Image) (script : Script) (u k : ℕ) (o : Own) (s : State) → IsQuiet image script u s → IsQuiet image script u (with_process k o s)
-quiet_with image script u k o s quiet = let q : IsQuiet image script u _ = quiet_same image script u s k o.job quiet in record { lines = q.lines; releases = q.releases; waits = q.waits }
 
 -- ---- where n ticks have led
 
@@ -182,11 +169,6 @@ pub row_is_taken : RowIsTaken
 row_is_taken image script t budget k first safe is n o leads within m some fits all = row_taken image script t budget k n m first o safe is (led image script t budget k first safe is n o leads) within some fits all
 
 -- ---- what a run that is never stuck promises
-
--- an instruction is there, where the tick is not stuck
-there_is : (image : Image) (u k : ℕ) (p : Process) (job : Job) (w : State) (owned : List ℤ) (at : Option Instr) → (settle image u k p job w (outcome_at_once image w job owned 1 at)).stuck ≡ false → (instr : Instr) × (at ≡ Some instr)
-there_is image u k p job w owned None free = absurd cc
-there_is image u k p job w owned (Some instr) free = (instr, refl)
 
 pub row_is_safe : RowIsSafe
 row_is_safe image script t budget k first is burnt never n o leads within =

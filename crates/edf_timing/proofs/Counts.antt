@@ -22,9 +22,7 @@ use Rattle.edf_semantics.specs.Safe.{acts, insides, rank_at, deadline_at, IsWait
 use Rattle.edf_semantics.proofs.Choosing.{act_active}
 use Rattle.edf_semantics.proofs.Marking.{Opening, IsNotWaiting}
 use Rattle.edf_semantics.proofs.Keeping.{Kept, About, After, after, fits_during, choice, picked, chosen_is, not_chosen, rests_same}
-
-owes_more : (e : Where) (ps : ℕ → Parts) (s : State) (k n m : ℕ) → n ≤ m → Owes e ps s k n → Owes e ps s k m
-owes_more e ps s k n m le o = record { p = o.p; thread = o.thread; left = o.left; process = o.process; there = o.there; has = o.has; work = omega (arith, le, o.work) }
+use Rattle.sched_timing.proofs.Lives.{owes_more}
 
 -- inside a monitor that is there, with so much of the stay left, at most what a part tells
 pub record IsIn (e : Where) (ps : ℕ → Parts) (s : State) (k m n : ℕ) : Type 0 where

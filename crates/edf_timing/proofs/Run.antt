@@ -1,5 +1,5 @@
 -- The events of the machine's run are a run of the source meaning in which any ready process may act.
-use Rattle.std.proofs.Common.{◌≡◌, ◌<◌, ◌+◌, ◌++◌, ℕ, zero, suc, List, [], ◌∷◌, Option, Some, None, length, arith, refl, ap, sym, subst, ◌∙◌, false, Bool, append_assoc, map}
+use Rattle.std.proofs.Common.{◌≡◌, ◌<◌, ◌+◌, ◌++◌, ℕ, zero, suc, List, [], ◌∷◌, Option, Some, None, arith, refl, ap, sym, subst, ◌∙◌, false, Bool, append_assoc, map}
 use Rattle.std.specs.Prelude.{ℤ, pos, slice_get, replicate, option_map}
 use Rattle.std.proofs.lemmas.Option.{slice_get-map}
 use Rattle.std.proofs.lemmas.List.{length-map}
@@ -27,15 +27,9 @@ use Rattle.edf_semantics.specs.Run.{Marked, candidate, chosen_at, first_marks, t
 use Rattle.edf_timing.specs.Runs.{NobodyWaits, IsKept}
 use Rattle.edf_timing.proofs.Starts.{starts_run}
 use Rattle.edf_timing.proofs.Ticks.{picked_runs}
+use Rattle.code_lifting.proofs.Run.{no_queues}
 
 -- ---- at the start
-
-abbrev empty : List ℕ
-empty = []
-
-no_queues : (cs : List ℕ) → map (λ (c : ℕ). empty) cs ≡ replicate (length cs) empty
-no_queues [] = refl
-no_queues (c ∷ cs) = ap (λ (qs : List (List ℕ)). [] ∷ qs) (no_queues cs)
 
 module _ (w : Whole) (r : Relations) (compiled : IsCompiled w r) where
   abbrev g : Prog

@@ -1,11 +1,11 @@
 -- All start events of a tick, where nobody waits.
-use Rattle.std.proofs.Common.{◌≡◌, ◌<◌, ◌+◌, ◌++◌, inl, inr, ℕ, suc, List, [], ◌∷◌, Some, length, arith, refl, ap, sym, subst, ◌∙◌, true, false, Bool}
+use Rattle.std.proofs.Common.{◌≡◌, ◌<◌, ◌+◌, ◌++◌, inl, inr, ℕ, suc, List, [], ◌∷◌, Some, length, arith, refl, sym, subst, ◌∙◌, true, false, Bool}
 use Rattle.std.specs.Prelude.{ℤ, slice_get, slice_set, cond, nat_eq, ◌&&◌, map}
 use Rattle.std.proofs.lemmas.Bool.{cases_lt}
 use Rattle.std.proofs.lemmas.List.{append-nil}
 use Rattle.base.specs.declared.event.Event.{Event}
 use Rattle.syntax_tree.specs.Plain as tree
-use Rattle.syntax_tree.specs.Plain.{Prog, Activation, periodic, at_event}
+use Rattle.syntax_tree.specs.Plain.{Prog}
 use Rattle.source_semantics.specs.Names.{processes}
 use Rattle.source_semantics.specs.Config.{Config}
 use Rattle.source_semantics.specs.Ranks.{by_rank}
@@ -16,16 +16,12 @@ use Rattle.machine_semantics.specs.Starts.{Started, unchanged, followed, release
 use Rattle.machine_semantics.specs.Starts as start
 use Rattle.source_semantics.specs.Any.{RunAnyFrom}
 use Rattle.code_lifting.specs.Related.{Whole, Relations}
-use Rattle.code_lifting.specs.Compiled.{IsTimed, IsProcess, IsProcessOf, IsCompiled, line_of, script_of}
+use Rattle.code_lifting.specs.Compiled.{IsProcess, IsProcessOf, IsCompiled, line_of, script_of}
 use Rattle.code_lifting.proofs.Ticks.{At}
 use Rattle.code_lifting.proofs.Items.{Item, rel, quiet_none, event_items_by, event_items, periodic_items, out_items, all_items, due_is}
 use Rattle.edf_timing.specs.Runs.{NobodyWaits}
 use Rattle.edf_timing.proofs.Phases.{Phase, nothing, device, both, where_so, release_plays, time_outs_play}
-use Rattle.code_lifting.proofs.Starts.{periodic_is_due}
-
-event_is_due : (g : Prog) (p : Process) (e : ℕ) (a : Activation) → IsTimed g p a → nat_eq p.kind 1 && nat_eq p.event e ≡ waits_for_event g e a
-event_is_due g p e (periodic frame deadline first) timed = ap (λ (n : ℕ). nat_eq n 1 && nat_eq p.event e) timed.0
-event_is_due g p e (at_event name frame deadline) timed = ap (λ (n : ℕ). nat_eq n 1 && nat_eq p.event e) timed.0 ∙ ap (λ (n : ℕ). nat_eq n e) timed.1
+use Rattle.code_lifting.proofs.Starts.{periodic_is_due, event_is_due}
 
 module _ (w : Whole) (r : Relations) (compiled : IsCompiled w r) (script : Script) (t : ℕ) (below : t < script.end_tick) where
   abbrev g : Prog

@@ -23,7 +23,7 @@ use Rattle.code_lifting.specs.Image.{compiled_of}
 use Rattle.code_lifting.specs.Example.{meeting}
 use Rattle.code_lifting.proofs.Lists.{none_some}
 use Rattle.examples_law.specs.Headline.{flat, MeetingIsProper}
-use Rattle.code_lifting.proofs.MeetingRight.{nth_text}
+use Rattle.code_lifting.proofs.MeetingRight.{text}
 
 abbrev pub nth_monitor : List tree.Monitor → tree.Monitor
 nth_monitor (m ∷ ms) = m
@@ -54,9 +54,6 @@ two_entries mon entry t at = elim (cases_Bool (bytes_eq m.name mon)) [
       | inr nor ↦ absurd (none_some (ap (λ (b : Bool). option_map (λ r. record { owner = by_monitor 0; routine = r }) (cond b (Some (nth_routine m.entries 0)) (cond (bytes_eq (codes "s") entry) (Some (nth_routine m.entries 1)) None))) is_not ∙ ap (λ (b : Bool). option_map (λ r. record { owner = by_monitor 0; routine = r }) (cond b (Some (nth_routine m.entries 1)) None)) nor) found)
     ]
   ]
-
-abbrev text : ℕ → tree.Process
-text k = nth_text (processes signalled_wait) k
 
 abbrev e : ℕ → ℕ → Process → Setting
 e over k p = setting_of (compiled_of (meeting over) k p (text k)) flat

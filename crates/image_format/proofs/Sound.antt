@@ -184,10 +184,10 @@ each_sound {A = A} f s earlier count = record { back = each_back f s earlier cou
 
 -- ---- fields
 
-field_short : {A : Type 0} (size : ℕ) (value : List ℕ → A) (bytes : List ℕ) → length bytes < size → field_at size value bytes ≡ Err (fault 2 0)
+pub field_short : {A : Type 0} (size : ℕ) (value : List ℕ → A) (bytes : List ℕ) → length bytes < size → field_at size value bytes ≡ Err (fault 2 0)
 field_short size value bytes h = rw (lt-ltb (length bytes) size h) refl
 
-field_long : {A : Type 0} (size : ℕ) (value : List ℕ → A) (bytes : List ℕ) → size ≤ length bytes → field_at size value bytes ≡ Ok (value (take size bytes), drop size bytes)
+pub field_long : {A : Type 0} (size : ℕ) (value : List ℕ → A) (bytes : List ℕ) → size ≤ length bytes → field_at size value bytes ≡ Ok (value (take size bytes), drop size bytes)
 field_long size value bytes h = rw (le-ltb (length bytes) size h) refl
 
 -- a field whose number and bytes are one and the same, in its range

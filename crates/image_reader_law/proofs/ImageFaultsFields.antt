@@ -3,17 +3,17 @@ use Rattle.std.proofs.Common.{◌≡◌, ◌≤◌, ◌<◌, ◌^◌, ◌==◌, 
 use Rattle.std.specs.Prelude.{nat_lt, nat_le, pos, negsuc, slice_index}
 use Rattle.std.specs.Ordering.{int_eq}
 use Rattle.std.specs.Int.{w16, w32, cast_signed, cast_unsigned, from_be_bytes}
-use Rattle.std.proofs.lemmas.Bool.{lt-ltb, ltb-true, leb-true, and_parts}
+use Rattle.std.proofs.lemmas.Bool.{ltb-true, leb-true, and_parts}
 use Rattle.std.proofs.lemmas.Bool.Decides.{Decides-int_eq}
 use Rattle.std.proofs.lemmas.Int.{of_z-to_z}
 use Rattle.std.proofs.lemmas.Nat.{from_be_bytes-to_be_bytes_4}
 use mir.Val.{sel}
 use Rattle.machine_isa.specs.Bytes.{word_bytes}
 use Rattle.image_format.specs.Numbers as written
-use Rattle.image_format.specs.Format.{Format, ◌>>=◌, fault, field_at, u8, unless, is_fine, checked, via}
+use Rattle.image_format.specs.Format.{Format, ◌>>=◌, fault, u8, unless, is_fine, checked, via}
 use Rattle.image_reader.specs.Grammar as g
 use Rattle.image_format.specs.FormatLaw.{AreBytes, IsSound}
-use Rattle.image_format.proofs.Sound.{came, field_sound, checked_sound, via_sound}
+use Rattle.image_format.proofs.Sound.{came, field_sound, checked_sound, via_sound, field_short}
 use Rattle.image_format.proofs.SoundFields.{u8_sound, u16_sound, u32_sound, bytes_sound, four_back}
 use Rattle.image_format.proofs.Alike.{alike, same_ok}
 use Rattle.image_reader_law.specs.Faults.{Sort, Form, IsField, of_one, of_two, of_four, of_word, of_bytes}
@@ -57,9 +57,6 @@ field_is_sound a f size of_four = u32_sound
 field_is_sound a f size of_word = word_sound
 field_is_sound a f size (of_bytes n) = bytes_sound n
 
-field_short : {A : Type 0} (size : ℕ) (value : List ℕ → A) (bytes : List ℕ) → length bytes < size → field_at size value bytes ≡ Err (fault 2 0)
-field_short size value bytes h = rw (lt-ltb (length bytes) size h) refl
-
 pub short : (a : Sort) (f : Form a) (size : ℕ) (bytes : List ℕ) → IsField a f size → length bytes < size → f.read bytes ≡ Err (fault 2 0)
 short a f size bytes of_one h = field_short 1 (λ b. slice_index b 0) bytes h
 short a f size bytes of_two h = field_short 2 (from_be_bytes w16) bytes h
@@ -72,7 +69,7 @@ short a f size bytes (of_bytes n) h = field_short n (λ b. b) bytes h
 abbrev pub flag_rule : (number : ℕ) → ℕ → Option ℕ
 flag_rule number n = unless (nat_le n 1) number
 
-abbrev number_of : Bool → ℕ
+abbrev pub number_of : Bool → ℕ
 number_of true = 1
 number_of false = 0
 

@@ -1,5 +1,5 @@
 -- The bytes of names, counts, routines and processes are those that they are read from.
-use Rattle.std.proofs.Common.{◌≡◌, ◌<◌, ◌||◌, ◌==◌, ◌++◌, ℕ, zero, suc, Bool, true, false, List, [], ◌∷◌, length, take, Ok, Err, Option, Some, None, refl, ap, subst}
+use Rattle.std.proofs.Common.{◌≡◌, ◌<◌, ◌||◌, ◌==◌, ◌++◌, ℕ, zero, suc, Bool, true, List, [], ◌∷◌, length, take, Ok, Err, Option, Some, None, refl, ap, subst}
 use Rattle.std.specs.Prelude.{not, nat_lt, nat_le, nat_eq}
 use Rattle.std.proofs.lemmas.Bool.{eqb-true, eq-eqb, and_parts}
 use Rattle.machine_semantics.specs.Image.{Process}
@@ -43,12 +43,6 @@ name_sound taken =
     sized x h =
         let e : length x.1 ≡ x.0 = eqb-true (length x.1) x.0 (and_parts (size_format.is x.0) (length x.1 == x.0) h).1 in
         ap (λ n. (n, x.1)) e
-
--- ---- flags
-
-abbrev number_of : Bool → ℕ
-number_of true = 1
-number_of false = 0
 
 -- ---- devices, monitors and conditions
 

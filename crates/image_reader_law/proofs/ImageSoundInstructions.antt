@@ -23,7 +23,7 @@ same_int x y h = (Decides-int_eq x y).1 h
 
 -- ---- a number and three operands, of which those that are not named are 0
 
-abbrev masked : Bool → ℤ → ℤ
+abbrev pub masked : Bool → ℤ → ℤ
 masked true z = z
 masked false z = pos 0
 

@@ -20,9 +20,10 @@ use Rattle.image_reader.specs.File as f
 use Rattle.image_format.proofs.Sound.{came}
 use Rattle.valid_image.specs.Valid.{HasLimits, IsInLimits, HasHandler}
 use Rattle.image_reader_law.specs.ValidLimits.{ImagesReadHaveFewMonitors, ImagesReadHaveLimits}
-use Rattle.image_reader_law.proofs.Readings.{okay, same_ok, kept, two, seen, many, in_u32, in_u16, below}
+use Rattle.image_reader_law.proofs.Readings.{kept, two, seen, many, in_u32, in_u16, below}
 use Rattle.image_reader_law.proofs.ImageSoundFiles.{ended_is}
 use Rattle.image_reader_law.proofs.ImageFaultsWhole.{Work, Guarded, Named, Content, parts_with}
+use Rattle.image_format.proofs.Alike.{okay, same_ok}
 
 -- ---- a process
 

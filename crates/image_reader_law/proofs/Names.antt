@@ -24,13 +24,14 @@ use Rattle.image_reader.specs.File as f
 use Rattle.image_format.proofs.Sound.{came}
 use Rattle.event_log.specs.InRange.{IsShort}
 use Rattle.script.specs.Scripts.{frame_of}
-use Rattle.image_reader_law.proofs.Readings.{okay, same_ok, two, seen, many, in_u16}
+use Rattle.image_reader_law.proofs.Readings.{two, seen, many, in_u16}
 use Rattle.image_reader_law.specs.ReadNames.{ImagesReadAreNamed}
 use Rattle.image_reader_law.proofs.Frames.{frame_at, frame_is}
 use Rattle.image_reader_law.proofs.ReadNamesFields.{IsKnown, IsPlaced, condition_placed, device_short, monitor_short, process_known}
 use Rattle.image_reader_law.proofs.ImageSoundFiles.{ended_is}
 use Rattle.image_reader_law.proofs.ImageFaultsWhole.{Work, Guarded, Named, Content, parts_with}
 use Rattle.image_reader_law.proofs.Limits.{further_counts, other_counts, all_counts, counts_with, Full}
+use Rattle.image_format.proofs.Alike.{okay, same_ok}
 
 -- ---- one after another
 

@@ -21,11 +21,12 @@ use Rattle.image_format.specs.TreeFormat.{in_image, within, u32_within, u16_with
 use Rattle.image_reader.specs.Grammar as g
 use Rattle.image_reader.specs.File as f
 use Rattle.image_format.proofs.Sound.{came}
-use Rattle.image_reader_law.proofs.Readings.{same_ok, kept, between, fine_is}
+use Rattle.image_reader_law.proofs.Readings.{kept, between, fine_is}
 use Rattle.image_reader_law.proofs.Brings.{Brings, Any, weaker, u8_brings, u16_brings, u32_brings, word_brings, bytes_brings, given_brings, checked_brings, checked_any, both_brings, then_brings, via_brings, u32_brings_within, u16_brings_within, Each, each_brings}
 use Rattle.image_reader_law.proofs.ImageRangesTrees.{tree_brings}
 use Rattle.image_reader_law.proofs.Grammar.{Whole}
 use Rattle.image_reader_law.proofs.ImageSoundFields.{Numbers}
+use Rattle.image_format.proofs.Alike.{same_ok}
 
 -- ---- names
 
@@ -153,7 +154,7 @@ is_above_means [] x h = omega arith
 is_above_means (y ∷ []) x h = grind (arith, nat_tests, h)
 is_above_means (y ∷ z ∷ zs) x h = is_above_means (z ∷ zs) x h
 
-is_taken_means : (x : ℕ) → g.is_taken x ≡ true → x ≤ 999
+pub is_taken_means : (x : ℕ) → g.is_taken x ≡ true → x ≤ 999
 is_taken_means x h = by (nat_le 1 x) (nat_le x 4) (nat_le 10 x) (nat_le x 999) refl refl h where
   by : (a b c d : Bool) → nat_le x 4 ≡ b → nat_le x 999 ≡ d → ((a && b) || (c && d)) ≡ true → x ≤ 999
   by true true c d four high e = let small : x ≤ 4 = grind (arith, nat_tests, four) in omega (arith, small)

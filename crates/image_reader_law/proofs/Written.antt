@@ -24,13 +24,13 @@ use Rattle.image_format.specs.TreeFormat.{u16_within}
 use Rattle.image_reader.specs.Grammar as g
 use Rattle.image_reader.specs.File as f
 use Rattle.image_format.proofs.Sound.{came}
-use Rattle.image_reader_law.proofs.Readings.{okay}
 use Rattle.image_reader_law.specs.ImageRanges.{ImagesReadCanBeWritten}
 use Rattle.image_reader_law.proofs.Brings.{Brings, Any, weaker, u16_brings, bytes_brings, given_brings, checked_any, both_brings, then_brings, via_brings, u16_brings_within, All-none, All-more, Each, each_brings}
 use Rattle.image_reader_law.proofs.Parts.{IsShortName, IsSmallTree, IsProcessFit, AreFew, name_brings, device_brings, named_monitor_brings, condition_brings, counts_brings, routine_brings, named_process_brings, instr_brings}
 use Rattle.image_reader_law.proofs.ImageSoundFiles.{ended_is}
 use Rattle.image_reader_law.proofs.ImageSoundWhole.{framed_long}
 use Rattle.image_reader_law.proofs.ImageFaultsWhole.{Work, Guarded, Named, Content}
+use Rattle.image_format.proofs.Alike.{okay}
 
 -- ---- the lists of a file
 

@@ -13,8 +13,10 @@ use Rattle.code_spec.specs.Numbering.{Text, texts_from}
 use Rattle.code_cost_spec.specs.Levels.{stack_of_process}
 use Rattle.code_size.specs.Rules.{routine_stack, RoutineTooLarge, ProcessTooLarge}
 use Rattle.code_size.specs.Rules as rules
-use Rattle.load_law.proofs.LoadStacksTrees.{processes_are, plain_text, texts_are}
-use Rattle.load_law.proofs.Heights.{load, stacks_are, IsLow, all_low}
+use Rattle.load_law.proofs.LoadStacksTrees.{processes_are, texts_are}
+use Rattle.load_law.proofs.Heights.{stacks_are, IsLow, all_low}
+use Rattle.checked_law.proofs.Texts.{plain_text}
+use Rattle.load_text_law.proofs.Lists.{load}
 
 module _ (key count : ℕ) (g : Prog Place) (same : plain g ≡ load key count) where
   no_process : (place : Place) → ¬ ProcessTooLarge g place

@@ -10,6 +10,7 @@ use Rattle.source_semantics.specs.Names.{process_in}
 use Rattle.code_spec.specs.Layout.{Owner, by_program, by_process, by_monitor}
 use Rattle.code_spec.specs.Numbering.{Text, texts_of, texts_from}
 use Rattle.code_size.specs.Rules as rules
+use Rattle.checked_law.proofs.Texts.{plain_text}
 
 -- ---- processes
 
@@ -23,9 +24,6 @@ processes_are (monitor m ∷ ds) = processes_are ds
 processes_are (process p ∷ ds) = ap (λ (ps : List plain_of.Process). plain_process p ∷ ps) (processes_are ds)
 
 -- ---- routines
-
-abbrev pub plain_text : rules.Text → Text
-plain_text t = record { owner = t.owner; routine = plain_routine t.routine }
 
 texts_of_are : (o : Owner) (rs : List (Routine Place)) → map plain_text (rules.texts_of o rs) ≡ texts_of o (map plain_routine rs)
 texts_of_are o [] = refl

@@ -1,14 +1,14 @@
 -- The parts of the load's tree that have places.
 use Rattle.std.proofs.Common.{◌≡◌, ℕ, List, [], ◌∷◌, Some, None, codes, ap, sym, ◌∙◌, subst}
 use Rattle.syntax_tree.specs.Plain.{Name}
-use Rattle.syntax_tree.specs.Placed.{Constant, int, Kind, scalar, array, Var, Param, Routine, procedure, Member, variable_member, condition_member, Monitor, periodic, Handler, Process}
+use Rattle.syntax_tree.specs.Placed.{Constant, int, scalar, Var, Param, Routine, procedure, Member, variable_member, condition_member, Monitor, periodic, Handler, Process}
 use Rattle.syntax_tree.specs.declared.place.Place.{Place}
-use Rattle.syntax_tree.specs.Bare.{bare_constant, bare_scalar, bare_kind, bare_var, bare_param, bare_expr, bare_stmts, bare_routine, bare_member, bare_monitor, bare_handler, bare_process}
+use Rattle.syntax_tree.specs.Bare.{bare_constant, bare_scalar, bare_var, bare_param, bare_expr, bare_stmts, bare_routine, bare_member, bare_monitor, bare_handler, bare_process}
 use Rattle.load.specs.declared.program.Drawn.{Drawn}
 use Rattle.load.specs.Program.{of_number, int_variable, add_entry, pause_entry, load_monitor, frame, load_handler, load_process}
 use Rattle.load_text_law.proofs.Shapes.{front_of, none_of, one_of, none_there, some_there}
 use Rattle.load_law.proofs.Terms.{IsLiteral, literal_bare}
-use Rattle.load_text_law.proofs.Parts.{scalar_int}
+use Rattle.load_text_law.proofs.Parts.{scalar_int, is_int}
 use Rattle.load_text_law.proofs.Processes.{is_periodic}
 
 abbrev pub int_var : Name → Place → Var Place
@@ -20,14 +20,10 @@ int_param name place = record { name = name; place = place; kind = int }
 is_literal : (c : Constant Place) (n : ℕ) → bare_constant c ≡ of_number n → IsLiteral c
 is_literal c n same = literal_bare c (subst IsLiteral (sym same) tt)
 
-is_one_int : (k : Kind Place) → bare_kind k ≡ scalar int → k ≡ scalar int
-is_one_int (scalar s) same = ap (λ t. scalar t) (scalar_int s cc)
-is_one_int (array low high s) same = cc
-
 is_int_var : (v : Var Place) (name : Name) → bare_var v ≡ int_variable name → v ≡ int_var name v.place
 is_int_var v name same =
     let names : v.name ≡ name = ap (λ x. x.name) same in
-    let kinds = is_one_int v.kind (ap (λ x. x.kind) same) in
+    let kinds = is_int v.kind (ap (λ x. x.kind) same) in
     λ i. record { name = names i; place = v.place; kind = kinds i }
 
 is_int_param : (v : Param Place) (name : Name) → bare_param v ≡ record { name = name; place = tt; kind = int } → v ≡ int_param name v.place

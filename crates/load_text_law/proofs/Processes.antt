@@ -109,7 +109,7 @@ handlers_kept g key count before (suc left) (p ∷ ps) (one_more _ _ same are) n
 
 -- ---- what the declarations of processes come to
 
-abbrev decls : List (Process Place) → List (Decl Place)
+abbrev pub decls : List (Process Place) → List (Decl Place)
 decls ps = map (λ p. process p) ps
 
 pub how_many : {key count before left : ℕ} (ps : List (Process Place)) → AreLoad key count before left ps → length ps ≡ left

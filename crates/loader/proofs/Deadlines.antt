@@ -65,9 +65,6 @@ longest_more f called i here best answer low is rest found =
 routine_there : (image : RawImage) (r : ℕ) (x : RawRoutine) → r < length image.routines → x ≡ get_or image.routines r x → slice_get (image_of image).routines r ≡ Some (routine_of x)
 routine_there image r x low is = map_get routine_of image.routines r x (slice_get-get_or image.routines r x low ∙ ap (λ y. Some y) (sym is))
 
-pub routine_calls_there : (image : RawImage) (calls : List (List ℕ)) (r : ℕ) → AreCalls (image_of image) calls → r < length image.routines → r < length calls
-routine_calls_there image calls r are low = omega (arith, low, are.one_each, pieces_long (image_of image), length-map image.routines routine_of)
-
 pub process_calls_there : (image : RawImage) (calls : List (List ℕ)) (k : ℕ) → AreCalls (image_of image) calls → k < length image.processes → length image.routines + k < length calls
 process_calls_there image calls k are low = omega (arith, low, are.one_each, pieces_long (image_of image), length-map image.routines routine_of, length-map image.processes process_of)
 

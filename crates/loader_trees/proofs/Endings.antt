@@ -7,17 +7,13 @@ use Rattle.machine_semantics.specs.Trees as tree
 use Rattle.machine_semantics.specs.Trees.{size}
 use Rattle.valid_image.specs.Found.{Known, Found, amount, is_enter, is_leave, guard, ended, founds, entry}
 use Rattle.valid_image_law.specs.Held.{held, hold}
-use Rattle.valid_image_law.proofs.Holding.{holding_changes_nothing}
+use Rattle.valid_image_law.proofs.Holding.{holding_changes_nothing, hold_guard}
 use Rattle.loader_trees.specs.Steps.{stays_in}
 use Rattle.loader_trees.specs.Whole.{monitor_in}
 use Rattle.loader_trees.specs.Told.{found_of, told_part}
 use Rattle.loader_trees.specs.declared.known.PartFound.{PartFound}
 use Rattle.base.specs.Capped.{cap}
 use Rattle.valid_image.specs.Tables.{found_or_nothing}
-
-guard_held : (b : Bool) (x y : Option Found) → hold x ≡ hold y → hold (guard b x) ≡ hold (guard b y)
-guard_held true x y is = is
-guard_held false x y is = refl
 
 -- ---- an entry
 
@@ -32,7 +28,7 @@ stay_comes code known owner monitor body at last inside x y told is enter leave 
     ap (λ o. is_enter owner o && is_leave owner (Some y)) (sym enter) ∙ ap (λ o. is_enter owner (slice_get code at) && is_leave owner o) (sym leave ∙ ap (λ k. slice_get code k) is) in
     let inner : hold (stays_in (Some inside)) ≡ hold (stays_in f) =
     ap (λ o. hold (stays_in o)) one ∙ sym (holding_changes_nothing.in_chain f (λ h. Some (record { height = h; cost = amount 8 0 0; depth = 0 }))) in
-    whole ∙ ap (λ t. hold (guard (nat_eq monitor owner && t) (stays_in (Some inside)))) tests ∙ guard_held _ _ _ inner
+    whole ∙ ap (λ t. hold (guard (nat_eq monitor owner && t) (stays_in (Some inside)))) tests ∙ hold_guard _ _ _ inner
 
 two_are_none : (code : List Instr) (known : List Known) (owner : ℕ) (first second : tree.Seg) (rest : tree.Segs) (at : ℕ) → entry code known owner (tree.Cons first (tree.Cons second rest)) at ≡ None
 two_are_none code known owner (tree.Stay n body) second rest at = refl

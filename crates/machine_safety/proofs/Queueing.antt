@@ -59,7 +59,7 @@ set_twice (r ∷ rs) (suc c) p q = ap (λ (xs : List (List ℕ)). r ∷ xs) (set
 times_past : (i j : ℕ) (js : List ℕ) → (j ≡ i → ⊥) → times i (j ∷ js) ≡ times i js
 times_past i j js differ = ap (λ (b : Bool). cond b (suc (times i js)) (times i js)) (ne_eqb j i differ)
 
-times_front : (k : ℕ) (js : List ℕ) → times k (k ∷ js) ≡ suc (times k js)
+pub times_front : (k : ℕ) (js : List ℕ) → times k (k ∷ js) ≡ suc (times k js)
 times_front k js = ap (λ (b : Bool). cond b (suc (times k js)) (times k js)) (itself k)
 
 times_joined : (i k : ℕ) (js : List ℕ) → (k ≡ i → ⊥) → times i (js ++ k ∷ []) ≡ times i js
@@ -80,7 +80,7 @@ without_other i k (j ∷ js) differ = by (nat_eq j k) refl (without_other i k js
   by true is h = h ∙ sym (times_past i j js (λ same. differ (let at_k : j ≡ k = grind (arith, nat_tests, is) in sym at_k ∙ same)))
   by false is h = ap (λ (n : ℕ). cond (nat_eq j i) (suc n) n) h
 
-without_itself : (k : ℕ) (js : List ℕ) → times k (without k js) ≡ 0
+pub without_itself : (k : ℕ) (js : List ℕ) → times k (without k js) ≡ 0
 without_itself k [] = refl
 without_itself k (j ∷ js) = by (nat_eq j k) refl (without_itself k js) where
   by : (b : Bool) → nat_eq j k ≡ b → times k (without k js) ≡ 0 → times k (cond b (without k js) (j ∷ without k js)) ≡ 0

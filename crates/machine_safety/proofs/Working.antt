@@ -22,7 +22,7 @@ use Rattle.machine_safety.proofs.Settling.{woken_fits, own_limit}
 
 -- ---- lists and numbers
 
-times_le : (a b c : ℕ) → b ≤ c → a * b ≤ a * c
+pub times_le : (a b c : ℕ) → b ≤ c → a * b ≤ a * c
 times_le a b c h = let e : c ≡ b + (c - b) = omega arith in subst (λ (x : ℕ). a * b ≤ a * x) (sym e) (omega arith)
 
 -- ---- another process changes

@@ -16,6 +16,7 @@ use Rattle.built_image.specs.Named.{named_conditions, named_device, names_of}
 use Rattle.event_log.specs.Logs.{AreWords}
 use Rattle.replay_law.specs.Words.{IsIdentifier, MonitorIsNamed, NamesAreIdentifiers, NamesOfTextsAreIdentifiers, NamesOfTextsAreWords}
 use Rattle.built_valid_law.proofs.Names.{conditions_placed}
+use Rattle.built_valid_law.proofs.Counts.{named_in}
 
 -- ---- bytes
 
@@ -41,9 +42,6 @@ identifier_is_word name is = by name is.0 where
   by (b ∷ bs) spelled = record { some = omega arith; no_space = whole_lacks 32 b bs refl refl spelled; no_line_feed = whole_lacks 10 b bs refl refl spelled }
 
 -- ---- the parts of a program
-
-abbrev named_in : ℕ → Name → CondName
-named_in k c = record { name = c; mon = k }
 
 abbrev ConditionIsWord : CondName → Type 0
 ConditionIsWord c = IsWord c.name

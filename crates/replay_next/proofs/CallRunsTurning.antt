@@ -4,14 +4,12 @@ use Rattle.std.proofs.Common.{refl, sym, ◌∙◌, ap, arith}
 use Rattle.syntax_tree.specs.Plain.{Name, Stmts}
 use Rattle.source_semantics.specs.Store.{Vars}
 use Rattle.source_semantics.specs.Run as run
+use Rattle.replay_values.proofs.Turning.{turns_of}
 
 -- variables in front of those of the arguments that follow
 abbrev pub in_front_all : Vars → run.Bound → run.Bound
 in_front_all vs (run.bound ws) = run.bound (vs ++ ws)
 in_front_all vs (run.unbound n) = run.unbound n
-
-abbrev pub turns_of : run.Site → Name → Stmts → ℕ → ℤ → run.Memory → run.Run
-turns_of s i ss n v m = run.turns (λ k. run.run_all s k ss) i ss n v m
 
 -- what a turn is followed by, with so many turns left after it
 abbrev pub after_turn : run.Site → Name → Stmts → ℕ → ℤ → run.Run → run.Run

@@ -90,7 +90,7 @@ there (v ∷ words) (suc at) w is = by (pointwise nat_eq w v) (there words at w 
     by true more = refl
     by false more = more
 
-not_there : (b : Bool) → not b ≡ true → b ≡ true → ⊥
+pub not_there : (b : Bool) → not b ≡ true → b ≡ true → ⊥
 not_there true none is = cc
 not_there false none is = cc
 

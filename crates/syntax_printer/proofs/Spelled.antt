@@ -37,9 +37,9 @@ word_back (sign at) = refl
 
 -- ---- decimal digits
 
-record Reads (n : ℕ) (digits : List ℕ) : Type 0 where
-  are : is_number digits ≡ true
-  value : n ≡ spells.decimal digits
+pub record Reads (n : ℕ) (digits : List ℕ) : Type 0 where
+  pub are : is_number digits ≡ true
+  pub value : n ≡ spells.decimal digits
 
 pub digit_is : (d : ℕ) → d < 10 → is_digit (48 + d) ≡ true
 digit_is d below =
@@ -53,15 +53,15 @@ all_with_last (c ∷ cs) d all is =
     let parts = and_parts (is_digit c) (list_all is_digit cs) all in
     ap (λ b. b && list_all is_digit (cs ++ d ∷ [])) parts.0 ∙ all_with_last cs d parts.1 is
 
-number_with_last : (digits : List ℕ) (d : ℕ) → is_number digits ≡ true → is_digit d ≡ true → is_number (digits ++ d ∷ []) ≡ true
+pub number_with_last : (digits : List ℕ) (d : ℕ) → is_number digits ≡ true → is_digit d ≡ true → is_number (digits ++ d ∷ []) ≡ true
 number_with_last [] d are is = cc
 number_with_last (c ∷ cs) d are is = all_with_last (c ∷ cs) d are is
 
-fold_with_last : (n : ℕ) (digits : List ℕ) (d : ℕ) → fold (λ n d. 10 * n + (d - 48)) n (digits ++ d ∷ []) ≡ 10 * fold (λ n d. 10 * n + (d - 48)) n digits + (d - 48)
+pub fold_with_last : (n : ℕ) (digits : List ℕ) (d : ℕ) → fold (λ n d. 10 * n + (d - 48)) n (digits ++ d ∷ []) ≡ 10 * fold (λ n d. 10 * n + (d - 48)) n digits + (d - 48)
 fold_with_last n [] d = refl
 fold_with_last n (c ∷ cs) d = fold_with_last (10 * n + (c - 48)) cs d
 
-decimal_reads : (n : ℕ) → n < 2 ^ 64 → Reads n (decimal n)
+pub decimal_reads : (n : ℕ) → n < 2 ^ 64 → Reads n (decimal n)
 decimal_reads = decimal_by_steps Reads
     (λ n below. record { are = ap (λ b. b && true) (digit_is n below); value = omega arith })
     (λ n digits high reads. record {

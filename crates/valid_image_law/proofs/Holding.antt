@@ -22,7 +22,7 @@ guarded : (b : Bool) (f g : Found) → Some (held f) ≡ Some (held g) → hold 
 guarded true f g is = is
 guarded false f g is = refl
 
-hold_guard : (b : Bool) (x y : Option Found) → hold x ≡ hold y → hold (guard b x) ≡ hold (guard b y)
+pub hold_guard : (b : Bool) (x y : Option Found) → hold x ≡ hold y → hold (guard b x) ≡ hold (guard b y)
 hold_guard true x y is = is
 hold_guard false x y is = refl
 

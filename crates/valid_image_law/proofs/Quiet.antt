@@ -27,7 +27,7 @@ line_quiet code (suc n) at h f is =
     let rest : IsQuiet s.later = line_quiet code n (at + 1) _ s.later s.more in
     of_whole f _ s.whole (omega (arith, rest.0), omega (arith, rest.1))
 
-times_none : (n a : ℕ) → a ≡ 0 → n * a ≡ 0
+pub times_none : (n a : ℕ) → a ≡ 0 → n * a ≡ 0
 times_none n a is = ap (λ k. n * k) is ∙ omega arith
 
 mutual

@@ -16,7 +16,7 @@ use Rattle.valid_image.specs.Operands.{Whose, Area, no_words, is_between, in_are
 use Rattle.valid_image_law.proofs.Tests.{below}
 use Rattle.valid_image_law.proofs.Firsts.{neither}
 
-no_bad : (b : Bool) (z : ℤ) → bad b z ≡ None → b ≡ true
+pub no_bad : (b : Bool) (z : ℤ) → bad b z ≡ None → b ≡ true
 no_bad true z is = refl
 no_bad false z is = absurd cc
 
@@ -80,7 +80,7 @@ conditioned image w (negsuc c) is = absurd cc
 pub condition_below : (image : Image) (w : Whose) (c : ℤ) → bad (is_own_condition image w c) c ≡ None → IsBelow c (length image.conditions)
 condition_below image w c is = let x = conditioned image w c (no_bad (is_own_condition image w c) c is) in (x.number, x.is, slice_get_within image.conditions x.number w.owner x.of)
 
-device_there : (out : Bool) (o : Option Bool) → goes out o ≡ true → (b : Bool) × (o ≡ Some b)
+pub device_there : (out : Bool) (o : Option Bool) → goes out o ≡ true → (b : Bool) × (o ≡ Some b)
 device_there out (Some b) is = (b, refl)
 device_there out None is = absurd cc
 

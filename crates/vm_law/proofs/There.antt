@@ -1,5 +1,5 @@
 -- The operands of each instruction of a valid image are there.
-use Rattle.std.proofs.Common.{◌≡◌, ◌≤◌, ◌<◌, ◌+◌, ◌-◌, inl, inr, ℕ, suc, length, Option, Some, None, arith, refl, ap, sym, subst, ◌∙◌, true, false, Bool}
+use Rattle.std.proofs.Common.{◌≡◌, ◌≤◌, ◌<◌, ◌+◌, ◌-◌, inl, inr, ℕ, suc, length, Option, Some, None, arith, refl, ap, sym, subst, ◌∙◌, true, false}
 use Rattle.std.specs.Prelude.{ℤ, pos, negsuc, ◌&&◌, ◌||◌, nat_eq, nat_le, slice_get, map}
 use Rattle.std.proofs.lemmas.Bool.{cases_lt, and_parts, or_cases, eqb-true, leb-true}
 use Rattle.std.proofs.lemmas.List.{length-map, length-append}
@@ -11,7 +11,7 @@ use Rattle.machine_semantics.specs.Image.{Image, Routine, Process}
 use Rattle.machine_safety_spec.specs.Part.{IsBelow}
 use Rattle.valid_image.specs.Fault.{or_else}
 use Rattle.valid_image.specs.Pieces.{piece_of_routine, piece_of_process, pieces, belongs, piece_number}
-use Rattle.valid_image.specs.Operands.{Whose, whose_routine, whose_process, is_between, is_own_monitor, is_same, is_own_condition, goes, bad, is_user_number, bad_operand}
+use Rattle.valid_image.specs.Operands.{Whose, whose_routine, whose_process, is_between, is_own_monitor, is_same, is_own_condition, bad, is_user_number, bad_operand}
 use Rattle.valid_image.specs.Valid.{HasOwner, Operands, Shape, fault_of_part}
 use Rattle.valid_image_law.proofs.Firsts.{neither}
 use Rattle.valid_image_law.proofs.Owners.{owned}
@@ -19,11 +19,7 @@ use Rattle.valid_image_law.proofs.Passing.{routine_operands, process_operands}
 use Rattle.valid_image_law.proofs.Shapes.{follow}
 use Rattle.vm_law.specs.Operands.{IsThere, AreThere, ValidOperandsAreThere}
 use Rattle.vm_law.proofs.Covered.{Has, covered, all_covered}
-use Rattle.valid_image_law.proofs.Standing.{condition_below, device_below}
-
-no_bad : (b : Bool) (z : ℤ) → bad b z ≡ None → b ≡ true
-no_bad true z is = refl
-no_bad false z is = absurd cc
+use Rattle.valid_image_law.proofs.Standing.{condition_below, device_below, no_bad}
 
 -- ---- one operand
 
@@ -37,10 +33,6 @@ monitor_below w n (negsuc m) owner fine = absurd cc
 some_same : (n : ℕ) (o : Option ℕ) → is_same n o ≡ true → (m : ℕ) × (o ≡ Some m)
 some_same n (Some m) is = (m, refl)
 some_same n None is = absurd cc
-
-some_device : (out : Bool) (o : Option Bool) → goes out o ≡ true → (b : Bool) × (o ≡ Some b)
-some_device out (Some b) is = (b, refl)
-some_device out None is = absurd cc
 
 between_below : (low high n : ℕ) (z : ℤ) → high < n → is_between low high z ≡ true → IsBelow z n
 between_below low high n (pos k) above is =

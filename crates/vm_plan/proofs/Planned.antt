@@ -34,11 +34,11 @@ use Rattle.image_reader_law.proofs.Limits.{read_limits, read_monitors}
 
 -- ---- numbers
 
-small : (z : ℤ) (n : ℕ) → n ≤ 65536 → IsBelow z n → IsSmall z
+pub small : (z : ℤ) (n : ℕ) → n ≤ 65536 → IsBelow z n → IsSmall z
 small (pos k) n le below = let same : k ≡ below.0 = (let is : pos k ≡ pos below.0 = below.1 in cc) in omega (arith, same, below.2, le)
 small (negsuc k) n le below = absurd (let is = below.1 in cc)
 
-limit_is : (z : ℤ) (n : ℕ) → IsBelow z n → IsLimit z
+pub limit_is : (z : ℤ) (n : ℕ) → IsBelow z n → IsLimit z
 limit_is (pos k) n below = tt
 limit_is (negsuc k) n below = absurd (let is = below.1 in cc)
 
@@ -64,7 +64,7 @@ pub record Stands (code : List Instr) (p : Process) : Type 0 where
   pub body : end_of p false ≤ length code
   pub handler : (number : ℕ) → lists p.numbers number ≡ true → end_of p true ≤ length code
 
-stands : (image : Image) → MeetsPremises image → (k : ℕ) (p : Process) → slice_get image.processes k ≡ Some p → Stands image.code p
+pub stands : (image : Image) → MeetsPremises image → (k : ℕ) (p : Process) → slice_get image.processes k ≡ Some p → Stands image.code p
 stands image m = subst (λ (x : Image). (k : ℕ) (p : Process) → slice_get x.processes k ≡ Some p → Stands x.code p) m.of by where
   by : (k : ℕ) (p : Process) → slice_get m.e.image.processes k ≡ Some p → Stands m.e.image.code p
   by k p at =

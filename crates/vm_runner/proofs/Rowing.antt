@@ -24,9 +24,9 @@ use Rattle.vm_stretch.specs.Quiet.{AreQuiet, IsQuiet}
 use Rattle.vm_stretch.specs.RowLaws.{IsPicked, IsSafeRun, begun}
 use Rattle.vm_stretch.specs.Silent.{Begins, Follows, IsAt, Leads, is_silent, next_own, with_process}
 use Rattle.vm_stretch.specs.Stretch.{left, left_at, left_of, outcome_at_once, outcomes, pass, pass_thread, place_of}
-use Rattle.vm_stretch.proofs.StretchMoving.{NotStuck, effect_same, moved, quiet_same, set_set, settled_same}
+use Rattle.vm_stretch.proofs.StretchMoving.{NotStuck, effect_same, moved, set_set, settled_same}
 use Rattle.vm_stretch.proofs.Quiet.{quiet_starts_nothing}
-use Rattle.vm_stretch.proofs.Rowing.{row_is_safe, row_is_turn, row_keeps_events, row_stays_in_run}
+use Rattle.vm_stretch.proofs.Rowing.{row_is_safe, row_is_turn, row_keeps_events, row_stays_in_run, quiet_with}
 use Rattle.vm_stretch.proofs.Runs.{turn_stays_in_run}
 use Rattle.vm_turn.specs.Own.{CanCome}
 use Rattle.vm_turn.specs.Rows.{CanEnd, CanRun, EndsIn, HasRun, IsSeenAt, effect_of, outcome_of, own_at}
@@ -294,9 +294,6 @@ pub record HasLed (image : Image) (script : Script) (t n k m : ℕ) (o : Own) (a
   pub free : all.stuck ≡ false
   pub state : state_at image script (t + n + m) ≡ all.state
   pub events : events_from image script (n + m) t (state_at image script t) ≡ (starts image script t (state_at image script t)).events ++ all.events
-
-quiet_with : (image : Image) (script : Script) (u k : ℕ) (o : Own) (s : State) → IsQuiet image script u s → IsQuiet image script u (with_process k o s)
-quiet_with image script u k o s quiet = let q : IsQuiet image script u _ = quiet_same image script u s k o.job quiet in record { lines = q.lines; releases = q.releases; waits = q.waits }
 
 has_led : (image : Image) (script : Script) (t most k n m : ℕ) (first o : Own) → IsSafeRun image script → IsPicked image script t most k first → Leads image first n o → 1 ≤ m → m ≤ left image o.job → n + m ≤ most
     → HasLed image script t n k m o (pass image (t + n) m (with_process k o (begun image script t)) (Some k))

@@ -22,10 +22,6 @@ pub same_for_each : {X Y : Type 0} (y : Y) (xs : List X) → replicate (length x
 same_for_each y [] = refl
 same_for_each y (x ∷ xs) = ap (λ (ys : List _). y ∷ ys) (same_for_each y xs)
 
-pub length_zeros : (n : ℕ) → length (zeros n) ≡ n
-length_zeros zero = refl
-length_zeros (suc n) = ap suc (length_zeros n)
-
 -- what is the same of each process is the same of all
 pub alike : {X : Type 0} (f : Whole → X) (g : Process → X) (h : (w : Whole) (p : Process) → IsProcess w p → f w ≡ g p) (ws : List Whole) (ps : List Process) → AreProcesses ws ps → map f ws ≡ map g ps
 alike f g h [] [] are = refl

@@ -34,12 +34,12 @@ silent_anywhere image s (i.In d) o silent = absurd cc
 silent_anywhere image s (i.Out d) o silent = absurd cc
 silent_anywhere image s _ o silent = refl
 
-inside_same : (image : Image) (first : Own) (n : ℕ) (o : Own) → Leads image first n o → o.job.inside ≡ first.job.inside
+pub inside_same : (image : Image) (first : Own) (n : ℕ) (o : Own) → Leads image first n o → o.job.inside ≡ first.job.inside
 inside_same image first n o Begins = refl
 inside_same image first n o (Follows before instr next step m time) = step.inside ∙ inside_same image first _ _ before
 
 -- the quiet of a state is that of its threads
-quiet_with : (image : Image) (script : Script) (u k : ℕ) (o : Own) (s : State) → IsQuiet image script u s → IsQuiet image script u (with_process k o s)
+pub quiet_with : (image : Image) (script : Script) (u k : ℕ) (o : Own) (s : State) → IsQuiet image script u s → IsQuiet image script u (with_process k o s)
 quiet_with image script u k o s quiet = let q : IsQuiet image script u _ = quiet_same image script u s k o.job quiet in record { lines = q.lines; releases = q.releases; waits = q.waits }
 
 -- all ticks that are left of an instruction, at once
@@ -175,7 +175,7 @@ row_keeps_events image script t budget k first is n o leads some within = (led i
 
 -- ---- what a run that is never stuck promises
 
-burn_same : (image : Image) (first : Own) (n : ℕ) (o : Own) → Leads image first n o → o.job.burn ≡ first.job.burn
+pub burn_same : (image : Image) (first : Own) (n : ℕ) (o : Own) → Leads image first n o → o.job.burn ≡ first.job.burn
 burn_same image first n o Begins = refl
 burn_same image first n o (Follows before instr next step m time) = step.burn ∙ burn_same image first _ _ before
 
@@ -193,7 +193,7 @@ within_of image u k p job w after (Raises e) free is stack there = tt
 within_of image u k p job w after Ends free is stack there = tt
 
 -- an instruction is there, where the tick is not stuck
-there_is : (image : Image) (u k : ℕ) (p : Process) (job : Job) (w : State) (owned : List ℤ) (at : Option Instr) → (settle image u k p job w (outcome_at_once image w job owned 1 at)).stuck ≡ false → (instr : Instr) × (at ≡ Some instr)
+pub there_is : (image : Image) (u k : ℕ) (p : Process) (job : Job) (w : State) (owned : List ℤ) (at : Option Instr) → (settle image u k p job w (outcome_at_once image w job owned 1 at)).stuck ≡ false → (instr : Instr) × (at ≡ Some instr)
 there_is image u k p job w owned None free = absurd cc
 there_is image u k p job w owned (Some instr) free = (instr, refl)
 

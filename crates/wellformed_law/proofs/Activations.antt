@@ -33,7 +33,7 @@ use Rattle.wellformed_law.proofs.Adding.{constant_adds, constants_add, optional_
 use Rattle.wellformed_law.proofs.Declared.{Lacks, lacks_both, lacks_map, outside_scope, event_declared}
 use Rattle.wellformed_law.proofs.Constants.{Reaches}
 use Rattle.wellformed_law.proofs.WellformedLaw.{Laws, kept, constant_fits}
-use Rattle.wellformed_law.proofs.TypesFit.{not_then, is_then}
+use Rattle.wellformed_calls_law.proofs.Basics.{not_held, held}
 
 -- ---- the events of activations
 
@@ -119,14 +119,14 @@ constant_names_of s (d ∷ cs) ys w c h = by (constant_names_of s cs ys (rest ys
 
 module _ (g : Prog Place) (l : Laws g) where
   within_fits : (low high : ℕ) (k : Constant Place) → IsConstant (constants (plain g)) (plain_constant k) → out_of (value g) low high k ≡ None → IsWithin (plain g) low high (plain_constant k)
-  within_fits low high k c e = record { constant = c; limits = is_then (is_within low high (value g k)) (constant_place k) e }
+  within_fits low high k c e = record { constant = c; limits = held (is_within low high (value g k)) (constant_place k) e }
 
   deadline_fits : (site : Site) → Reaches (constants (plain g)) site → (frame : Constant Place) (d : Option (Constant Place)) → OptionalWritten d
       → Within (optional_names (constant_names site) d []) (names g) → bad_limit (value g) frame d ≡ None → DeadlineFits (plain g) (plain_constant frame) (optional plain_constant d)
   deadline_fits site reaches frame None w n near = tt
   deadline_fits site reaches frame (Some d) w n near =
       let tests = and_parts (int_le (pos 10) (value g d)) (int_le (value g d) (value g frame))
-      (is_then (int_le (pos 10) (value g d) && int_le (value g d) (value g frame)) (constant_place d) near) in
+      (held (int_le (pos 10) (value g d) && int_le (value g d) (value g frame)) (constant_place d) near) in
       (constant_fits g l site reaches d w n, tests.0, tests.1)
 
   pub activation_fits : (before : List (Decl Place)) (p : Process Place) (after : List (Decl Place)) → g.decls ≡ before ++ process p ∷ after → Reaches (constants (plain g)) (process_site g before p after)
@@ -184,7 +184,7 @@ module _ (g : Prog Place) (l : Laws g) where
       (subst (AllPairs (Differ (plain g))) (sym (map-append plain_constant before (c ∷ []))) (all_pairs_push (Differ (plain g)) (map plain_constant before) (plain_constant c) pairs apart)))
     where
       new : has_value (value g) (value g c) before ≡ false
-      new = not_then (has_value (value g) (value g c) before) (constant_place c) (l.limits.once (record { before = before; number = c }) (w _ (at_front _ (handled (before ++ c ∷ []) cs []))))
+      new = not_held (has_value (value g) (value g c) before) (constant_place c) (l.limits.once (record { before = before; number = c }) (w _ (at_front _ (handled (before ++ c ∷ []) cs []))))
 
       apart : All (λ a. Differ (plain g) a (plain_constant c)) (map plain_constant before)
       apart = each_map (λ a. Differ (plain g) a (plain_constant c)) plain_constant before (λ b h e. true≢false (sym (has_one (value g) (value g c) before b h e) ∙ new))
@@ -205,7 +205,7 @@ module _ (g : Prog Place) (l : Laws g) where
         constant = constant_fits g l site reaches c (All-contains ConstantWritten h.numbers c w.0 m)
             (constant_names_of site h.numbers (names g) (front (names g) (constants_add site h.numbers) (stmts_names site h.body []) n) c m);
         limits = subst (λ k. (is_within 1 4 (value g k) || is_within 10 999 (value g k)) ≡ true) one.is
-            (is_then (is_within 1 4 (value g one.one.number) || is_within 10 999 (value g one.one.number)) (constant_place one.one.number) (l.limits.numbers one.one one.listed));
+            (held (is_within 1 4 (value g one.one.number) || is_within 10 999 (value g one.one.number)) (constant_place one.one.number) (l.limits.numbers one.one one.listed));
       }
         where
           one : Pictured (λ h. h.number) (all_handled (processes g.decls)) c

@@ -24,7 +24,8 @@ use Rattle.static_semantics.specs.Written.{ConstantWritten, DeclWritten, IsWritt
 use Rattle.static_semantics.specs.Mirrors.{NamesListed, program_site}
 use Rattle.static_semantics.specs.Judged.{ConstantsSmall, AreNames}
 use Rattle.wellformed_law.proofs.Lists.{in_split}
-use Rattle.wellformed_law.proofs.Declared.{same_itself, Lacks, outside_scope, constant_before}
+use Rattle.wellformed_law.proofs.Declared.{Lacks, outside_scope, constant_before}
+use Rattle.static_names.proofs.Scopes.{same-refl}
 
 -- ---- small values
 
@@ -97,7 +98,7 @@ known_more known m x h = by (bytes_eq m.0 x)
     by false = h
 
 known_here : (known : List (Name × ℤ)) (x : Name) (v : ℤ) → IsSome (named (λ z. z.0) x ((x, v) ∷ known))
-known_here known x v = ap (λ b. is_some (cond b (Some (x, v)) (named (λ z. z.0) x known))) (same_itself x)
+known_here known x v = ap (λ b. is_some (cond b (Some (x, v)) (named (λ z. z.0) x known))) (same-refl x)
 
 knows_constant : (known : List (Name × ℤ)) (ds : List (Decl Place)) (n : Name) (p : Place) (k : Constant Place) (v : ℤ) → Knows known ds → Knows ((n, v) ∷ known) (ds ++ constant n p k ∷ [])
 knows_constant known ds n p k v knows x q c h = by (Contains-append_cases ds (constant n p k ∷ []) (constant x q c) h)

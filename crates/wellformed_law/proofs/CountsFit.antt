@@ -16,9 +16,9 @@ use Rattle.source_semantics.specs.Names.{device_in, event_in, monitor_in, proces
 use Rattle.wellformed.specs.WellFormed.{kind_words, vars_words, CountsFit}
 use Rattle.wellformed_law.proofs.Lists.{sum_cons}
 use Rattle.wellformed_law.proofs.WellformedLaw.{Laws}
-use Rattle.wellformed_law.proofs.TypesFit.{not_then}
 use Rattle.wellformed_law.proofs.Standing.{plain_processes}
 use Rattle.wellformed_names_law.proofs.ProgramScope.{monitors-plain}
+use Rattle.wellformed_calls_law.proofs.Basics.{not_held}
 
 -- nothing at the place past the last
 few : (most : ℕ) (places : List Place) → limit.one_too_many most places ≡ None → length places ≤ most
@@ -128,5 +128,5 @@ module _ (g : Prog Place) where
     few_events = same_few 64 (events g.decls) (length (filter_map event_in (map plain_decl g.decls))) (event_count g.decls) l.limits.few_events;
     few_conditions = same_few 256 (limit.conditions (tree.monitors g.decls)) (condition_count (filter_map monitor_in (map plain_decl g.decls))) (ap condition_count (monitors-plain g.decls) ∙ conditions_in (tree.monitors g.decls)) l.limits.few_conditions;
     few_routines = same_few 512 (limit.routine_places g.decls) (sum_by routines_in (map plain_decl g.decls)) (routines_of g.decls) l.limits.few_routines;
-    few_words = subst (λ n. n ≤ 1048576) (sym (same_words g.decls)) (few_words (limit.words (value g) g.decls) (not_then (nat_lt 1048576 (limit.words (value g) g.decls)) g.place l.limits.few_words));
+    few_words = subst (λ n. n ≤ 1048576) (sym (same_words g.decls)) (few_words (limit.words (value g) g.decls) (not_held (nat_lt 1048576 (limit.words (value g) g.decls)) g.place l.limits.few_words));
   }

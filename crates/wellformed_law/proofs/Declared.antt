@@ -1,10 +1,8 @@
 -- The declarations of a program: where they stand, what reaches them by its name, and that each name and place is that of one.
-use Rattle.std.proofs.Common.{◌≡◌, Bool, true, false, if◌then◌else◌, List, [], ◌∷◌, ◌++◌, map, append_assoc, Option, Some, None, is_some, ◌⊎◌, inl, inr, refl, ap, sym, ◌∙◌, subst, arith, true≢false}
+use Rattle.std.proofs.Common.{◌≡◌, Bool, true, false, if◌then◌else◌, List, [], ◌∷◌, ◌++◌, map, append_assoc, Option, Some, None, is_some, ◌⊎◌, inl, inr, refl, ap, sym, ◌∙◌, subst, true≢false}
 use Rattle.std.specs.Prelude.{Contains}
 use Rattle.std.proofs.lemmas.Option.{none-some, same_Some}
 use Rattle.std.proofs.lemmas.List.Elements.{Contains-append_left, Contains-append_right, Contains-append_cases}
-use Rattle.std.proofs.lemmas.Slice.Eq.{bytes_eq-Decides}
-use Rattle.std.proofs.lemmas.Bool.Decides.{nat_tests}
 use Rattle.std.proofs.lemmas.List.{append-nil}
 use Rattle.base.proofs.Members.{at_front, behind, none_in, front_or_behind, in_map}
 use Rattle.syntax_tree.specs.Plain.{Name}
@@ -22,14 +20,11 @@ use Rattle.static_semantics.specs.Mirrors.{program_site}
 use Rattle.wellformed_law.proofs.Lists.{Pictured, from_map, rest_part, one_of}
 use Rattle.wellformed_law.proofs.Adding.{inner_adds}
 use Rattle.wellformed_calls_law.proofs.Named.{Split, split-listed}
+use Rattle.wellformed_names_law.proofs.Found.{same-itself}
+use Rattle.static_names.proofs.Scopes.{same-refl}
+use Rattle.wellformed_names_law.proofs.Lookups.{same-is}
 
 -- ---- names
-
-pub same_names : (x y : Name) → same x y ≡ true → x ≡ y
-same_names x y = (bytes_eq-Decides x y).0
-
-pub same_itself : (x : Name) → same x x ≡ true
-same_itself x = (bytes_eq-Decides x x).1 refl
 
 -- what counts of a scope is in it
 pub first_in : (ns : Names) (x : Name) (d : Declared) → first ns x ≡ Some d → Contains ns (x, d)
@@ -37,7 +32,7 @@ first_in [] x d e = absurd (none-some d e)
 first_in (n ∷ ns) x d e = by (first_in ns x d) (same x n.0) refl
   where
     by : (first ns x ≡ Some d → Contains ns (x, d)) → (b : Bool) → same x n.0 ≡ b → Contains (n ∷ ns) (x, d)
-    by again true s = subst (λ m. Contains (n ∷ ns) m) (λ i. (sym (same_names x n.0 s) i, same_Some n.1 d (ap (λ b. if b then Some n.1 else first ns x) (sym s) ∙ e) i)) (at_front n ns)
+    by again true s = subst (λ m. Contains (n ∷ ns) m) (λ i. (sym (same-is x n.0 s) i, same_Some n.1 d (ap (λ b. if b then Some n.1 else first ns x) (sym s) ∙ e) i)) (at_front n ns)
     by again false s = behind n ns (x, d) (again (ap (λ b. if b then Some n.1 else first ns x) (sym s) ∙ e))
 
 -- what is in a scope counts, or something else of its name does
@@ -47,7 +42,7 @@ first_some (n ∷ ns) x d h = by (first_some ns x d) (same x n.0) refl (front_or
   where
     by : (Contains ns (x, d) → is_some (first ns x) ≡ true) → (b : Bool) → same x n.0 ≡ b → (n ≡ (x, d)) ⊎ Contains ns (x, d) → is_some (if b then Some n.1 else first ns x) ≡ true
     by again true s c = refl
-    by again false s (inl e) = absurd (true≢false (sym (same_itself x) ∙ ap (λ m. same x m.0) (sym e) ∙ s))
+    by again false s (inl e) = absurd (true≢false (sym (same-refl x) ∙ ap (λ m. same x m.0) (sym e) ∙ s))
     by again false s (inr m) = again m
 
 -- ---- what a scope does not declare
@@ -201,12 +196,9 @@ one_named g found d e h k same_name = by (Contains-append_cases s.before (d ∷ 
 
 -- ---- each place is that of one declaration
 
-pub same_place_itself : (p : Place) → same_place p p ≡ true
-same_place_itself p = grind (arith, nat_tests)
-
 -- two declarations whose names stand at one place have one name
 pub one_placed : (g : Prog Place) → StandApart g → (d e : Decl Place) → Contains g.decls d → Contains g.decls e → (decl_name d).1.place ≡ (decl_name e).1.place → (decl_name d).0 ≡ (decl_name e).0
-one_placed g apart d e h k same_one = ap name_of (one_of (λ o. same_place (place_of o) at) (names g) (apart at) _ _ (declared d h) (declared e k) (same_place_itself at) (ap (λ q. same_place q at) (sym same_one) ∙ same_place_itself at))
+one_placed g apart d e h k same_one = ap name_of (one_of (λ o. same_place (place_of o) at) (names g) (apart at) _ _ (declared d h) (declared e k) (same-itself at) (ap (λ q. same_place q at) (sym same_one) ∙ same-itself at))
   where
     at : Place
     at = (decl_name d).1.place

@@ -1,7 +1,6 @@
 -- The types of variables, parameters and results fit.
-use Rattle.std.proofs.Common.{◌≡◌, Bool, true, false, if◌then◌else◌, List, [], ◌∷◌, map, Some, None, refl, sym, arith}
+use Rattle.std.proofs.Common.{◌≡◌, Bool, true, false, List, [], ◌∷◌, map, arith}
 use Rattle.std.specs.Prelude.{Contains, ℤ, pos, negsuc, ◌+ℤ◌, int_le, int_lt, All, filter_map}
-use Rattle.std.proofs.lemmas.Option.{none-some}
 use Rattle.std.proofs.lemmas.Bool.Decides.{nat_tests}
 use Rattle.std.proofs.lemmas.List.Elements.{All-nil, All-cons, All-head, All-tail}
 use Rattle.base.proofs.Members.{at_front, behind}
@@ -20,14 +19,7 @@ use Rattle.wellformed_law.proofs.Adding.{constant_adds, scalar_adds, kind_adds, 
 use Rattle.wellformed_law.proofs.Constants.{Reaches}
 use Rattle.wellformed_law.proofs.WellformedLaw.{Laws, constant_fits}
 use Rattle.wellformed_calls_law.proofs.Numbers.{in_order}
-
-pub not_then : (b : Bool) (p : Place) → (if b then Some p else None) ≡ None → b ≡ false
-not_then true p e = absurd (none-some p (sym e))
-not_then false p e = refl
-
-pub is_then : (b : Bool) (p : Place) → (if b then None else Some p) ≡ None → b ≡ true
-is_then true p e = refl
-is_then false p e = absurd (none-some p (sym e))
+use Rattle.wellformed_calls_law.proofs.Basics.{not_held}
 
 not_from : (a b : ℤ) → int_le b a ≡ false → int_lt a b ≡ true
 not_from (pos a) (pos b) e = grind (arith, nat_tests)
@@ -44,7 +36,7 @@ module _ (g : Prog Place) (l : Laws g) where
   bounds_fit of_array low high listed a b = record {
     low_constant = a;
     high_constant = b;
-    order = in_order (value g low) (value g high) (not_then (int_lt (value g high) (value g low)) (constant_place low) (l.limits.crossed_none (record { of_array = of_array; low = low; high = high }) listed));
+    order = in_order (value g low) (value g high) (not_held (int_lt (value g high) (value g low)) (constant_place low) (l.limits.crossed_none (record { of_array = of_array; low = low; high = high }) listed));
   }
 
   pub scalar_fits : (site : Site) → Reaches (constants (plain g)) site → (s : Scalar Place) → ScalarWritten s → Within (scalar_names site s []) (names g) → Within (scalar_bounds s []) all_bounds
@@ -62,7 +54,7 @@ module _ (g : Prog Place) (l : Laws g) where
     bounds_fit true low high (b _ (at_front _ (scalar_bounds s [])))
         (constant_fits g l site reaches low w.0 (front (names g) (constant_adds site low) (constant_names site high (scalar_names site s [])) n))
         (constant_fits g l site reaches high w.1 (front (names g) (constant_adds site high) (scalar_names site s []) above)),
-    not_from (value g high) (value g low +ℤ pos 65536) (not_then (int_le (value g low +ℤ pos 65536) (value g high)) (constant_place low) (l.limits.long_none (record { of_array = true; low = low; high = high }) (b _ (at_front _ (scalar_bounds s []))))),
+    not_from (value g high) (value g low +ℤ pos 65536) (not_held (int_le (value g low +ℤ pos 65536) (value g high)) (constant_place low) (l.limits.long_none (record { of_array = true; low = low; high = high }) (b _ (at_front _ (scalar_bounds s []))))),
     scalar_fits site reaches s w.2 (rest (names g) (constant_adds site high) (scalar_names site s []) above) (λ x h. b x (behind _ (scalar_bounds s []) x h)),
   )
     where

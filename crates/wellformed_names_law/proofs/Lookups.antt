@@ -1,7 +1,6 @@
 -- The first declaration of a name in a scope, and the first thing of a name in a list of things.
 use Rattle.std.proofs.Common.{◌≡◌, inl, inr, Bool, true, false, cond, List, [], ◌∷◌, ◌++◌, map, Option, Some, None, refl, ap, sym, ◌∙◌}
 use Rattle.std.specs.Prelude.{option_map}
-use Rattle.std.proofs.lemmas.Cmp.{nat_list_eq_equiv}
 use Rattle.std.proofs.lemmas.Slice.Eq.{bytes_eq-Decides}
 use Rattle.std.proofs.lemmas.Option.{same_Some, none-some}
 use Rattle.syntax_tree.specs.Plain.{Name}
@@ -9,12 +8,7 @@ use Rattle.static_names.specs.declared.kind.Declared.{Declared}
 use Rattle.static_names.specs.Reach.{same, Names, first, or_else}
 use Rattle.source_semantics.specs.Names.{named}
 use Rattle.wellformed_names_law.proofs.Members.{In}
-
-pub same-refl : (n : Name) → same n n ≡ true
-same-refl n = nat_list_eq_equiv.refl n
-
-pub same-symm : (n k : Name) → same n k ≡ same k n
-same-symm n k = nat_list_eq_equiv.symm n k
+use Rattle.static_names.proofs.Scopes.{same-refl, same-symm}
 
 pub same-is : (n k : Name) → same n k ≡ true → n ≡ k
 same-is n k e = (bytes_eq-Decides n k).0 e

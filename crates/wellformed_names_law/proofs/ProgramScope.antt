@@ -14,6 +14,7 @@ use Rattle.static_semantics.specs.Places.{NamesFound}
 use Rattle.static_semantics.specs.Mirrors.{NamesListed, program_site}
 use Rattle.wellformed_names_law.proofs.Members.{In, in-contains, in-right, in-map}
 use Rattle.wellformed_names_law.proofs.Lookups.{same-is, named-step, named-here, named-in, first-not}
+use Rattle.static_names.proofs.Scopes.{none-of}
 
 pub routines-plain : (ds : List (Decl Place)) → filter_map routine_in (map plain_decl ds) ≡ map plain_routine (program_routines ds)
 routines-plain [] = refl
@@ -151,13 +152,9 @@ either-false : (a b : Bool) → (a || b) ≡ false → b ≡ false
 either-false false b e = e
 either-false true b e = let h : true ≡ false = e in cc
 
-not-some : {X : Type 0} (o : Option X) → is_some o ≡ false → o ≡ None
-not-some None e = refl
-not-some (Some x) e = cc
-
 pub declarations-free : (outside : Reach) (earlier ds : Names) (more : List Occurrence) → ((n : Name) (q : Place) (t : Bool) → In (declarations outside earlier ds more) (declares n q t) → t ≡ false) → (e : Name × Declared) → In ds e → outside e.0 ≡ None
 declarations-free outside earlier [] more free e i = absurd i
-declarations-free outside earlier (d ∷ ds) more free e (inl is) = ap (λ z. outside z.0) (sym is) ∙ not-some (outside d.0) (either-false (is_some (first earlier d.0)) (is_some (outside d.0)) (free d.0 d.1.place _ (inl refl)))
+declarations-free outside earlier (d ∷ ds) more free e (inl is) = ap (λ z. outside z.0) (sym is) ∙ none-of (outside d.0) (either-false (is_some (first earlier d.0)) (is_some (outside d.0)) (free d.0 d.1.place _ (inl refl)))
 declarations-free outside earlier (d ∷ ds) more free e (inr i) = declarations-free outside (earlier ++ d ∷ []) ds more (λ n q t j. free n q t (inr j)) e i
 
 pub record Split {X : Type 0} (xs : List X) (x : X) : Type 0 where

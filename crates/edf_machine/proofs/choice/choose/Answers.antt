@@ -3,10 +3,11 @@ use Rattle.std.proofs.lemmas.Option.{slice_get-get_or}
 use Rattle.base.proofs.Lists.{some_at}
 use Rattle.vm_state.specs.Threads.{thread_of, threads_of}
 use Rattle.edf_machine.specs.Sights.{Seen, looked, seen_from, seen_of}
-use Rattle.edf_machine.proofs.Lists.{cells_count, read_at, thread_at}
+use Rattle.edf_machine.proofs.Lists.{thread_at}
 use Rattle.edf_machine.proofs.Seeing.{chosen_of, seen_more}
 use Rattle.edf_machine.proofs.choice.choose.Goals as goal
-use Rattle.vm_turn.proofs.Turning.{many as as_many, process_is}
+use Rattle.vm_turn.proofs.Turning.{many as as_many, process_is, read_at}
+use Rattle.vm_releases.proofs.Boards.{cells_count}
 
 pub index-requires : goal.index-requires
 index-requires g c =

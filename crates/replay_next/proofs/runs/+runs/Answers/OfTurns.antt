@@ -11,7 +11,7 @@ use Rattle.replay_calls.specs.Reach.{area_of, memory_of, site_of}
 use Rattle.replay_next.specs.Ran.{ran_of}
 use Rattle.replay_next.proofs.Parts as parts
 use Rattle.replay_next.proofs.Oks.{ok_at, ok_told}
-use Rattle.replay_next.proofs.CallRunsTurning.{after_turn, turn_none, turn_over, turns_of}
+use Rattle.replay_next.proofs.CallRunsTurning.{after_turn, turn_none, turn_over}
 use Rattle.replay_next.specs.declared.results.Ran.{Ran}
 use Rattle.replay_next.proofs.Rooms.{answers_room, body_room}
 use Rattle.replay_next.proofs.Sizes.{answers_size, stmts_size}
@@ -19,6 +19,7 @@ use Rattle.replay_next.proofs.Deeper as deeper
 use Rattle.std.specs.Global.{Vec}
 use Rattle.replay_state.specs.declared.variables.Slot as code_slot
 use Rattle.replay_next.proofs.runs.+runs.Goals as goal
+use Rattle.replay_values.proofs.Turning.{turns_of}
 
 -- ---- turns of a loop
 
