@@ -17,10 +17,9 @@ use Rattle.command_due.specs.Waits.{IsFirstWait, WaitFails}
 use Rattle.command_due.specs.Report.{edf_report}
 use Rattle.command_due.specs.EdfDue.{IsJudgedText, IsFeasibleText, IsUnfit, edf_log, IsEdfDue, edf_faulty, edf_waits, edf_unfit, edf_bad_script, edf_ran}
 use Rattle.command_due_law.specs.EdfDueOnce.{AnswersAreOne, EdfImagesAreOne, EdfIsOne}
-use Rattle.command_due_law.proofs.EdfDueOnceScripts.{Played, faulty_script, played, played_once}
 use Rattle.command_due_law.proofs.Texts.{same_line}
 use Rattle.command_due_law.proofs.DueOnceFirsts.{one_first}
-use Rattle.command_due_law.proofs.DueOnceScripts.{text_once}
+use Rattle.command_due_law.proofs.DueOnceScripts.{text_once, Played, faulty_script, played, played_once}
 
 -- what comes of a script that is one
 abbrev comes : NamedImage → ℕ → List ScriptLine → ℕ → Outcome

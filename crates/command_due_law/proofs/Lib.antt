@@ -1,7 +1,7 @@
 mod DueOnceFirsts
-mod Texts
+pub mod Texts
 mod DueOnceImages
-mod DueOnceScripts
+pub mod DueOnceScripts
 mod Commands
 mod Spares
 pub mod Told
@@ -10,5 +10,4 @@ mod Due
 mod EdfDueOnceImages
 mod Judged
 mod Listed
-mod EdfDueOnceScripts
 mod Words
