@@ -1,6 +1,7 @@
 -- What is left of each activation, and of each stay, counted along the run.
 use Rattle.std.proofs.Common.{◌≡◌, ◌≤◌, ◌+◌, ◌⊎◌, inl, inr, ℕ, Option, Some, None, length, arith, refl, ap, sym, subst, ◌∙◌, true, Bool}
 use Rattle.std.specs.Prelude.{slice_get}
+use Rattle.std.proofs.lemmas.Bool.{cases_eq}
 use Rattle.machine_semantics.specs.Image.{Monitor, Process, Script}
 use Rattle.machine_semantics.specs.State.{Job, Thread, Idle, Ready, Waiting, State}
 use Rattle.machine_semantics.specs.Starts.{released, release_thread, starts}
@@ -159,7 +160,7 @@ module _ (e : Where) (ps : ℕ → Parts) (image_fits : ImageFits e ps) (waitles
   -- chosen or not
   chosen_or : (k : ℕ) (o : Option ℕ) → (o ≡ Some k) ⊎ (o ≡ Some k → ⊥)
   chosen_or k None = inr (λ is. absurd (cc))
-  chosen_or k (Some j) = elim (work.same_or_not j k) [ inl same ↦ inl (ap (λ (i : ℕ). Some i) same) | inr differ ↦ inr (λ is. differ (let h : j ≡ k = cc in h)) ]
+  chosen_or k (Some j) = elim (cases_eq j k) [ inl same ↦ inl (ap (λ (i : ℕ). Some i) same) | inr differ ↦ inr (λ is. differ (let h : j ≡ k = cc in h)) ]
 
   -- the count of who does not run
   rests : (k : ℕ) (p : Process) → slice_get e.image.processes k ≡ Some p → (x : About e ps image_fits waitless script t s kept k p) → (c : Count e ps (starts e.image script t s.state).state k) → (chosen_at e.image script t s ≡ Some k → ⊥) → NextCount k p x c
