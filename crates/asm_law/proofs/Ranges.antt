@@ -1,5 +1,5 @@
 -- What the ranges of the fields say of the parts: names are short, and counts are few.
-use Rattle.std.proofs.Common.{◌≡◌, ◌≤◌, ◌<◌, ◌+◌, ◌&&◌, ◌++◌, ◌^◌, not, ℕ, zero, suc, Bool, true, false, List, [], ◌∷◌, length, refl, sym, ◌∙◌, arith}
+use Rattle.std.proofs.Common.{◌≡◌, ◌≤◌, ◌<◌, ◌+◌, ◌&&◌, ◌++◌, ◌^◌, not, ℕ, zero, suc, Bool, true, List, [], ◌∷◌, length, sym, ◌∙◌, arith}
 use Rattle.std.specs.Prelude.{nat_lt, nat_le}
 use Rattle.std.proofs.lemmas.Bool.{and_parts}
 use Rattle.std.proofs.lemmas.Bool.Decides.{nat_tests}
@@ -12,16 +12,13 @@ use Rattle.image_format.specs.Format.{u16, bytes_as_are, unless, is_fine, checke
 use Rattle.image_format.specs.TreeFormat.{in_image, within, u16_within, u32_within, u16_below, tree_format}
 use Rattle.image_reader.specs.Grammar as g
 use Rattle.image_reader.proofs.Rising.{above_last}
+use Rattle.image_reader_law.proofs.ImageFaultsFields.{fine_is}
 
 -- ---- numbers
 
-unless_fine : (b : Bool) (number : ℕ) → is_fine (unless b number) ≡ true → b ≡ true
-unless_fine true number h = refl
-unless_fine false number h = absurd cc
-
 most : (low high n : ℕ) → is_fine (within low high n) ≡ true → n ≤ high
 most low high n h =
-    let both_hold = and_parts (nat_le low n) (nat_le n high) (unless_fine (nat_le low n && nat_le n high) 4 h) in
+    let both_hold = and_parts (nat_le low n) (nat_le n high) (fine_is (nat_le low n && nat_le n high) 4 h) in
     let test : nat_le n high ≡ true = both_hold.1 in
     grind (arith, nat_tests)
 
@@ -67,7 +64,7 @@ in_range n h = (grind (arith, nat_tests, h), grind (arith, nat_tests, h))
 is_taken_here : (earlier : List ℕ) (n : ℕ) → (checked u16 (g.wrong_number earlier)).is n ≡ true → Taken earlier n
 is_taken_here earlier n h =
     let rule = and_parts (nat_lt n (2 ^ 16)) (is_fine (g.wrong_number earlier n)) h in
-    let tests = and_parts (g.is_above earlier n) (g.is_taken n) (unless_fine (g.is_above earlier n && g.is_taken n) 8 rule.1) in
+    let tests = and_parts (g.is_above earlier n) (g.is_taken n) (fine_is (g.is_above earlier n && g.is_taken n) 8 rule.1) in
     let range = in_range n tests.1 in
     record { above = tests.0; low = range.0; high = range.1 }
 

@@ -21,6 +21,7 @@ use Rattle.asm_law.specs.AsmSize.{TextsHoldTheirBytes}
 use Rattle.asm_law.proofs.Words.{all_pay}
 use Rattle.asm_law.proofs.Lines.{device_pays, event_pays, monitor_pays, condition_pays, routine_pays, process_pays, instr_pays}
 use Rattle.asm_law.proofs.Ranges.{u16_most, u32_most, name_short, device_short, monitor_short, condition_short, process_short}
+use Rattle.asm_reads_law.proofs.Whole.{monitors_are_rows, processes_are_rows}
 
 -- ---- things in their ranges, one after the other
 
@@ -43,17 +44,9 @@ monitors_are : (ms : List (List ℕ × Monitor)) → monitors_bytes (map (λ m. 
 monitors_are [] = refl
 monitors_are (m ∷ ms) = ap (λ rest. monitor_bytes m.0 m.1 ++ rest) (monitors_are ms)
 
-monitors_read : (ms : List (List ℕ × Monitor)) → monitors_text (map (λ m. m.0) ms) (map (λ m. m.1) ms) ≡ flat_map (λ m. monitor_line m.0 m.1) ms
-monitors_read [] = refl
-monitors_read (m ∷ ms) = ap (λ rest. monitor_line m.0 m.1 ++ rest) (monitors_read ms)
-
 processes_are : (ps : List (List ℕ × Process)) → processes_bytes Second (map (λ p. p.0) ps) (map (λ p. p.1) ps) ≡ flat_map (λ p. process_bytes Second p.0 p.1) ps
 processes_are [] = refl
 processes_are (p ∷ ps) = ap (λ rest. process_bytes Second p.0 p.1 ++ rest) (processes_are ps)
-
-processes_read : (ps : List (List ℕ × Process)) → processes_text (map (λ p. p.0) ps) (map (λ p. p.1) ps) ≡ flat_map (λ p. process_lines p.0 p.1) ps
-processes_read [] = refl
-processes_read (p ∷ ps) = ap (λ rest. process_lines p.0 p.1 ++ rest) (processes_read ps)
 
 events_are : (at : ℕ) (names : List (List ℕ)) (ps : List Process) → flat_map event_bytes (f.framed at names ps) ≡ flat_map name_bytes names
 events_are at [] ps = refl
@@ -215,7 +208,7 @@ module _ (p : f.Parts) (k : Fits p) where
       let all = each_pays (λ earlier. g.named_monitor_format (before_monitors p ++ map (λ (m : List ℕ × Monitor). m.0) earlier)) (λ (m : List ℕ × Monitor). monitor_bytes m.0 m.1) (λ (m : List ℕ × Monitor). monitor_line m.0 m.1) 0
       (λ earlier m h. let one = monitor_pays m.0 m.1 (monitor_short (before_monitors p ++ map (λ (m : List ℕ × Monitor). m.0) earlier) m h) in omega (arith, one))
       [] (length p.monitors) p.monitors k.monitors in
-      omega (arith, all, ap (λ bytes. length bytes) (monitors_are p.monitors), ap (λ text. length text) (monitors_read p.monitors))
+      omega (arith, all, ap (λ bytes. length bytes) (monitors_are p.monitors), ap (λ text. length text) (monitors_are_rows p.monitors))
 
   conditions_pay : 10 * length (flat_map condition_bytes p.conditions) ≤ 9 * length (flat_map condition_line p.conditions)
   conditions_pay =
@@ -229,7 +222,7 @@ module _ (p : f.Parts) (k : Fits p) where
       let all = each_pays (λ earlier. g.named_process_format Second (counts p) (before_conditions p ++ map (λ (x : List ℕ × Process). x.0) earlier) (f.used_by earlier)) (λ (x : List ℕ × Process). process_bytes Second x.0 x.1) (λ (x : List ℕ × Process). process_lines x.0 x.1) 2000
       (λ earlier x h. let short = process_short (counts p) (before_conditions p ++ map (λ (x : List ℕ × Process). x.0) earlier) (f.used_by earlier) x h in process_pays x.0 x.1 short.name short.numbers)
       [] (length p.processes) p.processes k.processes in
-      omega (arith, all, ap (λ bytes. length bytes) (processes_are p.processes), ap (λ text. length text) (processes_read p.processes))
+      omega (arith, all, ap (λ bytes. length bytes) (processes_are p.processes), ap (λ text. length text) (processes_are_rows p.processes))
 
   routines_pay : 10 * length (flat_map routine_bytes p.routines) ≤ 9 * length (flat_map routine_lines p.routines)
   routines_pay = let all = all_pay routine_bytes routine_lines 0 (λ r. let one = routine_pays r in omega (arith, one)) p.routines in omega (arith, all)

@@ -3,7 +3,7 @@ use Rattle.std.proofs.Common.{◌≡◌, ◌++◌, ℕ, Bool, List, [], ◌∷�
 use Rattle.std.specs.Prelude.{option_map, option_to_list}
 use Rattle.asm_lines.specs.TreeForm.{last}
 
-last_pushed : (xs : List Bool) (b : Bool) → last (xs ++ b ∷ []) ≡ Some (xs, b)
+pub last_pushed : (xs : List Bool) (b : Bool) → last (xs ++ b ∷ []) ≡ Some (xs, b)
 last_pushed [] b = refl
 last_pushed (x ∷ []) b = refl
 last_pushed (x ∷ y ∷ ys) b = ap (option_map (λ z. (x ∷ z.0, z.1))) (last_pushed (y ∷ ys) b)

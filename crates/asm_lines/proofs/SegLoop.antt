@@ -2,7 +2,7 @@
 use Rattle.std.proofs.Common.{◌≡◌, ℕ, suc, ◌-◌, ◌+◌, ◌≤◌, ◌<◌, List, [], ◌∷◌, ◌++◌, Bool, true, false, map, Ok, Err, refl, sym, ap, ◌∙◌, arith}
 use Rattle.machine_semantics.specs.Trees as tree
 use Rattle.machine_semantics.specs.Trees.{Segs, Nil, Cons}
-use Rattle.image_format.proofs.TreeLoop.{join}
+use Rattle.image_format.proofs.TreeLoop.{join, join-none, join_assoc}
 use Rattle.text_fields.specs.declared.fault.ReadError.{ReadError}
 use Rattle.text_fields.specs.declared.fault.ReadError.TheVariants as errors
 use Rattle.text_fields.specs.Front.{◌>>=◌, Fails, Front, Read, no_form}
@@ -11,14 +11,6 @@ use Rattle.asm_lines.specs.Trees.{segs_read, tree_ends}
 -- what was read before, and what is still read
 abbrev pub with_front : Segs → Read Segs → Read Segs
 with_front front read = read >>= λ x. Ok (join front x.0, x.1)
-
-join-none : (ts : Segs) → join ts Nil ≡ ts
-join-none Nil = refl
-join-none (Cons t ts) = ap (λ us. Cons t us) (join-none ts)
-
-join_assoc : (a b c : Segs) → join (join a b) c ≡ join a (join b c)
-join_assoc Nil b c = refl
-join_assoc (Cons t a) b c = ap (λ us. Cons t us) (join_assoc a b c)
 
 regroup : (front : Segs) (t : tree.Seg) (read : Read Segs) → with_front front (read >>= λ x. Ok (Cons t x.0, x.1)) ≡ with_front (join front (Cons t Nil)) read
 regroup front t (Ok x) = ap (λ (ts : Segs). Ok (ts, x.1)) (sym (join_assoc front (Cons t Nil) x.0))

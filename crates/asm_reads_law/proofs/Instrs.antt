@@ -13,7 +13,7 @@ use Rattle.machine_isa.specs.declared.instr.Instr.{Instr}
 use Rattle.machine_isa.specs.declared.instr.Instr.TheVariants as i
 use Rattle.machine_isa.specs.Bytes.{arity, number, operands}
 use Rattle.machine_isa.specs.Numbered.{numbered}
-use Rattle.image_format.specs.Format.{Format, u8, unless, is_fine, checked}
+use Rattle.image_format.specs.Format.{unless, is_fine}
 use Rattle.image_reader.specs.Grammar.{operand, fields_of, fields_format, instr_format, or_end}
 use Rattle.asm_format.specs.Mnemonics.{mnemonics, mnemonic, named, operands_text, instr_line}
 use Rattle.text_fields.specs.Fields.{Is32}
@@ -22,7 +22,8 @@ use Rattle.text_fields.specs.LineFields.{is_digit}
 use Rattle.asm_lines.specs.Names.{is_in_word, word_len}
 use Rattle.asm_lines.specs.Instrs.{number_of, operand_read, numbered_read, of_number, instr_read}
 use Rattle.asm_reads_law.proofs.Numbers.{place, Stops, skips, ends, prefix_is, signed_reads}
-use Rattle.asm_reads_law.proofs.Names.{fine_is}
+use Rattle.image_reader_law.proofs.ImageFaultsFields.{is_word, fine_is}
+use Rattle.image_reader_law.proofs.ImageSoundInstructions.{number_format}
 
 -- ---- an instruction by its number and its operands
 
@@ -157,9 +158,6 @@ is_32 (negsuc n) h = by (nat_lt (2 ^ 32 - suc n) (2 ^ 31)) refl ((Decides-int_eq
   by true low e = absurd cc
   by false low e = let above : 2 ^ 31 ≤ 2 ^ 32 - suc n = ltb-false (2 ^ 32 - suc n) (2 ^ 31) low in omega (arith, above)
 
-abbrev is_word : ℤ → Bool
-is_word z = int_eq z (cast_signed w32 (cast_unsigned w32 z))
-
 word_of : (is_named : Bool) (z : ℤ) → (operand is_named).is z ≡ true → Is32 z
 word_of is_named z h = is_32 z (and_parts (is_word z) (is_fine (unless (is_named || int_eq z (pos 0)) 7)) h).0
 
@@ -228,9 +226,6 @@ module _ (make : ℤ → ℤ → ℤ → Instr) (a b c : ℤ) (start : ℕ) (res
       ∙ three_read (word_of (nat_le 1 (suc (suc (suc k)))) a p) (word_of (nat_le 2 (suc (suc (suc k)))) b q) (word_of (nat_le 3 (suc (suc (suc k)))) c r)
 
 -- ---- the line
-
-abbrev number_format : Format ℕ
-number_format = checked u8 (λ n. unless (nat_le 1 n && nat_le n 48) 6)
 
 operands_stop : (zs : List ℤ) (rest : List ℕ) → Stops is_in_word (operands_text zs ++ rest)
 operands_stop [] rest = refl

@@ -9,7 +9,7 @@ use Rattle.syntax.specs.Spellings.{is_identifier, is_letter, is_word, keywords}
 use Rattle.machine_semantics.specs.Image.{Monitor}
 use Rattle.image.specs.declared.names.CondName.{CondName}
 use Rattle.image.specs.declared.names.DevName.{DevName}
-use Rattle.image_format.specs.Format.{Format, u8, u16, u32, unless, is_fine, checked}
+use Rattle.image_format.specs.Format.{u16, u32, unless, is_fine}
 use Rattle.image_format.specs.TreeFormat.{within, u32_within, u16_within, u16_below}
 use Rattle.image_reader.specs.Grammar.{has, is_again, wrong_name, name_format, device_format, monitor_format, named_monitor_format, condition_format}
 use Rattle.asm_format.specs.Text.{head_line, direction, device_line, event_line, ceiling_text, monitor_line, condition_line}
@@ -17,13 +17,12 @@ use Rattle.text_fields.specs.Front.{line_start}
 use Rattle.text_fields.specs.LineFields.{is_digit}
 use Rattle.asm_lines.specs.Names.{is_in_word, may_be_name, name_read, named_read, head_read, direction_read, device_read, event_read, ceiling_read, monitor_read, condition_read}
 use Rattle.asm_reads_law.proofs.Pieces.{named_2}
-use Rattle.asm_reads_law.proofs.Numbers.{place, Stops, begins_self, begins_not, skips, ends, prefix_is, all_pass, numeral, digit_first, numeral_reads, field_reads}
+use Rattle.asm_reads_law.proofs.Numbers.{place, Stops, begins_self, begins_not, skips, ends, prefix_is, numeral, digit_first, numeral_reads, field_reads}
+use Rattle.syntax.proofs.ReadLemmas.{weaker}
+use Rattle.image_reader_law.proofs.ImageFaultsFields.{fine_is}
+use Rattle.image_reader_law.proofs.Grammar.{size_format}
 
 -- ---- ranges
-
-pub fine_is : (b : Bool) (n : ℕ) → is_fine (unless b n) ≡ true → b ≡ true
-fine_is true n h = refl
-fine_is false n h = absurd cc
 
 pub within_is : (low high n : ℕ) → is_fine (within low high n) ≡ true → (low ≤ n) × (n ≤ high)
 within_is low high n h =
@@ -56,7 +55,7 @@ identifier_bytes : (name : List ℕ) → is_identifier name ≡ true → list_al
 identifier_bytes [] h = cc
 identifier_bytes (b ∷ bs) h =
     let p = and_parts (is_letter b) (list_all is_word bs) h in
-    and_from (is_in_word b) (list_all is_in_word bs) (letter_byte b p.0) (all_pass is_word is_in_word word_byte bs p.1)
+    and_from (is_in_word b) (list_all is_in_word bs) (letter_byte b p.0) (weaker is_word is_in_word word_byte bs p.1)
 
 identifier_some : (name : List ℕ) → is_identifier name ≡ true → 0 < length name
 identifier_some [] h = cc
@@ -66,9 +65,6 @@ pub record IsName (taken : List (List ℕ)) (name : List ℕ) : Type 0 where
   pub some : 0 < length name
   pub bytes : list_all is_in_word name ≡ true
   pub may : may_be_name taken name ≡ true
-
-abbrev size_format : Format ℕ
-size_format = checked u8 (within 0 63)
 
 pub is_name : (taken : List (List ℕ)) (name : List ℕ) → (name_format taken).is name ≡ true → IsName taken name
 is_name taken name h =

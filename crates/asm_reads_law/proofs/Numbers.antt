@@ -12,6 +12,7 @@ use Rattle.std.proofs.lemmas.List.Folds.{list_all-append}
 use Rattle.text_fields.specs.Fields.{Is32}
 use Rattle.text_fields.specs.Front.{Front, begins, skip, end_read, line_start}
 use Rattle.text_fields.specs.LineFields.{is_digit, digits_len, is_numeral, value, numeral_read, number_read, field_read, signed_read}
+use Rattle.text_fields.proofs.Digits.{with_digit}
 
 -- a place in a line before which all is in its range
 abbrev pub place : (start : ℕ) → List ℕ → Front
@@ -53,20 +54,11 @@ prefix_is test (b ∷ bs) rest all stops =
     let h = and_parts (test b) (list_all test bs) all in
     rw (h.0, prefix_is test bs rest h.1 stops) (omega arith)
 
-pub all_pass : (test other : ℕ → Bool) → ((b : ℕ) → test b ≡ true → other b ≡ true) → (bs : List ℕ) → list_all test bs ≡ true → list_all other bs ≡ true
-all_pass test other passes [] all = refl
-all_pass test other passes (b ∷ bs) all =
-    let h = and_parts (test b) (list_all test bs) all in
-    and_from (other b) (list_all other bs) (passes b h.0) (all_pass test other passes bs h.1)
-
 -- ---- numerals
 
 pub record IsNumeral (n : ℕ) (digits : List ℕ) : Type 0 where
   pub are_digits : list_all is_digit digits ≡ true
   pub is : value digits ≡ n
-
-abbrev with_digit : ℕ → ℕ → ℕ
-with_digit n digit = 10 * n + (digit - 48)
 
 value_on : (n : ℕ) (ds es : List ℕ) → fold with_digit n (ds ++ es) ≡ fold with_digit (fold with_digit n ds) es
 value_on n [] es = refl

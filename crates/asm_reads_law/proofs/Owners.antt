@@ -24,12 +24,13 @@ use Rattle.asm_lines.specs.TreeForm.{cuts}
 use Rattle.asm_lines.proofs.Cutting.{cuts_at}
 use Rattle.assembler.specs.Sections.{owners_in}
 use Rattle.asm_reads_law.proofs.Pieces.{ended_2, ended_3, ended_6, lines_2, lines_3}
-use Rattle.asm_reads_law.proofs.Numbers.{Stops, begins_self, begins_not, all_pass}
+use Rattle.asm_reads_law.proofs.Numbers.{Stops, begins_self, begins_not}
 use Rattle.asm_reads_law.proofs.Names.{IsName, is_name, in_count}
 use Rattle.asm_reads_law.proofs.Instrs.{AreSmall, name_is, named_small, starts_upper}
 use Rattle.asm_reads_law.proofs.TreeForms.{in_line, is_line, decimal_line, line_append, lacks_byte, tree_fits, tree_words, tree_words_line}
 use Rattle.asm_reads_law.proofs.Routines.{IsRoutine, routine_is, routine_line}
 use Rattle.asm_reads_law.proofs.Processes.{IsProcess, process_is}
+use Rattle.syntax.proofs.ReadLemmas.{weaker}
 
 -- ---- one line
 
@@ -54,7 +55,7 @@ word_in_line : (b : ℕ) → is_in_word b ≡ true → in_line b ≡ true
 word_in_line b h = (and_parts (not (b == 32)) (not (b == 10)) h).1
 
 name_line : (taken : List (List ℕ)) (name : List ℕ) → IsName taken name → is_line name ≡ true
-name_line taken name is = all_pass is_in_word in_line word_in_line name is.bytes
+name_line taken name is = weaker is_in_word in_line word_in_line name is.bytes
 
 -- pieces without the end of a line
 whole_2 : (a b : List ℕ) → is_line a ≡ true → is_line b ≡ true → is_line (a ++ b) ≡ true
@@ -312,7 +313,7 @@ instr_owners instr rest h =
     let line = word ++ operands_words (named instr) in
     let same : instr_line instr ++ rest ≡ line ++ (codes "\n" ++ rest) =
     ap (λ (more : List ℕ). (word ++ more) ++ rest) (operands_end (named instr)) ∙ ended_2 word (operands_words (named instr)) (codes "\n") rest in
-    let whole : is_line line ≡ true = whole_2 word (operands_words (named instr)) (all_pass is_in_word in_line word_in_line word is.bytes) (operands_line (named instr) (named_small instr h)) in
+    let whole : is_line line ≡ true = whole_2 word (operands_words (named instr)) (weaker is_in_word in_line word_in_line word is.bytes) (operands_line (named instr) (named_small instr h)) in
     ap owners_in same ∙ other_line line rest whole (first word (operands_words (named instr)) is.upper)
   where
     first : (word more : List ℕ) → starts_upper word ≡ true → begins process_word (word ++ more) ≡ false

@@ -18,8 +18,9 @@ use Rattle.asm_lines.specs.Names.{is_in_word}
 use Rattle.asm_lines.specs.Processes.{periodic_frame_read, is_free, release_read, time_read, room_read, taken_read, more_read, numbers_read, handler_read, handler_tree_read, fields_read, process_line_read, process_read}
 use Rattle.asm_reads_law.proofs.Pieces.{field_then, fields_3, fields_4, fields_6, pieces_8}
 use Rattle.asm_reads_law.proofs.Numbers.{place, Stops, begins_self, begins_not, ends, field_reads}
-use Rattle.asm_reads_law.proofs.Names.{IsName, fine_is, in_u32, is_name, named_reads}
+use Rattle.asm_reads_law.proofs.Names.{IsName, in_u32, is_name, named_reads}
 use Rattle.asm_reads_law.proofs.Trees.{tree_line_reads}
+use Rattle.image_reader_law.proofs.ImageFaultsFields.{fine_is}
 
 -- ---- what the format says of a process
 

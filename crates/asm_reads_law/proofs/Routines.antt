@@ -14,8 +14,9 @@ use Rattle.text_fields.specs.LineFields.{is_digit}
 use Rattle.asm_lines.specs.Routines.{owner_read, place_read, stay_read, cost_fields_read, routine_line_read, routine_read}
 use Rattle.asm_reads_law.proofs.Pieces.{fields_3_then, fields_4, lines_2, pieces_4}
 use Rattle.asm_reads_law.proofs.Numbers.{place, Stops, begins_self, begins_not, skips, ends, field_reads}
-use Rattle.asm_reads_law.proofs.Names.{fine_is, in_u32}
+use Rattle.asm_reads_law.proofs.Names.{in_u32}
 use Rattle.asm_reads_law.proofs.Trees.{tree_line_reads}
+use Rattle.image_reader_law.proofs.ImageFaultsFields.{fine_is}
 
 -- ---- what the format says of a routine
 

@@ -1,5 +1,5 @@
 -- The line of a tree has the form of one.
-use Rattle.std.proofs.Common.{◌≡◌, ◌<◌, ◌^◌, ◌&&◌, ◌==◌, ◌++◌, ℕ, zero, suc, Bool, true, false, List, [], ◌∷◌, length, drop, fold, Some, decimal, refl, sym, ap, ◌∙◌, subst, arith, append_assoc, append-nil, length-append}
+use Rattle.std.proofs.Common.{◌≡◌, ◌<◌, ◌^◌, ◌&&◌, ◌==◌, ◌++◌, ℕ, zero, suc, Bool, true, false, List, [], ◌∷◌, length, drop, fold, decimal, refl, sym, ap, ◌∙◌, subst, arith, append_assoc, append-nil, length-append}
 use Rattle.std.specs.Prelude.{not, nat_lt, codes}
 use Rattle.std.specs.List.{list_all}
 use Rattle.std.proofs.Math.Seq.{take-append_seam}
@@ -13,10 +13,12 @@ use Rattle.asm_format.specs.TreeText.{seg_text, segs_text, tree_line}
 use Rattle.text_fields.specs.Fields.{Lacks}
 use Rattle.text_fields.specs.LineFields.{is_digit, is_numeral}
 use Rattle.asm_lines.specs.declared.form.Awaits.TheVariants as await
-use Rattle.asm_lines.specs.TreeForm.{Shape, last, closed, step, is_number, cuts, tree_form, is_tree_line, line_len}
+use Rattle.asm_lines.specs.TreeForm.{Shape, closed, step, is_number, cuts, tree_form, is_tree_line, line_len}
 use Rattle.asm_lines.proofs.Cutting.{cuts_at, cuts_none}
-use Rattle.asm_reads_law.proofs.Numbers.{Stops, prefix_is, all_pass, numeral, is_spelled}
+use Rattle.asm_reads_law.proofs.Numbers.{Stops, prefix_is, numeral, is_spelled}
 use Rattle.asm_reads_law.proofs.Names.{in_u32, in_count}
+use Rattle.asm_lines.proofs.Lasts.{last_pushed}
+use Rattle.syntax.proofs.ReadLemmas.{weaker}
 
 -- ---- trees whose numbers have 32 bits
 
@@ -75,7 +77,7 @@ digit_in_line : (b : ℕ) → is_digit b ≡ true → in_line b ≡ true
 digit_in_line b h = rw (ne_eqb b 10 (λ (same : b ≡ 10). false≢true (sym (ap is_digit same) ∙ h))) refl
 
 pub decimal_line : (n : ℕ) → n < 2 ^ 32 → is_line (decimal n) ≡ true
-decimal_line n low = all_pass is_digit in_line digit_in_line (decimal n) (numeral n (omega arith)).are_digits
+decimal_line n low = weaker is_digit in_line digit_in_line (decimal n) (numeral n (omega arith)).are_digits
 
 pub line_append : (a b : List ℕ) → is_line (a ++ b) ≡ (is_line a && is_line b)
 line_append a b = list_all-append in_line a b
@@ -121,7 +123,7 @@ digit_in_word : (b : ℕ) → is_digit b ≡ true → in_word b ≡ true
 digit_in_word b h = rw (ne_eqb b 32 (λ (same : b ≡ 32). false≢true (sym (ap is_digit same) ∙ h))) refl
 
 decimal_word : (n : ℕ) → n < 2 ^ 32 → list_all in_word (decimal n) ≡ true
-decimal_word n low = all_pass is_digit in_word digit_in_word (decimal n) (numeral n (omega arith)).are_digits
+decimal_word n low = weaker is_digit in_word digit_in_word (decimal n) (numeral n (omega arith)).are_digits
 
 -- the words after the first space
 abbrev later : List ℕ → List (List ℕ)
@@ -195,11 +197,6 @@ mutual
       ∙ seg_later head (segs_text more ++ rest) h.0 (tree_stops in_word refl more rest stops) ∙ ap (seg_words head) (segs_later more rest h.1 stops)
 
 -- ---- steps
-
-last_pushed : (xs : List Bool) (b : Bool) → last (xs ++ b ∷ []) ≡ Some (xs, b)
-last_pushed [] b = refl
-last_pushed (x ∷ []) b = refl
-last_pushed (x ∷ y ∷ ys) b = rw (last_pushed (y ∷ ys) b) refl
 
 number_word : (n : ℕ) → n < 2 ^ 32 → is_number (decimal n) ≡ true
 number_word n low = and_from (list_all is_digit (decimal n)) (is_numeral (decimal n)) (numeral n (omega arith)).are_digits (is_spelled n (omega arith))

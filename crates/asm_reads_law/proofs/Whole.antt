@@ -95,11 +95,11 @@ events_text : (at_event : ℕ) (events : List (List ℕ)) (processes : List Proc
 events_text n [] processes = refl
 events_text n (e ∷ es) processes = ap (λ (more : List ℕ). event_line e ++ more) (events_text (n + 1) es processes)
 
-monitors_are_rows : (ms : List (List ℕ × Monitor)) → monitors_text (map (λ m. m.0) ms) (map (λ m. m.1) ms) ≡ flat_map (λ m. monitor_line m.0 m.1) ms
+pub monitors_are_rows : (ms : List (List ℕ × Monitor)) → monitors_text (map (λ m. m.0) ms) (map (λ m. m.1) ms) ≡ flat_map (λ m. monitor_line m.0 m.1) ms
 monitors_are_rows [] = refl
 monitors_are_rows (m ∷ ms) = ap (λ (more : List ℕ). monitor_line m.0 m.1 ++ more) (monitors_are_rows ms)
 
-processes_are_rows : (ps : List (List ℕ × Process)) → processes_text (map (λ p. p.0) ps) (map (λ p. p.1) ps) ≡ flat_map (λ p. process_lines p.0 p.1) ps
+pub processes_are_rows : (ps : List (List ℕ × Process)) → processes_text (map (λ p. p.0) ps) (map (λ p. p.1) ps) ≡ flat_map (λ p. process_lines p.0 p.1) ps
 processes_are_rows [] = refl
 processes_are_rows (p ∷ ps) = ap (λ (more : List ℕ). process_lines p.0 p.1 ++ more) (processes_are_rows ps)
 

@@ -1,11 +1,10 @@
 -- The numbers that a handler takes, and its tree.
-use Rattle.std.proofs.Common.{◌≡◌, ◌≤◌, ◌<◌, ◌^◌, ◌+◌, ◌++◌, ◌&&◌, ◌||◌, ℕ, zero, suc, Bool, true, false, List, [], ◌∷◌, length, refl, sym, ap, ◌∙◌, arith, append_assoc}
-use Rattle.std.specs.Prelude.{codes, nat_lt, nat_le}
+use Rattle.std.proofs.Common.{◌≡◌, ◌≤◌, ◌<◌, ◌^◌, ◌+◌, ◌++◌, ◌&&◌, ℕ, zero, suc, true, false, List, [], ◌∷◌, length, refl, sym, ap, ◌∙◌, arith, append_assoc}
+use Rattle.std.specs.Prelude.{codes, nat_lt}
 use Rattle.std.specs.List.{flat_map}
-use Rattle.std.proofs.lemmas.Bool.{lt-ltb, ltb-true, leb-true}
+use Rattle.std.proofs.lemmas.Bool.{lt-ltb, ltb-true, and_parts}
 use Rattle.image_format.specs.Format.{u16, each_is, checked}
 use Rattle.image_reader.specs.Grammar as g
-use Rattle.image_format.proofs.Booleans.{parts}
 use Rattle.asm_format.specs.Text.{field, numbers_text, handler_text, handler_line}
 use Rattle.text_fields.specs.Front.{Front, begins}
 use Rattle.asm_lines.specs.Processes.{taken_read, more_read, numbers_read, handler_read, handler_tree_read}
@@ -13,6 +12,8 @@ use Rattle.asm_sound_law.proofs.Took.{Start, Within, Takes, on, shown, note, not
 use Rattle.asm_sound_law.proofs.Passing.{inside}
 use Rattle.asm_sound_law.proofs.Numbers.{both_true, fine_of, IsIn, any_u16, any_u32, field_took}
 use Rattle.asm_sound_law.proofs.Trees.{tree_line_took}
+use Rattle.image_reader.proofs.Rising.{above_last}
+use Rattle.image_reader_law.proofs.Parts.{is_taken_means}
 
 -- ---- numbers, each above the last one
 
@@ -20,28 +21,16 @@ abbrev pub AreTaken : (last : ℕ) → List ℕ → Type 0
 AreTaken last [] = Unit {0}
 AreTaken last (n ∷ ns) = (u16.is n ≡ true) × (nat_lt last n ≡ true) × (g.is_taken n ≡ true) × AreTaken n ns
 
-taken_small : (n : ℕ) → g.is_taken n ≡ true → n ≤ 999
-taken_small n h = by (nat_le 1 n && nat_le n 4) (nat_le 10 n && nat_le n 999) refl refl h where
-  by : (a b : Bool) → (nat_le 1 n && nat_le n 4) ≡ a → (nat_le 10 n && nat_le n 999) ≡ b → (a || b) ≡ true → n ≤ 999
-  by true b p q h = let low = leb-true n 4 (parts (nat_le 1 n) (nat_le n 4) p).1 in omega (arith, low)
-  by false true p q h = leb-true n 999 (parts (nat_le 10 n) (nat_le n 999) q).1
-  by false false p q h = cc
-
 -- there are no more of them than lie between
 few : (last : ℕ) (ns : List ℕ) → last ≤ 999 → AreTaken last ns → length ns + last ≤ 999
 few last [] low taken = omega (arith, low)
 few last (n ∷ ns) low taken =
     let above : last < n = ltb-true last n taken.1 in
-    let more : length ns + n ≤ 999 = few n ns (taken_small n taken.2) taken.3 in
+    let more : length ns + n ≤ 999 = few n ns (is_taken_means n taken.2) taken.3 in
     omega (arith, above, more)
 
 pub few_numbers : (ns : List ℕ) → AreTaken 0 ns → u16.is (length ns) ≡ true
 few_numbers ns taken = let low : length ns + 0 ≤ 999 = few 0 ns (omega arith) taken in lt-ltb (length ns) (2 ^ 16) (omega (arith, low))
-
-above_last : (earlier : List ℕ) (x n : ℕ) → g.is_above (earlier ++ x ∷ []) n ≡ nat_lt x n
-above_last [] x n = refl
-above_last (a ∷ []) x n = refl
-above_last (a ∷ b ∷ earlier) x n = above_last (b ∷ earlier) x n
 
 above_is : (earlier : List ℕ) (last : ℕ) (ns : List ℕ) → AreTaken last ns → each_is (λ before. checked u16 (g.wrong_number before)) (earlier ++ last ∷ []) (length ns) ns ≡ true
 above_is earlier last [] taken = refl
@@ -58,7 +47,7 @@ unfolding taken_read
 taken_took last s =
     next (field_took (codes " ") 0 65535 s (inside (codes " ") refl)) (λ n a.
     let took = note (nat_lt last n.0 && g.is_taken n.0) a in
-    went (shown took refl (λ held. let p = parts (nat_lt last n.0) (g.is_taken n.0) held.1 in (any_u16 0 n.0 held.0, p.0, p.1))))
+    went (shown took refl (λ held. let p = and_parts (nat_lt last n.0) (g.is_taken n.0) held.1 in (any_u16 0 n.0 held.0, p.0, p.1))))
 
 more_took : (most last : ℕ) (s : Front) → Holds (λ z. Takes Within Within 0 s z.1 (flat_map (field (codes " ")) z.0) (AreTaken last z.0)) (more_read most last s)
 unfolding more_read

@@ -1,16 +1,15 @@
 -- The lines of instructions.
-use Rattle.std.proofs.Common.{◌≡◌, ◌≤◌, ◌<◌, ◌-◌, ◌+◌, ◌++◌, ◌&&◌, ◌||◌, ◌==◌, ℕ, zero, suc, ℤ, pos, Bool, true, false, List, [], ◌∷◌, length, take, drop, map, Option, Some, None, refl, sym, ap, ◌∙◌, arith}
+use Rattle.std.proofs.Common.{◌≡◌, ◌≤◌, ◌<◌, ◌-◌, ◌+◌, ◌++◌, ◌&&◌, ◌||◌, ◌==◌, ℕ, zero, suc, ℤ, Bool, true, false, List, [], ◌∷◌, length, take, drop, map, Option, Some, None, refl, sym, ap, ◌∙◌, arith}
 use Rattle.std.specs.Prelude.{codes, nat_le, nat_eq, slice_index_or, slice_get, if◌then◌else◌}
 use Rattle.std.specs.Cmp.Lexicographic.{pointwise}
 use Rattle.std.specs.Fmt.{signed_decimal}
 use Rattle.std.specs.List.{list_all}
-use Rattle.std.proofs.lemmas.Bool.{lt-ltb, le-leb}
+use Rattle.std.proofs.lemmas.Bool.{lt-ltb, le-leb, and_parts}
 use Rattle.std.proofs.lemmas.List.{take-append-drop}
 use Rattle.machine_isa.specs.declared.instr.Instr.{Instr}
 use Rattle.machine_isa.specs.Bytes.{arity, number, operands}
 use Rattle.machine_isa.specs.Numbered.{in_order, numbered}
 use Rattle.image_reader.specs.Grammar as g
-use Rattle.image_format.proofs.Booleans.{parts}
 use Rattle.image_reader.proofs.Words.{same_words}
 use Rattle.asm_format.specs.Mnemonics.{mnemonics, mnemonic, named, operands_text, instr_line}
 use Rattle.text_fields.specs.Front.{Front, moved}
@@ -19,12 +18,9 @@ use Rattle.asm_lines.specs.Instrs.{place_from, number_of, operand_read, numbered
 use Rattle.asm_sound_law.proofs.Took.{Start, Within, Takes, on, shown, nothing, Holds, went, failed, next, mapped}
 use Rattle.asm_sound_law.proofs.Passing.{opens_other, inside, other_line, moved_over, skip_took, end_took}
 use Rattle.asm_sound_law.proofs.Numbers.{both_true, fine_of, signed_took}
+use Rattle.image_reader_law.proofs.ImageSoundInstructions.{masked}
 
 -- ---- an instruction by its number and its operands
-
-abbrev masked : Bool → ℤ → ℤ
-masked true z = z
-masked false z = pos 0
 
 -- those that the instruction of the number names, and zeros for the others
 abbrev operands_with : ℕ → (a b c : ℤ) → List ℤ
@@ -72,7 +68,7 @@ placed : (from : ℕ) (words : List (List ℕ)) (word : List ℕ) (n : ℕ) → 
 placed from [] word n all h = cc
 placed from (w ∷ words) word n all h = by (pointwise nat_eq word w) refl h (λ later. placed (from + 1) words word n others later) where
   others : list_all opens_other words ≡ true
-  others = (parts (opens_other w) (list_all opens_other words) all).1
+  others = (and_parts (opens_other w) (list_all opens_other words) all).1
 
   by : (b : Bool) → pointwise nat_eq word w ≡ b → (if b then Some from else place_from (from + 1) words word) ≡ Some n
       → (place_from (from + 1) words word ≡ Some n → Placed (from + 1) n words word) → Placed from n (w ∷ words) word
@@ -84,7 +80,7 @@ placed from (w ∷ words) word n all h = by (pointwise nat_eq word w) refl h (λ
         low = omega (arith, here);
         high = omega (arith, here);
         is = word_is ∙ ap (λ k. slice_index_or (w ∷ words) k []) (sym first);
-        opens = ap opens_other word_is ∙ (parts (opens_other w) (list_all opens_other words) all).0;
+        opens = ap opens_other word_is ∙ (and_parts (opens_other w) (list_all opens_other words) all).0;
       }
   by false same h later =
       let r = later h in

@@ -1,13 +1,12 @@
 -- The lines of the head, devices, events, monitors and conditions.
 use Rattle.std.proofs.Common.{◌≡◌, ◌≢◌, ◌≤◌, ◌<◌, ◌^◌, ◌+◌, ◌++◌, ◌&&◌, ◌==◌, ℕ, suc, Bool, true, false, List, [], ◌∷◌, length, take, drop, decimal, Option, Some, None, refl, sym, ap, ◌∙◌, subst, arith}
 use Rattle.std.specs.Prelude.{cond, not, codes, nat_lt, nat_le}
-use Rattle.std.proofs.lemmas.Bool.{ltb-true, lt-ltb, leb-true, le-leb, eq-eqb, eqb-true}
+use Rattle.std.proofs.lemmas.Bool.{ltb-true, lt-ltb, leb-true, le-leb, eq-eqb, eqb-true, and_parts}
 use Rattle.std.proofs.lemmas.List.{take-append-drop}
 use Rattle.text_fields.specs.Fields.{Lacks}
 use Rattle.syntax.specs.Spellings.{is_identifier, keywords}
 use Rattle.image.specs.declared.names.CondName.{CondName}
 use Rattle.image_reader.specs.Grammar as g
-use Rattle.image_format.proofs.Booleans.{parts}
 use Rattle.asm_format.specs.Text.{head_line, direction, device_line, event_line, ceiling_text, monitor_line, condition_line, field}
 use Rattle.text_fields.specs.Front.{Front, begins, moved, noted}
 use Rattle.asm_lines.specs.Names.{is_in_word, word_len, may_be_name, name_read, named_read, head_read, direction_read, device_read, event_read, below_none, ceiling_read, monitor_read, placed, condition_read}
@@ -19,7 +18,7 @@ use Rattle.asm_sound_law.proofs.Numbers.{both_true, fine_of, IsIn, any_u32, any_
 
 no_feed : (b : ℕ) → is_in_word b ≡ true → b ≢ 10
 no_feed b h same =
-    let p = parts (not (b == 32)) (not (b == 10)) h in
+    let p = and_parts (not (b == 32)) (not (b == 10)) h in
     absurd (let e : (b == 10) ≡ true = eq-eqb b 10 same in let f : not true ≡ true = ap not (sym e) ∙ p.1 in cc)
 
 word_lacks : (bytes : List ℕ) → Lacks 10 (take (word_len bytes) bytes)
@@ -34,7 +33,7 @@ IsName taken name = (g.name_format taken).is name ≡ true
 
 name_is : (taken : List (List ℕ)) (name : List ℕ) → may_be_name taken name ≡ true → IsName taken name
 name_is taken name h =
-    let p = parts (nat_le (length name) 63) (is_identifier name && not (g.has keywords name) && not (g.has taken name)) h in
+    let p = and_parts (nat_le (length name) 63) (is_identifier name && not (g.has keywords name) && not (g.has taken name)) h in
     let long : length name ≤ 63 = leb-true (length name) 63 p.0 in
     both_true
     (both_true (both_true (lt-ltb (length name) 256 (omega (arith, long))) (fine_of 4 (both_true (le-leb 0 (length name) (omega arith)) p.0))) (eq-eqb (length name) (length name) refl))

@@ -4,7 +4,7 @@ use Rattle.std.specs.Prelude.{FitsSigned, not, codes, nat_lt, nat_le, if◌then�
 use Rattle.std.specs.Fmt.{signed_decimal}
 use Rattle.std.specs.Int.{IsInRange, w32, cast_signed, cast_unsigned}
 use Rattle.std.specs.Ordering.{int_eq}
-use Rattle.std.proofs.lemmas.Bool.{ltb-true, lt-ltb, leb-true, eq-eqb}
+use Rattle.std.proofs.lemmas.Bool.{ltb-true, lt-ltb, leb-true, eq-eqb, and_parts}
 use Rattle.std.proofs.lemmas.Bool.Decides.{Decides-int_eq}
 use Rattle.std.proofs.lemmas.Int.{to_z-of_z}
 use Rattle.std.proofs.lemmas.List.{take-append-drop, get_or-take}
@@ -14,7 +14,6 @@ use Rattle.text_fields.specs.Fields.{Lacks}
 use Rattle.text_fields.proofs.Numerals.{AreDigits, read_on, numeral_is, decimal_lacks}
 use Rattle.image_format.specs.Format.{unless, is_fine, u16, u32}
 use Rattle.image_format.specs.TreeFormat.{u32_within}
-use Rattle.image_format.proofs.Booleans.{parts}
 use Rattle.asm_format.specs.TreeText.{field}
 use Rattle.text_fields.specs.Front.{Front, begins, moved, noted}
 use Rattle.text_fields.specs.LineFields.{is_digit, digits_len, is_numeral, value, small, numeral_read, ranged, number_read, field_read, negative, positive, signed_read}
@@ -40,7 +39,7 @@ pub any_u32 : (low high n : ℕ) → IsIn low high n → u32.is n ≡ true
 any_u32 low high n h = lt-ltb n (2 ^ 32) h.0
 
 pub at_most : (low high n : ℕ) → IsIn low high n → n ≤ high
-at_most low high n h = leb-true n high (parts (nat_le low n) (nat_le n high) h.1).1
+at_most low high n h = leb-true n high (and_parts (nat_le low n) (nat_le n high) h.1).1
 
 pub any_u16 : (low n : ℕ) → IsIn low 65535 n → u16.is n ≡ true
 any_u16 low n h = let m = at_most low 65535 n h in lt-ltb n (2 ^ 16) (omega (arith, m))
@@ -52,7 +51,7 @@ digits_are bytes i below =
     let low : i < digits_len bytes = omega (arith, below, length-prefix_len is_digit bytes) in
     let same : get_or (take (digits_len bytes) bytes) i 0 ≡ get_or bytes i 0 = get_or-take (digits_len bytes) bytes i 0 low in
     let d = get_or bytes i 0 in
-    let p = parts (nat_le 48 d) (nat_le d 57) (prefix_len_passes is_digit bytes i 0 low) in
+    let p = and_parts (nat_le 48 d) (nat_le d 57) (prefix_len_passes is_digit bytes i 0 low) in
     let from = leb-true 48 d p.0 in
     let to = leb-true d 57 p.1 in
     (omega (arith, same, from), omega (arith, same, to))

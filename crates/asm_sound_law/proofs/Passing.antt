@@ -3,13 +3,12 @@ use Rattle.std.proofs.Common.{◌≡◌, ◌≢◌, ◌+◌, ◌++◌, ◌&&◌,
 use Rattle.std.specs.Prelude.{cond, not, codes, nat_lt, nat_eq, if◌then◌else◌}
 use Rattle.std.specs.List.{list_all, count_by}
 use Rattle.std.specs.Cmp.Lexicographic.{pointwise}
-use Rattle.std.proofs.lemmas.Bool.{eqb-true, le-ltb}
+use Rattle.std.proofs.lemmas.Bool.{eqb-true, le-ltb, and_parts}
 use Rattle.std.proofs.lemmas.Cmp.{nat_list_eq_equiv}
 use Rattle.std.proofs.lemmas.List.{take-append-drop}
 use Rattle.std.proofs.lemmas.List.Sums.{sum_by-cons}
 use Rattle.std.proofs.Math.Seq.{take-append_seam}
 use Rattle.text_fields.specs.Fields.{Lacks}
-use Rattle.image_format.proofs.Booleans.{parts}
 use Rattle.image_reader.proofs.Words.{same_words}
 use Rattle.asm_lines.specs.TreeForm.{cuts, longer}
 use Rattle.text_fields.specs.Front.{Front, begins, moved, skip, end_read, line_start}
@@ -26,7 +25,7 @@ is_plain bytes = list_all is_no_end bytes
 pub plain_lacks : (bytes : List ℕ) → is_plain bytes ≡ true → Lacks 10 bytes
 plain_lacks [] h = tt
 plain_lacks (b ∷ bs) h =
-    let p = parts (is_no_end b) (is_plain bs) h in
+    let p = and_parts (is_no_end b) (is_plain bs) h in
     ((λ same. no_end b same p.0), plain_lacks bs p.1)
   where
     no_end : (c : ℕ) → c ≡ 10 → is_no_end c ≡ true → ⊥
@@ -126,7 +125,7 @@ no_owner (b ∷ bs) more h = by (nat_eq b 112) (nat_lt (length (b ∷ (bs ++ mor
 
 pub other_line : (label : List ℕ) → opens_other label ≡ true → Passes Start Within label 0
 other_line label h =
-    let p = parts (is_plain label) (is_other_first label) h in
+    let p = and_parts (is_plain label) (is_other_first label) h in
     opens label 0 (plain_lacks label p.0) (λ more. ap (λ b. cond b 1 0) (no_owner label more p.1))
 
 -- ---- words that must stand there

@@ -1,14 +1,13 @@
 -- The lines of routines.
 use Rattle.std.proofs.Common.{◌≡◌, ◌≤◌, ◌++◌, ◌&&◌, ◌==◌, ℕ, zero, suc, Bool, true, false, List, decimal, Option, Some, None, refl, sym, ap, ◌∙◌, subst, arith, append_assoc}
 use Rattle.std.specs.Prelude.{codes, nat_lt, nat_le, if◌then◌else◌}
-use Rattle.std.proofs.lemmas.Bool.{lt-ltb, leb-true, le-leb}
+use Rattle.std.proofs.lemmas.Bool.{lt-ltb, leb-true, le-leb, and_parts}
 use Rattle.machine_semantics.specs.Image.{Routine}
 use Rattle.machine_semantics.specs.Trees.{Segs}
 use Rattle.image_reader.specs.declared.counts.Counts.{Counts}
 use Rattle.image_format.specs.Format.{u16, u32, unless, checked}
 use Rattle.image_format.specs.TreeFormat.{in_image, u32_within, tree_format}
 use Rattle.image_reader.specs.Grammar as g
-use Rattle.image_format.proofs.Booleans.{parts}
 use Rattle.asm_format.specs.Text.{field, owner_text, bit, stay_text, routine_lines, tree_line}
 use Rattle.text_fields.specs.Front.{Front, begins, noted}
 use Rattle.text_fields.specs.LineFields.{ranged, number_read, field_read}
@@ -65,7 +64,7 @@ bit_ranged s t None read = refuted t
 bit_ranged s t (Some n) read = by (nat_le 0 n && nat_le n 1) refl where
   by : (b : Bool) → (nat_le 0 n && nat_le n 1) ≡ b → Digit s (if b then (n, t) else (0, noted t false))
   by true h =
-      let low : n ≤ 1 = leb-true n 1 (parts (nat_le 0 n) (nat_le n 1) h).1 in
+      let low : n ≤ 1 = leb-true n 1 (and_parts (nat_le 0 n) (nat_le n 1) h).1 in
       shown (read n refl) (ap decimal (one_bit n low)) (λ held. tt)
   by false h = refuted t
 

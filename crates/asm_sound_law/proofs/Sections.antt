@@ -24,6 +24,7 @@ use Rattle.asm_sound_law.proofs.Routines.{IsRoutine, routine_took}
 use Rattle.asm_sound_law.proofs.Processes.{IsProcess, process_took}
 use Rattle.asm_sound_law.proofs.Instrs.{instr_took}
 use Rattle.asm_sound_law.proofs.Rows.{EachHeld, plain_rows, owner_rows}
+use Rattle.image_reader_law.proofs.ImageFaultsWhole.{Work, Guarded, Named}
 
 -- a section of no processes
 abbrev Section : {A : Type 0} → (write : A → List ℕ) → (Held : List A → A → Type 0) → (most : ℕ) → Front → List A × Front → Type 0
@@ -100,9 +101,6 @@ code_took true s =
 
 -- ---- the routines, the processes and the code
 
-abbrev pub Work : Type 0
-Work = List Routine × (List (List ℕ × Process) × List Instr)
-
 abbrev pub work_text : Work → List ℕ
 work_text w = flat_map routine_lines w.0 ++ (flat_map process_text w.1.0 ++ flat_map instr_line w.1.1)
 
@@ -121,9 +119,6 @@ work_took owners monitors events taken s =
     went ((a.0, b.0, c.1.0, c.0), recount (let n = length processes.0 in let e : 0 + (n + 0) ≡ n = omega arith in e) (along a.1 (along b.1 c.1.1))))))
 
 -- ---- the monitors, the conditions, and all that follows
-
-abbrev pub Guarded : Type 0
-Guarded = List (List ℕ × Monitor) × (List CondName × Work)
 
 abbrev pub guarded_text : Guarded → List ℕ
 guarded_text x = flat_map monitor_text x.0 ++ (flat_map condition_line x.1.0 ++ work_text x.1.1)
@@ -144,9 +139,6 @@ guarded_took owners events taken s =
     went ((a.0, b.0, c.0), recount (let n = length work.0.1.0 in let e : 0 + (0 + n) ≡ n = omega arith in e) (along a.1 (along b.1 c.1))))))
 
 -- ---- the devices, the events, and all that follows
-
-abbrev pub Named : Type 0
-Named = List DevName × (List (List ℕ) × Guarded)
 
 abbrev pub named_text : Named → List ℕ
 named_text x = flat_map device_line x.0 ++ (flat_map event_line x.1.0 ++ guarded_text x.1.1)

@@ -2,10 +2,10 @@
 use Rattle.std.proofs.Common.{◌≡◌, ◌<◌, ◌^◌, ◌+◌, ◌++◌, ◌==◌, ℕ, Bool, true, false, List, [], ◌∷◌, length, Result, Ok, Err, refl, sym, ap, ◌∙◌, subst, arith, append_assoc, length-append}
 use Rattle.std.specs.Prelude.{codes, if◌then◌else◌}
 use Rattle.std.specs.List.{count_by}
+use Rattle.std.proofs.lemmas.Bool.{and_parts}
 use Rattle.text_fields.specs.declared.fault.Fault.{Fault}
 use Rattle.text_fields.specs.Front.{Front, ◌>>=◌, begins, noted}
 use Rattle.asm_lines.specs.TreeForm.{cuts}
-use Rattle.image_format.proofs.Booleans.{parts}
 
 -- ---- how many lines of processes are ahead
 
@@ -73,13 +73,13 @@ shown {t = t} took same f fine =
 -- it was noted that something holds
 pub note : {P : Type 0} {p q : Place} {k : ℕ} {s t : Front} {v : List ℕ} (b : Bool) → Takes p q k s t v P → Takes p q k s (noted t b) v (P × (b ≡ true))
 note {t = t} b took fine =
-    let both = parts t.fine b fine in
+    let both = and_parts t.fine b fine in
     let a = took both.0 in
     record { fine = a.fine; are = a.are; count = a.count; holds = λ short. (a.holds short, both.1) }
 
 -- it was noted that something does not hold
 pub refuted : {P : Type 0} {p q : Place} {k : ℕ} {s : Front} {v : List ℕ} (t : Front) → Takes p q k s (noted t false) v P
-refuted t fine = absurd (let both = parts t.fine false fine in let e : false ≡ true = both.1 in cc)
+refuted t fine = absurd (let both = and_parts t.fine false fine in let e : false ≡ true = both.1 in cc)
 
 -- it took nothing
 pub nothing : {p : Place} (s : Front) → Takes p p 0 s s [] (Unit {0})

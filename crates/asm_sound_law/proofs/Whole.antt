@@ -2,7 +2,7 @@
 use Rattle.std.proofs.Common.{◌≡◌, ◌≤◌, ◌<◌, ◌^◌, ◌+◌, ◌++◌, ℕ, true, List, [], ◌∷◌, length, map, refl, sym, ap, ◌∙◌, subst, arith, append_assoc, append-nil}
 use Rattle.std.specs.Prelude.{codes, nat_lt}
 use Rattle.std.specs.List.{flat_map}
-use Rattle.std.proofs.lemmas.Bool.{lt-ltb, le-leb, ltb-true}
+use Rattle.std.proofs.lemmas.Bool.{lt-ltb, le-leb, ltb-true, and_parts}
 use Rattle.machine_semantics.specs.Image.{Monitor, Process}
 use Rattle.image.specs.Bytes.{Second}
 use Rattle.image_reader.specs.declared.counts.Counts.{Counts}
@@ -10,7 +10,6 @@ use Rattle.image_format.specs.TreeFormat.{u16_within}
 use Rattle.image_reader.specs.Grammar as g
 use Rattle.image_reader.specs.File as f
 use Rattle.image_reader.specs.File.{Parts, image_format, image_with, counts_of, framed}
-use Rattle.image_format.proofs.Booleans.{parts}
 use Rattle.asm_format.specs.Mnemonics.{instr_line}
 use Rattle.asm_format.specs.Text.{head_line, event_line, device_line, condition_line, routine_lines, monitors_text, processes_text, text_of}
 use Rattle.text_fields.specs.Front.{Front, line_start}
@@ -19,7 +18,8 @@ use Rattle.asm_sound_law.proofs.Took.{Start, ahead, Takes, along, Holds, went, n
 use Rattle.asm_sound_law.proofs.Numbers.{both_true, fine_of, IsIn, at_most}
 use Rattle.asm_sound_law.proofs.Names.{IsName, head_took}
 use Rattle.asm_sound_law.proofs.Rows.{EachHeld, each_held}
-use Rattle.asm_sound_law.proofs.Sections.{monitor_text, process_text, IsDevice, IsEvent, IsMonitor, IsCondition, IsRoutineOf, IsProcessOf, IsInstr, work_text, guarded_text, Named, named_text, NamedFits, IsNamed, named_took, finish_took}
+use Rattle.asm_sound_law.proofs.Sections.{monitor_text, process_text, IsDevice, IsEvent, IsMonitor, IsCondition, IsRoutineOf, IsProcessOf, IsInstr, work_text, guarded_text, named_text, NamedFits, IsNamed, named_took, finish_took}
+use Rattle.image_reader_law.proofs.ImageFaultsWhole.{Named}
 
 -- ---- the text
 
@@ -77,7 +77,7 @@ count_is low high n from to fits = both_true (lt-ltb n (2 ^ 16) (omega (arith, t
 counts_are : (head : List ℕ × ℕ) (x : Named) → NamedFits x → g.counts_format.is (counts_of (parts_of_lines head x)) ≡ true
 counts_are head x fits =
     let work = fits.2.2 in
-    let some : 0 < length x.1.1.1.1.1.0 = ltb-true 0 (length x.1.1.1.1.1.0) (parts (nat_lt 0 (length x.1.1.1.1.1.0)) (f.all_used (f.used_by x.1.1.1.1.1.0) 0 (length x.1.0)) work.3).0 in
+    let some : 0 < length x.1.1.1.1.1.0 = ltb-true 0 (length x.1.1.1.1.1.0) (and_parts (nat_lt 0 (length x.1.1.1.1.1.0)) (f.all_used (f.used_by x.1.1.1.1.1.0) 0 (length x.1.0)) work.3).0 in
     let code = length x.1.1.1.1.1.1 in
     both_true (count_is 1 64 (length x.1.1.1.1.1.0) (omega (arith, some)) work.1 (omega arith))
     (both_true (count_is 0 64 (length x.1.1.0) (omega arith) fits.2.0 (omega arith))
@@ -125,7 +125,7 @@ module _ (head : List ℕ × ℕ) (x : Named) where
   all_code : NamedFits x → EachHeld IsInstr [] x.1.1.1.1.1.1
       → (f.code_format (f.all_used (f.used_by x.1.1.1.1.1.0) 0 (length x.1.0)) (length x.1.1.1.1.1.1)).is x.1.1.1.1.1.1 ≡ true
   all_code fits held =
-      let used = (parts (nat_lt 0 (length x.1.1.1.1.1.0)) (f.all_used (f.used_by x.1.1.1.1.1.0) 0 (length x.1.0)) fits.2.2.3).1 in
+      let used = (and_parts (nat_lt 0 (length x.1.1.1.1.1.0)) (f.all_used (f.used_by x.1.1.1.1.1.0) 0 (length x.1.0)) fits.2.2.3).1 in
       subst (λ b. (f.code_format b (length x.1.1.1.1.1.1)).is x.1.1.1.1.1.1 ≡ true) (sym used)
       (each_held (λ earlier. g.instr_format) IsInstr (λ earlier i h. h) [] x.1.1.1.1.1.1 held)
 

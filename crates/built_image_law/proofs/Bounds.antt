@@ -1,6 +1,5 @@
 -- The least solutions of one recurrence are one, and so are those of images that differ in bounds alone.
-use Rattle.std.proofs.Common.{◌≡◌, ◌≤◌, ◌-◌, ℕ, suc, List, [], ◌∷◌, length, Option, Some, None, arith, refl, ap, sym, subst, ◌∙◌}
-use Rattle.std.specs.Prelude.{slice_get}
+use Rattle.std.proofs.Common.{◌≡◌, ◌≤◌, ◌-◌, ℕ, List, Option, Some, None, arith, refl, ap, sym, subst}
 use Rattle.machine_semantics.specs.Image.{Image, Process}
 use Rattle.sched_response.specs.declared.tasks.Task.{Task}
 use Rattle.sched_response.specs.Demand.{Solves, IsBound}
@@ -9,15 +8,6 @@ use Rattle.valid_image.specs.Tasks.{tasks_of}
 use Rattle.built_image.specs.Built.{Responds}
 use Rattle.built_image.specs.Filled.{without_bound, without_bounds}
 use Rattle.built_image_law.proofs.Tasks.{tasks_agree}
-
-pub same_elements : {A : Type 0} (xs ys : List A) → length xs ≡ length ys
-    → ((k : ℕ) (x y : A) → slice_get xs k ≡ Some x → slice_get ys k ≡ Some y → x ≡ y) → xs ≡ ys
-same_elements [] [] long each = refl
-same_elements [] (y ∷ ys) long each = absurd (omega (arith, long))
-same_elements (x ∷ xs) [] long each = absurd (omega (arith, long))
-same_elements (x ∷ xs) (y ∷ ys) long each =
-    let rest : length xs ≡ length ys = omega (arith, long) in
-    ap (λ z. z ∷ xs) (each 0 x y refl refl) ∙ ap (λ zs. y ∷ zs) (same_elements xs ys rest (λ k a b at there. each (suc k) a b at there))
 
 -- ---- one recurrence
 

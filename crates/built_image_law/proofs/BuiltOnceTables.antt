@@ -1,7 +1,8 @@
 -- The table of a program is one.
-use Rattle.std.proofs.Common.{◌≡◌, ◌<◌, ◌-◌, ℕ, zero, suc, List, [], ◌∷◌, length, Option, Some, map, arith, refl, ap, sym, ◌∙◌}
+use Rattle.std.proofs.Common.{◌≡◌, ◌<◌, ◌-◌, ℕ, List, [], ◌∷◌, length, Option, Some, map, arith, refl, ap, sym, ◌∙◌}
 use Rattle.std.specs.Prelude.{slice_get}
 use Rattle.std.proofs.lemmas.Option.{slice_get_within}
+use Rattle.base.proofs.Lists.{some_at, same_elements}
 use Rattle.machine_semantics.specs.Image.{Image, Process}
 use Rattle.valid_image.specs.Tasks.{tasks_of}
 use Rattle.sched_table.specs.declared.table.Row.{Row}
@@ -10,12 +11,7 @@ use Rattle.built_image.specs.Shown.{row_of, rows_of, table_of, AreLeast}
 use Rattle.built_image_law.proofs.Tasks.{least_is_kept}
 use Rattle.built_image_law.specs.FilledLaws.{ShapesAgree}
 use Rattle.built_image_law.specs.Once.{TablesAreOne}
-use Rattle.built_image_law.proofs.Bounds.{same_elements, one_bound_or_none}
-
-some_at : {A : Type 0} (xs : List A) (k : ℕ) → k < length xs → (x : A) × (slice_get xs k ≡ Some x)
-some_at [] k below = absurd (omega (arith, below))
-some_at (x ∷ xs) zero below = (x, refl)
-some_at (x ∷ xs) (suc k) below = some_at xs k (omega (arith, below))
+use Rattle.built_image_law.proofs.Bounds.{one_bound_or_none}
 
 -- the least bounds of an image are one
 least_are_one : (m : Image) (bs cs : List (Option ℕ)) → AreLeast m bs → AreLeast m cs → bs ≡ cs

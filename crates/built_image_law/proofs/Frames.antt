@@ -4,13 +4,13 @@ use Rattle.std.specs.Prelude.{Contains, count_by, option_map, unwrap_or, slice_g
 use Rattle.std.proofs.lemmas.Bool.{cases_Bool}
 use Rattle.std.proofs.lemmas.List.Sums.{sum_by-cons}
 use Rattle.std.proofs.lemmas.Option.{slice_get-map, slice_get_within, get_or_from_slice_get}
+use Rattle.base.proofs.Members.{front_or_behind, none_in}
 use Rattle.syntax_tree.specs.Plain.{Name, Activation, periodic, at_event, Process, Decl, constant, device, event, routine, monitor, process, Prog}
 use Rattle.source_semantics.specs.Names.{event_in, place_of, processes, frame_of}
 use Rattle.machine_semantics.specs.Image as image
 use Rattle.image.specs.declared.names.EventName.{EventName}
 use Rattle.code_spec.specs.Compiled.{IsReleased}
 use Rattle.code_names_law.proofs.Numbers.{name_same, name_is}
-use Rattle.code_names_law.proofs.Lists.{contains_cases, nothing_in}
 use Rattle.wellformed.specs.WellFormed.{ActivationFits, ProcessFits, IsWellFormed, is_event_of}
 use Rattle.codegen_law.proofs.Counts.{one_low}
 use Rattle.script.specs.Scripts as script
@@ -31,15 +31,15 @@ abbrev Stands : Name → List Decl → Type 0
 Stands e ds = slice_get (filter_map event_in ds) (place_of e (filter_map event_in ds)) ≡ Some e
 
 event_stands : (e : Name) (ds : List Decl) → Contains ds (event e) → Stands e ds
-event_stands e [] h = absurd (nothing_in (event e) h)
-event_stands e (constant n c ∷ ds) h = elim (contains_cases (constant n c) (event e) ds h) [ inl is ↦ absurd cc | inr more ↦ event_stands e ds more ]
-event_stands e (device n o ∷ ds) h = elim (contains_cases (device n o) (event e) ds h) [ inl is ↦ absurd cc | inr more ↦ event_stands e ds more ]
-event_stands e (routine r ∷ ds) h = elim (contains_cases (routine r) (event e) ds h) [ inl is ↦ absurd cc | inr more ↦ event_stands e ds more ]
-event_stands e (monitor m ∷ ds) h = elim (contains_cases (monitor m) (event e) ds h) [ inl is ↦ absurd cc | inr more ↦ event_stands e ds more ]
-event_stands e (process p ∷ ds) h = elim (contains_cases (process p) (event e) ds h) [ inl is ↦ absurd cc | inr more ↦ event_stands e ds more ]
+event_stands e [] h = absurd (none_in (event e) h)
+event_stands e (constant n c ∷ ds) h = elim (front_or_behind (constant n c) ds (event e) h) [ inl is ↦ absurd cc | inr more ↦ event_stands e ds more ]
+event_stands e (device n o ∷ ds) h = elim (front_or_behind (device n o) ds (event e) h) [ inl is ↦ absurd cc | inr more ↦ event_stands e ds more ]
+event_stands e (routine r ∷ ds) h = elim (front_or_behind (routine r) ds (event e) h) [ inl is ↦ absurd cc | inr more ↦ event_stands e ds more ]
+event_stands e (monitor m ∷ ds) h = elim (front_or_behind (monitor m) ds (event e) h) [ inl is ↦ absurd cc | inr more ↦ event_stands e ds more ]
+event_stands e (process p ∷ ds) h = elim (front_or_behind (process p) ds (event e) h) [ inl is ↦ absurd cc | inr more ↦ event_stands e ds more ]
 event_stands e (event n ∷ ds) h = elim (cases_Bool (bytes_eq n e)) [
   | inl is ↦ at_front n e (filter_map event_in ds) is
-  | inr is_not ↦ behind n e (filter_map event_in ds) is_not (elim (contains_cases (event n) (event e) ds h) [
+  | inr is_not ↦ behind n e (filter_map event_in ds) is_not (elim (front_or_behind (event n) ds (event e) h) [
     | inl same ↦ (let alike : n ≡ e = cc in absurd (let both : true ≡ false = sym (ap (λ (x : Name). bytes_eq x e) alike ∙ name_is e) ∙ is_not in cc))
     | inr more ↦ event_stands e ds more
   ])

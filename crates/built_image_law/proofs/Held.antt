@@ -1,6 +1,7 @@
 -- The code that an image holds, and what it declares of costs, do not depend on ranks, ceilings, blocks and bounds.
 use Rattle.std.specs.Prelude.{◌≡◌, ◌+◌, ℕ, List, [], ◌∷◌, Option, Some, None, map, slice_get}
 use Rattle.std.proofs.Common.{sym, subst}
+use Rattle.base.proofs.Lists.{map_get}
 use Rattle.syntax_tree.specs.Plain.{Activation, periodic, at_event, Handler, Monitor, Process, Prog}
 use Rattle.machine_semantics.specs.Image as image
 use Rattle.code_spec.specs.Layout.{words_of, monitor_vars}
@@ -11,7 +12,7 @@ use Rattle.codegen_spec.specs.declared.code.Code.{Code}
 use Rattle.codegen_spec.specs.Held.{HoldsHandler, HoldsProcess, HoldProcesses, Holds}
 use Rattle.code_measures.specs.Declared.{DeclaresProcess, Declares}
 use Rattle.built_image.specs.Filled.{without_rank, without_ceiling, without_ranks}
-use Rattle.built_image_law.proofs.Lists.{came_from, became}
+use Rattle.built_image_law.proofs.Lists.{came_from}
 
 -- ---- a process
 
@@ -135,7 +136,7 @@ declares_down g m d = record {
 declares_up : (g : Prog) (m : image.Image) → Declares g (without_ranks m) → Declares g m
 declares_up g m d = record {
   routines = λ r t x text at. d.routines r t x text at;
-  bodies = λ k t x text at. declared_up g m.over k t x (d.bodies k t (without_rank x) text (became without_rank m.processes k x at));
+  bodies = λ k t x text at. declared_up g m.over k t x (d.bodies k t (without_rank x) text (map_get without_rank m.processes k x at));
 }
 
 pub declares_agree : (g : Prog) (n m : image.Image) → without_ranks n ≡ without_ranks m → Declares g m → Declares g n

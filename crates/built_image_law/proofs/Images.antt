@@ -1,6 +1,7 @@
 -- The image of a program, with its bounds, is one; and where it has one, the program is not late.
 use Rattle.std.proofs.Common.{◌≡◌, ◌-◌, ℕ, List, Option, Some, map, ap, sym, ◌∙◌}
 use Rattle.std.specs.Prelude.{slice_get}
+use Rattle.base.proofs.Lists.{same_elements}
 use Rattle.machine_semantics.specs.Image.{Image, Process}
 use Rattle.valid_image.specs.Tasks.{tasks_of}
 use Rattle.built_image.specs.Built.{HasLeastBounds}
@@ -8,12 +9,12 @@ use Rattle.built_image.specs.Filled.{without_bound, without_bounds}
 use Rattle.built_image_law.proofs.Lists.{as_many, same_at}
 use Rattle.built_image_law.specs.FilledLaws.{ShapesAgree}
 use Rattle.built_image_law.specs.Once.{BuiltImagesAreOne, TimelyOrLate}
-use Rattle.built_image_law.proofs.Bounds.{same_elements, one_bound, same_responses, same_bound}
+use Rattle.built_image_law.proofs.Bounds.{one_bound, same_responses, same_bound}
 
-one_process : (p q : Process) → without_bound p ≡ without_bound q → p.bound ≡ q.bound → p ≡ q
+pub one_process : (p q : Process) → without_bound p ≡ without_bound q → p.bound ≡ q.bound → p ≡ q
 one_process p q alike bounds = ap (λ (x : Process). record x { bound = p.bound }) alike ∙ ap (λ b. record q { bound = b }) bounds
 
-found : {A : Type 0} (o : Option A) (x y : A) → o ≡ Some x → o ≡ Some y → x ≡ y
+pub found : {A : Type 0} (o : Option A) (x y : A) → o ≡ Some x → o ≡ Some y → x ≡ y
 found o x y one two = cc
 
 module _ (m n : Image) (same : without_bounds m ≡ without_bounds n) (least : HasLeastBounds m) (lowest : HasLeastBounds n) where

@@ -43,7 +43,7 @@ handler_there g code k t (Some x) a b p h some =
 
 -- ---- processes
 
-as_many : (g : Prog) (code : List Instr) (k a b : ℕ) (ts : List Process) (ps : List image.Process) → EmitsProcesses g code k a b ts ps → length ps ≡ length ts
+pub as_many : (g : Prog) (code : List Instr) (k a b : ℕ) (ts : List Process) (ps : List image.Process) → EmitsProcesses g code k a b ts ps → length ps ≡ length ts
 as_many g code k a b [] [] h = refl
 as_many g code k a b [] (p ∷ ps) h = absurd h
 as_many g code k a b (t ∷ ts) [] h = absurd h

@@ -8,8 +8,8 @@ pub mod Shapes
 pub mod Agreeing
 pub mod Bounded
 pub mod Timely
-mod Bounds
-mod Images
+pub mod Bounds
+pub mod Images
 mod BuiltOnceTables
 pub mod Texts
 pub mod Frames

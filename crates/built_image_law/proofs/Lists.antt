@@ -3,6 +3,7 @@ use Rattle.std.proofs.Common.{◌≡◌, ◌<◌, ◌+◌, ◌++◌, ℕ, zero, 
 use Rattle.std.specs.Prelude.{slice_get, option_map}
 use Rattle.std.proofs.lemmas.List.{length-map, map_push, map_more}
 use Rattle.std.proofs.lemmas.Option.{slice_get-map}
+use Rattle.base.proofs.Lists.{map_get}
 use Rattle.built_image_law.specs.Filled.{Each}
 
 pub as_many : {A B : Type 0} (f : A → B) (xs ys : List A) → map f xs ≡ map f ys → length xs ≡ length ys
@@ -21,12 +22,9 @@ some_of f (Some x) b is = (x, refl, cc)
 pub came_from : {A B : Type 0} (f : A → B) (xs : List A) (k : ℕ) (b : B) → slice_get (map f xs) k ≡ Some b → (x : A) × (slice_get xs k ≡ Some x) × (f x ≡ b)
 came_from f xs k b at = some_of f (slice_get xs k) b (sym (slice_get-map f xs k) ∙ at)
 
-pub became : {A B : Type 0} (f : A → B) (xs : List A) (k : ℕ) (x : A) → slice_get xs k ≡ Some x → slice_get (map f xs) k ≡ Some (f x)
-became f xs k x at = slice_get-map f xs k ∙ ap (λ o. option_map f o) at
-
 -- the element at the same place of a list that becomes the same
 pub same_at : {A B : Type 0} (f : A → B) (xs ys : List A) (k : ℕ) (y : A) → map f xs ≡ map f ys → slice_get ys k ≡ Some y → (x : A) × (slice_get xs k ≡ Some x) × (f x ≡ f y)
-same_at f xs ys k y same at = came_from f xs k (f y) (ap (λ zs. slice_get zs k) same ∙ became f ys k y at)
+same_at f xs ys k y same at = came_from f xs k (f y) (ap (λ zs. slice_get zs k) same ∙ map_get f ys k y at)
 
 pub each_mapped : {A B : Type 0} (f : A → B) (P : ℕ → B → Type 0) (xs : List A) → Each (λ k x. P k (f x)) xs → Each P (map f xs)
 each_mapped f P xs each k b at = let x = came_from f xs k b at in subst (P k) x.2 (each k x.0 x.1)

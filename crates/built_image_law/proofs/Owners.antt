@@ -2,6 +2,7 @@
 use Rattle.std.proofs.Common.{◌≡◌, ◌<◌, ℕ, zero, suc, List, [], ◌∷◌, length, Some, arith, refl, subst}
 use Rattle.std.specs.Prelude.{slice_get}
 use Rattle.std.proofs.lemmas.Option.{slice_get_within}
+use Rattle.base.proofs.Lists.{some_at}
 use Rattle.machine_isa.specs.declared.instr.Instr.{Instr}
 use Rattle.syntax_tree.specs.Plain.{Prog}
 use Rattle.source_semantics.specs.Names.{monitors}
@@ -11,7 +12,6 @@ use Rattle.code_spec.specs.Layout.{Owner, by_program, by_process, by_monitor}
 use Rattle.code_spec.specs.Numbering.{Text, numbered}
 use Rattle.code_spec.specs.Compiled.{kind_number, owner_number, IsRoutine, EmitsRoutines}
 use Rattle.code_lifting.proofs.Words.{same_length}
-use Rattle.valid_image_law.proofs.Firsts.{some_at}
 use Rattle.codegen_law.proofs.Reached.{text_at, of_numbered}
 use Rattle.built_image_law.specs.Limits.{EntriesHaveOwners}
 

@@ -1,6 +1,6 @@
 -- From the lines of a text to the lines of a run.
 use Rattle.std.proofs.Common.{◌≡◌, ◌≤◌, ◌<◌, ◌+◌, ◌∙◌, inl, inr, ℕ, zero, suc, List, [], ◌∷◌, length, map, Some, arith, refl, ap, subst}
-use Rattle.std.specs.Prelude.{AllPairs, pos, slice_get, slice_index_or}
+use Rattle.std.specs.Prelude.{AllPairs, slice_get, slice_index_or}
 use Rattle.std.proofs.lemmas.Bool.{cases_lt}
 use Rattle.image.specs.declared.names.ImageNames.{ImageNames}
 use Rattle.machine_semantics.specs.Image.{Image, Line, Occurs}
@@ -14,6 +14,7 @@ use Rattle.command_due.specs.Script.{line_said, run_of}
 use Rattle.built_image.specs.Named.{names_of}
 use Rattle.vm_law.specs.Suits.{HasFrames}
 use Rattle.built_image_law.specs.Suits.{NamesHaveFrames, ScriptsForTheNamesSuit}
+use Rattle.vm_law.proofs.Suiting.{some_line}
 
 -- ---- the order
 
@@ -50,10 +51,6 @@ from_zero [] = tt
 from_zero (x ∷ xs) = omega arith
 
 -- ---- the frames
-
--- any line
-abbrev some_line : ScriptLine
-some_line = Set 0 0 (pos 0)
 
 -- a line of the run is that of a line of the text
 record Is (lines : List ScriptLine) (i : ℕ) (l : Line) : Type 0 where

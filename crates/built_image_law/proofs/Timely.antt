@@ -1,7 +1,8 @@
 -- A program is timely where its least bounds are all there, and late where one is not.
-use Rattle.std.specs.Prelude.{◌≡◌, ◌<◌, ◌-◌, ℕ, zero, suc, List, [], ◌∷◌, Option, Some, None, All, IsSome, length, slice_get}
+use Rattle.std.specs.Prelude.{◌≡◌, ◌<◌, ◌-◌, ℕ, List, Option, Some, None, All, IsSome, length, slice_get}
 use Rattle.std.proofs.Common.{refl, sym, ap, subst, ◌∙◌, arith, get_or}
 use Rattle.std.proofs.lemmas.Option.{slice_get-get_or, slice_get_within}
+use Rattle.base.proofs.Lists.{some_at}
 use Rattle.syntax_tree.specs.Plain.{Prog}
 use Rattle.machine_semantics.specs.Image.{Image, Process}
 use Rattle.valid_image.specs.Tasks.{tasks_of}
@@ -11,11 +12,6 @@ use Rattle.built_image.specs.Shown.{AreLeast}
 use Rattle.built_image_law.specs.FilledLaws.{TimelyWhereAllAreThere, LateWhereOneIsNone}
 use Rattle.built_image_law.proofs.Tasks.{least_is_kept}
 use Rattle.built_image_law.proofs.Agreeing.{shapes_agree}
-
-some_at : {A : Type 0} (xs : List A) (k : ℕ) → k < length xs → (x : A) × (slice_get xs k ≡ Some x)
-some_at [] k below = absurd (omega (arith, below))
-some_at (x ∷ xs) zero below = (x, refl)
-some_at (x ∷ xs) (suc k) below = some_at xs k (omega (arith, below))
 
 module _ (m : Image) (bounds : List (Option ℕ)) (least : AreLeast m bounds) where
   pub solved : (k : ℕ) (p : Process) (b : Option ℕ) → slice_get m.processes k ≡ Some p → slice_get bounds k ≡ Some b → IsSome b → (r : ℕ) × Responds m p r

@@ -1,34 +1,21 @@
 -- Least bounds are bounds: the task of a rank is that of the process that has it.
-use Rattle.std.proofs.Common.{◌≡◌, ◌≤◌, ◌<◌, ◌+◌, ◌-◌, inl, inr, ℕ, zero, suc, List, [], ◌∷◌, length, Option, Some, None, arith, refl, ap, sym, ◌∙◌, true, false, Bool}
-use Rattle.std.specs.Prelude.{cond, nat_eq, slice_get, slice_index_or}
-use Rattle.std.proofs.lemmas.Bool.{cases_Bool}
-use Rattle.std.proofs.lemmas.Bool.Decides.{nat_tests}
+use Rattle.std.proofs.Common.{◌≡◌, ◌≤◌, ◌<◌, ◌+◌, ◌-◌, ℕ, zero, suc, length, Option, Some, None, arith, ap, sym, ◌∙◌, false, Bool}
+use Rattle.std.specs.Prelude.{slice_get, slice_index_or}
 use Rattle.sched_response.specs.declared.tasks.Task.{Task}
 use Rattle.sched_response.specs.Demand.{Solves, task_at}
 use Rattle.machine_semantics.specs.Image.{Image, Process}
-use Rattle.valid_image.specs.Tasks.{with_rank, process_at, task_of, tasks_from, tasks_of}
-use Rattle.valid_image.specs.Fault.{unless}
-use Rattle.valid_image.specs.Sizes.{below, other}
-use Rattle.valid_image.specs.Times.{rank_of, ceiling_of, needed_block, rank_fault}
-use Rattle.code_measures.proofs.Seen.{equal_numbers}
+use Rattle.valid_image.specs.Tasks.{process_at, task_of, tasks_from, tasks_of}
+use Rattle.valid_image.specs.Times.{rank_fault}
 use Rattle.code_measures.specs.Whole.{HasRanks}
-use Rattle.code_measures.proofs.CostPart.{none_all, both_none, enough}
 use Rattle.valid_image_law.proofs.Ranking.{ranked, one_each}
 use Rattle.built_valid_law.specs.Made.{LeastBoundsAreBounds}
+use Rattle.code_measures.proofs.Valid.{no_rank_fault}
+use Rattle.valid_image_law.proofs.Timing.{search}
 
 -- ---- ranks
 
-same_none : (d n : ℕ) → d ≡ n → other d n ≡ None
-same_none d n e = ap (λ b. unless b d n) (equal_numbers d n e)
-
 no_less : {a b : ℕ} → a ≡ b → b ≤ a
 no_less e = omega (arith, e)
-
-no_rank_fault : (m : Image) → HasRanks m → rank_fault m ≡ None
-no_rank_fault m h =
-    both_none _ _ (none_all (λ k p. other p.rank (rank_of m k)) m.processes (λ k p at. same_none p.rank (rank_of m k) (h.ranks k p at)))
-    (both_none _ _ (none_all (λ j x. other x.ceiling (ceiling_of m j)) m.monitors (λ j x at. same_none x.ceiling (ceiling_of m j) (h.ceilings j x at)))
-    (none_all (λ k p. below p.block (needed_block m p.rank)) m.processes (λ k p at. enough p.block (needed_block m p.rank) (no_less (h.blocks k p at)))))
 
 -- ---- tasks in the order of ranks
 
@@ -39,26 +26,6 @@ tasks_at m j (suc n) zero d low =
 tasks_at m j (suc n) (suc i) d low =
     let z : suc j + i ≡ j + suc i = omega arith in
     tasks_at m (suc j) n i d (omega (arith, low)) ∙ ap (λ (x : ℕ). task_of (slice_get m.processes (process_at m x))) z
-
-same_true : (m n : ℕ) → m ≡ n → nat_eq m n ≡ true
-same_true m n is = grind (arith, nat_tests, is)
-
-same_is : (m n : ℕ) → nat_eq m n ≡ true → m ≡ n
-same_is m n is = grind (arith, nat_tests, is)
-
--- the search for a rank that one process alone has ends there
-search : (rank i j : ℕ) (qs : List Process) (p : Process) → slice_get qs j ≡ Some p → p.rank ≡ rank
-    → ((l : ℕ) (q : Process) → slice_get qs l ≡ Some q → q.rank ≡ rank → l ≡ j) → with_rank rank i qs ≡ i + j
-search rank i j [] p at is alone = absurd cc
-search rank i zero (q ∷ qs) p at is alone =
-    let same : q ≡ p = cc in
-    let hit : nat_eq q.rank rank ≡ true = same_true q.rank rank (ap (λ (x : Process). x.rank) same ∙ is) in
-    ap (λ b. cond b i (with_rank rank (suc i) qs)) hit ∙ omega arith
-search rank i (suc j) (q ∷ qs) p at is alone = elim (cases_Bool (nat_eq q.rank rank)) [
-  | inl hit ↦ absurd (let early : 0 ≡ suc j = alone 0 q refl (same_is q.rank rank hit) in omega (arith, early))
-  | inr miss ↦ ap (λ b. cond b i (with_rank rank (suc i) qs)) miss
-      ∙ (search rank (suc i) j qs p at is (λ l x there of. (let e : suc l ≡ suc j = alone (suc l) x there of in omega (arith, e))) ∙ omega arith)
-]
 
 own_task : (m : Image) → HasRanks m → (k : ℕ) (p : Process) → slice_get m.processes k ≡ Some p
     → task_at (tasks_of m) (p.rank - 1) ≡ task_of (Some p)

@@ -1,12 +1,11 @@
 -- The image that is built of a program can be run and stored.
-use Rattle.std.proofs.Common.{◌≡◌, ◌≤◌, ℕ, length, Some, arith, sym, subst}
-use Rattle.std.specs.Prelude.{slice_get}
+use Rattle.std.proofs.Common.{◌≡◌, ◌≤◌, ℕ, length, arith, sym, subst}
 use Rattle.syntax_tree.specs.Placed.{plain}
 use Rattle.syntax_tree.specs.Plain.{Prog}
-use Rattle.machine_semantics.specs.Image.{Image, Process}
+use Rattle.machine_semantics.specs.Image.{Image}
 use Rattle.image.specs.Named.{NamedImage}
 use Rattle.valid_image.specs.Valid.{HasLimits, IsValid, Sizes}
-use Rattle.valid_image_law.specs.ValidLaw.{MeetsPremises, ValidMeetsPremises}
+use Rattle.valid_image_law.specs.ValidLaw.{ValidMeetsPremises}
 use Rattle.vm_law.specs.Operands.{ValidOperandsAreThere}
 use Rattle.code_cost_spec.specs.Levels.{code_length}
 use Rattle.code_measures.specs.Whole.{CodeHasItsLength}
@@ -24,17 +23,14 @@ use Rattle.vm_law.specs.Suits.{HasFrames}
 use Rattle.built_image_law.specs.Short.{NamesAreShort, NamesOfTextsAreShort}
 use Rattle.built_valid_law.specs.Ready.{BuiltImagesAreReady, IsReady}
 use Rattle.built_valid_law.proofs.Counts.{Counted, counted}
-use Rattle.built_valid_law.proofs.Plans.{Stands, has_plan, stands}
+use Rattle.built_valid_law.proofs.Plans.{has_plan}
 use Rattle.built_valid_law.proofs.Names.{are_names}
 use Rattle.built_valid_law.proofs.Ranges.{in_range}
+use Rattle.vm_plan.proofs.Planned.{stands as standing}
 
 -- the image that is built of a program is its image, with its names
 same_image : (g : Prog) (over : ℕ) (n : NamedImage) → IsBuilt g over n → ◌≡◌ {A = NamedImage} (record { program = g.name; names = names_of g; image = n.image }) n
 same_image g over n built = λ i. record { program = sym built.program i; names = sym built.names i; image = n.image }
-
--- the parts of each process stand in the code
-standing : (m : Image) → MeetsPremises m → (k : ℕ) (p : Process) → slice_get m.processes k ≡ Some p → Stands m.code p
-standing m meets = subst (λ (x : Image). (k : ℕ) (p : Process) → slice_get x.processes k ≡ Some p → Stands x.code p) meets.of (stands meets.e meets.ps meets.fits)
 
 pub built_images_are_ready : CheckedProgramsAreReady → ProgramsThatKeepSizesAreSmall → BuiltImagesAreMade → BuiltImagesAreInLimits → CheckedImagesAreValid
     → ValidOperandsAreThere → ValidMeetsPremises → CodeHasItsLength → NamesOfTextsAreShort → NamesHaveFrames → BuiltImagesAreReady

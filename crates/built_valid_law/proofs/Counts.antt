@@ -1,18 +1,19 @@
 -- How many parts an image has, and how many names.
 use Rattle.std.proofs.Common.{◌≡◌, ◌≤◌, ◌+◌, ◌∙◌, ℕ, suc, List, [], ◌∷◌, length, map, filter_map, arith, refl, ap, sym}
-use Rattle.std.specs.Prelude.{Bool, replicate}
-use Rattle.std.proofs.lemmas.List.{length-append, length-map, length-replicate}
+use Rattle.std.specs.Prelude.{Bool}
+use Rattle.std.proofs.lemmas.List.{length-append, length-map}
 use Rattle.std.proofs.lemmas.List.Sums.{sum_by-cons}
-use Rattle.machine_isa.specs.declared.instr.Instr.{Instr}
-use Rattle.syntax_tree.specs.Plain.{Name, Monitor, Process, Decl, constant, device, event, routine, monitor, process, Prog}
+use Rattle.syntax_tree.specs.Plain.{Name, Monitor, Decl, constant, device, event, routine, monitor, process, Prog}
 use Rattle.source_semantics.specs.Names.{processes, monitors, conditions_of, condition_count, device_in, event_in, routine_count}
 use Rattle.machine_semantics.specs.Image as image
 use Rattle.image.specs.declared.names.CondName.{CondName}
-use Rattle.code_spec.specs.Numbering.{Text, numbered}
-use Rattle.code_spec.specs.Compiled.{EmitsProcesses, EmitsRoutines, IsCodeOf, condition_monitors, device_direction}
-use Rattle.code_lifting.proofs.Words.{same_length}
+use Rattle.code_spec.specs.Numbering.{numbered}
+use Rattle.code_spec.specs.Compiled.{IsCodeOf, device_direction}
+use Rattle.code_lifting.proofs.Words.{same_length, conditions_are as places_of_conditions}
 use Rattle.wellformed.specs.WellFormed.{CountsFit}
 use Rattle.built_image.specs.Named.{named_conditions, named_device, named_event}
+use Rattle.built_image_law.proofs.Joined.{as_many}
+use Rattle.codegen_operands.proofs.Owning.{routines_counted}
 
 -- ---- conditions and devices
 
@@ -28,15 +29,6 @@ names_of_conditions k (m ∷ ms) =
     let here : length own ≡ length (conditions_of m) = length-map (conditions_of m) (named_in k) in
     let all : condition_count (m ∷ ms) ≡ length (conditions_of m) + condition_count ms = sum_by-cons (λ (x : Monitor). length (conditions_of x)) m ms in
     omega (arith, length-append own (named_conditions (suc k) ms), rest, here, all)
-
-places_of_conditions : (k : ℕ) (ms : List Monitor) → length (condition_monitors k ms) ≡ condition_count ms
-places_of_conditions k [] = refl
-places_of_conditions k (m ∷ ms) =
-    let own : List ℕ = replicate (length (conditions_of m)) k in
-    let rest : length (condition_monitors (suc k) ms) ≡ condition_count ms = places_of_conditions (suc k) ms in
-    let here : length own ≡ length (conditions_of m) = length-replicate (length (conditions_of m)) k in
-    let all : condition_count (m ∷ ms) ≡ length (conditions_of m) + condition_count ms = sum_by-cons (λ (x : Monitor). length (conditions_of x)) m ms in
-    omega (arith, length-append own (condition_monitors (suc k) ms), rest, here, all)
 
 pub names_of_devices : (ds : List Decl) → length (filter_map named_device ds) ≡ length (filter_map device_in ds)
 names_of_devices [] = refl
@@ -56,20 +48,6 @@ ways_of_devices (routine r ∷ ds) = ways_of_devices ds
 ways_of_devices (monitor m ∷ ds) = ways_of_devices ds
 ways_of_devices (process p ∷ ds) = ways_of_devices ds
 
--- ---- processes and routines
-
-process_many : (g : Prog) (code : List Instr) (k a b : ℕ) (ts : List Process) (ps : List image.Process) → EmitsProcesses g code k a b ts ps → length ps ≡ length ts
-process_many g code k a b [] [] h = refl
-process_many g code k a b [] (p ∷ ps) h = absurd h
-process_many g code k a b (t ∷ ts) [] h = absurd h
-process_many g code k a b (t ∷ ts) (p ∷ ps) h = ap (λ (n : ℕ). suc n) (process_many g code (suc k) h.0 b ts ps h.2)
-
-routine_many : (g : Prog) (code : List Instr) (a b : ℕ) (ts : List Text) (rs : List image.Routine) → EmitsRoutines g code a b ts rs → length rs ≡ length ts
-routine_many g code a b [] [] h = refl
-routine_many g code a b [] (r ∷ rs) h = absurd h
-routine_many g code a b (t ∷ ts) [] h = absurd h
-routine_many g code a b (t ∷ ts) (r ∷ rs) h = ap (λ (n : ℕ). suc n) (routine_many g code h.0 b ts rs h.4)
-
 -- ---- all
 
 -- as many of each as in the text, and not too many
@@ -87,9 +65,9 @@ pub record Counted (g : Prog) (m : image.Image) : Type 0 where
 
 pub counted : (g : Prog) (m : image.Image) → CountsFit g → length (numbered g) ≤ routine_count g → IsCodeOf g m → Counted g m
 counted g m counts few code =
-    let processes_are : length m.processes ≡ length (processes g) = process_many g m.code 0 code.between (length m.code) (processes g) m.processes code.process_code in
+    let processes_are : length m.processes ≡ length (processes g) = as_many g m.code 0 code.between (length m.code) (processes g) m.processes code.process_code in
     let monitors_are : length m.monitors ≡ length (monitors g) = same_length g 0 (monitors g) m.monitors code.monitor_words in
-    let routines_are : length m.routines ≡ length (numbered g) = routine_many g m.code 0 code.between (numbered g) m.routines code.routine_code in
+    let routines_are : length m.routines ≡ length (numbered g) = routines_counted g m.code 0 code.between (numbered g) m.routines code.routine_code in
     let conditions_are : length m.conditions ≡ condition_count (monitors g) = ap (λ (xs : List ℕ). length xs) code.condition_table ∙ places_of_conditions 0 (monitors g) in
     let devices_are : length m.devices ≡ length (filter_map device_in g.decls) = ap (λ (xs : List Bool). length xs) code.device_table ∙ ways_of_devices g.decls in
     let events_are : length (map (λ (e : Name). named_event g e) (filter_map event_in g.decls)) ≡ length (filter_map event_in g.decls)

@@ -9,9 +9,9 @@ use Rattle.static_names.specs.Occurrences.{declares, names, entries_at, closes, 
 use Rattle.static_names.specs.Resolved.{IsRead, IsNamed}
 use Rattle.static_semantics.specs.Places.{NamesFound}
 use Rattle.wellformed_names_law.proofs.Members.{In, in-contains, contains-in}
-use Rattle.wellformed_names_law.proofs.Lookups.{same-refl}
 use Rattle.checked_law.proofs.Differ.{DeclsDiffer, decls_differ}
 use Rattle.built_valid_law.specs.Checked.{CheckedDevicesGoOneWay}
+use Rattle.static_names.proofs.Scopes.{same-refl}
 
 -- a device of the plain tree, in the tree with places
 pub record Placed (ds : List (Decl Place)) (d : Name) (out : Bool) : Type 0 where

@@ -27,7 +27,7 @@ conditions_short k (m ∷ ms) short =
     (conditions_short (suc k) ms (All-tail MonitorIsShort m ms short))
 
 -- each stands in one of so many monitors
-conditions_placed : (n k : ℕ) (ms : List Monitor) → k + length ms ≤ n → All (λ (c : CondName). c.mon < n) (named_conditions k ms)
+pub conditions_placed : (n k : ℕ) (ms : List Monitor) → k + length ms ≤ n → All (λ (c : CondName). c.mon < n) (named_conditions k ms)
 conditions_placed n k [] within = All-nil (λ (c : CondName). c.mon < n)
 conditions_placed n k (m ∷ ms) within =
     let here : k < n = omega (arith, within) in

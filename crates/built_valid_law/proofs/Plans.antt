@@ -1,42 +1,26 @@
 -- An image that is built has a plan.
-use Rattle.std.proofs.Common.{◌≡◌, ◌≤◌, ◌<◌, ◌+◌, ◌∙◌, ℕ, suc, Bool, true, false, List, [], ◌∷◌, length, Option, Some, None, arith, refl, ap}
-use Rattle.std.specs.Prelude.{ℤ, pos, negsuc, All, cond, nat_eq, slice_get}
-use Rattle.std.proofs.lemmas.Bool.Decides.{nat_tests}
-use Rattle.std.proofs.lemmas.List.Elements.{All-nil, All-cons}
+use Rattle.std.proofs.Common.{◌≡◌, ◌≤◌, ◌<◌, ℕ, true, false, length, Some, None, arith, refl}
+use Rattle.std.specs.Prelude.{slice_get}
 use Rattle.std.proofs.lemmas.Option.{slice_get_within}
+use Rattle.base.proofs.Lists.{all_of}
 use Rattle.machine_isa.specs.declared.instr.Instr.{Instr}
 use Rattle.machine_isa.specs.declared.instr.Instr.TheVariants as i
 use Rattle.syntax_tree.specs.Plain.{Activation, periodic, at_event, Prog}
 use Rattle.source_semantics.specs.Names.{processes}
-use Rattle.machine_semantics.specs.Trees.{Segs, size}
-use Rattle.machine_semantics.specs.Image.{Image, Process, Routine, end_of, size_some}
-use Rattle.machine_semantics.specs.Starts.{lists}
+use Rattle.machine_semantics.specs.Image.{Image, Process, Routine, end_of}
 use Rattle.code_spec.specs.Compiled.{IsCodeOf, IsReleased}
 use Rattle.vm_law.specs.Operands.{AreThere, IsThere}
-use Rattle.vm_plan.specs.HasPlan.{CanRun, HandlerEnds, HasPlan}
-use Rattle.machine_safety_spec.specs.Part.{IsBelow}
+use Rattle.vm_plan.specs.HasPlan.{CanRun, HasPlan}
 use Rattle.machine_safety_spec.specs.Safe.{Parts, ImageFits}
 use Rattle.machine_safety_spec.specs.Walk.{Where}
-use Rattle.vm_state.specs.Seen.{IsLimit, IsSmall}
 use Rattle.vm_state.specs.Plan.{HasNumbers}
-use Rattle.valid_image.specs.Valid.{HasHandler, HasLimits, Sizes, fault_of_part}
+use Rattle.valid_image.specs.Valid.{HasLimits, Sizes, fault_of_part}
 use Rattle.valid_image_law.proofs.Passing.{params_fit}
 use Rattle.built_image_law.proofs.Texts.{Emitted, emitted}
 use Rattle.built_valid_law.proofs.Counts.{Counted}
-
-pub all_of : {X : Type 0} (P : X → Type 0) (xs : List X) → ((k : ℕ) (x : X) → slice_get xs k ≡ Some x → P x) → All P xs
-all_of P [] each = All-nil P
-all_of P (x ∷ xs) each = All-cons P x xs (each 0 x refl) (all_of P xs (λ k y at. each (suc k) y at))
+use Rattle.vm_plan.proofs.Planned.{handler_ends, Stands, small, limit_is}
 
 -- ---- numbers
-
-small : (z : ℤ) (n : ℕ) → n ≤ 65536 → IsBelow z n → IsSmall z
-small (pos k) n le below = let same : k ≡ below.0 = (let is : pos k ≡ pos below.0 = below.1 in cc) in omega (arith, same, below.2, le)
-small (negsuc k) n le below = absurd (let is = below.1 in cc)
-
-limit_is : (z : ℤ) (n : ℕ) → IsBelow z n → IsLimit z
-limit_is (pos k) n below = tt
-limit_is (negsuc k) n below = absurd (let is = below.1 in cc)
 
 module _ (m : Image) (monitors : length m.monitors ≤ 64) (conditions : length m.conditions ≤ 256) (devices : length m.devices ≤ 64) where
   has_numbers : (instr : Instr) → IsThere m instr → HasNumbers instr
@@ -54,12 +38,6 @@ module _ (m : Image) (monitors : length m.monitors ≤ 64) (conditions : length 
 
 -- ---- a process
 
--- where the parts of a process stand
-pub record Stands (code : List Instr) (p : Process) : Type 0 where
-  pub locals : p.locals ≤ p.stack
-  pub body : end_of p false ≤ length code
-  pub handler : (number : ℕ) → lists p.numbers number ≡ true → end_of p true ≤ length code
-
 -- so they do in an image that fits its trees
 pub stands : (e : Where) (ps : ℕ → Parts) → ImageFits e ps → (k : ℕ) (p : Process) → slice_get e.image.processes k ≡ Some p → Stands e.image.code p
 stands e ps image_fits k p at =
@@ -70,18 +48,6 @@ stands e ps image_fits k p at =
       body = omega (arith, body);
       handler = λ number listed. (let h = fits.handles number listed in let within : end_of p true < length e.image.code = slice_get_within e.image.code (end_of p true) i.End h.1.ends in omega (arith, within));
     }
-
-handler_ends : (code : ℕ) (p : Process) (o : Option Segs) → p.handler_tree ≡ o → HasHandler p o → ((number : ℕ) → lists p.numbers number ≡ true → end_of p true ≤ code) → HandlerEnds code p.handler o
-handler_ends code p None is has ends = tt
-handler_ends code p (Some tree) is has ends = by p.numbers refl where
-  by : (ns : List ℕ) → p.numbers ≡ ns → p.handler + size tree ≤ code
-  by [] none = absurd (has none)
-  by (n ∷ ns) some =
-      let test : nat_eq n n ≡ true = grind (arith, nat_tests) in
-      let listed : lists p.numbers n ≡ true = ap (λ (xs : List ℕ). lists xs n) some ∙ ap (λ (b : Bool). cond b true (lists ns n)) test in
-      let end : end_of p true ≤ code = ends n listed in
-      let size_is : size_some p.handler_tree ≡ size tree = ap size_some is in
-      omega (arith, end, size_is)
 
 -- the clock or an event releases it
 kind_low : (g : Prog) (a : Activation) (p : Process) → IsReleased g a p → p.kind ≤ 1

@@ -2,6 +2,7 @@
 use Rattle.std.proofs.Common.{◌≡◌, ◌≤◌, ◌<◌, ℕ, List, length, map, take, Option, Some, None, arith, ap, subst}
 use Rattle.std.specs.Prelude.{slice_get}
 use Rattle.std.proofs.lemmas.Option.{get_or_from_slice_get, slice_get_within}
+use Rattle.base.proofs.Lists.{all_of}
 use Rattle.machine_isa.specs.declared.instr.Instr.{Instr}
 use Rattle.syntax_tree.specs.Plain as plain_of
 use Rattle.syntax_tree.specs.Plain.{Constant, Handler, Prog}
@@ -21,7 +22,6 @@ use Rattle.built_image_law.proofs.Texts.{Emitted, emitted}
 use Rattle.built_valid_law.proofs.Counts.{Counted}
 use Rattle.built_valid_law.proofs.Handled.{few_numbers}
 use Rattle.built_valid_law.proofs.Names.{are_named, name_fits}
-use Rattle.built_valid_law.proofs.Plans.{all_of}
 use Rattle.built_valid_law.proofs.Trees.{There, part_low, routine_low}
 
 -- ---- trees

@@ -1,6 +1,7 @@
 -- The names of a checked program stand apart.
 use Rattle.std.proofs.Common.{◌≡◌, ℕ, List, [], ◌∷◌, map, Some, None, inr, ap, sym, ◌∙◌, subst}
 use Rattle.std.specs.Prelude.{All, option_map, slice_get}
+use Rattle.base.proofs.Lists.{one_of}
 use Rattle.syntax_tree.specs.Plain as plain_of
 use Rattle.syntax_tree.specs.Plain.{Name}
 use Rattle.syntax_tree.specs.Placed.{Routine, Monitor, Process, monitor, process, Prog, plain, plain_routine, plain_process}
@@ -15,17 +16,16 @@ use Rattle.static_semantics.specs.Mirrors.{program_site, process_site, monitor_s
 use Rattle.static_semantics.specs.Static.{IsChecked}
 use Rattle.wellformed_names_law.proofs.Members.{In, in-contains}
 use Rattle.wellformed_names_law.proofs.Lookups.{named-map}
-use Rattle.wellformed_names_law.proofs.ProgramScope.{routine_called, none-hidden, split-in}
+use Rattle.wellformed_names_law.proofs.ProgramScope.{routine_called, none-hidden, split-in, routines-plain}
 use Rattle.wellformed_names_law.proofs.EntryNames.{monitors-apart}
 use Rattle.wellformed_names_law.proofs.Mirrored.{program_routine_mirrors, entry_mirrors}
 use Rattle.wellformed_law.proofs.WellformedLaw.{Laws}
-use Rattle.wellformed_law.proofs.Standing.{plain_routines, monitor_at}
+use Rattle.wellformed_law.proofs.Standing.{monitor_at}
 use Rattle.wellformed_law.proofs.ProcessesFit.{shared_fit, entries_fit}
 use Rattle.wellformed_law.proofs.WellFormed.{RuleLaws, laws_of}
 use Rattle.code_names_law.specs.Kept.{AllFound, NamesDiffer}
 use Rattle.code_names_law.proofs.Numbers.{found_name, found_there}
 use Rattle.code_names_law.specs.Ruled.{NamesApart}
-use Rattle.code_names_law.proofs.Rules.{one_of}
 use Rattle.checked_law.proofs.Differ.{Differ, differ_behind, scope_differs, DeclsDiffer, decls_differ, differ_found, program_found}
 use Rattle.checked_law.proofs.Standing.{mapped_at, routine_at, process_at, monitor_at as monitor_placed}
 use Rattle.checked_law.proofs.Shared.{nobody, nothing_hidden, calls_program}
@@ -61,7 +61,7 @@ module _ (g : Prog Place) (l : Laws g) where
   program_all j r e =
       let p = routine_at g.decls j r e in
       subst (λ q. named (λ k. k.name) q.name (routines (plain g)) ≡ Some q) p.is
-      (ap (named (λ k. k.name) p.one.name) (plain_routines g.decls)
+      (ap (named (λ k. k.name) p.one.name) (routines-plain g.decls)
       ∙ (named-map plain_routine (λ k. k.name) p.one.name (program_routines g.decls) ∙ ap (option_map plain_routine) (program_found g.decls program_differs p.one p.stands)))
 
   names_differ : NamesDiffer (plain g)
@@ -89,7 +89,7 @@ module _ (g : Prog Place) (l : Laws g) where
 
   shared_all : All (RoutineFits (plain g) (plain_process nobody) of_program) (routines (plain g))
   shared_all =
-      subst (λ rs. All (RoutineFits (plain g) (plain_process nobody) of_program) rs) (sym (plain_routines g.decls))
+      subst (λ rs. All (RoutineFits (plain g) (plain_process nobody) of_program) rs) (sym (routines-plain g.decls))
       (shared_fit g l nobody (program_routine_mirrors g l.written (monitors-apart g l.apart) l.things nobody (nothing_hidden g.decls)))
 
   entries_all : (k : ℕ) (m : plain_of.Monitor) → slice_get (monitors (plain g)) k ≡ Some m → All (RoutineFits (plain g) (plain_process nobody) (of_monitor k)) m.entries

@@ -1,5 +1,5 @@
 -- Names of one scope differ, where none is taken.
-use Rattle.std.proofs.Common.{◌≡◌, inl, inr, Bool, true, false, cond, ◌||◌, List, [], ◌∷◌, ◌++◌, map, Option, Some, None, is_some, refl, ap, sym, ◌∙◌}
+use Rattle.std.proofs.Common.{◌≡◌, inl, inr, Bool, true, false, cond, ◌||◌, List, [], ◌∷◌, ◌++◌, map, Some, None, is_some, refl, ap, sym, ◌∙◌}
 use Rattle.syntax_tree.specs.Plain.{Name}
 use Rattle.syntax_tree.specs.Placed.{Routine, Decl, constant, device, event, routine, monitor, process}
 use Rattle.syntax_tree.specs.Parts.{program_routines}
@@ -8,10 +8,12 @@ use Rattle.static_names.specs.declared.kind.Declared.{Declared}
 use Rattle.static_names.specs.Reach.{same, Names, Reach, first, Site}
 use Rattle.static_names.specs.Occurrences.{Occurrence, declares, declarations, decl_name, others, decls_names}
 use Rattle.source_semantics.specs.Names.{named}
-use Rattle.wellformed_names_law.proofs.Members.{In, ends-in}
-use Rattle.wellformed_names_law.proofs.Lookups.{same-refl, some-none, first-append, named-step, named-here, or_else-first, or_else-second}
+use Rattle.wellformed_names_law.proofs.Members.{In, ends-in, in-map}
+use Rattle.wellformed_names_law.proofs.Lookups.{some-none, named-step, named-here, or_else-first, or_else-second}
 use Rattle.wellformed_names_law.proofs.NamesAfter.{ends-inner}
 use Rattle.wellformed_names_law.proofs.ProgramScope.{routine_called}
+use Rattle.static_names.proofs.Programs.{first-append}
+use Rattle.static_names.proofs.Scopes.{none-of, same-refl}
 
 -- each name differs from those behind it
 abbrev pub Differ : Names → Type 0
@@ -25,10 +27,6 @@ differ_behind (x ∷ xs) ys h = differ_behind xs ys h.1
 -- none of the names is taken
 abbrev pub Free : List Occurrence → Type 0
 Free os = (n : Name) (q : Place) (t : Bool) → In os (declares n q t) → t ≡ false
-
-not_some : {X : Type 0} (o : Option X) → is_some o ≡ false → o ≡ None
-not_some None e = refl
-not_some (Some x) e = cc
 
 left_false : (a b : Bool) → (a || b) ≡ false → a ≡ false
 left_false false b e = refl
@@ -47,7 +45,7 @@ not_same n k d e = by (same n k) e
 scope_new : (outside : Reach) (earlier ds : Names) (more : List Occurrence) → Free (declarations outside earlier ds more) → (e : Name × Declared) → In ds e → first earlier e.0 ≡ None
 scope_new outside earlier [] more free e i = absurd i
 scope_new outside earlier (d ∷ ds) more free e (inl is) =
-    ap (λ z. first earlier z.0) (sym is) ∙ not_some (first earlier d.0) (left_false (is_some (first earlier d.0)) (is_some (outside d.0)) (free d.0 d.1.place _ (inl refl)))
+    ap (λ z. first earlier z.0) (sym is) ∙ none-of (first earlier d.0) (left_false (is_some (first earlier d.0)) (is_some (outside d.0)) (free d.0 d.1.place _ (inl refl)))
 scope_new outside earlier (d ∷ ds) more free e (inr i) =
     or_else-first (first earlier e.0) (first (d ∷ []) e.0)
     (sym (first-append earlier (d ∷ []) e.0) ∙ scope_new outside (earlier ++ d ∷ []) ds more (λ n q t j. free n q t (inr j)) e i)
@@ -71,7 +69,7 @@ rest_free members earlier d ds more free n q t j =
 decls_new : (members : Place → Reach) (earlier : Names) (ds : List (Decl Place)) (more : List Occurrence) → Free (decls_names members earlier ds more) → (e : Decl Place) → In ds e → first earlier (decl_name e).0 ≡ None
 decls_new members earlier [] more free e i = absurd i
 decls_new members earlier (d ∷ ds) more free e (inl is) =
-    ap (λ z. first earlier (decl_name z).0) (sym is) ∙ not_some (first earlier (decl_name d).0) (free (decl_name d).0 (decl_name d).1.place _ (inl refl))
+    ap (λ z. first earlier (decl_name z).0) (sym is) ∙ none-of (first earlier (decl_name d).0) (free (decl_name d).0 (decl_name d).1.place _ (inl refl))
 decls_new members earlier (d ∷ ds) more free e (inr i) =
     or_else-first (first earlier (decl_name e).0) (first (decl_name d ∷ []) (decl_name e).0)
     (sym (first-append earlier (decl_name d ∷ []) (decl_name e).0) ∙ decls_new members (earlier ++ decl_name d ∷ []) ds more (rest_free members earlier d ds more free) e i)
@@ -92,15 +90,10 @@ decls_differ members earlier (d ∷ ds) more free = (
 
 -- ---- whoever stands in a scope is found by the name
 
-in_mapped : {X Y : Type 0} (f : X → Y) (xs : List X) (x : X) → In xs x → In (map f xs) (f x)
-in_mapped f [] x i = absurd i
-in_mapped f (y ∷ ys) x (inl e) = inl (ap f e)
-in_mapped f (y ∷ ys) x (inr i) = inr (in_mapped f ys x i)
-
 pub differ_found : {A : Type 0} (label : A → Name × Declared) (things : List A) → Differ (map label things) → (t : A) → In things t → named (λ a. (label a).0) (label t).0 things ≡ Some t
 differ_found label [] h t i = absurd i
 differ_found label (a ∷ things) h t (inl is) = named-here (λ b. (label b).0) (label t).0 a things (ap (λ b. same (label t).0 (label b).0) is ∙ same-refl (label t).0) ∙ ap (λ b. Some b) is
-differ_found label (a ∷ things) h t (inr i) = named-step (λ b. (label b).0) (label t).0 a things (h.0 (label t) (in_mapped label things t i)) ∙ differ_found label things h.1 t i
+differ_found label (a ∷ things) h t (inr i) = named-step (λ b. (label b).0) (label t).0 a things (h.0 (label t) (in-map label things t i)) ∙ differ_found label things h.1 t i
 
 pub program_found : (ds : List (Decl Place)) → DeclsDiffer ds → (r : Routine Place) → In ds (routine r) → named routine_called r.name (program_routines ds) ≡ Some r
 program_found [] h r i = absurd i

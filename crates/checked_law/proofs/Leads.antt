@@ -8,8 +8,6 @@ use Rattle.syntax_tree.specs.Placed.{Routine, Member, variable_member, condition
 use Rattle.syntax_tree.specs.Parts.{program_routines, processes, monitors, routines}
 use Rattle.syntax_tree.specs.declared.place.Place.{Place}
 use Rattle.static_names.specs.declared.kind.Declared.{Declared}
-use Rattle.static_names.specs.declared.kind.Kind.{Kind}
-use Rattle.static_names.specs.declared.kind.Kind.TheVariants as kind_is
 use Rattle.static_names.specs.declared.kind.Want.TheVariants as want_is
 use Rattle.static_names.specs.Reach.{suits, Names, Site, first, inside, through}
 use Rattle.static_names.specs.Occurrences.{Occurrence, closes, declares, names, declared_at, stmts_names, routines_names, optional_names, handler_names, var_name, param_name, routine_name, entry_name, member_name, decl_name, others, program_name, routine_scope, process_scope, monitor_scope, monitor_inner}
@@ -21,7 +19,7 @@ use Rattle.code_spec.specs.Numbering as call_of
 use Rattle.static_calls.specs.Calls.{routine_calls, stmts_calls}
 use Rattle.static_semantics.specs.Mirrors.{program_site, process_site, monitor_site}
 use Rattle.wellformed_names_law.proofs.Members.{In, in-contains, contains-in, in-left, in-right, ends-in, Ends}
-use Rattle.wellformed_names_law.proofs.Lookups.{first-append, first-not, named-map, named-in, FoundBy, found-by, not-found-by, or_else-second, Either, in_first, in_second, either}
+use Rattle.wellformed_names_law.proofs.Lookups.{first-not, named-map, named-in, FoundBy, found-by, not-found-by, or_else-second, Either, in_first, in_second, either}
 use Rattle.wellformed_names_law.proofs.NamesAfter.{ends-constants, ends-members}
 use Rattle.wellformed_names_law.proofs.ProgramScope.{routines-plain, monitors-plain, routine_called, monitor_called, Listed, Looks, program-means, reach-in, declarations-free, split-in}
 use Rattle.wellformed_names_law.proofs.EntryNames.{monitors-apart, through-is}
@@ -36,6 +34,8 @@ use Rattle.code_names_law.specs.Called.{AllCalled}
 use Rattle.checked_law.proofs.Shared.{nobody}
 use Rattle.checked_law.proofs.Standing.{routine_at}
 use Rattle.checked_law.proofs.Walk.{AllIn, routine_leads, body_leads}
+use Rattle.wellformed_calls_law.proofs.Calls.{entry_kind}
+use Rattle.static_names.proofs.Programs.{first-append}
 
 -- ---- the placed routine that a text stands for
 
@@ -143,19 +143,6 @@ routine_not_called r x d e suited = by (either _ _ d (sym (first-append (map par
     by : Either (first (map param_name r.params) x) (first (map var_name r.vars) x) d → ⊥
     by (in_first h) = not_called_map param_name (λ v s. true≢false (sym s)) r.params x d h suited
     by (in_second n h) = not_called_map var_name (λ v s. true≢false (sym s)) r.vars x d h suited
-
-entry_kind : (k : Kind) → suits want_is.Entry k ≡ true → k ≡ kind_is.Entry
-entry_kind kind_is.Program s = absurd (true≢false (sym s))
-entry_kind kind_is.Constant s = absurd (true≢false (sym s))
-entry_kind kind_is.Device s = absurd (true≢false (sym s))
-entry_kind kind_is.Event s = absurd (true≢false (sym s))
-entry_kind kind_is.Routine s = absurd (true≢false (sym s))
-entry_kind kind_is.Entry s = refl
-entry_kind kind_is.Monitor s = absurd (true≢false (sym s))
-entry_kind kind_is.Process s = absurd (true≢false (sym s))
-entry_kind kind_is.Variable s = absurd (true≢false (sym s))
-entry_kind kind_is.LoopVariable s = absurd (true≢false (sym s))
-entry_kind kind_is.Condition s = absurd (true≢false (sym s))
 
 -- the monitor of a name stands at its number
 monitor_there : (m : Name) (ms : List (Monitor Place)) (one : Monitor Place) → named monitor_called m ms ≡ Some one → slice_get ms (place_of m (map (λ (k : plain_of.Monitor). k.name) (map plain_monitor ms))) ≡ Some one

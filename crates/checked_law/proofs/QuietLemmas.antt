@@ -1,7 +1,8 @@
 -- Routines that reach no wait call only such, and do not wait.
 use Rattle.std.specs.Prelude.{◌≡◌, ◌⊎◌, ℕ, zero, suc, Bool, true, false, not, ◌||◌, List, [], ◌∷◌, Option, Some, None, slice_get, length, Contains}
 use Rattle.std.proofs.Common.{inl, inr, refl, sym, ◌∙◌, ap, subst}
-use Rattle.std.proofs.lemmas.Bool.{and_parts, and_from}
+use Rattle.std.proofs.lemmas.Bool.{and_parts, and_from, not-true, false≢true}
+use Rattle.base.proofs.Members.{at_front, behind, front_or_behind, none_in}
 use Rattle.syntax_tree.specs.Plain.{Stmt, assign, assign_entry, assign_empty, perform, perform_entry, when, when_else, loop, exit_when, get, put, wait, signal, broadcast, except, assert, Stmts, no_stmts, stmts, Handler, Process, Prog}
 use Rattle.source_semantics.specs.Names.{processes, routine_count}
 use Rattle.code_spec.specs.Layout.{by_process}
@@ -10,22 +11,14 @@ use Rattle.wellformed.specs.WellFormed.{IsWellFormed, OptionalFits}
 use Rattle.code_names_law.specs.Ruled.{NamesApart}
 use Rattle.code_measures.specs.Quiet.{NoWait, NoWaits, IsQuietBelow, QuietHandler, AreQuiet}
 use Rattle.code_names_law.specs.Numbered.{CallsText}
-use Rattle.code_names_law.proofs.Lists.{contains_here, contains_later, contains_cases, nothing_in}
 use Rattle.code_names_law.proofs.NumberedLemmas.{listed_text}
 use Rattle.code_names_law.proofs.Owners.{process_fits}
 use Rattle.code_names_law.proofs.SoundLemmas.{are_numbered, text_sound, part_sound, below, below_all}
 use Rattle.checked_law.specs.Quiet.{stmt_waits, stmts_wait, quiet_some, all_quiet, quiet_within, reaches_no_wait, HandlersQuiet, QuietProgramsAreQuiet}
 
-no_true : false ≡ true → ⊥
-no_true e = cc
-
 neither : (a b : Bool) → (a || b) ≡ false → (a ≡ false) × (b ≡ false)
 neither false b e = (refl, e)
-neither true b e = absurd (no_true (sym e))
-
-pub not_waits : (b : Bool) → not b ≡ true → b ≡ false
-not_waits false e = refl
-not_waits true e = absurd (no_true e)
+neither true b e = absurd (false≢true (sym e))
 
 mutual
   no_wait : (s : Stmt) → stmt_waits s ≡ false → NoWait s
@@ -40,7 +33,7 @@ mutual
   no_wait (exit_when e) h = tt
   no_wait (get d r) h = tt
   no_wait (put d e) h = tt
-  no_wait (wait x limit number) h = absurd (no_true (sym h))
+  no_wait (wait x limit number) h = absurd (false≢true (sym h))
   no_wait (signal x) h = tt
   no_wait (broadcast x) h = tt
   no_wait (except n) h = tt
@@ -55,15 +48,15 @@ mutual
 pub all_from : (quiet : Text → Bool) (means : Called → Option Text) (cs : List Called) → ((c : Called) (u : Text) → Contains cs c → means c ≡ Some u → quiet u ≡ true) → all_quiet quiet means cs ≡ true
 all_from quiet means [] h = refl
 all_from quiet means (c ∷ cs) h =
-    and_from (quiet_some quiet (means c)) (all_quiet quiet means cs) (by (means c) refl) (all_from quiet means cs (λ d u i e. h d u (contains_later c d cs i) e))
+    and_from (quiet_some quiet (means c)) (all_quiet quiet means cs) (by (means c) refl) (all_from quiet means cs (λ d u i e. h d u (behind c cs d i) e))
   where
     by : (x : Option Text) → means c ≡ x → quiet_some quiet x ≡ true
     by None e = refl
-    by (Some t) e = h c t (contains_here c cs) e
+    by (Some t) e = h c t (at_front c cs) e
 
 all_to : (quiet : Text → Bool) (means : Called → Option Text) (cs : List Called) → all_quiet quiet means cs ≡ true → (c : Called) (u : Text) → Contains cs c → means c ≡ Some u → quiet u ≡ true
-all_to quiet means [] h c u i e = absurd (nothing_in c i)
-all_to quiet means (d ∷ cs) h c u i e = by (and_parts (quiet_some quiet (means d)) (all_quiet quiet means cs) h) (contains_cases d c cs i) (λ k there. all_to quiet means cs k c u there e)
+all_to quiet means [] h c u i e = absurd (none_in c i)
+all_to quiet means (d ∷ cs) h c u i e = by (and_parts (quiet_some quiet (means d)) (all_quiet quiet means cs) h) (front_or_behind d cs c i) (λ k there. all_to quiet means cs k c u there e)
   where
     by : (quiet_some quiet (means d) ≡ true) × (all_quiet quiet means cs ≡ true) → (d ≡ c) ⊎ Contains cs c → (all_quiet quiet means cs ≡ true → Contains cs c → quiet u ≡ true) → quiet u ≡ true
     by k (inl same) rest = subst (λ o. quiet_some quiet o ≡ true) (ap means same ∙ e) k.0
@@ -72,7 +65,7 @@ all_to quiet means (d ∷ cs) h c u i e = by (and_parts (quiet_some quiet (means
 -- what is quiet is so also where calls may be nested deeper
 pub deeper : (n : ℕ) (g : Prog) (t : Text) → quiet_within n g t ≡ true → quiet_within (suc n) g t ≡ true
 unfolding quiet_within
-deeper zero g t h = absurd (no_true h)
+deeper zero g t h = absurd (false≢true h)
 deeper (suc n) g t h =
     let k = and_parts (not (stmts_wait t.routine.body)) (all_quiet (quiet_within n g) (called_text g t.owner) (routine_calls t.routine)) h in
     and_from (not (stmts_wait t.routine.body)) (all_quiet (quiet_within (suc n) g) (called_text g t.owner) (routine_calls t.routine)) k.0
@@ -88,11 +81,11 @@ unfolding reaches_no_wait quiet_within
 is_quiet g t h = by (routine_count g) refl h
   where
     by : (n : ℕ) → routine_count g ≡ n → quiet_within n g t ≡ true → QuietText g t
-    by zero e k = absurd (no_true k)
+    by zero e k = absurd (false≢true k)
     by (suc n) e k =
         let p = and_parts (not (stmts_wait t.routine.body)) (all_quiet (quiet_within n g) (called_text g t.owner) (routine_calls t.routine)) k in
         record {
-          body = not_waits (stmts_wait t.routine.body) p.0;
+          body = not-true (stmts_wait t.routine.body) p.0;
           calls = λ u called. subst (λ m. quiet_within m g u ≡ true) (sym e)
               (deeper n g u (all_to (quiet_within n g) (called_text g t.owner) (routine_calls t.routine) p.1 called.call u called.listed called.means));
         }

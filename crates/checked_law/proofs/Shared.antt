@@ -1,6 +1,7 @@
 -- The program's routines and the entries call routines of the program alone: they fit also where a process without routines would run them.
 use Rattle.std.proofs.Common.{◌≡◌, Bool, false, List, [], ◌∷◌, Option, Some, None, refl}
 use Rattle.std.specs.Prelude.{option_map}
+use Rattle.std.proofs.lemmas.Option.{none-some}
 use Rattle.syntax_tree.specs.Plain as plain_of
 use Rattle.syntax_tree.specs.Plain.{Name}
 use Rattle.syntax_tree.specs.Placed.{literal_constant, periodic, no_stmts, Routine, Process, Decl, routine, plain_process}
@@ -12,7 +13,6 @@ use Rattle.wellformed.specs.Here.{in_routine}
 use Rattle.wellformed.specs.Statements.{may_call}
 use Rattle.wellformed.specs.WellFormed.{RoutineFits}
 use Rattle.wellformed_names_law.proofs.Members.{In}
-use Rattle.wellformed_names_law.proofs.Lookups.{none-some}
 use Rattle.wellformed_names_law.proofs.ProgramScope.{routine_called}
 use Rattle.code_names_law.specs.Ruled.{OfProgram, AllOfProgram}
 use Rattle.code_names_law.specs.Called.{AllCalled, FindsRoutine, Finds}

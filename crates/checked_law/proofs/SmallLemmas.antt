@@ -15,7 +15,7 @@ use Rattle.checked_law.specs.Runs.{CheckedCodeIsCode}
 use Rattle.checked_law.specs.Small.{KeepsSizes, ProgramsThatKeepSizesAreSmall, GeneratedCodeIsCode}
 use Rattle.checked_law.proofs.Texts.{IsPlainOf, plain_of_placed}
 
-not_over : (limit n : ℕ) → (limit < n → ⊥) → n ≤ limit
+pub not_over : (limit n : ℕ) → (limit < n → ⊥) → n ≤ limit
 not_over limit n never = elim (cases_lt limit n) [ inl over ↦ absurd (never over) | inr within ↦ omega (arith, within) ]
 
 code_fits : (g : Prog Place) → KeepsSizes g → code_length (plain g) ≤ 65535

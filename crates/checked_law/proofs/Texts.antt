@@ -2,11 +2,11 @@
 use Rattle.std.proofs.Common.{◌≡◌, ◌∙◌, ◌⊎◌, ◌++◌, ℕ, suc, List, [], ◌∷◌, map, refl, ap, sym, subst, inl, inr}
 use Rattle.std.proofs.lemmas.List.{map-append}
 use Rattle.std.specs.Prelude.{Contains}
+use Rattle.base.proofs.Members.{at_front, behind, none_in, front_or_behind}
 use Rattle.syntax_tree.specs.Placed.{Routine, Decl, constant, device, event, routine, monitor, process, plain_routine, plain_decl}
 use Rattle.syntax_tree.specs.declared.place.Place.{Place}
 use Rattle.code_spec.specs.Layout.{Owner, by_program, by_process, by_monitor}
 use Rattle.code_spec.specs.Numbering as numbering
-use Rattle.code_names_law.proofs.Lists.{contains_here, contains_later, nothing_in, contains_cases}
 use Rattle.code_size.specs.Rules.{Text, texts_of, texts_from}
 
 abbrev pub plain_text : Text → numbering.Text
@@ -38,12 +38,12 @@ pub record IsPlainOf (ts : List Text) (u : numbering.Text) : Type 0 where
   pub is : plain_text text ≡ u
 
 plain_listed : (ts : List Text) (u : numbering.Text) → Contains (map plain_text ts) u → IsPlainOf ts u
-plain_listed [] u c = absurd (nothing_in u c)
-plain_listed (t ∷ ts) u c = by (λ h. plain_listed ts u h) (contains_cases (plain_text t) u (map plain_text ts) c)
+plain_listed [] u c = absurd (none_in u c)
+plain_listed (t ∷ ts) u c = by (λ h. plain_listed ts u h) (front_or_behind (plain_text t) (map plain_text ts) u c)
   where
     by : (Contains (map plain_text ts) u → IsPlainOf ts u) → (plain_text t ≡ u) ⊎ Contains (map plain_text ts) u → IsPlainOf (t ∷ ts) u
-    by rest (inl e) = record { text = t; listed = contains_here t ts; is = e }
-    by rest (inr h) = let r = rest h in record { text = r.text; listed = contains_later t r.text ts r.listed; is = r.is }
+    by rest (inl e) = record { text = t; listed = at_front t ts; is = e }
+    by rest (inr h) = let r = rest h in record { text = r.text; listed = behind t ts r.text r.listed; is = r.is }
 
 -- each text of the plain declarations is the plain form of one where it stands
 pub plain_of_placed : (ds : List (Decl Place)) (u : numbering.Text) → Contains (numbering.texts_from 0 0 (map plain_decl ds)) u → IsPlainOf (texts_from 0 0 ds) u

@@ -2,6 +2,7 @@
 use Rattle.std.proofs.Common.{◌≡◌, Bool, true, false, if◌then◌else◌, List, [], ◌∷◌, ◌++◌, Option, Some, None, ap, sym, ◌∙◌, subst, true≢false}
 use Rattle.std.specs.Prelude.{Contains}
 use Rattle.std.proofs.lemmas.Option.{same_Some, none-some}
+use Rattle.base.proofs.Members.{behind, at_front}
 use Rattle.syntax_tree.specs.Plain.{Name}
 use Rattle.syntax_tree.specs.Placed.{Scalar, Expr, literal, truth, variable, element, call, minus, negation, paren, row, Exprs, no_exprs, exprs, Operands, no_operands, operand, Ref, whole, part, Stmt, assign, assign_entry, assign_empty, perform, perform_entry, when, when_else, loop, exit_when, get, put, wait, signal, broadcast, except, assert, Stmts, no_stmts, stmts, Routine, Prog, plain_expr, plain_exprs, plain_operands, plain_ref, plain_stmt, plain_stmts, plain_answers, plain_routine}
 use Rattle.syntax_tree.specs.declared.place.Place.{Place}
@@ -14,8 +15,6 @@ use Rattle.code_spec.specs.Numbering.{Called, calls_routine, calls_entry}
 use Rattle.code_spec.specs.Numbering as call_of
 use Rattle.static_calls.specs.Calls.{called, expr_calls, exprs_calls, operands_calls, ref_calls, stmt_calls, stmts_calls, answer_calls, routine_calls}
 use Rattle.static_semantics.specs.Places.{IsFound, NamesFound}
-use Rattle.static_calls.proofs.CallEdges.{cons-tail}
-use Rattle.wellformed_calls_law.proofs.Lists.{cons-head}
 use Rattle.wellformed_calls_law.proofs.WellformedCallsBehind.{behind_constant, at_body}
 use Rattle.code_names_law.specs.Called.{AllCalled}
 use Rattle.code_names_law.proofs.Finding.{called_both}
@@ -66,10 +65,10 @@ module _ (g : Prog Place) (found : NamesFound g) (P : Called → Type 0) (total 
   call_leads site known x q more rest ns fs = known.routines x f.declared f.meant f.suited there
     where
       f : IsFound g q want_is.Routine (site.means x)
-      f = found.uses x q want_is.Routine (site.means x) (ns (used x q want_is.Routine (site.means x)) (cons-head (used x q want_is.Routine (site.means x)) more))
+      f = found.uses x q want_is.Routine (site.means x) (ns (used x q want_is.Routine (site.means x)) (at_front (used x q want_is.Routine (site.means x)) more))
 
       there : Contains total f.declared.place
-      there = fs f.declared.place (subst (λ o. Contains (called o rest) f.declared.place) (sym f.found) (cons-head f.declared.place rest))
+      there = fs f.declared.place (subst (λ o. Contains (called o rest) f.declared.place) (sym f.found) (at_front f.declared.place rest))
 
   entry_leads : (site : Site) → Knows site → (mon : Name) (q : Place) (entry : Name) (t : Place) (more : List Occurrence) (rest : List Place)
       → AreNames g (entry_names site mon q entry t more) → AllIn total (called (declared_at (names g) t) rest) → P (calls_entry mon entry)
@@ -77,14 +76,14 @@ module _ (g : Prog Place) (found : NamesFound g) (P : Called → Type 0) (total 
     where
       f : IsFound g t want_is.Entry (through site mon entry)
       f = found.uses entry t want_is.Entry (through site mon entry)
-          (names-rest g (uses site mon q want_is.Monitor) (used entry t want_is.Entry (through site mon entry) ∷ more) ns (used entry t want_is.Entry (through site mon entry)) (cons-head (used entry t want_is.Entry (through site mon entry)) more))
+          (names-rest g (uses site mon q want_is.Monitor) (used entry t want_is.Entry (through site mon entry) ∷ more) ns (used entry t want_is.Entry (through site mon entry)) (at_front (used entry t want_is.Entry (through site mon entry)) more))
 
       there : Contains total f.declared.place
-      there = fs f.declared.place (subst (λ o. Contains (called o rest) f.declared.place) (sym f.found) (cons-head f.declared.place rest))
+      there = fs f.declared.place (subst (λ o. Contains (called o rest) f.declared.place) (sym f.found) (at_front f.declared.place rest))
 
   called_rest : (o : Option Place) (rest : List Place) → AllIn total (called o rest) → AllIn total rest
   called_rest None rest fs = fs
-  called_rest (Some q) rest fs = λ r listed. fs r (cons-tail q rest r listed)
+  called_rest (Some q) rest fs = λ r listed. fs r (behind q rest r listed)
 
   mutual
     expr_leads : (site : Site) → Knows site → (e : Expr Place) (more : List Occurrence) (rest : List Place) → AreNames g (expr_names site e more) → AllIn total (expr_calls (declared_at (names g)) e rest)

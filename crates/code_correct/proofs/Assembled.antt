@@ -1,7 +1,9 @@
 -- The code of each process of a well-formed program is faithful.
 use Rattle.std.specs.Prelude.{◌≡◌, ◌<◌, ◌⊎◌, ◌||◌, ◌&&◌, ℕ, Bool, true, false, not, List, [], ◌∷◌, ◌++◌, Option, Some, None, slice_get, option_map, is_some, nat_eq}
 use Rattle.std.proofs.Common.{refl, sym, ◌∙◌, ap, subst, inl, inr}
-use Rattle.std.proofs.lemmas.Bool.{eq-eqb}
+use Rattle.std.proofs.lemmas.Bool.{eq-eqb, or_cases, false≢true}
+use Rattle.std.proofs.lemmas.Option.{none-some, same_Some}
+use Rattle.base.proofs.Lists.{one_of}
 use Rattle.syntax_tree.specs.Plain.{Name, Answers, Routine, Monitor, Handler, Stmts, Process, Prog}
 use Rattle.source_semantics.specs.Names.{named, routines, monitors, processes, monitor_number, condition_number, routine_count}
 use Rattle.source_semantics.specs.Run.{Found, of_program, of_process, of_monitor, routine_named, entry_name, or_else}
@@ -17,7 +19,7 @@ use Rattle.code_spec.specs.Boundary.{Compiled}
 use Rattle.code_simulation.specs.Process.{setting_of, ProperHandler}
 use Rattle.code_simulation.proofs.FaithfulLemmas.{emitted_is_faithful}
 use Rattle.code_simulation.specs.Kept.{KeepsRules}
-use Rattle.code_names_law.proofs.Numbers.{found_there, monitor_there, of_list}
+use Rattle.code_names_law.proofs.Numbers.{found_there, monitor_there, of_list, or_true}
 use Rattle.code_simulation.proofs.Emitted.{code_is_emitted}
 use Rattle.wellformed.specs.Here.{Here, own_of, is_function_at, in_routine, in_process}
 use Rattle.wellformed.specs.Statements.{AllFit}
@@ -25,25 +27,18 @@ use Rattle.wellformed.specs.WellFormed.{IsWellFormed, RoutineFits, AnswersFit, P
 use Rattle.code_names_law.specs.Ruled.{all_in, runs_of, NamesApart}
 use Rattle.code_correct.specs.Ruled.{ProgramIsFaithful}
 use Rattle.code_names_law.proofs.Mirror.{here_of, OwnerKnown, routine_at}
-use Rattle.code_names_law.proofs.RuledTexts.{AgreeAll, Whole, Place, UsesIn, stmts_proper, none_some, some_same, false_true}
-use Rattle.code_names_law.proofs.Rules.{one_of, stmts_below, stmts_quiet, process_agrees, all_agree, program_all_agree, not_monitor, program_no_monitor, monitor_same, answers_below, run_uses, function_runs}
+use Rattle.code_names_law.proofs.RuledTexts.{AgreeAll, Whole, Place, UsesIn, stmts_proper}
+use Rattle.code_names_law.proofs.Rules.{stmts_below, stmts_quiet, process_agrees, all_agree, program_all_agree, not_monitor, program_no_monitor, monitor_same, answers_below, run_uses, function_runs}
 use Rattle.code_correct.proofs.Rules.{routine_proper}
 use Rattle.code_names_law.proofs.Tables.{monitor_row, condition_row}
 use Rattle.code_names_law.proofs.Turns.{turns_count}
+use Rattle.code_names_law.proofs.Rows.{not_process}
 
 -- ---- numbers among numbers
 
-or_true : (b : Bool) → b || true ≡ true
-or_true true = refl
-or_true false = refl
-
-or_either : (a b : Bool) → a || b ≡ true → (a ≡ true) ⊎ (b ≡ true)
-or_either true b h = inl refl
-or_either false b h = inr h
-
 includes_front : (k : ℕ) (xs ys : List ℕ) → includes k xs ≡ true → includes k (xs ++ ys) ≡ true
-includes_front k [] ys h = absurd (false_true h)
-includes_front k (x ∷ xs) ys h = by_either (or_either (nat_eq x k) (includes k xs) h) (λ e. includes_front k xs ys e)
+includes_front k [] ys h = absurd (false≢true h)
+includes_front k (x ∷ xs) ys h = by_either (or_cases (nat_eq x k) (includes k xs) h) (λ e. includes_front k xs ys e)
   where
     by_either : (nat_eq x k ≡ true) ⊎ (includes k xs ≡ true) → (includes k xs ≡ true → includes k (xs ++ ys) ≡ true) → nat_eq x k || includes k (xs ++ ys) ≡ true
     by_either (inl e) l = ap (λ b. b || includes k (xs ++ ys)) e
@@ -75,7 +70,7 @@ module _ (g : Prog) (p : Process) (fits : ProcessFits g p) where
   found_fits f x is = by_found (named entry_name f p.routines) (named entry_name f (routines g)) refl refl is
     where
       same : (a : Found) → Some a ≡ Some x → a ≡ x
-      same a h = some_same a x h
+      same a h = same_Some a x h
 
       by_found : (a b : Option Routine) → named entry_name f p.routines ≡ a → named entry_name f (routines g) ≡ b → or_else (option_map (λ r. record { home = of_process; routine = r }) a) (option_map (λ r. record { home = of_program; routine = r }) b) ≡ Some x
           → RoutineFits g p x.home x.routine × (((x.home ≡ of_process) × (named entry_name f p.routines ≡ Some x.routine)) ⊎ ((x.home ≡ of_program) × (named entry_name f (routines g) ≡ Some x.routine)))
@@ -87,10 +82,7 @@ module _ (g : Prog) (p : Process) (fits : ProcessFits g p) where
         subst (λ y. RoutineFits g p y.home y.routine) (same (record { home = of_program; routine = r }) h) (one_of (λ y. RoutineFits g p of_program y) (routines g) (found_there f (routines g) r eb).0 r fits.shared (found_there f (routines g) r eb).1),
         inr (ap (λ y. y.home) (sym (same (record { home = of_program; routine = r }) h)), eb ∙ ap (λ y. Some y.routine) (same (record { home = of_program; routine = r }) h)),
       )
-      by_found None None ea eb h = absurd (none_some x h)
-
-not_process : of_program ≡ of_process → ⊥
-not_process e = cc
+      by_found None None ea eb h = absurd (none-some x h)
 
 not_function : (an : Option Answers) (a : Answers) → an ≡ Some a → not (is_some an) ≡ false
 not_function an a e = ap (λ y. not (is_some y)) e
@@ -177,7 +169,7 @@ module _ (c : Compiled) (form : IsWellFormed c.program) (names : NamesApart c.pr
   entry_keeps mon entry t is = by_found (named (λ k. k.name) mon (monitors c.program)) refl is.in_code
     where
       by_found : (d : Option Monitor) → named (λ k. k.name) mon (monitors c.program) ≡ d → entry_of (monitor_number c.program mon) d entry ≡ Some t → IsProper e t (routine_count c.program)
-      by_found None there h = absurd (none_some t h)
+      by_found None there h = absurd (none-some t h)
       by_found (Some d) there h =
           let m : ℕ = monitor_number c.program mon in
           let l : (t.owner ≡ by_monitor (monitor_number c.program mon)) × (named (λ k. k.name) entry d.entries ≡ Some t.routine) = of_list (by_monitor (monitor_number c.program mon)) d.entries entry t h in

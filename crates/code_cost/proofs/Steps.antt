@@ -30,7 +30,7 @@ owner_inside [] c = refl
 owner_inside (l ∷ ls) c = owner_inside ls (within c l.name l.word)
 
 -- an element that is there, and what is left from it on
-at_place : {X : Type 0} (xs : List X) (i : ℕ) → i < length xs → (x : X) × (slice_get xs i ≡ Some x) × (drop i xs ≡ x ∷ drop (i + 1) xs)
+pub at_place : {X : Type 0} (xs : List X) (i : ℕ) → i < length xs → (x : X) × (slice_get xs i ≡ Some x) × (drop i xs ≡ x ∷ drop (i + 1) xs)
 at_place xs i within = elim (slice_get_cases xs i).1 [
   | inl w ↦ (w.0, w.2, drop_more xs i w.0 w.1 ∙ ap (λ y. y ∷ drop (i + 1) xs) w.3)
   | inr w ↦ absurd (omega arith)

@@ -1,6 +1,6 @@
 -- At each level above its number the same is known of a routine, costs once capped.
 use Rattle.std.specs.Prelude.{◌≡◌, ◌≤◌, ◌<◌, ℕ, zero, suc, Some, slice_get}
-use Rattle.std.proofs.Common.{refl, sym, subst, ◌∙◌, arith}
+use Rattle.std.proofs.Common.{sym, subst, ◌∙◌, arith}
 use Rattle.std.proofs.lemmas.Option.{slice_get_within}
 use Rattle.syntax_tree.specs.Plain.{Prog}
 use Rattle.source_semantics.specs.Names.{routine_count}
@@ -11,14 +11,7 @@ use Rattle.code_cost_spec.specs.Levels.{routine_names, calls_at, calls_of, cost_
 use Rattle.code_measures.specs.Like.{Like}
 use Rattle.code_measures.specs.Declared.{IsBelow, IsSound}
 use Rattle.code_measures.proofs.Likes.{Same, CallsSame, routine_same}
-
-cost_at : (n : ℕ) (g : Prog) (t : Text) → (calls_at (suc n) g).cost t ≡ routine_cost g (routine_names g t) (calls_at n g) t
-unfolding calls_at
-cost_at n g t = refl
-
-height_at : (n : ℕ) (g : Prog) (t : Text) → (calls_at (suc n) g).height t ≡ routine_height g t.owner (calls_at n g) t.routine
-unfolding calls_at
-height_at n g t = refl
+use Rattle.code_measures.proofs.Rows.{cost_at, height_at}
 
 abbrev AtLevels : Prog → Text → (n m : ℕ) → Type 0
 AtLevels g t n m = Same ((calls_at n g).cost t) ((calls_at m g).cost t) ((calls_at n g).height t) ((calls_at m g).height t)

@@ -18,20 +18,17 @@ use Rattle.code_measures.specs.Sound.{SoundAnswers, SoundRoutine, SoundHandler, 
 use Rattle.codegen_spec.specs.Told.{range_told}
 use Rattle.code_cost.specs.declared.measure.Measure.{Measure}
 use Rattle.code_cost.specs.declared.measure.Known.{Known}
-use Rattle.code_cost.specs.Sums.{held, nothing, of, joined}
+use Rattle.code_cost.specs.Sums.{held, of, joined}
 use Rattle.code_cost.specs.Forms.{check, stmts_size}
 use Rattle.code_cost.specs.Parts.{answers_size, inner_size, frame_size, stay_time, row_of, handler_size, loop_words, part_size, process_size}
 use Rattle.code_cost_law.specs.Measured.{measured, IsRow, AllBoundsFit}
 use Rattle.code_cost_law.proofs.Sums.{same, joined_is, of_is, measured_same}
 use Rattle.code_cost_law.proofs.Exprs.{check_is}
-use Rattle.code_cost_law.proofs.Stmts.{expressions, statements}
+use Rattle.code_cost_law.proofs.Stmts.{expressions, statements, none}
 use Rattle.code_cost.specs.Sizes.{IsRowOf, IsSizeOf}
 use Rattle.code_cost_law.specs.Defined.{HandlerLoopsFit}
 
 -- ---- ends
-
-none : nothing ≡ measured (run 0) 0 0
-none = same (omega arith) (omega arith) (omega arith) (omega arith) (omega arith)
 
 -- a routine with what enters and leaves it
 framed : (o : Owner) (c : Cost) (h n : ℕ) → joined (measured c h n) (frame_size o) ≡ measured (longer (4 + monitor_ticks o) c) h (n + monitor_length o + 1)

@@ -1,12 +1,13 @@
 -- Each row of the table is that of its routine.
 use Rattle.std.specs.Prelude.{◌≡◌, ◌<◌, ◌+◌, ◌++◌, ℕ, zero, suc, List, [], ◌∷◌, Some, length, take, slice_get}
 use Rattle.std.proofs.Common.{refl, sym, ap, subst, ◌∙◌, arith}
+use Rattle.base.proofs.Lists.{take_get}
 use Rattle.syntax_tree.specs.Plain.{Prog}
 use Rattle.valid_image.specs.Tables.{table}
 use Rattle.code_spec.specs.Numbering.{Text, numbered, number_of}
 use Rattle.code_cost_spec.specs.Levels.{calls_of}
 use Rattle.code_measures.specs.Declared.{IsBelow, IsSound}
-use Rattle.code_measures.proofs.Firsts.{take_get, table_length, row_is}
+use Rattle.code_measures.proofs.Firsts.{table_length, row_is}
 use Rattle.code_measures.proofs.Maps.{map_routine}
 use Rattle.code_cost.specs.declared.measure.Known.{Known}
 use Rattle.code_cost.specs.Sums.{held, row_or}

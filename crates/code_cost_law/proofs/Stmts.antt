@@ -27,7 +27,7 @@ use Rattle.code_cost_law.specs.Measured.{measured, IsRow, BoundsFit, AllBoundsFi
 use Rattle.code_cost_law.proofs.Sums.{same, joined_is, above_is, forked_is, looped_is, of_is, measured_same}
 use Rattle.code_cost_law.proofs.Exprs.{Alike, alike_spot, check_is, expr_is, args_is, one_more, named_call}
 
-none : nothing ≡ measured (run 0) 0 0
+pub none : nothing ≡ measured (run 0) 0 0
 none = same (omega arith) (omega arith) (omega arith) (omega arith) (omega arith)
 
 -- ---- stores

@@ -3,6 +3,8 @@ use Rattle.std.proofs.Common.{◌≡◌, ◌<◌, ◌+◌, ◌⊎◌, ◌++◌, 
 use Rattle.std.specs.Prelude.{ℤ, slice_get, slice_set, cond, nat_eq, not, ◌&&◌, unwrap_or}
 use Rattle.std.proofs.lemmas.Bool.Decides.{nat_tests}
 use Rattle.std.proofs.lemmas.Option.{slice_get_within}
+use Rattle.std.proofs.lemmas.Bool.{cases_eq}
+use Rattle.base.proofs.Lists.{get_set, get_other, one_some, some_at}
 use Rattle.base.specs.declared.event.Event.{Event}
 use Rattle.base.specs.declared.event.Act.{Act}
 use Rattle.base.specs.declared.event.Act.TheVariants as act
@@ -27,7 +29,7 @@ use Rattle.machine_safety_spec.specs.Queues.{times, AreQueued}
 use Rattle.code_spec.specs.Boundary.{Compiled, View, view, kept, view_raised, job_raised, Stays, Enters, Leaves, Pauses, Fails, Finishes, Agrees}
 use Rattle.code_lifting.specs.Related.{Whole, Relations, own, inside_of, monitor_vars, view_of, Same, Related, IsSame}
 use Rattle.code_lifting.specs.Compiled.{IsCompiled}
-use Rattle.code_lifting.proofs.Lists.{same_or_not, get_set, get_other, one_some, Changed, changed_changes, not_changed, changed_again, some_at, queue_is, changed_queue}
+use Rattle.code_lifting.proofs.Lists.{Changed, changed_changes, not_changed, changed_again, queue_is, changed_queue}
 use Rattle.code_lifting.proofs.Touch.{inside_is}
 use Rattle.code_lifting.proofs.Moves.{saving, saved_holds, Saved, inside_saved, at_saved, monitor_saved, goes_on, outside_it, leaves_it, enters_it, nobody_inside, words_of, IsBusy, busy_waits, wake_one, wake_whole}
 
@@ -214,7 +216,7 @@ module _ (w : Whole) (r : Relations) (compiled : IsCompiled w r) (script : Scrip
     by (suc x) is some_left = busy_waits e x (slice_get s.threads i) (sym is ∙ queued e i)
 
   busy_after : (i : ℕ) (new : target.Job) → IsBusy (slice_get s.threads i) → IsBusy (slice_get (slice_set s.threads k (Ready new)) i)
-  busy_after i new busy = elim (same_or_not k i) [
+  busy_after i new busy = elim (cases_eq k i) [
     | inl is ↦ subst (λ (x : ℕ). IsBusy (slice_get (slice_set s.threads k (Ready new)) x)) is (subst IsBusy (sym (get_set s.threads k (Ready new) (Ready job) at_thread)) tt)
     | inr differ ↦ subst IsBusy (sym (get_other s.threads k i (Ready new) differ)) busy
   ]

@@ -2,6 +2,7 @@
 use Rattle.std.proofs.Common.{◌≡◌, ◌≤◌, ◌+◌, ℕ, zero, suc, List, [], ◌∷◌, Option, Some, None, length, arith, refl, ap, sym, subst, ◌∙◌}
 use Rattle.std.specs.Prelude.{slice_get}
 use Rattle.std.proofs.lemmas.Option.{slice_get_within}
+use Rattle.base.proofs.Lists.{some_at}
 use Rattle.syntax_tree.specs.Plain.{Prog, Activation, periodic, at_event}
 use Rattle.syntax_tree.specs.Plain as tree
 use Rattle.source_semantics.specs.Names.{processes, monitors, frame_of}
@@ -17,7 +18,6 @@ use Rattle.code_simulation_spec.specs.Memory.{Holds, opens_of}
 use Rattle.code_spec.specs.Boundary.{View, IsFaithful}
 use Rattle.code_lifting.specs.Related.{Whole, Relations}
 use Rattle.code_lifting.specs.Compiled.{IsTimed, IsProcessOf, IsCompiled}
-use Rattle.code_lifting.proofs.Lists.{some_at}
 use Rattle.machine_semantics.specs.Effect.{Own}
 use Rattle.code_lifting.specs.Image.{FreeHolds, RestHolds, IsImageOf, compiled_of}
 use Rattle.code_lifting.proofs.Words.{IsMonitor, monitor_at, same_length, from_base, get_zero, words_apart, reaches, vars_hold, vars_still, conditions_are}

@@ -1,8 +1,9 @@
 -- What the devices of the machine hold is what the script set last.
 use Rattle.std.proofs.Common.{◌≡◌, ◌≤◌, ◌+◌, ◌*◌, inl, inr, ℕ, zero, suc, List, [], ◌∷◌, Option, Some, None, length, arith, refl, ap, sym, subst, ◌∙◌, true, false, Bool, map}
 use Rattle.std.specs.Prelude.{ℤ, pos, slice_get, slice_set, cond, nat_eq, nat_lt, nat_le, ◌&&◌}
-use Rattle.std.proofs.lemmas.Bool.{cases_Bool, cases_lt}
+use Rattle.std.proofs.lemmas.Bool.{cases_Bool, cases_lt, cases_eq}
 use Rattle.std.proofs.lemmas.Bool.Decides.{nat_tests}
+use Rattle.base.proofs.Lists.{one_some, get_other}
 use Rattle.base.specs.declared.event.Act.TheVariants as act
 use Rattle.source_semantics.specs.Starts.{Script, Line, sets, occurs, value_set, device_value}
 use Rattle.machine_semantics.specs.Image.{Image, Process}
@@ -13,7 +14,6 @@ use Rattle.machine_semantics.specs.Starts.{Started, release, release_thread, tim
 use Rattle.machine_semantics.specs.Starts as start
 use Rattle.machine_semantics.specs.Tick.{Candidate, settle, outcome, owned_of, run_thread, run_picked}
 use Rattle.code_lifting.specs.Compiled.{line_of, script_of, IsFrom}
-use Rattle.code_lifting.proofs.Lists.{same_or_not, one_some, get_other}
 
 -- the value set last before a tick, or the one before where there is none
 abbrev pub value_before : ℕ → ℕ → ℤ → List Line → ℤ
@@ -174,7 +174,7 @@ set_lines_at t d w (sets u e v ∷ ls) ds now x at = set_lines_at t d (cond (nat
 
   by : (b : Bool) (y : ℤ) → slice_get (cond b (slice_set ds e v) ds) d ≡ Some y → cond (nat_eq e d && b) v w ≡ y
   by false y at_y = ap (λ (b : Bool). cond b v w) (never (nat_eq e d)) ∙ now y at_y
-  by true y at_y = elim (same_or_not e d) [
+  by true y at_y = elim (cases_eq e d) [
     | inl same ↦
         ap (λ (n : ℕ). cond (nat_eq n d && true) v w) same ∙ ap (λ (b : Bool). cond (b && true) v w) (itself d)
         ∙ set_here ds d v y (subst (λ (n : ℕ). slice_get (slice_set ds n v) d ≡ Some y) same at_y)

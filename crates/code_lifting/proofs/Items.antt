@@ -1,6 +1,7 @@
 -- The start events that may be due at a tick, in order, as a list that no configuration changes: releases and time-outs.
 use Rattle.std.proofs.Common.{◌≡◌, ◌++◌, inl, inr, ℕ, suc, List, [], ◌∷◌, Option, Some, refl, ap, sym, subst, ◌∙◌, true, false, Bool, append_assoc}
 use Rattle.std.specs.Prelude.{slice_get, cond, nat_eq, ◌&&◌, flat_map}
+use Rattle.std.proofs.lemmas.Bool.{cases_eq}
 use Rattle.base.specs.declared.event.Event.{Event}
 use Rattle.syntax_tree.specs.Plain as tree
 use Rattle.syntax_tree.specs.Plain.{Prog}
@@ -8,7 +9,7 @@ use Rattle.source_semantics.specs.Names.{processes}
 use Rattle.source_semantics.specs.Config.{Job, Config}
 use Rattle.source_semantics.specs.Ranks.{by_rank}
 use Rattle.source_semantics.specs.Starts.{Script, Line, sets, occurs, due, release_missing, releases_by, event_releases, periodic_releases, time_out, time_outs, waits_for_event, is_due}
-use Rattle.code_lifting.proofs.Lists.{same_or_not, Changed}
+use Rattle.code_lifting.proofs.Lists.{Changed}
 
 pub data Item : Type 0 where
   rel : (k : ℕ) → Item
@@ -49,14 +50,14 @@ pub quiet_changed : (t : ℕ) (jobs jobs' : List Job) (k : ℕ) (j : Job) (xs : 
     → Quiet t jobs xs → Quiet t jobs' xs
 quiet_changed t jobs jobs' k j [] js released timed q = tt
 quiet_changed t jobs jobs' k j (rel i ∷ xs) js released timed q = (
-  elim (same_or_not k i) [
+  elim (cases_eq k i) [
     | inl is ↦ subst (λ (x : ℕ). release_missing t x (slice_get jobs' x) ≡ []) is (ap (λ (o : Option Job). release_missing t k o) js.here ∙ released (subst (λ (x : ℕ). release_missing t x (slice_get jobs x) ≡ []) (sym is) q.0))
     | inr differ ↦ ap (λ (o : Option Job). release_missing t i o) (js.others i differ) ∙ q.0
   ],
   quiet_changed t jobs jobs' k j xs js released timed q.1,
 )
 quiet_changed t jobs jobs' k j (out i ∷ xs) js released timed q = (
-  elim (same_or_not k i) [
+  elim (cases_eq k i) [
     | inl is ↦ subst (λ (x : ℕ). time_out t x (slice_get jobs' x) ≡ []) is (ap (λ (o : Option Job). time_out t k o) js.here ∙ timed)
     | inr differ ↦ ap (λ (o : Option Job). time_out t i o) (js.others i differ) ∙ q.0
   ],

@@ -1,16 +1,11 @@
 -- Lists in which the thing at one place changes.
-use Rattle.std.proofs.Common.{◌≡◌, ◌<◌, ◌⊎◌, inl, inr, ℕ, zero, suc, List, [], ◌∷◌, Option, Some, None, length, arith, refl, ap, ◌∙◌, true, false, Bool, length-set}
-use Rattle.std.specs.Prelude.{slice_get, slice_set, nat_eq, position, unwrap_or}
+use Rattle.std.proofs.Common.{◌≡◌, inl, inr, ℕ, zero, suc, List, [], ◌∷◌, Option, Some, None, length, arith, refl, ap, ◌∙◌, true, false, Bool, length-set}
+use Rattle.std.specs.Prelude.{slice_get, slice_set, position, unwrap_or}
 use Rattle.std.proofs.lemmas.Bool.{cases_Bool}
 use Rattle.std.proofs.lemmas.Bool.Decides.{nat_tests}
+use Rattle.base.proofs.Lists.{get_set, get_other}
 use Rattle.source_semantics.specs.Config.{changed}
 use Rattle.machine_semantics.specs.Starts.{queue_of}
-
-pub same_or_not : (j k : ℕ) → (j ≡ k) ⊎ (j ≡ k → ⊥)
-same_or_not j k = elim (cases_Bool (nat_eq j k)) [ inl is ↦ inl (grind (arith, nat_tests, is)) | inr is ↦ inr (λ same. absurd (grind (arith, nat_tests, is, same))) ]
-
-pub one_some : {A : Type 0} {o : Option A} {x y : A} → o ≡ Some x → o ≡ Some y → x ≡ y
-one_some p q = cc
 
 pub none_some : {A : Type 0} {o : Option A} {x : A} → o ≡ None → o ≡ Some x → ⊥
 none_some p q = cc
@@ -20,18 +15,6 @@ pub record Changed {A : Type 0} (before after : List A) (k : ℕ) (x : A) : Type
   pub here : slice_get after k ≡ Some x
   pub others : (i : ℕ) → (k ≡ i → ⊥) → slice_get after i ≡ slice_get before i
   pub many : length after ≡ length before
-
-pub get_set : {A : Type 0} (xs : List A) (k : ℕ) (x y : A) → slice_get xs k ≡ Some y → slice_get (slice_set xs k x) k ≡ Some x
-get_set [] k x y at = absurd cc
-get_set (z ∷ zs) zero x y at = refl
-get_set (z ∷ zs) (suc k) x y at = get_set zs k x y at
-
-pub get_other : {A : Type 0} (xs : List A) (j k : ℕ) (x : A) → (j ≡ k → ⊥) → slice_get (slice_set xs j x) k ≡ slice_get xs k
-get_other [] j k x differ = refl
-get_other (z ∷ zs) zero zero x differ = absurd (differ refl)
-get_other (z ∷ zs) zero (suc k) x differ = refl
-get_other (z ∷ zs) (suc j) zero x differ = refl
-get_other (z ∷ zs) (suc j) (suc k) x differ = get_other zs j k x (λ same. differ (ap suc same))
 
 pub set_changes : {A : Type 0} (xs : List A) (k : ℕ) (x y : A) → slice_get xs k ≡ Some y → Changed xs (slice_set xs k x) k x
 set_changes xs k x y at = record { here = get_set xs k x y at; others = λ i differ. get_other xs k i x differ; many = length-set xs k x }
@@ -61,11 +44,6 @@ not_changed xs k x at = record { here = at; others = λ i differ. refl; many = r
 
 pub changed_again : {A : Type 0} (xs ys zs : List A) (k : ℕ) (x y : A) → Changed xs ys k x → Changed ys zs k y → Changed xs zs k y
 changed_again xs ys zs k x y a b = record { here = b.here; others = λ i differ. b.others i differ ∙ a.others i differ; many = b.many ∙ a.many }
-
-pub some_at : {A : Type 0} (xs : List A) (k : ℕ) → k < length xs → (x : A) × (slice_get xs k ≡ Some x)
-some_at [] k below = absurd (omega arith)
-some_at (x ∷ xs) zero below = (x, refl)
-some_at (x ∷ xs) (suc k) below = some_at xs k (omega arith)
 
 -- ---- queues
 

@@ -1,11 +1,11 @@
 -- The image of the example is that of its program.
 use Rattle.std.proofs.Common.{◌≡◌, ℕ, zero, suc, Some, refl, ap, sym}
 use Rattle.std.specs.Prelude.{slice_get, unwrap_or}
+use Rattle.base.proofs.Lists.{one_some}
 use Rattle.source_semantics.specs.Ranks.{reached, rank, ceiling}
 use Rattle.machine_semantics.specs.Image.{Process, Monitor}
 use Rattle.code_spec.specs.Numbering.{numbered, visit, number_of}
 use Rattle.code_spec.specs.Compiled.{IsCodeOf}
-use Rattle.code_lifting.proofs.Lists.{one_some}
 use Rattle.code_lifting.specs.Example.{meeting, MeetingIsImage}
 
 code_is : (over : ℕ) → IsCodeOf (meeting over).program (meeting over).image

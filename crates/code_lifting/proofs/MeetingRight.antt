@@ -1,6 +1,7 @@
 -- The code of the example is right: each process follows the source meaning.
 use Rattle.std.proofs.Common.{◌≡◌, ◌*◌, ℕ, zero, suc, List, [], ◌∷◌, Option, Some, None, refl, sym, subst, true, false, Bool}
 use Rattle.std.specs.Prelude.{ℤ, pos, slice_get}
+use Rattle.base.proofs.Lists.{one_some}
 use Rattle.machine_isa.specs.declared.instr.Instr.TheVariants as i
 use Rattle.syntax_tree.specs.Plain.{Prog, no_stmts, periodic, literal_constant}
 use Rattle.syntax_tree.specs.Plain as tree
@@ -17,7 +18,6 @@ use Rattle.machine_semantics.specs.Effect as effects
 use Rattle.machine_semantics_law.specs.Example.{alone}
 use Rattle.code_spec.specs.Boundary.{Compiled, View, view, view_released, view_raised, next_of, Agrees}
 use Rattle.code_spec.specs.Follows.{Follows, IsRight}
-use Rattle.code_lifting.proofs.Lists.{one_some}
 use Rattle.code_lifting.specs.Image.{FreeHolds, RestHolds, compiled_of}
 use Rattle.code_lifting.specs.Example.{meeting, MeetingIsRight}
 
@@ -26,12 +26,12 @@ nth [] k = alone 0 0 0 0 Nil
 nth (p ∷ ps) zero = p
 nth (p ∷ ps) (suc k) = nth ps k
 
-abbrev nth_text : List tree.Process → ℕ → tree.Process
+abbrev pub nth_text : List tree.Process → ℕ → tree.Process
 nth_text [] k = record { name = []; activation = periodic (literal_constant false 0) None None; vars = []; routines = []; body = no_stmts; handler = None }
 nth_text (p ∷ ps) zero = p
 nth_text (p ∷ ps) (suc k) = nth_text ps k
 
-abbrev text : ℕ → tree.Process
+abbrev pub text : ℕ → tree.Process
 text k = nth_text (processes signalled_wait) k
 
 abbrev g : Prog

@@ -4,6 +4,8 @@ use Rattle.std.specs.Prelude.{ℤ, slice_get, slice_set, position, cond, nat_eq,
 use Rattle.std.specs.List.{position_or_len}
 use Rattle.std.proofs.lemmas.Bool.Decides.{nat_tests}
 use Rattle.std.proofs.lemmas.Option.{slice_get_within}
+use Rattle.std.proofs.lemmas.Bool.{cases_eq}
+use Rattle.base.proofs.Lists.{get_set, get_other, one_some, some_at}
 use Rattle.syntax_tree.specs.Plain as tree
 use Rattle.source_semantics.specs.Names.{processes}
 use Rattle.source_semantics.specs.Store.{Vars}
@@ -19,7 +21,7 @@ use Rattle.machine_safety_spec.specs.Queues.{times, waits_on}
 use Rattle.code_spec.specs.Boundary.{view, kept, SameOutside}
 use Rattle.code_lifting.specs.Related.{Whole, Relations, own, inside_of, monitor_vars, Same, Related}
 use Rattle.code_lifting.specs.Compiled.{IsCompiled}
-use Rattle.code_lifting.proofs.Lists.{same_or_not, get_set, get_other, one_some, Changed, set_changes, changed_changes, not_changed, changed_again, some_at, length_changed}
+use Rattle.code_lifting.proofs.Lists.{Changed, set_changes, changed_changes, not_changed, changed_again, length_changed}
 use Rattle.code_lifting.proofs.Touch.{Text, text_of, touch_none, touch_one}
 
 -- ---- the monitor that the process is inside has these variables
@@ -233,7 +235,7 @@ module _ (w : Whole) (r : Relations) (compiled : IsCompiled w r) (owned : List (
         ))
 
   still_busy : (j i : ℕ) (threads : List Thread) → IsBusy (slice_get threads j) → IsBusy (slice_get threads i) → IsBusy (slice_get (tick.wake w.image j threads) i)
-  still_busy j i threads busy_j busy_i = elim (same_or_not j i) [
+  still_busy j i threads busy_j busy_i = elim (cases_eq j i) [
     | inl is ↦ subst (λ (x : ℕ). IsBusy (slice_get (slice_set threads j (tick.woken w.image (slice_get threads j))) x)) is (woken_busy (slice_get threads j) refl busy_j)
     | inr differ ↦ subst IsBusy (sym (get_other threads j i (tick.woken w.image (slice_get threads j)) differ)) busy_i
   ] where

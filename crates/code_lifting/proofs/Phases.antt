@@ -4,6 +4,7 @@ use Rattle.std.specs.Prelude.{ℤ, slice_get, slice_set, cond, nat_eq, ◌&&◌}
 use Rattle.std.proofs.lemmas.Bool.Decides.{nat_tests}
 use Rattle.std.proofs.lemmas.List.{append-nil}
 use Rattle.std.proofs.lemmas.Option.{slice_get_within}
+use Rattle.base.proofs.Lists.{some_at}
 use Rattle.base.specs.declared.event.Event.{Event}
 use Rattle.base.specs.declared.event.Act.{Act}
 use Rattle.base.specs.declared.event.Act.TheVariants as act
@@ -26,7 +27,7 @@ use Rattle.machine_safety_spec.specs.Queues.{times}
 use Rattle.code_spec.specs.Boundary.{view, job_raised, view_raised}
 use Rattle.code_lifting.specs.Related.{Whole, Relations, own, inside_of, Waits, Same, IsSame}
 use Rattle.code_lifting.specs.Compiled.{IsProcess, IsCompiled}
-use Rattle.code_lifting.proofs.Lists.{Changed, changed_changes, not_changed, some_at, changed_queue}
+use Rattle.code_lifting.proofs.Lists.{Changed, changed_changes, not_changed, changed_queue}
 use Rattle.code_lifting.proofs.Touch.{Text, text_of, inside_is}
 use Rattle.code_lifting.proofs.Moves.{outside_it}
 use Rattle.code_lifting.proofs.Acts.{AfterRaise, after_raise_is}

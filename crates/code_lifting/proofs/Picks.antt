@@ -4,6 +4,7 @@ use Rattle.std.specs.Prelude.{ℤ, slice_get, cond, nat_lt, nat_eq, ◌||◌, �
 use Rattle.std.proofs.lemmas.Bool.{cases_Bool}
 use Rattle.std.proofs.lemmas.Bool.Decides.{nat_tests}
 use Rattle.std.proofs.lemmas.Option.{slice_get_within}
+use Rattle.base.proofs.Lists.{one_some, some_at}
 use Rattle.syntax_tree.specs.Plain as tree
 use Rattle.syntax_tree.specs.Plain.{Prog}
 use Rattle.source_semantics.specs.Names.{processes}
@@ -18,8 +19,8 @@ use Rattle.machine_semantics.specs.Tick.{Candidate, is_before, first_of_two, act
 use Rattle.machine_semantics.specs.Tick as tick
 use Rattle.code_lifting.specs.Related.{Whole, Relations, inside_of, Same, Related}
 use Rattle.code_lifting.specs.Compiled.{IsCompiled}
-use Rattle.code_lifting.proofs.Lists.{one_some, some_at}
 use Rattle.code_lifting.proofs.Touch.{Text, text_of, inside_is}
+use Rattle.machine_safety.proofs.Picked.{NoneReady}
 
 -- ---- the order of candidates
 
@@ -47,9 +48,6 @@ pub record Least (image : Image) (from : ℕ) (ps : List Process) (ts : List Thr
   pub ready : slice_get ts index ≡ Some (Ready job)
   pub key : IsKey image c p job
   pub least : (j : ℕ) (q : Process) (other : target.Job) (a : Candidate) → slice_get ps j ≡ Some q → slice_get ts j ≡ Some (Ready other) → IsKey image a q other → is_before a c ≡ false
-
-abbrev pub NoneReady : List Process → List Thread → Type 0
-NoneReady ps ts = (j : ℕ) (q : Process) (other : target.Job) → slice_get ps j ≡ Some q → slice_get ts j ≡ Some (Ready other) → ⊥
 
 abbrev pub LeastOf : Image → ℕ → List Process → List Thread → Option Candidate → Type 0
 LeastOf image from ps ts None = NoneReady ps ts

@@ -1,12 +1,13 @@
 -- No two processes have one rank, so the time-outs by ranks are those by the processes in rank order.
-use Rattle.std.proofs.Common.{◌≡◌, ◌≤◌, ◌<◌, ◌+◌, ◌++◌, inl, inr, ℕ, zero, suc, List, [], ◌∷◌, Option, Some, None, length, arith, refl, ap, sym, ◌∙◌, true, false, Bool, map}
+use Rattle.std.proofs.Common.{◌≡◌, ◌≤◌, ◌<◌, ◌+◌, ◌++◌, inl, inr, ℕ, zero, suc, List, [], ◌∷◌, Option, Some, None, length, arith, refl, ap, sym, ◌∙◌, true, false, Bool}
 use Rattle.std.specs.Prelude.{slice_get, cond, nat_eq, nat_lt, ◌&&◌, ◌||◌, filter_map, position, option_map, unwrap_or}
-use Rattle.std.proofs.lemmas.Bool.{cases_Bool}
+use Rattle.std.proofs.lemmas.Bool.{cases_Bool, cases_eq}
 use Rattle.std.proofs.lemmas.Bool.Decides.{nat_tests}
+use Rattle.std.proofs.lemmas.List.{length-map}
+use Rattle.base.proofs.Lists.{some_at}
 use Rattle.syntax_tree.specs.Plain.{Prog}
 use Rattle.source_semantics.specs.Names.{processes, deadline_of}
 use Rattle.source_semantics.specs.Ranks.{rank, higher, deadlines, numbers_from, by_rank}
-use Rattle.code_lifting.proofs.Lists.{same_or_not, some_at}
 use Rattle.code_lifting.proofs.Items.{Item, out, out_items}
 
 -- ---- ranks differ
@@ -58,15 +59,11 @@ higher_less fi i fj j b (suc m) (f ∷ fs) is at there =
     let head : count (above f b fi i) + 0 ≤ count (above f b fj j) + 0 = at_most (above f b fi i) (above f b fj j) 0 0 (λ h. above_all f b fi i fj j is h) (omega arith) in
     omega (arith, rest, head)
 
-length_map : {A B : Type 0} (f : A → B) (xs : List A) → length (map f xs) ≡ length xs
-length_map f [] = refl
-length_map f (x ∷ xs) = ap suc (length_map f xs)
-
 pub ranks_differ : (g : Prog) (i j : ℕ) → i < length (processes g) → j < length (processes g) → rank g i ≡ rank g j → i ≡ j
-ranks_differ g i j below_i below_j same = elim (same_or_not i j) [
+ranks_differ g i j below_i below_j same = elim (cases_eq i j) [
   | inl is ↦ is
   | inr differ ↦
-      let many : length (deadlines g) ≡ length (processes g) = length_map (λ p. deadline_of g p.activation) (processes g) in
+      let many : length (deadlines g) ≡ length (processes g) = length-map (processes g) (λ p. deadline_of g p.activation) in
       let fi : (f : ℕ) × (slice_get (deadlines g) i ≡ Some f) = some_at (deadlines g) i (omega (arith, many, below_i)) in
       let fj : (f : ℕ) × (slice_get (deadlines g) j ≡ Some f) = some_at (deadlines g) j (omega (arith, many, below_j)) in
       let ri : rank g i ≡ suc (higher i fi.0 0 (deadlines g)) = ap (λ (o : Option ℕ). suc (higher i (unwrap_or o 0) 0 (deadlines g))) fi.1 in

@@ -15,15 +15,15 @@ use Rattle.code_lifting.specs.Image.{FreeHolds, RestHolds, compiled_of, AreRight
 use Rattle.code_lifting.proofs.Assembled.{r, AreFaithful, is_compiled}
 
 -- process k follows the source meaning for any number of ticks, where both have such a process
-abbrev stands_of : Whole → ℕ → Option Process → Option tree.Process → Own → View → Type 0
+abbrev pub stands_of : Whole → ℕ → Option Process → Option tree.Process → Own → View → Type 0
 stands_of w k (Some p) (Some text) o v = Always (compiled_of w k p text) (FreeHolds w) (RestHolds w k) o v
 stands_of w k None text o v = ⊥
 stands_of w k (Some p) None o v = ⊥
 
-abbrev stands : Whole → ℕ → Own → View → Type 0
+abbrev pub stands : Whole → ℕ → Own → View → Type 0
 stands w k o v = stands_of w k (slice_get w.image.processes k) (slice_get (processes w.program) k) o v
 
-faithful : (w : Whole) → AreRight w → AreFaithful w (stands w)
+pub faithful : (w : Whole) → AreRight w → AreFaithful w (stands w)
 faithful w right k p text a b at_p at_text emits =
     subst (λ (x : Option Process). IsFaithful (compiled_of w k p text) (λ o v. stands_of w k x (slice_get (processes w.program) k) o v) (FreeHolds w) (RestHolds w k)) (sym at_p)
     (subst (λ (x : Option tree.Process). IsFaithful (compiled_of w k p text) (λ o v. stands_of w k (Some p) x o v) (FreeHolds w) (RestHolds w k)) (sym at_text)

@@ -21,11 +21,11 @@ use Rattle.code_lifting.proofs.Items.{Item, rel, out, quiet_none, event_items_by
 use Rattle.code_lifting.proofs.Ranked.{of_rank, of_ranks, all_ranks}
 use Rattle.code_lifting.proofs.Phases.{Once, Phase, nothing, device, both, where_so, release_plays, time_out_plays}
 
-event_is_due : (g : Prog) (p : Process) (e : ℕ) (a : Activation) → IsTimed g p a → nat_eq p.kind 1 && nat_eq p.event e ≡ waits_for_event g e a
+pub event_is_due : (g : Prog) (p : Process) (e : ℕ) (a : Activation) → IsTimed g p a → nat_eq p.kind 1 && nat_eq p.event e ≡ waits_for_event g e a
 event_is_due g p e (periodic frame deadline first) timed = ap (λ (n : ℕ). nat_eq n 1 && nat_eq p.event e) timed.0
 event_is_due g p e (at_event name frame deadline) timed = ap (λ (n : ℕ). nat_eq n 1 && nat_eq p.event e) timed.0 ∙ ap (λ (n : ℕ). nat_eq n e) timed.1
 
-periodic_is_due : (g : Prog) (p : Process) (t : ℕ) (a : Activation) → IsTimed g p a → is_periodic_due t p ≡ is_due g t a
+pub periodic_is_due : (g : Prog) (p : Process) (t : ℕ) (a : Activation) → IsTimed g p a → is_periodic_due t p ≡ is_due g t a
 periodic_is_due g p t (periodic frame deadline first) timed =
     ap (λ (n : ℕ). nat_eq n 0 && nat_le p.first t && nat_eq ((t - p.first) % p.frame) 0) timed.0
     ∙ ap (λ (n : ℕ). nat_le p.first t && nat_eq ((t - p.first) % n) 0) timed.1

@@ -32,16 +32,16 @@ pub record At (w : Whole) (r : Relations) (script : Script) (t limit : ℕ) (s :
   pub fresh : c.acted && nat_eq c.tick t ≡ false
   pub none : NoneMissing w.program script c limit
 
-vars_same : (c : Config) (o : Option ℕ) → vars_of c o ≡ monitor_vars c.holds o
+pub vars_same : (c : Config) (o : Option ℕ) → vars_of c o ≡ monitor_vars c.holds o
 vars_same c None = refl
 vars_same c (Some m) = refl
 
-saved_same : (c : Config) (t k : ℕ) (n : Next) (o : Option ℕ) → save_hold o n.monitor (with_jobs (at_tick c t true) (changed (save_job n) k c.jobs))
+pub saved_same : (c : Config) (t k : ℕ) (n : Next) (o : Option ℕ) → save_hold o n.monitor (with_jobs (at_tick c t true) (changed (save_job n) k c.jobs))
     ≡ record { tick = t; acted = true; jobs = changed (save_job n) k c.jobs; holds = saved_holds o n.monitor c.holds; queues = c.queues }
 saved_same c t k n None = refl
 saved_same c t k n (Some m) = refl
 
-not_yet : (acted : Bool) (a t : ℕ) → a ≤ t → acted && nat_eq a (t + 1) ≡ false
+pub not_yet : (acted : Bool) (a t : ℕ) → a ≤ t → acted && nat_eq a (t + 1) ≡ false
 not_yet acted a t low = by acted (let differ : nat_eq a (t + 1) ≡ false = grind (arith, nat_tests, low) in differ) where
   by : (b : Bool) → nat_eq a (t + 1) ≡ false → b && nat_eq a (t + 1) ≡ false
   by true h = h

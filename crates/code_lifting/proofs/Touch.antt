@@ -1,9 +1,10 @@
 -- One process changes, with the monitor that it is inside, enters or leaves: all others stay as they are.
 use Rattle.std.proofs.Common.{◌≡◌, ◌⊎◌, inl, inr, ℕ, List, [], Option, Some, None, length, arith, refl, ap, sym, subst, ◌∙◌, true}
 use Rattle.std.specs.Prelude.{ℤ, pos, slice_get, position}
-use Rattle.std.proofs.lemmas.Bool.{cases_Bool}
+use Rattle.std.proofs.lemmas.Bool.{cases_Bool, cases_eq}
 use Rattle.std.proofs.lemmas.Bool.Decides.{nat_tests}
 use Rattle.std.proofs.lemmas.Option.{slice_get_within}
+use Rattle.base.proofs.Lists.{one_some, some_at}
 use Rattle.syntax_tree.specs.Plain as tree
 use Rattle.source_semantics.specs.Names.{processes}
 use Rattle.source_semantics.specs.Store.{Vars}
@@ -16,7 +17,7 @@ use Rattle.machine_semantics.specs.Tick.{owned_of}
 use Rattle.code_spec.specs.Boundary.{SameInside, SameOutside}
 use Rattle.code_lifting.specs.Related.{Whole, Relations, own, inside_of, monitor_vars, view_of, Same, Related}
 use Rattle.code_lifting.specs.Compiled.{IsProcess, IsProcessOf, IsCompiled}
-use Rattle.code_lifting.proofs.Lists.{same_or_not, one_some, none_some, Changed, some_at, position_only, position_nowhere}
+use Rattle.code_lifting.proofs.Lists.{none_some, Changed, position_only, position_nowhere}
 
 -- ---- a process of the image is one of the text
 
@@ -109,7 +110,7 @@ module _ (w : Whole) (r : Relations) (compiled : IsCompiled w r) where
       → inside_of (slice_get threads k) ≡ None → inside_of (Some t) ≡ None → SameOutside w.image None shared shared'
       → Same w r k holds words shared' (Some t) (Some j) → Related w r threads' owned' shared' jobs' holds
   touch_none threads threads' owned owned' shared shared' jobs jobs' holds k t words j related ts os js was now words_same new = record {
-    same = λ i. elim (same_or_not k i) [
+    same = λ i. elim (cases_eq k i) [
       | inl is ↦ subst (λ (x : ℕ). Same w r x holds (owned_of (slice_get owned' x)) shared' (slice_get threads' x) (slice_get jobs' x)) is here
       | inr differ ↦ elsewhere i differ
     ];
@@ -125,7 +126,7 @@ module _ (w : Whole) (r : Relations) (compiled : IsCompiled w r) where
     everywhere n v reached = words_same v refl
 
     inside_same : (i : ℕ) → inside_of (slice_get threads' i) ≡ inside_of (slice_get threads i)
-    inside_same i = elim (same_or_not k i) [
+    inside_same i = elim (cases_eq k i) [
       | inl is ↦ subst (λ (x : ℕ). inside_of (slice_get threads' x) ≡ inside_of (slice_get threads x)) is (ap (λ (o : Option Thread). inside_of o) ts.here ∙ now ∙ sym was)
       | inr differ ↦ ap (λ (o : Option Thread). inside_of o) (ts.others i differ)
     ]
@@ -155,14 +156,14 @@ module _ (w : Whole) (r : Relations) (compiled : IsCompiled w r) where
       → ((text : tree.Process) → slice_get (processes w.program) k ≡ Some text → includes m (monitors_of w.program text) ≡ true)
       → Same w r k holds' words shared' (Some t) (Some j) → Related w r threads' owned' shared' jobs' holds'
   touch_one threads threads' owned owned' shared shared' jobs jobs' holds holds' k m t words j hold related ts os js hs before after words_same reached new = record {
-    same = λ i. elim (same_or_not k i) [
+    same = λ i. elim (cases_eq k i) [
       | inl is ↦ subst (λ (x : ℕ). Same w r x holds' (owned_of (slice_get owned' x)) shared' (slice_get threads' x) (slice_get jobs' x)) is here
       | inr differ ↦ elsewhere i differ
     ];
-    inside = λ i n in_n. elim (same_or_not k i) [ inl is ↦ own_inside i n is in_n | inr differ ↦ other_inside i n differ (sym (inside_other i differ) ∙ in_n) ];
-    occupants = λ n i h at occupant. elim (same_or_not m n) [ inl is ↦ at_m n i h is at occupant after | inr differ ↦ past_m n i h differ at occupant ];
-    free = λ n h at nobody. elim (same_or_not m n) [ inl is ↦ free_m n h is at nobody after | inr differ ↦ compiled.free_stable n shared shared' h.vars (apart_inside m n shared shared' differ words_same) (related.free n h (sym (hs.others n differ) ∙ at) nobody) ];
-    reaches = λ i n text in_n at. elim (same_or_not k i) [ inl is ↦ own_reaches i n text is in_n at after | inr differ ↦ related.reaches i n text (sym (inside_other i differ) ∙ in_n) at ];
+    inside = λ i n in_n. elim (cases_eq k i) [ inl is ↦ own_inside i n is in_n | inr differ ↦ other_inside i n differ (sym (inside_other i differ) ∙ in_n) ];
+    occupants = λ n i h at occupant. elim (cases_eq m n) [ inl is ↦ at_m n i h is at occupant after | inr differ ↦ past_m n i h differ at occupant ];
+    free = λ n h at nobody. elim (cases_eq m n) [ inl is ↦ free_m n h is at nobody after | inr differ ↦ compiled.free_stable n shared shared' h.vars (apart_inside m n shared shared' differ words_same) (related.free n h (sym (hs.others n differ) ∙ at) nobody) ];
+    reaches = λ i n text in_n at. elim (cases_eq k i) [ inl is ↦ own_reaches i n text is in_n at after | inr differ ↦ related.reaches i n text (sym (inside_other i differ) ∙ in_n) at ];
     many_threads = ts.many ∙ related.many_threads;
     many_holds = hs.many ∙ related.many_holds;
     many_owned = os.many ∙ related.many_owned;
@@ -230,7 +231,7 @@ module _ (w : Whole) (r : Relations) (compiled : IsCompiled w r) where
     past_m : (n i : ℕ) (h : Hold) → (m ≡ n → ⊥) → slice_get holds' n ≡ Some h → h.occupant ≡ Some i → inside_of (slice_get threads' i) ≡ Some n
     past_m n i h differ at occupant =
         let in_n : inside_of (slice_get threads i) ≡ Some n = related.occupants n i h (sym (hs.others n differ) ∙ at) occupant in
-        elim (same_or_not k i) [
+        elim (cases_eq k i) [
           | inl is ↦
               let in_k : inside_of (slice_get threads k) ≡ Some n = ap (λ (x : ℕ). inside_of (slice_get threads x)) is ∙ in_n in
               absurd (elim before [ inl was ↦ differ (one_some was in_k) | inr entered ↦ none_some entered.0 in_k ])

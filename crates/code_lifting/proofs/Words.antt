@@ -6,6 +6,7 @@ use Rattle.std.proofs.lemmas.Bool.Decides.{nat_tests}
 use Rattle.std.proofs.lemmas.List.{length-replicate}
 use Rattle.std.proofs.lemmas.List.Sums.{sum_by-append}
 use Rattle.std.proofs.Math.Nat.{zero-add}
+use Rattle.base.proofs.Lists.{one_some}
 use Rattle.syntax_tree.specs.Plain.{Prog, Var, Kind, scalar, array as array_of}
 use Rattle.syntax_tree.specs.Plain as tree
 use Rattle.source_semantics.specs.Names.{monitors, conditions_of, condition_count}
@@ -18,9 +19,6 @@ use Rattle.code_spec.specs.Layout.{Shape, single, array, size_of, shape_of, Plac
 use Rattle.code_spec.specs.Layout as layout
 use Rattle.code_spec.specs.Compiled.{AreMonitors, condition_monitors}
 use Rattle.code_simulation_spec.specs.Memory.{IsAt, HoldsHeld, Holds}
-
-one_some : {A : Type 0} {o : Option A} {x y : A} → o ≡ Some x → o ≡ Some y → x ≡ y
-one_some p q = cc
 
 -- ---- the monitors of the image and those of the text
 

@@ -1,7 +1,9 @@
 -- What forks and loops come to, and what is assigned.
-use Rattle.std.specs.Prelude.{◌≡◌, ◌≤◌, ◌+◌, ◌&&◌, ◌++◌, ℕ, zero, suc, Bool, true, false, List, [], ◌∷◌, Option, Some, None, ℤ, pos, max, length, nat_lt, slice_get, option_map}
+use Rattle.std.specs.Prelude.{◌≡◌, ◌≤◌, ◌+◌, ◌++◌, ℕ, zero, suc, true, List, [], ◌∷◌, Option, Some, None, ℤ, pos, max, length, nat_lt, slice_get, option_map}
 use Rattle.std.proofs.Common.{refl, sym, ap, subst, ◌∙◌, arith}
 use Rattle.std.proofs.lemmas.Bool.Decides.{nat_tests}
+use Rattle.std.proofs.lemmas.Bool.{and_from, eq-eqb, le-leb}
+use Rattle.base.proofs.Numbers.{itself}
 use Rattle.syntax_tree.specs.Plain.{Ref, whole, part, Prog}
 use Rattle.base.specs.declared.capped.Cost.{Cost}
 use Rattle.machine_isa.specs.declared.instr.Instr.{Instr}
@@ -22,12 +24,8 @@ use Rattle.code_measures.specs.Sound.{IsKnown, SoundRef, SoundIndex}
 use Rattle.code_measures.proofs.Adding.{adds, adds_adds, adds_same, adds_none, some_found, joined_is}
 use Rattle.code_measures.proofs.Lines.{split, one_found, line_more}
 use Rattle.code_measures.proofs.Sizes.{Alike, same_range, free_of}
-use Rattle.code_measures.proofs.Seen.{Sees, range_is, same_as, equal_numbers, no_more}
+use Rattle.code_measures.proofs.Seen.{Sees, range_is}
 use Rattle.code_measures.proofs.Exprs.{expr_found}
-
-passes : (a b : Bool) → a ≡ true → b ≡ true → a && b ≡ true
-passes true b e f = f
-passes false b e f = absurd cc
 
 pub adds_three : (c1 c2 c3 : Cost) (d1 d2 d3 d : ℕ) (r : Found) → max d1 (max d2 d3) ≡ d → adds c1 d1 (adds c2 d2 (adds c3 d3 r)) ≡ adds (plus c1 (plus c2 c3)) d r
 adds_three c1 c2 c3 d1 d2 d3 d r e = ap (λ x. adds c1 d1 x) (adds_adds c2 c3 d2 d3 r) ∙ (adds_adds c1 (plus c2 c3) d1 (max d2 d3) r ∙ adds_same _ _ _ r e)
@@ -48,11 +46,11 @@ module _ (g : Prog) (known : List Known) (k : Calls) (code : List Instr) (out he
       → founds code known out held (Cons (Fork first second) after) p (suc zero) ≡ Some (adds (greater (longer 3 f.cost) (longer 2 s.cost)) (max f.depth s.depth) r)
   fork_found first second after p mid q f s r jumps skips mid_is q_is one other flat flat2 is =
       ap (λ b. chain (guard b (arms (founds code known out held first (p + 1) 0) (founds code known out held second (p + 1 + size first + 1) 0))) (λ y. founds code known out held after (p + (size first + size second + 2)) y))
-      (passes _ _ (ap (λ o. is_jump_zero (p + 1 + size first + 1) o) jumps ∙ equal_numbers (mid + 1) (p + 1 + size first + 1) (omega (arith, mid_is)))
-      (ap (λ o. is_jump (p + size first + size second + 2) o) (subst (λ y. slice_get code y ≡ Some (i.Jump (pos q))) mid_is skips) ∙ equal_numbers q (p + size first + size second + 2) (omega (arith, mid_is, q_is))))
+      (and_from _ _ (ap (λ o. is_jump_zero (p + 1 + size first + 1) o) jumps ∙ eq-eqb (mid + 1) (p + 1 + size first + 1) (omega (arith, mid_is)))
+      (ap (λ o. is_jump (p + size first + size second + 2) o) (subst (λ y. slice_get code y ≡ Some (i.Jump (pos q))) mid_is skips) ∙ eq-eqb q (p + size first + size second + 2) (omega (arith, mid_is, q_is))))
       ∙ (ap (λ o. chain (arms o (founds code known out held second (p + 1 + size first + 1) 0)) (λ y. founds code known out held after (p + (size first + size second + 2)) y)) one
       ∙ (ap (λ o. chain (arms (Some f) o) (λ y. founds code known out held after (p + (size first + size second + 2)) y)) (subst (λ y. founds code known out held second (y + 1) 0 ≡ Some s) mid_is other)
-      ∙ (ap (λ b. chain (guard b (Some here)) (λ y. founds code known out held after (p + (size first + size second + 2)) y)) (equal_numbers f.height s.height (flat ∙ sym flat2))
+      ∙ (ap (λ b. chain (guard b (Some here)) (λ y. founds code known out held after (p + (size first + size second + 2)) y)) (eq-eqb f.height s.height (flat ∙ sym flat2))
       ∙ joined_is here r (founds code known out held after (p + (size first + size second + 2)) here.height)
       (subst (λ y. founds code known out held after (p + (size first + size second + 2)) y ≡ Some r) (sym flat) (subst (λ y. founds code known out held after y 0 ≡ Some r) (ends mid_is q_is) is)))))
     where
@@ -68,9 +66,9 @@ module _ (g : Prog) (known : List Known) (k : Calls) (code : List Instr) (out he
       → founds code known out held (Cons (Rep t body) after) p 0 ≡ Some (adds (turns t f.cost) (suc f.depth) r)
   rep_found t j body after p back q f r begins repeats back_is q_is some inside flat is =
       ap (λ b. chain (guard b (loop_found t 0 (founds code known (Some (p + 1 + size body + 1)) held body (p + 1) 0))) (λ y. founds code known out held after (p + (size body + 2)) y))
-      (passes _ _ (more t j some) (passes _ _ (ap (λ o. is_repeats t o) begins ∙ same_as t) (ap (λ o. is_repeat (p + 1) o) (subst (λ y. slice_get code y ≡ Some (i.Repeat (pos (p + 1)))) back_is repeats) ∙ same_as (p + 1))))
+      (and_from _ _ (more t j some) (and_from _ _ (ap (λ o. is_repeats t o) begins ∙ itself t) (ap (λ o. is_repeat (p + 1) o) (subst (λ y. slice_get code y ≡ Some (i.Repeat (pos (p + 1)))) back_is repeats) ∙ itself (p + 1))))
       ∙ (ap (λ o. chain (loop_found t 0 o) (λ y. founds code known out held after (p + (size body + 2)) y)) (subst (λ y. founds code known (Some y) held body (p + 1) 0 ≡ Some f) (ends back_is q_is) inside)
-      ∙ (ap (λ b. chain (guard b (Some here)) (λ y. founds code known out held after (p + (size body + 2)) y)) (equal_numbers f.height 0 flat)
+      ∙ (ap (λ b. chain (guard b (Some here)) (λ y. founds code known out held after (p + (size body + 2)) y)) (eq-eqb f.height 0 flat)
       ∙ (joined_is here r (founds code known out held after (p + (size body + 2)) 0) (subst (λ y. founds code known out held after y 0 ≡ Some r) (ends2 back_is q_is) is)
       ∙ some_found _ _ (adds_same _ _ _ r (omega arith)))))
     where
@@ -129,7 +127,7 @@ module _ (g : Prog) (known : List Known) (k : Calls) (code : List Instr) (out he
         by_range (Some y) l =
             let pieces = split code p q (i.Range y.low y.high ∷ []) (store_code g c x) l in
             ap (λ t. founds code known out held t p (suc (index_words x))) (line_more 0 after)
-            ∙ (one_found code known out held (i.Range y.low y.high) p (p + 1) (suc (index_words x)) (suc (index_words x)) (line 1 after) (adds (run (store_ticks (n.view (ref_name x)) x)) 0 r) pieces.0 refl (no_more 1 (suc (index_words x)) (omega arith)) (omega arith)
+            ∙ (one_found code known out held (i.Range y.low y.high) p (p + 1) (suc (index_words x)) (suc (index_words x)) (line 1 after) (adds (run (store_ticks (n.view (ref_name x)) x)) 0 r) pieces.0 refl (le-leb 1 (suc (index_words x)) (omega arith)) (omega arith)
             (store_found x (p + 1) q after r ok pieces.1 is)
             ∙ some_found _ _ (adds_adds (run 3) (run (store_ticks (n.view (ref_name x)) x)) (suc (index_words x)) 0 r ∙ adds_same _ _ _ r (omega arith)))
 

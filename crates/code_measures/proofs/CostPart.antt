@@ -1,8 +1,8 @@
 -- The declared costs are those that the trees need.
 use Rattle.std.specs.Prelude.{◌≡◌, ◌≤◌, ◌+◌, ◌-◌, ◌*◌, ℕ, zero, suc, cond, List, length, Option, Some, None, take, slice_get, nat_eq}
 use Rattle.std.proofs.Common.{refl, sym, ap, subst, ◌∙◌, arith}
-use Rattle.code_measures.proofs.Seen.{no_more}
 use Rattle.std.proofs.lemmas.Option.{slice_get_within}
+use Rattle.std.proofs.lemmas.Bool.{le-leb}
 use Rattle.syntax_tree.specs.Plain.{Prog}
 use Rattle.base.specs.Capped.{cap}
 use Rattle.base.specs.declared.capped.Cost.{Cost}
@@ -42,7 +42,7 @@ pub both_none : {A : Type 0} (x y : Option A) → x ≡ None → y ≡ None → 
 both_none x y e f = ap (λ o. or_else o y) e ∙ f
 
 pub enough : (d n : ℕ) → n ≤ d → below d n ≡ None
-enough d n le = ap (λ b. unless b d n) (no_more n d le)
+enough d n le = ap (λ b. unless b d n) (le-leb n d le)
 
 exactly : (d n : ℕ) → n ≡ d → below d n ≡ None
 exactly d n e = enough d n (omega (arith, e))

@@ -1,6 +1,8 @@
 -- What the code of expressions comes to.
 use Rattle.std.specs.Prelude.{◌≡◌, ◌≤◌, ◌+◌, ◌-◌, ◌++◌, ℕ, suc, Bool, true, false, List, [], ◌∷◌, Option, Some, None, ℤ, pos, max, length, nat_le, slice_get, is_some, option_map}
 use Rattle.std.proofs.Common.{refl, sym, ap, subst, ◌∙◌, arith}
+use Rattle.std.proofs.lemmas.Bool.{le-leb}
+use Rattle.base.proofs.Numbers.{itself}
 use Rattle.syntax_tree.specs.Plain.{Name, Param, Op, Expr, literal, truth, variable, element, call, minus, negation, paren, row, Exprs, no_exprs, exprs, Operands, no_operands, operand, Answers, Prog}
 use Rattle.base.specs.declared.capped.Cost.{Cost}
 use Rattle.machine_isa.specs.declared.instr.Instr.{Instr}
@@ -24,7 +26,7 @@ use Rattle.code_measures.specs.Sound.{IsKnown, SoundExpr, SoundRow, SoundArgs}
 use Rattle.code_measures.proofs.Adding.{adds, adds_adds, adds_same, adds_none, found_same, some_found, joined_is}
 use Rattle.code_measures.proofs.Lines.{split, one_found}
 use Rattle.code_measures.proofs.Sizes.{Alike}
-use Rattle.code_measures.proofs.Seen.{Sees, op_in_line, op_takes, op_gives, same_as, no_more}
+use Rattle.code_measures.proofs.Seen.{Sees, op_in_line, op_takes, op_gives}
 
 -- each expression takes a word
 pub expr_high : (g : Prog) (known : List Known) (k : Calls) (c : Scope) (n : Names) (x : Expr) → Sees g c n → SoundExpr g (λ y. IsKnown g known k y) c x → 1 ≤ expr_height g n.owner k x
@@ -53,9 +55,9 @@ module _ (g : Prog) (known : List Known) (k : Calls) (code : List Instr) (out he
       → to ≡ count_of (is_some t.routine.answers) + h → founds code known out held after q to ≡ Some r
       → founds code known out held (Cons (Call (number_of g t)) after) p at ≡ Some (adds (longer 6 (k.cost t)) (max (count_of (is_some t.routine.answers) + h) (h + 2 + routine_words g t.routine + k.height t)) r)
   one_call t p q h at to after r knows l at_is to_is is =
-      ap (λ b. chain (guard b (call_found at (slice_get known (number_of g t)))) (λ y. founds code known out held after (p + 1) y)) (ap (λ o. is_call (number_of g t) o) l.has.0 ∙ same_as (number_of g t))
+      ap (λ b. chain (guard b (call_found at (slice_get known (number_of g t)))) (λ y. founds code known out held after (p + 1) y)) (ap (λ o. is_call (number_of g t) o) l.has.0 ∙ itself (number_of g t))
       ∙ (ap (λ o. chain (call_found at o) (λ y. founds code known out held after (p + 1) y)) knows.there
-      ∙ (ap (λ b. chain (guard b (Some here)) (λ y. founds code known out held after (p + 1) y)) (no_more knows.known_as.params at (enough knows.params at_is))
+      ∙ (ap (λ b. chain (guard b (Some here)) (λ y. founds code known out held after (p + 1) y)) (le-leb knows.known_as.params at (enough knows.params at_is))
       ∙ (joined_is here r (founds code known out held after (p + 1) here.height) (subst (λ y. founds code known out held after (p + 1) y ≡ Some r) (sym (ends knows.params knows.results at_is to_is)) (subst (λ a. founds code known out held after a to ≡ Some r) l.end is))
       ∙ some_found _ _ (ap (λ c. adds (longer 6 c) here.depth r) knows.cost ∙ adds_same (longer 6 (k.cost t)) here.depth _ r (deep knows.params knows.results knows.locals knows.height at_is)))))
     where
@@ -88,7 +90,7 @@ module _ (g : Prog) (known : List Known) (k : Calls) (code : List Instr) (out he
     where
       same : (p q : ℕ) → q ≡ p + 0 → q ≡ p
       same p q e = omega (arith, e)
-  check_found (Some x) p q h after r l is deep = one_found code known out held (i.Range x.low x.high) p q (suc h) (suc h) after r l refl (no_more 1 (suc h) (omega arith)) (omega arith) is
+  check_found (Some x) p q h after r l is deep = one_found code known out held (i.Range x.low x.high) p q (suc h) (suc h) after r l refl (le-leb 1 (suc h) (omega arith)) (omega arith) is
 
   -- a call with its arguments, which come to what they should
   pub args_then_call : (t : Text) (es : Exprs) (c d : Scope) (n : Names) (p q h to : ℕ) (after : Segs) (r : Found) → IsKnown g known k t
@@ -132,14 +134,14 @@ module _ (g : Prog) (known : List Known) (k : Calls) (code : List Instr) (out he
         at = subst (λ y. founds code known out held after q y ≡ Some r) (up h) is
 
         by_area : (x : Area) (w : ℕ) → IsLine code p q (load x (pos w) ∷ []) → founds code known out held (line 1 after) p h ≡ Some (adds (run (ticks (load x (pos 0)))) (h + 1) r)
-        by_area in_frame w l = one_found code known out held (i.LoadLocal (pos w)) p q h (h + 1) after r l refl (no_more 0 h (omega arith)) (higher h) at
-        by_area in_process w l = one_found code known out held (i.LoadOwn (pos w)) p q h (h + 1) after r l refl (no_more 0 h (omega arith)) (higher h) at
-        by_area in_monitor w l = one_found code known out held (i.LoadMon (pos w)) p q h (h + 1) after r l refl (no_more 0 h (omega arith)) (higher h) at
+        by_area in_frame w l = one_found code known out held (i.LoadLocal (pos w)) p q h (h + 1) after r l refl (le-leb 0 h (omega arith)) (higher h) at
+        by_area in_process w l = one_found code known out held (i.LoadOwn (pos w)) p q h (h + 1) after r l refl (le-leb 0 h (omega arith)) (higher h) at
+        by_area in_monitor w l = one_found code known out held (i.LoadMon (pos w)) p q h (h + 1) after r l refl (le-leb 0 h (omega arith)) (higher h) at
 
         by_spot : (o : Option Spot) (j : Option (Name × ℤ)) → IsLine code p q (load_name o j ∷ []) → founds code known out held (line 1 after) p h ≡ Some (adds (run (load_ticks (option_map view_of o))) (h + 1) r)
         by_spot (Some x) j l = by_area x.area x.place.word l
-        by_spot None (Some j) l = one_found code known out held (i.Push j.1) p q h (h + 1) after r l refl (no_more 0 h (omega arith)) (higher h) at
-        by_spot None None l = one_found code known out held (i.Push (pos 0)) p q h (h + 1) after r l refl (no_more 0 h (omega arith)) (higher h) at
+        by_spot None (Some j) l = one_found code known out held (i.Push j.1) p q h (h + 1) after r l refl (le-leb 0 h (omega arith)) (higher h) at
+        by_spot None None l = one_found code known out held (i.Push (pos 0)) p q h (h + 1) after r l refl (le-leb 0 h (omega arith)) (higher h) at
 
     element_found : (o : Option Spot) (v : Option View) (p q h : ℕ) (after : Segs) (r : Found) → option_map view_of o ≡ v → IsArray o → IsLine code p q (load_element o ∷ []) → founds code known out held after q (suc h) ≡ Some r
         → founds code known out held (line 1 after) p (suc h) ≡ Some (adds (run (element_ticks v)) (suc h) r)
@@ -147,9 +149,9 @@ module _ (g : Prog) (known : List Known) (k : Calls) (code : List Instr) (out he
         subst (λ y. founds code known out held (line 1 after) p (suc h) ≡ Some (adds (run (element_ticks y)) (suc h) r)) e (by_spot o array_is l)
       where
         by_area : (x : Area) (w : ℕ) (low : ℤ) (len : ℕ) → IsLine code p q (load_at x (pos w) low (pos len) ∷ []) → founds code known out held (line 1 after) p (suc h) ≡ Some (adds (run (ticks (load_at x (pos 0) (pos 0) (pos 0)))) (suc h) r)
-        by_area in_frame w low len l = one_found code known out held (i.LoadLocalAt (pos w) low (pos len)) p q (suc h) (suc h) after r l refl (no_more 1 (suc h) (omega arith)) (omega arith) is
-        by_area in_process w low len l = one_found code known out held (i.LoadOwnAt (pos w) low (pos len)) p q (suc h) (suc h) after r l refl (no_more 1 (suc h) (omega arith)) (omega arith) is
-        by_area in_monitor w low len l = one_found code known out held (i.LoadMonAt (pos w) low (pos len)) p q (suc h) (suc h) after r l refl (no_more 1 (suc h) (omega arith)) (omega arith) is
+        by_area in_frame w low len l = one_found code known out held (i.LoadLocalAt (pos w) low (pos len)) p q (suc h) (suc h) after r l refl (le-leb 1 (suc h) (omega arith)) (omega arith) is
+        by_area in_process w low len l = one_found code known out held (i.LoadOwnAt (pos w) low (pos len)) p q (suc h) (suc h) after r l refl (le-leb 1 (suc h) (omega arith)) (omega arith) is
+        by_area in_monitor w low len l = one_found code known out held (i.LoadMonAt (pos w) low (pos len)) p q (suc h) (suc h) after r l refl (le-leb 1 (suc h) (omega arith)) (omega arith) is
 
         by_spot : (o : Option Spot) → IsArray o → IsLine code p q (load_element o ∷ []) → founds code known out held (line 1 after) p (suc h) ≡ Some (adds (run (element_ticks (option_map view_of o))) (suc h) r)
         by_spot None y l = absurd y
@@ -171,7 +173,7 @@ module _ (g : Prog) (known : List Known) (k : Calls) (code : List Instr) (out he
     -- the operator of the two top operands
     op_found : (op : Op) (p q h : ℕ) (after : Segs) (r : Found) → IsLine code p q (op_instr op ∷ []) → founds code known out held after q (suc h) ≡ Some r → founds code known out held (line 1 after) p (suc (suc h)) ≡ Some (adds (run (ticks (op_instr op))) (h + 1) r)
     op_found op p q h after r l is =
-        one_found code known out held (op_instr op) p q (suc (suc h)) (h + 1) after r l (op_in_line op) (subst (λ y. nat_le y (suc (suc h)) ≡ true) (sym (op_takes op)) (no_more 2 (suc (suc h)) (omega arith)))
+        one_found code known out held (op_instr op) p q (suc (suc h)) (h + 1) after r l (op_in_line op) (subst (λ y. nat_le y (suc (suc h)) ≡ true) (sym (op_takes op)) (le-leb 2 (suc (suc h)) (omega arith)))
         (higher (gives (op_instr op)) (takes (op_instr op)) (op_gives op) (op_takes op)) (subst (λ y. founds code known out held after q y ≡ Some r) (up h) is)
       where
         up : (h : ℕ) → suc h ≡ h + 1
@@ -183,11 +185,11 @@ module _ (g : Prog) (known : List Known) (k : Calls) (code : List Instr) (out he
     mutual
       pub expr_found : (x : Expr) (p q h : ℕ) (after : Segs) (r : Found) → SoundExpr g (λ y. IsKnown g known k y) c x → IsLine code p q (code_of g c x) → founds code known out held after q (suc h) ≡ Some r
           → founds code known out held (expr_segs g d x after) p h ≡ Some (adds (expr_cost g n k x) (h + expr_height g n.owner k x) r)
-      expr_found (literal v) p q h after r ok l is = one_found code known out held (i.Push (pos v)) p q h (h + 1) after r l refl (no_more 0 h (omega arith)) (omega arith) (subst (λ y. founds code known out held after q y ≡ Some r) (up h) is)
+      expr_found (literal v) p q h after r ok l is = one_found code known out held (i.Push (pos v)) p q h (h + 1) after r l refl (le-leb 0 h (omega arith)) (omega arith) (subst (λ y. founds code known out held after q y ≡ Some r) (up h) is)
         where
           up : (h : ℕ) → suc h ≡ h + 1
           up h = omega arith
-      expr_found (truth b) p q h after r ok l is = one_found code known out held _ p q h (h + 1) after r l refl (no_more 0 h (omega arith)) (omega arith) (subst (λ y. founds code known out held after q y ≡ Some r) (up h) is)
+      expr_found (truth b) p q h after r ok l is = one_found code known out held _ p q h (h + 1) after r l refl (le-leb 0 h (omega arith)) (omega arith) (subst (λ y. founds code known out held after q y ≡ Some r) (up h) is)
         where
           up : (h : ℕ) → suc h ≡ h + 1
           up h = omega arith
@@ -207,12 +209,12 @@ module _ (g : Prog) (known : List Known) (k : Calls) (code : List Instr) (out he
       expr_found (minus e) p q h after r ok l is =
           let pieces = split code p q (code_of g c e) (i.Neg ∷ []) l in
           let high : 1 ≤ expr_height g n.owner k e = expr_high g known k c n e s ok in
-          expr_found e p (p + length (code_of g c e)) h (line 1 after) (adds (run (ticks i.Neg)) (suc h) r) ok pieces.0 (one_found code known out held i.Neg (p + length (code_of g c e)) q (suc h) (suc h) after r pieces.1 refl (no_more 1 (suc h) (omega arith)) (omega arith) is)
+          expr_found e p (p + length (code_of g c e)) h (line 1 after) (adds (run (ticks i.Neg)) (suc h) r) ok pieces.0 (one_found code known out held i.Neg (p + length (code_of g c e)) q (suc h) (suc h) after r pieces.1 refl (le-leb 1 (suc h) (omega arith)) (omega arith) is)
           ∙ some_found _ _ (adds_adds (expr_cost g n k e) (run (ticks i.Neg)) (h + expr_height g n.owner k e) (suc h) r ∙ adds_same _ _ _ r (omega (arith, high)))
       expr_found (negation e) p q h after r ok l is =
           let pieces = split code p q (code_of g c e) (i.Not ∷ []) l in
           let high : 1 ≤ expr_height g n.owner k e = expr_high g known k c n e s ok in
-          expr_found e p (p + length (code_of g c e)) h (line 1 after) (adds (run (ticks i.Not)) (suc h) r) ok pieces.0 (one_found code known out held i.Not (p + length (code_of g c e)) q (suc h) (suc h) after r pieces.1 refl (no_more 1 (suc h) (omega arith)) (omega arith) is)
+          expr_found e p (p + length (code_of g c e)) h (line 1 after) (adds (run (ticks i.Not)) (suc h) r) ok pieces.0 (one_found code known out held i.Not (p + length (code_of g c e)) q (suc h) (suc h) after r pieces.1 refl (le-leb 1 (suc h) (omega arith)) (omega arith) is)
           ∙ some_found _ _ (adds_adds (expr_cost g n k e) (run (ticks i.Not)) (h + expr_height g n.owner k e) (suc h) r ∙ adds_same _ _ _ r (omega (arith, high)))
       expr_found (paren e) p q h after r ok l is = expr_found e p q h after r ok l is
       expr_found (row e rest) p q h after r ok l is =

@@ -1,6 +1,8 @@
 -- Handlers stand where they should, and reach no WAIT.
 use Rattle.std.specs.Prelude.{◌≡◌, ◌<◌, ◌+◌, ◌&&◌, ◌||◌, not, ℕ, zero, suc, Bool, true, false, List, [], ◌∷◌, length, Option, Some, None, take, slice_get}
 use Rattle.std.proofs.Common.{refl, sym, ap, subst, ◌∙◌, arith}
+use Rattle.std.proofs.lemmas.Bool.{eq-eqb}
+use Rattle.base.proofs.Lists.{take_get}
 use Rattle.syntax_tree.specs.Plain.{Param, Expr, literal, truth, variable, element, call, minus, negation, paren, row, Exprs, no_exprs, exprs, Operands, no_operands, operand, Ref, whole, part, Stmt, assign, assign_entry, assign_empty, perform, perform_entry, when, when_else, loop, exit_when, get, put, wait, signal, broadcast, except, assert, Stmts, no_stmts, stmts, Answers, Handler, Process, Prog}
 use Rattle.source_semantics.specs.Names.{constant_value}
 use Rattle.source_semantics.specs.Store.{range_of}
@@ -16,11 +18,10 @@ use Rattle.code_spec.specs.Emits.{inner, turns_of}
 use Rattle.code_spec.specs.Segments.{before, line, call_segs, expr_segs, row_segs, args_segs, index_segs, put_segs, stmt_segs, stmts_segs, answers_segs, routine_segs}
 use Rattle.code_spec.specs.Compiled.{routine_scope, process_scope, EmitsHandler, IsCodeOf}
 use Rattle.code_measures.specs.Sound.{SoundExpr, SoundRow, SoundArgs, SoundIndex, Sound, SoundAll, SoundAnswers, SoundRoutine}
-use Rattle.code_measures.proofs.Seen.{equal_numbers}
 use Rattle.code_measures.proofs.Sizes.{alike, stmts_size}
 use Rattle.code_measures.specs.Declared.{IsBelow, IsSound, Declares}
 use Rattle.code_measures.specs.Quiet.{NoWait, NoWaits, IsQuietBelow, QuietHandler, AreQuiet}
-use Rattle.code_measures.proofs.Firsts.{take_get, row_is}
+use Rattle.code_measures.proofs.Firsts.{row_is}
 use Rattle.code_measures.proofs.Rows.{stands}
 use Rattle.code_measures.proofs.Bodies.{BodyIs, body}
 use Rattle.code_measures.proofs.CostPart.{none_all}
@@ -132,7 +133,7 @@ module _ (g : Prog) (m : image.Image) (is : IsCodeOf g m) (sound : IsSound g) (d
   handler_passes k x p None from q h start ok = ap (λ z. is_handler m x z) h.3
   handler_passes k x p (Some y) from q h start ok =
       ap (λ z. is_handler m x z) h.5
-      ∙ both_pass _ _ (equal_numbers x.handler (handler_start x) (h.3 ∙ start))
+      ∙ both_pass _ _ (eq-eqb x.handler (handler_start x) (h.3 ∙ start))
       (stmts_quiet g (reach m) (λ z. IsQuietBelow quiet g (length (numbered g)) z) (λ u low. quiet_below (suc (number_of g u)) (number_of g u) u (omega arith) low.below.there low.is_quiet) y.body (process_scope g k p) (process_scope g k p) Nil refl ok.0 ok.1)
 
   -- handlers are as they should be

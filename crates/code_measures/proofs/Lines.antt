@@ -12,11 +12,11 @@ use Rattle.code_measures.proofs.Adding.{adds, found_same, some_found, chain_some
 
 -- ---- code in pieces
 
-has_first : (code : List Instr) (p : ℕ) (is js : List Instr) → Has code p (is ++ js) → Has code p is
+pub has_first : (code : List Instr) (p : ℕ) (is js : List Instr) → Has code p (is ++ js) → Has code p is
 has_first code p [] js h = tt
 has_first code p (x ∷ is) js h = (h.0, has_first code (p + 1) is js h.1)
 
-has_second : (code : List Instr) (p : ℕ) (is js : List Instr) → Has code p (is ++ js) → Has code (p + length is) js
+pub has_second : (code : List Instr) (p : ℕ) (is js : List Instr) → Has code p (is ++ js) → Has code (p + length is) js
 has_second code p [] js h = subst (λ q. Has code q js) (zero_more p) h
   where
     zero_more : (p : ℕ) → p ≡ p + 0

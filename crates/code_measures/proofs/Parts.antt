@@ -1,6 +1,8 @@
 -- What the code of routines and processes comes to.
-use Rattle.std.specs.Prelude.{◌≡◌, ◌≤◌, ◌+◌, ◌-◌, ◌&&◌, ℕ, Bool, true, false, cond, List, [], ◌∷◌, Option, Some, None, pos, max, length, nat_eq, slice_get, is_some}
+use Rattle.std.specs.Prelude.{◌≡◌, ◌≤◌, ◌+◌, ◌-◌, ℕ, true, cond, List, [], ◌∷◌, Option, Some, None, pos, max, length, nat_eq, slice_get, is_some}
 use Rattle.std.proofs.Common.{refl, sym, ap, subst, ◌∙◌, arith}
+use Rattle.std.proofs.lemmas.Bool.{and_from, eq-eqb}
+use Rattle.base.proofs.Numbers.{itself}
 use Rattle.syntax_tree.specs.Plain.{Stmts, Answers, Handler, Process, Prog}
 use Rattle.base.specs.declared.capped.Cost.{Cost}
 use Rattle.machine_isa.specs.declared.instr.Instr.{Instr}
@@ -25,14 +27,10 @@ use Rattle.code_measures.specs.Measured.{IsMeasured, RoutinesAreMeasured, handle
 use Rattle.code_measures.proofs.Adding.{adds, adds_adds, adds_same, some_found}
 use Rattle.code_measures.proofs.Lines.{one_found}
 use Rattle.code_measures.proofs.Sizes.{alike, expr_size, line_size, stmts_size}
-use Rattle.code_measures.proofs.Seen.{sees, same_as, equal_numbers}
+use Rattle.code_measures.proofs.Seen.{sees}
 use Rattle.code_measures.proofs.Exprs.{expr_found, expr_high}
 use Rattle.code_measures.proofs.Blocks.{check_height, check_low}
 use Rattle.code_measures.proofs.Stmts.{Inside, stmts_found}
-
-passes : (a b : Bool) → a ≡ true → b ≡ true → a && b ≡ true
-passes true b e f = f
-passes false b e f = absurd cc
 
 -- what is left where a routine ends: its result, if it gives one
 abbrev at_end : Option Answers → Found
@@ -105,7 +103,7 @@ module _ (g : Prog) (known : List Known) (k : Calls) (code : List Instr) where
       → entry code known m (Cons (Stay m body) Nil) p ≡ Some (record { height = f.height; cost = plus f.cost (amount 8 0 0); depth = max f.depth 0 })
   entry_found m p q body f rest enters leaves inside =
       ap (λ b. guard b (chain (founds code known None (Some m) body (p + 1) 0) (λ h. Some (record { height = h; cost = amount 8 0 0; depth = 0 }))))
-      (passes _ _ (same_as m) (passes _ _ (ap (λ o. is_enter m o) enters ∙ same_as m) (ap (λ o. is_leave m o) leaves ∙ same_as m)))
+      (and_from _ _ (itself m) (and_from _ _ (ap (λ o. is_enter m o) enters ∙ itself m) (ap (λ o. is_leave m o) leaves ∙ itself m)))
       ∙ ap (λ o. chain o (λ h. Some (record { height = h; cost = amount 8 0 0; depth = 0 }))) inside
 
 -- the RET or RETV that ends it
@@ -120,7 +118,7 @@ routine_is code known r m o f gives mon last is height =
     ap (λ b. guard b (ended (count_of r.gives) (tree_found code known (monitor_of r) r.tree r.start))) (ap (λ b. is_return b (slice_get code (r.start + size r.tree))) gives ∙ (ap (λ z. is_return (is_some o) z) last ∙ returns o))
     ∙ (ap (λ z. ended (count_of r.gives) (tree_found code known z r.tree r.start)) mon
     ∙ (ap (λ z. ended (count_of r.gives) z) is
-    ∙ ap (λ b. guard b (Some f)) (equal_numbers f.height (count_of r.gives) (height ∙ ap (λ b. count_of b) (sym gives)))))
+    ∙ ap (λ b. guard b (Some f)) (eq-eqb f.height (count_of r.gives) (height ∙ ap (λ b. count_of b) (sym gives)))))
 
 pub routines_are_measured : RoutinesAreMeasured
 routines_are_measured g code known k t r q is_r h ok = by_owner t.owner refl

@@ -2,6 +2,7 @@
 use Rattle.std.specs.Prelude.{◌≡◌, ◌≤◌, ◌<◌, ℕ, zero, suc, List, [], ◌∷◌, Some, take, slice_get, is_some}
 use Rattle.std.proofs.Common.{refl, sym, ap, subst, ◌∙◌, arith}
 use Rattle.std.proofs.lemmas.Option.{slice_get_within}
+use Rattle.base.proofs.Lists.{take_get}
 use Rattle.syntax_tree.specs.Plain.{Prog}
 use Rattle.source_semantics.specs.Names.{routine_count}
 use Rattle.machine_isa.specs.declared.instr.Instr.{Instr}
@@ -21,16 +22,16 @@ use Rattle.code_measures.specs.Like.{Like}
 use Rattle.code_measures.specs.Declared.{IsBelow, IsSound, Declares, declared_calls}
 use Rattle.code_measures.proofs.Capped.{like_back, like_on, capped_like}
 use Rattle.code_measures.proofs.Likes.{Same, CallsSame, routine_same}
-use Rattle.code_measures.proofs.Firsts.{take_get, row_is}
+use Rattle.code_measures.proofs.Firsts.{row_is}
 use Rattle.code_measures.proofs.Maps.{map_routine}
 
 -- ---- levels
 
-cost_at : (n : ℕ) (g : Prog) (t : Text) → (calls_at (suc n) g).cost t ≡ routine_cost g (routine_names g t) (calls_at n g) t
+pub cost_at : (n : ℕ) (g : Prog) (t : Text) → (calls_at (suc n) g).cost t ≡ routine_cost g (routine_names g t) (calls_at n g) t
 unfolding calls_at
 cost_at n g t = refl
 
-height_at : (n : ℕ) (g : Prog) (t : Text) → (calls_at (suc n) g).height t ≡ routine_height g t.owner (calls_at n g) t.routine
+pub height_at : (n : ℕ) (g : Prog) (t : Text) → (calls_at (suc n) g).height t ≡ routine_height g t.owner (calls_at n g) t.routine
 unfolding calls_at
 height_at n g t = refl
 

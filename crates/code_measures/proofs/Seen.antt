@@ -1,7 +1,6 @@
 -- Names as the costs see them are those of the code.
-use Rattle.std.specs.Prelude.{◌≡◌, ◌≤◌, ℕ, Bool, true, false, cond, Option, Some, None, bytes_eq, option_map, nat_eq, nat_le}
-use Rattle.std.proofs.Common.{refl, ap, subst, ◌∙◌, arith}
-use Rattle.std.proofs.lemmas.Bool.Decides.{nat_tests}
+use Rattle.std.specs.Prelude.{◌≡◌, ℕ, Bool, true, false, cond, Option, Some, None, bytes_eq, option_map}
+use Rattle.std.proofs.Common.{refl, ap, ◌∙◌}
 use Rattle.syntax_tree.specs.Plain.{Name, Op, or, and, equal, unequal, less, less_equal, greater, greater_equal, add, sub, mul, div, remainder, Prog}
 use Rattle.source_semantics.specs.Run.{or_else}
 use Rattle.machine_isa.specs.Operands.{takes, gives}
@@ -78,14 +77,3 @@ op_gives sub = refl
 op_gives mul = refl
 op_gives div = refl
 op_gives remainder = refl
-
--- ---- numbers
-
-pub same_as : (n : ℕ) → nat_eq n n ≡ true
-same_as n = grind (arith, nat_tests)
-
-pub equal_numbers : (m n : ℕ) → m ≡ n → nat_eq m n ≡ true
-equal_numbers m n e = subst (λ x. nat_eq m x ≡ true) e (same_as m)
-
-pub no_more : (m n : ℕ) → m ≤ n → nat_le m n ≡ true
-no_more m n le = grind (arith, nat_tests, le)

@@ -1,7 +1,10 @@
 -- The code is of its trees, the parts follow one another, and they cover the code.
-use Rattle.std.specs.Prelude.{◌≡◌, ◌+◌, ◌++◌, ◌&&◌, ℕ, zero, suc, Bool, true, false, List, [], ◌∷◌, length, map, Some, None, take, slice_get}
+use Rattle.std.specs.Prelude.{◌≡◌, ◌+◌, ◌++◌, ℕ, zero, suc, true, List, [], ◌∷◌, length, map, Some, None, take, slice_get}
 use Rattle.std.proofs.Common.{refl, sym, ap, subst, ◌∙◌, arith}
 use Rattle.std.proofs.lemmas.Option.{slice_get_within}
+use Rattle.std.proofs.lemmas.List.{length-map}
+use Rattle.std.proofs.lemmas.Bool.{and_from, eq-eqb}
+use Rattle.base.proofs.Lists.{map_get, append_front, append_back}
 use Rattle.syntax_tree.specs.Plain.{Process, Prog}
 use Rattle.source_semantics.specs.Names.{processes}
 use Rattle.machine_isa.specs.declared.instr.Instr.{Instr}
@@ -14,10 +17,8 @@ use Rattle.valid_image.specs.Shape.{is_found, routine_shape_fault, process_shape
 use Rattle.code_spec.specs.Numbering.{Text, numbered}
 use Rattle.code_spec.specs.Compiled.{IsRoutine, EmitsRoutine, EmitsRoutines, EmitsProcess, EmitsProcesses, IsCodeOf}
 use Rattle.code_measures.specs.Sound.{IsKnown}
-use Rattle.code_measures.proofs.Seen.{equal_numbers}
 use Rattle.code_measures.proofs.Parts.{routines_are_measured, processes_are_measured}
 use Rattle.code_measures.specs.Declared.{IsBelow, IsSound, Declares, declared_calls}
-use Rattle.code_measures.proofs.Firsts.{append_front, append_back}
 use Rattle.code_measures.proofs.Maps.{map_routine, map_process}
 use Rattle.code_measures.proofs.Rows.{routine, row, known_before}
 use Rattle.code_measures.proofs.Bodies.{text_at, body, known_all, handler_same}
@@ -55,22 +56,13 @@ due_same ps (suc k) = refl
 
 -- ---- the pieces of an image
 
-map_get : {A B : Type 0} (f : A → B) (xs : List A) (k : ℕ) (x : A) → slice_get xs k ≡ Some x → slice_get (map f xs) k ≡ Some (f x)
-map_get f [] k x at = absurd cc
-map_get f (y ∷ ys) zero x at = (let same : y ≡ x = cc in ap (λ z. Some (f z)) same)
-map_get f (y ∷ ys) (suc k) x at = map_get f ys k x at
-
-map_length : {A B : Type 0} (f : A → B) (xs : List A) → length (map f xs) ≡ length xs
-map_length f [] = refl
-map_length f (x ∷ xs) = ap (λ n. suc n) (map_length f xs)
-
 routine_piece : (m : image.Image) (r : ℕ) (x : image.Routine) → slice_get m.routines r ≡ Some x → slice_get (pieces m) r ≡ Some (piece_of_routine x)
 routine_piece m r x at =
-    append_front (map piece_of_routine m.routines) (map piece_of_process m.processes) r (omega (arith, slice_get_within m.routines r x at, map_length piece_of_routine m.routines)) ∙ map_get piece_of_routine m.routines r x at
+    append_front (map piece_of_routine m.routines) (map piece_of_process m.processes) r (omega (arith, slice_get_within m.routines r x at, length-map m.routines piece_of_routine)) ∙ map_get piece_of_routine m.routines r x at
 
 process_piece : (m : image.Image) (k : ℕ) (x : image.Process) → slice_get m.processes k ≡ Some x → slice_get (pieces m) (piece_number m k) ≡ Some (piece_of_process x)
 process_piece m k x at =
-    append_back (map piece_of_routine m.routines) (map piece_of_process m.processes) (length m.routines + k) k (omega (arith, map_length piece_of_routine m.routines)) ∙ map_get piece_of_process m.processes k x at
+    append_back (map piece_of_routine m.routines) (map piece_of_process m.processes) (length m.routines + k) k (omega (arith, length-map m.routines piece_of_routine)) ∙ map_get piece_of_process m.processes k x at
 
 routines_follow : (g : Prog) (code : List Instr) (p q : ℕ) (ts : List Text) (rs : List image.Routine) → EmitsRoutines g code p q ts rs
     → ((r : ℕ) (t : Text) (x : image.Routine) (next : ℕ) → slice_get ts r ≡ Some t → slice_get rs r ≡ Some x → IsRoutine g t x → EmitsRoutine g code t x.start next → next ≡ x.start + (size x.tree + 1)) → Follow p (map piece_of_routine rs) q
@@ -101,10 +93,6 @@ processes_follow g code k p q (u ∷ us) (y ∷ ys) h ends = (
     further : (k r : ℕ) → suc k + r ≡ k + suc r
     further k r = omega arith
 
-passes : (a b : Bool) → a ≡ true → b ≡ true → a && b ≡ true
-passes true b e f = f
-passes false b e f = absurd cc
-
 module _ (g : Prog) (m : image.Image) (is : IsCodeOf g m) (sound : IsSound g) (declares : Declares g m) where
   all_follow : Follow 0 (pieces m) (length m.code)
   all_follow =
@@ -125,18 +113,18 @@ module _ (g : Prog) (m : image.Image) (is : IsCodeOf g m) (sound : IsSound g) (d
       let i = routine g m is sound declares r t.0 t.1 in
       let same_x : i.stand.x ≡ x = (let e : Some i.stand.x ≡ Some x = sym i.stand.there ∙ at in cc) in
       ap (λ b. unless b x.start 0)
-      (passes _ _ (equal_numbers x.start (due_start (pieces m) r) (follow_due 0 (length m.code) (pieces m) r (piece_of_routine x) all_follow (routine_piece m r x at) ∙ due_same (pieces m) r))
+      (and_from _ _ (eq-eqb x.start (due_start (pieces m) r) (follow_due 0 (length m.code) (pieces m) r (piece_of_routine x) all_follow (routine_piece m r x at) ∙ due_same (pieces m) r))
       (subst (λ y. is_found (routine_found m.code (take r (known m)) y) ≡ true) same_x (ap (λ o. is_found o) i.measured.is)))
 
   process_stands : (k : ℕ) (x : image.Process) → slice_get m.processes k ≡ Some x → process_shape_fault m k x ≡ None
   process_stands k x at =
       let b = body g m is sound declares k x at in
       ap (λ y. unless y x.start 0)
-      (passes _ _ (equal_numbers x.start (due_start (pieces m) (piece_number m k)) (follow_due 0 (length m.code) (pieces m) (piece_number m k) (piece_of_process x) all_follow (process_piece m k x at) ∙ due_same (pieces m) (piece_number m k)))
-      (passes _ _ (ap (λ o. is_found o) b.measured.body_is) (ap (λ o. is_found o) (handler_same g m is sound declares x x.handler_tree ∙ b.measured.handler_is))))
+      (and_from _ _ (eq-eqb x.start (due_start (pieces m) (piece_number m k)) (follow_due 0 (length m.code) (pieces m) (piece_number m k) (piece_of_process x) all_follow (process_piece m k x at) ∙ due_same (pieces m) (piece_number m k)))
+      (and_from _ _ (ap (λ o. is_found o) b.measured.body_is) (ap (λ o. is_found o) (handler_same g m is sound declares x x.handler_tree ∙ b.measured.handler_is))))
 
   covered : coverage_fault m ≡ None
-  covered = ap (λ b. unless b (due_start (pieces m) (length (pieces m))) 0) (equal_numbers _ _ (sym (due_same (pieces m) (length (pieces m))) ∙ follow_end 0 (length m.code) (pieces m) all_follow))
+  covered = ap (λ b. unless b (due_start (pieces m) (length (pieces m))) 0) (eq-eqb _ _ (sym (due_same (pieces m) (length (pieces m))) ∙ follow_end 0 (length m.code) (pieces m) all_follow))
 
   -- the code is of its trees
   pub no_shape_fault : shape_fault m ≡ None

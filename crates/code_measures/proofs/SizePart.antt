@@ -1,6 +1,7 @@
 -- Locals, stacks and words.
 use Rattle.std.specs.Prelude.{◌≡◌, ◌≤◌, ◌+◌, ℕ, zero, suc, List, [], ◌∷◌, length, Some, None, slice_get, max, min}
 use Rattle.std.proofs.Common.{refl, sym, ap, subst, ◌∙◌, arith}
+use Rattle.std.proofs.lemmas.Bool.{eq-eqb}
 use Rattle.syntax_tree.specs.Plain.{Process, Prog}
 use Rattle.syntax_tree.specs.Plain as tree
 use Rattle.source_semantics.specs.Names.{monitors}
@@ -13,7 +14,6 @@ use Rattle.code_spec.specs.Numbering.{numbered}
 use Rattle.code_spec.specs.Compiled.{AreMonitors, IsCodeOf}
 use Rattle.code_cost_spec.specs.Heights.{stmts_height, handler_height}
 use Rattle.code_cost_spec.specs.Levels.{calls_of, process_names}
-use Rattle.code_measures.proofs.Seen.{equal_numbers}
 use Rattle.code_measures.specs.Declared.{IsBelow, IsSound, Declares, declared_calls}
 use Rattle.code_measures.proofs.Likes.{process_same}
 use Rattle.code_measures.proofs.Rows.{stands}
@@ -72,5 +72,5 @@ module _ (g : Prog) (m : image.Image) (is : IsCodeOf g m) (sound : IsSound g) (d
       both_none _ _ (none_all (λ r x. below x.locals x.params) m.routines (λ j x at. locals_fit j x at))
       (both_none _ _ (none_all (λ k x. below x.stack (needed_stack m x)) m.processes (λ j x at. stack_fits j x at))
       (both_none _ _ (none_all (λ j x. other x.base (due_base m.monitors j)) m.monitors
-      (λ j x at. ap (λ b. unless b x.base (due_base m.monitors j)) (equal_numbers x.base (due_base m.monitors j) (bases_follow g 0 (monitors g) m.monitors j x is.monitor_words at ∙ due_is m.monitors j))))
+      (λ j x at. ap (λ b. unless b x.base (due_base m.monitors j)) (eq-eqb x.base (due_base m.monitors j) (bases_follow g 0 (monitors g) m.monitors j x is.monitor_words at ∙ due_is m.monitors j))))
       (enough 1048576 (words_over_all m) few)))

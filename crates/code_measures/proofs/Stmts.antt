@@ -1,6 +1,8 @@
 -- What the code of statements comes to.
 use Rattle.std.specs.Prelude.{◌≡◌, ◌≤◌, ◌+◌, ◌*◌, ◌++◌, ℕ, suc, List, [], ◌∷◌, Option, Some, None, ℤ, pos, max, length, slice_get, is_some}
 use Rattle.std.proofs.Common.{refl, sym, ap, subst, ◌∙◌, arith}
+use Rattle.std.proofs.lemmas.Bool.{le-leb}
+use Rattle.base.proofs.Numbers.{itself}
 use Rattle.syntax_tree.specs.Plain.{Stmt, assign, assign_entry, assign_empty, perform, perform_entry, when, when_else, loop, exit_when, get, put, wait, signal, broadcast, except, assert, Stmts, no_stmts, stmts, Answers, Prog}
 use Rattle.base.specs.declared.capped.Cost.{Cost}
 use Rattle.machine_isa.specs.declared.instr.Instr.{Instr}
@@ -21,7 +23,7 @@ use Rattle.code_measures.specs.Sound.{IsKnown, Sound, SoundAll}
 use Rattle.code_measures.proofs.Adding.{adds, adds_adds, adds_same, adds_none, found_same, some_found, joined_is}
 use Rattle.code_measures.proofs.Lines.{split, split_one, one_found, line_more}
 use Rattle.code_measures.proofs.Sizes.{Alike, alike_inner, stmts_size, line_size}
-use Rattle.code_measures.proofs.Seen.{Sees, sees_inside, same_as, no_more}
+use Rattle.code_measures.proofs.Seen.{Sees, sees_inside}
 use Rattle.code_measures.proofs.Exprs.{expr_found, args_found, named_call, expr_high}
 use Rattle.code_measures.proofs.Blocks.{adds_three, check_height, check_low, fork_found, rep_found, store_found, put_found, index_found}
 
@@ -76,7 +78,7 @@ module _ (g : Prog) (known : List Known) (k : Calls) (code : List Instr) where
       → founds code known out held (Cons Exit after) p (suc 0) ≡ Some (adds (run 3) 0 r)
   exit_found p q y out held after r here exits q_is is =
       ap (λ b. chain (guard b (Some (record { height = 0; cost = amount 3 0 0; depth = 0 }))) (λ z. founds code known out held after (p + 1) z))
-      (ap (λ o. is_exit out o) here ∙ (ap (λ o. is_exit o (Some (i.Exit (pos y)))) exits ∙ same_as y))
+      (ap (λ o. is_exit out o) here ∙ (ap (λ o. is_exit o (Some (i.Exit (pos y)))) exits ∙ itself y))
       ∙ joined_is (record { height = 0; cost = amount 3 0 0; depth = 0 }) r (founds code known out held after (p + 1) 0) (subst (λ z. founds code known out held after z 0 ≡ Some r) q_is is)
 
   -- a WAIT and its REENT
@@ -84,7 +86,7 @@ module _ (g : Prog) (known : List Known) (k : Calls) (code : List Instr) where
       → founds code known out held (Cons Wait after) p 0 ≡ Some (adds (amount 10 limit 1) 0 r)
   wait_then p q m x limit number out held after r l within is =
       ap (λ b. chain (guard b (wait_found 0 (limit_at (slice_get code p)))) (λ z. founds code known out held after (p + 2) z))
-      (ap (λ o. is_reenter held o) l.has.1.0 ∙ (ap (λ o. is_reenter o (Some (i.Reenter (pos m)))) within ∙ same_as m))
+      (ap (λ o. is_reenter held o) l.has.1.0 ∙ (ap (λ o. is_reenter o (Some (i.Reenter (pos m)))) within ∙ itself m))
       ∙ (ap (λ o. chain (wait_found 0 (limit_at o)) (λ z. founds code known out held after (p + 2) z)) l.has.0
       ∙ joined_is (record { height = 0; cost = amount 10 limit 1; depth = 0 }) r (founds code known out held after (p + 2) 0) (subst (λ z. founds code known out held after z 0 ≡ Some r) l.end is))
 
@@ -121,7 +123,7 @@ module _ (g : Prog) (known : List Known) (k : Calls) (code : List Instr) where
         let later = split_one code (p + length (index_code g c t)) q (i.Empty (pos (condition_of g c.owner x))) (store_code g c t) pieces.1 in
         index_found g known k code out held c d n a s t p (p + length (index_code g c t)) (line 2 after) (adds (run 3) (suc (index_words t)) (adds (run (store_ticks (n.view (ref_name t)) t)) 0 r)) ok.0 pieces.0
         (ap (λ y. founds code known out held y (p + length (index_code g c t)) (index_words t)) (line_more 0 after)
-        ∙ one_found code known out held (i.Empty (pos (condition_of g c.owner x))) (p + length (index_code g c t)) (p + length (index_code g c t) + 1) (index_words t) (suc (index_words t)) (line 1 after) (adds (run (store_ticks (n.view (ref_name t)) t)) 0 r) later.0 refl (no_more 0 (index_words t) (omega arith)) (omega arith)
+        ∙ one_found code known out held (i.Empty (pos (condition_of g c.owner x))) (p + length (index_code g c t)) (p + length (index_code g c t) + 1) (index_words t) (suc (index_words t)) (line 1 after) (adds (run (store_ticks (n.view (ref_name t)) t)) 0 r) later.0 refl (le-leb 0 (index_words t) (omega arith)) (omega arith)
         (store_found g known k code out held c d n a s t (p + length (index_code g c t) + 1) q after r ok.1 later.1 is))
         ∙ some_found _ _ (adds_three (index_cost g n k t) (run 3) (run (store_ticks (n.view (ref_name t)) t)) (index_height g n.owner k t) (suc (index_words t)) 0 _ r (omega arith))
     stmt_found (perform f es) c d n out held w p q after r a s exits within ok l is =
@@ -181,7 +183,7 @@ module _ (g : Prog) (known : List Known) (k : Calls) (code : List Instr) where
         let low : check_height (range_seen (n.view (ref_name t))) (suc (index_words t)) ≤ suc (index_words t) = check_low (range_seen (n.view (ref_name t))) (suc (index_words t)) in
         index_found g known k code out held c d n a s t p (p + length (index_code g c t)) (line 1 (put_segs g d t after)) (adds (run 10) (suc (index_words t)) (adds (run (put_ticks n t)) (check_height (range_seen (n.view (ref_name t))) (suc (index_words t))) r)) ok.0 pieces.0
         (one_found code known out held (i.In (pos (device_number g dev))) (p + length (index_code g c t)) (p + length (index_code g c t) + 1) (index_words t) (suc (index_words t)) (put_segs g d t after)
-        (adds (run (put_ticks n t)) (check_height (range_seen (n.view (ref_name t))) (suc (index_words t))) r) later.0 refl (no_more 0 (index_words t) (omega arith)) (omega arith)
+        (adds (run (put_ticks n t)) (check_height (range_seen (n.view (ref_name t))) (suc (index_words t))) r) later.0 refl (le-leb 0 (index_words t) (omega arith)) (omega arith)
         (put_found g known k code out held c d n a s t (p + length (index_code g c t) + 1) q after r ok.1 later.1 is))
         ∙ some_found _ _ (adds_three (index_cost g n k t) (run 10) (run (put_ticks n t)) (index_height g n.owner k t) (suc (index_words t)) _ _ r (omega (arith, low)))
     stmt_found (put dev e) c d n out held w p q after r a s exits within ok l is =

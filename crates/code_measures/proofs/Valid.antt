@@ -1,6 +1,7 @@
 -- The parts of validity.
 use Rattle.std.specs.Prelude.{◌≡◌, ◌≤◌, ◌-◌, ℕ, Some, None, slice_get}
 use Rattle.std.proofs.Common.{ap, arith}
+use Rattle.std.proofs.lemmas.Bool.{eq-eqb, le-leb}
 use Rattle.sched_response.specs.Demand.{demand_at}
 use Rattle.machine_semantics.specs.Image as image
 use Rattle.valid_image.specs.Tasks.{tasks_of}
@@ -8,17 +9,16 @@ use Rattle.valid_image.specs.Fault.{unless}
 use Rattle.valid_image.specs.Sizes.{below, other}
 use Rattle.valid_image.specs.Times.{rank_of, ceiling_of, needed_block, rank_fault, process_bound_fault, bound_fault}
 use Rattle.valid_image.specs.Valid.{Part, Shape, Costs, Sizes, Ranks, Bounds, Operands, Handlers, fault_of_part}
-use Rattle.code_measures.proofs.Seen.{equal_numbers, no_more}
 use Rattle.code_measures.specs.Whole.{HasRanks, IsBound, MadeImagesKeepSixParts, MadeImagesAreValid}
 use Rattle.code_measures.proofs.CostPart.{none_all, both_none, enough, no_cost_fault}
 use Rattle.code_measures.proofs.ShapePart.{no_shape_fault}
 use Rattle.code_measures.proofs.HandlerPart.{no_handler_fault}
 use Rattle.code_measures.proofs.SizePart.{no_size_fault}
 
-same_none : (d n : ℕ) → d ≡ n → other d n ≡ None
-same_none d n e = ap (λ b. unless b d n) (equal_numbers d n e)
+pub same_none : (d n : ℕ) → d ≡ n → other d n ≡ None
+same_none d n e = ap (λ b. unless b d n) (eq-eqb d n e)
 
-no_rank_fault : (m : image.Image) → HasRanks m → rank_fault m ≡ None
+pub no_rank_fault : (m : image.Image) → HasRanks m → rank_fault m ≡ None
 no_rank_fault m h =
     both_none _ _ (none_all (λ k p. other p.rank (rank_of m k)) m.processes (λ k p at. same_none p.rank (rank_of m k) (h.ranks k p at)))
     (both_none _ _ (none_all (λ j x. other x.ceiling (ceiling_of m j)) m.monitors (λ j x at. same_none x.ceiling (ceiling_of m j) (h.ceilings j x at)))
@@ -30,7 +30,7 @@ no_rank_fault m h =
 no_bound_fault : (m : image.Image) → ((k : ℕ) (p : image.Process) → slice_get m.processes k ≡ Some p → IsBound m p) → bound_fault m ≡ None
 no_bound_fault m h =
     none_all (λ k p. process_bound_fault m p) m.processes
-    (λ k p at. both_none _ _ (enough p.bound (demand_at (tasks_of m) (p.rank - 1) p.bound) (h k p at).meets) (ap (λ b. unless b p.bound p.deadline) (no_more p.bound p.deadline (h k p at).timely)))
+    (λ k p at. both_none _ _ (enough p.bound (demand_at (tasks_of m) (p.rank - 1) p.bound) (h k p at).meets) (ap (λ b. unless b p.bound p.deadline) (le-leb p.bound p.deadline (h k p at).timely)))
 
 pub six_parts : MadeImagesKeepSixParts
 six_parts g m made = record {

@@ -1,22 +1,19 @@
 -- The routines that names mean, found among all of a program.
-use Rattle.std.proofs.Common.{◌≡◌, ◌∙◌, sym, ap, refl, ℕ, zero, suc, ◌+◌, Bool, true, false, cond, ◌&&◌, List, [], ◌∷◌, ◌++◌, Option, Some, None, map, length, subst, arith}
-use Rattle.std.specs.Prelude.{option_map, bytes_eq, nat_eq, filter_map, slice_get, unwrap_or}
+use Rattle.std.proofs.Common.{◌≡◌, ◌∙◌, sym, ap, refl, ℕ, zero, suc, ◌+◌, Bool, true, false, cond, ◌&&◌, List, [], ◌∷◌, ◌++◌, Some, None, map, length, subst, arith}
+use Rattle.std.specs.Prelude.{option_map, bytes_eq, filter_map, slice_get, unwrap_or}
 use Rattle.std.specs.Borrow.{Bor}
 use Rattle.std.proofs.lemmas.Cmp.{nat_eq_equiv}
+use Rattle.std.proofs.lemmas.Bool.{ne_eqb}
 use Rattle.syntax_tree.specs.Plain.{Name, Routine, Decl, constant, device, event, routine, monitor, process, Prog}
 use Rattle.source_semantics.specs.Names.{named, routine_in, monitor_in, process_in, monitors, processes, monitor_number}
 use Rattle.source_semantics.specs.Run.{or_else}
 use Rattle.code_spec.specs.Layout.{Owner, by_program, by_process, by_monitor}
 use Rattle.code_spec.specs.Numbering.{Text, same_owner, routine_of, process_routines, entry_of, entry_in, texts_of as owned, texts_from}
 use Rattle.code_names.specs.First.{index_of}
-use Rattle.code_names.proofs.NameListTable.{get_some, named-index, place-index}
+use Rattle.code_names.proofs.NameListTable.{get_some, named-index, place-index, or-none}
 use Rattle.syntax_tree.specs.declared.decl.Mon as code_monitor
 use Rattle.code_names.specs.Parts.{all_texts, monitor_of, seen_monitors}
 use Rattle.code_names.specs.Texts.{is_text, text_named}
-
-or-none : {A : Type 0} (o : Option A) → or_else o None ≡ o
-or-none None = refl
-or-none (Some x) = refl
 
 -- what is found in two lists, one after the other
 found-append : (o : Owner) (f : Name) (ts us : List Text) → text_named o f (ts ++ us) ≡ or_else (text_named o f ts) (text_named o f us)
@@ -65,10 +62,6 @@ of-program f k m (routine r ∷ ds) = by-test (of-program f k m ds) (bytes_eq r.
 of-program f k m (monitor d ∷ ds) = passed by_program (by_monitor m) refl f d.entries (texts_from k (suc m) ds) ∙ of-program f k (suc m) ds
 of-program f k m (process p ∷ ds) = passed by_program (by_process k) refl f p.routines (texts_from (suc k) m ds) ∙ of-program f (suc k) m ds
 
--- numbers that differ
-unequal : (a b : ℕ) → (a ≡ b → ⊥) → nat_eq a b ≡ false
-unequal a b ne = grind arith
-
 -- no process of a later number has a routine of this one
 none-process : (f : Name) (j k m : ℕ) (ds : List Decl) → text_named (by_process j) f (texts_from (suc (j + k)) m ds) ≡ None
 none-process f j k m [] = refl
@@ -78,7 +71,7 @@ none-process f j k m (event n ∷ ds) = none-process f j k m ds
 none-process f j k m (routine r ∷ ds) = none-process f j k m ds
 none-process f j k m (monitor d ∷ ds) = passed (by_process j) (by_monitor m) refl f d.entries (texts_from (suc (j + k)) (suc m) ds) ∙ none-process f j k (suc m) ds
 none-process f j k m (process p ∷ ds) =
-    passed (by_process j) (by_process (suc (j + k))) (unequal (suc (j + k)) j (λ e. omega arith)) f p.routines (texts_from (suc (suc (j + k))) m ds)
+    passed (by_process j) (by_process (suc (j + k))) (ne_eqb (suc (j + k)) j (λ e. omega arith)) f p.routines (texts_from (suc (suc (j + k))) m ds)
     ∙ ap (λ n. text_named (by_process j) f (texts_from (suc n) m ds)) (omega arith) ∙ none-process f j (suc k) m ds
 
 none-monitor : (f : Name) (j k m : ℕ) (ds : List Decl) → text_named (by_monitor j) f (texts_from k (suc (j + m)) ds) ≡ None
@@ -89,7 +82,7 @@ none-monitor f j k m (event n ∷ ds) = none-monitor f j k m ds
 none-monitor f j k m (routine r ∷ ds) = none-monitor f j k m ds
 none-monitor f j k m (process p ∷ ds) = passed (by_monitor j) (by_process k) refl f p.routines (texts_from (suc k) (suc (j + m)) ds) ∙ none-monitor f j (suc k) m ds
 none-monitor f j k m (monitor d ∷ ds) =
-    passed (by_monitor j) (by_monitor (suc (j + m))) (unequal (suc (j + m)) j (λ e. omega arith)) f d.entries (texts_from k (suc (suc (j + m))) ds)
+    passed (by_monitor j) (by_monitor (suc (j + m))) (ne_eqb (suc (j + m)) j (λ e. omega arith)) f d.entries (texts_from k (suc (suc (j + m))) ds)
     ∙ ap (λ n. text_named (by_monitor j) f (texts_from k (suc n) ds)) (omega arith) ∙ none-monitor f j k (suc m) ds
 
 -- the routines of process k + i, from the i-th process on
@@ -110,7 +103,7 @@ of-process f zero k m (process p ∷ ds) =
     ∙ ap (λ n. routine_of (by_process n) p.routines f) (sym e)
 of-process f (suc i) k m (process p ∷ ds) =
     let e : k + suc i ≡ suc k + i = omega arith in
-    passed (by_process (k + suc i)) (by_process k) (unequal k (k + suc i) (λ e. omega arith)) f p.routines (texts_from (suc k) m ds)
+    passed (by_process (k + suc i)) (by_process k) (ne_eqb k (k + suc i) (λ e. omega arith)) f p.routines (texts_from (suc k) m ds)
     ∙ ap (λ n. text_named (by_process n) f (texts_from (suc k) m ds)) e ∙ of-process f i (suc k) m ds
     ∙ ap (λ n. routine_of (by_process n) (process_routines (slice_get (filter_map process_in ds) i)) f) (sym e)
 
@@ -131,7 +124,7 @@ of-monitor f zero k m (monitor d ∷ ds) =
     ∙ ap (λ n. routine_of (by_monitor n) d.entries f) (sym e)
 of-monitor f (suc i) k m (monitor d ∷ ds) =
     let e : m + suc i ≡ suc m + i = omega arith in
-    passed (by_monitor (m + suc i)) (by_monitor m) (unequal m (m + suc i) (λ e. omega arith)) f d.entries (texts_from k (suc m) ds)
+    passed (by_monitor (m + suc i)) (by_monitor m) (ne_eqb m (m + suc i) (λ e. omega arith)) f d.entries (texts_from k (suc m) ds)
     ∙ ap (λ n. text_named (by_monitor n) f (texts_from k (suc m) ds)) e ∙ of-monitor f i k (suc m) ds
     ∙ ap (λ n. entry_of n (slice_get (filter_map monitor_in ds) i) f) (sym e)
 

@@ -11,7 +11,7 @@ use Rattle.source_semantics.specs.Names.{named, place_of}
 use Rattle.source_semantics.specs.Run.{or_else}
 use Rattle.code_names.specs.First.{index_of, names_of, first_index, with_first, with_names, nothing}
 
-or-none : {A : Type 0} (o : Option A) → or_else o None ≡ o
+pub or-none : {A : Type 0} (o : Option A) → or_else o None ≡ o
 or-none None = refl
 or-none (Some x) = refl
 

@@ -3,12 +3,12 @@ use Rattle.std.proofs.Common.{◌≡◌, ◌∙◌, sym, ap, refl, ℕ, suc, Boo
 use Rattle.std.specs.Prelude.{option_map, bytes_eq, is_some, slice_get}
 use Rattle.std.specs.Borrow.{Bor}
 use Rattle.std.specs.Map.{lookup}
-use Rattle.std.proofs.lemmas.Bool.{eqb-true}
+use Rattle.std.proofs.lemmas.Bool.{eqb-true, and_parts}
 use Rattle.std.proofs.lemmas.Cmp.{nat_list_eq_equiv, nat_eq_equiv}
 use Rattle.std.proofs.lemmas.Option.{slice_get-map}
 use Rattle.std.proofs.lemmas.Slice.Eq.{bytes_eq-Decides}
 use Rattle.syntax_tree.specs.Plain.{Name}
-use Rattle.code_names.proofs.NameListTable.{get_some}
+use Rattle.code_names.proofs.NameListTable.{get_some, or-none}
 use Rattle.source_semantics.specs.Run.{or_else}
 use Rattle.code_spec.specs.Layout as layout
 use Rattle.code_spec.specs.Numbering.{Text, same_owner}
@@ -17,15 +17,6 @@ use Rattle.code_names.specs.declared.text.Owner.TheVariants.{Program, Process, M
 use Rattle.code_names.specs.declared.text.Text as code_text
 use Rattle.code_names.specs.contracts.text.OwnerPartialEq.TheImpl as owner_impl
 use Rattle.code_names.specs.Texts.{owner_of, text_of, texts_of, is_text, text_index, text_named, same_key, first_text, with_first, HasFirsts}
-
-or-none : {A : Type 0} (o : Option A) → or_else o None ≡ o
-or-none None = refl
-or-none (Some x) = refl
-
-both-true : (a b : Bool) → a && b ≡ true → (a ≡ true) × (b ≡ true)
-both-true true true e = (refl, refl)
-both-true true false e = cc
-both-true false b e = cc
 
 owner-true : (o p : Owner) → same_owner (owner_of o) (owner_of p) ≡ true → o ≡ p
 owner-true Program Program e = refl
@@ -55,7 +46,7 @@ key-symm o n p m = ap (λ b. b && bytes_eq n m) (owner-symm o p) ∙ ap (λ b. s
 -- what is true of one key is true of one that is the same
 key-true : (known : Owner → Name → Option ℕ) (o : Owner) (n : Name) (p : Owner) (m : Name) → same_key o n p m ≡ true → known o n ≡ known p m
 key-true known o n p m e =
-    let parts = both-true (same_owner (owner_of o) (owner_of p)) (bytes_eq n m) e in
+    let parts = and_parts (same_owner (owner_of o) (owner_of p)) (bytes_eq n m) e in
     ap (λ x. known x n) (owner-true o p parts.0) ∙ ap (λ x. known p x) ((bytes_eq-Decides n m).0 parts.1)
 
 -- an index put at a key that had none

@@ -1,6 +1,7 @@
 -- Each call in a text that fits finds a routine or an entry.
 use Rattle.std.specs.Prelude.{◌≡◌, ◌++◌, Bool, true, List, [], ◌∷◌, Option, Some, None, IsSome, option_map, Contains}
 use Rattle.std.proofs.Common.{inl, inr, refl, subst, ℕ, zero, suc, ◌<◌, length, slice_index_or, arith}
+use Rattle.std.proofs.lemmas.Option.{none-some}
 use Rattle.syntax_tree.specs.Plain.{Name, Param, Expr, literal, truth, variable, element, call, minus, negation, paren, row, Exprs, no_exprs, exprs, Operands, no_operands, operand, Ref, whole, part, Stmt, assign, assign_entry, assign_empty, perform, perform_entry, when, when_else, loop, exit_when, get, put, wait, signal, broadcast, except, assert, Stmts, no_stmts, stmts, Answers, Process, Prog}
 use Rattle.static_declarations.specs.declared.sort.Sort.{Sort}
 use Rattle.static_declarations.specs.declared.sort.Sort.TheVariants as sort_is
@@ -42,18 +43,15 @@ called_all P (c ∷ cs) h = (h c (0, omega arith, refl), called_all P cs (λ d i
 
 -- ---- what is found
 
-none_some : {A : Type 0} (x : A) → None ≡ Some x → ⊥
-none_some x e = cc
-
 function_found : (g : Prog) (p : Process) (may : Bool) (f : Name) (s : Sort) → answer_sort (routine_named g p f) ≡ Some s → FindsRoutine g p may f
 function_found g p may f s e = by (routine_named g p f) refl e
   where
     answers : (a : Option Answers) → option_map (λ x. sort_of x.kind) a ≡ Some s → IsSome a
-    answers None h = absurd (none_some s h)
+    answers None h = absurd (none-some s h)
     answers (Some a) h = refl
 
     by : (x : Option Found) → routine_named g p f ≡ x → answer_sort x ≡ Some s → FindsRoutine g p may f
-    by None is h = absurd (none_some s h)
+    by None is h = absurd (none-some s h)
     by (Some x) is h = record { found = x; is = is; allowed = inl (answers x.routine.answers h) }
 
 routine_found : (h : Here) (f : Name) (es : Exprs) → may_call h ≡ true → AreArguments h (params_of (routine_named h.program h.process f)) es → FindsRoutine h.program h.process (may_call h) f

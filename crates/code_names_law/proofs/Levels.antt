@@ -1,8 +1,9 @@
 -- Levels of all routines and entries: functions of the program, then entries, then procedures of the program, then routines of processes.
-use Rattle.std.specs.Prelude.{◌≡◌, ◌+◌, ◌<◌, ◌⊎◌, ℕ, Bool, true, false, cond, not, List, ◌∷◌, ◌++◌, Option, Some, None, IsSome, slice_get, option_map, is_some, count_by, Contains}
+use Rattle.std.specs.Prelude.{◌≡◌, ◌+◌, ◌<◌, ◌⊎◌, ℕ, Bool, true, false, cond, not, ◌∷◌, ◌++◌, Option, Some, None, IsSome, slice_get, option_map, is_some, count_by, Contains}
 use Rattle.std.proofs.Common.{inl, inr, refl, sym, ◌∙◌, ap, subst, arith, ltb}
 use Rattle.std.proofs.lemmas.Bool.{lt-ltb, ltb-true}
 use Rattle.std.proofs.lemmas.List.Sums.{count_by-le-length}
+use Rattle.std.proofs.lemmas.Option.{none-some, same_Some}
 use Rattle.syntax_tree.specs.Plain.{Name, Answers, Expr, literal, truth, variable, element, call, minus, negation, paren, row, Exprs, no_exprs, exprs, Operands, no_operands, operand, Ref, whole, part, Stmt, assign, assign_entry, assign_empty, perform, perform_entry, when, when_else, loop, exit_when, get, put, wait, signal, broadcast, except, assert, Stmts, no_stmts, stmts, Routine, Monitor, Process, Prog}
 use Rattle.source_semantics.specs.Names.{named, routines, monitors, processes, monitor_number, routine_count}
 use Rattle.source_semantics.specs.Run.{Home, of_program, of_process, of_monitor, or_else, entry_name, routine_named}
@@ -12,7 +13,7 @@ use Rattle.code_spec.specs.Numbering.{Text, routine_of, process_routines, entry_
 use Rattle.wellformed.specs.Here.{in_routine}
 use Rattle.wellformed.specs.Statements.{may_call}
 use Rattle.wellformed.specs.WellFormed.{IsWellFormed, RoutineFits}
-use Rattle.code_names_law.proofs.Numbers.{none_some, some_same, found_name, IsText, of_list, called_is_text}
+use Rattle.code_names_law.proofs.Numbers.{found_name, IsText, of_list, called_is_text}
 use Rattle.code_names_law.specs.Ruled.{NamesApart}
 use Rattle.code_names_law.specs.Numbered.{texts, CallsText, AreLevels}
 use Rattle.code_names_law.proofs.Lists.{count_lt}
@@ -85,9 +86,6 @@ module _ (level : Name → ℕ) (n : ℕ) where
 
 -- ---- names that are found
 
-named_is : (f : Name) (rs : List Routine) (r : Routine) → named (λ k. k.name) f rs ≡ Some r → r.name ≡ f
-named_is f rs r e = found_name f rs r e
-
 some_answers : (a : Option Answers) → IsSome a → is_some a ≡ true
 some_answers a h = h
 
@@ -123,10 +121,10 @@ module _ (g : Prog) (form : IsWellFormed g) (names : NamesApart g) where
   levels_of k = by (slice_get (processes g) k) refl
     where
       by : (x : Option Process) → slice_get (processes g) k ≡ x → (level : Name → ℕ) × ((p : Process) → slice_get (processes g) k ≡ Some p → Levels g p level)
-      by None is = (λ f. 0, λ p at. absurd (none_some p (sym is ∙ at)))
+      by None is = (λ f. 0, λ p at. absurd (none-some p (sym is ∙ at)))
       by (Some q) is =
           let l = (process_fits g form names k q is).levels in
-          (l.0, λ p at. subst (λ r. Levels g r l.0) (some_same q p (sym is ∙ at)) l.1)
+          (l.0, λ p at. subst (λ r. Levels g r l.0) (same_Some q p (sym is ∙ at)) l.1)
 
   abbrev level_at : ℕ → Name → ℕ
   level_at k = (levels_of k).0
@@ -178,20 +176,20 @@ module _ (g : Prog) (form : IsWellFormed g) (names : NamesApart g) where
   is_function may f r is x = by x.allowed
     where
       same : record { home = of_program; routine = r } ≡ x.found
-      same = some_same (record { home = of_program; routine = r }) x.found (sym (program_found f r is) ∙ x.is)
+      same = same_Some (record { home = of_program; routine = r }) x.found (sym (program_found f r is) ∙ x.is)
 
       by : IsSome x.found.routine.answers ⊎ (may ≡ true) → (is_some r.answers ≡ true) ⊎ (may ≡ true)
       by (inl h) = inl (some_answers r.answers (subst (λ y. IsSome y.routine.answers) (sym same) h))
       by (inr h) = inr h
 
   height_of : (f : Name) (u : Text) → (u.owner ≡ by_program) × (named (λ k. k.name) f (routines g) ≡ Some u.routine) → raw u ≡ cond (is_some u.routine.answers) (level_at 0 f) (routine_count g + 1 + level_at 0 f)
-  height_of f u h = ap (λ o. height o u.routine) h.0 ∙ ap (λ x. cond (is_some u.routine.answers) (level_at 0 x) (routine_count g + 1 + level_at 0 x)) (named_is f (routines g) u.routine h.1)
+  height_of f u h = ap (λ o. height o u.routine) h.0 ∙ ap (λ x. cond (is_some u.routine.answers) (level_at 0 x) (routine_count g + 1 + level_at 0 x)) (found_name f (routines g) u.routine h.1)
 
   entry_height : (m e : Name) (u : Text) (o : Owner) → called_text g o (calls_entry m e) ≡ Some u → raw u ≡ routine_count g
   entry_height m e u o is = by (named (λ k. k.name) m (monitors g)) is
     where
       by : (x : Option Monitor) → entry_of (monitor_number g m) x e ≡ Some u → raw u ≡ routine_count g
-      by None h = absurd (none_some u h)
+      by None h = absurd (none-some u h)
       by (Some d) h = ap (λ o. height o u.routine) (of_list (by_monitor (monitor_number g m)) d.entries e u h).0
 
   -- ---- each call falls
@@ -232,8 +230,8 @@ module _ (g : Prog) (form : IsWellFormed g) (names : NamesApart g) where
 
       by : (x : Option Routine) → named (λ y. y.name) f p.routines ≡ x → or_else (option_map (λ y. record { owner = by_process k; routine = y }) x) (routine_of by_program (routines g) f) ≡ Some u → raw u < height (by_process k) r
       by (Some q) found h =
-          subst (λ v. raw v < height (by_process k) r) (some_same (record { owner = by_process k; routine = q }) u h)
-          (subst (λ y. routine_count g + routine_count g + 1 + level_at k y < routine_count g + routine_count g + 1 + level_at k r.name) (sym (named_is f p.routines q found)) (let l = lower in omega arith))
+          subst (λ v. raw v < height (by_process k) r) (same_Some (record { owner = by_process k; routine = q }) u h)
+          (subst (λ y. routine_count g + routine_count g + 1 + level_at k y < routine_count g + routine_count g + 1 + level_at k r.name) (sym (found_name f p.routines q found)) (let l = lower in omega arith))
       by None found h =
           let n = shared_named f u h in
           subst (λ v. v < height (by_process k) r) (sym (height_of f u n)) (program_below (is_some u.routine.answers) (level_at 0 f) (routine_count g) (level_at k r.name) (program_few f u.routine n.1))

@@ -1,6 +1,8 @@
 -- What a name means, by the rules and in the code.
 use Rattle.std.specs.Prelude.{◌≡◌, ◌+◌, ◌||◌, ℕ, suc, Bool, true, false, not, cond, List, [], ◌∷◌, ◌++◌, Option, Some, None, ℤ, slice_get, map, bytes_eq}
 use Rattle.std.proofs.Common.{refl, sym, ◌∙◌, ap, subst}
+use Rattle.std.proofs.lemmas.Option.{none-some}
+use Rattle.std.proofs.lemmas.Bool.{false≢true}
 use Rattle.syntax_tree.specs.Plain.{Name, Param, Scalar, int, boolean, subrange, Kind, scalar, array as array_of, Var, Routine, Monitor, Prog}
 use Rattle.source_semantics.specs.Names.{monitors, processes}
 use Rattle.source_semantics.specs.Store.{range_of, kind_range}
@@ -131,51 +133,45 @@ spot_meant e c turns vars x at known own =
 
 -- ---- what the rules say of it
 
-none_some : {A : Type 0} (x : A) → None ≡ Some x → ⊥
-none_some x h = absurd cc
-
 one_word : (g : Prog) (k : Kind) (s : Sort) → kind_sort k ≡ Some s → shape_of g k ≡ single
 one_word g (scalar t) s h = refl
-one_word g (array_of low high t) s h = absurd (none_some s h)
+one_word g (array_of low high t) s h = absurd (none-some s h)
 
 pub value_meant : (g : Prog) (m : Meant) (sp : Option Spot) (k : Option (Name × ℤ)) (s : Sort) → SpotOf g m sp k → word_sort m ≡ Some s → IsValue sp k
 value_meant g turn sp k s h w = subst (λ t. IsValue t k) (sym h.1) h.2
 value_meant g (own_variable kind) sp k s h w = subst (λ t. IsValue t k) (sym h.1) (h.2 ∙ one_word g kind s w)
 value_meant g (outer_variable kind) sp k s h w = subst (λ t. IsValue t k) (sym h.1) (h.2 ∙ one_word g kind s w)
 value_meant g value sp k s h w = subst (λ t. IsValue t k) (sym h.0) (subst (λ t. IsValue None t) (sym h.1.1) tt)
-value_meant g nothing sp k s h w = absurd (none_some s w)
+value_meant g nothing sp k s h w = absurd (none-some s w)
 
 an_array : (g : Prog) (k : Kind) (s : Sort) (shape : Shape) → shape ≡ shape_of g k → kind_element k ≡ Some s → (low : ℤ) × (len : ℕ) × (shape ≡ array low len)
-an_array g (scalar t) s shape e h = absurd (none_some s h)
+an_array g (scalar t) s shape e h = absurd (none-some s h)
 an_array g (array_of low high t) s shape e h = (_, _, e)
 
 pub array_meant : (g : Prog) (m : Meant) (sp : Option Spot) (k : Option (Name × ℤ)) (s : Sort) → SpotOf g m sp k → element_sort m ≡ Some s → IsArray sp
-array_meant g turn sp k s h w = absurd (none_some s w)
+array_meant g turn sp k s h w = absurd (none-some s w)
 array_meant g (own_variable kind) sp k s h w = subst (λ t. IsArray t) (sym h.1) (an_array g kind s h.0.place.shape h.2 w)
 array_meant g (outer_variable kind) sp k s h w = subst (λ t. IsArray t) (sym h.1) (an_array g kind s h.0.place.shape h.2 w)
-array_meant g value sp k s h w = absurd (none_some s w)
-array_meant g nothing sp k s h w = absurd (none_some s w)
-
-false_true : false ≡ true → ⊥
-false_true h = cc
+array_meant g value sp k s h w = absurd (none-some s w)
+array_meant g nothing sp k s h w = absurd (none-some s w)
 
 function_no : (b : Bool) (a : Area) → not b ≡ true → b ≡ true → a ≡ in_frame
-function_no true a h t = absurd (false_true h)
-function_no false a h t = absurd (false_true t)
+function_no true a h t = absurd (false≢true h)
+function_no false a h t = absurd (false≢true t)
 
 pub free_meant : (g : Prog) (m : Meant) (sp : Option Spot) (k : Option (Name × ℤ)) (b : Bool) → SpotOf g m sp k → is_assignable b m ≡ true → IsFree b sp
-free_meant g turn sp k b h a = absurd (false_true a)
+free_meant g turn sp k b h a = absurd (false≢true a)
 free_meant g (own_variable kind) sp k b h a = subst (λ t. IsFree b t) (sym h.1) (h.3, λ t. h.5)
 free_meant g (outer_variable kind) sp k b h a = subst (λ t. IsFree b t) (sym h.1) (h.3, λ t. function_no b h.0.area a t)
-free_meant g value sp k b h a = absurd (false_true a)
-free_meant g nothing sp k b h a = absurd (false_true a)
+free_meant g value sp k b h a = absurd (false≢true a)
+free_meant g nothing sp k b h a = absurd (false≢true a)
 
 pub single_meant : (g : Prog) (m : Meant) (sp : Option Spot) (k : Option (Name × ℤ)) (b : Bool) (s : Sort) → SpotOf g m sp k → is_assignable b m ≡ true → word_sort m ≡ Some s → IsSingle sp
-single_meant g turn sp k b s h a w = absurd (false_true a)
+single_meant g turn sp k b s h a w = absurd (false≢true a)
 single_meant g (own_variable kind) sp k b s h a w = subst (λ t. IsSingle t) (sym h.1) (h.2 ∙ one_word g kind s w)
 single_meant g (outer_variable kind) sp k b s h a w = subst (λ t. IsSingle t) (sym h.1) (h.2 ∙ one_word g kind s w)
-single_meant g value sp k b s h a w = absurd (false_true a)
-single_meant g nothing sp k b s h a w = absurd (false_true a)
+single_meant g value sp k b s h a w = absurd (false≢true a)
+single_meant g nothing sp k b s h a w = absurd (false≢true a)
 
 -- what holds truths has no range
 
@@ -186,22 +182,22 @@ truth_range g (subrange low high) h = absurd cc
 
 one_truth : (g : Prog) (k : Kind) → kind_sort k ≡ Some sort_is.Truth → kind_range g k ≡ None
 one_truth g (scalar t) h = truth_range g t h
-one_truth g (array_of low high t) h = absurd (none_some sort_is.Truth h)
+one_truth g (array_of low high t) h = absurd (none-some sort_is.Truth h)
 
 element_truth : (g : Prog) (k : Kind) → kind_element k ≡ Some sort_is.Truth → kind_range g k ≡ None
-element_truth g (scalar t) h = absurd (none_some sort_is.Truth h)
+element_truth g (scalar t) h = absurd (none-some sort_is.Truth h)
 element_truth g (array_of low high t) h = truth_range g t h
 
 pub unranged_word : (g : Prog) (m : Meant) (sp : Option Spot) (k : Option (Name × ℤ)) (b : Bool) → SpotOf g m sp k → is_assignable b m ≡ true → word_sort m ≡ Some sort_is.Truth → range_of_spot sp ≡ None
-unranged_word g turn sp k b h a w = absurd (false_true a)
+unranged_word g turn sp k b h a w = absurd (false≢true a)
 unranged_word g (own_variable kind) sp k b h a w = ap (λ t. range_of_spot t) h.1 ∙ (h.4 ∙ one_truth g kind w)
 unranged_word g (outer_variable kind) sp k b h a w = ap (λ t. range_of_spot t) h.1 ∙ (h.4 ∙ one_truth g kind w)
-unranged_word g value sp k b h a w = absurd (false_true a)
-unranged_word g nothing sp k b h a w = absurd (false_true a)
+unranged_word g value sp k b h a w = absurd (false≢true a)
+unranged_word g nothing sp k b h a w = absurd (false≢true a)
 
 pub unranged_element : (g : Prog) (m : Meant) (sp : Option Spot) (k : Option (Name × ℤ)) (b : Bool) → SpotOf g m sp k → is_assignable b m ≡ true → element_sort m ≡ Some sort_is.Truth → range_of_spot sp ≡ None
-unranged_element g turn sp k b h a w = absurd (false_true a)
+unranged_element g turn sp k b h a w = absurd (false≢true a)
 unranged_element g (own_variable kind) sp k b h a w = ap (λ t. range_of_spot t) h.1 ∙ (h.4 ∙ element_truth g kind w)
 unranged_element g (outer_variable kind) sp k b h a w = ap (λ t. range_of_spot t) h.1 ∙ (h.4 ∙ element_truth g kind w)
-unranged_element g value sp k b h a w = absurd (false_true a)
-unranged_element g nothing sp k b h a w = absurd (false_true a)
+unranged_element g value sp k b h a w = absurd (false≢true a)
+unranged_element g nothing sp k b h a w = absurd (false≢true a)

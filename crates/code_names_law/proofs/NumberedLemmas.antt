@@ -1,23 +1,22 @@
 -- The law: each routine and entry stands once in the list by number, behind all that it calls.
-use Rattle.std.specs.Prelude.{◌≡◌, ◌+◌, ◌⊎◌, ◌||◌, ℕ, suc, Bool, true, false, List, [], ◌∷◌, Option, Some, None, slice_get, length, sum_by, Contains}
+use Rattle.std.specs.Prelude.{◌≡◌, ◌⊎◌, ◌||◌, ℕ, suc, Bool, true, false, List, [], ◌∷◌, Option, Some, None, slice_get, length, sum_by, Contains}
 use Rattle.std.proofs.Common.{inl, inr, refl, sym, subst, arith, length-append}
 use Rattle.std.proofs.lemmas.List.{length-map}
 use Rattle.std.proofs.lemmas.List.Sums.{sum_by-cons, count_by-le-length}
+use Rattle.std.proofs.lemmas.Option.{none-some}
+use Rattle.std.proofs.lemmas.Bool.{false≢true}
+use Rattle.base.proofs.Members.{at_front, behind, front_or_behind, none_in}
 use Rattle.syntax_tree.specs.Plain.{Monitor, Process, Decl, constant, device, event, routine, monitor, process, Prog}
 use Rattle.source_semantics.specs.Names.{routines, monitors, processes, routines_in, routine_count}
 use Rattle.code_spec.specs.Layout.{Owner, by_program, by_process, by_monitor}
 use Rattle.code_spec.specs.Numbering.{Text, same_text, routine_of, process_routines, entry_of, is_among, texts_of, texts_from, numbered, number_of}
 use Rattle.code_names_law.specs.Kept.{NamesDiffer}
-use Rattle.code_names_law.proofs.Numbers.{none_some, not_true, text_named, IsText, AllTexts, of_list}
-use Rattle.code_names_law.proofs.Rows.{program_texts, numbered_texts, numbered_at, text_at, text_same, among_program, among_process, among_monitor}
+use Rattle.code_names_law.proofs.Numbers.{text_named, IsText, AllTexts, of_list}
+use Rattle.code_names_law.proofs.Rows.{program_texts, numbered_texts, numbered_at, text_at, text_same, among_program, among_process, among_monitor, from_zero}
 use Rattle.code_names_law.specs.Numbered.{texts, RoutinesAreNumbered}
-use Rattle.code_names_law.proofs.Lists.{contains_here, contains_later, contains_cases, nothing_in}
 use Rattle.code_names_law.proofs.Visits.{Good, nothing_done, all_good}
 
 -- ---- texts are those of the declarations
-
-from_zero : (n : ℕ) → n ≡ 0 + n
-from_zero n = omega arith
 
 is_among_texts : (g : Prog) (t : Text) → IsText g t → is_among t (texts g) ≡ true
 is_among_texts g t is = by t.owner refl is
@@ -26,11 +25,11 @@ is_among_texts g t is = by t.owner refl is
     whole o e h = subst (λ y. is_among (record { owner = y; routine = t.routine }) (texts g) ≡ true) (sym e) h
 
     in_process : (k : ℕ) (p : Option Process) → slice_get (processes g) k ≡ p → routine_of (by_process k) (process_routines p) t.routine.name ≡ Some t → is_among (record { owner = by_process k; routine = t.routine }) (texts g) ≡ true
-    in_process k None at h = absurd (none_some t h)
+    in_process k None at h = absurd (none-some t h)
     in_process k (Some p) at h = among_process t.routine.name t.routine p k 0 0 k g.decls at (of_list (by_process k) p.routines t.routine.name t h).1 (from_zero k)
 
     in_monitor : (k : ℕ) (m : Option Monitor) → slice_get (monitors g) k ≡ m → entry_of k m t.routine.name ≡ Some t → is_among (record { owner = by_monitor k; routine = t.routine }) (texts g) ≡ true
-    in_monitor k None at h = absurd (none_some t h)
+    in_monitor k None at h = absurd (none-some t h)
     in_monitor k (Some m) at h = among_monitor t.routine.name t.routine m k 0 0 k g.decls at (of_list (by_monitor k) m.entries t.routine.name t h).1 (from_zero k)
 
     by : (o : Owner) → t.owner ≡ o → text_named g t.owner t.routine.name ≡ Some t → is_among t (texts g) ≡ true
@@ -40,16 +39,16 @@ is_among_texts g t is = by t.owner refl is
     by (by_monitor k) e h = whole (by_monitor k) e (in_monitor k (slice_get (monitors g) k) refl (subst (λ o. text_named g o t.routine.name ≡ Some t) e h))
 
 among_contains : (g : Prog) (us : List Text) (t : Text) → AllTexts g us → IsText g t → is_among t us ≡ true → Contains us t
-among_contains g [] t all is h = absurd (not_true h)
+among_contains g [] t all is h = absurd (false≢true h)
 among_contains g (u ∷ us) t all is h = by (same_text u t) refl h (λ k. among_contains g us t all.1 is k)
   where
     by : (b : Bool) → same_text u t ≡ b → b || is_among t us ≡ true → (is_among t us ≡ true → Contains us t) → Contains (u ∷ us) t
-    by true e h k = subst (Contains (u ∷ us)) (text_same g u t all.0 is e) (contains_here u us)
-    by false e h k = contains_later u t us (k h)
+    by true e h k = subst (Contains (u ∷ us)) (text_same g u t all.0 is e) (at_front u us)
+    by false e h k = behind u us t (k h)
 
 contained_text : (g : Prog) (us : List Text) (t : Text) → AllTexts g us → Contains us t → IsText g t
-contained_text g [] t all h = absurd (nothing_in t h)
-contained_text g (u ∷ us) t all h = by (contains_cases u t us h) (λ k. contained_text g us t all.1 k)
+contained_text g [] t all h = absurd (none_in t h)
+contained_text g (u ∷ us) t all h = by (front_or_behind u us t h) (λ k. contained_text g us t all.1 k)
   where
     by : (u ≡ t) ⊎ Contains us t → (Contains us t → IsText g t) → IsText g t
     by (inl e) k = subst (IsText g) e all.0

@@ -1,8 +1,9 @@
 -- Every routine and entry has its number.
-use Rattle.std.specs.Prelude.{◌≡◌, ◌||◌, ◌&&◌, ℕ, zero, suc, Bool, true, false, cond, List, [], ◌∷◌, ◌++◌, Option, Some, None, slice_get, map, option_map, bytes_eq, unwrap_or, ◌⊎◌}
+use Rattle.std.specs.Prelude.{◌≡◌, ◌||◌, ◌&&◌, ℕ, zero, suc, Bool, true, false, cond, List, [], ◌∷◌, ◌++◌, Option, Some, None, slice_get, map, option_map, bytes_eq, ◌⊎◌}
 use Rattle.std.proofs.Common.{inl, inr, refl, sym, ◌∙◌, ap, subst}
-use Rattle.std.proofs.lemmas.Bool.{eq-eqb, eqb-true}
+use Rattle.std.proofs.lemmas.Bool.{eq-eqb, eqb-true, and_parts, false≢true, or_cases}
 use Rattle.std.proofs.lemmas.Slice.Eq.{bytes_eq-Decides}
+use Rattle.std.proofs.lemmas.Option.{same_Some, none-some}
 use Rattle.syntax_tree.specs.Plain.{Name, Routine, Monitor, Process, Prog}
 use Rattle.source_semantics.specs.Names.{named, routines, monitors, processes, monitor_number, place_of}
 use Rattle.source_semantics.specs.Run.{or_else}
@@ -18,23 +19,17 @@ name_same a b e = (bytes_eq-Decides a b).0 e
 pub name_is : (a : Name) → bytes_eq a a ≡ true
 name_is a = (bytes_eq-Decides a a).1 refl
 
-pub none_some : {A : Type 0} (x : A) → None ≡ Some x → ⊥
-none_some x e = absurd cc
-
-pub some_same : {A : Type 0} (x y : A) → Some x ≡ Some y → x ≡ y
-some_same x y e = ap (λ o. unwrap_or o y) e
-
 -- what is found by a name has it, and stands in the list
 pub found_name : (f : Name) (rs : List Routine) (r : Routine) → named (λ k. k.name) f rs ≡ Some r → r.name ≡ f
-found_name f [] r e = absurd (none_some r e)
+found_name f [] r e = absurd (none-some r e)
 found_name f (s ∷ rs) r e = by_case (bytes_eq s.name f) refl (λ h. found_name f rs r h) e
   where
     by_case : (b : Bool) → bytes_eq s.name f ≡ b → (named (λ k. k.name) f rs ≡ Some r → r.name ≡ f) → cond b (Some s) (named (λ k. k.name) f rs) ≡ Some r → r.name ≡ f
-    by_case true is k h = ap (λ t. t.name) (sym (some_same s r h)) ∙ name_same s.name f is
+    by_case true is k h = ap (λ t. t.name) (sym (same_Some s r h)) ∙ name_same s.name f is
     by_case false is k h = k h
 
 pub found_there : (f : Name) (rs : List Routine) (r : Routine) → named (λ k. k.name) f rs ≡ Some r → (j : ℕ) × (slice_get rs j ≡ Some r)
-found_there f [] r e = absurd (none_some r e)
+found_there f [] r e = absurd (none-some r e)
 found_there f (s ∷ rs) r e = by_case (bytes_eq s.name f) (λ h. found_there f rs r h) e
   where
     by_case : (b : Bool) → (named (λ k. k.name) f rs ≡ Some r → (j : ℕ) × (slice_get rs j ≡ Some r)) → cond b (Some s) (named (λ k. k.name) f rs) ≡ Some r → (j : ℕ) × (slice_get (s ∷ rs) j ≡ Some r)
@@ -66,8 +61,8 @@ pub of_list : (o : Owner) (rs : List Routine) (f : Name) (t : Text) → routine_
 of_list o rs f t e = by_found (named (λ k. k.name) f rs) refl e
   where
     by_found : (x : Option Routine) → named (λ k. k.name) f rs ≡ x → option_map (λ r. record { owner = o; routine = r }) x ≡ Some t → (t.owner ≡ o) × (named (λ k. k.name) f rs ≡ Some t.routine)
-    by_found None is h = absurd (none_some t h)
-    by_found (Some r) is h = (ap (λ y. y.owner) (sym (some_same (record { owner = o; routine = r }) t h)), is ∙ ap (λ y. Some y.routine) (some_same (record { owner = o; routine = r }) t h))
+    by_found None is h = absurd (none-some t h)
+    by_found (Some r) is h = (ap (λ y. y.owner) (sym (same_Some (record { owner = o; routine = r }) t h)), is ∙ ap (λ y. Some y.routine) (same_Some (record { owner = o; routine = r }) t h))
 
 -- and by the name of what it gave
 pub again : (o : Owner) (rs : List Routine) (f : Name) (t : Text) → AllFound rs → routine_of o rs f ≡ Some t → routine_of o rs t.routine.name ≡ Some t
@@ -82,13 +77,13 @@ module _ (g : Prog) (differ : NamesDiffer g) where
       subst (λ o. text_named g o t.routine.name ≡ Some t) (sym (of_list by_program (routines g) f t e).0) (again by_program (routines g) f t differ.program e)
 
   pub process_text : (k : ℕ) (x : Option Process) → slice_get (processes g) k ≡ x → (f : Name) (t : Text) → routine_of (by_process k) (process_routines x) f ≡ Some t → IsText g t
-  process_text k None is f t e = absurd (none_some t e)
+  process_text k None is f t e = absurd (none-some t e)
   process_text k (Some p) is f t e =
       subst (λ o. text_named g o t.routine.name ≡ Some t) (sym (of_list (by_process k) p.routines f t e).0)
       (ap (λ y. routine_of (by_process k) (process_routines y) t.routine.name) is ∙ again (by_process k) p.routines f t (differ.process k p is) e)
 
   monitor_text : (m : ℕ) (x : Option Monitor) → slice_get (monitors g) m ≡ x → (f : Name) (t : Text) → entry_of m x f ≡ Some t → IsText g t
-  monitor_text m None is f t e = absurd (none_some t e)
+  monitor_text m None is f t e = absurd (none-some t e)
   monitor_text m (Some k) is f t e =
       subst (λ o. text_named g o t.routine.name ≡ Some t) (sym (of_list (by_monitor m) k.entries f t e).0)
       (ap (λ y. entry_of m y t.routine.name) is ∙ again (by_monitor m) k.entries f t (differ.monitor m k is) e)
@@ -105,7 +100,7 @@ module _ (g : Prog) (differ : NamesDiffer g) where
 
 -- the monitor of a name stands under its number
 pub monitor_there : (f : Name) (ms : List Monitor) (k : Monitor) → named (λ x. x.name) f ms ≡ Some k → slice_get ms (place_of f (map (λ x. x.name) ms)) ≡ Some k
-monitor_there f [] k e = absurd (none_some k e)
+monitor_there f [] k e = absurd (none-some k e)
 monitor_there f (m ∷ ms) k e = by_case (bytes_eq m.name f) (λ h. monitor_there f ms k h) e
   where
     by_case : (b : Bool) → (named (λ x. x.name) f ms ≡ Some k → slice_get ms (place_of f (map (λ x. x.name) ms)) ≡ Some k) → cond b (Some m) (named (λ x. x.name) f ms) ≡ Some k
@@ -118,7 +113,7 @@ module _ (g : Prog) (differ : NamesDiffer g) where
   entry_text mon entry t e = by_monitor_found (named (λ x. x.name) mon (monitors g)) refl e
     where
       by_monitor_found : (x : Option Monitor) → named (λ x. x.name) mon (monitors g) ≡ x → entry_of (monitor_number g mon) x entry ≡ Some t → IsText g t
-      by_monitor_found None is h = absurd (none_some t h)
+      by_monitor_found None is h = absurd (none-some t h)
       by_monitor_found (Some k) is h = monitor_text g differ (monitor_number g mon) (Some k) (monitor_there mon (monitors g) k is) entry t h
 
   pub called_is_text : (o : Owner) (c : Called) (t : Text) → called_text g o c ≡ Some t → IsText g t
@@ -153,39 +148,28 @@ pub or_true : (b : Bool) → b || true ≡ true
 or_true true = refl
 or_true false = refl
 
-pub or_either : (a b : Bool) → a || b ≡ true → (a ≡ true) ⊎ (b ≡ true)
-or_either true b h = inl refl
-or_either false b h = inr h
-
-pub both_true : (a b : Bool) → a && b ≡ true → (a ≡ true) × (b ≡ true)
-both_true true b h = (refl, h)
-both_true false b h = absurd cc
-
 owner_is : (o : Owner) → same_owner o o ≡ true
 owner_is by_program = refl
 owner_is (by_process k) = eq-eqb k k refl
 owner_is (by_monitor k) = eq-eqb k k refl
 
-pub not_true : false ≡ true → ⊥
-not_true h = cc
-
 pub owner_same : (a b : Owner) → same_owner a b ≡ true → a ≡ b
 owner_same by_program by_program h = refl
 owner_same (by_process k) (by_process j) h = ap (λ n. by_process n) (eqb-true k j h)
 owner_same (by_monitor k) (by_monitor j) h = ap (λ n. by_monitor n) (eqb-true k j h)
-owner_same by_program (by_process j) h = absurd (not_true h)
-owner_same by_program (by_monitor j) h = absurd (not_true h)
-owner_same (by_process k) by_program h = absurd (not_true h)
-owner_same (by_process k) (by_monitor j) h = absurd (not_true h)
-owner_same (by_monitor k) by_program h = absurd (not_true h)
-owner_same (by_monitor k) (by_process j) h = absurd (not_true h)
+owner_same by_program (by_process j) h = absurd (false≢true h)
+owner_same by_program (by_monitor j) h = absurd (false≢true h)
+owner_same (by_process k) by_program h = absurd (false≢true h)
+owner_same (by_process k) (by_monitor j) h = absurd (false≢true h)
+owner_same (by_monitor k) by_program h = absurd (false≢true h)
+owner_same (by_monitor k) (by_process j) h = absurd (false≢true h)
 
 pub text_is : (t : Text) → same_text t t ≡ true
 text_is t = ap (λ b. b && bytes_eq t.routine.name t.routine.name) (owner_is t.owner) ∙ name_is t.routine.name
 
 pub among_front : (t : Text) (us vs : List Text) → is_among t us ≡ true → is_among t (us ++ vs) ≡ true
-among_front t [] vs h = absurd (not_true h)
-among_front t (u ∷ us) vs h = by_either (or_either (same_text u t) (is_among t us) h) (λ k. among_front t us vs k)
+among_front t [] vs h = absurd (false≢true h)
+among_front t (u ∷ us) vs h = by_either (or_cases (same_text u t) (is_among t us) h) (λ k. among_front t us vs k)
   where
     by_either : (same_text u t ≡ true) ⊎ (is_among t us ≡ true) → (is_among t us ≡ true → is_among t (us ++ vs) ≡ true) → same_text u t || is_among t (us ++ vs) ≡ true
     by_either (inl e) k = ap (λ b. b || is_among t (us ++ vs)) e
@@ -228,11 +212,11 @@ visit_texts_keeps n g done (t ∷ ts) u h = visit_texts_keeps n g (visit n g don
 
 -- who has the key of one that is there is there
 same_among : (t u : Text) (us : List Text) → same_text t u ≡ true → is_among t us ≡ true → is_among u us ≡ true
-same_among t u [] e h = absurd (not_true h)
-same_among t u (v ∷ us) e h = by_either (or_either (same_text v t) (is_among t us) h) (λ k. same_among t u us e k)
+same_among t u [] e h = absurd (false≢true h)
+same_among t u (v ∷ us) e h = by_either (or_cases (same_text v t) (is_among t us) h) (λ k. same_among t u us e k)
   where
     parts : (same_owner t.owner u.owner ≡ true) × (bytes_eq t.routine.name u.routine.name ≡ true)
-    parts = both_true (same_owner t.owner u.owner) (bytes_eq t.routine.name u.routine.name) e
+    parts = and_parts (same_owner t.owner u.owner) (bytes_eq t.routine.name u.routine.name) e
 
     same : same_text v t ≡ same_text v u
     same = ap (λ o. same_owner v.owner o && bytes_eq v.routine.name t.routine.name) (owner_same t.owner u.owner parts.0) ∙ ap (λ x. same_owner v.owner u.owner && bytes_eq v.routine.name x) (name_same t.routine.name u.routine.name parts.1)
@@ -242,8 +226,8 @@ same_among t u (v ∷ us) e h = by_either (or_either (same_text v t) (is_among t
     by_either (inr h) k = ap (λ b. same_text v u || b) (k h) ∙ or_true (same_text v u)
 
 pub visit_texts_adds : (n : ℕ) (g : Prog) (done ts : List Text) (u : Text) → is_among u ts ≡ true → is_among u (visit_texts (suc n) g done ts) ≡ true
-visit_texts_adds n g done [] u h = absurd (not_true h)
-visit_texts_adds n g done (t ∷ ts) u h = by_either (or_either (same_text t u) (is_among u ts) h) (λ k. visit_texts_adds n g (visit (suc n) g done t) ts u k)
+visit_texts_adds n g done [] u h = absurd (false≢true h)
+visit_texts_adds n g done (t ∷ ts) u h = by_either (or_cases (same_text t u) (is_among u ts) h) (λ k. visit_texts_adds n g (visit (suc n) g done t) ts u k)
   where
     by_either : (same_text t u ≡ true) ⊎ (is_among u ts ≡ true) → (is_among u ts ≡ true → is_among u (visit_texts (suc n) g (visit (suc n) g done t) ts) ≡ true) → is_among u (visit_texts (suc n) g (visit (suc n) g done t) ts) ≡ true
     by_either (inl e) k = visit_texts_keeps (suc n) g (visit (suc n) g done t) ts u (same_among t u (visit (suc n) g done t) e (visit_adds n g done t))

@@ -1,6 +1,8 @@
 -- Where the texts of a program stand: the process that runs each as well-formedness sees it, and what its calls find.
 use Rattle.std.specs.Prelude.{◌≡◌, ◌≤◌, ℕ, true, List, [], ◌∷◌, Option, Some, None, slice_get, length, option_map}
 use Rattle.std.proofs.Common.{refl, sym, ◌∙◌, ap, subst, arith}
+use Rattle.std.proofs.lemmas.Option.{none-some, same_Some}
+use Rattle.base.proofs.Lists.{one_of}
 use Rattle.syntax_tree.specs.Plain.{Name, Routine, Monitor, Process, Prog}
 use Rattle.source_semantics.specs.Names.{named, routines, monitors, processes, monitor_number}
 use Rattle.source_semantics.specs.Run.{Found, of_program, of_process, of_monitor, or_else, entry_name, routine_named, entry_named, entry_of as source_entry}
@@ -9,10 +11,9 @@ use Rattle.code_spec.specs.Numbering.{Text, routine_of, process_routines, routin
 use Rattle.code_simulation_spec.specs.Memory.{Setting}
 use Rattle.code_simulation_spec.specs.Proper.{found_of}
 use Rattle.wellformed.specs.WellFormed.{IsWellFormed, RoutineFits, ProcessFits}
-use Rattle.code_names_law.proofs.Numbers.{none_some, some_same, IsText, found_there, of_list}
+use Rattle.code_names_law.proofs.Numbers.{IsText, found_there, of_list}
 use Rattle.code_names_law.specs.Ruled.{AllOfProgram, NamesApart}
 use Rattle.code_names_law.proofs.Mirror.{OwnerKnown}
-use Rattle.code_names_law.proofs.Rules.{one_of}
 use Rattle.code_names_law.specs.Called.{AllCalled}
 
 -- what a call finds by the meaning is what it names in the code
@@ -27,11 +28,11 @@ pub entry_names : (g : Prog) (mon en : Name) (x : Found) → entry_named g mon e
 entry_names g mon en x is = by (named (λ k. k.name) mon (monitors g)) is
   where
     found : (r : Option Routine) → option_map (λ y. record { home = of_monitor (monitor_number g mon); routine = y }) r ≡ Some x → Named (option_map (λ y. record { owner = by_monitor (monitor_number g mon); routine = y }) r) x
-    found None h = absurd (none_some x h)
-    found (Some r) h = record { text = record { owner = by_monitor (monitor_number g mon); routine = r }; is = refl; same = some_same (record { home = of_monitor (monitor_number g mon); routine = r }) x h }
+    found None h = absurd (none-some x h)
+    found (Some r) h = record { text = record { owner = by_monitor (monitor_number g mon); routine = r }; is = refl; same = same_Some (record { home = of_monitor (monitor_number g mon); routine = r }) x h }
 
     by : (d : Option Monitor) → source_entry (monitor_number g mon) en d ≡ Some x → Named (entry_of (monitor_number g mon) d en) x
-    by None h = absurd (none_some x h)
+    by None h = absurd (none-some x h)
     by (Some k) h = found (named (λ y. y.name) en k.entries) h
 
 -- ---- routines
@@ -43,9 +44,9 @@ own_names g k p at f x is =
   where
     by : (a b : Option Routine) → or_else (option_map (λ r. record { home = of_process; routine = r }) a) (option_map (λ r. record { home = of_program; routine = r }) b) ≡ Some x
         → Named (or_else (option_map (λ r. record { owner = by_process k; routine = r }) a) (option_map (λ r. record { owner = by_program; routine = r }) b)) x
-    by (Some r) b h = record { text = record { owner = by_process k; routine = r }; is = refl; same = some_same (record { home = of_process; routine = r }) x h }
-    by None (Some r) h = record { text = record { owner = by_program; routine = r }; is = refl; same = some_same (record { home = of_program; routine = r }) x h }
-    by None None h = absurd (none_some x h)
+    by (Some r) b h = record { text = record { owner = by_process k; routine = r }; is = refl; same = same_Some (record { home = of_process; routine = r }) x h }
+    by None (Some r) h = record { text = record { owner = by_program; routine = r }; is = refl; same = same_Some (record { home = of_program; routine = r }) x h }
+    by None None h = absurd (none-some x h)
 
 -- in the text of a routine of the program, or of an entry
 pub shared_names : (g : Prog) (p : Process) (f : Name) (x : Found) → routine_named g p f ≡ Some x → (r : Routine) → named (λ k. k.name) f (routines g) ≡ Some r → named (λ k. k.name) f p.routines ≡ None
@@ -53,7 +54,7 @@ pub shared_names : (g : Prog) (p : Process) (f : Name) (x : Found) → routine_n
 shared_names g p f x is r found apart = record {
   text = record { owner = by_program; routine = r };
   is = ap (λ y. option_map (λ k. record { owner = by_program; routine = k }) y) found;
-  same = some_same (record { home = of_program; routine = r }) x
+  same = same_Some (record { home = of_program; routine = r }) x
       (sym (ap (λ y. or_else (option_map (λ k. record { home = of_process; routine = k }) y) (option_map (λ k. record { home = of_program; routine = k }) (named entry_name f (routines g)))) apart
       ∙ ap (λ y. option_map (λ k. record { home = of_program; routine = k }) y) found) ∙ is);
 }
@@ -176,12 +177,12 @@ is_listed g by_program r is = of_the_program (of_list by_program (routines g) r.
 is_listed g (by_process k) r is = by (slice_get (processes g) k) refl is
   where
     by : (x : Option Process) → slice_get (processes g) k ≡ x → routine_of (by_process k) (process_routines x) r.name ≡ Some (record { owner = by_process k; routine = r }) → Listed g r (by_process k)
-    by None at h = absurd (none_some (record { owner = by_process k; routine = r }) h)
+    by None at h = absurd (none-some (record { owner = by_process k; routine = r }) h)
     by (Some p) at h = of_a_process k p at (of_list (by_process k) p.routines r.name (record { owner = by_process k; routine = r }) h).1
 is_listed g (by_monitor m) r is = by (slice_get (monitors g) m) refl is
   where
     by : (x : Option Monitor) → slice_get (monitors g) m ≡ x → entry_of m x r.name ≡ Some (record { owner = by_monitor m; routine = r }) → Listed g r (by_monitor m)
-    by None at h = absurd (none_some (record { owner = by_monitor m; routine = r }) h)
+    by None at h = absurd (none-some (record { owner = by_monitor m; routine = r }) h)
     by (Some d) at h = of_a_monitor m d at (of_list (by_monitor m) d.entries r.name (record { owner = by_monitor m; routine = r }) h).1
 
 pub text_stands : (g : Prog) → IsWellFormed g → NamesApart g → (o : Owner) (r : Routine) → IsText g (record { owner = o; routine = r }) → Stands g o r

@@ -2,6 +2,8 @@
 use Rattle.std.specs.Prelude.{◌≡◌, ◌+◌, ◌⊎◌, ◌||◌, ℕ, zero, suc, Bool, true, false, cond, List, [], ◌∷◌, ◌++◌, Option, Some, None, slice_get, length, filter_map, option_map, bytes_eq, sum_by}
 use Rattle.std.proofs.Common.{inl, inr, refl, sym, ◌∙◌, ap, subst, arith}
 use Rattle.std.proofs.lemmas.List.Sums.{sum_by-cons}
+use Rattle.std.proofs.lemmas.Option.{none-some, same_Some}
+use Rattle.std.proofs.lemmas.Bool.{false≢true, and_parts}
 use Rattle.syntax_tree.specs.Plain.{Name, Routine, Monitor, Process, Decl, constant, device, event, routine, monitor, process, Prog}
 use Rattle.source_semantics.specs.Names.{named, routines, monitors, processes, routine_in as a_routine, monitor_in, process_in, monitor_number, routines_in, routine_count}
 use Rattle.source_semantics.specs.Run.{Found, of_program, of_process, routine_named, or_else, entry_name}
@@ -13,7 +15,7 @@ use Rattle.code_spec.specs.Compiled.{IsRoutine, EmitsRoutine, EmitsRoutines, Emi
 use Rattle.code_simulation_spec.specs.Memory.{Setting}
 use Rattle.code_simulation_spec.specs.Proper.{found_of, IsMine, Entry}
 use Rattle.code_names_law.specs.Kept.{NamesDiffer}
-use Rattle.code_names_law.proofs.Numbers.{none_some, some_same, found_there, name_same, text_named, IsText, AllTexts, all_both, visit_texts_text, visit_texts_adds, not_true, both_true, owner_same, text_is, among_front, among_back, or_true, entry_text, of_list, monitor_there}
+use Rattle.code_names_law.proofs.Numbers.{found_there, name_same, text_named, IsText, AllTexts, all_both, visit_texts_text, visit_texts_adds, owner_same, text_is, among_front, among_back, or_true, entry_text, of_list, monitor_there}
 
 -- ---- every text of the program is one that is found by its name
 
@@ -72,7 +74,7 @@ module _ (g : Prog) (differ : NamesDiffer g) where
 -- ---- numbers and positions
 
 pub placed : (t : Text) (us : List Text) → is_among t us ≡ true → (u : Text) × (slice_get us (place_among t us) ≡ Some u) × (same_text u t ≡ true)
-placed t [] h = absurd (not_true h)
+placed t [] h = absurd (false≢true h)
 placed t (v ∷ us) h = by_case (same_text v t) refl h (λ k. placed t us k)
   where
     by_case : (b : Bool) → same_text v t ≡ b → b || is_among t us ≡ true → (is_among t us ≡ true → (u : Text) × (slice_get us (place_among t us) ≡ Some u) × (same_text u t ≡ true))
@@ -81,14 +83,14 @@ placed t (v ∷ us) h = by_case (same_text v t) refl h (λ k. placed t us k)
     by_case false e h k = k h
 
 pub text_at : (g : Prog) (us : List Text) (j : ℕ) (u : Text) → AllTexts g us → slice_get us j ≡ Some u → IsText g u
-text_at g [] j u h e = absurd (none_some u e)
-text_at g (v ∷ us) zero u h e = subst (λ y. IsText g y) (some_same v u e) h.0
+text_at g [] j u h e = absurd (none-some u e)
+text_at g (v ∷ us) zero u h e = subst (λ y. IsText g y) (same_Some v u e) h.0
 text_at g (v ∷ us) (suc j) u h e = text_at g us j u h.1 e
 
 pub text_same : (g : Prog) (u t : Text) → IsText g u → IsText g t → same_text u t ≡ true → u ≡ t
 text_same g u t hu ht e =
-    let parts : (same_owner u.owner t.owner ≡ true) × (bytes_eq u.routine.name t.routine.name ≡ true) = both_true (same_owner u.owner t.owner) (bytes_eq u.routine.name t.routine.name) e in
-    some_same u t (sym hu ∙ (ap (λ o. text_named g o u.routine.name) (owner_same u.owner t.owner parts.0) ∙ (ap (λ x. text_named g t.owner x) (name_same u.routine.name t.routine.name parts.1) ∙ ht)))
+    let parts : (same_owner u.owner t.owner ≡ true) × (bytes_eq u.routine.name t.routine.name ≡ true) = and_parts (same_owner u.owner t.owner) (bytes_eq u.routine.name t.routine.name) e in
+    same_Some u t (sym hu ∙ (ap (λ o. text_named g o u.routine.name) (owner_same u.owner t.owner parts.0) ∙ (ap (λ x. text_named g t.owner x) (name_same u.routine.name t.routine.name parts.1) ∙ ht)))
 
 -- where there are no routines there are no texts
 no_entries : (rs : List Routine) → length rs ≡ 0 → rs ≡ []
@@ -117,7 +119,7 @@ unfolding numbered
 is_numbered g t h = by_count (routine_count g) refl
   where
     by_count : (n : ℕ) → routine_count g ≡ n → is_among t (visit_texts n g [] (texts_from 0 0 g.decls)) ≡ true
-    by_count zero e = absurd (not_true (sym (ap (λ us. is_among t us) (no_texts 0 0 g.decls e)) ∙ h))
+    by_count zero e = absurd (false≢true (sym (ap (λ us. is_among t us) (no_texts 0 0 g.decls e)) ∙ h))
     by_count (suc n) e = visit_texts_adds n g [] (texts_from 0 0 g.decls) t h
 
 -- a text stands under its number
@@ -131,22 +133,22 @@ numbered_at g t differ is h =
 
 pub row_of : (g : Prog) (code : List Instr) (p q : ℕ) (ts : List Text) (rs : List image.Routine) (j : ℕ) (t : Text) → EmitsRoutines g code p q ts rs → slice_get ts j ≡ Some t
     → (r : image.Routine) × (slice_get rs j ≡ Some r) × IsRoutine g t r × (next : ℕ) × EmitsRoutine g code t r.start next
-row_of g code p q [] [] j t h e = absurd (none_some t e)
+row_of g code p q [] [] j t h e = absurd (none-some t e)
 row_of g code p q [] (r ∷ rs) j t h e = absurd h
 row_of g code p q (u ∷ ts) [] j t h e = absurd h
 row_of g code p q (u ∷ ts) (r ∷ rs) zero t h e =
-    let same : u ≡ t = some_same u t e in
+    let same : u ≡ t = same_Some u t e in
     (r, refl, subst (λ y. IsRoutine g y r) same h.1, h.0, subst (λ y. EmitsRoutine g code y r.start h.0) same (subst (λ n. EmitsRoutine g code u n h.0) (sym h.2) h.3))
 row_of g code p q (u ∷ ts) (r ∷ rs) (suc j) t h e = row_of g code h.0 q ts rs j t h.4 e
 
 -- the code of a process
 pub process_of : (g : Prog) (code : List Instr) (k p q : ℕ) (ts : List Process) (is : List image.Process) (j : ℕ) (t : Process) (ip : image.Process) → EmitsProcesses g code k p q ts is → slice_get ts j ≡ Some t → slice_get is j ≡ Some ip
     → (start : ℕ) × (next : ℕ) × EmitsProcess g code (k + j) t start next ip
-process_of g code k p q [] [] j t ip h e i = absurd (none_some t e)
+process_of g code k p q [] [] j t ip h e i = absurd (none-some t e)
 process_of g code k p q [] (x ∷ is) j t ip h e i = absurd h
 process_of g code k p q (u ∷ ts) [] j t ip h e i = absurd h
 process_of g code k p q (u ∷ ts) (x ∷ is) zero t ip h e i =
-    (p, h.0, subst (λ n. EmitsProcess g code n t p h.0 ip) (none k) (subst (λ y. EmitsProcess g code k t p h.0 y) (some_same x ip i) (subst (λ y. EmitsProcess g code k y p h.0 x) (some_same u t e) h.1)))
+    (p, h.0, subst (λ n. EmitsProcess g code n t p h.0 ip) (none k) (subst (λ y. EmitsProcess g code k t p h.0 y) (same_Some x ip i) (subst (λ y. EmitsProcess g code k y p h.0 x) (same_Some u t e) h.1)))
   where
     none : (n : ℕ) → n ≡ n + 0
     none n = omega arith
@@ -160,24 +162,24 @@ process_of g code k p q (u ∷ ts) (x ∷ is) (suc j) t ip h e i =
 -- ---- which texts calls name
 
 found_among : (o : Owner) (f : Name) (rs : List Routine) (r : Routine) → named (λ k. k.name) f rs ≡ Some r → is_among (record { owner = o; routine = r }) (texts_of o rs) ≡ true
-found_among o f [] r e = absurd (none_some r e)
+found_among o f [] r e = absurd (none-some r e)
 found_among o f (s ∷ rs) r e = by_case (bytes_eq s.name f) e (λ h. found_among o f rs r h)
   where
     by_case : (b : Bool) → cond b (Some s) (named (λ k. k.name) f rs) ≡ Some r → (named (λ k. k.name) f rs ≡ Some r → is_among (record { owner = o; routine = r }) (texts_of o rs) ≡ true)
         → is_among (record { owner = o; routine = r }) (texts_of o (s ∷ rs)) ≡ true
     by_case true h k =
-        ap (λ y. same_text (record { owner = o; routine = y }) (record { owner = o; routine = r }) || is_among (record { owner = o; routine = r }) (texts_of o rs)) (some_same s r h)
+        ap (λ y. same_text (record { owner = o; routine = y }) (record { owner = o; routine = r }) || is_among (record { owner = o; routine = r }) (texts_of o rs)) (same_Some s r h)
         ∙ ap (λ b. b || is_among (record { owner = o; routine = r }) (texts_of o rs)) (text_is (record { owner = o; routine = r }))
     by_case false h k = ap (λ b. same_text (record { owner = o; routine = s }) (record { owner = o; routine = r }) || b) (k h) ∙ or_true (same_text (record { owner = o; routine = s }) (record { owner = o; routine = r }))
 
 pub among_program : (f : Name) (r : Routine) (k m : ℕ) (ds : List Decl) → named (λ x. x.name) f (filter_map a_routine ds) ≡ Some r → is_among (record { owner = by_program; routine = r }) (texts_from k m ds) ≡ true
-among_program f r k m [] e = absurd (none_some r e)
+among_program f r k m [] e = absurd (none-some r e)
 among_program f r k m (routine s ∷ ds) e = by_case (bytes_eq s.name f) e (λ h. among_program f r k m ds h)
   where
     by_case : (b : Bool) → cond b (Some s) (named (λ x. x.name) f (filter_map a_routine ds)) ≡ Some r → (named (λ x. x.name) f (filter_map a_routine ds) ≡ Some r → is_among (record { owner = by_program; routine = r }) (texts_from k m ds) ≡ true)
         → is_among (record { owner = by_program; routine = r }) (texts_from k m (routine s ∷ ds)) ≡ true
     by_case true h l =
-        ap (λ y. same_text (record { owner = by_program; routine = y }) (record { owner = by_program; routine = r }) || is_among (record { owner = by_program; routine = r }) (texts_from k m ds)) (some_same s r h)
+        ap (λ y. same_text (record { owner = by_program; routine = y }) (record { owner = by_program; routine = r }) || is_among (record { owner = by_program; routine = r }) (texts_from k m ds)) (same_Some s r h)
         ∙ ap (λ b. b || is_among (record { owner = by_program; routine = r }) (texts_from k m ds)) (text_is (record { owner = by_program; routine = r }))
     by_case false h l = ap (λ b. same_text (record { owner = by_program; routine = s }) (record { owner = by_program; routine = r }) || b) (l h) ∙ or_true (same_text (record { owner = by_program; routine = s }) (record { owner = by_program; routine = r }))
 among_program f r k m (monitor d ∷ ds) e = among_back (record { owner = by_program; routine = r }) (texts_of (by_monitor m) d.entries) (texts_from k (suc m) ds) (among_program f r k (suc m) ds e)
@@ -190,25 +192,25 @@ behind_one : (t u : Text) (us : List Text) → is_among t us ≡ true → same_t
 behind_one t u us h = ap (λ b. same_text u t || b) h ∙ or_true (same_text u t)
 
 pub among_process : (f : Name) (r : Routine) (p : Process) (j k m n : ℕ) (ds : List Decl) → slice_get (filter_map process_in ds) j ≡ Some p → named (λ x. x.name) f p.routines ≡ Some r → n ≡ k + j → is_among (record { owner = by_process n; routine = r }) (texts_from k m ds) ≡ true
-among_process f r p j k m n [] e found is = absurd (none_some p e)
+among_process f r p j k m n [] e found is = absurd (none-some p e)
 among_process f r p j k m n (routine s ∷ ds) e found is = behind_one (record { owner = by_process n; routine = r }) (record { owner = by_program; routine = s }) (texts_from k m ds) (among_process f r p j k m n ds e found is)
 among_process f r p j k m n (monitor d ∷ ds) e found is = among_back (record { owner = by_process n; routine = r }) (texts_of (by_monitor m) d.entries) (texts_from k (suc m) ds) (among_process f r p j k (suc m) n ds e found is)
 among_process f r p zero k m n (process q ∷ ds) e found is =
     let same : n ≡ k = omega arith in
     among_front (record { owner = by_process n; routine = r }) (texts_of (by_process k) q.routines) (texts_from (suc k) m ds)
-    (subst (λ y. is_among (record { owner = by_process y; routine = r }) (texts_of (by_process k) q.routines) ≡ true) (sym same) (found_among (by_process k) f q.routines r (subst (λ y. named (λ x. x.name) f y.routines ≡ Some r) (sym (some_same q p e)) found)))
+    (subst (λ y. is_among (record { owner = by_process y; routine = r }) (texts_of (by_process k) q.routines) ≡ true) (sym same) (found_among (by_process k) f q.routines r (subst (λ y. named (λ x. x.name) f y.routines ≡ Some r) (sym (same_Some q p e)) found)))
 among_process f r p (suc j) k m n (process q ∷ ds) e found is = among_back (record { owner = by_process n; routine = r }) (texts_of (by_process k) q.routines) (texts_from (suc k) m ds) (among_process f r p j (suc k) m n ds e found (omega arith))
 among_process f r p j k m n (constant x c ∷ ds) e found is = among_process f r p j k m n ds e found is
 among_process f r p j k m n (device x b ∷ ds) e found is = among_process f r p j k m n ds e found is
 among_process f r p j k m n (event x ∷ ds) e found is = among_process f r p j k m n ds e found is
 
 pub among_monitor : (f : Name) (r : Routine) (d : Monitor) (j k m n : ℕ) (ds : List Decl) → slice_get (filter_map monitor_in ds) j ≡ Some d → named (λ x. x.name) f d.entries ≡ Some r → n ≡ m + j → is_among (record { owner = by_monitor n; routine = r }) (texts_from k m ds) ≡ true
-among_monitor f r d j k m n [] e found is = absurd (none_some d e)
+among_monitor f r d j k m n [] e found is = absurd (none-some d e)
 among_monitor f r d j k m n (routine s ∷ ds) e found is = behind_one (record { owner = by_monitor n; routine = r }) (record { owner = by_program; routine = s }) (texts_from k m ds) (among_monitor f r d j k m n ds e found is)
 among_monitor f r d zero k m n (monitor q ∷ ds) e found is =
     let same : n ≡ m = omega arith in
     among_front (record { owner = by_monitor n; routine = r }) (texts_of (by_monitor m) q.entries) (texts_from k (suc m) ds)
-    (subst (λ y. is_among (record { owner = by_monitor y; routine = r }) (texts_of (by_monitor m) q.entries) ≡ true) (sym same) (found_among (by_monitor m) f q.entries r (subst (λ y. named (λ x. x.name) f y.entries ≡ Some r) (sym (some_same q d e)) found)))
+    (subst (λ y. is_among (record { owner = by_monitor y; routine = r }) (texts_of (by_monitor m) q.entries) ≡ true) (sym same) (found_among (by_monitor m) f q.entries r (subst (λ y. named (λ x. x.name) f y.entries ≡ Some r) (sym (same_Some q d e)) found)))
 among_monitor f r d (suc j) k m n (monitor q ∷ ds) e found is = among_back (record { owner = by_monitor n; routine = r }) (texts_of (by_monitor m) q.entries) (texts_from k (suc m) ds) (among_monitor f r d j k (suc m) n ds e found (omega arith))
 among_monitor f r d j k m n (process p ∷ ds) e found is = among_back (record { owner = by_monitor n; routine = r }) (texts_of (by_process k) p.routines) (texts_from (suc k) m ds) (among_monitor f r d j (suc k) m n ds e found is)
 among_monitor f r d j k m n (constant x c ∷ ds) e found is = among_monitor f r d j k m n ds e found is
@@ -226,14 +228,14 @@ meant p g f x e = by_found (named entry_name f p.routines) (named entry_name f (
     by_found (Some r) b ea eb h = inl (ap (λ y. y.home) (sym (found_same (record { home = of_process; routine = r }) x h)), ea ∙ ap (λ y. Some y.routine) (found_same (record { home = of_process; routine = r }) x h))
       where
         found_same : (a b : Found) → Some a ≡ Some b → a ≡ b
-        found_same a b e = some_same a b e
-    by_found None (Some r) ea eb h = inr (ap (λ y. y.home) (sym (some_same (record { home = of_program; routine = r }) x h)), eb ∙ ap (λ y. Some y.routine) (some_same (record { home = of_program; routine = r }) x h))
-    by_found None None ea eb h = absurd (none_some x h)
+        found_same a b e = same_Some a b e
+    by_found None (Some r) ea eb h = inr (ap (λ y. y.home) (sym (same_Some (record { home = of_program; routine = r }) x h)), eb ∙ ap (λ y. Some y.routine) (same_Some (record { home = of_program; routine = r }) x h))
+    by_found None None ea eb h = absurd (none-some x h)
 
-not_process : of_program ≡ of_process → ⊥
+pub not_process : of_program ≡ of_process → ⊥
 not_process e = cc
 
-not_program : of_process ≡ of_program → ⊥
+pub not_program : of_process ≡ of_program → ⊥
 not_program e = cc
 
 -- the text of a routine that a process may call
@@ -264,7 +266,7 @@ routine_is_text e f t differ at is mine = by_owner t.owner refl mine (meant e.te
         none n = omega arith
     by_owner (by_monitor k) same m h = absurd m
 
-from_zero : (n : ℕ) → n ≡ 0 + n
+pub from_zero : (n : ℕ) → n ≡ 0 + n
 from_zero n = omega arith
 
 -- the text of an entry that a process may call
@@ -272,7 +274,7 @@ pub entry_is_text : (e : Setting) (mon entry : Name) (t : Text) → NamesDiffer 
 entry_is_text e mon entry t differ is = (entry_text e.program differ mon entry t is.in_code, by_found (named (λ x. x.name) mon (monitors e.program)) refl is.in_code)
   where
     by_found : (x : Option Monitor) → named (λ x. x.name) mon (monitors e.program) ≡ x → entry_of (monitor_number e.program mon) x entry ≡ Some t → is_among t (texts_from 0 0 e.program.decls) ≡ true
-    by_found None at h = absurd (none_some t h)
+    by_found None at h = absurd (none-some t h)
     by_found (Some k) at h =
         let l : (t.owner ≡ by_monitor (monitor_number e.program mon)) × (named (λ x. x.name) entry k.entries ≡ Some t.routine) = of_list (by_monitor (monitor_number e.program mon)) k.entries entry t h in
         subst (λ o. is_among (record { owner = o; routine = t.routine }) (texts_from 0 0 e.program.decls) ≡ true) (sym l.0)

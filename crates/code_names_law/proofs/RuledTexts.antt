@@ -1,6 +1,9 @@
 -- Expressions, targets and statements that fit keep the rules that the law of one process asks for.
 use Rattle.std.specs.Prelude.{◌≡◌, ◌<◌, ◌||◌, ◌&&◌, ℕ, suc, Bool, true, false, not, List, [], ◌∷◌, ◌++◌, Option, Some, None, ◌-ℤ◌, slice_get, option_map, Contains}
-use Rattle.std.proofs.Common.{refl, sym, ◌∙◌, ap, subst, arith}
+use Rattle.std.proofs.Common.{refl, sym, ◌∙◌, ap, subst}
+use Rattle.std.proofs.lemmas.Option.{same_Some, none-some}
+use Rattle.std.proofs.lemmas.Bool.{false≢true}
+use Rattle.base.proofs.Members.{none_in}
 use Rattle.syntax_tree.specs.Plain.{Name, Param, Constant, Answers, Var, Routine, Monitor, Expr, literal, truth, variable, element, call, minus, negation, paren, row, Exprs, no_exprs, exprs, Operands, no_operands, operand, Ref, whole, part, Stmt, assign, assign_entry, assign_empty, perform, perform_entry, when, when_else, loop, exit_when, get, put, wait, signal, broadcast, except, assert, Stmts, no_stmts, stmts, Prog}
 use Rattle.source_semantics.specs.Names.{named, constant_value, monitors, processes, monitor_number, condition_number, routine_count, conditions_of}
 use Rattle.source_semantics.specs.Store.{up_to}
@@ -22,18 +25,6 @@ use Rattle.wellformed.specs.Statements.{AreTurns, may_call, Fits, AllFit}
 use Rattle.code_names_law.specs.Ruled.{all_in, runs_of}
 use Rattle.code_names_law.proofs.Numbers.{monitor_there}
 use Rattle.code_names_law.proofs.Mirror.{here_of, OwnAt, OwnerKnown, spot_meant, value_meant, array_meant, free_meant, single_meant, unranged_word, unranged_element}
-
-pub none_some : {A : Type 0} (x : A) → None ≡ Some x → ⊥
-none_some x h = absurd cc
-
-pub some_same : {A : Type 0} (x y : A) → Some x ≡ Some y → x ≡ y
-some_same x y h = cc
-
-pub false_true : false ≡ true → ⊥
-false_true h = cc
-
-pub nothing_there : (x : Name) → Contains [] x → ⊥
-nothing_there x h = let below : h.0 < 0 = h.1 in omega arith
 
 -- ---- what calls name
 
@@ -76,7 +67,7 @@ module _ (e : Setting) (w : Whole e) (n : ℕ) where
   -- a call of a function
   callee_of : (c : Scope) (f : Name) (s : Sort) (x : Option Found) → routine_named e.program e.text f ≡ x → answer_sort x ≡ Some s → AgreeName e c f → e.order.level f < n
       → (t : Text) × (a : Answers) × Callee e c n f t × (t.routine.answers ≡ Some a) × (x ≡ Some (found_of t))
-  callee_of c f s None is h agree below = absurd (none_some s h)
+  callee_of c f s None is h agree below = absurd (none-some s h)
   callee_of c f s (Some x) is h agree below =
       let t : (t : Text) × (routine_in e.program c.owner f ≡ Some t) × (found_of t ≡ x) × IsMine e t.owner = agree x is in
       let a : (a : Answers) × (x.routine.answers ≡ Some a) = answers_of x.routine.answers h in (
@@ -88,7 +79,7 @@ module _ (e : Setting) (w : Whole e) (n : ℕ) where
       )
     where
       answers_of : (an : Option Answers) → option_map (λ y. sort_of y.kind) an ≡ Some s → (a : Answers) × (an ≡ Some a)
-      answers_of None h = absurd (none_some s h)
+      answers_of None h = absurd (none-some s h)
       answers_of (Some a) h = (a, refl)
 
   module _ (c : Scope) (turns : List Name) (vars : List Var) (place : Place e c turns vars) where
@@ -140,25 +131,25 @@ module _ (e : Setting) (w : Whole e) (n : ℕ) where
     outside_of : (r : Owner) → not (is_monitor (home_of r) || c.is_function) ≡ true → IsOutside r
     outside_of by_program h = tt
     outside_of (by_process k) h = tt
-    outside_of (by_monitor m) h = absurd (false_true h)
+    outside_of (by_monitor m) h = absurd (false≢true h)
 
     acts_of : (r : Owner) (b : Bool) → not (is_monitor (home_of r) || b) ≡ true → b ≡ false
-    acts_of by_program true h = absurd (false_true h)
+    acts_of by_program true h = absurd (false≢true h)
     acts_of by_program false h = refl
-    acts_of (by_process k) true h = absurd (false_true h)
+    acts_of (by_process k) true h = absurd (false≢true h)
     acts_of (by_process k) false h = refl
-    acts_of (by_monitor m) b h = absurd (false_true h)
+    acts_of (by_monitor m) b h = absurd (false≢true h)
 
     -- a condition is named only in an entry
     waiting_of : (x : Name) (r : Owner) → c.owner ≡ r → Contains (conditions_here e.program (home_of r)) x → Waiting e c x × MayAct c
-    waiting_of x by_program is h = absurd (nothing_there x h)
-    waiting_of x (by_process k) is h = absurd (nothing_there x h)
+    waiting_of x by_program is h = absurd (none_in x h)
+    waiting_of x (by_process k) is h = absurd (none_in x h)
     waiting_of x (by_monitor m) is h =
         let i : Reaches e m × (c.is_function ≡ false) = place.inside m is in
         (record { monitor = m; owner = is; condition = ap (λ r. slice_get e.image.conditions (condition_of e.program r x)) is ∙ by_found (slice_get (monitors e.program) m) refl h; reaches = i.0 }, i.1)
       where
         by_found : (d : Option Monitor) → slice_get (monitors e.program) m ≡ d → Contains (monitor_conditions d) x → slice_get e.image.conditions (condition_number e.program m x) ≡ Some m
-        by_found None there h = absurd (nothing_there x h)
+        by_found None there h = absurd (none_in x h)
         by_found (Some d) there h = w.condition_rows m d x there h
 
 -- ---- entries
@@ -170,15 +161,15 @@ entry_means g mon en x is = by_monitor_found (named (λ k. k.name) mon (monitors
   where
     by_entry : (k : Monitor) (r : Option Routine) → option_map (λ y. record { home = of_monitor (monitor_number g mon); routine = y }) r ≡ Some x
         → (t : Text) × (option_map (λ y. record { owner = by_monitor (monitor_number g mon); routine = y }) r ≡ Some t) × (found_of t ≡ x) × (t.owner ≡ by_monitor (monitor_number g mon))
-    by_entry k None h = absurd (none_some x h)
+    by_entry k None h = absurd (none-some x h)
     by_entry k (Some r) h = (record { owner = by_monitor (monitor_number g mon); routine = r }, refl, found_same (record { home = of_monitor (monitor_number g mon); routine = r }) x h, refl)
       where
         found_same : (a b : Found) → Some a ≡ Some b → a ≡ b
-        found_same a b e = some_same a b e
+        found_same a b e = same_Some a b e
 
     by_monitor_found : (d : Option Monitor) → named (λ k. k.name) mon (monitors g) ≡ d → source_entry (monitor_number g mon) en d ≡ Some x
         → (t : Text) × (entry_of (monitor_number g mon) d en ≡ Some t) × (found_of t ≡ x) × (t.owner ≡ by_monitor (monitor_number g mon)) × ((k : Monitor) × (slice_get (monitors g) (monitor_number g mon) ≡ Some k))
-    by_monitor_found None there h = absurd (none_some x h)
+    by_monitor_found None there h = absurd (none-some x h)
     by_monitor_found (Some k) there h =
         let r : (t : Text) × (option_map (λ y. record { owner = by_monitor (monitor_number g mon); routine = y }) (named (λ y. y.name) en k.entries) ≡ Some t) × (found_of t ≡ x) × (t.owner ≡ by_monitor (monitor_number g mon)) =
         by_entry k (named (λ y. y.name) en k.entries) h in
@@ -189,7 +180,7 @@ includes_of m ms h = by_case (includes m ms) h
   where
     by_case : (b : Bool) → b && true ≡ true → b ≡ true
     by_case true h = refl
-    by_case false h = absurd (false_true h)
+    by_case false h = absurd (false≢true h)
 
 all_front : (xs ys ms : List ℕ) → all_in (xs ++ ys) ms ≡ true → all_in xs ms ≡ true
 all_front [] ys ms h = refl
@@ -197,7 +188,7 @@ all_front (x ∷ xs) ys ms h = by_case (includes x ms) h (λ k. all_front xs ys 
   where
     by_case : (b : Bool) → b && all_in (xs ++ ys) ms ≡ true → (all_in (xs ++ ys) ms ≡ true → all_in xs ms ≡ true) → b && all_in xs ms ≡ true
     by_case true h k = k h
-    by_case false h k = absurd (false_true h)
+    by_case false h k = absurd (false≢true h)
 
 all_back : (xs ys ms : List ℕ) → all_in (xs ++ ys) ms ≡ true → all_in ys ms ≡ true
 all_back [] ys ms h = h
@@ -205,7 +196,7 @@ all_back (x ∷ xs) ys ms h = by_case (includes x ms) h (λ k. all_back xs ys ms
   where
     by_case : (b : Bool) → b && all_in (xs ++ ys) ms ≡ true → (all_in (xs ++ ys) ms ≡ true → all_in ys ms ≡ true) → all_in ys ms ≡ true
     by_case true h k = k h
-    by_case false h k = absurd (false_true h)
+    by_case false h k = absurd (false≢true h)
 
 -- the monitors that a text uses, all among those of the process
 abbrev pub UsesIn : Setting → List ℕ → Type 0
@@ -249,7 +240,7 @@ module _ (e : Setting) (w : Whole e) (n : ℕ) where
     answers_some x t s is h = by_answers t.routine.answers (ap (λ y. answer_sort y) (sym is) ∙ h)
       where
         by_answers : (an : Option Answers) → option_map (λ y. sort_of y.kind) an ≡ Some s → (a : Answers) × (an ≡ Some a)
-        by_answers None h = absurd (none_some s h)
+        by_answers None h = absurd (none-some s h)
         by_answers (Some a) h = (a, refl)
 
     answers_none : (x : Option Found) (t : Text) → x ≡ Some (found_of t) → answer_sort x ≡ None → t.routine.answers ≡ None

@@ -1,8 +1,8 @@
 -- A well-formed program keeps the rules that the law of one process asks for.
-use Rattle.std.specs.Prelude.{◌≡◌, ◌<◌, ℕ, zero, suc, true, false, List, [], ◌∷◌, ◌++◌, Option, Some, None, slice_get, option_map, All, unwrap_or}
-use Rattle.std.proofs.lemmas.Option.{unwrap_or-slice_get, slice_get_within}
-use Rattle.std.proofs.lemmas.List.Elements.{All-get_or}
+use Rattle.std.specs.Prelude.{◌≡◌, ◌<◌, ℕ, zero, suc, true, false, List, [], ◌∷◌, ◌++◌, Option, Some, None, slice_get, option_map}
+use Rattle.std.proofs.lemmas.Option.{none-some, same_Some}
 use Rattle.std.proofs.Common.{refl, sym, ◌∙◌, ap, subst, arith}
+use Rattle.std.proofs.lemmas.Bool.{false≢true}
 use Rattle.syntax_tree.specs.Plain.{Name, Param, Answers, Var, Routine, Expr, literal, truth, variable, element, call, minus, negation, paren, row, Exprs, no_exprs, exprs, Operands, no_operands, operand, Ref, whole, part, Stmt, assign, assign_entry, assign_empty, perform, perform_entry, when, when_else, loop, exit_when, get, put, wait, signal, broadcast, except, assert, Stmts, no_stmts, stmts, Process, Prog}
 use Rattle.source_semantics.specs.Names.{named, routines, processes, routine_count}
 use Rattle.source_semantics.specs.Run.{Found, of_program, of_process, routine_named, entry_named, entry_name, or_else}
@@ -20,18 +20,13 @@ use Rattle.wellformed.specs.Statements.{may_call, Fits, AllFit}
 use Rattle.wellformed.specs.WellFormed.{AnswersFit}
 use Rattle.code_names_law.specs.Ruled.{all_in, runs_of, AllOfProgram}
 use Rattle.code_names_law.proofs.Mirror.{here_of}
-use Rattle.code_names_law.proofs.RuledTexts.{AgreeName, AgreeAll, Whole, Place, UsesIn, expr_proper, none_some, some_same, false_true}
-
--- ---- the one of a list
-
-pub one_of : {X : Type 0} (P : X → Type 0) (xs : List X) (j : ℕ) (x : X) → All P xs → slice_get xs j ≡ Some x → P x
-one_of P xs j x h e = subst P (sym (unwrap_or-slice_get xs j x) ∙ ap (λ o. unwrap_or o x) e) (All-get_or P xs j x (slice_get_within xs j x e) h)
+use Rattle.code_names_law.proofs.RuledTexts.{AgreeName, AgreeAll, Whole, Place, UsesIn, expr_proper}
 
 -- ---- calls of what fits have levels below the number of routines
 
 module _ (level : Name → ℕ) (n : ℕ) (h : Here) (few : (f : Name) (x : Found) → routine_named h.program h.process f ≡ Some x → level f < n) where
   sorted : (f : Name) (s : Sort) (x : Option Found) → routine_named h.program h.process f ≡ x → answer_sort x ≡ Some s → level f < n
-  sorted f s None is e = absurd (none_some s e)
+  sorted f s None is e = absurd (none-some s e)
   sorted f s (Some x) is e = few f x is
 
   mutual
@@ -92,10 +87,10 @@ mutual
 mutual
   stmt_quiet : (g : Prog) (calls : Name → List ℕ) (s : Stmt) (h : Here) → may_call h ≡ false → Fits h s → uses g calls s ≡ []
   stmt_quiet g calls (assign r x) h q k = refl
-  stmt_quiet g calls (assign_entry r m e es) h q k = absurd (false_true (sym q ∙ k.0))
+  stmt_quiet g calls (assign_entry r m e es) h q k = absurd (false≢true (sym q ∙ k.0))
   stmt_quiet g calls (assign_empty r x) h q k = refl
-  stmt_quiet g calls (perform f es) h q k = absurd (false_true (sym q ∙ k.0))
-  stmt_quiet g calls (perform_entry m e es) h q k = absurd (false_true (sym q ∙ k.0))
+  stmt_quiet g calls (perform f es) h q k = absurd (false≢true (sym q ∙ k.0))
+  stmt_quiet g calls (perform_entry m e es) h q k = absurd (false≢true (sym q ∙ k.0))
   stmt_quiet g calls (when x s) h q k = stmts_quiet g calls s h q k.1
   stmt_quiet g calls (when_else x s t) h q k = ap (λ xs. xs ++ uses_all g calls t) (stmts_quiet g calls s h q k.1) ∙ stmts_quiet g calls t h q k.2
   stmt_quiet g calls (loop x lo hi ss) h q k = stmts_quiet g calls ss (in_loop x h) q k.1
@@ -162,13 +157,13 @@ process_agrees e c k f own mine at x is =
     )
   where
     same : (a : Found) → Some a ≡ Some x → a ≡ x
-    same a h = some_same a x h
+    same a h = same_Some a x h
 
     by_found : (a b : Option Routine) → or_else (option_map (λ r. record { home = of_process; routine = r }) a) (option_map (λ r. record { home = of_program; routine = r }) b) ≡ Some x
         → (t : Text) × (or_else (option_map (λ r. record { owner = by_process k; routine = r }) a) (option_map (λ r. record { owner = by_program; routine = r }) b) ≡ Some t) × (found_of t ≡ x) × IsMine e t.owner
     by_found (Some r) b h = (record { owner = by_process k; routine = r }, refl, same (record { home = of_process; routine = r }) h, mine)
     by_found None (Some r) h = (record { owner = by_program; routine = r }, refl, same (record { home = of_program; routine = r }) h, tt)
-    by_found None None h = absurd (none_some x h)
+    by_found None None h = absurd (none-some x h)
 
 pub all_agree : (e : Setting) (c : Scope) → ((f : Name) → AgreeName e c f) → (cs : List Called) → AgreeAll e c cs
 all_agree e c h [] = tt
@@ -181,7 +176,7 @@ program_agrees : (e : Setting) (c : Scope) (f : Name) (r : Routine) → routine_
 program_agrees e c f r own found apart x is = (
   record { owner = by_program; routine = r },
   own ∙ ap (λ y. option_map (λ k. record { owner = by_program; routine = k }) y) found,
-  some_same (record { home = of_program; routine = r }) x
+  same_Some (record { home = of_program; routine = r }) x
       (sym (ap (λ y. or_else (option_map (λ k. record { home = of_process; routine = k }) y) (option_map (λ k. record { home = of_program; routine = k }) (named entry_name f (routines e.program)))) apart
       ∙ ap (λ y. option_map (λ k. record { home = of_program; routine = k }) y) found) ∙ is),
   tt,

@@ -1,6 +1,7 @@
 -- Well-formed programs whose names stand apart are sound.
 use Rattle.std.specs.Prelude.{◌≡◌, ◌<◌, ℕ, zero, suc, Bool, List, [], ◌∷◌, Option, Some, None, slice_get, length, Contains}
 use Rattle.std.proofs.Common.{sym, ◌∙◌, ap, subst, arith}
+use Rattle.std.proofs.lemmas.Option.{none-some}
 use Rattle.syntax_tree.specs.Plain.{Routine, Stmts, Handler, Process, Prog}
 use Rattle.source_semantics.specs.Names.{processes}
 use Rattle.code_spec.specs.Layout.{Owner, by_process, home_of}
@@ -9,7 +10,7 @@ use Rattle.code_spec.specs.Compiled.{process_scope}
 use Rattle.wellformed.specs.Here.{in_routine, in_process}
 use Rattle.wellformed.specs.Statements.{AllFit, may_call}
 use Rattle.wellformed.specs.WellFormed.{IsWellFormed, OptionalFits}
-use Rattle.code_names_law.proofs.Numbers.{none_some, IsText, called_is_text}
+use Rattle.code_names_law.proofs.Numbers.{IsText, called_is_text}
 use Rattle.code_measures.specs.Sound.{SoundAll, SoundRoutine, SoundHandler}
 use Rattle.code_measures.specs.Declared.{IsBelow, IsSound}
 use Rattle.code_names_law.specs.Ruled.{NamesApart}
@@ -62,7 +63,7 @@ module _ (g : Prog) (form : IsWellFormed g) (names : NamesApart g) where
   -- ---- numbers
 
   there_below : (ts : List Text) (k : ℕ) (t : Text) → slice_get ts k ≡ Some t → k < length ts
-  there_below [] k t e = absurd (none_some t e)
+  there_below [] k t e = absurd (none-some t e)
   there_below (u ∷ ts) zero t e = omega arith
   there_below (u ∷ ts) (suc k) t e = let l = there_below ts k t e in omega arith
 

@@ -1,6 +1,8 @@
 -- A text that fits where it stands is sound, where what it calls is what the meaning finds.
-use Rattle.std.specs.Prelude.{◌≡◌, ◌<◌, ◌++◌, ℕ, List, [], ◌∷◌, Option, Some, None, slice_get, option_map, Contains}
-use Rattle.std.proofs.Common.{refl, sym, ◌∙◌, ap, subst, arith}
+use Rattle.std.specs.Prelude.{◌≡◌, ◌++◌, ℕ, List, [], ◌∷◌, Option, Some, None, slice_get, option_map, Contains}
+use Rattle.std.proofs.Common.{refl, sym, ◌∙◌, ap, subst}
+use Rattle.std.proofs.lemmas.Option.{none-some}
+use Rattle.base.proofs.Members.{none_in}
 use Rattle.syntax_tree.specs.Plain.{Name, Param, Answers, Var, Routine, Expr, literal, truth, variable, element, call, minus, negation, paren, row, Exprs, no_exprs, exprs, Operands, no_operands, operand, Ref, whole, part, Stmt, assign, assign_entry, assign_empty, perform, perform_entry, when, when_else, loop, exit_when, get, put, wait, signal, broadcast, except, assert, Stmts, no_stmts, stmts, Process, Prog}
 use Rattle.source_semantics.specs.Names.{processes}
 use Rattle.source_semantics.specs.Run.{Found, routine_named, entry_named}
@@ -23,14 +25,8 @@ use Rattle.code_names_law.proofs.Turns.{turns_count}
 use Rattle.code_names_law.specs.Called.{AllCalled}
 use Rattle.code_names_law.proofs.Finding.{called_front, called_back}
 
-none_some : {A : Type 0} (x : A) → None ≡ Some x → ⊥
-none_some x e = cc
-
 some_none : {A : Type 0} (x : A) → Some x ≡ None → ⊥
 some_none x e = cc
-
-nothing_there : (x : Name) → Contains [] x → ⊥
-nothing_there x h = let below : h.0 < 0 = h.1 in omega arith
 
 no_longer : (b : _) (s : Option Spot) → IsFreeAs b s → IsFree s
 no_longer b None h = absurd h
@@ -57,7 +53,7 @@ module _ (e : Setting) (at : slice_get (processes e.program) e.number ≡ Some e
   answers_some x t s is h = by t.routine.answers (ap (λ y. answer_sort y) (sym is) ∙ h)
     where
       by : (an : Option Answers) → option_map (λ y. sort_of y.kind) an ≡ Some s → (a : Answers) × (an ≡ Some a)
-      by None h = absurd (none_some s h)
+      by None h = absurd (none-some s h)
       by (Some a) h = (a, refl)
 
   answers_none : (x : Option Found) (t : Text) → x ≡ Some (found_of t) → answer_sort x ≡ None → t.routine.answers ≡ None
@@ -118,8 +114,8 @@ module _ (e : Setting) (at : slice_get (processes e.program) e.number ≡ Some e
 
     -- a condition is named only in an entry
     waits_in : (x : Name) (o : Owner) → c.owner ≡ o → Contains (conditions_here e.program (home_of o)) x → (m : ℕ) × (c.owner ≡ by_monitor m)
-    waits_in x by_program is h = absurd (nothing_there x h)
-    waits_in x (by_process k) is h = absurd (nothing_there x h)
+    waits_in x by_program is h = absurd (none_in x h)
+    waits_in x (by_process k) is h = absurd (none_in x h)
     waits_in x (by_monitor m) is h = (m, is)
 
   -- ---- statements

@@ -1,21 +1,16 @@
 -- Monitors and conditions stand in the image.
-use Rattle.std.specs.Prelude.{◌≡◌, ◌+◌, ◌<◌, ℕ, zero, suc, Bool, true, false, cond, List, [], ◌∷◌, ◌++◌, Some, None, slice_get, length, replicate, bytes_eq, get_or, Contains, unwrap_or}
+use Rattle.std.specs.Prelude.{◌≡◌, ◌+◌, ◌<◌, ℕ, zero, suc, Bool, true, false, cond, List, [], ◌∷◌, ◌++◌, Some, slice_get, length, replicate, bytes_eq, get_or, Contains}
 use Rattle.std.proofs.Common.{refl, sym, ◌∙◌, ap, subst, arith, append_assoc, length-append}
 use Rattle.std.proofs.lemmas.Slice.Eq.{bytes_eq-Decides}
+use Rattle.std.proofs.lemmas.Option.{same_Some, none-some}
 use Rattle.syntax_tree.specs.Plain.{Name, Monitor, Prog}
 use Rattle.source_semantics.specs.Names.{place_of, conditions_of, condition_from}
 use Rattle.machine_semantics.specs.Image as image
 use Rattle.code_spec.specs.Layout.{words_of, monitor_vars}
 use Rattle.code_spec.specs.Compiled.{AreMonitors, condition_monitors}
 
-none_some : {A : Type 0} (x : A) → None ≡ Some x → ⊥
-none_some x h = absurd cc
-
-some_same : {A : Type 0} (x y : A) → Some x ≡ Some y → x ≡ y
-some_same x y h = ap (λ o. unwrap_or o y) h
-
 pub monitor_row : (g : Prog) (base : ℕ) (ms : List Monitor) (ks : List image.Monitor) (m : ℕ) (d : Monitor) → AreMonitors g base ms ks → slice_get ms m ≡ Some d → (r : image.Monitor) × (slice_get ks m ≡ Some r)
-monitor_row g base [] ks m d h e = absurd (none_some d e)
+monitor_row g base [] ks m d h e = absurd (none-some d e)
 monitor_row g base (x ∷ ms) [] m d h e = absurd h
 monitor_row g base (x ∷ ms) (k ∷ ks) zero d h e = (k, refl)
 monitor_row g base (x ∷ ms) (k ∷ ks) (suc m) d h e = monitor_row g (base + words_of g (monitor_vars x)) ms ks m d h.2 e
@@ -49,9 +44,9 @@ there x (c ∷ cs) (suc j) lt e = by_case (bytes_eq c x) (there x cs j (omega ar
     by_case false k = omega arith
 
 condition_at : (x : Name) (d : Monitor) (ms : List Monitor) (k m before : ℕ) (xs : List ℕ) → length xs ≡ before → slice_get ms m ≡ Some d → Contains (conditions_of d) x → slice_get (xs ++ condition_monitors k ms) (condition_from before m x ms) ≡ Some (k + m)
-condition_at x d [] k m before xs size e h = absurd (none_some d e)
+condition_at x d [] k m before xs size e h = absurd (none-some d e)
 condition_at x d (y ∷ ms) k zero before xs size e h =
-    let lt : place_of x (conditions_of y) < length (conditions_of y) = subst (λ z. place_of x (conditions_of z) < length (conditions_of z)) (sym (some_same y d e)) (there x (conditions_of d) h.0 h.1 h.2) in
+    let lt : place_of x (conditions_of y) < length (conditions_of y) = subst (λ z. place_of x (conditions_of z) < length (conditions_of z)) (sym (same_Some y d e)) (there x (conditions_of d) h.0 h.1 h.2) in
     subst (λ n. slice_get (xs ++ (replicate (length (conditions_of y)) k ++ condition_monitors (suc k) ms)) (n + place_of x (conditions_of y)) ≡ Some (k + 0)) size
     (get_behind xs (replicate (length (conditions_of y)) k ++ condition_monitors (suc k) ms) (place_of x (conditions_of y)) ∙ (get_same (length (conditions_of y)) k (place_of x (conditions_of y)) (condition_monitors (suc k) ms) lt ∙ ap (λ n. Some n) (none k)))
   where

@@ -1,13 +1,15 @@
 -- What a visit leaves: each text once, behind all that it calls.
 use Rattle.std.specs.Prelude.{◌≡◌, ◌<◌, ◌≤◌, ◌⊎◌, ◌||◌, ℕ, zero, suc, Bool, true, false, cond, List, [], ◌∷◌, ◌++◌, Option, Some, None, slice_get, length, count_by, Contains}
 use Rattle.std.proofs.Common.{inl, inr, refl, sym, ◌∙◌, ap, subst, arith, length-append}
+use Rattle.std.proofs.lemmas.Bool.{false≢true}
+use Rattle.base.proofs.Members.{at_front, behind, front_or_behind, none_in}
 use Rattle.syntax_tree.specs.Plain.{Prog}
 use Rattle.code_spec.specs.Numbering.{Text, same_text, Called, called_text, routine_calls, is_among, place_among, visit_some, visit_all, visit, visit_texts}
 use Rattle.code_names_law.specs.Kept.{NamesDiffer}
-use Rattle.code_names_law.proofs.Numbers.{IsText, AllTexts, called_is_text, not_true, text_is, among_front, among_back, visit_all_keeps, visit_keeps}
+use Rattle.code_names_law.proofs.Numbers.{IsText, AllTexts, called_is_text, text_is, among_front, among_back, visit_all_keeps, visit_keeps}
 use Rattle.code_names_law.proofs.Rows.{text_same}
 use Rattle.code_names_law.specs.Numbered.{texts, CallsText}
-use Rattle.code_names_law.proofs.Lists.{contains_here, contains_later, contains_cases, nothing_in, among_at, place_front, place_below, place_last, snoc_cases, among_snoc, count_lt}
+use Rattle.code_names_law.proofs.Lists.{among_at, place_front, place_below, place_last, snoc_cases, among_snoc, count_lt}
 
 -- each text stands once, behind all that it calls, and there are no more than texts of the program
 pub record Good (g : Prog) (done : List Text) : Type 0 where
@@ -74,17 +76,17 @@ module _ (g : Prog) (differ : NamesDiffer g) (level : Text → ℕ) (listed : (t
       → AllVisited done n means cs (visit_all v means done cs)
   all_visited v means n keeps visits done [] low good = record {
     good = good;
-    here = λ c u h. absurd (nothing_in c h);
+    here = λ c u h. absurd (none_in c h);
     added = λ u is h. inl h;
   }
-  all_visited v means n keeps visits done (c ∷ cs) low good = by (means c) refl (λ next h. all_visited v means n keeps visits next cs (λ k u i. low k u (contains_later c k cs i)) h)
+  all_visited v means n keeps visits done (c ∷ cs) low good = by (means c) refl (λ next h. all_visited v means n keeps visits next cs (λ k u i. low k u (behind c cs k i)) h)
     where
       by : (x : Option Text) → means c ≡ x → ((next : List Text) → Good g next → AllVisited next n means cs (visit_all v means next cs)) → AllVisited done n means (c ∷ cs) (visit_all v means (visit_some v done x) cs)
       by None is rest =
           let r = rest done good in
           record {
             good = r.good;
-            here = λ k u i e. here k u (contains_cases c k cs i) e r;
+            here = λ k u i e. here k u (front_or_behind c cs k i) e r;
             added = r.added;
           }
         where
@@ -95,12 +97,12 @@ module _ (g : Prog) (differ : NamesDiffer g) (level : Text → ℕ) (listed : (t
               none t e = cc
           here k u (inr i) e r = r.here k u i e
       by (Some t) is rest =
-          let k = low c t (contains_here c cs) is in
+          let k = low c t (at_front c cs) is in
           let first = visits done t good k.0 k.1 in
           let r = rest (v done t) first.good in
           record {
             good = r.good;
-            here = λ k u i e. here k u (contains_cases c k cs i) e first r;
+            here = λ k u i e. here k u (front_or_behind c cs k i) e first r;
             added = λ u text h. added u text (r.added u text h) first k.1;
           }
         where
@@ -143,7 +145,7 @@ module _ (g : Prog) (differ : NamesDiffer g) (level : Text → ℕ) (listed : (t
           new true e out h = absurd (by_either (h e))
             where
               by_either : (is_among t done ≡ true) ⊎ (level t < level t) → ⊥
-              by_either (inl k) = not_true (sym out ∙ k)
+              by_either (inl k) = false≢true (sym out ∙ k)
               by_either (inr k) = omega arith
 
           added : (u : Text) → IsText g u → (is_among u (with_called n g done t) ≡ true) ⊎ (same_text t u ≡ true) → (is_among u (with_called n g done t) ≡ true → (is_among u done ≡ true) ⊎ (level u < level t)) → (is_among u done ≡ true) ⊎ (level u ≤ level t)

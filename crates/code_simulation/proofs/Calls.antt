@@ -1,6 +1,7 @@
 -- Calls of procedures and of entries.
 use Rattle.std.specs.Prelude.{◌≡◌, ◌+◌, ℕ, Bool, true, false, List, [], ◌∷◌, ◌++◌, Option, Some, None, ℤ, pos}
 use Rattle.std.proofs.Common.{refl, sym, ◌∙◌, ap, subst, arith, inl, append_assoc}
+use Rattle.std.proofs.lemmas.Bool.{false≢true}
 use Rattle.syntax_tree.specs.Plain.{Name, Answers}
 use Rattle.source_semantics.specs.Names.{routine_count}
 use Rattle.source_semantics.specs.Store.{Vars}
@@ -35,9 +36,6 @@ innermost_of : (inner : List Call) (call bottom : Call) → innermost (inner ++ 
 innermost_of [] call bottom = refl
 innermost_of (c ∷ inner) call bottom = refl
 
-not_true : false ≡ true → ⊥
-not_true h = cc
-
 not_false : true ≡ false → ⊥
 not_false h = cc
 
@@ -58,7 +56,7 @@ module _ (e : Setting) (o : Own) (c : Scope) (fixed : List ℤ) (before : Before
         record {
           frame = f.frame;
           others = others_left e o.job.inside g.0.owned g.0.shared us k.process k.monitor g.1.others same;
-          same = λ is. absurd (not_true (sym acts ∙ is));
+          same = λ is. absurd (false≢true (sym acts ∙ is));
         },
         refl,
         refl,
@@ -66,8 +64,8 @@ module _ (e : Setting) (o : Own) (c : Scope) (fixed : List ℤ) (before : Before
       ))))
   procedure_back u p q os t inner_fixed before2 r (exits k) start f end at h = then_runs h (λ b g. absurd g)
   procedure_back u p q os t inner_fixed before2 r (fails n k) start f end at h =
-      then_runs h (λ b g. arrived ((λ is. absurd (not_true (sym acts ∙ is))), record { instr = g.1.instr; here = g.1.here; raises = g.1.raises; inside = g.1.inside; handling = g.1.handling; frame = g.1.frame; others = g.1.others }))
-  procedure_back u p q os t inner_fixed before2 r (answers v k) start f end at h = then_runs h (λ b g. absurd (not_true g.0))
+      then_runs h (λ b g. arrived ((λ is. absurd (false≢true (sym acts ∙ is))), record { instr = g.1.instr; here = g.1.here; raises = g.1.raises; inside = g.1.inside; handling = g.1.handling; frame = g.1.frame; others = g.1.others }))
+  procedure_back u p q os t inner_fixed before2 r (answers v k) start f end at h = then_runs h (λ b g. absurd (false≢true g.0))
   procedure_back u p q os t inner_fixed before2 r (stops a inside is k) start f end at h =
       then_runs h (λ b g. arrived (
         acts,
@@ -85,7 +83,7 @@ module _ (e : Setting) (o : Own) (c : Scope) (fixed : List ℤ) (before : Before
           others = g.1.others;
           stands = around e (inside_after a b.job.inside) inside (call_with (home_of t.owner) k.own is) (frame_after b g.1.below ∷ g.1.frames)
               (point (routine_scope e.program t) inner_fixed o.job.inside false r []) [] (bottom_of (Behind q os) (back_to m.own k) [])
-              (record { back = p + 1; locals = u.locals; operands = os } ∷ []) (Behind q os) g.1.stands (refl, λ no_value. (out, at)) (λ is. absurd (not_true is)) (λ no_value r. r)
+              (record { back = p + 1; locals = u.locals; operands = os } ∷ []) (Behind q os) g.1.stands (refl, λ no_value. (out, at)) (λ is. absurd (false≢true is)) (λ no_value r. r)
               (record { scope = c; fixed = fixed; home = refl; acts = acts; fits = f.frame; stands = nothing e o c fixed before m here None (p + 1) q os (sym out) end });
         },
       ))
@@ -94,7 +92,7 @@ module _ (e : Setting) (o : Own) (c : Scope) (fixed : List ℤ) (before : Before
   pub procedure_runs : (n : ℕ) (calls : Calls) (code : HasCode e) (known : CallsCome e n calls) (f : Name) (t : Text) (start : Own) (p q : ℕ) (os : List Operand) (b : Bound) → Callee e c n f t → t.routine.answers ≡ None
       → At e.image.code p (i.Call (pos (number_of e.program t))) → p + 1 ≡ q → Runs e.image (GotAll e o c fixed before m t.routine.params p os b) start
       → Runs e.image (Reached e o (Behind q os) before (performed (site_of e c calls) m (found_of t) b)) start
-  procedure_runs n calls code known f t start p q os (unbound k) callee is at end h = then_runs h (λ b g. arrived ((λ fn. absurd (not_true (sym acts ∙ fn))), g))
+  procedure_runs n calls code known f t start p q os (unbound k) callee is at end h = then_runs h (λ b g. arrived ((λ fn. absurd (false≢true (sym acts ∙ fn))), g))
   procedure_runs n calls code known f t start p q os (bound vs) callee is at end h =
       let row : IsThere e t = code.routines f t callee.in_source callee.mine in
       then_runs h (λ b g. subst (λ y. Runs e.image (Reached e o (Behind q os) before (performed (site_of e c calls) m (found_of t) (bound vs))) y) (sym g.4)
@@ -130,7 +128,7 @@ entry_end e c fixed mon p q None emits ok may = record {
   end = point c fixed None false (p + 1) [];
   stands = (p, record { operands = refl; onward = there; here = emits.has.0; inside = refl }, tt, (p + 1, there, refl));
   ends = (refl, λ no_value. (refl, emits.has.1.0));
-  gives = λ is none. not_true is;
+  gives = λ is none. false≢true is;
   gives_none = λ no_value. refl;
 }
 entry_end e c fixed mon p q (Some a) emits ok may = record {
@@ -209,7 +207,7 @@ module _ (e : Setting) (o : Own) (c : Scope) (fixed : List ℤ) (before : Before
       → At e.image.code p (i.Call (pos (number_of e.program t))) → Stands e (point c fixed None false (p + 1) os) items z → ((t.routine.answers ≡ None → ⊥) → Receives items) → (t.routine.answers ≡ None → Receives items → ⊥)
       → Runs e.image (GotAll e o c fixed before m t.routine.params p os b) start
       → Runs e.image (Reached e o z before (entered_run (site_of e c calls) m (found_of t) mon b items)) start
-  entry_runs calls t mon there_is proper own reaches start p os (unbound k) items z within at stands receives receives_none h = then_runs h (λ b g. arrived (subst (λ y. Same y before m) (sym within) (λ fn. absurd (not_true (sym acts ∙ fn))), g))
+  entry_runs calls t mon there_is proper own reaches start p os (unbound k) items z within at stands receives receives_none h = then_runs h (λ b g. arrived (subst (λ y. Same y before m) (sym within) (λ fn. absurd (false≢true (sym acts ∙ fn))), g))
   entry_runs calls t mon there_is proper own reaches start p os (bound vs) items z within at stands receives receives_none h =
       then_runs h (λ b g. subst (λ y. Runs e.image (Reached e o z before (entered_run (site_of e c calls) m (found_of t) mon (bound vs) items)) y) (sym g.4)
       (call_runs e o c fixed before m (Reached e o z before (entered_run (site_of e c calls) m (found_of t) mon (bound vs) items)) g.2 p os t there_is g.0 vs g.3 g.1 at

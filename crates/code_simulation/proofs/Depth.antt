@@ -1,6 +1,7 @@
 -- Calls come to what they come to, at every depth.
-use Rattle.std.specs.Prelude.{◌≡◌, ◌≤◌, ◌<◌, ℕ, zero, suc, Bool, true, false, List, [], Option, Some, None, ℤ}
+use Rattle.std.specs.Prelude.{◌≡◌, ◌≤◌, ◌<◌, ℕ, zero, suc, true, false, List, [], Option, Some, None, ℤ}
 use Rattle.std.proofs.Common.{refl, sym, subst, arith}
+use Rattle.std.proofs.lemmas.Bool.{false≢true, both_ways}
 use Rattle.syntax_tree.specs.Plain.{Answers}
 use Rattle.base.specs.Words.{Answer, word, raised, with_word}
 use Rattle.source_semantics.specs.Names.{routine_count}
@@ -26,12 +27,6 @@ use Rattle.code_simulation.proofs.Expressions.{value_gets}
 use Rattle.code_simulation.proofs.Stores.{Laid}
 use Rattle.code_simulation.proofs.Layouts.{routine_room}
 use Rattle.code_simulation.proofs.Statements.{all_runs}
-
-not_true : false ≡ true → ⊥
-not_true h = cc
-
-not_both : (b : Bool) → b ≡ true → b ≡ false → ⊥
-not_both b t f = absurd cc
 
 -- ---- the parts of a routine that is no entry
 
@@ -89,8 +84,8 @@ answered_from e n calls code known o c fixed m here fn ex p q a (goes k) start e
 answered_from e n calls code known o c fixed m here fn ex p q a (exits k) start emits at ok h =
     then_runs h (λ b g. absurd (subst (λ y. Left e o (point c fixed o.job.inside false p []) fixed (before_of m) k y b) ex g))
 answered_from e n calls code known o c fixed m here fn ex p q a (fails j k) start emits at ok h = then_runs h (λ b g. arrived (moved_raising e o j k m b (g.0 fn) g.1))
-answered_from e n calls code known o c fixed m here fn ex p q a (answers v k) start emits at ok h = then_runs h (λ b g. absurd (not_true g.0))
-answered_from e n calls code known o c fixed m here fn ex p q a (stops x inside is k) start emits at ok h = then_runs h (λ b g. absurd (not_both c.is_function fn g.0))
+answered_from e n calls code known o c fixed m here fn ex p q a (answers v k) start emits at ok h = then_runs h (λ b g. absurd (false≢true g.0))
+answered_from e n calls code known o c fixed m here fn ex p q a (stops x inside is k) start emits at ok h = then_runs h (λ b g. absurd (both_ways c.is_function g.0 fn))
 
 -- ---- depth
 

@@ -1,6 +1,7 @@
 -- A new frame holds the arguments and fresh variables.
-use Rattle.std.specs.Prelude.{◌≡◌, ◌+◌, ◌<◌, ℕ, zero, suc, Bool, true, false, List, [], ◌∷◌, ◌++◌, Some, ℤ, pos, length, slice_get, map, replicate}
+use Rattle.std.specs.Prelude.{◌≡◌, ◌+◌, ◌<◌, ℕ, zero, suc, false, List, [], ◌∷◌, ◌++◌, Some, ℤ, pos, length, slice_get, map, replicate}
 use Rattle.std.proofs.Common.{refl, sym, ◌∙◌, ap, subst, arith, length-append}
+use Rattle.std.proofs.lemmas.Bool.{both_ways}
 use Rattle.syntax_tree.specs.Plain.{Param, Kind, scalar, array as array_of, Var, Routine, Prog}
 use Rattle.source_semantics.specs.Store.{Vars, fresh, fresh_held}
 use Rattle.source_semantics.specs.Run.{own_vars}
@@ -132,14 +133,11 @@ abbrev pub no_values : List Place → List ℤ
 no_values [] = []
 no_values (p ∷ ps) = pos 0 ∷ no_values ps
 
-true_false : (b : Bool) → b ≡ true → b ≡ false → ⊥
-true_false b t f = absurd cc
-
 free_kept : (ws : List ℤ) (ps : List Place) (vs : Vars) → AllFree ps → Holds anywhere ws ps vs → KeptAll ps (no_values ps) vs
 free_kept ws [] [] f h = tt
 free_kept ws [] (s ∷ vs) f h = absurd h
 free_kept ws (p ∷ ps) [] f h = absurd h
-free_kept ws (p ∷ ps) (s ∷ vs) f h = ((λ t. absurd (true_false p.fixed t f.0)), free_kept ws ps vs f.1 h.1)
+free_kept ws (p ∷ ps) (s ∷ vs) f h = ((λ t. absurd (both_ways p.fixed f.0 t)), free_kept ws ps vs f.1 h.1)
 
 -- ---- the new frame
 

@@ -18,7 +18,7 @@ above_less : (v w : ℕ) (ps : List Place) → v ≤ w → AllAbove w ps → All
 above_less v w [] le h = tt
 above_less v w (p ∷ ps) le h = (omega (arith, h.0, le), above_less v w ps le h.1)
 
-below_more : (v w : ℕ) (ps : List Place) → v ≤ w → AllBelow v ps → AllBelow w ps
+pub below_more : (v w : ℕ) (ps : List Place) → v ≤ w → AllBelow v ps → AllBelow w ps
 below_more v w [] le h = tt
 below_more v w (p ∷ ps) le h = (omega (arith, h.0, le), below_more v w ps le h.1)
 

@@ -1,6 +1,7 @@
 -- What a silent instruction leaves as it was: the monitor that the process is inside, whether it handles, and all words out of its reach.
 use Rattle.std.specs.Prelude.{◌≡◌, ◌&&◌, ◌-ℤ◌, ℕ, zero, suc, Bool, true, false, cond, List, [], ◌∷◌, Option, Some, None, ℤ, pos, negsuc, ◌+ℤ◌, int_le, int_lt, slice_get}
 use Rattle.std.proofs.Common.{refl, sym, ◌∙◌, ap, subst}
+use Rattle.std.proofs.lemmas.Bool.{both_ways}
 use Rattle.base.specs.Words.{Answer, word, raised, is_zero, within, sum, difference, product, negated, quotient, remainder}
 use Rattle.machine_isa.specs.declared.instr.Instr.{Instr}
 use Rattle.machine_isa.specs.declared.instr.Instr.TheVariants as i
@@ -19,9 +20,6 @@ pub record Kept (image : Image) (o p : Own) : Type 0 where
 abbrev pub Quiet : Image → Own → Outcome → Type 0
 Quiet image o (Goes p) = Kept image o p
 Quiet image o r = Unit {0}
-
-true_false : (b : Bool) → b ≡ true → b ≡ false → ⊥
-true_false b t f = absurd cc
 
 module _ (image : Image) (o : Own) where
   take_quiet : (ops : List Operand) (p : Own) (go : ℤ → Own → Outcome) → Kept image o p → ((x : ℤ) (q : Own) → Kept image o q → Quiet image o (go x q)) → Quiet image o (table.take_one ops p go)
@@ -73,7 +71,7 @@ module _ (image : Image) (o : Own) where
           (record {
             inside = k.inside;
             handling = k.handling;
-            words = λ w out. get_set_other p.shared n w z (λ same. true_false (is_reached image o.job.inside (pos w)) (ap (λ t. is_reached image t (pos w)) (sym k.inside) ∙ (ap (λ t. is_reached image p.job.inside (pos t)) same ∙ e)) out) ∙ k.words w out;
+            words = λ w out. get_set_other p.shared n w z (λ same. both_ways (is_reached image o.job.inside (pos w)) out (ap (λ t. is_reached image t (pos w)) (sym k.inside) ∙ (ap (λ t. is_reached image p.job.inside (pos t)) same ∙ e))) ∙ k.words w out;
           })
 
   element_quiet : (w low len x : ℤ) (go : ℤ → Outcome) → ((e : ℤ) → Quiet image o (go e)) → Quiet image o (table.element w low len x go)

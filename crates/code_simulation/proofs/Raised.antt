@@ -27,7 +27,8 @@ use Rattle.code_simulation.proofs.Layouts.{all_laid}
 use Rattle.code_simulation.proofs.Next.{next_comes, at_frame}
 use Rattle.code_spec.specs.Boundary.{Compiled, view, view_raised, view_released}
 use Rattle.code_simulation.specs.Process.{setting_of, ProperHandler, IsEmitted, HasHandler, StandsFor}
-use Rattle.code_simulation.proofs.Sizes.{stmts_size, alike}
+use Rattle.code_simulation.proofs.Sizes.{stmts_size}
+use Rattle.code_measures.proofs.Sizes.{alike}
 
 lists_same : (g : Prog) (n : ℕ) (cs : List Constant) → lists (map (λ k. count_value g k) cs) n ≡ lists_of g n cs
 lists_same g n [] = refl

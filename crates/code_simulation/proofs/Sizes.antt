@@ -1,67 +1,21 @@
 -- The tree of a text covers as many instructions as its code has.
-use Rattle.std.specs.Prelude.{◌≡◌, ◌+◌, ℕ, zero, suc, Bool, true, false, cond, List, [], ◌∷◌, ◌++◌, Option, Some, None, ℤ, pos, length, bytes_eq}
-use Rattle.std.proofs.Common.{refl, sym, ap, subst, arith}
+use Rattle.std.specs.Prelude.{◌≡◌, ◌+◌, ℕ, suc, List, [], ◌∷◌, ◌++◌, Option, Some, None, ℤ, pos, length}
+use Rattle.std.proofs.Common.{refl, ap, subst, arith}
 use Rattle.syntax_tree.specs.Plain.{Name, Param, Expr, literal, truth, variable, element, call, minus, negation, paren, row, Exprs, no_exprs, exprs, Operands, no_operands, operand, Ref, whole, part, Stmt, assign, assign_entry, assign_empty, perform, perform_entry, when, when_else, loop, exit_when, get, put, wait, signal, broadcast, except, assert, Stmts, no_stmts, stmts, Prog}
 use Rattle.source_semantics.specs.Store.{range_of}
 use Rattle.machine_isa.specs.declared.instr.Instr.{Instr}
 use Rattle.machine_isa.specs.declared.instr.Instr.TheVariants as i
-use Rattle.machine_semantics.specs.Trees.{Segs, Line, Fork, Rep, Call, Stay, Wait, Exit, Nil, Cons, size}
-use Rattle.code_spec.specs.Layout.{Shape, single, array, Spot, Scope, spot_of, place_named, in_area, in_frame, outer_spot, loops, loops_in}
+use Rattle.machine_semantics.specs.Trees.{Segs, Fork, Rep, Call, Exit, Nil, Cons, size}
+use Rattle.code_spec.specs.Layout.{Shape, single, array, Spot, Scope, spot_of, loops, loops_in}
 use Rattle.source_semantics.specs.Names.{device_number, constant_value}
-use Rattle.source_semantics.specs.Run.{or_else}
 use Rattle.code_spec.specs.Numbering.{Text, routine_in, entry_in, number_of}
 use Rattle.code_spec.specs.Code.{code_of, row_code, args_code, call_code, index_code, store_code, store_spot, store_element, store_shape, put_code, range_code, range_of_spot, ref_name}
-use Rattle.code_spec.specs.Emits.{IsLine, inner, counter_place, Emits, EmitsAll, condition_of, turns_of}
-use Rattle.code_spec.specs.Segments.{before, line, call_segs, expr_segs, row_segs, args_segs, index_segs, put_segs, stmt_segs, stmts_segs}
+use Rattle.code_spec.specs.Emits.{IsLine, inner, Emits, EmitsAll, condition_of, turns_of}
+use Rattle.code_spec.specs.Segments.{line, call_segs, expr_segs, row_segs, args_segs, index_segs, put_segs, stmt_segs, stmts_segs}
 use Rattle.code_simulation_spec.specs.Memory.{Setting}
 use Rattle.code_simulation_spec.specs.Proper.{IsSingle, IsArray, IsFree, ProperRef, Proper, ProperAll}
-
-length_joined : (is js : List Instr) → length (is ++ js) ≡ length is + length js
-length_joined [] js = omega arith
-length_joined (i ∷ is) js = let e : length (is ++ js) ≡ length is + length js = length_joined is js in omega arith
-
-before_size : (k : ℕ) (after : Segs) → size (before k after) ≡ k + size after
-before_size k Nil = refl
-before_size k (Cons (Line n) rest) = omega arith
-before_size k (Cons (Fork a b) rest) = refl
-before_size k (Cons (Rep n a) rest) = refl
-before_size k (Cons (Call r) rest) = refl
-before_size k (Cons (Stay m a) rest) = refl
-before_size k (Cons Wait rest) = refl
-before_size k (Cons Exit rest) = refl
-
-line_size : (k : ℕ) (after : Segs) → size (line k after) ≡ k + size after
-line_size zero after = omega arith
-line_size (suc k) after = before_size (suc k) after
-
--- two scopes of one owner, where what may be assigned to has one range
-pub record Alike (g : Prog) (c d : Scope) : Type 0 where
-  pub owner : c.owner ≡ d.owner
-  pub range : (y : Name) (sp : Spot) → spot_of g c y ≡ Some sp → sp.place.fixed ≡ false → range_of_spot (spot_of g d y) ≡ sp.place.range
-
-pub alike : (g : Prog) (c : Scope) → Alike g c c
-alike g c = record { owner = refl; range = λ y sp is free. ap (λ t. range_of_spot t) is }
-
-some_same : (x y : Spot) → Some x ≡ Some y → x ≡ y
-some_same x y e = ap (λ o. unwrapped o) e
-  where
-    unwrapped : Option Spot → Spot
-    unwrapped None = y
-    unwrapped (Some z) = z
-
-true_false : (b : Bool) → b ≡ true → b ≡ false → ⊥
-true_false b t f = absurd cc
-
-pub alike_inner : (g : Prog) (c d : Scope) (x : Name) (w q : ℕ) → Alike g c d → Alike g (inner c x w q) d
-alike_inner g c d x w q a = record {
-  owner = a.owner;
-  range = λ y sp is free. by_case y sp free (bytes_eq x y) is;
-}
-  where
-    by_case : (y : Name) (sp : Spot) → sp.place.fixed ≡ false → (b : Bool)
-        → or_else (in_area in_frame (cond b (Some (counter_place x w)) (place_named y c.own))) (outer_spot g c.owner y) ≡ Some sp → range_of_spot (spot_of g d y) ≡ sp.place.range
-    by_case y sp free true is = absurd (true_false sp.place.fixed (ap (λ t. t.place.fixed) (sym (some_same (record { area = in_frame; place = counter_place x w }) sp is))) free)
-    by_case y sp free false is = a.range y sp is free
+use Rattle.code_measures.proofs.Sizes.{line_size, alike_inner, Alike}
+use Rattle.code_measures.proofs.Lines.{length_both}
 
 -- ---- expressions
 
@@ -71,7 +25,7 @@ module _ (g : Prog) (c d : Scope) (a : Alike g c d) where
   call_sizes None es after args = omega arith
   call_sizes (Some t) es after args =
       let h : size (args_segs g d es t.routine.params (Cons (Call (number_of g t)) after)) ≡ length (args_code g c es t.routine.params) + size (Cons (Call (number_of g t)) after) = args t.routine.params (Cons (Call (number_of g t)) after) in
-      let j : length (args_code g c es t.routine.params ++ (i.Call (pos (number_of g t)) ∷ [])) ≡ length (args_code g c es t.routine.params) + 1 = length_joined (args_code g c es t.routine.params) _ in omega arith
+      let j : length (args_code g c es t.routine.params ++ (i.Call (pos (number_of g t)) ∷ [])) ≡ length (args_code g c es t.routine.params) + 1 = length_both (args_code g c es t.routine.params) _ in omega arith
 
   mutual
     expr_size : (e : Expr) (after : Segs) → size (expr_segs g d e after) ≡ length (code_of g c e) + size after
@@ -81,21 +35,21 @@ module _ (g : Prog) (c d : Scope) (a : Alike g c d) where
     expr_size (element x e) after =
         let h : size (expr_segs g d e (line 1 after)) ≡ length (code_of g c e) + size (line 1 after) = expr_size e (line 1 after) in
         let l : size (line 1 after) ≡ 1 + size after = line_size 1 after in
-        let j : length (code_of g c (element x e)) ≡ length (code_of g c e) + 1 = length_joined (code_of g c e) _ in omega arith
+        let j : length (code_of g c (element x e)) ≡ length (code_of g c e) + 1 = length_both (code_of g c e) _ in omega arith
     expr_size (call f es) after = subst (λ r. size (call_segs g (routine_in g r f) (λ ps k. args_segs g d es ps k) after) ≡ length (code_of g c (call f es)) + size after) a.owner (call_sizes (routine_in g c.owner f) es after (λ ps k. args_size es ps k))
     expr_size (minus e) after =
         let h : size (expr_segs g d e (line 1 after)) ≡ length (code_of g c e) + size (line 1 after) = expr_size e (line 1 after) in
         let l : size (line 1 after) ≡ 1 + size after = line_size 1 after in
-        let j : length (code_of g c (minus e)) ≡ length (code_of g c e) + 1 = length_joined (code_of g c e) _ in omega arith
+        let j : length (code_of g c (minus e)) ≡ length (code_of g c e) + 1 = length_both (code_of g c e) _ in omega arith
     expr_size (negation e) after =
         let h : size (expr_segs g d e (line 1 after)) ≡ length (code_of g c e) + size (line 1 after) = expr_size e (line 1 after) in
         let l : size (line 1 after) ≡ 1 + size after = line_size 1 after in
-        let j : length (code_of g c (negation e)) ≡ length (code_of g c e) + 1 = length_joined (code_of g c e) _ in omega arith
+        let j : length (code_of g c (negation e)) ≡ length (code_of g c e) + 1 = length_both (code_of g c e) _ in omega arith
     expr_size (paren e) after = expr_size e after
     expr_size (row e r) after =
         let h : size (expr_segs g d e (row_segs g d r after)) ≡ length (code_of g c e) + size (row_segs g d r after) = expr_size e (row_segs g d r after) in
         let k : size (row_segs g d r after) ≡ length (row_code g c r) + size after = row_size r after in
-        let j : length (code_of g c (row e r)) ≡ length (code_of g c e) + length (row_code g c r) = length_joined (code_of g c e) (row_code g c r) in omega arith
+        let j : length (code_of g c (row e r)) ≡ length (code_of g c e) + length (row_code g c r) = length_both (code_of g c e) (row_code g c r) in omega arith
 
     row_size : (r : Operands) (after : Segs) → size (row_segs g d r after) ≡ length (row_code g c r) + size after
     row_size no_operands after = omega arith
@@ -103,7 +57,7 @@ module _ (g : Prog) (c d : Scope) (a : Alike g c d) where
         let h : size (expr_segs g d e (line 1 (row_segs g d r after))) ≡ length (code_of g c e) + size (line 1 (row_segs g d r after)) = expr_size e (line 1 (row_segs g d r after)) in
         let l : size (line 1 (row_segs g d r after)) ≡ 1 + size (row_segs g d r after) = line_size 1 (row_segs g d r after) in
         let k : size (row_segs g d r after) ≡ length (row_code g c r) + size after = row_size r after in
-        let j : length (row_code g c (operand op e r)) ≡ length (code_of g c e) + suc (length (row_code g c r)) = length_joined (code_of g c e) _ in omega arith
+        let j : length (row_code g c (operand op e r)) ≡ length (code_of g c e) + suc (length (row_code g c r)) = length_both (code_of g c e) _ in omega arith
 
     args_size : (es : Exprs) (ps : List Param) (after : Segs) → size (args_segs g d es ps after) ≡ length (args_code g c es ps) + size after
     args_size no_exprs ps after = omega arith
@@ -115,8 +69,8 @@ module _ (g : Prog) (c d : Scope) (a : Alike g c d) where
         expr_size e (line (length (range_code (range_of g p.kind))) (args_segs g d es ps after)) in
         let l : size (line (length (range_code (range_of g p.kind))) (args_segs g d es ps after)) ≡ length (range_code (range_of g p.kind)) + size (args_segs g d es ps after) = line_size (length (range_code (range_of g p.kind))) (args_segs g d es ps after) in
         let k : size (args_segs g d es ps after) ≡ length (args_code g c es ps) + size after = args_size es ps after in
-        let j : length (code_of g c e ++ (range_code (range_of g p.kind) ++ args_code g c es ps)) ≡ length (code_of g c e) + length (range_code (range_of g p.kind) ++ args_code g c es ps) = length_joined (code_of g c e) _ in
-        let j2 : length (range_code (range_of g p.kind) ++ args_code g c es ps) ≡ length (range_code (range_of g p.kind)) + length (args_code g c es ps) = length_joined (range_code (range_of g p.kind)) _ in omega arith
+        let j : length (code_of g c e ++ (range_code (range_of g p.kind) ++ args_code g c es ps)) ≡ length (code_of g c e) + length (range_code (range_of g p.kind) ++ args_code g c es ps) = length_both (code_of g c e) _ in
+        let j2 : length (range_code (range_of g p.kind) ++ args_code g c es ps) ≡ length (range_code (range_of g p.kind)) + length (args_code g c es ps) = length_both (range_code (range_of g p.kind)) _ in omega arith
 
   call_size : (t : Option Text) (es : Exprs) (after : Segs) → size (call_segs g t (λ ps k. args_segs g d es ps k) after) ≡ length (call_code g t (λ ps. args_code g c es ps)) + size after
   call_size t es after = call_sizes t es after (λ ps k. args_size es ps k)
@@ -165,7 +119,7 @@ module _ (e : Setting) where
       let same : length (range_code (range_of_spot (spot_of e.program d (ref_name r)))) ≡ length (range_code (range_of_spot (spot_of e.program c (ref_name r)))) =
       ap (λ t. length (range_code t)) (same_range c d (ref_name r) (spot_of e.program c (ref_name r)) a refl (free_of c r ok)) in
       let j : length (range_code (range_of_spot (spot_of e.program c (ref_name r))) ++ store_code e.program c r) ≡ length (range_code (range_of_spot (spot_of e.program c (ref_name r)))) + length (store_code e.program c r) =
-      length_joined (range_code (range_of_spot (spot_of e.program c (ref_name r)))) (store_code e.program c r) in
+      length_both (range_code (range_of_spot (spot_of e.program c (ref_name r)))) (store_code e.program c r) in
       omega arith
 
   -- a line of code with a tree of its size
@@ -175,17 +129,17 @@ module _ (e : Setting) where
   mutual
     pub stmt_size : (s : Stmt) (c d : Scope) (n w p q : ℕ) (after : Segs) (code : List Instr) → Alike e.program c d → Emits e.program code c w p q s → Proper e c n s → q + size after ≡ p + size (stmt_segs e.program d s after)
     stmt_size (assign r x) c d n w p q after code a h ok =
-        let j : length (index_code e.program c r ++ (code_of e.program c x ++ put_code e.program c r)) ≡ length (index_code e.program c r) + length (code_of e.program c x ++ put_code e.program c r) = length_joined (index_code e.program c r) _ in
-        let j2 : length (code_of e.program c x ++ put_code e.program c r) ≡ length (code_of e.program c x) + length (put_code e.program c r) = length_joined (code_of e.program c x) _ in
+        let j : length (index_code e.program c r ++ (code_of e.program c x ++ put_code e.program c r)) ≡ length (index_code e.program c r) + length (code_of e.program c x ++ put_code e.program c r) = length_both (index_code e.program c r) _ in
+        let j2 : length (code_of e.program c x ++ put_code e.program c r) ≡ length (code_of e.program c x) + length (put_code e.program c r) = length_both (code_of e.program c x) _ in
         let h1 : size (index_segs e.program d r (expr_segs e.program d x (put_segs e.program d r after))) ≡ length (index_code e.program c r) + size (expr_segs e.program d x (put_segs e.program d r after)) = index_size e.program c d a r _ in
         let h2 : size (expr_segs e.program d x (put_segs e.program d r after)) ≡ length (code_of e.program c x) + size (put_segs e.program d r after) = expr_size e.program c d a x _ in
         let h3 : size (put_segs e.program d r after) ≡ length (put_code e.program c r) + size after = put_size c d r after a ok.1 in
         lined code p q (index_code e.program c r ++ (code_of e.program c x ++ put_code e.program c r)) (size (stmt_segs e.program d (assign r x) after)) (size after) h (omega arith)
     stmt_size (assign_entry r m en es) c d n w p q after code a h ok =
         let j : length (index_code e.program c r ++ (call_code e.program (entry_in e.program m en) (λ ps. args_code e.program c es ps) ++ put_code e.program c r))
-        ≡ length (index_code e.program c r) + length (call_code e.program (entry_in e.program m en) (λ ps. args_code e.program c es ps) ++ put_code e.program c r) = length_joined (index_code e.program c r) _ in
+        ≡ length (index_code e.program c r) + length (call_code e.program (entry_in e.program m en) (λ ps. args_code e.program c es ps) ++ put_code e.program c r) = length_both (index_code e.program c r) _ in
         let j2 : length (call_code e.program (entry_in e.program m en) (λ ps. args_code e.program c es ps) ++ put_code e.program c r) ≡ length (call_code e.program (entry_in e.program m en) (λ ps. args_code e.program c es ps)) + length (put_code e.program c r) =
-        length_joined (call_code e.program (entry_in e.program m en) (λ ps. args_code e.program c es ps)) _ in
+        length_both (call_code e.program (entry_in e.program m en) (λ ps. args_code e.program c es ps)) _ in
         let h1 : size (index_segs e.program d r (call_segs e.program (entry_in e.program m en) (λ ps k. args_segs e.program d es ps k) (put_segs e.program d r after)))
         ≡ length (index_code e.program c r) + size (call_segs e.program (entry_in e.program m en) (λ ps k. args_segs e.program d es ps k) (put_segs e.program d r after)) = index_size e.program c d a r _ in
         let h2 : size (call_segs e.program (entry_in e.program m en) (λ ps k. args_segs e.program d es ps k) (put_segs e.program d r after)) ≡ length (call_code e.program (entry_in e.program m en) (λ ps. args_code e.program c es ps)) + size (put_segs e.program d r after) =
@@ -193,7 +147,7 @@ module _ (e : Setting) where
         let h3 : size (put_segs e.program d r after) ≡ length (put_code e.program c r) + size after = put_size c d r after a ok.1 in
         lined code p q (index_code e.program c r ++ (call_code e.program (entry_in e.program m en) (λ ps. args_code e.program c es ps) ++ put_code e.program c r)) (size (stmt_segs e.program d (assign_entry r m en es) after)) (size after) h (omega arith)
     stmt_size (assign_empty r x) c d n w p q after code a h ok =
-        let j : length (index_code e.program c r ++ (i.Empty (pos (condition_of e.program c.owner x)) ∷ store_code e.program c r)) ≡ length (index_code e.program c r) + suc (length (store_code e.program c r)) = length_joined (index_code e.program c r) _ in
+        let j : length (index_code e.program c r ++ (i.Empty (pos (condition_of e.program c.owner x)) ∷ store_code e.program c r)) ≡ length (index_code e.program c r) + suc (length (store_code e.program c r)) = length_both (index_code e.program c r) _ in
         let one : length (store_code e.program c r) ≡ 1 = store_size c r ok.1 in
         let h1 : size (index_segs e.program d r (line 2 after)) ≡ length (index_code e.program c r) + size (line 2 after) = index_size e.program c d a r _ in
         let l : size (line 2 after) ≡ 2 + size after = line_size 2 after in
@@ -225,13 +179,13 @@ module _ (e : Setting) where
         let end : h.0 ≡ p + length (code_of e.program c x) = h.2.end in
         let last : q ≡ h.0 + 1 = h.5 in omega arith
     stmt_size (get dev r) c d n w p q after code a h ok =
-        let j : length (index_code e.program c r ++ (i.In (pos (device_number e.program dev)) ∷ put_code e.program c r)) ≡ length (index_code e.program c r) + suc (length (put_code e.program c r)) = length_joined (index_code e.program c r) (i.In (pos (device_number e.program dev)) ∷ put_code e.program c r) in
+        let j : length (index_code e.program c r ++ (i.In (pos (device_number e.program dev)) ∷ put_code e.program c r)) ≡ length (index_code e.program c r) + suc (length (put_code e.program c r)) = length_both (index_code e.program c r) (i.In (pos (device_number e.program dev)) ∷ put_code e.program c r) in
         let h1 : size (index_segs e.program d r (line 1 (put_segs e.program d r after))) ≡ length (index_code e.program c r) + size (line 1 (put_segs e.program d r after)) = index_size e.program c d a r _ in
         let l : size (line 1 (put_segs e.program d r after)) ≡ 1 + size (put_segs e.program d r after) = line_size 1 _ in
         let h3 : size (put_segs e.program d r after) ≡ length (put_code e.program c r) + size after = put_size c d r after a ok.1 in
         lined code p q (index_code e.program c r ++ (i.In (pos (device_number e.program dev)) ∷ put_code e.program c r)) (size (stmt_segs e.program d (get dev r) after)) (size after) h (omega arith)
     stmt_size (put dev x) c d n w p q after code a h ok =
-        let j : length (code_of e.program c x ++ (i.Out (pos (device_number e.program dev)) ∷ [])) ≡ length (code_of e.program c x) + 1 = length_joined (code_of e.program c x) _ in
+        let j : length (code_of e.program c x ++ (i.Out (pos (device_number e.program dev)) ∷ [])) ≡ length (code_of e.program c x) + 1 = length_both (code_of e.program c x) _ in
         let h1 : size (expr_segs e.program d x (line 1 after)) ≡ length (code_of e.program c x) + size (line 1 after) = expr_size e.program c d a x _ in
         let l : size (line 1 after) ≡ 1 + size after = line_size 1 after in
         lined code p q (code_of e.program c x ++ (i.Out (pos (device_number e.program dev)) ∷ [])) (size (stmt_segs e.program d (put dev x) after)) (size after) h (omega arith)

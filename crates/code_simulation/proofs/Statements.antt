@@ -9,12 +9,12 @@ use Rattle.machine_isa.specs.declared.instr.Instr.{Instr}
 use Rattle.machine_isa.specs.declared.instr.Instr.TheVariants as i
 use Rattle.machine_semantics.specs.State.{Operand, Value, Counter}
 use Rattle.machine_semantics.specs.Effect.{Own, Goes}
-use Rattle.code_spec.specs.Layout.{Place, Scope, loops_in, loops}
+use Rattle.code_spec.specs.Layout.{Scope, loops_in, loops}
 use Rattle.code_spec.specs.Numbering.{Text, routine_in, entry_in, number_of}
 use Rattle.code_spec.specs.Code.{code_of, args_code, call_code, index_code, store_code, put_code, range_code, ref_name}
 use Rattle.code_spec.specs.Emits.{Has, IsLine, At, inner, condition_of, Emits, EmitsAll}
 use Rattle.code_simulation_spec.specs.Steps.{Words, stand, Runs, arrived}
-use Rattle.code_simulation_spec.specs.Memory.{Setting, site_of, AllBelow, Room, Before, Fits, Here}
+use Rattle.code_simulation_spec.specs.Memory.{Setting, site_of, Room, Before, Fits, Here}
 use Rattle.code_simulation_spec.specs.Proper.{ProperArgs, Proper, ProperAll, CallsEntry, Callee}
 use Rattle.code_simulation_spec.specs.Stands.{Point, point, there, jump, HasCounter, Looping, index_on, target_code}
 use Rattle.code_simulation_spec.specs.Comes.{Left, Reached, Acting}
@@ -28,18 +28,15 @@ use Rattle.code_simulation.proofs.Items.{jumps, then_reached, acting_more}
 use Rattle.code_simulation.proofs.Loops.{room_inside, here_inside, enters_loop, turns_run}
 use Rattle.code_simulation.proofs.Acts.{target_runs, assign_runs, answered_runs, plain_runs, wait_runs, condition_is, storing, nothing}
 use Rattle.code_simulation.proofs.Calls.{is_outside, procedure_runs, entry_runs}
+use Rattle.code_simulation.proofs.Layouts.{below_more}
 
 -- ---- room of parts
 
 room_first : (c : Scope) (w a b : ℕ) → Room c w (a + b) → Room c w a
 room_first c w a b r = record { apart = r.apart; below = r.below; room = (let enough : w + (a + b) ≤ c.frame = r.room in omega arith) }
 
-below_later : (v w : ℕ) (ps : List Place) → v ≤ w → AllBelow v ps → AllBelow w ps
-below_later v w [] le h = tt
-below_later v w (p ∷ ps) le h = (omega (arith, h.0, le), below_later v w ps le h.1)
-
 room_second : (c : Scope) (w a b : ℕ) → Room c w (a + b) → Room c (w + a) b
-room_second c w a b r = record { apart = r.apart; below = below_later w (w + a) c.own (omega arith) r.below; room = (let enough : w + (a + b) ≤ c.frame = r.room in omega arith) }
+room_second c w a b r = record { apart = r.apart; below = below_more w (w + a) c.own (omega arith) r.below; room = (let enough : w + (a + b) ≤ c.frame = r.room in omega arith) }
 
 some_none : (a : Answers) → Some a ≡ None → ⊥
 some_none a h = absurd cc

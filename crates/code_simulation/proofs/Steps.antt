@@ -1,6 +1,6 @@
 -- Steps after steps, and the parts of code.
 use Rattle.std.specs.Prelude.{◌≡◌, ℕ, zero, suc, ◌+◌, Bool, true, false, List, [], ◌∷◌, ◌++◌, Option, Some, ℤ, pos, length, cond, ◌&&◌, int_le}
-use Rattle.std.proofs.Common.{refl, ◌∙◌, subst, arith}
+use Rattle.std.proofs.Common.{refl, ◌∙◌, arith}
 use Rattle.syntax_tree.specs.Plain.{Op, or, and, equal, unequal, less, less_equal, greater, greater_equal, add, sub, mul, div, remainder}
 use Rattle.base.specs.Words.{Answer, word, raised}
 use Rattle.source_semantics.specs.Operators.{operated}
@@ -13,9 +13,10 @@ use Rattle.machine_semantics.specs.State.{Operand, Value, State}
 use Rattle.machine_semantics.specs.Effect.{Own, Outcome, Goes, Raises, effect, answer, is_reached}
 use Rattle.code_spec.specs.Layout.{Scope, Place, Shape, single, array}
 use Rattle.code_spec.specs.Code.{op_instr}
-use Rattle.code_spec.specs.Emits.{Has, IsLine, At}
+use Rattle.code_spec.specs.Emits.{IsLine, At}
 use Rattle.code_simulation_spec.specs.Steps.{Words, words, stand, SameInside, Runs, arrived, moved}
 use Rattle.code_simulation_spec.specs.Memory.{Setting, HoldsHeld, Holds, FitsOthers, Fits, Before}
+use Rattle.code_measures.proofs.Lines.{has_second, has_first, length_both}
 
 -- ---- runs
 
@@ -25,30 +26,12 @@ then_runs (moved j next is s l) k = moved j next is s (λ us same. then_runs (l 
 
 -- ---- parts of code
 
-pub has_front : (code : List Instr) (p : ℕ) (is js : List Instr) → Has code p (is ++ js) → Has code p is
-has_front code p [] js h = tt
-has_front code p (i ∷ is) js h = (h.0, has_front code (p + 1) is js h.1)
-
-pub has_back : (code : List Instr) (p : ℕ) (is js : List Instr) → Has code p (is ++ js) → Has code (p + length is) js
-has_back code p [] js h = subst (λ q. Has code q js) (plus_none p) h
-  where
-    plus_none : (n : ℕ) → n ≡ n + 0
-    plus_none n = omega arith
-has_back code p (i ∷ is) js h = subst (λ q. Has code q js) (plus_one p (length is)) (has_back code (p + 1) is js h.1)
-  where
-    plus_one : (n k : ℕ) → n + 1 + k ≡ n + suc k
-    plus_one n k = omega arith
-
-pub length_joined : (is js : List Instr) → length (is ++ js) ≡ length is + length js
-length_joined [] js = omega arith
-length_joined (i ∷ is) js = let e : length (is ++ js) ≡ length is + length js = length_joined is js in omega arith
-
 -- a line's first part, and the rest of it
 pub line_front : (code : List Instr) (p q : ℕ) (is js : List Instr) → IsLine code p q (is ++ js) → IsLine code p (p + length is) is
-line_front code p q is js l = record { has = has_front code p is js l.has; end = refl }
+line_front code p q is js l = record { has = has_first code p is js l.has; end = refl }
 
 pub line_back : (code : List Instr) (p q : ℕ) (is js : List Instr) → IsLine code p q (is ++ js) → IsLine code (p + length is) q js
-line_back code p q is js l = record { has = has_back code p is js l.has; end = (let longer : length (is ++ js) ≡ length is + length js = length_joined is js in let end : q ≡ p + length (is ++ js) = l.end in omega arith) }
+line_back code p q is js l = record { has = has_second code p is js l.has; end = (let longer : length (is ++ js) ≡ length is + length js = length_both is js in let end : q ≡ p + length (is ++ js) = l.end in omega arith) }
 
 pub line_one : (code : List Instr) (p q : ℕ) (j : Instr) → IsLine code p q (j ∷ []) → At code p j × (q ≡ p + 1)
 line_one code p q j l = (l.has.0, l.end)

@@ -1,7 +1,8 @@
 -- After a store the words hold the memory of the source.
-use Rattle.std.specs.Prelude.{◌≡◌, ◌+◌, ◌≤◌, ◌<◌, ◌⊎◌, ℕ, zero, suc, Bool, true, false, cond, List, [], ◌∷◌, Option, Some, None, ℤ, slice_get, slice_set, bytes_eq, unwrap_or}
+use Rattle.std.specs.Prelude.{◌≡◌, ◌+◌, ◌≤◌, ◌<◌, ◌⊎◌, ℕ, zero, suc, Bool, true, false, cond, List, [], ◌∷◌, Option, Some, None, ℤ, slice_get, slice_set, bytes_eq}
 use Rattle.std.proofs.Common.{refl, sym, ◌∙◌, ap, subst, arith, inl, inr, length-set}
-use Rattle.std.proofs.lemmas.Bool.{cases_Bool}
+use Rattle.std.proofs.lemmas.Bool.{cases_Bool, both_ways}
+use Rattle.std.proofs.lemmas.Option.{same_Some, none-some}
 use Rattle.syntax_tree.specs.Plain.{Name}
 use Rattle.source_semantics.specs.Store.{Held, one, many, Slot, Vars, slot_named, replaced}
 use Rattle.source_semantics.specs.Run.{Memory, or_else, memory_after, with_own}
@@ -64,17 +65,11 @@ others_stay opens ws k y p [] (s ∷ vs) a i h = absurd h
 others_stay opens ws k y p (q ∷ ps) [] a i h = absurd h
 others_stay opens ws k y p (q ∷ ps) (s ∷ vs) a i h = (slot_stays opens ws k y p q s a.0 i h.0, others_stay opens ws k y p ps vs a.1 i h.1)
 
-none_some : {A : Type 0} (x : A) → None ≡ Some x → ⊥
-none_some x e = absurd cc
-
-some_same : {A : Type 0} (x y : A) → Some x ≡ Some y → x ≡ y
-some_same x y e = ap (λ o. unwrap_or o y) e
-
 found_apart : (p q : Place) (ps : List Place) (x : Name) → ApartFrom p ps → place_named x ps ≡ Some q → Apart p q
-found_apart p q [] x a e = absurd (none_some q e)
+found_apart p q [] x a e = absurd (none-some q e)
 found_apart p q (r ∷ ps) x a e =
     elim (cases_Bool (bytes_eq r.name x)) [
-      | inl is ↦ subst (λ t. Apart p t) (some_same r q (sym (ap (λ b. cond b (Some r) (place_named x ps)) is) ∙ e)) a.0
+      | inl is ↦ subst (λ t. Apart p t) (same_Some r q (sym (ap (λ b. cond b (Some r) (place_named x ps)) is) ∙ e)) a.0
       | inr is ↦ found_apart p q ps x a.1 (sym (ap (λ b. cond b (Some r) (place_named x ps)) is) ∙ e)
     ]
 
@@ -83,13 +78,13 @@ found_apart p q (r ∷ ps) x a e =
 pub replaced_holds : (opens : ℕ → Type 0) (ws : List ℤ) (k : ℕ) (y : ℤ) (p : Place) (ps : List Place) (vs : Vars) (x : Name) (held : Held)
     → AllApart ps → place_named x ps ≡ Some p → Within p k → HoldsHeld opens (slice_set ws k y) p.word p.shape held
     → Holds opens ws ps vs → Holds opens (slice_set ws k y) ps (replaced x held vs)
-replaced_holds opens ws k y p [] vs x held a e i n h = absurd (none_some p e)
+replaced_holds opens ws k y p [] vs x held a e i n h = absurd (none-some p e)
 replaced_holds opens ws k y p (q ∷ ps) [] x held a e i n h = absurd h
 replaced_holds opens ws k y p (q ∷ ps) (s ∷ vs) x held a e i n h =
     subst (λ m. Holds opens (slice_set ws k y) (q ∷ ps) (cond (bytes_eq m x) (record { name = s.name; range = s.range; held = held } ∷ vs) (s ∷ replaced x held vs))) (sym h.0.name)
     (elim (cases_Bool (bytes_eq q.name x)) [
       | inl is ↦ subst (λ b. Holds opens (slice_set ws k y) (q ∷ ps) (cond b (record { name = s.name; range = s.range; held = held } ∷ vs) (s ∷ replaced x held vs))) (sym is)
-          (let same : p ≡ q = sym (some_same q p (sym (ap (λ b. cond b (Some q) (place_named x ps)) is) ∙ e)) in
+          (let same : p ≡ q = sym (same_Some q p (sym (ap (λ b. cond b (Some q) (place_named x ps)) is) ∙ e)) in
           let j : Within q k = subst (λ t. Within t k) same i in
           (record { name = h.0.name; range = h.0.range; held = subst (λ t. HoldsHeld opens (slice_set ws k y) t.word t.shape held) same n }, others_stay opens ws k y q ps vs a.0 j h.1))
       | inr is ↦ subst (λ b. Holds opens (slice_set ws k y) (q ∷ ps) (cond b (record { name = s.name; range = s.range; held = held } ∷ vs) (s ∷ replaced x held vs))) (sym is)
@@ -97,20 +92,17 @@ replaced_holds opens ws k y p (q ∷ ps) (s ∷ vs) x held a e i n h =
           (slot_stays opens ws k y p q s (turned_about q p (found_apart q p ps x a.0 rest)) i h.0, replaced_holds opens ws k y p ps vs x held a.1 rest i n h.1))
     ])
 
-true_false : (b : Bool) → b ≡ true → b ≡ false → ⊥
-true_false b t f = absurd cc
-
 pub replaced_kept : (opens : ℕ → Type 0) (ws : List ℤ) (p : Place) (ps : List Place) (ks : List ℤ) (vs : Vars) (x : Name) (held : Held)
     → place_named x ps ≡ Some p → p.fixed ≡ false → Holds opens ws ps vs → KeptAll ps ks vs → KeptAll ps ks (replaced x held vs)
-replaced_kept opens ws p [] ks vs x held e free h kept = absurd (none_some p e)
+replaced_kept opens ws p [] ks vs x held e free h kept = absurd (none-some p e)
 replaced_kept opens ws p (q ∷ ps) ks [] x held e free h kept = absurd h
 replaced_kept opens ws p (q ∷ ps) [] (s ∷ vs) x held e free h kept = absurd kept
 replaced_kept opens ws p (q ∷ ps) (k ∷ ks) (s ∷ vs) x held e free h kept =
     subst (λ m. KeptAll (q ∷ ps) (k ∷ ks) (cond (bytes_eq m x) (record { name = s.name; range = s.range; held = held } ∷ vs) (s ∷ replaced x held vs))) (sym h.0.name)
     (elim (cases_Bool (bytes_eq q.name x)) [
       | inl is ↦ subst (λ b. KeptAll (q ∷ ps) (k ∷ ks) (cond b (record { name = s.name; range = s.range; held = held } ∷ vs) (s ∷ replaced x held vs))) (sym is)
-          (let same : p ≡ q = sym (some_same q p (sym (ap (λ b. cond b (Some q) (place_named x ps)) is) ∙ e)) in
-          (λ t. absurd (true_false q.fixed t (subst (λ r. r.fixed ≡ false) same free)), kept.1))
+          (let same : p ≡ q = sym (same_Some q p (sym (ap (λ b. cond b (Some q) (place_named x ps)) is) ∙ e)) in
+          (λ t. absurd (both_ways q.fixed (subst (λ r. r.fixed ≡ false) same free) t), kept.1))
       | inr is ↦ subst (λ b. KeptAll (q ∷ ps) (k ∷ ks) (cond b (record { name = s.name; range = s.range; held = held } ∷ vs) (s ∷ replaced x held vs))) (sym is)
           (kept.0, replaced_kept opens ws p ps ks vs x held (sym (ap (λ b. cond b (Some q) (place_named x ps)) is) ∙ e) free h.1 kept.1)
     ])
@@ -122,11 +114,11 @@ FoundOwn a b sp = ((p : Place) × (record { area = in_frame; place = p } ≡ sp)
 
 found_own : (a : Option Place) (b : Option Spot) (sp : Spot) → or_else (in_area in_frame a) b ≡ Some sp → FoundOwn a b sp
 found_own None b sp e = inr (refl, e)
-found_own (Some p) b sp e = inl (p, some_same _ sp e, refl)
+found_own (Some p) b sp e = inl (p, same_Some _ sp e, refl)
 
 found_in : (area : Area) (a : Option Place) (sp : Spot) → in_area area a ≡ Some sp → (p : Place) × (record { area = area; place = p } ≡ sp) × (a ≡ Some p)
-found_in area None sp e = absurd (none_some sp e)
-found_in area (Some p) sp e = (p, some_same _ sp e, refl)
+found_in area None sp e = absurd (none-some sp e)
+found_in area (Some p) sp e = (p, same_Some _ sp e, refl)
 
 pair_some : (opens : ℕ → Type 0) (ws : List ℤ) (p : Place) (t : Option Slot) → Pair opens ws (Some p) t → (s : Slot) × (t ≡ Some s)
 pair_some opens ws p None h = absurd h
@@ -156,7 +148,7 @@ module _ (e : Setting) (o : Own) (c : Scope) (fixed : List ℤ) (before : Before
       → outer_spot e.program r x ≡ Some sp → (c.is_function ≡ true → sp.area ≡ in_frame) → Within sp.place k
       → HoldsHeld (opens_of e.image o.job.inside sp.area) (slice_set (words_of sp.area w) k y) sp.place.word sp.place.shape held
       → Fits e o c fixed before (After sp k y) (memory_after (home_of r) m x None held)
-  fits_outer by_program x sp k y held f may is own i n = absurd (none_some sp is)
+  fits_outer by_program x sp k y held f may is own i n = absurd (none-some sp is)
   fits_outer (by_process j) x sp k y held f may is own i n =
       let found : (p : Place) × (record { area = in_process; place = p } ≡ sp) × (place_named x (process_places e.program j) ≡ Some p) = found_in in_process (place_named x (process_places e.program j)) sp is in
       let named : place_named x (process_places e.program e.number) ≡ Some found.0 = subst (λ t. place_named x (process_places e.program t) ≡ Some found.0) may.0 found.2 in

@@ -1,8 +1,10 @@
 -- Which parts there are, and which of them fail.
-use Rattle.std.proofs.Common.{◌≡◌, ◌<◌, ◌+◌, ◌⊎◌, ℕ, zero, suc, List, [], ◌∷◌, ◌++◌, Some, None, length, map, refl, ap, sym, subst, ◌∙◌, inl, inr, arith}
+use Rattle.std.proofs.Common.{◌≡◌, ◌+◌, ◌⊎◌, ℕ, zero, suc, List, [], ◌∷◌, ◌++◌, Some, length, map, refl, ap, sym, subst, ◌∙◌, inl, inr, arith}
 use Rattle.std.proofs.lemmas.List.{map-append}
 use Rattle.std.proofs.lemmas.List.Elements.{Contains-append_left, Contains-append_right, Contains-append_cases}
-use Rattle.std.specs.Prelude.{Contains, filter_map, slice_get, slice_index_or}
+use Rattle.std.specs.Prelude.{Contains, filter_map, slice_get}
+use Rattle.std.proofs.lemmas.Option.{same_Some, none-some}
+use Rattle.base.proofs.Members.{at_front, behind as later, none_in, front_or_behind}
 use Rattle.syntax_tree.specs.Placed.{Routine, Process, Decl, constant, device, event, routine, monitor, process, plain_routine, plain_decl, plain_process}
 use Rattle.syntax_tree.specs.Parts.{processes}
 use Rattle.syntax_tree.specs.Plain as plain_of
@@ -17,39 +19,9 @@ use Rattle.code_size.specs.Told.{plain_text, routine_over, process_over, Part, s
 
 -- ---- members
 
-pub here : {X : Type 0} (x : X) (xs : List X) → Contains (x ∷ xs) x
-here x xs = (0, omega arith, refl)
-
-pub later : {X : Type 0} (y x : X) (xs : List X) → Contains xs x → Contains (y ∷ xs) x
-later y x xs c = (suc c.0, let h = c.1 in omega arith, c.2)
-
-pub nothing_in : {X : Type 0} (x : X) → Contains [] x → ⊥
-nothing_in x h = let below : h.0 < 0 = h.1 in omega arith
-
-pub cases : {X : Type 0} (y x : X) (xs : List X) → Contains (y ∷ xs) x → (y ≡ x) ⊎ Contains xs x
-cases y x xs c = at c.0 c.1 c.2
-  where
-    at : (k : ℕ) → k < suc (length xs) → slice_index_or (y ∷ xs) k x ≡ x → (y ≡ x) ⊎ Contains xs x
-    at zero below is = inl is
-    at (suc k) below is = inr (k, omega arith, is)
-
-pub mapped : {X Y : Type 0} (f : X → Y) (xs : List X) (x : X) → Contains xs x → Contains (map f xs) (f x)
-mapped f [] x c = absurd (nothing_in x c)
-mapped f (y ∷ ys) x c = by (λ h. mapped f ys x h) (cases y x ys c)
-  where
-    by : (Contains ys x → Contains (map f ys) (f x)) → (y ≡ x) ⊎ Contains ys x → Contains (map f (y ∷ ys)) (f x)
-    by rest (inl e) = subst (λ z. Contains (map f (y ∷ ys)) (f z)) e (here (f y) (map f ys))
-    by rest (inr h) = later (f y) (f x) (map f ys) (rest h)
-
-pub none_some : {X : Type 0} (x : X) → None ≡ Some x → ⊥
-none_some x e = cc
-
-pub some_same : {X : Type 0} (x y : X) → Some x ≡ Some y → x ≡ y
-some_same x y e = cc
-
 -- a list as long has one there too
 pub as_long : {X Y : Type 0} (xs : List X) (ys : List Y) (k : ℕ) (y : Y) → length xs ≡ length ys → slice_get ys k ≡ Some y → (x : X) × (slice_get xs k ≡ Some x)
-as_long xs [] k y e h = absurd (none_some y h)
+as_long xs [] k y e h = absurd (none-some y h)
 as_long [] (z ∷ ys) k y e h = absurd (omega arith)
 as_long (x ∷ xs) (z ∷ ys) zero y e h = (x, refl)
 as_long (x ∷ xs) (z ∷ ys) (suc k) y e h = as_long xs ys k y (omega arith) h
@@ -74,13 +46,13 @@ plain_texts k m (monitor d ∷ ds) = joined (by_monitor m) d.entries (numbering.
 plain_texts k m (process p ∷ ds) = joined (by_process k) p.routines (numbering.texts_from (suc k) m (map plain_decl ds)) (texts_from (suc k) m ds) (plain_texts (suc k) m ds)
 
 pub plain_process_at : (ds : List (Decl Place)) (k : ℕ) (p : Process Place) → slice_get (processes ds) k ≡ Some p → slice_get (filter_map process_in (map plain_decl ds)) k ≡ Some (plain_process p)
-plain_process_at [] k p e = absurd (none_some p e)
+plain_process_at [] k p e = absurd (none-some p e)
 plain_process_at (constant n q c ∷ ds) k p e = plain_process_at ds k p e
 plain_process_at (device n q o ∷ ds) k p e = plain_process_at ds k p e
 plain_process_at (event n q ∷ ds) k p e = plain_process_at ds k p e
 plain_process_at (routine r ∷ ds) k p e = plain_process_at ds k p e
 plain_process_at (monitor d ∷ ds) k p e = plain_process_at ds k p e
-plain_process_at (process q ∷ ds) zero p e = ap (λ x. Some (plain_process x)) (some_same q p e)
+plain_process_at (process q ∷ ds) zero p e = ap (λ x. Some (plain_process x)) (same_Some q p e)
 plain_process_at (process q ∷ ds) (suc k) p e = plain_process_at ds k p e
 
 -- ---- parts that fail
@@ -106,7 +78,7 @@ module _ (g : plain_of.Prog) (s : Measures) (p : Place) where
   behind ts us r = record { text = r.text; listed = Contains-append_right ts us r.text r.listed; fails = r.fails }
 
   one_more : (t : Text) (ts : List Text) → RoutineOver g s ts p → RoutineOver g s (t ∷ ts) p
-  one_more t ts r = record { text = r.text; listed = later t r.text ts r.listed; fails = r.fails }
+  one_more t ts r = record { text = r.text; listed = later t ts r.text r.listed; fails = r.fails }
 
   next : (k : ℕ) (q : Process Place) (ps : List (Process Place)) → ProcessOver s (suc k) ps p → ProcessOver s k (q ∷ ps) p
   next k q ps r =
@@ -117,7 +89,7 @@ module _ (g : plain_of.Prog) (s : Measures) (p : Place) where
   found_routines : (o : Owner) (rs : List (Routine Place)) (more : List Part) (n : ℕ) → FailsAmong (stack_rules g s) (routine_parts o rs more) n p
       → ((47 ≡ n) × RoutineOver g s (texts_of o rs) p) ⊎ FailsAmong (stack_rules g s) more n p
   found_routines o [] more n f = inr f
-  found_routines o (r ∷ rs) more n (inl (inl f)) = inl (f.0, record { text = record { owner = o; routine = r }; listed = here (record { owner = o; routine = r }) (texts_of o rs); fails = f.1 })
+  found_routines o (r ∷ rs) more n (inl (inl f)) = inl (f.0, record { text = record { owner = o; routine = r }; listed = at_front (record { owner = o; routine = r }) (texts_of o rs); fails = f.1 })
   found_routines o (r ∷ rs) more n (inl (inr z)) = absurd z
   found_routines o (r ∷ rs) more n (inr f) = by (found_routines o rs more n f)
     where
@@ -141,7 +113,7 @@ module _ (g : plain_of.Prog) (s : Measures) (p : Place) where
   found k m (constant x q c ∷ ds) n f = found k m ds n f
   found k m (device x q o ∷ ds) n f = found k m ds n f
   found k m (event x q ∷ ds) n f = found k m ds n f
-  found k m (routine r ∷ ds) n (inl (inl f)) = (f.0, inl (record { text = record { owner = by_program; routine = r }; listed = here (record { owner = by_program; routine = r }) (texts_from k m ds); fails = f.1 }))
+  found k m (routine r ∷ ds) n (inl (inl f)) = (f.0, inl (record { text = record { owner = by_program; routine = r }; listed = at_front (record { owner = by_program; routine = r }) (texts_from k m ds); fails = f.1 }))
   found k m (routine r ∷ ds) n (inl (inr z)) = absurd z
   found k m (routine r ∷ ds) n (inr f) = by (found k m ds n f)
     where
@@ -169,19 +141,19 @@ module _ (g : plain_of.Prog) (s : Measures) (p : Place) where
   fails_more o (r ∷ rs) more f = inr (fails_more o rs more f)
 
   fails_routine : (o : Owner) (rs : List (Routine Place)) (more : List Part) (t : Text) → Contains (texts_of o rs) t → routine_over g s t ≡ Some p → FailsAmong (stack_rules g s) (routine_parts o rs more) 47 p
-  fails_routine o [] more t c f = absurd (nothing_in t c)
-  fails_routine o (r ∷ rs) more t c f = by (λ h. fails_routine o rs more t h f) (cases (record { owner = o; routine = r }) t (texts_of o rs) c)
+  fails_routine o [] more t c f = absurd (none_in t c)
+  fails_routine o (r ∷ rs) more t c f = by (λ h. fails_routine o rs more t h f) (front_or_behind (record { owner = o; routine = r }) (texts_of o rs) t c)
     where
       by : (Contains (texts_of o rs) t → FailsAmong (stack_rules g s) (routine_parts o rs more) 47 p) → (record { owner = o; routine = r } ≡ t) ⊎ Contains (texts_of o rs) t → FailsAmong (stack_rules g s) (routine_parts o (r ∷ rs) more) 47 p
       by rest (inl e) = inl (inl (refl, subst (λ x. routine_over g s x ≡ Some p) (sym e) f))
       by rest (inr h) = inr (rest h)
 
   pub text_fails : (k m : ℕ) (ds : List (Decl Place)) (t : Text) → Contains (texts_from k m ds) t → routine_over g s t ≡ Some p → FailsAmong (stack_rules g s) (parts_from k m ds) 47 p
-  text_fails k m [] t c f = absurd (nothing_in t c)
+  text_fails k m [] t c f = absurd (none_in t c)
   text_fails k m (constant x q v ∷ ds) t c f = text_fails k m ds t c f
   text_fails k m (device x q o ∷ ds) t c f = text_fails k m ds t c f
   text_fails k m (event x q ∷ ds) t c f = text_fails k m ds t c f
-  text_fails k m (routine r ∷ ds) t c f = by (λ h. text_fails k m ds t h f) (cases (record { owner = by_program; routine = r }) t (texts_from k m ds) c)
+  text_fails k m (routine r ∷ ds) t c f = by (λ h. text_fails k m ds t h f) (front_or_behind (record { owner = by_program; routine = r }) (texts_from k m ds) t c)
     where
       by : (Contains (texts_from k m ds) t → FailsAmong (stack_rules g s) (parts_from k m ds) 47 p) → (record { owner = by_program; routine = r } ≡ t) ⊎ Contains (texts_from k m ds) t → FailsAmong (stack_rules g s) (parts_from k m (routine r ∷ ds)) 47 p
       by rest (inl e) = inl (inl (refl, subst (λ x. routine_over g s x ≡ Some p) (sym e) f))
@@ -198,7 +170,7 @@ module _ (g : plain_of.Prog) (s : Measures) (p : Place) where
       by rest (inr h) = fails_more (by_process k) q.routines (parts_from (suc k) m ds) (rest h)
 
   pub process_fails : (k m : ℕ) (ds : List (Decl Place)) (j : ℕ) (q : Process Place) → slice_get (processes ds) j ≡ Some q → process_over s (k + j) q ≡ Some p → FailsAmong (stack_rules g s) (parts_from k m ds) 47 p
-  process_fails k m [] j q e f = absurd (none_some q e)
+  process_fails k m [] j q e f = absurd (none-some q e)
   process_fails k m (constant x a v ∷ ds) j q e f = process_fails k m ds j q e f
   process_fails k m (device x a o ∷ ds) j q e f = process_fails k m ds j q e f
   process_fails k m (event x a ∷ ds) j q e f = process_fails k m ds j q e f
@@ -206,7 +178,7 @@ module _ (g : plain_of.Prog) (s : Measures) (p : Place) where
   process_fails k m (monitor d ∷ ds) j q e f = fails_more (by_monitor m) d.entries (parts_from k (suc m) ds) (process_fails k (suc m) ds j q e f)
   process_fails k m (process r ∷ ds) zero q e f =
       let number : k + 0 ≡ k = omega arith in
-      inl (inl (refl, subst (λ x. process_over s k x ≡ Some p) (sym (some_same r q e)) (subst (λ x. process_over s x q ≡ Some p) number f)))
+      inl (inl (refl, subst (λ x. process_over s k x ≡ Some p) (sym (same_Some r q e)) (subst (λ x. process_over s x q ≡ Some p) number f)))
   process_fails k m (process r ∷ ds) (suc j) q e f =
       let number : k + suc j ≡ suc k + j = omega arith in
       inr (fails_more (by_process k) r.routines (parts_from (suc k) m ds) (process_fails (suc k) m ds j q e (subst (λ x. process_over s x q ≡ Some p) number f)))

@@ -3,6 +3,8 @@ use Rattle.std.proofs.Common.{◌≡◌, ◌<◌, ◌≤◌, ◌+◌, ◌⊎◌,
 use Rattle.std.proofs.lemmas.Bool.Decides.{nat_tests}
 use Rattle.std.proofs.lemmas.List.Sums.{sum_by-cons}
 use Rattle.std.specs.Prelude.{Contains, slice_get, sum_by, nat_lt}
+use Rattle.std.proofs.lemmas.Option.{none-some, same_Some}
+use Rattle.base.proofs.Members.{in_map}
 use Rattle.syntax_tree.specs.Placed.{Process, Prog, plain, plain_process, plain_routine}
 use Rattle.syntax_tree.specs.Parts.{processes}
 use Rattle.syntax_tree.specs.Plain as plain_of
@@ -22,7 +24,7 @@ use Rattle.code_cost.specs.Sizes.{IsRowOf, AreDefined}
 use Rattle.code_size.specs.Rules.{Text, texts_from, routine_stack, CodeTooLong, RoutineTooLarge, ProcessTooLarge, SizeFails}
 use Rattle.code_size.specs.Numbers.{HaveNumbers}
 use Rattle.code_size.specs.Told.{length_told, code_broken, over_stack, row_over, size_over, plain_text, routine_over, process_over, stack_rules, parts_from}
-use Rattle.code_size.proofs.Parts.{mapped, none_some, some_same, as_long, plain_texts, plain_process_at, RoutineOver, ProcessOver, found, text_fails, process_fails}
+use Rattle.code_size.proofs.Parts.{as_long, plain_texts, plain_process_at, RoutineOver, ProcessOver, found, text_fails, process_fails}
 
 -- ---- lengths
 
@@ -65,8 +67,8 @@ over_some : (q p : Place) (w : ℕ) → over_stack q w ≡ Some p → (q ≡ p) 
 over_some q p w = by (nat_lt 4096 w) refl
   where
     by : (b : Bool) → nat_lt 4096 w ≡ b → (if b then Some q else None) ≡ Some p → (q ≡ p) × (4096 < w)
-    by true t e = (some_same q p e, grind (arith, nat_tests))
-    by false t e = absurd (none_some p e)
+    by true t e = (same_Some q p e, grind (arith, nat_tests))
+    by false t e = absurd (none-some p e)
 
 some_over : (q : Place) (w : ℕ) → 4096 < w → over_stack q w ≡ Some q
 some_over q w h = let t : nat_lt 4096 w ≡ true = grind (arith, nat_tests) in ap (λ b. if b then Some q else None) t
@@ -77,7 +79,7 @@ module _ (g : Prog Place) (s : Measures) (have : HaveNumbers (plain g)) (are : A
   -- what the row of a text says
   row_says : (t : Text) → Contains (texts_from 0 0 g.decls) t → (w : ℕ) × ((routine_over (plain g) s t ≡ over_stack t.routine.place w) × (held w ≡ held (routine_stack (plain g) t.owner (plain_routine t.routine))))
   row_says t c =
-      let listed = subst (λ ts. Contains ts (plain_text t)) (sym (plain_texts 0 0 g.decls)) (mapped plain_text (texts_from 0 0 g.decls) t c) in
+      let listed = subst (λ ts. Contains ts (plain_text t)) (sym (plain_texts 0 0 g.decls)) (in_map plain_text (texts_from 0 0 g.decls) t c) in
       let stands = have (plain_text t) listed in
       let row = as_long s.routines (numbering.numbered (plain g)) (numbering.number_of (plain g) (plain_text t)) (plain_text t) are.rows stands in
       let is = are.routines (numbering.number_of (plain g) (plain_text t)) (plain_text t) row.0 stands row.1 in

@@ -1,6 +1,7 @@
 -- The examples, computed.
 use Rattle.std.proofs.Common.{◌≡◌, ◌≤◌, ◌<◌, ◌+◌, ◌*◌, ◌⊎◌, ℕ, zero, suc, [], ◌∷◌, Some, None, refl, ap, sym, subst, ◌∙◌, inl, inr, arith}
 use Rattle.std.specs.Prelude.{Contains, slice_get, slice_index_or}
+use Rattle.base.proofs.Members.{none_in}
 use Rattle.syntax_tree.specs.Placed.{Prog, Process, plain, plain_stmts, plain_routine, plain_process}
 use Rattle.syntax_tree.specs.Parts.{processes}
 use Rattle.syntax_tree.specs.Plain as plain_of
@@ -23,9 +24,6 @@ only x y c = by c.0 c.1 c.2
     by : (k : ℕ) → k < 1 → slice_index_or (x ∷ []) k y ≡ y → x ≡ y
     by zero below is = is
     by (suc k) below is = absurd (omega arith)
-
-nothing : {X : Type 0} (y : X) → Contains [] y → ⊥
-nothing y c = let below : c.0 < 0 = c.1 in omega arith
 
 alone : {X : Type 0} (x y : X) (k : ℕ) → slice_get (x ∷ []) k ≡ Some y → (k ≡ 0) × (x ≡ y)
 alone x y zero e = (refl, cc)
@@ -152,7 +150,7 @@ puts_stack n =
     omega arith
 
 puts_text : (n : ℕ) (t : Text) → Contains (texts_from 0 0 (with_puts n).decls) t → ⊥
-puts_text n t c = nothing t c
+puts_text n t c = none_in t c
 
 puts_one : (n k : ℕ) (p : Process Place) → slice_get (processes (with_puts n).decls) k ≡ Some p → ¬ (4096 < stack_of_process (plain (with_puts n)) k (plain_process p))
 puts_one n k p e over =

@@ -1,6 +1,7 @@
 -- The code of a process is right exactly where some relation shows it.
-use Rattle.std.proofs.Common.{Option, Some, ◌≡◌, ℕ, zero, suc, List, [], Some, refl, ap, subst, ◌∙◌, Bool}
+use Rattle.std.proofs.Common.{Some, ◌≡◌, ℕ, zero, suc, List, [], Some, refl, ap, subst, ◌∙◌, Bool}
 use Rattle.std.specs.Prelude.{ℤ, slice_get}
+use Rattle.base.proofs.Lists.{one_some}
 use Rattle.base.specs.declared.event.Act.TheVariants as act
 use Rattle.machine_isa.specs.declared.instr.Instr.{Instr}
 use Rattle.source_semantics.specs.Run.{Action, gets, puts, enters, leaves, waits, signals, broadcasts, asks_empty, raises, ends}
@@ -9,9 +10,6 @@ use Rattle.machine_semantics.specs.State.{State}
 use Rattle.machine_semantics.specs.Effect.{Own, Outcome, Goes, Does, Signals, Broadcasts, Waits, Raises, Ends, Stuck, effect}
 use Rattle.code_spec.specs.Boundary.{Compiled, View, Freeing, Resting, next_of, next_own, SameInside, Stays, Enters, Leaves, Pauses, Fails, Agrees, IsFaithful}
 use Rattle.code_spec.specs.Follows.{elsewhere, Follows, IsRight}
-
-one_some : {A : Type 0} {o : Option A} {x y : A} → o ≡ Some x → o ≡ Some y → x ≡ y
-one_some p q = cc
 
 -- ---- from one relation to another
 

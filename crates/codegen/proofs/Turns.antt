@@ -1,20 +1,12 @@
 -- One turn of a loop that makes the routines or the processes of a program.
-use Rattle.std.proofs.Common.{◌≡◌, ◌<◌, ◌+◌, ℕ, suc, arith, List, ◌∷◌, Some, length, drop, slice_get, inl, inr, sym, ap, ◌∙◌}
-use Rattle.std.proofs.lemmas.List.{drop_more}
-use Rattle.std.proofs.lemmas.Option.{slice_get_cases}
+use Rattle.std.proofs.Common.{◌≡◌, ◌<◌, ◌+◌, ℕ, suc, arith, List, Some, length, drop, slice_get, sym, ap, ◌∙◌}
 use Rattle.syntax_tree.specs.Plain.{Process, Prog, Routine}
 use Rattle.code_spec.specs.Layout.{Scope, routine_vars_words}
 use Rattle.code_spec.specs.Numbering.{Text}
 use Rattle.code_spec.specs.Compiled.{process_scope, routine_scope}
 use Rattle.codegen_spec.specs.declared.code.Code.{Code}
 use Rattle.codegen_spec.specs.Parts.{process_made, processes_made, routine_made, texts_made}
-
--- an element that is there, and what is left from it on
-at_place : {X : Type 0} (xs : List X) (i : ℕ) → i < length xs → (x : X) × (slice_get xs i ≡ Some x) × (drop i xs ≡ x ∷ drop (i + 1) xs)
-at_place xs i within = elim (slice_get_cases xs i).1 [
-  | inl w ↦ (w.0, w.2, drop_more xs i w.0 w.1 ∙ ap (λ y. y ∷ drop (i + 1) xs) w.3)
-  | inr w ↦ absurd (omega arith)
-]
+use Rattle.code_cost.proofs.Steps.{at_place}
 
 -- the routine at a place is made, in its own scope
 pub routine_turn : (g h : Prog) (ts : List Text) (n : ℕ) (c : Scope) (w : ℕ) (r : Routine) (old new end : Code) → n < length ts → h ≡ g

@@ -1,5 +1,6 @@
 -- The code that the generator makes of an expression is that of the expression, and has no exit.
 use Rattle.std.proofs.Common.{◌≡◌, ℕ, ℤ, Bool, true, false, pos, List, [], ◌∷◌, ◌++◌, map, Option, Some, None, option_map, refl, sym, ap, ◌∙◌, append_assoc, append-nil}
+use Rattle.std.proofs.lemmas.List.{map-append}
 use Rattle.syntax_tree.specs.Plain.{Name, Param, Op, or, and, equal, unequal, less, less_equal, greater, greater_equal, add, sub, mul, div, remainder, Expr, literal, truth, variable, element, call, minus, negation, paren, row, Exprs, no_exprs, exprs, Operands, no_operands, operand, Prog}
 use Rattle.base.specs.Words.{of_bool}
 use Rattle.machine_isa.specs.declared.instr.Instr.{Instr}
@@ -12,14 +13,13 @@ use Rattle.codegen_spec.specs.declared.spot.Range.{Range as Range_told}
 use Rattle.codegen_spec.specs.Told.{fit, told_area, told_range, told_shape, told_spot, range_told, told_callee, value_told}
 use Rattle.codegen_spec.specs.Made.{Out, push, aimed, load_from, load_told, load_at_from, load_at_told, range_out, called, call_out, expr_out, row_out, args_out}
 use Rattle.codegen_law.specs.MadeRightFits.{Fit, ShapeFits, RangeFits, SpotFits, CallFits, ExprFits, RowFits, ArgsFit}
-use Rattle.codegen_law.proofs.Lists.{map_more}
 
 -- no exit is open in this code
 abbrev pub Still : List Instr → Type 0
 Still js = (t : ℤ) → map (aimed t) js ≡ js
 
 pub still_more : (xs ys : List Instr) → Still xs → Still ys → Still (xs ++ ys)
-still_more xs ys a b t = map_more (aimed t) xs ys ∙ ap (λ k. k ++ map (aimed t) ys) (a t) ∙ ap (λ k. xs ++ k) (b t)
+still_more xs ys a b t = map-append (aimed t) xs ys ∙ ap (λ k. k ++ map (aimed t) ys) (a t) ∙ ap (λ k. xs ++ k) (b t)
 
 -- the same names, and exits go here
 abbrev pub aiming : Scope → Option ℕ → Scope

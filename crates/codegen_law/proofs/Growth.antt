@@ -1,5 +1,6 @@
 -- Making a part adds so many instructions, and these segments.
-use Rattle.std.proofs.Common.{◌≡◌, ◌+◌, ◌-◌, ◌≤◌, ℕ, zero, suc, List, [], ◌∷◌, ◌++◌, map, length, slice_get, slice_set, Option, Some, None, ℤ, refl, sym, ap, subst, ◌∙◌, arith}
+use Rattle.std.proofs.Common.{◌≡◌, ◌+◌, ◌-◌, ◌≤◌, ℕ, zero, suc, List, [], ◌∷◌, ◌++◌, map, length, slice_get, Option, Some, None, ℤ, refl, sym, ap, subst, ◌∙◌, arith}
+use Rattle.std.proofs.lemmas.List.{length-set, length-append}
 use Rattle.machine_semantics.specs.Trees as tree
 use Rattle.machine_semantics.specs.Trees.{Segs, Line, Nil, Cons}
 use Rattle.machine_isa.specs.declared.instr.Instr.{Instr}
@@ -7,7 +8,6 @@ use Rattle.code_spec.specs.Segments.{before, line}
 use Rattle.image_format.specs.View.{view, tree_of}
 use Rattle.image_format.specs.declared.seg.Seg.{Seg}
 use Rattle.codegen_spec.specs.Made.{Out, push, closed, joined, aims, aim_one, aimed}
-use Rattle.codegen_law.proofs.Lists.{length_more}
 use Rattle.codegen_law.proofs.Trees.{over, tail, line_line}
 use Rattle.codegen_law.proofs.Joins.{closed_tree, joined_tail}
 
@@ -42,10 +42,10 @@ told_as f s t m n same e a = record {
 -- one plain instruction
 pub one : {S : Type 0} (j : Out → Instr) → Grows S (λ o. push o (j o)) (λ after. line 1 after) 1
 one j = record {
-  longer = λ o. length_more o.code (j o ∷ []);
-  in_code = λ o h. let e : length (o.code ++ j o ∷ []) ≡ length o.code + 1 = length_more o.code (j o ∷ []) in omega arith;
+  longer = λ o. length-append o.code (j o ∷ []);
+  in_code = λ o h. let e : length (o.code ++ j o ∷ []) ≡ length o.code + 1 = length-append o.code (j o ∷ []) in omega arith;
   tail_is = λ z o h small after.
-      let l : length (o.code ++ j o ∷ []) ≡ length o.code + 1 = length_more o.code (j o ∷ []) in
+      let l : length (o.code ++ j o ∷ []) ≡ length o.code + 1 = length-append o.code (j o ∷ []) in
       let e : length (o.code ++ j o ∷ []) - o.from ≡ length o.code - o.from + 1 = omega arith in
       ap (λ k. over (map view o.segs) (line k after)) e ∙ ap (λ k. over (map view o.segs) k) (sym (line_line (length o.code - o.from) 1 after));
 }
@@ -80,14 +80,9 @@ part_tree f s n a z o empty here small =
 
 -- ---- a patch keeps the length
 
-pub length_patched : {A : Type 0} (xs : List A) (p : ℕ) (y : A) → length (slice_set xs p y) ≡ length xs
-length_patched [] p y = refl
-length_patched (x ∷ xs) zero y = refl
-length_patched (x ∷ xs) (suc p) y = ap suc (length_patched xs p y)
-
 length_aim_one : (to : ℤ) (p : ℕ) (j : Option Instr) (code : List Instr) → length (aim_one to p j code) ≡ length code
 length_aim_one to p None code = refl
-length_aim_one to p (Some j) code = length_patched code p (aimed to j)
+length_aim_one to p (Some j) code = length-set code p (aimed to j)
 
 pub length_aims : (to : ℤ) (p n : ℕ) (code : List Instr) → length (aims to p n code) ≡ length code
 length_aims to p zero code = refl

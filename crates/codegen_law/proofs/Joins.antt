@@ -1,5 +1,6 @@
 -- How segments are closed and joined.
 use Rattle.std.proofs.Common.{◌≡◌, ◌-◌, ◌≤◌, min, ℕ, zero, suc, List, [], ◌∷◌, ◌++◌, map, length, refl, sym, ap, ◌∙◌, arith, rules}
+use Rattle.std.proofs.lemmas.List.{map-append}
 use Rattle.machine_semantics.specs.Trees as tree
 use Rattle.machine_semantics.specs.Trees.{Segs, Line, Nil, Cons}
 use Rattle.code_spec.specs.Segments.{before, line}
@@ -8,7 +9,6 @@ use Rattle.image_format.specs.View.{view, tree_of}
 use Rattle.image_format.specs.declared.seg.Seg.{Seg, the_lemmas}
 use Rattle.image_format.specs.declared.seg.Seg.TheVariants as seg
 use Rattle.codegen_spec.specs.Made.{Out, closed, joined, line_of}
-use Rattle.codegen_law.proofs.Lists.{map_more}
 use Rattle.codegen_law.proofs.Trees.{over, tail}
 
 pub view_line : (n : ℕ) → view (seg.Line n) ≡ Line n
@@ -50,7 +50,7 @@ lined (suc n) after small apart =
 -- the segments that are closed, before what is no line
 pub closed_over : (o : Out) (after : Segs) → length o.code - o.from ≤ 4294967295 → ((n : ℕ) → before (suc n) after ≡ Cons (Line (suc n)) after) → over (map view (closed o)) after ≡ tail o after
 closed_over o after small apart =
-    ap (λ k. over k after) (map_more view o.segs (line_of (length o.code - o.from)))
+    ap (λ k. over k after) (map-append view o.segs (line_of (length o.code - o.from)))
     ∙ over_more (map view o.segs) (map view (line_of (length o.code - o.from))) after
     ∙ ap (λ k. over (map view o.segs) k) (lined (length o.code - o.from) after small apart)
 
@@ -64,6 +64,6 @@ pub joined_tail : (o before_it : Out) (s : Seg) (after : Segs) → length before
 joined_tail o before_it s after small apart =
     let none : length o.code - length o.code ≡ 0 = omega arith in
     ap (λ k. over (map view (closed before_it ++ s ∷ [])) (line k after)) none
-    ∙ ap (λ k. over k after) (map_more view (closed before_it) (s ∷ []))
+    ∙ ap (λ k. over k after) (map-append view (closed before_it) (s ∷ []))
     ∙ over_more (map view (closed before_it)) (view s ∷ []) after
     ∙ closed_over before_it (Cons (view s) after) small apart

@@ -1,20 +1,9 @@
 -- Small laws of lists of instructions.
-use Rattle.std.proofs.Common.{◌≡◌, ◌+◌, ℕ, suc, ℤ, List, [], ◌∷◌, ◌++◌, map, length, slice_get, slice_set, Some, refl, sym, ap, subst, ◌∙◌, append_assoc, arith}
+use Rattle.std.proofs.Common.{◌≡◌, ◌+◌, ℕ, ℤ, List, [], ◌∷◌, ◌++◌, map, length, slice_get, slice_set, Some, refl, sym, ap, subst, ◌∙◌, append_assoc, arith}
+use Rattle.std.proofs.lemmas.List.{length-append}
 use Rattle.machine_isa.specs.declared.instr.Instr.{Instr}
 use Rattle.code_spec.specs.Emits.{Has}
 use Rattle.codegen_spec.specs.Made.{aimed, aims, aim_one}
-
-pub map_more : {A B : Type 0} (f : A → B) (xs ys : List A) → map f (xs ++ ys) ≡ map f xs ++ map f ys
-map_more f [] ys = refl
-map_more f (x ∷ xs) ys = ap (λ zs. f x ∷ zs) (map_more f xs ys)
-
-pub length_more : {A : Type 0} (xs ys : List A) → length (xs ++ ys) ≡ length xs + length ys
-length_more [] ys = omega arith
-length_more (x ∷ xs) ys = let e = length_more xs ys in omega arith
-
-pub length_map : {A B : Type 0} (f : A → B) (xs : List A) → length (map f xs) ≡ length xs
-length_map f [] = refl
-length_map f (x ∷ xs) = ap suc (length_map f xs)
 
 pub set_at : {A : Type 0} (xs : List A) (x y : A) (ys : List A) → slice_set (xs ++ x ∷ ys) (length xs) y ≡ xs ++ y ∷ ys
 set_at [] x y ys = refl
@@ -23,11 +12,6 @@ set_at (z ∷ xs) x y ys = ap (λ zs. z ∷ zs) (set_at xs x y ys)
 pub get_at : {A : Type 0} (xs : List A) (x : A) (ys : List A) → slice_get (xs ++ x ∷ ys) (length xs) ≡ Some x
 get_at [] x ys = refl
 get_at (z ∷ xs) x ys = get_at xs x ys
-
--- code that stands there is that of two parts, one after the other
-pub has_first : (all : List Instr) (p : ℕ) (xs ys : List Instr) → Has all p (xs ++ ys) → Has all p xs
-has_first all p [] ys h = tt
-has_first all p (x ∷ xs) ys h = (h.0, has_first all (p + 1) xs ys h.1)
 
 pub has_rest : (all : List Instr) (p q : ℕ) (xs ys : List Instr) → q ≡ p + length xs → Has all p (xs ++ ys) → Has all q ys
 has_rest all p q [] ys e h = let f : p ≡ q = omega arith in subst (λ k. Has all k ys) f h
@@ -39,7 +23,7 @@ aims_all to pre [] = refl
 aims_all to pre (x ∷ xs) =
     let here : aim_one to (length pre) (slice_get (pre ++ x ∷ xs) (length pre)) (pre ++ x ∷ xs) ≡ (pre ++ aimed to x ∷ []) ++ xs =
     ap (λ j. aim_one to (length pre) j (pre ++ x ∷ xs)) (get_at pre x xs) ∙ set_at pre x (aimed to x) xs ∙ sym (append_assoc pre (aimed to x ∷ []) xs) in
-    let long : length pre + 1 ≡ length (pre ++ aimed to x ∷ []) = sym (length_more pre (aimed to x ∷ [])) in
+    let long : length pre + 1 ≡ length (pre ++ aimed to x ∷ []) = sym (length-append pre (aimed to x ∷ [])) in
     ap (λ code. aims to (length pre + 1) (length xs) code) here
     ∙ ap (λ p. aims to p (length xs) ((pre ++ aimed to x ∷ []) ++ xs)) long
     ∙ aims_all to (pre ++ aimed to x ∷ []) xs

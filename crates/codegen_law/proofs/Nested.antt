@@ -1,5 +1,6 @@
 -- The code that the generator makes of choices, of loops and of lists of statements.
 use Rattle.std.proofs.Common.{◌≡◌, Bool, true, false, ◌+◌, ◌-◌, ◌≤◌, min, ℕ, suc, ℤ, pos, List, [], ◌∷◌, ◌++◌, map, length, slice_set, Option, refl, sym, ap, subst, ◌∙◌, append_assoc, append-nil, arith}
+use Rattle.std.proofs.lemmas.List.{map-append, length-append, length-map}
 use Rattle.syntax_tree.specs.Plain.{Name, Expr, Exprs, Stmt, assign, assign_entry, assign_empty, perform, perform_entry, when, when_else, loop, exit_when, get, put, wait, signal, broadcast, except, assert, Stmts, no_stmts, stmts, Constant, Prog}
 use Rattle.source_semantics.specs.Names.{constant_value, count_value, device_number}
 use Rattle.machine_isa.specs.declared.instr.Instr.{Instr}
@@ -11,10 +12,11 @@ use Rattle.code_spec.specs.Emits.{Has, At, turns_of, condition_of, monitor_of, E
 use Rattle.codegen_spec.specs.Told.{fit, told_callee, within}
 use Rattle.codegen_spec.specs.Made.{Out, push, aimed, aims, call_out, args_out, index_out, store_out, put_out, condition_told, count_told, choice, between, turning, counting, stepped, expr_out, stmt_out, stmts_out, looped, closed}
 use Rattle.codegen_law.specs.MadeRightFits.{Fit, CallFits, ArgsFit, StmtFits, StmtsFit}
-use Rattle.codegen_law.proofs.Lists.{map_more, length_more, length_map, set_at, has_first, has_rest, aims_all}
+use Rattle.codegen_law.proofs.Lists.{set_at, has_rest, aims_all}
 use Rattle.codegen_law.proofs.Twice.{all_twice}
 use Rattle.codegen_law.proofs.Expressions.{still_more, aiming, exit_of, to_of, LineMade, one_made, both_made, call_made, ExprMade, expr_made, args_made}
 use Rattle.codegen_law.proofs.Statements.{fit_small, StmtMade, StmtsMade, store_made, put_made, index_made, line_made, assert_made, exit_made}
+use Rattle.code_measures.proofs.Lines.{has_first}
 
 -- the jump of a choice is patched when the arm behind it is there
 armed : (pre ca : List Instr) (begun jump done : Instr) → slice_set (((pre ++ begun ∷ []) ++ ca) ++ jump ∷ []) (length pre) done ≡ pre ++ done ∷ (ca ++ jump ∷ [])
@@ -35,10 +37,10 @@ when_made g c e a b p w m n =
       code = m.code ++ z ∷ (n.code ++ j ∷ []);
       made = λ o long at.
           let pre : List Instr = (expr_out g c e o).code in
-          let pre_long : length pre ≡ p + length m.code = ap length (m.made o) ∙ length_more o.code m.code ∙ ap (λ k. k + length m.code) long in
-          let began : length (pre ++ i.JumpZero (pos 0) ∷ []) ≡ p + length m.code + 1 = length_more pre (i.JumpZero (pos 0) ∷ []) ∙ ap (λ k. k + 1) pre_long in
+          let pre_long : length pre ≡ p + length m.code = ap length (m.made o) ∙ length-append o.code m.code ∙ ap (λ k. k + length m.code) long in
+          let began : length (pre ++ i.JumpZero (pos 0) ∷ []) ≡ p + length m.code + 1 = length-append pre (i.JumpZero (pos 0) ∷ []) ∙ ap (λ k. k + 1) pre_long in
           let body : (stmts_out g c a (choice (expr_out g c e o))).code ≡ (pre ++ i.JumpZero (pos 0) ∷ []) ++ n.code = n.made (choice (expr_out g c e o)) began (m.word o ∙ at) in
-          let end : length ((pre ++ i.JumpZero (pos 0) ∷ []) ++ n.code) ≡ mid = length_more (pre ++ i.JumpZero (pos 0) ∷ []) n.code ∙ ap (λ k. k + length n.code) began in
+          let end : length ((pre ++ i.JumpZero (pos 0) ∷ []) ++ n.code) ≡ mid = length-append (pre ++ i.JumpZero (pos 0) ∷ []) n.code ∙ ap (λ k. k + length n.code) began in
           ap (λ k. arm_end k (length pre)) body
           ∙ armed pre n.code (i.JumpZero (pos 0)) (i.Jump (fit (pos (length ((pre ++ i.JumpZero (pos 0) ∷ []) ++ n.code) + 1)))) (i.JumpZero (fit (pos (length ((pre ++ i.JumpZero (pos 0) ∷ []) ++ n.code) + 1))))
           ∙ ap (λ k. pre ++ i.JumpZero (fit (pos (k + 1))) ∷ (n.code ++ i.Jump (fit (pos (k + 1))) ∷ [])) end
@@ -46,15 +48,15 @@ when_made g c e a b p w m n =
       word = λ o at. n.word (choice (expr_out g c e o)) (m.word o ∙ at);
       still = λ f. still_more m.code (z ∷ (n.code ++ j ∷ [])) m.still (λ t. ap (λ k. z ∷ k) (still_more n.code (j ∷ []) (n.still f) (λ t. refl) t));
       emits = λ all y small h.
-          let long : length (m.code ++ z ∷ (n.code ++ j ∷ [])) ≡ length m.code + suc (length n.code + 1) = length_more m.code (z ∷ (n.code ++ j ∷ [])) ∙ ap (λ k. length m.code + suc k) (length_more n.code (j ∷ [])) in
+          let long : length (m.code ++ z ∷ (n.code ++ j ∷ [])) ≡ length m.code + suc (length n.code + 1) = length-append m.code (z ∷ (n.code ++ j ∷ [])) ∙ ap (λ k. length m.code + suc k) (length-append n.code (j ∷ [])) in
           let low : mid + 1 ≤ 2147483647 = omega arith in
           let there : map (aimed (to_of b y)) (m.code ++ z ∷ (n.code ++ j ∷ [])) ≡ m.code ++ z ∷ (map (aimed (to_of b y)) n.code ++ j ∷ []) =
-          map_more (aimed (to_of b y)) m.code (z ∷ (n.code ++ j ∷ [])) ∙ ap (λ k. k ++ z ∷ map (aimed (to_of b y)) (n.code ++ j ∷ [])) (m.still (to_of b y))
-          ∙ ap (λ k. m.code ++ z ∷ k) (map_more (aimed (to_of b y)) n.code (j ∷ [])) in
+          map-append (aimed (to_of b y)) m.code (z ∷ (n.code ++ j ∷ [])) ∙ ap (λ k. k ++ z ∷ map (aimed (to_of b y)) (n.code ++ j ∷ [])) (m.still (to_of b y))
+          ∙ ap (λ k. m.code ++ z ∷ k) (map-append (aimed (to_of b y)) n.code (j ∷ [])) in
           let h2 : Has all p (m.code ++ z ∷ (map (aimed (to_of b y)) n.code ++ j ∷ [])) = subst (λ k. Has all p k) there h in
           let r : ℕ = p + length m.code in
           let behind : Has all r (z ∷ (map (aimed (to_of b y)) n.code ++ j ∷ [])) = has_rest all p r m.code (z ∷ (map (aimed (to_of b y)) n.code ++ j ∷ [])) refl h2 in
-          let last : Has all mid (j ∷ []) = has_rest all (r + 1) mid (map (aimed (to_of b y)) n.code) (j ∷ []) (ap (λ k. r + 1 + k) (sym (length_map (aimed (to_of b y)) n.code))) behind.1 in
+          let last : Has all mid (j ∷ []) = has_rest all (r + 1) mid (map (aimed (to_of b y)) n.code) (j ∷ []) (ap (λ k. r + 1 + k) (sym (length-map n.code (aimed (to_of b y))))) behind.1 in
           let q : p + length (m.code ++ z ∷ (n.code ++ j ∷ [])) ≡ mid + 1 = omega arith in
           let inside_small : r + 1 + length n.code ≤ 2147483647 = omega arith in (
             r,
@@ -91,19 +93,19 @@ when_else_made g c e a d b p w m n k =
           let oa : Out = stmts_out g c a (choice oe) in
           let ob : Out = between (length oe.code) oa in
           let pre : List Instr = oe.code in
-          let pre_long : length pre ≡ r = ap length (m.made o) ∙ length_more o.code m.code ∙ ap (λ k. k + length m.code) long in
-          let began : length (pre ++ i.JumpZero (pos 0) ∷ []) ≡ r + 1 = length_more pre (i.JumpZero (pos 0) ∷ []) ∙ ap (λ k. k + 1) pre_long in
+          let pre_long : length pre ≡ r = ap length (m.made o) ∙ length-append o.code m.code ∙ ap (λ k. k + length m.code) long in
+          let began : length (pre ++ i.JumpZero (pos 0) ∷ []) ≡ r + 1 = length-append pre (i.JumpZero (pos 0) ∷ []) ∙ ap (λ k. k + 1) pre_long in
           let body : oa.code ≡ (pre ++ i.JumpZero (pos 0) ∷ []) ++ n.code = n.made (choice oe) began (m.word o ∙ at) in
-          let body_end : length oa.code ≡ mid = ap length body ∙ length_more (pre ++ i.JumpZero (pos 0) ∷ []) n.code ∙ ap (λ k. k + length n.code) began in
+          let body_end : length oa.code ≡ mid = ap length body ∙ length-append (pre ++ i.JumpZero (pos 0) ∷ []) n.code ∙ ap (λ k. k + length n.code) began in
           let body_word : oa.word ≡ w + loops a = n.word (choice oe) (m.word o ∙ at) in
           let second : ob.code ≡ pre ++ z ∷ (n.code ++ i.Jump (pos 0) ∷ []) =
           ap (λ x. slice_set (oa.code ++ i.Jump (pos 0) ∷ []) (length pre) (i.JumpZero (fit (pos (x + 1))))) body_end
           ∙ ap (λ x. slice_set (x ++ i.Jump (pos 0) ∷ []) (length pre) z) body ∙ armed pre n.code (i.JumpZero (pos 0)) (i.Jump (pos 0)) z in
           let second_long : length ob.code ≡ mid + 1 =
-          ap length second ∙ length_more pre (z ∷ (n.code ++ i.Jump (pos 0) ∷ [])) ∙ ap (λ x. length pre + suc x) (length_more n.code (i.Jump (pos 0) ∷ [])) ∙ ap (λ x. x + suc (length n.code + 1)) pre_long ∙ omega arith in
+          ap length second ∙ length-append pre (z ∷ (n.code ++ i.Jump (pos 0) ∷ [])) ∙ ap (λ x. length pre + suc x) (length-append n.code (i.Jump (pos 0) ∷ [])) ∙ ap (λ x. x + suc (length n.code + 1)) pre_long ∙ omega arith in
           let end : (stmts_out g c d ob).code ≡ (pre ++ z ∷ (n.code ++ i.Jump (pos 0) ∷ [])) ++ k.code = k.made ob second_long body_word ∙ ap (λ x. x ++ k.code) second in
-          let end_long : length (stmts_out g c d ob).code ≡ q = ap length (k.made ob second_long body_word) ∙ length_more ob.code k.code ∙ ap (λ x. x + length k.code) second_long in
-          let front : length ((pre ++ z ∷ []) ++ n.code) ≡ mid = length_more (pre ++ z ∷ []) n.code ∙ ap (λ x. x + length n.code) (length_more pre (z ∷ []) ∙ ap (λ x. x + 1) pre_long) in
+          let end_long : length (stmts_out g c d ob).code ≡ q = ap length (k.made ob second_long body_word) ∙ length-append ob.code k.code ∙ ap (λ x. x + length k.code) second_long in
+          let front : length ((pre ++ z ∷ []) ++ n.code) ≡ mid = length-append (pre ++ z ∷ []) n.code ∙ ap (λ x. x + length n.code) (length-append pre (z ∷ []) ∙ ap (λ x. x + 1) pre_long) in
           ap (λ x. slice_set (stmts_out g c d ob).code x (i.Jump (fit (pos (length (stmts_out g c d ob).code))))) body_end
           ∙ ap (λ x. slice_set (stmts_out g c d ob).code mid (i.Jump (fit (pos x)))) end_long
           ∙ ap (λ x. slice_set x mid j) end
@@ -114,17 +116,17 @@ when_else_made g c e a d b p w m n k =
       emits = λ all y small h.
           let ma : List Instr = map (aimed (to_of b y)) n.code in
           let mb : List Instr = map (aimed (to_of b y)) k.code in
-          let long : length (m.code ++ z ∷ (n.code ++ j ∷ k.code)) ≡ length m.code + suc (length n.code + suc (length k.code)) = length_more m.code (z ∷ (n.code ++ j ∷ k.code)) ∙ ap (λ x. length m.code + suc x) (length_more n.code (j ∷ k.code)) in
+          let long : length (m.code ++ z ∷ (n.code ++ j ∷ k.code)) ≡ length m.code + suc (length n.code + suc (length k.code)) = length-append m.code (z ∷ (n.code ++ j ∷ k.code)) ∙ ap (λ x. length m.code + suc x) (length-append n.code (j ∷ k.code)) in
           let end : p + length (m.code ++ z ∷ (n.code ++ j ∷ k.code)) ≡ q = omega arith in
           let low : mid + 1 ≤ 2147483647 = omega arith in
           let low_q : q ≤ 2147483647 = omega arith in
           let low_a : r + 1 + length n.code ≤ 2147483647 = omega arith in
           let there : map (aimed (to_of b y)) (m.code ++ z ∷ (n.code ++ j ∷ k.code)) ≡ m.code ++ z ∷ (ma ++ j ∷ mb) =
-          map_more (aimed (to_of b y)) m.code (z ∷ (n.code ++ j ∷ k.code)) ∙ ap (λ x. x ++ z ∷ map (aimed (to_of b y)) (n.code ++ j ∷ k.code)) (m.still (to_of b y))
-          ∙ ap (λ x. m.code ++ z ∷ x) (map_more (aimed (to_of b y)) n.code (j ∷ k.code)) in
+          map-append (aimed (to_of b y)) m.code (z ∷ (n.code ++ j ∷ k.code)) ∙ ap (λ x. x ++ z ∷ map (aimed (to_of b y)) (n.code ++ j ∷ k.code)) (m.still (to_of b y))
+          ∙ ap (λ x. m.code ++ z ∷ x) (map-append (aimed (to_of b y)) n.code (j ∷ k.code)) in
           let h2 : Has all p (m.code ++ z ∷ (ma ++ j ∷ mb)) = subst (λ x. Has all p x) there h in
           let behind : Has all r (z ∷ (ma ++ j ∷ mb)) = has_rest all p r m.code (z ∷ (ma ++ j ∷ mb)) refl h2 in
-          let last : Has all mid (j ∷ mb) = has_rest all (r + 1) mid ma (j ∷ mb) (ap (λ x. r + 1 + x) (sym (length_map (aimed (to_of b y)) n.code))) behind.1 in
+          let last : Has all mid (j ∷ mb) = has_rest all (r + 1) mid ma (j ∷ mb) (ap (λ x. r + 1 + x) (sym (length-map n.code (aimed (to_of b y))))) behind.1 in
           subst (λ x. Emits g all (aiming c (exit_of b y)) w p x (when_else e a d)) (sym end) (
             r,
             mid,
@@ -151,7 +153,7 @@ loop_end pre all = aims (fit (pos (length all))) (length pre) (length all - leng
 
 ended : (pre zs : List Instr) → loop_end pre (pre ++ zs) ≡ pre ++ map (aimed (fit (pos (length (pre ++ zs))))) zs
 ended pre zs =
-    let long = length_more pre zs in
+    let long = length-append pre zs in
     let rest : length (pre ++ zs) - length pre ≡ length zs = omega arith in
     ap (λ k. aims (fit (pos (length (pre ++ zs)))) (length pre) k (pre ++ zs)) rest ∙ aims_all (fit (pos (length (pre ++ zs)))) pre zs
 
@@ -191,13 +193,13 @@ loop_made g c x low high ss b p w fits_low fits_high fits_turns fits_word n =
           let t : Out = turning turned (counting (fit lo) o) in
           let raw : List Instr = head_of (fit lo) (fit (pos o.word)) (fit (pos turned)) in
           let pre : t.code ≡ o.code ++ raw = headed o.code (i.Push (fit lo)) (i.StoreLocal (fit (pos o.word))) (i.Repeats (fit (pos turned))) in
-          let began : length t.code ≡ start = ap length pre ∙ length_more o.code raw ∙ ap (λ k. k + 3) long ∙ omega arith in
+          let began : length t.code ≡ start = ap length pre ∙ length-append o.code raw ∙ ap (λ k. k + 3) long ∙ omega arith in
           let body : (stmts_out g (within c x w) ss t).code ≡ t.code ++ n.code = n.made t began (ap suc at) in
           let close : List Instr = tail_of (fit (pos w)) (fit (pos (length t.code))) in
           let full : (push (stepped (fit (pos w)) (stmts_out g (within c x w) ss t)) (i.Repeat (fit (pos (length t.code))))).code ≡ t.code ++ (n.code ++ close) =
           tailed (stmts_out g (within c x w) ss t).code (i.LoadLocal (fit (pos w))) (i.Push (pos 1)) i.Add (i.StoreLocal (fit (pos w))) (i.Repeat (fit (pos (length t.code))))
           ∙ ap (λ k. k ++ close) body ∙ append_assoc t.code n.code close in
-          let size : length (t.code ++ (n.code ++ close)) ≡ q = length_more t.code (n.code ++ close) ∙ ap (λ k. length t.code + k) (length_more n.code close) ∙ ap (λ k. k + (length n.code + 5)) began ∙ omega arith in
+          let size : length (t.code ++ (n.code ++ close)) ≡ q = length-append t.code (n.code ++ close) ∙ ap (λ k. length t.code + k) (length-append n.code close) ∙ ap (λ k. k + (length n.code + 5)) began ∙ omega arith in
           let same_tail : close ≡ tail = ap (λ v. tail_of v (fit (pos (length t.code)))) fits_word ∙ ap (λ k. tail_of (pos w) (fit (pos k))) began in
           let same_turns : turned ≡ turns = ap (λ v. turns_of v (fit hi)) fits_low ∙ ap (λ v. turns_of lo v) fits_high in
           let same_head : raw ≡ head =
@@ -216,15 +218,15 @@ loop_made g c x low high ss b p w fits_low fits_high fits_turns fits_word n =
       still = λ f. still_more head (map (aimed (fit (pos q))) (n.code ++ tail)) (λ t. refl) (λ t. aimed_fit t q (n.code ++ tail));
       emits = λ all y small h.
           let long : length (head ++ map (aimed (fit (pos q))) (n.code ++ tail)) ≡ length n.code + 8 =
-          length_more head (map (aimed (fit (pos q))) (n.code ++ tail)) ∙ ap (λ k. 3 + k) (length_map (aimed (fit (pos q))) (n.code ++ tail) ∙ length_more n.code tail) ∙ omega arith in
+          length-append head (map (aimed (fit (pos q))) (n.code ++ tail)) ∙ ap (λ k. 3 + k) (length-map (n.code ++ tail) (aimed (fit (pos q))) ∙ length-append n.code tail) ∙ omega arith in
           let end : p + length (head ++ map (aimed (fit (pos q))) (n.code ++ tail)) ≡ q = omega arith in
           let low_q : q ≤ 2147483647 = omega arith in
           let low_start : start ≤ 2147483647 = omega arith in
           let aim : fit (pos q) ≡ pos q = fit_small q low_q in
           let there : map (aimed (to_of b y)) (head ++ map (aimed (fit (pos q))) (n.code ++ tail)) ≡ head ++ (map (aimed (pos q)) n.code ++ tail_of (pos w) (pos start)) =
           ap (λ v. map (aimed (to_of b y)) (head ++ map (aimed v) (n.code ++ tail))) aim
-          ∙ map_more (aimed (to_of b y)) head (map (aimed (pos q)) (n.code ++ tail))
-          ∙ ap (λ k. head ++ k) (all_twice (to_of b y) q (n.code ++ tail) ∙ map_more (aimed (pos q)) n.code tail ∙ ap (λ v. map (aimed (pos q)) n.code ++ tail_of (pos w) v) (fit_small start low_start)) in
+          ∙ map-append (aimed (to_of b y)) head (map (aimed (pos q)) (n.code ++ tail))
+          ∙ ap (λ k. head ++ k) (all_twice (to_of b y) q (n.code ++ tail) ∙ map-append (aimed (pos q)) n.code tail ∙ ap (λ v. map (aimed (pos q)) n.code ++ tail_of (pos w) v) (fit_small start low_start)) in
           let h2 : Has all p (head ++ (map (aimed (pos q)) n.code ++ tail_of (pos w) (pos start))) = subst (λ k. Has all p k) there h in
           let inner_code : Has all start (map (aimed (pos q)) n.code ++ tail_of (pos w) (pos start)) = has_rest all p start head (map (aimed (pos q)) n.code ++ tail_of (pos w) (pos start)) (omega arith) h2 in
           let small_body : start + length n.code ≤ 2147483647 = omega arith in
@@ -232,7 +234,7 @@ loop_made g c x low high ss b p w fits_low fits_high fits_turns fits_word n =
             mid,
             has_first all p head (map (aimed (pos q)) n.code ++ tail_of (pos w) (pos start)) h2,
             n.emits all q small_body (has_first all start (map (aimed (pos q)) n.code) (tail_of (pos w) (pos start)) inner_code),
-            has_rest all start mid (map (aimed (pos q)) n.code) (tail_of (pos w) (pos start)) (ap (λ k. start + k) (sym (length_map (aimed (pos q)) n.code))) inner_code,
+            has_rest all start mid (map (aimed (pos q)) n.code) (tail_of (pos w) (pos start)) (ap (λ k. start + k) (sym (length-map n.code (aimed (pos q))))) inner_code,
             omega arith,
           );
     }
@@ -320,19 +322,19 @@ mutual
       record {
         code = m.code ++ n.code;
         made = λ o long at.
-            n.made (stmt_out g c s o) (ap length (m.made o long at) ∙ length_more o.code m.code ∙ ap (λ k. k + length m.code) long) (m.word o at)
+            n.made (stmt_out g c s o) (ap length (m.made o long at) ∙ length-append o.code m.code ∙ ap (λ k. k + length m.code) long) (m.word o at)
             ∙ ap (λ k. k ++ n.code) (m.made o long at) ∙ append_assoc o.code m.code n.code;
         word = λ o at. n.word (stmt_out g c s o) (m.word o at) ∙ omega arith;
         still = λ f. still_more m.code n.code (m.still f) (n.still f);
         emits = λ all y small h2.
-            let long : length (m.code ++ n.code) ≡ length m.code + length n.code = length_more m.code n.code in
-            let h3 : Has all p (map (aimed (to_of b y)) m.code ++ map (aimed (to_of b y)) n.code) = subst (λ k. Has all p k) (map_more (aimed (to_of b y)) m.code n.code) h2 in
+            let long : length (m.code ++ n.code) ≡ length m.code + length n.code = length-append m.code n.code in
+            let h3 : Has all p (map (aimed (to_of b y)) m.code ++ map (aimed (to_of b y)) n.code) = subst (λ k. Has all p k) (map-append (aimed (to_of b y)) m.code n.code) h2 in
             let first_small : p + length m.code ≤ 2147483647 = omega arith in
             let rest_small : p + length m.code + length n.code ≤ 2147483647 = omega arith in
             let end : p + length m.code + length n.code ≡ p + length (m.code ++ n.code) = omega arith in (
               p + length m.code,
               m.emits all y first_small (has_first all p (map (aimed (to_of b y)) m.code) (map (aimed (to_of b y)) n.code) h3),
               subst (λ k. EmitsAll g all (aiming c (exit_of b y)) (w + loops_in s) (p + length m.code) k ss) end
-                  (n.emits all y rest_small (has_rest all p (p + length m.code) (map (aimed (to_of b y)) m.code) (map (aimed (to_of b y)) n.code) (ap (λ k. p + k) (sym (length_map (aimed (to_of b y)) m.code))) h3)),
+                  (n.emits all y rest_small (has_rest all p (p + length m.code) (map (aimed (to_of b y)) m.code) (map (aimed (to_of b y)) n.code) (ap (λ k. p + k) (sym (length-map m.code (aimed (to_of b y))))) h3)),
             );
       }

@@ -1,5 +1,6 @@
 -- What is made of a process is its code, with its trees.
 use Rattle.std.proofs.Common.{◌≡◌, ◌+◌, ◌≤◌, ℕ, suc, false, List, [], ◌∷◌, ◌++◌, length, Option, Some, None, option_map, pos, refl, sym, ap, subst, ◌∙◌, append_assoc, append-nil, arith}
+use Rattle.std.proofs.lemmas.List.{length-append}
 use Rattle.syntax_tree.specs.Plain.{Stmts, Handler, Process, Prog}
 use Rattle.machine_isa.specs.declared.instr.Instr.{Instr}
 use Rattle.machine_isa.specs.declared.instr.Instr.TheVariants as i
@@ -17,7 +18,7 @@ use Rattle.code_measures.proofs.Seen.{sees}
 use Rattle.codegen_spec.specs.declared.code.ProcessParts.{ProcessParts}
 use Rattle.codegen_spec.specs.Made.{Out, begun, stmts_out}
 use Rattle.codegen_spec.specs.Parts.{opened, part_of, body_out, ended, process_out, handler_part}
-use Rattle.codegen_law.proofs.Lists.{length_more, has_first, has_rest}
+use Rattle.codegen_law.proofs.Lists.{has_rest}
 use Rattle.codegen_law.proofs.Statements.{StmtsMade}
 use Rattle.codegen_law.proofs.Nested.{stmts_made}
 use Rattle.codegen_law.proofs.Bounds.{all_bounds_fit}
@@ -25,6 +26,7 @@ use Rattle.codegen_law.proofs.Growth.{Grows, part_tree}
 use Rattle.codegen_law.proofs.Segments.{stmts_grows}
 use Rattle.codegen_law.specs.MadeWholeFits.{HandlerFits, ProcessFits}
 use Rattle.codegen_spec.specs.Held.{HoldsHandler, HoldsProcess}
+use Rattle.code_measures.proofs.Lines.{has_first}
 
 -- what is made of a process behind so much code, and its parts
 abbrev pub body_of : Prog → ℕ → Process → List Instr → Out
@@ -52,12 +54,12 @@ module _ (g : Prog) (may : Text → Type 0) (n : ℕ) (t : Process) where
   handler_long None o sound = omega arith
   handler_long (Some h) o sound =
       let e : length (stmts_out g (process_scope g n t) h.body (begun o)).code ≡ length o.code + stmts_length g (process_names g n t) h.body = text_long h.body sound (begun o) in
-      length_more (stmts_out g (process_scope g n t) h.body (begun o)).code (i.End ∷ []) ∙ omega arith
+      length-append (stmts_out g (process_scope g n t) h.body (begun o)).code (i.End ∷ []) ∙ omega arith
 
   pub process_long : SoundProcess g may n t → (k : List Instr) → length (whole_of g n t k).code ≡ length k + process_length g (process_names g n t) t
   process_long sound k =
       let b : length (body_of g n t k).code ≡ length k + stmts_length g (process_names g n t) t.body = text_long t.body sound.0 (opened 0 k) in
-      let e : length ((body_of g n t k).code ++ i.End ∷ []) ≡ length (body_of g n t k).code + 1 = length_more (body_of g n t k).code (i.End ∷ []) in
+      let e : length ((body_of g n t k).code ++ i.End ∷ []) ≡ length (body_of g n t k).code + 1 = length-append (body_of g n t k).code (i.End ∷ []) in
       handler_long t.handler (ended (body_of g n t k)) sound.1 ∙ omega arith
 
 module _ (g : Prog) (few : (t : Text) → number_of g t ≤ 65535) (may : Text → Type 0) (n : ℕ) (t : Process) where
@@ -89,8 +91,8 @@ module _ (g : Prog) (few : (t : Text) → number_of g t ≤ 65535) (may : Text �
         code = m.code ++ i.End ∷ [];
         made = λ o long at. ap (λ z. z ++ i.End ∷ []) (m.made (begun o) long at) ∙ append_assoc o.code m.code (i.End ∷ []);
         emits = λ all o ip long small less h1 holds.
-            let l1 : length (m.code ++ i.End ∷ []) ≡ length m.code + 1 = length_more m.code (i.End ∷ []) in
-            let l2 : length ((stmts_out g c h.body (begun o)).code ++ i.End ∷ []) ≡ length (stmts_out g c h.body (begun o)).code + 1 = length_more (stmts_out g c h.body (begun o)).code (i.End ∷ []) in
+            let l1 : length (m.code ++ i.End ∷ []) ≡ length m.code + 1 = length-append m.code (i.End ∷ []) in
+            let l2 : length ((stmts_out g c h.body (begun o)).code ++ i.End ∷ []) ≡ length (stmts_out g c h.body (begun o)).code + 1 = length-append (stmts_out g c h.body (begun o)).code (i.End ∷ []) in
             let low : p + length m.code ≤ 2147483647 = omega arith in
             let low2 : length (stmts_out g c h.body (begun o)).code ≤ 4294967295 = omega arith in
             let end : p + length (m.code ++ i.End ∷ []) ≡ p + length m.code + 1 = omega arith in (
@@ -124,7 +126,7 @@ module _ (g : Prog) (few : (t : Text) → number_of g t ≤ 65535) (may : Text �
       let h : HandlerCode t.handler (behind + 1) = handler_code t.handler (behind + 1) fits.handler sound.1 in
       let made_end : (k : List Instr) → length k ≡ p → (ended (body_of g n t k)).code ≡ (k ++ m.code) ++ i.End ∷ [] = λ k long. ap (λ z. z ++ i.End ∷ []) (m.made (opened 0 k) long refl) in
       let long_end : (k : List Instr) → length k ≡ p → length (ended (body_of g n t k)).code ≡ behind + 1 = λ k long.
-      ap length (made_end k long) ∙ length_more (k ++ m.code) (i.End ∷ []) ∙ ap (λ z. z + 1) (length_more k m.code) ∙ ap (λ z. z + length m.code + 1) long in
+      ap length (made_end k long) ∙ length-append (k ++ m.code) (i.End ∷ []) ∙ ap (λ z. z + 1) (length-append k m.code) ∙ ap (λ z. z + length m.code + 1) long in
       let at_end : (k : List Instr) → length k ≡ p → (ended (body_of g n t k)).word ≡ loops t.body = λ k long. m.word (opened 0 k) refl ∙ omega arith in
       let made : (k : List Instr) → length k ≡ p → (whole_of g n t k).code ≡ k ++ (m.code ++ i.End ∷ h.code) = λ k long.
       h.made (ended (body_of g n t k)) (long_end k long) (at_end k long) ∙ ap (λ z. z ++ h.code) (made_end k long) ∙ append_assoc (k ++ m.code) (i.End ∷ []) h.code ∙ append_assoc k m.code (i.End ∷ h.code) in
@@ -133,12 +135,12 @@ module _ (g : Prog) (few : (t : Text) → number_of g t ≤ 65535) (may : Text �
         made = made;
         emits = λ all k ip long small has holds.
             let o : Out = ended (body_of g n t k) in
-            let l1 : length (m.code ++ i.End ∷ h.code) ≡ length m.code + suc (length h.code) = length_more m.code (i.End ∷ h.code) in
+            let l1 : length (m.code ++ i.End ∷ h.code) ≡ length m.code + suc (length h.code) = length-append m.code (i.End ∷ h.code) in
             let low : behind ≤ 2147483647 = omega arith in
             let low_h : behind + 1 + length h.code ≤ 65535 = omega arith in
-            let full : length (whole_of g n t k).code ≡ p + length (m.code ++ i.End ∷ h.code) = ap length (made k long) ∙ length_more k (m.code ++ i.End ∷ h.code) ∙ ap (λ z. z + length (m.code ++ i.End ∷ h.code)) long in
+            let full : length (whole_of g n t k).code ≡ p + length (m.code ++ i.End ∷ h.code) = ap length (made k long) ∙ length-append k (m.code ++ i.End ∷ h.code) ∙ ap (λ z. z + length (m.code ++ i.End ∷ h.code)) long in
             let less : length (whole_of g n t k).code ≤ 65535 = omega arith in
-            let l2 : length o.code ≡ length (body_of g n t k).code + 1 = length_more (body_of g n t k).code (i.End ∷ []) in
+            let l2 : length o.code ≡ length (body_of g n t k).code + 1 = length-append (body_of g n t k).code (i.End ∷ []) in
             let l3 : length o.code ≡ behind + 1 = long_end k long in
             let low_b : length (body_of g n t k).code ≤ 4294967295 = omega arith in
             let rest : Has all behind (i.End ∷ h.code) = has_rest all p behind m.code (i.End ∷ h.code) refl has in

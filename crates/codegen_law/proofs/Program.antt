@@ -1,5 +1,6 @@
 -- What is made of a program, put into an image, is the code of the program.
 use Rattle.std.proofs.Common.{◌≡◌, ◌+◌, ◌≤◌, ℕ, suc, List, [], ◌∷◌, ◌++◌, length, Some, slice_get, refl, sym, ap, subst, ◌∙◌, append_assoc, append-nil, arith}
+use Rattle.std.proofs.lemmas.List.{length-append}
 use Rattle.syntax_tree.specs.Plain.{Process, Prog}
 use Rattle.source_semantics.specs.Names.{processes}
 use Rattle.machine_isa.specs.declared.instr.Instr.{Instr}
@@ -16,7 +17,7 @@ use Rattle.codegen_spec.specs.declared.code.ProcessParts.{ProcessParts}
 use Rattle.codegen_spec.specs.declared.code.Code.{Code}
 use Rattle.codegen_spec.specs.Made.{push}
 use Rattle.codegen_spec.specs.Parts.{part_of, return_of, text_made, texts_made, process_made, processes_made, nothing_made, program_made}
-use Rattle.codegen_law.proofs.Lists.{length_more, has_first, has_rest}
+use Rattle.codegen_law.proofs.Lists.{has_rest}
 use Rattle.codegen_law.proofs.Emitted.{has_there}
 use Rattle.codegen_law.specs.MadeWholeFits.{RoutineFits, ProcessFits}
 use Rattle.codegen_spec.specs.Held.{HoldsRoutine, HoldRoutines, HoldProcesses}
@@ -24,6 +25,7 @@ use Rattle.codegen_law.specs.Whole.{MadeHasItsLength, MadeIsCode}
 use Rattle.codegen_law.proofs.Numbers.{few_routines}
 use Rattle.codegen_law.proofs.Routines.{whole_out, RoutineCode, routine_code, routine_long, routine_tree}
 use Rattle.codegen_law.proofs.Processes.{parts_of, ProcessCode, process_code, process_long}
+use Rattle.code_measures.proofs.Lines.{has_first}
 
 -- ---- the length, which does not ask how large anything is
 
@@ -92,9 +94,9 @@ module _ (g : Prog) (few : (t : Text) → number_of g t ≤ 65535) where
   one_more t ts k all [] ok m n long small h holds = absurd holds
   one_more t ts k all (r ∷ rs) ok m n long small h holds =
       let p : ℕ = length k.instrs in
-      let l1 : length (m.code ++ n.code) ≡ length m.code + length n.code = length_more m.code n.code in
+      let l1 : length (m.code ++ n.code) ≡ length m.code + length n.code = length-append m.code n.code in
       let low : p + length m.code ≤ 2147483647 = omega arith in
-      let l2 : length (text_made g t k).instrs ≡ length (whole_out g t k.instrs).code + 1 = length_more (whole_out g t k.instrs).code (return_of t.routine.answers ∷ []) in
+      let l2 : length (text_made g t k).instrs ≡ length (whole_out g t k.instrs).code + 1 = length-append (whole_out g t k.instrs).code (return_of t.routine.answers ∷ []) in
       let low_tree : length (whole_out g t k.instrs).code ≤ 4294967295 = omega arith in
       let low_rest : length (text_made g t k).instrs + length n.code ≤ 65535 = omega arith in
       let end : length (text_made g t k).instrs + length n.code ≡ p + length (m.code ++ n.code) = omega arith in
@@ -125,7 +127,7 @@ module _ (g : Prog) (few : (t : Text) → number_of g t ≤ 65535) where
       let m : RoutineCode g t (length k.instrs) = routine_code g t (length k.instrs) ok.fits in
       let n : TextsCode ts (text_made g t k) = texts_code ts (text_made g t k) (λ r u at. ready (suc r) u at) in
       let here : (text_made g t k).instrs ≡ k.instrs ++ m.code = m.made k.instrs refl in
-      let long_here : length (text_made g t k).instrs ≡ length k.instrs + length m.code = ap length here ∙ length_more k.instrs m.code in
+      let long_here : length (text_made g t k).instrs ≡ length k.instrs + length m.code = ap length here ∙ length-append k.instrs m.code in
       record {
         code = m.code ++ n.code;
         made = n.made ∙ ap (λ z. z ++ n.code) here ∙ append_assoc k.instrs m.code n.code;
@@ -167,7 +169,7 @@ module _ (g : Prog) (few : (t : Text) → number_of g t ≤ 65535) where
   next_more n t ts k all [] may m j long small h holds = absurd holds
   next_more n t ts k all (x ∷ xs) may m j long small h holds =
       let p : ℕ = length k.instrs in
-      let l1 : length (m.code ++ j.code) ≡ length m.code + length j.code = length_more m.code j.code in
+      let l1 : length (m.code ++ j.code) ≡ length m.code + length j.code = length-append m.code j.code in
       let low : p + length m.code ≤ 65535 = omega arith in
       let low_rest : length (after n t k).instrs + length j.code ≤ 65535 = omega arith in
       let end : length (after n t k).instrs + length j.code ≡ p + length (m.code ++ j.code) = omega arith in (
@@ -189,7 +191,7 @@ module _ (g : Prog) (few : (t : Text) → number_of g t ≤ 65535) where
       let m : ProcessCode g few may n t (length k.instrs) = process_code g few may n t (length k.instrs) ok.fits ok.sound in
       let j : ProcessesCode (suc n) ts (after n t k) = processes_code (suc n) ts (after n t k) (λ r u at. let e : n + suc r ≡ suc n + r = omega arith in subst (λ i. ReadyProcess i u) e (ready (suc r) u at)) in
       let here : (after n t k).instrs ≡ k.instrs ++ m.code = m.made k.instrs refl in
-      let long_here : length (after n t k).instrs ≡ length k.instrs + length m.code = ap length here ∙ length_more k.instrs m.code in
+      let long_here : length (after n t k).instrs ≡ length k.instrs + length m.code = ap length here ∙ length-append k.instrs m.code in
       record {
         code = m.code ++ j.code;
         made = j.made ∙ ap (λ z. z ++ j.code) here ∙ append_assoc k.instrs m.code j.code;
@@ -207,7 +209,7 @@ made_is_code g m sound fits holds =
     processes_code g few 0 (processes g) k (λ r t at. let e : r ≡ 0 + r = omega arith in subst (λ i. ReadyProcess g few i t) e (record { fits = fits.bodies r t at; below = length (numbered g); sound = sound.bodies r t at })) in
     let all : m.code ≡ a.code ++ b.code = holds.code ∙ b.made ∙ ap (λ z. z ++ b.code) a.made in
     let long_k : length k.instrs ≡ length a.code = ap length a.made in
-    let long_all : length m.code ≡ length a.code + length b.code = ap length all ∙ length_more a.code b.code in
+    let long_all : length m.code ≡ length a.code + length b.code = ap length all ∙ length-append a.code b.code in
     let whole : length (program_made g).instrs ≡ code_length g = made_has_its_length g sound in
     let held : length m.code ≡ length (program_made g).instrs = ap length holds.code in
     let short : code_length g ≤ 65535 = fits.code in

@@ -1,11 +1,12 @@
 -- What holds of each routine and entry of a program holds of all that have numbers, and of all that calls name.
 use Rattle.std.proofs.Common.{◌≡◌, ◌+◌, ℕ, zero, suc, Bool, true, false, cond, List, [], ◌∷◌, ◌++◌, filter_map, Option, Some, None, option_map, bytes_eq, slice_get, refl, subst, arith}
+use Rattle.std.proofs.lemmas.Option.{none-some, same_Some}
 use Rattle.syntax_tree.specs.Plain.{Name, Routine, Monitor, Process, Decl, constant, device, event, routine, monitor, process, Prog}
 use Rattle.source_semantics.specs.Names.{named, routines, monitors, processes, routine_in as a_routine, monitor_in, process_in, monitor_number, routine_count}
 use Rattle.source_semantics.specs.Run.{or_else}
 use Rattle.code_spec.specs.Layout.{Owner, by_program, by_process, by_monitor}
 use Rattle.code_spec.specs.Numbering.{Text, routine_of, process_routines, routine_in, entry_of, entry_in, Called, calls_routine, calls_entry, called_text, is_among, visit_some, visit_all, visit, visit_texts, texts_of, texts_from, numbered, routine_calls}
-use Rattle.code_names_law.proofs.Numbers.{none_some, some_same, monitor_there}
+use Rattle.code_names_law.proofs.Numbers.{monitor_there}
 
 abbrev pub text_of : Owner → Routine → Text
 text_of o r = record { owner = o; routine = r }
@@ -20,8 +21,8 @@ module _ (g : Prog) (P : Text → Type 0) where
   OfTexts (t ∷ ts) = P t × OfTexts ts
 
   pub text_at : (ts : List Text) (r : ℕ) (t : Text) → OfTexts ts → slice_get ts r ≡ Some t → P t
-  text_at [] r t h e = absurd (none_some t e)
-  text_at (u ∷ us) zero t h e = subst P (some_same u t e) h.0
+  text_at [] r t h e = absurd (none-some t e)
+  text_at (u ∷ us) zero t h e = subst P (same_Some u t e) h.0
   text_at (u ∷ us) (suc r) t h e = text_at us r t h.1 e
 
   both_texts : (ts us : List Text) → OfTexts ts → OfTexts us → OfTexts (ts ++ us)
@@ -30,11 +31,11 @@ module _ (g : Prog) (P : Text → Type 0) where
 
   -- of the one that is found by a name
   of_found : (o : Owner) (rs : List Routine) (f : Name) (u : Text) → OfEach o rs → routine_of o rs f ≡ Some u → P u
-  of_found o [] f u h e = absurd (none_some u e)
+  of_found o [] f u h e = absurd (none-some u e)
   of_found o (r ∷ rs) f u h e = by_case (bytes_eq r.name f) (λ k. of_found o rs f u (λ j s is. h (suc j) s is) k) e
     where
       by_case : (b : Bool) → (routine_of o rs f ≡ Some u → P u) → option_map (λ s. text_of o s) (cond b (Some r) (named (λ s. s.name) f rs)) ≡ Some u → P u
-      by_case true k e = subst P (some_same (text_of o r) u e) (h 0 r refl)
+      by_case true k e = subst P (same_Some (text_of o r) u e) (h 0 r refl)
       by_case false k e = k e
 
   module _ (program : OfEach by_program (routines g)) (of_process : (k : ℕ) (p : Process) → slice_get (processes g) k ≡ Some p → OfEach (by_process k) p.routines)
@@ -53,7 +54,7 @@ module _ (g : Prog) (P : Text → Type 0) where
     routine_found (by_process k) f u e = in_process k f u (slice_get (processes g) k) refl e
 
     in_monitor : (m f : Name) (u : Text) (x : Option Monitor) → named (λ k. k.name) m (monitors g) ≡ x → entry_of (monitor_number g m) x f ≡ Some u → P u
-    in_monitor m f u None is e = absurd (none_some u e)
+    in_monitor m f u None is e = absurd (none-some u e)
     in_monitor m f u (Some d) is e = of_found (by_monitor (monitor_number g m)) d.entries f u (of_monitor (monitor_number g m) d (monitor_there m (monitors g) d is)) e
 
     pub entry_found : (m f : Name) (u : Text) → entry_in g m f ≡ Some u → P u

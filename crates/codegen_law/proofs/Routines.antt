@@ -1,5 +1,6 @@
 -- What is made of a routine is its code, with its tree.
 use Rattle.std.proofs.Common.{◌≡◌, ◌+◌, ◌-◌, ◌≤◌, min, ℕ, false, List, [], ◌∷◌, ◌++◌, map, length, Option, Some, None, pos, refl, sym, ap, subst, ◌∙◌, append_assoc, arith}
+use Rattle.std.proofs.lemmas.List.{length-append}
 use Rattle.syntax_tree.specs.Plain.{Answers, Routine, Prog}
 use Rattle.source_semantics.specs.Store.{range_of}
 use Rattle.machine_isa.specs.declared.instr.Instr.{Instr}
@@ -23,7 +24,7 @@ use Rattle.code_measures.proofs.Seen.{sees}
 use Rattle.codegen_spec.specs.Told.{fit, range_told}
 use Rattle.codegen_spec.specs.Made.{Out, push, closed, line_of, expr_out, range_out, stmts_out}
 use Rattle.codegen_spec.specs.Parts.{opened, answer_out, inner_out, entered, routine_out, return_of}
-use Rattle.codegen_law.proofs.Lists.{length_more, has_first, has_rest}
+use Rattle.codegen_law.proofs.Lists.{has_rest}
 use Rattle.codegen_law.proofs.Expressions.{aiming, LineMade, none_made, both_made, range_made, expr_made}
 use Rattle.codegen_law.proofs.Statements.{fit_small, StmtsMade}
 use Rattle.codegen_law.proofs.Nested.{stmts_made}
@@ -32,6 +33,7 @@ use Rattle.codegen_law.proofs.Bounds.{all_bounds_fit}
 use Rattle.codegen_law.proofs.Growth.{Grows, none, both, part_tree}
 use Rattle.codegen_law.proofs.Segments.{range_grows, expr_grows, stmts_grows}
 use Rattle.codegen_law.specs.MadeWholeFits.{AnswersFit, OwnerFits, RoutineFits}
+use Rattle.code_measures.proofs.Lines.{has_first}
 
 -- ---- the result
 
@@ -61,7 +63,7 @@ answered : (g : Prog) (all : List Instr) (c : Scope) (a : Answers) (p r : ℕ) �
 answered g all c a p r h e =
     let value : List Instr = code_of g c a.value in
     let check : List Instr = range_code (range_of g a.kind) in
-    let long : length (value ++ check) ≡ length value + length check = length_more value check in
+    let long : length (value ++ check) ≡ length value + length check = length-append value check in
     let end : r ≡ p + length value + length check = omega arith in
     (p + length value, record { has = has_first all p value check h; end = refl }, record { has = has_rest all p (p + length value) value check refl h; end = end })
 
@@ -80,7 +82,7 @@ Closing g all c p q a js = (r : ℕ) × EmitsAnswer g all c p r a × IsLine all 
 closing : (g : Prog) (all : List Instr) (c : Scope) (a : Answers) (p q : ℕ) (js : List Instr) → Has all p (answer_code g c (Some a) ++ js) → q ≡ p + length (answer_code g c (Some a) ++ js) → Closing g all c p q a js
 closing g all c a p q js h e =
     let xs : List Instr = answer_code g c (Some a) in
-    let long : length (xs ++ js) ≡ length xs + length js = length_more xs js in
+    let long : length (xs ++ js) ≡ length xs + length js = length-append xs js in
     let end : q ≡ p + length xs + length js = omega arith in
     (p + length xs, answered g all c a p (p + length xs) (has_first all p xs js h) refl, record { has = has_rest all p (p + length xs) xs js refl h; end = end })
 
@@ -119,7 +121,7 @@ module _ (g : Prog) (c : Scope) (r : Routine) (w p : ℕ) (m : StmtsMade g c r.b
       let same : fit (pos n) ≡ pos n = fit_small n small in
       let j : Instr = return_of r.answers in
       let before : List Instr = k ++ i.Enter (fit (pos n)) ∷ [] in
-      let long : length before ≡ p = length_more k (i.Enter (fit (pos n)) ∷ []) ∙ e in
+      let long : length before ≡ p = length-append k (i.Enter (fit (pos n)) ∷ []) ∙ e in
       ap (λ z. (z ++ i.Leave (fit (pos n)) ∷ []) ++ j ∷ []) (inner_made (entered n (opened w k)) long refl)
       ∙ append_assoc ((before ++ m.code) ++ a.code) (i.Leave (fit (pos n)) ∷ []) (j ∷ [])
       ∙ four before m.code a.code (i.Leave (fit (pos n)) ∷ j ∷ [])
@@ -145,8 +147,8 @@ routine_code g t p fits =
       code = before ++ (m.code ++ rest);
       made = λ k long. framed g c t.routine w inside m a t.owner k fits.owner (ap (λ n. n + length before) long);
       emits = λ all small h.
-          let l1 : length (before ++ (m.code ++ rest)) ≡ length before + length (m.code ++ rest) = length_more before (m.code ++ rest) in
-          let l2 : length (m.code ++ rest) ≡ length m.code + length rest = length_more m.code rest in
+          let l1 : length (before ++ (m.code ++ rest)) ≡ length before + length (m.code ++ rest) = length-append before (m.code ++ rest) in
+          let l2 : length (m.code ++ rest) ≡ length m.code + length rest = length-append m.code rest in
           let low : inside + length m.code ≤ 2147483647 = omega arith in
           let h1 : Has all inside (m.code ++ rest) = has_rest all p inside before (m.code ++ rest) refl h in
           let behind : ℕ = inside + length m.code in
@@ -180,8 +182,8 @@ module _ (g : Prog) (S : Type 0) (few : S → (t : Text) → number_of g t ≤ 6
   framed_long (by_process n) k = inner_grows.longer (opened w k) ∙ omega arith
   framed_long (by_monitor n) k =
       let e : length (inner_out g c r (entered n (opened w k))).code ≡ length (k ++ i.Enter (fit (pos n)) ∷ []) + (l + answers_length g (names_of g c) r.answers) = inner_grows.longer (entered n (opened w k)) in
-      let d : length (k ++ i.Enter (fit (pos n)) ∷ []) ≡ length k + 1 = length_more k (i.Enter (fit (pos n)) ∷ []) in
-      length_more (inner_out g c r (entered n (opened w k))).code (i.Leave (fit (pos n)) ∷ []) ∙ omega arith
+      let d : length (k ++ i.Enter (fit (pos n)) ∷ []) ≡ length k + 1 = length-append k (i.Enter (fit (pos n)) ∷ []) in
+      length-append (inner_out g c r (entered n (opened w k))).code (i.Leave (fit (pos n)) ∷ []) ∙ omega arith
 
   framed_tree : S → (o : Owner) (k : List Instr) → OwnerFits o → length (routine_out g c o r (opened w k)).code ≤ 4294967295 → views (closed (routine_out g c o r (opened w k))) ≡ routine_segs g c o r
   framed_tree z by_program k h small = inner_tree z (opened w k) refl refl small
@@ -189,7 +191,7 @@ module _ (g : Prog) (S : Type 0) (few : S → (t : Text) → number_of g t ≤ 6
   framed_tree z (by_monitor n) k h small =
       let o : Out = inner_out g c r (entered n (opened w k)) in
       let all : List Instr = o.code ++ i.Leave (fit (pos n)) ∷ [] in
-      let l1 : length all ≡ length o.code + 1 = length_more o.code (i.Leave (fit (pos n)) ∷ []) in
+      let l1 : length all ≡ length o.code + 1 = length-append o.code (i.Leave (fit (pos n)) ∷ []) in
       let less : length o.code ≤ 4294967295 = omega arith in
       let nothing : length all - length all ≡ 0 = omega arith in
       let same : min n 65535 ≡ n = omega arith in
@@ -207,7 +209,7 @@ pub routine_long : (g : Prog) (may : Text → Type 0) (t : Text) → SoundRoutin
 routine_long g may t sound k =
     let e : length (whole_out g t k).code ≡ length k + (stmts_length g (routine_names g t) t.routine.body + answers_length g (routine_names g t) t.routine.answers) + monitor_length t.owner =
     framed_long g ⊥ (λ z. absurd z) (routine_scope g t) t.routine (routine_vars_words g t.routine) (stmts_length g (routine_names g t) t.routine.body) (body_grows g ⊥ (λ z. absurd z) may t (λ z. absurd z) sound) t.owner k in
-    length_more (whole_out g t k).code (return_of t.routine.answers ∷ []) ∙ omega arith
+    length-append (whole_out g t k).code (return_of t.routine.answers ∷ []) ∙ omega arith
 
 pub routine_tree : (g : Prog) → ((t : Text) → number_of g t ≤ 65535) → (may : Text → Type 0) (t : Text) → RoutineFits g t → SoundRoutine g may t → (k : List Instr)
     → length (whole_out g t k).code ≤ 4294967295 → views (closed (whole_out g t k)) ≡ routine_segs g (routine_scope g t) t.owner t.routine

@@ -1,5 +1,6 @@
 -- What is made of a text is as long as the text says, and its segments are those of the text.
 use Rattle.std.proofs.Common.{◌≡◌, ◌+◌, ◌-◌, ◌≤◌, min, ℕ, List, [], ◌∷◌, ◌++◌, map, length, Option, Some, None, option_map, ℤ, pos, refl, sym, ap, ◌∙◌, arith}
+use Rattle.std.proofs.lemmas.List.{length-append, length-set}
 use Rattle.syntax_tree.specs.Plain.{Name, Constant, Param, Expr, literal, truth, variable, element, call, minus, negation, paren, row, Exprs, no_exprs, exprs, Operands, no_operands, operand, Ref, whole, part, Stmt, assign, assign_entry, assign_empty, perform, perform_entry, when, when_else, loop, exit_when, get, put, wait, signal, broadcast, except, assert, Stmts, no_stmts, stmts, Prog}
 use Rattle.base.specs.Words.{of_bool}
 use Rattle.source_semantics.specs.Names.{constant_value, device_number}
@@ -26,12 +27,11 @@ use Rattle.codegen_spec.specs.declared.spot.Range.{Range as Range_told}
 use Rattle.codegen_spec.specs.Told.{fit, told_area, told_range, told_shape, told_spot, told_callee, range_told, value_told, within}
 use Rattle.codegen_spec.specs.Made.{Out, push, closed, patched, load_told, load_at_told, call_out, expr_out, row_out, args_out, condition_told, count_told, store_whole, store_part, store_out, index_out, range_out, store_to, store_at_out, put_whole, put_part, put_out, open_exit, aim, between, choice, counting, turning, stepped, worth, turns_between, stmt_out, stmts_out}
 use Rattle.codegen_law.specs.MadeRightFits.{Fit}
-use Rattle.codegen_law.proofs.Lists.{length_more}
 use Rattle.codegen_law.proofs.Trees.{line_line}
 use Rattle.codegen_law.proofs.Joins.{view_line, view_fork, view_rep, view_call, view_wait, view_exit}
 use Rattle.codegen_law.proofs.Expressions.{aiming}
 use Rattle.codegen_law.proofs.Bounds.{small_of, BoundsFit, AllBoundsFit}
-use Rattle.codegen_law.proofs.Growth.{Grows, none, both, told_as, one, segment, part_tree, length_patched, length_aims}
+use Rattle.codegen_law.proofs.Growth.{Grows, none, both, told_as, one, segment, part_tree, length_aims}
 
 pub range_grows : {S : Type 0} (r : Option Range) → Grows S (range_out (option_map told_range r)) (λ k. line (length (range_code r)) k) (check_length r)
 range_grows None = none
@@ -47,7 +47,7 @@ module _ (g : Prog) (S : Type 0) (few : S → (t : Text) → number_of g t ≤ 6
   call_grows (Some t) args segs count a =
       segment (λ o. args (map (λ p. range_told g p.kind) t.routine.params) o) (λ o. push (args (map (λ p. range_told g p.kind) t.routine.params) o) (i.Call (fit (pos (number_of g t))))) (segs t.routine.params)
       (λ o. seg.Call (min (number_of g t) 65535)) (tree.Call (number_of g t)) (count t.routine.params) 1 (a t.routine.params)
-      (λ o. length_more (args (map (λ p. range_told g p.kind) t.routine.params) o).code (i.Call (fit (pos (number_of g t))) ∷ []))
+      (λ o. length-append (args (map (λ p. range_told g p.kind) t.routine.params) o).code (i.Call (fit (pos (number_of g t))) ∷ []))
       (λ z o h small. let low : number_of g t ≤ 65535 = few z t in let same : min (number_of g t) 65535 ≡ number_of g t = omega arith in view_call (min (number_of g t) 65535) ∙ ap (λ n. tree.Call n) same) (λ i after. refl)
 
   module _ (c d : Scope) (o : Owner) (alike : c.owner ≡ d.owner) (own : c.owner ≡ o) where
@@ -153,7 +153,7 @@ wait_grows : {S : Type 0} (g : Prog) (c : Scope) (x : Name) (l n : Constant) →
 wait_grows g c x l n =
     let j : Instr = i.Wait (condition_told g c x) (count_told g l) (count_told g n) in
     let k : Instr = i.Reenter (fit (pos (monitor_of c.owner))) in
-    segment (λ o. o) (λ o. push (push o j) k) (λ k. k) (λ o. seg.Wait) tree.Wait 0 2 none (λ o. length_more (o.code ++ j ∷ []) (k ∷ []) ∙ ap (λ m. m + 1) (length_more o.code (j ∷ [])) ∙ omega arith) (λ z o h small. view_wait) (λ i after. refl)
+    segment (λ o. o) (λ o. push (push o j) k) (λ k. k) (λ o. seg.Wait) tree.Wait 0 2 none (λ o. length-append (o.code ++ j ∷ []) (k ∷ []) ∙ ap (λ m. m + 1) (length-append o.code (j ∷ [])) ∙ omega arith) (λ z o h small. view_wait) (λ i after. refl)
 
 assert_grows : {S : Type 0} (g : Prog) (c d : Scope) (e : Expr) (m : ℕ) → Grows S (expr_out g c e) (expr_segs g d e) m → Grows S (stmt_out g c (assert e)) (stmt_segs g d (assert e)) (m + 3)
 assert_grows g c d e m test =
@@ -161,7 +161,7 @@ assert_grows g c d e m test =
     let over_it : Out → Instr = λ o. i.Jump (fit (pos (length (expr_out g c e o).code + 3))) in
     let done : Out → Out = λ o. push (push (push (expr_out g c e o) (skip o)) (over_it o)) (i.Raise (pos 4)) in
     segment (expr_out g c e) done (expr_segs g d e) (λ o. fork [] (seg.Line 1 ∷ [])) (tree.Fork Nil (line 1 Nil)) m 3 test
-    (λ o. length_more (((expr_out g c e o).code ++ skip o ∷ []) ++ over_it o ∷ []) (i.Raise (pos 4) ∷ []) ∙ ap (λ k. k + 1) (length_more ((expr_out g c e o).code ++ skip o ∷ []) (over_it o ∷ []) ∙ ap (λ k. k + 1) (length_more (expr_out g c e o).code (skip o ∷ []))) ∙ omega arith)
+    (λ o. length-append (((expr_out g c e o).code ++ skip o ∷ []) ++ over_it o ∷ []) (i.Raise (pos 4) ∷ []) ∙ ap (λ k. k + 1) (length-append ((expr_out g c e o).code ++ skip o ∷ []) (over_it o ∷ []) ∙ ap (λ k. k + 1) (length-append (expr_out g c e o).code (skip o ∷ []))) ∙ omega arith)
     (λ z o h small. view_fork [] (seg.Line 1 ∷ []) ∙ ap (λ x. tree.Fork Nil (Cons x Nil)) (view_line 1)) (λ i after. refl)
 
 module _ (g : Prog) (S : Type 0) (few : S → (t : Text) → number_of g t ≤ 65535) (may : Text → Type 0) where
@@ -183,10 +183,10 @@ module _ (g : Prog) (S : Type 0) (few : S → (t : Text) → number_of g t ≤ 6
   when_grows c d e a m n test arm =
       let first : Out → Out = λ o. stmts_out g c a (choice (expr_out g c e o)) in
       let done : Out → Out = λ o. patched (push (first o) (i.Jump (fit (pos (length (first o).code + 1))))) (length (expr_out g c e o).code) (i.JumpZero (fit (pos (length (first o).code + 1)))) in
-      let long_first : (o : Out) → length (first o).code ≡ length (expr_out g c e o).code + 1 + n = λ o. arm.longer (choice (expr_out g c e o)) ∙ ap (λ k. k + n) (length_more (expr_out g c e o).code (i.JumpZero (pos 0) ∷ [])) in
+      let long_first : (o : Out) → length (first o).code ≡ length (expr_out g c e o).code + 1 + n = λ o. arm.longer (choice (expr_out g c e o)) ∙ ap (λ k. k + n) (length-append (expr_out g c e o).code (i.JumpZero (pos 0) ∷ [])) in
       let long_done : (o : Out) → length (done o).code ≡ length (first o).code + 1 = λ o.
-      length_patched ((first o).code ++ i.Jump (fit (pos (length (first o).code + 1))) ∷ []) (length (expr_out g c e o).code) (i.JumpZero (fit (pos (length (first o).code + 1))))
-      ∙ length_more (first o).code (i.Jump (fit (pos (length (first o).code + 1))) ∷ []) in
+      length-set ((first o).code ++ i.Jump (fit (pos (length (first o).code + 1))) ∷ []) (length (expr_out g c e o).code) (i.JumpZero (fit (pos (length (first o).code + 1))))
+      ∙ length-append (first o).code (i.Jump (fit (pos (length (first o).code + 1))) ∷ []) in
       segment (expr_out g c e) done (expr_segs g d e) (λ o. fork (closed (first o)) []) (tree.Fork (stmts_segs g d a Nil) Nil) m (1 + n + 1) test
       (λ o. let e0 = long_first o in let e1 = long_done o in omega arith)
       (λ z o h small.
@@ -202,11 +202,11 @@ module _ (g : Prog) (S : Type 0) (few : S → (t : Text) → number_of g t ≤ 6
       let start : Out → Out = λ o. between (length (expr_out g c e o).code) (first o) in
       let second : Out → Out = λ o. stmts_out g c b (start o) in
       let done : Out → Out = λ o. patched (second o) (length (first o).code) (i.Jump (fit (pos (length (second o).code)))) in
-      let long_first : (o : Out) → length (first o).code ≡ length (expr_out g c e o).code + 1 + n = λ o. arm.longer (choice (expr_out g c e o)) ∙ ap (λ k. k + n) (length_more (expr_out g c e o).code (i.JumpZero (pos 0) ∷ [])) in
+      let long_first : (o : Out) → length (first o).code ≡ length (expr_out g c e o).code + 1 + n = λ o. arm.longer (choice (expr_out g c e o)) ∙ ap (λ k. k + n) (length-append (expr_out g c e o).code (i.JumpZero (pos 0) ∷ [])) in
       let long_start : (o : Out) → length (start o).code ≡ length (first o).code + 1 = λ o.
-      length_patched ((first o).code ++ i.Jump (pos 0) ∷ []) (length (expr_out g c e o).code) (i.JumpZero (fit (pos (length (first o).code + 1)))) ∙ length_more (first o).code (i.Jump (pos 0) ∷ []) in
+      length-set ((first o).code ++ i.Jump (pos 0) ∷ []) (length (expr_out g c e o).code) (i.JumpZero (fit (pos (length (first o).code + 1)))) ∙ length-append (first o).code (i.Jump (pos 0) ∷ []) in
       let long_second : (o : Out) → length (second o).code ≡ length (first o).code + 1 + l = λ o. other.longer (start o) ∙ ap (λ k. k + l) (long_start o) in
-      let long_done : (o : Out) → length (done o).code ≡ length (second o).code = λ o. length_patched (second o).code (length (first o).code) (i.Jump (fit (pos (length (second o).code)))) in
+      let long_done : (o : Out) → length (done o).code ≡ length (second o).code = λ o. length-set (second o).code (length (first o).code) (i.Jump (fit (pos (length (second o).code)))) in
       segment (expr_out g c e) done (expr_segs g d e) (λ o. fork (closed (first o)) (closed (second o))) (tree.Fork (stmts_segs g d a Nil) (stmts_segs g d b Nil)) m (1 + n + 1 + l) test
       (λ o. let e0 = long_first o in let e1 = long_second o in let e2 = long_done o in omega arith)
       (λ z o h small.
@@ -221,7 +221,7 @@ module _ (g : Prog) (S : Type 0) (few : S → (t : Text) → number_of g t ≤ 6
 
   exit_grows : (c d : Scope) (e : Expr) (m : ℕ) → Grows S (expr_out g c e) (expr_segs g d e) m → Grows S (stmt_out g c (exit_when e)) (stmt_segs g d (exit_when e)) (m + 1)
   exit_grows c d e m test =
-      segment (expr_out g c e) (λ o. push (expr_out g c e o) open_exit) (expr_segs g d e) (λ o. seg.Exit) tree.Exit m 1 test (λ o. length_more (expr_out g c e o).code (open_exit ∷ [])) (λ z o h small. view_exit) (λ i after. refl)
+      segment (expr_out g c e) (λ o. push (expr_out g c e o) open_exit) (expr_segs g d e) (λ o. seg.Exit) tree.Exit m 1 test (λ o. length-append (expr_out g c e o).code (open_exit ∷ [])) (λ z o h small. view_exit) (λ i after. refl)
 
   loop_grows : (c d : Scope) (x : Name) (low high : Constant) (ss : Stmts) (n : ℕ) → (S → Fit (constant_value g low)) → (S → Fit (constant_value g high)) → (S → Fit (pos (turns_of (constant_value g low) (constant_value g high))))
       → ((w : ℕ) → Grows S (stmts_out g (within c x w) ss) (stmts_segs g d ss) n) → Grows S (stmt_out g c (loop x low high ss)) (stmt_segs g d (loop x low high ss)) (3 + n + 5)
@@ -234,9 +234,9 @@ module _ (g : Prog) (S : Type 0) (few : S → (t : Text) → number_of g t ≤ 6
       let done : Out → Out = λ o. aim (length (start o).code) (last o) in
       let turn : (w : ℕ) → Grows S (λ z. stepped (fit (pos w)) (stmts_out g (within c x w) ss z)) (λ k. stmts_segs g d ss (line 4 k)) (n + 4) = λ w.
       both (stmts_out g (within c x w) ss) (stepped (fit (pos w))) (stmts_segs g d ss) (λ k. line 4 k) n 4 (body w) (stepped_grows (fit (pos w))) in
-      let long_start : (o : Out) → length (start o).code ≡ length (count o).code + 1 = λ o. length_more (count o).code (i.Repeats (fit (pos turns)) ∷ []) in
+      let long_start : (o : Out) → length (start o).code ≡ length (count o).code + 1 = λ o. length-append (count o).code (i.Repeats (fit (pos turns)) ∷ []) in
       let long_round : (o : Out) → length (round o).code ≡ length (start o).code + (n + 4) = λ o. (turn o.word).longer (start o) in
-      let long_last : (o : Out) → length (last o).code ≡ length (round o).code + 1 = λ o. length_more (round o).code (i.Repeat (fit (pos (length (start o).code))) ∷ []) in
+      let long_last : (o : Out) → length (last o).code ≡ length (round o).code + 1 = λ o. length-append (round o).code (i.Repeat (fit (pos (length (start o).code))) ∷ []) in
       let long_done : (o : Out) → length (done o).code ≡ length (last o).code = λ o. length_aims (fit (pos (length (last o).code))) (length (start o).code) (length (last o).code - length (start o).code) (last o).code in
       let capped : S → min turns 4294967295 ≡ turns_of (constant_value g low) (constant_value g high) = λ z.
       let same : turns ≡ turns_of (constant_value g low) (constant_value g high) = ap (λ v. turns_of v (worth g high)) (fits_low z) ∙ ap (λ v. turns_of (constant_value g low) v) (fits_high z) in

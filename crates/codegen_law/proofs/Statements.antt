@@ -1,5 +1,6 @@
 -- The code that the generator makes of statements is that of the statements.
 use Rattle.std.proofs.Common.{◌≡◌, Bool, true, ◌+◌, ◌≤◌, min, ℕ, ℤ, pos, List, [], ◌∷◌, ◌++◌, map, length, Option, Some, None, option_map, refl, sym, ap, subst, ◌∙◌, append_assoc, arith}
+use Rattle.std.proofs.lemmas.List.{map-append, length-append}
 use Rattle.syntax_tree.specs.Plain.{Expr, Ref, whole, part, Stmt, exit_when, assert, Stmts, Prog}
 use Rattle.machine_isa.specs.declared.instr.Instr.{Instr}
 use Rattle.machine_isa.specs.declared.instr.Instr.TheVariants as i
@@ -9,8 +10,9 @@ use Rattle.code_spec.specs.Emits.{Has, At, IsLine, Emits, EmitsAll}
 use Rattle.codegen_spec.specs.Told.{fit, told_area, told_range, told_shape, told_spot}
 use Rattle.codegen_spec.specs.Made.{Out, aimed, range_out, store_to, store_at_out, put_whole, put_part, put_out, store_whole, store_part, store_out, index_out, expr_out, stmt_out, stmts_out, open_exit}
 use Rattle.codegen_law.specs.MadeRightFits.{Fit, ShapeFits, SpotFits, RefFits}
-use Rattle.codegen_law.proofs.Lists.{map_more, length_more, has_first, has_rest}
+use Rattle.codegen_law.proofs.Lists.{has_rest}
 use Rattle.codegen_law.proofs.Expressions.{Still, still_more, aiming, Exits, exit_of, to_of, Outside, LineMade, none_made, one_made, both_made, range_made, ExprMade, expr_made}
+use Rattle.code_measures.proofs.Lines.{has_first}
 
 pub fit_small : (n : ℕ) → n ≤ 2147483647 → fit (pos n) ≡ pos n
 fit_small n h = let e : min n 2147483647 ≡ n = omega arith in ap pos e
@@ -109,7 +111,7 @@ assert_made g c e b p w m =
       code = m.code ++ rest;
       made = λ o long at.
           let pre : List Instr = (expr_out g c e o).code in
-          let pre_long : length pre ≡ r = ap length (m.made o) ∙ length_more o.code m.code ∙ ap (λ k. k + length m.code) long in
+          let pre_long : length pre ≡ r = ap length (m.made o) ∙ length-append o.code m.code ∙ ap (λ k. k + length m.code) long in
           append_assoc (pre ++ i.JumpZero (fit (pos (length pre + 2))) ∷ []) (i.Jump (fit (pos (length pre + 3))) ∷ []) (i.Raise (pos 4) ∷ [])
           ∙ append_assoc pre (i.JumpZero (fit (pos (length pre + 2))) ∷ []) (i.Jump (fit (pos (length pre + 3))) ∷ i.Raise (pos 4) ∷ [])
           ∙ ap (λ k. pre ++ i.JumpZero (fit (pos (k + 2))) ∷ i.Jump (fit (pos (k + 3))) ∷ i.Raise (pos 4) ∷ []) pre_long
@@ -118,7 +120,7 @@ assert_made g c e b p w m =
       still = λ f. still_more m.code rest m.still (λ t. refl);
       emits = λ all y small h.
           let h2 : Has all p (m.code ++ rest) = subst (λ z. Has all p z) (still_more m.code rest m.still (λ t. refl) (to_of b y)) h in
-          let long : length (m.code ++ rest) ≡ length m.code + 3 = length_more m.code rest in
+          let long : length (m.code ++ rest) ≡ length m.code + 3 = length-append m.code rest in
           let low2 : r + 2 ≤ 2147483647 = omega arith in
           let low3 : r + 3 ≤ 2147483647 = omega arith in
           let at2 : r + 2 ≡ r + 1 + 1 = omega arith in
@@ -141,9 +143,9 @@ exit_made g c e p w m = record {
   word = λ o at. let e0 = m.word o in omega arith;
   still = λ f. absurd f;
   emits = λ all y small h.
-      let h2 : Has all p (m.code ++ i.Exit (pos y) ∷ []) = subst (λ z. Has all p z) (map_more (aimed (to_of true y)) m.code (open_exit ∷ []) ∙ ap (λ z. z ++ i.Exit (pos y) ∷ []) (m.still (to_of true y))) h in
+      let h2 : Has all p (m.code ++ i.Exit (pos y) ∷ []) = subst (λ z. Has all p z) (map-append (aimed (to_of true y)) m.code (open_exit ∷ []) ∙ ap (λ z. z ++ i.Exit (pos y) ∷ []) (m.still (to_of true y))) h in
       let r : ℕ = p + length m.code in
-      let long : length (m.code ++ open_exit ∷ []) ≡ length m.code + 1 = length_more m.code (open_exit ∷ []) in (
+      let long : length (m.code ++ open_exit ∷ []) ≡ length m.code + 1 = length-append m.code (open_exit ∷ []) in (
         r,
         y,
         record { has = subst (λ z. Has all p z) (sym (m.emits (exit_of true y))) (has_first all p m.code (i.Exit (pos y) ∷ []) h2); end = ap (λ z. p + length z) (sym (m.emits (exit_of true y))) },

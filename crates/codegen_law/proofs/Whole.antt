@@ -1,6 +1,7 @@
 -- No number of a well-formed program is cut off.
-use Rattle.std.specs.Prelude.{All, sum_by}
-use Rattle.std.proofs.Common.{◌≡◌, ◌+◌, ◌≤◌, ◌<◌, ℕ, zero, suc, List, [], ◌∷◌, length, filter_map, Option, Some, None, pos, slice_get, refl, ap, subst, arith}
+use Rattle.std.specs.Prelude.{sum_by}
+use Rattle.std.proofs.Common.{◌≡◌, ◌+◌, ◌≤◌, ◌<◌, ℕ, zero, suc, List, [], ◌∷◌, length, filter_map, Option, Some, None, pos, slice_get, refl, ap, arith}
+use Rattle.base.proofs.Lists.{one_of}
 use Rattle.syntax_tree.specs.Plain.{Name, Routine, Monitor, Process, Handler, Prog}
 use Rattle.source_semantics.specs.Names.{routines, monitors, processes, variable_in}
 use Rattle.source_semantics.specs.Run.{of_program, of_process, of_monitor}
@@ -17,15 +18,10 @@ use Rattle.codegen_law.specs.MadeWholeFits.{OwnerFits, RoutineFits, HandlerFits,
 use Rattle.codegen_law.proofs.Numbers.{few_routines}
 use Rattle.codegen_law.specs.Fitting.{WellFormedProgramsFit}
 use Rattle.codegen_law.proofs.Words.{fit_low}
-use Rattle.codegen_law.proofs.Places.{PlacesFit, both_fit, first_of_all, rest_of_all, vars_fit, params_fit, named_fits, scope_fits}
+use Rattle.codegen_law.proofs.Places.{PlacesFit, both_fit, vars_fit, params_fit, named_fits, scope_fits}
 use Rattle.codegen_law.proofs.Counts.{constants_fit, devices_fit, conditions_fit, words_same, one_low, base_low, process_low}
 use Rattle.codegen_law.proofs.Reached.{OfEach, text_at, routine_found, entry_found, of_numbered}
 use Rattle.codegen_law.proofs.Texts.{Facts, TextStands, answers_fit, stmts_fit}
-
-one_of : {X : Type 0} (P : X → Type 0) (xs : List X) (j : ℕ) (x : X) → All P xs → slice_get xs j ≡ Some x → P x
-one_of P [] j x h e = absurd cc
-one_of P (y ∷ ys) zero x h e = let same : y ≡ x = cc in subst P same (first_of_all P y ys h)
-one_of P (y ∷ ys) (suc j) x h e = one_of P ys j x (rest_of_all P y ys h) e
 
 there_low : {X : Type 0} (xs : List X) (j : ℕ) (x : X) → slice_get xs j ≡ Some x → j < length xs
 there_low [] j x e = absurd cc

@@ -1,7 +1,7 @@
 -- Variables lie in their areas.
 use Rattle.std.specs.Prelude.{◌≡◌, ◌≤◌, ◌<◌, ◌+◌, ◌&&◌, ℕ, suc, Bool, true, false, ℤ, pos, ◌+ℤ◌, ◌-ℤ◌, List, [], ◌∷◌, ◌++◌, Option, Some, None, nat_le, nat_lt, cond, bytes_eq}
 use Rattle.std.proofs.Common.{sym, ap, subst, ◌∙◌, arith}
-use Rattle.std.proofs.lemmas.Bool.{le-leb, lt-ltb}
+use Rattle.std.proofs.lemmas.Bool.{le-leb, lt-ltb, and_from}
 use Rattle.std.proofs.lemmas.List.Elements.{All-head, All-tail}
 use Rattle.base.specs.Words.{is_word}
 use Rattle.syntax_tree.specs.Plain.{Name, Scalar, int, boolean, subrange, Kind, scalar, array as array_of, Prog}
@@ -16,33 +16,27 @@ use Rattle.wellformed.specs.WellFormed.{ScalarFits, KindFits, VarFits, ParamFits
 use Rattle.codegen_operands.specs.Lies.{ShapeLies, InOrder, AllLie, area_of, SpotLies}
 use Rattle.codegen_operands.specs.Areas.{VariablesLie, ParametersLie, TurnsAreFew}
 use Rattle.codegen_operands.proofs.Spans.{Span, span}
-
-pub both : (a b : Bool) → a ≡ true → b ≡ true → a && b ≡ true
-both true b e f = f
-both false b e f = absurd cc
+use Rattle.code_measures.proofs.CostPart.{both_none}
 
 pub word_inside : (x : Area) (k : ℕ) → x.base ≤ k → k < x.base + x.words → word_in x (pos k) ≡ true
-word_inside x k low high = both (nat_le x.base k) (nat_lt k (x.base + x.words)) (le-leb x.base k low) (lt-ltb k (x.base + x.words) high)
+word_inside x k low high = and_from (nat_le x.base k) (nat_lt k (x.base + x.words)) (le-leb x.base k low) (lt-ltb k (x.base + x.words) high)
 
 ends_inside : (x : Area) (k n : ℕ) → k + n ≤ x.base + x.words → ends_in x (pos k) (pos n) ≡ true
 ends_inside x k n high = le-leb (k + n) (x.base + x.words) high
 
 between : (low high k : ℕ) → low ≤ k → k ≤ high → is_between low high (pos k) ≡ true
-between low high k l h = both (nat_le low k) (nat_le k high) (le-leb low k l) (le-leb k high h)
+between low high k l h = and_from (nat_le low k) (nat_le k high) (le-leb low k l) (le-leb k high h)
 
-none_bad : (b : Bool) (z : ℤ) → b ≡ true → bad b z ≡ None
+pub none_bad : (b : Bool) (z : ℤ) → b ≡ true → bad b z ≡ None
 none_bad b z e = ap (λ t. bad t z) e
-
-neither : {A : Type 0} (x y : Option A) → x ≡ None → y ≡ None → or_else x y ≡ None
-neither x y e f = ap (λ o. or_else o y) e ∙ f
 
 array_lies : (x : Area) (k n : ℕ) (low : ℤ) → x.base ≤ k → 1 ≤ n → n ≤ 65536 → k + n ≤ x.base + x.words → is_word ((low +ℤ pos n) -ℤ pos 1) ≡ true → bad_array x (pos k) low (pos n) ≡ None
 array_lies x k n low from some few to last =
-    neither (bad (word_in x (pos k)) (pos k)) (or_else (bad (is_between 1 65536 (pos n)) (pos n)) (bad (ends_in x (pos k) (pos n) && is_word ((low +ℤ pos n) -ℤ pos 1)) (pos k)))
+    both_none (bad (word_in x (pos k)) (pos k)) (or_else (bad (is_between 1 65536 (pos n)) (pos n)) (bad (ends_in x (pos k) (pos n) && is_word ((low +ℤ pos n) -ℤ pos 1)) (pos k)))
     (none_bad (word_in x (pos k)) (pos k) (word_inside x k from (omega (arith, some, to))))
-    (neither (bad (is_between 1 65536 (pos n)) (pos n)) (bad (ends_in x (pos k) (pos n) && is_word ((low +ℤ pos n) -ℤ pos 1)) (pos k))
+    (both_none (bad (is_between 1 65536 (pos n)) (pos n)) (bad (ends_in x (pos k) (pos n) && is_word ((low +ℤ pos n) -ℤ pos 1)) (pos k))
     (none_bad (is_between 1 65536 (pos n)) (pos n) (between 1 65536 n some few))
-    (none_bad (ends_in x (pos k) (pos n) && is_word ((low +ℤ pos n) -ℤ pos 1)) (pos k) (both (ends_in x (pos k) (pos n)) (is_word ((low +ℤ pos n) -ℤ pos 1)) (ends_inside x k n to) last)))
+    (none_bad (ends_in x (pos k) (pos n) && is_word ((low +ℤ pos n) -ℤ pos 1)) (pos k) (and_from (ends_in x (pos k) (pos n)) (is_word ((low +ℤ pos n) -ℤ pos 1)) (ends_inside x k n to) last)))
 
 -- ---- variables
 

@@ -1,7 +1,8 @@
 -- What a text calls may be called.
 use Rattle.std.specs.Prelude.{◌≡◌, ◌<◌, ◌⊎◌, ◌&&◌, ◌||◌, not, ℕ, Bool, true, false, Option, Some, None, nat_eq, nat_lt, slice_get, IsSome, is_some}
 use Rattle.std.proofs.Common.{inl, inr, refl, sym, ap, subst, ◌∙◌}
-use Rattle.std.proofs.lemmas.Bool.{eq-eqb, eqb-true, lt-ltb}
+use Rattle.std.proofs.lemmas.Bool.{eq-eqb, eqb-true, lt-ltb, or_right, and_from}
+use Rattle.std.proofs.lemmas.Option.{none-some, same_Some}
 use Rattle.syntax_tree.specs.Plain.{Name, Routine, Monitor, Process, Prog}
 use Rattle.source_semantics.specs.Names.{named, routines, monitors, processes, monitor_number}
 use Rattle.source_semantics.specs.Run.{or_else}
@@ -14,7 +15,7 @@ use Rattle.code_spec.specs.Compiled.{kind_number, owner_number, IsCodeOf}
 use Rattle.wellformed.specs.Here.{in_routine}
 use Rattle.wellformed.specs.Statements.{may_call as calls_more}
 use Rattle.wellformed.specs.WellFormed.{IsWellFormed}
-use Rattle.code_names_law.proofs.Numbers.{none_some, some_same, IsText, of_list, called_is_text}
+use Rattle.code_names_law.proofs.Numbers.{IsText, of_list, called_is_text}
 use Rattle.code_names_law.specs.Ruled.{NamesApart}
 use Rattle.code_names_law.specs.Numbered.{CallsText}
 use Rattle.code_names_law.proofs.NumberedLemmas.{text_listed}
@@ -23,7 +24,6 @@ use Rattle.code_names_law.specs.Called.{FindsRoutine, Finds}
 use Rattle.code_names_law.proofs.Finding.{called_both, called_one, text_finds}
 use Rattle.code_names_law.proofs.Owners.{Named, Means, text_stands}
 use Rattle.code_names_law.proofs.SoundLemmas.{are_numbered}
-use Rattle.codegen_operands.proofs.AreasLemmas.{both}
 use Rattle.codegen_operands.specs.Fine.{MayCall}
 
 -- a routine of a process is called from that process alone
@@ -40,15 +40,11 @@ either_some : (a b : Option Text) (u : Text) → or_else a b ≡ Some u → (a �
 either_some None b u e = inr e
 either_some (Some x) b u e = inl e
 
-or_right : (a b : Bool) → b ≡ true → a || b ≡ true
-or_right true b e = refl
-or_right false b e = e
-
 is_open_to : (w : Whose) (o : Owner) (x : image.Routine) → x.kind ≡ kind_number o → x.owner ≡ owner_number o → OpenTo w o → is_open w x ≡ true
 is_open_to w by_program x kind owner open_to = ap (λ n. not (nat_eq n 1) || (nat_eq w.kind 1 && nat_eq x.owner w.owner)) kind
 is_open_to w (by_process k) x kind owner open_to =
     or_right (not (nat_eq x.kind 1)) (nat_eq w.kind 1 && nat_eq x.owner w.owner)
-    (both (nat_eq w.kind 1) (nat_eq x.owner w.owner) (eq-eqb w.kind 1 open_to.0) (eq-eqb x.owner w.owner (owner ∙ sym open_to.1)))
+    (and_from (nat_eq w.kind 1) (nat_eq x.owner w.owner) (eq-eqb w.kind 1 open_to.0) (eq-eqb x.owner w.owner (owner ∙ sym open_to.1)))
 is_open_to w (by_monitor j) x kind owner open_to = ap (λ n. not (nat_eq n 1) || (nat_eq w.kind 1 && nat_eq x.owner w.owner)) kind
 
 inside_ok : (m : image.Image) (w : Whose) (n : ℕ) → (w.kind ≡ 2 → bound_at (reach m) n ≡ false) → may_be_inside m w n ≡ true
@@ -63,7 +59,7 @@ module _ (g : Prog) where
   entry_owner mon en u e = by (named (λ k. k.name) mon (monitors g)) e
     where
       by : (d : Option Monitor) → entry_of (monitor_number g mon) d en ≡ Some u → u.owner ≡ by_monitor (monitor_number g mon)
-      by None h = absurd (none_some u h)
+      by None h = absurd (none-some u h)
       by (Some d) h = (of_list (by_monitor (monitor_number g mon)) d.entries en u h).0
 
   program_owner : (f : Name) (u : Text) → routine_of by_program (routines g) f ≡ Some u → u.owner ≡ by_program
@@ -90,8 +86,8 @@ module _ (g : Prog) (m : image.Image) (form : IsWellFormed g) (names : NamesApar
       let open_to : is_open w s.x ≡ true = is_open_to w u.owner s.x s.is_r.kind s.is_r.owner (open_called g w o c u mine e) in
       record {
         open_to =
-            both (nat_lt (number_of g u) w.number && is_open_some w (slice_get m.routines (number_of g u))) (may_be_inside m w (number_of g u))
-            (both (nat_lt (number_of g u) w.number) (is_open_some w (slice_get m.routines (number_of g u))) (lt-ltb (number_of g u) w.number low) (ap (λ y. is_open_some w y) s.there ∙ open_to))
+            and_from (nat_lt (number_of g u) w.number && is_open_some w (slice_get m.routines (number_of g u))) (may_be_inside m w (number_of g u))
+            (and_from (nat_lt (number_of g u) w.number) (is_open_some w (slice_get m.routines (number_of g u))) (lt-ltb (number_of g u) w.number low) (ap (λ y. is_open_some w y) s.there ∙ open_to))
             (inside_ok m w (number_of g u) free);
         params = (text_stands g form names u.owner u.routine text).fits.params;
       }
@@ -138,7 +134,7 @@ module _ (g : Prog) (form : IsWellFormed g) (names : NamesApart g) where
       by : (p : Process) → calls_more (in_routine g p (home_of o) r) ≡ false → (c : Called) → called_text g o c ≡ Some u → Finds g p (calls_more (in_routine g p (home_of o) r)) c → Means g p o c → IsFunction u
       by p never (calls_routine f) e x means =
           let n : Named (routine_in g o f) x.found = means x.found x.is in
-          let same : n.text ≡ u = some_same n.text u (sym n.is ∙ e) in
+          let same : n.text ≡ u = same_Some n.text u (sym n.is ∙ e) in
           let routine : x.found.routine ≡ u.routine = ap (λ y. y.routine) (sym n.same) ∙ ap (λ y. y.routine) same in
           record {
             owner = shared_owner g o f u shared e;

@@ -14,7 +14,7 @@ use Rattle.codegen_operands.specs.Kept.{Passes, PieceKeeps, LiesInRoutine, LiesI
 use Rattle.codegen_operands.proofs.Keeping.{stmts_keep, routine_keeps, process_keeps}
 use Rattle.codegen_operands.proofs.Owning.{Around, OfProcess, OfText, routines_counted, lies}
 
-same_some : {A : Type 0} (x y : A) (o : Option A) → o ≡ Some x → o ≡ Some y → x ≡ y
+pub same_some : {A : Type 0} (x y : A) (o : Option A) → o ≡ Some x → o ≡ Some y → x ≡ y
 same_some x y o e f = let h : Some x ≡ Some y = sym e ∙ f in cc
 
 -- ---- whose code it is

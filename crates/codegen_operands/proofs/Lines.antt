@@ -1,6 +1,6 @@
 -- The operands of loads, stores, checks and calls.
 use Rattle.std.specs.Prelude.{◌≡◌, ◌||◌, ℕ, Bool, true, false, ℤ, pos, negsuc, List, [], ◌∷◌, ◌++◌, Option, Some, None, int_le, All}
-use Rattle.std.proofs.Common.{refl, sym, ap, subst, ◌∙◌}
+use Rattle.std.proofs.Common.{refl, sym, subst}
 use Rattle.std.proofs.lemmas.List.Elements.{All-head, All-tail}
 use Rattle.base.specs.Words.{within}
 use Rattle.syntax_tree.specs.Plain.{Name, Param, Op, or, and, equal, unequal, less, less_equal, greater, greater_equal, add, sub, mul, div, remainder, Expr, literal, truth, variable, element, call, minus, negation, paren, row, Exprs, no_exprs, exprs, Operands, no_operands, operand, Ref, whole, part, Prog}
@@ -17,19 +17,14 @@ use Rattle.code_spec.specs.Code.{load, load_at, store, store_at, op_instr, load_
 use Rattle.wellformed.specs.WellFormed.{ParamFits}
 use Rattle.code_measures.specs.Sound.{SoundExpr, SoundRow, SoundArgs, SoundIndex}
 use Rattle.codegen_operands.specs.Lies.{ShapeLies, InOrder, AllLie, area_of, SpotLies}
-use Rattle.codegen_operands.proofs.AreasLemmas.{scalar_order, spot_lies}
+use Rattle.codegen_operands.proofs.AreasLemmas.{scalar_order, spot_lies, none_bad}
 use Rattle.codegen_operands.specs.Has.{AllOf}
 use Rattle.codegen_operands.specs.Fine.{IsFine, MayCall}
+use Rattle.code_measures.proofs.CostPart.{both_none}
 
 pub all_both : (P : Instr → Type 0) (xs ys : List Instr) → AllOf P xs → AllOf P ys → AllOf P (xs ++ ys)
 all_both P [] ys h k = k
 all_both P (x ∷ xs) ys h k = (h.0, all_both P xs ys h.1 k)
-
-pub not_bad : (b : Bool) (z : ℤ) → b ≡ true → bad b z ≡ None
-not_bad b z e = ap (λ t. bad t z) e
-
-pub neither_bad : {A : Type 0} (x y : Option A) → x ≡ None → y ≡ None → or_else x y ≡ None
-neither_bad x y e f = ap (λ o. or_else o y) e ∙ f
 
 first_good : (b : Bool) (z : ℤ) (later : Option ℤ) → or_else (bad b z) later ≡ None → b ≡ true
 first_good true z later e = refl
@@ -42,9 +37,9 @@ number_between low high (negsuc n) h = absurd cc
 
 module _ (m : Image) (w : Whose) where
   load_fine : (a : KindOfArea) (k : ℕ) → in_area (area_of m w a) (pos k) ≡ true → IsFine m w (load a (pos k))
-  load_fine in_frame k h = not_bad _ (pos k) h
-  load_fine in_process k h = not_bad _ (pos k) h
-  load_fine in_monitor k h = not_bad _ (pos k) h
+  load_fine in_frame k h = none_bad _ (pos k) h
+  load_fine in_process k h = none_bad _ (pos k) h
+  load_fine in_monitor k h = none_bad _ (pos k) h
 
   load_at_fine : (a : KindOfArea) (k len : ℕ) (low : ℤ) → bad_array (area_of m w a) (pos k) low (pos len) ≡ None → IsFine m w (load_at a (pos k) low (pos len))
   load_at_fine in_frame k len low h = h
@@ -52,9 +47,9 @@ module _ (m : Image) (w : Whose) where
   load_at_fine in_monitor k len low h = h
 
   store_fine : (a : KindOfArea) (k : ℕ) → in_area (area_of m w a) (pos k) ≡ true → IsFine m w (store a (pos k))
-  store_fine in_frame k h = not_bad _ (pos k) h
-  store_fine in_process k h = not_bad _ (pos k) h
-  store_fine in_monitor k h = not_bad _ (pos k) h
+  store_fine in_frame k h = none_bad _ (pos k) h
+  store_fine in_process k h = none_bad _ (pos k) h
+  store_fine in_monitor k h = none_bad _ (pos k) h
 
   store_at_fine : (a : KindOfArea) (k len : ℕ) (low : ℤ) → bad_array (area_of m w a) (pos k) low (pos len) ≡ None → IsFine m w (store_at a (pos k) low (pos len))
   store_at_fine in_frame k len low h = h
@@ -93,7 +88,7 @@ module _ (m : Image) (w : Whose) where
 
   pub range_fine : (r : Option Range) → InOrder r → AllOf (IsFine m w) (range_code r)
   range_fine None h = tt
-  range_fine (Some r) h = (not_bad (int_le r.low r.high) r.low h, tt)
+  range_fine (Some r) h = (none_bad (int_le r.low r.high) r.low h, tt)
 
   spot_order : (s : Option Spot) → SpotLies m w s → InOrder (range_of_spot s)
   spot_order None h = tt
@@ -116,11 +111,11 @@ module _ (m : Image) (w : Whose) where
 
   pub wait_fine : (c limit number : ℕ) → is_own_condition m w (pos c) ≡ true → is_between 1 1000000000 (pos limit) ≡ true → is_user_number (pos number) ≡ true → IsFine m w (i.Wait (pos c) (pos limit) (pos number))
   wait_fine c limit number own some user =
-      neither_bad (bad (is_own_condition m w (pos c)) (pos c)) (or_else (bad (is_between 1 1000000000 (pos limit)) (pos limit)) (bad (is_user_number (pos number)) (pos number))) (not_bad _ (pos c) own)
-      (neither_bad (bad (is_between 1 1000000000 (pos limit)) (pos limit)) (bad (is_user_number (pos number)) (pos number)) (not_bad _ (pos limit) some) (not_bad _ (pos number) user))
+      both_none (bad (is_own_condition m w (pos c)) (pos c)) (or_else (bad (is_between 1 1000000000 (pos limit)) (pos limit)) (bad (is_user_number (pos number)) (pos number))) (none_bad _ (pos c) own)
+      (both_none (bad (is_between 1 1000000000 (pos limit)) (pos limit)) (bad (is_user_number (pos number)) (pos number)) (none_bad _ (pos limit) some) (none_bad _ (pos number) user))
 
   pub raise_fine : (n : ℕ) → is_user_number (pos n) ≡ true → IsFine m w (i.Raise (pos n))
-  raise_fine n user = not_bad (is_between 4 4 (pos n) || is_user_number (pos n)) (pos n) (either (is_between 4 4 (pos n)) (is_user_number (pos n)) user)
+  raise_fine n user = none_bad (is_between 4 4 (pos n) || is_user_number (pos n)) (pos n) (either (is_between 4 4 (pos n)) (is_user_number (pos n)) user)
     where
       either : (a b : Bool) → b ≡ true → a || b ≡ true
       either true b e = refl
@@ -140,7 +135,7 @@ module _ (m : Image) (w : Whose) where
     pub call_fine : (o : Option Text) (t : Text) (args : List Param → List Instr) → o ≡ Some t → MayCall g m w t → AllOf (IsFine m w) (args t.routine.params) → AllOf (IsFine m w) (call_code g o args)
     call_fine o t args is may h =
         subst (λ y. AllOf (IsFine m w) (call_code g y args)) (sym is)
-        (all_both (IsFine m w) (args t.routine.params) (i.Call (pos (number_of g t)) ∷ []) h (not_bad (may_call m w (pos (number_of g t))) (pos (number_of g t)) may.open_to, tt))
+        (all_both (IsFine m w) (args t.routine.params) (i.Call (pos (number_of g t)) ∷ []) h (none_bad (may_call m w (pos (number_of g t))) (pos (number_of g t)) may.open_to, tt))
 
     mutual
       pub expr_fine : (x : Expr) (c : Scope) → Reaches c → SoundExpr g (MayCall g m w) c x → AllOf (IsFine m w) (code_of g c x)

@@ -2,6 +2,7 @@
 use Rattle.std.specs.Prelude.{◌≡◌, ◌+◌, ◌++◌, ◌≤◌, ◌<◌, ◌⊎◌, ◌&&◌, ℕ, suc, true, false, cond, List, [], ◌∷◌, length, map, Option, Some, None, nat_le, slice_get}
 use Rattle.std.proofs.Common.{inl, inr, refl, sym, ap, subst, ◌∙◌, arith}
 use Rattle.std.proofs.lemmas.Bool.{cases_lt, le-leb, lt-leb, eqb-true}
+use Rattle.std.proofs.lemmas.List.{length-map}
 use Rattle.syntax_tree.specs.Plain.{Stmt, assign, assign_entry, assign_empty, perform, perform_entry, when, when_else, loop, exit_when, get, put, wait, signal, broadcast, except, assert, Stmts, no_stmts, stmts, Answers, Handler, Process, Prog}
 use Rattle.source_semantics.specs.Names.{processes}
 use Rattle.machine_isa.specs.declared.instr.Instr.{Instr}
@@ -175,10 +176,6 @@ module _ (R : ℕ → ℕ → ℕ → Type 0) (g : Prog) (code : List Instr) whe
             subst (λ v. R v a b) e (f (suc r) t x a b there made (subst (λ j. EmitsProcess g code j t a b x) d emits))),
       )
 
-map_length : {A B : Type 0} (f : A → B) (xs : List A) → length (map f xs) ≡ length xs
-map_length f [] = refl
-map_length f (x ∷ xs) = ap (λ n. suc n) (map_length f xs)
-
 pub routines_counted : (g : Prog) (code : List Instr) (p q : ℕ) (ts : List Text) (rs : List image.Routine) → EmitsRoutines g code p q ts rs → length rs ≡ length ts
 routines_counted g code p q [] [] h = refl
 routines_counted g code p q [] (y ∷ ys) h = absurd h
@@ -192,7 +189,7 @@ owner_is k (Some o) h = (o, refl, eqb-true o.number k h)
 module _ (g : Prog) (m : image.Image) (is : IsCodeOf g m) where
   all_chain : Chain (OfText g m) 0 0 (pieces m) (length m.code)
   all_chain =
-      chain_joined (OfText g m) 0 0 is.between (length m.code) (length m.routines) (map piece_of_routine m.routines) (map piece_of_process m.processes) (omega (arith, map_length piece_of_routine m.routines))
+      chain_joined (OfText g m) 0 0 is.between (length m.code) (length m.routines) (map piece_of_routine m.routines) (map piece_of_process m.processes) (omega (arith, length-map m.routines piece_of_routine))
       (routines_chain (OfText g m) g m.code 0 0 is.between (numbered g) m.routines is.routine_code
       (λ r t a b there emits. inl (record { text = t; there = let e : r ≡ 0 + r = omega arith in subst (λ n. slice_get (numbered g) n ≡ Some t) e there; emits = emits })))
       (processes_chain (OfText g m) g m.code (length m.routines) 0 is.between (length m.code) (processes g) m.processes is.process_code

@@ -1,7 +1,9 @@
 -- What is outside a text lies in the image where its code finds it.
-use Rattle.std.specs.Prelude.{◌≡◌, ◌≤◌, ◌<◌, ◌+◌, ℕ, zero, suc, Bool, true, false, cond, pos, List, [], ◌∷◌, length, Some, nat_eq, slice_get, Contains}
+use Rattle.std.specs.Prelude.{◌≡◌, ◌≤◌, ◌+◌, ℕ, zero, suc, Bool, true, false, cond, pos, List, [], ◌∷◌, length, Some, nat_eq, slice_get, Contains}
 use Rattle.std.proofs.Common.{refl, sym, ap, subst, ◌∙◌, arith}
-use Rattle.std.proofs.lemmas.Bool.{eq-eqb}
+use Rattle.std.proofs.lemmas.Bool.{eq-eqb, and_from}
+use Rattle.base.proofs.Lists.{one_of}
+use Rattle.base.proofs.Members.{none_in}
 use Rattle.syntax_tree.specs.Plain.{Name, Monitor, Process, device, Prog}
 use Rattle.source_semantics.specs.Names.{monitors, processes, device_number, conditions_of, condition_number}
 use Rattle.machine_isa.specs.declared.instr.Instr.{Instr}
@@ -13,17 +15,13 @@ use Rattle.code_spec.specs.Compiled.{EmitsProcess, EmitsProcesses, IsCodeOf, own
 use Rattle.wellformed.specs.Here.{conditions_here, monitor_conditions}
 use Rattle.wellformed.specs.WellFormed.{MonitorFits, IsWellFormed}
 use Rattle.code_names_law.specs.Ruled.{NamesApart}
-use Rattle.code_names_law.proofs.Rules.{one_of}
 use Rattle.code_names_law.proofs.Tables.{condition_row}
 use Rattle.codegen_operands.specs.Lies.{AllLie}
 use Rattle.codegen_operands.specs.Areas.{HasWords, DevicesGoOneWay}
-use Rattle.codegen_operands.proofs.AreasLemmas.{both, named_lies, variables_lie}
+use Rattle.codegen_operands.proofs.AreasLemmas.{named_lies, variables_lie}
 use Rattle.codegen_operands.proofs.Tables.{monitors_have_words, devices_stand}
 use Rattle.codegen_operands.specs.Fine.{Stands}
 use Rattle.code_names_law.proofs.Owners.{process_fits}
-
-nothing_there : (x : Name) → Contains [] x → ⊥
-nothing_there x h = let below : h.0 < 0 = h.1 in omega arith
 
 -- a process of the text has its process in the image
 pub record Made (g : Prog) (m : image.Image) (k : ℕ) (t : Process) : Type 0 where
@@ -76,7 +74,7 @@ module _ (g : Prog) (m : image.Image) (form : IsWellFormed g) (names : NamesApar
   pub program_stands : (w : Whose) → Stands g m w by_program
   program_stands w = record {
     outer = λ x. tt;
-    conditions = λ x h. absurd (nothing_there x h);
+    conditions = λ x h. absurd (none_in x h);
     monitor = λ j e. absurd (differs j e);
     devices = λ d out h. device_there d out h;
   }
@@ -102,7 +100,7 @@ module _ (g : Prog) (m : image.Image) (form : IsWellFormed g) (names : NamesApar
   pub process_stands : (w : Whose) (k : ℕ) (t : Process) → w.kind ≡ 1 → w.owner ≡ k → slice_get (processes g) k ≡ Some t → Stands g m w (by_process k)
   process_stands w k t kind owner at = record {
     outer = λ x. named_lies m w in_process x (process_places g k) (owned w k t kind owner at);
-    conditions = λ x h. absurd (nothing_there x h);
+    conditions = λ x h. absurd (none_in x h);
     monitor = λ j e. absurd (differs k j e);
     devices = λ d out h. device_there d out h;
   }
@@ -133,14 +131,14 @@ module _ (g : Prog) (m : image.Image) (form : IsWellFormed g) (names : NamesApar
       → is_own_condition m w (pos (condition_of g (by_monitor j) x)) ≡ true
   condition_there w j d kind owner at x h =
       let listed : Contains (conditions_of d) x = subst (λ o. Contains (monitor_conditions o) x) at h in
-      both (nat_eq w.kind 2) (is_same w.owner (slice_get m.conditions (condition_number g j x))) (eq-eqb w.kind 2 kind)
+      and_from (nat_eq w.kind 2) (is_same w.owner (slice_get m.conditions (condition_number g j x))) (eq-eqb w.kind 2 kind)
       (ap (λ cs. is_same w.owner (slice_get cs (condition_number g j x))) is.condition_table ∙ (ap (λ o. is_same w.owner o) (condition_row x d (monitors g) j at listed) ∙ eq-eqb j w.owner (sym owner)))
 
   pub monitor_stands : (w : Whose) (j : ℕ) (d : Monitor) → w.kind ≡ 2 → w.owner ≡ j → slice_get (monitors g) j ≡ Some d → Stands g m w (by_monitor j)
   monitor_stands w j d kind owner at = record {
     outer = λ x. named_lies m w in_monitor x (monitor_places g j) (shared w j d kind owner at);
     conditions = λ x h. condition_there w j d kind owner at x h;
-    monitor = λ i e. both (nat_eq w.kind 2) (nat_eq i w.owner) (eq-eqb w.kind 2 kind) (eq-eqb i w.owner (sym (owner ∙ same j i e)));
+    monitor = λ i e. and_from (nat_eq w.kind 2) (nat_eq i w.owner) (eq-eqb w.kind 2 kind) (eq-eqb i w.owner (sym (owner ∙ same j i e)));
     devices = λ d out h. device_there d out h;
   }
     where

@@ -2,20 +2,18 @@
 use Rattle.std.specs.Prelude.{◌≡◌, ◌+◌, ◌<◌, ℕ, zero, suc, Bool, true, false, cond, List, [], ◌∷◌, Some, slice_get, length, filter_map, bytes_eq, slice_index_or, Contains}
 use Rattle.std.proofs.Common.{refl, ap, subst, arith}
 use Rattle.std.proofs.lemmas.Slice.Eq.{bytes_eq-Decides}
+use Rattle.std.proofs.lemmas.Option.{same_Some}
 use Rattle.syntax_tree.specs.Plain.{Name, Decl, constant, device, event, routine, monitor, process}
 use Rattle.source_semantics.specs.Names.{place_of, device_in}
 use Rattle.code_spec.specs.Layout.{words_of, monitor_vars}
 use Rattle.code_spec.specs.Compiled.{device_direction}
 use Rattle.codegen_operands.specs.Areas.{HasWords, MonitorsHaveWords, DevicesStand}
 
-same_some : {A : Type 0} (x y : A) → Some x ≡ Some y → x ≡ y
-same_some x y e = cc
-
 pub monitors_have_words : MonitorsHaveWords
 monitors_have_words g b [] xs j d h at = absurd cc
 monitors_have_words g b (m ∷ ms) [] j d h at = absurd h
 monitors_have_words g b (m ∷ ms) (x ∷ xs) zero d h at =
-    (x, refl, subst (λ z. HasWords g b z x) (same_some m d at) (record { base_is = h.0; words_are = h.1 }))
+    (x, refl, subst (λ z. HasWords g b z x) (same_Some m d at) (record { base_is = h.0; words_are = h.1 }))
 monitors_have_words g b (m ∷ ms) (x ∷ xs) (suc j) d h at = monitors_have_words g (b + words_of g (monitor_vars m)) ms xs j d h.2 at
 
 -- ---- devices

@@ -1,6 +1,7 @@
 -- The operands of statements, routines and processes.
 use Rattle.std.specs.Prelude.{◌≡◌, ◌≤◌, ◌<◌, ◌+◌, ℕ, suc, true, false, pos, List, [], ◌∷◌, ◌++◌, Option, Some, None, All, Contains}
 use Rattle.std.proofs.Common.{refl, arith}
+use Rattle.base.proofs.Members.{none_in}
 use Rattle.syntax_tree.specs.Plain.{Name, Var, Stmt, assign, assign_entry, assign_empty, perform, perform_entry, when, when_else, loop, exit_when, get, put, wait, signal, broadcast, except, assert, Stmts, no_stmts, stmts, Answers, Routine, Handler, Process, Prog}
 use Rattle.source_semantics.specs.Names.{constant_value, count_value, device_number}
 use Rattle.source_semantics.specs.Store.{range_of}
@@ -18,14 +19,11 @@ use Rattle.wellformed.specs.Statements.{Fits, AllFit}
 use Rattle.wellformed.specs.WellFormed.{ParamFits, VarFits, AnswersFit, RoutineFits, OptionalFits, ProcessFits}
 use Rattle.code_measures.specs.Sound.{Sound, SoundAll, SoundAnswers, SoundRoutine, SoundHandler, SoundProcess}
 use Rattle.codegen_operands.specs.Lies.{AllLie}
-use Rattle.codegen_operands.proofs.AreasLemmas.{word_inside, scalar_order, variables_lie, parameters_lie, both_lie, turns_are_few}
+use Rattle.codegen_operands.proofs.AreasLemmas.{word_inside, scalar_order, variables_lie, parameters_lie, both_lie, turns_are_few, none_bad}
 use Rattle.codegen_operands.specs.Has.{AllOf, EachBranch, StmtHas, StmtsHave, EndHas, LeaveHas, RoutineHas, HandlerHas, ProcessHas}
 use Rattle.codegen_operands.specs.Fine.{IsFine, MayCall, Stands}
 use Rattle.codegen_operands.specs.Texts.{RoutinesAreFine, ProcessesAreFine}
-use Rattle.codegen_operands.proofs.Lines.{all_both, not_bad, number_between, range_fine, wait_fine, raise_fine, Reaches, call_fine, expr_fine, args_fine, index_fine, store_code_fine, put_fine}
-
-nothing_there : (x : Name) → Contains [] x → ⊥
-nothing_there x h = let below : h.0 < 0 = h.1 in omega arith
+use Rattle.codegen_operands.proofs.Lines.{all_both, number_between, range_fine, wait_fine, raise_fine, Reaches, call_fine, expr_fine, args_fine, index_fine, store_code_fine, put_fine}
 
 -- where a text stands, by the rules
 abbrev here_at : Prog → Process → Scope → List Name → List Var → Here
@@ -46,8 +44,8 @@ module _ (g : Prog) (m : Image) (w : Whose) (p : Process) where
 
   -- a condition is named only in an entry
   own_monitor : (o : Owner) (x : Name) → Contains (conditions_here g (home_of o)) x → Stands g m w o → is_own_monitor w (pos (monitor_of o)) ≡ true
-  own_monitor by_program x h s = absurd (nothing_there x h)
-  own_monitor (by_process k) x h s = absurd (nothing_there x h)
+  own_monitor by_program x h s = absurd (none_in x h)
+  own_monitor (by_process k) x h s = absurd (none_in x h)
   own_monitor (by_monitor j) x h s = s.monitor j refl
 
   mutual
@@ -61,7 +59,7 @@ module _ (g : Prog) (m : Image) (w : Whose) (p : Process) where
         (call_fine m w g (entry_in g mon en) h.2.0 (λ ps. args_code g c es ps) h.2.2 h.2.3 (args_fine m w g es h.2.0.routine.params c r h.2.3.params h.2.5)) (put_fine m w g t c r))
     stmt_fine (assign_empty t x) c turns vars k r st room h f =
         all_both Fine (index_code g c t) (i.Empty (pos (condition_of g c.owner x)) ∷ store_code g c t) (index_fine m w g t c r h.0)
-        (not_bad (is_own_condition m w (pos (condition_of g c.owner x))) (pos (condition_of g c.owner x)) (st.conditions x f.1), store_code_fine m w g t c r)
+        (none_bad (is_own_condition m w (pos (condition_of g c.owner x))) (pos (condition_of g c.owner x)) (st.conditions x f.1), store_code_fine m w g t c r)
     stmt_fine (perform n es) c turns vars k r st room h f =
         call_fine m w g (routine_in g c.owner n) h.0 (λ ps. args_code g c es ps) h.1 h.2 (args_fine m w g es h.0.routine.params c r h.2.params h.4)
     stmt_fine (perform_entry mon en es) c turns vars k r st room h f =
@@ -76,24 +74,24 @@ module _ (g : Prog) (m : Image) (w : Whose) (p : Process) where
         let lt : k < w.locals = omega (arith, room) in
         let here : in_area (local_words w) (pos k) ≡ true = frame_word k lt in
         let turns_ok : is_between 1 1000000 (pos (turns_of (constant_value g low) (constant_value g high))) ≡ true = turns_are_few g low high f.0 in (
-          (refl, (not_bad (in_area (local_words w) (pos k)) (pos k) here, (not_bad (is_between 1 1000000 (pos (turns_of (constant_value g low) (constant_value g high)))) (pos (turns_of (constant_value g low) (constant_value g high))) turns_ok, tt))),
+          (refl, (none_bad (in_area (local_words w) (pos k)) (pos k) here, (none_bad (is_between 1 1000000 (pos (turns_of (constant_value g low) (constant_value g high)))) (pos (turns_of (constant_value g low) (constant_value g high))) turns_ok, tt))),
           λ q. stmts_fine ss (inner c x k q) (x ∷ turns) vars (suc k) (inside_loop c x k q lt r) st (omega (arith, room)) (h.1 k q) f.1,
-          (not_bad (in_area (local_words w) (pos k)) (pos k) here, (refl, (refl, (not_bad (in_area (local_words w) (pos k)) (pos k) here, tt)))),
+          (none_bad (in_area (local_words w) (pos k)) (pos k) here, (refl, (refl, (none_bad (in_area (local_words w) (pos k)) (pos k) here, tt)))),
         )
     stmt_fine (exit_when e) c turns vars k r st room h f = expr_fine m w g e c r h
     stmt_fine (get d t) c turns vars k r st room h f =
         all_both Fine (index_code g c t) (i.In (pos (device_number g d)) ∷ put_code g c t) (index_fine m w g t c r h.0)
-        (not_bad (is_device m false (pos (device_number g d))) (pos (device_number g d)) (st.devices d false f.1), put_fine m w g t c r)
+        (none_bad (is_device m false (pos (device_number g d))) (pos (device_number g d)) (st.devices d false f.1), put_fine m w g t c r)
     stmt_fine (put d e) c turns vars k r st room h f =
         all_both Fine (code_of g c e) (i.Out (pos (device_number g d)) ∷ []) (expr_fine m w g e c r h)
-        (not_bad (is_device m true (pos (device_number g d))) (pos (device_number g d)) (st.devices d true f.1), tt)
+        (none_bad (is_device m true (pos (device_number g d))) (pos (device_number g d)) (st.devices d true f.1), tt)
     stmt_fine (wait x limit number) c turns vars k r st room h f = (
       wait_fine m w (condition_of g c.owner x) (count_value g limit) (count_value g number) (st.conditions x f.0)
           (number_between 1 1000000000 (constant_value g limit) f.1.limits) (number_between 10 999 (constant_value g number) f.2.limits),
-      (not_bad (is_own_monitor w (pos (monitor_of c.owner))) (pos (monitor_of c.owner)) (own_monitor c.owner x f.0 st), tt),
+      (none_bad (is_own_monitor w (pos (monitor_of c.owner))) (pos (monitor_of c.owner)) (own_monitor c.owner x f.0 st), tt),
     )
-    stmt_fine (signal x) c turns vars k r st room h f = not_bad (is_own_condition m w (pos (condition_of g c.owner x))) (pos (condition_of g c.owner x)) (st.conditions x f)
-    stmt_fine (broadcast x) c turns vars k r st room h f = not_bad (is_own_condition m w (pos (condition_of g c.owner x))) (pos (condition_of g c.owner x)) (st.conditions x f)
+    stmt_fine (signal x) c turns vars k r st room h f = none_bad (is_own_condition m w (pos (condition_of g c.owner x))) (pos (condition_of g c.owner x)) (st.conditions x f)
+    stmt_fine (broadcast x) c turns vars k r st room h f = none_bad (is_own_condition m w (pos (condition_of g c.owner x))) (pos (condition_of g c.owner x)) (st.conditions x f)
     stmt_fine (except n) c turns vars k r st room h f = raise_fine m w (count_value g n) (number_between 10 999 (constant_value g n) f.limits)
     stmt_fine (assert e) c turns vars k r st room h f = (expr_fine m w g e c r h, refl)
 
@@ -120,12 +118,12 @@ module _ (g : Prog) (m : Image) (w : Whose) (p : Process) where
   enter_fine : (o : Owner) → Stands g m w o → AllOf Fine (enter_code o)
   enter_fine by_program s = tt
   enter_fine (by_process k) s = tt
-  enter_fine (by_monitor j) s = (not_bad (is_own_monitor w (pos j)) (pos j) (s.monitor j refl), tt)
+  enter_fine (by_monitor j) s = (none_bad (is_own_monitor w (pos j)) (pos j) (s.monitor j refl), tt)
 
   leave_fine : (o : Owner) → Stands g m w o → LeaveHas Fine o
   leave_fine by_program s = tt
   leave_fine (by_process k) s = tt
-  leave_fine (by_monitor j) s = not_bad (is_own_monitor w (pos j)) (pos j) (s.monitor j refl)
+  leave_fine (by_monitor j) s = none_bad (is_own_monitor w (pos j)) (pos j) (s.monitor j refl)
 
   abbrev text_of : Owner → Routine → Text
   text_of o r = record { owner = o; routine = r }

@@ -1,8 +1,9 @@
 -- A function of the program reaches neither entries nor routines of processes.
 use Rattle.std.specs.Prelude.{◌≡◌, ◌≤◌, ◌<◌, ◌+◌, ◌++◌, ◌&&◌, ◌||◌, not, ℕ, zero, suc, Bool, true, false, cond, ℤ, pos, negsuc, List, [], ◌∷◌, length, Option, Some, None, nat_eq, nat_lt, take, slice_get}
 use Rattle.std.proofs.Common.{refl, sym, ap, subst, ◌∙◌, arith}
-use Rattle.std.proofs.lemmas.Bool.{ltb-true}
+use Rattle.std.proofs.lemmas.Bool.{ltb-true, not-true}
 use Rattle.std.proofs.lemmas.Option.{slice_get_within}
+use Rattle.base.proofs.Lists.{take_get}
 use Rattle.syntax_tree.specs.Plain.{Process, Prog}
 use Rattle.machine_isa.specs.declared.instr.Instr.{Instr}
 use Rattle.machine_isa.specs.declared.instr.Instr.TheVariants as i
@@ -21,7 +22,7 @@ use Rattle.code_names_law.specs.Ruled.{NamesApart}
 use Rattle.code_names_law.specs.Numbered.{CallsText}
 use Rattle.code_names_law.proofs.NumberedLemmas.{listed_text}
 use Rattle.code_measures.specs.Declared.{IsBelow}
-use Rattle.code_measures.proofs.Firsts.{take_get, row_is, rows_before}
+use Rattle.code_measures.proofs.Firsts.{row_is, rows_before}
 use Rattle.code_measures.proofs.Rows.{stands}
 use Rattle.code_names_law.proofs.Owners.{text_stands}
 use Rattle.code_names_law.proofs.SoundLemmas.{are_numbered, text_sound, below}
@@ -46,10 +47,6 @@ second_true : (a b : Bool) → a && b ≡ true → b ≡ true
 second_true true b e = e
 second_true false b e = absurd cc
 
-not_true : (b : Bool) → not b ≡ true → b ≡ false
-not_true true e = absurd cc
-not_true false e = refl
-
 some_neither : (test : ℕ → Bool) (xs ys : List ℕ) → some_of test xs ≡ false → some_of test ys ≡ false → some_of test (xs ++ ys) ≡ false
 some_neither test [] ys h k = k
 some_neither test (x ∷ xs) ys h k = by (test x) h (some_neither test xs ys)
@@ -72,7 +69,7 @@ module _ (m : image.Image) (r locals : ℕ) where
       let known : nat_lt q r && is_open_some (as_entry r locals) (slice_get m.routines q) ≡ true = first_true (nat_lt q r && is_open_some (as_entry r locals) (slice_get m.routines q)) (may_be_inside m (as_entry r locals) q) h in
       let inside : may_be_inside m (as_entry r locals) q ≡ true = second_true (nat_lt q r && is_open_some (as_entry r locals) (slice_get m.routines q)) (may_be_inside m (as_entry r locals) q) h in
       let low : q < r = ltb-true q r (first_true (nat_lt q r) (is_open_some (as_entry r locals) (slice_get m.routines q)) known) in
-      ap (λ o. bound_of o) (take_get r q (reach m) low) ∙ not_true (bound_at (reach m) q) inside
+      ap (λ o. bound_of o) (take_get r q (reach m) low) ∙ not-true (bound_at (reach m) q) inside
 
   instr_unbound : (j : Instr) → IsFine m (as_entry r locals) j → some_of (bound_at rows) (called_by (Some j)) ≡ false
   instr_unbound (i.Call (pos q)) h = ap (λ b. b || false) (call_unbound q (passes (may_call m (as_entry r locals) (pos q)) (pos q) h))

@@ -28,7 +28,7 @@ use Rattle.codegen_operands.specs.Areas.{DevicesGoOneWay}
 use Rattle.codegen_operands.specs.Has.{RoutineHas, ProcessHas}
 use Rattle.codegen_operands.specs.Kept.{PieceKeeps}
 use Rattle.codegen_operands.proofs.Owning.{routines_counted}
-use Rattle.codegen_operands.proofs.EmittedLemmas.{routine_piece_keeps, process_piece_keeps}
+use Rattle.codegen_operands.proofs.EmittedLemmas.{routine_piece_keeps, process_piece_keeps, same_some}
 use Rattle.codegen_operands.specs.Fine.{IsFine, MayCall, Stands}
 use Rattle.codegen_operands.proofs.Texts.{routines_are_fine, processes_are_fine}
 use Rattle.codegen_operands.specs.InRange.{OperandsAreInRange}
@@ -47,9 +47,6 @@ piece_none m k w keeps = none_first (operand_fault_at m k w) (length m.code) 0 (
     by : (a : ℕ) (b : Bool) → belongs m k a ≡ b → cond b (of_some (λ i. shown_operand a (bad_operand m w i)) (slice_get m.code a)) None ≡ None
     by a true mine = there a (slice_get m.code a) refl mine
     by a false mine = refl
-
-same_some : {A : Type 0} (x y : A) (o : Option A) → o ≡ Some x → o ≡ Some y → x ≡ y
-same_some x y o e f = let h : Some x ≡ Some y = sym e ∙ f in cc
 
 room : (a b : ℕ) → a ≡ b → b ≤ a
 room a b e = omega (arith, e)

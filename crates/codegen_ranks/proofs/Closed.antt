@@ -1,6 +1,8 @@
 -- Functions and entries call functions alone, and these come to no monitor.
 use Rattle.std.specs.Prelude.{◌≡◌, ◌⊎◌, ◌||◌, not, ℕ, zero, suc, Bool, true, false, Some, IsSome, is_some, nat_eq, Contains}
 use Rattle.std.proofs.Common.{inl, inr, refl, sym, ap, subst, ◌∙◌}
+use Rattle.std.proofs.lemmas.Bool.{false≢true}
+use Rattle.std.proofs.lemmas.Option.{same_Some}
 use Rattle.syntax_tree.specs.Plain.{Name, Answers, Routine, Process, Prog}
 use Rattle.source_semantics.specs.Names.{monitor_number}
 use Rattle.code_spec.specs.Layout.{Owner, by_program, by_process, by_monitor, home_of}
@@ -9,7 +11,7 @@ use Rattle.code_simulation_spec.specs.Proper.{found_of}
 use Rattle.wellformed.specs.Here.{is_monitor, is_function_at, in_routine}
 use Rattle.wellformed.specs.Statements.{may_call}
 use Rattle.wellformed.specs.WellFormed.{IsWellFormed}
-use Rattle.code_names_law.proofs.Numbers.{some_same, IsText, called_is_text}
+use Rattle.code_names_law.proofs.Numbers.{IsText, called_is_text}
 use Rattle.code_names_law.specs.Ruled.{NamesApart}
 use Rattle.code_names_law.proofs.Mirror.{OwnerKnown}
 use Rattle.code_names_law.specs.Called.{Finds}
@@ -19,9 +21,6 @@ use Rattle.codegen_ranks.proofs.Tests.{or_false}
 use Rattle.codegen_ranks.specs.Touches.{is_entry_of, touches}
 use Rattle.codegen_ranks.proofs.Lists.{none_called}
 use Rattle.codegen_ranks.proofs.Owners.{Near, Known, named_near, near_entry, entry_owner, named_found}
-
-no_true : false ≡ true → ⊥
-no_true e = cc
 
 -- a function, or an entry
 abbrev pub is_closed : Owner → Routine → Bool
@@ -34,7 +33,7 @@ known_as g k p (by_monitor m) h = tt
 
 -- it calls no procedure and no entry
 may_not : (b : Bool) → b ≡ true → not b ≡ true → ⊥
-may_not b e h = no_true (sym (ap (λ z. not z) e) ∙ h)
+may_not b e h = false≢true (sym (ap (λ z. not z) e) ∙ h)
 
 module _ (g : Prog) (form : IsWellFormed g) (names : NamesApart g) where
   -- what it calls is a function
@@ -57,7 +56,7 @@ module _ (g : Prog) (form : IsWellFormed g) (names : NamesApart g) where
         where
           s_found : found.found ≡ found_of u
           s_found =
-              some_same found.found (found_of u)
+              same_Some found.found (found_of u)
               (sym found.is ∙ named_found g names (text_stands g form names o r is).number (text_stands g form names o r is).process (text_stands g form names o r is).at o f u
               (known_as g (text_stands g form names o r is).number (text_stands g form names o r is).process o (text_stands g form names o r is).known) e1)
 

@@ -1,6 +1,7 @@
 -- Ranks: by the same deadlines, the same processes rank higher.
 use Rattle.std.specs.Prelude.{◌≡◌, ◌+◌, ◌≤◌, ◌&&◌, ◌||◌, ℕ, zero, suc, Bool, true, false, cond, List, [], ◌∷◌, Option, Some, None, length, map, nat_eq, nat_lt, slice_get, unwrap_or, option_map}
 use Rattle.std.proofs.Common.{refl, sym, ap, subst, ◌∙◌, arith}
+use Rattle.std.proofs.lemmas.List.{length-map}
 use Rattle.syntax_tree.specs.Plain.{Process, Prog}
 use Rattle.sched_response.specs.Counts.{count_below}
 use Rattle.source_semantics.specs.Names.{processes, deadline_of}
@@ -43,14 +44,10 @@ higher_most k deadline b (f ∷ ds) =
     worth true = omega arith
     worth false = omega arith
 
-length_map : {A B : Type 0} (f : A → B) (xs : List A) → length (map f xs) ≡ length xs
-length_map f [] = refl
-length_map f (x ∷ xs) = ap (λ n. suc n) (length_map f xs)
-
 pub rank_most : (g : Prog) (k : ℕ) → rank g k ≤ suc (length (processes g))
 rank_most g k =
     let most : higher k (unwrap_or (slice_get (deadlines g) k) 0) 0 (deadlines g) ≤ length (deadlines g) = higher_most k (unwrap_or (slice_get (deadlines g) k) 0) 0 (deadlines g) in
-    let many : length (deadlines g) ≡ length (processes g) = length_map (λ (p : Process). deadline_of g p.activation) (processes g) in
+    let many : length (deadlines g) ≡ length (processes g) = length-map (processes g) (λ (p : Process). deadline_of g p.activation) in
     omega (arith, most, many)
 
 -- ---- the deadlines of an image
@@ -76,7 +73,7 @@ module _ (g : Prog) (m : image.Image) (is : IsCodeOf g m) where
   pub rank_same : (k : ℕ) → rank_of m k ≡ rank g k
   rank_same k =
       let many : length m.processes ≡ length (processes g) = as_many_processes g m.code 0 is.between (length m.code) (processes g) m.processes is.process_code in
-      let long : length (deadlines g) ≡ length (processes g) = length_map (λ (p : Process). deadline_of g p.activation) (processes g) in
+      let long : length (deadlines g) ≡ length (processes g) = length-map (processes g) (λ (p : Process). deadline_of g p.activation) in
       let counts : higher k (unwrap_or (slice_get (deadlines g) k) 0) 0 (deadlines g) ≡ count_below (λ i. outranks m i k) (length (deadlines g)) =
       higher_counts k (unwrap_or (slice_get (deadlines g) k) 0) 0 (deadlines g) (λ i. outranks m i k) (λ i f at. same i f at) in
       let all : count_below (λ i. outranks m i k) (length m.processes) ≡ count_below (λ i. outranks m i k) (length (deadlines g)) = ap (λ n. count_below (λ i. outranks m i k) n) (many ∙ sym long) in

@@ -1,6 +1,7 @@
 -- Ceilings: the least rank of the same processes.
 use Rattle.std.specs.Prelude.{◌≡◌, ◌+◌, ◌<◌, ◌≤◌, ℕ, zero, suc, Bool, true, false, cond, min, List, [], ◌∷◌, Option, Some, None, length, slice_get, unwrap_or}
 use Rattle.std.proofs.Common.{refl, sym, ap, ◌∙◌, arith}
+use Rattle.base.proofs.Lists.{some_at}
 use Rattle.syntax_tree.specs.Plain.{Process, Prog}
 use Rattle.source_semantics.specs.Names.{processes}
 use Rattle.source_semantics.specs.Ranks.{rank, monitors_of, includes, least_rank, min_with}
@@ -78,11 +79,6 @@ least_same g j b (p ∷ ps) few =
 there_least : (m : image.Image) (j n : ℕ) → least_there m j n ≡ least (λ i. cond (enters m i j) (rank_of m i) 65535) n
 there_least m j zero = refl
 there_least m j (suc n) = ap (λ x. min (cond (enters m n j) (rank_of m n) 65535) x) (there_least m j n)
-
-some_at : {A : Type 0} (xs : List A) (k : ℕ) → k < length xs → (x : A) × (slice_get xs k ≡ Some x)
-some_at [] k below = absurd (omega (arith, below))
-some_at (x ∷ xs) zero below = (x, refl)
-some_at (x ∷ xs) (suc k) below = some_at xs k (omega (arith, below))
 
 pub ceilings_are : CodeEntersWhatTextsTouch → TextsUseWhatTheyTouch → RanksAreOfTheMeaning → CeilingsAreOfTheMeaning
 ceilings_are code texts ranks g m form names is j =

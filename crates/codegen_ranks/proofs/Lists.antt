@@ -1,11 +1,11 @@
 -- Tests over lists of calls, of stays and of monitors.
 use Rattle.std.specs.Prelude.{◌≡◌, ◌++◌, ◌||◌, ℕ, Bool, false, List, [], ◌∷◌, Option, Some, None, nat_eq, Contains}
 use Rattle.std.proofs.Common.{refl, sym, ap, ◌∙◌}
+use Rattle.base.proofs.Members.{at_front, behind}
 use Rattle.source_semantics.specs.Ranks.{includes}
 use Rattle.valid_image.specs.Tables.{longer_stay, longest_of, some_of}
 use Rattle.valid_image.specs.Times.{is_some}
 use Rattle.code_spec.specs.Numbering.{Text, Called}
-use Rattle.code_names_law.proofs.Lists.{contains_here, contains_later}
 use Rattle.codegen_ranks.specs.Calls.{passes_some, some_called}
 use Rattle.codegen_ranks.proofs.Tests.{or_three, or_both}
 
@@ -16,21 +16,21 @@ pub called_alike : (test other : Text → Bool) (means : Called → Option Text)
     → some_called test means cs ≡ some_called other means cs
 called_alike test other means [] same = refl
 called_alike test other means (c ∷ cs) same =
-    or_both (by (means c) refl) (called_alike test other means cs (λ d u i e. same d u (contains_later c d cs i) e))
+    or_both (by (means c) refl) (called_alike test other means cs (λ d u i e. same d u (behind c cs d i) e))
   where
     by : (o : Option Text) → means c ≡ o → passes_some test o ≡ passes_some other o
     by None is = refl
-    by (Some u) is = same c u (contains_here c cs) is
+    by (Some u) is = same c u (at_front c cs) is
 
 -- none of what is called passes
 pub none_called : (test : Text → Bool) (means : Called → Option Text) (cs : List Called) → ((c : Called) (u : Text) → Contains cs c → means c ≡ Some u → test u ≡ false) → some_called test means cs ≡ false
 none_called test means [] none = refl
 none_called test means (c ∷ cs) none =
-    or_both (by (means c) refl) (none_called test means cs (λ d u i e. none d u (contains_later c d cs i) e))
+    or_both (by (means c) refl) (none_called test means cs (λ d u i e. none d u (behind c cs d i) e))
   where
     by : (o : Option Text) → means c ≡ o → passes_some test o ≡ false
     by None is = refl
-    by (Some u) is = none c u (contains_here c cs) is
+    by (Some u) is = none c u (at_front c cs) is
 
 -- ---- stays
 

@@ -1,13 +1,14 @@
 -- Whose texts the names of calls mean, and what they mean in the meaning of programs.
 use Rattle.std.specs.Prelude.{◌≡◌, ◌⊎◌, ℕ, false, Option, Some, None, slice_get, option_map}
 use Rattle.std.proofs.Common.{inl, inr, refl, sym, ap, subst, ◌∙◌}
+use Rattle.std.proofs.lemmas.Option.{none-some, same_Some}
 use Rattle.syntax_tree.specs.Plain.{Name, Routine, Monitor, Process, Prog}
 use Rattle.source_semantics.specs.Names.{named, routines, monitors, processes, monitor_number}
 use Rattle.source_semantics.specs.Run.{of_program, of_process, or_else, entry_name, routine_named}
 use Rattle.code_spec.specs.Layout.{Owner, by_program, by_process, by_monitor, home_of}
 use Rattle.code_spec.specs.Numbering.{Text, routine_of, process_routines, routine_in, entry_of, entry_in}
 use Rattle.code_simulation_spec.specs.Proper.{found_of}
-use Rattle.code_names_law.proofs.Numbers.{none_some, some_same, of_list}
+use Rattle.code_names_law.proofs.Numbers.{of_list}
 use Rattle.code_names_law.specs.Ruled.{NamesApart}
 use Rattle.codegen_ranks.specs.Touches.{is_entry_of}
 
@@ -45,7 +46,7 @@ pub entry_owner : (g : Prog) (m e : Name) (t : Text) → entry_in g m e ≡ Some
 entry_owner g m e t is = by (named (λ k. k.name) m (monitors g)) is
   where
     by : (d : Option Monitor) → entry_of (monitor_number g m) d e ≡ Some t → t.owner ≡ by_monitor (monitor_number g m)
-    by None h = absurd (none_some t h)
+    by None h = absurd (none-some t h)
     by (Some k) h = (of_list (by_monitor (monitor_number g m)) k.entries e t h).0
 
 -- ---- the same in the meaning of programs
@@ -67,6 +68,6 @@ module _ (g : Prog) (names : NamesApart g) (k : ℕ) (p : Process) (at : slice_g
     where
       by : (a b : Option Routine) → or_else (option_map (λ r. record { owner = by_process i; routine = r }) a) (option_map (λ r. record { owner = by_program; routine = r }) b) ≡ Some t
           → or_else (option_map (λ r. record { home = of_process; routine = r }) a) (option_map (λ r. record { home = of_program; routine = r }) b) ≡ Some (found_of t)
-      by (Some r) b h = ap (λ y. Some (found_of y)) (some_same (record { owner = by_process i; routine = r }) t h)
-      by None (Some r) h = ap (λ y. Some (found_of y)) (some_same (record { owner = by_program; routine = r }) t h)
-      by None None h = absurd (none_some t h)
+      by (Some r) b h = ap (λ y. Some (found_of y)) (same_Some (record { owner = by_process i; routine = r }) t h)
+      by None (Some r) h = ap (λ y. Some (found_of y)) (same_Some (record { owner = by_program; routine = r }) t h)
+      by None None h = absurd (none-some t h)

@@ -2,18 +2,11 @@
 use Rattle.std.specs.Prelude.{◌≡◌, ◌+◌, ◌++◌, ◌≤◌, ◌<◌, ◌&&◌, ℕ, zero, suc, Bool, true, false, cond, List, [], ◌∷◌, length, Option, Some, None, nat_eq, nat_le, nat_lt}
 use Rattle.std.proofs.Common.{refl, sym, ap, subst, ◌∙◌, arith}
 use Rattle.std.proofs.lemmas.Bool.Decides.{nat_tests}
+use Rattle.std.proofs.lemmas.Bool.{le-leb, leb-true, lt-leb}
+use Rattle.base.proofs.Numbers.{itself}
 use Rattle.valid_image.specs.Pieces.{Piece, Owner, comes_closer, closest, is_owner}
 
 -- ---- tests on numbers
-
-le_yes : (a b : ℕ) → a ≤ b → nat_le a b ≡ true
-le_yes a b h = grind (arith, nat_tests, h)
-
-le_no : (a b : ℕ) → b < a → nat_le a b ≡ false
-le_no a b h = grind (arith, nat_tests, h)
-
-le_from : (a b : ℕ) → nat_le a b ≡ true → a ≤ b
-le_from a b h = grind (arith, nat_tests, h)
 
 lt_from : (a b : ℕ) → nat_le a b ≡ false → b < a
 lt_from a b h = grind (arith, nat_tests, h)
@@ -23,9 +16,6 @@ below_from a b h = grind (arith, nat_tests, h)
 
 above_from : (a b : ℕ) → nat_lt a b ≡ false → b ≤ a
 above_from a b h = grind (arith, nat_tests, h)
-
-eq_yes : (a : ℕ) → nat_eq a a ≡ true
-eq_yes a = grind (arith, nat_tests)
 
 eq_no : (a b : ℕ) → b < a → nat_eq a b ≡ false
 eq_no a b h = grind (arith, nat_tests, h)
@@ -46,13 +36,13 @@ not_mine k p (Some b) h = eq_less b.number k h.0
 
 -- a piece that starts behind the address does not come closer
 stays_far : (best : Option Owner) (s a : ℕ) → a < s → comes_closer best s a ≡ false
-stays_far None s a h = le_no s a h
-stays_far (Some b) s a h = ap (λ z. z && nat_le b.start s) (le_no s a h)
+stays_far None s a h = lt-leb s a h
+stays_far (Some b) s a h = ap (λ z. z && nat_le b.start s) (lt-leb s a h)
 
 -- the next one that starts at the address or before does
 gets_closer : (best : Option Owner) (k p a : ℕ) → Earlier k p best → p ≤ a → comes_closer best p a ≡ true
-gets_closer None k p a h le = le_yes p a le
-gets_closer (Some b) k p a h le = ap (λ z. z && nat_le b.start p) (le_yes p a le) ∙ le_yes b.start p h.1
+gets_closer None k p a h le = le-leb p a le
+gets_closer (Some b) k p a h le = ap (λ z. z && nat_le b.start p) (le-leb p a le) ∙ le-leb b.start p h.1
 
 -- the numbers of those that follow are greater
 never : (j k a : ℕ) (ys : List Piece) (best : Option Owner) → j < k → is_owner j best ≡ false → is_owner j (closest ys k a best) ≡ false
@@ -125,12 +115,12 @@ module _ (P : (k p q : ℕ) → Type 0) where
       early_mine = (omega arith, let s : y.start ≡ p = h.1 in let f : p ≤ h.0 = h.2 in omega (arith, s, f))
 
       by_high : (a : ℕ) → a < q → (b : Bool) → nat_lt a h.0 ≡ b → is_owner k (closest ys (suc k) a mine) ≡ b
-      by_high a lt true is = ap (λ o. is_owner k o) (unchanged (suc k) h.0 q a ys mine h.4 (below_from a h.0 is)) ∙ eq_yes k
+      by_high a lt true is = ap (λ o. is_owner k o) (unchanged (suc k) h.0 q a ys mine h.4 (below_from a h.0 is)) ∙ itself k
       by_high a lt false is = passed k (suc k) h.0 q a ys mine h.4 early_mine (above_from a h.0 is) lt (omega arith)
 
       by_low : (a : ℕ) (best : Option Owner) → Earlier k p best → a < q → (b : Bool) → nat_le p a ≡ b → is_owner k (closest (y ∷ ys) k a best) ≡ (nat_le p a && nat_lt a h.0)
       by_low a best early lt true is =
-          ap (λ b. is_owner k (closest ys (suc k) a (cond b mine best))) (subst (λ s. comes_closer best s a ≡ true) (sym h.1) (gets_closer best k p a early (le_from p a is)))
+          ap (λ b. is_owner k (closest ys (suc k) a (cond b mine best))) (subst (λ s. comes_closer best s a ≡ true) (sym h.1) (gets_closer best k p a early (leb-true p a is)))
           ∙ (by_high a lt (nat_lt a h.0) refl ∙ ap (λ z. z && nat_lt a h.0) (sym is))
       by_low a best early lt false is =
           ap (λ o. is_owner k o) (unchanged k p q a (y ∷ ys) best h (lt_from p a is)) ∙ (not_mine k p best early ∙ ap (λ z. z && nat_lt a h.0) (sym is))

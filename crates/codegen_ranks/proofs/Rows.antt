@@ -2,6 +2,7 @@
 use Rattle.std.specs.Prelude.{◌≡◌, ◌<◌, ◌≤◌, ◌||◌, ◌&&◌, ℕ, zero, suc, Bool, true, false, cond, List, Some, None, length, nat_eq, slice_get, take}
 use Rattle.std.proofs.Common.{refl, ap, ◌∙◌, arith}
 use Rattle.std.proofs.lemmas.Option.{slice_get_within}
+use Rattle.base.proofs.Lists.{take_get}
 use Rattle.syntax_tree.specs.Plain.{Process, Prog}
 use Rattle.source_semantics.specs.Names.{processes, routine_count}
 use Rattle.machine_semantics.specs.Image as image
@@ -14,7 +15,7 @@ use Rattle.code_spec.specs.Compiled.{kind_number, owner_number, IsRoutine, IsCod
 use Rattle.wellformed.specs.WellFormed.{IsWellFormed}
 use Rattle.code_names_law.specs.Ruled.{NamesApart}
 use Rattle.code_measures.specs.Declared.{IsBelow}
-use Rattle.code_measures.proofs.Firsts.{take_get, row_is, rows_before}
+use Rattle.code_measures.proofs.Firsts.{row_is, rows_before}
 use Rattle.code_measures.proofs.Rows.{stands}
 use Rattle.code_names_law.proofs.SoundLemmas.{below, below_all, well_formed_programs_are_sound}
 use Rattle.codegen_ranks.specs.Calls.{some_called, by_number, process_calls, RoutinesCallTheirTexts, ProcessesCallTheirTexts}

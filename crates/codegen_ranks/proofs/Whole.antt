@@ -2,7 +2,8 @@
 use Rattle.std.specs.Prelude.{◌≡◌, ◌+◌, ◌-◌, ◌++◌, ◌≤◌, ◌<◌, ◌&&◌, ◌||◌, ℕ, zero, suc, Bool, true, false, cond, List, [], ◌∷◌, length, map, Some, None, nat_le, nat_lt, slice_get}
 use Rattle.std.proofs.Common.{refl, sym, ap, subst, ◌∙◌, arith}
 use Rattle.std.proofs.lemmas.Bool.Decides.{nat_tests}
-use Rattle.std.proofs.lemmas.Option.{slice_get_within}
+use Rattle.std.proofs.lemmas.Option.{slice_get_within, same_Some}
+use Rattle.std.proofs.lemmas.List.{length-map, length-append}
 use Rattle.syntax_tree.specs.Plain.{Process, Prog}
 use Rattle.source_semantics.specs.Names.{processes}
 use Rattle.machine_isa.specs.declared.instr.Instr.{Instr}
@@ -20,17 +21,6 @@ use Rattle.codegen_ranks.proofs.Routines.{routine_span, process_span}
 use Rattle.codegen_ranks.proofs.Pieces.{Laid, laid_both, Lies, lies}
 
 -- ---- lists
-
-some_same : {A : Type 0} (x y : A) → Some x ≡ Some y → x ≡ y
-some_same x y e = cc
-
-length_map : {A B : Type 0} (f : A → B) (xs : List A) → length (map f xs) ≡ length xs
-length_map f [] = refl
-length_map f (x ∷ xs) = ap (λ n. suc n) (length_map f xs)
-
-length_both : {A : Type 0} (xs ys : List A) → length (xs ++ ys) ≡ length xs + length ys
-length_both [] ys = omega arith
-length_both (x ∷ xs) ys = let e : length (xs ++ ys) ≡ length xs + length ys = length_both xs ys in omega (arith, e)
 
 pub as_many_routines : (g : Prog) (code : List Instr) (p q : ℕ) (ts : List Text) (rs : List image.Routine) → EmitsRoutines g code p q ts rs → length rs ≡ length ts
 as_many_routines g code p q [] [] h = refl
@@ -129,7 +119,7 @@ module _ (g : Prog) (m : image.Image) (is : IsCodeOf g m) (sound : IsSound g) (t
       let s = routine_span g test (λ y. IsBelow g k y) m.code u p q (sound.routines k u at) emits in (
         in_order test m.code p q (some_called (by_number g test) (called_text g u.owner) (routine_calls u.routine)) s,
         record {
-          routine = λ t there. subst (λ y. Spans test m.code p q (some_called (by_number g test) (called_text g y.owner) (routine_calls y.routine))) (some_same u t (sym at ∙ there)) s;
+          routine = λ t there. subst (λ y. Spans test m.code p q (some_called (by_number g test) (called_text g y.owner) (routine_calls y.routine))) (same_Some u t (sym at ∙ there)) s;
           process = λ j t e there. absurd (omega (arith, low, e));
         },
       )
@@ -161,7 +151,7 @@ module _ (g : Prog) (m : image.Image) (is : IsCodeOf g m) (sound : IsSound g) (t
           → Spans test m.code p q (some_called (by_number g test) (called_text g (by_process i)) (process_calls t))
       other i t same there s =
           subst (λ n. Spans test m.code p q (some_called (by_number g test) (called_text g (by_process n)) (process_calls t))) same
-          (subst (λ y. Spans test m.code p q (some_called (by_number g test) (called_text g (by_process j)) (process_calls y))) (some_same u t (sym at ∙ (ap (λ n. slice_get (processes g) n) same ∙ there))) s)
+          (subst (λ y. Spans test m.code p q (some_called (by_number g test) (called_text g (by_process j)) (process_calls y))) (same_Some u t (sym at ∙ (ap (λ n. slice_get (processes g) n) same ∙ there))) s)
 
   processes_laid : (j p q : ℕ) (ts : List Process) (rs : List image.Process) → EmitsProcesses g m.code j p q ts rs → ((i : ℕ) (t : Process) → slice_get ts i ≡ Some t → slice_get (processes g) (j + i) ≡ Some t)
       → Laid Calls (length m.routines + j) p (map piece_of_process rs) q
@@ -187,13 +177,13 @@ module _ (g : Prog) (m : image.Image) (is : IsCodeOf g m) (sound : IsSound g) (t
       flat n = omega arith
 
       many : length m.routines + 0 ≡ 0 + length (map piece_of_routine m.routines)
-      many = let e : length (map piece_of_routine m.routines) ≡ length m.routines = length_map piece_of_routine m.routines in omega (arith, e)
+      many = let e : length (map piece_of_routine m.routines) ≡ length m.routines = length-map m.routines piece_of_routine in omega (arith, e)
 
   pieces_many : length (pieces m) ≡ length m.routines + length m.processes
   pieces_many =
-      let e = length_both (map piece_of_routine m.routines) (map piece_of_process m.processes) in
-      let r = length_map piece_of_routine m.routines in
-      let p = length_map piece_of_process m.processes in
+      let e = length-append (map piece_of_routine m.routines) (map piece_of_process m.processes) in
+      let r = length-map m.routines piece_of_routine in
+      let p = length-map m.processes piece_of_process in
       omega (arith, e, r, p)
 
   -- what a piece that lies there calls

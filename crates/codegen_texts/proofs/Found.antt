@@ -1,7 +1,7 @@
 -- The callees that names in calls mean.
-use Rattle.std.proofs.Common.{◌≡◌, ◌∙◌, sym, ap, refl, ℕ, Bool, true, false, cond, ◌&&◌, List, [], ◌∷◌, Option, Some, None, map}
+use Rattle.std.proofs.Common.{◌≡◌, ◌∙◌, sym, ap, refl, ℕ, Bool, true, false, cond, List, [], ◌∷◌, Option, Some, None, map}
 use Rattle.std.specs.Prelude.{option_map, bytes_eq}
-use Rattle.std.proofs.lemmas.Bool.{eqb-true}
+use Rattle.std.proofs.lemmas.Bool.{eqb-true, and_parts}
 use Rattle.std.proofs.lemmas.Option.{slice_get-map}
 use Rattle.std.proofs.lemmas.Slice.Eq.{bytes_eq-Decides}
 use Rattle.syntax_tree.specs.Plain.{Name, Prog}
@@ -21,11 +21,6 @@ use Rattle.codegen_texts.specs.Shared.{callees_told}
 got-map : {A B : Type 0} (f : A → B) (xs : List A) (o : Option ℕ) → get_some (map f xs) o ≡ option_map f (get_some xs o)
 got-map f xs None = refl
 got-map f xs (Some k) = slice_get-map f xs k
-
-both-true : (a b : Bool) → a && b ≡ true → (a ≡ true) × (b ≡ true)
-both-true true true e = (refl, refl)
-both-true true false e = cc
-both-true false b e = cc
 
 owner-true : (o p : Owner) → same_owner o p ≡ true → o ≡ p
 owner-true by_program by_program e = refl
@@ -50,7 +45,7 @@ found-is o f (u ∷ us) t e = by-test (is_text o f u) refl (λ found. found-is o
 -- and found again by its own owner and name
 found-again : (o : Owner) (f : Name) (ts : List Text) (t : Text) → text_named o f ts ≡ Some t → text_named t.owner t.routine.name ts ≡ Some t
 found-again o f ts t e =
-    let parts = both-true (same_owner t.owner o) (bytes_eq t.routine.name f) (found-is o f ts t e) in
+    let parts = and_parts (same_owner t.owner o) (bytes_eq t.routine.name f) (found-is o f ts t e) in
     ap (λ p. text_named p t.routine.name ts) (owner-true t.owner o parts.0)
     ∙ ap (λ n. text_named o n ts) ((bytes_eq-Decides t.routine.name f).0 parts.1) ∙ e
 

@@ -1,17 +1,14 @@
 -- The text at a number is that of the program.
-use Rattle.std.proofs.Common.{◌≡◌, ◌<◌, ◌+◌, ◌∙◌, ℕ, zero, suc, List, [], ◌∷◌, Some, length, map, get_or, refl, sym, ap, arith, add-zero, inl, inr}
+use Rattle.std.proofs.Common.{◌≡◌, ◌<◌, ◌+◌, ◌∙◌, ℕ, zero, suc, List, [], ◌∷◌, Some, length, map, get_or, refl, sym, ap, arith, add-zero}
 use Rattle.std.specs.Prelude.{slice_get, option_map}
 use Rattle.std.proofs.lemmas.List.{length-map}
-use Rattle.std.proofs.lemmas.Option.{slice_get-map, slice_get_cases}
+use Rattle.std.proofs.lemmas.Option.{slice_get-map}
+use Rattle.base.proofs.Lists.{some_at}
 use Rattle.syntax_tree.specs.Plain.{Process, Prog}
 use Rattle.source_semantics.specs.Names.{processes}
 use Rattle.code_spec.specs.Numbering.{Text, numbered}
 use Rattle.codegen_texts.specs.Texts.{RoutineText, ProcessText, routine_text, routine_texts, process_text, process_texts, texts_from}
 use Rattle.codegen_texts.proofs.Lists.{told_at, told_length}
-
--- what stands at a number that is not too large
-there : {X : Type 0} (xs : List X) (n : ℕ) → n < length xs → (x : X) × (slice_get xs n ≡ Some x)
-there xs n within = elim (slice_get_cases xs n).1 [ inl w ↦ (w.0, w.2) | inr w ↦ absurd (omega arith) ]
 
 -- ---- routines
 
@@ -30,7 +27,7 @@ module _ {A : Type 0} (told : A → RoutineText) (xs : List A) (g : Prog) (n : �
   routine_is t at = told_at told xs (routine_texts g) n x (routine_text g t) are (routines_inside told xs g n are within) is (routine_there g n t at)
 
   pub routine_program : (told x).program ≡ g
-  routine_program = let t = there (numbered g) n within in ap (λ (r : RoutineText). r.program) (routine_is t.0 t.1)
+  routine_program = let t = some_at (numbered g) n within in ap (λ (r : RoutineText). r.program) (routine_is t.0 t.1)
 
 -- ---- processes
 
@@ -61,4 +58,4 @@ module _ {A : Type 0} (told : A → ProcessText) (xs : List A) (g : Prog) (n : �
   process_is p at = told_at told xs (process_texts g) n x (process_text g n p) are (processes_inside told xs g n are within) is (process_there g n p at)
 
   pub process_program : (told x).program ≡ g
-  process_program = let p = there (processes g) n within in ap (λ (r : ProcessText). r.program) (process_is p.0 p.1)
+  process_program = let p = some_at (processes g) n within in ap (λ (r : ProcessText). r.program) (process_is p.0 p.1)

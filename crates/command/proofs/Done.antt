@@ -1,5 +1,5 @@
 -- What a call that answers 0 has done.
-use Rattle.std.proofs.Common.{◌≡◌, ◌∙◌, ◌++◌, ℕ, List, [], ◌∷◌, Option, Some, None, Bool, true, false, refl, sym, subst, ap, arith, map, length}
+use Rattle.std.proofs.Common.{◌≡◌, ◌∙◌, ◌++◌, ℕ, List, Option, Some, None, Bool, true, false, refl, sym, subst, ap, arith, length}
 use Rattle.std.specs.Prelude.{IsSomeAnd}
 use Rattle.std.specs.Bool.{OnTrue}
 use Rattle.outside.specs.Outside.{Outside, Appends}
@@ -17,16 +17,13 @@ use Rattle.image_reader_law.specs.ValidLimits.{ImagesReadHaveLimits}
 use Rattle.valid_image_law.specs.ValidLaw.{EveryValidImageIsSafeAndInTime}
 use Rattle.sched_timing.specs.Timed.{RespectsFrames}
 use Rattle.script.specs.declared.script.ScriptLine.{ScriptLine}
-use Rattle.script.specs.declared.script.ScriptLine.TheVariants.{Set, Occur}
 use Rattle.vm_law.specs.ScriptSuits.{ScriptsForImagesReadSuit, script_with}
-use Rattle.vm_releases.specs.Begin.{lines_of}
-use Rattle.code_lifting.specs.Compiled.{line_of as machine_line}
 use Rattle.sched_table.specs.Report.{report_text}
 use Rattle.sched_table.specs.Json.{report_json}
 use Rattle.built_image.specs.Built.{IsBuilt, IsTimely}
 use Rattle.command_words.specs.Calls.{Call, go, check, compile, json, slack, print, run, migrate, asm, dis, watch, replay, edf}
 use Rattle.command_due.specs.Source.{IsWritten, IsTimelyText, Style, report_of}
-use Rattle.command_due.specs.Script.{line_said, run_of}
+use Rattle.command_due.specs.Script.{run_of}
 use Rattle.command_due.specs.CommandsDue.{Outcome, stored, log, IsRefused, faulty, late, IsReportDue, report_refused, report_timely, IsPrintDue, print_faulty, printed, IsCompileDue, compile_refused, compiled, IsGoDue, go_refused, go_bad_script, went, IsImageFile, IsImageRefused, misread, invalid, IsRunDue, run_refused, run_bad_script, ran, IsMigrateDue, migrate_refused, migrated}
 use Rattle.command_due.specs.SpareDue.{IsSlackDue, slack_refused, slack_told}
 use Rattle.command_due.specs.AsmDue.{IsAsmDue, asm_faulty, asm_invalid, assembled, IsDisDue, dis_misread, disassembled}
@@ -43,8 +40,9 @@ use Rattle.command_due.specs.Runs.{KeepsItsWord, BuiltImagesAreFaithful, IsAccep
 use Rattle.command_answers.specs.Files.{IsDue, target_of}
 use Rattle.command_answers.specs.Went.{IsWhole, Stores, Went}
 use Rattle.command_answers.specs.Promise.{HasGone, HasCompiled, HasReported, HasSpared, ReadsBack, HasPrinted, HasRun, HasMigrated, HasAssembled, HasDisassembled, HasWatched, HasReplayed, HasMetDeadlines, HasDone}
+use Rattle.command_perform.proofs.Scripts.{same_lines}
 
-status_of : (o p : Outcome) → o ≡ p → o.status ≡ p.status
+pub status_of : (o p : Outcome) → o ≡ p → o.status ≡ p.status
 status_of o p same = ap (λ (x : Outcome). x.status) same
 
 text_of : (o p : Outcome) → o ≡ p → o.text ≡ p.text
@@ -72,11 +70,6 @@ image_zero bytes o (misread number offset fault same) zero = let four = status_o
 image_zero bytes o (invalid raw fault held first same) zero = let four = status_of o _ same in absurd (omega (arith, four, zero))
 
 -- ---- the run of a script is one to both
-
-same_lines : (lines : List ScriptLine) → map machine_line (map line_said lines) ≡ lines_of lines
-same_lines [] = refl
-same_lines (Set tick dev value ∷ lines) = ap (λ ls. machine_line (line_said (Set tick dev value)) ∷ ls) (same_lines lines)
-same_lines (Occur tick event ∷ lines) = ap (λ ls. machine_line (line_said (Occur tick event)) ∷ ls) (same_lines lines)
 
 same_run : (lines : List ScriptLine) (end : ℕ) → run_of lines end ≡ script_with lines end
 same_run lines end = ap (λ ls. record { lines = ls; end_tick = end }) (same_lines lines)

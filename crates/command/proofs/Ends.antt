@@ -1,5 +1,5 @@
 -- How a call of `make` ends.
-use Rattle.std.proofs.Common.{◌≡◌, ◌≢◌, ◌≤◌, ◌⊎◌, ◌∙◌, ℕ, Bool, true, false, List, Option, Some, inl, inr, refl, sym, ap, arith}
+use Rattle.std.proofs.Common.{◌≡◌, ◌≢◌, ◌⊎◌, ◌∙◌, ℕ, Bool, true, false, List, Option, Some, inl, inr, refl, sym, ap}
 use Rattle.std.specs.Bool.{OnTrue}
 use Rattle.outside.specs.Outside.{FilesState, SinkState, Outside, outside, OthersStay, NoneFell, Rose, AppendsFront}
 use Rattle.command_words.specs.Calls.{Load}
@@ -10,6 +10,7 @@ use Rattle.command.specs.Made.{HasProgram, HasTexts, KeepsOthers, ProgramFailed,
 use Rattle.command.specs.declared.summing.Texts.{Texts}
 use Rattle.command.specs.Texts.{AreTextsOf}
 use Rattle.command.specs.Steps.{HasScript, GoesOn}
+use Rattle.command_answers.proofs.Held.{rose_since}
 
 -- ---- what is said where the files tell theirs
 
@@ -24,10 +25,6 @@ told false f p = tt
 both : (tells : Bool) {P Q R : Type 0} → (P → Q → R) → OnTrue tells P → OnTrue tells Q → OnTrue tells R
 both true f p q = f p q
 both false f p q = tt
-
--- a count that rose since a later state rose since an earlier one
-rose_since : (before then now : ℕ) → before ≤ then → Rose then now → Rose before now
-rose_since before then now less rose = omega (arith, less, rose)
 
 -- ---- the whole call
 

@@ -1,5 +1,5 @@
 -- Status 3 comes exactly where a recurrence has no solution.
-use Rattle.std.proofs.Common.{◌≡◌, ◌<◌, ◌∙◌, ℕ, List, Option, Some, None, Bool, true, false, refl, sym, subst, ap, arith}
+use Rattle.std.proofs.Common.{◌≡◌, ◌<◌, ◌∙◌, ℕ, List, Option, Some, None, Bool, true, false, refl, sym, subst, arith}
 use Rattle.std.specs.Prelude.{◌↔◌, IsSomeAnd}
 use Rattle.std.specs.Bool.{OnTrue}
 use Rattle.outside.specs.Outside.{Outside}
@@ -29,9 +29,7 @@ use Rattle.command_due_law.specs.DueOnce.{WrittenOrFaulty, WrittenOnce}
 use Rattle.command_answers.specs.Files.{IsDue}
 use Rattle.command_answers.specs.Went.{IsWhole, Went}
 use Rattle.command_answers.specs.Promise.{IsRefusedForTime, IsUnmet}
-
-status_of : (o p : Outcome) → o ≡ p → o.status ≡ p.status
-status_of o p same = ap (λ (x : Outcome). x.status) same
+use Rattle.command.proofs.Done.{status_of}
 
 -- ---- a refusal with 3 is one for time
 

@@ -13,10 +13,7 @@ use Rattle.command_answers.specs.Acts.{number_of, outcome_of, bytes_due, IsAtTar
 use Rattle.command_answers.specs.Went.{IsAnswer, IsStored, Stores, IsWhole, WriteFailed, PutFailed, IsCut, Went}
 use Rattle.command_answers.specs.Prepared.{IsPrepared, ReadsFailed}
 use Rattle.command_perform.specs.Performed.{StoresIt, OthersKept, StoreFailed, Performed}
-
--- a count that rose since a later state rose since an earlier one
-rose_since : (before then now : ℕ) → before ≤ then → Rose then now → Rose before now
-rose_since before then now less rose = omega (arith, less, rose)
+use Rattle.command_answers.proofs.Held.{rose_since}
 
 stay_since : (b m n : Held) → AllStay b m → AllStay m n → AllStay b n
 stay_since b m n one two name = two name ∙ one name

@@ -17,8 +17,9 @@ use Rattle.command_due.specs.Waits.{IsFirstWait, WaitFails}
 use Rattle.command_due.specs.Report.{edf_report}
 use Rattle.command_due.specs.EdfDue.{IsJudgedText, IsFeasibleText, IsUnfit, edf_log, IsEdfDue, edf_faulty, edf_waits, edf_unfit, edf_bad_script, edf_ran}
 use Rattle.command_due_law.specs.EdfDueOnce.{AnswersAreOne, EdfImagesAreOne, EdfIsOne}
-use Rattle.command_due_law.proofs.EdfDueOnceFirsts.{one_first}
-use Rattle.command_due_law.proofs.EdfDueOnceScripts.{Played, faulty_script, played, played_once, text_once}
+use Rattle.command_due_law.proofs.Texts.{same_line}
+use Rattle.command_due_law.proofs.DueOnceFirsts.{one_first}
+use Rattle.command_due_law.proofs.DueOnceScripts.{text_once, Played, faulty_script, played, played_once}
 
 -- what comes of a script that is one
 abbrev comes : NamedImage → ℕ → List ScriptLine → ℕ → Outcome
@@ -40,9 +41,6 @@ split program script outcome (edf_waits text g place held written first is) = re
 split program script outcome (edf_unfit text n answer held judged unfit is) = refused text held (by_demand n answer judged unfit is)
 split program script outcome (edf_bad_script text other n points fault held fits script_held bad is) = fit text n points held fits (faulty_script other fault script_held bad.is is)
 split program script outcome (edf_ran text other n points lines end held fits script_held script_is is) = fit text n points held fits (played other lines end script_held script_is is)
-
-same_line : (number other : ℕ) (place there : Place) → (number ≡ other) × (place ≡ there) → fault_line number place ≡ fault_line other there
-same_line number other place there same = ap (λ (n : ℕ). fault_line n place) same.0 ∙ ap (λ (p : Place). fault_line other p) same.1
 
 feasible_same : (n k : ℕ) → judgement.Feasible n ≡ judgement.Feasible k → n ≡ k
 feasible_same n k same = cc

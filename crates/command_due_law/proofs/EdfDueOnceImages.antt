@@ -1,19 +1,14 @@
 -- The image of a program with deadlines for bounds is one.
-use Rattle.std.proofs.Common.{◌≡◌, ℕ, List, Option, Some, map, ap, sym, ◌∙◌}
+use Rattle.std.proofs.Common.{◌≡◌, ℕ, List, Some, map, ap, sym, ◌∙◌}
 use Rattle.std.specs.Prelude.{slice_get}
+use Rattle.base.proofs.Lists.{same_elements}
 use Rattle.machine_semantics.specs.Image.{Image, Process}
 use Rattle.built_image.specs.Filled.{without_bound, without_bounds}
-use Rattle.command_due_law.proofs.Elements.{same_elements}
 use Rattle.built_image_law.proofs.Lists.{as_many, same_at}
 use Rattle.built_image_law.specs.FilledLaws.{ShapesAgree}
 use Rattle.command_due.specs.Image.{HasDeadlinesAsBounds}
 use Rattle.command_due_law.specs.EdfDueOnce.{EdfImagesAreOne}
-
-one_process : (p q : Process) → without_bound p ≡ without_bound q → p.bound ≡ q.bound → p ≡ q
-one_process p q alike bounds = ap (λ (x : Process). record x { bound = p.bound }) alike ∙ ap (λ (b : ℕ). record q { bound = b }) bounds
-
-found : {A : Type 0} (o : Option A) (x y : A) → o ≡ Some x → o ≡ Some y → x ≡ y
-found o x y one two = cc
+use Rattle.built_image_law.proofs.Images.{one_process, found}
 
 module _ (m n : Image) (same : without_bounds m ≡ without_bounds n) (due : HasDeadlinesAsBounds m) (due_too : HasDeadlinesAsBounds n) where
   become_same : map without_bound m.processes ≡ map without_bound n.processes

@@ -2,13 +2,13 @@
 use Rattle.std.proofs.Common.{◌≡◌, ◌∙◌, inl, inr, ℕ, List, refl, sym, ap, subst, arith}
 use Rattle.std.proofs.lemmas.Bool.{cases_lt}
 use Rattle.base.specs.Capped.{cap}
-use Rattle.compile_schedule.proofs.NoFault.{no_rank_fault}
 use Rattle.sched_demand.specs.declared.tasks.DTask.{DTask}
 use Rattle.sched_demand.specs.declared.judging.Judgement.{Judgement}
 use Rattle.sched_demand.specs.declared.judging.Judgement.TheVariants as judgement
 use Rattle.sched_demand.specs.Demand.{demand_at, IsJudged, IsLate, IsReach}
 use Rattle.command_due_law.specs.EdfDueOnce.{AnswersAreOne}
 use Rattle.command_due_law.proofs.Listed.{one_list}
+use Rattle.code_measures.proofs.Valid.{no_rank_fault}
 
 -- the first late point is one
 same_point : (ts : List DTask) (reach at other demand asked : ℕ) → IsLate ts reach at demand → IsLate ts reach other asked → at ≡ other

@@ -1,16 +1,13 @@
 mod DueOnceFirsts
-mod Texts
+pub mod Texts
 mod DueOnceImages
-mod DueOnceScripts
+pub mod DueOnceScripts
 mod Commands
 mod Spares
 pub mod Told
 pub mod Stops
 mod Due
-mod Elements
-mod EdfDueOnceFirsts
 mod EdfDueOnceImages
 mod Judged
 mod Listed
-mod EdfDueOnceScripts
 mod Words

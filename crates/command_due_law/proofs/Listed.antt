@@ -1,21 +1,16 @@
 -- The tasks that an image asks for are one list.
-use Rattle.std.proofs.Common.{◌≡◌, ◌≤◌, ◌<◌, ◌-◌, ◌∙◌, ◌⊎◌, inl, inr, ℕ, zero, suc, true, false, List, [], ◌∷◌, length, Option, Some, None, refl, sym, ap, subst, arith}
+use Rattle.std.proofs.Common.{◌≡◌, ◌≤◌, ◌<◌, ◌-◌, ◌∙◌, ◌⊎◌, inl, inr, ℕ, zero, suc, List, [], ◌∷◌, length, Option, Some, None, refl, sym, ap, subst, arith}
 use Rattle.std.specs.Prelude.{nat_eq, slice_get}
-use Rattle.std.proofs.lemmas.Bool.{cases_Bool, cases_lt}
-use Rattle.std.proofs.lemmas.Bool.Decides.{nat_tests}
-use Rattle.std.proofs.lemmas.Option.{get_or_from_slice_get, slice_get_within}
+use Rattle.std.proofs.lemmas.Bool.{cases_Bool, cases_lt, eqb-true, eqb-false}
+use Rattle.std.proofs.lemmas.Option.{get_or_from_slice_get, slice_get_within, same_Some}
+use Rattle.base.proofs.Lists.{some_at, same_elements}
 use Rattle.machine_semantics.specs.Image.{Image, Process}
 use Rattle.sched_table.proofs.Onto.{onto}
 use Rattle.valid_image.specs.Times.{rank_fault}
-use Rattle.valid_image_law.proofs.Firsts.{some_at}
 use Rattle.valid_image_law.proofs.Ranking.{ranked, one_each}
-use Rattle.command_due_law.proofs.Elements.{same_elements}
 use Rattle.sched_demand.specs.declared.tasks.DTask.{DTask}
 use Rattle.sched_demand.specs.Demand.{task_at}
 use Rattle.command_due.specs.Tasks.{AreDemands}
-
-some_same : {A : Type 0} (x y : A) → Some x ≡ Some y → x ≡ y
-some_same x y e = cc
 
 abbrev rank_some : Option Process → ℕ
 rank_some None = 0
@@ -61,13 +56,13 @@ NoneHas d ps = (j : ℕ) (p : Process) → slice_get ps j ≡ Some p → p.deadl
 within : (d rank : ℕ) (p : Process) (ps : List Process) → (p.deadline ≡ d → p.rank ≤ rank) → ((j : ℕ) (x : Process) → slice_get ps j ≡ Some x → x.deadline ≡ d → x.rank ≤ rank)
     → (j : ℕ) (x : Process) → slice_get (p ∷ ps) j ≡ Some x → x.deadline ≡ d → x.rank ≤ rank
 within d rank p ps here rest zero x at due =
-    let same : p ≡ x = some_same p x at in
+    let same : p ≡ x = same_Some p x at in
     let low : p.rank ≤ rank = here (ap (λ (y : Process). y.deadline) same ∙ due) in
     omega (arith, low, ap (λ (y : Process). y.rank) same)
 within d rank p ps here rest (suc j) x at due = rest j x at due
 
 none_more : (d : ℕ) (p : Process) (ps : List Process) → (p.deadline ≡ d → ⊥) → NoneHas d ps → NoneHas d (p ∷ ps)
-none_more d p ps here rest zero x at due = here (ap (λ (y : Process). y.deadline) (some_same p x at) ∙ due)
+none_more d p ps here rest zero x at due = here (ap (λ (y : Process). y.deadline) (same_Some p x at) ∙ due)
 none_more d p ps here rest (suc j) x at due = rest j x at due
 
 is_first : (d : ℕ) (p : Process) (ps : List Process) → p.deadline ≡ d → ((j : ℕ) (x : Process) → slice_get ps j ≡ Some x → x.deadline ≡ d → x.rank ≤ p.rank) → Last d (p ∷ ps)
@@ -76,25 +71,19 @@ is_first d p ps due rest = record { k = 0; q = p; at = refl; due = due; last = w
 is_later : (d : ℕ) (p : Process) (ps : List Process) (l : Last d ps) → (p.deadline ≡ d → p.rank ≤ l.q.rank) → Last d (p ∷ ps)
 is_later d p ps l here = record { k = suc l.k; q = l.q; at = l.at; due = l.due; last = within d l.q.rank p ps here l.last }
 
-has : (a b : ℕ) → nat_eq a b ≡ true → a ≡ b
-has a b is = grind (arith, nat_tests, is)
-
-has_not : (a b : ℕ) → nat_eq a b ≡ false → a ≡ b → ⊥
-has_not a b is same = absurd (grind (arith, nat_tests, is, same))
-
 none_or_last : (d : ℕ) (ps : List Process) → NoneHas d ps ⊎ Last d ps
 none_or_last d [] = inl (λ j p at due. absurd cc)
 none_or_last d (p ∷ ps) = elim (cases_Bool (nat_eq p.deadline d)) [
   | inl hit ↦ elim (none_or_last d ps) [
-    | inl none ↦ inr (is_first d p ps (has p.deadline d hit) (λ j x at due. absurd (none j x at due)))
+    | inl none ↦ inr (is_first d p ps (eqb-true p.deadline d hit) (λ j x at due. absurd (none j x at due)))
     | inr l ↦ elim (cases_lt p.rank l.q.rank) [
       | inl less ↦ inr (is_later d p ps l (λ e. omega (arith, less)))
-      | inr more ↦ inr (is_first d p ps (has p.deadline d hit) (λ j x at due. let low = l.last j x at due in omega (arith, low, more)))
+      | inr more ↦ inr (is_first d p ps (eqb-true p.deadline d hit) (λ j x at due. let low = l.last j x at due in omega (arith, low, more)))
     ]
   ]
   | inr miss ↦ elim (none_or_last d ps) [
-    | inl none ↦ inl (none_more d p ps (has_not p.deadline d miss) none)
-    | inr l ↦ inr (is_later d p ps l (λ e. absurd (has_not p.deadline d miss e)))
+    | inl none ↦ inl (none_more d p ps (eqb-false p.deadline d miss) none)
+    | inr l ↦ inr (is_later d p ps l (λ e. absurd (eqb-false p.deadline d miss e)))
   ]
 ]
 

@@ -1,26 +1,18 @@
 -- What the processes of an image can spare is told by one text.
-use Rattle.std.proofs.Common.{◌≡◌, ◌≤◌, ◌<◌, ◌+◌, ◌-◌, ◌∙◌, inl, inr, ℕ, suc, List, [], ◌∷◌, Some, length, refl, sym, ap, subst, arith}
+use Rattle.std.proofs.Common.{◌≡◌, ◌≤◌, ◌<◌, ◌+◌, ◌-◌, ◌∙◌, inl, inr, ℕ, List, Some, length, sym, ap, subst, arith}
 use Rattle.std.specs.Prelude.{slice_get}
 use Rattle.std.specs.List.{concat}
 use Rattle.std.proofs.lemmas.Bool.{cases_lt}
 use Rattle.std.proofs.lemmas.Option.{slice_get_within}
+use Rattle.base.proofs.Lists.{same_elements, some_at}
 use Rattle.machine_semantics.specs.Image.{Process}
 use Rattle.image.specs.Named.{NamedImage}
 use Rattle.sched_response.specs.declared.tasks.Task.{Task}
-use Rattle.sched_response.specs.Demand.{IsBound}
 use Rattle.valid_image.specs.Tasks.{process_at, tasks_of}
 use Rattle.sched_slack.specs.Slack.{with_more, IsFirstFailing, IsSlack}
 use Rattle.command_due.specs.Lines.{name_at, slack_line, AreLeastBounds, IsSlackLine, IsSlackText}
-use Rattle.valid_image_law.proofs.Firsts.{some_at}
 use Rattle.command_due_law.specs.DueOnce.{SlackTextsAreOne}
-
-same_elements : {A : Type 0} (xs ys : List A) → length xs ≡ length ys → ((k : ℕ) (x y : A) → slice_get xs k ≡ Some x → slice_get ys k ≡ Some y → x ≡ y) → xs ≡ ys
-same_elements [] [] long each = refl
-same_elements [] (y ∷ ys) long each = absurd (omega (arith, long))
-same_elements (x ∷ xs) [] long each = absurd (omega (arith, long))
-same_elements (x ∷ xs) (y ∷ ys) long each =
-    let rest : length xs ≡ length ys = omega (arith, long) in
-    ap (λ z. z ∷ xs) (each 0 x y refl refl) ∙ ap (λ zs. y ∷ zs) (same_elements xs ys rest (λ k a b at there. each (suc k) a b at there))
+use Rattle.built_image_law.proofs.Bounds.{one_bound}
 
 -- the greatest number of ticks is one
 one_extra : (ts : List Task) (level x y : ℕ) → IsSlack ts level x → IsSlack ts level y → x ≡ y
@@ -35,12 +27,6 @@ one_failing ts f g one two = elim (cases_lt f g) [
   | inl less ↦ absurd (let solved = two.before f less in one.fails solved.0 solved.1)
   | inr more ↦ elim (cases_lt g f) [ inl less ↦ absurd (let solved = one.before g less in two.fails solved.0 solved.1) | inr le ↦ omega (arith, more, le) ]
 ]
-
-one_bound : (ts : List Task) (level r s : ℕ) → IsBound ts level r → IsBound ts level s → r ≡ s
-one_bound ts level r s one two =
-    let low : r ≤ s = one.least s two.solves in
-    let high : s ≤ r = two.least r one.solves in
-    omega (arith, low, high)
 
 one_bounds : (ps : List Process) (ts : List Task) (bounds others : List ℕ) → AreLeastBounds ps ts bounds → AreLeastBounds ps ts others → bounds ≡ others
 one_bounds ps ts bounds others one two = same_elements bounds others (one.one_each ∙ sym two.one_each) each_is_one where

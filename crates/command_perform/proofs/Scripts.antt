@@ -12,7 +12,7 @@ same_line : (line : ScriptLine) → lifted.line_of (line_said line) ≡ line_of 
 same_line (Set tick dev value) = refl
 same_line (Occur tick event) = refl
 
-same_lines : (lines : List ScriptLine) → map lifted.line_of (map line_said lines) ≡ lines_of lines
+pub same_lines : (lines : List ScriptLine) → map lifted.line_of (map line_said lines) ≡ lines_of lines
 same_lines [] = refl
 same_lines (line ∷ lines) =
     ap (λ (l : Line). l ∷ map lifted.line_of (map line_said lines)) (same_line line)

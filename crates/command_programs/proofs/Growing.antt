@@ -2,7 +2,7 @@
 use Rattle.std.proofs.Common.{◌≡◌, ◌≤◌, ◌<◌, ◌+◌, ◌-◌, ◌++◌, ◌∙◌, ℕ, suc, List, [], ◌∷◌, Some, Ok, Err, length, map, refl, sym, ap, subst, arith, append-nil, append_assoc}
 use Rattle.std.specs.Prelude.{Result, OnOk, slice_get, slice_index_or}
 use Rattle.std.specs.List.{concat}
-use Rattle.std.proofs.Math.ListN.{length-append}
+use Rattle.base.proofs.Lists.{one_longer}
 use Rattle.machine_semantics.specs.Image.{Process}
 use Rattle.image.specs.Named.{NamedImage}
 use Rattle.image.specs.Raw.{image_of, named_of, process_of}
@@ -17,9 +17,6 @@ use Rattle.built_image_law.specs.Filled.{Each}
 use Rattle.built_image_law.proofs.Lists.{each_more, none_yet}
 use Rattle.command_due.specs.Lines.{name_at, slack_line, AreLeastBounds, IsSlackLine, IsSlackText}
 use Rattle.command_programs.specs.Levels.{AddsLine}
-
-one_longer : {A : Type 0} (old new : List A) (x : A) (i : ℕ) → length old ≡ i → new ≡ old ++ x ∷ [] → length new ≡ i + 1
-one_longer {A} old new x i long grown = ap (λ (xs : List A). length xs) grown ∙ (length-append old (x ∷ []) ∙ ap (λ n. n + 1) long)
 
 -- ---- bounds
 

@@ -4,11 +4,11 @@ use Rattle.std.specs.Prelude.{slice_get}
 use Rattle.std.proofs.lemmas.List.{get_or-set_same}
 use Rattle.std.proofs.lemmas.List.Elements.{All-get_or}
 use Rattle.std.proofs.lemmas.Option.{slice_get-get_or}
+use Rattle.base.proofs.Lists.{map_get, some_at}
 use Rattle.machine_semantics.specs.Image.{Image, Process}
 use Rattle.image.specs.Raw.{image_of, process_of}
 use Rattle.image.specs.declared.raw.RawImage.{RawImage}
 use Rattle.image.specs.declared.raw.RawProc.{RawProc}
-use Rattle.built_image_law.proofs.Lists.{became}
 use Rattle.sched_response.specs.declared.tasks.Task.{Task}
 use Rattle.sched_response.specs.Demand.{task_at, deadline_at, AreTasks, IsTask, Solves}
 use Rattle.sched_slack.specs.Slack.{with_more, IsTimely}
@@ -19,7 +19,6 @@ use Rattle.valid_image.specs.Tasks.{tasks_of}
 use Rattle.valid_image.specs.Times.{rank_fault}
 use Rattle.valid_image.specs.Valid.{HasLimits, IsValid, Ranks}
 use Rattle.valid_image_law.specs.ValidLaw.{ValidMeetsPremises}
-use Rattle.valid_image_law.proofs.Firsts.{some_at}
 use Rattle.valid_image_law.proofs.Ranking.{ranked, one_each}
 use Rattle.loader.proofs.InOrder.{are_tasks, tasks_long}
 use Rattle.command_programs.specs.Levels.{AreTimelyTasks, HaveLevels}
@@ -84,7 +83,7 @@ levels_more ps ts level extra levels k p at = omega (arith, levels k p at, lengt
 -- ---- the process of a number
 
 pub became_at : (ps : List RawProc) (k : ℕ) (p : RawProc) → k < length ps → p ≡ get_or ps k p → slice_get (map process_of ps) k ≡ Some (process_of p)
-became_at ps k p low at = became process_of ps k p (slice_get-get_or ps k p low ∙ ap (λ (x : RawProc). Some x) (sym at))
+became_at ps k p low at = map_get process_of ps k p (slice_get-get_or ps k p low ∙ ap (λ (x : RawProc). Some x) (sym at))
 
 pub level_at : (ps : List RawProc) (ts : List Task) (k level : ℕ) (p : RawProc) → HaveLevels (map process_of ps) ts → k < length ps → p ≡ get_or ps k p → level ≡ p.rank - 1 → level < length ts
 level_at ps ts k level p levels low at rank =
@@ -94,7 +93,7 @@ level_at ps ts k level p levels low at rank =
 pub process_there : (image : RawImage) (ps : List RawProc) (k : ℕ) (p : RawProc) → ps ≡ image.processes → k < length ps → p ≡ get_or ps k p → slice_get (image_of image).processes k ≡ Some (process_of p)
 process_there image ps k p same low at =
     let there : k < length image.processes = omega (arith, low, ap (λ (xs : List RawProc). length xs) same) in
-    became process_of image.processes k p (slice_get-get_or image.processes k p there ∙ ap (λ (x : RawProc). Some x) (sym (at ∙ ap (λ (xs : List RawProc). get_or xs k p) same)))
+    map_get process_of image.processes k p (slice_get-get_or image.processes k p there ∙ ap (λ (x : RawProc). Some x) (sym (at ∙ ap (λ (xs : List RawProc). get_or xs k p) same)))
 
 -- ---- what is asked of the set, once it is as before
 

@@ -1,9 +1,10 @@
 -- The numbers of a checked program that keeps to the rules of size fit their fields.
 use Rattle.std.specs.Prelude.{All, Contains, slice_get, sum_by, int_le}
-use Rattle.std.proofs.Common.{◌≡◌, ◌≤◌, ◌<◌, ◌+◌, ◌⊎◌, ◌||◌, ◌&&◌, inl, inr, refl, subst, ℕ, zero, suc, Bool, true, false, ℤ, pos, negsuc, List, [], ◌∷◌, Option, Some, None, map, filter_map, arith}
-use Rattle.std.proofs.lemmas.Bool.{cases_lt, leb-true}
-use Rattle.std.proofs.lemmas.Option.{get_or_from_slice_get, slice_get_within}
+use Rattle.std.proofs.Common.{◌≡◌, ◌≤◌, ◌+◌, ◌⊎◌, ◌||◌, ◌&&◌, inl, inr, refl, subst, ℕ, zero, suc, Bool, true, false, ℤ, pos, negsuc, List, [], ◌∷◌, Option, Some, None, map, filter_map, arith}
+use Rattle.std.proofs.lemmas.Bool.{leb-true}
+use Rattle.std.proofs.lemmas.Option.{get_or_from_slice_get, slice_get_within, none-some, same_Some}
 use Rattle.std.proofs.lemmas.List.Sums.{sum_by-cons}
+use Rattle.base.proofs.Members.{front_or_behind, at_front, behind, none_in}
 use Rattle.base.specs.Words.{within}
 use Rattle.syntax_tree.specs.Placed.{Prog, Process, Decl, constant, device, event, routine, monitor, process, plain, plain_decl, plain_process, plain_routine}
 use Rattle.syntax_tree.specs.Parts.{processes as placed_processes}
@@ -16,53 +17,50 @@ use Rattle.code_cost_spec.specs.Levels.{code_length, stack_of_process}
 use Rattle.wellformed.specs.WellFormed.{IsHandled, IsWellFormed, OptionalFits, ProcessFits, vars_words}
 use Rattle.code_size.specs.Rules.{routine_stack, texts_from as placed_texts}
 use Rattle.code_size.specs.Told.{plain_text}
-use Rattle.code_size.proofs.Parts.{none_some, plain_texts, some_same}
-use Rattle.code_names_law.proofs.Lists.{contains_cases, contains_here, contains_later, nothing_in}
+use Rattle.code_size.proofs.Parts.{plain_texts}
 use Rattle.codegen_law.proofs.Counts.{one_low, words_same}
 use Rattle.checked_law.specs.Ready.{CheckedProgramsAreReady, IsReady}
 use Rattle.compile_image.specs.Fields.{AreExceptions, FitsHandler, monitors_words}
 use Rattle.compile.specs.Assembled.{CheckedProgramsFitFields, KeepsToSizes}
 use Rattle.compile.proofs.Made.{routine_parts, process_parts}
 use Rattle.compile.proofs.Owners.{owners-low}
-
-not-over : (m n : ℕ) → (m < n → ⊥) → n ≤ m
-not-over m n h = elim (cases_lt m n) [ inl less ↦ absurd (h less) | inr low ↦ low ]
+use Rattle.checked_law.proofs.SmallLemmas.{not_over}
 
 -- ---- texts
 
 unmapped : {X Y : Type 0} (f : X → Y) (xs : List X) (y : Y) → Contains (map f xs) y → (x : X) × Contains xs x × (f x ≡ y)
-unmapped f [] y c = absurd (nothing_in y c)
-unmapped {X} {Y} f (x ∷ xs) y c = by (λ h. unmapped f xs y h) (contains_cases (f x) y (map f xs) c)
+unmapped f [] y c = absurd (none_in y c)
+unmapped {X} {Y} f (x ∷ xs) y c = by (λ h. unmapped f xs y h) (front_or_behind (f x) (map f xs) y c)
   where
     by : (Contains (map f xs) y → (z : X) × Contains xs z × (f z ≡ y)) → (f x ≡ y) ⊎ Contains (map f xs) y → (z : X) × Contains (x ∷ xs) z × (f z ≡ y)
-    by rest (inl e) = (x, contains_here x xs, e)
-    by rest (inr h) = let d = rest h in (d.0, contains_later x d.0 xs d.1, d.2)
+    by rest (inl e) = (x, at_front x xs, e)
+    by rest (inr h) = let d = rest h in (d.0, behind x xs d.0 d.1, d.2)
 
 text-small : (g : Prog Place) → KeepsToSizes g → (t : Text) → Contains (texts_from 0 0 (plain g).decls) t → routine_words (plain g) t.routine ≤ 4096
 text-small g sizes t listed =
     let d = unmapped plain_text (placed_texts 0 0 g.decls) t (subst (λ ts. Contains ts t) (plain_texts 0 0 g.decls) listed) in
     let low : routine_stack (plain g) d.0.owner (plain_routine d.0.routine) ≤ 4096 =
-    not-over 4096 (routine_stack (plain g) d.0.owner (plain_routine d.0.routine)) (λ over. sizes 47 d.0.routine.place (inr (refl, inl (record { text = d.0; listed = d.1; is = refl; over = over })))) in
+    not_over 4096 (routine_stack (plain g) d.0.owner (plain_routine d.0.routine)) (λ over. sizes 47 d.0.routine.place (inr (refl, inl (record { text = d.0; listed = d.1; is = refl; over = over })))) in
     let words : routine_words (plain g) (plain_text d.0).routine ≤ 4096 = omega (arith, low) in
     subst (λ u. routine_words (plain g) u.routine ≤ 4096) d.2 words
 
 -- ---- processes
 
 placed-at : (ds : List (Decl Place)) (k : ℕ) (p : plain_of.Process) → slice_get (filter_map process_in (map plain_decl ds)) k ≡ Some p → (q : Process Place) × (slice_get (placed_processes ds) k ≡ Some q) × (plain_process q ≡ p)
-placed-at [] k p e = absurd (none_some p e)
+placed-at [] k p e = absurd (none-some p e)
 placed-at (constant n q c ∷ ds) k p e = placed-at ds k p e
 placed-at (device n q o ∷ ds) k p e = placed-at ds k p e
 placed-at (event n q ∷ ds) k p e = placed-at ds k p e
 placed-at (routine r ∷ ds) k p e = placed-at ds k p e
 placed-at (monitor d ∷ ds) k p e = placed-at ds k p e
-placed-at (process q ∷ ds) zero p e = (q, refl, some_same (plain_process q) p e)
+placed-at (process q ∷ ds) zero p e = (q, refl, same_Some (plain_process q) p e)
 placed-at (process q ∷ ds) (suc k) p e = placed-at ds k p e
 
 process-small : (g : Prog Place) → KeepsToSizes g → (n : ℕ) (p : plain_of.Process) → slice_get (processes (plain g)) n ≡ Some p → stack_of_process (plain g) n p ≤ 4096
 process-small g sizes n p there =
     let d = placed-at g.decls n p there in
     let low : stack_of_process (plain g) n (plain_process d.0) ≤ 4096 =
-    not-over 4096 (stack_of_process (plain g) n (plain_process d.0)) (λ over. sizes 47 d.0.place (inr (refl, inr (record { number = n; text = d.0; listed = d.1; is = refl; over = over })))) in
+    not_over 4096 (stack_of_process (plain g) n (plain_process d.0)) (λ over. sizes 47 d.0.place (inr (refl, inr (record { number = n; text = d.0; listed = d.1; is = refl; over = over })))) in
     subst (λ q. stack_of_process (plain g) n q ≤ 4096) d.2 low
 
 either : (a b c d : Bool) → (a && b) || (c && d) ≡ true → (b ≡ true) ⊎ (d ≡ true)
@@ -109,7 +107,7 @@ fits-fields all_ready g checked sizes =
     let p : plain_of.Prog = plain g in
     let ready : IsReady p = all_ready g checked in
     let formed : IsWellFormed p = ready.formed in
-    let low : code_length p ≤ 65535 = not-over 65535 (code_length p) (λ over. sizes 46 g.place (inl (refl, record { is = refl; over = over }))) in
+    let low : code_length p ≤ 65535 = not_over 65535 (code_length p) (λ over. sizes 46 g.place (inl (refl, record { is = refl; over = over }))) in
     record {
       few_monitors = formed.counts_fit.few_monitors;
       few_events = formed.counts_fit.few_events;

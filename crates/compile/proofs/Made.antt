@@ -1,6 +1,7 @@
 -- What is made of a program has a part for each text, and each part begins within the code.
 use Rattle.std.proofs.Common.{◌≡◌, ◌≤◌, ◌+◌, ◌∙◌, sym, ap, subst, refl, ℕ, zero, suc, List, [], ◌∷◌, ◌++◌, length, append_assoc, append-nil, arith}
 use Rattle.std.specs.Prelude.{Option, Some, None, is_some, option_map, slice_get, unwrap_or}
+use Rattle.std.proofs.lemmas.List.{length-append}
 use Rattle.syntax_tree.specs.Plain.{Handler, Process, Prog}
 use Rattle.source_semantics.specs.Names.{processes}
 use Rattle.machine_isa.specs.declared.instr.Instr.{Instr}
@@ -20,7 +21,6 @@ use Rattle.codegen_spec.specs.declared.code.ProcessParts.{ProcessParts}
 use Rattle.codegen_spec.specs.declared.code.Code.{Code}
 use Rattle.codegen_spec.specs.Made.{push, stmts_out}
 use Rattle.codegen_spec.specs.Parts.{opened, ended, handler_out, part_of, return_of, text_made, texts_made, process_made, processes_made, nothing_made, program_made}
-use Rattle.codegen_law.proofs.Lists.{length_more}
 use Rattle.codegen_law.proofs.Growth.{Grows}
 use Rattle.codegen_law.proofs.Segments.{stmts_grows}
 use Rattle.codegen_law.proofs.Routines.{whole_out, routine_long}
@@ -114,7 +114,7 @@ module _ (g : Prog) where
       let c : Scope = process_scope g n p in
       let grows : Grows ⊥ (stmts_out g c p.body) (stmts_segs g c p.body) (stmts_length g (process_names g n p) p.body) =
       stmts_grows g ⊥ (λ z. absurd z) may p.body c c None (process_names g n p) (alike g c) (sees g c) (λ z. absurd z) sound.0 in
-      length_more (body_of g n p k).code (i.End ∷ []) ∙ ap (λ l. l + 1) (grows.longer (opened 0 k))
+      length-append (body_of g n p k).code (i.End ∷ []) ∙ ap (λ l. l + 1) (grows.longer (opened 0 k))
 
   handler_begins : (may : Text → Type 0) (n : ℕ) (p : Process) (k : List Instr) → SoundProcess g may n p → length k + process_length g (process_names g n p) p ≤ 65535 → HandlerBegins (parts_of g n p k).handler
   handler_begins may n p k sound low = by p.handler

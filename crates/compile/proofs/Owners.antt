@@ -1,12 +1,12 @@
 -- The numbers of the owners of routines are those of processes and monitors.
 use Rattle.std.specs.Prelude.{Contains}
 use Rattle.std.proofs.Common.{◌≡◌, ◌≤◌, ◌+◌, ◌⊎◌, inl, inr, subst, ℕ, suc, List, [], ◌∷◌, ◌++◌, length, filter_map, arith}
+use Rattle.base.proofs.Members.{front_or_behind, none_in}
 use Rattle.syntax_tree.specs.Plain.{Routine, Decl, constant, device, event, routine, monitor, process, Prog}
 use Rattle.source_semantics.specs.Names.{monitor_in, monitors, process_in, processes}
 use Rattle.code_spec.specs.Layout.{Owner, by_process, by_monitor}
 use Rattle.code_spec.specs.Numbering.{Text, texts_of, texts_from}
 use Rattle.code_spec.specs.Compiled.{owner_number}
-use Rattle.code_names_law.proofs.Lists.{contains_cases, nothing_in}
 
 abbrev IsLow : Text → Type 0
 IsLow t = owner_number t.owner ≤ 65535
@@ -33,8 +33,8 @@ all-low k m (device n is_out ∷ ds) a b = all-low k m ds a b
 all-low k m (event n ∷ ds) a b = all-low k m ds a b
 
 of-each : (ts : List Text) (t : Text) → AreLow ts → Contains ts t → IsLow t
-of-each [] t low c = absurd (nothing_in t c)
-of-each (u ∷ us) t low c = by (λ h. of-each us t low.1 h) (contains_cases u t us c)
+of-each [] t low c = absurd (none_in t c)
+of-each (u ∷ us) t low c = by (λ h. of-each us t low.1 h) (front_or_behind u us t c)
   where
     by : (Contains us t → IsLow t) → (u ≡ t) ⊎ Contains us t → IsLow t
     by rest (inl e) = subst (λ v. IsLow v) e low.0

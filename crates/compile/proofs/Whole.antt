@@ -1,6 +1,6 @@
 -- The bounds of all loops of a program that is well formed.
-use Rattle.std.specs.Prelude.{All}
-use Rattle.std.proofs.Common.{◌≡◌, ◌≤◌, ℕ, zero, suc, List, [], ◌∷◌, length, Option, Some, None, slice_get, refl, ap, subst, arith}
+use Rattle.std.proofs.Common.{◌≡◌, ◌≤◌, ℕ, List, [], ◌∷◌, length, Option, Some, None, slice_get, refl, ap, arith}
+use Rattle.base.proofs.Lists.{one_of}
 use Rattle.syntax_tree.specs.Plain.{Routine, Handler, Monitor, Process, Prog}
 use Rattle.syntax_tree.specs.Placed as placed
 use Rattle.syntax_tree.specs.Placed.{plain}
@@ -12,17 +12,11 @@ use Rattle.code_spec.specs.Layout.{by_program, by_process, by_monitor}
 use Rattle.code_spec.specs.Numbering.{Text, numbered}
 use Rattle.wellformed.specs.Here.{in_routine, in_process}
 use Rattle.wellformed.specs.WellFormed.{RoutineFits, ProcessFits, OptionalFits, IsWellFormed}
-use Rattle.codegen_law.proofs.Places.{first_of_all, rest_of_all}
 use Rattle.codegen_law.proofs.Reached.{OfEach, text_at, of_numbered}
 use Rattle.code_cost_law.specs.Measured.{AllBoundsFit}
 use Rattle.code_cost_law.specs.Defined.{HandlerLoopsFit}
 use Rattle.compile.specs.Loops.{WellFormedLoopsFit, CheckedLoopsFit}
 use Rattle.compile.proofs.Texts.{all_fit}
-
-one_of : {X : Type 0} (P : X → Type 0) (xs : List X) (j : ℕ) (x : X) → All P xs → slice_get xs j ≡ Some x → P x
-one_of P [] j x h e = absurd cc
-one_of P (y ∷ ys) zero x h e = let same : y ≡ x = cc in subst P same (first_of_all P y ys h)
-one_of P (y ∷ ys) (suc j) x h e = one_of P ys j x (rest_of_all P y ys h) e
 
 module _ (g : Prog) (form : IsWellFormed g) where
   abbrev LoopsOf : Text → Type 0

@@ -1,6 +1,7 @@
 -- The processes that are put into an image.
 use Rattle.std.proofs.Common.{◌≡◌, ◌∙◌, sym, ap, subst, refl, ℕ, zero, suc, List, [], ◌∷◌, length}
 use Rattle.std.specs.Prelude.{Option, Some, None, filter_map, is_some, option_map, slice_get}
+use Rattle.std.proofs.lemmas.Option.{same_Some as same}
 use Rattle.syntax_tree.specs.Plain.{Name, Activation, periodic, at_event, Handler, Process, Prog}
 use Rattle.base.specs.Capped.{cap}
 use Rattle.source_semantics.specs.Names.{deadline_of, event_in, frame_of, processes}
@@ -21,7 +22,6 @@ use Rattle.code_cost.specs.Sizes.{AreDefined, IsSizeOf}
 use Rattle.compile_image.specs.Fields.{Begin, FitsFields, FitsProcess, HasParts, HaveHandlers}
 use Rattle.compile_image.specs.Rows.{FitsSize, FitSizes, IsCapped}
 use Rattle.compile_image.specs.Told.{numbers_told, process_told, processes_told, release_told, start_told}
-use Rattle.compile_image.proofs.Rows.{same}
 use Rattle.compile_image.proofs.Costs.{dispatched, exact-held, first-low, is-capped, low-held, none-left, none-there, same-rest}
 
 size-fits : (g : Prog) (k : ℕ) (p : Process) (x : ProcessParts) (size : ProcessMeasure) → FitsProcess g k p → Begin x → IsSizeOf g k p size → FitsSize g p x size

@@ -1,6 +1,7 @@
 -- The routines that are put into an image.
 use Rattle.std.proofs.Common.{◌≡◌, ◌∙◌, sym, ap, subst, refl, ℕ, zero, suc, List, [], ◌∷◌, length}
 use Rattle.std.specs.Prelude.{Some, slice_get}
+use Rattle.std.proofs.lemmas.Option.{same_Some}
 use Rattle.syntax_tree.specs.Plain.{Prog}
 use Rattle.machine_semantics.specs.Image as image
 use Rattle.code_spec.specs.Layout.{count, routine_words, words_of, loops}
@@ -16,7 +17,6 @@ use Rattle.code_cost.specs.Sizes.{AreDefined, IsRowOf}
 use Rattle.compile_image.specs.Fields.{Begins, FitsFields, FitsText, HasParts}
 use Rattle.compile_image.specs.Rows.{FitsRow, FitRows, IsCapped}
 use Rattle.compile_image.specs.Told.{routine_told, routines_told}
-use Rattle.compile_image.proofs.Rows.{same}
 use Rattle.compile_image.proofs.Costs.{exact-held, first-of-three-low, is-capped, low-cap, low-held, none-left, none-there, same-rest}
 
 -- a row that is defined of a text that fits
@@ -89,7 +89,7 @@ found [] (x ∷ xs) rows fit r t y there is = absurd fit
 found (u ∷ ts) [] rows fit r t y there is = absurd fit
 found (u ∷ ts) (x ∷ xs) [] fit r t y there is = absurd fit
 found (u ∷ ts) (x ∷ xs) (k ∷ ks) fit zero t y there is =
-    record { part = x; row = k; known = refl; is = ap (λ v. routine_told v x k) (sym (same u t there)) ∙ same (routine_told u x k) y is }
+    record { part = x; row = k; known = refl; is = ap (λ v. routine_told v x k) (sym (same_Some u t there)) ∙ same_Some (routine_told u x k) y is }
 found (u ∷ ts) (x ∷ xs) (k ∷ ks) fit (suc r) t y there is =
     let d = found ts xs ks fit.1 r t y there is in
     record { part = d.part; row = d.row; known = d.known; is = d.is }

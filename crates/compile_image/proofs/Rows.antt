@@ -1,6 +1,5 @@
 -- Lists that are told one after the other: what is there at an index, and what is left behind it.
 use Rattle.std.proofs.Common.{◌≡◌, ◌≤◌, ◌<◌, ◌∙◌, sym, ap, subst, refl, ℕ, suc, ◌+◌, ◌++◌, List, [], ◌∷◌, length, map, drop, get_or, arith, append_assoc, append-nil}
-use Rattle.std.specs.Prelude.{Some, unwrap_or}
 use Rattle.std.specs.Borrow.{Bor}
 use Rattle.std.proofs.lemmas.List.{at_drop_all, drop-drop, drop_more, map-append}
 use Rattle.syntax_tree.specs.Plain.{Name, Process, Prog}
@@ -29,10 +28,6 @@ handlers-long [] [] h = refl
 handlers-long [] (x ∷ xs) h = absurd h
 handlers-long (p ∷ ps) [] h = absurd h
 handlers-long (p ∷ ps) (x ∷ xs) h = ap (λ n. suc n) (handlers-long ps xs h.1)
-
--- the same one is there
-pub same : {A : Type 0} (x y : A) → Some x ≡ Some y → x ≡ y
-same x y e = ap (λ o. unwrap_or o x) e
 
 -- ---- one more
 

@@ -2,7 +2,7 @@
 use Rattle.std.specs.Prelude.{◌≡◌, ◌<◌, ◌≤◌, ◌+◌, ◌++◌, ℕ, List, [], ◌∷◌, Option, length, map}
 use Rattle.std.proofs.Common.{refl, sym, ap, subst, ◌∙◌, take, get_or}
 use Rattle.std.proofs.lemmas.List.{take_all}
-use Rattle.std.proofs.Math.ListN.{length-append}
+use Rattle.base.proofs.Lists.{one_longer}
 use Rattle.machine_semantics.specs.Image.{Image, Process}
 use Rattle.image.specs.declared.raw.RawImage.{RawImage}
 use Rattle.image.specs.declared.raw.RawMon.{RawMon}
@@ -36,9 +36,6 @@ pub record BlockedSoFar (m : Image) (before : List RawProc) (i : ℕ) (now : Lis
   pub same : map but_block now ≡ map but_block (take i before)
   pub blocks : Each (λ k p. p.block ≡ needed_block m p.rank) now
   pub bounds : Each (λ k p. p.bound ≡ p.deadline) now
-
-one_longer : {A : Type 0} (old new : List A) (x : A) (i : ℕ) → length old ≡ i → new ≡ old ++ x ∷ [] → length new ≡ i + 1
-one_longer {A} old new x i long grown = ap (λ (xs : List A). length xs) grown ∙ (length-append old (x ∷ []) ∙ ap (λ n. n + 1) long)
 
 pub one_ranked : (m : Image) (before old new : List RawProc) (i : ℕ) (t : Times) (p q : RawProc) → i < length before → p ≡ get_or before i p → RankedSoFar m before i old
     → new ≡ old ++ q ∷ [] → process_of q ≡ timed t (process_of p) → t.rank ≡ rank_of m i → RankedSoFar m before (i + 1) new

@@ -3,7 +3,7 @@ use Rattle.std.specs.Prelude.{◌≡◌, ◌<◌, ◌≤◌, ◌+◌, ◌-◌, �
 use Rattle.std.proofs.Common.{refl, sym, ap, subst, ◌∙◌, arith, take, get_or}
 use Rattle.std.proofs.lemmas.List.{take_all, length-map}
 use Rattle.std.proofs.lemmas.Option.{slice_get-get_or, slice_get_within, get_or_from_slice_get}
-use Rattle.std.proofs.Math.ListN.{length-append}
+use Rattle.base.proofs.Lists.{one_longer, map_get}
 use Rattle.sched_response.specs.declared.tasks.Task.{Task}
 use Rattle.sched_response.specs.Demand.{deadline_at, IsBound}
 use Rattle.machine_semantics.specs.Image.{Image, Process}
@@ -17,7 +17,7 @@ use Rattle.built_image.specs.Shown.{AreLeast}
 use Rattle.compile_schedule.specs.declared.copies.Times.{Times}
 use Rattle.compile_schedule.specs.Ranking.{timed}
 use Rattle.built_image_law.specs.Filled.{Each}
-use Rattle.built_image_law.proofs.Lists.{through, became, each_mapped, each_more, none_yet, same_more}
+use Rattle.built_image_law.proofs.Lists.{through, each_mapped, each_more, none_yet, same_more}
 use Rattle.built_image_law.proofs.Tasks.{least_is_kept}
 use Rattle.compile_schedule.specs.Bounding.{but_bound, AreBounded, HasBounds, KeepsLeast}
 
@@ -41,15 +41,12 @@ pub record LeastSoFar (m : Image) (i : ℕ) (bounds : List (Option ℕ)) : Type 
   pub long : length bounds ≡ i
   pub each : Each (IsBoundOf m) bounds
 
-one_longer : {A : Type 0} (old new : List A) (x : A) (i : ℕ) → length old ≡ i → new ≡ old ++ x ∷ [] → length new ≡ i + 1
-one_longer {A} old new x i long grown = ap (λ (xs : List A). length xs) grown ∙ (length-append old (x ∷ []) ∙ ap (λ n. n + 1) long)
-
 pub one_bound : (image : RawImage) (ts : List Task) (i : ℕ) (old new : List (Option ℕ)) (p : RawProc) (b : Option ℕ) → i < length image.processes → p ≡ get_or image.processes i p → ts ≡ tasks_of (image_of image)
     → IsBoundAt ts (p.rank - 1) b → new ≡ old ++ b ∷ [] → LeastSoFar (image_of image) i old → LeastSoFar (image_of image) (i + 1) new
 one_bound image ts i old new p b low at tasks is grown so_far = record {
   long = one_longer old new b i so_far.long grown;
   each = each_more (IsBoundOf (image_of image)) old new i b so_far.long grown so_far.each (λ q there.
-      let here : slice_get (map process_of image.processes) i ≡ Some (process_of p) = became process_of image.processes i p (slice_get-get_or image.processes i p low ∙ ap (λ x. Some x) (sym at)) in
+      let here : slice_get (map process_of image.processes) i ≡ Some (process_of p) = map_get process_of image.processes i p (slice_get-get_or image.processes i p low ∙ ap (λ x. Some x) (sym at)) in
       subst (λ ts. IsBoundAt ts (q.rank - 1) b) tasks
       (subst (λ (x : Process). IsBoundAt ts (x.rank - 1) b) (inner (process_of p) q (slice_get (map process_of image.processes) i) here there) is));
 }

@@ -1,4 +1,3 @@
 pub mod Filling
-pub mod NoFault
 pub mod Growing
 pub mod Listing

@@ -13,7 +13,7 @@ use Rattle.command_due.specs.Tasks.{AreDemands}
 use Rattle.edf_admission.specs.Steps.{AreAsked, IsAsked, IsLastBlock}
 use Rattle.edf_admission.proofs.Ranks.{in_order}
 
-abbrev no_demand : DTask
+abbrev pub no_demand : DTask
 no_demand = record { frame = 0; deadline = 0; cost = 0; block = 0 }
 
 -- ---- the first tasks

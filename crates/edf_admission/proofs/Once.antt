@@ -4,10 +4,10 @@ use Rattle.std.specs.Prelude.{slice_get, get_or}
 use Rattle.std.proofs.lemmas.Bool.{cases_lt}
 use Rattle.std.proofs.lemmas.List.{same_lists}
 use Rattle.std.proofs.lemmas.Option.{get_or_from_slice_get, slice_get-get_or}
+use Rattle.base.proofs.Lists.{some_at}
 use Rattle.base.specs.Capped.{cap}
 use Rattle.machine_semantics.specs.Image.{Image, Process}
 use Rattle.valid_image.specs.Times.{rank_fault}
-use Rattle.valid_image_law.proofs.Firsts.{some_at}
 use Rattle.loader.proofs.Order.{ranks_none}
 use Rattle.sched_demand.specs.declared.tasks.DTask.{DTask}
 use Rattle.sched_demand.specs.declared.judging.Judgement.{Judgement}
@@ -20,6 +20,7 @@ use Rattle.edf_admission.specs.Steps.{IsLastBlock, IsLastSoFar}
 use Rattle.edf_admission.specs.declared.fault.EdfFault.TheVariants as fault
 use Rattle.edf_admission.proofs.Lasts.{first_last, last_is, next_is_last, next_is_not}
 use Rattle.edf_admission.proofs.Ranks.{each_rank_is_had}
+use Rattle.edf_admission.proofs.Asked.{no_demand}
 
 -- ---- each deadline has a last process
 
@@ -48,9 +49,6 @@ pub last_there : (m : Image) (k : ℕ) (p : Process) → slice_get m.processes k
 last_there m k p at = let s = some_so_far m k p at (length m.processes) (omega arith) in (s.1, last_is m p.deadline (length m.processes) s.0 s.1 (omega arith) s.2)
 
 -- ---- one list of tasks
-
-abbrev no_demand : DTask
-no_demand = record { frame = 0; deadline = 0; cost = 0; block = 0 }
 
 any_default : (ts : List DTask) (level : ℕ) (d e : DTask) → level < length ts → get_or ts level d ≡ get_or ts level e
 any_default ts level d e low = get_or_from_slice_get ts level (get_or ts level e) d (slice_get-get_or ts level e low)

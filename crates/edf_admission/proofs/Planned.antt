@@ -1,10 +1,10 @@
 -- What a run asks of an image, from the tests of validity and the ranges of a file.
-use Rattle.std.proofs.Common.{◌≡◌, ◌≤◌, ◌+◌, ◌∙◌, ℕ, zero, suc, Bool, true, false, List, [], ◌∷◌, length, map, Option, Some, None, arith, refl, ap, sym, subst}
-use Rattle.std.specs.Prelude.{ℤ, pos, negsuc, All, cond, nat_eq, slice_get}
-use Rattle.std.proofs.lemmas.Bool.Decides.{nat_tests}
+use Rattle.std.proofs.Common.{◌≡◌, ◌≤◌, ◌∙◌, ℕ, true, false, List, length, map, Some, arith, refl, sym, subst}
+use Rattle.std.specs.Prelude.{slice_get}
 use Rattle.std.proofs.lemmas.List.{length-map}
-use Rattle.std.proofs.lemmas.List.Elements.{All-nil, All-cons, All-head, All-tail, All-map}
+use Rattle.std.proofs.lemmas.List.Elements.{All-map}
 use Rattle.std.proofs.lemmas.Option.{slice_get_within}
+use Rattle.base.proofs.Lists.{one_of, all_of}
 use Rattle.image.specs.declared.names.CondName.{CondName}
 use Rattle.image.specs.declared.names.DevName.{DevName}
 use Rattle.image.specs.declared.raw.RawImage.{RawImage}
@@ -13,24 +13,19 @@ use Rattle.image.specs.Raw.{image_of, monitor_of, named_of, process_of}
 use Rattle.machine_isa.specs.declared.instr.Instr.{Instr}
 use Rattle.machine_isa.specs.declared.instr.Instr.TheVariants as i
 use Rattle.vm_law.specs.Logged.{AreNamesOf}
-use Rattle.machine_semantics.specs.Trees.{Segs, size}
-use Rattle.machine_semantics.specs.Image.{Image, Process, Routine, end_of, size_some}
-use Rattle.machine_semantics.specs.Starts.{lists}
+use Rattle.machine_semantics.specs.Image.{Image, Process, Routine, end_of}
 use Rattle.vm_law.specs.Operands.{IsThere}
 use Rattle.vm_law.proofs.There.{all_there}
-use Rattle.vm_plan.specs.HasPlan.{CanRun, HandlerEnds, HasPlan}
+use Rattle.vm_plan.specs.HasPlan.{CanRun, HasPlan}
 use Rattle.image_reader_law.specs.ReadNames.{IsNamed}
 use Rattle.image_reader_law.proofs.Names.{read_names}
-use Rattle.machine_safety_spec.specs.Part.{IsBelow}
 use Rattle.machine_safety_spec.specs.Safe.{ImageFits}
 use Rattle.script.specs.declared.script.ScriptLine.{ScriptLine}
 use Rattle.script.specs.Scripts.{IsScript}
 use Rattle.vm_law.specs.ScriptSuits.{ScriptsForImagesReadSuit, script_with}
 use Rattle.vm_law.specs.Suits.{Suits}
-use Rattle.vm_state.specs.Seen.{IsLimit, IsSmall}
 use Rattle.image_loaded.specs.Shape.{AreOf, IsShape}
 use Rattle.vm_state.specs.Plan.{HasNumbers}
-use Rattle.valid_image.specs.Valid.{HasHandler}
 use Rattle.valid_image_law.proofs.Parts.{no_part, where_in}
 use Rattle.valid_image_law.proofs.Passing.{params_fit}
 use Rattle.valid_image_law.proofs.Processes.{parts_in}
@@ -40,27 +35,9 @@ use Rattle.edf_admission.specs.Admitted.{IsAdmitted}
 use Rattle.edf_admission.proofs.Premises.{fits}
 use Rattle.edf_admission.specs.Ready.{CanBeRun}
 use Rattle.edf_admission.proofs.Held.{holds}
-
--- ---- lists
-
-all_of : {X : Type 0} (P : X → Type 0) (xs : List X) → ((k : ℕ) (x : X) → slice_get xs k ≡ Some x → P x) → All P xs
-all_of P [] each = All-nil P
-all_of P (x ∷ xs) each = All-cons P x xs (each 0 x refl) (all_of P xs (λ k y at. each (suc k) y at))
-
-one_of : {X : Type 0} (P : X → Type 0) (xs : List X) (k : ℕ) (x : X) → All P xs → slice_get xs k ≡ Some x → P x
-one_of P [] k x all at = absurd cc
-one_of P (y ∷ xs) zero x all at = let same : y ≡ x = cc in subst P same (All-head P y xs all)
-one_of P (y ∷ xs) (suc k) x all at = one_of P xs k x (All-tail P y xs all) at
+use Rattle.vm_plan.proofs.Planned.{handler_ends, small, limit_is}
 
 -- ---- numbers
-
-small : (z : ℤ) (n : ℕ) → n ≤ 65536 → IsBelow z n → IsSmall z
-small (pos k) n le below = let same : k ≡ below.0 = (let is : pos k ≡ pos below.0 = below.1 in cc) in omega (arith, same, below.2, le)
-small (negsuc k) n le below = absurd (let is = below.1 in cc)
-
-limit_is : (z : ℤ) (n : ℕ) → IsBelow z n → IsLimit z
-limit_is (pos k) n below = tt
-limit_is (negsuc k) n below = absurd (let is = below.1 in cc)
 
 module _ (image : Image) (monitors : length image.monitors ≤ 64) (conditions : length image.conditions ≤ 256) (devices : length image.devices ≤ 64) where
   has_numbers : (instr : Instr) → IsThere image instr → HasNumbers instr
@@ -75,21 +52,6 @@ module _ (image : Image) (monitors : length image.monitors ≤ 64) (conditions :
   has_numbers (i.Out d) there = small d (length image.devices) (omega (arith, devices)) there
   has_numbers (i.Raise number) there = small number 1000 (omega arith) there
   has_numbers _ there = tt
-
--- ---- a process
-
--- the handler of a process that takes a number ends in the code
-handler_ends : (code : ℕ) (p : Process) (o : Option Segs) → p.handler_tree ≡ o → HasHandler p o → ((number : ℕ) → lists p.numbers number ≡ true → end_of p true ≤ code) → HandlerEnds code p.handler o
-handler_ends code p None is has ends = tt
-handler_ends code p (Some tree) is has ends = by p.numbers refl where
-  by : (ns : List ℕ) → p.numbers ≡ ns → p.handler + size tree ≤ code
-  by [] none = absurd (has none)
-  by (n ∷ ns) some =
-      let test : nat_eq n n ≡ true = grind (arith, nat_tests) in
-      let listed : lists p.numbers n ≡ true = ap (λ (xs : List ℕ). lists xs n) some ∙ ap (λ (b : Bool). cond b true (lists ns n)) test in
-      let end : end_of p true ≤ code = ends n listed in
-      let size_is : size_some p.handler_tree ≡ size tree = ap size_some is in
-      omega (arith, end, size_is)
 
 -- ---- an image that is read
 

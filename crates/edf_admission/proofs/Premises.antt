@@ -1,9 +1,9 @@
 -- An admitted shape meets what the laws of earliest deadline first ask for.
-use Rattle.std.proofs.Common.{◌≡◌, ◌≤◌, ◌<◌, ◌+◌, ◌*◌, ◌-◌, ◌∙◌, inl, inr, ℕ, Bool, true, false, zero, suc, List, [], ◌∷◌, length, Option, Some, None, refl, sym, ap, subst, arith}
-use Rattle.std.specs.Prelude.{cond, nat_eq, slice_get}
-use Rattle.std.proofs.lemmas.Bool.{cases_Bool, cases_lt}
-use Rattle.std.proofs.lemmas.Bool.Decides.{nat_tests}
+use Rattle.std.proofs.Common.{◌≡◌, ◌≤◌, ◌<◌, ◌+◌, ◌*◌, ◌-◌, ◌∙◌, inl, inr, ℕ, Bool, true, false, suc, List, length, Option, Some, None, sym, ap, subst, arith}
+use Rattle.std.specs.Prelude.{slice_get}
+use Rattle.std.proofs.lemmas.Bool.{cases_lt}
 use Rattle.std.proofs.lemmas.Option.{slice_get_within}
+use Rattle.base.proofs.Lists.{some_at}
 use Rattle.base.specs.Capped.{cap}
 use Rattle.base.specs.declared.capped.Cost.{Cost}
 use Rattle.machine_semantics.specs.Image.{Image, Monitor, Process}
@@ -11,12 +11,11 @@ use Rattle.machine_semantics.specs.Trees.{Segs}
 use Rattle.machine_safety_spec.specs.Safe.{ImageFits, Parts, part_of}
 use Rattle.machine_safety_spec.specs.Work.{activation, worst_of}
 use Rattle.sched_theorem.specs.Placed.{AreRanks}
-use Rattle.valid_image.specs.Tasks.{process_at, with_rank}
+use Rattle.valid_image.specs.Tasks.{process_at}
 use Rattle.valid_image.specs.Found.{Found}
 use Rattle.valid_image.specs.Tables.{body_found, found_or_nothing, handler_found, handler_start, known, nothing_found, stay_of_process}
 use Rattle.valid_image.specs.Valid.{HasLimits}
 use Rattle.valid_image_law.proofs.Exact.{IsWithin, itself, part_same}
-use Rattle.valid_image_law.proofs.Firsts.{some_at}
 use Rattle.valid_image_law.proofs.Parts.{no_part, stay_by, where_in}
 use Rattle.valid_image_law.proofs.Processes.{exact_body, exact_handler, image_fits, parts_in, parts_some}
 use Rattle.valid_image_law.proofs.Ranking.{blocks, one_each, ranked, within_rank}
@@ -32,27 +31,9 @@ use Rattle.edf_admission.specs.Admitted.{HasNoWait}
 use Rattle.edf_admission.proofs.Once.{last_there}
 use Rattle.edf_admission.proofs.Ranks.{each_rank_is_had, in_order}
 use Rattle.edf_admission.proofs.Still.{body_still}
+use Rattle.valid_image_law.proofs.Timing.{search}
 
 -- ---- the search for a rank
-
-has_rank : (a b : ℕ) → nat_eq a b ≡ true → a ≡ b
-has_rank a b is = grind (arith, nat_tests, is)
-
-is_rank : (a b : ℕ) → a ≡ b → nat_eq a b ≡ true
-is_rank a b same = grind (arith, nat_tests, same)
-
--- it ends at the one process that has it
-search : (rank i k : ℕ) (ps : List Process) (p : Process) → slice_get ps k ≡ Some p → p.rank ≡ rank → ((j : ℕ) (q : Process) → slice_get ps j ≡ Some q → q.rank ≡ rank → j ≡ k) → with_rank rank i ps ≡ i + k
-search rank i k [] p at is alone = absurd cc
-search rank i zero (q ∷ qs) p at is alone =
-    let same : q ≡ p = cc in
-    let here : q.rank ≡ rank = ap (λ (x : Process). x.rank) same ∙ is in
-    ap (λ b. cond b i (with_rank rank (suc i) qs)) (is_rank q.rank rank here) ∙ omega arith
-search rank i (suc k) (q ∷ qs) p at is alone = elim (cases_Bool (nat_eq q.rank rank)) [
-  | inl hit ↦ absurd (let e = alone 0 q refl (has_rank q.rank rank hit) in omega (arith, e))
-  | inr miss ↦ ap (λ b. cond b i (with_rank rank (suc i) qs)) miss
-      ∙ (search rank (suc i) k qs p at is (λ j r there of. let e = alone (suc j) r there of in omega (arith, e)) ∙ omega arith)
-]
 
 module _ (m : Image) (none : HasNoFaultBefore m) (limits : HasLimits m) (over : m.over ≡ 0) (waitless : HasNoWait m) where
   pub fits : ImageFits (where_in m no_part) (parts_in m)

@@ -1,28 +1,20 @@
 -- The ranks of an image whose ranks are due: each is had by one process, and they stand in the order of deadlines.
-use Rattle.std.proofs.Common.{◌≡◌, ◌≤◌, ◌<◌, ◌+◌, ◌-◌, inl, inr, ℕ, true, false, length, Option, Some, None, arith, ap}
-use Rattle.std.specs.Prelude.{◌&&◌, ◌||◌, nat_eq, nat_lt, slice_get}
+use Rattle.std.proofs.Common.{◌≡◌, ◌≤◌, ◌<◌, ◌+◌, ◌-◌, inl, inr, ℕ, true, length, Option, Some, None, arith, ap}
+use Rattle.std.specs.Prelude.{slice_get}
 use Rattle.std.proofs.lemmas.Bool.{cases_lt}
-use Rattle.std.proofs.lemmas.Bool.Decides.{nat_tests}
 use Rattle.std.proofs.lemmas.Option.{slice_get_within}
+use Rattle.base.proofs.Lists.{some_at}
+use Rattle.base.proofs.Numbers.{not_before_itself, before_along, shorter}
 use Rattle.sched_response.proofs.Counting.{count_lt}
 use Rattle.sched_table.proofs.Onto.{onto}
 use Rattle.machine_semantics.specs.Image.{Image, Process}
 use Rattle.valid_image.specs.Fault.{or_else}
 use Rattle.valid_image.specs.Sizes.{other}
 use Rattle.valid_image.specs.Times.{deadline_of, deadline_at, outranks, rank_of, ranks_fault, ceilings_fault, blocks_fault, rank_fault}
-use Rattle.valid_image_law.proofs.Firsts.{neither, none_of_all, some_at}
+use Rattle.valid_image_law.proofs.Firsts.{neither, none_of_all}
 use Rattle.valid_image_law.proofs.Rows.{is_due}
 use Rattle.valid_image_law.proofs.Ranking.{ranked, one_each}
 use Rattle.edf_admission.specs.Steps.{EachRankIsHad, SomeHasRank}
-
-not_before_itself : (f p : ℕ) → (nat_lt f f || (nat_eq f f && nat_lt p p)) ≡ false
-not_before_itself f p = grind (arith, nat_tests)
-
-before_along : (f g h p q r : ℕ) → (nat_lt f g || (nat_eq f g && nat_lt p q)) ≡ true → (nat_lt g h || (nat_eq g h && nat_lt q r)) ≡ true → (nat_lt f h || (nat_eq f h && nat_lt p r)) ≡ true
-before_along f g h p q r first second = grind (arith, nat_tests)
-
-shorter : (f g p q : ℕ) → f < g → (nat_lt f g || (nat_eq f g && nat_lt p q)) ≡ true
-shorter f g p q less = grind (arith, nat_tests, less)
 
 abbrev rank_some : Option Process → ℕ
 rank_some None = 0

@@ -1,8 +1,9 @@
 -- Code without a WAIT instruction has trees without waits.
-use Rattle.std.proofs.Common.{◌≡◌, ◌<◌, ◌+◌, ◌*◌, ◌∙◌, inl, inr, ℕ, zero, suc, List, [], Option, Some, None, refl, sym, ap, subst, arith}
+use Rattle.std.proofs.Common.{◌≡◌, ◌<◌, ◌+◌, ◌∙◌, inl, inr, ℕ, zero, suc, List, [], Option, Some, None, refl, sym, ap, subst, arith}
 use Rattle.std.specs.Prelude.{◌&&◌, nat_eq, nat_lt, slice_get, take}
 use Rattle.std.proofs.lemmas.Bool.{cases_lt}
 use Rattle.std.proofs.lemmas.Option.{slice_get_within}
+use Rattle.base.proofs.Lists.{some_at, take_get, take_past}
 use Rattle.machine_isa.specs.declared.instr.Instr.{Instr}
 use Rattle.machine_isa.specs.declared.instr.Instr.TheVariants as i
 use Rattle.machine_semantics.specs.Image.{Image, Process, Routine}
@@ -13,11 +14,12 @@ use Rattle.valid_image.specs.Shape.{shape_fault}
 use Rattle.valid_image.specs.Sizes.{cost_fault}
 use Rattle.valid_image.specs.Tables.{count, found_or_nothing, monitor_of, part_found, routine_found}
 use Rattle.valid_image_law.proofs.Exact.{ended_is, part_same}
-use Rattle.valid_image_law.proofs.Firsts.{some_at, table_length, take_get, take_past}
+use Rattle.valid_image_law.proofs.Firsts.{table_length}
 use Rattle.valid_image_law.proofs.Rows.{alike, exact, exact_of, exact_routine}
 use Rattle.valid_image_law.proofs.Shapes.{process_shaped}
 use Rattle.valid_image_law.proofs.Processes.{exact_body}
 use Rattle.edf_admission.specs.Admitted.{HasNoWait}
+use Rattle.valid_image_law.proofs.Quiet.{times_none}
 
 abbrev IsStill : Found → Type 0
 IsStill f = f.cost.waits ≡ 0
@@ -31,9 +33,6 @@ of_whole f g is still = ap (λ (x : Found). x.cost.waits) is ∙ still
 
 of_arms : (one two : Option Found) (f : Found) (s : Forked one two f) → IsStill s.first → IsStill s.second → IsStill f
 of_arms one two f s a b = of_whole f _ s.whole (omega (arith, a, b))
-
-times_none : (n a : ℕ) → a ≡ 0 → n * a ≡ 0
-times_none n a is = ap (λ k. n * k) is ∙ omega arith
 
 line_still : (code : List Instr) (n at h : ℕ) (f : Found) → line code n at h ≡ Some f → IsStill f
 line_still code zero at h f is = let whole : record { height = h; cost = amount 0 0 0; depth = 0 } ≡ f = cc in subst IsStill whole refl

@@ -1,32 +1,12 @@
 -- The task of the rank of a process is its own.
-use Rattle.std.proofs.Common.{◌≡◌, ◌<◌, ◌+◌, ◌-◌, ◌∙◌, inl, inr, ℕ, zero, suc, true, List, [], ◌∷◌, length, None, Some, refl, ap, arith}
-use Rattle.std.specs.Prelude.{cond, nat_eq, slice_get, slice_index_or}
-use Rattle.std.proofs.lemmas.Bool.{cases_Bool}
-use Rattle.std.proofs.lemmas.Bool.Decides.{nat_tests}
+use Rattle.std.proofs.Common.{◌≡◌, ◌<◌, ◌+◌, ◌-◌, ◌∙◌, ℕ, zero, suc, length, None, Some, ap, arith}
+use Rattle.std.specs.Prelude.{slice_get, slice_index_or}
 use Rattle.machine_semantics.specs.Image.{Image, Process}
 use Rattle.sched_response.specs.declared.tasks.Task.{Task}
-use Rattle.valid_image.specs.Tasks.{with_rank, process_at, task_of, tasks_from, tasks_of}
+use Rattle.valid_image.specs.Tasks.{process_at, task_of, tasks_from, tasks_of}
 use Rattle.valid_image.specs.Times.{rank_fault}
 use Rattle.valid_image_law.proofs.Ranking.{ranked, one_each}
-
-has_rank : (a b : ℕ) → nat_eq a b ≡ true → a ≡ b
-has_rank a b is = grind (arith, nat_tests, is)
-
-is_rank : (a b : ℕ) → a ≡ b → nat_eq a b ≡ true
-is_rank a b same = grind (arith, nat_tests, same)
-
--- the search for a rank that one process has ends at it
-search : (rank i k : ℕ) (ps : List Process) (p : Process) → slice_get ps k ≡ Some p → p.rank ≡ rank → ((j : ℕ) (q : Process) → slice_get ps j ≡ Some q → q.rank ≡ rank → j ≡ k) → with_rank rank i ps ≡ i + k
-search rank i k [] p at is alone = absurd cc
-search rank i zero (q ∷ qs) p at is alone =
-    let same : q ≡ p = cc in
-    let here : q.rank ≡ rank = ap (λ (x : Process). x.rank) same ∙ is in
-    ap (λ b. cond b i (with_rank rank (suc i) qs)) (is_rank q.rank rank here) ∙ omega arith
-search rank i (suc k) (q ∷ qs) p at is alone = elim (cases_Bool (nat_eq q.rank rank)) [
-  | inl hit ↦ absurd (let e = alone 0 q refl (has_rank q.rank rank hit) in omega (arith, e))
-  | inr miss ↦ ap (λ b. cond b i (with_rank rank (suc i) qs)) miss
-      ∙ (search rank (suc i) k qs p at is (λ j r there of. let e = alone (suc j) r there of in omega (arith, e)) ∙ omega arith)
-]
+use Rattle.valid_image_law.proofs.Timing.{search}
 
 tasks_at : (image : Image) (j n i : ℕ) (d : Task) → i < n → slice_index_or (tasks_from image j n) i d ≡ task_of (slice_get image.processes (process_at image (j + i)))
 tasks_at image j zero i d below = absurd (omega (arith, below))

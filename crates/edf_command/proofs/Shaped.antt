@@ -2,6 +2,7 @@
 use Rattle.std.proofs.Common.{◌≡◌, ◌≤◌, ◌∙◌, ℕ, suc, List, [], ◌∷◌, Option, Some, None, length, map, refl, sym, ap, subst, arith}
 use Rattle.std.specs.Prelude.{slice_get}
 use Rattle.std.proofs.lemmas.List.{length-map}
+use Rattle.base.proofs.Lists.{map_get}
 use Rattle.syntax_tree.specs.declared.place.Place.{Place}
 use Rattle.syntax_tree.specs.Placed.{Prog, plain}
 use Rattle.machine_semantics.specs.Image.{Image, Monitor, Process, Routine}
@@ -15,7 +16,7 @@ use Rattle.built_image.specs.Filled.{DiffersInBounds, without_bound}
 use Rattle.built_image.specs.Shown.{rows_of}
 use Rattle.built_image_law.specs.Tables.{TablesAreNamed}
 use Rattle.built_image_law.specs.FilledLaws.{ShapesLeaveBoundsAside}
-use Rattle.built_image_law.proofs.Lists.{as_many, became, same_at}
+use Rattle.built_image_law.proofs.Lists.{as_many, same_at}
 use Rattle.compile_schedule.specs.Bounding.{HasBounds}
 use Rattle.compile.specs.Steps.{IsRanked}
 use Rattle.edf_command.specs.Steps.{due_of, IsEdfShape}
@@ -74,7 +75,7 @@ module _ (leave_law : ShapesLeaveBoundsAside) (named_law : TablesAreNamed) (g : 
   deadline_is : (k : ℕ) (p : Process) → slice_get (map process_of now.processes) k ≡ Some p → p.bound ≡ p.deadline
   deadline_is k p at =
       let w : Was k p = was k p at in
-      let there : slice_get bounds k ≡ Some (Some w.q.deadline) = ap (λ (bs : List (Option ℕ)). slice_get bs k) are ∙ became due_of (map process_of before.processes) k w.q w.at in
+      let there : slice_get bounds k ≡ Some (Some w.q.deadline) = ap (λ (bs : List (Option ℕ)). slice_get bs k) are ∙ map_get due_of (map process_of before.processes) k w.q w.at in
       has k p w.q.deadline at there ∙ ap (λ (x : Process). x.deadline) w.is
 
   process_in_limits : (k : ℕ) (p : Process) → slice_get (map process_of now.processes) k ≡ Some p → IsInLimits p

@@ -1,7 +1,6 @@
 -- The declared numbers of an image cover what its activations take, whatever its bounds.
-use Rattle.std.proofs.Common.{◌≡◌, ◌≤◌, ◌+◌, ◌*◌, inl, inr, ℕ, Option, Some, None, arith, sym, subst, ap, ◌∙◌, true, false, Bool}
+use Rattle.std.proofs.Common.{◌≡◌, ◌≤◌, ◌+◌, ◌*◌, ℕ, Option, Some, None, arith, sym, subst, ap, true, false, Bool}
 use Rattle.std.specs.Prelude.{slice_get}
-use Rattle.std.proofs.lemmas.Bool.{cases_lt}
 use Rattle.base.specs.Capped.{cap}
 use Rattle.base.specs.declared.capped.Cost.{Cost}
 use Rattle.machine_semantics.specs.Trees.{Segs}
@@ -14,17 +13,11 @@ use Rattle.valid_image.specs.Shape.{shape_fault}
 use Rattle.valid_image.specs.Sizes.{cost_fault}
 use Rattle.valid_image.specs.Tables.{known, body_found, handler_start, handler_found, nothing_found, found_or_nothing, stay_of_process}
 use Rattle.valid_image_law.proofs.Shapes.{process_shaped}
-use Rattle.valid_image_law.proofs.Exact.{IsWithin, itself, many, part_same}
+use Rattle.valid_image_law.proofs.Exact.{IsWithin, itself, part_same}
 use Rattle.valid_image_law.proofs.Rows.{exact, alike, process_costs}
 use Rattle.valid_image_law.proofs.Parts.{stay_by}
 use Rattle.valid_image_law.proofs.Processes.{exact_body, exact_handler, parts_some, parts_in}
-
--- a product of what is within
-times_within : (n a b : ℕ) → cap a ≤ cap b → cap (n * a) ≤ cap (n * b)
-times_within n a b le = elim (cases_lt 0 n) [
-  | inl some ↦ many n a b some le
-  | inr none ↦ (let z : n ≡ 0 = omega (arith, none) in let l : n * a ≡ 0 = ap (λ k. k * a) z ∙ omega arith in omega (arith, l))
-]
+use Rattle.valid_image_law.proofs.Timing.{times_within}
 
 module _ (image : Image) (shaped : shape_fault image ≡ None) (costs : cost_fault image ≡ None) where
   -- the exact costs of both parts are within the declared ones

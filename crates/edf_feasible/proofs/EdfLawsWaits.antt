@@ -1,5 +1,5 @@
 -- The costs of a program without a wait have no waits.
-use Rattle.std.proofs.Common.{◌≡◌, ◌*◌, ◌∙◌, ℕ, zero, suc, List, [], ◌∷◌, Option, Some, None, arith, refl, ap}
+use Rattle.std.proofs.Common.{◌≡◌, ℕ, zero, suc, List, [], ◌∷◌, Option, Some, None, arith, refl}
 use Rattle.std.specs.Prelude.{slice_get}
 use Rattle.syntax_tree.specs.Plain.{Name, Param, Expr, literal, truth, variable, element, call, minus, negation, paren, row, Exprs, no_exprs, exprs, Operands, no_operands, operand, Ref, whole, part, Stmt, assign, assign_entry, assign_empty, perform, perform_entry, when, when_else, loop, exit_when, get, put, wait, signal, broadcast, except, assert, Stmts, no_stmts, stmts, Answers, Routine, Monitor, Handler, Process, Prog}
 use Rattle.base.specs.declared.capped.Cost.{Cost}
@@ -14,6 +14,7 @@ use Rattle.code_cost_spec.specs.Levels.{routine_names, process_names, calls_at}
 use Rattle.code_names_law.proofs.Numbers.{found_there, of_list, monitor_there}
 use Rattle.code_measures.specs.Quiet.{NoWait, NoWaits}
 use Rattle.edf_feasible.specs.Waits.{NoneWaits, HandlerHasNoWait, HasNoWait, TextsWithoutWaitsHaveNone}
+use Rattle.valid_image_law.proofs.Quiet.{times_none}
 
 abbrev IsNone : Cost → Type 0
 IsNone c = c.waits ≡ 0
@@ -22,9 +23,6 @@ IsNone c = c.waits ≡ 0
 record CallsHaveNone (g : Prog) (k : Calls) : Type 0 where
   routine : (o : Owner) (f : Name) (t : Text) → routine_in g o f ≡ Some t → IsNone (k.cost t)
   entry : (m e : Name) (t : Text) → entry_in g m e ≡ Some t → IsNone (k.cost t)
-
-times_none : (n a : ℕ) → a ≡ 0 → n * a ≡ 0
-times_none n a is = ap (λ k. n * k) is ∙ omega arith
 
 module _ (g : Prog) (k : Calls) (calls : CallsHaveNone g k) where
   call_none : (o : Option Text) (args : List Param → Cost) → ((t : Text) → o ≡ Some t → IsNone (k.cost t)) → ((ps : List Param) → IsNone (args ps)) → IsNone (call_cost k o args)

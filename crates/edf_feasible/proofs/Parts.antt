@@ -9,7 +9,7 @@ use Rattle.built_image_law.specs.Limits.{ShapedImagesAreInLimits}
 use Rattle.built_valid_law.specs.Made.{WordsAreFew}
 use Rattle.built_valid_law.proofs.Counts.{Counted, counted}
 use Rattle.built_valid_law.proofs.Names.{are_names}
-use Rattle.built_valid_law.proofs.Plans.{Stands, has_plan, stands}
+use Rattle.built_valid_law.proofs.Plans.{has_plan, stands}
 use Rattle.built_image_law.specs.Suits.{NamesHaveFrames}
 use Rattle.built_valid_law.specs.Checked.{CheckedOperandsAreInRange}
 use Rattle.edf_feasible.proofs.Meeting.{bounds_pass}
@@ -25,6 +25,7 @@ use Rattle.valid_image.specs.Valid.{HasLimits, Operands, Shape, Sizes, fault_of_
 use Rattle.code_measures.proofs.ShapePart.{no_shape_fault}
 use Rattle.code_measures.proofs.SizePart.{no_size_fault}
 use Rattle.edf_feasible.specs.Ready.{EdfImagesHaveParts}
+use Rattle.vm_plan.proofs.Planned.{Stands}
 
 pub edf_images_have_parts : CheckedProgramsAreReady → GeneratedCodeIsCode → WordsAreFew → CheckedOperandsAreInRange → ShapedImagesAreInLimits → NamesOfTextsAreShort → NamesHaveFrames → EdfImagesHaveParts
 edf_images_have_parts ready_law code_law words_law operands_law limits_law short_law frames_law text g n tasks written edf meets =

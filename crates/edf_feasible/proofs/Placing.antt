@@ -1,8 +1,7 @@
 -- The numbering of places by ranks, and the last process of a deadline.
-use Rattle.std.proofs.Common.{◌≡◌, ◌≤◌, ◌<◌, ◌⊎◌, inl, inr, ℕ, zero, suc, List, [], ◌∷◌, Some, arith, refl, sym, subst, ap, ◌∙◌, true, false}
+use Rattle.std.proofs.Common.{◌≡◌, ◌≤◌, ◌<◌, ◌⊎◌, inl, inr, ℕ, zero, suc, List, [], ◌∷◌, Some, arith, refl, sym, subst, ap, ◌∙◌, false}
 use Rattle.std.specs.Prelude.{slice_get, cond, nat_eq}
-use Rattle.std.proofs.lemmas.Bool.{cases_Bool, cases_lt}
-use Rattle.std.proofs.lemmas.Bool.Decides.{nat_tests}
+use Rattle.std.proofs.lemmas.Bool.{cases_Bool, cases_lt, eqb-true, eqb-false}
 use Rattle.machine_semantics.specs.Image.{Process}
 use Rattle.sched_theorem.specs.Placed.{AreRanks}
 use Rattle.sched_timing.proofs.Numbering.{AreBelow, AreDifferent, none_left_out}
@@ -12,24 +11,18 @@ abbrev pub place_in : (ℕ → ℕ) → (n j : ℕ) → ℕ
 place_in f zero j = 0
 place_in f (suc n) j = cond (nat_eq (f n) j) n (place_in f n j)
 
-same : (a b : ℕ) → nat_eq a b ≡ true → a ≡ b
-same a b is = grind (arith, nat_tests, is)
-
-differ : (a b : ℕ) → nat_eq a b ≡ false → a ≡ b → ⊥
-differ a b not is = grind (arith, nat_tests, not, is)
-
 abbrev IsAt : (ℕ → ℕ) → (n j place : ℕ) → Type 0
 IsAt f n j place = (place < n) × (f place ≡ j)
 
 search : (f : ℕ → ℕ) (n j : ℕ) → IsAt f n j (place_in f n j) ⊎ ((k : ℕ) → k < n → f k ≡ j → ⊥)
 search f zero j = inr (λ k low is. omega (arith, low))
 search f (suc n) j = elim (cases_Bool (nat_eq (f n) j)) [
-  | inl is ↦ inl (subst (λ b. IsAt f (suc n) j (cond b n (place_in f n j))) (sym is) (omega arith, same (f n) j is))
+  | inl is ↦ inl (subst (λ b. IsAt f (suc n) j (cond b n (place_in f n j))) (sym is) (omega arith, eqb-true (f n) j is))
   | inr not ↦ elim (search f n j) [
     | inl found ↦ inl (subst (λ b. IsAt f (suc n) j (cond b n (place_in f n j))) (sym not) (omega (arith, found.0), found.1))
     | inr none ↦ inr (λ k low is. elim (cases_lt k n) [
       | inl less ↦ none k less is
-      | inr last ↦ (let e : k ≡ n = omega (arith, last, low) in differ (f n) j not (ap f (sym e) ∙ is))
+      | inr last ↦ (let e : k ≡ n = omega (arith, last, low) in eqb-false (f n) j not (ap f (sym e) ∙ is))
     ])
   ]
 ]
@@ -65,9 +58,9 @@ last_of (x ∷ ps) deadline = elim (cases_Bool (nat_eq x.deadline deadline)) [
     | inr none ↦ inr (λ k p at of. none_past not none k p at of)
   ]
   | inl is ↦ elim (last_of ps deadline) [
-    | inr none ↦ inl (record { place = 0; q = x; at = refl; of = same x.deadline deadline is; last = λ k p at of. alone none k p at of })
+    | inr none ↦ inl (record { place = 0; q = x; at = refl; of = eqb-true x.deadline deadline is; last = λ k p at of. alone none k p at of })
     | inl l ↦ elim (cases_lt l.q.rank x.rank) [
-      | inl less ↦ inl (record { place = 0; q = x; at = refl; of = same x.deadline deadline is; last = λ k p at of. first l less k p at of })
+      | inl less ↦ inl (record { place = 0; q = x; at = refl; of = eqb-true x.deadline deadline is; last = λ k p at of. first l less k p at of })
       | inr more ↦ inl (record { place = suc l.place; q = l.q; at = l.at; of = l.of; last = λ k p at of. later l more k p at of })
     ]
   ]
@@ -76,11 +69,11 @@ last_of (x ∷ ps) deadline = elim (cases_Bool (nat_eq x.deadline deadline)) [
   is_x p at = cc
 
   none_past : nat_eq x.deadline deadline ≡ false → NoneHas ps deadline → NoneHas (x ∷ ps) deadline
-  none_past not none zero p at of = differ x.deadline deadline not (ap (λ (y : Process). y.deadline) (is_x p at) ∙ of)
+  none_past not none zero p at of = eqb-false x.deadline deadline not (ap (λ (y : Process). y.deadline) (is_x p at) ∙ of)
   none_past not none (suc k) p at of = none k p at of
 
   past : nat_eq x.deadline deadline ≡ false → (l : Last ps deadline) (k : ℕ) (p : Process) → slice_get (x ∷ ps) k ≡ Some p → p.deadline ≡ deadline → p.rank ≤ l.q.rank
-  past not l zero p at of = absurd (differ x.deadline deadline not (ap (λ (y : Process). y.deadline) (is_x p at) ∙ of))
+  past not l zero p at of = absurd (eqb-false x.deadline deadline not (ap (λ (y : Process). y.deadline) (is_x p at) ∙ of))
   past not l (suc k) p at of = l.last k p at of
 
   alone : NoneHas ps deadline → (k : ℕ) (p : Process) → slice_get (x ∷ ps) k ≡ Some p → p.deadline ≡ deadline → p.rank ≤ x.rank

@@ -2,6 +2,7 @@
 use Rattle.std.proofs.Common.{◌≡◌, ◌≤◌, ◌<◌, ◌-◌, inl, inr, ℕ, List, length, Option, Some, None, arith, refl, ap, sym, ◌∙◌, Bool}
 use Rattle.std.specs.Prelude.{slice_get}
 use Rattle.std.proofs.lemmas.Bool.{cases_lt}
+use Rattle.base.proofs.Lists.{some_at}
 use Rattle.base.specs.Capped.{cap}
 use Rattle.syntax_tree.specs.Plain.{Prog}
 use Rattle.syntax_tree.specs.Plain as tree
@@ -12,9 +13,8 @@ use Rattle.sched_demand.specs.declared.tasks.DTask.{DTask}
 use Rattle.sched_demand.specs.Demand.{task_at, AreTasks}
 use Rattle.sched_demand.proofs.Demanding.{sorted}
 use Rattle.valid_image.specs.Shape.{shape_fault, handler_fault}
-use Rattle.valid_image.specs.Sizes.{other, below, cost_fault, size_fault, words_over_all}
-use Rattle.valid_image.specs.Fault.{unless}
-use Rattle.valid_image.specs.Times.{rank_of, ceiling_of, needed_block, rank_fault}
+use Rattle.valid_image.specs.Sizes.{cost_fault, size_fault, words_over_all}
+use Rattle.valid_image.specs.Times.{rank_fault}
 use Rattle.valid_image.specs.Tables.{stay_of_process}
 use Rattle.valid_image.specs.Valid.{Operands, fault_of_part, HasLimits}
 use Rattle.valid_image_law.proofs.Parts.{no_part, where_in, stay_by}
@@ -22,11 +22,9 @@ use Rattle.valid_image_law.proofs.Processes.{parts_in, image_fits}
 use Rattle.valid_image_law.proofs.Ranking.{ranked, one_each, within_rank, blocks}
 use Rattle.code_spec.specs.Compiled.{IsCodeOf}
 use Rattle.code_cost_spec.specs.Levels.{cost_of_process}
-use Rattle.code_measures.proofs.Seen.{equal_numbers}
 use Rattle.code_measures.specs.Declared.{Declares}
 use Rattle.code_measures.specs.Whole.{HasRanks}
-use Rattle.code_measures.proofs.Firsts.{some_at}
-use Rattle.code_measures.proofs.CostPart.{none_all, both_none, enough, no_cost_fault}
+use Rattle.code_measures.proofs.CostPart.{no_cost_fault}
 use Rattle.code_measures.proofs.ShapePart.{no_shape_fault}
 use Rattle.code_measures.proofs.HandlerPart.{no_handler_fault}
 use Rattle.code_measures.proofs.SizePart.{no_size_fault}
@@ -39,18 +37,7 @@ use Rattle.command_due.specs.Tasks.{AreDemands}
 use Rattle.edf_feasible.specs.Premises.{MeetsPremises}
 use Rattle.edf_feasible.proofs.Covering.{covered, stays_are}
 use Rattle.edf_feasible.proofs.Placing.{place_in, are_ranks, last_of}
-
-same_none : (d n : ℕ) → d ≡ n → other d n ≡ None
-same_none d n e = ap (λ b. unless b d n) (equal_numbers d n e)
-
-no_rank_fault : (m : Image) → HasRanks m → rank_fault m ≡ None
-no_rank_fault m h =
-    both_none _ _ (none_all (λ k p. other p.rank (rank_of m k)) m.processes (λ k p at. same_none p.rank (rank_of m k) (h.ranks k p at)))
-    (both_none _ _ (none_all (λ j x. other x.ceiling (ceiling_of m j)) m.monitors (λ j x at. same_none x.ceiling (ceiling_of m j) (h.ceilings j x at)))
-    (none_all (λ k p. below p.block (needed_block m p.rank)) m.processes (λ k p at. enough p.block (needed_block m p.rank) (no_less (h.blocks k p at)))))
-  where
-    no_less : {a b : ℕ} → a ≡ b → b ≤ a
-    no_less e = omega (arith, e)
+use Rattle.code_measures.proofs.Valid.{no_rank_fault}
 
 module _ (g : Prog) (m : Image) (ready : IsReady g) (code : IsCodeOf g m) (declares : Declares g m) (few : words_over_all m ≤ 1048576) (has_ranks : HasRanks m) (operands : fault_of_part m Operands ≡ None) (limits : HasLimits m)
     (no_waits : (k : ℕ) (p : tree.Process) → slice_get (processes g) k ≡ Some p → (cost_of_process g k p).waits ≡ 0) where

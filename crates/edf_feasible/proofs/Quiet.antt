@@ -1,6 +1,7 @@
 -- Parts of a program of which none waits: no statement among them is a wait.
 use Rattle.std.proofs.Common.{◌≡◌, ℕ, zero, suc, Bool, true, false, List, [], ◌∷◌, Option, Some, None, inl, inr, refl, map, subst}
 use Rattle.std.specs.Prelude.{filter_map, slice_get}
+use Rattle.std.proofs.lemmas.Option.{same_Some, none-some}
 use Rattle.syntax_tree.specs.declared.place.Place.{Place}
 use Rattle.syntax_tree.specs.Plain as plain_of
 use Rattle.syntax_tree.specs.Placed.{Scalar, Expr, Stmt, assign, assign_entry, assign_empty, perform, perform_entry, when, when_else, loop, exit_when, get, put, wait, signal, broadcast, except, assert, Stmts, no_stmts, stmts, Routine, Handler, Decl, constant, device, event, routine, monitor, process, optional, plain_stmt, plain_stmts, plain_routine, plain_handler, plain_monitor, plain_process, plain_decl, Constant}
@@ -23,12 +24,6 @@ after x xs q number place fails = q number place (inr fails)
 never : (here : Where) (p : Place) (cond : plain_of.Name) (c : Place) (limit number : Constant Place) (xs : List Part) → Quiet (statement here (wait p cond c limit number) ∷ xs) → ⊥
 unfolding wait_rules
 never here p cond c limit number xs q = q 48 p (inl (inl (refl, refl)))
-
-some_same : {A : Type 0} (x y : A) → Some x ≡ Some y → x ≡ y
-some_same x y e = cc
-
-none_some : {A : Type 0} (x : A) → None ≡ Some x → ⊥
-none_some x e = cc
 
 -- ---- statements
 
@@ -75,10 +70,10 @@ routine_quiet is_entry r more q =
     (one.0, answer_quiet r.place r.result r.value more one.1)
 
 no_routine : NoneWaits []
-no_routine j r at = absurd (none_some r at)
+no_routine j r at = absurd (none-some r at)
 
 one_more : (first : plain_of.Routine) (rs : List plain_of.Routine) → NoWaits first.body → NoneWaits rs → NoneWaits (first ∷ rs)
-one_more first rs here rest zero r at = subst (λ (x : plain_of.Routine). NoWaits x.body) (some_same first r at) here
+one_more first rs here rest zero r at = subst (λ (x : plain_of.Routine). NoWaits x.body) (same_Some first r at) here
 one_more first rs here rest (suc j) r at = rest j r at
 
 routines_quiet : (is_entry : Bool) (rs : List (Routine Place)) (more : List Part) → Quiet (routines_parts is_entry rs more) → NoneWaits (map plain_routine rs) × Quiet more
@@ -94,8 +89,8 @@ HandlerQuiet None = Unit {0}
 HandlerQuiet (Some h) = NoWaits h.body
 
 pub handler_there : (o : Option plain_of.Handler) (h : plain_of.Handler) → o ≡ Some h → HandlerQuiet o → NoWaits h.body
-handler_there None h is q = absurd (none_some h is)
-handler_there (Some x) h is q = subst (λ (y : plain_of.Handler). NoWaits y.body) (some_same x h is) q
+handler_there None h is q = absurd (none-some h is)
+handler_there (Some x) h is q = subst (λ (y : plain_of.Handler). NoWaits y.body) (same_Some x h is) q
 
 handler_quiet : (h : Option (Handler Place)) (more : List Part) → Quiet (handler_parts h more) → HandlerQuiet (optional plain_handler h) × Quiet more
 handler_quiet None more q = (tt, q)
@@ -115,16 +110,16 @@ pub record AreQuiet (ds : List plain_of.Decl) : Type 0 where
 
 monitors_more : (first : plain_of.Monitor) (ms : List plain_of.Monitor) → NoneWaits first.entries → ((m : ℕ) (k : plain_of.Monitor) → slice_get ms m ≡ Some k → NoneWaits k.entries)
     → (m : ℕ) (k : plain_of.Monitor) → slice_get (first ∷ ms) m ≡ Some k → NoneWaits k.entries
-monitors_more first ms here rest zero k at = subst (λ (x : plain_of.Monitor). NoneWaits x.entries) (some_same first k at) here
+monitors_more first ms here rest zero k at = subst (λ (x : plain_of.Monitor). NoneWaits x.entries) (same_Some first k at) here
 monitors_more first ms here rest (suc m) k at = rest m k at
 
 processes_more : (first : plain_of.Process) (ps : List plain_of.Process) → ProcessQuiet first → ((k : ℕ) (p : plain_of.Process) → slice_get ps k ≡ Some p → ProcessQuiet p)
     → (k : ℕ) (p : plain_of.Process) → slice_get (first ∷ ps) k ≡ Some p → ProcessQuiet p
-processes_more first ps here rest zero p at = subst ProcessQuiet (some_same first p at) here
+processes_more first ps here rest zero p at = subst ProcessQuiet (same_Some first p at) here
 processes_more first ps here rest (suc k) p at = rest k p at
 
 pub decls_quiet : (ds : List (Decl Place)) → Quiet (decls_parts ds []) → AreQuiet (map plain_decl ds)
-decls_quiet [] q = record { program = no_routine; entries = λ m k at. absurd (none_some k at); bodies = λ k p at. absurd (none_some p at) }
+decls_quiet [] q = record { program = no_routine; entries = λ m k at. absurd (none-some k at); bodies = λ k p at. absurd (none-some p at) }
 decls_quiet (constant name p c ∷ ds) q = let rest = decls_quiet ds q in record { program = rest.program; entries = rest.entries; bodies = rest.bodies }
 decls_quiet (device name p is_out ∷ ds) q = let rest = decls_quiet ds q in record { program = rest.program; entries = rest.entries; bodies = rest.bodies }
 decls_quiet (event name p ∷ ds) q = let rest = decls_quiet ds q in record { program = rest.program; entries = rest.entries; bodies = rest.bodies }

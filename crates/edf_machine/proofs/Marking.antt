@@ -1,8 +1,9 @@
 -- Marks as code changes them.
 use Rattle.std.proofs.Common.{◌≡◌, ◌≤◌, ◌<◌, ◌+◌, inl, inr, ℕ, zero, suc, List, [], ◌∷◌, Some, length, map, arith, refl, ap, sym, subst, ◌∙◌, true, false}
 use Rattle.std.specs.Prelude.{slice_get, slice_set}
-use Rattle.std.proofs.lemmas.List.{length-set}
+use Rattle.std.proofs.lemmas.List.{length-set, length-map}
 use Rattle.std.proofs.lemmas.Option.{slice_get_within}
+use Rattle.base.proofs.Lists.{some_at}
 use Rattle.machine_semantics.specs.Image.{Image, Process}
 use Rattle.machine_semantics.specs.State.{Thread}
 use Rattle.edf_semantics.specs.Choice.{Mark}
@@ -10,7 +11,7 @@ use Rattle.edf_semantics.specs.Run.{begin, first_marks, mark_of, marks_of}
 use Rattle.edf_semantics.proofs.Marking.{begin_at, begin_other, length_begin, length_marks, marks_at}
 use Rattle.edf_machine.specs.declared.marks.Mark.{Mark as Kept}
 use Rattle.edf_machine.specs.Marks.{AreMarks, AreNoted, HasDeadlines, IsMark, first_kept, is_idle}
-use Rattle.edf_machine.proofs.Lists.{at_set, there_is}
+use Rattle.edf_machine.proofs.Lists.{at_set}
 
 -- ---- at first
 
@@ -31,16 +32,12 @@ first_each (x ∷ ps) zero p kept m at_p at_k at_m =
     }
 first_each (x ∷ ps) (suc k) p kept m at_p at_k at_m = first_each ps k p kept m at_p at_k at_m
 
-count_map : {X Y : Type 0} (f : X → Y) (xs : List X) → length (map f xs) ≡ length xs
-count_map f [] = refl
-count_map f (x ∷ xs) = ap suc (count_map f xs)
-
 -- marks made of the deadlines are those before the first tick
 pub first_are : (image : Image) (deadlines : List ℕ) → HasDeadlines image deadlines → AreMarks image (map first_kept deadlines) (first_marks image)
 first_are image deadlines has =
     subst (λ (ds : List ℕ). AreMarks image (map first_kept ds) (first_marks image)) has (record {
-      many = count_map first_kept (map (λ (x : Process). x.deadline) image.processes) ∙ count_map (λ (x : Process). x.deadline) image.processes;
-      count = count_map (λ (x : Process). record { release = 0; begun = false }) image.processes;
+      many = length-map (map (λ (x : Process). x.deadline) image.processes) first_kept ∙ length-map image.processes (λ (x : Process). x.deadline);
+      count = length-map image.processes (λ (x : Process). record { release = 0; begun = false });
       each = λ k p kept m at_p at_k at_m. first_each image.processes k p kept m at_p at_k at_m;
     })
 
@@ -63,7 +60,7 @@ one_begins image kepts ms k kept are at = record {
   count = length_begin k ms ∙ are.count;
   each = λ j p x m at_p at_x at_m. elim (at_set kepts k (record kept { begun = true }) j x at_x) [
     | inl here ↦
-        let old = there_is ms k (let within = slice_get_within kepts k kept at in omega (arith, within, are.many, are.count)) in
+        let old = some_at ms k (let within = slice_get_within kepts k kept at in omega (arith, within, are.many, are.count)) in
         let both : Some (record { release = (old.0).release; begun = true }) ≡ Some m = sym (begin_at k ms old.0 old.1) ∙ ap (λ (i : ℕ). slice_get (begin k ms) i) here.0 ∙ at_m in
         let mark : record { release = (old.0).release; begun = true } ≡ m = cc in
         let was : IsMark p kept old.0 = are.each j p kept old.0 at_p (ap (λ (i : ℕ). slice_get kepts i) (sym here.0) ∙ at) (ap (λ (i : ℕ). slice_get ms i) (sym here.0) ∙ old.1) in
@@ -129,9 +126,9 @@ release_all t image olds news kepts ms k was all olds_count news_count marks_cou
   count = length_marks t olds news ms (olds_count ∙ sym marks_count) (news_count ∙ sym marks_count) ∙ marks_count;
   each = λ j p x m at_p at_x at_m.
       let within : j < length image.processes = slice_get_within image.processes j p at_p in
-      let o = there_is olds j (omega (arith, within, olds_count)) in
-      let n = there_is news j (omega (arith, within, news_count)) in
-      let old = there_is ms j (omega (arith, within, marks_count)) in
+      let o = some_at olds j (omega (arith, within, olds_count)) in
+      let n = some_at news j (omega (arith, within, news_count)) in
+      let old = some_at ms j (omega (arith, within, marks_count)) in
       let both : Some (mark_of t o.0 n.0 old.0) ≡ Some m = sym (marks_at t olds news ms j o.0 n.0 old.0 o.1 n.1 old.1) ∙ at_m in
       let same : mark_of t o.0 n.0 old.0 ≡ m = cc in
       subst (λ (y : Mark). IsMark p x y) same (was.done j p x o.0 n.0 old.0 (omega (arith, within, all)) at_p at_x o.1 n.1 old.1);

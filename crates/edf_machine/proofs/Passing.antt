@@ -6,14 +6,11 @@ use Rattle.std.proofs.lemmas.Option.{slice_get_within}
 use Rattle.base.specs.declared.event.Event.{Event}
 use Rattle.machine_isa.specs.declared.instr.Instr.{Instr}
 use Rattle.machine_semantics.specs.Image.{Image, Process, Script}
-use Rattle.machine_semantics.specs.State.{Job, Thread, Ready, State}
-use Rattle.machine_semantics.specs.Effect.{Outcome, Goes, Does, Signals, Broadcasts, Waits, Raises, Ends, Stuck}
+use Rattle.machine_semantics.specs.State.{Thread, Ready, State}
 use Rattle.machine_semantics.specs.Tick.{Ticked, owned_of, settle}
 use Rattle.vm_stretch.specs.Stretch.{FitsIn, FitsThread, left, left_of, outcomes, pass, pass_thread}
 use Rattle.vm_stretch.specs.Quiet.{AreQuiet}
-use Rattle.vm_stretch.specs.RowLaws.{IsInStack}
-use Rattle.vm_stretch.proofs.StretchMoving.{get_set}
-use Rattle.vm_turn.specs.Own.{CanCome, IsEarly}
+use Rattle.vm_turn.specs.Own.{IsEarly}
 use Rattle.vm_turn.specs.Settled.{CanPass}
 use Rattle.edf_semantics.specs.Run.{Marked, events_from, state_at}
 use Rattle.edf_semantics.specs.Turn.{IsTaken, IsTurn, begun, chosen, marked, started, turn}
@@ -21,6 +18,7 @@ use Rattle.edf_semantics.specs.Rows.{IsSafeRun}
 use Rattle.edf_semantics.proofs.Staying.{IsReady, chosen_ready}
 use Rattle.edf_semantics.proofs.Turning.{turn_stays_in_run}
 use Rattle.edf_machine.specs.Turn.{HasPassed, Run}
+use Rattle.vm_turn.proofs.Safely.{can_of}
 
 -- ---- who is chosen
 
@@ -47,9 +45,6 @@ some_left run k safe is = by (is_ready run k is).job.burn (slice_get run.image.c
   by zero None at = omega arith
   by zero (Some instr) at = let below = early_now run k safe is instr at in omega (arith, below)
 
-pub fits_in : (image : Image) (n k : ℕ) (s : State) (job : Job) → slice_get s.threads k ≡ Some (Ready job) → n ≤ left image job → FitsIn image n s (Some k)
-fits_in image n k s job ready fits = subst (λ (x : Option Thread). FitsThread image n x) (sym ready) fits
-
 -- ---- the turn
 
 -- the process that is chosen has a turn of as many ticks as are left of what it is at, while nothing starts
@@ -73,17 +68,6 @@ turn_is run n who s same is = ap (λ (x : State). pass run.image run.tick n x wh
 
 -- ---- what code asks for
 
--- the outcome was not stuck, and what it left is within the stack
-pub can_come : (image : Image) (u k : ℕ) (p : Process) (job : Job) (s : State) (out : Outcome) → (settle image u k p job s out).stuck ≡ false → ((th : Thread) → slice_get (settle image u k p job s out).state.threads k ≡ Some th → IsInStack p th) → slice_get s.threads k ≡ Some (Ready job) → CanCome p.stack out
-can_come image u k p job s (Goes o) free stack at = stack (Ready o.job) (get_set s.threads k (Ready o.job) (Ready job) at)
-can_come image u k p job s (Does a o) free stack at = stack (Ready o.job) (get_set s.threads k (Ready o.job) (Ready job) at)
-can_come image u k p job s (Signals c o) free stack at = tt
-can_come image u k p job s (Broadcasts c o) free stack at = tt
-can_come image u k p job s (Waits c limit e o) free stack at = tt
-can_come image u k p job s (Raises e) free stack at = tt
-can_come image u k p job s Ends free stack at = tt
-can_come image u k p job s Stuck free stack at = absurd cc
-
 can_start : (run : Run) (n k : ℕ) → IsSafeRun run.image run.script → chosen run.image run.script run.tick ≡ Some k → IsTurn run.image run.script run.tick n → CanPass run.image n k (start run)
 can_start run n k safe is it =
     let image = run.image in
@@ -104,7 +88,7 @@ can_start run n k safe is it =
       some = it.some;
       fits = subst (λ (x : Option Thread). FitsThread image n x) r.ready (subst (λ (c : Option ℕ). FitsIn image n s c) is it.fits);
       early = early_now run k safe is;
-      can = can_come image u k r.p r.job s (outcomes image s r.job (owned_of (slice_get s.owned k)) n r.job.burn) (ap (λ (x : Ticked). x.stuck) (sym all) ∙ taken.free)
+      can = can_of image u k r.p r.job s (outcomes image s r.job (owned_of (slice_get s.owned k)) n r.job.burn) (ap (λ (x : Ticked). x.stuck) (sym all) ∙ taken.free)
           (λ th at_th. safe.stack (t + n) k r.p th r.process (ap (λ (w : Marked). slice_get w.state.threads k) taken.state ∙ ap (λ (x : Ticked). slice_get x.state.threads k) all ∙ at_th)) r.ready;
     }
 

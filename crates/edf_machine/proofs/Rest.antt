@@ -1,7 +1,7 @@
 -- The events of a run, cut at a tick.
-use Rattle.std.proofs.Common.{◌≡◌, ◌≤◌, ◌-◌, ◌++◌, ℕ, List, [], ◌∷◌, arith, ap, sym, subst, ◌∙◌}
+use Rattle.std.proofs.Common.{◌≡◌, ◌≤◌, ◌-◌, ◌++◌, ℕ, List, [], arith, ap, sym, subst, ◌∙◌}
 use Rattle.std.specs.Prelude.{All}
-use Rattle.std.proofs.lemmas.List.Elements.{All-nil, All-cons, All-head, All-tail}
+use Rattle.base.proofs.Lists.{all_front, all_back}
 use Rattle.base.specs.declared.event.Event.{Event}
 use Rattle.image.specs.declared.names.ImageNames.{ImageNames}
 use Rattle.event_log.specs.InRange.{AreIn}
@@ -20,16 +20,6 @@ module _ (image : Image) (script : Script) where
 
   pub none_coming : (t : ℕ) → script.end_tick ≤ t → coming image script t ≡ []
   none_coming t over = let none : script.end_tick - t ≡ 0 = omega (arith, over) in ap (λ (k : ℕ). events_from image script k t (state_at image script t)) none ∙ no_events image script t (state_at image script t)
-
--- ---- what holds of all holds of each part
-
-all_front : {X : Type 0} (P : X → Type 0) (xs ys : List X) → All P (xs ++ ys) → All P xs
-all_front P [] ys all = All-nil P
-all_front P (x ∷ xs) ys all = All-cons P x xs (All-head P x (xs ++ ys) all) (all_front P xs ys (All-tail P x (xs ++ ys) all))
-
-all_back : {X : Type 0} (P : X → Type 0) (xs ys : List X) → All P (xs ++ ys) → All P ys
-all_back P [] ys all = all
-all_back P (x ∷ xs) ys all = all_back P xs ys (All-tail P x (xs ++ ys) all)
 
 -- ---- the log
 

@@ -1,42 +1,31 @@
 -- A row of instructions of the process that is chosen, and what ends it.
-use Rattle.std.proofs.Common.{◌≡◌, ◌≤◌, ◌+◌, ◌-◌, ◌++◌, inl, inr, ℕ, suc, false, List, [], ◌∷◌, Option, Some, length, arith, refl, ap, sym, subst, ◌∙◌}
-use Rattle.std.specs.Prelude.{ℤ, slice_get, slice_set}
-use Rattle.std.specs.Global.{Vec}
+use Rattle.std.proofs.Common.{◌≡◌, ◌≤◌, ◌+◌, ◌-◌, ◌++◌, ℕ, false, List, Option, Some, length, arith, refl, ap, sym, subst, ◌∙◌}
+use Rattle.std.specs.Prelude.{ℤ, slice_get}
 use Rattle.std.proofs.lemmas.Option.{slice_get_within}
+use Rattle.base.proofs.Lists.{get_set, some_at}
 use Rattle.base.specs.declared.event.Event.{Event}
-use Rattle.machine_isa.specs.declared.instr.Instr.{Instr}
-use Rattle.machine_semantics.specs.Image.{Image, Process}
-use Rattle.machine_semantics.specs.State.{Job, Thread, Ready, State}
+use Rattle.machine_semantics.specs.Image.{Process}
+use Rattle.machine_semantics.specs.State.{Job, Ready, State}
 use Rattle.machine_semantics.specs.Effect.{Own, Outcome}
 use Rattle.machine_semantics.specs.Tick.{Ticked, owned_of, settle}
 use Rattle.vm_instructions.specs.declared.row.Halt.{Halt}
-use Rattle.vm_instructions.specs.declared.row.Halt.TheVariants as halt
-use Rattle.vm_instructions.specs.Rows.{Ended, Runs}
+use Rattle.vm_instructions.specs.Rows.{Runs}
 use Rattle.vm_stretch.specs.Quiet.{AreQuiet}
-use Rattle.vm_stretch.specs.Silent.{is_silent, next_own, with_process}
-use Rattle.vm_stretch.specs.Stretch.{outcomes, pass, pass_thread}
-use Rattle.vm_stretch.proofs.StretchMoving.{get_set}
+use Rattle.vm_stretch.specs.Silent.{with_process}
+use Rattle.vm_stretch.specs.Stretch.{pass}
 use Rattle.vm_turn.specs.Own.{CanCome}
 use Rattle.vm_turn.specs.Rows.{CanEnd, CanRun, EndsIn, HasRun, IsSeenAt, outcome_of, own_at}
-use Rattle.vm_state.specs.declared.board.Board.{Board}
-use Rattle.vm_state.specs.Board.{IsBoardOf, rows_of, state_of}
-use Rattle.vm_stretch.proofs.Lists.{get_other, same_or_not, there_is}
-use Rattle.machine_safety_spec.specs.Queues.{AreQueued, waits_on}
+use Rattle.machine_safety_spec.specs.Queues.{AreQueued}
 use Rattle.vm_runner.specs.Turn.{BurnsNothing, unspent}
-use Rattle.vm_runner.proofs.Rowing.{RowEnds, comes, row_ends}
+use Rattle.vm_runner.proofs.Rowing.{RowEnds, comes, row_ends, within_budget, passes_as, seen_at, queued_row}
 use Rattle.edf_semantics.specs.Run.{Marked, begin, begin_some, events_from, state_at}
 use Rattle.edf_semantics.specs.Turn.{chosen, marked, started}
 use Rattle.edf_semantics.specs.Rows.{IsChosen, IsRowTaken, IsSafeRun}
 use Rattle.edf_semantics.proofs.Staying.{IsReady}
 use Rattle.edf_semantics.proofs.Rowing.{row_is_safe, row_is_taken}
 use Rattle.edf_machine.specs.Turn.{HasPassed, Run}
-use Rattle.edf_machine.proofs.Passing.{can_come, events_alone, is_ready, start}
-
--- no more ticks are left than there were
-within_budget : (image : Image) (first : Own) (budget : ℕ) (h : Halt) (new : Own) → Runs image first budget h new → unspent h ≤ budget
-within_budget image first budget halt.Spent new runs = omega arith
-within_budget image first budget (halt.Raises rest number) new runs = runs.2
-within_budget image first budget (halt.Sees rest) new runs = runs.2
+use Rattle.edf_machine.proofs.Passing.{events_alone, is_ready, start}
+use Rattle.vm_turn.proofs.Safely.{can_of}
 
 -- ---- the process that is chosen, and its row
 
@@ -51,7 +40,7 @@ starts_here run most k at words quiet burnt =
     let s : State = start run in
     let r : IsReady run.image s.threads k = is_ready run k at in
     let below = slice_get_within run.image.processes k r.p r.process in
-    let row = there_is s.owned k (omega (arith, below, words)) in
+    let row = some_at s.owned k (omega (arith, below, words)) in
     record {
       job = r.job;
       is = record {
@@ -70,13 +59,6 @@ pub row_starts : (run : Run) (most k : ℕ) (s : State) → s ≡ start run → 
 row_starts run most k s same at words quiet burnt =
     starts_here run most k at (subst (λ (x : State). length x.owned ≡ length run.image.processes) same words)
     (subst (λ (x : State). AreQuiet run.image run.script run.tick most x) same quiet) (subst (λ (x : State). BurnsNothing x k) same burnt)
-
--- the board has words of each process
-pub words_count : (image : Image) (b : Board) → IsBoardOf image b → length (state_of b).owned ≡ length image.processes
-words_count image b board = count b.owned.items ∙ board.owned where
-  count : (vs : List (Vec ℤ)) → length (rows_of vs) ≡ length vs
-  count [] = refl
-  count (v ∷ vs) = ap suc (count vs)
 
 pub can_run : (run : Run) (most k : ℕ) (s : State) → IsSafeRun run.image run.script → s ≡ start run → RowStarts run most k → CanRun run.image most k s
 can_run run most k s safe same row =
@@ -103,34 +85,6 @@ pub record RowRan (run : Run) (k passed : ℕ) (h : Halt) (new : Own) : Type 0 w
   pub events : events_from run.image run.script passed run.tick (state_at run.image run.script run.tick) ≡ started run.image run.script run.tick ++ after.events
   pub ready : slice_get (with_process k new (start run)).threads k ≡ Some (Ready new.job)
   pub words : own_at k new.job (with_process k new (start run)) ≡ new
-
-passes_as : (image : Image) (u k m : ℕ) (p : Process) (first o : Own) (s : State) → slice_get image.processes k ≡ Some p → slice_get s.threads k ≡ Some (Ready first.job) → slice_get s.owned k ≡ Some first.owned
-    → pass image u m (with_process k o s) (Some k) ≡ settle image (u + (m - 1)) k p o.job (with_process k o s) (comes image s k m o)
-passes_as image u k m p first o s process ready owned =
-    let w : State = with_process k o s in
-    let there : slice_get w.threads k ≡ Some (Ready o.job) = get_set s.threads k (Ready o.job) (Ready first.job) ready in
-    let words : owned_of (slice_get w.owned k) ≡ o.owned = ap (λ (x : Option (List ℤ)). owned_of x) (get_set s.owned k o.owned first.owned owned) in
-    ap (λ (x : Option Process). pass_thread image u m k w x (slice_get w.threads k)) process
-    ∙ ap (λ (x : Option Thread). pass_thread image u m k w (Some p) x) there
-    ∙ ap (λ (ws : List ℤ). settle image (u + (m - 1)) k p o.job w (outcomes image w o.job ws m o.job.burn)) words
-
-seen_at : (image : Image) (first : Own) (budget : ℕ) (h : Halt) (new : Own) → Runs image first budget h new → IsSeenAt image h new.job.place
-seen_at image first budget halt.Spent new runs = tt
-seen_at image first budget (halt.Raises rest number) new runs = tt
-seen_at image first budget (halt.Sees rest) new runs =
-    let last : Own = runs.0 in
-    let instr : Instr = runs.1 in
-    let ended : Ended image first (budget - rest) last instr = runs.3 in
-    let silent : is_silent instr ≡ false = runs.4 in
-    let is : new ≡ next_own last = runs.5 in
-    let place : (last.job.place + 1) - 1 ≡ last.job.place = omega arith in
-    subst (λ (x : Own). IsSeenAt image (halt.Sees rest) x.job.place) (sym is) (
-      omega arith,
-      λ found at.
-          let both : Some instr ≡ Some found = sym ended.at.here ∙ ap (λ (c : ℕ). slice_get image.code c) (sym place) ∙ at in
-          let same : instr ≡ found = cc in
-          ap (λ (x : Instr). is_silent x) (sym same) ∙ silent,
-    )
 
 row_ran : (run : Run) (most k : ℕ) (h : Halt) (new : Own) → IsSafeRun run.image run.script → 1 ≤ most → (row : RowStarts run most k) → Runs run.image (own_at k row.job (start run)) most h new → RowRan run k (most - unspent h) h new
 row_ran run most k h new safe some row runs =
@@ -181,14 +135,6 @@ enough run most k s s' h same row has =
 
 -- ---- what code asks for at its end
 
-queued_row : (k : ℕ) (o : Own) (job : Job) (s : State) → slice_get s.threads k ≡ Some (Ready job) → AreQueued s → AreQueued (with_process k o s)
-queued_row k o job s ready queued c j =
-    queued c j ∙ elim (same_or_not k j) [
-      | inl same ↦ subst (λ (i : ℕ). waits_on c (slice_get s.threads i) ≡ waits_on c (slice_get (slice_set s.threads k (Ready o.job)) i)) same
-          (ap (λ (x : Option Thread). waits_on c x) ready ∙ sym (ap (λ (x : Option Thread). waits_on c x) (get_set s.threads k (Ready o.job) (Ready job) ready)))
-      | inr differ ↦ ap (λ (x : Option Thread). waits_on c x) (sym (get_other s.threads k j (Ready o.job) differ))
-    ]
-
 pub row_queued : (run : Run) (most k passed : ℕ) (h : Halt) (s' : State) → RowStarts run most k → Ran run k passed h s' → AreQueued (start run) → AreQueued s'
 row_queued run most k passed h s' row has queued = subst (λ (x : State). AreQueued x) (sym has.is) (queued_row k has.new row.job (start run) row.is.ready queued)
 
@@ -199,7 +145,7 @@ can_end run k passed h s' safe has =
     let u : ℕ = run.tick + (passed - 1) in
     let out : Outcome = outcome_of run.image w h has.new in
     let can : CanCome r.p.stack out =
-    can_come run.image u k r.p has.new.job w out (ap (λ (x : Ticked). x.stuck) (sym r.settled) ∙ r.free)
+    can_of run.image u k r.p has.new.job w out (ap (λ (x : Ticked). x.stuck) (sym r.settled) ∙ r.free)
     (λ th at. safe.stack (run.tick + passed) k r.p th r.process (ap (λ (x : Marked). slice_get x.state.threads k) r.state ∙ ap (λ (x : Ticked). slice_get x.state.threads k) r.settled ∙ at)) r.ready in
     subst (λ (x : State). CanEnd run.image k x h) (sym has.is) (record {
       p = r.p;

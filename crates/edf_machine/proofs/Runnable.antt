@@ -1,15 +1,15 @@
 -- By the laws of safety and of waits.
-use Rattle.std.proofs.Common.{◌≡◌, ◌<◌, ℕ, zero, suc, List, [], ◌∷◌, Option, Some, None, length, arith, refl, subst}
-use Rattle.std.specs.Prelude.{◌^◌, slice_get}
+use Rattle.std.proofs.Common.{ℕ, Option, None, arith, subst}
+use Rattle.std.specs.Prelude.{◌^◌}
 use Rattle.std.proofs.lemmas.Option.{slice_get_within}
+use Rattle.base.proofs.Lists.{some_at}
 use Rattle.machine_isa.specs.declared.instr.Instr.{Instr}
-use Rattle.machine_semantics.specs.Image.{Process, Script}
-use Rattle.machine_semantics.specs.State.{Job, Thread, Idle, Ready, Waiting, State}
+use Rattle.machine_semantics.specs.Image.{Script}
+use Rattle.machine_semantics.specs.State.{Job, Thread, Ready, State}
 use Rattle.machine_safety_spec.specs.Walk.{Where}
 use Rattle.machine_safety_spec.specs.Safe.{Parts, ImageFits}
-use Rattle.machine_safety_spec.specs.Whole.{StateFits, StackFits}
+use Rattle.machine_safety_spec.specs.Whole.{StateFits}
 use Rattle.machine_safety.proofs.Starting.{starts_keep}
-use Rattle.vm_stretch.specs.RowLaws.{IsInStack}
 use Rattle.edf_semantics.specs.Run.{state_at}
 use Rattle.edf_semantics.specs.Safe.{EveryRunIsSafe, IsWaitless}
 use Rattle.edf_semantics.proofs.Keeping.{kept}
@@ -19,16 +19,7 @@ use Rattle.edf_machine.specs.Runnable.{NobodyWaits}
 use Rattle.edf_semantics.specs.Rows.{IsSafeRun}
 use Rattle.edf_semantics.specs.Turn.{begun}
 use Rattle.edf_machine.specs.EdfRunnable.{WaitlessRunsAreRunnable}
-
-in_stack : (p : Process) (th : Thread) → StackFits p th → IsInStack p th
-in_stack p Idle fits = tt
-in_stack p (Ready job) fits = fits
-in_stack p (Waiting c due n job) fits = fits
-
-there_is : {X : Type 0} (xs : List X) (k : ℕ) → k < length xs → (x : X) × (slice_get xs k ≡ Some x)
-there_is [] k below = absurd (omega arith)
-there_is (x ∷ xs) zero below = (x, refl)
-there_is (x ∷ xs) (suc k) below = there_is xs k (omega arith)
+use Rattle.vm_law.proofs.Valid.{in_stack}
 
 -- the same in other words
 nobody : (s : State) → lifted.NobodyWaits s → NobodyWaits s
@@ -43,7 +34,7 @@ safe_run safe e ps script fits waitless = record {
   stack = λ u k p th at_p at_th. in_stack p th ((safe e ps script u fits waitless).1 k p th at_p at_th);
   early = λ u k job instr at_job at_instr.
       let s : StateFits e ps (begun e.image script u) = during_fits e ps script fits waitless u in
-      let some = there_is e.image.processes k (omega (arith, s.many, slice_get_within (begun e.image script u).threads k (Ready job) at_job)) in
+      let some = some_at e.image.processes k (omega (arith, s.many, slice_get_within (begun e.image script u).threads k (Ready job) at_job)) in
       (s.threads k some.0 (Ready job) some.1 at_job).1.early instr at_instr;
 }
 

@@ -1,12 +1,13 @@
 -- One process more in the choice.
 use Rattle.std.proofs.Common.{◌≡◌, ◌+◌, ℕ, List, ◌∷◌, Some, drop, refl, ap, ◌∙◌}
 use Rattle.std.specs.Prelude.{slice_get}
+use Rattle.std.proofs.lemmas.List.{drop_all}
+use Rattle.base.proofs.Lists.{drop_at}
 use Rattle.machine_semantics.specs.Image.{Image, Process}
 use Rattle.machine_semantics.specs.State.{Thread, Idle, Ready, Waiting}
 use Rattle.edf_semantics.specs.Choice as ch
 use Rattle.edf_semantics.specs.Choice.{Mark, choose, place_of, taken}
 use Rattle.edf_machine.specs.Sights.{Seen, looked, seen_from}
-use Rattle.edf_machine.proofs.Lists.{drop_at}
 
 head : (image : Image) (k : ℕ) (p : Process) (ps : List Process) (t : Thread) (ts : List Thread) (m : Mark) (ms : List Mark) → seen_from image k (p ∷ ps) (t ∷ ts) (m ∷ ms) ≡ looked image k p t m (seen_from image (k + 1) ps ts ms)
 head image k p ps Idle ts m ms = refl

@@ -4,6 +4,7 @@ use Rattle.std.specs.Prelude.{slice_get, cond, nat_lt, nat_eq, not, ◌&&◌, �
 use Rattle.std.proofs.lemmas.Bool.{cases_Bool, cases_lt, ltb-true, ltb-false}
 use Rattle.std.proofs.lemmas.Bool.Decides.{nat_tests}
 use Rattle.std.proofs.lemmas.Option.{slice_get_within}
+use Rattle.base.proofs.Lists.{some_at}
 use Rattle.machine_semantics.specs.Image.{Image, Process}
 use Rattle.machine_semantics.specs.State.{Job, Thread, Idle, Ready, Waiting}
 use Rattle.machine_safety_spec.specs.Whole.{ceiling_of}
@@ -259,11 +260,6 @@ inside_ready image (Some Idle) s is = absurd cc
 inside_ready image (Some (Waiting c due number job)) s is = absurd cc
 inside_ready image None s is = absurd cc
 
-has_process : (ps : List Process) (j : ℕ) → j < length ps → (p : Process) × (slice_get ps j ≡ Some p)
-has_process [] j h = absurd (omega arith)
-has_process (p ∷ ps) zero h = (p, refl)
-has_process (p ∷ ps) (suc j) h = has_process ps j (omega arith)
-
 module _ (image : Image) (ts : List Thread) (ms : List Mark) (now : ℕ)
     (distinct : AreDistinct (length image.processes) (rank_at image))
     (stack : AreStacked (length image.processes) (rank_at image) (deadline_at image) now (acts ts ms) (insides image ts))
@@ -283,7 +279,7 @@ module _ (image : Image) (ts : List Thread) (ms : List Mark) (now : ℕ)
   before_other begun e s q below other active counts =
       let index : s.index ≡ e.place = omega (arith, s.place) in
       let a = act_active (slice_get ts q) (slice_get ms q) active in
-      let process = has_process image.processes q below in
+      let process = some_at image.processes q below in
       let h : IsNotLater e.due e.rank (a.1.release + process.0.deadline) process.0.rank = s.least q process.0 a.0 a.1 process.1 a.2 a.3 (counts a.1 a.3) in
       let own_p : slice_get image.processes e.place ≡ Some s.p = ap (λ (x : ℕ). slice_get image.processes x) (sym index) ∙ s.process in
       let own_t : slice_get ts e.place ≡ Some (Ready s.job) = ap (λ (x : ℕ). slice_get ts x) (sym index) ∙ s.ready in
@@ -383,7 +379,7 @@ module _ (image : Image) (ts : List Thread) (ms : List Mark) (now : ℕ)
       second back None none =
           let begun = stack.begun back.holder back.stay back.holder_of_these back.is_inside in
           let a = act_active (slice_get ts back.holder) (slice_get ms back.holder) begun.active in
-          let process = has_process image.processes back.holder back.holder_of_these in
+          let process = some_at image.processes back.holder back.holder_of_these in
           absurd (none back.holder process.0 a.0 a.1 process.1 a.2 a.3 (λ same. begun_counts back.holder begun a.1 a.3))
       second back (Some g) b =
           let own = entry_active true g b in
@@ -397,7 +393,7 @@ module _ (image : Image) (ts : List Thread) (ms : List Mark) (now : ℕ)
   chooses_by : (o : Option Entry) → SoonestOf false 0 image.processes ts ms o → Chooses (length image.processes) (rank_at image) (deadline_at image) (insides image ts) (acts ts ms) (taken (least_ceiling image ts) (place_of (soonest true 0 image.processes ts ms)) o)
   chooses_by None none = λ q below active.
       let a = act_active (slice_get ts q) (slice_get ms q) active in
-      let process = has_process image.processes q below in
+      let process = some_at image.processes q below in
       none q process.0 a.0 a.1 process.1 a.2 a.3 (λ same. absurd (cc))
   chooses_by (Some e) s = chosen_of e s (least_ceiling image ts) (least_is image ts) (soonest true 0 image.processes ts ms) (soonest_is true 0 image.processes ts ms)
 

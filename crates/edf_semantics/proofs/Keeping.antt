@@ -2,7 +2,8 @@
 use Rattle.std.proofs.Common.{◌≡◌, ◌<◌, ◌+◌, ◌⊎◌, inl, inr, ℕ, zero, suc, List, [], ◌∷◌, Option, Some, None, length, arith, refl, ap, sym, subst, ◌∙◌, true, false, Bool}
 use Rattle.std.specs.Prelude.{slice_get, map}
 use Rattle.std.proofs.lemmas.Bool.Decides.{nat_tests}
-use Rattle.std.proofs.lemmas.Option.{slice_get_within}
+use Rattle.std.proofs.lemmas.Option.{slice_get_within, same_Some}
+use Rattle.base.proofs.Lists.{some_at}
 use Rattle.machine_semantics.specs.Image.{Process, Script}
 use Rattle.machine_semantics.specs.State.{Thread, Idle, Ready, Waiting, State}
 use Rattle.machine_semantics.specs.Starts.{release_thread, starts}
@@ -30,22 +31,14 @@ use Rattle.edf_semantics.specs.Choice.{Mark}
 use Rattle.edf_semantics.specs.Run.{Marked, mark_of, begin_some, candidate, marks_during, chosen_at, first_marks, tick, state_at}
 use Rattle.edf_semantics.specs.Safe.{act, inside_of, stay_of, acts, insides, rank_at, deadline_at, rank_of_some, IsWaitless, EveryRunIsSafe}
 use Rattle.edf_semantics.proofs.Choosing.{act_active, inside_ready, chooses}
-use Rattle.edf_semantics.proofs.Marking.{marks_at, length_marks, length_begin, begin_at, begin_other, has_mark, has_thread, Opening, IsNotWaiting, opening, is_new, starts_one, inside_one, opened_calm, starts_at, restacked}
+use Rattle.edf_semantics.proofs.Marking.{marks_at, length_marks, length_begin, begin_at, begin_other, has_mark, Opening, IsNotWaiting, opening, is_new, starts_one, inside_one, opened_calm, starts_at, restacked}
 use Rattle.edf_semantics.proofs.Picking.{run_keeps, may_run}
-
-has_process : (ps : List Process) (j : ℕ) → j < length ps → (p : Process) × (slice_get ps j ≡ Some p)
-has_process [] j h = absurd (omega arith)
-has_process (p ∷ ps) zero h = (p, refl)
-has_process (p ∷ ps) (suc j) h = has_process ps j (omega arith)
-
-same_number : (j k : ℕ) → Some j ≡ Some k → j ≡ k
-same_number j k is = cc
 
 module _ (e : Where) (ps : ℕ → Parts) (image_fits : ImageFits e ps) (waitless : IsWaitless e ps) where
   pub distinct : AreDistinct (length e.image.processes) (rank_at e.image)
   distinct p q p_below q_below same =
-      let a = has_process e.image.processes p p_below in
-      let b = has_process e.image.processes q q_below in
+      let a = some_at e.image.processes p p_below in
+      let b = some_at e.image.processes q q_below in
       let rank_a : rank_at e.image p ≡ a.0.rank = ap (λ (x : Option Process). rank_of_some x) a.1 in
       let rank_b : rank_at e.image q ≡ b.0.rank = ap (λ (x : Option Process). rank_of_some x) b.1 in
       waitless.one_each p q a.0 b.0 a.1 b.1 (sym rank_a ∙ same ∙ rank_b)
@@ -89,7 +82,7 @@ module _ (e : Where) (ps : ℕ → Parts) (image_fits : ImageFits e ps) (waitles
     about k p process =
         let below : k < length e.image.processes = slice_get_within e.image.processes k p process in
         let c = kept.calm k p process in
-        let mid = has_thread (starts e.image script t s.state).state.threads k (omega (arith, below, fits_during.many)) in
+        let mid = some_at (starts e.image script t s.state).state.threads k (omega (arith, below, fits_during.many)) in
         let m = has_mark s.marks k (omega (arith, below, kept.many)) in
         let is : TimesOut (maybe_released e.image p (is_due script t p) (slice_get s.state.threads k)) (slice_get (starts e.image script t s.state).state.threads k) = begun e.image script t k p s.state process in
         let here : TimesOut (maybe_released e.image p (is_due script t p) (Some c.0)) (Some mid.0) =
@@ -128,12 +121,12 @@ module _ (e : Where) (ps : ℕ → Parts) (image_fits : ImageFits e ps) (waitles
     stack_during =
         restacked (length e.image.processes) (rank_at e.image) (deadline_at e.image) (suc t) (acts (starts e.image script t s.state).state.threads (marks_during e.image script t s)) (insides e.image s.state.threads) (insides e.image (starts e.image script t s.state).state.threads)
         (λ q below.
-        let p = has_process e.image.processes q below in
+        let p = some_at e.image.processes q below in
         let x = about q p.0 p.1 in
         ap (λ (o : Option Thread). stay_of e.image (inside_of o)) x.at_mid ∙ ap (λ (o : Option ℕ). stay_of e.image o) (inside_one e.image p.0 x.old x.mid x.opens) ∙ ap (λ (o : Option Thread). stay_of e.image (inside_of o)) (sym x.at_old))
         (kept_by_releases (length e.image.processes) (rank_at e.image) (deadline_at e.image) t (λ k. 1) released_at (acts s.state.threads s.marks) (acts (starts e.image script t s.state).state.threads (marks_during e.image script t s)) (insides e.image s.state.threads) kept.stack
         (λ q below.
-        let p = has_process e.image.processes q below in
+        let p = some_at e.image.processes q below in
         let x = about q p.0 p.1 in
         starts_at t x.old x.mid x.m (mark_of t x.old x.mid x.m) (slice_get s.state.threads q) (slice_get (starts e.image script t s.state).state.threads q) (slice_get s.marks q) (slice_get (marks_during e.image script t s) q) x.at_old x.at_mid x.at_m (mark_during q p.0 x) (starts_one e.image p.0 t x.old x.mid x.m x.opens)))
 
@@ -182,7 +175,7 @@ module _ (e : Where) (ps : ℕ → Parts) (image_fits : ImageFits e ps) (waitles
     after k p process x =
         let u : State = (run_picked e.image t (starts e.image script t s.state).state (candidate (chosen_at e.image script t s))).state in
         let below : k < length e.image.processes = slice_get_within e.image.processes k p process in
-        let new = has_thread (run_picked e.image t (starts e.image script t s.state).state (candidate (chosen_at e.image script t s))).state.threads k (omega (arith, below, safe.1.many)) in
+        let new = some_at (run_picked e.image t (starts e.image script t s.state).state (candidate (chosen_at e.image script t s))).state.threads k (omega (arith, below, safe.1.many)) in
         let calm_mid = opened_calm e.image p x.old x.mid x.opens in
         let mid_not : is_waiting (slice_get (starts e.image script t s.state).state.threads k) ≡ false = ap is_waiting x.at_mid ∙ not_waiting x.mid calm_mid in
         elim (suspends_during k p process x) [
@@ -203,7 +196,7 @@ module _ (e : Where) (ps : ℕ → Parts) (image_fits : ImageFits e ps) (waitles
         idle_rests : (o : Option ℕ) → Chooses (length e.image.processes) (rank_at e.image) (deadline_at e.image) (insides e.image (starts e.image script t s.state).state.threads) (acts (starts e.image script t s.state).state.threads (marks_during e.image script t s)) o → x.mid ≡ Idle → is_chosen k (candidate o) ≡ false
         idle_rests None chooses idle = refl
         idle_rests (Some j) chosen idle = not_chosen k (Some j) (λ same.
-            let one : j ≡ k = same_number j k same in
+            let one : j ≡ k = same_Some j k same in
             let a = act_active (slice_get (starts e.image script t s.state).state.threads j) (slice_get (marks_during e.image script t s) j) chosen.active in
             let both : Some (Ready a.0) ≡ Some Idle = sym a.2 ∙ ap (λ (i : ℕ). slice_get (starts e.image script t s.state).state.threads i) one ∙ x.at_mid ∙ ap (λ (y : Thread). Some y) idle in
             absurd (cc))
@@ -233,7 +226,7 @@ module _ (e : Where) (ps : ℕ → Parts) (image_fits : ImageFits e ps) (waitles
     passes : Passes (length e.image.processes) (chosen_at e.image script t s) (acts (starts e.image script t s.state).state.threads (marks_during e.image script t s)) (acts (run_picked e.image t (starts e.image script t s.state).state (candidate (chosen_at e.image script t s))).state.threads (begin_some (chosen_at e.image script t s) (marks_during e.image script t s)))
     passes = record {
       runs = λ k below is.
-          let p = has_process e.image.processes k below in
+          let p = some_at e.image.processes k below in
           let x = about k p.0 p.1 in
           let m1 : Mark = mark_of t x.old x.mid x.m in
           let at_next : slice_get (begin_some (chosen_at e.image script t s) (marks_during e.image script t s)) k ≡ Some (record { release = (mark_of t x.old x.mid x.m).release; begun = true }) =
@@ -253,7 +246,7 @@ module _ (e : Where) (ps : ℕ → Parts) (image_fits : ImageFits e ps) (waitles
                 omega (arith, h);
           };
       others = λ k below differ.
-          let p = has_process e.image.processes k below in
+          let p = some_at e.image.processes k below in
           let x = about k p.0 p.1 in
           let y = after k p.0 p.1 x in
           let same : slice_get (run_picked e.image t (starts e.image script t s.state).state (candidate (chosen_at e.image script t s))).state.threads k ≡ slice_get (starts e.image script t s.state).state.threads k =
@@ -278,7 +271,7 @@ module _ (e : Where) (ps : ℕ → Parts) (image_fits : ImageFits e ps) (waitles
             ]
           ];
       others = λ k below differ.
-          let p = has_process e.image.processes k below in
+          let p = some_at e.image.processes k below in
           let x = about k p.0 p.1 in
           let y = after k p.0 p.1 x in
           ap (λ (o : Option Thread). stay_of e.image (inside_of o)) (y.at_new ∙ ap (λ (z : Thread). Some z) (rests_same k p.0 x y differ) ∙ sym x.at_mid);

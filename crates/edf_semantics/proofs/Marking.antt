@@ -53,11 +53,6 @@ has_mark [] k h = absurd (omega arith)
 has_mark (m ∷ ms) zero h = (m, refl)
 has_mark (m ∷ ms) (suc k) h = has_mark ms k (omega arith)
 
-pub has_thread : (ts : List Thread) (k : ℕ) → k < length ts → (th : Thread) × (slice_get ts k ≡ Some th)
-has_thread [] k h = absurd (omega arith)
-has_thread (t ∷ ts) zero h = (t, refl)
-has_thread (t ∷ ts) (suc k) h = has_thread ts k (omega arith)
-
 -- ---- start events of one process that does not wait
 
 -- a process that is idle is released or stays idle; one that is ready is as it was; none waits

@@ -1,7 +1,8 @@
 -- The tick of any process that may run is not stuck; what it does to what the choice sees.
-use Rattle.std.proofs.Common.{◌≡◌, ◌<◌, ℕ, zero, suc, List, [], ◌∷◌, Option, Some, None, length, arith, refl, ap, sym, subst, ◌∙◌, false}
+use Rattle.std.proofs.Common.{◌≡◌, ◌<◌, ℕ, List, Option, Some, None, length, arith, refl, ap, sym, subst, ◌∙◌, false}
 use Rattle.std.specs.Prelude.{slice_get}
 use Rattle.std.proofs.lemmas.Option.{slice_get_within}
+use Rattle.base.proofs.Lists.{some_at}
 use Rattle.machine_semantics.specs.Image.{Image, Process}
 use Rattle.machine_semantics.specs.State.{Job, Thread, Ready, State}
 use Rattle.machine_semantics.specs.Tick.{Candidate, owned_of, outcome, run_thread, run_picked}
@@ -34,11 +35,6 @@ run_keeps e ps image_fits t s fits (Some c) ch =
     (subst (λ (x : Option Thread). ((run_thread e.image t c.place s (Some ch.p) x).stuck ≡ false) × StateFits e ps (run_thread e.image t c.place s (Some ch.p) x).state) (sym ready)
     (settle_keeps e ps image_fits t s c ch c.place refl process ready fits o.0 (outcome e.image s ch.job (owned_of (slice_get s.owned c.place)) ch.job.burn) o.1))
 
-has_process : (ps : List Process) (j : ℕ) → j < length ps → (p : Process) × (slice_get ps j ≡ Some p)
-has_process [] j h = absurd (omega arith)
-has_process (p ∷ ps) zero h = (p, refl)
-has_process (p ∷ ps) (suc j) h = has_process ps j (omega arith)
-
 -- who is chosen may run
 pub may_run : (image : Image) (ts : List Thread) (ms : List Mark) (now : ℕ) → length ms ≡ length image.processes
     → AreStacked (length image.processes) (rank_at image) (deadline_at image) now (acts ts ms) (insides image ts)
@@ -51,7 +47,7 @@ may_run image ts ms now many stack None chooses = λ j q other at_q at_t.
     chooses j below (omega (arith, ap (λ (x : Activation). x.left) e)))
 may_run image ts ms now many stack (Some k) chosen =
     let a = act_active (slice_get ts k) (slice_get ms k) chosen.active in
-    let p = has_process image.processes k chosen.of_these in
+    let p = some_at image.processes k chosen.of_these in
     let rank : rank_at image k ≡ p.0.rank = ap (λ (x : Option Process). rank_of_some x) p.1 in
     record {
       index = k;

@@ -1,78 +1,29 @@
 -- Rows of instructions in runs.
-use Rattle.std.proofs.Common.{◌≡◌, ◌≤◌, ◌<◌, ◌+◌, ◌-◌, ◌++◌, inl, inr, ℕ, List, [], ◌∷◌, Option, Some, None, length, arith, refl, ap, sym, subst, ◌∙◌, zero, suc, false, Bool, append_assoc}
-use Rattle.std.specs.Prelude.{ℤ, slice_get, slice_set, nat_lt, cond}
+use Rattle.std.proofs.Common.{◌≡◌, ◌≤◌, ◌<◌, ◌+◌, ◌-◌, ◌++◌, inl, inr, ℕ, List, [], Option, Some, length, arith, refl, ap, sym, subst, ◌∙◌, false, append_assoc}
+use Rattle.std.specs.Prelude.{ℤ, slice_get, slice_set}
 use Rattle.std.proofs.lemmas.Bool.{cases_lt}
 use Rattle.std.proofs.lemmas.List.{append-nil, length-set}
-use Rattle.std.proofs.lemmas.Bool.Decides.{nat_tests}
+use Rattle.base.proofs.Lists.{set_same, get_set}
 use Rattle.machine_isa.specs.declared.instr.Instr.{Instr}
 use Rattle.machine_isa.specs.Ticks.{ticks}
 use Rattle.base.specs.declared.event.Event.{Event}
 use Rattle.machine_semantics.specs.Image.{Image, Process, Script}
-use Rattle.machine_semantics.specs.State.{Job, Thread, Ready, State}
-use Rattle.machine_semantics.specs.Effect.{Own, Outcome, Goes, Does, Signals, Broadcasts, Waits, Raises, Ends, Stuck, effect}
+use Rattle.machine_semantics.specs.State.{Thread, Ready, State}
+use Rattle.machine_semantics.specs.Effect.{Own, Outcome, effect}
 use Rattle.machine_semantics.specs.Starts.{Started, starts, unchanged}
-use Rattle.machine_semantics.specs.Tick.{Ticked, at_next, owned_of, settle}
-use Rattle.vm_stretch.specs.Stretch.{FitsIn, FitsThread, left, left_at, left_of, outcome_at_once, outcomes, pass, pass_thread}
+use Rattle.machine_semantics.specs.Tick.{Ticked, owned_of, settle}
+use Rattle.vm_stretch.specs.Stretch.{FitsIn, FitsThread, left, outcome_at_once, outcomes, pass, pass_thread}
 use Rattle.vm_stretch.specs.Quiet.{IsQuiet}
-use Rattle.vm_stretch.specs.RowLaws.{IsInStack}
-use Rattle.vm_stretch.specs.Silent.{Begins, Follows, GoesTo, IsAt, IsWithin, Leads, next_own, nowhere, with_process}
-use Rattle.vm_stretch.proofs.StretchMoving.{get_set, quiet_same, set_set}
+use Rattle.vm_stretch.specs.Silent.{Begins, Follows, GoesTo, IsAt, Leads, next_own, nowhere, with_process}
 use Rattle.vm_stretch.proofs.Quiet.{quiet_starts_nothing}
-use Rattle.vm_stretch.proofs.Rowing.{silent_anywhere}
+use Rattle.vm_stretch.proofs.Rowing.{silent_anywhere, passes_to, passes, fits_left, within_of, inside_same, burn_same, quiet_with, there_is}
 use Rattle.edf_semantics.specs.Choice.{Mark, choose}
 use Rattle.edf_semantics.specs.Run.{Marked, Passed, begin, begin_some, events_from, marks_of, state_at}
 use Rattle.edf_semantics.specs.Turn.{IsTaken, IsTurn, IsUnstuck, begun, chosen, marked, started, turn}
 use Rattle.edf_semantics.specs.Rows.{HasLed, IsChosen, IsRowTaken, RowIsSafe, RowIsTaken, RowStaysInRun}
-use Rattle.edf_semantics.proofs.Staying.{begin_twice, choice_stays, length_begin, marks_few, marks_same}
+use Rattle.edf_semantics.proofs.Staying.{begin_twice, choice_stays, marks_few, marks_same}
 use Rattle.edf_semantics.proofs.Turning.{both, tick_is, turn_stays_in_run}
-
-set_same : {X : Type 0} (xs : List X) (k : ℕ) (x : X) → slice_get xs k ≡ Some x → slice_set xs k x ≡ xs
-set_same [] k x at = refl
-set_same (z ∷ zs) zero x at = let e : x ≡ z = cc in ap (λ (y : _). y ∷ zs) e
-set_same (z ∷ zs) (suc k) x at = ap (λ (ys : List _). z ∷ ys) (set_same zs k x at)
-
-inside_same : (image : Image) (first : Own) (n : ℕ) (o : Own) → Leads image first n o → o.job.inside ≡ first.job.inside
-inside_same image first n o Begins = refl
-inside_same image first n o (Follows before instr next step m time) = step.inside ∙ inside_same image first _ _ before
-
-burn_same : (image : Image) (first : Own) (n : ℕ) (o : Own) → Leads image first n o → o.job.burn ≡ first.job.burn
-burn_same image first n o Begins = refl
-burn_same image first n o (Follows before instr next step m time) = step.burn ∙ burn_same image first _ _ before
-
--- the quiet of a state is that of its threads
-pub quiet_with : (image : Image) (script : Script) (u k : ℕ) (o : Own) (s : State) → IsQuiet image script u s → IsQuiet image script u (with_process k o s)
-quiet_with image script u k o s quiet = let q : IsQuiet image script u _ = quiet_same image script u s k o.job quiet in record { lines = q.lines; releases = q.releases; waits = q.waits }
-
--- all ticks that are left of an instruction, at once
-passes_to : (image : Image) (t k m : ℕ) (p : Process) (first o : Own) (instr : Instr) (s : State) → slice_get image.processes k ≡ Some p → slice_get s.threads k ≡ Some (Ready first.job) → slice_get s.owned k ≡ Some first.owned
-    → IsAt image o instr → m ≡ ticks instr - o.job.done → pass image t m (with_process k o s) (Some k) ≡ settle image (t + (m - 1)) k p o.job (with_process k o s) (effect image (with_process k o s) instr (next_own o))
-passes_to image t k m p first o instr s process ready owned at time =
-    let w : State = with_process k o s in
-    let there : slice_get w.threads k ≡ Some (Ready o.job) = get_set s.threads k (Ready o.job) (Ready first.job) ready in
-    let words : owned_of (slice_get w.owned k) ≡ o.owned = ap (λ (x : Option (List ℤ)). owned_of x) (get_set s.owned k o.owned first.owned owned) in
-    let last : nat_lt (o.job.done + m) (ticks instr) ≡ false = let early = at.early in grind (arith, nat_tests) in
-    let out : outcomes image w o.job (owned_of (slice_get w.owned k)) m o.job.burn ≡ effect image w instr (next_own o) =
-    ap (λ (b : ℕ). outcomes image w o.job (owned_of (slice_get w.owned k)) m b) at.burnt
-    ∙ ap (λ (x : Option Instr). outcome_at_once image w o.job (owned_of (slice_get w.owned k)) m x) at.here
-    ∙ ap (λ (b : Bool). cond b (Goes (record { job = record (o.job) { done = o.job.done + m }; owned = owned_of (slice_get w.owned k); shared = w.shared })) (effect image w instr (record { job = at_next o.job; owned = owned_of (slice_get w.owned k); shared = w.shared }))) last
-    ∙ ap (λ (ws : List ℤ). effect image w instr (record { job = at_next o.job; owned = ws; shared = w.shared })) words in
-    ap (λ (x : Option Process). pass_thread image t m k w x (slice_get w.threads k)) process
-    ∙ ap (λ (x : Option Thread). pass_thread image t m k w (Some p) x) there
-    ∙ ap (λ (r : Outcome). settle image (t + (m - 1)) k p o.job w r) out
-
-passes : (image : Image) (t k m : ℕ) (p : Process) (first o next : Own) (instr : Instr) (s : State) → slice_get image.processes k ≡ Some p → slice_get s.threads k ≡ Some (Ready first.job) → slice_get s.owned k ≡ Some first.owned
-    → IsAt image o instr → effect image (with_process k o s) instr (next_own o) ≡ Goes next → m ≡ ticks instr - o.job.done → pass image t m (with_process k o s) (Some k) ≡ record { state = with_process k next s; events = []; stuck = false }
-passes image t k m p first o next instr s process ready owned at goes time =
-    let w : State = with_process k o s in
-    passes_to image t k m p first o instr s process ready owned at time
-    ∙ ap (λ (r : Outcome). settle image (t + (m - 1)) k p o.job w r) goes
-    ∙ ap (λ (ts : List Thread). record { state = record w { threads = ts; owned = slice_set w.owned k next.owned; shared = next.shared }; events = []; stuck = false }) (set_set s.threads k (Ready o.job) (Ready next.job))
-    ∙ ap (λ (ws : List (List ℤ)). record { state = record s { threads = slice_set s.threads k (Ready next.job); owned = ws; shared = next.shared }; events = []; stuck = false }) (set_set s.owned k o.owned next.owned)
-
-fits_left : (image : Image) (o : Own) (instr : Instr) (m : ℕ) → IsAt image o instr → m ≡ ticks instr - o.job.done → m ≤ left image o.job
-fits_left image o instr m at time =
-    let e : left image o.job ≡ ticks instr - o.job.done = ap (λ (b : ℕ). left_of b o.job.done (slice_get image.code o.job.place)) at.burnt ∙ ap (λ (x : Option Instr). left_at o.job.done x) at.here in
-    omega (arith, e)
+use Rattle.edf_semantics.proofs.Marking.{length_begin}
 
 -- ---- where n ticks have led
 
@@ -218,24 +169,6 @@ pub row_is_taken : RowIsTaken
 row_is_taken image script t budget k first safe is n o leads within m some fits all = row_taken image script t budget k n m first o safe is (led image script t budget k first safe is n o leads) within some fits all
 
 -- ---- what a run that is never stuck promises
-
--- the outcome of the last tick is within the stack, where it was not stuck, and the state after it is
-within_of : (image : Image) (u k : ℕ) (p : Process) (job : Job) (w after : State) (out : Outcome) → (settle image u k p job w out).stuck ≡ false → after ≡ (settle image u k p job w out).state
-    → ((th : Thread) → slice_get after.threads k ≡ Some th → IsInStack p th) → slice_get w.threads k ≡ Some (Ready job) → IsWithin p.stack out
-within_of image u k p job w after (Goes o) free is stack there =
-    stack (Ready o.job) (ap (λ (x : State). slice_get x.threads k) is ∙ get_set w.threads k (Ready o.job) (Ready job) there)
-within_of image u k p job w after Stuck free is stack there = absurd cc
-within_of image u k p job w after (Does a o) free is stack there = tt
-within_of image u k p job w after (Signals c o) free is stack there = tt
-within_of image u k p job w after (Broadcasts c o) free is stack there = tt
-within_of image u k p job w after (Waits c limit e o) free is stack there = tt
-within_of image u k p job w after (Raises e) free is stack there = tt
-within_of image u k p job w after Ends free is stack there = tt
-
--- an instruction is there, where the tick is not stuck
-there_is : (image : Image) (u k : ℕ) (p : Process) (job : Job) (w : State) (owned : List ℤ) (at : Option Instr) → (settle image u k p job w (outcome_at_once image w job owned 1 at)).stuck ≡ false → (instr : Instr) × (at ≡ Some instr)
-there_is image u k p job w owned None free = absurd cc
-there_is image u k p job w owned (Some instr) free = (instr, refl)
 
 pub row_is_safe : RowIsSafe
 row_is_safe image script t budget k first is burnt never n o leads within =

@@ -7,13 +7,9 @@ use Rattle.edf_semantics.specs.Choice as ch
 use Rattle.edf_semantics.specs.Choice.{Mark, Entry, is_sooner, sooner_of, entry, soonest, with_inside, least_ceiling, may_go, taken, place_of, choose}
 use Rattle.edf_semantics.specs.Run.{begin, begin_some, mark_of, marks_of}
 use Rattle.edf_semantics.proofs.Choosing.{Soonest, SoonestOf, soonest_is}
+use Rattle.edf_semantics.proofs.Marking.{length_begin}
 
 -- ---- marks
-
-pub length_begin : (k : ℕ) (ms : List Mark) → length (begin k ms) ≡ length ms
-length_begin k [] = refl
-length_begin zero (m ∷ ms) = refl
-length_begin (suc k) (m ∷ ms) = ap suc (length_begin k ms)
 
 pub length_some : (o : Option ℕ) (ms : List Mark) → length (begin_some o ms) ≡ length ms
 length_some None ms = refl

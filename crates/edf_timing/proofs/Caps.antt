@@ -14,8 +14,7 @@ use Rattle.sched_theorem.specs.Placed.{AreRanks}
 use Rattle.sched_theorem.proofs.Totals.{total_term}
 use Rattle.sched_demand.specs.declared.tasks.DTask.{DTask}
 use Rattle.sched_demand.specs.Demand.{task_at, AreTasks, due_by, demand_at, IsReach, IsPoint, IsFeasible}
-use Rattle.sched_demand.proofs.Turns.{due_some}
-use Rattle.sched_demand.proofs.Demanding.{sum_is, is_task, sorted, level_of, level_block}
+use Rattle.sched_demand.proofs.Demanding.{sum_is, is_task, sorted, level_of, level_block, due_some}
 use Rattle.edf_timing.specs.InTime.{IsTaskOf, rank_of, AreDemandsOf}
 
 -- at least one release in some ticks

@@ -1,6 +1,7 @@
 -- What is left of each activation, and of each stay, counted along the run.
 use Rattle.std.proofs.Common.{◌≡◌, ◌≤◌, ◌+◌, ◌⊎◌, inl, inr, ℕ, Option, Some, None, length, arith, refl, ap, sym, subst, ◌∙◌, true, Bool}
 use Rattle.std.specs.Prelude.{slice_get}
+use Rattle.std.proofs.lemmas.Bool.{cases_eq}
 use Rattle.machine_semantics.specs.Image.{Monitor, Process, Script}
 use Rattle.machine_semantics.specs.State.{Job, Thread, Idle, Ready, Waiting, State}
 use Rattle.machine_semantics.specs.Starts.{released, release_thread, starts}
@@ -22,9 +23,7 @@ use Rattle.edf_semantics.specs.Safe.{acts, insides, rank_at, deadline_at, IsWait
 use Rattle.edf_semantics.proofs.Choosing.{act_active}
 use Rattle.edf_semantics.proofs.Marking.{Opening, IsNotWaiting}
 use Rattle.edf_semantics.proofs.Keeping.{Kept, About, After, after, fits_during, choice, picked, chosen_is, not_chosen, rests_same}
-
-owes_more : (e : Where) (ps : ℕ → Parts) (s : State) (k n m : ℕ) → n ≤ m → Owes e ps s k n → Owes e ps s k m
-owes_more e ps s k n m le o = record { p = o.p; thread = o.thread; left = o.left; process = o.process; there = o.there; has = o.has; work = omega (arith, le, o.work) }
+use Rattle.sched_timing.proofs.Lives.{owes_more}
 
 -- inside a monitor that is there, with so much of the stay left, at most what a part tells
 pub record IsIn (e : Where) (ps : ℕ → Parts) (s : State) (k m n : ℕ) : Type 0 where
@@ -158,7 +157,7 @@ module _ (e : Where) (ps : ℕ → Parts) (image_fits : ImageFits e ps) (waitles
   -- chosen or not
   chosen_or : (k : ℕ) (o : Option ℕ) → (o ≡ Some k) ⊎ (o ≡ Some k → ⊥)
   chosen_or k None = inr (λ is. absurd (cc))
-  chosen_or k (Some j) = elim (work.same_or_not j k) [ inl same ↦ inl (ap (λ (i : ℕ). Some i) same) | inr differ ↦ inr (λ is. differ (let h : j ≡ k = cc in h)) ]
+  chosen_or k (Some j) = elim (cases_eq j k) [ inl same ↦ inl (ap (λ (i : ℕ). Some i) same) | inr differ ↦ inr (λ is. differ (let h : j ≡ k = cc in h)) ]
 
   -- the count of who does not run
   rests : (k : ℕ) (p : Process) → slice_get e.image.processes k ≡ Some p → (x : About e ps image_fits waitless script t s kept k p) → (c : Count e ps (starts e.image script t s.state).state k) → (chosen_at e.image script t s ≡ Some k → ⊥) → NextCount k p x c

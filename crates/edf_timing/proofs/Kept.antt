@@ -2,6 +2,7 @@
 use Rattle.std.proofs.Common.{◌≡◌, ◌+◌, ◌*◌, ℕ, zero, suc, List, [], ◌∷◌, Option, Some, None, map, arith, refl, ap, sym, subst, ◌∙◌, true, false, Bool}
 use Rattle.std.specs.Prelude.{slice_get, slice_set, cond, nat_eq}
 use Rattle.std.proofs.lemmas.Option.{slice_get_within}
+use Rattle.base.proofs.Lists.{get_set, some_at}
 use Rattle.base.specs.declared.event.Act.TheVariants as act
 use Rattle.machine_semantics.specs.Image.{Process, Script}
 use Rattle.machine_semantics.specs.State.{Job, Thread, Idle, Ready, Waiting, State}
@@ -14,7 +15,6 @@ use Rattle.machine_safety_spec.specs.Safe.{Parts, ImageFits}
 use Rattle.machine_safety_spec.specs.Queues.{times, waits_on, AreQueued}
 use Rattle.machine_safety.proofs.Starting.{starts_pass}
 use Rattle.machine_safety.proofs.Queueing.{tick_keeps_queues}
-use Rattle.code_lifting.proofs.Lists.{get_set, some_at}
 use Rattle.edf_semantics.specs.Run.{candidate, chosen_at, tick, state_at}
 use Rattle.edf_semantics.specs.Safe.{IsWaitless}
 use Rattle.edf_semantics.proofs.Marking.{IsNotWaiting as IsCalm, opened_calm}

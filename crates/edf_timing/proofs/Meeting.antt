@@ -4,6 +4,7 @@ use Rattle.std.specs.Prelude.{slice_get, map, Contains, ◌++◌}
 use Rattle.std.proofs.lemmas.Bool.{cases_lt, cases_eq}
 use Rattle.std.proofs.lemmas.Option.{slice_get_within}
 use Rattle.std.proofs.lemmas.List.Elements.{Contains-append_left, Contains-append_right}
+use Rattle.base.proofs.Lists.{some_at as process_at}
 use Rattle.base.specs.declared.event.Event.{Event}
 use Rattle.base.specs.declared.event.Act.TheVariants as act
 use Rattle.machine_semantics.specs.Image.{Image, Monitor, Process, Script}
@@ -43,11 +44,6 @@ use Rattle.edf_timing.proofs.Caps.{IsUncapped, uncapped}
 use Rattle.sched_demand.proofs.Reached.{reached}
 use Rattle.edf_timing.proofs.Counts.{Count, count_idle, MidCount, mid_count, NextCount, next_count, chosen_ready}
 use Rattle.edf_timing.proofs.Sights.{view, stay_view, view_active, view_is, Sight, starts_sight, runs_sight, takes_sight, stay_inside, IsSameSight, chooses_sight}
-
-has_process : (ps : List Process) (j : ℕ) → j < length ps → (p : Process) × (slice_get ps j ≡ Some p)
-has_process [] j h = absurd (omega arith)
-has_process (p ∷ ps) zero h = (p, refl)
-has_process (p ∷ ps) (suc j) h = has_process ps j (omega arith)
 
 idle_there : (qs : List Process) (k : ℕ) (p : Process) → slice_get qs k ≡ Some p → slice_get (map (λ (p : Process). Idle) qs) k ≡ Some Idle
 idle_there [] k p at = absurd cc
@@ -135,7 +131,7 @@ module _ (e : Where) (ps : ℕ → Parts) (image_fits : ImageFits e ps) (waitles
   -- ---- the trace
 
   lookup : (k : ℕ) → Found k ⊎ (length e.image.processes ≤ k)
-  lookup k = elim (cases_lt k (length e.image.processes)) [ inl below ↦ inl (has_process e.image.processes k below) | inr above ↦ inr above ]
+  lookup k = elim (cases_lt k (length e.image.processes)) [ inl below ↦ inl (process_at e.image.processes k below) | inr above ↦ inr above ]
 
   abbrev left_of : (k : ℕ) → Found k ⊎ (length e.image.processes ≤ k) → ℕ → ℕ
   left_of k (inl f) t = (counts k f t).left
@@ -287,7 +283,7 @@ module _ (e : Where) (ps : ℕ → Parts) (image_fits : ImageFits e ps) (waitles
       let j = stay_inside e.image (slice_get (state_at e.image script t).state.threads k) (counts k f t).stay s is in
       let i = (counts k f t).inside j.0 j.1 j.2 j.3 in
       let there = feasible.ranks.place_below level low in
-      let g : Found (place level) = has_process e.image.processes (place level) (omega (arith, there, feasible.many)) in
+      let g : Found (place level) = process_at e.image.processes (place level) (omega (arith, there, feasible.many)) in
       let level_is : rank_of e.image (place level) ≡ level = feasible.ranks.there level low in
       let own : IsTaskOf g.0 (task_at ts level) = subst (λ (n : ℕ). IsTaskOf g.0 (task_at ts n)) level_is (own_task (place level) g) in
       let other = own_task k f in
@@ -311,8 +307,8 @@ module _ (e : Where) (ps : ℕ → Parts) (image_fits : ImageFits e ps) (waitles
     there = λ q below active. act_some (slice_get (middle t).threads q) (slice_get (marks_at t) q) (mid_of q (lookup q) t) active;
     release = λ q below. (act_view (slice_get (middle t).threads q) (slice_get (marks_at t) q) (mid_of q (lookup q) t)).0;
     had = λ q below. (act_view (slice_get (middle t).threads q) (slice_get (marks_at t) q) (mid_of q (lookup q) t)).1;
-    rank_is = λ q below. let f : Found q = has_process e.image.processes q below in let r = rank_is q f in let h = (waitless.ranked q f.0 f.1).0 in omega arith;
-    deadline_is = λ q below. let f : Found q = has_process e.image.processes q below in (own_task q f).deadline ∙ sym (ap (λ (o : Option Process). deadline_of_some o) f.1);
+    rank_is = λ q below. let f : Found q = process_at e.image.processes q below in let r = rank_is q f in let h = (waitless.ranked q f.0 f.1).0 in omega arith;
+    deadline_is = λ q below. let f : Found q = process_at e.image.processes q below in (own_task q f).deadline ∙ sym (ap (λ (o : Option Process). deadline_of_some o) f.1);
     stay = λ q s below is. by_stay q (lookup q) s below is;
     stay_back = λ q r below is. by_back q (lookup q) r below is;
   }
@@ -352,18 +348,18 @@ module _ (e : Where) (ps : ℕ → Parts) (image_fits : ImageFits e ps) (waitles
   idle_left : (k : ℕ) (l : Found k ⊎ (length e.image.processes ≤ k)) → k < length e.image.processes → (view (slice_get (state_at e.image script 0).state.threads k) (slice_get (state_at e.image script 0).marks k) (left_of k l 0)).left ≡ 0
   unfolding state_at at_start
   idle_left k l below =
-      let f : Found k = has_process e.image.processes k below in
+      let f : Found k = process_at e.image.processes k below in
       ap (λ (o : Option Thread). (view o (slice_get (state_at e.image script 0).marks k) (left_of k l 0)).left) (idle_there e.image.processes k f.0 f.1)
 
   free_first : (k : ℕ) (n : ℕ) → k < length e.image.processes → stay_view e.image (inside_of (slice_get (state_at e.image script 0).state.threads k)) n ≡ None
   unfolding state_at at_start
   free_first k n below =
-      let f : Found k = has_process e.image.processes k below in
+      let f : Found k = process_at e.image.processes k below in
       ap (λ (o : Option Thread). stay_view e.image (inside_of o) n) (idle_there e.image.processes k f.0 f.1)
 
   spaced_at : RespectsFrames e.image script → (k : ℕ) → k < length e.image.processes → Spaced (task_at ts (rank_of e.image k)).frame script.end_tick (λ t. is_some_due script t (slice_get e.image.processes k))
   spaced_at respects k below t u less within is_t is_u =
-      let f : Found k = has_process e.image.processes k below in
+      let f : Found k = process_at e.image.processes k below in
       let frame : (task_at ts (rank_of e.image k)).frame ≡ f.0.frame = (own_task k f).frame in
       let h = releases_apart e.image script k t u f.0 respects f.1 (sym (due_is k f t) ∙ is_t) (sym (due_is k f u) ∙ is_u) less in
       omega arith

@@ -4,6 +4,8 @@ use Rattle.std.specs.Prelude.{ℤ, slice_get, slice_set, cond, nat_eq, ◌&&◌}
 use Rattle.std.proofs.lemmas.Bool.Decides.{nat_tests}
 use Rattle.std.proofs.lemmas.List.{append-nil}
 use Rattle.std.proofs.lemmas.Option.{slice_get_within}
+use Rattle.std.proofs.lemmas.Bool.{cases_eq}
+use Rattle.base.proofs.Lists.{get_set, get_other, some_at}
 use Rattle.base.specs.declared.event.Event.{Event}
 use Rattle.base.specs.declared.event.Act.TheVariants as act
 use Rattle.syntax_tree.specs.Plain as tree
@@ -19,7 +21,7 @@ use Rattle.machine_semantics.specs.Tick.{owned_of}
 use Rattle.source_semantics.specs.Any.{StepAny, RunAnyFrom}
 use Rattle.code_lifting.specs.Related.{Whole, Relations, Same, IsSame}
 use Rattle.code_lifting.specs.Compiled.{IsCompiled}
-use Rattle.code_lifting.proofs.Lists.{same_or_not, get_set, get_other, Changed, changed_changes, not_changed, some_at}
+use Rattle.code_lifting.proofs.Lists.{Changed, changed_changes, not_changed}
 use Rattle.code_lifting.proofs.Touch.{Text, text_of}
 use Rattle.code_lifting.proofs.Moves.{outside_it}
 use Rattle.code_lifting.proofs.Ticks.{At}
@@ -29,7 +31,7 @@ use Rattle.edf_timing.specs.Runs.{IsNotWaiting, NobodyWaits}
 
 -- a thread that does not wait is set
 calm_set : (ts : List Thread) (k i : ℕ) (old th : Thread) → slice_get ts k ≡ Some old → IsNotWaiting (Some th) → IsNotWaiting (slice_get ts i) → IsNotWaiting (slice_get (slice_set ts k th) i)
-calm_set ts k i old th at calm others = elim (same_or_not k i) [
+calm_set ts k i old th at calm others = elim (cases_eq k i) [
   | inl is ↦ subst (λ (x : ℕ). IsNotWaiting (slice_get (slice_set ts k th) x)) is (subst IsNotWaiting (sym (get_set ts k th old at)) calm)
   | inr differ ↦ subst IsNotWaiting (sym (get_other ts k i th differ)) others
 ]

@@ -1,7 +1,9 @@
 -- The events of the machine's run are a run of the source meaning in which any ready process may act.
-use Rattle.std.proofs.Common.{◌≡◌, ◌<◌, ◌+◌, ◌++◌, ℕ, zero, suc, List, [], ◌∷◌, Option, Some, None, length, arith, refl, ap, sym, subst, ◌∙◌, false, Bool, append_assoc, map}
+use Rattle.std.proofs.Common.{◌≡◌, ◌<◌, ◌+◌, ◌++◌, ℕ, zero, suc, List, [], ◌∷◌, Option, Some, None, arith, refl, ap, sym, subst, ◌∙◌, false, Bool, append_assoc, map}
 use Rattle.std.specs.Prelude.{ℤ, pos, slice_get, replicate, option_map}
 use Rattle.std.proofs.lemmas.Option.{slice_get-map}
+use Rattle.std.proofs.lemmas.List.{length-map}
+use Rattle.base.proofs.Lists.{one_some}
 use Rattle.base.specs.declared.event.Event.{Event}
 use Rattle.syntax_tree.specs.Plain as tree
 use Rattle.syntax_tree.specs.Plain.{Prog}
@@ -18,26 +20,16 @@ use Rattle.machine_safety_spec.specs.Queues.{AreQueued}
 use Rattle.source_semantics.specs.Any.{RunAnyFrom, IsAnySourceRun}
 use Rattle.code_lifting.specs.Related.{Whole, Relations, inside_of, Same, IsSame}
 use Rattle.code_lifting.specs.Compiled.{IsProcessOf, IsCompiled, IsFrom, script_of}
-use Rattle.code_lifting.proofs.Lists.{one_some, none_some}
+use Rattle.code_lifting.proofs.Lists.{none_some}
 use Rattle.code_lifting.proofs.Ticks.{At}
 use Rattle.code_lifting.proofs.Devices.{value_before, before_next, before_all, devices_now, picked_devices}
 use Rattle.edf_semantics.specs.Run.{Marked, candidate, chosen_at, first_marks, tick, state_at, events_from, events}
 use Rattle.edf_timing.specs.Runs.{NobodyWaits, IsKept}
 use Rattle.edf_timing.proofs.Starts.{starts_run}
 use Rattle.edf_timing.proofs.Ticks.{picked_runs}
+use Rattle.code_lifting.proofs.Run.{no_queues}
 
 -- ---- at the start
-
-abbrev empty : List ℕ
-empty = []
-
-no_queues : (cs : List ℕ) → map (λ (c : ℕ). empty) cs ≡ replicate (length cs) empty
-no_queues [] = refl
-no_queues (c ∷ cs) = ap (λ (qs : List (List ℕ)). [] ∷ qs) (no_queues cs)
-
-length_map : {A B : Type 0} (f : A → B) (xs : List A) → length (map f xs) ≡ length xs
-length_map f [] = refl
-length_map f (x ∷ xs) = ap suc (length_map f xs)
 
 module _ (w : Whole) (r : Relations) (compiled : IsCompiled w r) where
   abbrev g : Prog
@@ -73,9 +65,9 @@ module _ (w : Whole) (r : Relations) (compiled : IsCompiled w r) where
       occupants = λ m k h at occupant. absurd (none_some (hold_first m h at).0 occupant);
       free = λ m h at nobody_in. (hold_first m h at).1;
       reaches = λ k m text in_m at. absurd (none_some (nobody k) in_m);
-      many_threads = length_map (λ (q : Process). Idle) w.image.processes;
-      many_holds = length_map (free_hold g) (monitors g) ∙ sym compiled.monitors_agree;
-      many_owned = length_map (λ (q : Process). zeros q.words) w.image.processes;
+      many_threads = length-map w.image.processes (λ (q : Process). Idle);
+      many_holds = length-map (monitors g) (free_hold g) ∙ sym compiled.monitors_agree;
+      many_owned = length-map w.image.processes (λ (q : Process). zeros q.words);
     };
     queues = no_queues w.image.conditions ∙ ap (λ (n : ℕ). replicate n []) compiled.conditions;
   } where

@@ -1,12 +1,12 @@
 -- All start events of a tick, where nobody waits.
-use Rattle.std.proofs.Common.{◌≡◌, ◌<◌, ◌+◌, ◌-◌, ◌++◌, inl, inr, ℕ, suc, List, [], ◌∷◌, Some, length, arith, refl, ap, sym, subst, ◌∙◌, true, false, Bool}
-use Rattle.std.specs.Prelude.{ℤ, slice_get, slice_set, cond, nat_eq, nat_le, ◌&&◌, ◌%◌, map}
+use Rattle.std.proofs.Common.{◌≡◌, ◌<◌, ◌+◌, ◌++◌, inl, inr, ℕ, suc, List, [], ◌∷◌, Some, length, arith, refl, sym, subst, ◌∙◌, true, false, Bool}
+use Rattle.std.specs.Prelude.{ℤ, slice_get, slice_set, cond, nat_eq, ◌&&◌, map}
 use Rattle.std.proofs.lemmas.Bool.{cases_lt}
 use Rattle.std.proofs.lemmas.List.{append-nil}
 use Rattle.base.specs.declared.event.Event.{Event}
 use Rattle.syntax_tree.specs.Plain as tree
-use Rattle.syntax_tree.specs.Plain.{Prog, Activation, periodic, at_event}
-use Rattle.source_semantics.specs.Names.{processes, count_value}
+use Rattle.syntax_tree.specs.Plain.{Prog}
+use Rattle.source_semantics.specs.Names.{processes}
 use Rattle.source_semantics.specs.Config.{Config}
 use Rattle.source_semantics.specs.Ranks.{by_rank}
 use Rattle.source_semantics.specs.Starts.{Script, Line, sets, occurs, due, NoneMissing, waits_for_event, is_due}
@@ -16,22 +16,12 @@ use Rattle.machine_semantics.specs.Starts.{Started, unchanged, followed, release
 use Rattle.machine_semantics.specs.Starts as start
 use Rattle.source_semantics.specs.Any.{RunAnyFrom}
 use Rattle.code_lifting.specs.Related.{Whole, Relations}
-use Rattle.code_lifting.specs.Compiled.{IsTimed, IsProcess, IsProcessOf, IsCompiled, line_of, script_of}
+use Rattle.code_lifting.specs.Compiled.{IsProcess, IsProcessOf, IsCompiled, line_of, script_of}
 use Rattle.code_lifting.proofs.Ticks.{At}
 use Rattle.code_lifting.proofs.Items.{Item, rel, quiet_none, event_items_by, event_items, periodic_items, out_items, all_items, due_is}
 use Rattle.edf_timing.specs.Runs.{NobodyWaits}
 use Rattle.edf_timing.proofs.Phases.{Phase, nothing, device, both, where_so, release_plays, time_outs_play}
-
-event_is_due : (g : Prog) (p : Process) (e : ℕ) (a : Activation) → IsTimed g p a → nat_eq p.kind 1 && nat_eq p.event e ≡ waits_for_event g e a
-event_is_due g p e (periodic frame deadline first) timed = ap (λ (n : ℕ). nat_eq n 1 && nat_eq p.event e) timed.0
-event_is_due g p e (at_event name frame deadline) timed = ap (λ (n : ℕ). nat_eq n 1 && nat_eq p.event e) timed.0 ∙ ap (λ (n : ℕ). nat_eq n e) timed.1
-
-periodic_is_due : (g : Prog) (p : Process) (t : ℕ) (a : Activation) → IsTimed g p a → is_periodic_due t p ≡ is_due g t a
-periodic_is_due g p t (periodic frame deadline first) timed =
-    ap (λ (n : ℕ). nat_eq n 0 && nat_le p.first t && nat_eq ((t - p.first) % p.frame) 0) timed.0
-    ∙ ap (λ (n : ℕ). nat_le p.first t && nat_eq ((t - p.first) % n) 0) timed.1
-    ∙ ap (λ (n : ℕ). nat_le n t && nat_eq ((t - n) % count_value g frame) 0) timed.2
-periodic_is_due g p t (at_event name frame deadline) timed = ap (λ (n : ℕ). nat_eq n 0 && nat_le p.first t && nat_eq ((t - p.first) % p.frame) 0) timed.0
+use Rattle.code_lifting.proofs.Starts.{periodic_is_due, event_is_due}
 
 module _ (w : Whole) (r : Relations) (compiled : IsCompiled w r) (script : Script) (t : ℕ) (below : t < script.end_tick) where
   abbrev g : Prog

@@ -1,11 +1,11 @@
 -- The tick of whoever is picked, in a run in which any ready process may act.
-use Rattle.std.proofs.Common.{◌≡◌, ◌≤◌, ◌<◌, ◌+◌, ◌++◌, inl, inr, ℕ, List, [], Option, Some, None, arith, refl, ap, sym, subst, ◌∙◌, true, false, Bool}
+use Rattle.std.proofs.Common.{◌≡◌, ◌≤◌, ◌<◌, ◌+◌, ◌++◌, inl, inr, ℕ, List, [], Option, Some, None, arith, refl, ap, sym, subst, ◌∙◌, true, false}
 use Rattle.std.specs.Prelude.{ℤ, slice_get, nat_eq, ◌&&◌}
 use Rattle.std.proofs.lemmas.Bool.Decides.{nat_tests}
 use Rattle.base.specs.declared.event.Event.{Event}
 use Rattle.source_semantics.specs.Store.{Vars}
 use Rattle.source_semantics.specs.Next.{Next, next_from}
-use Rattle.source_semantics.specs.Config.{Doing, active, is_ready, Job, Config, changed, inside, vars_of, at_tick, with_jobs}
+use Rattle.source_semantics.specs.Config.{Doing, active, is_ready, Job, Config, changed, inside, at_tick, with_jobs}
 use Rattle.source_semantics.specs.Starts.{Script, device_value, due, NoneMissing}
 use Rattle.source_semantics.specs.Source.{Effect, effect, acts, saved, save_job, save_hold, job_next, may_act}
 use Rattle.machine_semantics.specs.Image.{Process}
@@ -20,22 +20,7 @@ use Rattle.code_lifting.specs.Compiled.{IsCompiled}
 use Rattle.code_lifting.proofs.Touch.{Text, text_of, inside_is}
 use Rattle.code_lifting.proofs.Moves.{saved_holds}
 use Rattle.code_lifting.proofs.Acts.{Passes, Tells}
-use Rattle.code_lifting.proofs.Ticks.{At, tick_passes}
-
-vars_same : (c : Config) (o : Option ℕ) → vars_of c o ≡ monitor_vars c.holds o
-vars_same c None = refl
-vars_same c (Some m) = refl
-
-saved_same : (c : Config) (t k : ℕ) (n : Next) (o : Option ℕ) → save_hold o n.monitor (with_jobs (at_tick c t true) (changed (save_job n) k c.jobs))
-    ≡ record { tick = t; acted = true; jobs = changed (save_job n) k c.jobs; holds = saved_holds o n.monitor c.holds; queues = c.queues }
-saved_same c t k n None = refl
-saved_same c t k n (Some m) = refl
-
-not_yet : (acted : Bool) (a t : ℕ) → a ≤ t → acted && nat_eq a (t + 1) ≡ false
-not_yet acted a t low = by acted (let differ : nat_eq a (t + 1) ≡ false = grind (arith, nat_tests, low) in differ) where
-  by : (b : Bool) → nat_eq a (t + 1) ≡ false → b && nat_eq a (t + 1) ≡ false
-  by true h = h
-  by false h = refl
+use Rattle.code_lifting.proofs.Ticks.{At, tick_passes, saved_same, not_yet, vars_same}
 
 module _ (w : Whole) (r : Relations) (compiled : IsCompiled w r) (script : Script) (t : ℕ) (below : t < script.end_tick)
     (s : State) (c : Config) (queued : AreQueued s) (devices : (d : ℕ) (x : ℤ) → slice_get s.devices d ≡ Some x → device_value script t d ≡ x)

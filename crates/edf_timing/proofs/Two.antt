@@ -1,8 +1,8 @@
 -- The image of two processes meets the premise.
-use Rattle.std.proofs.Common.{◌≡◌, ◌≤◌, ◌<◌, ◌+◌, ◌-◌, ◌⊎◌, inl, inr, ℕ, zero, suc, Some, arith, refl, subst}
-use Rattle.std.specs.Prelude.{slice_get, slice_index_or, pos, Bool, true, ◌&&◌}
+use Rattle.std.proofs.Common.{◌≡◌, ◌≤◌, ◌<◌, ◌+◌, ◌-◌, ◌⊎◌, ℕ, zero, suc, Some, arith, refl, subst}
+use Rattle.std.specs.Prelude.{slice_get, slice_index_or, pos, true}
 use Rattle.std.proofs.Math.Dec.{leb, ltb}
-use Rattle.std.proofs.lemmas.Bool.{and_parts, leb-true, ltb-true, cases_lt}
+use Rattle.std.proofs.lemmas.Bool.{leb-true, ltb-true}
 use Rattle.machine_isa.specs.declared.instr.Instr.TheVariants as i
 use Rattle.machine_semantics.specs.Image.{Process, Script, Occurs}
 use Rattle.machine_safety_spec.specs.Safe.{ProcessFits, ImageFits}
@@ -22,6 +22,7 @@ use Rattle.edf_timing.specs.Example.{two_place, two_parts, two_tasks, TwoMeetPre
 use Rattle.edf_timing.proofs.Meeting.{every_run_meets_deadlines}
 use Rattle.machine_semantics_law.specs.Example.{alone}
 use Rattle.machine_semantics.specs.Trees.{Line, Nil, Cons}
+use Rattle.sched_theorem.proofs.Meeting.{two as two_of, all_at}
 
 abbrev first_process : Process
 first_process = record (alone 30 15 0 1 (Cons (Line 2) Nil)) { bound = 30 }
@@ -34,12 +35,6 @@ both : (P : ℕ → Process → Type 0) → P 0 first_process → P 1 second_pro
 both P one other zero p at = let is : first_process ≡ p = cc in subst (λ (x : Process). P 0 x) is one
 both P one other (suc zero) p at = let is : second_process ≡ p = cc in subst (λ (x : Process). P 1 x) is other
 both P one other (suc (suc k)) p at = absurd cc
-
--- a fact of both places
-two_of : (P : ℕ → Type 0) → P 0 → P 1 → (j : ℕ) → j < 2 → P j
-two_of P one other zero below = one
-two_of P one other (suc zero) below = other
-two_of P one other (suc (suc j)) below = absurd (omega arith)
 
 first_fits : ProcessFits two_place first_process (two_parts 0)
 first_fits = record {
@@ -142,19 +137,6 @@ waitless = record {
 }
 
 -- ---- the test, which computes
-
-abbrev all_below : ℕ → (ℕ → Bool) → Bool
-all_below zero f = true
-all_below (suc n) f = f n && all_below n f
-
-all_at : (n : ℕ) (f : ℕ → Bool) → all_below n f ≡ true → (k : ℕ) → k < n → f k ≡ true
-all_at zero f all k below = absurd (omega arith)
-all_at (suc n) f all k below =
-    let parts = and_parts (f n) (all_below n f) all in
-    elim (cases_lt k n) [
-      | inl lower ↦ all_at n f parts.1 k lower
-      | inr higher ↦ let same : n ≡ k = omega arith in subst (λ i. f i ≡ true) same parts.0
-    ]
 
 tasks : AreTasks two_tasks
 tasks = record {

@@ -2,7 +2,7 @@
 use Rattle.std.proofs.Common.{◌≡◌, ◌≢◌, ◌<◌, ◌^◌, ℕ, ℤ, pos, negsuc, List, [], ◌∷◌, ◌++◌, length, get_or, codes, decimal, Option, Some, None, Bool, true, false, refl, sym, ap, subst, ◌∙◌, arith, All}
 use Rattle.std.specs.Prelude.{slice_get, unwrap_or}
 use Rattle.std.specs.Fmt.{signed_decimal}
-use Rattle.std.proofs.lemmas.Option.{unwrap_or-slice_get}
+use Rattle.std.proofs.lemmas.Option.{unwrap_or-slice_get, same_Some}
 use Rattle.std.proofs.lemmas.Fmt.{decimal_injective, signed_decimal_injective}
 use Rattle.std.proofs.lemmas.List.Elements.{All-head, All-tail}
 use lib.Signed.{mag}
@@ -29,9 +29,6 @@ mag_small (negsuc n) small = omega arith
 same_number : (n m : ℕ) → n < 2 ^ 16 → m < 2 ^ 16 → decimal n ≡ decimal m → n ≡ m
 same_number n m small low e = decimal_injective n m (omega arith) (omega arith) e
 
-some_once : (x y : List ℕ) → Some x ≡ Some y → x ≡ y
-some_once x y e = cc
-
 clash : (x y : ℕ) → x ≡ 49 → y ≡ 48 → x ≡ y → ⊥
 clash x y p q e = omega arith
 
@@ -53,13 +50,13 @@ woken_once names (Some k) (Some m) sound i j e = ap (λ n. Some n) (sound.proces
 -- a condition and what stands behind it
 asked_once : (names : ImageNames) (c d : ℕ) (last other : List ℕ) → AreSound names → c < length names.conditions → d < length names.conditions → Some (condition_name names c ++ 32 ∷ last) ≡ Some (condition_name names d ++ 32 ∷ other) → (c ≡ d) × (last ≡ other)
 asked_once names c d last other sound i j e =
-    let whole = some_once (condition_name names c ++ 32 ∷ last) (condition_name names d ++ 32 ∷ other) e in
+    let whole = same_Some (condition_name names c ++ 32 ∷ last) (condition_name names d ++ 32 ∷ other) e in
     let r = same_last names (condition_name names c ++ 32 ∷ last) c d last other sound.words i j refl whole in
     (sound.conditions c d i j r.0, r.1)
 
 transfer_once : (names : ImageNames) (d f : ℕ) (value word : ℤ) → AreSound names → d < length names.devices → f < length names.devices → Is32 value → Is32 word → Some (device_name names d ++ 32 ∷ signed_decimal value) ≡ Some (device_name names f ++ 32 ∷ signed_decimal word) → (d ≡ f) × (value ≡ word)
 transfer_once names d f value word sound i j small low e =
-    let whole = some_once (device_name names d ++ 32 ∷ signed_decimal value) (device_name names f ++ 32 ∷ signed_decimal word) e in
+    let whole = same_Some (device_name names d ++ 32 ∷ signed_decimal value) (device_name names f ++ 32 ∷ signed_decimal word) e in
     let words = sound.words in
     let one = device_word names.devices d i words.devices in
     let two = device_word names.devices f j words.devices in
@@ -80,9 +77,9 @@ once names (act.Get d value) sound told = λ f word other e.
 once names (act.Put d value) sound told = λ f word other e.
     let r = transfer_once names d f value word sound told.0 other.0 told.1 other.1 e in
     ap (λ k. act.Put k value) r.0 ∙ ap (λ k. act.Put f k) r.1
-once names (act.Enter m) sound told = λ n other e. ap (λ k. act.Enter k) (sound.monitors m n told.0 other.0 (some_once (monitor_name names m) (monitor_name names n) e))
-once names (act.Leave m) sound told = λ n other e. ap (λ k. act.Leave k) (sound.monitors m n told.0 other.0 (some_once (monitor_name names m) (monitor_name names n) e))
-once names (act.Wait c) sound told = λ d other e. ap (λ k. act.Wait k) (sound.conditions c d told.0 other.0 (some_once (condition_name names c) (condition_name names d) e))
+once names (act.Enter m) sound told = λ n other e. ap (λ k. act.Enter k) (sound.monitors m n told.0 other.0 (same_Some (monitor_name names m) (monitor_name names n) e))
+once names (act.Leave m) sound told = λ n other e. ap (λ k. act.Leave k) (sound.monitors m n told.0 other.0 (same_Some (monitor_name names m) (monitor_name names n) e))
+once names (act.Wait c) sound told = λ d other e. ap (λ k. act.Wait k) (sound.conditions c d told.0 other.0 (same_Some (condition_name names c) (condition_name names d) e))
 once names (act.Signal c woken) sound told = λ d v other e.
     let in_a = told.0 in let in_b = other.0 in
     let r = asked_once names c d (woken_name names woken) (woken_name names v) sound in_a.0 in_b.0 e in
@@ -93,7 +90,7 @@ once names (act.Broadcast c count) sound told = λ d n other e.
 once names (act.Empty c answer) sound told = λ d b other e.
     let r = asked_once names c d (truth_text answer) (truth_text b) sound told.0 other.0 e in
     ap (λ k. act.Empty k answer) r.0 ∙ ap (λ k. act.Empty d k) (truth_once answer b r.1)
-once names (act.Raise number) sound told = λ n other e. ap (λ k. act.Raise k) (same_number number n told.1 other.1 (some_once (decimal number) (decimal n) e))
+once names (act.Raise number) sound told = λ n other e. ap (λ k. act.Raise k) (same_number number n told.1 other.1 (same_Some (decimal number) (decimal n) e))
 once names act.End sound told = λ other e. refl
 
 spoken_once : (v w : List ℕ) (a b : Option (List ℕ)) → Lacks 32 v → Lacks 32 w → spoken v a ≡ spoken w b → (v ≡ w) × (a ≡ b)

@@ -1,10 +1,11 @@
 -- The image with a monitor's word is that of its program, and its code is right.
-use Rattle.std.proofs.Common.{[], ◌≡◌, inl, inr, ℕ, zero, suc, Some, None, refl, ap, sym, subst, ◌∙◌, Bool, arith}
+use Rattle.std.proofs.Common.{◌≡◌, inl, inr, ℕ, zero, suc, Some, None, refl, ap, sym, subst, ◌∙◌, Bool, arith}
 use Rattle.std.specs.Prelude.{slice_get, bytes_eq, cond, codes, option_map, unwrap_or}
 use Rattle.std.proofs.lemmas.Bool.{cases_Bool}
+use Rattle.base.proofs.Lists.{one_some}
 use Rattle.syntax_tree.specs.Plain.{Name}
 use Rattle.syntax_tree.specs.Plain as tree
-use Rattle.source_semantics.specs.Names.{processes, monitors, named, routine_count}
+use Rattle.source_semantics.specs.Names.{processes, monitors, routine_count}
 use Rattle.source_semantics.specs.Run.{routine_named}
 use Rattle.source_semantics.specs.Ranks.{reached, rank, ceiling}
 use Rattle.source_semantics_law.specs.Example.{three_ranks}
@@ -19,12 +20,13 @@ use Rattle.code_names_law.specs.Kept.{AllFound, NamesDiffer}
 use Rattle.code_simulation.specs.Kept.{KeepsRules}
 use Rattle.code_simulation.specs.Process.{setting_of, ProperHandler}
 use Rattle.code_lifting.specs.Image.{compiled_of}
-use Rattle.code_lifting.proofs.Lists.{one_some, none_some}
+use Rattle.code_lifting.proofs.Lists.{none_some}
 use Rattle.examples_law.specs.Headline.{flat}
 use Rattle.code_correct.specs.Headline.{IsProper}
 use Rattle.examples_law.specs.Adding.{adding, AddingIsImage, AddingIsRight, LowCeilingIsNone}
 use Rattle.code_correct.proofs.HeadlineLemmas.{proper_code_is_right}
-use Rattle.examples_law.proofs.MeetingProper.{nth_monitor, nth_routine, nth_text}
+use Rattle.examples_law.proofs.MeetingProper.{nth_monitor, nth_routine, none_found, entries_found}
+use Rattle.code_lifting.proofs.MeetingRight.{nth_text}
 
 code_is : IsCodeOf adding.program adding.image
 unfolding numbered visit number_of
@@ -171,13 +173,6 @@ module _ (p : Process) where
   }
 
 -- ---- names
-
-none_found : AllFound []
-none_found j r at = absurd cc
-
-entries_found : AllFound m.entries
-entries_found zero r at = subst (λ (x : tree.Routine). named (λ k. k.name) x.name m.entries ≡ Some x) (one_some refl at) refl
-entries_found (suc j) r at = absurd cc
 
 names_differ : NamesDiffer three_ranks
 names_differ = record { program = none_found; process = of_process; monitor = of_monitor } where

@@ -1,13 +1,13 @@
 -- The program of the example is well formed, and its names stand apart.
 use Rattle.std.proofs.Common.{◌≡◌, ℕ, zero, suc, [], ◌∷◌, Some, refl, ap, subst, ◌∙◌}
 use Rattle.std.specs.Prelude.{slice_get}
+use Rattle.base.proofs.Lists.{one_some}
 use Rattle.syntax_tree.specs.Plain.{Name, Monitor, Routine}
 use Rattle.source_semantics.specs.Names.{named, routines, monitors}
 use Rattle.source_semantics_law.specs.Example.{signalled_wait}
 use Rattle.examples_law.proofs.Small.{signalled_wait_fits}
 use Rattle.code_spec.specs.Numbering.{routine_calls}
 use Rattle.code_names_law.specs.Ruled.{AllOfProgram, NamesApart}
-use Rattle.code_lifting.proofs.Lists.{one_some}
 use Rattle.examples_law.specs.Headline.{MeetingIsWellFormed}
 use Rattle.examples_law.proofs.MeetingProper.{m, names_differ}
 

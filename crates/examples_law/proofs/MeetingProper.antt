@@ -1,7 +1,8 @@
 -- The program of the example keeps to the static rules where its code stands.
-use Rattle.std.proofs.Common.{◌≡◌, ◌⊎◌, inl, inr, ℕ, zero, suc, List, [], ◌∷◌, Some, None, refl, ap, sym, subst, ◌∙◌, false, Bool}
+use Rattle.std.proofs.Common.{◌≡◌, ◌⊎◌, inl, inr, ℕ, zero, suc, List, [], ◌∷◌, Some, None, refl, ap, sym, subst, ◌∙◌, Bool}
 use Rattle.std.specs.Prelude.{slice_get, bytes_eq, cond, codes, option_map}
 use Rattle.std.proofs.lemmas.Bool.{cases_Bool}
+use Rattle.base.proofs.Lists.{one_some}
 use Rattle.syntax_tree.specs.Plain.{Name, Prog}
 use Rattle.syntax_tree.specs.Plain as tree
 use Rattle.source_semantics.specs.Names.{named, processes, monitors, routine_count}
@@ -20,8 +21,9 @@ use Rattle.code_simulation.specs.Kept.{KeepsRules}
 use Rattle.code_simulation.specs.Process.{setting_of, ProperHandler}
 use Rattle.code_lifting.specs.Image.{compiled_of}
 use Rattle.code_lifting.specs.Example.{meeting}
-use Rattle.code_lifting.proofs.Lists.{one_some, none_some}
+use Rattle.code_lifting.proofs.Lists.{none_some}
 use Rattle.examples_law.specs.Headline.{flat, MeetingIsProper}
+use Rattle.code_lifting.proofs.MeetingRight.{text}
 
 abbrev pub nth_monitor : List tree.Monitor → tree.Monitor
 nth_monitor (m ∷ ms) = m
@@ -52,14 +54,6 @@ two_entries mon entry t at = elim (cases_Bool (bytes_eq m.name mon)) [
       | inr nor ↦ absurd (none_some (ap (λ (b : Bool). option_map (λ r. record { owner = by_monitor 0; routine = r }) (cond b (Some (nth_routine m.entries 0)) (cond (bytes_eq (codes "s") entry) (Some (nth_routine m.entries 1)) None))) is_not ∙ ap (λ (b : Bool). option_map (λ r. record { owner = by_monitor 0; routine = r }) (cond b (Some (nth_routine m.entries 1)) None)) nor) found)
     ]
   ]
-
-abbrev pub nth_text : List tree.Process → ℕ → tree.Process
-nth_text [] k = record { name = []; activation = tree.periodic (tree.literal_constant false 0) None None; vars = []; routines = []; body = tree.no_stmts; handler = None }
-nth_text (p ∷ ps) zero = p
-nth_text (p ∷ ps) (suc k) = nth_text ps k
-
-abbrev text : ℕ → tree.Process
-text k = nth_text (processes signalled_wait) k
 
 abbrev e : ℕ → ℕ → Process → Setting
 e over k p = setting_of (compiled_of (meeting over) k p (text k)) flat
@@ -118,10 +112,10 @@ module _ (over : ℕ) (p : Process) where
 
 -- ---- names
 
-none_found : AllFound []
+pub none_found : AllFound []
 none_found j r at = absurd cc
 
-entries_found : AllFound m.entries
+pub entries_found : AllFound m.entries
 entries_found zero r at = subst (λ (x : tree.Routine). named (λ k. k.name) x.name m.entries ≡ Some x) (one_some refl at) refl
 entries_found (suc zero) r at = subst (λ (x : tree.Routine). named (λ k. k.name) x.name m.entries ≡ Some x) (one_some refl at) refl
 entries_found (suc (suc j)) r at = absurd cc

@@ -1,6 +1,7 @@
 -- Small programs that are well formed, and small programs that are not.
 use Rattle.std.proofs.Common.{◌≡◌, ◌<◌, ℕ, zero, suc, [], ◌∷◌, Some, None, arith, refl, ap, sym, subst, ◌∙◌, true, false}
 use Rattle.std.specs.Prelude.{All, Contains, Bool, codes, slice_get, is_some, unwrap_or}
+use Rattle.std.proofs.lemmas.List.Elements.{All-nil}
 use Rattle.syntax_tree.specs.Plain.{Name, Monitor, Process, Decl, constant, device, event, routine, monitor, process, Prog}
 use Rattle.static_declarations.specs.declared.sort.Sort.TheVariants as sort_is
 use Rattle.source_semantics.specs.Run.{Found, of_monitor, routine_named}
@@ -11,9 +12,6 @@ use Rattle.examples_law.specs.Examples.{put_inwards, undeclared, endless, circle
 use Rattle.wellformed.specs.Here.{in_process}
 use Rattle.wellformed.specs.Statements.{AllFit}
 use Rattle.wellformed.specs.WellFormed.{IsWellFormed, ProcessFits, RoutineFits, MonitorFits, VarFits, IsHandled}
-
-all_none : {X : Type 0} (P : X → Type 0) → All P []
-all_none P = λ k x below. absurd (omega arith)
 
 all_one : {X : Type 0} (P : X → Type 0) (x : X) → P x → All P (x ∷ [])
 all_one P x is zero y below = is
@@ -53,15 +51,15 @@ one_put_fits = record {
   constants_fit = tt;
   processes_fit = all_one (ProcessFits one_put) _ (record {
     activation = (record { constant = record { known_name = tt; word = refl }; limits = refl }, tt, tt);
-    vars = all_none _;
+    vars = All-nil _;
     body = ((refl, (0, omega arith, refl), (refl, omega arith)), tt);
     handler = tt;
-    own = all_none _;
-    shared = all_none _;
+    own = All-nil _;
+    shared = All-nil _;
     entries = λ k m is. let b : false ≡ true = ap is_some is in absurd cc;
     levels = no_levels _ _ is_none_found;
   });
-  monitors_fit = all_none _;
+  monitors_fit = All-nil _;
   events_fit = λ e is. absurd (no_event_in_two _ _ e is refl refl);
   counts_fit = record {
     one_process = omega arith;
@@ -113,12 +111,12 @@ handled_range_fits = record {
       once = λ j k c d below before. absurd (omega arith);
       body = ((refl, (0, omega arith, refl), (refl, omega arith)), tt);
     };
-    own = all_none _;
-    shared = all_none _;
+    own = All-nil _;
+    shared = All-nil _;
     entries = λ k m is. let b : false ≡ true = ap is_some is in absurd cc;
     levels = no_levels _ _ is_none_found;
   });
-  monitors_fit = all_none _;
+  monitors_fit = All-nil _;
   events_fit = λ e is. absurd (no_event_in_two _ _ e is refl refl);
   counts_fit = record {
     one_process = omega arith;
@@ -144,12 +142,12 @@ waiting_entries : (p : Process) (k : ℕ) (m : Monitor) → slice_get (monitors 
 waiting_entries p = of_one (λ k m. All (RoutineFits signalled_wait p (of_monitor k)) m.entries) _
     (all_two (RoutineFits signalled_wait p (of_monitor 0)) _ _
     (record {
-      params = all_none _;
-      vars = all_none _;
+      params = All-nil _;
+      vars = All-nil _;
       body = (((0, omega arith, refl), record { constant = record { known_name = tt; word = refl }; limits = refl }, record { constant = record { known_name = tt; word = refl }; limits = refl }), tt);
       answers = tt;
     })
-    (record { params = all_none _; vars = all_none _; body = ((0, omega arith, refl), tt); answers = tt }))
+    (record { params = All-nil _; vars = All-nil _; body = ((0, omega arith, refl), tt); answers = tt }))
 
 pub signalled_wait_fits : IsWellFormed signalled_wait
 signalled_wait_fits = record {
@@ -157,29 +155,29 @@ signalled_wait_fits = record {
   processes_fit = all_two (ProcessFits signalled_wait) _ _
       (record {
         activation = (record { constant = record { known_name = tt; word = refl }; limits = refl }, tt, tt);
-        vars = all_none _;
+        vars = All-nil _;
         body = ((refl, refl, tt), tt);
         handler = record {
           numbers = all_one (IsHandled signalled_wait) _ (record { constant = record { known_name = tt; word = refl }; limits = refl });
           once = λ j k c d below before. absurd (omega arith);
           body = ((refl, (0, omega arith, refl), (refl, omega arith)), tt);
         };
-        own = all_none _;
-        shared = all_none _;
+        own = All-nil _;
+        shared = All-nil _;
         entries = waiting_entries _;
         levels = no_levels _ _ is_none_found;
       })
       (record {
         activation = (record { constant = record { known_name = tt; word = refl }; limits = refl }, tt, record { constant = record { known_name = tt; word = refl }; limits = refl });
-        vars = all_none _;
+        vars = All-nil _;
         body = ((refl, refl, tt), tt);
         handler = tt;
-        own = all_none _;
-        shared = all_none _;
+        own = All-nil _;
+        shared = All-nil _;
         entries = waiting_entries _;
         levels = no_levels _ _ is_none_found;
       });
-  monitors_fit = all_one (MonitorFits signalled_wait) _ (all_none _);
+  monitors_fit = all_one (MonitorFits signalled_wait) _ (All-nil _);
   events_fit = λ e is. absurd (no_event_in_four _ _ _ _ e is refl refl refl refl);
   counts_fit = record {
     one_process = omega arith;
@@ -207,15 +205,15 @@ early_deadline_fits = record {
   constants_fit = tt;
   processes_fit = all_one (ProcessFits (hurrying 50)) _ (record {
     activation = (record { constant = record { known_name = tt; word = refl }; limits = refl }, (record { known_name = tt; word = refl }, refl, refl), tt);
-    vars = all_none _;
+    vars = All-nil _;
     body = ((refl, (0, omega arith, refl), (refl, omega arith)), tt);
     handler = tt;
-    own = all_none _;
-    shared = all_none _;
+    own = All-nil _;
+    shared = All-nil _;
     entries = λ k m is. let b : false ≡ true = ap is_some is in absurd cc;
     levels = no_levels _ _ is_none_found;
   });
-  monitors_fit = all_none _;
+  monitors_fit = All-nil _;
   events_fit = λ e is. absurd (no_event_in_two _ _ e is refl refl);
   counts_fit = record {
     one_process = omega arith;

@@ -12,7 +12,7 @@ use Rattle.front_end.specs.OneFault.{HasOneFault}
 use Rattle.front_end.proofs.Sources.{HasOneSourceFault}
 
 -- of two failures neither of which comes before the other, both are the same
-the_same : (m n : ℕ) (p q : Place) → ¬ rule.Before m p n q → ¬ rule.Before n q m p → (m ≡ n) × (p ≡ q)
+pub the_same : (m n : ℕ) (p q : Place) → ¬ rule.Before m p n q → ¬ rule.Before n q m p → (m ≡ n) × (p ≡ q)
 the_same m n p q a b = (numbers, places)
   where
     lines : p.line ≡ q.line

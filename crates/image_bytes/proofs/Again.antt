@@ -1,9 +1,9 @@
 -- What is written is read again, whatever follows.
 use Rattle.std.proofs.Common.{◌≡◌, ◌++◌, ◌==◌, ◌&&◌, ℕ, suc, Bool, true, false, List, [], ◌∷◌, length, flat_map, Ok, refl, ap, ◌∙◌, append_assoc}
+use Rattle.std.proofs.lemmas.Bool.{and_parts}
 use Rattle.image_format.specs.Format.{Format, ◌>>=◌, u8, u16, u32, both}
 use Rattle.image_format.specs.FormatLaw.{IsSound}
 use Rattle.image_format.specs.Numbers as written
-use Rattle.image_format.proofs.Booleans.{parts}
 use Rattle.image_format.proofs.Sound.{both_sound}
 use Rattle.image_format.proofs.SoundFields.{u8_sound, u16_sound, u32_sound}
 use Rattle.image_bytes.specs.Fields.{are_short, counted_numbers, five_fields, flag_field, numbers_fields, numbers_read, owner_fields, release_fields}
@@ -57,10 +57,10 @@ flag_again false rest = ap (λ r. r >>= λ x. Ok (x.0 == 1, x.1)) (u8_sound.agai
 
 pub owner_again : (kind owner params locals : ℕ) (holds : Bool) → owner_fields.is (kind, (owner, (params, (locals, holds)))) ≡ true → IsAgain owner_fields (kind, (owner, (params, (locals, holds))))
 owner_again kind owner params locals holds is =
-    let a = parts (u8.is kind) (u16.is owner && (u16.is params && (u32.is locals && true))) is in
-    let b = parts (u16.is owner) (u16.is params && (u32.is locals && true)) a.1 in
-    let c = parts (u16.is params) (u32.is locals && true) b.1 in
-    let d = parts (u32.is locals) true c.1 in
+    let a = and_parts (u8.is kind) (u16.is owner && (u16.is params && (u32.is locals && true))) is in
+    let b = and_parts (u16.is owner) (u16.is params && (u32.is locals && true)) a.1 in
+    let c = and_parts (u16.is params) (u32.is locals && true) b.1 in
+    let d = and_parts (u32.is locals) true c.1 in
     both_again u8 (λ k. both u16 (λ o. both u16 (λ p. both u32 (λ l. flag_field)))) kind (owner, (params, (locals, holds))) (sound_again u8 u8_sound kind a.0)
     (both_again u16 (λ o. both u16 (λ p. both u32 (λ l. flag_field))) owner (params, (locals, holds)) (sound_again u16 u16_sound owner b.0)
     (both_again u16 (λ p. both u32 (λ l. flag_field)) params (locals, holds) (sound_again u16 u16_sound params c.0)
@@ -70,7 +70,7 @@ counted_again : (numbers rest : List ℕ) → are_short numbers ≡ true → num
 unfolding numbers_read
 counted_again [] rest short = refl
 counted_again (n ∷ ns) rest short =
-    let p = parts (u16.is n) (are_short ns) short in
+    let p = and_parts (u16.is n) (are_short ns) short in
     ap (λ bytes. numbers_read (suc (length ns)) bytes) (append_assoc (written.u16 n) (flat_map written.u16 ns) rest)
     ∙ ap (λ r. r >>= λ x. numbers_read (length ns) x.1 >>= λ y. Ok (x.0 ∷ y.0, y.1)) (u16_sound.again n (flat_map written.u16 ns ++ rest) p.0)
     ∙ ap (λ r. r >>= λ y. Ok (n ∷ y.0, y.1)) (counted_again ns rest p.1)

@@ -32,7 +32,7 @@ whole none (Err e) h = absurd cc
 abbrev Owner : Type 0
 Owner = ℕ × (ℕ × (ℕ × (ℕ × Bool)))
 
-abbrev Five : Type 0
+abbrev pub Five : Type 0
 Five = ℕ × (ℕ × (ℕ × (ℕ × ℕ)))
 
 pub routine_read : (bytes after trees : List ℕ) (owner : Owner) (cost : Five) → owner_fields.read bytes ≡ Ok (owner, after) → five_fields.read after ≡ Ok (cost, trees) → is_ok (routine_fields.read bytes) ≡ true
@@ -48,7 +48,7 @@ routine_read bytes after trees owner cost first second h =
 
 -- ---- processes
 
-abbrev Release : Type 0
+abbrev pub Release : Type 0
 Release = ℕ × (ℕ × (ℕ × (ℕ × (ℕ × ℕ))))
 
 abbrev Trees : Type 0

@@ -12,15 +12,13 @@ use Rattle.valid_image.specs.Valid.{HasHandler}
 use Rattle.image_bytes.specs.Fields.{Numbered, are_short, five_fields, handler_tree_fields, numbers_fields, owner_fields, process_with, release_fields, routine_fields, routine_with, tree_fields}
 use Rattle.image_bytes.specs.Reads.{FitsWhereThere, IsReadFrom, ProcessIsRead, RoutineIsRead, numbered_bytes}
 use Rattle.image_bytes.proofs.Again.{IsAgain, both_again, five_sound, numbers_again, owner_again, release_sound, sound_again}
+use Rattle.image_bytes.proofs.Later.{Five, Release}
 
 tree_again : (tree : Segs) → tree_fields.is tree ≡ true → IsAgain tree_fields tree
 tree_again tree is = sound_again tree_fields (limited_tree_sound widest deepest_kept) tree is
 
 tree_written : (tree : Segs) → tree_fields.write tree ≡ tree_bytes tree
 tree_written tree = tree_write_is (within_limits widest) deepest_kept tree
-
-abbrev Five : Type 0
-Five = ℕ × (ℕ × (ℕ × (ℕ × ℕ)))
 
 pub routine_is_read : (r : Routine) → owner_fields.is (r.kind, (r.owner, (r.params, (r.locals, r.gives)))) ≡ true → five_fields.is (r.start, (r.run, (r.susp, (r.waits, r.stay)))) ≡ true → tree_fields.is r.tree ≡ true → RoutineIsRead r
 routine_is_read r owner cost tree rest =
@@ -52,9 +50,6 @@ handler_again p (n ∷ ns) (Some tree) same has fits rest =
     ap (λ (bytes : List ℕ). (handler_tree_fields (suc (length ns))).read (bytes ++ rest)) (sym (tree_written tree)) ∙ ap (λ r. r >>= λ x. Ok (Some x.0, x.1)) (tree_again tree fits rest)
 
 -- a process, from its parts
-
-abbrev Release : Type 0
-Release = ℕ × (ℕ × (ℕ × (ℕ × (ℕ × ℕ))))
 
 pub process_is_read : (p : Process) → HasHandler p p.handler_tree → u16.is (length p.numbers) ≡ true
     → release_fields.is (p.kind, (p.frame, (p.deadline, (p.first, (p.event, p.rank))))) ≡ true → five_fields.is (p.run, (p.susp, (p.waits, (p.block, p.bound)))) ≡ true

@@ -1,7 +1,7 @@
 -- One more monitor, routine or process that has its place.
-use Rattle.std.proofs.Common.{◌≡◌, ◌<◌, ◌+◌, ◌++◌, ℕ, List, [], ◌∷◌, All, length, map, take, drop, get_or, refl, sym, ap, ◌∙◌, subst, append_assoc, arith}
+use Rattle.std.proofs.Common.{◌≡◌, ◌<◌, ◌+◌, ◌++◌, ℕ, List, [], ◌∷◌, length, map, take, drop, get_or, refl, sym, ap, ◌∙◌, append_assoc, arith}
 use Rattle.std.specs.List.{flat_map}
-use Rattle.std.proofs.lemmas.List.{drop_more, take_more, get_or-map, length-map, map-append}
+use Rattle.std.proofs.lemmas.List.{drop_more, take_more, map-append}
 use Rattle.image_format.specs.Numbers.{name_bytes}
 use Rattle.image.specs.declared.raw.RawMon.{RawMon}
 use Rattle.image.specs.declared.raw.RawProc.{RawProc}
@@ -16,10 +16,6 @@ use Rattle.image_reader.specs.Grammar.{monitor_format}
 -- the first of those that are left
 first_left : {A : Type 0} (xs : List A) (i : ℕ) (x d : A) → i < length xs → x ≡ get_or xs i d → drop i xs ≡ x ∷ drop (i + 1) xs
 first_left xs i x d within is = drop_more xs i d within ∙ ap (λ y. y ∷ drop (i + 1) xs) (sym is)
-
--- what holds of all that they become holds of what one becomes
-pub all_become : {A B : Type 0} (f : A → B) (P : B → Type 0) (xs : List A) (i : ℕ) (x : A) → i < length xs → x ≡ get_or xs i x → All P (map f xs) → P (f x)
-all_become f P xs i x within is all = subst P (get_or-map f xs i x (f x) within ∙ ap f (sym is)) (all i (f x) (subst (λ n. i < n) (sym (length-map xs f)) within))
 
 -- one more of what they become
 one_more_done : {A B : Type 0} (f : A → B) (xs : List A) (i : ℕ) (x d : A) → i < length xs → x ≡ get_or xs i d → map f (take (i + 1) xs) ≡ map f (take i xs) ++ f x ∷ []

@@ -3,11 +3,12 @@
 use Rattle.std.proofs.Common.{◌≡◌, ◌≤◌, ◌<◌, ◌⊎◌, inl, inr, ◌+◌, ◌-◌, ◌++◌, ℕ, zero, suc, Bool, true, List, [], ◌∷◌, length, take, drop, Result, Ok, Err, Option, None, Some, refl, sym, ap, ◌∙◌, subst, arith, append_assoc, length-append}
 use Rattle.std.proofs.Math.Seq.{take-append-add, take-append_seam, drop-append_seam}
 use Rattle.std.proofs.lemmas.List.{take-append-le, take-append-drop, length-take-le}
-use Rattle.std.proofs.lemmas.Bool.{cases_lt, le-ltb, lt-ltb}
+use Rattle.std.proofs.lemmas.Bool.{cases_lt, le-ltb, lt-ltb, and_parts}
 use Rattle.image_format.specs.declared.fault.Fault.{Fault}
 use Rattle.image_format.specs.Format.{Format, Read, ◌>>=◌, fault, field_at, given, is_fine, passed, checked, both, via, each, each_read, each_write, each_is}
 use Rattle.image_format.specs.FormatLaw.{AreBytes, IsSound}
-use Rattle.image_format.proofs.Booleans.{parts, together}
+use Rattle.image_format.proofs.Booleans.{together}
+use Rattle.image_format.proofs.Alike.{same_ok}
 
 -- ---- bytes
 
@@ -30,15 +31,6 @@ pub came : {A B : Type 0} (r : Result A Fault) (g : A → Result B Fault) (y : B
 came (Ok x) g y h = record { x = x; was = refl; then_is = h }
 came (Err e) g y h = cc
 
-abbrev okay : {A : Type 0} → A → Result A Fault
-okay x = Ok x
-
-same_ok : {A : Type 0} (x y : A) → okay x ≡ okay y → x ≡ y
-same_ok {A = A} x y h = ap value h where
-  value : Result A Fault → A
-  value (Ok z) = z
-  value (Err e) = x
-
 fine_passes : {A : Type 0} (w : Option ℕ) (left : ℕ) (x : A × List ℕ) → is_fine w ≡ true → passed w left x ≡ Ok x
 fine_passes None left x h = refl
 fine_passes (Some n) left x h = cc
@@ -57,10 +49,10 @@ checked_sound {A = A} f wrong s = record {
       let ih = s.back bytes x are (c.was ∙ ap (λ y. Ok y) p.1) in
       (ih.0, together (f.is x.0) (is_fine (wrong x.0)) ih.1 (subst (λ (y : A × List ℕ). is_fine (wrong y.0) ≡ true) p.1 p.0));
   again = λ x rest h.
-      let p = parts (f.is x) (is_fine (wrong x)) h in
+      let p = and_parts (f.is x) (is_fine (wrong x)) h in
       ap (λ r. r >>= λ y. passed (wrong y.0) (length (f.write x ++ rest)) y) (s.again x rest p.0) ∙ fine_passes (wrong x) (length (f.write x ++ rest)) (x, rest) p.1;
   cut = λ x k h lt.
-      let p = parts (f.is x) (is_fine (wrong x)) h in
+      let p = and_parts (f.is x) (is_fine (wrong x)) h in
       ap (λ r. r >>= λ y. passed (wrong y.0) (length (take k (f.write x))) y) (s.cut x k p.0 lt);
 }
 
@@ -85,7 +77,7 @@ both_sound {A = A} {B = B} f g s t = record { back = both_back; again = both_aga
 
   both_again : (z : A × B) (rest : List ℕ) → (both f g).is z ≡ true → (both f g).read ((both f g).write z ++ rest) ≡ Ok (z, rest)
   both_again z rest h =
-      let p = parts (f.is z.0) ((g z.0).is z.1) h in
+      let p = and_parts (f.is z.0) ((g z.0).is z.1) h in
       ap (λ bytes. (both f g).read bytes) (append_assoc (f.write z.0) ((g z.0).write z.1) rest)
       ∙ ap (λ r. r >>= λ x. (g x.0).read x.1 >>= λ y. Ok ((x.0, y.0), y.1)) (s.again z.0 ((g z.0).write z.1 ++ rest) p.0)
       ∙ ap (λ r. r >>= λ y. Ok ((z.0, y.0), y.1)) ((t z.0).again z.1 rest p.1)
@@ -93,7 +85,7 @@ both_sound {A = A} {B = B} f g s t = record { back = both_back; again = both_aga
   both_cut : (z : A × B) (k : ℕ) → (both f g).is z ≡ true → k < length ((both f g).write z) → (both f g).read (take k ((both f g).write z)) ≡ Err (fault 2 0)
   both_cut z k h lt = by (cases_lt k (length (f.write z.0))) where
     p : (f.is z.0 ≡ true) × ((g z.0).is z.1 ≡ true)
-    p = parts (f.is z.0) ((g z.0).is z.1) h
+    p = and_parts (f.is z.0) ((g z.0).is z.1) h
 
     by : (k < length (f.write z.0)) ⊎ (length (f.write z.0) ≤ k) → (both f g).read (take k ((both f g).write z)) ≡ Err (fault 2 0)
     by (inl early) =
@@ -158,7 +150,7 @@ each_again {A = A} f s earlier zero [] rest h = refl
 each_again {A = A} f s earlier zero (x ∷ xs) rest h = cc
 each_again {A = A} f s earlier (suc n) [] rest h = cc
 each_again {A = A} f s earlier (suc n) (x ∷ xs) rest h =
-    let p = parts ((f earlier).is x) (each_is f (earlier ++ x ∷ []) n xs) h in
+    let p = and_parts ((f earlier).is x) (each_is f (earlier ++ x ∷ []) n xs) h in
     ap (λ bytes. each_read f earlier (suc n) bytes) (append_assoc ((f earlier).write x) (each_write f (earlier ++ x ∷ []) xs) rest)
     ∙ ap (λ r. r >>= λ y. each_read f (earlier ++ y.0 ∷ []) n y.1 >>= λ ys. Ok (y.0 ∷ ys.0, ys.1)) ((s earlier).again x (each_write f (earlier ++ x ∷ []) xs ++ rest) p.0)
     ∙ ap (λ r. r >>= λ ys. Ok (x ∷ ys.0, ys.1)) (each_again f s (earlier ++ x ∷ []) n xs rest p.1)
@@ -170,15 +162,15 @@ each_cut {A = A} f s earlier zero [] k h lt = absurd (omega (arith, lt))
 each_cut {A = A} f s earlier zero (x ∷ xs) k h lt = cc
 each_cut {A = A} f s earlier (suc n) [] k h lt = cc
 each_cut {A = A} f s earlier (suc n) (x ∷ xs) k h lt =
-    by (λ m within. each_cut f s (earlier ++ x ∷ []) n xs m (parts ((f earlier).is x) (each_is f (earlier ++ x ∷ []) n xs) h).1 within) (cases_lt k (length ((f earlier).write x))) where
+    by (λ m within. each_cut f s (earlier ++ x ∷ []) n xs m (and_parts ((f earlier).is x) (each_is f (earlier ++ x ∷ []) n xs) h).1 within) (cases_lt k (length ((f earlier).write x))) where
       by : ((m : ℕ) → m < length (each_write f (earlier ++ x ∷ []) xs) → each_read f (earlier ++ x ∷ []) n (take m (each_write f (earlier ++ x ∷ []) xs)) ≡ Err (fault 2 0))
           → (k < length ((f earlier).write x)) ⊎ (length ((f earlier).write x) ≤ k) → each_read f earlier (suc n) (take k (each_write f earlier (x ∷ xs))) ≡ Err (fault 2 0)
       by ih (inl early) =
-          let p = parts ((f earlier).is x) (each_is f (earlier ++ x ∷ []) n xs) h in
+          let p = and_parts ((f earlier).is x) (each_is f (earlier ++ x ∷ []) n xs) h in
           ap (λ bytes. each_read f earlier (suc n) bytes) (take-append-le k ((f earlier).write x) (each_write f (earlier ++ x ∷ []) xs) (omega (arith, early)))
           ∙ ap (λ r. r >>= λ y. each_read f (earlier ++ y.0 ∷ []) n y.1 >>= λ ys. Ok (y.0 ∷ ys.0, ys.1)) ((s earlier).cut x k p.0 early)
       by ih (inr late) =
-          let p = parts ((f earlier).is x) (each_is f (earlier ++ x ∷ []) n xs) h in
+          let p = and_parts ((f earlier).is x) (each_is f (earlier ++ x ∷ []) n xs) h in
           let m = k - length ((f earlier).write x) in
           let is_k : k ≡ length ((f earlier).write x) + m = omega (arith, late) in
           let within : m < length (each_write f (earlier ++ x ∷ []) xs) = omega (arith, late, lt, length-append ((f earlier).write x) (each_write f (earlier ++ x ∷ []) xs)) in
@@ -192,10 +184,10 @@ each_sound {A = A} f s earlier count = record { back = each_back f s earlier cou
 
 -- ---- fields
 
-field_short : {A : Type 0} (size : ℕ) (value : List ℕ → A) (bytes : List ℕ) → length bytes < size → field_at size value bytes ≡ Err (fault 2 0)
+pub field_short : {A : Type 0} (size : ℕ) (value : List ℕ → A) (bytes : List ℕ) → length bytes < size → field_at size value bytes ≡ Err (fault 2 0)
 field_short size value bytes h = rw (lt-ltb (length bytes) size h) refl
 
-field_long : {A : Type 0} (size : ℕ) (value : List ℕ → A) (bytes : List ℕ) → size ≤ length bytes → field_at size value bytes ≡ Ok (value (take size bytes), drop size bytes)
+pub field_long : {A : Type 0} (size : ℕ) (value : List ℕ → A) (bytes : List ℕ) → size ≤ length bytes → field_at size value bytes ≡ Ok (value (take size bytes), drop size bytes)
 field_long size value bytes h = rw (le-ltb (length bytes) size h) refl
 
 -- a field whose number and bytes are one and the same, in its range

@@ -31,7 +31,7 @@ two_back (b ∷ c ∷ d ∷ bs) len are = absurd (omega (arith, len))
 pub u16_sound : IsSound u16
 u16_sound = field_sound 2 written.u16 (from_be_bytes w16) (λ n. nat_lt n (2 ^ 16)) (record { size_is = λ x h. refl; told = λ x h. from_be_bytes-to_be_bytes_2 x (ltb-true x (2 ^ 16) h); tells = two_back })
 
-four_back : (bytes : List ℕ) → length bytes ≡ 4 → AreBytes bytes → (written.u32 (from_be_bytes w32 bytes) ≡ bytes) × (nat_lt (from_be_bytes w32 bytes) (2 ^ 32) ≡ true)
+pub four_back : (bytes : List ℕ) → length bytes ≡ 4 → AreBytes bytes → (written.u32 (from_be_bytes w32 bytes) ≡ bytes) × (nat_lt (from_be_bytes w32 bytes) (2 ^ 32) ≡ true)
 four_back [] len are = absurd (omega (arith, len))
 four_back (a ∷ []) len are = absurd (omega (arith, len))
 four_back (a ∷ b ∷ []) len are = absurd (omega (arith, len))

@@ -20,11 +20,11 @@ join (Cons t us) ts = Cons t (join us ts)
 abbrev pub with_front : Segs → Read Segs → Read Segs
 with_front front read = read >>= λ x. Ok (join front x.0, x.1)
 
-join-none : (ts : Segs) → join ts Nil ≡ ts
+pub join-none : (ts : Segs) → join ts Nil ≡ ts
 join-none Nil = refl
 join-none (Cons t ts) = ap (λ us. Cons t us) (join-none ts)
 
-join_assoc : (a b c : Segs) → join (join a b) c ≡ join a (join b c)
+pub join_assoc : (a b c : Segs) → join (join a b) c ≡ join a (join b c)
 join_assoc Nil b c = refl
 join_assoc (Cons t a) b c = ap (λ us. Cons t us) (join_assoc a b c)
 

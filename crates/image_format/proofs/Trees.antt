@@ -1,7 +1,7 @@
 -- The bytes of a segment tree are those that it is read from.
 use Rattle.std.proofs.Common.{◌≡◌, ◌<◌, ◌^◌, ◌&&◌, ◌==◌, ◌++◌, ◌+◌, ℕ, zero, suc, Bool, true, false, List, [], ◌∷◌, length, take, Ok, Err, refl, sym, ap, ◌∙◌, subst, arith}
 use Rattle.std.specs.Prelude.{nat_lt}
-use Rattle.std.proofs.lemmas.Bool.{eqb-true}
+use Rattle.std.proofs.lemmas.Bool.{eqb-true, and_parts}
 use Rattle.machine_semantics.specs.Trees.{Seg, Line, Fork, Rep, Call, Stay, Wait, Exit, Segs, Nil, Cons}
 use Rattle.image_format.specs.Numbers as written
 use Rattle.image_format.specs.TreeBytes.{row, seg_bytes, segs_bytes, tree_bytes}
@@ -9,7 +9,6 @@ use Rattle.image_format.specs.Format.{Format, Read, ◌>>=◌, fault, given, u8,
 use Rattle.image_format.specs.TreeFormat.{SegNumbers, image_limits, in_image, within_limits, within, tagged, seg_read, seg_is, seg_format, segs_read, segs_is, row_format, too_deep, tree_format}
 use Rattle.image_format.specs.declared.limits.Limits.{Limits}
 use Rattle.image_format.specs.FormatLaw.{AreBytes, IsSound}
-use Rattle.image_format.proofs.Booleans.{parts}
 use Rattle.image_format.proofs.Sound.{came, bytes_after, checked_sound, both_sound, via_sound, given_sound, each_sound}
 use Rattle.image_format.proofs.SoundFields.{u8_sound, u16_sound, u32_sound}
 use Rattle.image_format.proofs.Alike.{alike, same_ok}
@@ -209,12 +208,12 @@ module _ (numbers : SegNumbers) (are_sound : AreSound numbers) (sub : Format Seg
   row_long earlier zero [] h = refl
   row_long earlier zero (s ∷ ss) h = cc
   row_long earlier (suc n) [] h = cc
-  row_long earlier (suc n) (s ∷ ss) h = let more = row_long (earlier ++ s ∷ []) n ss (parts (seg_is numbers sub s) (each_is (λ e. one) (earlier ++ s ∷ []) n ss) h).1 in omega (arith, more)
+  row_long earlier (suc n) (s ∷ ss) h = let more = row_long (earlier ++ s ∷ []) n ss (and_parts (seg_is numbers sub s) (each_is (λ e. one) (earlier ++ s ∷ []) n ss) h).1 in omega (arith, more)
 
   listed_sound : IsSound listed
   listed_sound =
       via_sound (λ (x : ℕ × List Seg). tree_of x.1) (λ tree. (row tree, list_of tree)) (both u32 (λ count. each (λ e. one) [] count))
-      (λ x h. let p = parts (nat_lt x.0 (2 ^ 32)) (each_is (λ e. one) [] x.0 x.1) h in
+      (λ x h. let p = and_parts (nat_lt x.0 (2 ^ 32)) (each_is (λ e. one) [] x.0 x.1) h in
       ap (λ n. (n, list_of (tree_of x.1))) (row_long [] x.0 x.1 p.1) ∙ ap (λ (ss : List Seg). (x.0, ss)) (list_of-tree_of x.1))
       (λ y h. tree_of-list_of y) (both_sound u32 (λ count. each (λ e. one) [] count) u32_sound (λ count. each_sound (λ e. one) (λ e. one_sound) [] count))
 

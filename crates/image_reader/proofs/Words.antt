@@ -4,17 +4,16 @@ use Rattle.std.specs.Prelude.{nat_eq, slice_get}
 use Rattle.std.specs.List.{Contains}
 use Rattle.std.specs.Cmp.Lexicographic.{pointwise}
 use Rattle.std.proofs.lemmas.Cmp.{nat_list_eq_equiv}
-use Rattle.std.proofs.lemmas.Bool.{eqb-true}
+use Rattle.std.proofs.lemmas.Bool.{eqb-true, and_parts}
 use Rattle.std.proofs.lemmas.Map.Views.{Contains-from_any}
 use Rattle.image_reader.specs.Grammar.{has}
-use Rattle.image_format.proofs.Booleans.{parts}
 
 pub same_words : (x y : List ℕ) → pointwise nat_eq x y ≡ true → x ≡ y
 same_words [] [] h = refl
 same_words [] (b ∷ bs) h = cc
 same_words (a ∷ more) [] h = cc
 same_words (a ∷ more) (b ∷ bs) h =
-    let p = parts (nat_eq a b) (pointwise nat_eq more bs) h in
+    let p = and_parts (nat_eq a b) (pointwise nat_eq more bs) h in
     let first : a ≡ b = eqb-true a b p.0 in
     let rest : more ≡ bs = same_words more bs p.1 in
     rw (first, rest) refl

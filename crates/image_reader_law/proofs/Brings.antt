@@ -7,7 +7,8 @@ use Rattle.std.proofs.lemmas.List.{length-take}
 use Rattle.image_format.specs.Format.{Format, Read, ◌>>=◌, fault, field_at, u8, u16, u32, bytes_as_are, given, passed, checked, both, via, each, each_read}
 use Rattle.image_format.specs.TreeFormat.{within, u32_within, u16_within}
 use Rattle.image_format.proofs.Sound.{came}
-use Rattle.image_reader_law.proofs.Readings.{same_ok, kept, two, seen, between}
+use Rattle.image_reader_law.proofs.Readings.{kept, two, seen, between}
+use Rattle.image_format.proofs.Alike.{same_ok}
 
 pub record Brings {A : Type 0} (n : ℕ) (f : Format A) (P : A → Type 0) : Type 0 where
   pub told : (bytes : List ℕ) (z : A × List ℕ) → length bytes ≤ n → f.read bytes ≡ Ok z → P z.0 × (length z.1 ≤ n)

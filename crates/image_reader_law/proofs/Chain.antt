@@ -2,6 +2,7 @@
 use Rattle.std.proofs.Common.{◌≡◌, ◌⊎◌, inl, inr, ◌++◌, ℕ, Bool, true, false, List, [], ◌∷◌, length, Ok, Err, refl, ap, ◌∙◌}
 use Rattle.std.specs.Prelude.{codes, nat_eq}
 use Rattle.std.specs.Cmp.Lexicographic.{pointwise}
+use Rattle.std.proofs.lemmas.Bool.{and_parts as parts}
 use Rattle.image.specs.Bytes.{Version}
 use Rattle.image_reader.specs.declared.counts.Counts.{Counts}
 use Rattle.image_format.specs.declared.fault.Fault.{Fault}
@@ -9,7 +10,6 @@ use Rattle.image_format.specs.Format.{Format, fault, bytes_as_are, is_fine, both
 use Rattle.image_reader.specs.Grammar as g
 use Rattle.image_reader.specs.File as f
 use Rattle.image_format.specs.FormatLaw.{AreBytes}
-use Rattle.image_format.proofs.Booleans.{parts}
 use Rattle.image_reader.proofs.Words.{same_words}
 use Rattle.image_reader_law.specs.Faults as s
 use Rattle.image_reader_law.specs.Faults.{Sort, Thing, Form, IsMade, Begins, natural, device, monitor, condition, routine, process, pair, list}
@@ -18,6 +18,7 @@ use Rattle.image_reader_law.proofs.Failed.{Failed, failed, failed_only, second_o
 use Rattle.image_reader_law.proofs.Heard.{read_begins, are_left}
 use Rattle.image_reader_law.proofs.Known.{Known, Inner}
 use Rattle.image_reader_law.proofs.Grammar.{a_name, some_counts}
+use Rattle.image_reader_law.proofs.ImageFaultsFields.{fine_is}
 use Rattle.image_reader_law.proofs.ImageFaultsWhole as w
 use Rattle.image_reader_law.proofs.ImageFaultsWhole.{Content, content, parts_with}
 
@@ -122,7 +123,7 @@ pub data Failure (bytes : List ℕ) (e : Fault) : Type 0 where
   no_process : (version : Version) (rest : List ℕ) → bytes ≡ codes "RTEU" ++ (f.version_format.write version ++ rest) → f.version_format.is version ≡ true → Unused version rest e → Failure bytes e
 
 letters_are : (magic : List ℕ) → f.magic_format.is magic ≡ true → magic ≡ codes "RTEU"
-letters_are magic h = same_words magic (codes "RTEU") (w.fine_is (pointwise nat_eq magic (codes "RTEU")) 1 (parts ((bytes_as_are 4).is magic) (is_fine (w.magic_rule magic)) h).1)
+letters_are magic h = same_words magic (codes "RTEU") (fine_is (pointwise nat_eq magic (codes "RTEU")) 1 (parts ((bytes_as_are 4).is magic) (is_fine (w.magic_rule magic)) h).1)
 
 parts_fail : (bytes : List ℕ) (e : Fault) (version : Version) (rest : List ℕ) → bytes ≡ codes "RTEU" ++ (f.version_format.write version ++ rest) → f.version_format.is version ≡ true → Inner e ⊎ Unused version rest e → Failure bytes e
 parts_fail bytes e version rest all in_range (inl inner) = in_content inner

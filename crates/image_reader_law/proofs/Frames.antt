@@ -3,6 +3,7 @@ use Rattle.std.proofs.Common.{◌≡◌, ◌≤◌, ◌<◌, ◌+◌, ◌++◌, 
 use Rattle.std.specs.Prelude.{◌&&◌, ◌||◌, ◌==◌, not, if◌then◌else◌, nat_eq, nat_lt, option_map, slice_get, unwrap_or}
 use Rattle.std.specs.List.{list_any}
 use Rattle.std.proofs.lemmas.Bool.Decides.{nat_tests}
+use Rattle.std.proofs.lemmas.Bool.{or_parts}
 use Rattle.image.specs.declared.names.EventName.{EventName}
 use Rattle.image_format.specs.Format.{unless}
 use Rattle.image_reader.specs.Grammar as g
@@ -25,11 +26,6 @@ is_new events used kind event is fine =
     by true true below some h = absurd cc
     by false b below any h = absurd cc
 
--- neither of two holds
-neither_holds : (a b : Bool) → a || b ≡ false → (a ≡ false) × (b ≡ false)
-neither_holds true b is = absurd cc
-neither_holds false b is = (refl, is)
-
 -- the event's process is the first that names it
 first_frame : (qs : List (List ℕ × Process)) (k : ℕ) (x : List ℕ × Process) → slice_get qs k ≡ Some x → x.1.kind ≡ 1 → list_any (λ e. nat_eq e x.1.event) (f.used_by (take k qs)) ≡ false
     → f.frame_for x.1.event (map (λ (q : List ℕ × Process). q.1) qs) ≡ x.1.frame
@@ -51,7 +47,7 @@ first_frame (y ∷ qs) (suc k) x at kind fresh = by (λ unused. first_frame qs k
   by later false is =
       let both : (nat_eq y.1.event x.1.event || list_any (λ e. nat_eq e x.1.event) (f.used_by (take k qs))) ≡ false =
       sym (ap (λ (b : Bool). list_any (λ e. nat_eq e x.1.event) ((if b then [] else y.1.event ∷ []) ++ f.used_by (take k qs))) is) ∙ fresh in
-      let two = neither_holds (nat_eq y.1.event x.1.event) (list_any (λ e. nat_eq e x.1.event) (f.used_by (take k qs))) both in
+      let two = or_parts (nat_eq y.1.event x.1.event) (list_any (λ e. nat_eq e x.1.event) (f.used_by (take k qs))) both in
       ap (λ (b : Bool). if not b && nat_eq y.1.event x.1.event then y.1.frame else f.frame_for x.1.event rest) is
       ∙ (ap (λ (b : Bool). if b then y.1.frame else f.frame_for x.1.event rest) two.0 ∙ later two.1)
 

@@ -3,7 +3,7 @@ use Rattle.std.proofs.Common.{◌≡◌, ◌⊎◌, inl, inr, ◌≤◌, ◌||�
 use Rattle.std.specs.Prelude.{nat_lt, nat_eq, codes}
 use Rattle.std.specs.Int.{w16, from_be_bytes}
 use Rattle.std.specs.Cmp.Lexicographic.{pointwise}
-use Rattle.std.proofs.lemmas.Bool.{le-ltb, ltb-false, eqb-true}
+use Rattle.std.proofs.lemmas.Bool.{ltb-false, eqb-true}
 use Rattle.image_format.specs.Numbers as written
 use Rattle.image_format.specs.declared.fault.Fault.{Fault}
 use Rattle.image_format.specs.Format.{fault, field_at, u16, bytes_as_are, unless, checked, passed}
@@ -16,6 +16,7 @@ use Rattle.image_reader_law.specs.Faults.{natural, list}
 use Rattle.image_reader_law.proofs.Failed.{Failed, failed, failed_only, stops, goes_on, rule_of}
 use Rattle.image_reader_law.proofs.Heard.{short, field_of, wrong_is}
 use Rattle.image_reader_law.proofs.ImageFaultsWhole.{magic_rule, version_rule}
+use Rattle.image_format.proofs.Sound.{field_long}
 
 -- a field that was read
 came : {A : Type 0} (size : ℕ) (value : List ℕ → A) (bytes : List ℕ) (z : A × List ℕ) → field_at size value bytes ≡ Ok z → (size ≤ length bytes) × ((value (take size bytes), drop size bytes) ≡ z)
@@ -23,9 +24,6 @@ came {A = A} size value bytes z h = by (nat_lt (length bytes) size) refl h where
   by : (b : Bool) → nat_lt (length bytes) size ≡ b → field_of b size value bytes ≡ Ok z → (size ≤ length bytes) × ((value (take size bytes), drop size bytes) ≡ z)
   by true low is = cc
   by false low is = (ltb-false (length bytes) size low, cc)
-
-long : {A : Type 0} (size : ℕ) (value : List ℕ → A) (bytes : List ℕ) → size ≤ length bytes → field_at size value bytes ≡ Ok (value (take size bytes), drop size bytes)
-long size value bytes h = rw (le-ltb (length bytes) size h) refl
 
 unless_is : (b : Bool) (number told : ℕ) → unless b number ≡ Some told → (b ≡ false) × (number ≡ told)
 unless_is true number told h = cc
@@ -60,7 +58,7 @@ letters_fail bytes e h = by (failed ((bytes_as_are 4).read bytes) (rule_of magic
 
 pub letters_told : (bytes : List ℕ) → 4 ≤ length bytes → (take 4 bytes ≡ codes "RTEU" → ⊥) → f.magic_format.read bytes ≡ Err (fault 1 (length bytes))
 letters_told bytes there other =
-    goes_on ((bytes_as_are 4).read bytes) (rule_of magic_rule (length bytes)) (take 4 bytes, drop 4 bytes) (fault 1 (length bytes)) (long 4 (λ b. b) bytes there)
+    goes_on ((bytes_as_are 4).read bytes) (rule_of magic_rule (length bytes)) (take 4 bytes, drop 4 bytes) (fault 1 (length bytes)) (field_long 4 (λ b. b) bytes there)
     (ap (λ w. passed w (length bytes) (take 4 bytes, drop 4 bytes)) (are_not (take 4 bytes) other))
 
 -- ---- the version
@@ -95,12 +93,12 @@ version_fails rest e h = by (failed (u16.read rest) (rule_of version_rule (lengt
 pub version_told : (rest : List ℕ) → AreBytes rest → 2 ≤ length rest → (take 2 rest ≡ 0 ∷ 1 ∷ [] → ⊥) → (take 2 rest ≡ 0 ∷ 2 ∷ [] → ⊥) → f.version_format.read rest ≡ Err (fault 1 (length rest))
 version_told rest are there not_first not_second =
     stops ((checked u16 version_rule).read rest) (λ x. Ok (f.version_of x.0, x.1)) (fault 1 (length rest))
-    (goes_on (u16.read rest) (rule_of version_rule (length rest)) (value (take 2 rest), drop 2 rest) (fault 1 (length rest)) (long 2 value rest there)
+    (goes_on (u16.read rest) (rule_of version_rule (length rest)) (value (take 2 rest), drop 2 rest) (fault 1 (length rest)) (field_long 2 value rest there)
     (ap (λ w. passed w (length rest) (value (take 2 rest), drop 2 rest)) (by (value (take 2 rest) == 1) (value (take 2 rest) == 2) refl refl)))
   where
     number : (n : ℕ) → value (take 2 rest) == n ≡ true → take 2 rest ≡ take 2 (written.u16 n ++ drop 2 rest)
     number n is =
-        let all = (u16_sound.back rest (value (take 2 rest), drop 2 rest) are (long 2 value rest there)).0 in
+        let all = (u16_sound.back rest (value (take 2 rest), drop 2 rest) are (field_long 2 value rest there)).0 in
         ap (λ (b : List ℕ). take 2 b) (all ∙ ap (λ m. written.u16 m ++ drop 2 rest) (eqb-true (value (take 2 rest)) n is))
 
     by : (a b : Bool) → value (take 2 rest) == 1 ≡ a → value (take 2 rest) == 2 ≡ b → version_rule (value (take 2 rest)) ≡ Some 1

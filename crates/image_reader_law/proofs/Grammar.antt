@@ -1,7 +1,7 @@
 -- The names, counts, routines and processes of an image are put together of fields.
 use Rattle.std.proofs.Common.{◌≡◌, ◌||◌, ◌==◌, ◌&&◌, ℕ, zero, suc, Bool, true, List, length, refl, ap, arith}
 use Rattle.std.specs.Prelude.{not, nat_lt, nat_le}
-use Rattle.std.proofs.lemmas.Bool.{eqb-true}
+use Rattle.std.proofs.lemmas.Bool.{eqb-true, and_parts}
 use Rattle.syntax.specs.Spellings.{is_identifier, keywords}
 use Rattle.machine_semantics.specs.Trees.{Segs}
 use Rattle.image.specs.declared.names.CondName.{CondName}
@@ -9,7 +9,6 @@ use Rattle.image_reader.specs.declared.counts.Counts.{Counts}
 use Rattle.image_format.specs.Format.{Format, u8, u16, u32, bytes_as_are, unless, checked, both, via}
 use Rattle.image_format.specs.TreeFormat.{in_image, within, u32_within, u16_within, u16_below, tree_format}
 use Rattle.image_reader.specs.Grammar as g
-use Rattle.image_format.proofs.Booleans.{parts}
 use Rattle.image_reader_law.specs.Faults as s
 use Rattle.image_reader_law.specs.Faults.{Sort, natural, truth, device, monitor, condition, routine, process, tree, optional, pair, list}
 use Rattle.image_reader_law.proofs.Known as k
@@ -21,7 +20,7 @@ cost = k.u32_range 0 1000000001
 
 -- ---- names
 
-abbrev size_format : Format ℕ
+abbrev pub size_format : Format ℕ
 size_format = checked u8 (within 0 63)
 
 -- one byte of length and so many bytes are the bytes
@@ -35,7 +34,7 @@ a_name taken =
   where
     sized : (x : ℕ × List ℕ) → (both size_format bytes_as_are).is x ≡ true → (length x.1, x.1) ≡ x
     sized x h =
-        let e : length x.1 ≡ x.0 = eqb-true (length x.1) x.0 (parts (size_format.is x.0) (length x.1 == x.0) h).1 in
+        let e : length x.1 ≡ x.0 = eqb-true (length x.1) x.0 (and_parts (size_format.is x.0) (length x.1 == x.0) h).1 in
         ap (λ n. (n, x.1)) e
 
 -- ---- devices, monitors and conditions
@@ -61,19 +60,19 @@ a_condition taken monitors earlier =
 
 -- ---- how much there is
 
-abbrev from_routines : Format (ℕ × ℕ)
+abbrev pub from_routines : Format (ℕ × ℕ)
 from_routines = both (u16_within 0 512) (λ routines. u32_within 0 65535)
 
-abbrev from_events : Format (ℕ × (ℕ × ℕ))
+abbrev pub from_events : Format (ℕ × (ℕ × ℕ))
 from_events = both (u16_within 0 64) (λ events. from_routines)
 
-abbrev from_devices : Format (ℕ × (ℕ × (ℕ × ℕ)))
+abbrev pub from_devices : Format (ℕ × (ℕ × (ℕ × ℕ)))
 from_devices = both (u16_within 0 64) (λ devices. from_events)
 
-abbrev from_conditions : Format (ℕ × (ℕ × (ℕ × (ℕ × ℕ))))
+abbrev pub from_conditions : Format (ℕ × (ℕ × (ℕ × (ℕ × ℕ))))
 from_conditions = both (u16_within 0 256) (λ conditions. from_devices)
 
-abbrev from_monitors : Format (ℕ × (ℕ × (ℕ × (ℕ × (ℕ × ℕ)))))
+abbrev pub from_monitors : Format (ℕ × (ℕ × (ℕ × (ℕ × (ℕ × ℕ)))))
 from_monitors = both (u16_within 0 64) (λ monitors. from_conditions)
 
 -- so many numbers, one after the other
@@ -103,13 +102,13 @@ owner_tells counts zero x told is = unless_tells (x == 0) 7 told (omega arith) (
 owner_tells counts (suc zero) x told is = unless_tells (nat_lt x counts.processes) 4 told (omega arith) (omega arith) is
 owner_tells counts (suc (suc kind)) x told is = unless_tells (nat_lt x counts.monitors) 4 told (omega arith) (omega arith) is
 
-abbrev from_locals : Format (ℕ × Bool)
+abbrev pub from_locals : Format (ℕ × Bool)
 from_locals = both (u32_within 0 4096) (λ locals. g.flag_format 4)
 
-abbrev from_params : Format (ℕ × (ℕ × Bool))
+abbrev pub from_params : Format (ℕ × (ℕ × Bool))
 from_params = both u16 (λ params. from_locals)
 
-abbrev after_kind : Counts → (kind : ℕ) → Format (ℕ × (ℕ × (ℕ × Bool)))
+abbrev pub after_kind : Counts → (kind : ℕ) → Format (ℕ × (ℕ × (ℕ × Bool)))
 after_kind counts kind = both (checked u16 (g.wrong_owner counts kind)) (λ owner. from_params)
 
 abbrev owner_sort : Sort
@@ -121,13 +120,13 @@ an_owner counts =
     k.two natural (pair natural (pair natural truth)) (checked u16 (g.wrong_owner counts kind)) from_params (k.a_rule natural u16 (g.wrong_owner counts kind) (owner_tells counts kind) k.half)
     (k.two natural (pair natural truth) u16 from_locals k.half (k.two natural truth (u32_within 0 4096) (g.flag_format 4) (k.u32_range 0 4096) (k.a_flag 4 (omega arith) (omega arith)))))
 
-abbrev cost_from_waits : ℕ → Format (ℕ × ℕ)
+abbrev pub cost_from_waits : ℕ → Format (ℕ × ℕ)
 cost_from_waits kind = both g.cost (λ waits. checked g.cost (g.wrong_stay kind))
 
-abbrev cost_from_susp : ℕ → Format (ℕ × (ℕ × ℕ))
+abbrev pub cost_from_susp : ℕ → Format (ℕ × (ℕ × ℕ))
 cost_from_susp kind = both g.cost (λ susp. cost_from_waits kind)
 
-abbrev cost_from_run : ℕ → Format (ℕ × (ℕ × (ℕ × ℕ)))
+abbrev pub cost_from_run : ℕ → Format (ℕ × (ℕ × (ℕ × ℕ)))
 cost_from_run kind = both g.cost (λ run. cost_from_susp kind)
 
 some_costs : (kind : ℕ) → Known (numbers_of 4) (g.cost_format kind)
@@ -135,10 +134,10 @@ some_costs kind =
     k.two natural (numbers_of 3) u32 (cost_from_run kind) k.whole (k.two natural (numbers_of 2) g.cost (cost_from_susp kind) cost (k.two natural (numbers_of 1) g.cost (cost_from_waits kind) cost
     (k.two natural natural g.cost (checked g.cost (g.wrong_stay kind)) cost (k.a_test natural g.cost (λ stay. kind == 2 || stay == 0) 7 (omega arith) (omega arith) cost))))
 
-abbrev Whole : Type 0
+abbrev pub Whole : Type 0
 Whole = (ℕ × (ℕ × (ℕ × (ℕ × Bool)))) × ((ℕ × (ℕ × (ℕ × (ℕ × ℕ)))) × Segs)
 
-abbrev after_owner : Counts → ℕ × (ℕ × (ℕ × (ℕ × Bool))) → Format ((ℕ × (ℕ × (ℕ × (ℕ × ℕ)))) × Segs)
+abbrev pub after_owner : Counts → ℕ × (ℕ × (ℕ × (ℕ × Bool))) → Format ((ℕ × (ℕ × (ℕ × (ℕ × ℕ)))) × Segs)
 after_owner counts o = both (g.cost_format o.0) (λ c. tree_format (in_image counts.monitors) g.deepest)
 
 pub a_routine : (counts : Counts) → Known routine (g.routine_format counts)

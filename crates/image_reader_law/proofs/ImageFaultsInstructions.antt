@@ -2,15 +2,12 @@
 use Rattle.std.proofs.Common.{◌≡◌, ◌<◌, ◌||◌, ◌&&◌, ◌++◌, ℕ, Bool, true, ℤ, List, [], ◌∷◌, arith}
 use Rattle.std.specs.Prelude.{nat_lt, nat_le, pos}
 use Rattle.std.specs.Ordering.{int_eq}
-use Rattle.std.proofs.lemmas.Bool.{ltb-true}
-use Rattle.machine_isa.specs.declared.instr.Instr.{Instr}
-use Rattle.machine_isa.specs.Bytes.{arity, number, operands, word_bytes}
-use Rattle.machine_isa.specs.Numbered.{numbered}
-use Rattle.image_format.specs.Format.{Format, u8, unless, is_fine, checked, both}
+use Rattle.std.proofs.lemmas.Bool.{ltb-true, and_parts}
+use Rattle.machine_isa.specs.Bytes.{arity, word_bytes}
+use Rattle.image_format.specs.Format.{u8, unless, is_fine}
 use Rattle.image_reader.specs.Grammar as g
 use Rattle.image_format.specs.FormatLaw.{AreBytes}
-use Rattle.image_format.proofs.Booleans.{parts}
-use Rattle.image_reader_law.proofs.ImageSoundInstructions.{instr_sound}
+use Rattle.image_reader_law.proofs.ImageSoundInstructions.{instr_sound, number_format, after_second, after_first, after_number, instr_with, fields_in}
 use Rattle.image_reader_law.specs.Faults as s
 use Rattle.image_reader_law.specs.Faults.{Sort, natural, integer, instruction, pair}
 use Rattle.image_reader_law.proofs.Known as k
@@ -22,18 +19,6 @@ use Rattle.image_reader_law.proofs.Views.{view_of}
 
 an_operand : (is_named : Bool) → Known integer (g.operand is_named)
 an_operand is_named = k.a_test integer g.word (λ z. is_named || int_eq z (pos 0)) 7 (omega arith) (omega arith) (k.a_field integer g.word 4 s.of_word)
-
-abbrev after_second : ℕ → Format ℤ
-after_second n = g.operand (nat_le 3 (arity n))
-
-abbrev after_first : ℕ → Format (ℤ × ℤ)
-after_first n = both (g.operand (nat_le 2 (arity n))) (λ b. after_second n)
-
-abbrev after_number : ℕ → Format (ℤ × (ℤ × ℤ))
-after_number n = both (g.operand (nat_le 1 (arity n))) (λ a. after_first n)
-
-abbrev number_format : Format ℕ
-number_format = checked u8 (λ n. unless (nat_le 1 n && nat_le n 48) 6)
 
 abbrev fields_sort : Sort
 fields_sort = pair natural (pair integer (pair integer integer))
@@ -55,17 +40,11 @@ word_is z = (omega arith, (omega arith, (omega arith, (omega arith, tt))))
 
 fields_are : (x : ℕ × (ℤ × (ℤ × ℤ))) → g.fields_format.is x ≡ true → AreBytes (g.fields_format.write x ++ [])
 fields_are x h =
-    let front = parts (number_format.is x.0) ((after_number x.0).is x.1) h in
-    let low : x.0 < 256 = ltb-true x.0 256 (parts (nat_lt x.0 256) (is_fine (unless (nat_le 1 x.0 && nat_le x.0 48) 6)) front.0).0 in
+    let front = and_parts (number_format.is x.0) ((after_number x.0).is x.1) h in
+    let low : x.0 < 256 = ltb-true x.0 256 (and_parts (nat_lt x.0 256) (is_fine (unless (nat_le 1 x.0 && nat_le x.0 48) 6)) front.0).0 in
     joined (g.fields_format.write x) [] (low, joined (word_bytes x.1.0) (word_bytes x.1.1.0 ++ word_bytes x.1.1.1) (word_is x.1.0) (joined (word_bytes x.1.1.0) (word_bytes x.1.1.1) (word_is x.1.1.0) (word_is x.1.1.1))) tt
 
 -- ---- an instruction
-
-abbrev instr_with : ℕ × (ℤ × (ℤ × ℤ)) → Instr
-instr_with x = g.or_end (numbered x.0 x.1.0 x.1.1.0 x.1.1.1)
-
-abbrev fields_in : Instr → ℕ × (ℤ × (ℤ × ℤ))
-fields_in instr = g.fields_of (operands instr) (number instr)
 
 pub an_instruction : Known instruction g.instr_format
 an_instruction =

@@ -1,13 +1,12 @@
 -- A fault that reading tells of a segment or of a tree is one that the bytes have.
 use Rattle.std.proofs.Common.{◌≡◌, inl, inr, ◌&&◌, ℕ, zero, suc, Bool, true, false, List, [], ◌∷◌, length, Ok, Err, Option, refl, sym, ap, ◌∙◌, subst, arith}
 use Rattle.std.specs.Prelude.{nat_le, nat_lt}
-use Rattle.std.proofs.lemmas.Bool.{lt-ltb, leb-true}
+use Rattle.std.proofs.lemmas.Bool.{lt-ltb, leb-true, and_parts}
 use Rattle.machine_semantics.specs.Trees.{Seg, Segs, Line, Fork, Rep, Call, Stay}
 use Rattle.image_format.specs.declared.fault.Fault.{Fault}
 use Rattle.image_format.specs.Format.{Format, Read, ◌>>=◌, fault, u8, u16, u32, unless, checked, both}
 use Rattle.image_format.specs.TreeFormat.{in_image, within, line_count, turns_count, u16_below, tagged, seg_read, seg_format, segs_read, row_format, too_deep, tree_format}
 use Rattle.image_format.specs.FormatLaw.{AreBytes}
-use Rattle.image_format.proofs.Booleans.{parts}
 use Rattle.image_format.proofs.SoundFields.{u8_sound}
 use Rattle.image_reader_law.specs.Faults as s
 use Rattle.image_reader_law.specs.Faults.{Sort, Thing, Form, IsMade, IsFault, Follows, tag_format, pair, natural, list, segment, tree}
@@ -63,7 +62,7 @@ module _ (monitors depth : ℕ) (sub_heard : Heard tree (tree_format (in_image m
       (pair_heard natural tree (u16_below monitors) (λ monitor. sub) (s.a_rule (below monitors) (s.a_field s.of_two)) (u16_below_heard monitors) (λ monitor. sub_heard)) are h
   by_tag (suc (suc (suc (suc (suc (suc zero)))))) rest e are is h = cc
   by_tag (suc (suc (suc (suc (suc (suc (suc zero))))))) rest e are is h = cc
-  by_tag (suc (suc (suc (suc (suc (suc (suc (suc n)))))))) rest e are is h = absurd (omega (arith, leb-true (suc (suc (suc (suc (suc (suc (suc (suc n)))))))) 7 (parts (nat_le 1 (suc (suc (suc (suc (suc (suc (suc (suc n))))))))) (nat_le (suc (suc (suc (suc (suc (suc (suc (suc n)))))))) 7) is).1))
+  by_tag (suc (suc (suc (suc (suc (suc (suc (suc n)))))))) rest e are is h = absurd (omega (arith, leb-true (suc (suc (suc (suc (suc (suc (suc (suc n)))))))) 7 (and_parts (nat_le 1 (suc (suc (suc (suc (suc (suc (suc (suc n))))))))) (nat_le (suc (suc (suc (suc (suc (suc (suc (suc n)))))))) 7) is).1))
 
   at_tag : (tag : ℕ) (rest : List ℕ) (e : Fault) → AreBytes (tag ∷ rest) → tagged (in_image monitors) sub tag (length (tag ∷ rest)) rest ≡ Err e → Told (tag ∷ rest) e
   at_tag tag rest e are h = by (nat_le 1 tag && nat_le tag 7) refl where

@@ -2,7 +2,7 @@
 use Rattle.std.proofs.Common.{◌≡◌, ◌||◌, ◌==◌, ◌++◌, ℕ, Bool, true, false, List, [], ◌∷◌, length, Option, refl, sym, ap}
 use Rattle.std.specs.Prelude.{nat_lt, nat_eq, map, codes, if◌then◌else◌}
 use Rattle.std.specs.Cmp.Lexicographic.{pointwise}
-use Rattle.std.proofs.lemmas.Bool.{eqb-true}
+use Rattle.std.proofs.lemmas.Bool.{eqb-true, and_parts}
 use Rattle.machine_isa.specs.declared.instr.Instr.{Instr}
 use Rattle.machine_semantics.specs.Image.{Monitor, Routine, Process}
 use Rattle.image.specs.Bytes.{Version, First, Second}
@@ -12,7 +12,6 @@ use Rattle.image_reader.specs.declared.counts.Counts.{Counts}
 use Rattle.image_format.specs.Format.{Format, u16, bytes_as_are, unless, is_fine, checked, both}
 use Rattle.image_reader.specs.Grammar as g
 use Rattle.image_reader.specs.File as f
-use Rattle.image_format.proofs.Booleans.{parts}
 use Rattle.image_reader.proofs.Words.{same_words}
 use Rattle.image_reader_law.proofs.ImageSoundFields.{each_long}
 use Rattle.image_reader_law.specs.Faults as s
@@ -22,6 +21,7 @@ use Rattle.image_reader_law.proofs.Known.{Known}
 use Rattle.image_reader_law.proofs.Grammar.{a_name, a_device, a_named_monitor, a_condition, some_counts, a_routine}
 use Rattle.image_reader_law.proofs.Processes.{a_named_process}
 use Rattle.image_reader_law.proofs.ImageFaultsInstructions.{an_instruction}
+use Rattle.image_reader_law.proofs.ImageFaultsFields.{fine_is}
 
 made_pair : (a b : Sort) (f : Form a) (g : Thing a → Form b) → IsMade a f → ((x : Thing a) → IsMade b (g x)) → IsMade (pair a b) (both f g)
 made_pair a b f g m ms = s.a_pair m ms
@@ -160,7 +160,7 @@ parts_with x = record {
 abbrev pub content_of : f.Parts → Content
 content_of p = (p.over, (f.counts_of p, (p.program, (p.devices, (p.events, (p.monitors, (p.conditions, (p.routines, (p.processes, p.code)))))))))
 
-code_long : (is_used : Bool) (count : ℕ) (code : List Instr) → (f.code_format is_used count).is code ≡ true → length code ≡ count
+pub code_long : (is_used : Bool) (count : ℕ) (code : List Instr) → (f.code_format is_used count).is code ≡ true → length code ≡ count
 code_long true count code h = each_long (λ earlier. g.instr_format) [] count code h
 code_long false count code h = cc
 
@@ -174,15 +174,15 @@ counted version x h =
     let taken = f.with_devices (program ∷ []) named.0 ++ named.1.0 in
     let inner = f.with_monitors taken guarded.0 in
     let work = guarded.1.1 in
-    let a = parts ((f.over_format version).is x.0) ((both g.counts_format (after_counts version)).is x.1) h in
-    let b = parts (g.counts_format.is counts) ((after_counts version counts).is x.1.1) a.1 in
-    let c = parts ((g.name_format []).is program) ((f.named_format version counts program).is named) b.1 in
-    let d = parts ((f.devices_format counts (program ∷ [])).is named.0) ((after_devices version counts (program ∷ []) named.0).is named.1) c.1 in
-    let e = parts ((f.events_format counts (f.with_devices (program ∷ []) named.0)).is named.1.0) ((f.guarded_format version counts taken).is guarded) d.1 in
-    let m = parts ((f.monitors_format counts taken).is guarded.0) ((after_monitors version counts taken guarded.0).is guarded.1) e.1 in
-    let n = parts ((f.conditions_format counts inner).is guarded.1.0) ((f.work_format version counts inner).is work) m.1 in
-    let r = parts ((f.routines_format counts).is work.0) ((with_processes version counts inner).is work.1) n.1 in
-    let p = parts ((f.processes_format version counts inner).is work.1.0) ((with_code version counts work.1.0).is work.1.1) r.1 in
+    let a = and_parts ((f.over_format version).is x.0) ((both g.counts_format (after_counts version)).is x.1) h in
+    let b = and_parts (g.counts_format.is counts) ((after_counts version counts).is x.1.1) a.1 in
+    let c = and_parts ((g.name_format []).is program) ((f.named_format version counts program).is named) b.1 in
+    let d = and_parts ((f.devices_format counts (program ∷ [])).is named.0) ((after_devices version counts (program ∷ []) named.0).is named.1) c.1 in
+    let e = and_parts ((f.events_format counts (f.with_devices (program ∷ []) named.0)).is named.1.0) ((f.guarded_format version counts taken).is guarded) d.1 in
+    let m = and_parts ((f.monitors_format counts taken).is guarded.0) ((after_monitors version counts taken guarded.0).is guarded.1) e.1 in
+    let n = and_parts ((f.conditions_format counts inner).is guarded.1.0) ((f.work_format version counts inner).is work) m.1 in
+    let r = and_parts ((f.routines_format counts).is work.0) ((with_processes version counts inner).is work.1) n.1 in
+    let p = and_parts ((f.processes_format version counts inner).is work.1.0) ((with_code version counts work.1.0).is work.1.1) r.1 in
     let devices = each_long (λ earlier. g.device_format ((program ∷ []) ++ map (λ d. d.name) earlier)) [] counts.devices named.0 d.0 in
     let events = each_long (λ earlier. g.name_format (f.with_devices (program ∷ []) named.0 ++ earlier)) [] counts.events named.1.0 e.0 in
     let monitors = each_long (λ earlier. g.named_monitor_format (taken ++ map (λ m. m.0) earlier)) [] counts.monitors guarded.0 m.0 in
@@ -199,10 +199,6 @@ parts_made version =
 
 -- ---- the file
 
-pub fine_is : (b : Bool) (n : ℕ) → is_fine (unless b n) ≡ true → b ≡ true
-fine_is true n h = refl
-fine_is false n h = absurd cc
-
 abbrev pub magic_rule : List ℕ → Option ℕ
 magic_rule bytes = unless (pointwise nat_eq bytes (codes "RTEU")) 1
 
@@ -217,7 +213,7 @@ version_made = s.a_view {a = natural} {f = checked u16 version_rule} {to = f.ver
   by n false false one two h = absurd cc
 
   there : (n : ℕ) → (checked u16 version_rule).is n ≡ true → f.number_of (f.version_of n) ≡ n
-  there n h = by n (n == 1) (n == 2) refl refl (fine_is (n == 1 || n == 2) 1 (parts (nat_lt n 65536) (is_fine (version_rule n)) h).1)
+  there n h = by n (n == 1) (n == 2) refl refl (fine_is (n == 1 || n == 2) 1 (and_parts (nat_lt n 65536) (is_fine (version_rule n)) h).1)
 
   again : (v : Version) → (checked u16 version_rule).is (f.number_of v) ≡ true → f.version_of (f.number_of v) ≡ v
   again First h = refl
@@ -233,7 +229,7 @@ pub image_made : IsMade (pair s.version s.parts) f.image_format
 image_made =
     s.a_view {a = pair (list natural) (pair s.version s.parts)} {f = both f.magic_format (λ magic. after_magic)} {to = λ (x : List ℕ × (Version × f.Parts)). x.1} {from = λ x. (codes "RTEU", x)}
     (record {
-      back = λ x h. ap (λ (magic : List ℕ). (magic, x.1)) (sym (same_words x.0 (codes "RTEU") (fine_is (pointwise nat_eq x.0 (codes "RTEU")) 1 (parts ((bytes_as_are 4).is x.0) (is_fine (magic_rule x.0)) (parts (f.magic_format.is x.0) (after_magic.is x.1) h).0).1)));
+      back = λ x h. ap (λ (magic : List ℕ). (magic, x.1)) (sym (same_words x.0 (codes "RTEU") (fine_is (pointwise nat_eq x.0 (codes "RTEU")) 1 (and_parts ((bytes_as_are 4).is x.0) (is_fine (magic_rule x.0)) (and_parts (f.magic_format.is x.0) (after_magic.is x.1) h).0).1)));
       there = λ y h. refl;
     })
     (made_pair (list natural) (pair s.version s.parts) f.magic_format (λ magic. after_magic) magic_made (λ magic. made_pair s.version s.parts f.version_format f.parts_format version_made parts_made))

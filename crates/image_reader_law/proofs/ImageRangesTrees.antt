@@ -8,8 +8,9 @@ use Rattle.image_format.specs.TreeBytes.{inner, segments}
 use Rattle.image_format.specs.Format.{Format, Read, ◌>>=◌, fault, field_at, u8, u16, u32, unless, checked, both}
 use Rattle.image_format.specs.TreeFormat.{in_image, line_count, turns_count, u16_below, within, tagged, seg_read, seg_format, segs_read, row_format, tree_format}
 use Rattle.image_format.proofs.Sound.{came}
-use Rattle.image_reader_law.proofs.Readings.{okay, same_ok, kept, two}
+use Rattle.image_reader_law.proofs.Readings.{kept, two}
 use Rattle.image_reader_law.proofs.Brings.{Brings}
+use Rattle.image_format.proofs.Alike.{okay, same_ok}
 
 -- a field takes all its bytes
 taken : {A : Type 0} (size : ℕ) (value : List ℕ → A) (bytes : List ℕ) (z : A × List ℕ) → field_at size value bytes ≡ Ok z → size + length z.1 ≤ length bytes

@@ -1,21 +1,22 @@
 -- The bytes of names, counts, routines and processes are those that they are read from.
-use Rattle.std.proofs.Common.{◌≡◌, ◌≤◌, ◌<◌, ◌||◌, ◌==◌, ◌++◌, ℕ, zero, suc, Bool, true, false, List, [], ◌∷◌, length, take, Ok, Err, Option, Some, None, refl, ap, subst, arith}
+use Rattle.std.proofs.Common.{◌≡◌, ◌<◌, ◌||◌, ◌==◌, ◌++◌, ℕ, zero, suc, Bool, true, List, [], ◌∷◌, length, take, Ok, Err, Option, Some, None, refl, ap, subst}
 use Rattle.std.specs.Prelude.{not, nat_lt, nat_le, nat_eq}
-use Rattle.std.proofs.lemmas.Bool.{eqb-true, leb-true, eq-eqb}
+use Rattle.std.proofs.lemmas.Bool.{eqb-true, eq-eqb, and_parts}
 use Rattle.machine_semantics.specs.Image.{Process}
 use Rattle.machine_semantics.specs.Trees.{Segs}
 use Rattle.image.specs.Bytes.{Version, First, Second}
 use Rattle.image.specs.declared.names.CondName.{CondName}
 use Rattle.image_reader.specs.declared.counts.Counts.{Counts}
-use Rattle.image_format.specs.Format.{Format, ◌>>=◌, fault, u8, u16, u32, bytes_as_are, unless, is_fine, checked, both, via, each_is}
+use Rattle.image_format.specs.Format.{Format, ◌>>=◌, fault, u8, u16, u32, bytes_as_are, unless, checked, both, via, each_is}
 use Rattle.image_format.specs.TreeFormat.{in_image, within, u32_within, u16_within, u16_below, tree_format}
 use Rattle.image_reader.specs.Grammar as g
 use Rattle.image_format.specs.FormatLaw.{IsSound}
-use Rattle.image_format.proofs.Booleans.{parts}
 use Rattle.image_format.proofs.Sound.{came, checked_sound, both_sound, via_sound, given_sound, each_sound}
 use Rattle.image_format.proofs.SoundFields.{u8_sound, u16_sound, u32_sound, bytes_sound}
-use Rattle.image_format.proofs.Alike.{alike, same_ok}
+use Rattle.image_format.proofs.Alike.{same_ok}
 use Rattle.image_format.proofs.Trees.{tree_sound}
+use Rattle.image_reader_law.proofs.ImageFaultsFields.{flag_sound}
+use Rattle.image_reader_law.proofs.Grammar.{size_format, from_routines, from_events, from_devices, from_conditions, from_monitors, kind_format, from_locals, from_params, after_kind, cost_from_waits, cost_from_susp, cost_from_run, Whole, after_owner}
 
 -- where the second does not depend on the first
 pub pair_sound : {A B : Type 0} (f : Format A) (h : Format B) → IsSound f → IsSound h → IsSound (both f (λ x. h))
@@ -32,9 +33,6 @@ cost_sound = u32_within_sound 0 1000000001
 
 -- ---- names
 
-abbrev size_format : Format ℕ
-size_format = checked u8 (within 0 63)
-
 pub name_sound : (taken : List (List ℕ)) → IsSound (g.name_format taken)
 name_sound taken =
     checked_sound (via (λ (x : ℕ × List ℕ). x.1) (λ name. (length name, name)) (both size_format bytes_as_are)) (g.wrong_name taken)
@@ -43,46 +41,8 @@ name_sound taken =
   where
     sized : (x : ℕ × List ℕ) → (both size_format bytes_as_are).is x ≡ true → (length x.1, x.1) ≡ x
     sized x h =
-        let e : length x.1 ≡ x.0 = eqb-true (length x.1) x.0 (parts (size_format.is x.0) (length x.1 == x.0) h).1 in
+        let e : length x.1 ≡ x.0 = eqb-true (length x.1) x.0 (and_parts (size_format.is x.0) (length x.1 == x.0) h).1 in
         ap (λ n. (n, x.1)) e
-
--- ---- flags
-
-abbrev flag_rule : (number : ℕ) → ℕ → Option ℕ
-flag_rule number n = unless (nat_le n 1) number
-
-abbrev number_of : Bool → ℕ
-number_of true = 1
-number_of false = 0
-
-fine_is : (b : Bool) (n : ℕ) → is_fine (unless b n) ≡ true → b ≡ true
-fine_is true n h = refl
-fine_is false n h = absurd cc
-
-flag_sound : (number : ℕ) → IsSound (g.flag_format number)
-flag_sound number =
-    alike (via (λ (n : ℕ). n == 1) number_of (checked u8 (flag_rule number))) (g.flag_format number) writes ranges (λ bytes. refl)
-    (via_sound (λ (n : ℕ). n == 1) number_of (checked u8 (flag_rule number)) there again (checked_sound u8 (flag_rule number) u8_sound))
-  where
-    writes : (b : Bool) → (checked u8 (flag_rule number)).write (number_of b) ≡ (g.flag_format number).write b
-    writes true = refl
-    writes false = refl
-
-    ranges : (b : Bool) → (checked u8 (flag_rule number)).is (number_of b) ≡ true
-    ranges true = refl
-    ranges false = refl
-
-    again : (b : Bool) → (checked u8 (flag_rule number)).is (number_of b) ≡ true → (number_of b == 1) ≡ b
-    again true h = refl
-    again false h = refl
-
-    small : (x : ℕ) → x ≤ 1 → number_of (x == 1) ≡ x
-    small zero h = refl
-    small (suc zero) h = refl
-    small (suc (suc x)) h = absurd (omega (arith, h))
-
-    there : (x : ℕ) → (checked u8 (flag_rule number)).is x ≡ true → number_of (x == 1) ≡ x
-    there x h = small x (leb-true x 1 (fine_is (nat_le x 1) number (parts (nat_lt x 256) (is_fine (flag_rule number x)) h).1))
 
 -- ---- devices, monitors and conditions
 
@@ -107,21 +67,6 @@ condition_sound taken monitors earlier =
 
 -- ---- how much there is
 
-abbrev from_routines : Format (ℕ × ℕ)
-from_routines = both (u16_within 0 512) (λ routines. u32_within 0 65535)
-
-abbrev from_events : Format (ℕ × (ℕ × ℕ))
-from_events = both (u16_within 0 64) (λ events. from_routines)
-
-abbrev from_devices : Format (ℕ × (ℕ × (ℕ × ℕ)))
-from_devices = both (u16_within 0 64) (λ devices. from_events)
-
-abbrev from_conditions : Format (ℕ × (ℕ × (ℕ × (ℕ × ℕ))))
-from_conditions = both (u16_within 0 256) (λ conditions. from_devices)
-
-abbrev from_monitors : Format (ℕ × (ℕ × (ℕ × (ℕ × (ℕ × ℕ)))))
-from_monitors = both (u16_within 0 64) (λ monitors. from_conditions)
-
 pub counts_sound : IsSound g.counts_format
 counts_sound =
     via_sound (λ (x : ℕ × (ℕ × (ℕ × (ℕ × (ℕ × (ℕ × ℕ)))))). record { processes = x.0; monitors = x.1.0; conditions = x.1.1.0; devices = x.1.1.1.0; events = x.1.1.1.1.0; routines = x.1.1.1.1.1.0; code = x.1.1.1.1.1.1 })
@@ -131,44 +76,17 @@ counts_sound =
 
 -- ---- routines
 
-abbrev kind_format : (most : ℕ) → Format ℕ
-kind_format most = checked u8 (λ kind. unless (nat_le kind most) 6)
-
 kind_sound : (most : ℕ) → IsSound (kind_format most)
 kind_sound most = checked_sound u8 (λ kind. unless (nat_le kind most) 6) u8_sound
-
-abbrev from_locals : Format (ℕ × Bool)
-from_locals = both (u32_within 0 4096) (λ locals. g.flag_format 4)
-
-abbrev from_params : Format (ℕ × (ℕ × Bool))
-from_params = both u16 (λ params. from_locals)
-
-abbrev after_kind : Counts → (kind : ℕ) → Format (ℕ × (ℕ × (ℕ × Bool)))
-after_kind counts kind = both (checked u16 (g.wrong_owner counts kind)) (λ owner. from_params)
 
 owner_sound : (counts : Counts) → IsSound (g.owner_format counts)
 owner_sound counts =
     both_sound (kind_format 2) (after_kind counts) (kind_sound 2) (λ kind.
     pair_sound (checked u16 (g.wrong_owner counts kind)) from_params (checked_sound u16 (g.wrong_owner counts kind) u16_sound) (pair_sound u16 from_locals u16_sound (pair_sound (u32_within 0 4096) (g.flag_format 4) (u32_within_sound 0 4096) (flag_sound 4))))
 
-abbrev cost_from_waits : ℕ → Format (ℕ × ℕ)
-cost_from_waits kind = both g.cost (λ waits. checked g.cost (g.wrong_stay kind))
-
-abbrev cost_from_susp : ℕ → Format (ℕ × (ℕ × ℕ))
-cost_from_susp kind = both g.cost (λ susp. cost_from_waits kind)
-
-abbrev cost_from_run : ℕ → Format (ℕ × (ℕ × (ℕ × ℕ)))
-cost_from_run kind = both g.cost (λ run. cost_from_susp kind)
-
 costs_sound : (kind : ℕ) → IsSound (g.cost_format kind)
 costs_sound kind =
     pair_sound u32 (cost_from_run kind) u32_sound (pair_sound g.cost (cost_from_susp kind) cost_sound (pair_sound g.cost (cost_from_waits kind) cost_sound (pair_sound g.cost (checked g.cost (g.wrong_stay kind)) cost_sound (checked_sound g.cost (g.wrong_stay kind) cost_sound))))
-
-abbrev Whole : Type 0
-Whole = (ℕ × (ℕ × (ℕ × (ℕ × Bool)))) × ((ℕ × (ℕ × (ℕ × (ℕ × ℕ)))) × Segs)
-
-abbrev after_owner : Counts → ℕ × (ℕ × (ℕ × (ℕ × Bool))) → Format ((ℕ × (ℕ × (ℕ × (ℕ × ℕ)))) × Segs)
-after_owner counts o = both (g.cost_format o.0) (λ c. tree_format (in_image counts.monitors) g.deepest)
 
 pub routine_sound : (counts : Counts) → IsSound (g.routine_format counts)
 routine_sound counts =
@@ -216,22 +134,22 @@ module _ (version : Version) (events : ℕ) (used : List ℕ) where
       (pair_sound (checked (u32_within 0 1000000000) (g.wrong_first kind)) (from_event kind) (checked_sound (u32_within 0 1000000000) (g.wrong_first kind) (u32_within_sound 0 1000000000))
       (pair_sound (checked u16 (g.wrong_event events used kind)) u16 (checked_sound u16 (g.wrong_event events used kind) u16_sound) u16_sound))))
 
-abbrev time_from_block : Format (ℕ × ℕ)
+abbrev pub time_from_block : Format (ℕ × ℕ)
 time_from_block = both g.cost (λ block. u32_within 1 1000000000)
 
-abbrev time_from_waits : Format (ℕ × (ℕ × ℕ))
+abbrev pub time_from_waits : Format (ℕ × (ℕ × ℕ))
 time_from_waits = both g.cost (λ waits. time_from_block)
 
-abbrev time_from_susp : Format (ℕ × (ℕ × (ℕ × ℕ)))
+abbrev pub time_from_susp : Format (ℕ × (ℕ × (ℕ × ℕ)))
 time_from_susp = both g.cost (λ susp. time_from_waits)
 
 time_sound : IsSound g.time_format
 time_sound = pair_sound g.cost time_from_susp cost_sound (pair_sound g.cost time_from_waits cost_sound (pair_sound g.cost time_from_block cost_sound (pair_sound g.cost (u32_within 1 1000000000) cost_sound (u32_within_sound 1 1000000000))))
 
-abbrev room_from_locals : Format (ℕ × ℕ)
+abbrev pub room_from_locals : Format (ℕ × ℕ)
 room_from_locals = both (u32_within 0 4096) (λ locals. u32)
 
-abbrev room_from_stack : Format (ℕ × (ℕ × ℕ))
+abbrev pub room_from_stack : Format (ℕ × (ℕ × ℕ))
 room_from_stack = both (u32_within 0 4096) (λ stack. room_from_locals)
 
 room_sound : IsSound g.room_format
@@ -247,7 +165,7 @@ pub each_long : {A : Type 0} (f : List A → Format A) (earlier : List A) (count
 each_long f earlier zero [] h = refl
 each_long f earlier zero (x ∷ xs) h = cc
 each_long f earlier (suc n) [] h = cc
-each_long f earlier (suc n) (x ∷ xs) h = ap (λ k. suc k) (each_long f (earlier ++ x ∷ []) n xs (parts ((f earlier).is x) (each_is f (earlier ++ x ∷ []) n xs) h).1)
+each_long f earlier (suc n) (x ∷ xs) h = ap (λ k. suc k) (each_long f (earlier ++ x ∷ []) n xs (and_parts ((f earlier).is x) (each_is f (earlier ++ x ∷ []) n xs) h).1)
 
 some_sound : (f : Format Segs) → IsSound f → IsSound (g.some_format f)
 some_sound f s = record {
@@ -266,7 +184,7 @@ some_sound f s = record {
   cut None k h low = cc
   cut (Some tree) k h low = ap (λ r. r >>= λ x. Ok (Some x.0, x.1)) (s.cut tree k h low)
 
-none_is : (o : Option Segs) → g.is_none o ≡ true → None ≡ o
+pub none_is : (o : Option Segs) → g.is_none o ≡ true → None ≡ o
 none_is None h = refl
 none_is (Some tree) h = cc
 
@@ -274,19 +192,19 @@ handler_tree_sound : (monitors count : ℕ) → IsSound (g.handler_tree_format m
 handler_tree_sound monitors zero = given_sound (λ x y. g.is_none y) None none_is refl
 handler_tree_sound monitors (suc count) = some_sound (tree_format (in_image monitors) g.deepest) (tree_sound monitors g.deepest)
 
-abbrev Numbers : Type 0
+abbrev pub Numbers : Type 0
 Numbers = (ℕ × ℕ) × (List ℕ × (Segs × Option Segs))
 
-abbrev Room : Type 0
+abbrev pub Room : Type 0
 Room = (ℕ × (ℕ × (ℕ × ℕ))) × Numbers
 
-abbrev Time : Type 0
+abbrev pub Time : Type 0
 Time = (ℕ × (ℕ × (ℕ × (ℕ × ℕ)))) × Room
 
-abbrev Fields : Type 0
+abbrev pub Fields : Type 0
 Fields = (ℕ × (ℕ × (ℕ × (ℕ × (ℕ × ℕ))))) × Time
 
-abbrev process_with : Fields → Process
+abbrev pub process_with : Fields → Process
 process_with x = record {
   kind = x.0.0;
   frame = x.0.1.0;
@@ -309,7 +227,7 @@ process_with x = record {
   handler_tree = x.1.1.1.1.1.1;
 }
 
-abbrev fields_in : Process → Fields
+abbrev pub fields_in : Process → Fields
 fields_in p = (
   (p.kind, (p.frame, (p.deadline, (p.first, (p.event, p.rank))))),
   (
@@ -345,11 +263,11 @@ module _ (version : Version) (counts : Counts) (used : List ℕ) where
 
   long : (x : Fields) → all.is x ≡ true → length x.1.1.1.1.0 ≡ x.1.1.1.0.1
   long x h =
-      let a = parts ((g.release_format version counts.events used).is x.0) (time.is x.1) h in
-      let b = parts (g.time_format.is x.1.0) (room.is x.1.1) a.1 in
-      let c = parts (g.room_format.is x.1.1.0) (numbers.is x.1.1.1) b.1 in
-      let d = parts (g.handler_format.is x.1.1.1.0) ((after_handler x.1.1.1.0).is x.1.1.1.1) c.1 in
-      let e = parts ((g.numbers_format x.1.1.1.0.1).is x.1.1.1.1.0) ((trees x.1.1.1.0.1).is x.1.1.1.1.1) d.1 in
+      let a = and_parts ((g.release_format version counts.events used).is x.0) (time.is x.1) h in
+      let b = and_parts (g.time_format.is x.1.0) (room.is x.1.1) a.1 in
+      let c = and_parts (g.room_format.is x.1.1.0) (numbers.is x.1.1.1) b.1 in
+      let d = and_parts (g.handler_format.is x.1.1.1.0) ((after_handler x.1.1.1.0).is x.1.1.1.1) c.1 in
+      let e = and_parts ((g.numbers_format x.1.1.1.0.1).is x.1.1.1.1.0) ((trees x.1.1.1.0.1).is x.1.1.1.1.1) d.1 in
       each_long (λ earlier. checked u16 (g.wrong_number earlier)) [] x.1.1.1.0.1 x.1.1.1.1.0 e.0
 
   pub process_sound : IsSound (g.process_format version counts used)

@@ -2,7 +2,7 @@
 use Rattle.std.proofs.Common.{◌≡◌, ◌≤◌, ◌<◌, ◌++◌, ◌-◌, ℕ, Bool, true, false, List, [], ◌∷◌, length, take, Ok, Err, refl, sym, ap, ◌∙◌, subst, arith}
 use Rattle.std.specs.Prelude.{nat_lt, if◌then◌else◌}
 use Rattle.std.proofs.lemmas.Bool.{le-ltb, ltb-false}
-use Rattle.std.proofs.lemmas.List.{length-take-le}
+use Rattle.std.proofs.lemmas.List.{length-take-le, append-nil}
 use Rattle.image.specs.Bytes.{Version, bytes_of}
 use Rattle.image_format.specs.Format.{◌>>=◌, fault}
 use Rattle.image_reader.specs.File as f
@@ -12,13 +12,9 @@ use Rattle.image_reader_law.specs.ImageSound.{CutImagesEndInsideAField, ImagesRe
 use Rattle.image_format.proofs.Alike.{okay, same_ok}
 use Rattle.image_reader_law.proofs.ImageSoundWhole.{code_is, image_is_written, image_sound}
 
-ended_is : (z : (Version × f.Parts) × List ℕ) (y : (Version × f.Parts) × List ℕ) → f.ended z ≡ Ok y → z ≡ y
+pub ended_is : (z : (Version × f.Parts) × List ℕ) (y : (Version × f.Parts) × List ℕ) → f.ended z ≡ Ok y → z ≡ y
 ended_is (x, []) y is = same_ok (x, []) y is
 ended_is (x, b ∷ bs) y is = absurd cc
-
-all_of : (xs : List ℕ) → xs ++ [] ≡ xs
-all_of [] = refl
-all_of (x ∷ xs) = ap (λ (more : List ℕ). x ∷ more) (all_of xs)
 
 -- what is known of a file that was read
 record IsFile (bytes : List ℕ) (version : Version) (ps : f.Parts) : Type 0 where
@@ -35,7 +31,7 @@ file bytes version ps are is = by (nat_lt f.longest (length bytes)) refl is wher
       let a = came (f.image_format.read bytes) f.ended ((version, ps), []) e in
       let same : a.x ≡ ((version, ps), []) = ended_is a.x ((version, ps), []) a.then_is in
       let b = image_sound.back bytes ((version, ps), []) are (a.was ∙ ap (λ x. okay x) same) in
-      record { few = ltb-false f.longest (length bytes) test; written = b.0 ∙ all_of (f.image_format.write (version, ps)); in_range = b.1 }
+      record { few = ltb-false f.longest (length bytes) test; written = b.0 ∙ append-nil (f.image_format.write (version, ps)); in_range = b.1 }
 
 pub read_are_written : ImagesReadAreWritten
 read_are_written bytes version ps are is =
@@ -46,7 +42,7 @@ pub written_are_read : ImagesWrittenAreRead
 unfolding f.read_file
 written_are_read version ps in_range few =
     let all = bytes_of version (f.image_with ps) in
-    let written : f.image_format.write (version, ps) ++ [] ≡ all = all_of (f.image_format.write (version, ps)) ∙ image_is_written version ps (code_is version ps in_range) in
+    let written : f.image_format.write (version, ps) ++ [] ≡ all = append-nil (f.image_format.write (version, ps)) ∙ image_is_written version ps (code_is version ps in_range) in
     let read : f.image_format.read all ≡ Ok ((version, ps), []) = ap f.image_format.read (sym written) ∙ image_sound.again (version, ps) [] in_range in
     rw (le-ltb f.longest (length all) few) (ap (λ r. r >>= f.ended) read)
 

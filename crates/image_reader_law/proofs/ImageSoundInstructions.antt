@@ -1,24 +1,19 @@
 -- The bytes of an instruction are those that it is read from.
-use Rattle.std.proofs.Common.{◌≡◌, ◌≤◌, ◌<◌, ◌^◌, ◌&&◌, ◌||◌, ◌-◌, ◌+◌, ℕ, zero, suc, Bool, true, false, ℤ, List, [], ◌∷◌, length, Some, refl, sym, ap, ◌∙◌, arith}
-use Rattle.std.specs.Prelude.{nat_lt, nat_le, pos, negsuc, slice_get, flat_map}
+use Rattle.std.proofs.Common.{◌≡◌, ◌≤◌, ◌<◌, ◌&&◌, ◌||◌, ◌+◌, ℕ, zero, suc, Bool, true, false, ℤ, List, [], ◌∷◌, length, refl, sym, ap, ◌∙◌, arith}
+use Rattle.std.specs.Prelude.{nat_lt, nat_le, pos, slice_get, flat_map}
 use Rattle.std.specs.Ordering.{int_eq}
-use Rattle.std.specs.Int.{w32, cast_signed, cast_unsigned, from_be_bytes}
-use Rattle.std.proofs.lemmas.Bool.{ltb-true, leb-true}
+use Rattle.std.proofs.lemmas.Bool.{leb-true, and_parts}
 use Rattle.std.proofs.lemmas.Bool.Decides.{Decides-int_eq}
-use Rattle.std.proofs.lemmas.Int.{of_z-to_z}
-use Rattle.std.proofs.lemmas.Nat.{from_be_bytes-to_be_bytes_4}
 use Rattle.machine_isa.specs.declared.instr.Instr.{Instr}
-use Rattle.machine_isa.specs.declared.instr.Instr.TheVariants as i
 use Rattle.machine_isa.specs.Bytes.{arity, number, operands, word_bytes, instr_bytes}
 use Rattle.machine_isa.specs.Numbered.{in_order, numbered}
-use mir.Val.{sel}
-use Rattle.image_format.specs.Numbers as written
 use Rattle.image_format.specs.Format.{Format, unless, is_fine, u8, checked, both}
 use Rattle.image_reader.specs.Grammar as g
-use Rattle.image_format.specs.FormatLaw.{AreBytes, IsSound}
-use Rattle.image_format.proofs.Booleans.{parts}
-use Rattle.image_format.proofs.Sound.{field_sound, checked_sound, both_sound, via_sound}
-use Rattle.image_format.proofs.SoundFields.{u8_sound, u32_sound}
+use Rattle.image_format.specs.FormatLaw.{IsSound}
+use Rattle.image_format.proofs.Sound.{checked_sound, both_sound, via_sound}
+use Rattle.image_format.proofs.SoundFields.{u8_sound}
+use Rattle.image_reader_law.proofs.ImageFaultsFields.{fine_is, word_sound, is_word}
+use Rattle.machine_isa.proofs.Back.{spelled}
 
 int_same : (x y : ℤ) → int_eq x y ≡ true → x ≡ y
 int_same x y h = (Decides-int_eq x y).0 h
@@ -26,75 +21,16 @@ int_same x y h = (Decides-int_eq x y).0 h
 same_int : (x y : ℤ) → x ≡ y → int_eq x y ≡ true
 same_int x y h = (Decides-int_eq x y).1 h
 
--- ---- an instruction by its number and its operands
-
-record Spelled (instr : Instr) : Type 0 where
-  a : ℤ
-  b : ℤ
-  c : ℤ
-  operands_are : operands instr ≡ a ∷ b ∷ c ∷ []
-  numbered_is : numbered (number instr) a b c ≡ Some instr
-
-spelled : (instr : Instr) → Spelled instr
-spelled (i.Push value) = record { a = value; b = pos 0; c = pos 0; operands_are = refl; numbered_is = refl }
-spelled (i.LoadLocal word) = record { a = word; b = pos 0; c = pos 0; operands_are = refl; numbered_is = refl }
-spelled (i.StoreLocal word) = record { a = word; b = pos 0; c = pos 0; operands_are = refl; numbered_is = refl }
-spelled (i.LoadOwn word) = record { a = word; b = pos 0; c = pos 0; operands_are = refl; numbered_is = refl }
-spelled (i.StoreOwn word) = record { a = word; b = pos 0; c = pos 0; operands_are = refl; numbered_is = refl }
-spelled (i.LoadMon word) = record { a = word; b = pos 0; c = pos 0; operands_are = refl; numbered_is = refl }
-spelled (i.StoreMon word) = record { a = word; b = pos 0; c = pos 0; operands_are = refl; numbered_is = refl }
-spelled (i.LoadLocalAt word low len) = record { a = word; b = low; c = len; operands_are = refl; numbered_is = refl }
-spelled (i.StoreLocalAt word low len) = record { a = word; b = low; c = len; operands_are = refl; numbered_is = refl }
-spelled (i.LoadOwnAt word low len) = record { a = word; b = low; c = len; operands_are = refl; numbered_is = refl }
-spelled (i.StoreOwnAt word low len) = record { a = word; b = low; c = len; operands_are = refl; numbered_is = refl }
-spelled (i.LoadMonAt word low len) = record { a = word; b = low; c = len; operands_are = refl; numbered_is = refl }
-spelled (i.StoreMonAt word low len) = record { a = word; b = low; c = len; operands_are = refl; numbered_is = refl }
-spelled i.Neg = record { a = pos 0; b = pos 0; c = pos 0; operands_are = refl; numbered_is = refl }
-spelled i.Not = record { a = pos 0; b = pos 0; c = pos 0; operands_are = refl; numbered_is = refl }
-spelled i.And = record { a = pos 0; b = pos 0; c = pos 0; operands_are = refl; numbered_is = refl }
-spelled i.Or = record { a = pos 0; b = pos 0; c = pos 0; operands_are = refl; numbered_is = refl }
-spelled i.Add = record { a = pos 0; b = pos 0; c = pos 0; operands_are = refl; numbered_is = refl }
-spelled i.Sub = record { a = pos 0; b = pos 0; c = pos 0; operands_are = refl; numbered_is = refl }
-spelled i.Eq = record { a = pos 0; b = pos 0; c = pos 0; operands_are = refl; numbered_is = refl }
-spelled i.Ne = record { a = pos 0; b = pos 0; c = pos 0; operands_are = refl; numbered_is = refl }
-spelled i.Lt = record { a = pos 0; b = pos 0; c = pos 0; operands_are = refl; numbered_is = refl }
-spelled i.Le = record { a = pos 0; b = pos 0; c = pos 0; operands_are = refl; numbered_is = refl }
-spelled i.Gt = record { a = pos 0; b = pos 0; c = pos 0; operands_are = refl; numbered_is = refl }
-spelled i.Ge = record { a = pos 0; b = pos 0; c = pos 0; operands_are = refl; numbered_is = refl }
-spelled i.Mul = record { a = pos 0; b = pos 0; c = pos 0; operands_are = refl; numbered_is = refl }
-spelled i.Div = record { a = pos 0; b = pos 0; c = pos 0; operands_are = refl; numbered_is = refl }
-spelled i.Mod = record { a = pos 0; b = pos 0; c = pos 0; operands_are = refl; numbered_is = refl }
-spelled (i.Range low high) = record { a = low; b = high; c = pos 0; operands_are = refl; numbered_is = refl }
-spelled (i.JumpZero to) = record { a = to; b = pos 0; c = pos 0; operands_are = refl; numbered_is = refl }
-spelled (i.Jump to) = record { a = to; b = pos 0; c = pos 0; operands_are = refl; numbered_is = refl }
-spelled (i.Repeats turns) = record { a = turns; b = pos 0; c = pos 0; operands_are = refl; numbered_is = refl }
-spelled (i.Repeat to) = record { a = to; b = pos 0; c = pos 0; operands_are = refl; numbered_is = refl }
-spelled (i.Exit to) = record { a = to; b = pos 0; c = pos 0; operands_are = refl; numbered_is = refl }
-spelled (i.Call routine) = record { a = routine; b = pos 0; c = pos 0; operands_are = refl; numbered_is = refl }
-spelled i.Return = record { a = pos 0; b = pos 0; c = pos 0; operands_are = refl; numbered_is = refl }
-spelled i.ReturnValue = record { a = pos 0; b = pos 0; c = pos 0; operands_are = refl; numbered_is = refl }
-spelled (i.Enter monitor) = record { a = monitor; b = pos 0; c = pos 0; operands_are = refl; numbered_is = refl }
-spelled (i.Leave monitor) = record { a = monitor; b = pos 0; c = pos 0; operands_are = refl; numbered_is = refl }
-spelled (i.Wait condition limit raised) = record { a = condition; b = limit; c = raised; operands_are = refl; numbered_is = refl }
-spelled (i.Reenter monitor) = record { a = monitor; b = pos 0; c = pos 0; operands_are = refl; numbered_is = refl }
-spelled (i.Signal condition) = record { a = condition; b = pos 0; c = pos 0; operands_are = refl; numbered_is = refl }
-spelled (i.Broadcast condition) = record { a = condition; b = pos 0; c = pos 0; operands_are = refl; numbered_is = refl }
-spelled (i.Empty condition) = record { a = condition; b = pos 0; c = pos 0; operands_are = refl; numbered_is = refl }
-spelled (i.In device) = record { a = device; b = pos 0; c = pos 0; operands_are = refl; numbered_is = refl }
-spelled (i.Out device) = record { a = device; b = pos 0; c = pos 0; operands_are = refl; numbered_is = refl }
-spelled (i.Raise raised) = record { a = raised; b = pos 0; c = pos 0; operands_are = refl; numbered_is = refl }
-spelled i.End = record { a = pos 0; b = pos 0; c = pos 0; operands_are = refl; numbered_is = refl }
-
 -- ---- a number and three operands, of which those that are not named are 0
 
-abbrev masked : Bool → ℤ → ℤ
+abbrev pub masked : Bool → ℤ → ℤ
 masked true z = z
 masked false z = pos 0
 
 abbrev fields_with : ℕ → (a b c : ℤ) → ℕ × (ℤ × (ℤ × ℤ))
 fields_with n a b c = (n, (masked (nat_le 1 (arity n)) a, (masked (nat_le 2 (arity n)) b, masked (nat_le 3 (arity n)) c)))
 
-abbrev fields_in : Instr → ℕ × (ℤ × (ℤ × ℤ))
+abbrev pub fields_in : Instr → ℕ × (ℤ × (ℤ × ℤ))
 fields_in instr = g.fields_of (operands instr) (number instr)
 
 -- each of a list, by the numbers from one on
@@ -215,59 +151,21 @@ unmasked false z h = by (int_eq z (pos 0)) refl h where
 
 -- ---- words
 
-abbrev value : List ℕ → ℤ
-value bytes = cast_signed w32 (from_be_bytes w32 bytes)
-
-abbrev is_word : ℤ → Bool
-is_word z = int_eq z (cast_signed w32 (cast_unsigned w32 z))
-
-fits : (z : ℤ) → z ≡ cast_signed w32 (cast_unsigned w32 z) → cast_unsigned w32 z < 2 ^ 32
-fits (negsuc n) h = omega arith
-fits (pos n) h = by (nat_lt n (2 ^ 31)) refl h where
-  by : (b : Bool) → nat_lt n (2 ^ 31) ≡ b → pos n ≡ sel b (pos n) (negsuc (2 ^ 32 - suc n)) → n < 2 ^ 32
-  by true low e = let l : n < 2 ^ 31 = ltb-true n (2 ^ 31) low in omega (arith, l)
-  by false low e = absurd cc
-
-told : (z : ℤ) → is_word z ≡ true → value (word_bytes z) ≡ z
-told z h =
-    let same = int_same z (cast_signed w32 (cast_unsigned w32 z)) h in
-    ap (cast_signed w32) (from_be_bytes-to_be_bytes_4 (cast_unsigned w32 z) (fits z same)) ∙ sym same
-
-four : (bytes : List ℕ) → length bytes ≡ 4 → AreBytes bytes → (written.u32 (from_be_bytes w32 bytes) ≡ bytes) × (nat_lt (from_be_bytes w32 bytes) (2 ^ 32) ≡ true)
-four [] len are = absurd (omega (arith, len))
-four (a ∷ []) len are = absurd (omega (arith, len))
-four (a ∷ b ∷ []) len are = absurd (omega (arith, len))
-four (a ∷ b ∷ c ∷ []) len are = absurd (omega (arith, len))
-four (a ∷ b ∷ c ∷ d ∷ []) len are =
-    let r = u32_sound.back (a ∷ b ∷ c ∷ d ∷ []) (from_be_bytes w32 (a ∷ b ∷ c ∷ d ∷ []), []) are refl in
-    (sym r.0, r.1)
-four (a ∷ b ∷ c ∷ d ∷ e ∷ bs) len are = absurd (omega (arith, len))
-
-tells : (bytes : List ℕ) → length bytes ≡ 4 → AreBytes bytes → (word_bytes (value bytes) ≡ bytes) × (is_word (value bytes) ≡ true)
-tells bytes long are =
-    let n = from_be_bytes w32 bytes in
-    let fields = four bytes long are in
-    let back : cast_unsigned w32 (cast_signed w32 n) ≡ n = of_z-to_z w32 n (ltb-true n (2 ^ 32) fields.1) in
-    (ap (λ m. written.u32 m) back ∙ fields.0, same_int (cast_signed w32 n) (cast_signed w32 (cast_unsigned w32 (cast_signed w32 n))) (ap (cast_signed w32) (sym back)))
-
-word_sound : IsSound g.word
-word_sound = field_sound 4 word_bytes value is_word (record { size_is = λ z h. refl; told = told; tells = tells })
-
 operand_sound : (is_named : Bool) → IsSound (g.operand is_named)
 operand_sound is_named = checked_sound g.word (λ z. unless (is_named || int_eq z (pos 0)) 7) word_sound
 
 -- ---- number and operands
 
-abbrev after_second : ℕ → Format ℤ
+abbrev pub after_second : ℕ → Format ℤ
 after_second n = g.operand (nat_le 3 (arity n))
 
-abbrev after_first : ℕ → Format (ℤ × ℤ)
+abbrev pub after_first : ℕ → Format (ℤ × ℤ)
 after_first n = both (g.operand (nat_le 2 (arity n))) (λ b. after_second n)
 
-abbrev after_number : ℕ → Format (ℤ × (ℤ × ℤ))
+abbrev pub after_number : ℕ → Format (ℤ × (ℤ × ℤ))
 after_number n = both (g.operand (nat_le 1 (arity n))) (λ a. after_first n)
 
-abbrev number_format : Format ℕ
+abbrev pub number_format : Format ℕ
 number_format = checked u8 (λ n. unless (nat_le 1 n && nat_le n 48) 6)
 
 fields_sound : IsSound g.fields_format
@@ -275,10 +173,6 @@ fields_sound =
     both_sound number_format after_number (checked_sound u8 (λ n. unless (nat_le 1 n && nat_le n 48) 6) u8_sound) (λ n.
     both_sound (g.operand (nat_le 1 (arity n))) (λ a. after_first n) (operand_sound (nat_le 1 (arity n))) (λ a.
     both_sound (g.operand (nat_le 2 (arity n))) (λ b. after_second n) (operand_sound (nat_le 2 (arity n))) (λ b. operand_sound (nat_le 3 (arity n)))))
-
-fine_is : (b : Bool) (n : ℕ) → is_fine (unless b n) ≡ true → b ≡ true
-fine_is true n h = refl
-fine_is false n h = absurd cc
 
 numbered_in : (n : ℕ) (a b c : ℤ) → 1 ≤ n → n ≤ 48 → fields_in (g.or_end (numbered n a b c)) ≡ fields_with n a b c
 numbered_in zero a b c low high = absurd (omega (arith, low))
@@ -288,19 +182,19 @@ numbered_in (suc k) a b c low high =
 there : (x : ℕ × (ℤ × (ℤ × ℤ))) → g.fields_format.is x ≡ true → fields_in (g.or_end (numbered x.0 x.1.0 x.1.1.0 x.1.1.1)) ≡ x
 there x h =
     let n = x.0 in
-    let front = parts (number_format.is n) ((after_number n).is x.1) h in
-    let range = fine_is (nat_le 1 n && nat_le n 48) 6 (parts (nat_lt n 256) (is_fine (unless (nat_le 1 n && nat_le n 48) 6)) front.0).1 in
-    let ends = parts (nat_le 1 n) (nat_le n 48) range in
+    let front = and_parts (number_format.is n) ((after_number n).is x.1) h in
+    let range = fine_is (nat_le 1 n && nat_le n 48) 6 (and_parts (nat_lt n 256) (is_fine (unless (nat_le 1 n && nat_le n 48) 6)) front.0).1 in
+    let ends = and_parts (nat_le 1 n) (nat_le n 48) range in
     let low : 1 ≤ n = leb-true 1 n ends.0 in
     let high : n ≤ 48 = leb-true n 48 ends.1 in
-    let first = parts ((g.operand (nat_le 1 (arity n))).is x.1.0) ((after_first n).is x.1.1) front.1 in
-    let second = parts ((g.operand (nat_le 2 (arity n))).is x.1.1.0) ((after_second n).is x.1.1.1) first.1 in
-    let a = unmasked (nat_le 1 (arity n)) x.1.0 (parts (is_word x.1.0) _ first.0).1 in
-    let b = unmasked (nat_le 2 (arity n)) x.1.1.0 (parts (is_word x.1.1.0) _ second.0).1 in
-    let c = unmasked (nat_le 3 (arity n)) x.1.1.1 (parts (is_word x.1.1.1) _ second.1).1 in
+    let first = and_parts ((g.operand (nat_le 1 (arity n))).is x.1.0) ((after_first n).is x.1.1) front.1 in
+    let second = and_parts ((g.operand (nat_le 2 (arity n))).is x.1.1.0) ((after_second n).is x.1.1.1) first.1 in
+    let a = unmasked (nat_le 1 (arity n)) x.1.0 (and_parts (is_word x.1.0) _ first.0).1 in
+    let b = unmasked (nat_le 2 (arity n)) x.1.1.0 (and_parts (is_word x.1.1.0) _ second.0).1 in
+    let c = unmasked (nat_le 3 (arity n)) x.1.1.1 (and_parts (is_word x.1.1.1) _ second.1).1 in
     numbered_in n x.1.0 x.1.1.0 x.1.1.1 low high ∙ rw (a, b, c) refl
 
-abbrev instr_with : ℕ × (ℤ × (ℤ × ℤ)) → Instr
+abbrev pub instr_with : ℕ × (ℤ × (ℤ × ℤ)) → Instr
 instr_with x = g.or_end (numbered x.0 x.1.0 x.1.1.0 x.1.1.1)
 
 again : (instr : Instr) → instr_with (fields_in instr) ≡ instr

@@ -2,7 +2,7 @@
 use Rattle.std.proofs.Common.{◌≡◌, ◌||◌, ◌==◌, ◌++◌, ◌+◌, ℕ, zero, suc, Bool, true, false, List, [], ◌∷◌, length, Option, Some, None, refl, sym, ap, ◌∙◌, append_assoc}
 use Rattle.std.specs.Prelude.{nat_lt, nat_eq, map, flat_map, codes, if◌then◌else◌}
 use Rattle.std.specs.Cmp.Lexicographic.{pointwise}
-use Rattle.std.proofs.lemmas.Bool.{eqb-true}
+use Rattle.std.proofs.lemmas.Bool.{eqb-true, and_parts}
 use Rattle.std.proofs.lemmas.List.{length-map}
 use Rattle.machine_isa.specs.declared.instr.Instr.{Instr}
 use Rattle.machine_isa.specs.Bytes.{instr_bytes}
@@ -15,31 +15,20 @@ use Rattle.image.specs.Named.{NamedImage}
 use Rattle.image.specs.declared.names.CondName.{CondName}
 use Rattle.image.specs.declared.names.DevName.{DevName}
 use Rattle.image_reader.specs.declared.counts.Counts.{Counts}
-use Rattle.image_format.specs.Format.{Format, u16, bytes_as_are, unless, is_fine, checked, both, each_write}
+use Rattle.image_format.specs.Format.{Format, u16, bytes_as_are, is_fine, checked, both, each_write}
 use Rattle.image_format.specs.TreeFormat.{in_image, tree_format}
 use Rattle.image_reader.specs.Grammar as g
 use Rattle.image_reader.specs.File as f
 use Rattle.image_format.specs.FormatLaw.{IsSound}
-use Rattle.image_format.proofs.Booleans.{parts}
 use Rattle.image_reader.proofs.Words.{same_words}
 use Rattle.image_format.proofs.Sound.{checked_sound, both_sound, via_sound, given_sound, each_sound}
 use Rattle.image_format.proofs.SoundFields.{u16_sound, bytes_sound}
 use Rattle.image_reader_law.proofs.ImageSoundFields.{pair_sound, u16_within_sound, each_long, name_sound, device_sound, named_monitor_sound, condition_sound, counts_sound, routine_sound, named_process_sound}
 use Rattle.image_reader_law.proofs.ImageSoundInstructions.{instr_sound, instr_is_written}
+use Rattle.image_reader_law.proofs.ImageFaultsFields.{fine_is}
+use Rattle.image_reader_law.proofs.ImageFaultsWhole.{code_long, Work, Guarded, Content, after_counts, content, parts_with, content_of, magic_rule, version_rule, after_magic}
 
 -- ---- the lists of a file
-
-abbrev Work : Type 0
-Work = List Routine × (List (List ℕ × Process) × List Instr)
-
-abbrev Guarded : Type 0
-Guarded = List (List ℕ × Monitor) × (List CondName × Work)
-
-abbrev Named : Type 0
-Named = List DevName × (List (List ℕ) × Guarded)
-
-abbrev Content : Type 0
-Content = ℕ × (Counts × (List ℕ × Named))
 
 code_sound : (is_used : Bool) (count : ℕ) → IsSound (f.code_format is_used count)
 code_sound true count = each_sound (λ earlier. g.instr_format) (λ earlier. instr_sound) [] count
@@ -87,36 +76,10 @@ over_sound : (version : Version) → IsSound (f.over_format version)
 over_sound First = given_sound nat_eq 0 (λ y h. eqb-true 0 y h) refl
 over_sound Second = u16_within_sound 0 1000
 
-abbrev after_counts : Version → Counts → Format (List ℕ × Named)
-after_counts version counts = both (g.name_format []) (λ program. f.named_format version counts program)
-
-abbrev content : Version → Format Content
-content version = both (f.over_format version) (λ over. both g.counts_format (after_counts version))
-
 content_sound : (version : Version) → IsSound (content version)
 content_sound version =
     pair_sound (f.over_format version) (both g.counts_format (after_counts version)) (over_sound version) (both_sound g.counts_format (after_counts version) counts_sound
     (λ counts. both_sound (g.name_format []) (λ program. f.named_format version counts program) (name_sound []) (λ program. named_sound version counts program)))
-
-abbrev parts_with : Content → f.Parts
-parts_with x = record {
-  over = x.0;
-  program = x.1.1.0;
-  devices = x.1.1.1.0;
-  events = x.1.1.1.1.0;
-  monitors = x.1.1.1.1.1.0;
-  conditions = x.1.1.1.1.1.1.0;
-  routines = x.1.1.1.1.1.1.1.0;
-  processes = x.1.1.1.1.1.1.1.1.0;
-  code = x.1.1.1.1.1.1.1.1.1;
-}
-
-abbrev content_of : f.Parts → Content
-content_of p = (p.over, (f.counts_of p, (p.program, (p.devices, (p.events, (p.monitors, (p.conditions, (p.routines, (p.processes, p.code)))))))))
-
-code_long : (is_used : Bool) (count : ℕ) (code : List Instr) → (f.code_format is_used count).is code ≡ true → length code ≡ count
-code_long true count code h = each_long (λ earlier. g.instr_format) [] count code h
-code_long false count code h = cc
 
 -- the counts are those of the lists, and the code is in its range
 record IsCounted (version : Version) (x : Content) : Type 0 where
@@ -132,15 +95,15 @@ counted version x h =
     let taken = f.with_devices (program ∷ []) named.0 ++ named.1.0 in
     let inner = f.with_monitors taken guarded.0 in
     let work = guarded.1.1 in
-    let a = parts ((f.over_format version).is x.0) ((both g.counts_format (after_counts version)).is x.1) h in
-    let b = parts (g.counts_format.is counts) ((after_counts version counts).is x.1.1) a.1 in
-    let c = parts ((g.name_format []).is program) ((f.named_format version counts program).is named) b.1 in
-    let d = parts ((f.devices_format counts (program ∷ [])).is named.0) ((after_devices version counts (program ∷ []) named.0).is named.1) c.1 in
-    let e = parts ((f.events_format counts (f.with_devices (program ∷ []) named.0)).is named.1.0) ((f.guarded_format version counts taken).is guarded) d.1 in
-    let m = parts ((f.monitors_format counts taken).is guarded.0) ((after_monitors version counts taken guarded.0).is guarded.1) e.1 in
-    let k = parts ((f.conditions_format counts inner).is guarded.1.0) ((f.work_format version counts inner).is work) m.1 in
-    let r = parts ((f.routines_format counts).is work.0) ((with_processes version counts inner).is work.1) k.1 in
-    let p = parts ((f.processes_format version counts inner).is work.1.0) ((with_code version counts work.1.0).is work.1.1) r.1 in
+    let a = and_parts ((f.over_format version).is x.0) ((both g.counts_format (after_counts version)).is x.1) h in
+    let b = and_parts (g.counts_format.is counts) ((after_counts version counts).is x.1.1) a.1 in
+    let c = and_parts ((g.name_format []).is program) ((f.named_format version counts program).is named) b.1 in
+    let d = and_parts ((f.devices_format counts (program ∷ [])).is named.0) ((after_devices version counts (program ∷ []) named.0).is named.1) c.1 in
+    let e = and_parts ((f.events_format counts (f.with_devices (program ∷ []) named.0)).is named.1.0) ((f.guarded_format version counts taken).is guarded) d.1 in
+    let m = and_parts ((f.monitors_format counts taken).is guarded.0) ((after_monitors version counts taken guarded.0).is guarded.1) e.1 in
+    let k = and_parts ((f.conditions_format counts inner).is guarded.1.0) ((f.work_format version counts inner).is work) m.1 in
+    let r = and_parts ((f.routines_format counts).is work.0) ((with_processes version counts inner).is work.1) k.1 in
+    let p = and_parts ((f.processes_format version counts inner).is work.1.0) ((with_code version counts work.1.0).is work.1.1) r.1 in
     let devices = each_long (λ earlier. g.device_format ((program ∷ []) ++ map (λ d. d.name) earlier)) [] counts.devices named.0 d.0 in
     let events = each_long (λ earlier. g.name_format (f.with_devices (program ∷ []) named.0 ++ earlier)) [] counts.events named.1.0 e.0 in
     let monitors = each_long (λ earlier. g.named_monitor_format (taken ++ map (λ m. m.0) earlier)) [] counts.monitors guarded.0 m.0 in
@@ -156,16 +119,6 @@ parts_sound version =
 
 -- ---- the file
 
-fine_is : (b : Bool) (n : ℕ) → is_fine (unless b n) ≡ true → b ≡ true
-fine_is true n h = refl
-fine_is false n h = absurd cc
-
-abbrev magic_rule : List ℕ → Option ℕ
-magic_rule bytes = unless (pointwise nat_eq bytes (codes "RTEU")) 1
-
-abbrev version_rule : ℕ → Option ℕ
-version_rule n = unless (n == 1 || n == 2) 1
-
 version_sound : IsSound f.version_format
 version_sound = via_sound f.version_of f.number_of (checked u16 version_rule) there again (checked_sound u16 version_rule u16_sound) where
   by : (n : ℕ) (a b : Bool) → n == 1 ≡ a → n == 2 ≡ b → (a || b) ≡ true → f.number_of (if a then First else Second) ≡ n
@@ -174,19 +127,16 @@ version_sound = via_sound f.version_of f.number_of (checked u16 version_rule) th
   by n false false one two h = absurd cc
 
   there : (n : ℕ) → (checked u16 version_rule).is n ≡ true → f.number_of (f.version_of n) ≡ n
-  there n h = by n (n == 1) (n == 2) refl refl (fine_is (n == 1 || n == 2) 1 (parts (nat_lt n 65536) (is_fine (version_rule n)) h).1)
+  there n h = by n (n == 1) (n == 2) refl refl (fine_is (n == 1 || n == 2) 1 (and_parts (nat_lt n 65536) (is_fine (version_rule n)) h).1)
 
   again : (v : Version) → (checked u16 version_rule).is (f.number_of v) ≡ true → f.version_of (f.number_of v) ≡ v
   again First h = refl
   again Second h = refl
 
-abbrev after_magic : Format (Version × f.Parts)
-after_magic = both f.version_format f.parts_format
-
 pub image_sound : IsSound f.image_format
 image_sound =
     via_sound (λ (x : List ℕ × (Version × f.Parts)). x.1) (λ x. (codes "RTEU", x)) (both f.magic_format (λ magic. after_magic))
-    (λ x h. ap (λ (magic : List ℕ). (magic, x.1)) (sym (same_words x.0 (codes "RTEU") (fine_is (pointwise nat_eq x.0 (codes "RTEU")) 1 (parts ((bytes_as_are 4).is x.0) (is_fine (magic_rule x.0)) (parts (f.magic_format.is x.0) (after_magic.is x.1) h).0).1))))
+    (λ x h. ap (λ (magic : List ℕ). (magic, x.1)) (sym (same_words x.0 (codes "RTEU") (fine_is (pointwise nat_eq x.0 (codes "RTEU")) 1 (and_parts ((bytes_as_are 4).is x.0) (is_fine (magic_rule x.0)) (and_parts (f.magic_format.is x.0) (after_magic.is x.1) h).0).1))))
     (λ y h. refl)
     (pair_sound f.magic_format after_magic (checked_sound (bytes_as_are 4) magic_rule (bytes_sound 4)) (both_sound f.version_format f.parts_format version_sound parts_sound))
 
@@ -237,7 +187,7 @@ events_are_written : (at : ℕ) (events : List (List ℕ)) (processes : List Pro
 events_are_written at [] processes = refl
 events_are_written at (e ∷ es) processes = ap (λ (more : List ℕ). written.name_bytes e ++ more) (events_are_written (at + 1) es processes)
 
-framed_long : (at : ℕ) (events : List (List ℕ)) (processes : List Process) → length (f.framed at events processes) ≡ length events
+pub framed_long : (at : ℕ) (events : List (List ℕ)) (processes : List Process) → length (f.framed at events processes) ≡ length events
 framed_long at [] processes = refl
 framed_long at (e ∷ es) processes = ap (λ k. suc k) (framed_long (at + 1) es processes)
 
@@ -297,4 +247,4 @@ module _ (version : Version) (ps : f.Parts) where
       (flat_map instr_bytes ps.code))
 
 pub code_is : (version : Version) (ps : f.Parts) → f.image_format.is (version, ps) ≡ true → (f.code_format (f.all_used (f.used_by ps.processes) 0 (length ps.events)) (length ps.code)).is ps.code ≡ true
-code_is version ps h = (counted version (content_of ps) (parts (f.version_format.is version) ((f.parts_format version).is ps) (parts (f.magic_format.is (codes "RTEU")) (after_magic.is (version, ps)) h).1).1).code
+code_is version ps h = (counted version (content_of ps) (and_parts (f.version_format.is version) ((f.parts_format version).is ps) (and_parts (f.magic_format.is (codes "RTEU")) (after_magic.is (version, ps)) h).1).1).code

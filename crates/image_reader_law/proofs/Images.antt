@@ -1,6 +1,7 @@
 -- A file holds an image, and has no fault, or it has a fault.
 use Rattle.std.proofs.Common.{◌≡◌, ◌⊎◌, inl, inr, ◌≤◌, ◌-◌, ℕ, Bool, true, false, List, [], ◌∷◌, length, Result, Ok, Err, refl, sym, ap, ◌∙◌, subst}
 use Rattle.std.specs.Prelude.{nat_lt}
+use Rattle.std.proofs.lemmas.List.{append-nil}
 use Rattle.image.specs.Bytes.{Version}
 use Rattle.image_format.specs.declared.fault.Fault.{Fault}
 use Rattle.image_reader.specs.File as f
@@ -11,7 +12,6 @@ use Rattle.image_reader_law.specs.Faults as s
 use Rattle.image_reader_law.specs.Faults.{pair, IsFileFault}
 use Rattle.image_reader_law.specs.ImageFaults.{IsImage, NoImageHasAFault, EachFileIsAnImageOrHasAFault}
 use Rattle.image_reader_law.proofs.Heard.{read_begins}
-use Rattle.image_reader_law.proofs.Segments.{all_of}
 use Rattle.image_reader_law.proofs.ImageFaultsFiles.{file_of, is_told, told_exactly}
 use Rattle.image_reader_law.proofs.Behind.{written_is}
 use Rattle.image_reader_law.proofs.ImageFaultsWhole.{image_made}
@@ -26,7 +26,7 @@ none bytes number offset few image h =
 ended_is : (bytes : List ℕ) (z y : (Version × f.Parts) × List ℕ) → AreBytes bytes → f.image_format.read bytes ≡ Ok z → f.ended z ≡ Ok y → IsImage bytes
 ended_is bytes (x, []) y are was is =
     let begins = read_begins (pair s.version s.parts) f.image_format image_made bytes are (x, []) was in
-    record { version = x.0; parts = x.1; in_range = begins.in_range; are = begins.are ∙ all_of (f.image_format.write x) ∙ written_is x.0 x.1 begins.in_range }
+    record { version = x.0; parts = x.1; in_range = begins.in_range; are = begins.are ∙ append-nil (f.image_format.write x) ∙ written_is x.0 x.1 begins.in_range }
 ended_is bytes (x, b ∷ more) y are was is = absurd cc
 
 image_read : (bytes : List ℕ) (y : (Version × f.Parts) × List ℕ) → AreBytes bytes → f.read_file bytes ≡ Ok y → IsImage bytes

@@ -20,7 +20,10 @@ use Rattle.image_reader.specs.File as f
 use Rattle.image_format.proofs.Sound.{came}
 use Rattle.valid_image.specs.Valid.{HasLimits, IsInLimits, HasHandler}
 use Rattle.image_reader_law.specs.ValidLimits.{ImagesReadHaveFewMonitors, ImagesReadHaveLimits}
-use Rattle.image_reader_law.proofs.Readings.{okay, same_ok, kept, two, seen, many, in_u32, in_u16, below}
+use Rattle.image_reader_law.proofs.Readings.{kept, two, seen, many, in_u32, in_u16, below}
+use Rattle.image_reader_law.proofs.ImageSoundFiles.{ended_is}
+use Rattle.image_reader_law.proofs.ImageFaultsWhole.{Work, Guarded, Named, Content, parts_with}
+use Rattle.image_format.proofs.Alike.{okay, same_ok}
 
 -- ---- a process
 
@@ -203,31 +206,6 @@ module _ (counts : Counts) where
 
 -- ---- a file
 
-abbrev Work : Type 0
-Work = List Routine × (List (List ℕ × Process) × List Instr)
-
-abbrev Guarded : Type 0
-Guarded = List (List ℕ × Monitor) × (List CondName × Work)
-
-abbrev Named : Type 0
-Named = List DevName × (List (List ℕ) × Guarded)
-
-abbrev Content : Type 0
-Content = ℕ × (Counts × (List ℕ × Named))
-
-abbrev parts_with : Content → f.Parts
-parts_with x = record {
-  over = x.0;
-  program = x.1.1.0;
-  devices = x.1.1.1.0;
-  events = x.1.1.1.1.0;
-  monitors = x.1.1.1.1.1.0;
-  conditions = x.1.1.1.1.1.1.0;
-  routines = x.1.1.1.1.1.1.1.0;
-  processes = x.1.1.1.1.1.1.1.1.0;
-  code = x.1.1.1.1.1.1.1.1.1;
-}
-
 -- what is known of the parts of a file
 record InLimits (ps : f.Parts) : Type 0 where
   some : 0 < length ps.processes
@@ -271,16 +249,16 @@ module _ (version : Version) (counts : Counts) (taken : List (List ℕ)) where
         owners = λ r x at. let o = rs.each r x at in routine_owner counts o.bytes x o.rest o.was;
       }
 
-abbrev further_counts : Format (ℕ × (ℕ × (ℕ × (ℕ × ℕ))))
+abbrev pub further_counts : Format (ℕ × (ℕ × (ℕ × (ℕ × ℕ))))
 further_counts = both (u16_within 0 256) (λ conditions. both (u16_within 0 64) (λ devices. both (u16_within 0 64) (λ events. both (u16_within 0 512) (λ routines. u32_within 0 65535))))
 
-abbrev other_counts : Format (ℕ × (ℕ × (ℕ × (ℕ × (ℕ × ℕ)))))
+abbrev pub other_counts : Format (ℕ × (ℕ × (ℕ × (ℕ × (ℕ × ℕ)))))
 other_counts = both (u16_within 0 64) (λ monitors. further_counts)
 
-abbrev all_counts : Format (ℕ × (ℕ × (ℕ × (ℕ × (ℕ × (ℕ × ℕ))))))
+abbrev pub all_counts : Format (ℕ × (ℕ × (ℕ × (ℕ × (ℕ × (ℕ × ℕ))))))
 all_counts = both (u16_within 1 64) (λ processes. other_counts)
 
-abbrev counts_with : ℕ × (ℕ × (ℕ × (ℕ × (ℕ × (ℕ × ℕ))))) → Counts
+abbrev pub counts_with : ℕ × (ℕ × (ℕ × (ℕ × (ℕ × (ℕ × ℕ))))) → Counts
 counts_with x = record { processes = x.0; monitors = x.1.0; conditions = x.1.1.0; devices = x.1.1.1.0; events = x.1.1.1.1.0; routines = x.1.1.1.1.1.0; code = x.1.1.1.1.1.1 }
 
 record CountsLimits (c : Counts) : Type 0 where
@@ -351,7 +329,7 @@ module _ (version : Version) where
       let s = seen parts_with content bytes (ps, rest) is in
       subst InLimits s.seen (content_limits bytes s.x rest s.was)
 
-abbrev Full : Type 0
+abbrev pub Full : Type 0
 Full = List ℕ × (Version × f.Parts)
 
 file_limits : (bytes : List ℕ) (version : Version) (ps : f.Parts) (rest : List ℕ) → f.image_format.read bytes ≡ Ok ((version, ps), rest) → InLimits ps
@@ -361,10 +339,6 @@ file_limits bytes version ps rest is =
     let v = two f.version_format f.parts_format m.rest (s.x.1, rest) m.two in
     let e : s.x.1.1 ≡ ps = ap (λ (y : Version × f.Parts). y.1) s.seen in
     subst InLimits e (parts_limits s.x.1.0 v.rest s.x.1.1 rest v.two)
-
-ended_is : (z : (Version × f.Parts) × List ℕ) (y : (Version × f.Parts) × List ℕ) → f.ended z ≡ Ok y → z ≡ y
-ended_is (x, []) y is = same_ok (x, []) y is
-ended_is (x, b ∷ bs) y is = absurd cc
 
 file_read_limits : (bytes : List ℕ) (version : Version) (ps : f.Parts) → f.read_file bytes ≡ Ok ((version, ps), []) → InLimits ps
 unfolding f.read_file

@@ -2,10 +2,11 @@
 use Rattle.std.proofs.Common.{◌≡◌, ◌≤◌, ◌<◌, ◌++◌, ◌-◌, ℕ, zero, suc, Bool, true, false, List, [], ◌∷◌, length, map, Ok, Err, Option, Some, None, refl, sym, ap, ◌∙◌, subst, arith, append_assoc}
 use Rattle.std.specs.Prelude.{All, nat_lt, option_map, slice_get, take, if◌then◌else◌}
 use Rattle.std.proofs.lemmas.List.{append-nil, length-map}
-use Rattle.std.proofs.lemmas.List.Elements.{All-nil, All-cons, All-head, All-tail}
+use Rattle.std.proofs.lemmas.List.Elements.{All-nil, All-cons}
 use Rattle.std.proofs.lemmas.Option.{slice_get-map}
+use Rattle.base.proofs.Lists.{all_of, unmapped}
 use Rattle.machine_isa.specs.declared.instr.Instr.{Instr}
-use Rattle.machine_semantics.specs.Image.{Monitor, Routine, Process}
+use Rattle.machine_semantics.specs.Image.{Monitor, Process}
 use Rattle.image.specs.Bytes.{Version}
 use Rattle.image.specs.Raw.{monitor_of, process_of}
 use Rattle.image.specs.Named.{NamedImage}
@@ -23,35 +24,14 @@ use Rattle.image_reader.specs.File as f
 use Rattle.image_format.proofs.Sound.{came}
 use Rattle.event_log.specs.InRange.{IsShort}
 use Rattle.script.specs.Scripts.{frame_of}
-use Rattle.image_reader_law.proofs.Readings.{okay, same_ok, two, seen, many, in_u16}
+use Rattle.image_reader_law.proofs.Readings.{two, seen, many, in_u16}
 use Rattle.image_reader_law.specs.ReadNames.{ImagesReadAreNamed}
 use Rattle.image_reader_law.proofs.Frames.{frame_at, frame_is}
 use Rattle.image_reader_law.proofs.ReadNamesFields.{IsKnown, IsPlaced, condition_placed, device_short, monitor_short, process_known}
-
-abbrev Work : Type 0
-Work = List Routine × (List (List ℕ × Process) × List Instr)
-
-abbrev Guarded : Type 0
-Guarded = List (List ℕ × Monitor) × (List CondName × Work)
-
-abbrev Named : Type 0
-Named = List DevName × (List (List ℕ) × Guarded)
-
-abbrev Content : Type 0
-Content = ℕ × (Counts × (List ℕ × Named))
-
-abbrev parts_with : Content → f.Parts
-parts_with x = record {
-  over = x.0;
-  program = x.1.1.0;
-  devices = x.1.1.1.0;
-  events = x.1.1.1.1.0;
-  monitors = x.1.1.1.1.1.0;
-  conditions = x.1.1.1.1.1.1.0;
-  routines = x.1.1.1.1.1.1.1.0;
-  processes = x.1.1.1.1.1.1.1.1.0;
-  code = x.1.1.1.1.1.1.1.1.1;
-}
+use Rattle.image_reader_law.proofs.ImageSoundFiles.{ended_is}
+use Rattle.image_reader_law.proofs.ImageFaultsWhole.{Work, Guarded, Named, Content, parts_with}
+use Rattle.image_reader_law.proofs.Limits.{further_counts, other_counts, all_counts, counts_with, Full}
+use Rattle.image_format.proofs.Alike.{okay, same_ok}
 
 -- ---- one after another
 
@@ -142,23 +122,11 @@ module _ (version : Version) (counts : Counts) where
         processes = work_known version counts (f.with_monitors taken x.0) c.rest x.1.1 rest c.two;
       }
 
-abbrev further_counts : Format (ℕ × (ℕ × (ℕ × (ℕ × ℕ))))
-further_counts = both (u16_within 0 256) (λ conditions. both (u16_within 0 64) (λ devices. both (u16_within 0 64) (λ events. both (u16_within 0 512) (λ routines. u32_within 0 65535))))
-
 abbrev last_counts : Format (ℕ × (ℕ × (ℕ × ℕ)))
 last_counts = both (u16_within 0 64) (λ devices. both (u16_within 0 64) (λ events. both (u16_within 0 512) (λ routines. u32_within 0 65535)))
 
 abbrev end_counts : Format (ℕ × (ℕ × ℕ))
 end_counts = both (u16_within 0 64) (λ events. both (u16_within 0 512) (λ routines. u32_within 0 65535))
-
-abbrev other_counts : Format (ℕ × (ℕ × (ℕ × (ℕ × (ℕ × ℕ)))))
-other_counts = both (u16_within 0 64) (λ monitors. further_counts)
-
-abbrev all_counts : Format (ℕ × (ℕ × (ℕ × (ℕ × (ℕ × (ℕ × ℕ))))))
-all_counts = both (u16_within 1 64) (λ processes. other_counts)
-
-abbrev counts_with : ℕ × (ℕ × (ℕ × (ℕ × (ℕ × (ℕ × ℕ))))) → Counts
-counts_with x = record { processes = x.0; monitors = x.1.0; conditions = x.1.1.0; devices = x.1.1.1.0; events = x.1.1.1.1.0; routines = x.1.1.1.1.1.0; code = x.1.1.1.1.1.1 }
 
 record AreFew (c : Counts) : Type 0 where
   conditions : c.conditions ≤ 256
@@ -211,9 +179,6 @@ module _ (version : Version) where
       let s = seen parts_with content bytes (ps, rest) is in
       subst AreKnown s.seen (content_known bytes s.x rest s.was)
 
-abbrev Full : Type 0
-Full = List ℕ × (Version × f.Parts)
-
 file_known : (bytes : List ℕ) (version : Version) (ps : f.Parts) (rest : List ℕ) → f.image_format.read bytes ≡ Ok ((version, ps), rest) → AreKnown ps
 file_known bytes version ps rest is =
     let s = seen (λ (x : Full). x.1) (both f.magic_format (λ magic. both f.version_format f.parts_format)) bytes ((version, ps), rest) is in
@@ -221,10 +186,6 @@ file_known bytes version ps rest is =
     let v = two f.version_format f.parts_format m.rest (s.x.1, rest) m.two in
     let e : s.x.1.1 ≡ ps = ap (λ (y : Version × f.Parts). y.1) s.seen in
     subst AreKnown e (parts_known s.x.1.0 v.rest s.x.1.1 rest v.two)
-
-ended_is : (z : (Version × f.Parts) × List ℕ) (y : (Version × f.Parts) × List ℕ) → f.ended z ≡ Ok y → z ≡ y
-ended_is (x, []) y is = same_ok (x, []) y is
-ended_is (x, b ∷ bs) y is = absurd cc
 
 file_read_known : (bytes : List ℕ) (version : Version) (ps : f.Parts) → f.read_file bytes ≡ Ok ((version, ps), []) → AreKnown ps
 unfolding f.read_file
@@ -238,17 +199,9 @@ file_read_known bytes version ps is = by (nat_lt f.longest (length bytes)) is wh
 
 -- ---- lists
 
-all_of : {X : Type 0} (P : X → Type 0) (xs : List X) → ((k : ℕ) (x : X) → slice_get xs k ≡ Some x → P x) → All P xs
-all_of P [] each = All-nil P
-all_of P (x ∷ xs) each = All-cons P x xs (each 0 x refl) (all_of P xs (λ k y at. each (suc k) y at))
-
 mapped : {X Y : Type 0} (P : Y → Type 0) (to : X → Y) (xs : List X) → ((k : ℕ) (x : X) → slice_get xs k ≡ Some x → P (to x)) → All P (map to xs)
 mapped P to [] each = All-nil P
 mapped P to (x ∷ xs) each = All-cons P (to x) (map to xs) (each 0 x refl) (mapped P to xs (λ k y at. each (suc k) y at))
-
-unmapped : {X Y : Type 0} (P : Y → Type 0) (to : X → Y) (xs : List X) → All P (map to xs) → All (λ (x : X). P (to x)) xs
-unmapped P to [] all = All-nil (λ x. P (to x))
-unmapped P to (x ∷ xs) all = All-cons (λ y. P (to y)) x xs (All-head P (to x) (map to xs) all) (unmapped P to xs (All-tail P (to x) (map to xs) all))
 
 -- ---- the frames of events
 

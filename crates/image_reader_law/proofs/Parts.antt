@@ -5,6 +5,7 @@ use Rattle.std.specs.Ordering.{int_eq}
 use Rattle.std.specs.Int.{w32, cast_signed, from_be_bytes}
 use Rattle.std.specs.List.{All}
 use Rattle.std.proofs.lemmas.Bool.Decides.{nat_tests}
+use Rattle.std.proofs.lemmas.Bool.{and_parts}
 use Rattle.machine_isa.specs.declared.instr.Instr.{Instr}
 use Rattle.machine_isa.specs.Bytes.{arity, number, operands}
 use Rattle.machine_isa.specs.Numbered.{numbered}
@@ -20,9 +21,12 @@ use Rattle.image_format.specs.TreeFormat.{in_image, within, u32_within, u16_with
 use Rattle.image_reader.specs.Grammar as g
 use Rattle.image_reader.specs.File as f
 use Rattle.image_format.proofs.Sound.{came}
-use Rattle.image_reader_law.proofs.Readings.{same_ok, kept, between, fine_is}
+use Rattle.image_reader_law.proofs.Readings.{kept, between, fine_is}
 use Rattle.image_reader_law.proofs.Brings.{Brings, Any, weaker, u8_brings, u16_brings, u32_brings, word_brings, bytes_brings, given_brings, checked_brings, checked_any, both_brings, then_brings, via_brings, u32_brings_within, u16_brings_within, Each, each_brings}
 use Rattle.image_reader_law.proofs.ImageRangesTrees.{tree_brings}
+use Rattle.image_reader_law.proofs.Grammar.{Whole}
+use Rattle.image_reader_law.proofs.ImageSoundFields.{Numbers}
+use Rattle.image_format.proofs.Alike.{same_ok}
 
 -- ---- names
 
@@ -87,9 +91,6 @@ owner_brings counts =
 costs_brings : {n : ℕ} (kind : ℕ) → Brings n (g.cost_format kind) Any
 costs_brings kind = weaker Any (λ x h. tt) (then_brings u32_brings (then_brings cost_any (then_brings cost_any (then_brings cost_any (checked_any (g.wrong_stay kind) cost_any)))))
 
-abbrev Whole : Type 0
-Whole = (ℕ × (ℕ × (ℕ × (ℕ × Bool)))) × ((ℕ × (ℕ × (ℕ × (ℕ × ℕ)))) × Segs)
-
 pub routine_brings : {n : ℕ} (counts : Counts) → Brings n (g.routine_format counts) (λ r. segments r.tree ≤ n)
 routine_brings {n = n} counts =
     via_brings
@@ -153,7 +154,7 @@ is_above_means [] x h = omega arith
 is_above_means (y ∷ []) x h = grind (arith, nat_tests, h)
 is_above_means (y ∷ z ∷ zs) x h = is_above_means (z ∷ zs) x h
 
-is_taken_means : (x : ℕ) → g.is_taken x ≡ true → x ≤ 999
+pub is_taken_means : (x : ℕ) → g.is_taken x ≡ true → x ≤ 999
 is_taken_means x h = by (nat_le 1 x) (nat_le x 4) (nat_le 10 x) (nat_le x 999) refl refl h where
   by : (a b c d : Bool) → nat_le x 4 ≡ b → nat_le x 999 ≡ d → ((a && b) || (c && d)) ≡ true → x ≤ 999
   by true true c d four high e = let small : x ≤ 4 = grind (arith, nat_tests, four) in omega (arith, small)
@@ -164,18 +165,13 @@ is_taken_means x h = by (nat_le 1 x) (nat_le x 4) (nat_le 10 x) (nat_le x 999) r
   by false b true false four high e = absurd cc
   by false b false d four high e = absurd cc
 
-both_hold : (a b : Bool) → (a && b) ≡ true → (a ≡ true) × (b ≡ true)
-both_hold true true h = (refl, refl)
-both_hold true false h = absurd cc
-both_hold false b h = absurd cc
-
 record IsNext (earlier : List ℕ) (x : ℕ) : Type 0 where
   low : above earlier ≤ x
   high : x ≤ 999
 
 next : (earlier : List ℕ) (x : ℕ) → g.wrong_number earlier x ≡ None → IsNext earlier x
 next earlier x fine =
-    let h = both_hold (g.is_above earlier x) (g.is_taken x) (fine_is (g.is_above earlier x && g.is_taken x) 8 fine) in
+    let h = and_parts (g.is_above earlier x) (g.is_taken x) (fine_is (g.is_above earlier x && g.is_taken x) 8 fine) in
     record { low = is_above_means earlier x h.0; high = is_taken_means x h.1 }
 
 abbrev number_after : List ℕ → Format ℕ
@@ -213,9 +209,6 @@ pub record IsProcessFit (n : ℕ) (p : Process) : Type 0 where
   pub numbers : length p.numbers ≤ 1000
   pub body : segments p.body ≤ n
   pub handler_tree : IsSmallTree n p.handler_tree
-
-abbrev Numbers : Type 0
-Numbers = (ℕ × ℕ) × (List ℕ × (Segs × Option Segs))
 
 abbrev Fields : Type 0
 Fields = (ℕ × (ℕ × (ℕ × (ℕ × (ℕ × ℕ))))) × ((ℕ × (ℕ × (ℕ × (ℕ × ℕ)))) × ((ℕ × (ℕ × (ℕ × ℕ))) × Numbers))

@@ -1,17 +1,15 @@
 -- The processes of an image are put together of fields.
-use Rattle.std.proofs.Common.{◌≡◌, ◌||◌, ◌==◌, ◌&&◌, ℕ, zero, suc, true, List, [], length, Option, Some, None, refl, ap, arith}
+use Rattle.std.proofs.Common.{◌≡◌, ◌||◌, ◌==◌, ◌&&◌, ℕ, zero, suc, true, List, [], length, Option, None, refl, ap, arith}
 use Rattle.std.specs.Prelude.{not, nat_lt, nat_eq}
 use Rattle.std.specs.List.{list_any}
-use Rattle.std.proofs.lemmas.Bool.{eqb-true, eq-eqb}
-use Rattle.machine_semantics.specs.Image.{Process}
+use Rattle.std.proofs.lemmas.Bool.{eqb-true, eq-eqb, and_parts}
 use Rattle.machine_semantics.specs.Trees.{Segs}
 use Rattle.image.specs.Bytes.{Version, First, Second}
 use Rattle.image_reader.specs.declared.counts.Counts.{Counts}
 use Rattle.image_format.specs.Format.{Format, u16, u32, checked, both}
 use Rattle.image_format.specs.TreeFormat.{in_image, u32_within, tree_format}
 use Rattle.image_reader.specs.Grammar as g
-use Rattle.image_format.proofs.Booleans.{parts}
-use Rattle.image_reader_law.proofs.ImageSoundFields.{each_long}
+use Rattle.image_reader_law.proofs.ImageSoundFields.{each_long, none_is, time_from_block, time_from_waits, time_from_susp, room_from_locals, room_from_stack, Numbers, Room, Time, Fields, process_with, fields_in}
 use Rattle.image_reader_law.specs.Faults.{Sort, natural, process, tree, optional, pair, list}
 use Rattle.image_reader_law.proofs.Known as k
 use Rattle.image_reader_law.proofs.Known.{Known, Tells, unless_tells}
@@ -51,25 +49,10 @@ module _ (version : Version) (events : ℕ) (used : List ℕ) where
 
 -- ---- times, room and handlers
 
-abbrev time_from_block : Format (ℕ × ℕ)
-time_from_block = both g.cost (λ block. u32_within 1 1000000000)
-
-abbrev time_from_waits : Format (ℕ × (ℕ × ℕ))
-time_from_waits = both g.cost (λ waits. time_from_block)
-
-abbrev time_from_susp : Format (ℕ × (ℕ × (ℕ × ℕ)))
-time_from_susp = both g.cost (λ susp. time_from_waits)
-
 some_time : Known (numbers_of 4) g.time_format
 some_time =
     k.two natural (numbers_of 3) g.cost time_from_susp cost (k.two natural (numbers_of 2) g.cost time_from_waits cost (k.two natural (numbers_of 1) g.cost time_from_block cost
     (k.two natural natural g.cost (u32_within 1 1000000000) cost (k.u32_range 1 1000000000))))
-
-abbrev room_from_locals : Format (ℕ × ℕ)
-room_from_locals = both (u32_within 0 4096) (λ locals. u32)
-
-abbrev room_from_stack : Format (ℕ × (ℕ × ℕ))
-room_from_stack = both (u32_within 0 4096) (λ stack. room_from_locals)
 
 some_room : Known (numbers_of 3) g.room_format
 some_room =
@@ -81,59 +64,11 @@ a_handler = k.a_test (pair natural natural) (both u32 (λ handler. u16)) (λ (x 
 some_numbers : (count : ℕ) → Known (list natural) (g.numbers_format count)
 some_numbers count = k.a_list natural (λ earlier. checked u16 (g.wrong_number earlier)) (λ earlier. k.a_test natural u16 (λ n. g.is_above earlier n && g.is_taken n) 8 (omega arith) (omega arith) k.half) [] count
 
-none_is : (o : Option Segs) → g.is_none o ≡ true → None ≡ o
-none_is None h = refl
-none_is (Some body) h = cc
-
 a_handler_tree : (monitors count : ℕ) → Known (optional tree) (g.handler_tree_format monitors count)
 a_handler_tree monitors zero = k.a_given (optional tree) (λ x y. g.is_none y) None (record { itself = refl; no_other = none_is })
 a_handler_tree monitors (suc count) = k.an_option tree (tree_format (in_image monitors) g.deepest) (a_tree monitors g.deepest)
 
 -- ---- a process
-
-abbrev Numbers : Type 0
-Numbers = (ℕ × ℕ) × (List ℕ × (Segs × Option Segs))
-
-abbrev Room : Type 0
-Room = (ℕ × (ℕ × (ℕ × ℕ))) × Numbers
-
-abbrev Time : Type 0
-Time = (ℕ × (ℕ × (ℕ × (ℕ × ℕ)))) × Room
-
-abbrev Fields : Type 0
-Fields = (ℕ × (ℕ × (ℕ × (ℕ × (ℕ × ℕ))))) × Time
-
-abbrev process_with : Fields → Process
-process_with x = record {
-  kind = x.0.0;
-  frame = x.0.1.0;
-  deadline = x.0.1.1.0;
-  first = x.0.1.1.1.0;
-  event = x.0.1.1.1.1.0;
-  rank = x.0.1.1.1.1.1;
-  run = x.1.0.0;
-  susp = x.1.0.1.0;
-  waits = x.1.0.1.1.0;
-  block = x.1.0.1.1.1.0;
-  bound = x.1.0.1.1.1.1;
-  words = x.1.1.0.0;
-  stack = x.1.1.0.1.0;
-  locals = x.1.1.0.1.1.0;
-  start = x.1.1.0.1.1.1;
-  handler = x.1.1.1.0.0;
-  numbers = x.1.1.1.1.0;
-  body = x.1.1.1.1.1.0;
-  handler_tree = x.1.1.1.1.1.1;
-}
-
-abbrev fields_in : Process → Fields
-fields_in p = (
-  (p.kind, (p.frame, (p.deadline, (p.first, (p.event, p.rank))))),
-  (
-    (p.run, (p.susp, (p.waits, (p.block, p.bound)))),
-    ((p.words, (p.stack, (p.locals, p.start))), ((p.handler, length p.numbers), (p.numbers, (p.body, p.handler_tree)))),
-  ),
-)
 
 abbrev trees_sort : Sort
 trees_sort = pair tree (optional tree)
@@ -175,11 +110,11 @@ module _ (version : Version) (counts : Counts) (used : List ℕ) where
 
   long : (x : Fields) → all.is x ≡ true → length x.1.1.1.1.0 ≡ x.1.1.1.0.1
   long x h =
-      let a = parts ((g.release_format version counts.events used).is x.0) (time.is x.1) h in
-      let b = parts (g.time_format.is x.1.0) (room.is x.1.1) a.1 in
-      let c = parts (g.room_format.is x.1.1.0) (numbers.is x.1.1.1) b.1 in
-      let d = parts (g.handler_format.is x.1.1.1.0) ((after_handler x.1.1.1.0).is x.1.1.1.1) c.1 in
-      let e = parts ((g.numbers_format x.1.1.1.0.1).is x.1.1.1.1.0) ((trees x.1.1.1.0.1).is x.1.1.1.1.1) d.1 in
+      let a = and_parts ((g.release_format version counts.events used).is x.0) (time.is x.1) h in
+      let b = and_parts (g.time_format.is x.1.0) (room.is x.1.1) a.1 in
+      let c = and_parts (g.room_format.is x.1.1.0) (numbers.is x.1.1.1) b.1 in
+      let d = and_parts (g.handler_format.is x.1.1.1.0) ((after_handler x.1.1.1.0).is x.1.1.1.1) c.1 in
+      let e = and_parts ((g.numbers_format x.1.1.1.0.1).is x.1.1.1.1.0) ((trees x.1.1.1.0.1).is x.1.1.1.1.1) d.1 in
       each_long (λ earlier. checked u16 (g.wrong_number earlier)) [] x.1.1.1.0.1 x.1.1.1.1.0 e.0
 
   a_process : Known process (g.process_format version counts used)

@@ -12,7 +12,8 @@ use Rattle.image_reader.specs.Grammar as g
 use Rattle.event_log.specs.InRange.{IsShort}
 use Rattle.machine_semantics.specs.Trees.{Segs}
 use Rattle.machine_semantics.specs.Image.{Monitor, Process}
-use Rattle.image_reader_law.proofs.Readings.{okay, same_ok, kept, two, seen, fine_is, between, below}
+use Rattle.image_reader_law.proofs.Readings.{kept, two, seen, fine_is, between, below}
+use Rattle.image_format.proofs.Alike.{same_ok}
 
 -- ---- names
 

@@ -1,20 +1,11 @@
 -- What a reading that went well says of the thing that was read.
-use Rattle.std.proofs.Common.{◌≡◌, ◌≤◌, ◌<◌, ◌++◌, ℕ, zero, suc, Bool, true, false, List, [], ◌∷◌, length, Result, Ok, Err, Option, Some, None, refl, ap, subst, arith}
+use Rattle.std.proofs.Common.{◌≡◌, ◌≤◌, ◌<◌, ◌++◌, ℕ, zero, suc, Bool, true, false, List, [], ◌∷◌, length, Ok, Option, Some, None, refl, ap, subst, arith}
 use Rattle.std.specs.Prelude.{◌&&◌, nat_le, nat_lt, slice_get}
 use Rattle.std.proofs.lemmas.Bool.Decides.{nat_tests}
-use Rattle.image_format.specs.declared.fault.Fault.{Fault}
 use Rattle.image_format.specs.Format.{Format, ◌>>=◌, unless, passed, checked, both, each_read, u16, u32}
 use Rattle.image_format.specs.TreeFormat.{within, u32_within, u16_within}
 use Rattle.image_format.proofs.Sound.{came}
-
-abbrev pub okay : {A : Type 0} → A → Result A Fault
-okay x = Ok x
-
-pub same_ok : {A : Type 0} (x y : A) → okay x ≡ okay y → x ≡ y
-same_ok {A = A} x y h = ap value h where
-  value : Result A Fault → A
-  value (Ok z) = z
-  value (Err e) = x
+use Rattle.image_format.proofs.Alike.{same_ok, okay}
 
 pub carried : {A : Type 0} (P : A → Type 0) (x y : A) → okay x ≡ okay y → P x → P y
 carried P x y h = subst P (same_ok x y h)

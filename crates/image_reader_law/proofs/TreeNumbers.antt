@@ -1,12 +1,11 @@
 -- The numbers of the faults of segments and of trees.
 use Rattle.std.proofs.Common.{◌≡◌, inl, inr, ◌&&◌, ℕ, zero, suc, Bool, true, false, List, length, Err, refl, arith}
 use Rattle.std.specs.Prelude.{nat_le}
-use Rattle.std.proofs.lemmas.Bool.{leb-true}
+use Rattle.std.proofs.lemmas.Bool.{leb-true, and_parts}
 use Rattle.machine_semantics.specs.Trees.{Seg, Segs, Line, Fork, Rep, Call, Stay, Cons}
 use Rattle.image_format.specs.declared.fault.Fault.{Fault}
 use Rattle.image_format.specs.Format.{Format, ◌>>=◌, u8, u16, u32, both}
 use Rattle.image_format.specs.TreeFormat.{in_image, line_count, turns_count, u16_below, tagged, seg_read, seg_format, segs_read, row_format, tree_format}
-use Rattle.image_format.proofs.Booleans.{parts}
 use Rattle.image_reader_law.specs.Faults as s
 use Rattle.image_reader_law.specs.Faults.{tree}
 use Rattle.image_reader_law.proofs.Failed.{Failed, failed, failed_only, rest_of}
@@ -31,7 +30,7 @@ module _ (monitors : ℕ) (sub : Format Segs) (sub_told : Told sub) where
   by_tag (suc (suc (suc (suc (suc (suc zero)))))) left rest e is h = cc
   by_tag (suc (suc (suc (suc (suc (suc (suc zero))))))) left rest e is h = cc
   by_tag (suc (suc (suc (suc (suc (suc (suc (suc n)))))))) left rest e is h =
-      absurd (omega (arith, leb-true (suc (suc (suc (suc (suc (suc (suc (suc n)))))))) 7 (parts (nat_le 1 (suc (suc (suc (suc (suc (suc (suc (suc n))))))))) (nat_le (suc (suc (suc (suc (suc (suc (suc (suc n)))))))) 7) is).1))
+      absurd (omega (arith, leb-true (suc (suc (suc (suc (suc (suc (suc (suc n)))))))) 7 (and_parts (nat_le 1 (suc (suc (suc (suc (suc (suc (suc (suc n))))))))) (nat_le (suc (suc (suc (suc (suc (suc (suc (suc n)))))))) 7) is).1))
 
   at_tag : (tag left : ℕ) (rest : List ℕ) (e : Fault) → tagged (in_image monitors) sub tag left rest ≡ Err e → Inner e
   at_tag tag left rest e h = by (nat_le 1 tag && nat_le tag 7) refl where

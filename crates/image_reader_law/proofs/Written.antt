@@ -24,24 +24,15 @@ use Rattle.image_format.specs.TreeFormat.{u16_within}
 use Rattle.image_reader.specs.Grammar as g
 use Rattle.image_reader.specs.File as f
 use Rattle.image_format.proofs.Sound.{came}
-use Rattle.image_reader_law.proofs.Readings.{okay, same_ok}
 use Rattle.image_reader_law.specs.ImageRanges.{ImagesReadCanBeWritten}
 use Rattle.image_reader_law.proofs.Brings.{Brings, Any, weaker, u16_brings, bytes_brings, given_brings, checked_any, both_brings, then_brings, via_brings, u16_brings_within, All-none, All-more, Each, each_brings}
 use Rattle.image_reader_law.proofs.Parts.{IsShortName, IsSmallTree, IsProcessFit, AreFew, name_brings, device_brings, named_monitor_brings, condition_brings, counts_brings, routine_brings, named_process_brings, instr_brings}
+use Rattle.image_reader_law.proofs.ImageSoundFiles.{ended_is}
+use Rattle.image_reader_law.proofs.ImageSoundWhole.{framed_long}
+use Rattle.image_reader_law.proofs.ImageFaultsWhole.{Work, Guarded, Named, Content}
+use Rattle.image_format.proofs.Alike.{okay}
 
 -- ---- the lists of a file
-
-abbrev Work : Type 0
-Work = List Routine × (List (List ℕ × Process) × List Instr)
-
-abbrev Guarded : Type 0
-Guarded = List (List ℕ × Monitor) × (List CondName × Work)
-
-abbrev Named : Type 0
-Named = List DevName × (List (List ℕ) × Guarded)
-
-abbrev Content : Type 0
-Content = ℕ × (Counts × (List ℕ × Named))
 
 module _ (n : ℕ) where
   abbrev IsFit : List ℕ × Process → Type 0
@@ -173,10 +164,6 @@ module _ (n : ℕ) where
 
 -- ---- a whole file
 
-ended_is : (z : (Version × f.Parts) × List ℕ) (y : (Version × f.Parts) × List ℕ) → f.ended z ≡ Ok y → z ≡ y
-ended_is (x, []) y is = same_ok (x, []) y is
-ended_is (x, b ∷ bs) y is = absurd cc
-
 file_fits : (bytes : List ℕ) (version : Version) (ps : f.Parts) → f.read_file bytes ≡ Ok ((version, ps), []) → PartsFit 8388608 ps
 unfolding f.read_file
 file_fits bytes version ps is = by (nat_lt f.longest (length bytes)) refl is where
@@ -207,10 +194,6 @@ framed_short : (at : ℕ) (events : List (List ℕ)) (processes : List Process) 
 framed_short at [] processes h = All-none (λ (e : EventName). IsShort e.name)
 framed_short at (e ∷ es) processes h =
     All-more (λ (e : EventName). IsShort e.name) _ (f.framed (at + 1) es processes) (short e (h 0 e (omega arith))) (framed_short (at + 1) es processes (λ k d low. h (suc k) d (omega (arith, low))))
-
-framed_long : (at : ℕ) (events : List (List ℕ)) (processes : List Process) → length (f.framed at events processes) ≡ length events
-framed_long at [] processes = refl
-framed_long at (e ∷ es) processes = ap (λ k. suc k) (framed_long (at + 1) es processes)
 
 small_handler : (tree : Option Segs) → IsSmallTree largest tree → IsSmallHandler tree
 small_handler None h = tt

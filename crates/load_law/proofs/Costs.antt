@@ -1,18 +1,17 @@
 -- The cost of each process of the load, and how long each entry stays.
-use Rattle.std.proofs.Common.{◌≡◌, ◌≤◌, ◌<◌, ◌+◌, ◌-◌, ◌*◌, ◌/◌, ◌^◌, ℕ, suc, Bool, true, false, Some, pos, negsuc, refl, ap, sym, subst, ◌∙◌, arith}
+use Rattle.std.proofs.Common.{◌≡◌, ◌≤◌, ◌<◌, ◌+◌, ◌-◌, ◌*◌, ℕ, suc, Bool, true, false, Some, pos, negsuc, refl, ap, sym, subst, ◌∙◌, arith}
 use Rattle.std.specs.Prelude.{◌-ℤ◌, cond}
 use Rattle.std.proofs.lemmas.Bool.{le-ltb}
-use Rattle.std.proofs.lemmas.Nat.{mod_below}
 use Rattle.source_semantics.specs.Store.{up_to}
 use Rattle.valid_image.specs.Found.{amount}
 use Rattle.base.specs.declared.capped.Cost.{Cost}
 use Rattle.code_cost_spec.specs.Costs.{process_cost}
 use Rattle.code_cost_spec.specs.Levels.{process_names, calls_at, cost_of_process, stay_of_entry}
 use Rattle.load.specs.declared.program.Drawn.{Drawn}
-use Rattle.load.specs.Draws.{below, draw, state}
 use Rattle.load.specs.Program.{is_even, drawn}
 use Rattle.load_text_law.proofs.Lists.{load, process_of, there, add_text, pause_text, two_routines}
 use Rattle.load_text_law.proofs.Lengths.{names_seen, with_pause}
+use Rattle.load_text_law.proofs.Numbers.{few_turns}
 
 -- ---- the entries
 
@@ -61,10 +60,6 @@ pub record IsSmall (c : Cost) : Type 0 where
 small_with : (even : Bool) (key count k number : ℕ) (d : Drawn) → d.turns < 10 → IsSmall (cost_of even key count k number d)
 small_with true key count k number d few = record { run = omega (arith, runs key count k number d true, few); susp = omega (arith, suspended key count k number d true); waits = omega (arith, waits key count k number d true) }
 small_with false key count k number d few = record { run = omega (arith, runs key count k number d false, few); susp = omega (arith, suspended key count k number d false); waits = omega (arith, waits key count k number d false) }
-
-few_turns : (key at : ℕ) → (drawn key at).turns < 10
-unfolding draw below
-few_turns key at = mod_below (state key (suc (3 * at + 1)) / 2 ^ 33) 10 (omega arith)
 
 pub is_small : (key count at : ℕ) → at < count → IsSmall (cost_of_process (load key count) at (process_of key count at))
 is_small key count at within =

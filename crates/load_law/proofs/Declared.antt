@@ -1,5 +1,5 @@
 -- The names of processes differ, and the processes of the load, one after another.
-use Rattle.std.proofs.Common.{◌≡◌, ◌≤◌, ◌<◌, ◌+◌, ◌^◌, ℕ, zero, suc, Bool, true, false, ◌&&◌, nat_eq, List, [], ◌∷◌, ◌++◌, Option, Some, None, codes, map, refl, ap, sym, ◌∙◌, subst, arith}
+use Rattle.std.proofs.Common.{◌≡◌, ◌≤◌, ◌<◌, ◌+◌, ◌^◌, ℕ, zero, suc, Bool, true, false, ◌&&◌, nat_eq, List, [], ◌∷◌, ◌++◌, Option, Some, None, codes, refl, ap, sym, ◌∙◌, subst, arith}
 use Rattle.std.specs.Prelude.{if◌then◌else◌, is_some, not, decimal}
 use Rattle.std.proofs.lemmas.Fmt.{decimal_injective, decimal_is_IsNumeral}
 use Rattle.std.proofs.lemmas.Bool.{eqb-true}
@@ -7,16 +7,18 @@ use Rattle.std.specs.Str.Parse.{AllDigits}
 use Rattle.std.specs.Char.{digit_value}
 use Rattle.syntax_tree.specs.Plain.{Name}
 use Rattle.syntax_tree.specs.declared.place.Place.{Place}
-use Rattle.syntax_tree.specs.Placed.{Process, Decl, process}
+use Rattle.syntax_tree.specs.Placed.{Process, process}
 use Rattle.static_names.specs.declared.kind.Declared.{Declared}
 use Rattle.static_names.specs.Reach.{same, Names, Reach, first, Site}
 use Rattle.static_names.specs.Occurrences.{Occurrence, decl_name, others, decls_names}
 use Rattle.load.specs.Program.{drawn, process_name}
 use Rattle.load_text_law.proofs.Shapes.{AreLoad, no_more, one_more}
-use Rattle.load_law.proofs.Knowing.{same_names, Agrees}
+use Rattle.load_law.proofs.Knowing.{Agrees}
 use Rattle.load_law.proofs.Fine.{Fine}
 use Rattle.load_law.proofs.Outside.{outside}
 use Rattle.load_law.proofs.LoadNamesProcesses.{process_fine}
+use Rattle.wellformed_names_law.proofs.Lookups.{same-is}
+use Rattle.load_text_law.proofs.Processes.{decls}
 
 -- ---- names
 
@@ -26,7 +28,7 @@ apart j k low small differ = by (same (process_name j) (process_name k)) refl
     by : (b : Bool) → same (process_name j) (process_name k) ≡ b → b ≡ false
     by false is = refl
     by true is =
-        let names : process_name j ≡ process_name k = same_names (process_name j) (process_name k) is in
+        let names : process_name j ≡ process_name k = same-is (process_name j) (process_name k) is in
         let digits : decimal j ≡ decimal k = cc in
         absurd (differ (decimal_injective j k low small digits))
 
@@ -52,9 +54,6 @@ first_past (e ∷ ds) d name none differs = by (same name e.0) none (λ later. f
     by : (b : Bool) → (if b then Some e.1 else first ds name) ≡ None → (first ds name ≡ None → first (ds ++ d ∷ []) name ≡ None) → (if b then Some e.1 else first (ds ++ d ∷ []) name) ≡ None
     by true is later = absurd cc
     by false is later = later is
-
-abbrev pub decls : List (Process Place) → List (Decl Place)
-decls ps = map (λ p. process p) ps
 
 -- a name that is that of no process
 pub no_process : (key count before left : ℕ) (ps : List (Process Place)) → AreLoad key count before left ps → before + left ≤ 64 → (name : Name) → ((k : ℕ) → k < 2 ^ 64 → same name (process_name k) ≡ false) → first (others (decls ps)) name ≡ None

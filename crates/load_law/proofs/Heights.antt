@@ -1,10 +1,10 @@
 -- The heights of the routines and the processes of the load.
-use Rattle.std.proofs.Common.{◌≡◌, ◌≤◌, ℕ, zero, suc, Bool, true, false, [], ◌∷◌, Some, All, codes, map, refl, sym, subst, arith}
+use Rattle.std.proofs.Common.{◌≡◌, ◌≤◌, ℕ, zero, suc, Bool, true, false, ◌∷◌, Some, All, map, sym, subst, arith}
 use Rattle.std.specs.Prelude.{filter_map, slice_get}
 use Rattle.std.proofs.lemmas.Option.{none-some, same_Some}
 use Rattle.std.proofs.lemmas.List.Elements.{All-nil, All-cons}
 use Rattle.syntax_tree.specs.Plain as plain_of
-use Rattle.syntax_tree.specs.Placed.{Stmts, stmts, no_stmts, get, put, exprs, no_exprs, plain, plain_decl, plain_process, plain_routine, plain_stmts}
+use Rattle.syntax_tree.specs.Placed.{plain_decl, plain_process, plain_routine}
 use Rattle.source_semantics.specs.Names.{process_in, processes, routine_count}
 use Rattle.code_spec.specs.Layout.{by_process, by_monitor}
 use Rattle.code_spec.specs.Numbering.{Text, texts_from}
@@ -12,21 +12,11 @@ use Rattle.code_cost_spec.specs.Heights.{stack_of}
 use Rattle.code_cost_spec.specs.Levels.{calls_at, stack_of_process}
 use Rattle.code_size.specs.Rules.{routine_stack}
 use Rattle.load.specs.declared.program.Drawn.{Drawn}
-use Rattle.load.specs.Program.{Nowhere, of_name, to_name, enter, turns_of, pause_if, is_even, drawn, add_entry, pause_entry, load_process, processes_from, load_program}
-
-abbrev pub load : (key count : ℕ) → plain_of.Prog
-load key count = plain (load_program key count)
+use Rattle.load.specs.Program.{is_even, drawn, add_entry, pause_entry, load_process, processes_from}
+use Rattle.load_text_law.proofs.Lengths.{with_pause}
+use Rattle.load_text_law.proofs.Lists.{no_texts, load}
 
 -- ---- processes
-
-abbrev body_with : Bool → Drawn → Stmts Nowhere
-body_with even d =
-    stmts (get tt (codes "src") tt (to_name (codes "x"))) (stmts (turns_of d) (stmts (enter (codes "add") (exprs (of_name (codes "x")) no_exprs))
-    (pause_if even (stmts (put tt (codes "dst") tt (of_name (codes "x"))) no_stmts))))
-
--- a process with a pause or without
-abbrev with_pause : Bool → (count number : ℕ) → Drawn → plain_of.Process
-with_pause even count number d = record (plain_process (load_process count number d)) { body = plain_stmts (body_with even d) }
 
 -- where calls are known to nest so deep
 with_is : (deep : ℕ) (even : Bool) (key count k number : ℕ) (d : Drawn)
@@ -62,10 +52,6 @@ add_low key count = omega arith
 
 pause_low : (key count : ℕ) → IsLow (load key count) (record { owner = by_monitor 0; routine = plain_routine pause_entry })
 pause_low key count = omega arith
-
-no_texts : (key count before left k : ℕ) → texts_from k 1 (map plain_decl (processes_from key count before left)) ≡ []
-no_texts key count before zero k = refl
-no_texts key count before (suc left) k = no_texts key count (suc before) left (suc k)
 
 pub all_low : (key count : ℕ) → All (IsLow (load key count)) (texts_from 0 0 (load key count).decls)
 all_low key count =

@@ -1,12 +1,12 @@
 -- What is known of names where they stand: by a list of them, with no place.
-use Rattle.std.proofs.Common.{◌≡◌, Bool, true, false, ◌||◌, List, [], ◌∷◌, Option, Some, None, codes, nat_eq, refl, ap, sym, ◌∙◌, subst}
+use Rattle.std.proofs.Common.{◌≡◌, Bool, true, false, ◌||◌, List, [], ◌∷◌, Option, Some, None, codes, refl, ap, sym, ◌∙◌, subst}
 use Rattle.std.specs.Prelude.{if◌then◌else◌}
-use Rattle.std.proofs.lemmas.Bool.{eqb-true, and_parts}
 use Rattle.syntax_tree.specs.Plain.{Name}
 use Rattle.static_names.specs.declared.kind.Declared.{Declared}
 use Rattle.static_names.specs.declared.kind.Kind.{Kind}
 use Rattle.static_names.specs.declared.kind.Kind.TheVariants as kind_is
 use Rattle.static_names.specs.Reach.{same, Names, first, or_else, Site, inside, members_of, through}
+use Rattle.wellformed_names_law.proofs.Lookups.{same-is}
 
 -- a name means nothing, or is of a kind, or is that of a monitor whose entries are those of the load
 pub data Fact : Type 0 where
@@ -40,16 +40,6 @@ abbrev pub HoldAll : Known → Site → Type 0
 HoldAll [] here = Unit {0}
 HoldAll (e ∷ es) here = Holds here e.0 e.1 × HoldAll es here
 
-pub same_names : (x y : Name) → same x y ≡ true → x ≡ y
-same_names [] [] h = refl
-same_names [] (b ∷ bs) h = cc
-same_names (a ∷ more) [] h = cc
-same_names (a ∷ more) (b ∷ bs) h =
-    let p = and_parts (nat_eq a b) (same more bs) h in
-    let one : a ≡ b = eqb-true a b p.0 in
-    let rest : more ≡ bs = same_names more bs p.1 in
-    λ i. one i ∷ rest i
-
 pub agrees : (es : Known) (here : Site) → HoldAll es here → Agrees es here
 agrees [] here all name f found = absurd cc
 agrees (e ∷ es) here all name f found = by (same name e.0) refl found (λ got. agrees es here all.1 name f got)
@@ -57,7 +47,7 @@ agrees (e ∷ es) here all name f found = by (same name e.0) refl found (λ got.
     by : (b : Bool) → same name e.0 ≡ b → (if b then Some e.1 else known es name) ≡ Some f → (known es name ≡ Some f → Holds here name f) → Holds here name f
     by true is got later =
         let fact : e.1 ≡ f = cc in
-        let at = sym (same_names name e.0 is) in
+        let at = sym (same-is name e.0 is) in
         subst (λ (n : Name). Holds here n f) at (subst (λ k. Holds here e.0 k) fact all.0)
     by false is got later = later got
 

@@ -1,12 +1,10 @@
 -- No name of the load is refused.
 use Rattle.std.proofs.Common.{◌≡◌, ◌≤◌, ◌<◌, ◌+◌, ◌^◌, ℕ, Bool, true, false, ◌||◌, List, [], ◌∷◌, ◌++◌, Some, None, codes, map, refl, ap, sym, ◌∙◌, subst, arith}
-use Rattle.std.specs.Prelude.{if◌then◌else◌, is_some, ◌&&◌}
-use Rattle.std.proofs.lemmas.Cmp.{nat_eq_equiv}
+use Rattle.std.specs.Prelude.{if◌then◌else◌, is_some}
 use Rattle.syntax_tree.specs.Plain.{Name}
 use Rattle.syntax_tree.specs.declared.place.Place.{Place}
 use Rattle.syntax_tree.specs.Placed.{Monitor, Process, Decl, device, monitor, Prog}
 use Rattle.syntax_tree.specs.Bare.{bare_monitor, bare}
-use Rattle.syntax_tree.specs.Parts.{same_place}
 use Rattle.static_names.specs.declared.kind.Declared.{Declared}
 use Rattle.static_names.specs.declared.kind.Kind.{Kind}
 use Rattle.static_names.specs.declared.kind.Kind.TheVariants as kind_is
@@ -21,12 +19,11 @@ use Rattle.load_law.proofs.Plain.{same_self}
 use Rattle.load_law.proofs.Outside.{outside}
 use Rattle.load_law.proofs.Members.{has_entries}
 use Rattle.load_law.proofs.Monitor.{monitor_fine}
-use Rattle.load_law.proofs.Declared.{decls, not_pause, no_process, AreFresh, processes_fine}
+use Rattle.load_law.proofs.Declared.{not_pause, no_process, AreFresh, processes_fine}
+use Rattle.wellformed_names_law.proofs.Found.{same-itself}
+use Rattle.load_text_law.proofs.Processes.{decls}
 
 -- ---- the entries of the monitor
-
-place_self : (p : Place) → same_place p p ≡ true
-place_self p = let a = nat_eq_equiv.refl p.line in let b = nat_eq_equiv.refl p.col in λ i. a i && b i
 
 entry_first : (a b : Declared) (more : Names) (entry : Name) → a.kind ≡ kind_is.Entry → b.kind ≡ kind_is.Entry → is_entry entry ≡ true
     → kind_of (first ((codes "add", a) ∷ (codes "pause", b) ∷ more) entry) ≡ Some kind_is.Entry
@@ -47,7 +44,7 @@ entries_of m same ds entry is =
     let a : Declared = record { place = it.add.place; kind = kind_is.Entry } in
     let b : Declared = record { place = it.pause.place; kind = kind_is.Entry } in
     let entries = it.is in
-    ap (λ c. kind_of (first (if c then map entry_name m.entries ++ more else more) entry)) (place_self m.place)
+    ap (λ c. kind_of (first (if c then map entry_name m.entries ++ more else more) entry)) (same-itself m.place)
     ∙ (λ i. kind_of (first (map entry_name (entries i) ++ more) entry))
     ∙ (λ i. kind_of (first ((add i, a) ∷ (pause i, b) ∷ more) entry))
     ∙ entry_first a b more entry refl refl is

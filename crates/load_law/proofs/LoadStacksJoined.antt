@@ -3,6 +3,7 @@ use Rattle.std.proofs.Common.{◌≡◌, ℕ, ◌⊎◌, inl, inr, List, Contain
 use Rattle.std.specs.Prelude.{option_map, slice_get}
 use Rattle.std.proofs.lemmas.Option.{slice_get-map}
 use Rattle.std.proofs.lemmas.List.Elements.{All-contains}
+use Rattle.base.proofs.Members.{in_map}
 use Rattle.syntax_tree.specs.declared.place.Place.{Place}
 use Rattle.syntax_tree.specs.Plain as plain_of
 use Rattle.syntax_tree.specs.Placed.{Prog, plain, plain_process}
@@ -12,8 +13,10 @@ use Rattle.code_spec.specs.Numbering.{Text, texts_from}
 use Rattle.code_cost_spec.specs.Levels.{stack_of_process}
 use Rattle.code_size.specs.Rules.{routine_stack, RoutineTooLarge, ProcessTooLarge}
 use Rattle.code_size.specs.Rules as rules
-use Rattle.load_law.proofs.LoadStacksTrees.{processes_are, plain_text, texts_are, mapped}
-use Rattle.load_law.proofs.Heights.{load, stacks_are, IsLow, all_low}
+use Rattle.load_law.proofs.LoadStacksTrees.{processes_are, texts_are}
+use Rattle.load_law.proofs.Heights.{stacks_are, IsLow, all_low}
+use Rattle.checked_law.proofs.Texts.{plain_text}
+use Rattle.load_text_law.proofs.Lists.{load}
 
 module _ (key count : ℕ) (g : Prog Place) (same : plain g ≡ load key count) where
   no_process : (place : Place) → ¬ ProcessTooLarge g place
@@ -30,7 +33,7 @@ module _ (key count : ℕ) (g : Prog Place) (same : plain g ≡ load key count) 
       let t = plain_text large.text in
       let all : map plain_text (rules.texts_from 0 0 g.decls) ≡ texts_from 0 0 (load key count).decls =
       texts_are 0 0 g.decls ∙ ap (λ (h : plain_of.Prog). texts_from 0 0 h.decls) same in
-      let there = subst (λ (ts : List Text). Contains ts t) all (mapped plain_text (rules.texts_from 0 0 g.decls) large.text large.listed) in
+      let there = subst (λ (ts : List Text). Contains ts t) all (in_map plain_text (rules.texts_from 0 0 g.decls) large.text large.listed) in
       let low = All-contains (IsLow (load key count)) (texts_from 0 0 (load key count).decls) t (all_low key count) there in
       omega (arith, large.over, ap (λ h. routine_stack h t.owner t.routine) same, low)
 

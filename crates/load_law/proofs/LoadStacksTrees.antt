@@ -1,7 +1,7 @@
 -- The routines and the processes of a tree with places are those of the tree without.
-use Rattle.std.proofs.Common.{◌≡◌, ℕ, suc, List, [], ◌∷◌, ◌++◌, Contains, map, refl, ap, ◌∙◌, arith}
+use Rattle.std.proofs.Common.{◌≡◌, ℕ, suc, List, [], ◌∷◌, ◌++◌, map, refl, ap, ◌∙◌}
 use Rattle.std.specs.Prelude.{filter_map}
-use Rattle.std.proofs.lemmas.List.{map-append, length-map, get_or-map}
+use Rattle.std.proofs.lemmas.List.{map-append}
 use Rattle.syntax_tree.specs.declared.place.Place.{Place}
 use Rattle.syntax_tree.specs.Plain as plain_of
 use Rattle.syntax_tree.specs.Placed.{Routine, Decl, constant, device, event, routine, monitor, process, plain_decl, plain_process, plain_routine}
@@ -10,6 +10,7 @@ use Rattle.source_semantics.specs.Names.{process_in}
 use Rattle.code_spec.specs.Layout.{Owner, by_program, by_process, by_monitor}
 use Rattle.code_spec.specs.Numbering.{Text, texts_of, texts_from}
 use Rattle.code_size.specs.Rules as rules
+use Rattle.checked_law.proofs.Texts.{plain_text}
 
 -- ---- processes
 
@@ -23,9 +24,6 @@ processes_are (monitor m ∷ ds) = processes_are ds
 processes_are (process p ∷ ds) = ap (λ (ps : List plain_of.Process). plain_process p ∷ ps) (processes_are ds)
 
 -- ---- routines
-
-abbrev pub plain_text : rules.Text → Text
-plain_text t = record { owner = t.owner; routine = plain_routine t.routine }
 
 texts_of_are : (o : Owner) (rs : List (Routine Place)) → map plain_text (rules.texts_of o rs) ≡ texts_of o (map plain_routine rs)
 texts_of_are o [] = refl
@@ -45,8 +43,3 @@ texts_are k m (event n p ∷ ds) = texts_are k m ds
 texts_are k m (routine r ∷ ds) = ap (λ (ts : List Text). record { owner = by_program; routine = plain_routine r } ∷ ts) (texts_are k m ds)
 texts_are k m (monitor d ∷ ds) = both_are (by_monitor m) d.entries (rules.texts_from k (suc m) ds) (texts_from k (suc m) (map plain_decl ds)) (texts_are k (suc m) ds)
 texts_are k m (process p ∷ ds) = both_are (by_process k) p.routines (rules.texts_from (suc k) m ds) (texts_from (suc k) m (map plain_decl ds)) (texts_are (suc k) m ds)
-
-pub mapped : {A B : Type 0} (f : A → B) (xs : List A) (x : A) → Contains xs x → Contains (map f xs) (f x)
-mapped f xs x has =
-    let below = has.1 in
-    (has.0, omega (arith, below, length-map xs f), get_or-map f xs has.0 x (f x) below ∙ ap f has.2)

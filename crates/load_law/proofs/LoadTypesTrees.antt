@@ -1,13 +1,15 @@
 -- The parts of the load's tree that have places.
-use Rattle.std.proofs.Common.{◌≡◌, ℕ, List, [], ◌∷◌, Some, None, codes, refl, ap, sym, ◌∙◌, subst}
+use Rattle.std.proofs.Common.{◌≡◌, ℕ, List, [], ◌∷◌, Some, None, codes, ap, sym, ◌∙◌, subst}
 use Rattle.syntax_tree.specs.Plain.{Name}
-use Rattle.syntax_tree.specs.Placed.{Constant, Scalar, int, boolean, subrange, Kind, scalar, array, Var, Param, Routine, procedure, Member, variable_member, condition_member, Monitor, Activation, periodic, at_event, Handler, Process}
+use Rattle.syntax_tree.specs.Placed.{Constant, int, scalar, Var, Param, Routine, procedure, Member, variable_member, condition_member, Monitor, periodic, Handler, Process}
 use Rattle.syntax_tree.specs.declared.place.Place.{Place}
-use Rattle.syntax_tree.specs.Bare.{bare_constant, bare_scalar, bare_kind, bare_var, bare_param, bare_expr, bare_stmts, bare_routine, bare_member, bare_monitor, bare_activation, bare_handler, bare_process}
+use Rattle.syntax_tree.specs.Bare.{bare_constant, bare_scalar, bare_var, bare_param, bare_expr, bare_stmts, bare_routine, bare_member, bare_monitor, bare_handler, bare_process}
 use Rattle.load.specs.declared.program.Drawn.{Drawn}
 use Rattle.load.specs.Program.{of_number, int_variable, add_entry, pause_entry, load_monitor, frame, load_handler, load_process}
 use Rattle.load_text_law.proofs.Shapes.{front_of, none_of, one_of, none_there, some_there}
 use Rattle.load_law.proofs.Terms.{IsLiteral, literal_bare}
+use Rattle.load_text_law.proofs.Parts.{scalar_int, is_int}
+use Rattle.load_text_law.proofs.Processes.{is_periodic}
 
 abbrev pub int_var : Name → Place → Var Place
 int_var name place = record { name = name; place = place; kind = scalar int }
@@ -18,25 +20,16 @@ int_param name place = record { name = name; place = place; kind = int }
 is_literal : (c : Constant Place) (n : ℕ) → bare_constant c ≡ of_number n → IsLiteral c
 is_literal c n same = literal_bare c (subst IsLiteral (sym same) tt)
 
-is_int : (s : Scalar Place) → bare_scalar s ≡ int → s ≡ int
-is_int int same = refl
-is_int boolean same = cc
-is_int (subrange low high) same = cc
-
-is_one_int : (k : Kind Place) → bare_kind k ≡ scalar int → k ≡ scalar int
-is_one_int (scalar s) same = ap (λ t. scalar t) (is_int s cc)
-is_one_int (array low high s) same = cc
-
 is_int_var : (v : Var Place) (name : Name) → bare_var v ≡ int_variable name → v ≡ int_var name v.place
 is_int_var v name same =
     let names : v.name ≡ name = ap (λ x. x.name) same in
-    let kinds = is_one_int v.kind (ap (λ x. x.kind) same) in
+    let kinds = is_int v.kind (ap (λ x. x.kind) same) in
     λ i. record { name = names i; place = v.place; kind = kinds i }
 
 is_int_param : (v : Param Place) (name : Name) → bare_param v ≡ record { name = name; place = tt; kind = int } → v ≡ int_param name v.place
 is_int_param v name same =
     let names : v.name ≡ name = ap (λ x. x.name) same in
-    let kinds = is_int v.kind (ap (λ x. x.kind) same) in
+    let kinds = scalar_int v.kind (ap (λ x. x.kind) same) in
     λ i. record { name = names i; place = v.place; kind = kinds i }
 
 -- ---- processes
@@ -58,18 +51,6 @@ pub record IsMade (p : Process Place) : Type 0 where
   pub number_literal : IsLiteral number
   pub handler_like : bare_stmts handler.body ≡ load_handler.body
   pub is : p ≡ made_process p frame x number handler
-
-record IsPeriodic (a : Activation Place) (f : ℕ) : Type 0 where
-  frame : Constant Place
-  is : a ≡ periodic frame None None
-  like : bare_constant frame ≡ of_number f
-
-is_periodic : (a : Activation Place) (f : ℕ) → bare_activation a ≡ periodic (of_number f) None None → IsPeriodic a f
-is_periodic (periodic c dl fs) f same =
-    let deadline = none_there bare_constant dl cc in
-    let first = none_there bare_constant fs cc in
-    record { frame = c; is = λ i. periodic c (deadline i) (first i); like = cc }
-is_periodic (at_event e p c dl) f same = cc
 
 pub is_made : (p : Process Place) (count number : ℕ) (d : Drawn) → bare_process p ≡ load_process count number d → IsMade p
 is_made p count number d same =
@@ -161,11 +142,11 @@ is_variable (variable_member v) name same =
     record { at = v.place; is = ap (λ x. variable_member x) (is_int_var v name like) }
 is_variable (condition_member n p) name same = cc
 
-record IsCondition (m : Member Place) (name : Name) : Type 0 where
-  at : Place
-  is : m ≡ condition_member name at
+pub record IsCondition (m : Member Place) (name : Name) : Type 0 where
+  pub at : Place
+  pub is : m ≡ condition_member name at
 
-is_condition : (m : Member Place) (name : Name) → bare_member m ≡ condition_member name tt → IsCondition m name
+pub is_condition : (m : Member Place) (name : Name) → bare_member m ≡ condition_member name tt → IsCondition m name
 is_condition (variable_member v) name same = cc
 is_condition (condition_member n p) name same = let names : n ≡ name = cc in record { at = p; is = λ i. condition_member (names i) p }
 

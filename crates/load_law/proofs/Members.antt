@@ -1,11 +1,11 @@
 -- The variable, the condition and the entries of the monitor of the load.
 use Rattle.std.proofs.Common.{◌≡◌, List, [], ◌∷◌, codes, refl, ap, ◌∙◌}
-use Rattle.syntax_tree.specs.Plain.{Name}
 use Rattle.syntax_tree.specs.declared.place.Place.{Place}
 use Rattle.syntax_tree.specs.Placed.{Var, Routine, Member, variable_member, condition_member, Monitor}
 use Rattle.syntax_tree.specs.Bare.{bare_var, bare_routine, bare_member, bare_monitor}
 use Rattle.load.specs.Program.{Nowhere, int_variable, add_entry, pause_entry, load_monitor}
 use Rattle.load_text_law.proofs.Shapes.{one_of, front_of}
+use Rattle.load_law.proofs.LoadTypesTrees.{is_condition}
 
 record IsVariable (m : Member Place) (v : Var Nowhere) : Type 0 where
   one : Var Place
@@ -15,14 +15,6 @@ record IsVariable (m : Member Place) (v : Var Nowhere) : Type 0 where
 is_variable : (m : Member Place) (v : Var Nowhere) → bare_member m ≡ variable_member v → IsVariable m v
 is_variable (variable_member x) v same = record { one = x; is = refl; like = cc }
 is_variable (condition_member n p) v same = cc
-
-record IsCondition (m : Member Place) (name : Name) : Type 0 where
-  at : Place
-  is : m ≡ condition_member name at
-
-is_condition : (m : Member Place) (name : Name) → bare_member m ≡ condition_member name tt → IsCondition m name
-is_condition (variable_member x) name same = cc
-is_condition (condition_member n p) name same = let names : n ≡ name = cc in record { at = p; is = λ i. condition_member (names i) p }
 
 pub record HasMembers (m : Monitor Place) : Type 0 where
   pub one : Var Place

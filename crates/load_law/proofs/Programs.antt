@@ -1,10 +1,9 @@
 -- The program of the load keeps to the rules for types, for what may stand where, and for the
 -- direction of devices.
-use Rattle.std.proofs.Common.{◌≡◌, ℕ, true, false, ◌&&◌, if◌then◌else◌, List, [], ◌∷◌, ◌++◌, Option, codes, map, refl, ap, sym, ◌∙◌, subst, eq-eqb, eqb}
+use Rattle.std.proofs.Common.{◌≡◌, ℕ, true, false, if◌then◌else◌, List, [], ◌∷◌, ◌++◌, Option, codes, map, refl, ap, sym, ◌∙◌, subst}
 use Rattle.syntax_tree.specs.Placed.{Routine, Monitor, Process, Decl, device, monitor, process, Prog}
 use Rattle.syntax_tree.specs.declared.place.Place.{Place}
 use Rattle.syntax_tree.specs.Bare.{bare, bare_stmts}
-use Rattle.syntax_tree.specs.Parts.{same_place}
 use Rattle.static_names.specs.declared.kind.Declared.{Declared}
 use Rattle.static_names.specs.declared.kind.Kind.TheVariants as kind_is
 use Rattle.static_names.specs.Reach.{Names, Reach, first}
@@ -19,9 +18,7 @@ use Rattle.load_law.proofs.LoadTypesTrees.{made_add, made_pause, made_monitor, i
 use Rattle.load_law.proofs.Sites.{reaching, Seen}
 use Rattle.load_law.proofs.LoadTypesProcesses.{processes_kept}
 use Rattle.load_law.proofs.Monitors.{monitor_kept}
-
-same_itself : (p : Place) → same_place p p ≡ true
-same_itself p = ap (λ b. b && eqb p.col p.col) (eq-eqb p.line p.line refl) ∙ eq-eqb p.col p.col refl
+use Rattle.wellformed_names_law.proofs.Found.{same-itself}
 
 abbrev made : Prog Place → (source sink : Place) → Monitor Place → List (Process Place) → Prog Place
 made g source sink m ps = record g {
@@ -47,7 +44,7 @@ module _ (named : Place → Option Thing) (thing : Place → Thing) where
       let last : List (Place × Thing) = (g.place, other_thing) ∷ [] in
       let outer = reaching members (before ++ others (monitor mm ∷ ds)) in
       let one = monitor_kept named thing m n c add v pause add_like pause_like outer (decls_names members earlier ds close) (decls_things ds last) found.1.1.1.1 known.1.1 in
-      let here = same_itself m.place in
+      let here = same-itself m.place in
       let adding : Declared = record { place = add.place; kind = kind_is.Entry } in
       let pausing : Declared = record { place = pause.place; kind = kind_is.Entry } in
       let entries : Names = entry_name (made_add add v) ∷ entry_name (made_pause pause) ∷ entries_at ds m.place in

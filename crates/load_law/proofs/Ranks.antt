@@ -1,20 +1,10 @@
 -- Ranks by deadlines: none is above the number of processes, and no two processes have one.
-use Rattle.std.proofs.Common.{◌≡◌, ◌≤◌, ◌<◌, ◌⊎◌, inl, inr, ℕ, length, arith, sym, true, false}
-use Rattle.std.specs.Prelude.{◌&&◌, ◌||◌, nat_eq, nat_lt}
+use Rattle.std.proofs.Common.{◌≡◌, ◌≤◌, ◌<◌, inl, inr, ℕ, length, arith, sym, true}
 use Rattle.std.proofs.lemmas.Bool.{cases_lt}
-use Rattle.std.proofs.lemmas.Bool.Decides.{nat_tests}
+use Rattle.base.proofs.Numbers.{not_before_itself, before_along, one_before}
 use Rattle.sched_response.proofs.Counting.{count_lt, count_less}
 use Rattle.machine_semantics.specs.Image.{Image}
 use Rattle.valid_image.specs.Times.{deadline_at, outranks, rank_of}
-
-not_before_itself : (f p : ℕ) → (nat_lt f f || (nat_eq f f && nat_lt p p)) ≡ false
-not_before_itself f p = grind (arith, nat_tests)
-
-before_along : (f g h p q r : ℕ) → (nat_lt f g || (nat_eq f g && nat_lt p q)) ≡ true → (nat_lt g h || (nat_eq g h && nat_lt q r)) ≡ true → (nat_lt f h || (nat_eq f h && nat_lt p r)) ≡ true
-before_along f g h p q r first second = grind (arith, nat_tests)
-
-one_before : (f g p q : ℕ) → p < q → ((nat_lt f g || (nat_eq f g && nat_lt p q)) ≡ true) ⊎ ((nat_lt g f || (nat_eq g f && nat_lt q p)) ≡ true)
-one_before f g p q less = elim (cases_lt g f) [ inl shorter ↦ inr (grind (arith, nat_tests, shorter)) | inr longer ↦ inl (grind (arith, nat_tests, longer, less)) ]
 
 module _ (image : Image) where
   abbrev due : ℕ → ℕ

@@ -1,5 +1,5 @@
 -- Of a tree that is read and that is the load's apart from places, none of the three rules fails.
-use Rattle.std.proofs.Common.{◌≡◌, ℕ, suc, ◌⊎◌, inl, inr, List, [], ◌∷◌, Option, Some, None, refl, ap, ◌∙◌, arith}
+use Rattle.std.proofs.Common.{◌≡◌, ℕ, suc, ◌⊎◌, inl, inr, List, [], ◌∷◌, refl, ap, ◌∙◌, arith}
 use Rattle.std.specs.Prelude.{Contains, option_map}
 use Rattle.syntax_tree.specs.Placed.{Prog}
 use Rattle.syntax_tree.specs.declared.place.Place.{Place}
@@ -14,6 +14,7 @@ use Rattle.static_semantics.specs.Places.{NamesFound}
 use Rattle.static_semantics.specs.Things.{ThingsKnown, things}
 use Rattle.load_law.proofs.Given.{Each, Found, Known, Good}
 use Rattle.load_law.proofs.Programs.{load_keeps}
+use Rattle.load_text_law.proofs.Numbers.{refuted}
 
 each_of : {X : Type 0} (P : X → Type 0) (xs : List X) → ((x : X) → Contains xs x → P x) → Each P xs
 each_of P [] f = tt
@@ -32,10 +33,6 @@ all_good key count g names_known things_known same = load_keeps (named_at g) (th
     (each_of (Known (named_at g) (thing_at g)) (things g) (λ x at. things_known.declared x.0 x.1 at))
 
 -- ---- the rules by their numbers
-
-refuted : (o : Option Place) (place : Place) → o ≡ None → o ≡ Some place → ⊥
-refuted None place none some = cc
-refuted (Some p) place none some = cc
 
 abbrev OneOfThree : ℕ → Type 0
 OneOfThree number = (number ≡ 30) ⊎ ((number ≡ 34) ⊎ (number ≡ 38))

@@ -1,20 +1,17 @@
 -- The lines one by one.
-use Rattle.std.proofs.Common.{◌≡◌, ◌≤◌, ◌<◌, ◌+◌, ◌*◌, ℕ, zero, suc, List, [], ◌∷◌, ◌++◌, Some, codes, length, map, get_or, All, refl, ap, sym, ◌∙◌, subst, append_assoc, length-append, arith}
+use Rattle.std.proofs.Common.{◌≡◌, ◌≤◌, ◌<◌, ◌+◌, ◌*◌, ℕ, zero, suc, [], ◌∷◌, ◌++◌, Some, codes, length, map, get_or, All, refl, ap, sym, ◌∙◌, subst, length-append, arith}
 use Rattle.std.specs.Prelude.{AllPairs, option_map}
 use Rattle.std.proofs.Math.Nat.{mul-le-mul_left}
 use Rattle.std.proofs.lemmas.List.Elements.{All-nil, All-cons}
 use Rattle.image.specs.declared.names.ImageNames.{ImageNames}
 use Rattle.script.specs.declared.script.ScriptLine.{ScriptLine}
 use Rattle.script.specs.declared.script.ScriptLine.TheVariants.{Set}
-use Rattle.script.specs.Saying.{Said, set, end, spelled, text_of, IsInForm}
+use Rattle.script.specs.Saying.{set, end, spelled, text_of, IsInForm}
 use Rattle.script.specs.Scripts.{in_device, meaning, tick_of, IsLater, IsApart, Respects, IsScript}
 use Rattle.load.specs.Script.{value, settings_from, load_end, load_script, script_text}
 use Rattle.load_text_law.specs.Lines.{lines_from, load_lines}
 use Rattle.load_text_law.proofs.Values.{tick_below, src_is_word, small_value, short_setting, short_end}
-
-text-append : (said more : List Said) → text_of (said ++ more) ≡ text_of said ++ text_of more
-text-append [] more = refl
-text-append (s ∷ ss) more = ap (λ (t : List ℕ). spelled s ++ 10 ∷ t) (text-append ss more) ∙ sym (append_assoc (spelled s) (10 ∷ text_of ss) (text_of more))
+use Rattle.script.proofs.Faults.{text_both}
 
 early : (count before : ℕ) → 1 ≤ count → count ≤ 64 → before < 20 → 1000 * count * before < 1000000000
 early count before some few under = omega (arith, tick_below count before some under)
@@ -92,7 +89,7 @@ is_script names device key count there some few = record {
   said = settings_from key count 0 20;
   begun = record {
     form = are_in_form key count 0 20 some few (omega arith);
-    whole = text-append (settings_from key count 0 20) (end (load_end count) ∷ []);
+    whole = text_both (settings_from key count 0 20) (end (load_end count) ∷ []);
     means = mean_lines names device there key count 0 20;
     respects = respects device key count 20 names;
   };

@@ -8,11 +8,11 @@ mod Trees
 mod Values
 mod Elements
 pub mod Shapes
-mod Parts
-mod Processes
+pub mod Parts
+pub mod Processes
 mod Joined
 mod Reach
-mod Numbers
+pub mod Numbers
 mod Plain
 pub mod Lists
 pub mod Lengths

@@ -38,7 +38,7 @@ there key count at below =
 
 -- ---- routines
 
-no_texts : (key count before left k : ℕ) → texts_from k 1 (map plain_decl (processes_from key count before left)) ≡ []
+pub no_texts : (key count before left k : ℕ) → texts_from k 1 (map plain_decl (processes_from key count before left)) ≡ []
 no_texts key count before zero k = refl
 no_texts key count before (suc left) k = no_texts key count (suc before) left (suc k)
 

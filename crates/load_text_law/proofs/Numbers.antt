@@ -140,7 +140,7 @@ mutual
 
 -- ---- the load
 
-few_turns : (key at : ℕ) → (drawn key at).turns < 10
+pub few_turns : (key at : ℕ) → (drawn key at).turns < 10
 unfolding draw below
 few_turns key at = mod_below _ 10 (omega arith)
 
@@ -201,7 +201,7 @@ module _ (key count : ℕ) (g : Prog Place) (s : HasShape key count g.decls) whe
 
 -- ---- the rules that are left
 
-refuted : (o : Option Place) (place : Place) → o ≡ None → o ≡ Some place → ⊥
+pub refuted : (o : Option Place) (place : Place) → o ≡ None → o ≡ Some place → ⊥
 refuted None place none some = cc
 refuted (Some p) place none some = cc
 

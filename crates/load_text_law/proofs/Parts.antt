@@ -46,7 +46,7 @@ is_int (scalar boolean) same = cc
 is_int (scalar (subrange low high)) same = cc
 is_int (array low high s) same = cc
 
-scalar_int : (s : Scalar Place) → bare_scalar s ≡ int → s ≡ int
+pub scalar_int : (s : Scalar Place) → bare_scalar s ≡ int → s ≡ int
 scalar_int int same = refl
 scalar_int boolean same = cc
 scalar_int (subrange low high) same = cc

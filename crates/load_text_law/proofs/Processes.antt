@@ -18,15 +18,16 @@ use Rattle.load.specs.Draws.{below, draw}
 use Rattle.load.specs.Program.{of_number, drawn, frame, load_handler, load_process}
 use Rattle.load_text_law.proofs.Shapes.{one_of, none_of, none_there, some_there, AreLoad, no_more, one_more}
 use Rattle.load_text_law.proofs.Parts.{NoneOf, none_fails, is_worth, is_in, one_int}
+use Rattle.load_text_law.proofs.Spelled.{frame_low as frame_high}
 
 -- ---- frames
 
-record IsPeriodic (a : Activation Place) (f : ℕ) : Type 0 where
-  frame : Constant Place
-  is : a ≡ periodic frame None None
-  like : bare_constant frame ≡ of_number f
+pub record IsPeriodic (a : Activation Place) (f : ℕ) : Type 0 where
+  pub frame : Constant Place
+  pub is : a ≡ periodic frame None None
+  pub like : bare_constant frame ≡ of_number f
 
-is_periodic : (a : Activation Place) (f : ℕ) → bare_activation a ≡ periodic (of_number f) None None → IsPeriodic a f
+pub is_periodic : (a : Activation Place) (f : ℕ) → bare_activation a ≡ periodic (of_number f) None None → IsPeriodic a f
 is_periodic (periodic c dl fs) f same =
     let deadline = none_there bare_constant dl cc in
     let first = none_there bare_constant fs cc in
@@ -36,12 +37,6 @@ is_periodic (at_event e p c dl) f same = cc
 few_frames : (key at : ℕ) → (drawn key at).frames < 8
 unfolding draw below
 few_frames key at = mod_below _ 8 (omega arith)
-
-frame_high : (count : ℕ) (d : Drawn) → count ≤ 64 → d.frames < 8 → frame count d ≤ 512000
-frame_high count d few low =
-    let most : 1 + d.frames ≤ 8 = omega arith in
-    let e = mul-le-mul_left (1000 * count) most in
-    omega (arith, e)
 
 frame_low : (count : ℕ) (d : Drawn) → 1 ≤ count → 1000 ≤ frame count d
 frame_low count d some =
@@ -114,7 +109,7 @@ handlers_kept g key count before (suc left) (p ∷ ps) (one_more _ _ same are) n
 
 -- ---- what the declarations of processes come to
 
-abbrev decls : List (Process Place) → List (Decl Place)
+abbrev pub decls : List (Process Place) → List (Decl Place)
 decls ps = map (λ p. process p) ps
 
 pub how_many : {key count before left : ℕ} (ps : List (Process Place)) → AreLoad key count before left ps → length ps ≡ left

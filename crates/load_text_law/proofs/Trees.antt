@@ -1,5 +1,5 @@
 -- The tree of the text.
-use Rattle.std.proofs.Common.{◌≡◌, ◌≤◌, ℕ, List, [], ◌∷◌, ap, sym, ◌∙◌, subst}
+use Rattle.std.proofs.Common.{◌≡◌, ◌≤◌, ℕ, List, [], ap, sym, ◌∙◌, subst}
 use Rattle.syntax_tree.specs.declared.place.Place.{Place}
 use Rattle.syntax_tree.specs.Placed.{Prog}
 use Rattle.syntax_tree.specs.Bare.{bare}
@@ -18,6 +18,7 @@ use Rattle.load_text_law.specs.Tree.{LoadTree}
 use Rattle.load_text_law.proofs.Spelled as spelled
 use Rattle.load_text_law.proofs.Grown.{toks, words-toks, of_program, bare-load}
 use Rattle.load_text_law.proofs.Short.{short_text}
+use Rattle.syntax_printer.proofs.ReadBackLemmas.{no_words}
 
 load_words : (key count : ℕ) → count ≤ 64 → HasWords (program_text key count) (prog_words (load_program key count))
 unfolding program_text
@@ -26,10 +27,6 @@ load_words key count few =
     let says : flat (program_lines g) ≡ prog_words g = program-says g in
     let are = subst AreSpelled (sym says) (spelled.of_program key count few) in
     subst (λ ws. HasWords (program_text key count) ws) says (lines_lexed (program_lines g) are (short_text key count few))
-
-no_words : (ts : List (Tok Place)) → words_of ts ≡ [] → ts ≡ []
-no_words [] same = cc
-no_words (t ∷ ts) same = cc
 
 pub load_tree : (key count : ℕ) → count ≤ 64 → LoadTree key count
 load_tree key count few =

@@ -11,12 +11,8 @@ use Rattle.valid_image.specs.Sizes.{needed_stay}
 use Rattle.loader_trees.specs.Steps.{stays_in}
 use Rattle.loader_trees.specs.Whole.{stay_in}
 use Rattle.valid_image_law.specs.Held.{held, hold}
-use Rattle.valid_image_law.proofs.Holding.{holding_changes_nothing}
+use Rattle.valid_image_law.proofs.Holding.{holding_changes_nothing, hold_guard}
 use Rattle.loader.specs.Found.{AreAlike}
-
-guard_alike : (b : Bool) (x y : Option Found) → hold x ≡ hold y → hold (guard b x) ≡ hold (guard b y)
-guard_alike true x y is = is
-guard_alike false x y is = refl
 
 next_alike : (x : Option Found) (f g : ℕ → Option Found) → ((h : ℕ) → hold (f h) ≡ hold (g h)) → chain x (λ h. hold (f h)) ≡ chain x (λ h. hold (g h))
 next_alike None f g same = refl
@@ -36,7 +32,7 @@ mutual
   seg_alike code ks ls out held (Line (suc n)) at h same = refl
   seg_alike code ks ls out held (Fork first second) at zero same = refl
   seg_alike code ks ls out held (Fork first second) at (suc h) same =
-      guard_alike (is_jump_zero (at + 1 + size first + 1) (slice_get code at) && is_jump (at + size first + size second + 2) (slice_get code (at + 1 + size first)))
+      hold_guard (is_jump_zero (at + 1 + size first + 1) (slice_get code at) && is_jump (at + size first + size second + 2) (slice_get code (at + 1 + size first)))
       (arms (founds code ks out held first (at + 1) h) (founds code ks out held second (at + 1 + size first + 1) h))
       (arms (founds code ls out held first (at + 1) h) (founds code ls out held second (at + 1 + size first + 1) h))
       (arms_alike (founds code ks out held first (at + 1) h) (founds code ks out held second (at + 1 + size first + 1) h) (founds code ls out held first (at + 1) h) (founds code ls out held second (at + 1 + size first + 1) h)
@@ -45,11 +41,11 @@ mutual
   seg_alike code ks ls out held (Rep (suc n) body) at h same =
       let x = founds code ks (Some (at + 1 + size body + 1)) held body (at + 1) 0 in
       let y = founds code ls (Some (at + 1 + size body + 1)) held body (at + 1) 0 in
-      guard_alike (nat_lt 0 (suc n) && (is_repeats (suc n) (slice_get code at) && is_repeat (at + 1) (slice_get code (at + 1 + size body)))) (loop (suc n) h x) (loop (suc n) h y)
+      hold_guard (nat_lt 0 (suc n) && (is_repeats (suc n) (slice_get code at) && is_repeat (at + 1) (slice_get code (at + 1 + size body)))) (loop (suc n) h x) (loop (suc n) h y)
       (holding_changes_nothing.in_loop (suc n) h x (omega arith) ∙ ap (λ o. hold (loop (suc n) h o)) (segs_alike code ks ls (Some (at + 1 + size body + 1)) held body (at + 1) 0 same)
       ∙ sym (holding_changes_nothing.in_loop (suc n) h y (omega arith)))
   seg_alike code ks ls out held (Call r) at h same =
-      guard_alike (is_call r (slice_get code at)) (call h (slice_get ks r)) (call h (slice_get ls r))
+      hold_guard (is_call r (slice_get code at)) (call h (slice_get ks r)) (call h (slice_get ls r))
       (holding_changes_nothing.in_call h (slice_get ks r) ∙ ap (λ o. hold (call h o)) (same r) ∙ sym (holding_changes_nothing.in_call h (slice_get ls r)))
   seg_alike code ks ls out held (Stay m body) at h same = refl
   seg_alike code ks ls out held Wait at h same = refl
@@ -64,7 +60,7 @@ mutual
 entry_alike : (code : List Instr) (ks ls : List Known) (m : ℕ) (tree : Segs) (at : ℕ) → AreAlike ks ls → hold (entry code ks m tree at) ≡ hold (entry code ls m tree at)
 entry_alike code ks ls m (Cons (Stay n body) Nil) at same =
     let last : ℕ → Option Found = λ h. Some (record { height = h; cost = amount 8 0 0; depth = 0 }) in
-    guard_alike (nat_eq n m && (is_enter m (slice_get code at) && is_leave m (slice_get code (at + 1 + size body))))
+    hold_guard (nat_eq n m && (is_enter m (slice_get code at) && is_leave m (slice_get code (at + 1 + size body))))
     (chain (founds code ks None (Some m) body (at + 1) 0) last) (chain (founds code ls None (Some m) body (at + 1) 0) last)
     (chain_alike (founds code ks None (Some m) body (at + 1) 0) (founds code ls None (Some m) body (at + 1) 0) last last (segs_alike code ks ls None (Some m) body (at + 1) 0 same) (λ h. refl))
 entry_alike code ks ls m _ at same = refl
@@ -78,12 +74,12 @@ ended_alike n x y same = holding_changes_nothing.at_end n x ∙ ap (λ o. ended 
 
 pub routine_alike : (code : List Instr) (ks ls : List Known) (r : Routine) → AreAlike ks ls → hold (routine_found code ks r) ≡ hold (routine_found code ls r)
 routine_alike code ks ls r same =
-    guard_alike (is_return r.gives (slice_get code (r.start + size r.tree))) (ended (count r.gives) (tree_found code ks (monitor_of r) r.tree r.start)) (ended (count r.gives) (tree_found code ls (monitor_of r) r.tree r.start))
+    hold_guard (is_return r.gives (slice_get code (r.start + size r.tree))) (ended (count r.gives) (tree_found code ks (monitor_of r) r.tree r.start)) (ended (count r.gives) (tree_found code ls (monitor_of r) r.tree r.start))
     (ended_alike (count r.gives) (tree_found code ks (monitor_of r) r.tree r.start) (tree_found code ls (monitor_of r) r.tree r.start) (tree_alike code ks ls (monitor_of r) r.tree r.start same))
 
 pub part_alike : (code : List Instr) (ks ls : List Known) (tree : Segs) (at : ℕ) → AreAlike ks ls → hold (part_found code ks tree at) ≡ hold (part_found code ls tree at)
 part_alike code ks ls tree at same =
-    guard_alike (is_end (slice_get code (at + size tree))) (ended 0 (founds code ks None None tree at 0)) (ended 0 (founds code ls None None tree at 0))
+    hold_guard (is_end (slice_get code (at + size tree))) (ended 0 (founds code ks None None tree at 0)) (ended 0 (founds code ls None None tree at 0))
     (ended_alike 0 (founds code ks None None tree at 0) (founds code ls None None tree at 0) (segs_alike code ks ls None None tree at 0 same))
 
 -- ---- how long an entry stays

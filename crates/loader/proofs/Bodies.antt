@@ -3,6 +3,7 @@ use Rattle.std.proofs.Common.{◌≡◌, ◌≤◌, ◌<◌, ◌+◌, ◌-◌, �
 use Rattle.std.specs.Prelude.{◌&&◌, nat_eq, option_map, slice_get}
 use Rattle.std.proofs.lemmas.List.{length-map, length-append}
 use Rattle.std.proofs.lemmas.Option.{slice_get_within}
+use Rattle.base.proofs.Lists.{map_get, append_back}
 use Rattle.image.specs.declared.raw.RawImage.{RawImage}
 use Rattle.image.specs.declared.raw.RawProc.{RawProc}
 use Rattle.image.specs.Raw.{image_of, routine_of, process_of}
@@ -13,7 +14,7 @@ use Rattle.valid_image.specs.Found.{Found}
 use Rattle.valid_image.specs.Pieces.{pieces, piece_of_routine, piece_of_process, due_start, end_of_piece, handler_length, piece_number}
 use Rattle.valid_image.specs.Shape.{is_found, process_shape_fault}
 use Rattle.valid_image.specs.Tables.{known, part_found, body_found, handler_found, handler_start}
-use Rattle.loader_code.proofs.Searching.{none_here, one_here, none_left, of_element, at_image}
+use Rattle.loader_code.proofs.Searching.{none_here, one_here, none_left, of_element}
 use Rattle.valid_image_law.specs.Held.{hold}
 use Rattle.loader_trees.specs.declared.known.Known as code
 use Rattle.loader_trees.specs.Told.{known_of}
@@ -21,7 +22,6 @@ use Rattle.loader.specs.declared.parts.Parts.{Parts}
 use Rattle.loader.specs.declared.parts.ProcessFound.{ProcessFound}
 use Rattle.loader.specs.Found.{AreAlike, Two, two, guard_two, told_process, handler_in}
 use Rattle.loader.specs.Parts.{IsKept, AreRoutines, AreParts}
-use Rattle.loader.proofs.Rows.{append_back}
 use Rattle.loader.proofs.Alike.{part_alike}
 use Rattle.loader.proofs.Shaping.{cases, pushed_before, pushed_last}
 
@@ -79,7 +79,7 @@ process_some true (Some f) None t some = absurd cc
 process_some true (Some f) (Some g) t some = (refl, some)
 
 process_here : (raw : RawImage) (k : ℕ) (p : RawProc) → slice_get raw.processes k ≡ Some p → slice_get (image_of raw).processes k ≡ Some (process_of p)
-process_here raw k p is = at_image process_of raw.processes k p is
+process_here raw k p is = map_get process_of raw.processes k p is
 
 pub process_stops : (raw : RawImage) (parts : Parts) (k : ℕ) (p : RawProc) → BeforeProcess raw parts k → k < length raw.processes → slice_get raw.processes k ≡ Some p
     → None ≡ guard_two (nat_eq p.start parts.end) (coded raw parts p)
@@ -97,7 +97,7 @@ process_piece raw k p is =
     let e : piece_number (image_of raw) (k + 1) ≡ suc (piece_number (image_of raw) k) = omega arith in
     let at : slice_get (pieces (image_of raw)) (piece_number (image_of raw) k) ≡ Some (piece_of_process (process_of p)) =
     append_back (map piece_of_routine (image_of raw).routines) (map piece_of_process (image_of raw).processes) (piece_number (image_of raw) k) k (omega (arith, length-map (image_of raw).routines piece_of_routine))
-    ∙ at_image piece_of_process (image_of raw).processes k (process_of p) (process_here raw k p is) in
+    ∙ map_get piece_of_process (image_of raw).processes k (process_of p) (process_here raw k p is) in
     ap (λ n. due_start (pieces (image_of raw)) n) e ∙ ap end_of_piece at
 
 same_routines : (raw : RawImage) (parts new : Parts) → AreRoutines raw parts → new.known ≡ parts.known → new.routines ≡ parts.routines → AreRoutines raw new

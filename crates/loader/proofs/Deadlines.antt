@@ -9,18 +9,18 @@ use Rattle.image.specs.declared.raw.RawProc.{RawProc}
 use Rattle.image.specs.declared.raw.RawRoutine.{RawRoutine}
 use Rattle.machine_semantics.specs.Image.{Image}
 use Rattle.image.specs.Raw.{image_of, process_of, monitor_of, routine_of}
-use Rattle.loader_code.proofs.Searching.{at_image}
 use Rattle.valid_image.specs.Pieces.{called, piece_number}
 use Rattle.valid_image.specs.Tables.{reach, stays_at, stay_of_process, longest_of, longer_stay, own_stay}
 use Rattle.loader_code.specs.Owned.{AreCalls}
-use Rattle.loader_code.proofs.Sweeping.{one_more, pieces_long}
+use Rattle.loader_code.proofs.Sweeping.{pieces_long}
 use Rattle.loader_code.proofs.Tables.{stay_row, stay_rows}
 use Rattle.std.proofs.Math.ListN.{length-append}
+use Rattle.base.proofs.Lists.{map_get, one_more}
 use Rattle.valid_image.specs.Times.{deadline_of, deadline_at, outranks, ticks_of, blocking_stay, blocking_by, longest_blocking, enters, is_some}
 use Rattle.loader.specs.Stays.{AreStays, AreStaysOfRoutines, AreFirstStays, stay_in, blocking_at, blocking_of}
 
 process_is : (image : RawImage) (k : ℕ) (p : RawProc) → k < length image.processes → p ≡ get_or image.processes k p → slice_get (image_of image).processes k ≡ Some (process_of p)
-process_is image k p low is = at_image process_of image.processes k p (slice_get-get_or image.processes k p low ∙ ap (λ x. Some x) (sym is))
+process_is image k p low is = map_get process_of image.processes k p (slice_get-get_or image.processes k p low ∙ ap (λ x. Some x) (sym is))
 
 deadline_is : (image : RawImage) (k : ℕ) (p : RawProc) → k < length image.processes → p ≡ get_or image.processes k p → deadline_at (image_of image) k ≡ p.deadline
 deadline_is image k p low is = ap (λ o. deadline_of o) (process_is image k p low is)
@@ -39,7 +39,7 @@ stay_is image rows k m are low_k low_m =
     row.each k (omega (arith, low_k, row.one_each))
 
 monitor_there : (image : RawImage) (m : ℕ) (x : RawMon) → m < length image.monitors → x ≡ get_or image.monitors m x → slice_get (image_of image).monitors m ≡ Some (monitor_of x)
-monitor_there image m x low is = at_image monitor_of image.monitors m x (slice_get-get_or image.monitors m x low ∙ ap (λ y. Some y) (sym is))
+monitor_there image m x low is = map_get monitor_of image.monitors m x (slice_get-get_or image.monitors m x low ∙ ap (λ y. Some y) (sym is))
 
 pub blocking_is : (image : RawImage) (rank k m : ℕ) (x : RawMon) → m < length image.monitors → x ≡ get_or image.monitors m x → blocking_at (image_of image) rank k m ≡ cond (nat_le x.ceiling rank) (ticks_of (stay_of_process (image_of image) k m)) 0
 blocking_is image rank k m x low is = ap (λ o. blocking_stay (image_of image) rank k m o) (monitor_there image m x low is)
@@ -63,10 +63,7 @@ longest_more f called i here best answer low is rest found =
     found ∙ (ap (λ x. longer_stay x best) is ∙ (ap (λ x. longer_stay (f (get_or called i 0)) x) rest ∙ sym (ap (λ xs. longest_of f xs) (drop_more called i 0 low))))
 
 routine_there : (image : RawImage) (r : ℕ) (x : RawRoutine) → r < length image.routines → x ≡ get_or image.routines r x → slice_get (image_of image).routines r ≡ Some (routine_of x)
-routine_there image r x low is = at_image routine_of image.routines r x (slice_get-get_or image.routines r x low ∙ ap (λ y. Some y) (sym is))
-
-pub routine_calls_there : (image : RawImage) (calls : List (List ℕ)) (r : ℕ) → AreCalls (image_of image) calls → r < length image.routines → r < length calls
-routine_calls_there image calls r are low = omega (arith, low, are.one_each, pieces_long (image_of image), length-map image.routines routine_of)
+routine_there image r x low is = map_get routine_of image.routines r x (slice_get-get_or image.routines r x low ∙ ap (λ y. Some y) (sym is))
 
 pub process_calls_there : (image : RawImage) (calls : List (List ℕ)) (k : ℕ) → AreCalls (image_of image) calls → k < length image.processes → length image.routines + k < length calls
 process_calls_there image calls k are low = omega (arith, low, are.one_each, pieces_long (image_of image), length-map image.routines routine_of, length-map image.processes process_of)

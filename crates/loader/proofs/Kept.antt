@@ -4,6 +4,7 @@ use Rattle.std.specs.Prelude.{◌&&◌, nat_eq, option_map, take, slice_get}
 use Rattle.std.proofs.lemmas.Bool.{cases_lt}
 use Rattle.std.proofs.lemmas.List.{length-map, length-append}
 use Rattle.std.proofs.lemmas.Option.{slice_get_past, slice_get_within}
+use Rattle.base.proofs.Lists.{take_get}
 use Rattle.base.specs.Capped.{cap}
 use Rattle.image.specs.declared.raw.RawImage.{RawImage}
 use Rattle.image.specs.declared.raw.RawRoutine.{RawRoutine}
@@ -24,7 +25,7 @@ use Rattle.loader_trees.specs.Whole.{stay_in}
 use Rattle.loader.specs.declared.parts.Parts.{Parts}
 use Rattle.loader.specs.Found.{AreAlike}
 use Rattle.loader.specs.Parts.{IsKept, AreRoutines}
-use Rattle.loader.proofs.Rows.{take_get, table_length, row_is}
+use Rattle.loader.proofs.Rows.{table_length, row_is}
 use Rattle.loader.proofs.Alike.{routine_alike, needed}
 use Rattle.loader.proofs.Shaping.{Before, test_at, here, same_due, shape_some, both_true, piece_here, cases, pushed_before, pushed_last, row_of, row_held, rows_on}
 

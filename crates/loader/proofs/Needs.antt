@@ -3,6 +3,7 @@ use Rattle.std.proofs.Common.{◌≡◌, ◌≤◌, ◌<◌, ◌+◌, ◌-◌, �
 use Rattle.std.specs.Prelude.{min, max, IfSome, take, slice_get}
 use Rattle.std.proofs.lemmas.List.{length-map}
 use Rattle.std.proofs.lemmas.Option.{slice_get_read, slice_get-get_or}
+use Rattle.base.proofs.Lists.{map_get}
 use Rattle.base.specs.Capped.{cap}
 use Rattle.base.specs.declared.capped.Cost.{Cost}
 use Rattle.image.specs.declared.raw.RawImage.{RawImage}
@@ -14,7 +15,7 @@ use Rattle.valid_image.specs.Fault.{Fault, or_else, first_of, of_some, first_in}
 use Rattle.valid_image.specs.Found.{Found, longer, plus}
 use Rattle.valid_image.specs.Sizes.{below, with_dispatch, needed_stay, needed_stack, routine_cost_fault, process_cost_fault}
 use Rattle.valid_image.specs.Tables.{known, routine_found, body_found, handler_found, found_or_nothing}
-use Rattle.loader_code.proofs.Searching.{none_here, one_here, none_left, of_element, at_image}
+use Rattle.loader_code.proofs.Searching.{none_here, one_here, none_left, of_element}
 use Rattle.valid_image_law.specs.Held.{held, hold}
 use Rattle.valid_image_law.proofs.Holding.{product}
 use Rattle.loader_trees.specs.declared.known.PartFound.{PartFound}
@@ -68,7 +69,7 @@ routine_costs raw parts r x part are at kept =
     let k = are.routines.kept r x at in
     let found : Some (found_of part.found) ≡ hold (routine_found raw.code (take r (known (image_of raw))) (routine_of x)) = ap told_part (sym kept) ∙ k.found in
     let stays = stay_at (slice_get parts.routines r) part (cap (needed_stay (image_of raw) r (routine_of x))) kept k.stay in
-    of_element (routine_cost_fault (image_of raw) r) _ (routine_of x) (at_image routine_of raw.routines r x at)
+    of_element (routine_cost_fault (image_of raw) r) _ (routine_of x) (map_get routine_of raw.routines r x at)
     ∙ sym (needs_same (routine_found raw.code (take r (known (image_of raw))) (routine_of x)) (found_of part.found) (routine_of x) part.stay _ found stays)
 
 -- ---- processes
@@ -123,7 +124,7 @@ pub process_costs : (raw : RawImage) (parts : Parts) (k : ℕ) (p : RawProc) (fo
     → of_some (λ q. process_cost_fault (image_of raw) q) (slice_get (image_of raw).processes k) ≡ process_needs raw.overhead (process_of p) (found_of found.body) (found_of found.handler)
 process_costs raw parts k p found are at kept =
     let w = what_is_kept raw parts k p found are at kept in
-    of_element (λ (q : Process). process_cost_fault (image_of raw) q) _ (process_of p) (at_image process_of raw.processes k p at)
+    of_element (λ (q : Process). process_cost_fault (image_of raw) q) _ (process_of p) (map_get process_of raw.processes k p at)
     ∙ sym (process_same raw.overhead (process_of p) (found_or_nothing (body_found (image_of raw) (process_of p))) (found_or_nothing (handler_found (image_of raw) (process_of p) (process_of p).handler_tree)) (found_of found.body) (found_of found.handler) w.0 w.1)
 
 stack_same : (p : Process) (a b f g : Found) → f ≡ held a → g ≡ held b → stack_needs p f g ≡ stack_needs p a b
@@ -135,7 +136,7 @@ pub process_stacks : (raw : RawImage) (parts : Parts) (k : ℕ) (p : RawProc) (f
     → of_some (λ q. below q.stack (needed_stack (image_of raw) q)) (slice_get (image_of raw).processes k) ≡ stack_needs (process_of p) (found_of found.body) (found_of found.handler)
 process_stacks raw parts k p found are at kept =
     let w = what_is_kept raw parts k p found are at kept in
-    of_element (λ (q : Process). below q.stack (needed_stack (image_of raw) q)) _ (process_of p) (at_image process_of raw.processes k p at)
+    of_element (λ (q : Process). below q.stack (needed_stack (image_of raw) q)) _ (process_of p) (map_get process_of raw.processes k p at)
     ∙ sym (stack_same (process_of p) (found_or_nothing (body_found (image_of raw) (process_of p))) (found_or_nothing (handler_found (image_of raw) (process_of p) (process_of p).handler_tree)) (found_of found.body) (found_of found.handler) w.0 w.1)
 
 -- ---- an element by its place
@@ -148,4 +149,4 @@ copied xs ys i d same low = slice_get-get_or ys i d low ∙ ap (λ zs. Some (get
 
 pub params_at : (xs : List RawRoutine) (r : ℕ) (x : RawRoutine) → slice_get xs r ≡ Some x
     → of_some (λ (y : Routine). below y.locals y.params) (slice_get (map routine_of xs) r) ≡ below x.locals x.params
-params_at xs r x at = of_element (λ (y : Routine). below y.locals y.params) _ (routine_of x) (at_image routine_of xs r x at)
+params_at xs r x at = of_element (λ (y : Routine). below y.locals y.params) _ (routine_of x) (map_get routine_of xs r x at)

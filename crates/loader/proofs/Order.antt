@@ -1,24 +1,17 @@
 -- An image without a fault is valid, and the parts before bounds come first.
 use Rattle.std.proofs.Common.{◌≡◌, Option, Some, None, refl, sym}
 use Rattle.machine_semantics.specs.Image.{Image}
-use Rattle.valid_image.specs.Fault.{Fault, or_else}
+use Rattle.valid_image.specs.Fault.{or_else}
 use Rattle.valid_image.specs.Times.{rank_fault}
-use Rattle.valid_image.specs.Valid.{Shown, Part, Operands, Shape, Handlers, Costs, Sizes, Ranks, Bounds, fault_of, fault_of_part, shown, shown_of, IsValid}
-use Rattle.valid_image_law.proofs.Whole.{valid_is_without_fault}
+use Rattle.valid_image.specs.Valid.{Shown, Operands, Shape, Handlers, Costs, Sizes, Ranks, Bounds, fault_of, fault_of_part, shown, IsValid}
+use Rattle.valid_image_law.proofs.Whole.{valid_is_without_fault, not_shown}
 use Rattle.loader.specs.Verified.{fault_before_bounds}
+use Rattle.valid_image_law.proofs.Firsts.{neither}
 
 pub is_valid : (image : Image) → None ≡ fault_of image → IsValid image
 is_valid image none = (valid_is_without_fault image).1 (sym none)
 
 -- ---- the order of the tests
-
-after_none : {A : Type 0} (x y : Option A) → or_else x y ≡ None → (x ≡ None) × (y ≡ None)
-after_none None y none = (refl, none)
-after_none (Some x) y none = absurd cc
-
-not_shown : (part : Part) (f : Option Fault) → shown_of part f ≡ None → f ≡ None
-not_shown part None none = refl
-not_shown part (Some f) none = absurd cc
 
 -- each part before bounds has no fault
 pub record HasNoFaultBefore (image : Image) : Type 0 where
@@ -31,11 +24,11 @@ pub record HasNoFaultBefore (image : Image) : Type 0 where
 
 pub none_before : (image : Image) → fault_before_bounds image ≡ None → HasNoFaultBefore image
 none_before image none =
-    let a = after_none (shown image Operands) _ none in
-    let b = after_none (shown image Shape) _ a.1 in
-    let c = after_none (shown image Handlers) _ b.1 in
-    let d = after_none (shown image Costs) _ c.1 in
-    let e = after_none (shown image Sizes) (shown image Ranks) d.1 in
+    let a = neither (shown image Operands) _ none in
+    let b = neither (shown image Shape) _ a.1 in
+    let c = neither (shown image Handlers) _ b.1 in
+    let d = neither (shown image Costs) _ c.1 in
+    let e = neither (shown image Sizes) (shown image Ranks) d.1 in
     record {
       operands = not_shown Operands (fault_of_part image Operands) a.0;
       shape = not_shown Shape (fault_of_part image Shape) b.0;

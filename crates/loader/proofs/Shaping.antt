@@ -4,6 +4,7 @@ use Rattle.std.specs.Prelude.{◌&&◌, min, nat_eq, option_map, take, slice_get
 use Rattle.std.proofs.lemmas.Bool.{cases_lt}
 use Rattle.std.proofs.lemmas.List.{length-map, length-append}
 use Rattle.std.proofs.lemmas.Option.{slice_get-map, slice_get_past, slice_get_within}
+use Rattle.base.proofs.Lists.{map_get, take_get, take_past, append_front, append_back}
 use Rattle.base.specs.Capped.{cap}
 use Rattle.image.specs.declared.raw.RawImage.{RawImage}
 use Rattle.image.specs.declared.raw.RawRoutine.{RawRoutine}
@@ -14,14 +15,13 @@ use Rattle.valid_image.specs.Found.{Known, Found, amount, guard}
 use Rattle.valid_image.specs.Pieces.{pieces, piece_of_routine, piece_of_process, due_start, end_of_piece}
 use Rattle.valid_image.specs.Shape.{is_found, routine_shape_fault}
 use Rattle.valid_image.specs.Tables.{count, known, routine_found, found_or_nothing}
-use Rattle.loader_code.proofs.Searching.{one_here, of_element, at_image}
+use Rattle.loader_code.proofs.Searching.{one_here, of_element}
 use Rattle.valid_image_law.specs.Held.{held, hold, held_known}
 use Rattle.loader_trees.specs.declared.known.Known as code
 use Rattle.loader_trees.specs.Told.{known_of}
 use Rattle.loader.specs.declared.parts.Parts.{Parts}
 use Rattle.loader.specs.Found.{AreAlike}
 use Rattle.loader.specs.Parts.{IsKept}
-use Rattle.loader.proofs.Rows.{take_get, take_past, append_front, append_back}
 use Rattle.loader.proofs.Alike.{routine_alike}
 
 abbrev pub test_at : RawImage → ℕ → Option Fault
@@ -55,7 +55,7 @@ both_true true None f is some = absurd cc
 both_true true (Some g) f is some = refl
 
 pub here : (raw : RawImage) (r : ℕ) (x : RawRoutine) → slice_get raw.routines r ≡ Some x → slice_get (image_of raw).routines r ≡ Some (routine_of x)
-here raw r x is = at_image routine_of raw.routines r x is
+here raw r x is = map_get routine_of raw.routines r x is
 
 pub same_due : (raw : RawImage) (parts : Parts) (r start : ℕ) → Before raw parts r → nat_eq start parts.end ≡ nat_eq start (due_start (pieces (image_of raw)) r)
 same_due raw parts r start before = ap (λ n. nat_eq start n) before.due
@@ -78,7 +78,7 @@ piece_here raw r x is =
     let e : r + 1 ≡ suc r = omega arith in
     let low : r < length (map piece_of_routine (image_of raw).routines) = omega (arith, slice_get_within raw.routines r x is, length-map (image_of raw).routines piece_of_routine, length-map raw.routines routine_of) in
     let at : slice_get (pieces (image_of raw)) r ≡ Some (piece_of_routine (routine_of x)) =
-    append_front (map piece_of_routine (image_of raw).routines) (map piece_of_process (image_of raw).processes) r low ∙ at_image piece_of_routine (image_of raw).routines r (routine_of x) (here raw r x is) in
+    append_front (map piece_of_routine (image_of raw).routines) (map piece_of_process (image_of raw).processes) r low ∙ map_get piece_of_routine (image_of raw).routines r (routine_of x) (here raw r x is) in
     ap (λ k. due_start (pieces (image_of raw)) k) e ∙ ap end_of_piece at
 
 pub cases : (j r : ℕ) → (j < r) ⊎ ((j ≡ r) ⊎ (r < j))

@@ -4,6 +4,7 @@ use Rattle.std.specs.Prelude.{◌&&◌, ◌||◌, not, nat_eq, option_map, take,
 use Rattle.std.proofs.lemmas.Bool.{cases_lt}
 use Rattle.std.proofs.lemmas.List.{length-map, length-append}
 use Rattle.std.proofs.lemmas.Option.{slice_get-map, slice_get_past}
+use Rattle.base.proofs.Lists.{map_get, take_get, take_past}
 use Rattle.image.specs.declared.raw.RawImage.{RawImage}
 use Rattle.image.specs.declared.raw.RawProc.{RawProc}
 use Rattle.image.specs.declared.raw.RawRoutine.{RawRoutine}
@@ -13,10 +14,10 @@ use Rattle.machine_semantics.specs.Image.{Process}
 use Rattle.valid_image.specs.Fault.{Fault, unless, of_some}
 use Rattle.valid_image.specs.Shape.{is_handler}
 use Rattle.valid_image.specs.Tables.{Reach, handler_start, waits_of, waits_at, seg_waits, tree_waits, reach, reach_of}
-use Rattle.loader_code.proofs.Searching.{of_element, at_image}
+use Rattle.loader_code.proofs.Searching.{of_element}
 use Rattle.loader.specs.Handlers.{is_right}
 use Rattle.loader.specs.Waits.{bare, IsAlike}
-use Rattle.loader.proofs.Rows.{take_get, take_past, table_length, row_is}
+use Rattle.loader.proofs.Rows.{table_length, row_is}
 use Rattle.loader.proofs.Shaping.{cases, pushed_before, pushed_last, pushed_past}
 
 mutual
@@ -51,7 +52,7 @@ next_alike raw waits next r x before at is j = elim (cases j r) [
     | inl same ↦
         slice j ∙ ap (λ o. waits_of (option_map bare o)) (pushed_last waits next j (omega (arith, same, before.count)))
         ∙ is ∙ tree_same (map bare waits) (take r (rows_of raw)) x.tree before.alike
-        ∙ ap waits_of (sym (row_is (reach_of (image_of raw)) (image_of raw).routines r (routine_of x) (at_image routine_of raw.routines r x at)) ∙ ap (λ n. slice_get (rows_of raw) n) (sym same) ∙ sym (take_get (r + 1) j (rows_of raw) (omega (arith, same))))
+        ∙ ap waits_of (sym (row_is (reach_of (image_of raw)) (image_of raw).routines r (routine_of x) (map_get routine_of raw.routines r x at)) ∙ ap (λ n. slice_get (rows_of raw) n) (sym same) ∙ sym (take_get (r + 1) j (rows_of raw) (omega (arith, same))))
     | inr past ↦
         slice j ∙ ap (λ o. waits_of (option_map bare o)) (pushed_past waits next j (omega (arith, past, before.count)))
         ∙ ap waits_of (sym (take_past (r + 1) j (rows_of raw) (omega (arith, past))))
@@ -90,5 +91,5 @@ handler_at raw k = of_some (λ (p : Process). unless (is_handler (image_of raw) 
 pub handler_tested : (raw : RawImage) (waits : List Bool) (k : ℕ) (p : RawProc) (b : Bool) → IsAlike (map bare waits) (rows_of raw) → slice_get raw.processes k ≡ Some p
     → b ≡ is_right (map bare waits) (process_of p) (process_of p).handler_tree → handler_at raw k ≡ unless b k 0
 handler_tested raw waits k p b same at is =
-    of_element (λ (q : Process). unless (is_handler (image_of raw) q q.handler_tree) k 0) _ (process_of p) (at_image process_of raw.processes k p at)
+    of_element (λ (q : Process). unless (is_handler (image_of raw) q q.handler_tree) k 0) _ (process_of p) (map_get process_of raw.processes k p at)
     ∙ ap (λ t. unless t k 0) (sym (is ∙ right_same raw (map bare waits) (process_of p) (process_of p).handler_tree same))

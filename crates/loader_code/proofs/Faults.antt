@@ -11,13 +11,13 @@ use Rattle.valid_image.specs.Fault.{Fault, or_else, first_of}
 use Rattle.valid_image.specs.Operands.{Whose, operand_fault_at, operand_fault_in, whose_process}
 use Rattle.valid_image.specs.Pieces.{belongs, called, piece_number}
 use Rattle.valid_image.specs.Tables.{reach, bound_at, some_of}
-use Rattle.loader_code.proofs.Searching.{at_image}
 use Rattle.loader_code.specs.Owned.{owned, owned_from, AreCalls}
 use Rattle.loader_code.proofs.Tables.{bound_row}
-use Rattle.loader_code.proofs.Sweeping.{one_more, pieces_long}
+use Rattle.loader_code.proofs.Sweeping.{pieces_long}
 use Rattle.std.proofs.Math.ListN.{length-append}
 use Rattle.std.proofs.lemmas.List.{length-map}
 use Rattle.std.proofs.lemmas.Bool.Decides.{nat_tests}
+use Rattle.base.proofs.Lists.{map_get, one_more}
 use Rattle.loader_code.specs.Seen.{fault_at, first_at, AreFirstBounds}
 
 piece_if : (image : Image) (k : ℕ) (w : Whose) (a : ℕ) (b : Bool) (o : Option Fault) (rest : List ℕ) → o ≡ first_at (fault_at image w) rest
@@ -35,7 +35,7 @@ piece_fault image k w addresses o is found = found ∙ (ap (λ xs. first_at (fau
 -- ---- the loops
 
 routine_at : (image : RawImage) (rs : List RawRoutine) (r : ℕ) (d : RawRoutine) → rs ≡ image.routines → r < length image.routines → slice_get (image_of image).routines r ≡ Some (routine_of (get_or rs r d))
-routine_at image rs r d same low = at_image routine_of image.routines r (get_or rs r d) (slice_get-get_or image.routines r d low ∙ ap (λ xs. Some (get_or xs r d)) (sym same))
+routine_at image rs r d same low = map_get routine_of image.routines r (get_or rs r d) (slice_get-get_or image.routines r d low ∙ ap (λ xs. Some (get_or xs r d)) (sym same))
 
 -- the piece of a process
 pub process_found : (image : RawImage) (n k : ℕ) (p : Process) (o : Option Fault) → n ≡ length image.routines → o ≡ operand_fault_in (image_of image) (n + k) (record { number = n; kind = 1; owner = k; locals = p.locals })

@@ -3,12 +3,13 @@ use Rattle.std.proofs.Common.{◌≡◌, ◌≤◌, ◌<◌, ◌+◌, ◌-◌, �
 use Rattle.std.specs.Prelude.{slice_get}
 use Rattle.std.proofs.lemmas.List.{length-map}
 use Rattle.std.proofs.lemmas.Option.{slice_get-get_or}
+use Rattle.base.proofs.Lists.{map_get}
 use Rattle.image.specs.declared.raw.RawMon.{RawMon}
 use Rattle.image.specs.Raw.{monitor_of}
 use Rattle.machine_semantics.specs.Image.{Monitor}
 use Rattle.valid_image.specs.Fault.{Fault, first_of, of_some}
 use Rattle.valid_image.specs.Sizes.{other, end_of_words, due_base, base_fault}
-use Rattle.loader_code.proofs.Searching.{none_here, one_here, none_left, of_element, passes, fails, at_image}
+use Rattle.loader_code.proofs.Searching.{none_here, one_here, none_left, of_element, passes, fails}
 
 abbrev pub test_at : List RawMon → ℕ → Option Fault
 test_at ms m = of_some (λ x. other x.base (due_base (map monitor_of ms) m)) (slice_get (map monitor_of ms) m)
@@ -25,7 +26,7 @@ pub at_first : (ms : List RawMon) → Before ms 0 0
 at_first ms = record { is_due = refl; rest = (let e : length ms - 0 ≡ length (map monitor_of ms) = omega (arith, length-map ms monitor_of) in ap (λ n. first_of (test_at ms) n 0) e) }
 
 here : (ms : List RawMon) (m : ℕ) → m < length ms → slice_get (map monitor_of ms) m ≡ Some (monitor_of (slice_index_or ms m nothing))
-here ms m below = at_image monitor_of ms m (slice_index_or ms m nothing) (slice_get-get_or ms m nothing below)
+here ms m below = map_get monitor_of ms m (slice_index_or ms m nothing) (slice_get-get_or ms m nothing below)
 
 pub on : (ms : List RawMon) (due m : ℕ) → Before ms due m → m < length ms → (slice_index_or ms m nothing).base ≡ due → Before ms ((slice_index_or ms m nothing).base + (slice_index_or ms m nothing).words) (m + 1)
 on ms due m before below same =

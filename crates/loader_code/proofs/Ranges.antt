@@ -8,6 +8,7 @@ use Rattle.image.specs.declared.names.DevName.{DevName}
 use Rattle.image.specs.declared.raw.RawRoutine.{RawRoutine}
 use Rattle.std.proofs.lemmas.Bool.Decides.{nat_tests}
 use Rattle.std.proofs.lemmas.Option.{slice_get-map}
+use Rattle.std.proofs.lemmas.Bool.{eq-eqb, ne_eqb}
 use Rattle.image.specs.declared.raw.RawImage.{RawImage}
 use Rattle.image.specs.declared.raw.RawMon.{RawMon}
 use Rattle.image.specs.declared.raw.RawProc.{RawProc}
@@ -31,22 +32,16 @@ pub area_by : (x : Area) (z : ℤ) → in_area x z ≡ area_some x (natural_of z
 area_by x (pos n) = refl
 area_by x (negsuc n) = refl
 
-eq_true : (m n : ℕ) → m ≡ n → nat_eq m n ≡ true
-eq_true m n is = grind (arith, nat_tests, is)
-
-eq_false : (m n : ℕ) → (m ≡ n → ⊥) → nat_eq m n ≡ false
-eq_false m n is_not = grind (arith, nat_tests, is_not)
-
 at_image : {A B : Type 0} (v : A → B) (xs : List A) (k : ℕ) (o : Option A) → o ≡ slice_get xs k → slice_get (map v xs) k ≡ option_map v o
 at_image v xs k o is = slice_get-map v xs k ∙ ap (λ x. option_map v x) (sym is)
 
 -- ---- the words of an owner
 
 pub not_own : (image : RawImage) (w : Whose) → (w.kind ≡ 1 → ⊥) → own_words (image_of image) w ≡ no_words
-not_own image w is_not = ap (λ b. cond b (words_of_process (slice_get (map process_of image.processes) w.owner)) no_words) (eq_false w.kind 1 is_not)
+not_own image w is_not = ap (λ b. cond b (words_of_process (slice_get (map process_of image.processes) w.owner)) no_words) (ne_eqb w.kind 1 is_not)
 
 own : (image : RawImage) (w : Whose) (o : Option RawProc) → w.kind ≡ 1 → o ≡ slice_get image.processes w.owner → own_words (image_of image) w ≡ words_of_process (option_map process_of o)
-own image w o is at = ap (λ b. cond b (words_of_process (slice_get (map process_of image.processes) w.owner)) no_words) (eq_true w.kind 1 is) ∙ ap (λ x. words_of_process x) (at_image process_of image.processes w.owner o at)
+own image w o is at = ap (λ b. cond b (words_of_process (slice_get (map process_of image.processes) w.owner)) no_words) (eq-eqb w.kind 1 is) ∙ ap (λ x. words_of_process x) (at_image process_of image.processes w.owner o at)
 
 pub own_is : (image : RawImage) (w : Whose) (p : RawProc) → w.kind ≡ 1 → Some p ≡ slice_get image.processes w.owner → own_words (image_of image) w ≡ record { base = 0; words = p.words }
 own_is image w p is at = own image w (Some p) is at
@@ -55,10 +50,10 @@ pub own_none : (image : RawImage) (w : Whose) → w.kind ≡ 1 → None ≡ slic
 own_none image w is at = own image w None is at
 
 pub not_monitor : (image : RawImage) (w : Whose) → (w.kind ≡ 2 → ⊥) → monitor_words (image_of image) w ≡ no_words
-not_monitor image w is_not = ap (λ b. cond b (words_of_monitor (slice_get (map monitor_of image.monitors) w.owner)) no_words) (eq_false w.kind 2 is_not)
+not_monitor image w is_not = ap (λ b. cond b (words_of_monitor (slice_get (map monitor_of image.monitors) w.owner)) no_words) (ne_eqb w.kind 2 is_not)
 
 monitors : (image : RawImage) (w : Whose) (o : Option RawMon) → w.kind ≡ 2 → o ≡ slice_get image.monitors w.owner → monitor_words (image_of image) w ≡ words_of_monitor (option_map monitor_of o)
-monitors image w o is at = ap (λ b. cond b (words_of_monitor (slice_get (map monitor_of image.monitors) w.owner)) no_words) (eq_true w.kind 2 is) ∙ ap (λ x. words_of_monitor x) (at_image monitor_of image.monitors w.owner o at)
+monitors image w o is at = ap (λ b. cond b (words_of_monitor (slice_get (map monitor_of image.monitors) w.owner)) no_words) (eq-eqb w.kind 2 is) ∙ ap (λ x. words_of_monitor x) (at_image monitor_of image.monitors w.owner o at)
 
 pub monitor_is : (image : RawImage) (w : Whose) (m : RawMon) → w.kind ≡ 2 → Some m ≡ slice_get image.monitors w.owner → monitor_words (image_of image) w ≡ record { base = m.base; words = m.words }
 monitor_is image w m is at = monitors image w (Some m) is at

@@ -1,8 +1,7 @@
 -- A search from the left, one step at a time.
-use Rattle.std.proofs.Common.{◌≡◌, ◌<◌, ◌+◌, ◌-◌, ℕ, zero, suc, List, Option, Some, None, arith, ap, ◌∙◌, true, false}
-use Rattle.std.specs.Prelude.{map, option_map, slice_get, nat_eq}
+use Rattle.std.proofs.Common.{◌≡◌, ◌<◌, ◌+◌, ◌-◌, ℕ, zero, suc, Option, Some, None, arith, ap, ◌∙◌, true, false}
+use Rattle.std.specs.Prelude.{nat_eq}
 use Rattle.std.proofs.lemmas.Bool.Decides.{nat_tests}
-use Rattle.std.proofs.lemmas.Option.{slice_get-map}
 use Rattle.valid_image.specs.Fault.{unless, or_else, first_of, of_some}
 
 -- the next number has none: the search goes on behind it
@@ -31,6 +30,3 @@ pub fails : (m n a b : ℕ) → (m ≡ n → ⊥) → unless (nat_eq m n) a b �
 fails m n a b is_not = ap (λ t. unless t a b) (no_is m n is_not) where
   no_is : (m n : ℕ) → (m ≡ n → ⊥) → nat_eq m n ≡ false
   no_is m n is_not = grind (arith, nat_tests, is_not)
-
-pub at_image : {A B : Type 0} (v : A → B) (xs : List A) (k : ℕ) (x : A) → slice_get xs k ≡ Some x → slice_get (map v xs) k ≡ Some (v x)
-at_image v xs k x is = slice_get-map v xs k ∙ ap (λ o. option_map v o) is

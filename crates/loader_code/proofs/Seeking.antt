@@ -3,14 +3,15 @@ use Rattle.std.proofs.Common.{◌≡◌, ◌<◌, ◌+◌, ◌-◌, ℕ, List, l
 use Rattle.std.specs.Prelude.{slice_get}
 use Rattle.std.proofs.lemmas.Option.{slice_get-map, slice_get-get_or}
 use Rattle.valid_image.specs.Fault.{first_of, of_some}
-use Rattle.loader_code.proofs.Searching.{none_here, one_here, of_element, at_image}
+use Rattle.loader_code.proofs.Searching.{none_here, one_here, of_element}
+use Rattle.base.proofs.Lists.{map_get}
 
 -- the elements are seen by v
 abbrev pub from_index : {A B C : Type 0} → (A → B) → (ℕ → B → Option C) → List A → ℕ → Option C
 from_index v f xs i = first_of (λ k. of_some (f k) (slice_get (map v xs) k)) (length xs - i) i
 
 there : {A B : Type 0} (v : A → B) (xs : List A) (i : ℕ) (x : A) → i < length xs → x ≡ get_or xs i x → slice_get (map v xs) i ≡ Some (v x)
-there v xs i x low is = at_image v xs i x (slice_get-get_or xs i x low ∙ ap (λ y. Some y) (sym is))
+there v xs i x low is = map_get v xs i x (slice_get-get_or xs i x low ∙ ap (λ y. Some y) (sym is))
 
 pub goes_on : {A B C : Type 0} (v : A → B) (f : ℕ → B → Option C) (xs : List A) (i : ℕ) (x : A) → i < length xs → x ≡ get_or xs i x → f i (v x) ≡ None → from_index v f xs i ≡ from_index v f xs (i + 1)
 goes_on v f xs i x low is none =

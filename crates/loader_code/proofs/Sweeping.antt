@@ -1,11 +1,9 @@
 -- The sweep over the addresses, one step at a time.
-use Rattle.std.proofs.Common.{◌≡◌, ◌≤◌, ◌<◌, ◌+◌, ◌-◌, ◌⊎◌, inl, inr, ℕ, zero, suc, Bool, true, false, List, [], ◌∷◌, ◌++◌, Option, Some, None, length, arith, refl, ap, sym, ◌∙◌, subst, map, append_assoc, take, get_or}
+use Rattle.std.proofs.Common.{◌≡◌, ◌≤◌, ◌<◌, ◌+◌, ◌-◌, ◌⊎◌, ℕ, zero, suc, Bool, true, false, List, [], ◌∷◌, ◌++◌, Option, Some, None, length, arith, refl, ap, sym, ◌∙◌, subst, map, append_assoc, take, get_or}
 use Rattle.std.specs.Prelude.{cond, nat_eq, option_map, slice_get}
-use Rattle.std.proofs.lemmas.Bool.{cases_lt}
 use Rattle.std.proofs.lemmas.Grind.{common_steps}
 use Rattle.std.proofs.lemmas.List.{length-map, map-append, take_all}
-use Rattle.std.proofs.Math.ListN.{get_or-append, length-append}
-use Rattle.std.proofs.Math.Seq.{get_or-append_seam}
+use Rattle.std.proofs.Math.ListN.{length-append}
 use Rattle.std.specs.Option.{option_or}
 use Rattle.machine_isa.specs.declared.instr.Instr.{Instr}
 use Rattle.image.specs.declared.raw.RawImage.{RawImage}
@@ -148,16 +146,6 @@ calls_more code addresses i low = grind (arith, common_steps)
 
 pub piece_calls : (image : Image) (k : ℕ) (code : List Instr) (addresses called_there : List ℕ) → code ≡ image.code → addresses ≡ owned image k → called_there ≡ calls_of code addresses → called_there ≡ called image k
 piece_calls image k code addresses called_there whole is calls = calls ∙ (ap (λ c. calls_of c addresses) whole ∙ (ap (λ xs. calls_of image.code xs) is ∙ sym (calls_are image k)))
-
--- one more of a list, each of which is what its index asks
-pub one_more : {X : Type 0} (P : ℕ → X → Type 0) (xs ys : List X) (x d : X) (k : ℕ) → length xs ≡ k → ys ≡ xs ++ x ∷ [] → ((p : ℕ) → p < k → P p (get_or xs p d)) → P k x → (p : ℕ) → p < k + 1 → P p (get_or ys p d)
-one_more P xs ys x d k long new each last p below = elim (cases_lt p k) [
-  | inl lt ↦ subst (P p) (sym (ap (λ zs. get_or zs p d) new ∙ get_or-append xs (x ∷ []) d p (omega (arith, lt, long)))) (each p lt)
-  | inr ge ↦
-      let at : p ≡ length xs = omega (arith, ge, below, long) in
-      let is : get_or ys p d ≡ x = ap (λ zs. get_or zs p d) new ∙ ap (λ i. get_or (xs ++ x ∷ []) i d) at ∙ get_or-append_seam xs x [] d in
-      subst (P p) (sym is) (subst (λ i. P i x) (omega (arith, ge, below)) last)
-]
 
 pub starts_all : (raw : RawImage) (xs : List ℕ) (i : ℕ) → length raw.processes ≤ i → xs ≡ map (λ r. r.start) raw.routines ++ map (λ p. p.start) (take i raw.processes) → xs ≡ map start_of (pieces (image_of raw))
 starts_all raw xs i past is = is ∙ (ap (λ ps. map (λ r. r.start) raw.routines ++ map (λ p. p.start) ps) (take_all i raw.processes past) ∙ sym (starts_are raw))

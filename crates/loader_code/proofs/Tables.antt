@@ -4,10 +4,11 @@ use Rattle.std.specs.Prelude.{◌||◌, not, cond, nat_eq, slice_get}
 use Rattle.std.proofs.lemmas.Bool.{cases_lt}
 use Rattle.std.proofs.lemmas.List.{get_or_past, length-take-le}
 use Rattle.std.proofs.lemmas.Option.{slice_get_within, slice_get_past}
+use Rattle.base.proofs.Lists.{take_get, take_past}
 use Rattle.machine_semantics.specs.Image.{Image, Routine}
 use Rattle.valid_image.specs.Pieces.{called}
 use Rattle.valid_image.specs.Tables.{Reach, reach, reach_of, bound_of, bound_at, stays_of, stays_at, some_of, longest_of, longer_stay, own_stay}
-use Rattle.valid_image_law.proofs.Firsts.{row_is, table_length, take_get, take_past}
+use Rattle.valid_image_law.proofs.Firsts.{row_is, table_length}
 
 some_same : (f g : ℕ → Bool) → ((r : ℕ) → f r ≡ g r) → (rs : List ℕ) → some_of f rs ≡ some_of g rs
 some_same f g same [] = refl

@@ -1,22 +1,18 @@
 -- What a whole part comes to, from what its tree comes to, held.
 use Rattle.std.proofs.Common.{◌≡◌, ◌≤◌, ◌+◌, ◌-◌, ℕ, Bool, true, false, List, [], ◌∷◌, length, Option, Some, None, arith, refl, ap, sym, ◌∙◌}
 use Rattle.std.specs.Prelude.{◌&&◌, IfSome, nat_eq, slice_get}
-use Rattle.std.proofs.lemmas.Bool.Decides.{nat_tests}
+use Rattle.std.proofs.lemmas.Bool.{eq-eqb}
 use Rattle.machine_isa.specs.declared.instr.Instr.{Instr}
 use Rattle.machine_semantics.specs.Trees as tree
 use Rattle.machine_semantics.specs.Trees.{size}
 use Rattle.valid_image.specs.Found.{Known, Found, amount, is_enter, is_leave, guard, ended, founds, entry}
 use Rattle.valid_image_law.specs.Held.{held, hold}
-use Rattle.valid_image_law.proofs.Holding.{holding_changes_nothing}
+use Rattle.valid_image_law.proofs.Holding.{holding_changes_nothing, hold_guard}
 use Rattle.loader_trees.specs.Steps.{stays_in}
 use Rattle.loader_trees.specs.Told.{found_of, told_part}
 use Rattle.loader_trees.specs.declared.known.PartFound.{PartFound}
 use Rattle.base.specs.Capped.{cap}
 use Rattle.valid_image.specs.Tables.{found_or_nothing}
-
-guard_held : (b : Bool) (x y : Option Found) → hold x ≡ hold y → hold (guard b x) ≡ hold (guard b y)
-guard_held true x y is = is
-guard_held false x y is = refl
 
 -- ---- an entry
 
@@ -31,7 +27,7 @@ stay_comes code known owner monitor body at last inside x y told is enter leave 
     ap (λ o. is_enter owner o && is_leave owner (Some y)) (sym enter) ∙ ap (λ o. is_enter owner (slice_get code at) && is_leave owner o) (sym leave ∙ ap (λ k. slice_get code k) is) in
     let inner : hold (stays_in (Some inside)) ≡ hold (stays_in f) =
     ap (λ o. hold (stays_in o)) one ∙ sym (holding_changes_nothing.in_chain f (λ h. Some (record { height = h; cost = amount 8 0 0; depth = 0 }))) in
-    whole ∙ ap (λ t. hold (guard (nat_eq monitor owner && t) (stays_in (Some inside)))) tests ∙ guard_held _ _ _ inner
+    whole ∙ ap (λ t. hold (guard (nat_eq monitor owner && t) (stays_in (Some inside)))) tests ∙ hold_guard _ _ _ inner
 
 -- ---- the end of a part
 
@@ -39,9 +35,6 @@ pub ends_nothing : (b : Bool) (n : ℕ) (x : Option Found) → None ≡ hold x �
 ends_nothing true n None is = refl
 ends_nothing false n x is = refl
 ends_nothing true n (Some f) is = absurd cc
-
-same_number : (m n : ℕ) → m ≡ n → nat_eq m n ≡ true
-same_number m n is = grind (arith, nat_tests, is)
 
 ends_true : (b : Bool) (f : Found) → b ≡ true → Some f ≡ guard b (Some f)
 ends_true true f is = refl
@@ -53,7 +46,7 @@ ends_well true n f None is height one = absurd cc
 ends_well true n f (Some g) is height one =
     let same : f ≡ held g = cc in
     let at : g.height ≡ n = sym (ap (λ k. k.height) same) ∙ height in
-    one ∙ ap hold (ends_true (nat_eq g.height n) g (same_number g.height n at))
+    one ∙ ap hold (ends_true (nat_eq g.height n) g (eq-eqb g.height n at))
 
 -- ---- how long an entry stays
 
@@ -84,7 +77,7 @@ part_stay None code known owner monitor body at inside one is whole = tt
 part_stay (Some f) code known owner monitor body at inside one is whole = entry_stay code known owner monitor body at inside (found_of f.found) f.stay one is whole
 
 ended_same : (n : ℕ) (g : Found) → g.height ≡ n → ended n (Some g) ≡ Some g
-ended_same n g is = sym (ends_true (nat_eq g.height n) g (same_number g.height n is))
+ended_same n g is = sym (ends_true (nat_eq g.height n) g (eq-eqb g.height n is))
 
 -- an end that is right leaves what was found
 pub ends_same : (b : Bool) (n : ℕ) (f : Found) (x : Option Found) → b ≡ true → f.height ≡ n → Some f ≡ hold x → guard b (ended n x) ≡ x

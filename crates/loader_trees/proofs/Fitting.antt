@@ -7,7 +7,7 @@ use Rattle.valid_image.specs.Found.{Found, Known, ended}
 use Rattle.valid_image.specs.Shape.{is_found}
 use Rattle.valid_image.specs.Tables.{count}
 
-found_before_its_end : (n : ℕ) (x : Option Found) → is_found (ended n x) ≡ true → is_found x ≡ true
+pub found_before_its_end : (n : ℕ) (x : Option Found) → is_found (ended n x) ≡ true → is_found x ≡ true
 found_before_its_end n None is = is
 found_before_its_end n (Some f) is = refl
 

@@ -6,7 +6,7 @@ use Rattle.machine_isa.specs.declared.instr.Instr.{Instr}
 use Rattle.machine_semantics.specs.Trees.{Segs, Fork, Rep, size}
 use Rattle.valid_image.specs.Found.{Known, Found, is_jump_zero, is_jump, is_repeats, is_repeat, guard, arms, loop, found, founds}
 use Rattle.valid_image_law.specs.Held.{hold}
-use Rattle.valid_image_law.proofs.Holding.{holding_changes_nothing}
+use Rattle.valid_image_law.proofs.Holding.{holding_changes_nothing, hold_guard}
 
 nothing_left : (b : Bool) (x : Option Found) → x ≡ None → None ≡ hold (guard b x)
 nothing_left true x none = ap hold (sym none)
@@ -24,10 +24,6 @@ arms_none : (x y : Option Found) → y ≡ None → arms x y ≡ None
 arms_none None y none = refl
 arms_none (Some f) None none = refl
 arms_none (Some f) (Some g) none = absurd cc
-
-guard_held : (b : Bool) (x y : Option Found) → hold x ≡ hold y → hold (guard b x) ≡ hold (guard b y)
-guard_held true x y is = is
-guard_held false x y is = refl
 
 last_false : (a b c : Bool) → c ≡ false → a && (b && c) ≡ false
 last_false true true c none = none
@@ -67,7 +63,7 @@ fork_comes code known out held first second at (suc h) below middle end a b x y 
     ∙ ap (λ o. is_jump_zero (at + 1 + size first + 1) (slice_get code at) && is_jump (at + size first + size second + 2) o) (sym jump ∙ ap (λ k. slice_get code k) is) in
     let both : hold (arms (Some a) (Some b)) ≡ hold (arms (founds code known out held first (at + 1) h) (founds code known out held second (at + 1 + size first + 1) h)) =
     ap (λ o. hold (arms o (Some b))) one' ∙ ap (λ o. hold (arms (hold (founds code known out held first (at + 1) h)) o)) other' ∙ sym (holding_changes_nothing.in_arms (founds code known out held first (at + 1) h) (founds code known out held second (at + 1 + size first + 1) h)) in
-    whole ∙ ap (λ t. hold (guard t (arms (Some a) (Some b)))) tests ∙ guard_held _ _ _ both
+    whole ∙ ap (λ t. hold (guard t (arms (Some a) (Some b)))) tests ∙ hold_guard _ _ _ both
 
 -- ---- a loop
 
@@ -90,4 +86,4 @@ rep_comes code known out held (suc n) body at h last turn x y told is repeats re
     let inner : hold (loop (suc n) h (Some turn)) ≡ hold (loop (suc n) h (founds code known (Some (at + 1 + size body + 1)) held body (at + 1) 0)) =
     ap (λ o. hold (loop (suc n) h o)) (one ∙ ap (λ k. hold (founds code known (Some (k + 1)) held body (at + 1) 0)) is)
     ∙ sym (holding_changes_nothing.in_loop (suc n) h (founds code known (Some (at + 1 + size body + 1)) held body (at + 1) 0) (omega arith)) in
-    whole ∙ ap (λ t. hold (guard (nat_lt 0 (suc n) && t) (loop (suc n) h (Some turn)))) tests ∙ guard_held _ _ _ inner
+    whole ∙ ap (λ t. hold (guard (nat_lt 0 (suc n) && t) (loop (suc n) h (Some turn)))) tests ∙ hold_guard _ _ _ inner

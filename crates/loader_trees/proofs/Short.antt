@@ -10,6 +10,7 @@ use Rattle.valid_image.specs.Found.{Known, Found, arms, chain, ended, entry, fou
 use Rattle.valid_image.specs.Shape.{is_found}
 use Rattle.valid_image.specs.Tables.{count, monitor_of, part_found, routine_found}
 use Rattle.valid_image_law.specs.Held.{hold}
+use Rattle.loader_trees.proofs.Fitting.{found_before_its_end}
 
 guard_there : (b : Bool) (x : Option Found) → is_found (guard b x) ≡ true → (b ≡ true) × (is_found x ≡ true)
 guard_there true x is = (refl, is)
@@ -37,10 +38,6 @@ record Both (x : Option Found) (next : ℕ → Option Found) : Type 0 where
 chain_there : (x : Option Found) (next : ℕ → Option Found) → is_found (chain x next) ≡ true → Both x next
 chain_there None next is = absurd cc
 chain_there (Some f) next is = record { first = refl; height = f.height; second = joined_there f (next f.height) is }
-
-ended_there : (n : ℕ) (x : Option Found) → is_found (ended n x) ≡ true → is_found x ≡ true
-ended_there n None is = absurd cc
-ended_there n (Some f) is = refl
 
 module _ (code : List Instr) (known : List Known) where
   mutual
@@ -99,7 +96,7 @@ module _ (code : List Instr) (known : List Known) where
   long_routine r long = nothing (routine_found code known r) (λ is.
       let g = guard_there (is_return r.gives (slice_get code (r.start + size r.tree))) (ended (count r.gives) (tree_found code known (monitor_of r) r.tree r.start)) is in
       let within : r.start + size r.tree < length code = return_within r.gives (r.start + size r.tree) g.0 in
-      let few = of_tree (monitor_of r) r.tree r.start (ended_there (count r.gives) (tree_found code known (monitor_of r) r.tree r.start) g.1) in
+      let few = of_tree (monitor_of r) r.tree r.start (found_before_its_end (count r.gives) (tree_found code known (monitor_of r) r.tree r.start) g.1) in
       omega (arith, within, few, long))
 
   -- nor are the body and the handler of a process
@@ -107,5 +104,5 @@ module _ (code : List Instr) (known : List Known) where
   long_part t at long = nothing (part_found code known t at) (λ is.
       let g = guard_there (is_end (slice_get code (at + size t))) (ended 0 (founds code known None None t at 0)) is in
       let within : at + size t < length code = end_within (at + size t) g.0 in
-      let few = of_segs None None t at 0 (ended_there 0 (founds code known None None t at 0) g.1) in
+      let few = of_segs None None t at 0 (found_before_its_end 0 (founds code known None None t at 0) g.1) in
       omega (arith, within, few, long))

@@ -16,14 +16,14 @@ numbered_past zero a b c h = refl
 numbered_past (suc n) a b c h = slice_get_past (in_order a b c) n (omega arith)
 
 -- its operands one by one, with which its number gives it
-record Spelled (instr : Instr) : Type 0 where
-  a : ℤ
-  b : ℤ
-  c : ℤ
-  operands_are : operands instr ≡ a ∷ b ∷ c ∷ []
-  numbered_is : numbered (number instr) a b c ≡ Some instr
+pub record Spelled (instr : Instr) : Type 0 where
+  pub a : ℤ
+  pub b : ℤ
+  pub c : ℤ
+  pub operands_are : operands instr ≡ a ∷ b ∷ c ∷ []
+  pub numbered_is : numbered (number instr) a b c ≡ Some instr
 
-spelled : (instr : Instr) → Spelled instr
+pub spelled : (instr : Instr) → Spelled instr
 spelled (i.Push value) = record { a = value; b = pos 0; c = pos 0; operands_are = refl; numbered_is = refl }
 spelled (i.LoadLocal word) = record { a = word; b = pos 0; c = pos 0; operands_are = refl; numbered_is = refl }
 spelled (i.StoreLocal word) = record { a = word; b = pos 0; c = pos 0; operands_are = refl; numbered_is = refl }

@@ -1,6 +1,8 @@
 -- A process that is idle before a tick: it stays idle, or it is released.
 use Rattle.std.proofs.Common.{◌≡◌, ◌*◌, ◌⊎◌, inl, inr, ℕ, Option, Some, None, arith, ap, sym, subst, ◌∙◌, true, false, Bool}
 use Rattle.std.specs.Prelude.{ℤ, slice_get, slice_set, cond, nat_eq}
+use Rattle.std.proofs.lemmas.Bool.{cases_eq}
+use Rattle.base.proofs.Lists.{get_other}
 use Rattle.base.specs.declared.event.Act.TheVariants as act
 use Rattle.machine_semantics.specs.Image.{Image, Process, Script}
 use Rattle.machine_semantics.specs.State.{Thread, Idle, Ready, Waiting, State}
@@ -13,7 +15,7 @@ use Rattle.machine_safety_spec.specs.Work.{Owes, IsBusy, worst_of, activation, W
 use Rattle.machine_safety_spec.specs.Waits.{Suspends, SuspensionBegins}
 use Rattle.machine_safety.proofs.Picked.{ChosenOf, chosen}
 use Rattle.machine_safety.proofs.Starting.{starts_pass, release_keeps, time_out_keeps, device_keeps}
-use Rattle.machine_safety.proofs.Working.{get_set, get_other, same_or_not, release_owes}
+use Rattle.machine_safety.proofs.Working.{release_owes}
 use Rattle.machine_safety.proofs.Working as work
 use Rattle.machine_safety.proofs.Suspending.{Left, IsWoken, run_left, starts_not_due, release_suspends}
 use Rattle.machine_safety.proofs.Suspending as wait
@@ -22,7 +24,7 @@ use Rattle.machine_safety.proofs.Suspending as wait
 
 -- it is idle until its release
 time_out_idle : (image : Image) (t j k : ℕ) (p : Process) (s : State) → slice_get s.threads k ≡ Some Idle → slice_get (time_out image t j p s (slice_get s.threads j)).state.threads k ≡ Some Idle
-time_out_idle image t j k p s idle = elim (same_or_not j k) [ inl same ↦ at_k same | inr differ ↦ past_k differ (slice_get s.threads j) ] where
+time_out_idle image t j k p s idle = elim (cases_eq j k) [ inl same ↦ at_k same | inr differ ↦ past_k differ (slice_get s.threads j) ] where
   at_k : j ≡ k → slice_get (time_out image t j p s (slice_get s.threads j)).state.threads k ≡ Some Idle
   at_k same = subst (λ (x : Option Thread). slice_get (time_out image t j p s x).state.threads k ≡ Some Idle) (sym (ap (λ (x : ℕ). slice_get s.threads x) same ∙ idle)) idle
 
@@ -58,7 +60,7 @@ module _ (e : Where) (ps : ℕ → Parts) (image_fits : ImageFits e ps) (k : ℕ
   begun_release : (t j : ℕ) (p : Process) (s : State) → Begun s → slice_get e.image.processes j ≡ Some p → Begun (release e.image t j p s).state
   begun_release t j p s (fits, inl idle) process = (
     release_keeps e ps image_fits t j p s fits process,
-    elim (same_or_not j k) [
+    elim (cases_eq j k) [
       | inl same ↦ inr (subst (λ (x : ℕ). B (release e.image t x p s).state) (sym same) (released_so t p s fits (ap (λ (x : ℕ). slice_get e.image.processes x) (sym same) ∙ process) idle))
       | inr differ ↦ inl (release_idle e.image t j k p s differ idle)
     ],
@@ -79,7 +81,7 @@ module _ (e : Where) (ps : ℕ → Parts) (image_fits : ImageFits e ps) (k : ℕ
 -- who is idle after the start events is idle after the tick
 still_idle : (image : Image) (t : ℕ) (s : State) (k : ℕ) → slice_get s.threads k ≡ Some Idle → (x : Option Candidate) → ChosenOf image 0 image.processes s.threads x → slice_get (run_picked image t s x).state.threads k ≡ Some Idle
 still_idle image t s k idle None none = idle
-still_idle image t s k idle (Some c) ch = elim (same_or_not c.place k) [
+still_idle image t s k idle (Some c) ch = elim (cases_eq c.place k) [
   | inl same ↦ absurd (let index : ch.index ≡ k = omega (arith, ch.place, same) in
       let both : Some Idle ≡ Some (Ready ch.job) = sym idle ∙ (ap (λ (x : ℕ). slice_get s.threads x) (sym index) ∙ ch.ready) in cc)
   | inr differ ↦

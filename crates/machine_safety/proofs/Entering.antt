@@ -1,6 +1,8 @@
 -- A stay begins within what its part tells, in a monitor that is free.
 use Rattle.std.proofs.Common.{◌≡◌, ◌+◌, inl, inr, ℕ, zero, suc, List, Option, Some, None, length, arith, refl, ap, sym, subst, ◌∙◌}
 use Rattle.std.specs.Prelude.{ℤ, slice_get, slice_set}
+use Rattle.std.proofs.lemmas.Bool.{cases_eq}
+use Rattle.base.proofs.Lists.{get_set}
 use Rattle.machine_isa.specs.declared.instr.Instr.TheVariants as i
 use Rattle.machine_semantics.specs.Image.{Process, Script}
 use Rattle.machine_semantics.specs.State.{Job, Thread, Idle, Ready, Waiting, State}
@@ -17,7 +19,6 @@ use Rattle.machine_safety.proofs.Whole.{ready_elsewhere, length_owned}
 use Rattle.machine_safety.proofs.Picked.{Chosen, ChosenOf, chosen, finds_free}
 use Rattle.machine_safety.proofs.Starting.{starts_keep}
 use Rattle.machine_safety.proofs.Settling.{own_limit}
-use Rattle.machine_safety.proofs.Working.{get_set, same_or_not}
 use Rattle.machine_safety.proofs.Staying.{wake_first_ready, wake_all_ready}
 use Rattle.machine_safety.proofs.Suspending.{Left, run_left}
 
@@ -77,7 +78,7 @@ module _ (e : Where) (ps : ℕ → Parts) (image_fits : ImageFits e ps) where
   pub tick_enters : (t : ℕ) (s : State) (k m : ℕ) (job : Job) → slice_get s.threads k ≡ Some (Ready job) → job.inside ≡ None → StateFits e ps s → (x : Option Candidate) → ChosenOf e.image 0 e.image.processes s.threads x
       → Entered k m (part_of (ps k) job.handling) (run_picked e.image t s x).state
   tick_enters t s k m job at was fits None none = outside_still k m (part_of (ps k) job.handling) s job at was
-  tick_enters t s k m job at was fits (Some c) ch = elim (same_or_not c.place k) [
+  tick_enters t s k m job at was fits (Some c) ch = elim (cases_eq c.place k) [
     | inl same ↦ it same
     | inr differ ↦
         let left : Left e.image s (run_picked e.image t s (Some c)).state k (Ready job) = run_left e.image t s c.place k (slice_get e.image.processes c.place) (slice_get s.threads c.place) (Ready job) differ at in

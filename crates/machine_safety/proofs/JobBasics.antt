@@ -1,7 +1,5 @@
 -- An instruction within the innermost frame of a process, and what its callers tell.
-use Rattle.std.proofs.Common.{◌≡◌, ◌≤◌, ◌+◌, ◌-◌, inl, inr, ℕ, List, [], ◌∷◌, Option, Some, None, arith, ap, sym, subst, ◌∙◌, true}
-use Rattle.std.specs.Prelude.{nat_eq}
-use Rattle.std.proofs.lemmas.Bool.Decides.{nat_tests}
+use Rattle.std.proofs.Common.{◌≡◌, ◌≤◌, ◌+◌, ◌-◌, inl, inr, ℕ, List, [], ◌∷◌, Option, Some, None, arith, ap, sym, subst, ◌∙◌}
 use Rattle.machine_isa.specs.declared.instr.Instr.{Instr}
 use Rattle.machine_semantics.specs.State.{Caller, State}
 use Rattle.machine_semantics.specs.Effect.{Own, Outcome, Goes, Does, Signals, Broadcasts, Waits, Raises, Ends, Stuck, effect, waits}
@@ -100,12 +98,6 @@ chain_stays e own part (k ∷ ks) inside c m chain = omega (arith, chain.stays m
 
 -- ---- monitors
 
-pub one_monitor : (m k : ℕ) → Some m ≡ Some k → m ≡ k
-one_monitor m k is = cc
-
 -- an entry's process is inside what its steps tell, and its callers tell of no monitor
 pub entry_inside : (part : Part) (path : List Step) (inside below : Option ℕ) (m : ℕ) → Inside part path inside below → part.monitor ≡ Some m → (inside ≡ held path) × (below ≡ None)
 entry_inside part path inside below m in_it is = elim in_it.told [ inl none ↦ absurd (let no_monitor : part.monitor ≡ None = none.0 in cc) | inr told ↦ told ]
-
-pub is_same : (m : ℕ) → nat_eq m m ≡ true
-is_same m = grind (arith, nat_tests)

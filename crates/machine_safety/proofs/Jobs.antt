@@ -1,6 +1,8 @@
 -- An instruction of a process, with its calls in progress.
 use Rattle.std.proofs.Common.{◌≡◌, ◌≤◌, ◌+◌, ◌-◌, inl, inr, ℕ, zero, suc, List, [], ◌∷◌, Option, Some, None, length, length-append, arith, refl, ap, sym, subst, ◌∙◌, true, Bool}
 use Rattle.std.specs.Prelude.{ℤ, pos}
+use Rattle.std.proofs.lemmas.Option.{same_Some}
+use Rattle.base.proofs.Numbers.{itself}
 use Rattle.machine_isa.specs.declared.instr.Instr.{Instr}
 use Rattle.machine_isa.specs.declared.instr.Instr.TheVariants as i
 use Rattle.machine_semantics.specs.Trees.{Segs, Line, Fork, Rep, Call, Stay, Wait, Exit}
@@ -14,7 +16,7 @@ use Rattle.machine_safety_spec.specs.Path.{Step, Segment, Skip, Again, Leaves, u
 use Rattle.machine_safety_spec.specs.Job.{RoutineFits, RoutinesFit, joined, Inside, Chain, Stands, Comes, Less, Keeps, FindsFree, InstructionIsSafe}
 use Rattle.machine_safety.proofs.Lists.{plains_add, length-plains, under_then, held_then}
 use Rattle.machine_safety.proofs.Frames.{IsInside, Moves, follows_then, at_line, at_fork, at_skip, at_rep, at_again, at_exit}
-use Rattle.machine_safety.proofs.JobBasics.{is_inside_part, joined_here, joined_less, Instruction, within_frame, chain_owned, chain_limit, chain_stays, one_monitor, entry_inside, is_same}
+use Rattle.machine_safety.proofs.JobBasics.{is_inside_part, joined_here, joined_less, Instruction, within_frame, chain_owned, chain_limit, chain_stays, entry_inside}
 
 -- ---- monitors
 
@@ -61,15 +63,15 @@ at_stay e s own o c m body rest st is free =
                 words = record { locals = f.words.locals; owned = f.words.owned };
               };
               inside_is = record { told = inr (sym (held_then body leaving), told.1); outer = λ two. absurd (omega (arith, two, stay.level)) };
-              short = λ k is_k held_k. (let same : m ≡ k = one_monitor m k (sym stay.entry ∙ is_k) in omega (arith, stay.short, ap (λ (x : ℕ). st.part.stays x) same));
+              short = λ k is_k held_k. (let same : m ≡ k = same_Some m k (sym stay.entry ∙ is_k) in omega (arith, stay.short, ap (λ (x : ℕ). st.part.stays x) same));
               chain = st.chain;
               enough = st.enough;
               covers = record { run = omega arith; susp = omega arith; waits = omega arith; leave = omega arith };
             };
             less = record { run = omega (arith, stay.covers, f.follows.covers, st.covers); susp = omega (arith, stay.covers, f.follows.covers, st.covers); waits = omega (arith, stay.covers, f.follows.covers, st.covers); leave = omega (arith, stay.covers, f.follows.covers, st.covers) };
             stays = λ k was now. absurd cc;
-            begins = λ k was now. (let same : m ≡ k = one_monitor m k now in omega (arith, stay.short, ap (λ (x : ℕ). st.part.stays x) same, ap (λ (x : Option ℕ). joined x here.leave st.later.leave) stay.entry, chain_stays e own st.part o.job.callers st.below st.later k st.chain));
-            reaches = λ k was now. (let same : m ≡ k = one_monitor m k now in subst (λ (x : ℕ). Reaches (within e own) x) same (record { monitor = stay.reach.monitor; there = stay.reach.there; low = omega (arith, stay.reach.low, limit) }));
+            begins = λ k was now. (let same : m ≡ k = same_Some m k now in omega (arith, stay.short, ap (λ (x : ℕ). st.part.stays x) same, ap (λ (x : Option ℕ). joined x here.leave st.later.leave) stay.entry, chain_stays e own st.part o.job.callers st.below st.later k st.chain));
+            reaches = λ k was now. (let same : m ≡ k = same_Some m k now in subst (λ (x : ℕ). Reaches (within e own) x) same (record { monitor = stay.reach.monitor; there = stay.reach.there; low = omega (arith, stay.reach.low, limit) }));
             inside = inr (inr none);
             done = refl;
             burn = refl;
@@ -90,7 +92,7 @@ at_leave e s own o c m rest st is =
       i.Leave (pos m),
       f.follows.leaves,
       subst (λ (j : Option ℕ). Keeps e own c 3 o (leaves (is_inside m j) m (next_own o))) (sym told.0)
-          (subst (λ (b : Bool). Keeps e own c 3 o (leaves b m (next_own o))) (sym (is_same m))
+          (subst (λ (b : Bool). Keeps e own c 3 o (leaves b m (next_own o))) (sym (itself m))
           (record {
             cost = record { run = f.follows.later.run + st.later.run; susp = f.follows.later.susp + st.later.susp; waits = f.follows.later.waits + st.later.waits; leave = joined st.part.monitor f.follows.later.leave st.later.leave };
             stands = record {
@@ -140,7 +142,7 @@ at_wait e s own o c rest st is =
       pause.waits,
       subst (λ (q : Option ℕ). Keeps e own c 6 o (wait q (pos pause.condition) (pos pause.limit) (pos pause.number) (next_own o))) (sym pause.of)
           (subst (λ (j : Option ℕ). Keeps e own c 6 o (waits (is_inside pause.monitor j) (pos pause.condition) (pos pause.limit) (pos pause.number) (next_own o))) (sym now)
-          (subst (λ (b : Bool). Keeps e own c 6 o (waits b (pos pause.condition) (pos pause.limit) (pos pause.number) (next_own o))) (sym (is_same pause.monitor))
+          (subst (λ (b : Bool). Keeps e own c 6 o (waits b (pos pause.condition) (pos pause.limit) (pos pause.number) (next_own o))) (sym (itself pause.monitor))
           (record {
             monitor = pause.monitor;
             of = pause.of;
@@ -203,15 +205,15 @@ at_return e s own o c comes free =
               below = None;
               frame = record { follows = b.follows; operands = b.operands; room = b.room; words = record { locals = b.words.locals; owned = b.words.owned } };
               inside_is = record { told = inr (sym b.entry, refl); outer = λ two. absurd (comes.level two) };
-              short = λ k is_k held_k. (let same : b.monitor ≡ k = one_monitor b.monitor k (sym b.entry ∙ held_k) in omega (arith, b.short, ap (λ (x : ℕ). comes.part.stays x) same));
+              short = λ k is_k held_k. (let same : b.monitor ≡ k = same_Some b.monitor k (sym b.entry ∙ held_k) in omega (arith, b.short, ap (λ (x : ℕ). comes.part.stays x) same));
               chain = comes.chain;
               enough = comes.enough;
               covers = record { run = omega arith; susp = omega arith; waits = omega arith; leave = omega arith };
             };
             less = record { run = omega (arith, b.covers, comes.covers); susp = omega (arith, b.covers, comes.covers); waits = omega (arith, b.covers, comes.covers); leave = omega (arith, b.covers, comes.covers) };
             stays = λ k was now. absurd (let none : o.job.inside ≡ None = comes.outside in cc);
-            begins = λ k was now. (let same : b.monitor ≡ k = one_monitor b.monitor k now in omega (arith, b.short, ap (λ (x : ℕ). comes.part.stays x) same, ap (λ (x : Option ℕ). joined x b.later.leave comes.later.leave) b.is_entry, chain_stays e own comes.part o.job.callers None comes.later k comes.chain));
-            reaches = λ k was now. (let same : b.monitor ≡ k = one_monitor b.monitor k now in subst (λ (x : ℕ). Reaches (within e own) x) same (record { monitor = b.reach.monitor; there = b.reach.there; low = omega (arith, b.reach.low, limit) }));
+            begins = λ k was now. (let same : b.monitor ≡ k = same_Some b.monitor k now in omega (arith, b.short, ap (λ (x : ℕ). comes.part.stays x) same, ap (λ (x : Option ℕ). joined x b.later.leave comes.later.leave) b.is_entry, chain_stays e own comes.part o.job.callers None comes.later k comes.chain));
+            reaches = λ k was now. (let same : b.monitor ≡ k = same_Some b.monitor k now in subst (λ (x : ℕ). Reaches (within e own) x) same (record { monitor = b.reach.monitor; there = b.reach.there; low = omega (arith, b.reach.low, limit) }));
             inside = inr (inr comes.outside);
             done = refl;
             burn = refl;
@@ -224,7 +226,7 @@ at_return e s own o c comes free =
 
 -- ---- calls
 
-length-zeros : (n : ℕ) → length (zeros n) ≡ n
+pub length-zeros : (n : ℕ) → length (zeros n) ≡ n
 length-zeros zero = refl
 length-zeros (suc n) = ap suc (length-zeros n)
 

@@ -13,9 +13,10 @@ use Rattle.machine_safety_spec.specs.Safe.{Parts, ImageFits, TickFits}
 use Rattle.machine_safety_spec.specs.Whole.{ThreadFits, StateFits, WordsFit, RunKeepsWords}
 use Rattle.machine_safety.proofs.Whole.{length_owned}
 use Rattle.machine_safety.proofs.Picked.{ChosenOf, chosen}
-use Rattle.machine_safety.proofs.Starting.{length-zeros, starts_pass, starts_keep}
+use Rattle.machine_safety.proofs.Starting.{starts_pass, starts_keep}
 use Rattle.machine_safety.proofs.Settling.{outcome_fits}
 use Rattle.machine_safety.proofs.Running.{state_fits}
+use Rattle.machine_safety.proofs.Jobs.{length-zeros}
 
 module _ (e : Where) (ps : ℕ → Parts) (image_fits : ImageFits e ps) where
   release_words : (t k : ℕ) (p : Process) (s : State) → WordsFit e.image s → slice_get e.image.processes k ≡ Some p → WordsFit e.image (release e.image t k p s).state

@@ -1,9 +1,10 @@
 -- The process that is picked, and what it finds free.
-use Rattle.std.proofs.Common.{◌≡◌, ◌≤◌, ◌<◌, ◌+◌, ◌⊎◌, inl, inr, ℕ, zero, suc, List, [], ◌∷◌, Option, Some, None, length, arith, refl, ap, sym, subst, ◌∙◌, true, false, Bool}
+use Rattle.std.proofs.Common.{◌≡◌, ◌≤◌, ◌<◌, ◌+◌, ◌⊎◌, inl, inr, ℕ, zero, suc, List, [], ◌∷◌, Option, Some, None, arith, refl, ap, sym, subst, ◌∙◌, true, false, Bool}
 use Rattle.std.specs.Prelude.{ℤ, slice_get, cond, nat_lt, nat_eq, not, ◌&&◌, ◌||◌}
-use Rattle.std.proofs.lemmas.Bool.{cases_Bool, ltb-true, ltb-false}
+use Rattle.std.proofs.lemmas.Bool.{cases_Bool, ltb-true, ltb-false, eqb-true}
 use Rattle.std.proofs.lemmas.Bool.Decides.{nat_tests}
 use Rattle.std.proofs.lemmas.Option.{slice_get_within}
+use Rattle.base.proofs.Lists.{some_at}
 use Rattle.machine_semantics.specs.Image.{Image, Monitor, Process}
 use Rattle.machine_semantics.specs.State.{Job, Thread, Idle, Ready, Waiting, State, is_free, is_inside, thread_inside}
 use Rattle.machine_semantics.specs.Tick.{ceiling, Candidate, active_rank, outside, is_before, first_of_two, least}
@@ -182,17 +183,9 @@ all_outside : (m : ℕ) (ts : List Thread) → ((j : ℕ) (t : Thread) → slice
 all_outside m [] none = refl
 all_outside m (t ∷ ts) none = subst (λ (b : Bool). not b && is_free m ts ≡ true) (sym (none 0 t refl)) (all_outside m ts (λ j u at. none (suc j) u at))
 
-has_process : (ps : List Process) (j : ℕ) → j < length ps → (p : Process) × (slice_get ps j ≡ Some p)
-has_process [] j h = absurd (omega arith)
-has_process (p ∷ ps) zero h = (p, refl)
-has_process (p ∷ ps) (suc j) h = has_process ps j (omega arith)
-
 -- each thread has its process
 pub process_of : (e : Where) (ps : ℕ → Parts) (s : State) (j : ℕ) (t : Thread) → StateFits e ps s → slice_get s.threads j ≡ Some t → (p : Process) × (slice_get e.image.processes j ≡ Some p)
-process_of e ps s j t fits at = has_process e.image.processes j (omega (arith, slice_get_within s.threads j t at, fits.many))
-
-same_number : (m n : ℕ) → nat_eq m n ≡ true → m ≡ n
-same_number m n is = grind (arith, nat_tests)
+process_of e ps s j t fits at = some_at e.image.processes j (omega (arith, slice_get_within s.threads j t at, fits.many))
 
 -- the process that is picked, if it is inside no monitor, finds free each monitor whose ceiling is not above its rank
 pub finds_free : (e : Where) (ps : ℕ → Parts) (s : State) (c : Candidate) (ch : Chosen e.image 0 e.image.processes s.threads c) (own : Part) (owned : List ℤ) → StateFits e ps s → own.limit ≤ ch.p.rank
@@ -204,7 +197,7 @@ finds_free e ps s c ch own owned fits low m mon there ceiling_low outside_it =
       by_inside j job (Some n) at inside =
           elim (cases_Bool (nat_eq m n)) [
             | inl is ↦
-                let same : m ≡ n = same_number m n is in
+                let same : m ≡ n = eqb-true m n is in
                 let q : (p : Process) × (slice_get e.image.processes j ≡ Some p) = process_of e ps s j (Ready job) fits at in
                 let ceil : ceiling_of e.image n ≡ mon.ceiling = ap (λ (x : ℕ). ceiling_of e.image x) (sym same) ∙ ap (λ (x : Option Monitor). ceiling x) there in
                 absurd (let lt : ch.p.rank < ceiling_of e.image n = ch.free outside_it j n q.0 job q.1 at inside in omega (arith, ceil))

@@ -1,9 +1,11 @@
 -- The queues hold those who wait.
 use Rattle.std.proofs.Common.{◌≡◌, ◌<◌, ◌+◌, ◌*◌, ◌⊎◌, ◌++◌, inl, inr, ℕ, zero, suc, List, [], ◌∷◌, Option, Some, None, length, map, arith, refl, ap, sym, subst, ◌∙◌, true, false, Bool}
 use Rattle.std.specs.Prelude.{slice_get, slice_set, cond, nat_eq}
-use Rattle.std.proofs.lemmas.Bool.{cases_Bool}
+use Rattle.std.proofs.lemmas.Bool.{ne_eqb, cases_eq}
 use Rattle.std.proofs.lemmas.Bool.Decides.{nat_tests}
 use Rattle.std.proofs.lemmas.Option.{slice_get_within}
+use Rattle.base.proofs.Lists.{get_set, get_other}
+use Rattle.base.proofs.Numbers.{itself}
 use Rattle.base.specs.declared.event.Act.TheVariants as act
 use Rattle.machine_semantics.specs.Image.{Image, Process, Script}
 use Rattle.machine_semantics.specs.State.{Job, Thread, Idle, Ready, Waiting, State}
@@ -19,15 +21,6 @@ use Rattle.machine_safety.proofs.Picked.{ChosenOf, chosen}
 use Rattle.machine_safety.proofs.Starting.{starts_pass, starts_keep}
 use Rattle.machine_safety.proofs.Settling.{outcome_fits}
 use Rattle.machine_safety.proofs.Running.{state_fits}
-use Rattle.machine_safety.proofs.Working.{get_set, get_other, same_or_not}
-
--- ---- numbers
-
-itself : (k : ℕ) → nat_eq k k ≡ true
-itself k = grind (arith, nat_tests)
-
-unlike : (j k : ℕ) → (j ≡ k → ⊥) → nat_eq j k ≡ false
-unlike j k differ = elim (cases_Bool (nat_eq j k)) [ inl is ↦ absurd (differ (grind (arith, nat_tests, is))) | inr is ↦ is ]
 
 -- ---- queues
 
@@ -64,9 +57,9 @@ set_twice (r ∷ rs) (suc c) p q = ap (λ (xs : List (List ℕ)). r ∷ xs) (set
 -- ---- how often a process stands in a queue
 
 times_past : (i j : ℕ) (js : List ℕ) → (j ≡ i → ⊥) → times i (j ∷ js) ≡ times i js
-times_past i j js differ = ap (λ (b : Bool). cond b (suc (times i js)) (times i js)) (unlike j i differ)
+times_past i j js differ = ap (λ (b : Bool). cond b (suc (times i js)) (times i js)) (ne_eqb j i differ)
 
-times_front : (k : ℕ) (js : List ℕ) → times k (k ∷ js) ≡ suc (times k js)
+pub times_front : (k : ℕ) (js : List ℕ) → times k (k ∷ js) ≡ suc (times k js)
 times_front k js = ap (λ (b : Bool). cond b (suc (times k js)) (times k js)) (itself k)
 
 times_joined : (i k : ℕ) (js : List ℕ) → (k ≡ i → ⊥) → times i (js ++ k ∷ []) ≡ times i js
@@ -87,7 +80,7 @@ without_other i k (j ∷ js) differ = by (nat_eq j k) refl (without_other i k js
   by true is h = h ∙ sym (times_past i j js (λ same. differ (let at_k : j ≡ k = grind (arith, nat_tests, is) in sym at_k ∙ same)))
   by false is h = ap (λ (n : ℕ). cond (nat_eq j i) (suc n) n) h
 
-without_itself : (k : ℕ) (js : List ℕ) → times k (without k js) ≡ 0
+pub without_itself : (k : ℕ) (js : List ℕ) → times k (without k js) ≡ 0
 without_itself k [] = refl
 without_itself k (j ∷ js) = by (nat_eq j k) refl (without_itself k js) where
   by : (b : Bool) → nat_eq j k ≡ b → times k (without k js) ≡ 0 → times k (cond b (without k js) (j ∷ without k js)) ≡ 0
@@ -100,9 +93,9 @@ without_itself k (j ∷ js) = by (nat_eq j k) refl (without_itself k js) where
 change : (ts : List Thread) (qs : List (List ℕ)) (k c : ℕ) (old new : Thread) (q : List ℕ) → QueuesFit ts qs → slice_get ts k ≡ Some old → c < length qs
     → ((i : ℕ) → (k ≡ i → ⊥) → times i q ≡ times i (queue_of qs c)) → times k q ≡ waits_on c (Some new) → ((d : ℕ) → (c ≡ d → ⊥) → waits_on d (Some old) ≡ waits_on d (Some new))
     → QueuesFit (slice_set ts k new) (slice_set qs c q)
-change ts qs k c old new q fits at there others here elsewhere d i = elim (same_or_not c d) [ inl same ↦ at_c same | inr differ ↦ past_c differ ] where
+change ts qs k c old new q fits at there others here elsewhere d i = elim (cases_eq c d) [ inl same ↦ at_c same | inr differ ↦ past_c differ ] where
   process : ((k ≡ i) × (slice_get (slice_set ts k new) i ≡ Some new)) ⊎ ((k ≡ i → ⊥) × (slice_get (slice_set ts k new) i ≡ slice_get ts i))
-  process = elim (same_or_not k i) [
+  process = elim (cases_eq k i) [
     | inl same ↦ inl (same, subst (λ (x : ℕ). slice_get (slice_set ts k new) x ≡ Some new) same (get_set ts k new old at))
     | inr differ ↦ inr (differ, get_other ts k i new differ)
   ]
@@ -128,7 +121,7 @@ change ts qs k c old new q fits at there others here elsewhere d i = elim (same_
 same_waits : (ts : List Thread) (qs : List (List ℕ)) (k : ℕ) (old new : Thread) → QueuesFit ts qs → slice_get ts k ≡ Some old → ((d : ℕ) → waits_on d (Some old) ≡ waits_on d (Some new)) → QueuesFit (slice_set ts k new) qs
 same_waits ts qs k old new fits at same d i =
     fits d i
-    ∙ elim (same_or_not k i) [
+    ∙ elim (cases_eq k i) [
       | inl is ↦
           ap (λ (x : Option Thread). waits_on d x) (ap (λ (x : ℕ). slice_get ts x) (sym is) ∙ at) ∙ same d
           ∙ ap (λ (x : Option Thread). waits_on d x) (sym (subst (λ (x : ℕ). slice_get (slice_set ts k new) x ≡ Some new) is (get_set ts k new old at)))
@@ -155,7 +148,7 @@ waiting_first c (Some (Waiting d due number job)) n is = by (nat_eq d c) refl is
 
 -- a process that waits on c waits on no other condition
 only_there : (c d due number : ℕ) (job new : Job) → (c ≡ d → ⊥) → waits_on d (Some (Waiting c due number job)) ≡ waits_on d (Some (Ready new))
-only_there c d due number job new differ = ap (λ (b : Bool). cond b 1 0) (unlike c d differ)
+only_there c d due number job new differ = ap (λ (b : Bool). cond b 1 0) (ne_eqb c d differ)
 
 wake_once : (image : Image) (ts : List Thread) (qs : List (List ℕ)) (c j : ℕ) (js : List ℕ) → QueuesFit ts qs → queue_of qs c ≡ j ∷ js → QueuesFit (wake image j ts) (slice_set qs c js)
 wake_once image ts qs c j js fits is = by (waiting_first c (slice_get ts j) (times j js) once) where

@@ -1,6 +1,7 @@
 -- Whole runs, and the stack.
 use Rattle.std.proofs.Common.{◌≡◌, ◌≤◌, ◌+◌, inl, inr, ℕ, zero, suc, List, [], ◌∷◌, Option, Some, None, length, map, arith, refl, ap, sym, subst, true, false, Bool}
 use Rattle.std.specs.Prelude.{ℤ, pos, slice_get}
+use Rattle.std.proofs.lemmas.List.{length-map}
 use Rattle.machine_semantics.specs.Image.{Process, Script}
 use Rattle.machine_semantics.specs.State.{Operand, Caller, Thread, Idle, Ready, Waiting, zeros, stack_below, stack_of}
 use Rattle.machine_semantics.specs.Effect.{Own}
@@ -11,8 +12,8 @@ use Rattle.machine_safety_spec.specs.Walk.{Where, Cost}
 use Rattle.machine_safety_spec.specs.Job.{Chain, Stands, Comes}
 use Rattle.machine_safety_spec.specs.Safe.{Parts, ProcessFits, ImageFits, own_of, part_of}
 use Rattle.machine_safety_spec.specs.Whole.{ThreadFits, StateFits, StackFits, EveryRunIsSafe}
-use Rattle.machine_safety.proofs.Starting.{length-zeros}
 use Rattle.machine_safety.proofs.Settling.{every_tick_is_safe}
+use Rattle.machine_safety.proofs.Jobs.{length-zeros}
 
 -- ---- the stack
 
@@ -49,10 +50,6 @@ stack_fits e p ps (Waiting c due n job) owned shared fits f =
 
 -- ---- runs
 
-length-of-map : {A B : Type 0} (f : A → B) (xs : List A) → length (map f xs) ≡ length xs
-length-of-map f [] = refl
-length-of-map f (x ∷ xs) = ap suc (length-of-map f xs)
-
 all_idle : (qs : List Process) (k : ℕ) (t : Thread) → slice_get (map (λ (p : Process). Idle) qs) k ≡ Some t → t ≡ Idle
 all_idle [] k t at = absurd cc
 all_idle (q ∷ qs) zero t at = cc
@@ -67,11 +64,11 @@ pub start_fits : (e : Where) (ps : ℕ → Parts) → ImageFits e ps → StateFi
 unfolding at_start
 start_fits e ps fits = record {
   sized = record {
-    queues = length-of-map (λ (c : ℕ). []) e.image.conditions;
-    devices = length-of-map (λ (d : Bool). pos 0) e.image.devices;
+    queues = length-map e.image.conditions (λ (c : ℕ). []);
+    devices = length-map e.image.devices (λ (d : Bool). pos 0);
     shared = λ m mon there. omega (arith, fits.bases m mon there, length-zeros (words_of e.image.monitors));
   };
-  many = length-of-map (λ (p : Process). Idle) e.image.processes;
+  many = length-map e.image.processes (λ (p : Process). Idle);
   threads = λ k p t at_p at_t. subst (λ (u : Thread). ThreadFits e p (ps k) u (owned_of (slice_get (map (λ (q : Process). zeros q.words) e.image.processes) k)) (zeros (words_of e.image.monitors)))
       (sym (all_idle e.image.processes k t at_t)) (own_words e.image.processes k p at_p);
   apart = λ j k m n p q differ a b. absurd (let no_one : Ready a.job ≡ Idle = all_idle e.image.processes j (Ready a.job) a.ready in cc);

@@ -1,6 +1,7 @@
 -- The tick of the process that runs keeps the state so, and is not stuck.
 use Rattle.std.proofs.Common.{◌≡◌, ◌≤◌, ◌<◌, ◌+◌, ◌*◌, ◌⊎◌, ◌++◌, inl, inr, ℕ, zero, suc, List, [], ◌∷◌, Option, Some, None, length, arith, refl, ap, sym, subst, ◌∙◌, true, false, Bool, length-set}
 use Rattle.std.specs.Prelude.{ℤ, slice_get, slice_set}
+use Rattle.base.proofs.Lists.{set_same}
 use Rattle.machine_semantics.specs.Image.{Process}
 use Rattle.machine_semantics.specs.State.{Job, Thread, Idle, Ready, Waiting, State}
 use Rattle.machine_semantics.specs.Effect.{Own, Outcome, Goes, Does, Signals, Broadcasts, Waits, Raises, Ends, Stuck}
@@ -20,11 +21,6 @@ pub set_past : {X : Type 0} (xs : List X) (k : ℕ) (x : X) → slice_get xs k �
 set_past [] k x at = refl
 set_past (y ∷ ys) zero x at = absurd cc
 set_past (y ∷ ys) (suc k) x at = ap (λ (zs : List _). y ∷ zs) (set_past ys k x at)
-
-pub set_same : {X : Type 0} (xs : List X) (k : ℕ) (x : X) → slice_get xs k ≡ Some x → slice_set xs k x ≡ xs
-set_same [] k x at = absurd cc
-set_same (y ∷ ys) zero x at = ap (λ z. z ∷ ys) (let e : x ≡ y = cc in e)
-set_same (y ∷ ys) (suc k) x at = ap (λ (zs : List _). y ∷ zs) (set_same ys k x at)
 
 -- a waiting process that is woken fits its trees
 pub woken_fits : (e : Where) (p : Process) (ps : Parts) (job : Job) (b : ℕ) (owned shared : List ℤ) (left : Cost) → WaitingFits e p ps job owned shared left → ReadyFits e p ps (record job { burn = b }) owned shared left

@@ -1,9 +1,9 @@
 -- The start of a tick keeps the state so.
-use Rattle.std.proofs.Common.{◌≡◌, ◌≤◌, ◌+◌, ◌*◌, inl, inr, ℕ, zero, suc, List, [], ◌∷◌, Option, Some, None, length, arith, refl, ap, subst, ◌∙◌, true, false, Bool, length-set}
+use Rattle.std.proofs.Common.{◌≡◌, ◌≤◌, ◌+◌, ◌*◌, inl, inr, ℕ, zero, suc, List, [], ◌∷◌, Option, Some, None, length, arith, refl, subst, ◌∙◌, true, false, Bool, length-set}
 use Rattle.std.specs.Prelude.{ℤ, slice_get, slice_set, cond, nat_eq, ◌&&◌}
 use Rattle.base.specs.declared.event.Act.TheVariants as act
 use Rattle.machine_semantics.specs.Image.{Process, Script, Line, Sets, Occurs, end_of}
-use Rattle.machine_semantics.specs.State.{Job, Thread, Idle, Ready, Waiting, State, zeros}
+use Rattle.machine_semantics.specs.State.{Job, Thread, Idle, Ready, Waiting, State}
 use Rattle.machine_semantics.specs.Starts.{Started, unchanged, told, released, release_thread, release, occurs, line, lines, is_periodic_due, periodic, raised, without, queue_of, time_out, at_rank, time_outs, starts}
 use Rattle.machine_semantics.specs.Tick.{owned_of}
 use Rattle.machine_safety_spec.specs.Walk.{Where, Cost}
@@ -12,10 +12,7 @@ use Rattle.machine_safety_spec.specs.Work.{worst_of}
 use Rattle.machine_safety_spec.specs.Whole.{ThreadFits, StateFits}
 use Rattle.machine_safety.proofs.Ticking.{some_ticks, at_start_of, raise_fits, based, Based, fits_at}
 use Rattle.machine_safety.proofs.Whole.{thread_set}
-
-pub length-zeros : (n : ℕ) → length (zeros n) ≡ n
-length-zeros zero = refl
-length-zeros (suc n) = ap suc (length-zeros n)
+use Rattle.machine_safety.proofs.Jobs.{length-zeros}
 
 -- a process that is released fits its trees
 pub released_fits : (e : Where) (p : Process) (ps : Parts) (owned shared : List ℤ) → ProcessFits e p ps → p.words ≤ length owned → ReadyFits e p ps (released e.image p) owned shared (worst_of ps)

@@ -2,6 +2,8 @@
 use Rattle.std.proofs.Common.{◌≡◌, ◌≤◌, ◌+◌, ◌-◌, ◌*◌, inl, inr, ℕ, List, [], ◌∷◌, Option, Some, None, length, arith, refl, ap, sym, subst, ◌∙◌, true, false, Bool}
 use Rattle.std.specs.Prelude.{ℤ, slice_get, slice_set, cond, nat_eq}
 use Rattle.std.proofs.lemmas.Bool.Decides.{nat_tests}
+use Rattle.std.proofs.lemmas.Bool.{cases_eq}
+use Rattle.base.proofs.Lists.{get_set, get_other}
 use Rattle.base.specs.declared.event.Act.TheVariants as act
 use Rattle.machine_semantics.specs.Image.{Image, Process, Script}
 use Rattle.machine_semantics.specs.State.{Job, Thread, Idle, Ready, Waiting, State}
@@ -18,7 +20,6 @@ use Rattle.machine_safety.proofs.Whole.{ready_elsewhere, length_owned}
 use Rattle.machine_safety.proofs.Picked.{ChosenOf, chosen, finds_free}
 use Rattle.machine_safety.proofs.Starting.{starts_pass, release_keeps, time_out_keeps, device_keeps}
 use Rattle.machine_safety.proofs.Settling.{own_limit}
-use Rattle.machine_safety.proofs.Working.{get_set, get_other, same_or_not}
 
 -- a state in which process k has the same thread and as many words
 stays_same : (e : Where) (ps : ℕ → Parts) (s u : State) (k m n : ℕ) → StaysIn e ps s k m n → slice_get u.threads k ≡ slice_get s.threads k → length (owned_of (slice_get s.owned k)) ≤ length (owned_of (slice_get u.owned k)) → StaysIn e ps u k m n
@@ -37,7 +38,7 @@ stays_same e ps s u k m n o same_thread words = record {
 -- a ready process is not changed by another's signal
 pub wake_ready : (image : Image) (j k : ℕ) (ts : List Thread) (job : Job) → slice_get ts k ≡ Some (Ready job) → slice_get (wake image j ts) k ≡ Some (Ready job)
 wake_ready image j k ts job at =
-    elim (same_or_not j k) [
+    elim (cases_eq j k) [
       | inl same ↦ subst (λ (x : ℕ). slice_get (slice_set ts x (woken image (slice_get ts x))) k ≡ Some (Ready job)) (sym same)
           (subst (λ (x : Option Thread). slice_get (slice_set ts k (woken image x)) k ≡ Some (Ready job)) (sym at) (get_set ts k (Ready job) (Ready job) at))
       | inr differ ↦ get_other ts j k (woken image (slice_get ts j)) differ ∙ at
@@ -59,7 +60,7 @@ module _ (e : Where) (ps : ℕ → Parts) (image_fits : ImageFits e ps) where
   unfolding Staying
   release_stays k m n t j p s u process = (
     release_keeps e ps image_fits t j p s u.0 process,
-    elim (same_or_not j k) [
+    elim (cases_eq j k) [
       | inl same ↦ subst (λ (x : Option Thread). StaysIn e ps (release_thread e.image t j p s x).state k m n) (sym (ap (λ (x : ℕ). slice_get s.threads x) same ∙ u.1.there)) u.1
       | inr differ ↦ at_other differ (slice_get s.threads j)
     ],
@@ -74,7 +75,7 @@ module _ (e : Where) (ps : ℕ → Parts) (image_fits : ImageFits e ps) where
   unfolding Staying
   time_out_stays k m n t j p s u process = (
     time_out_keeps e ps image_fits t j p s u.0 process,
-    elim (same_or_not j k) [
+    elim (cases_eq j k) [
       | inl same ↦ subst (λ (x : Option Thread). StaysIn e ps (time_out e.image t j p s x).state k m n) (sym (ap (λ (x : ℕ). slice_get s.threads x) same ∙ u.1.there)) u.1
       | inr differ ↦ at_other differ (slice_get s.threads j)
     ],

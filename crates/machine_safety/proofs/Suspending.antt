@@ -2,6 +2,8 @@
 use Rattle.std.proofs.Common.{◌≡◌, ◌≤◌, ◌<◌, ◌+◌, ◌-◌, ◌*◌, ◌⊎◌, inl, inr, ℕ, zero, suc, List, [], ◌∷◌, Option, Some, None, length, arith, refl, ap, sym, subst, ◌∙◌, true, false, Bool}
 use Rattle.std.specs.Prelude.{ℤ, slice_get, slice_set, cond, nat_eq}
 use Rattle.std.proofs.lemmas.Bool.Decides.{nat_tests}
+use Rattle.std.proofs.lemmas.Bool.{cases_eq}
+use Rattle.base.proofs.Lists.{get_set, get_other}
 use Rattle.base.specs.declared.event.Act.TheVariants as act
 use Rattle.machine_semantics.specs.Image.{Image, Process, Script}
 use Rattle.machine_semantics.specs.State.{Job, Thread, Idle, Ready, Waiting, State}
@@ -18,7 +20,7 @@ use Rattle.machine_safety.proofs.Whole.{get_of_set, length_owned}
 use Rattle.machine_safety.proofs.Picked.{ChosenOf, chosen, finds_free}
 use Rattle.machine_safety.proofs.Starting.{released_fits, ready_burn, starts_pass, release_keeps, time_out_keeps, device_keeps}
 use Rattle.machine_safety.proofs.Settling.{woken_fits, own_limit}
-use Rattle.machine_safety.proofs.Working.{get_set, get_other, same_or_not, left_elsewhere}
+use Rattle.machine_safety.proofs.Working.{left_elsewhere}
 use Rattle.machine_safety.proofs.Staying.{wake_first_ready, wake_all_ready}
 
 -- ---- time-outs come
@@ -82,12 +84,12 @@ rank_comes image k t rank i (suc j) (q ∷ qs) p s at is of_rank = rank_comes im
 
 ranks_come : (image : Image) (k t rank n : ℕ) (p : Process) (s : State) → slice_get image.processes k ≡ Some p → rank ≤ p.rank → p.rank < rank + n → NotDue k t (time_outs image t rank n s).state
 ranks_come image k t rank zero p s at low high = absurd (omega (arith, low, high))
-ranks_come image k t rank (suc n) p s at low high = elim (same_or_not p.rank rank) [
+ranks_come image k t rank (suc n) p s at low high = elim (cases_eq p.rank rank) [
   | inl now ↦ ranks_not_due image k t (rank + 1) n _ (rank_comes image k t rank 0 k image.processes p s at (omega arith) now)
   | inr later ↦ ranks_come image k t (rank + 1) n p _ at (let past : (p.rank ≡ rank) → ⊥ = later in let l : rank ≤ p.rank = low in elim (above rank p.rank l) [ inl lt ↦ omega (arith, lt) | inr eq ↦ absurd (past (sym eq)) ]) (omega (arith, high))
 ] where
   above : (a b : ℕ) → a ≤ b → (a < b) ⊎ (a ≡ b)
-  above a b h = elim (same_or_not a b) [ inl is ↦ inr is | inr differ ↦ inl (strict a b h differ) ] where
+  above a b h = elim (cases_eq a b) [ inl is ↦ inr is | inr differ ↦ inl (strict a b h differ) ] where
     strict : (a b : ℕ) → a ≤ b → (a ≡ b → ⊥) → a < b
     strict a b h differ = grind (arith, h, differ)
 
@@ -111,7 +113,7 @@ abbrev pub Wakes : Image → ℕ → Thread → List Thread → Type 0
 Wakes image k th ts = (v : Thread) × (slice_get ts k ≡ Some v) × IsWoken image th v
 
 wake_other : (image : Image) (j k : ℕ) (ts : List Thread) (th : Thread) → Wakes image k th ts → Wakes image k th (wake image j ts)
-wake_other image j k ts th (u, at, is) = elim (same_or_not j k) [
+wake_other image j k ts th (u, at, is) = elim (cases_eq j k) [
   | inl same ↦ (
     woken image (Some u),
     subst (λ (x : ℕ). slice_get (slice_set ts x (woken image (slice_get ts x))) k ≡ Some (woken image (Some u))) (sym same)
@@ -190,7 +192,7 @@ module _ (e : Where) (ps : ℕ → Parts) (image_fits : ImageFits e ps) where
           ran = λ is_not still. suspends s u (t + 1) k n w o.p (Ready job) o.left o.process now words has tt suspension waits;
         }
     by (Waiting c due_at number job) busy at has due suspension waits woke =
-        let later : t < due_at = elim (same_or_not due_at t) [ inl is ↦ absurd (not_due c due_at number job at is) | inr differ ↦ (let d : due_at ≡ t → ⊥ = differ in let l : t ≤ due_at = due in grind (arith, l, d)) ] in
+        let later : t < due_at = elim (cases_eq due_at t) [ inl is ↦ absurd (not_due c due_at number job at is) | inr differ ↦ (let d : due_at ≡ t → ⊥ = differ in let l : t ≤ due_at = due in grind (arith, l, d)) ] in
         record {
           waited = λ is. (
             n - 1,
@@ -278,7 +280,7 @@ module _ (e : Where) (ps : ℕ → Parts) (image_fits : ImageFits e ps) where
   pub tick_spends : (t : ℕ) (s : State) (k n w : ℕ) (o : Suspends e ps s t k n w) → IsBusy o.thread → NotDue k t s → StateFits e ps s → (x : Option Candidate) → ChosenOf e.image 0 e.image.processes s.threads x
       → Spends e ps s (run_picked e.image t s x).state t k n w
   tick_spends t s k n w o busy not_due fits None none = rests s s t k n w o busy not_due (record { thread = (o.thread, o.there, inl refl); words = refl })
-  tick_spends t s k n w o busy not_due fits (Some c) ch = elim (same_or_not c.place k) [
+  tick_spends t s k n w o busy not_due fits (Some c) ch = elim (cases_eq c.place k) [
     | inl same ↦ it same
     | inr differ ↦ rests s (run_picked e.image t s (Some c)).state t k n w o busy not_due (run_left e.image t s c.place k (slice_get e.image.processes c.place) (slice_get s.threads c.place) o.thread differ o.there)
   ] where
@@ -341,7 +343,7 @@ module _ (e : Where) (ps : ℕ → Parts) (image_fits : ImageFits e ps) where
 
   pub release_unfinished : (now k n w t j : ℕ) (p : Process) (s : State) → Unfinished now k n w s → slice_get e.image.processes j ≡ Some p → Unfinished now k n w (release e.image t j p s).state
   unfolding Unfinished
-  release_unfinished now k n w t j p s u process = (release_keeps e ps image_fits t j p s u.0 process, elim (same_or_not j k) [ inl same ↦ at_k same | inr differ ↦ past_k differ (slice_get s.threads j) ]) where
+  release_unfinished now k n w t j p s u process = (release_keeps e ps image_fits t j p s u.0 process, elim (cases_eq j k) [ inl same ↦ at_k same | inr differ ↦ past_k differ (slice_get s.threads j) ]) where
     at_k : j ≡ k → (o : Suspends e ps (release e.image t j p s).state now k n w) × IsBusy o.thread
     at_k same = by u.1.0.thread (ap (λ (x : ℕ). slice_get s.threads x) same ∙ u.1.0.there) u.1.1 where
       by : (th : Thread) → slice_get s.threads j ≡ Some th → IsBusy th → (o : Suspends e ps (release e.image t j p s).state now k n w) × IsBusy o.thread
@@ -357,7 +359,7 @@ module _ (e : Where) (ps : ℕ → Parts) (image_fits : ImageFits e ps) where
 
   pub time_out_unfinished : (now k n w t j : ℕ) (p : Process) (s : State) → Unfinished now k n w s → slice_get e.image.processes j ≡ Some p → Unfinished now k n w (time_out e.image t j p s (slice_get s.threads j)).state
   unfolding Unfinished
-  time_out_unfinished now k n w t j p s u process = (time_out_keeps e ps image_fits t j p s u.0 process, elim (same_or_not j k) [ inl same ↦ at_k same | inr differ ↦ past_k differ (slice_get s.threads j) ]) where
+  time_out_unfinished now k n w t j p s u process = (time_out_keeps e ps image_fits t j p s u.0 process, elim (cases_eq j k) [ inl same ↦ at_k same | inr differ ↦ past_k differ (slice_get s.threads j) ]) where
     o : Suspends e ps s now k n w
     o = u.1.0
 

@@ -1,8 +1,9 @@
 -- How much a process may still run falls.
-use Rattle.std.proofs.Common.{◌≡◌, ◌≤◌, ◌+◌, ◌-◌, ◌*◌, ◌⊎◌, ◌++◌, inl, inr, ℕ, zero, suc, List, [], ◌∷◌, Option, Some, None, length, arith, refl, ap, sym, subst, ◌∙◌, true, false, Bool}
+use Rattle.std.proofs.Common.{◌≡◌, ◌≤◌, ◌+◌, ◌-◌, ◌*◌, ◌++◌, inl, inr, ℕ, zero, suc, List, [], ◌∷◌, Option, Some, None, length, arith, refl, ap, sym, subst, ◌∙◌, true, false, Bool}
 use Rattle.std.specs.Prelude.{ℤ, slice_get, slice_set, cond, nat_eq}
-use Rattle.std.proofs.lemmas.Bool.{cases_Bool}
+use Rattle.std.proofs.lemmas.Bool.{cases_eq}
 use Rattle.std.proofs.lemmas.Bool.Decides.{nat_tests}
+use Rattle.base.proofs.Lists.{get_set, get_other}
 use Rattle.base.specs.declared.event.Act.TheVariants as act
 use Rattle.machine_semantics.specs.Image.{Process, Script}
 use Rattle.machine_semantics.specs.State.{Job, Thread, Idle, Ready, Waiting, State}
@@ -21,22 +22,7 @@ use Rattle.machine_safety.proofs.Settling.{woken_fits, own_limit}
 
 -- ---- lists and numbers
 
-pub get_set : {X : Type 0} (xs : List X) (k : ℕ) (x y : X) → slice_get xs k ≡ Some y → slice_get (slice_set xs k x) k ≡ Some x
-get_set [] k x y at = absurd cc
-get_set (z ∷ zs) zero x y at = refl
-get_set (z ∷ zs) (suc k) x y at = get_set zs k x y at
-
-pub get_other : {X : Type 0} (xs : List X) (j k : ℕ) (x : X) → (j ≡ k → ⊥) → slice_get (slice_set xs j x) k ≡ slice_get xs k
-get_other [] j k x differ = refl
-get_other (z ∷ zs) zero zero x differ = absurd (differ refl)
-get_other (z ∷ zs) zero (suc k) x differ = refl
-get_other (z ∷ zs) (suc j) zero x differ = refl
-get_other (z ∷ zs) (suc j) (suc k) x differ = get_other zs j k x (λ same. differ (ap suc same))
-
-pub same_or_not : (j k : ℕ) → (j ≡ k) ⊎ (j ≡ k → ⊥)
-same_or_not j k = elim (cases_Bool (nat_eq j k)) [ inl is ↦ inl (grind (arith, nat_tests, is)) | inr is ↦ inr (λ same. absurd (grind (arith, nat_tests, is, same))) ]
-
-times_le : (a b c : ℕ) → b ≤ c → a * b ≤ a * c
+pub times_le : (a b c : ℕ) → b ≤ c → a * b ≤ a * c
 times_le a b c h = let e : c ≡ b + (c - b) = omega arith in subst (λ (x : ℕ). a * b ≤ a * x) (sym e) (omega arith)
 
 -- ---- another process changes
@@ -63,7 +49,7 @@ module _ (e : Where) (ps : ℕ → Parts) (image_fits : ImageFits e ps) where
   -- a process that is taken out of a queue owes no more
   wake_owes : (j k n : ℕ) (s : State) → Owes e ps s k n → Owes e ps (record s { threads = wake e.image j s.threads }) k n
   wake_owes j k n s o =
-      elim (same_or_not j k) [
+      elim (cases_eq j k) [
         | inl same ↦ subst (λ (x : ℕ). Owes e ps (record s { threads = wake e.image x s.threads }) k n) (sym same) (by_thread o.thread o.there o.has o.work)
         | inr differ ↦ owes_same e ps s (record s { threads = wake e.image j s.threads }) k n o (get_other s.threads j k (woken e.image (slice_get s.threads j)) differ) refl
       ] where
@@ -117,7 +103,7 @@ module _ (e : Where) (ps : ℕ → Parts) (image_fits : ImageFits e ps) where
 
   pub release_busy : (k n t j : ℕ) (p : Process) (s : State) → Unfinished k n s → slice_get e.image.processes j ≡ Some p → Unfinished k n (release e.image t j p s).state
   unfolding Unfinished owes_same
-  release_busy k n t j p s u process = (release_keeps e ps image_fits t j p s u.0 process, elim (same_or_not j k) [ inl same ↦ at_k same | inr differ ↦ at_other differ (slice_get s.threads j) refl ]) where
+  release_busy k n t j p s u process = (release_keeps e ps image_fits t j p s u.0 process, elim (cases_eq j k) [ inl same ↦ at_k same | inr differ ↦ at_other differ (slice_get s.threads j) refl ]) where
     at_k : j ≡ k → (o : Owes e ps (release e.image t j p s).state k n) × IsBusy o.thread
     at_k same = by_thread u.1.0.thread (ap (λ (x : ℕ). slice_get s.threads x) same ∙ u.1.0.there) u.1.1 where
       by_thread : (th : Thread) → slice_get s.threads j ≡ Some th → IsBusy th → (o : Owes e ps (release e.image t j p s).state k n) × IsBusy o.thread
@@ -133,7 +119,7 @@ module _ (e : Where) (ps : ℕ → Parts) (image_fits : ImageFits e ps) where
 
   pub time_out_busy : (k n t j : ℕ) (p : Process) (s : State) → Unfinished k n s → slice_get e.image.processes j ≡ Some p → Unfinished k n (time_out e.image t j p s (slice_get s.threads j)).state
   unfolding Unfinished owes_same
-  time_out_busy k n t j p s u process = (time_out_keeps e ps image_fits t j p s u.0 process, elim (same_or_not j k) [ inl same ↦ at_k same | inr differ ↦ at_other differ (slice_get s.threads j) refl ]) where
+  time_out_busy k n t j p s u process = (time_out_keeps e ps image_fits t j p s u.0 process, elim (cases_eq j k) [ inl same ↦ at_k same | inr differ ↦ at_other differ (slice_get s.threads j) refl ]) where
     Good : Started → Type 0
     Good x = (o : Owes e ps x.state k n) × IsBusy o.thread
 

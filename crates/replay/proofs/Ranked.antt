@@ -2,6 +2,8 @@
 use Rattle.std.specs.Prelude.{◌≡◌, ◌≤◌, ◌<◌, ℕ, zero, suc, Bool, true, false, cond, List, [], ◌∷◌, Option, Some, None, IfSome, length, map, nat_eq, slice_get, slice_index, slice_index_or, unwrap_or}
 use Rattle.std.proofs.Common.{inl, inr, refl, sym, ap, ◌∙◌, arith}
 use Rattle.std.proofs.lemmas.Bool.Decides.{eqb_tells}
+use Rattle.std.proofs.lemmas.List.{length-map}
+use Rattle.base.proofs.Lists.{some_at}
 use Rattle.syntax_tree.specs.Plain.{Process, Prog}
 use Rattle.source_semantics.specs.Names.{monitors, processes}
 use Rattle.source_semantics.specs.Ranks.{rank, ceiling, includes, least_rank, min_with, monitors_of}
@@ -24,15 +26,6 @@ use Rattle.code_names_law.specs.Ruled.{NamesApart}
 use Rattle.replay.specs.Told.{ceiling_told}
 
 -- ---- lists
-
-as_many : {A B : Type 0} (f : A → B) (xs : List A) → length (map f xs) ≡ length xs
-as_many f [] = refl
-as_many f (x ∷ xs) = ap (λ n. suc n) (as_many f xs)
-
-some_at : {A : Type 0} (xs : List A) (k : ℕ) → k < length xs → (x : A) × (slice_get xs k ≡ Some x)
-some_at [] k below = absurd (omega (arith, below))
-some_at (x ∷ xs) zero below = (x, refl)
-some_at (x ∷ xs) (suc k) below = some_at xs k (omega (arith, below))
 
 index_map : {A : Type 0} (f : A → ℕ) (xs : List A) (k : ℕ) (x : A) → slice_get xs k ≡ Some x → slice_index (map f xs) k ≡ f x
 index_map f [] k x at = absurd cc
@@ -96,9 +89,9 @@ module _ (g : Prog) (m : image.Image) (form : IsWellFormed g) (apart : NamesApar
 
   pub are_ranks : (r : Ranks) → r.ranks.items ≡ map (λ (p : image.Process). p.rank) m.processes → r.ceilings.items ≡ map (λ (x : image.Monitor). ceiling_told x.ceiling) m.monitors → AreRanksOf g r
   are_ranks r one two = record {
-    count = ap (λ (xs : List ℕ). length xs) one ∙ (as_many (λ (p : image.Process). p.rank) m.processes ∙ processes_many);
+    count = ap (λ (xs : List ℕ). length xs) one ∙ (length-map m.processes (λ (p : image.Process). p.rank) ∙ processes_many);
     each = λ k below. ap (λ (xs : List ℕ). slice_index xs k) one ∙ rank_at k below;
-    ceiling_count = ap (λ (xs : List (Option ℕ)). length xs) two ∙ (as_many (λ (x : image.Monitor). ceiling_told x.ceiling) m.monitors ∙ monitors_many);
+    ceiling_count = ap (λ (xs : List (Option ℕ)). length xs) two ∙ (length-map m.monitors (λ (x : image.Monitor). ceiling_told x.ceiling) ∙ monitors_many);
     each_ceiling = λ j below. ap (λ (xs : List (Option ℕ)). slice_index_or xs j None) two ∙ ceiling_at j below;
   }
 

@@ -1,8 +1,9 @@
 -- The tick that is told is the least at which a start event is missing.
 use Rattle.std.specs.Prelude.{◌≡◌, ◌↔◌, ℕ, suc, ◌+◌, ◌≤◌, ◌<◌, Bool, true, false, cond, ◌&&◌, not, List, [], ◌∷◌, ◌++◌, Option, Some, None, nat_eq, nat_le, slice_get, flat_map, All}
 use Rattle.std.proofs.Common.{refl, sym, ◌∙◌, ap, inl, inr, arith, subst}
-use Rattle.std.proofs.lemmas.Bool.{cases_lt}
+use Rattle.std.proofs.lemmas.Bool.{cases_lt, ne_eqb}
 use Rattle.std.proofs.lemmas.Bool.Decides.{nat_tests}
+use Rattle.base.proofs.Numbers.{itself}
 use Rattle.base.specs.declared.event.Event.{Event}
 use Rattle.base.specs.declared.event.Act.TheVariants as act
 use Rattle.syntax_tree.specs.Plain.{Activation, periodic, at_event, Process, Prog, Constant}
@@ -13,12 +14,6 @@ use Rattle.source_semantics.specs.Starts.{Line, sets, occurs, Script, was_releas
 use Rattle.replay_due_events.specs.NextDue.{First, IsNextDue, sooner, is_after, is_empty, line_due, lines_due, release_from, release_still, activation_due, periodic_due, doing_due, job_due, waits_due, due_from, next_due, FramePasses, FramesPass}
 use Rattle.replay_due_events.proofs.Least.{first_none, first_both, first_later, first_same}
 use Rattle.replay_due_events.proofs.Periodic.{falls, from_low, from_falls, none_before, none_between, next_falls}
-
-same_number : (n : ℕ) → nat_eq n n ≡ true
-same_number n = grind (arith, nat_tests)
-
-other_number : (n u : ℕ) → (n ≡ u → ⊥) → nat_eq n u ≡ false
-other_number n u h = grind (arith, nat_tests)
 
 is_some : (es : List Event) → is_empty es ≡ false → es ≡ [] → ⊥
 is_some es h e = let k : is_empty es ≡ true = ap is_empty e in absurd cc
@@ -32,10 +27,10 @@ at_one : (r : ℕ → List Event) (n from : ℕ) → First (λ t. cond (nat_eq n
 at_one r n from = by_case (nat_le from n) (is_empty (r n)) refl refl
   where
     elsewhere : (u : ℕ) → (n ≡ u → ⊥) → cond (nat_eq n u) (r u) [] ≡ []
-    elsewhere u h = ap (λ b. cond b (r u) []) (other_number n u h)
+    elsewhere u h = ap (λ b. cond b (r u) []) (ne_eqb n u h)
 
     here : cond (nat_eq n n) (r n) [] ≡ r n
-    here = ap (λ b. cond b (r n) []) (same_number n)
+    here = ap (λ b. cond b (r n) []) (itself n)
 
     nothing : (u : ℕ) → r n ≡ [] → cond (nat_eq n u) (r u) [] ≡ []
     nothing u h = elim (cases_lt n u) [
@@ -169,11 +164,11 @@ all_first g s c pass =
 -- where somebody has acted in the tick reached, nothing is due in it
 acted_due : (g : Prog) (s : Script) (c : Config) → c.acted ≡ true → due g s c c.tick ≡ []
 unfolding due
-acted_due g s c h = rw (h, same_number c.tick) refl
+acted_due g s c h = rw (h, itself c.tick) refl
 
 other_due : (g : Prog) (s : Script) (c : Config) (u : ℕ) → (c.tick ≡ u → ⊥) → due g s c u ≡ all_due g s c u
 unfolding due
-other_due g s c u apart = ap (λ b. cond (c.acted && b) [] (all_due g s c u)) (other_number c.tick u apart) ∙ none c.acted
+other_due g s c u apart = ap (λ b. cond (c.acted && b) [] (all_due g s c u)) (ne_eqb c.tick u apart) ∙ none c.acted
   where
     none : (b : Bool) → cond (b && false) [] (all_due g s c u) ≡ all_due g s c u
     none true = refl

@@ -120,9 +120,5 @@ counts_from g (p ∷ ps) all = at (counts_from g ps (λ k d lt. all (suc k) d (o
 pub frames_count : (g : Prog) (ts : List Timing) → ts ≡ timings g → FramesPass g → FramesCount ts
 frames_count g ts e passes = subst FramesCount (sym e) (counts_from g (processes g) passes)
 
-pub mapped_length : {A B : Type 0} (f : A → B) (xs : List A) → length (map f xs) ≡ length xs
-mapped_length f [] = refl
-mapped_length f (x ∷ xs) = ap suc (mapped_length f xs)
-
 pub told : (P : Type 0) (r x : Bool) → r ≡ x → P ↔ (x ≡ true) → P ↔ IsTrue r
 told P r x e h = ((λ p. e ∙ h.0 p), (λ t. h.1 (sym e ∙ t)))

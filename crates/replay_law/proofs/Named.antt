@@ -1,9 +1,10 @@
 -- Identifiers are words, and so are the names of the parts of a program.
-use Rattle.std.proofs.Common.{◌≡◌, ◌≢◌, ◌≤◌, ◌<◌, ◌+◌, ℕ, suc, Bool, true, false, ◌&&◌, List, [], ◌∷◌, length, map, filter_map, arith, refl, sym, ap, ◌∙◌}
+use Rattle.std.proofs.Common.{◌≡◌, ◌≢◌, ℕ, suc, Bool, true, false, List, [], ◌∷◌, length, map, filter_map, arith, refl, sym, ap, ◌∙◌}
 use Rattle.std.specs.Prelude.{All}
 use Rattle.std.specs.List.{list_all}
 use Rattle.std.proofs.lemmas.List.{length-map}
 use Rattle.std.proofs.lemmas.List.Elements.{All-nil, All-cons, All-head, All-tail, All-map, All-append, All-weaker}
+use Rattle.std.proofs.lemmas.Bool.{and_parts}
 use Rattle.syntax_tree.specs.Placed.{plain}
 use Rattle.syntax_tree.specs.Plain.{Name, Monitor, Process, Decl, constant, device, event, routine, monitor, process, Prog}
 use Rattle.source_semantics.specs.Names.{processes, monitors, conditions_of, device_in}
@@ -14,13 +15,10 @@ use Rattle.image.specs.declared.names.DevName.{DevName}
 use Rattle.built_image.specs.Named.{named_conditions, named_device, names_of}
 use Rattle.event_log.specs.Logs.{AreWords}
 use Rattle.replay_law.specs.Words.{IsIdentifier, MonitorIsNamed, NamesAreIdentifiers, NamesOfTextsAreIdentifiers, NamesOfTextsAreWords}
+use Rattle.built_valid_law.proofs.Names.{conditions_placed}
+use Rattle.built_valid_law.proofs.Counts.{named_in}
 
 -- ---- bytes
-
-both : (a b : Bool) → a && b ≡ true → (a ≡ true) × (b ≡ true)
-both true true e = (e, e)
-both true false e = absurd cc
-both false b e = absurd cc
 
 -- a byte that passes a test is none that does not
 passes : (test : ℕ → Bool) (b stop : ℕ) → test b ≡ true → test stop ≡ false → b ≢ stop
@@ -29,12 +27,12 @@ passes test b stop passed failed e = let clash : true ≡ false = sym passed ∙
 lacks : (stop : ℕ) (bs : List ℕ) → is_word stop ≡ false → list_all is_word bs ≡ true → Lacks stop bs
 lacks stop [] failed all = tt
 lacks stop (b ∷ bs) failed all =
-    let parts = both (is_word b) (list_all is_word bs) all in
+    let parts = and_parts (is_word b) (list_all is_word bs) all in
     (passes is_word b stop parts.0 failed, lacks stop bs failed parts.1)
 
 whole_lacks : (stop b : ℕ) (bs : List ℕ) → is_letter stop ≡ false → is_word stop ≡ false → is_identifier (b ∷ bs) ≡ true → Lacks stop (b ∷ bs)
 whole_lacks stop b bs letter failed is =
-    let parts = both (is_letter b) (list_all is_word bs) is in
+    let parts = and_parts (is_letter b) (list_all is_word bs) is in
     (passes is_letter b stop parts.0 letter, lacks stop bs failed parts.1)
 
 pub identifier_is_word : (name : Name) → IsIdentifier name → IsWord name
@@ -44,9 +42,6 @@ identifier_is_word name is = by name is.0 where
   by (b ∷ bs) spelled = record { some = omega arith; no_space = whole_lacks 32 b bs refl refl spelled; no_line_feed = whole_lacks 10 b bs refl refl spelled }
 
 -- ---- the parts of a program
-
-abbrev named_in : ℕ → Name → CondName
-named_in k c = record { name = c; mon = k }
 
 abbrev ConditionIsWord : CondName → Type 0
 ConditionIsWord c = IsWord c.name
@@ -60,15 +55,6 @@ conditions_are_words k (m ∷ ms) all =
     All-append ConditionIsWord (map (named_in k) (conditions_of m)) (named_conditions (suc k) ms)
     (All-map ConditionIsWord (named_in k) (conditions_of m) (All-weaker IsIdentifier IsWord identifier_is_word (conditions_of m) (All-head MonitorIsNamed m ms all).conditions))
     (conditions_are_words (suc k) ms (All-tail MonitorIsNamed m ms all))
-
--- each stands in one of so many monitors
-conditions_placed : (n k : ℕ) (ms : List Monitor) → k + length ms ≤ n → All (λ (c : CondName). c.mon < n) (named_conditions k ms)
-conditions_placed n k [] within = All-nil (λ (c : CondName). c.mon < n)
-conditions_placed n k (m ∷ ms) within =
-    let here : k < n = omega (arith, within) in
-    All-append (λ (c : CondName). c.mon < n) (map (named_in k) (conditions_of m)) (named_conditions (suc k) ms)
-    (All-map (λ (c : CondName). c.mon < n) (named_in k) (conditions_of m) (λ j x low. here))
-    (conditions_placed n (suc k) ms (omega (arith, within)))
 
 devices_are_words : (ds : List Decl) → All IsIdentifier (filter_map device_in ds) → All DeviceIsWord (filter_map named_device ds)
 devices_are_words [] all = All-nil DeviceIsWord

@@ -18,14 +18,12 @@ use Rattle.event_log.specs.LogReading.{AreDistinct}
 use Rattle.event_log.proofs.Names.{word_at}
 use Rattle.wellformed_names_law.proofs.Members.{In}
 use Rattle.replay_law.proofs.Differing.{Differing}
+use Rattle.built_valid_law.proofs.Counts.{named_in}
 
 -- each has another monitor or another name than those behind it
 abbrev pub Apart : List CondName → Type 0
 Apart [] = Unit {0}
 Apart (c ∷ cs) = ((d : CondName) → In cs d → c.mon ≡ d.mon → c.name ≡ d.name → ⊥) × Apart cs
-
-abbrev named_in : ℕ → Name → CondName
-named_in k c = record { name = c; mon = k }
 
 in_append : (xs ys : List CondName) (c : CondName) (P : Type 0) → In (xs ++ ys) c → (In xs c → P) → (In ys c → P) → P
 in_append [] ys c P i left right = right i

@@ -9,17 +9,13 @@ use Rattle.script.specs.Script.{IsOneScript}
 use Rattle.script.specs.Scripts.{IsScript}
 use Rattle.script.specs.OneAnswer.{NoScriptIsFaulty, FaultsAreOne}
 use Rattle.built_image.specs.Named.{names_of}
-use Rattle.command_due.specs.Source.{IsWritten, IsTextFault, fault_line}
+use Rattle.command_due.specs.Source.{IsWritten, IsTextFault}
 use Rattle.command_due.specs.CommandsDue.{Outcome, bad_script, told}
 use Rattle.command_due_law.specs.DueOnce.{WrittenOnce, WrittenOrFaulty, TextsHaveOneFault}
 use Rattle.command_due.specs.ReplayDue.{IsJudged, IsReplayDue, replay_faulty, replay_bad_script, replay_judged}
 use Rattle.replay_law.specs.Once.{JudgementsAreOne, ReplayIsOne}
-
-text_once : (file : Option (List ℕ)) (text other : List ℕ) → file ≡ Some text → file ≡ Some other → text ≡ other
-text_once file text other one two = cc
-
-same_line : (number other : ℕ) (place there : Place) → (number ≡ other) × (place ≡ there) → fault_line number place ≡ fault_line other there
-same_line number other place there same = ap (λ n. fault_line n place) same.0 ∙ ap (λ (p : Place). fault_line other p) same.1
+use Rattle.command_due_law.proofs.DueOnceScripts.{text_once}
+use Rattle.command_due_law.proofs.Texts.{same_line}
 
 module _ (once : WrittenOnce) (apart : WrittenOrFaulty) (faults : TextsHaveOneFault) (scripts : IsOneScript) (never : NoScriptIsFaulty) (script_faults : FaultsAreOne) (judgements : JudgementsAreOne) (program script log : Option (List ℕ)) where
   -- two texts that the file holds are those of one program

@@ -1,7 +1,9 @@
 -- Rows of operators, arguments and statements, from one place on.
-use Rattle.std.specs.Prelude.{◌≡◌, ◌++◌, ℕ, zero, suc, ◌+◌, ◌-◌, ◌<◌, ◌≤◌, List, [], ◌∷◌, Some, map, drop, take, length, slice_get, ℤ}
-use Rattle.std.proofs.Common.{refl, sym, ◌∙◌, ap, subst, arith, get_or, length-drop}
+use Rattle.std.specs.Prelude.{◌≡◌, ℕ, zero, suc, ◌+◌, ◌-◌, ◌<◌, List, [], ◌∷◌, Some, map, drop, take, length, slice_get, ℤ}
+use Rattle.std.proofs.Common.{refl, sym, ◌∙◌, ap, arith, get_or, length-drop}
 use Rattle.std.proofs.lemmas.Option.{slice_get_read}
+use Rattle.std.proofs.lemmas.List.{take_all, append-nil}
+use Rattle.base.proofs.Lists.{drop_at}
 use Rattle.base.specs.Words.{Answer, word, raised, with_word}
 use Rattle.syntax_tree.specs.Placed.{op_of, placed_expr, placed_exprs, placed_operands, placed_param, placed_stmt, placed_stmts, plain_expr, plain_exprs, plain_operands, plain_param, plain_stmt, plain_stmts}
 use Rattle.syntax_tree.specs.declared.expr.Op.{Op}
@@ -23,15 +25,6 @@ drop_suc [] k x h = absurd cc
 drop_suc (y ∷ ys) zero x h = let is : y ≡ x = cc in ap (λ z. z ∷ ys) is
 drop_suc (y ∷ ys) (suc k) x h = drop_suc ys k x h
 
-pub drop_one : {A : Type 0} (xs : List A) (k : ℕ) (x : A) → slice_get xs k ≡ Some x → drop k xs ≡ x ∷ drop (k + 1) xs
-drop_one xs k x h = let e : suc k ≡ k + 1 = omega arith in subst (λ n. drop k xs ≡ x ∷ drop n xs) e (drop_suc xs k x h)
-
-pub drop_past : {A : Type 0} (xs : List A) (k : ℕ) → length xs ≤ k → drop k xs ≡ []
-drop_past [] zero h = refl
-drop_past [] (suc k) h = refl
-drop_past (x ∷ xs) zero h = absurd (omega (arith, h))
-drop_past (x ∷ xs) (suc k) h = drop_past xs k (omega (arith, h))
-
 -- ---- rows of operators
 
 abbrev pub row_from : run.Site → run.Memory → Answer → List (Op × Expr) → Answer
@@ -52,7 +45,7 @@ row_goes c m rs k r a b j got val is =
     ap (λ x. row_from c m x (drop (k + 1) rs)) is
     ∙ (with_both a b (λ v w. operated (op_of r.0) v w) (λ u. run.row_value c m (plain_operands (placed_operands (drop (k + 1) rs))) u)
     ∙ (ap (λ x. with_word a (λ v. with_word x (λ w. with_word (operated (op_of r.0) v w) (λ u. run.row_value c m (plain_operands (placed_operands (drop (k + 1) rs))) u)))) val
-    ∙ sym (ap (row_from c m a) (drop_one rs k r got))))
+    ∙ sym (ap (row_from c m a) (drop_at rs k r got))))
 
 pub operand_less : (rs : List (Op × Expr)) (k : ℕ) (r : Op × Expr) → k < length rs → r ≡ get_or rs k r → expr_left r.1 < operands_left rs
 operand_less rs k r below is = operands_part rs k r (at_place rs k r below is)
@@ -66,16 +59,12 @@ pub none_in_front : (b : run.Bound) → in_front_all [] b ≡ b
 none_in_front (run.bound ws) = refl
 none_in_front (run.unbound n) = refl
 
-append_none : {A : Type 0} (xs : List A) → xs ++ [] ≡ xs
-append_none [] = refl
-append_none (x ∷ xs) = ap (λ l. x ∷ l) (append_none xs)
-
 pub no_args_left : (c : run.Site) (m : run.Memory) (vs : Vars) (es : List Expr) (ps : List Param) → es ≡ [] → run.bound vs ≡ bound_from c m vs es ps
-no_args_left c m vs es ps is = sym (ap (λ k. bound_from c m vs k ps) is ∙ ap run.bound (append_none vs))
+no_args_left c m vs es ps is = sym (ap (λ k. bound_from c m vs k ps) is ∙ ap run.bound (append-nil vs))
 
 no_params : (c : run.Site) (m : run.Memory) (vs : Vars) (es : List Expr) → bound_from c m vs es [] ≡ run.bound vs
-no_params c m vs [] = ap run.bound (append_none vs)
-no_params c m vs (e ∷ es) = ap run.bound (append_none vs)
+no_params c m vs [] = ap run.bound (append-nil vs)
+no_params c m vs (e ∷ es) = ap run.bound (append-nil vs)
 
 pub no_params_left : (c : run.Site) (m : run.Memory) (vs : Vars) (es : List Expr) (ps : List Param) → ps ≡ [] → run.bound vs ≡ bound_from c m vs es ps
 no_params_left c m vs es ps is = sym (ap (bound_from c m vs es) is ∙ no_params c m vs es)
@@ -87,8 +76,8 @@ pub one_argument : (c : run.Site) (m : run.Memory) (es : List Expr) (ps : List P
     ≡ run.with_argument c.program (plain_param (placed_param p)) a
     (λ v. run.added c.program (plain_param (placed_param p)) v (run.arguments c m (plain_exprs (placed_exprs (drop (k + 1) es))) (map plain_param (map placed_param (drop (k + 1) ps)))))
 one_argument c m es ps k e p a got gotp val =
-    ap (λ l. run.arguments c m (plain_exprs (placed_exprs l)) (map plain_param (map placed_param (drop k ps)))) (drop_one es k e got)
-    ∙ (ap (λ l. run.arguments c m (plain_exprs (placed_exprs (e ∷ drop (k + 1) es))) (map plain_param (map placed_param l))) (drop_one ps k p gotp)
+    ap (λ l. run.arguments c m (plain_exprs (placed_exprs l)) (map plain_param (map placed_param (drop k ps)))) (drop_at es k e got)
+    ∙ (ap (λ l. run.arguments c m (plain_exprs (placed_exprs (e ∷ drop (k + 1) es))) (map plain_param (map placed_param l))) (drop_at ps k p gotp)
     ∙ ap (λ x. run.with_argument c.program (plain_param (placed_param p)) x
     (λ v. run.added c.program (plain_param (placed_param p)) v (run.arguments c m (plain_exprs (placed_exprs (drop (k + 1) es))) (map plain_param (map placed_param (drop (k + 1) ps)))))) (sym val))
 
@@ -107,17 +96,11 @@ pub one_stmt : (c : run.Site) (m : run.Memory) (ss : List Stmt) (k : ℕ) (s : S
     → run.followed r (λ n. all_from c n (drop (k + 1) ss)) (λ n. run.exits n) (run.do_all (plain_stmts (placed_stmts (drop (k + 1) ss))) ∷ []) ≡ all_from c m (drop k ss)
 one_stmt c m ss k s r got ran =
     ap (λ x. run.followed x (λ n. all_from c n (drop (k + 1) ss)) (λ n. run.exits n) (run.do_all (plain_stmts (placed_stmts (drop (k + 1) ss))) ∷ [])) ran
-    ∙ sym (ap (all_from c m) (drop_one ss k s got))
+    ∙ sym (ap (all_from c m) (drop_at ss k s got))
 
 pub stmt_less : (ss : List Stmt) (k : ℕ) (s : Stmt) → k < length ss → s ≡ get_or ss k s → stmt_left s < stmts_left ss
 stmt_less ss k s below is = stmts_part ss k s (at_place ss k s below is)
 
-take_all : {A : Type 0} (xs : List A) (n : ℕ) → length xs ≤ n → take n xs ≡ xs
-take_all [] zero h = refl
-take_all [] (suc n) h = refl
-take_all (x ∷ xs) zero h = absurd (omega (arith, h))
-take_all (x ∷ xs) (suc n) h = ap (λ l. x ∷ l) (take_all xs n (omega (arith, h)))
-
 -- what a slice holds from one place on
 pub rest_taken : {A : Type 0} (xs : List A) (k : ℕ) → take (length xs - k) (drop k xs) ≡ drop k xs
-rest_taken xs k = let size : length (drop k xs) ≡ length xs - k = length-drop k xs in take_all (drop k xs) (length xs - k) (omega (arith, size))
+rest_taken xs k = let size : length (drop k xs) ≡ length xs - k = length-drop k xs in take_all (length xs - k) (drop k xs) (omega (arith, size))

@@ -21,7 +21,7 @@ use Rattle.replay_next.proofs.Aiming.{target_aimed}
 abbrev pub does : run.Site → run.Memory → Stmt → run.Run
 does c m s = run.run c m (plain_stmt (placed_stmt s))
 
-abbrev told : run.Site → run.Memory → Expr → Answer
+abbrev pub told : run.Site → run.Memory → Expr → Answer
 told c m e = run.value c m (plain_expr (placed_expr e))
 
 abbrev aims : run.Site → run.Memory → Ref → Aimed

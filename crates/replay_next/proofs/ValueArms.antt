@@ -4,16 +4,14 @@ use Rattle.std.specs.Global.{Global}
 use Rattle.std.proofs.Common.{sym, ◌∙◌, ap}
 use Rattle.base.specs.Words.{Answer, word, with_word, negated}
 use Rattle.syntax_tree.specs.Plain.{Name, call}
-use Rattle.syntax_tree.specs.Placed.{placed_expr, placed_exprs, placed_operands, plain_expr, plain_exprs, plain_operands}
+use Rattle.syntax_tree.specs.Placed.{placed_exprs, placed_operands, plain_expr, plain_exprs, plain_operands}
 use Rattle.syntax_tree.specs.declared.place.Place.{Place}
 use Rattle.syntax_tree.specs.declared.expr.Op.{Op}
 use Rattle.syntax_tree.specs.declared.expr.Expr.{Expr}
 use Rattle.syntax_tree.specs.declared.expr.Expr.TheVariants as v
 use Rattle.syntax_tree.proofs.Views.{expr-Literal, expr-True, expr-False, expr-Variable, expr-Element, expr-Call, expr-Minus, expr-Not, expr-Paren, expr-Chain}
 use Rattle.source_semantics.specs.Run as run
-
-abbrev told : run.Site → run.Memory → Expr → Answer
-told c m e = run.value c m (plain_expr (placed_expr e))
+use Rattle.replay_next.proofs.StmtArms.{told}
 
 pub value_literal : (c : run.Site) (m : run.Memory) (e : Expr) (p : Place) (n : ℕ) → e ≡ v.Literal p n → word (pos n) ≡ told c m e
 value_literal c m e p n is = sym (ap (told c m) is ∙ ap (λ y. run.value c m (plain_expr y)) (expr-Literal p n))

@@ -1,7 +1,7 @@
 -- The run of the activations with deadlines by a due tick alone, as the timing argument of fixed priorities sees it.
-use Rattle.std.proofs.Common.{◌≡◌, ℕ, zero, suc, ◌+◌, ◌*◌, ◌<◌, ◌≤◌, ◌⊎◌, inl, inr, List, length, refl, arith, ap, sym, subst, ◌∙◌}
+use Rattle.std.proofs.Common.{◌≡◌, ℕ, zero, suc, ◌+◌, ◌*◌, ◌<◌, ◌≤◌, inl, inr, List, length, refl, arith, ap, sym, subst, ◌∙◌}
 use Rattle.std.specs.Prelude.{Bool, true, false, cond, nat_lt, Option, Some, None}
-use Rattle.std.proofs.lemmas.Bool.{cases_lt, cases_eq, lt-ltb, le-ltb}
+use Rattle.std.proofs.lemmas.Bool.{cases_lt, cases_eq, lt-ltb, le-ltb, cases_Bool}
 use Rattle.sched_demand.specs.declared.tasks.DTask.{DTask}
 use Rattle.sched_demand.specs.Demand.{task_at}
 use Rattle.sched_theorem.specs.Charges.{Cost}
@@ -51,17 +51,13 @@ released_due due deadline k released is = elim (cases_lt due (k + deadline)) [
 pub counts : (due deadline k : ℕ) (released : Bool) → k + deadline ≤ due → released ≡ true → due_release due deadline k released ≡ true
 counts due deadline k released soon is = ap (λ b. cond b false released) (le-ltb due (k + deadline) soon) ∙ is
 
-cases_bool : (b : Bool) → (b ≡ true) ⊎ (b ≡ false)
-cases_bool true = inl refl
-cases_bool false = inr refl
-
 -- what is left after the start events
 opened_run : (k due deadline cost : ℕ) (released : Bool) (a b : Activation) → Starts k released cost a b → (due_life due deadline b).run_left ≤ (due_life due deadline a).run_left + flag (due_release due deadline k released) * cost
 opened_run k due deadline cost released a b starts = elim (cases_lt 0 a.left) [
   | inl active ↦ let e = ap (λ x. (due_life due deadline x).run_left) (starts.keeps active) in omega arith
   | inr none ↦
       let idle : a.left ≡ 0 = omega arith in
-      elim (cases_bool released) [
+      elim (cases_Bool released) [
         | inr not_is ↦ let z = starts.rests idle not_is in let h = due_le due deadline b in omega arith
         | inl is ↦
             let since : b.release ≡ k = starts.since idle is in

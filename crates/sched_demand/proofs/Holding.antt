@@ -1,8 +1,7 @@
 -- The stays that hold a level up, by rank: at most one, and within the level's block.
 use Rattle.std.proofs.Common.{◌≡◌, ℕ, ◌+◌, ◌<◌, ◌≤◌, ◌⊎◌, inl, inr, List, length, refl, arith, ap, sym, subst, ◌∙◌}
-use Rattle.std.specs.Prelude.{true, cond, not, ◌&&◌, Option, Some, None}
-use Rattle.std.proofs.Math.Dec.{ltb}
-use Rattle.std.proofs.lemmas.Bool.{cases_lt, cases_eq, lt-ltb, le-ltb}
+use Rattle.std.specs.Prelude.{Option, Some}
+use Rattle.std.proofs.lemmas.Bool.{cases_eq}
 use Rattle.sched_demand.specs.declared.tasks.DTask.{DTask}
 use Rattle.sched_demand.specs.Demand.{task_at}
 use Rattle.sched_theorem.specs.Charges.{total}
@@ -12,45 +11,7 @@ use Rattle.sched_theorem.proofs.Totals.{total_mono, total_less, total_lone}
 use Rattle.sched_demand.specs.Stacked.{AreApart}
 use Rattle.sched_demand.specs.Earliest.{AreShort}
 use Rattle.sched_demand.proofs.Rows.{HoldsUp, IsLevel}
-
--- what is left of a stay in a monitor with a ceiling at the level or above, of a process that ranks below the level
-abbrev pub held : ℕ → ℕ → Option Stay → ℕ
-held level j None = 0
-held level j (Some s) = cond (ltb level j && not (ltb level s.ceiling)) s.left 0
-
--- such a stay
-record Holds (level j : ℕ) (o : Option Stay) : Type 0 where
-  stay : Stay
-  is_inside : o ≡ Some stay
-  lower : level < j
-  higher : stay.ceiling ≤ level
-  is_left : held level j o ≡ stay.left
-
-held_in : (level j : ℕ) (s : Stay) → level < j → s.ceiling ≤ level → held level j (Some s) ≡ s.left
-held_in level j s lower higher =
-    let e = lt-ltb level j lower in
-    let f = le-ltb level s.ceiling higher in
-    ap (λ b. cond (b && not (ltb level s.ceiling)) s.left 0) e ∙ ap (λ b. cond (true && not b) s.left 0) f
-
-held_above : (level j : ℕ) (o : Option Stay) → j ≤ level → held level j o ≡ 0
-held_above level j None above = refl
-held_above level j (Some s) above = ap (λ b. cond (b && not (ltb level s.ceiling)) s.left 0) (le-ltb level j above)
-
-held_under : (level j : ℕ) (s : Stay) → level < j → level < s.ceiling → held level j (Some s) ≡ 0
-held_under level j s lower under =
-    let e = lt-ltb level j lower in
-    let f = lt-ltb level s.ceiling under in
-    ap (λ b. cond (b && not (ltb level s.ceiling)) s.left 0) e ∙ ap (λ b. cond (true && not b) s.left 0) f
-
-held_cases : (level j : ℕ) (o : Option Stay) → Holds level j o ⊎ (held level j o ≡ 0)
-held_cases level j None = inr refl
-held_cases level j (Some s) = elim (cases_lt level j) [
-  | inr above ↦ inr (held_above level j (Some s) above)
-  | inl lower ↦ elim (cases_lt level s.ceiling) [
-    | inl under ↦ inr (held_under level j s lower under)
-    | inr higher ↦ inl (record { stay = s; is_inside = refl; lower = lower; higher = higher; is_left = held_in level j s lower higher })
-  ]
-]
+use Rattle.sched_theorem.proofs.Ceilings.{held_above, held_cases, taken, held}
 
 -- what is left of the stays that hold a level up
 abbrev pub stay_at : ℕ → (ℕ → ℕ) → (ℕ → Option Stay) → ℕ → ℕ
@@ -91,14 +52,6 @@ kept_stay n rank place inside inside_after level p are high keeps = total_mono n
   | inl same ↦ let g = ap rank same in let f = are.there j below in let e = held_above level j (inside_after (place j)) (omega arith) in omega arith
   | inr other ↦ let e = ap (held level j) (keeps.others (place j) (are.place_below j below) (λ is. other (cc))) in omega arith
 ])
-
--- a tick inside takes one from what is left
-taken : (level j : ℕ) (s : Stay) (o : Option Stay) → level < j → s.ceiling ≤ level → TakesOne (Some s) o → held level j o + 1 ≤ held level j (Some s)
-taken level j s None lower higher takes = let e = held_in level j s lower higher in omega arith
-taken level j s (Some t) lower higher takes =
-    let e = held_in level j s lower higher in
-    let f = held_in level j t lower (omega (arith, takes.0)) in
-    omega (arith, takes.1)
 
 -- where a process that holds the level up runs, its stay loses a tick
 pub lost_stay : (n : ℕ) (rank place : ℕ → ℕ) (inside inside_after : ℕ → Option Stay) (level p : ℕ) → AreRanks n rank place → p < n → HoldsUp rank level inside p → KeepsStays n (Some p) inside inside_after → stay_at n place inside_after level + 1 ≤ stay_at n place inside level

@@ -4,24 +4,12 @@ use Rattle.std.specs.Prelude.{sum_by, All}
 use Rattle.std.specs.Int.{div_ceil}
 use Rattle.std.proofs.lemmas.Bool.{cases_lt}
 use Rattle.std.proofs.lemmas.Nat.{le-div, div_below}
-use Rattle.std.proofs.lemmas.Grind.{div_ceil_times}
 use Rattle.std.proofs.lemmas.List.Sums.{sum_by-cons}
 use Rattle.std.proofs.Math.Nat.{mul-le-mul_right}
 use Rattle.sched_demand.specs.declared.tasks.DTask.{DTask}
 use Rattle.sched_demand.specs.Demand.{IsTask, AreTasks, due_by, asked, points, points_of, IsReach, NoneCovers, IsMost}
-use Rattle.sched_demand.proofs.Turns.{due_none, due_some}
-
-div_ceil_mono : (a b n : ℕ) → 0 < n → a ≤ b → div_ceil a n ≤ div_ceil b n
-div_ceil_mono a b n pos le =
-    let low = div_ceil_times a n pos in
-    let high = div_ceil_times b n pos in
-    elim (cases_lt (div_ceil b n) (div_ceil a n)) [
-      | inr ge ↦ ge
-      | inl lt ↦
-          let more : (div_ceil b n + 1) * n ≤ div_ceil a n * n = mul-le-mul_right n (let h : div_ceil b n + 1 ≤ div_ceil a n = omega arith in h) in
-          let split : (div_ceil b n + 1) * n ≡ div_ceil b n * n + n = grind arith in
-          absurd (omega (arith, low.1, high.0, more, split))
-    ]
+use Rattle.sched_response.proofs.Rising.{div_ceil_mono}
+use Rattle.sched_demand.proofs.Demanding.{due_none, due_some}
 
 -- a sum of larger terms
 sum_mono : (f g : DTask → ℕ) (ts : List DTask) → All IsTask ts → ((x : DTask) → IsTask x → f x ≤ g x) → sum_by f ts ≤ sum_by g ts

@@ -1,10 +1,12 @@
 -- The stack of those that have begun, kept by start events and by the rest of a tick.
 use Rattle.std.proofs.Common.{◌≡◌, ℕ, suc, ◌+◌, ◌<◌, ◌≤◌, ◌⊎◌, inl, inr, refl, arith, ap, sym, subst, ◌∙◌}
-use Rattle.std.specs.Prelude.{Bool, true, false, Option, Some, None}
-use Rattle.std.proofs.lemmas.Bool.{cases_lt, cases_eq}
-use Rattle.sched_theorem.specs.Dispatched.{Stay, TakesOne, KeepsStays}
+use Rattle.std.specs.Prelude.{Bool, true, Option, Some, None}
+use Rattle.std.proofs.lemmas.Bool.{cases_lt, cases_eq, cases_Bool}
+use Rattle.std.proofs.lemmas.Option.{same_Some}
+use Rattle.sched_theorem.specs.Dispatched.{Stay, KeepsStays}
 use Rattle.sched_demand.specs.Activations.{Activation, IsSooner, IsBefore, IsBegun, IsFirst, IsFirstBegun, IsAbove, IsChosen, Chooses, Starts, Moves, Continues, Passes, KeepsCeilings}
 use Rattle.sched_demand.specs.Stacked.{AreStacked, AreDistinct, AreApart}
+use Rattle.sched_theorem.proofs.Apart.{was_inside}
 
 -- ---- the order
 
@@ -38,13 +40,6 @@ pub before_of : (rank deadline : ℕ → ℕ) (a b : ℕ → Activation) (p q : 
 before_of rank deadline a b p q same_p same_q (inl h) = inl (omega arith)
 before_of rank deadline a b p q same_p same_q (inr h) = inr (omega (arith, h.0), h.1)
 
-cases_bool : (b : Bool) → (b ≡ true) ⊎ (b ≡ false)
-cases_bool true = inl refl
-cases_bool false = inr refl
-
-same_number : (a b : ℕ) → Some a ≡ Some b → a ≡ b
-same_number a b is = cc
-
 -- ---- start events
 
 -- who has an activation after the start events is as before, or is released now
@@ -53,7 +48,7 @@ opened k cost released a b opens active = elim (cases_lt 0 a.left) [
   | inl some ↦ inl (some, opens.keeps some)
   | inr none ↦
       let idle : a.left ≡ 0 = omega arith in
-      elim (cases_bool released) [
+      elim (cases_Bool released) [
         | inl is ↦ inr (is, idle, opens.since idle is, opens.fresh idle is)
         | inr not_is ↦ let z = opens.rests idle not_is in absurd (omega arith)
       ]
@@ -123,16 +118,6 @@ chosen_above n rank deadline now a inside p stack chosen q s below other is = el
       stack.above p q s chosen.of_these below (record { active = chosen.active; had = had }) is (chosen_first n rank deadline inside a p chosen q below other begun)
   | inr none ↦ (chosen_new n rank deadline inside a p chosen (omega arith)).1 q s below is
 ]
-
--- who runs and is inside after it was outside before, or inside with the same ceiling
-was_inside : (o r : Option Stay) (s : Stay) → TakesOne o r → r ≡ Some s → (o ≡ None) ⊎ ((t : Stay) × (o ≡ Some t) × (t.ceiling ≡ s.ceiling))
-was_inside None r s takes is = inl refl
-was_inside (Some t) None s takes is = absurd (cc)
-was_inside (Some t) (Some u) s takes is = inr (t, refl, sym takes.0 ∙ ap ceiling_of is)
-  where
-    ceiling_of : Option Stay → ℕ
-    ceiling_of None = 0
-    ceiling_of (Some v) = v.ceiling
 
 -- a tick that takes one from what is left passes
 pub moves_pass : (n : ℕ) (picked : Option ℕ) (a b : ℕ → Activation) → Moves n picked a b → Passes n picked a b
@@ -236,9 +221,9 @@ kept_by_choice n rank deadline now a b inside inside_after (Some r) distinct sta
       stack = stack;
       chosen = chosen;
       runs = acts.runs r chosen.of_these refl;
-      others = λ q below other. acts.others q below (λ is. other (same_number r q is));
+      others = λ q below other. acts.others q below (λ is. other (same_Some r q is));
       was = λ s is. keeps.was r s chosen.of_these refl is;
-      keeps = λ q below other. keeps.others q below (λ is. other (same_number r q is));
+      keeps = λ q below other. keeps.others q below (λ is. other (same_Some r q is));
       active = active;
     } in
     record {

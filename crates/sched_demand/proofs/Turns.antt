@@ -6,15 +6,7 @@ use Rattle.std.proofs.lemmas.Nat.{le-div, div_below}
 use Rattle.std.proofs.Math.Nat.{mul-le-mul_right}
 use Rattle.sched_demand.specs.declared.tasks.DTask.{DTask}
 use Rattle.sched_demand.specs.Demand.{task_at, IsTask, AreTasks, due_by, block_of, IsNext}
-
-pub is_task : (ts : List DTask) (j : ℕ) → AreTasks ts → j < length ts → IsTask (task_at ts j)
-is_task ts j are below = are.each j (record { frame = 0; deadline = 0; cost = 0; block = 0 }) below
-
-pub due_none : (t : ℕ) (x : DTask) → t < x.deadline → due_by t x ≡ 0
-due_none t x late = ap (λ b. cond b 0 ((t - x.deadline) / x.frame + 1)) (lt-ltb t x.deadline late)
-
-pub due_some : (t : ℕ) (x : DTask) → x.deadline ≤ t → due_by t x ≡ (t - x.deadline) / x.frame + 1
-due_some t x soon = ap (λ b. cond b 0 ((t - x.deadline) / x.frame + 1)) (le-ltb t x.deadline soon)
+use Rattle.sched_demand.proofs.Demanding.{is_task, due_none, due_some}
 
 -- the turn after the last that is due is later
 pub turn_after : (t : ℕ) (x : DTask) → IsTask x → t < x.deadline + due_by t x * x.frame

@@ -1,9 +1,11 @@
 -- Ranks and ceilings agree.
-use Rattle.std.proofs.Common.{◌≡◌, ◌≤◌, ◌<◌, ◌+◌, inl, inr, ℕ, zero, suc, List, [], ◌∷◌, Option, Some, None, length, arith, refl, ap, sym, subst, ◌∙◌, true, false, Bool, map}
+use Rattle.std.proofs.Common.{◌≡◌, ◌≤◌, ◌<◌, ◌+◌, inl, inr, ℕ, zero, suc, List, [], ◌∷◌, Option, Some, None, length, arith, refl, ap, sym, subst, ◌∙◌, true, false, Bool}
 use Rattle.std.specs.Prelude.{slice_get, slice_index, slice_index_or, cond, nat_eq, nat_lt, ◌&&◌, ◌||◌, unwrap_or, option_map, min}
 use Rattle.std.proofs.lemmas.Bool.{cases_Bool}
 use Rattle.std.proofs.lemmas.Bool.Decides.{nat_tests}
 use Rattle.std.proofs.lemmas.Option.{slice_get-map, slice_get_within}
+use Rattle.std.proofs.lemmas.List.{length-map}
+use Rattle.base.proofs.Lists.{some_at, one_some}
 use Rattle.syntax_tree.specs.Plain.{Process, Prog}
 use Rattle.source_semantics.specs.Names.{processes, deadline_of}
 use Rattle.source_semantics.specs.Ranks.{rank, higher, deadlines, ceiling, monitors_of, includes, least_rank, min_with}
@@ -32,18 +34,6 @@ higher_counts k deadline b (f ∷ ds) p same =
     higher_counts k deadline (suc b) ds (λ j. p (suc j)) (λ j x at. (let y : b + suc j ≡ suc b + j = omega arith in subst (λ (n : ℕ). above x n deadline k ≡ p (suc j)) y (same (suc j) x at))) in
     omega (arith, first, rest, count_front p (length ds))
 
-some_at : {A : Type 0} (xs : List A) (k : ℕ) → k < length xs → (x : A) × (slice_get xs k ≡ Some x)
-some_at [] k below = absurd (omega (arith, below))
-some_at (x ∷ xs) zero below = (x, refl)
-some_at (x ∷ xs) (suc k) below = some_at xs k (omega (arith, below))
-
-length_map : {A B : Type 0} (f : A → B) (xs : List A) → length (map f xs) ≡ length xs
-length_map f [] = refl
-length_map f (x ∷ xs) = ap suc (length_map f xs)
-
-one_some : {A : Type 0} {o : Option A} {x y : A} → o ≡ Some x → o ≡ Some y → x ≡ y
-one_some p q = cc
-
 deadline_is_at : (g : Prog) (us : List Use) → AreUses g us → (k : ℕ) → k < length us → slice_get (deadlines g) k ≡ Some (use_at us k).deadline
 deadline_is_at g us uses k below =
     let p : (p : Process) × (slice_get (processes g) k ≡ Some p) = some_at (processes g) k (omega (arith, below, uses.many)) in
@@ -51,7 +41,7 @@ deadline_is_at g us uses k below =
 
 counted_agree : (g : Prog) (us : List Use) (ranks : List ℕ) → AreUses g us → AreCounted us ranks → (k : ℕ) → k < length us → slice_index ranks k ≡ rank g k
 counted_agree g us ranks uses counted k below =
-    let many : length (deadlines g) ≡ length us = length_map (λ (x : Process). deadline_of g x.activation) (processes g) ∙ sym uses.many in
+    let many : length (deadlines g) ≡ length us = length-map (processes g) (λ (x : Process). deadline_of g x.activation) ∙ sym uses.many in
     let first : 1 + count_below (λ other. outranks us other k) (length us) ≡ suc (count_below (λ other. outranks us other k) (length us)) = omega arith in
     counted k below
     ∙ first

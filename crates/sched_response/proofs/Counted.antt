@@ -13,16 +13,16 @@ count b = cond b 1 0
 -- ---- counting
 
 -- where a number is that, another
-abbrev instead : (that other : ℕ) → ℕ → ℕ
+abbrev pub instead : (that other : ℕ) → ℕ → ℕ
 instead that other x = cond (nat_eq x that) other x
 
-instead_below : (m other x : ℕ) → x < suc m → (x ≡ m → other < m) → instead m other x < m
+pub instead_below : (m other x : ℕ) → x < suc m → (x ≡ m → other < m) → instead m other x < m
 instead_below m other x below is_other = by (nat_eq x m) refl where
   by : (b : Bool) → nat_eq x m ≡ b → cond b other x < m
   by true is = is_other (grind (arith, nat_tests, is))
   by false is = grind (arith, nat_tests, is, below)
 
-instead_same : (that other x y : ℕ) → instead that other x ≡ instead that other y → (x ≡ that → y ≡ that → x ≡ y) → (other ≡ y → ⊥) → (other ≡ x → ⊥) → x ≡ y
+pub instead_same : (that other x y : ℕ) → instead that other x ≡ instead that other y → (x ≡ that → y ≡ that → x ≡ y) → (other ≡ y → ⊥) → (other ≡ x → ⊥) → x ≡ y
 instead_same that other x y same both not_y not_x = by (nat_eq x that) (nat_eq y that) refl refl same where
   by : (a b : Bool) → nat_eq x that ≡ a → nat_eq y that ≡ b → cond a other x ≡ cond b other y → x ≡ y
   by true true is_x is_y same' = both (grind (arith, nat_tests, is_x)) (grind (arith, nat_tests, is_y))

@@ -5,7 +5,7 @@ use Rattle.std.proofs.lemmas.Bool.{cases_eq}
 use Rattle.sched_theorem.specs.Dispatched.{Stay, TakesOne, KeepsStays, AreApart, RunsAbove}
 
 -- who runs and is inside after it was outside before, or inside with the same ceiling
-was_inside : (o r : Option Stay) (s : Stay) → TakesOne o r → r ≡ Some s → (o ≡ None) ⊎ ((t : Stay) × (o ≡ Some t) × (t.ceiling ≡ s.ceiling))
+pub was_inside : (o r : Option Stay) (s : Stay) → TakesOne o r → r ≡ Some s → (o ≡ None) ⊎ ((t : Stay) × (o ≡ Some t) × (t.ceiling ≡ s.ceiling))
 was_inside None r s takes is = inl refl
 was_inside (Some t) None s takes is = absurd (cc)
 was_inside (Some t) (Some u) s takes is = inr (t, refl, sym takes.0 ∙ ap ceiling_of is)

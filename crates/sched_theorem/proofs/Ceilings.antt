@@ -17,30 +17,30 @@ held level j None = 0
 held level j (Some s) = cond (ltb level j && not (ltb level s.ceiling)) s.left 0
 
 -- such a stay
-record Holds (level j : ℕ) (o : Option Stay) : Type 0 where
-  stay : Stay
-  is_inside : o ≡ Some stay
-  lower : level < j
-  higher : stay.ceiling ≤ level
-  is_left : held level j o ≡ stay.left
+pub record Holds (level j : ℕ) (o : Option Stay) : Type 0 where
+  pub stay : Stay
+  pub is_inside : o ≡ Some stay
+  pub lower : level < j
+  pub higher : stay.ceiling ≤ level
+  pub is_left : held level j o ≡ stay.left
 
-held_in : (level j : ℕ) (s : Stay) → level < j → s.ceiling ≤ level → held level j (Some s) ≡ s.left
+pub held_in : (level j : ℕ) (s : Stay) → level < j → s.ceiling ≤ level → held level j (Some s) ≡ s.left
 held_in level j s lower higher =
     let e = lt-ltb level j lower in
     let f = le-ltb level s.ceiling higher in
     ap (λ b. cond (b && not (ltb level s.ceiling)) s.left 0) e ∙ ap (λ b. cond (true && not b) s.left 0) f
 
-held_above : (level j : ℕ) (o : Option Stay) → j ≤ level → held level j o ≡ 0
+pub held_above : (level j : ℕ) (o : Option Stay) → j ≤ level → held level j o ≡ 0
 held_above level j None above = refl
 held_above level j (Some s) above = ap (λ b. cond (b && not (ltb level s.ceiling)) s.left 0) (le-ltb level j above)
 
-held_under : (level j : ℕ) (s : Stay) → level < j → level < s.ceiling → held level j (Some s) ≡ 0
+pub held_under : (level j : ℕ) (s : Stay) → level < j → level < s.ceiling → held level j (Some s) ≡ 0
 held_under level j s lower under =
     let e = lt-ltb level j lower in
     let f = lt-ltb level s.ceiling under in
     ap (λ b. cond (b && not (ltb level s.ceiling)) s.left 0) e ∙ ap (λ b. cond (true && not b) s.left 0) f
 
-held_cases : (level j : ℕ) (o : Option Stay) → Holds level j o ⊎ (held level j o ≡ 0)
+pub held_cases : (level j : ℕ) (o : Option Stay) → Holds level j o ⊎ (held level j o ≡ 0)
 held_cases level j None = inr refl
 held_cases level j (Some s) = elim (cases_lt level j) [
   | inr above ↦ inr (held_above level j (Some s) above)
@@ -83,7 +83,7 @@ kept_stay ts inside inside_after level p high keeps = total_mono (length ts) (λ
 ])
 
 -- a tick inside takes one from what is left
-taken : (level p : ℕ) (s : Stay) (o : Option Stay) → level < p → s.ceiling ≤ level → TakesOne (Some s) o → held level p o + 1 ≤ held level p (Some s)
+pub taken : (level p : ℕ) (s : Stay) (o : Option Stay) → level < p → s.ceiling ≤ level → TakesOne (Some s) o → held level p o + 1 ≤ held level p (Some s)
 taken level p s None lower higher takes = let e = held_in level p s lower higher in omega arith
 taken level p s (Some t) lower higher takes =
     let e = held_in level p s lower higher in

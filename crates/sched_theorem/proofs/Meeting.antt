@@ -25,7 +25,7 @@ implied : (p q : Bool) → implies p q ≡ true → p ≡ true → q ≡ true
 implied true q holds is = holds
 implied false q holds is = absurd (cc)
 
-all_at : (n : ℕ) (f : ℕ → Bool) → all_below n f ≡ true → (k : ℕ) → k < n → f k ≡ true
+pub all_at : (n : ℕ) (f : ℕ → Bool) → all_below n f ≡ true → (k : ℕ) → k < n → f k ≡ true
 all_at zero f all k below = absurd (omega arith)
 all_at (suc n) f all k below =
     let parts = and_parts (f n) (all_below n f) all in

@@ -1,16 +1,12 @@
 -- How many releases there are in so many ticks.
 use Rattle.std.proofs.Common.{◌≡◌, ℕ, zero, suc, ◌+◌, ◌*◌, ◌/◌, ◌-◌, ◌<◌, ◌≤◌, ◌⊎◌, inl, inr, refl, arith, ap, ◌∙◌}
-use Rattle.std.specs.Prelude.{Bool, true, false}
+use Rattle.std.specs.Prelude.{Bool, true}
 use Rattle.std.specs.Int.{div_ceil}
-use Rattle.std.proofs.lemmas.Bool.{cases_lt}
+use Rattle.std.proofs.lemmas.Bool.{cases_lt, cases_Bool}
 use Rattle.std.proofs.lemmas.Nat.{le-div}
 use Rattle.std.proofs.lemmas.Grind.{div_ceil_times}
 use Rattle.std.proofs.Math.Nat.{mul-le-mul_right}
 use Rattle.sched_theorem.specs.Stretches.{flag, Spaced, releases}
-
-cases_bool : (b : Bool) → (b ≡ true) ⊎ (b ≡ false)
-cases_bool true = inl refl
-cases_bool false = inr refl
 
 -- the last release of some: the others stand at least a frame apart before it
 pub record Last (frame start ticks : ℕ) (released : ℕ → Bool) : Type 0 where
@@ -24,7 +20,7 @@ pub last_release : (frame end : ℕ) (released : ℕ → Bool) (start : ℕ) →
 last_release frame end released start spaced zero within = inl refl
 last_release frame end released start spaced (suc ticks) within =
     let was = last_release frame end released start spaced ticks (omega arith) in
-    elim (cases_bool (released (start + ticks))) [
+    elim (cases_Bool (released (start + ticks))) [
       | inl here ↦
           let one : flag (released (start + ticks)) ≡ 1 = ap flag here in
           inr (record {
@@ -97,7 +93,7 @@ releases_until frame end released start ticks place pos spaced within until = el
 
 pub no_releases : (released : ℕ → Bool) (start ticks : ℕ) → ((k : ℕ) → k < ticks → released (start + k) ≡ true → ⊥) → releases released start ticks ≡ 0
 no_releases released start zero none = refl
-no_releases released start (suc ticks) none = elim (cases_bool (released (start + ticks))) [
+no_releases released start (suc ticks) none = elim (cases_Bool (released (start + ticks))) [
   | inl here ↦ absurd (none ticks (omega arith) here)
   | inr not_here ↦
       let rest = no_releases released start ticks (λ k below is. none k (omega arith) is) in

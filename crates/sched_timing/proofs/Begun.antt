@@ -1,11 +1,12 @@
 -- What the start events of a tick do to one process.
 use Rattle.std.proofs.Common.{◌≡◌, ◌<◌, ◌+◌, ◌*◌, ◌⊎◌, inl, inr, ℕ, zero, suc, List, [], ◌∷◌, Option, Some, None, arith, refl, ap, sym, subst, ◌∙◌, ◌++◌, true, false, Bool, length}
 use Rattle.std.specs.Prelude.{slice_get, slice_set, ℤ, cond, nat_eq, ◌&&◌, ◌||◌}
+use Rattle.std.proofs.lemmas.Bool.{cases_eq}
+use Rattle.base.proofs.Lists.{get_set, get_other}
 use Rattle.base.specs.declared.event.Act.TheVariants as act
 use Rattle.machine_semantics.specs.Image.{Image, Process, Script, Line, Sets, Occurs}
 use Rattle.machine_semantics.specs.State.{Job, Thread, Idle, Ready, Waiting, State}
 use Rattle.machine_semantics.specs.Starts.{Started, unchanged, told, followed, released, release, release_thread, occurs, line, lines, is_periodic_due, periodic, raised, without, queue_of, time_out, at_rank, time_outs, starts}
-use Rattle.machine_safety.proofs.Working.{get_set, get_other, same_or_not}
 use Rattle.sched_timing.specs.Views.{occurs_at, is_event_due, is_due}
 
 -- ---- releases
@@ -171,7 +172,7 @@ time_out_here image t j k q s o is = by (slice_get s.threads j) refl where
 
     by_due : (d : Bool) → TimesOut o (slice_get (cond d (told t j (act.TimeOut c number) (record s { queues = slice_set s.queues c (without j (queue_of s.queues c)) }) (Ready new)) (unchanged s)).state.threads k)
     by_due false = is
-    by_due true = elim (same_or_not j k) [
+    by_due true = elim (cases_eq j k) [
       | inr differ ↦ subst (λ (x : Option Thread). TimesOut o x) (sym (get_other s.threads j k (Ready new) differ)) is
       | inl same ↦
           let now : slice_get s.threads k ≡ Some (Waiting c due number job) = ap (λ (x : ℕ). slice_get s.threads x) (sym same) ∙ at in

@@ -3,6 +3,7 @@ use Rattle.std.proofs.Common.{◌≡◌, ◌≤◌, ◌<◌, ◌+◌, ◌-◌, i
 use Rattle.std.specs.Prelude.{slice_get}
 use Rattle.std.proofs.lemmas.Bool.Decides.{nat_tests}
 use Rattle.std.proofs.lemmas.Option.{slice_get_within}
+use Rattle.base.proofs.Lists.{some_at}
 use Rattle.machine_semantics.specs.Image.{Image, Process, Script, Monitor}
 use Rattle.machine_semantics.specs.State.{Job, Thread, Idle, Ready, Waiting, State}
 use Rattle.machine_semantics.specs.Tick.{Candidate, least, pick}
@@ -21,7 +22,7 @@ use Rattle.sched_theorem.specs.Dispatched.{Stay, IsReady, active_rank, TakesOne,
 use Rattle.sched_theorem.specs.Placed.{PicksAt, AreStaysAt}
 use Rattle.valid_image.specs.Tasks.{process_at, task_of, tasks_of}
 use Rattle.sched_timing.specs.Views.{during, inside_of, opened, spent, stayed, nothing_left, life_before, life_after, stay_left, stay_of, place_of, rank_at, rank_of_some}
-use Rattle.sched_timing.proofs.Ranks.{IsTimedThriftily, At, at_place, task_of_rank, blocks, has_process, length_is}
+use Rattle.sched_timing.proofs.Ranks.{IsTimedThriftily, At, at_place, task_of_rank, blocks, length_is}
 use Rattle.sched_timing.proofs.Picking.{LeastOf, least_of}
 use Rattle.sched_timing.proofs.Threads.{ran, fits_before, Threads, threads}
 use Rattle.sched_timing.proofs.Lives.{after_is, next_is, middles, holds}
@@ -104,7 +105,7 @@ module _ (e : Where) (ps : ℕ → Parts) (image_fits : ImageFits e ps) (thrifty
     by : (o : Option Candidate) → pick e.image (during e.image script t).threads ≡ o → LowestOf e.image 0 e.image.processes (during e.image script t).threads o → LeastOf e.image e.image.processes (during e.image script t).threads o
         → PicksAt (length e.image.processes) (rank_at e.image) (held t) (M t) (L (suc t)) (place_of o)
     by None picked none low = λ q below ready.
-        (let p : (r : Process) × (slice_get e.image.processes q ≡ Some r) = has_process e.image.processes q below in
+        (let p : (r : Process) × (slice_get e.image.processes q ≡ Some r) = some_at e.image.processes q below in
         let x : X t q p.0 = threads e ps image_fits script t q p.0 p.1 in
         let job : (j : Job) × (x.mid ≡ Ready j) = ready_is t q p.0 p.1 x ready in
         none q p.0 job.0 p.1 (x.at_mid ∙ ap (λ (th : Thread). Some th) job.1))
@@ -121,7 +122,7 @@ module _ (e : Where) (ps : ℕ → Parts) (image_fits : ImageFits e ps) (thrifty
         record {
           of_these = slice_get_within e.image.processes c.place ch.p process;
           least = λ q below ready.
-              (let r : (r : Process) × (slice_get e.image.processes q ≡ Some r) = has_process e.image.processes q below in
+              (let r : (r : Process) × (slice_get e.image.processes q ≡ Some r) = some_at e.image.processes q below in
               let y : X t q r.0 = threads e ps image_fits script t q r.0 r.1 in
               let job : (j : Job) × (y.mid ≡ Ready j) = ready_is t q r.0 r.1 y ready in
               let less : c.rank ≤ machine.active_rank e.image r.0 job.0.inside = low q r.0 job.0 r.1 (y.at_mid ∙ ap (λ (th : Thread). Some th) job.1) in
@@ -196,8 +197,8 @@ module _ (e : Where) (ps : ℕ → Parts) (image_fits : ImageFits e ps) (thrifty
 
   pub keeps : (t : ℕ) → KeepsStays (length e.image.processes) (picked_at t) (held t) (held (suc t))
   keeps t = record {
-    takes = λ k below picked. (let p : (r : Process) × (slice_get e.image.processes k ≡ Some r) = has_process e.image.processes k below in takes t k p.0 p.1 picked);
-    others = λ k below differ. (let p : (r : Process) × (slice_get e.image.processes k ≡ Some r) = has_process e.image.processes k below in others t k p.0 p.1 differ);
+    takes = λ k below picked. (let p : (r : Process) × (slice_get e.image.processes k ≡ Some r) = some_at e.image.processes k below in takes t k p.0 p.1 picked);
+    others = λ k below differ. (let p : (r : Process) × (slice_get e.image.processes k ≡ Some r) = some_at e.image.processes k below in others t k p.0 p.1 differ);
   }
 
   -- ---- who may be inside
@@ -213,7 +214,7 @@ module _ (e : Where) (ps : ℕ → Parts) (image_fits : ImageFits e ps) (thrifty
 
   seen : (t k : ℕ) (s : Stay) → k < length e.image.processes → held t k ≡ Some s → Seen t k s
   seen t k s below is =
-      let p : (r : Process) × (slice_get e.image.processes k ≡ Some r) = has_process e.image.processes k below in
+      let p : (r : Process) × (slice_get e.image.processes k ≡ Some r) = some_at e.image.processes k below in
       let it : (m : ℕ) × (inside_of (slice_get (at t).threads k) ≡ Some m) × (s ≡ record { ceiling = ceiling_of e.image m - 1; left = stay_left e.image ps script t k }) =
       stay_some e.image (inside_of (slice_get (at t).threads k)) (stay_left e.image ps script t k) s is in
       record { p = p.0; m = it.0; process = p.1; inside = it.1; stay = it.2; is = insides e ps image_fits script t k it.0 p.0 p.1 it.1 }

@@ -23,7 +23,7 @@ use Rattle.sched_timing.proofs.Threads.{next_state, ran, fits_before, Threads, t
 
 -- ---- more than enough
 
-owes_more : (e : Where) (ps : ℕ → Parts) (s : State) (k n m : ℕ) → n ≤ m → Owes e ps s k n → Owes e ps s k m
+pub owes_more : (e : Where) (ps : ℕ → Parts) (s : State) (k n m : ℕ) → n ≤ m → Owes e ps s k n → Owes e ps s k m
 owes_more e ps s k n m le o = record { p = o.p; thread = o.thread; left = o.left; process = o.process; there = o.there; has = o.has; work = omega (arith, le, o.work) }
 
 suspends_more : (e : Where) (ps : ℕ → Parts) (s : State) (t k n m w v : ℕ) → n ≤ m → w ≤ v → Suspends e ps s t k n w → Suspends e ps s t k m v

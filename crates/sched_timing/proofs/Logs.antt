@@ -1,7 +1,7 @@
 -- In the whole log each release is followed by its end within the bound.
 use Rattle.std.proofs.Common.{◌≡◌, ◌≤◌, ◌<◌, ◌+◌, ◌-◌, ◌*◌, ◌⊎◌, ◌++◌, inl, inr, ℕ, zero, suc, List, [], ◌∷◌, Option, Some, None, length, append_assoc, arith, refl, ap, sym, subst, ◌∙◌, true, false, Bool}
 use Rattle.std.specs.Prelude.{slice_get, slice_set, cond, nat_eq, ◌&&◌, ◌||◌, IsSomeAnd}
-use Rattle.std.proofs.lemmas.Bool.{cases_lt}
+use Rattle.std.proofs.lemmas.Bool.{cases_lt, and_parts}
 use Rattle.std.proofs.lemmas.Bool.Decides.{nat_tests}
 use Rattle.base.specs.declared.event.Event.{Event}
 use Rattle.base.specs.declared.event.Act.TheVariants as act
@@ -15,7 +15,6 @@ use Rattle.machine_semantics.specs.Tick.{Candidate, settle, outcome, owned_of, r
 use Rattle.machine_semantics.specs.Run.{state_at, events_from, events}
 use Rattle.sched_timing.specs.Views.{occurs_at, is_event_due, is_due, during}
 use Rattle.sched_timing.proofs.Begun.{each, named, periodic_each, occurs_each}
-use Rattle.sched_timing.proofs.Overruns.{parts}
 use Rattle.sched_timing.proofs.Threads.{next_state}
 use Rattle.sched_timing.proofs.Told.{told_is}
 use Rattle.sched_timing.proofs.Quiet.{is_release, IsQuiet, outcome_quiet}
@@ -91,7 +90,7 @@ module _ (image : Image) (script : Script) (t : ℕ) where
       (either_fair (nat_eq u t) (occurs image t n 0 image.processes s) (unchanged s)
       (λ is. subst (λ (x : Started). Fair x.events) (sym (occurs_each image t n 0 image.processes s))
       (each_fair (named n) (λ q test.
-      (let it : (nat_eq q.kind 1 ≡ true) × (nat_eq q.event n ≡ true) = parts (nat_eq q.kind 1) (nat_eq q.event n) test in
+      (let it : (nat_eq q.kind 1 ≡ true) × (nat_eq q.event n ≡ true) = and_parts (nat_eq q.kind 1) (nat_eq q.event n) test in
       or_first (is_event_due script t q) (is_periodic_due t q)
       (both_true (nat_eq q.kind 1) (occurs_at script.lines t q.event) it.0 (among q.event (or_first (nat_eq u t && nat_eq q.event n) (occurs_at ls t q.event) (both_true (nat_eq u t) (nat_eq q.event n) is it.1)))))) 0 image.processes s from_start)) tt)
       (lines_fair ls (line image t (Occurs u n) s).state (λ m is. among m (or_second (nat_eq u t && nat_eq m n) (occurs_at ls t m) is)))

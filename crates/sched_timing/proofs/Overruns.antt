@@ -2,6 +2,7 @@
 use Rattle.std.proofs.Common.{◌≡◌, ◌+◌, ◌*◌, ℕ, zero, suc, List, [], ◌∷◌, Option, Some, None, arith, refl, ap, sym, subst, ◌∙◌, true, false, Bool, length}
 use Rattle.std.specs.Prelude.{slice_get, slice_set, cond, nat_eq, nat_le, ◌&&◌, ◌||◌}
 use Rattle.std.proofs.lemmas.Bool.Decides.{nat_tests}
+use Rattle.std.proofs.lemmas.Bool.{and_parts, or_right}
 use Rattle.base.specs.declared.event.Act.TheVariants as act
 use Rattle.machine_semantics.specs.Image.{Image, Process, Script, Line, Sets, Occurs}
 use Rattle.machine_semantics.specs.State.{Thread, Idle, Ready, Waiting, State}
@@ -57,11 +58,6 @@ due_later false true e true due = refl
 due_later true true false true due = refl
 due_later true true true true due = refl
 
-pub parts : (a b : Bool) → a && b ≡ true → (a ≡ true) × (b ≡ true)
-parts true true is = (refl, refl)
-parts true false is = absurd cc
-parts false b is = absurd cc
-
 lines_in_time : (image : Image) (t : ℕ) (ls : List Line) (s : State) → Once image t ls → AreIdle image t ls s → (lines image t ls s).overrun ≡ false
 lines_in_time image t [] s once idle = refl
 lines_in_time image t (Sets u d v ∷ ls) s once idle =
@@ -84,13 +80,13 @@ lines_in_time image t (Occurs u n ∷ ls) s once idle =
       not_now : (k : ℕ) (p : Process) → slice_get image.processes k ≡ Some p → nat_eq p.kind 1 && occurs_at ls t p.event ≡ true → (b : Bool) → nat_eq u t && named n p ≡ b → b ≡ false
       not_now k p process due false is = refl
       not_now k p process due true is =
-          let now : (nat_eq u t ≡ true) × (named n p ≡ true) = parts (nat_eq u t) (named n p) is in
-          let it : (nat_eq p.kind 1 ≡ true) × (nat_eq p.event n ≡ true) = parts (nat_eq p.kind 1) (nat_eq p.event n) now.1 in
+          let now : (nat_eq u t ≡ true) × (named n p ≡ true) = and_parts (nat_eq u t) (named n p) is in
+          let it : (nat_eq p.kind 1 ≡ true) × (nat_eq p.event n ≡ true) = and_parts (nat_eq p.kind 1) (nat_eq p.event n) now.1 in
           let tick_is : u ≡ t = grind (arith, nat_tests, now.0) in
           let kind_is : p.kind ≡ 1 = grind (arith, nat_tests, it.0) in
           let event_is : p.event ≡ n = grind (arith, nat_tests, it.1) in
           let none : occurs_at ls t n ≡ false = once.0 tick_is k p process kind_is event_is in
-          let some : occurs_at ls t p.event ≡ true = (parts (nat_eq p.kind 1) (occurs_at ls t p.event) due).1 in
+          let some : occurs_at ls t p.event ≡ true = (and_parts (nat_eq p.kind 1) (occurs_at ls t p.event) due).1 in
           absurd (let both : true ≡ false = sym some ∙ (ap (λ (x : ℕ). occurs_at ls t x) event_is ∙ none) in cc)
 
       still : AreIdle image t ls (line image t (Occurs u n) s).state
@@ -130,14 +126,10 @@ or_left : (a b : Bool) → a ≡ true → a || b ≡ true
 or_left true b is = refl
 or_left false b is = absurd cc
 
-or_right : (a b : Bool) → b ≡ true → a || b ≡ true
-or_right true b is = refl
-or_right false b is = is
-
 -- a periodic process is released by no event
 pub no_event : (script : Script) (t : ℕ) (p : Process) → is_periodic_due t p ≡ true → is_event_due script t p ≡ false
 no_event script t p due =
-    let kind : p.kind ≡ 0 = (let is : nat_eq p.kind 0 ≡ true = (parts (nat_eq p.kind 0) (nat_le p.first t) (parts (nat_eq p.kind 0 && nat_le p.first t) _ due).0).0 in grind (arith, nat_tests, is)) in
+    let kind : p.kind ≡ 0 = (let is : nat_eq p.kind 0 ≡ true = (and_parts (nat_eq p.kind 0) (nat_le p.first t) (and_parts (nat_eq p.kind 0 && nat_le p.first t) _ due).0).0 in grind (arith, nat_tests, is)) in
     let other : nat_eq p.kind 1 ≡ false = grind (arith, nat_tests, kind) in
     ap (λ (b : Bool). b && occurs_at script.lines t p.event) other
 

@@ -1,6 +1,7 @@
 -- The run of the machine is one that the timing argument speaks of, so it is in time.
 use Rattle.std.proofs.Common.{◌≡◌, ◌<◌, ℕ, suc, Some, length, arith, refl, sym, subst}
 use Rattle.std.specs.Prelude.{slice_get}
+use Rattle.base.proofs.Lists.{some_at}
 use Rattle.machine_semantics.specs.Image.{Process, Script}
 use Rattle.machine_safety_spec.specs.Walk.{Where}
 use Rattle.machine_safety_spec.specs.Safe.{Parts, ImageFits}
@@ -10,13 +11,13 @@ use Rattle.sched_theorem.proofs.Places.{in_time_at}
 use Rattle.valid_image.specs.Tasks.{process_at, tasks_of}
 use Rattle.sched_timing.specs.Views.{life_before, trace_of, dispatch_of, rank_at, bound_at}
 use Rattle.sched_timing.specs.Timed.{RespectsFrames}
-use Rattle.sched_timing.proofs.Ranks.{IsTimedThriftily, has_process, length_is, are_tasks, are_ranks, are_bounds}
+use Rattle.sched_timing.proofs.Ranks.{IsTimedThriftily, length_is, are_tasks, are_ranks, are_bounds}
 use Rattle.sched_timing.proofs.Facts.{whole, opens, acts, spaced}
 use Rattle.sched_timing.proofs.Dispatching.{picks, keeps, stays}
 
 module _ (e : Where) (ps : ℕ → Parts) (image_fits : ImageFits e ps) (thrifty : IsTimedThriftily e ps) (script : Script) (respects : RespectsFrames e.image script) where
   process : (k : ℕ) → k < length (tasks_of e.image) → (p : Process) × (slice_get e.image.processes k ≡ Some p)
-  process k below = has_process e.image.processes k (omega (arith, below, length_is e ps thrifty))
+  process k below = some_at e.image.processes k (omega (arith, below, length_is e ps thrifty))
 
   start_nothing : (k : ℕ) → (life_before e.image script 0 k).run_left ≡ 0
   unfolding life_before

@@ -4,6 +4,7 @@ use Rattle.std.specs.Prelude.{slice_get, slice_index_or, cond, nat_eq}
 use Rattle.std.proofs.lemmas.Bool.{cases_Bool}
 use Rattle.std.proofs.lemmas.Bool.Decides.{nat_tests}
 use Rattle.std.proofs.lemmas.Option.{slice_get_within}
+use Rattle.base.proofs.Lists.{some_at}
 use Rattle.base.specs.Capped.{cap}
 use Rattle.sched_response.specs.declared.tasks.Task.{Task}
 use Rattle.sched_response.specs.Demand.{task_at, IsTask, Solves}
@@ -22,16 +23,11 @@ use Rattle.sched_timing.specs.Timed.{IsCovered, ImageIsTimed}
 
 -- ---- lists
 
-pub has_process : (ps : List Process) (j : ℕ) → j < length ps → (p : Process) × (slice_get ps j ≡ Some p)
-has_process [] j h = absurd (omega arith)
-has_process (p ∷ ps) zero h = (p, refl)
-has_process (p ∷ ps) (suc j) h = has_process ps j (omega arith)
-
 length_tasks : (image : Image) (j n : ℕ) → length (tasks_from image j n) ≡ n
 length_tasks image j zero = refl
 length_tasks image j (suc n) = ap suc (length_tasks image (suc j) n)
 
-tasks_at : (image : Image) (j n i : ℕ) (d : Task) → i < n → slice_index_or (tasks_from image j n) i d ≡ task_of (slice_get image.processes (process_at image (j + i)))
+pub tasks_at : (image : Image) (j n i : ℕ) (d : Task) → i < n → slice_index_or (tasks_from image j n) i d ≡ task_of (slice_get image.processes (process_at image (j + i)))
 tasks_at image j zero i d below = absurd (omega (arith, below))
 tasks_at image j (suc n) zero d below = let z : j ≡ j + 0 = omega arith in ap (λ (x : ℕ). task_of (slice_get image.processes (process_at image x))) z
 tasks_at image j (suc n) (suc i) d below =
@@ -102,12 +98,12 @@ module _ (e : Where) (ps : ℕ → Parts) (thrifty : IsTimedThriftily e ps) wher
   rank_is k p at = ap (λ (x : Option Process). rank_of_some x) at
 
   ranks_below : AreBelow (length e.image.processes) (length e.image.processes) (rank_at e.image)
-  ranks_below k below = let p : (q : Process) × (slice_get e.image.processes k ≡ Some q) = has_process e.image.processes k below in omega (arith, (timed.ranked k p.0 p.1).0, (timed.ranked k p.0 p.1).1, rank_is k p.0 p.1)
+  ranks_below k below = let p : (q : Process) × (slice_get e.image.processes k ≡ Some q) = some_at e.image.processes k below in omega (arith, (timed.ranked k p.0 p.1).0, (timed.ranked k p.0 p.1).1, rank_is k p.0 p.1)
 
   ranks_different : AreDifferent (length e.image.processes) (rank_at e.image)
   ranks_different j k below_j below_k same =
-      let p : (r : Process) × (slice_get e.image.processes j ≡ Some r) = has_process e.image.processes j below_j in
-      let q : (r : Process) × (slice_get e.image.processes k ≡ Some r) = has_process e.image.processes k below_k in
+      let p : (r : Process) × (slice_get e.image.processes j ≡ Some r) = some_at e.image.processes j below_j in
+      let q : (r : Process) × (slice_get e.image.processes k ≡ Some r) = some_at e.image.processes k below_k in
       timed.one_each j k p.0 q.0 p.1 q.1 (omega (arith, same, rank_is j p.0 p.1, rank_is k q.0 q.1, (timed.ranked j p.0 p.1).0, (timed.ranked k q.0 q.1).0))
 
   pub at_place : (j : ℕ) → j < length e.image.processes → At j
@@ -122,7 +118,7 @@ module _ (e : Where) (ps : ℕ → Parts) (thrifty : IsTimedThriftily e ps) wher
     by : (o : Option Process) → slice_get e.image.processes (process_at e.image j) ≡ o → At j
     by (Some q) some = record { p = q; process = some; rank = x.has q (ap (λ (y : ℕ). slice_get e.image.processes y) (sym index) ∙ some) }
     by None none = absurd (none_left_out (length e.image.processes) (rank_at e.image) j ranks_below ranks_different below (λ k low is.
-        (let p : (q : Process) × (slice_get e.image.processes k ≡ Some q) = has_process e.image.processes k low in
+        (let p : (q : Process) × (slice_get e.image.processes k ≡ Some q) = some_at e.image.processes k low in
         let of : p.0.rank ≡ suc j = omega (arith, is, rank_is k p.0 p.1, (timed.ranked k p.0 p.1).0) in
         let found : (q : Process) × (slice_get e.image.processes x.index ≡ Some q) = x.finds k p.0 p.1 of in
         (let both : None ≡ Some found.0 = sym none ∙ (ap (λ (y : ℕ). slice_get e.image.processes y) index ∙ found.1) in absurd cc))))
@@ -142,11 +138,11 @@ module _ (e : Where) (ps : ℕ → Parts) (thrifty : IsTimedThriftily e ps) wher
 
   pub are_ranks : AreRanks (length e.image.processes) (rank_at e.image) (process_at e.image)
   are_ranks = record {
-    rank_below = λ k below. (let p : (q : Process) × (slice_get e.image.processes k ≡ Some q) = has_process e.image.processes k below in
+    rank_below = λ k below. (let p : (q : Process) × (slice_get e.image.processes k ≡ Some q) = some_at e.image.processes k below in
         omega (arith, (timed.ranked k p.0 p.1).0, (timed.ranked k p.0 p.1).1, ap (λ (x : Option Process). rank_of_some x) p.1));
     place_below = λ j below. slice_get_within e.image.processes (process_at e.image j) (at_place j below).p (at_place j below).process;
     there = λ j below. omega (arith, (at_place j below).rank, ap (λ (x : Option Process). rank_of_some x) (at_place j below).process);
-    back = λ k below. (let p : (q : Process) × (slice_get e.image.processes k ≡ Some q) = has_process e.image.processes k below in
+    back = λ k below. (let p : (q : Process) × (slice_get e.image.processes k ≡ Some q) = some_at e.image.processes k below in
         ap (λ (x : Option Process). process_at e.image (rank_of_some x)) p.1 ∙ back k p.0 p.1);
   }
 

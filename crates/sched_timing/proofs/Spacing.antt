@@ -3,11 +3,12 @@ use Rattle.std.proofs.Common.{◌≡◌, ◌≤◌, ◌<◌, ◌+◌, ◌-◌, �
 use Rattle.std.specs.Prelude.{slice_get, nat_eq, nat_le, ◌&&◌, ◌||◌, ◌/◌, ◌%◌}
 use Rattle.std.proofs.lemmas.Bool.Decides.{nat_tests}
 use Rattle.std.proofs.lemmas.Nat.{div-add-mod'}
+use Rattle.std.proofs.lemmas.Bool.{or_cases, and_parts}
 use Rattle.machine_semantics.specs.Image.{Image, Process, Script, Line, Sets, Occurs}
 use Rattle.machine_semantics.specs.Starts.{is_periodic_due}
 use Rattle.sched_timing.specs.Views.{occurs_at, is_event_due, is_due}
 use Rattle.sched_timing.specs.Timed.{RespectsFrames}
-use Rattle.sched_timing.proofs.Overruns.{Once, parts}
+use Rattle.sched_timing.proofs.Overruns.{Once}
 
 -- ---- multiples
 
@@ -36,8 +37,8 @@ record Periodic (t : ℕ) (p : Process) : Type 0 where
 
 is_periodic : (t : ℕ) (p : Process) → is_periodic_due t p ≡ true → Periodic t p
 is_periodic t p due =
-    let a : (nat_eq p.kind 0 && nat_le p.first t ≡ true) × (nat_eq ((t - p.first) % p.frame) 0 ≡ true) = parts (nat_eq p.kind 0 && nat_le p.first t) (nat_eq ((t - p.first) % p.frame) 0) due in
-    let b : (nat_eq p.kind 0 ≡ true) × (nat_le p.first t ≡ true) = parts (nat_eq p.kind 0) (nat_le p.first t) a.0 in
+    let a : (nat_eq p.kind 0 && nat_le p.first t ≡ true) × (nat_eq ((t - p.first) % p.frame) 0 ≡ true) = and_parts (nat_eq p.kind 0 && nat_le p.first t) (nat_eq ((t - p.first) % p.frame) 0) due in
+    let b : (nat_eq p.kind 0 ≡ true) × (nat_le p.first t ≡ true) = and_parts (nat_eq p.kind 0) (nat_le p.first t) a.0 in
     record { kind = grind (arith, nat_tests, b.0); since = grind (arith, nat_tests, b.1); whole = grind (arith, nat_tests, a.1) }
 
 periods_apart : (t u : ℕ) (p : Process) → Periodic t p → Periodic u p → t < u → t + p.frame ≤ u
@@ -55,7 +56,7 @@ occurs_found (Sets u d v ∷ ls) t n is = let later : (j : ℕ) × (slice_get ls
 occurs_found (Occurs u m ∷ ls) t n is = by (nat_eq u t && nat_eq n m) refl is (occurs_found ls t n) where
   by : (b : Bool) → nat_eq u t && nat_eq n m ≡ b → b || occurs_at ls t n ≡ true → (occurs_at ls t n ≡ true → (j : ℕ) × (slice_get ls j ≡ Some (Occurs t n))) → (j : ℕ) × (slice_get (Occurs u m ∷ ls) j ≡ Some (Occurs t n))
   by true here is later =
-      let both : (nat_eq u t ≡ true) × (nat_eq n m ≡ true) = parts (nat_eq u t) (nat_eq n m) here in
+      let both : (nat_eq u t ≡ true) × (nat_eq n m ≡ true) = and_parts (nat_eq u t) (nat_eq n m) here in
       let tick_is : u ≡ t = grind (arith, nat_tests, both.0) in
       let event_is : n ≡ m = grind (arith, nat_tests, both.1) in
       (0, ap (λ (x : ℕ). Some (Occurs x m)) tick_is ∙ ap (λ (x : ℕ). Some (Occurs t x)) (sym event_is))
@@ -82,8 +83,8 @@ once image script t respects frames = once_from image script t 0 script.lines re
 
 events_apart : (image : Image) (script : Script) (k t u : ℕ) (p : Process) → RespectsFrames image script → slice_get image.processes k ≡ Some p → is_event_due script t p ≡ true → is_event_due script u p ≡ true → t < u → t + p.frame ≤ u
 events_apart image script k t u p respects process first second below =
-    let a : (nat_eq p.kind 1 ≡ true) × (occurs_at script.lines t p.event ≡ true) = parts (nat_eq p.kind 1) (occurs_at script.lines t p.event) first in
-    let b : (nat_eq p.kind 1 ≡ true) × (occurs_at script.lines u p.event ≡ true) = parts (nat_eq p.kind 1) (occurs_at script.lines u p.event) second in
+    let a : (nat_eq p.kind 1 ≡ true) × (occurs_at script.lines t p.event ≡ true) = and_parts (nat_eq p.kind 1) (occurs_at script.lines t p.event) first in
+    let b : (nat_eq p.kind 1 ≡ true) × (occurs_at script.lines u p.event ≡ true) = and_parts (nat_eq p.kind 1) (occurs_at script.lines u p.event) second in
     let kind : p.kind ≡ 1 = grind (arith, nat_tests, a.0) in
     let at_t : (j : ℕ) × (slice_get script.lines j ≡ Some (Occurs t p.event)) = occurs_found script.lines t p.event a.1 in
     let at_u : (j : ℕ) × (slice_get script.lines j ≡ Some (Occurs u p.event)) = occurs_found script.lines u p.event b.1 in
@@ -94,25 +95,20 @@ events_apart image script k t u p respects process first second below =
 
 -- ---- both
 
--- by its event or by its frame
-either : (a b : Bool) → a || b ≡ true → (a ≡ true) ⊎ (b ≡ true)
-either true b is = inl refl
-either false b is = inr is
-
 event_kind : (script : Script) (t u : ℕ) (p : Process) → is_event_due script t p ≡ true → Periodic u p → ⊥
 event_kind script t u p due periodic =
-    let is : nat_eq p.kind 1 ≡ true = (parts (nat_eq p.kind 1) (occurs_at script.lines t p.event) due).0 in
+    let is : nat_eq p.kind 1 ≡ true = (and_parts (nat_eq p.kind 1) (occurs_at script.lines t p.event) due).0 in
     let kind : p.kind ≡ 1 = grind (arith, nat_tests, is) in
     omega (arith, kind, periodic.kind)
 
 pub releases_apart : (image : Image) (script : Script) (k t u : ℕ) (p : Process) → RespectsFrames image script → slice_get image.processes k ≡ Some p → is_due script t p ≡ true → is_due script u p ≡ true → t < u → t + p.frame ≤ u
 releases_apart image script k t u p respects process first second below =
-    elim (either (is_event_due script t p) (is_periodic_due t p) first) [
-      | inl event_t ↦ elim (either (is_event_due script u p) (is_periodic_due u p) second) [
+    elim (or_cases (is_event_due script t p) (is_periodic_due t p) first) [
+      | inl event_t ↦ elim (or_cases (is_event_due script u p) (is_periodic_due u p) second) [
         | inl event_u ↦ events_apart image script k t u p respects process event_t event_u below
         | inr period_u ↦ absurd (event_kind script t u p event_t (is_periodic u p period_u))
       ]
-      | inr period_t ↦ elim (either (is_event_due script u p) (is_periodic_due u p) second) [
+      | inr period_t ↦ elim (or_cases (is_event_due script u p) (is_periodic_due u p) second) [
         | inl event_u ↦ absurd (event_kind script u t p event_u (is_periodic t p period_t))
         | inr period_u ↦ periods_apart t u p (is_periodic t p period_t) (is_periodic u p period_u) below
       ]

@@ -1,7 +1,8 @@
 -- The thread of a process before a tick, after its start events, and after the tick.
-use Rattle.std.proofs.Common.{◌≡◌, ◌<◌, ◌⊎◌, inl, inr, ℕ, zero, suc, List, [], ◌∷◌, Option, Some, None, length, arith, refl, ap, sym, subst, ◌∙◌, true, false, Bool}
+use Rattle.std.proofs.Common.{◌≡◌, ◌<◌, ◌⊎◌, inl, inr, ℕ, suc, List, Option, Some, None, length, arith, refl, ap, sym, subst, ◌∙◌, true, false, Bool}
 use Rattle.std.specs.Prelude.{slice_get}
 use Rattle.std.proofs.lemmas.Option.{slice_get_within}
+use Rattle.base.proofs.Lists.{some_at}
 use Rattle.base.specs.declared.event.Event.{Event}
 use Rattle.machine_semantics.specs.Image.{Image, Process, Script}
 use Rattle.machine_semantics.specs.State.{Job, Thread, Idle, Ready, Waiting, State}
@@ -22,11 +23,6 @@ use Rattle.sched_timing.proofs.Turns.{Turn, Turned, passes}
 pub next_state : (image : Image) (script : Script) (t : ℕ) → state_at image script (suc t) ≡ (tick image script t (state_at image script t)).state
 unfolding state_at
 next_state image script t = refl
-
-has_thread : (ts : List Thread) (j : ℕ) → j < length ts → (th : Thread) × (slice_get ts j ≡ Some th)
-has_thread [] j h = absurd (omega arith)
-has_thread (t ∷ ts) zero h = (t, refl)
-has_thread (t ∷ ts) (suc j) h = has_thread ts j (omega arith)
 
 -- ---- what the start events do
 
@@ -75,9 +71,9 @@ module _ (e : Where) (ps : ℕ → Parts) (image_fits : ImageFits e ps) (script 
   pub threads : (t k : ℕ) (p : Process) → slice_get e.image.processes k ≡ Some p → Threads t k p
   threads t k p process =
       let below : k < length e.image.processes = slice_get_within e.image.processes k p process in
-      let o : (th : Thread) × (slice_get (before t).threads k ≡ Some th) = has_thread (before t).threads k (omega (arith, below, (fits_before t).many)) in
-      let m : (th : Thread) × (slice_get (middle t).threads k ≡ Some th) = has_thread (middle t).threads k (omega (arith, below, (fits_middle t).many)) in
-      let n : (th : Thread) × (slice_get (before (suc t)).threads k ≡ Some th) = has_thread (before (suc t)).threads k (omega (arith, below, (fits_before (suc t)).many)) in
+      let o : (th : Thread) × (slice_get (before t).threads k ≡ Some th) = some_at (before t).threads k (omega (arith, below, (fits_before t).many)) in
+      let m : (th : Thread) × (slice_get (middle t).threads k ≡ Some th) = some_at (middle t).threads k (omega (arith, below, (fits_middle t).many)) in
+      let n : (th : Thread) × (slice_get (before (suc t)).threads k ≡ Some th) = some_at (before (suc t)).threads k (omega (arith, below, (fits_before (suc t)).many)) in
       let opened : TimesOut (maybe_released e.image p (is_due script t p) (slice_get (before t).threads k)) (slice_get (middle t).threads k) = begun e.image script t k p (before t) process in
       let at_o : TimesOut (maybe_released e.image p (is_due script t p) (Some o.0)) (slice_get (middle t).threads k) =
       subst (λ (x : Option Thread). TimesOut (maybe_released e.image p (is_due script t p) x) (slice_get (middle t).threads k)) o.1 opened in

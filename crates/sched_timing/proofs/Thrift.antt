@@ -1,11 +1,12 @@
 -- A wait takes ten ticks, with its REENT: so an image that fits its trees fits them with no more waits than a tenth of the ticks.
-use Rattle.std.proofs.Common.{◌≡◌, ◌≤◌, ◌+◌, ◌-◌, ◌*◌, ℕ, zero, suc, Option, Some, None, arith, sym, subst}
+use Rattle.std.proofs.Common.{◌≤◌, ◌+◌, ◌*◌, ℕ, zero, suc, Option, Some, None, arith}
 use Rattle.std.specs.Prelude.{min, ◌/◌}
 use Rattle.machine_semantics.specs.Trees.{Seg, Segs, Line, Fork, Rep, Call, Stay, Wait, Exit, Nil, Cons}
 use Rattle.machine_semantics.specs.Image.{Process, Routine}
 use Rattle.machine_safety_spec.specs.Walk.{Where, Cost, Covers, Reaches, IsLine, Walk, Walks, within}
 use Rattle.machine_safety_spec.specs.Job.{RoutineFits}
 use Rattle.machine_safety_spec.specs.Safe.{Parts, HandlerFits, ProcessFits, ImageFits}
+use Rattle.machine_safety.proofs.Working.{times_le}
 
 -- as many waits, but no more than a tenth of the ticks
 abbrev pub thrifty : (waits run : ℕ) → ℕ
@@ -33,9 +34,6 @@ thrift_in e = record e { costs = λ r. thrift (e.costs r) }
 
 reaches : (e : Where) (m : ℕ) → Reaches e m → Reaches (thrift_in e) m
 reaches e m r = record { monitor = r.monitor; there = r.there; low = r.low }
-
-pub times_le : (a b c : ℕ) → b ≤ c → a * b ≤ a * c
-times_le a b c h = let e : c ≡ b + (c - b) = omega arith in subst (λ (x : ℕ). a * b ≤ a * x) (sym e) (omega arith)
 
 line : (e : Where) (base n at next h k : ℕ) (c : Cost) → IsLine e base n at next h k c → IsLine (thrift_in e) base n at next h k (thrift c)
 line e base zero at next h k c l = l

@@ -15,7 +15,7 @@ use Rattle.sched_timing.specs.Timed.{IsCovered}
 use Rattle.sched_timing.specs.TimedExample.{MeetingIsTimed, MeetingIsInTime}
 use Rattle.sched_timing.proofs.Whole.{every_run_is_in_time}
 
-abbrev first : Process
+abbrev pub first : Process
 first = record {
   kind = 0;
   frame = 200;
@@ -38,7 +38,7 @@ first = record {
   handler_tree = Some (Cons (Line 2) Nil);
 }
 
-abbrev second : Process
+abbrev pub second : Process
 second = record {
   kind = 0;
   frame = 300;
@@ -62,7 +62,7 @@ second = record {
 }
 
 -- a fact of each of the two processes
-each : (code : List Instr) (P : ℕ → Process → Type 0) → P 0 first → P 1 second → (k : ℕ) (p : Process) → slice_get (meeting 0 code).processes k ≡ Some p → P k p
+pub each : (code : List Instr) (P : ℕ → Process → Type 0) → P 0 first → P 1 second → (k : ℕ) (p : Process) → slice_get (meeting 0 code).processes k ≡ Some p → P k p
 each code P one two zero p at = let is : first ≡ p = cc in subst (λ (x : Process). P 0 x) is one
 each code P one two (suc zero) p at = let is : second ≡ p = cc in subst (λ (x : Process). P 1 x) is two
 each code P one two (suc (suc k)) p at = absurd cc

@@ -1,68 +1,15 @@
 -- The image with a monitor, a wait, a signal and a handler meets the premises.
-use Rattle.std.proofs.Common.{◌≡◌, ◌≤◌, ◌<◌, ◌⊎◌, inl, inr, ℕ, zero, suc, List, [], ◌∷◌, Some, None, arith, refl, ap, sym, subst, true, false, Bool}
+use Rattle.std.proofs.Common.{◌≡◌, ◌≤◌, ◌<◌, ◌⊎◌, inl, inr, ℕ, zero, suc, List, Some, None, arith, refl, ap, sym, true, false, Bool}
 use Rattle.std.specs.Prelude.{IsTrue, slice_get, slice_index, slice_index_or}
 use Rattle.machine_isa.specs.declared.instr.Instr.{Instr}
 use Rattle.sched_response.specs.Ranked.{use_at, outranks, AreRanks, IsLowerStay, IsBlocking}
-use Rattle.machine_semantics.specs.Trees.{Line, Call, Nil, Cons}
-use Rattle.machine_semantics.specs.Image.{Process, Monitor}
+use Rattle.machine_semantics.specs.Image.{Monitor}
 use Rattle.machine_safety_spec.specs.Safe.{part_of}
 use Rattle.machine_safety.specs.Example.{meeting, meeting_place, meeting_parts}
 use Rattle.sched_timing.specs.Timed.{ImageIsTimed}
-use Rattle.sched_timing.proofs.TimedMeeting.{meeting_is_timed}
+use Rattle.sched_timing.proofs.TimedMeeting.{meeting_is_timed, each}
 use Rattle.sched_timing.specs.Defined.{shown, IsTold}
 use Rattle.sched_timing.specs.TimedUsesExample.{meeting_uses, meeting_ranks, meeting_ceilings, MeetingIsDefined}
-
-abbrev first : Process
-first = record {
-  kind = 0;
-  frame = 200;
-  deadline = 200;
-  first = 0;
-  event = 0;
-  rank = 1;
-  run = 43;
-  susp = 30;
-  waits = 1;
-  block = 8;
-  bound = 89;
-  words = 0;
-  stack = 2;
-  locals = 0;
-  start = 9;
-  handler = 11;
-  numbers = 10 ∷ [];
-  body = Cons (Call 0) Nil;
-  handler_tree = Some (Cons (Line 2) Nil);
-}
-
-abbrev second : Process
-second = record {
-  kind = 0;
-  frame = 300;
-  deadline = 300;
-  first = 31;
-  event = 0;
-  rank = 2;
-  run = 27;
-  susp = 0;
-  waits = 0;
-  block = 0;
-  bound = 300;
-  words = 0;
-  stack = 2;
-  locals = 0;
-  start = 14;
-  handler = 0;
-  numbers = [];
-  body = Cons (Call 1) Nil;
-  handler_tree = None;
-}
-
--- a fact of each of the two processes
-each : (code : List Instr) (P : ℕ → Process → Type 0) → P 0 first → P 1 second → (k : ℕ) (p : Process) → slice_get (meeting 0 code).processes k ≡ Some p → P k p
-each code P one two zero p at = let is : first ≡ p = cc in subst (λ (x : Process). P 0 x) is one
-each code P one two (suc zero) p at = let is : second ≡ p = cc in subst (λ (x : Process). P 1 x) is two
-each code P one two (suc (suc k)) p at = absurd cc
 
 are_ranks : AreRanks meeting_uses meeting_ranks
 are_ranks = record { one_each = refl; low = low; high = high; ordered = ordered } where

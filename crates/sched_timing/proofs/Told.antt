@@ -2,6 +2,7 @@
 use Rattle.std.proofs.Common.{◌≡◌, ◌+◌, ◌++◌, ℕ, zero, suc, List, [], ◌∷◌, Option, Some, length, arith, refl, ap, sym, subst, ◌∙◌, true, false, Bool}
 use Rattle.std.specs.Prelude.{slice_get, cond, nat_eq, ◌&&◌, ◌||◌, Contains}
 use Rattle.std.proofs.lemmas.List.Elements.{Contains-append_left, Contains-append_right}
+use Rattle.std.proofs.lemmas.Bool.{and_parts}
 use Rattle.base.specs.declared.event.Event.{Event}
 use Rattle.base.specs.declared.event.Act.TheVariants as act
 use Rattle.machine_semantics.specs.Image.{Image, Process, Script, Line, Sets, Occurs}
@@ -12,7 +13,6 @@ use Rattle.machine_semantics.specs.Run.{state_at}
 use Rattle.sched_timing.specs.Views.{occurs_at, is_event_due, is_due, during}
 use Rattle.sched_timing.specs.Timed.{told_at}
 use Rattle.sched_timing.proofs.Begun.{maybe_released, each, named, periodic_each, occurs_each, maybe_other, line_here, lines_here, sets_here}
-use Rattle.sched_timing.proofs.Overruns.{parts}
 
 -- process k is released at tick t
 abbrev pub released_at : (t k : ℕ) → Event
@@ -44,16 +44,16 @@ each_told image t test i (suc j) k (q ∷ qs) p s at is due idle =
     (each_told image t test (i + 1) j k qs p a.state at (omega (arith, is)) due (maybe_other image t i k q (test q) s (λ same. absurd (omega (arith, same, is))) ∙ idle))
 
 line_told : (image : Image) (t k : ℕ) (p : Process) (u n : ℕ) (s : State) → slice_get image.processes k ≡ Some p → nat_eq u t && named n p ≡ true → slice_get s.threads k ≡ Some Idle → Contains (line image t (Occurs u n) s).events (released_at t k)
-line_told image t k p u n s process due idle = by (nat_eq u t) (parts (nat_eq u t) (named n p) due).0 where
+line_told image t k p u n s process due idle = by (nat_eq u t) (and_parts (nat_eq u t) (named n p) due).0 where
   by : (b : Bool) → b ≡ true → Contains (cond b (occurs image t n 0 image.processes s) (unchanged s)).events (released_at t k)
   by false is = absurd cc
   by true is =
       subst (λ (x : Started). Contains x.events (released_at t k)) (sym (occurs_each image t n 0 image.processes s))
-      (each_told image t (named n) 0 k k image.processes p s process (omega arith) (parts (nat_eq u t) (named n p) due).1 idle)
+      (each_told image t (named n) 0 k k image.processes p s process (omega arith) (and_parts (nat_eq u t) (named n p) due).1 idle)
 
 lines_told : (image : Image) (t k : ℕ) (p : Process) (ls : List Line) (s : State) → slice_get image.processes k ≡ Some p → nat_eq p.kind 1 && occurs_at ls t p.event ≡ true → slice_get s.threads k ≡ Some Idle
     → Contains (lines image t ls s).events (released_at t k)
-lines_told image t k p [] s process due idle = absurd (let no : false ≡ true = (parts (nat_eq p.kind 1) false due).1 in cc)
+lines_told image t k p [] s process due idle = absurd (let no : false ≡ true = (and_parts (nat_eq p.kind 1) false due).1 in cc)
 lines_told image t k p (Sets u d v ∷ ls) s process due idle =
     Contains-append_right (line image t (Sets u d v) s).events (lines image t ls (line image t (Sets u d v) s).state).events (released_at t k)
     (lines_told image t k p ls (line image t (Sets u d v) s).state process due (ap (λ (x : List Thread). slice_get x k) (sets_here image t k u d v s) ∙ idle))

@@ -2,6 +2,7 @@
 use Rattle.std.proofs.Common.{◌≡◌, ◌+◌, ◌⊎◌, inl, inr, ℕ, zero, suc, List, [], ◌∷◌, Option, Some, None, arith, refl, ap, sym, subst, ◌∙◌, true, false}
 use Rattle.std.specs.Prelude.{slice_get, slice_set, ℤ}
 use Rattle.std.proofs.lemmas.Bool.Decides.{nat_tests}
+use Rattle.base.proofs.Lists.{get_set}
 use Rattle.base.specs.declared.event.Event.{Event}
 use Rattle.base.specs.declared.event.Act.TheVariants as act
 use Rattle.machine_semantics.specs.Image.{Process, Script}
@@ -17,7 +18,6 @@ use Rattle.machine_safety.proofs.Ticking.{tick_is_safe}
 use Rattle.machine_safety.proofs.Picked.{Chosen, ChosenOf, chosen, finds_free}
 use Rattle.machine_safety.proofs.Starting.{starts_keep}
 use Rattle.machine_safety.proofs.Settling.{own_limit}
-use Rattle.machine_safety.proofs.Working.{get_set}
 use Rattle.machine_safety.proofs.Staying.{wake_first_ready, wake_all_ready}
 use Rattle.machine_safety.proofs.Suspending.{IsWoken, run_left}
 

@@ -22,7 +22,8 @@ use Rattle.sched_timing.proofs.Placed.{in_time}
 use Rattle.sched_timing.proofs.Told.{overrun_is}
 use Rattle.sched_timing.proofs.Ended.{no_overrun, ends_within, ends_soon, own_bound}
 use Rattle.sched_timing.proofs.Logs.{log_ends}
-use Rattle.sched_timing.proofs.Thrift.{thrift_in, thrift_parts, image_fits_thriftily, tenth, no_more, times_le}
+use Rattle.sched_timing.proofs.Thrift.{thrift_in, thrift_parts, image_fits_thriftily, tenth, no_more}
+use Rattle.machine_safety.proofs.Working.{times_le}
 
 idle_thread : (th : Thread) → is_idle (Some th) ≡ true → th ≡ Idle
 idle_thread Idle is = refl

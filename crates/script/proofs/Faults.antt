@@ -171,7 +171,7 @@ cons_same : (x : Said) (c : List Said) (y : Said) → x ≡ y → c ≡ [] → (
 cons_same x c y e f = ap (λ z. z ∷ c) e ∙ ap (λ t. y ∷ t) f
 
 -- the text of a row and of what follows it
-text_both : (a b : List Said) → text_of (a ++ b) ≡ text_of a ++ text_of b
+pub text_both : (a b : List Said) → text_of (a ++ b) ≡ text_of a ++ text_of b
 text_both [] b = refl
 text_both (x ∷ a) b = ap (λ t. spelled x ++ 10 ∷ t) (text_both a b) ∙ sym (append_assoc (spelled x) (10 ∷ text_of a) (text_of b))
 

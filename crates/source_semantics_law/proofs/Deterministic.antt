@@ -1,6 +1,7 @@
 -- From a configuration an event leads to at most one configuration.
-use Rattle.std.specs.Prelude.{◌≡◌, List, [], ◌∷◌, Option, Some}
+use Rattle.std.specs.Prelude.{◌≡◌, List, [], ◌∷◌}
 use Rattle.std.proofs.Common.{sym, ◌∙◌, ap, inl, inr}
+use Rattle.base.proofs.Lists.{one_some}
 use Rattle.base.specs.declared.event.Event.{Event}
 use Rattle.syntax_tree.specs.Plain.{Prog}
 use Rattle.source_semantics.specs.Config.{Config}
@@ -9,9 +10,6 @@ use Rattle.source_semantics.specs.Source.{Step, Acts, acts, job_next}
 
 some_first : {A : Type 0} {e : A} {l m : List A} → m ≡ e ∷ l → m ≡ [] → ⊥
 some_first p q = cc
-
-one_some : {A : Type 0} {o : Option A} {x y : A} → o ≡ Some x → o ≡ Some y → x ≡ y
-one_some p q = cc
 
 same_acts : (g : Prog) (s : Script) (c : Config) (e : Event) (a b : Config) → Acts g s c e a → Acts g s c e b → a ≡ b
 same_acts g s c e a b x y =

@@ -3,6 +3,7 @@ use Rattle.std.specs.Prelude.{◌≡◌, ℕ, zero, suc, ◌+◌, ◌-◌, ◌�
 use Rattle.std.proofs.Common.{refl, sym, subst, inl, inr, arith}
 use Rattle.std.proofs.lemmas.Bool.Decides.{nat_tests}
 use Rattle.std.proofs.Math.Nat.{eq-or-lt_of_le}
+use Rattle.std.proofs.lemmas.Bool.{and_parts, eqb-true, not-true}
 use Rattle.base.specs.declared.event.Event.{Event}
 use Rattle.base.specs.declared.event.Act.{Act}
 use Rattle.base.specs.declared.event.Act.TheVariants as act
@@ -81,12 +82,6 @@ play g s c (x ∷ xs) =
     let p : Played = played g s c x in
     continued (p.allowed && in_time g s c (tick_of x)) p.event (play g s p.config xs)
 
-both : (a b : Bool) → a && b ≡ true → (a ≡ true) × (b ≡ true)
-both true true h = (refl, refl)
-both true false h = absurd cc
-both false true h = absurd cc
-both false false h = absurd cc
-
 of_empty : {A : Type 0} (xs : List A) → empty xs ≡ true → xs ≡ []
 of_empty [] h = refl
 of_empty (x ∷ xs) h = absurd cc
@@ -94,7 +89,7 @@ of_empty (x ∷ xs) h = absurd cc
 none_missing : (g : Prog) (s : Script) (c : Config) (n u : ℕ) → none_from g s c u n ≡ true → (v : ℕ) → u ≤ v → v < u + n → due g s c v ≡ []
 none_missing g s c zero u h v low high = absurd (omega arith)
 none_missing g s c (suc n) u h v low high =
-    let parts : (empty (due g s c u) ≡ true) × (none_from g s c (suc u) n ≡ true) = both (empty (due g s c u)) (none_from g s c (suc u) n) h in
+    let parts : (empty (due g s c u) ≡ true) × (none_from g s c (suc u) n ≡ true) = and_parts (empty (due g s c u)) (none_from g s c (suc u) n) h in
     elim (eq-or-lt_of_le low) [
       | inl same ↦ subst (λ w. due g s c w ≡ []) same (of_empty (due g s c u) parts.0)
       | inr above ↦ none_missing g s c n (suc u) parts.1 v above (omega arith)
@@ -102,18 +97,11 @@ none_missing g s c (suc n) u h v low high =
 
 in_time_facts : (g : Prog) (s : Script) (c : Config) (t : ℕ) → in_time g s c t ≡ true → (t < s.end_tick) × (c.tick ≤ t) × NoneMissing g s c t
 in_time_facts g s c t h =
-    let first : (nat_lt t s.end_tick ≡ true) × (nat_le c.tick t && none_from g s c c.tick (t - c.tick) ≡ true) = both _ _ h in
-    let second : (nat_le c.tick t ≡ true) × (none_from g s c c.tick (t - c.tick) ≡ true) = both _ _ first.1 in
+    let first : (nat_lt t s.end_tick ≡ true) × (nat_le c.tick t && none_from g s c c.tick (t - c.tick) ≡ true) = and_parts _ _ h in
+    let second : (nat_le c.tick t ≡ true) × (none_from g s c c.tick (t - c.tick) ≡ true) = and_parts _ _ first.1 in
     let below : t < s.end_tick = grind (arith, nat_tests, first.0) in
     let above : c.tick ≤ t = grind (arith, nat_tests, second.0) in
     (below, above, λ u low high. none_missing g s c (t - c.tick) c.tick second.1 u low (omega arith))
-
-nat_same : (a b : ℕ) → nat_eq a b ≡ true → a ≡ b
-nat_same a b h = grind (arith, nat_tests)
-
-of_not : (b : Bool) → not b ≡ true → b ≡ false
-of_not true h = absurd cc
-of_not false h = refl
 
 of_idle : (d : Doing) → is_idle d ≡ true → d ≡ idle
 of_idle idle h = refl
@@ -139,15 +127,15 @@ starts_of : (g : Prog) (s : Script) (c : Config) (t : ℕ) (es : List Event) →
     → Starts g s c (played_start g s c t es).event (played_start g s c t es).config
 starts_of g s c t [] is h = absurd cc
 starts_of g s c t (e ∷ later) is h =
-    let parts : (nat_eq e.tick t ≡ true) × (can_start e.act (slice_get c.jobs e.proc) ≡ true) = both _ _ h in
-    record { later = later; first = subst (λ u. due g s c u ≡ e ∷ later) (sym (nat_same e.tick t parts.0)) is; may_start = may e.act (slice_get c.jobs e.proc) parts.1; after = refl }
+    let parts : (nat_eq e.tick t ≡ true) × (can_start e.act (slice_get c.jobs e.proc) ≡ true) = and_parts _ _ h in
+    record { later = later; first = subst (λ u. due g s c u ≡ e ∷ later) (sym (eqb-true e.tick t parts.0)) is; may_start = may e.act (slice_get c.jobs e.proc) parts.1; after = refl }
 
 acts_of : (g : Prog) (s : Script) (c : Config) (t k : ℕ) (p : Option Process) (j : Option Job) → slice_get (processes g) k ≡ p → slice_get c.jobs k ≡ j
     → due g s c t ≡ [] → c.acted && nat_eq c.tick t ≡ false → (played_act g s c t k p j).allowed ≡ true
     → Acts g s c (played_act g s c t k p j).event (played_act g s c t k p j).config
 acts_of g s c t k (Some p) (Some j) text state none nobody h =
-    let first : (is_ready j.doing ≡ true) × (empty (before g c k (ready_from 0 c.jobs)) && may_act c (job_next c k p j g).action ≡ true) = both _ _ h in
-    let second : (empty (before g c k (ready_from 0 c.jobs)) ≡ true) × (may_act c (job_next c k p j g).action ≡ true) = both _ _ first.1 in
+    let first : (is_ready j.doing ≡ true) × (empty (before g c k (ready_from 0 c.jobs)) && may_act c (job_next c k p j g).action ≡ true) = and_parts _ _ h in
+    let second : (empty (before g c k (ready_from 0 c.jobs)) ≡ true) × (may_act c (job_next c k p j g).action ≡ true) = and_parts _ _ first.1 in
     record {
       none_due = none;
       nobody_acted = nobody;
@@ -166,7 +154,7 @@ acts_of g s c t k (Some p) None text state none nobody h = absurd cc
 
 start_tick : (g : Prog) (s : Script) (c : Config) (t : ℕ) (es : List Event) → (played_start g s c t es).allowed ≡ true → (played_start g s c t es).event.tick ≡ t
 start_tick g s c t [] h = absurd cc
-start_tick g s c t (e ∷ later) h = nat_same e.tick t (both (nat_eq e.tick t) (can_start e.act (slice_get c.jobs e.proc)) h).0
+start_tick g s c t (e ∷ later) h = eqb-true e.tick t (and_parts (nat_eq e.tick t) (can_start e.act (slice_get c.jobs e.proc)) h).0
 
 act_tick : (g : Prog) (s : Script) (c : Config) (t k : ℕ) (p : Option Process) (j : Option Job) → (played_act g s c t k p j).allowed ≡ true → (played_act g s c t k p j).event.tick ≡ t
 act_tick g s c t k (Some p) (Some j) h = refl
@@ -188,14 +176,14 @@ step_of g s c (acts_at t k) h timely =
     let facts : (t < s.end_tick) × (c.tick ≤ t) × NoneMissing g s c t = in_time_facts g s c t timely in
     let p : Option Process = slice_get (processes g) k in
     let j : Option Job = slice_get c.jobs k in
-    let first : ((played_act g s c t k p j).allowed ≡ true) × (empty (due g s c t) && not (c.acted && nat_eq c.tick t) ≡ true) = both _ _ h in
-    let second : (empty (due g s c t) ≡ true) × (not (c.acted && nat_eq c.tick t) ≡ true) = both _ _ first.1 in
+    let first : ((played_act g s c t k p j).allowed ≡ true) × (empty (due g s c t) && not (c.acted && nat_eq c.tick t) ≡ true) = and_parts _ _ h in
+    let second : (empty (due g s c t) ≡ true) × (not (c.acted && nat_eq c.tick t) ≡ true) = and_parts _ _ first.1 in
     let at : (played_act g s c t k p j).event.tick ≡ t = act_tick g s c t k p j first.0 in
     record {
       before_end = subst (λ u. u < s.end_tick) (sym at) facts.0;
       reached = subst (λ u. c.tick ≤ u) (sym at) facts.1;
       none_missing = subst (λ u. NoneMissing g s c u) (sym at) facts.2;
-      comes = inr (acts_of g s c t k p j refl refl (of_empty (due g s c t) second.0) (of_not (c.acted && nat_eq c.tick t) second.1) first.0);
+      comes = inr (acts_of g s c t k p j refl refl (of_empty (due g s c t) second.0) (not-true (c.acted && nat_eq c.tick t) second.1) first.0);
     }
 
 ended : (b : Bool) (es : List Event) → cond b (Some []) None ≡ Some es → (b ≡ true) × (es ≡ [])
@@ -216,7 +204,7 @@ sound g s (x ∷ xs) c es h =
     let p : Played = played g s c x in
     let facts : (later : List Event) × (p.allowed && in_time g s c (tick_of x) ≡ true) × (play g s p.config xs ≡ Some later) × (es ≡ p.event ∷ later) =
     went_on (p.allowed && in_time g s c (tick_of x)) p.event (play g s p.config xs) es h in
-    let ok : (p.allowed ≡ true) × (in_time g s c (tick_of x) ≡ true) = both _ _ facts.1 in
+    let ok : (p.allowed ≡ true) × (in_time g s c (tick_of x) ≡ true) = and_parts _ _ facts.1 in
     subst (λ l. RunFrom g s c l) (sym facts.3) (p.config, step_of g s c x ok.0 ok.1, sound g s xs p.config facts.0 facts.2)
 
 pub is_run : (g : Prog) (s : Script) (xs : List Choice) (es : List Event) → play g s (start g) xs ≡ Some es → IsSourceRun g s es

@@ -2,6 +2,7 @@
 use Rattle.std.specs.Prelude.{◌≡◌, ℕ, zero, suc, ◌+◌, ◌-◌, ◌≤◌, ◌<◌, true, cond, ◌&&◌, not, List, [], ◌∷◌, Option, Some, None, nat_eq, nat_lt, nat_le, slice_get}
 use Rattle.std.proofs.Common.{refl, sym, ◌∙◌, ap, inl, inr, arith}
 use Rattle.std.proofs.lemmas.Bool.Decides.{nat_tests}
+use Rattle.base.proofs.Numbers.{itself}
 use Rattle.base.specs.declared.event.Event.{Event}
 use Rattle.base.specs.declared.event.Act.{Act}
 use Rattle.base.specs.declared.event.Act.TheVariants as act
@@ -50,9 +51,6 @@ can (act.Empty x b) j h = refl
 can (act.Raise n) j h = refl
 can act.End j h = refl
 
-same_number : (n : ℕ) → nat_eq n n ≡ true
-same_number n = grind (arith, nat_tests)
-
 -- what the choice of an allowed event comes to
 record Replayed (g : Prog) (s : Script) (c : Config) (e : Event) (new : Config) : Type 0 where
   tick : tick_of (chosen e (due g s c e.tick)) ≡ e.tick
@@ -63,7 +61,7 @@ record Replayed (g : Prog) (s : Script) (c : Config) (e : Event) (new : Config) 
 start_replayed : (g : Prog) (s : Script) (c : Config) (e : Event) (new : Config) → Starts g s c e new → Replayed g s c e new
 start_replayed g s c e new h =
     let as_begins : chosen e (due g s c e.tick) ≡ begins e.tick = ap (chosen e) h.first in
-    let ok : nat_eq e.tick e.tick && can_start e.act (slice_get c.jobs e.proc) ≡ true = rw (same_number e.tick, can e.act (slice_get c.jobs e.proc) h.may_start) refl in
+    let ok : nat_eq e.tick e.tick && can_start e.act (slice_get c.jobs e.proc) ≡ true = rw (itself e.tick, can e.act (slice_get c.jobs e.proc) h.may_start) refl in
     record {
       tick = ap tick_of as_begins;
       allowed = ap (λ x. (played g s c x).allowed) as_begins ∙ (ap (λ l. (played_start g s c e.tick l).allowed) h.first ∙ ok);

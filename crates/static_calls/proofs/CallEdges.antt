@@ -1,28 +1,14 @@
 -- The edges of a call graph are the calls between routines that have numbers.
 use Rattle.std.proofs.Common.{◌≡◌, ◌<◌, ℕ, ◌⊎◌, inl, inr, Bool, true, false, if◌then◌else◌, List, [], ◌∷◌, ◌++◌, length, Option, Some, None, refl, ap, sym, ◌∙◌, subst, arith}
 use Rattle.std.specs.Prelude.{Contains, All, option_to_list}
-use Rattle.std.proofs.lemmas.List.Elements.{All-nil, All-cons, Contains-append_right, Contains-append_cases, Contains-push_cases}
+use Rattle.std.proofs.lemmas.List.Elements.{Contains-append_right}
+use Rattle.base.proofs.Members.{behind, front_or_behind, each}
 use Rattle.syntax_tree.specs.Placed.{Routine}
 use Rattle.syntax_tree.specs.declared.place.Place.{Place}
 use Rattle.static_names.specs.Findings.{Key}
 use Rattle.static_calls.specs.Calls.{Declared, routine_calls, stmts_wait}
 use Rattle.static_calls.specs.Tables.{number, edge_to, edges_to, edges_from, edges_of, waiter, waiters}
 use Rattle.static_calls.proofs.Numbering.{number-within}
-
--- one of a list is its first or one of the rest
-pub cons-cases : {X : Type 0} (x : X) (xs : List X) (y : X) → Contains (x ∷ xs) y → (x ≡ y) ⊎ Contains xs y
-cons-cases x xs y h = by (Contains-append_cases (x ∷ []) xs y h)
-  where
-    by : Contains (x ∷ []) y ⊎ Contains xs y → (x ≡ y) ⊎ Contains xs y
-    by (inr there) = inr there
-    by (inl here) = head (Contains-push_cases [] x y here)
-      where
-        head : Contains [] y ⊎ (x ≡ y) → (x ≡ y) ⊎ Contains xs y
-        head (inl none) = absurd (omega (arith, none.1))
-        head (inr is) = inl is
-
-pub cons-tail : {X : Type 0} (x : X) (xs : List X) (y : X) → Contains xs y → Contains (x ∷ xs) y
-cons-tail x xs y h = Contains-append_right (x ∷ []) xs y h
 
 -- a callee has the number
 pub record Goes (keys : List Key) (ps : List Place) (b : ℕ) : Type 0 where
@@ -43,7 +29,7 @@ pair a b = (a, b)
 module _ (keys : List Key) where
   edge-kept : (from : ℕ) (to : Option ℕ) (more : List (ℕ × ℕ)) (e : ℕ × ℕ) → Contains more e → Contains (edge_to from to more) e
   edge-kept from None more e h = h
-  edge-kept from (Some to) more e h = cons-tail (from, to) more e h
+  edge-kept from (Some to) more e h = behind (from, to) more e h
 
   to-kept : (from : ℕ) (ps : List Place) (more : List (ℕ × ℕ)) (e : ℕ × ℕ) → Contains more e → Contains (edges_to keys from ps more) e
   to-kept from [] more e h = h
@@ -51,7 +37,7 @@ module _ (keys : List Key) where
 
   to-listed : (from : ℕ) (ps : List Place) (more : List (ℕ × ℕ)) (q : Place) (b : ℕ) → Contains ps q → number keys q ≡ Some b → Contains (edges_to keys from ps more) (from, b)
   to-listed from [] more q b h is = absurd (omega (arith, h.1))
-  to-listed from (p ∷ ps) more q b h is = by (cons-cases p ps q h) (λ there. to-listed from ps more q b there is)
+  to-listed from (p ∷ ps) more q b h is = by (front_or_behind p ps q h) (λ there. to-listed from ps more q b there is)
     where
       by : (p ≡ q) ⊎ Contains ps q → (Contains ps q → Contains (edges_to keys from ps more) (from, b)) → Contains (edges_to keys from (p ∷ ps) more) (from, b)
       by (inl same) rest = subst (λ o. Contains (edge_to from o (edges_to keys from ps more)) (from, b)) (sym (ap (number keys) same ∙ is)) (0, omega arith, refl)
@@ -62,12 +48,12 @@ module _ (keys : List Key) where
   to-only from (p ∷ ps) more a b h = by (number keys p) refl h (to-only from ps more a b)
     where
       later : ((from ≡ a) × Goes keys ps b) ⊎ Contains more (a, b) → ((from ≡ a) × Goes keys (p ∷ ps) b) ⊎ Contains more (a, b)
-      later (inl g) = inl (g.0, record { callee = g.1.callee; listed = cons-tail p ps g.1.callee g.1.listed; numbered = g.1.numbered })
+      later (inl g) = inl (g.0, record { callee = g.1.callee; listed = behind p ps g.1.callee g.1.listed; numbered = g.1.numbered })
       later (inr m) = inr m
 
       by : (o : Option ℕ) → number keys p ≡ o → Contains (edge_to from o (edges_to keys from ps more)) (a, b) → (Contains (edges_to keys from ps more) (a, b) → ((from ≡ a) × Goes keys ps b) ⊎ Contains more (a, b)) → ((from ≡ a) × Goes keys (p ∷ ps) b) ⊎ Contains more (a, b)
       by None is h rest = later (rest h)
-      by (Some to) is h rest = one (cons-cases (from, to) (edges_to keys from ps more) (a, b) h)
+      by (Some to) is h rest = one (front_or_behind (from, to) (edges_to keys from ps more) (a, b) h)
         where
           one : (pair from to ≡ (a, b)) ⊎ Contains (edges_to keys from ps more) (a, b) → ((from ≡ a) × Goes keys (p ∷ ps) b) ⊎ Contains more (a, b)
           one (inl e) = inl (ap (λ (x : ℕ × ℕ). x.0) e, record { callee = p; listed = (0, omega arith, refl); numbered = is ∙ ap Some (ap (λ (x : ℕ × ℕ). x.1) e) })
@@ -80,7 +66,7 @@ module _ (keys : List Key) where
   module _ (declared : Declared) where
     pub edge-listed : (rs : List (Routine Place)) (a b : ℕ) → Leads declared keys rs a b → Contains (edges_of declared keys rs []) (a, b)
     edge-listed [] a b l = absurd (let h = l.listed.1 in omega arith)
-    edge-listed (r ∷ rs) a b l = by (cons-cases r rs l.caller l.listed) (λ h. edge-listed rs a b (record { caller = l.caller; listed = h; numbered = l.numbered; goes = l.goes }))
+    edge-listed (r ∷ rs) a b l = by (front_or_behind r rs l.caller l.listed) (λ h. edge-listed rs a b (record { caller = l.caller; listed = h; numbered = l.numbered; goes = l.goes }))
       where
         by : (r ≡ l.caller) ⊎ Contains rs l.caller → (Contains rs l.caller → Contains (edges_of declared keys rs []) (a, b)) → Contains (edges_of declared keys (r ∷ rs) []) (a, b)
         by (inl same) rest =
@@ -94,7 +80,7 @@ module _ (keys : List Key) where
     edge-only (r ∷ rs) a b h = by (number keys r.place) refl h (edge-only rs a b)
       where
         later : Leads declared keys rs a b → Leads declared keys (r ∷ rs) a b
-        later l = record { caller = l.caller; listed = cons-tail r rs l.caller l.listed; numbered = l.numbered; goes = l.goes }
+        later l = record { caller = l.caller; listed = behind r rs l.caller l.listed; numbered = l.numbered; goes = l.goes }
 
         by : (o : Option ℕ) → number keys r.place ≡ o → Contains (edges_from keys o (routine_calls declared r) (edges_of declared keys rs [])) (a, b) → (Contains (edges_of declared keys rs []) (a, b) → Leads declared keys rs a b) → Leads declared keys (r ∷ rs) a b
         by None is h rest = later (rest h)
@@ -121,7 +107,7 @@ module _ (keys : List Key) where
 
   pub waiter-listed : (rs : List (Routine Place)) (n : ℕ) → WaitsAt keys rs n → Contains (waiters keys rs []) n
   waiter-listed [] n w = absurd (let h = w.listed.1 in omega arith)
-  waiter-listed (r ∷ rs) n w = by (cons-cases r rs w.one w.listed) (λ h. waiter-listed rs n (record { one = w.one; listed = h; wait = w.wait; numbered = w.numbered }))
+  waiter-listed (r ∷ rs) n w = by (front_or_behind r rs w.one w.listed) (λ h. waiter-listed rs n (record { one = w.one; listed = h; wait = w.wait; numbered = w.numbered }))
     where
       by : (r ≡ w.one) ⊎ Contains rs w.one → (Contains rs w.one → Contains (waiters keys rs []) n) → Contains (waiters keys (r ∷ rs) []) n
       by (inl same) rest =
@@ -135,7 +121,7 @@ module _ (keys : List Key) where
   waiter-only (r ∷ rs) n h = by (stmts_wait r.body) refl h (waiter-only rs n)
     where
       later : WaitsAt keys rs n → WaitsAt keys (r ∷ rs) n
-      later w = record { one = w.one; listed = cons-tail r rs w.one w.listed; wait = w.wait; numbered = w.numbered }
+      later w = record { one = w.one; listed = behind r rs w.one w.listed; wait = w.wait; numbered = w.numbered }
 
       by : (b : Bool) → stmts_wait r.body ≡ b → Contains (if b then option_to_list (number keys r.place) ++ waiters keys rs [] else waiters keys rs []) n → (Contains (waiters keys rs []) n → WaitsAt keys rs n) → WaitsAt keys (r ∷ rs) n
       by false is h rest = later (rest h)
@@ -143,23 +129,18 @@ module _ (keys : List Key) where
         where
           one : (o : Option ℕ) → number keys r.place ≡ o → Contains (option_to_list o ++ waiters keys rs []) n → WaitsAt keys (r ∷ rs) n
           one None no_number h = later (rest h)
-          one (Some m) numbered h = head (cons-cases m (waiters keys rs []) n h)
+          one (Some m) numbered h = head (front_or_behind m (waiters keys rs []) n h)
             where
               head : (m ≡ n) ⊎ Contains (waiters keys rs []) n → WaitsAt keys (r ∷ rs) n
               head (inl same) = record { one = r; listed = (0, omega arith, refl); wait = is; numbered = numbered ∙ ap Some same }
               head (inr there) = later (rest there)
 
--- a list, each of whose elements is so
-all-from : {X : Type 0} (P : X → Type 0) (xs : List X) → ((x : X) → Contains xs x → P x) → All P xs
-all-from P [] h = All-nil P
-all-from P (x ∷ xs) h = All-cons P x xs (h x (0, omega arith, refl)) (all-from P xs (λ y c. h y (cons-tail x xs y c)))
-
 -- all edges are between numbers
 pub edges-within : (declared : Declared) (keys : List Key) (rs : List (Routine Place)) → All (λ e. (e.0 < length keys) × (e.1 < length keys)) (edges_of declared keys rs [])
-edges-within declared keys rs = all-from (λ (e : ℕ × ℕ). (e.0 < length keys) × (e.1 < length keys)) (edges_of declared keys rs []) at
+edges-within declared keys rs = each (λ (e : ℕ × ℕ). (e.0 < length keys) × (e.1 < length keys)) (edges_of declared keys rs []) at
   where
     at : (e : ℕ × ℕ) → Contains (edges_of declared keys rs []) e → (e.0 < length keys) × (e.1 < length keys)
     at e h = let l = edge-only keys declared rs e.0 e.1 h in (number-within keys l.caller.place e.0 l.numbered, number-within keys l.goes.callee e.1 l.goes.numbered)
 
 pub waiters-within : (keys : List Key) (rs : List (Routine Place)) → All (λ n. n < length keys) (waiters keys rs [])
-waiters-within keys rs = all-from (λ n. n < length keys) (waiters keys rs []) (λ n h. let w = waiter-only keys rs n h in number-within keys w.one.place n w.numbered)
+waiters-within keys rs = each (λ n. n < length keys) (waiters keys rs []) (λ n h. let w = waiter-only keys rs n h in number-within keys w.one.place n w.numbered)

@@ -3,6 +3,8 @@ use Rattle.std.proofs.Common.{◌≡◌, ℕ, ◌⊎◌, inl, inr, Bool, true, f
 use Rattle.std.specs.Prelude.{Contains}
 use Rattle.std.specs.List.{list_any}
 use Rattle.std.proofs.lemmas.List.Folds.{Any-from_list_any, list_any-from_Any}
+use Rattle.std.proofs.lemmas.Bool.{or_cases}
+use Rattle.base.proofs.Members.{front_or_behind, behind}
 use Rattle.syntax_tree.specs.Placed.{Routine, Handler, Process, Prog}
 use Rattle.syntax_tree.specs.declared.place.Place.{Place}
 use Rattle.static_rule.specs.declared.broken.Broken.{Broken}
@@ -16,7 +18,6 @@ use Rattle.syntax_tree.specs.Parts.{routines, processes}
 use Rattle.static_calls.specs.Reaching.{ReachesWait, ReachesItself, CallsWaiter, HandlerWaits, ReachFails}
 use Rattle.static_calls.specs.Tables.{declared_in, places, number, edges_of, waiters, marked_at, is_marked_place, come_to_wait, handler_fault, handler_rule, OneComesBack}
 use Rattle.static_calls.proofs.Numbering.{routine-number}
-use Rattle.static_calls.proofs.CallEdges.{cons-cases, cons-tail}
 use Rattle.static_calls.proofs.Linking.{reaches-edges, edges-reach, wait-number, wait-edges, edges-wait}
 
 some-is : (p q : Place) → Some p ≡ Some q → p ≡ q
@@ -24,10 +25,6 @@ some-is p q e = cc
 
 none-is : (p : Place) → None ≡ Some p → ⊥
 none-is p e = cc
-
-or-cases : (a b : Bool) → (a || b) ≡ true → (a ≡ true) ⊎ (b ≡ true)
-or-cases true b h = inl refl
-or-cases false b h = inr h
 
 or-left : (a b : Bool) → a ≡ true → (a || b) ≡ true
 or-left a b h = ap (λ c. c || b) h
@@ -67,7 +64,7 @@ module _ (g : Prog Place) (calls : Graph) (made : HasEdges calls (edges_of (decl
     waits-mark p r = let n = wait-number g calls made p r in ap (marked_at marks) n.is ∙ (marked_are n.n).1 (wait-edges g calls made p n.n n.is r)
 
     come-to : (h : Handler Place) → come_to_wait (declared_in g) keys marks h.body ≡ true → (stmts_wait h.body ≡ true) ⊎ CallsWaiter g h
-    come-to h e = by (or-cases (stmts_wait h.body) (list_any (is_marked_place keys marks) (stmts_calls (declared_in g) h.body [])) e)
+    come-to h e = by (or_cases (stmts_wait h.body) (list_any (is_marked_place keys marks) (stmts_calls (declared_in g) h.body [])) e)
       where
         by : (stmts_wait h.body ≡ true) ⊎ (list_any (is_marked_place keys marks) (stmts_calls (declared_in g) h.body []) ≡ true) → (stmts_wait h.body ≡ true) ⊎ CallsWaiter g h
         by (inl own) = inl own
@@ -91,11 +88,11 @@ module _ (g : Prog Place) (calls : Graph) (made : HasEdges calls (edges_of (decl
     among-one [] m p h = absurd h
     among-one (q ∷ ps) m p (inl (inl h)) = record { is_rule = h.0; one = q; listed = (0, omega arith, refl); fault = h.1 }
     among-one (q ∷ ps) m p (inl (inr h)) = absurd h
-    among-one (q ∷ ps) m p (inr h) = let o = among-one ps m p h in record { is_rule = o.is_rule; one = o.one; listed = cons-tail q ps o.one o.listed; fault = o.fault }
+    among-one (q ∷ ps) m p (inr h) = let o = among-one ps m p h in record { is_rule = o.is_rule; one = o.one; listed = behind q ps o.one o.listed; fault = o.fault }
 
     one-among : (ps : List (Process Place)) (m : ℕ) (p : Place) → OneFails ps m p → FailsAmong (handler_rule (declared_in g) keys marks ∷ []) ps m p
     one-among [] m p o = absurd (let h = o.listed.1 in omega arith)
-    one-among (q ∷ ps) m p o = by (cons-cases q ps o.one o.listed) (λ h. one-among ps m p (record { is_rule = o.is_rule; one = o.one; listed = h; fault = o.fault }))
+    one-among (q ∷ ps) m p o = by (front_or_behind q ps o.one o.listed) (λ h. one-among ps m p (record { is_rule = o.is_rule; one = o.one; listed = h; fault = o.fault }))
       where
         by : (q ≡ o.one) ⊎ Contains ps o.one → (Contains ps o.one → FailsAmong (handler_rule (declared_in g) keys marks ∷ []) ps m p) → FailsAmong (handler_rule (declared_in g) keys marks ∷ []) (q ∷ ps) m p
         by (inl same) rest = inl (inl (o.is_rule, ap (λ (x : Process Place). handler_fault (declared_in g) keys marks x.place x.handler) same ∙ o.fault))

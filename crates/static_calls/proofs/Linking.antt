@@ -1,6 +1,7 @@
 -- What the graph of the calls reaches is what the calls reach.
 use Rattle.std.proofs.Common.{◌≡◌, ℕ, ◌⊎◌, inl, inr, List, [], Some, refl, ap, sym, ◌∙◌, subst}
 use Rattle.std.specs.Prelude.{Contains}
+use Rattle.std.proofs.lemmas.Option.{same_Some}
 use Rattle.syntax_tree.specs.Placed.{Prog}
 use Rattle.syntax_tree.specs.declared.place.Place.{Place}
 use Rattle.static_names.specs.Findings.{Key}
@@ -11,9 +12,6 @@ use Rattle.static_calls.specs.Reaching.{Calls, Reaches, by_call, by_calls, Waits
 use Rattle.static_calls.specs.Tables.{declared_in, places, number, edges_of, waiters}
 use Rattle.static_calls.proofs.Numbering.{HasNumber, routine-number, number-injective}
 use Rattle.static_calls.proofs.CallEdges.{edge-listed, edge-only, WaitsAt, waiter-listed, waiter-only}
-
-some-injective : (a b : ℕ) → Some a ≡ Some b → a ≡ b
-some-injective a b e = cc
 
 module _ (g : Prog Place) (calls : Graph) (made : HasEdges calls (edges_of (declared_in g) (places (routines g.decls)) (routines g.decls) [])) where
   abbrev pub keys : List Key
@@ -86,7 +84,7 @@ module _ (g : Prog Place) (calls : Graph) (made : HasEdges calls (edges_of (decl
       w = waiter-number r.waiter r.waits
 
       by : (p ≡ r.waiter) ⊎ Reaches g p r.waiter → (n ≡ (waiter-number r.waiter r.waits).n) ⊎ graph.Reaches calls n (waiter-number r.waiter r.waits).n
-      by (inl same) = inl (some-injective n (waiter-number r.waiter r.waits).n (sym is ∙ ap (number keys) same ∙ (waiter-number r.waiter r.waits).is))
+      by (inl same) = inl (same_Some n (waiter-number r.waiter r.waits).n (sym is ∙ ap (number keys) same ∙ (waiter-number r.waiter r.waits).is))
       by (inr reaches) = inr (reaches-edges p r.waiter n (waiter-number r.waiter r.waits).n reaches is (waiter-number r.waiter r.waits).is)
 
   pub edges-wait : (p : Place) (n : ℕ) → number keys p ≡ Some n → ReachesOne calls (waiters keys (routines g.decls) []) n → ReachesWait g p

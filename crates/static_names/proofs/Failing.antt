@@ -7,6 +7,7 @@ use Rattle.static_names.specs.Reach.{same, suits, or_else}
 use Rattle.static_names.specs.Occurrences.{Occurrence, declares, closes, used, names, declared_at}
 use Rattle.static_names.specs.Rules.{Among, place_of, undeclared, shadows, misused, misclosed, Fails, IsUse, NamesAt, UsedAt}
 use Rattle.std.specs.Map.{lookup}
+use Rattle.std.proofs.lemmas.Bool.{not-true}
 use Rattle.static_names.specs.Findings.{Found, noted, same_key, key_of}
 use Rattle.static_names.specs.Seen.{nothing}
 use Rattle.static_names.specs.Resolved.{IsRead, IsNamed, IsResolved}
@@ -18,10 +19,6 @@ among-map : {P Q : Occurrence → Type 0} → ((o : Occurrence) → P o → Q o)
 among-map f [] a = elim a [ ]
 among-map f (o ∷ os) (inl a) = inl (f o a)
 among-map f (o ∷ os) (inr a) = inr (among-map f os a)
-
-not-true : (b : Bool) → not b ≡ true → b ≡ false
-not-true true h = absurd (true≢false (sym h))
-not-true false h = refl
 
 undeclared-fault : (o : Occurrence) → undeclared o ≡ true → fault_of o ≡ Some 20
 undeclared-fault (declares name place taken) h = absurd (true≢false (sym h))

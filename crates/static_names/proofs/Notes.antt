@@ -4,6 +4,7 @@ use Rattle.std.specs.Cmp.{IsEquivalence}
 use Rattle.std.specs.Map.{lookup}
 use Rattle.std.proofs.lemmas.Cmp.{nat_eq_equiv, on_equiv, and_equiv}
 use Rattle.std.proofs.lemmas.Bool.{and_parts, eqb-true}
+use Rattle.std.proofs.lemmas.Option.{same_Some, none-some}
 use Rattle.indexmap.specs.IndexMap.{insert_entry}
 use Rattle.syntax_tree.specs.declared.place.Place.{Place}
 use Rattle.static_rule.specs.declared.broken.Broken.{Broken}
@@ -24,14 +25,8 @@ record Picks (n : Broken) (x : Option Broken) : Type 0 where
   new : NotBefore n pick
   old : (c : Broken) → x ≡ Some c → NotBefore c pick
 
-some-injective : {X : Type 0} (x y : X) → Some x ≡ Some y → x ≡ y
-some-injective x y e = cc
-
-none-not-some : {X : Type 0} (x : X) → None ≡ Some x → ⊥
-none-not-some x e = cc
-
 picks : (n : Broken) (x : Option Broken) → Picks n x
-picks n None = record { pick = n; is = refl; source = inl refl; new = not_before-refl n; old = λ c e. absurd (none-not-some c e) }
+picks n None = record { pick = n; is = refl; source = inl refl; new = not_before-refl n; old = λ c e. absurd (none-some c e) }
 picks n (Some y) = by (comes_before n y) refl
   where
     by : (b : Bool) → comes_before n y ≡ b → Picks n (Some y)
@@ -40,14 +35,14 @@ picks n (Some y) = by (comes_before n y) refl
       is = ap (λ b. if b then Some n else Some y) e;
       source = inl refl;
       new = not_before-refl n;
-      old = λ c s. subst (λ z. NotBefore z n) (some-injective y c s) (before-true n y e);
+      old = λ c s. subst (λ z. NotBefore z n) (same_Some y c s) (before-true n y e);
     }
     by false e = record {
       pick = y;
       is = ap (λ b. if b then Some n else Some y) e;
       source = inr refl;
       new = before-false n y e;
-      old = λ c s. subst (λ z. NotBefore z y) (some-injective y c s) (not_before-refl y);
+      old = λ c s. subst (λ z. NotBefore z y) (same_Some y c s) (not_before-refl y);
     }
 
 -- ---- the rule that a name breaks
@@ -99,7 +94,7 @@ extend : (o : Occurrence) (os : List Occurrence) (x : Option Broken) (w : Option
 extend o os x None e None h = record { start = h.start; clean = none }
   where
     none : (m : ℕ) (p : Place) → Among (Breaks m p) (o ∷ os) → ⊥
-    none m p (inl b) = none-not-some m (sym e ∙ b.0)
+    none m p (inl b) = none-some m (sym e ∙ b.0)
     none m p (inr rest) = h.clean m p rest
 extend o os x None e (Some b) h = record { from = source h.from; start = h.start; least = least }
   where
@@ -108,9 +103,9 @@ extend o os x None e (Some b) h = record { from = source h.from; start = h.start
     source (inr a) = inr (inr a)
 
     least : (m : ℕ) (p : Place) → Among (Breaks m p) (o ∷ os) → NotBefore (record { number = m; place = p }) b
-    least m p (inl s) = absurd (none-not-some m (sym e ∙ s.0))
+    least m p (inl s) = absurd (none-some m (sym e ∙ s.0))
     least m p (inr rest) = h.least m p rest
-extend o os x (Some m) e None h = let s = picks (record { number = m; place = place_of o }) x in absurd (none-not-some s.pick (sym h.start ∙ s.is))
+extend o os x (Some m) e None h = let s = picks (record { number = m; place = place_of o }) x in absurd (none-some s.pick (sym h.start ∙ s.is))
 extend o os x (Some m) e (Some b) h = record { from = source h.from; start = start; least = least }
   where
     fault : Broken
@@ -127,19 +122,19 @@ extend o os x (Some m) e (Some b) h = record { from = source h.from; start = sta
     chosen i (inr n) = inl (n ∙ ap (λ y. Some y) i)
 
     source : (sooner (Some fault) x ≡ Some b) ⊎ Among (Breaks b.number b.place) os → (x ≡ Some b) ⊎ Among (Breaks b.number b.place) (o ∷ os)
-    source (inl i) = chosen (some-injective s.pick b (sym s.is ∙ i)) s.source
+    source (inl i) = chosen (same_Some s.pick b (sym s.is ∙ i)) s.source
     source (inr a) = inr (inr a)
 
     start : (c : Broken) → x ≡ Some c → NotBefore c b
     start c i = picked c (s.old c i)
 
     least : (n : ℕ) (p : Place) → Among (Breaks n p) (o ∷ os) → NotBefore (record { number = n; place = p }) b
-    least n p (inl i) = subst (λ y. NotBefore y b) (λ j. record { number = some-injective m n (sym e ∙ i.0) j; place = i.1 j }) (picked fault s.new)
+    least n p (inl i) = subst (λ y. NotBefore y b) (λ j. record { number = same_Some m n (sym e ∙ i.0) j; place = i.1 j }) (picked fault s.new)
     least n p (inr rest) = h.least n p rest
 
 pub first_of_all : (os : List Occurrence) (f : Found) (r : Option Broken) → (noted f os).first ≡ r → Outcome f.first os r
 first_of_all [] f None e = record { start = e; clean = λ m p a. a }
-first_of_all [] f (Some b) e = record { from = inl e; start = λ c i. subst (λ y. NotBefore y b) (some-injective b c (sym e ∙ i)) (not_before-refl b); least = λ m p a. absurd a }
+first_of_all [] f (Some b) e = record { from = inl e; start = λ c i. subst (λ y. NotBefore y b) (same_Some b c (sym e ∙ i)) (not_before-refl b); least = λ m p a. absurd a }
 first_of_all (o ∷ os) f r e = extend o os f.first (fault_of o) refl r (subst (λ x. Outcome x os r) (note-first f o) (first_of_all os (note f o) r e))
 
 -- ---- where used names are declared
@@ -198,14 +193,14 @@ step f (closes name place opening) p = unmoved f (closes name place opening) (no
     by : (b : Bool) → (if b then f else blame f 23 place).ties ≡ f.ties
     by true = refl
     by false = refl
-step f (used name place want None) p = unmoved f (used name place want None) (note f (used name place want None)) p refl (λ u e. none-not-some 20 (sym e))
+step f (used name place want None) p = unmoved f (used name place want None) (note f (used name place want None)) p refl (λ u e. none-some 20 (sym e))
 step f (used name place want (Some d)) p = by (suits want d.kind) refl
   where
     o : Occurrence
     o = used name place want (Some d)
 
     by : (b : Bool) → suits want d.kind ≡ b → Step f o (if b then tie f place d.place else blame f 22 place) p
-    by false e = unmoved f o (blame f 22 place) p refl (λ u h. none-not-some 22 (sym h ∙ ap (λ b. if b then None else Some 22) e))
+    by false e = unmoved f o (blame f 22 place) p refl (λ u h. none-some 22 (sym h ∙ ap (λ b. if b then None else Some 22) e))
     by true e = at (same_key (key_of p) (key_of place)) refl
       where
         is : (b : Bool) → same_key (key_of p) (key_of place) ≡ b → tied (tie f place d.place) p ≡ cond b (Some d.place) (tied f p)
@@ -213,8 +208,8 @@ step f (used name place want (Some d)) p = by (suits want d.kind) refl
 
         at : (b : Bool) → same_key (key_of p) (key_of place) ≡ b → Step f o (tie f place d.place) p
         at true h = record {
-          some = λ q s. inl (sym (key-true p place h), some-injective d.place q (sym (is true h) ∙ s));
-          none = λ s. absurd (none-not-some d.place (sym s ∙ is true h));
+          some = λ q s. inl (sym (key-true p place h), same_Some d.place q (sym (is true h) ∙ s));
+          none = λ s. absurd (none-some d.place (sym s ∙ is true h));
         }
         at false h = record {
           some = λ q s. inr (sym (is false h) ∙ s);

@@ -80,7 +80,7 @@ add_entries-split r q (d ∷ ds) p n = add_entries-split (add_entry r q d) q ds 
     by true false = refl
     by false c = refl
 
-first-append : (ds es : Names) (n : Name) → first (ds ++ es) n ≡ or_else (first ds n) (first es n)
+pub first-append : (ds es : Names) (n : Name) → first (ds ++ es) n ≡ or_else (first ds n) (first es n)
 first-append [] es n = refl
 first-append (d ∷ ds) es n = ap (λ r. cond (same n d.0) (Some d.1) r) (first-append ds es n) ∙ by (same n d.0)
   where

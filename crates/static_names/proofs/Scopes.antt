@@ -11,6 +11,9 @@ use Rattle.syntax_tree.specs.Parts.{same_place}
 use Rattle.static_names.specs.Reach.{same, Names, Reach, first, or_else}
 use Rattle.static_names.specs.Seen.{entry_of, meaning, add, EntryKey, entry_meaning, add_entry}
 
+pub same-refl : (n : Name) → same n n ≡ true
+same-refl n = nat_list_eq_equiv.refl n
+
 pub same-symm : (n k : Name) → same n k ≡ same k n
 same-symm n k = nat_list_eq_equiv.symm n k
 

@@ -1,16 +1,12 @@
 -- Steps of loops that go through a list, one item after another.
-use Rattle.std.proofs.Common.{◌≡◌, ◌<◌, ◌≤◌, ◌+◌, ℕ, List, [], ◌∷◌, Option, None, length, drop, get_or, sym, ap, subst, ◌∙◌, add-one, drop-cons}
+use Rattle.std.proofs.Common.{◌≡◌, ◌<◌, ◌≤◌, ◌+◌, ℕ, List, [], ◌∷◌, Option, None, length, drop, get_or, sym, ap, subst, ◌∙◌}
 use Rattle.std.proofs.lemmas.List.{drop_all}
 use Rattle.syntax_tree.specs.declared.place.Place.{Place}
 use Rattle.static_rule.specs.declared.broken.Broken.{Broken}
 use Rattle.static_rule.specs.First.{IsFirstOf, Either, sooner}
 use Rattle.static_rule.specs.Parts.{Rule, FailsAmong, blame, noted}
 use Rattle.static_rule.proofs.Soonest.{both, noted-is-first}
-
-pub drop-item : {X : Type 0} (xs : List X) (i : ℕ) (x : X) → i < length xs → x ≡ get_or xs i x → drop i xs ≡ x ∷ drop (i + 1) xs
-drop-item xs i x below item =
-    let split : drop i xs ≡ get_or xs i x ∷ drop (i + 1) xs = rw add-one (drop-cons xs i x below) in
-    split ∙ ap (λ y. y ∷ drop (i + 1) xs) (sym item)
+use Rattle.static_names.proofs.Walks.{drop-item}
 
 -- What a state and the items that are left come to stays what it is.
 module _ {X S R : Type 0} (left : S → List X → R) (whole : R) where

@@ -1,6 +1,7 @@
 -- Trying the rules on one part after the other finds the first failure.
 use Rattle.std.proofs.Common.{◌≡◌, ◌<◌, ◌≤◌, ℕ, List, [], ◌∷◌, Option, Some, None, Bool, true, false, if◌then◌else◌, ◌⊎◌, inl, inr, refl, ap, sym, ◌∙◌, subst, arith}
 use Rattle.std.proofs.lemmas.Bool.Decides.{nat_tests}
+use Rattle.std.proofs.lemmas.Option.{same_Some, none-some}
 use Rattle.syntax_tree.specs.declared.place.Place.{Place}
 use Rattle.static_rule.specs.declared.broken.Broken.{Broken}
 use Rattle.static_rule.specs.First.{Before, IsFirst, IsFirstOf, Either, comes_before, sooner}
@@ -57,12 +58,6 @@ after m p b h = by (comes_before (record { number = m; place = p }) b) refl
             lines (inl l) = inl l
             lines (inr (l, inl c)) = inr (inl (l, c))
             lines (inr (l, inr c)) = inr (inr ((λ i. record { line = l i; col = c.0 i }), c.1))
-
-some-injective : {X : Type 0} (x y : X) → Some x ≡ Some y → x ≡ y
-some-injective x y e = cc
-
-none-not-some : {X : Type 0} (x : X) → None ≡ Some x → ⊥
-none-not-some x e = cc
 
 -- it fails, and nothing that fails comes before it
 record Least (fails : ℕ → Place → Type 0) (b : Broken) : Type 0 where
@@ -124,7 +119,7 @@ blamed f r x first h = by (r.fails x) refl
     by None e = same f (Either (λ n p. (r.number ≡ n) × (r.fails x ≡ Some p)) f) first (λ m p a. inr a) back h
       where
         back : (m : ℕ) (p : Place) → Either (λ n p. (r.number ≡ n) × (r.fails x ≡ Some p)) f m p → f m p
-        back m p (inl a) = absurd (none-not-some p (sym e ∙ a.1))
+        back m p (inl a) = absurd (none-some p (sym e ∙ a.1))
         back m p (inr a) = a
     by (Some q) e = both (λ n p. (r.number ≡ n) × (r.fails x ≡ Some p)) f (Some (record { number = r.number; place = q })) first only h
       where
@@ -132,7 +127,7 @@ blamed f r x first h = by (r.fails x) refl
         only = least-is (λ n p. (r.number ≡ n) × (r.fails x ≡ Some p)) (record { number = r.number; place = q }) (record { from = (refl, e); least = least })
           where
             least : (m : ℕ) (p : Place) → (r.number ≡ m) × (r.fails x ≡ Some p) → NotBefore (record { number = m; place = p }) (record { number = r.number; place = q })
-            least m p a = subst (λ b. NotBefore b (record { number = r.number; place = q })) (λ i. record { number = a.0 i; place = some-injective q p (sym e ∙ a.1) i }) (not_before-refl (record { number = r.number; place = q }))
+            least m p a = subst (λ b. NotBefore b (record { number = r.number; place = q })) (λ i. record { number = a.0 i; place = same_Some q p (sym e ∙ a.1) i }) (not_before-refl (record { number = r.number; place = q }))
 
 -- all rules tried on one part
 rules : {X : Type 0} (f : ℕ → Place → Type 0) (rs : List (Rule X)) (x : X) (first : Option Broken) → IsFirstOf f first → IsFirstOf (Either (FailsOf rs x) f) (note rs first x)

@@ -1,6 +1,7 @@
 -- What expressions and rows are judged as.
-use Rattle.std.proofs.Common.{◌≡◌, Bool, true, false, ◌&&◌, Option, Some, None, unwrap_or, cond, List, ◌∷◌, refl, ap, ◌∙◌}
+use Rattle.std.proofs.Common.{◌≡◌, Bool, true, false, ◌&&◌, Option, Some, None, cond, List, ◌∷◌, refl, ap, ◌∙◌}
 use Rattle.syntax_tree.specs.Placed.{Param, Expr, Exprs, exprs, Operands, row}
+use Rattle.std.proofs.lemmas.Option.{cond_some}
 use Rattle.syntax_tree.specs.declared.place.Place.{Place}
 use Rattle.static_declarations.specs.declared.sort.Sort.{Sort}
 use Rattle.static_declarations.specs.Things.{sort_of}
@@ -8,15 +9,10 @@ use Rattle.static_types.specs.Types.{is_of}
 use Rattle.static_declarations.specs.Sorts.{fits}
 use Rattle.static_types.specs.Sorts.{Named, sort, row_sort, agrees, call_agrees, operands_agree, judged, row_judged}
 
--- what a choice gave
-gave : {X : Type 0} (b : Bool) (x y : X) → cond b (Some x) None ≡ Some y → (b ≡ true) × (x ≡ y)
-gave true x y is = (refl, ap (λ o. unwrap_or o x) is)
-gave false x y is = cc
-
 -- a row whose first operand has the sort t
 pub row-from : (named : Named) (t : Option Sort) (e : Expr Place) (rs : Operands Place) → judged named e ≡ Some t → judged named (row e rs) ≡ row_judged named t rs
 row-from named t e rs is =
-    let both = gave (agrees named e) (sort named e) t is in
+    let both = cond_some (agrees named e) (sort named e) t is in
     ap (λ b. cond (b && operands_agree named (sort named e) rs) (Some (row_sort (sort named e) rs)) None) both.0
     ∙ ap (λ u. cond (operands_agree named u rs) (Some (row_sort u rs)) None) both.1
 

@@ -1,6 +1,7 @@
 -- The value of digits, one after another.
 use Rattle.std.proofs.Common.{◌≡◌, ℕ, suc, ◌+◌, ◌-◌, ◌*◌, ◌<◌, ◌≤◌, List, [], ◌∷◌, length, drop, fold, slice_index_or, ap, ◌∙◌, arith}
 use Rattle.std.proofs.Math.Seq.{drop-cons}
+use Rattle.std.proofs.lemmas.Bool.{and_parts}
 
 -- a number with one more digit behind it
 abbrev pub with_digit : ℕ → ℕ → ℕ

@@ -3,6 +3,7 @@ use Rattle.std.proofs.Common.{◌≡◌, ℕ, zero, suc, ◌+◌, ◌-◌, ◌<�
 use Rattle.std.proofs.lemmas.List.{get_or-take, get_or-drop}
 use Rattle.std.proofs.lemmas.List.Sums.{count_by-le-length, count_by_more_no, count_by_more_yes, suffix_len-le-length, suffix_len-take_no, suffix_len-take_yes, prefix_len-le-length}
 use Rattle.std.specs.List.{list_all, suffix_len}
+use Rattle.std.proofs.lemmas.Bool.{not-true, and_parts}
 use Rattle.syntax.specs.declared.front.Front.{Front}
 use Rattle.syntax.specs.Fronts.{BeginsWith}
 use Rattle.syntax.specs.declared.lexer.Spot.{Spot}
@@ -10,7 +11,7 @@ use Rattle.syntax.specs.declared.token.Token.{Token}
 use Rattle.syntax.specs.Spellings.{is_letter, is_digit, is_word, Spells}
 use Rattle.syntax.specs.Tokens.{is_line_feed, is_in_line, line_after, col_after, BeginsWithBlank, BeginsWithComment, IsLongest, StandsIn, Piece, blank, comment, token, IsCut, tokens_among}
 use Rattle.syntax.specs.Reading.{IsSpot, IsRead}
-use Rattle.syntax.proofs.TableLemmas.{both, all_at}
+use Rattle.syntax.proofs.TableLemmas.{all_at}
 use Rattle.syntax.proofs.SpellLemmas.{all_before, sign_in_line, nothing_spells_nothing}
 
 -- ---- lines and columns
@@ -18,10 +19,6 @@ use Rattle.syntax.proofs.SpellLemmas.{all_before, sign_in_line, nothing_spells_n
 -- some bytes from `at` on hold no LF
 abbrev pub InLine : List ℕ → ℕ → ℕ → Type 0
 InLine text at n = (k : ℕ) → k < n → is_in_line (slice_index_or text (at + k) 0) ≡ true
-
-not_twice : (b : Bool) → not b ≡ true → b ≡ false
-not_twice false e = refl
-not_twice true e = cc
 
 pub record SameLine (text : List ℕ) (at n : ℕ) : Type 0 where
   pub line : line_after (take (at + n) text) ≡ line_after (take at text)
@@ -37,7 +34,7 @@ same_line text at (suc n) within in_line =
     let here : is_in_line (slice_index_or text (at + n) 0) ≡ true = in_line n (omega arith) in
     let same : at + suc n ≡ (at + n) + 1 = omega arith in
     let back : (at + suc n) - 1 ≡ at + n = omega arith in
-    let lines = count_by_more_no is_line_feed text (at + n) 0 (omega arith) (not_twice (is_line_feed (slice_index_or text (at + n) 0)) here) in
+    let lines = count_by_more_no is_line_feed text (at + n) 0 (omega arith) (not-true (is_line_feed (slice_index_or text (at + n) 0)) here) in
     let cols = suffix_len-take_yes is_in_line text (at + suc n) 0 (omega arith) within (subst (λ k. is_in_line (slice_index_or text k 0) ≡ true) (sym back) here) in
     let cols_back = ap (λ k. suffix_len is_in_line (take k text)) back in
     let lines_on = ap (λ k. count_by is_line_feed (take k text)) same in
@@ -52,10 +49,10 @@ in_line_from text at n within all k below =
 
 -- ---- no spelling holds an LF
 
-weaker : (p q : ℕ → Bool) → ((b : ℕ) → p b ≡ true → q b ≡ true) → (bs : List ℕ) → list_all p bs ≡ true → list_all q bs ≡ true
+pub weaker : (p q : ℕ → Bool) → ((b : ℕ) → p b ≡ true → q b ≡ true) → (bs : List ℕ) → list_all p bs ≡ true → list_all q bs ≡ true
 weaker p q w [] all = refl
 weaker p q w (b ∷ bs) all =
-    let parts = both (p b) (list_all p bs) all in
+    let parts = and_parts (p b) (list_all p bs) all in
     ap (λ t. t && list_all q bs) (w b parts.0) ∙ weaker p q w bs parts.1
 
 -- a byte of a word is no LF
@@ -79,7 +76,7 @@ digit_in_line b digit = by (is_line_feed b) refl
 pub spelling_in_line : (w : List ℕ) → Spells w → list_all is_in_line w ≡ true
 spelling_in_line [] spells = refl
 spelling_in_line (b ∷ bs) (inl is) =
-    let parts = both (is_letter b) (list_all is_word bs) is in
+    let parts = and_parts (is_letter b) (list_all is_word bs) is in
     ap (λ t. t && list_all is_in_line bs) (letter_in_line b parts.0) ∙ weaker is_word is_in_line word_in_line bs parts.1
 spelling_in_line (b ∷ bs) (inr (inl is)) = weaker is_digit is_in_line digit_in_line (b ∷ bs) is
 spelling_in_line (b ∷ bs) (inr (inr is)) = sign_in_line (b ∷ bs) is

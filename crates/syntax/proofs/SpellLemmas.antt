@@ -1,6 +1,6 @@
 -- What the bytes of a spelling are, and the longest spelling of each kind.
 use Rattle.std.proofs.Common.{◌≡◌, ℕ, zero, suc, ◌+◌, ◌<◌, ◌≤◌, Bool, true, false, not, cond, ◌&&◌, ◌||◌, ◌⊎◌, inl, inr, List, [], ◌∷◌, length, take, Some, slice_get, Contains, nat_le, nat_eq, length-take-le, refl, ap, sym, ◌∙◌, subst, arith}
-use Rattle.std.proofs.lemmas.Bool.{leb-true}
+use Rattle.std.proofs.lemmas.Bool.{leb-true, or_cases, and_parts}
 use Rattle.std.proofs.lemmas.List.Sums.{prefix_len-le-length}
 use Rattle.std.proofs.lemmas.Option.{slice_get_within, get_or_from_slice_get}
 use Rattle.std.specs.List.{list_all, prefix_len}
@@ -8,7 +8,7 @@ use Rattle.syntax.specs.Spellings.{signs, keywords, is_letter, is_digit, is_word
 use Rattle.syntax.specs.Tokens.{is_blank, is_percent, is_in_line, Begins, IsLongest}
 use Rattle.syntax.specs.Faults.{BeginsNothing}
 use Rattle.syntax.specs.Fronts.{is_other}
-use Rattle.syntax.proofs.TableLemmas.{both, all_at}
+use Rattle.syntax.proofs.TableLemmas.{all_at}
 
 -- ---- runs of bytes that pass a test
 
@@ -79,19 +79,15 @@ clear false false false true e = cc
 pub sign_begins : (b : ℕ) (bs : List ℕ) → Contains signs (b ∷ bs) → (is_letter b ≡ false) × (is_digit b ≡ false) × (is_blank b ≡ false) × (is_percent b ≡ false)
 sign_begins b bs is = clear (is_letter b) (is_digit b) (is_blank b) (is_percent b) (sign_plain (b ∷ bs) is)
 
-pub either : (x y : Bool) → (x || y) ≡ true → (x ≡ true) ⊎ (y ≡ true)
-either true y e = inl refl
-either false y e = inr e
-
 pub letter_no_digit : (b : ℕ) → is_letter b ≡ true → is_digit b ≡ true → ⊥
-letter_no_digit b letter digit = by (either (nat_le 65 b && nat_le b 90) (nat_le 97 b && nat_le b 122) letter)
+letter_no_digit b letter digit = by (or_cases (nat_le 65 b && nat_le b 90) (nat_le 97 b && nat_le b 122) letter)
   where
     high : b ≤ 57
-    high = leb-true b 57 (both (nat_le 48 b) (nat_le b 57) digit).1
+    high = leb-true b 57 (and_parts (nat_le 48 b) (nat_le b 57) digit).1
 
     by : ((nat_le 65 b && nat_le b 90) ≡ true) ⊎ ((nat_le 97 b && nat_le b 122) ≡ true) → ⊥
-    by (inl upper) = let low = leb-true 65 b (both (nat_le 65 b) (nat_le b 90) upper).0 in omega (arith, low, high)
-    by (inr lower) = let low = leb-true 97 b (both (nat_le 97 b) (nat_le b 122) lower).0 in omega (arith, low, high)
+    by (inl upper) = let low = leb-true 65 b (and_parts (nat_le 65 b) (nat_le b 90) upper).0 in omega (arith, low, high)
+    by (inr lower) = let low = leb-true 97 b (and_parts (nat_le 97 b) (nat_le b 122) lower).0 in omega (arith, low, high)
 
 pub nothing_spells_nothing : Spells [] → ⊥
 nothing_spells_nothing (inl is) = cc
@@ -100,20 +96,20 @@ nothing_spells_nothing (inr (inr is)) = let e = sign_plain [] is in cc
 
 -- a spelling that begins with a letter is an identifier
 pub from_letter : (b : ℕ) (bs : List ℕ) → is_letter b ≡ true → Spells (b ∷ bs) → list_all is_word bs ≡ true
-from_letter b bs letter (inl is) = (both (is_letter b) (list_all is_word bs) is).1
-from_letter b bs letter (inr (inl is)) = absurd (letter_no_digit b letter (both (is_digit b) (list_all is_digit bs) is).0)
+from_letter b bs letter (inl is) = (and_parts (is_letter b) (list_all is_word bs) is).1
+from_letter b bs letter (inr (inl is)) = absurd (letter_no_digit b letter (and_parts (is_digit b) (list_all is_digit bs) is).0)
 from_letter b bs letter (inr (inr is)) = let none = (sign_begins b bs is).0 in cc (letter, none)
 
 -- one that begins with a digit is a number
 pub from_digit : (b : ℕ) (bs : List ℕ) → is_digit b ≡ true → Spells (b ∷ bs) → list_all is_digit bs ≡ true
-from_digit b bs digit (inl is) = absurd (letter_no_digit b (both (is_letter b) (list_all is_word bs) is).0 digit)
-from_digit b bs digit (inr (inl is)) = (both (is_digit b) (list_all is_digit bs) is).1
+from_digit b bs digit (inl is) = absurd (letter_no_digit b (and_parts (is_letter b) (list_all is_word bs) is).0 digit)
+from_digit b bs digit (inr (inl is)) = (and_parts (is_digit b) (list_all is_digit bs) is).1
 from_digit b bs digit (inr (inr is)) = let none = (sign_begins b bs is).1 in cc (digit, none)
 
 -- one that begins with neither is a sign
 pub from_other : (b : ℕ) (bs : List ℕ) → is_letter b ≡ false → is_digit b ≡ false → Spells (b ∷ bs) → Contains signs (b ∷ bs)
-from_other b bs no_letter no_digit (inl is) = let letter = (both (is_letter b) (list_all is_word bs) is).0 in cc (letter, no_letter)
-from_other b bs no_letter no_digit (inr (inl is)) = let digit = (both (is_digit b) (list_all is_digit bs) is).0 in cc (digit, no_digit)
+from_other b bs no_letter no_digit (inl is) = let letter = (and_parts (is_letter b) (list_all is_word bs) is).0 in cc (letter, no_letter)
+from_other b bs no_letter no_digit (inr (inl is)) = let digit = (and_parts (is_digit b) (list_all is_digit bs) is).0 in cc (digit, no_digit)
 from_other b bs no_letter no_digit (inr (inr is)) = is
 
 -- ---- the longest spelling at the front

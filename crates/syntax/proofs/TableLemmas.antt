@@ -1,23 +1,17 @@
 -- Keywords by their slots.
-use Rattle.std.proofs.Common.{◌≡◌, ℕ, zero, suc, ◌+◌, ◌<◌, ◌≤◌, Bool, true, false, ◌&&◌, List, [], ◌∷◌, length, slice_index_or, slice_get, Some, Contains, nat_eq, nat_lt, nat_le, unwrap_or, refl, ap, sym, ◌∙◌, subst, arith, eqb-true}
+use Rattle.std.proofs.Common.{◌≡◌, ℕ, zero, suc, ◌+◌, ◌<◌, ◌≤◌, Bool, true, ◌&&◌, List, [], ◌∷◌, length, slice_index_or, slice_get, Some, Contains, nat_eq, nat_lt, nat_le, refl, ap, sym, ◌∙◌, subst, arith, eqb-true}
 use Rattle.std.specs.List.{list_all}
 use Rattle.std.specs.Borrow.{Bor}
-use Rattle.std.proofs.lemmas.Bool.{ltb-true, leb-true}
+use Rattle.std.proofs.lemmas.Bool.{ltb-true, leb-true, and_parts}
+use Rattle.std.proofs.lemmas.Option.{same_Some}
 use Rattle.syntax.specs.declared.table.TheConstants.{PLACES}
 use Rattle.syntax.specs.Spellings.{keywords}
 use Rattle.syntax.specs.Tables.{slot, words_of}
 
-pub both : (a b : Bool) → (a && b) ≡ true → (a ≡ true) × (b ≡ true)
-both true b e = (refl, e)
-both false b e = cc
-
 pub all_at : {A : Type 0} (p : A → Bool) (xs : List A) (k : ℕ) (d : A) → list_all p xs ≡ true → k < length xs → p (slice_index_or xs k d) ≡ true
 all_at p [] k d all below = absurd (omega arith)
-all_at p (x ∷ xs) zero d all below = (both (p x) (list_all p xs) all).0
-all_at p (x ∷ xs) (suc k) d all below = all_at p xs k d (both (p x) (list_all p xs) all).1 (omega arith)
-
-pub some_is : (v w : List ℕ) → Some v ≡ Some w → v ≡ w
-some_is v w e = ap (λ o. unwrap_or o v) e
+all_at p (x ∷ xs) zero d all below = (and_parts (p x) (list_all p xs) all).0
+all_at p (x ∷ xs) (suc k) d all below = all_at p xs k d (and_parts (p x) (list_all p xs) all).1 (omega arith)
 
 -- what stands at a place of a table
 pub word_at : (table : List (Bor (List ℕ))) (at : ℕ) (d : Bor (List ℕ)) → at < length table → slice_get (words_of table) at ≡ Some (slice_index_or table at d).now
@@ -39,9 +33,9 @@ have_places k (w ∷ ws) = nat_eq (slice_index_or PLACES (slot w) 0) k && have_p
 places_at : (k : ℕ) (ws : List (List ℕ)) (j : ℕ) (w : List ℕ) → have_places k ws ≡ true → slice_get ws j ≡ Some w → slice_index_or PLACES (slot w) 0 ≡ k + j
 places_at k [] j w all is = cc
 places_at k (v ∷ ws) zero w all is =
-    let here = eqb-true _ _ (both (nat_eq (slice_index_or PLACES (slot v) 0) k) (have_places (suc k) ws) all).0 in
-    ap (λ u. slice_index_or PLACES (slot u) 0) (sym (some_is v w is)) ∙ here ∙ omega arith
-places_at k (v ∷ ws) (suc j) w all is = places_at (suc k) ws j w (both (nat_eq (slice_index_or PLACES (slot v) 0) k) (have_places (suc k) ws) all).1 is ∙ omega arith
+    let here = eqb-true _ _ (and_parts (nat_eq (slice_index_or PLACES (slot v) 0) k) (have_places (suc k) ws) all).0 in
+    ap (λ u. slice_index_or PLACES (slot u) 0) (sym (same_Some v w is)) ∙ here ∙ omega arith
+places_at k (v ∷ ws) (suc j) w all is = places_at (suc k) ws j w (and_parts (nat_eq (slice_index_or PLACES (slot v) 0) k) (have_places (suc k) ws) all).1 is ∙ omega arith
 
 keywords_have_places : have_places 0 keywords ≡ true
 keywords_have_places = refl

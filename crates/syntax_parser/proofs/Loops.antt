@@ -1,12 +1,9 @@
 -- The turns of a loop that reads a list.
 use Rattle.std.proofs.Common.{◌≡◌, ℕ, zero, suc, ◌+◌, ◌-◌, ◌<◌, ◌≤◌, List, [], ◌∷◌, ◌++◌, map, Ok, Err, Result, Bool, true, false, cond, arith, ap, ◌∙◌, refl}
+use Rattle.std.proofs.lemmas.List.{append-nil}
 use Rattle.syntax.specs.Words.{Tok}
 use Rattle.syntax_reading.specs.ExprReading.{Parse, Fault, each, ◌>>=◌}
 use Rattle.syntax_parser.specs.Reads.{with_front}
-
-append-nil : {A : Type 0} (xs : List A) → xs ++ [] ≡ xs
-append-nil [] = refl
-append-nil (x ∷ xs) = ap (λ ys. x ∷ ys) (append-nil xs)
 
 -- the elements read so far, with one more
 pushed : {A B : Type 0} (view : A → B) (xs : List A) (x : A) (ys : List B) → map view xs ++ (view x ∷ ys) ≡ map view (xs ++ x ∷ []) ++ ys

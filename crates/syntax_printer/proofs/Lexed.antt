@@ -1,46 +1,42 @@
 -- Spellings with a blank behind each are the tokens of their text.
-use Rattle.std.proofs.Common.{◌≡◌, ℕ, zero, suc, ◌+◌, ◌<◌, ◌≤◌, Bool, true, false, not, ◌&&◌, ◌||◌, nat_eq, ◌⊎◌, inl, inr, List, [], ◌∷◌, ◌++◌, length, take, drop, refl, ap, sym, ◌∙◌, subst, arith, eqb-true, append_assoc, append-nil}
+use Rattle.std.proofs.Common.{◌≡◌, ℕ, zero, suc, ◌+◌, ◌<◌, ◌≤◌, Bool, true, not, ◌&&◌, ◌||◌, nat_eq, ◌⊎◌, inl, inr, List, [], ◌∷◌, ◌++◌, length, take, drop, refl, ap, sym, ◌∙◌, subst, arith, eqb-true, append_assoc, append-nil}
 use Rattle.std.specs.List.{list_all}
+use Rattle.std.proofs.lemmas.Bool.{and_parts, or_cases}
 use Rattle.syntax.specs.declared.token.Token.{Token}
 use Rattle.syntax.specs.declared.token.TokenKind.{TokenKind}
 use Rattle.syntax.specs.declared.token.TokenKind.TheVariants as kind
 use Rattle.syntax.specs.Spellings.{signs, keywords, is_letter, is_digit, is_word, Spells, HasKind}
 use Rattle.syntax.specs.Tokens.{is_blank, Begins, IsLongest, StandsIn, line_after, col_after, Piece, blank, token, IsCut, tokens_among, longest_text, tokens}
-use Rattle.syntax.proofs.TableLemmas.{both}
-use Rattle.syntax.proofs.SpellLemmas.{either, listed, Contains-from, keyword_identifier}
-use Rattle.syntax.proofs.KindLemmas.{blank_spells_nothing}
+use Rattle.syntax.proofs.SpellLemmas.{listed, Contains-from, keyword_identifier}
+use Rattle.syntax.proofs.KindLemmas.{blank_spells_nothing, not_there}
 use Rattle.syntax.specs.Words.{Word, word_of, toks_of, words_of}
 
 -- ---- no spelling holds a blank
 
 word_no_blank : (b : ℕ) → is_blank b ≡ true → is_word b ≡ true → ⊥
-word_no_blank b dark word = by (either (is_letter b || is_digit b) (nat_eq b 95) word)
+word_no_blank b dark word = by (or_cases (is_letter b || is_digit b) (nat_eq b 95) word)
   where
     by2 : (is_letter b ≡ true) ⊎ (is_digit b ≡ true) → ⊥
     by2 (inl letter) = blank_spells_nothing b [] dark (inl (ap (λ t. t && list_all is_word []) letter))
     by2 (inr digit) = blank_spells_nothing b [] dark (inr (inl (ap (λ t. t && list_all is_digit []) digit)))
 
     by : ((is_letter b || is_digit b) ≡ true) ⊎ (nat_eq b 95 ≡ true) → ⊥
-    by (inl is) = by2 (either (is_letter b) (is_digit b) is)
+    by (inl is) = by2 (or_cases (is_letter b) (is_digit b) is)
     by (inr is) = let same = eqb-true b 95 is in let none : is_blank 95 ≡ true = subst (λ c. is_blank c ≡ true) same dark in cc none
 
 digit_no_blank : (b : ℕ) → is_blank b ≡ true → is_digit b ≡ true → ⊥
 digit_no_blank b dark digit = blank_spells_nothing b [] dark (inr (inl (ap (λ t. t && list_all is_digit []) digit)))
 
 in_all : (p : ℕ → Bool) (w : List ℕ) (b : ℕ) (v : List ℕ) → list_all p (w ++ b ∷ v) ≡ true → p b ≡ true
-in_all p [] b v all = (both (p b) (list_all p v) all).0
-in_all p (c ∷ w) b v all = in_all p w b v (both (p c) (list_all p (w ++ b ∷ v)) all).1
-
-not_both : (b : Bool) → not b ≡ true → b ≡ true → ⊥
-not_both true off on = cc
-not_both false off on = cc
+in_all p [] b v all = (and_parts (p b) (list_all p v) all).0
+in_all p (c ∷ w) b v all = in_all p w b v (and_parts (p c) (list_all p (w ++ b ∷ v)) all).1
 
 pub holds_no_blank : (w : List ℕ) (b : ℕ) (v : List ℕ) → is_blank b ≡ true → Spells (w ++ b ∷ v) → ⊥
 holds_no_blank [] b v dark spells = blank_spells_nothing b v dark spells
-holds_no_blank (c ∷ w) b v dark (inl is) = word_no_blank b dark (in_all is_word w b v (both (is_letter c) (list_all is_word (w ++ b ∷ v)) is).1)
-holds_no_blank (c ∷ w) b v dark (inr (inl is)) = digit_no_blank b dark (in_all is_digit w b v (both (is_digit c) (list_all is_digit (w ++ b ∷ v)) is).1)
+holds_no_blank (c ∷ w) b v dark (inl is) = word_no_blank b dark (in_all is_word w b v (and_parts (is_letter c) (list_all is_word (w ++ b ∷ v)) is).1)
+holds_no_blank (c ∷ w) b v dark (inr (inl is)) = digit_no_blank b dark (in_all is_digit w b v (and_parts (is_digit c) (list_all is_digit (w ++ b ∷ v)) is).1)
 holds_no_blank (c ∷ w) b v dark (inr (inr is)) =
-    not_both (is_blank b) (in_all (λ d. not (is_blank d)) (c ∷ w) b v (listed (λ u. list_all (λ d. not (is_blank d)) u) signs (c ∷ (w ++ b ∷ v)) refl is)) dark
+    not_there (is_blank b) (in_all (λ d. not (is_blank d)) (c ∷ w) b v (listed (λ u. list_all (λ d. not (is_blank d)) u) signs (c ∷ (w ++ b ∷ v)) refl is)) dark
 
 -- ---- the longest spelling before a blank
 

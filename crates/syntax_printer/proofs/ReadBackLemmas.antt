@@ -26,7 +26,7 @@ canonical_words g is =
     let are = subst spelled.AreSpelled (of_tree ∙ sym of_lines) (tokens_spelled is.text is.toks is.spelled) in
     subst (λ ws. HasWords (canonical (bare g)) ws) of_lines (lines_lexed (program_lines (bare g)) are is.short)
 
-no_words : (ts : List (Tok Place)) → words_of ts ≡ [] → ts ≡ []
+pub no_words : (ts : List (Tok Place)) → words_of ts ≡ [] → ts ≡ []
 no_words [] same = cc
 no_words (t ∷ ts) same = cc
 

@@ -2,13 +2,13 @@
 use Rattle.std.proofs.Common.{◌≡◌, ℕ, suc, ◌+◌, ◌-◌, ◌*◌, ◌%◌, ◌^◌, ◌<◌, ◌≤◌, true, ◌&&◌, nat_le, List, [], ◌∷◌, ◌++◌, fold, length, All, unwrap_or, Some, refl, ap, sym, ◌∙◌, subst, arith, append_assoc, le-leb, decimal}
 use Rattle.std.specs.List.{list_all}
 use Rattle.std.proofs.lemmas.Fmt.{decimal_by_steps}
+use Rattle.std.proofs.lemmas.Bool.{and_parts}
 use Rattle.syntax.specs.declared.token.Token.{Token}
 use Rattle.syntax.specs.declared.token.TokenKind.{TokenKind}
 use Rattle.syntax.specs.declared.token.TokenKind.TheVariants as kind
 use Rattle.syntax.specs.Spellings as spells
 use Rattle.syntax.specs.Spellings.{keywords, signs, is_digit, is_number, greatest_literal, HasKind}
 use Rattle.syntax.specs.Tokens.{bytes_of, longest_text}
-use Rattle.syntax.proofs.TableLemmas.{both}
 use Rattle.syntax.specs.Words.{Word, named, number, keyword, sign, word_of, toks_of, words_of}
 use Rattle.syntax_printer.specs.Canonical.{Line, spelling, line_text, text_of}
 use Rattle.syntax_printer.proofs.Lexed.{Item, spelled, alone, item_text, item_words, AreItems, HasWords, items_lexed}
@@ -37,31 +37,31 @@ word_back (sign at) = refl
 
 -- ---- decimal digits
 
-record Reads (n : ℕ) (digits : List ℕ) : Type 0 where
-  are : is_number digits ≡ true
-  value : n ≡ spells.decimal digits
+pub record Reads (n : ℕ) (digits : List ℕ) : Type 0 where
+  pub are : is_number digits ≡ true
+  pub value : n ≡ spells.decimal digits
 
-digit_is : (d : ℕ) → d < 10 → is_digit (48 + d) ≡ true
+pub digit_is : (d : ℕ) → d < 10 → is_digit (48 + d) ≡ true
 digit_is d below =
     let low : nat_le 48 (48 + d) ≡ true = le-leb 48 (48 + d) (omega arith) in
     let high : nat_le (48 + d) 57 ≡ true = le-leb (48 + d) 57 (omega arith) in
     ap (λ b. b && nat_le (48 + d) 57) low ∙ high
 
-all_with_last : (digits : List ℕ) (d : ℕ) → list_all is_digit digits ≡ true → is_digit d ≡ true → list_all is_digit (digits ++ d ∷ []) ≡ true
+pub all_with_last : (digits : List ℕ) (d : ℕ) → list_all is_digit digits ≡ true → is_digit d ≡ true → list_all is_digit (digits ++ d ∷ []) ≡ true
 all_with_last [] d all is = ap (λ b. b && true) is
 all_with_last (c ∷ cs) d all is =
-    let parts = both (is_digit c) (list_all is_digit cs) all in
+    let parts = and_parts (is_digit c) (list_all is_digit cs) all in
     ap (λ b. b && list_all is_digit (cs ++ d ∷ [])) parts.0 ∙ all_with_last cs d parts.1 is
 
-number_with_last : (digits : List ℕ) (d : ℕ) → is_number digits ≡ true → is_digit d ≡ true → is_number (digits ++ d ∷ []) ≡ true
+pub number_with_last : (digits : List ℕ) (d : ℕ) → is_number digits ≡ true → is_digit d ≡ true → is_number (digits ++ d ∷ []) ≡ true
 number_with_last [] d are is = cc
 number_with_last (c ∷ cs) d are is = all_with_last (c ∷ cs) d are is
 
-fold_with_last : (n : ℕ) (digits : List ℕ) (d : ℕ) → fold (λ n d. 10 * n + (d - 48)) n (digits ++ d ∷ []) ≡ 10 * fold (λ n d. 10 * n + (d - 48)) n digits + (d - 48)
+pub fold_with_last : (n : ℕ) (digits : List ℕ) (d : ℕ) → fold (λ n d. 10 * n + (d - 48)) n (digits ++ d ∷ []) ≡ 10 * fold (λ n d. 10 * n + (d - 48)) n digits + (d - 48)
 fold_with_last n [] d = refl
 fold_with_last n (c ∷ cs) d = fold_with_last (10 * n + (c - 48)) cs d
 
-decimal_reads : (n : ℕ) → n < 2 ^ 64 → Reads n (decimal n)
+pub decimal_reads : (n : ℕ) → n < 2 ^ 64 → Reads n (decimal n)
 decimal_reads = decimal_by_steps Reads
     (λ n below. record { are = ap (λ b. b && true) (digit_is n below); value = omega arith })
     (λ n digits high reads. record {

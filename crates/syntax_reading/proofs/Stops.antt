@@ -1,6 +1,7 @@
 -- A fault of the grammar stands at the token with which the tokens read no longer begin a program, or at the end of what begins one.
 use Rattle.std.proofs.Common.{◌≡◌, ℕ, zero, suc, ◌+◌, ◌≤◌, ◌⊎◌, inl, inr, List, [], ◌∷◌, ◌++◌, length, map, Result, Ok, Err, refl, ap, sym, ◌∙◌, subst, append_assoc, arith}
 use Rattle.std.proofs.lemmas.Grind.{common_steps}
+use Rattle.std.proofs.lemmas.List.{length-map, map-append}
 use Rattle.syntax_tree.specs.declared.place.Place.{Place}
 use Rattle.syntax_tree.specs.Placed.{Prog}
 use Rattle.syntax.specs.declared.token.Token.{Token}
@@ -30,14 +31,6 @@ one-more : {A B : Type 0} (f : A → B) (xs : List A) (x : A) (us : List B) → 
 one-more f [] x us = refl
 one-more f (y ∷ xs) x us = ap (λ l. f y ∷ l) (one-more f xs x us)
 
-map-parts : {A B : Type 0} (f : A → B) (xs ys : List A) → map f (xs ++ ys) ≡ map f xs ++ map f ys
-map-parts f [] ys = refl
-map-parts f (x ∷ xs) ys = ap (λ l. f x ∷ l) (map-parts f xs ys)
-
-length-map : {A B : Type 0} (f : A → B) (xs : List A) → length (map f xs) ≡ length xs
-length-map f [] = refl
-length-map f (x ∷ xs) = let h = length-map f xs in omega (arith, h)
-
 stop-or-end : (text : List ℕ) (toks before after : List Token) (left : ℕ) → whole MOST_LEVELS (toks_of text toks) ≡ Err (syntax left) → toks ≡ before ++ after
     → left ≡ length (toks_of text after) → BeginsProg (toks_of text before)
     → ((s : Stop text toks) × (left ≡ length (s.token ∷ s.after))) ⊎ (BeginsProg (toks_of text toks) × (left ≡ 0))
@@ -45,7 +38,7 @@ stop-or-end text toks before [] left bad all count begins =
     let same : toks ≡ before = all ∙ grind (arith, common_steps) in
     inr (subst (λ l. BeginsProg (toks_of text l)) (sym same) begins, count)
 stop-or-end text toks before (t ∷ after) left bad all count begins =
-    let list : toks_of text toks ≡ toks_of text before ++ tok text t ∷ toks_of text after = ap (toks_of text) all ∙ map-parts (tok text) before (t ∷ after) in
+    let list : toks_of text toks ≡ toks_of text before ++ tok text t ∷ toks_of text after = ap (toks_of text) all ∙ map-append (tok text) before (t ∷ after) in
     let fault : whole MOST_LEVELS (toks_of text before ++ tok text t ∷ toks_of text after) ≡ Err (syntax (length (tok text t ∷ toks_of text after))) =
     sym (ap (whole MOST_LEVELS) list) ∙ bad ∙ ap (λ n. Err (syntax n)) count in
     inl (
@@ -59,7 +52,7 @@ stop-or-end text toks before (t ∷ after) left bad all count begins =
             no_beginning (tok text t) (toks_of text after) us (MOST_LEVELS + more) (omega arith) (toks_of text before) g fault
             (subst (λ l. IsProgWithin (MOST_LEVELS + more) g l []) (one-more (tok text) before t us) took);
       },
-      count ∙ length-map (tok text) (t ∷ after),
+      count ∙ length-map (t ∷ after) (tok text),
     )
 
 pub fault-stops : (text : List ℕ) (toks : List Token) (left : ℕ) → whole MOST_LEVELS (toks_of text toks) ≡ Err (syntax left)
@@ -79,7 +72,7 @@ shorter-begins xs ys (more, (us, g, took)) = (more, (ys ++ us, g, subst (λ l. I
 not-before : (text : List ℕ) (before rest : List Token) (t : Token) → BeginsProg (toks_of text (before ++ t ∷ rest)) → BeginsProg (toks_of text (before ++ t ∷ []))
 not-before text before rest t begins =
     let list : toks_of text (before ++ t ∷ rest) ≡ toks_of text (before ++ t ∷ []) ++ toks_of text rest =
-    map-parts (tok text) before (t ∷ rest) ∙ sym (one-more (tok text) before t (toks_of text rest)) in
+    map-append (tok text) before (t ∷ rest) ∙ sym (one-more (tok text) before t (toks_of text rest)) in
     shorter-begins (toks_of text (before ++ t ∷ [])) (toks_of text rest) (subst BeginsProg list begins)
 
 -- of two places in a list, they are one, or the one stands before the other

@@ -1,5 +1,5 @@
 -- Words that spell numbers, and words that spell none.
-use Rattle.std.proofs.Common.{◌≡◌, ◌≢◌, ℕ, ◌+◌, ◌-◌, ◌*◌, ◌^◌, ◌<◌, ◌≤◌, suc, zero, List, [], ◌∷◌, length, drop, get_or, decimal, ℤ, pos, negsuc, refl, ap, sym, ◌∙◌, arith, rules, subst, Bool, false}
+use Rattle.std.proofs.Common.{◌≡◌, ◌≢◌, ℕ, ◌+◌, ◌^◌, ◌<◌, ◌≤◌, suc, zero, List, [], ◌∷◌, length, drop, get_or, decimal, ℤ, pos, negsuc, refl, ap, sym, ◌∙◌, arith, rules, subst, Bool, false}
 use Rattle.std.specs.Prelude.{◌==◌}
 use Rattle.std.proofs.Math.Seq.{drop-cons}
 use Rattle.std.specs.Int.{IsInRange}
@@ -7,10 +7,7 @@ use Rattle.std.proofs.lemmas.Str.Parse.{IsNumeralModel, numerals_by_fold, tells_
 use Rattle.std.proofs.lemmas.Fmt.{decimal-digits_value, digits_decimal, digits_value-decimal, first_decimal, decimal_nonempty, decimal_digit, decimal_injective}
 use Rattle.std.specs.Fmt.{signed_decimal}
 use Rattle.text_fields.specs.Fields.{Is32, Lacks}
-
--- the number so far with one more digit behind it
-abbrev pub with_digit : ℕ → ℕ → ℕ
-with_digit n digit = 10 * n + (digit - 48)
+use Rattle.text_fields.proofs.Digits.{with_digit}
 
 abbrev pub read_on : ℕ → List ℕ → ℕ
 read_on n [] = n

@@ -1,17 +1,17 @@
 -- Ranks, ceilings and blocks are the same.
 use Rattle.std.proofs.Common.{◌≡◌, ◌≤◌, ◌<◌, ◌+◌, inl, inr, ℕ, zero, suc, List, [], ◌∷◌, length, Option, Some, None, arith, refl, ap, sym, subst, ◌∙◌, true, false, Bool, if◌then◌else◌}
 use Rattle.std.specs.Prelude.{◌&&◌, ◌||◌, ◌==◌, cond, IsSomeAnd, nat_eq, nat_lt, nat_le, slice_get, slice_index, slice_index_or}
-use Rattle.std.proofs.lemmas.Bool.{cases_Bool}
+use Rattle.std.proofs.lemmas.Bool.{cases_Bool, leb-true}
+use Rattle.base.proofs.Lists.{some_at}
 use Rattle.sched_response.specs.declared.uses.Stay.{Stay}
 use Rattle.sched_response.specs.declared.uses.Use.{Use}
 use Rattle.sched_response.specs.Counts.{count_below}
 use Rattle.sched_response.specs.Ranked as defined
 use Rattle.sched_response.proofs.Counted.{are_counted}
 use Rattle.machine_semantics.specs.Image.{Image, Monitor, Process}
-use Rattle.valid_image_law.proofs.Tests.{at_most, below}
+use Rattle.valid_image_law.proofs.Tests.{below}
 use Rattle.valid_image.specs.Tables.{stay_of_process}
 use Rattle.valid_image.specs.Times.{deadline_at, outranks, rank_of, is_some, enters, least_rank, ceiling_of, ticks_of, blocking_stay, longest_blocking, blocking_by, longest_block, needed_block}
-use Rattle.valid_image_law.proofs.Firsts.{some_at}
 use Rattle.valid_image_law.proofs.Ranking.{least_low, rank_high, stay_blocks, process_blocks}
 use Rattle.valid_image_law.specs.Uses.{IsStay, AreUses, shown, AreDeclared, UsesAgree}
 
@@ -150,7 +150,7 @@ module _ (image : Image) (us : List Use) (are : AreUses image us) where
       of_monitor : (k m : ℕ) (p : Process) (o : Option Monitor) → k < length us → slice_get image.processes k ≡ Some p → rank < p.rank → slice_get image.monitors m ≡ o → blocking_stay image rank k m o ≤ b
       of_monitor k m p None low at lower is = omega arith
       of_monitor k m p (Some x) low at lower is = elim (cases_Bool (nat_le x.ceiling rank)) [
-        | inl reaches_it ↦ (let e = ap (λ t. cond t (ticks_of (stay_of_process image k m)) 0) reaches_it in let s = one_stay k m p x low at is lower (at_most x.ceiling rank reaches_it) in omega (arith, e, s))
+        | inl reaches_it ↦ (let e = ap (λ t. cond t (ticks_of (stay_of_process image k m)) 0) reaches_it in let s = one_stay k m p x low at is lower (leb-true x.ceiling rank reaches_it) in omega (arith, e, s))
         | inr not_it ↦ (let e = ap (λ t. cond t (ticks_of (stay_of_process image k m)) 0) not_it in omega (arith, e))
       ]
 

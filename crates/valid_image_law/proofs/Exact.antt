@@ -3,7 +3,7 @@
 use Rattle.std.proofs.Common.{◌≡◌, ◌≤◌, ◌<◌, ◌+◌, ◌*◌, ◌-◌, inl, inr, ℕ, zero, suc, List, Option, Some, None, arith, refl, ap, sym, subst, ◌∙◌, true, false, Bool}
 use Rattle.std.specs.Prelude.{◌&&◌, max, nat_eq, nat_le, nat_lt, slice_get}
 use Rattle.std.proofs.Math.Nat.{mul-le-mul_left, mul-le-mul_right}
-use Rattle.std.proofs.lemmas.Bool.{cases_lt}
+use Rattle.std.proofs.lemmas.Bool.{cases_lt, eq-eqb, le-leb, and_parts, eqb-true}
 use Rattle.std.proofs.lemmas.Bool.Decides.{nat_tests}
 use Rattle.machine_isa.specs.declared.instr.Instr.{Instr}
 use Rattle.base.specs.Capped.{cap}
@@ -12,7 +12,7 @@ use Rattle.machine_semantics.specs.Trees.{Seg, Segs, Line, Fork, Rep, Call, Stay
 use Rattle.machine_semantics.specs.Image.{Routine}
 use Rattle.valid_image.specs.Found.{Known, Found, plus, greater, longer, turns, amount, is_jump_zero, is_jump, is_repeats, is_repeat, is_call, is_enter, is_leave, is_return, is_end, guard, joined, chain, arms, loop, call, found, founds, entry, ended, tree_found}
 use Rattle.valid_image.specs.Tables.{count, monitor_of, routine_found, part_found}
-use Rattle.valid_image_law.proofs.Tests.{passed, both, same_number, chained, forked, looped, called, stayed}
+use Rattle.valid_image_law.proofs.Tests.{passed, chained, forked, looped, called, stayed}
 
 -- no component is more, numbers above the limit counting as one above it
 pub record IsWithin (c d : Cost) : Type 0 where
@@ -56,12 +56,6 @@ guard_true : (b : Bool) (x : Option Found) → b ≡ true → guard b x ≡ x
 guard_true true x is = refl
 guard_true false x is = absurd cc
 
-same_true : (m n : ℕ) → m ≡ n → nat_eq m n ≡ true
-same_true m n is = grind (arith, nat_tests, is)
-
-at_most_true : (m n : ℕ) → m ≤ n → nat_le m n ≡ true
-at_most_true m n le = grind (arith, nat_tests, le)
-
 guarded : (b : Bool) (y : Option Found) (f : Found) → b ≡ true → Same y f → Same (guard b y) f
 guarded b y f is s = record { g = s.g; is = guard_true b y is ∙ s.is; height = s.height; depth = s.depth; cost = s.cost }
 
@@ -76,7 +70,7 @@ two_arms : (x y : Option Found) (f g : Found) → Same x f → Same y g → g.he
     → Same (arms x y) (record { height = f.height; cost = greater (longer 3 f.cost) (longer 2 g.cost); depth = max f.depth g.depth })
 two_arms x y f g s t level = record {
   g = record { height = s.g.height; cost = greater (longer 3 s.g.cost) (longer 2 t.g.cost); depth = max s.g.depth t.g.depth };
-  is = ap (λ o. arms o y) s.is ∙ (ap (λ o. arms (Some s.g) o) t.is ∙ guard_true (nat_eq s.g.height t.g.height) _ (same_true s.g.height t.g.height (omega (arith, s.height, t.height, level))));
+  is = ap (λ o. arms o y) s.is ∙ (ap (λ o. arms (Some s.g) o) t.is ∙ guard_true (nat_eq s.g.height t.g.height) _ (eq-eqb s.g.height t.g.height (omega (arith, s.height, t.height, level))));
   height = s.height;
   depth = omega (arith, s.depth, t.depth);
   cost = record { run = omega (arith, s.cost.run, t.cost.run); susp = omega (arith, s.cost.susp, t.cost.susp); waits = omega (arith, s.cost.waits, t.cost.waits) };
@@ -85,7 +79,7 @@ two_arms x y f g s t level = record {
 a_loop : (n h : ℕ) (x : Option Found) (f : Found) → 0 < n → Same x f → f.height ≡ 0 → Same (loop n h x) (record { height = h; cost = turns n f.cost; depth = suc h + f.depth })
 a_loop n h x f some s back = record {
   g = record { height = h; cost = turns n s.g.cost; depth = suc h + s.g.depth };
-  is = ap (λ o. loop n h o) s.is ∙ guard_true (nat_eq s.g.height 0) _ (same_true s.g.height 0 (s.height ∙ back));
+  is = ap (λ o. loop n h o) s.is ∙ guard_true (nat_eq s.g.height 0) _ (eq-eqb s.g.height 0 (s.height ∙ back));
   height = refl;
   depth = omega (arith, s.depth);
   cost = record {
@@ -104,7 +98,7 @@ a_call h x y k l f is_x is_y a is =
     subst (λ (q : Known). f ≡ record { height = q.results + (h - q.params); cost = longer 6 q.cost; depth = max (q.results + (h - q.params)) (h - q.params + 2 + q.locals + q.depth) }) same s.whole in
     of_whole (call h y) f (record { height = k.results + (h - k.params); cost = longer 6 k.cost; depth = max (k.results + (h - k.params)) (h - k.params + 2 + k.locals + k.depth) }) whole (record {
       g = record { height = l.results + (h - l.params); cost = longer 6 l.cost; depth = max (l.results + (h - l.params)) (h - l.params + 2 + l.locals + l.depth) };
-      is = ap (λ o. call h o) is_y ∙ guard_true (nat_le l.params h) _ (at_most_true l.params h (omega (arith, a.params, enough)));
+      is = ap (λ o. call h o) is_y ∙ guard_true (nat_le l.params h) _ (le-leb l.params h (omega (arith, a.params, enough)));
       height = omega (arith, a.params, a.results);
       depth = omega (arith, a.params, a.results, a.locals, a.depth);
       cost = record { run = omega (arith, a.cost.run); susp = omega (arith, a.cost.susp); waits = omega (arith, a.cost.waits) };
@@ -144,7 +138,7 @@ mutual
       let tests = nat_lt 0 n && (is_repeats n (slice_get code at) && is_repeat (at + 1) (slice_get code (at + 1 + size body))) in
       let turn = founds code xs (Some (at + 1 + size body + 1)) held body (at + 1) 0 in
       let p = passed tests (loop n h turn) f is in
-      let t = both (nat_lt 0 n) (is_repeats n (slice_get code at) && is_repeat (at + 1) (slice_get code (at + 1 + size body))) p.0 in
+      let t = and_parts (nat_lt 0 n) (is_repeats n (slice_get code at) && is_repeat (at + 1) (slice_get code (at + 1 + size body))) p.0 in
       let s = looped n h turn f p.1 in
       of_whole (found code ys out held (Rep n body) at h) f _ s.whole
       (guarded tests (loop n h (founds code ys (Some (at + 1 + size body + 1)) held body (at + 1) 0)) _ p.0
@@ -192,12 +186,12 @@ ended_is n None f is = absurd cc
 ended_is n (Some g) f is =
     let p = passed (nat_eq g.height n) (Some g) f is in
     let same : g ≡ f = (let a = p.1 in cc) in
-    (p.1, subst (λ (x : Found). x.height ≡ n) same (same_number g.height n p.0))
+    (p.1, subst (λ (x : Found). x.height ≡ n) same (eqb-true g.height n p.0))
 
 ended_same : (n : ℕ) (y : Option Found) (f : Found) → f.height ≡ n → Same y f → Same (ended n y) f
 ended_same n y f high s = record {
   g = s.g;
-  is = ap (λ o. ended n o) s.is ∙ guard_true (nat_eq s.g.height n) (Some s.g) (same_true s.g.height n (s.height ∙ high));
+  is = ap (λ o. ended n o) s.is ∙ guard_true (nat_eq s.g.height n) (Some s.g) (eq-eqb s.g.height n (s.height ∙ high));
   height = s.height;
   depth = s.depth;
   cost = s.cost;

@@ -1,8 +1,9 @@
 -- What it says that a search for a fault finds none, and what a table from below is.
 use Rattle.std.proofs.Common.{◌≡◌, ◌≤◌, ◌<◌, ◌+◌, ◌++◌, inl, inr, ℕ, zero, suc, List, [], ◌∷◌, length, Option, Some, None, arith, refl, ap, sym, subst, ◌∙◌, true, false, Bool}
 use Rattle.std.specs.Prelude.{take, slice_get}
-use Rattle.std.proofs.lemmas.List.{length-take-le}
+use Rattle.std.proofs.lemmas.List.{length-take-le, length-append}
 use Rattle.std.proofs.lemmas.Option.{slice_get_within}
+use Rattle.base.proofs.Lists.{take_get, append_front, append_back}
 use Rattle.valid_image.specs.Fault.{unless, or_else, first_of, of_some}
 use Rattle.valid_image.specs.Tables.{table}
 use Rattle.valid_image_law.proofs.Tests.{meet}
@@ -30,41 +31,6 @@ none_of_all g xs is k x at =
     let f : of_some (g k) (slice_get xs k) ≡ None = none_of (λ k. of_some (g k) (slice_get xs k)) (length xs) 0 k is (omega arith) (omega (arith, slice_get_within xs k x at)) in
     ap (λ o. of_some (g k) o) (sym at) ∙ f
 
--- ---- lists
-
-pub some_at : {A : Type 0} (xs : List A) (j : ℕ) → j < length xs → (x : A) × (slice_get xs j ≡ Some x)
-some_at [] j low = absurd (omega (arith, low))
-some_at (x ∷ xs) zero low = (x, refl)
-some_at (x ∷ xs) (suc j) low = some_at xs j (omega (arith, low))
-
--- the elements before a place
-pub take_get : {A : Type 0} (n j : ℕ) (xs : List A) → j < n → slice_get (take n xs) j ≡ slice_get xs j
-take_get zero j xs low = absurd (omega (arith, low))
-take_get (suc n) j [] low = refl
-take_get (suc n) zero (x ∷ xs) low = refl
-take_get (suc n) (suc j) (x ∷ xs) low = take_get n j xs (omega (arith, low))
-
-pub take_past : {A : Type 0} (n j : ℕ) (xs : List A) → n ≤ j → slice_get (take n xs) j ≡ None
-take_past zero j [] le = refl
-take_past zero j (x ∷ xs) le = refl
-take_past (suc n) j [] le = refl
-take_past (suc n) zero (x ∷ xs) le = absurd (omega (arith, le))
-take_past (suc n) (suc j) (x ∷ xs) le = take_past n j xs (omega (arith, le))
-
-pub append_front : {A : Type 0} (xs ys : List A) (j : ℕ) → j < length xs → slice_get (xs ++ ys) j ≡ slice_get xs j
-append_front [] ys j low = absurd (omega (arith, low))
-append_front (x ∷ xs) ys zero low = refl
-append_front (x ∷ xs) ys (suc j) low = append_front xs ys j (omega (arith, low))
-
-pub append_back : {A : Type 0} (xs ys : List A) (k j : ℕ) → k ≡ length xs + j → slice_get (xs ++ ys) k ≡ slice_get ys j
-append_back [] ys k j is = let e : k ≡ j = omega (arith, is) in ap (λ n. slice_get ys n) e
-append_back (x ∷ xs) ys zero j is = absurd (omega (arith, is))
-append_back (x ∷ xs) ys (suc k) j is = append_back xs ys k j (omega (arith, is))
-
-append_length : {A : Type 0} (xs ys : List A) → length (xs ++ ys) ≡ length xs + length ys
-append_length [] ys = omega arith
-append_length (x ∷ xs) ys = omega (arith, append_length xs ys)
-
 -- ---- tables
 
 module _ {A B : Type 0} (make : List B → A → B) where
@@ -72,13 +38,13 @@ module _ {A B : Type 0} (make : List B → A → B) where
   table_length done [] = omega arith
   table_length done (x ∷ xs) =
       let rest : length (table make (done ++ (make done x ∷ [])) xs) ≡ length (done ++ (make done x ∷ [])) + length xs = table_length (done ++ (make done x ∷ [])) xs in
-      omega (arith, rest, append_length done (make done x ∷ []))
+      omega (arith, rest, length-append done (make done x ∷ []))
 
   -- it begins with what was done
   begins : (done : List B) (xs : List A) (j : ℕ) → j < length done → slice_get (table make done xs) j ≡ slice_get done j
   begins done [] j low = refl
   begins done (x ∷ xs) j low =
-      let long : j < length (done ++ (make done x ∷ [])) = omega (arith, low, append_length done (make done x ∷ [])) in
+      let long : j < length (done ++ (make done x ∷ [])) = omega (arith, low, length-append done (make done x ∷ [])) in
       begins (done ++ (make done x ∷ [])) xs j long ∙ append_front done (make done x ∷ []) j low
 
   -- a list is known by its elements
@@ -103,7 +69,7 @@ module _ {A B : Type 0} (make : List B → A → B) where
   row_from done (y ∷ ys) zero x is =
       let same : y ≡ x = cc in
       let more : List B = done ++ (make done y ∷ []) in
-      let long : length more ≡ length done + 1 = append_length done (make done y ∷ []) in
+      let long : length more ≡ length done + 1 = length-append done (make done y ∷ []) in
       let z : length done + 0 ≡ length done = omega arith in
       let here : slice_get (table make more ys) (length done) ≡ Some (make done y) = begins more ys (length done) (omega (arith, long)) ∙ append_back done (make done y ∷ []) (length done) 0 (omega arith) in
       let first : take (length done) (table make more ys) ≡ done = front done (y ∷ ys) in
@@ -111,7 +77,7 @@ module _ {A B : Type 0} (make : List B → A → B) where
       (here ∙ ap (λ d. Some (make d y)) (sym first) ∙ ap (λ v. Some (make (take (length done) (table make more ys)) v)) same)
   row_from done (y ∷ ys) (suc j) x is =
       let more : List B = done ++ (make done y ∷ []) in
-      let long : length more ≡ length done + 1 = append_length done (make done y ∷ []) in
+      let long : length more ≡ length done + 1 = length-append done (make done y ∷ []) in
       let z : length more + j ≡ length done + suc j = omega (arith, long) in
       subst (λ k. slice_get (table make more ys) k ≡ Some (make (take k (table make more ys)) x)) z (row_from more ys j x is)
 

@@ -1,8 +1,9 @@
 -- A valid image fits its trees.
 use Rattle.std.proofs.Common.{◌≡◌, ◌≤◌, ◌<◌, ◌+◌, ◌-◌, ◌⊎◌, inl, inr, ℕ, List, [], length, Option, Some, None, arith, refl, ap, sym, subst, ◌∙◌, true, false, Bool}
 use Rattle.std.specs.Prelude.{pos, ◌&&◌, cond, take, nat_eq, nat_lt, slice_get}
-use Rattle.std.proofs.lemmas.Bool.{cases_lt, cases_Bool}
+use Rattle.std.proofs.lemmas.Bool.{cases_lt, cases_Bool, and_parts, eqb-true}
 use Rattle.std.proofs.lemmas.Option.{slice_get_within}
+use Rattle.base.proofs.Lists.{some_at, take_get, take_past}
 use Rattle.machine_isa.specs.declared.instr.Instr.{Instr}
 use Rattle.machine_isa.specs.declared.instr.Instr.TheVariants as i
 use Rattle.base.specs.Capped.{cap}
@@ -13,7 +14,7 @@ use Rattle.machine_safety_spec.specs.Part.{Part}
 use Rattle.machine_safety_spec.specs.Walk.{Where, Cost, Covers, Walks, Reaches}
 use Rattle.machine_safety_spec.specs.Job.{RoutineFits}
 use Rattle.valid_image_law.specs.Rules.{AllMayStand, IsKnown, AllKnown, with_leave}
-use Rattle.valid_image_law.proofs.Tests.{passed, both, same_number, below}
+use Rattle.valid_image_law.proofs.Tests.{passed, below}
 use Rattle.valid_image_law.proofs.Walks.{segs_walk, entry_walks}
 use Rattle.valid_image.specs.Found.{Known, Found, longer, entry, ended, tree_found, is_return}
 use Rattle.valid_image.specs.Pieces.{piece_of_routine, belongs, called}
@@ -22,7 +23,7 @@ use Rattle.valid_image.specs.Shape.{shape_fault}
 use Rattle.valid_image.specs.Sizes.{needed_stay, cost_fault, size_fault}
 use Rattle.valid_image.specs.Tables.{count, monitor_of, known, routine_found, found_or_nothing, reach, bound_at, stays_at}
 use Rattle.valid_image.specs.Valid.{HasOwner}
-use Rattle.valid_image_law.proofs.Firsts.{some_at, take_get, take_past, table_length}
+use Rattle.valid_image_law.proofs.Firsts.{table_length}
 use Rattle.valid_image_law.proofs.Owners.{owned}
 use Rattle.valid_image_law.proofs.Shapes.{piece_routine, follow}
 use Rattle.valid_image_law.proofs.Standing.{Suits, may_stand}
@@ -46,8 +47,8 @@ own_base image w = by (nat_eq w.kind 1) (slice_get image.processes w.owner) wher
 
 pub called_below : (image : Image) (w : Whose) (q : ℕ) → may_call image w (pos q) ≡ true → q < w.number
 called_below image w q may =
-    let t = both (nat_lt q w.number && is_open_some w (slice_get image.routines q)) (may_be_inside image w q) may in
-    let u = both (nat_lt q w.number) (is_open_some w (slice_get image.routines q)) t.0 in
+    let t = and_parts (nat_lt q w.number && is_open_some w (slice_get image.routines q)) (may_be_inside image w q) may in
+    let u = and_parts (nat_lt q w.number) (is_open_some w (slice_get image.routines q)) t.0 in
     omega (arith, below q w.number u.0)
 
 -- each may stand in the part whose code it is
@@ -156,7 +157,7 @@ module _ (image : Image) (operands : operand_fault image ≡ None) (shaped : sha
   reach_own r x at part limit m is = elim (cases_Bool (nat_eq x.kind 2)) [
     | inl entry ↦
         let same : x.owner ≡ m = (let e : Some x.owner ≡ Some m = sym (ap (λ b. cond b (Some x.owner) None) entry) ∙ is in cc) in
-        let there = owners r x at (same_number x.kind 2 entry) in
+        let there = owners r x at (eqb-true x.kind 2 entry) in
         let low : ceiling (slice_get image.monitors x.owner) ≡ there.0.ceiling = ap (λ o. ceiling o) there.1 in
         let up = limit_reaches image.monitors (λ m. stays_at (reach image) m r) (length image.monitors) x.owner x.stay (slice_get_within image.monitors x.owner there.0 there.1) (owns_stay image r x at entry) in
         subst (λ k. Reaches (where_in image part) k) same (record { monitor = there.0; there = there.1; low = omega (arith, limit, low, up) })

@@ -1,8 +1,6 @@
 -- Holding what a step is made of changes nothing in what is held of it.
-use Rattle.std.proofs.Common.{◌≡◌, ◌≤◌, ◌<◌, ◌+◌, ◌*◌, ◌-◌, inl, inr, ℕ, suc, Option, Some, None, arith, refl, ap, ◌∙◌, true, false, Bool}
+use Rattle.std.proofs.Common.{◌≡◌, ◌<◌, ◌+◌, ◌*◌, ◌-◌, ℕ, suc, Option, Some, None, arith, refl, ap, ◌∙◌, true, false, Bool}
 use Rattle.std.specs.Prelude.{min, max, nat_eq, nat_le, ◌&&◌, option_map}
-use Rattle.std.proofs.Math.Nat.{mul-le-mul_left, mul-le-mul_right}
-use Rattle.std.proofs.lemmas.Bool.{cases_lt}
 use Rattle.machine_isa.specs.declared.instr.Instr.{Instr}
 use Rattle.machine_isa.specs.Ticks.{ticks}
 use Rattle.base.specs.Capped.{cap}
@@ -10,6 +8,7 @@ use Rattle.machine_isa.specs.Operands.{takes, gives}
 use Rattle.valid_image.specs.Found.{Known, Found, amount, plus, greater, longer, turns, in_line, guard, joined, chain, plain_step, arms, loop, call, ended}
 use Rattle.valid_image.specs.Tables.{nothing_found}
 use Rattle.valid_image_law.specs.Held.{held, hold, held_known, before, HoldingChangesNothing}
+use Rattle.valid_image_law.proofs.Exact.{many}
 
 -- two results that are held alike
 same_held : (f g : Found) → f.height ≡ g.height → cap f.cost.run ≡ cap g.cost.run → cap f.cost.susp ≡ cap g.cost.susp → cap f.cost.waits ≡ cap g.cost.waits → min f.depth 4097 ≡ min g.depth 4097 → Some (held f) ≡ Some (held g)
@@ -24,7 +23,7 @@ guarded : (b : Bool) (f g : Found) → Some (held f) ≡ Some (held g) → hold 
 guarded true f g is = is
 guarded false f g is = refl
 
-hold_guard : (b : Bool) (x y : Option Found) → hold x ≡ hold y → hold (guard b x) ≡ hold (guard b y)
+pub hold_guard : (b : Bool) (x y : Option Found) → hold x ≡ hold y → hold (guard b x) ≡ hold (guard b y)
 hold_guard true x y is = is
 hold_guard false x y is = refl
 
@@ -54,12 +53,6 @@ holds_arms (Some a) (Some b) =
     (record { height = a.height; cost = greater (longer 3 (held a).cost) (longer 2 (held b).cost); depth = max (held a).depth (held b).depth })
     (same_held (record { height = a.height; cost = greater (longer 3 a.cost) (longer 2 b.cost); depth = max a.depth b.depth })
     (record { height = a.height; cost = greater (longer 3 (held a).cost) (longer 2 (held b).cost); depth = max (held a).depth (held b).depth }) refl (omega arith) (omega arith) (omega arith) (omega arith))
-
-many : (n a b : ℕ) → 0 < n → cap a ≤ cap b → cap (n * a) ≤ cap (n * b)
-many n a b some le = elim (cases_lt b a) [
-  | inl less ↦ (let over : 1000000001 ≤ b = omega (arith, less, le) in let up : 1 * b ≤ n * b = mul-le-mul_right b some in omega (arith, up, over))
-  | inr more ↦ (let up : n * a ≤ n * b = mul-le-mul_left n more in omega (arith, up))
-]
 
 -- a product of what was held
 pub product : (n a b : ℕ) → 0 < n → cap a ≡ cap b → cap (n * a) ≡ cap (n * b)

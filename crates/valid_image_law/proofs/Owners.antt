@@ -5,6 +5,7 @@ use Rattle.std.proofs.lemmas.Bool.Decides.{nat_tests}
 use Rattle.machine_semantics.specs.Image.{Image}
 use Rattle.valid_image.specs.Pieces.{Piece, Owner, comes_closer, closest, is_owner, pieces, belongs, due_start, end_of_piece}
 use Rattle.valid_image_law.proofs.Tests.{meet}
+use Rattle.valid_image_law.proofs.Sweeping.{past}
 
 -- a later piece starts where an earlier one ends, or after it
 abbrev pub Rises : List Piece → Type 0
@@ -13,13 +14,6 @@ Rises xs = (i j : ℕ) (x y : Piece) → i < j → slice_get xs i ≡ Some x →
 -- the best so far starts no later than any of these
 abbrev NoLater : Option Owner → List Piece → Type 0
 NoLater best xs = (b : Owner) (j : ℕ) (y : Piece) → best ≡ Some b → slice_get xs j ≡ Some y → b.start ≤ y.start
-
-too_far : (best : Option Owner) (start a : ℕ) → a < start → comes_closer best start a ≡ false
-too_far None start a far = grind (arith, nat_tests, far)
-too_far (Some b) start a far = short (nat_le start a) (nat_le b.start start) (grind (arith, nat_tests, far)) where
-  short : (x y : Bool) → x ≡ false → x && y ≡ false
-  short false y is = refl
-  short true y is = absurd cc
 
 near : (best : Option Owner) (start a : ℕ) → start ≤ a → ((b : Owner) → best ≡ Some b → b.start ≤ start) → comes_closer best start a ≡ true
 near None start a le early = grind (arith, nat_tests, le)
@@ -36,7 +30,7 @@ none_closer : (xs : List Piece) (k a : ℕ) (best : Option Owner) → ((j : ℕ)
 none_closer [] k a best far = refl
 none_closer (x ∷ xs) k a best far =
     none_closer xs (suc k) a (cond (comes_closer best x.start a) (Some (record { number = k; start = x.start })) best) (λ j y at. far (suc j) y at)
-    ∙ ap (λ (b : Bool). cond b (Some (record { number = k; start = x.start })) best) (too_far best x.start a (far 0 x refl))
+    ∙ ap (λ (b : Bool). cond b (Some (record { number = k; start = x.start })) best) (past best x.start a (far 0 x refl))
 
 chosen : (xs : List Piece) (k a j : ℕ) (x : Piece) (best : Option Owner) → Rises xs → NoLater best xs → slice_get xs j ≡ Some x → x.start ≤ a → a < x.start + x.length
     → closest xs k a best ≡ Some (record { number = k + j; start = x.start })

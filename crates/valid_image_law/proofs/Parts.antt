@@ -1,7 +1,7 @@
 -- The parts of a valid image, as the law of safety takes them.
 use Rattle.std.proofs.Common.{◌≡◌, ◌≤◌, ◌<◌, ◌⊎◌, inl, inr, ℕ, zero, suc, List, [], ◌∷◌, length, Option, Some, None, arith, refl, ap, sym, subst, ◌∙◌, true, false, Bool}
 use Rattle.std.specs.Prelude.{pos, ◌&&◌, not, max, cond, nat_eq, nat_lt, slice_get}
-use Rattle.std.proofs.lemmas.Bool.{cases_Bool}
+use Rattle.std.proofs.lemmas.Bool.{cases_Bool, not-true, and_parts, or_cases, eqb-true}
 use Rattle.std.proofs.lemmas.Bool.Decides.{nat_tests}
 use Rattle.machine_isa.specs.declared.instr.Instr.{Instr}
 use Rattle.machine_isa.specs.declared.instr.Instr.TheVariants as i
@@ -12,7 +12,7 @@ use Rattle.valid_image_law.specs.Rules.{Callable, with_leave}
 use Rattle.valid_image.specs.Found.{Known, amount}
 use Rattle.valid_image.specs.Operands.{Whose, Area, no_words, whose_routine, words_of_process, own_words, is_open, is_open_some, may_be_inside, may_call}
 use Rattle.valid_image.specs.Tables.{count, monitor_of, reach, bound_at, stays_at}
-use Rattle.valid_image_law.proofs.Tests.{both, either, same_number, below}
+use Rattle.valid_image_law.proofs.Tests.{below}
 use Rattle.valid_image_law.proofs.Reaching.{NoLonger, kind_bound, limit_of, limit_more, true_stay, stay_more}
 use Rattle.valid_image_law.proofs.Rows.{exact}
 
@@ -96,10 +96,6 @@ open_is : (w : Whose) (o : Option Routine) → is_open_some w o ≡ true → (y 
 open_is w (Some y) is = (y, refl, is)
 open_is w None is = absurd cc
 
-not_true : (b : Bool) → not b ≡ true → b ≡ false
-not_true false is = refl
-not_true true is = absurd cc
-
 same_words : (image : Image) (a b : Whose) → nat_eq a.kind 1 ≡ true → nat_eq b.kind 1 ≡ true → a.owner ≡ b.owner → (own_words image a).words ≤ (own_words image b).words
 same_words image a b kind_a kind_b same =
     let x : own_words image a ≡ words_of_process (slice_get image.processes a.owner) = ap (λ t. cond t (words_of_process (slice_get image.processes a.owner)) no_words) kind_a in
@@ -120,8 +116,8 @@ zero_kind k is = grind (arith, nat_tests, is)
 pub callable : (image : Image) (part : Part) (w : Whose) (f : ℕ → Option ℕ) (q : ℕ) → Reaching image part w f → may_call image w (pos q) ≡ true
     → ((m : ℕ) → NoLonger (stays_at (reach image) m q) (f m)) → (q < w.number → bound_at (reach image) q ≡ true → nat_eq w.kind 2 ≡ false → part.level ≡ 2) → Callable (where_in image part) q
 callable image part w f q reaching may longer up =
-    let t = both (nat_lt q w.number && is_open_some w (slice_get image.routines q)) (may_be_inside image w q) may in
-    let u = both (nat_lt q w.number) (is_open_some w (slice_get image.routines q)) t.0 in
+    let t = and_parts (nat_lt q w.number && is_open_some w (slice_get image.routines q)) (may_be_inside image w q) may in
+    let u = and_parts (nat_lt q w.number) (is_open_some w (slice_get image.routines q)) t.0 in
     let o = open_is w (slice_get image.routines q) u.1 in
     let y : Routine = o.0 in
     let is : part_at image q ≡ part_of_routine image q y = ap (λ x. part_of_some image q x) o.1 in
@@ -150,10 +146,10 @@ callable image part w f q reaching may longer up =
 
     owns : (y : Routine) → (nat_eq y.kind 1 ≡ true) ⊎ (nat_eq y.kind 1 ≡ false) → is_open w y ≡ true → (part_of_routine image q y).owned ≤ part.owned
     owns y (inl one) open_to =
-        let e = either (not (nat_eq y.kind 1)) (nat_eq w.kind 1 && nat_eq y.owner w.owner) open_to in
+        let e = or_cases (not (nat_eq y.kind 1)) (nat_eq w.kind 1 && nat_eq y.owner w.owner) open_to in
         elim e [
-          | inl other ↦ absurd (let x : true ≡ false = sym one ∙ not_true (nat_eq y.kind 1) other in cc)
-          | inr same ↦ (let b = both (nat_eq w.kind 1) (nat_eq y.owner w.owner) same in
-              omega (arith, same_words image (whose_routine q y) w one b.0 (same_number y.owner w.owner b.1), reaching.owned))
+          | inl other ↦ absurd (let x : true ≡ false = sym one ∙ not-true (nat_eq y.kind 1) other in cc)
+          | inr same ↦ (let b = and_parts (nat_eq w.kind 1) (nat_eq y.owner w.owner) same in
+              omega (arith, same_words image (whose_routine q y) w one b.0 (eqb-true y.owner w.owner b.1), reaching.owned))
         ]
     owns y (inr no_process) open_to = no_own_words image (whose_routine q y) part.owned no_process

@@ -2,11 +2,11 @@
 use Rattle.std.proofs.Common.{◌≡◌, ◌≤◌, ◌+◌, ℕ, zero, suc, List, [], ◌∷◌, length, Option, Some, None, arith, refl, ap, sym, ◌∙◌, true, false, Bool}
 use Rattle.std.specs.Prelude.{ℤ, not, cond, nat_eq, slice_get}
 use Rattle.std.proofs.lemmas.Option.{slice_get_within}
+use Rattle.std.proofs.lemmas.Bool.{and_parts, eqb-true}
 use Rattle.machine_isa.specs.declared.instr.Instr.{Instr}
 use Rattle.machine_semantics.specs.Trees.{Segs}
 use Rattle.machine_semantics.specs.Image.{Image, Monitor, Routine, Process}
 use Rattle.machine_semantics.specs.Run.{words_of}
-use Rattle.valid_image_law.proofs.Tests.{both, same_number}
 use Rattle.valid_image.specs.Fault.{Fault, or_else, unless, first_of, of_some}
 use Rattle.valid_image.specs.Pieces.{belongs, piece_number}
 use Rattle.valid_image.specs.Operands.{Whose, whose_routine, whose_process, bad_operand, shown_operand, operand_fault_at, operand_fault_in, operand_fault}
@@ -101,8 +101,8 @@ pub record HandlerStands (image : Image) (p : Process) (tree : Segs) : Type 0 wh
 pub handler_stands : (image : Image) → handler_fault image ≡ None → (k : ℕ) (p : Process) → slice_get image.processes k ≡ Some p → (tree : Segs) → p.handler_tree ≡ Some tree → HandlerStands image p tree
 handler_stands image none k p at tree is =
     let t : is_handler image p p.handler_tree ≡ true = passed_test (is_handler image p p.handler_tree) k 0 (none_of_all (λ k p. unless (is_handler image p p.handler_tree) k 0) image.processes none k p at) in
-    let b = both (nat_eq p.handler (handler_start p)) (not (tree_waits (reach image) tree)) (sym (ap (λ o. is_handler image p o) is) ∙ t) in
-    record { place = same_number p.handler (handler_start p) b.0; silent = not_true (tree_waits (reach image) tree) b.1 }
+    let b = and_parts (nat_eq p.handler (handler_start p)) (not (tree_waits (reach image) tree)) (sym (ap (λ o. is_handler image p o) is) ∙ t) in
+    record { place = eqb-true p.handler (handler_start p) b.0; silent = not_true (tree_waits (reach image) tree) b.1 }
   where
     not_true : (b : Bool) → not b ≡ true → b ≡ false
     not_true false is = refl

@@ -1,6 +1,7 @@
 -- A tree that reaches no WAIT has no suspension and no waits.
-use Rattle.std.proofs.Common.{◌≡◌, ◌+◌, ◌*◌, ℕ, zero, suc, List, Option, Some, None, arith, refl, ap, sym, subst, ◌∙◌, true, false, Bool}
-use Rattle.std.specs.Prelude.{◌&&◌, ◌||◌, nat_eq, nat_lt, slice_get}
+use Rattle.std.proofs.Common.{◌≡◌, ◌+◌, ◌*◌, ℕ, zero, suc, List, Option, Some, None, arith, refl, ap, sym, subst, ◌∙◌, false}
+use Rattle.std.specs.Prelude.{◌&&◌, nat_eq, nat_lt, slice_get}
+use Rattle.std.proofs.lemmas.Bool.{or_parts}
 use Rattle.machine_isa.specs.declared.instr.Instr.{Instr}
 use Rattle.machine_semantics.specs.Trees.{Seg, Segs, Line, Fork, Rep, Call, Stay, Wait, Exit, Nil, Cons, size, size_of}
 use Rattle.machine_semantics.specs.Image.{Routine}
@@ -16,10 +17,6 @@ IsQuiet f = (f.cost.susp ≡ 0) × (f.cost.waits ≡ 0)
 abbrev pub AreQuiet : List Reach → List Known → Type 0
 AreQuiet rows ys = (r : ℕ) (k : Known) → slice_get ys r ≡ Some k → waits_at rows r ≡ false → (k.cost.susp ≡ 0) × (k.cost.waits ≡ 0)
 
-either_false : (a b : Bool) → a || b ≡ false → (a ≡ false) × (b ≡ false)
-either_false false b is = (refl, is)
-either_false true b is = absurd cc
-
 of_whole : (f g : Found) → f ≡ g → IsQuiet g → IsQuiet f
 of_whole f g is quiet = subst IsQuiet (sym is) quiet
 
@@ -30,7 +27,7 @@ line_quiet code (suc n) at h f is =
     let rest : IsQuiet s.later = line_quiet code n (at + 1) _ s.later s.more in
     of_whole f _ s.whole (omega (arith, rest.0), omega (arith, rest.1))
 
-times_none : (n a : ℕ) → a ≡ 0 → n * a ≡ 0
+pub times_none : (n a : ℕ) → a ≡ 0 → n * a ≡ 0
 times_none n a is = ap (λ k. n * k) is ∙ omega arith
 
 mutual
@@ -39,7 +36,7 @@ mutual
   seg_quiet code rows ys quiet out held (Line (suc n)) at h f none is = line_quiet code (suc n) at h f is
   seg_quiet code rows ys quiet out held (Fork first second) at zero f none is = absurd cc
   seg_quiet code rows ys quiet out held (Fork first second) at (suc h) f none is =
-      let e = either_false (tree_waits rows first) (tree_waits rows second) none in
+      let e = or_parts (tree_waits rows first) (tree_waits rows second) none in
       let one = founds code ys out held first (at + 1) h in
       let two = founds code ys out held second (at + 1 + size first + 1) h in
       let p = passed (is_jump_zero (at + 1 + size first + 1) (slice_get code at) && is_jump (at + size first + size second + 2) (slice_get code (at + 1 + size first))) (arms one two) f is in
@@ -67,7 +64,7 @@ mutual
   pub segs_quiet : (code : List Instr) (rows : List Reach) (ys : List Known) → AreQuiet rows ys → (out held : Option ℕ) (segs : Segs) (at h : ℕ) (f : Found) → tree_waits rows segs ≡ false → founds code ys out held segs at h ≡ Some f → IsQuiet f
   segs_quiet code rows ys quiet out held Nil at h f none is = let whole : record { height = h; cost = amount 0 0 0; depth = 0 } ≡ f = cc in subst IsQuiet whole (refl, refl)
   segs_quiet code rows ys quiet out held (Cons head rest) at h f none is =
-      let e = either_false (seg_waits rows head) (tree_waits rows rest) none in
+      let e = or_parts (seg_waits rows head) (tree_waits rows rest) none in
       let s = chained (found code ys out held head at h) (founds code ys out held rest (at + size_of head)) f is in
       let a = seg_quiet code rows ys quiet out held head at h s.first e.0 s.is in
       let b = segs_quiet code rows ys quiet out held rest (at + size_of head) s.first.height s.later e.1 s.more in
@@ -75,7 +72,7 @@ mutual
 
 entry_quiet : (code : List Instr) (rows : List Reach) (ys : List Known) → AreQuiet rows ys → (m : ℕ) (tree : Segs) (at : ℕ) (f : Found) → tree_waits rows tree ≡ false → entry code ys m tree at ≡ Some f → IsQuiet f
 entry_quiet code rows ys quiet m (Cons (Stay n body) Nil) at f none is =
-    let e = either_false (tree_waits rows body) false none in
+    let e = or_parts (tree_waits rows body) false none in
     let p = passed (nat_eq n m && (is_enter m (slice_get code at) && is_leave m (slice_get code (at + 1 + size body)))) _ f is in
     let s = stayed (founds code ys None (Some m) body (at + 1) 0) f p.1 in
     let a = segs_quiet code rows ys quiet None (Some m) body (at + 1) 0 s.inner e.0 s.is in

@@ -1,9 +1,11 @@
 -- The ranks, ceilings and blocks of a valid image.
-use Rattle.std.proofs.Common.{◌≡◌, ◌≤◌, ◌<◌, ◌⊎◌, inl, inr, ℕ, zero, suc, length, Option, Some, None, arith, ap, sym, ◌∙◌, true, false}
-use Rattle.std.specs.Prelude.{◌&&◌, ◌||◌, cond, nat_eq, nat_lt, nat_le, slice_get}
-use Rattle.std.proofs.lemmas.Bool.{cases_lt}
+use Rattle.std.proofs.Common.{◌≡◌, ◌≤◌, ◌<◌, inl, inr, ℕ, zero, suc, length, Option, Some, None, arith, ap, sym, ◌∙◌, true}
+use Rattle.std.specs.Prelude.{cond, nat_lt, slice_get}
+use Rattle.std.proofs.lemmas.Bool.{cases_lt, le-leb}
 use Rattle.std.proofs.lemmas.Bool.Decides.{nat_tests}
 use Rattle.std.proofs.lemmas.Option.{slice_get_within}
+use Rattle.base.proofs.Lists.{some_at}
+use Rattle.base.proofs.Numbers.{not_before_itself, before_along, one_before}
 use Rattle.sched_response.proofs.Counting.{count_lt, count_less}
 use Rattle.base.specs.Capped.{cap}
 use Rattle.machine_semantics.specs.Image.{Image, Monitor, Process}
@@ -13,21 +15,12 @@ use Rattle.valid_image.specs.Fault.{Fault, or_else, first_of, of_some}
 use Rattle.valid_image.specs.Sizes.{below, other}
 use Rattle.valid_image.specs.Tables.{stay_of_process}
 use Rattle.valid_image.specs.Times.{deadline_at, outranks, rank_of, is_some, enters, least_rank, ceiling_of, ticks_of, blocking_stay, longest_blocking, blocking_by, longest_block, needed_block, rank_fault}
-use Rattle.valid_image_law.proofs.Firsts.{neither, none_of_all, some_at}
+use Rattle.valid_image_law.proofs.Firsts.{neither, none_of_all}
 use Rattle.valid_image_law.proofs.Rows.{at_least_needed, is_due}
 use Rattle.valid_image_law.proofs.Reaching.{limit_low, stay_capped}
 use Rattle.valid_image_law.proofs.Parts.{limit_by, stay_by}
 
 -- ---- who ranks higher
-
-not_before_itself : (f p : ℕ) → (nat_lt f f || (nat_eq f f && nat_lt p p)) ≡ false
-not_before_itself f p = grind (arith, nat_tests)
-
-before_along : (f g h p q r : ℕ) → (nat_lt f g || (nat_eq f g && nat_lt p q)) ≡ true → (nat_lt g h || (nat_eq g h && nat_lt q r)) ≡ true → (nat_lt f h || (nat_eq f h && nat_lt p r)) ≡ true
-before_along f g h p q r first second = grind (arith, nat_tests)
-
-one_before : (f g p q : ℕ) → p < q → ((nat_lt f g || (nat_eq f g && nat_lt p q)) ≡ true) ⊎ ((nat_lt g f || (nat_eq g f && nat_lt q p)) ≡ true)
-one_before f g p q less = elim (cases_lt g f) [ inl shorter ↦ inr (grind (arith, nat_tests, shorter)) | inr longer ↦ inl (grind (arith, nat_tests, longer, less)) ]
 
 module _ (image : Image) where
   abbrev due : ℕ → ℕ
@@ -69,9 +62,6 @@ module _ (image : Image) where
 
 -- ---- blocks
 
-at_most_true : (m n : ℕ) → m ≤ n → nat_le m n ≡ true
-at_most_true m n le = grind (arith, nat_tests, le)
-
 less_true : (m n : ℕ) → m < n → nat_lt m n ≡ true
 less_true m n less = grind (arith, nat_tests, less)
 
@@ -80,7 +70,7 @@ stay_blocks image rank k zero m x below at low = absurd (omega (arith, below))
 stay_blocks image rank k (suc n) m x below at low = elim (meet m n (omega (arith, below))) [
   | inl same ↦
       let one : blocking_stay image rank k m (slice_get image.monitors m) ≡ ticks_of (stay_of_process image k m) =
-      ap (λ o. blocking_stay image rank k m o) at ∙ ap (λ b. cond b (ticks_of (stay_of_process image k m)) 0) (at_most_true x.ceiling rank low) in
+      ap (λ o. blocking_stay image rank k m o) at ∙ ap (λ b. cond b (ticks_of (stay_of_process image k m)) 0) (le-leb x.ceiling rank low) in
       let is : blocking_stay image rank k m (slice_get image.monitors m) ≡ blocking_stay image rank k n (slice_get image.monitors n) = ap (λ i. blocking_stay image rank k i (slice_get image.monitors i)) same in
       omega (arith, one, is)
   | inr later ↦ (let rest = stay_blocks image rank k n m x (omega (arith, later)) at low in omega (arith, rest))

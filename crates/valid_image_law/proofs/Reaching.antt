@@ -4,6 +4,7 @@ use Rattle.std.specs.Prelude.{pos, ◌&&◌, ◌||◌, not, cond, max, take, nat
 use Rattle.std.proofs.lemmas.Bool.{cases_Bool}
 use Rattle.std.proofs.lemmas.Bool.Decides.{nat_tests}
 use Rattle.std.proofs.lemmas.Option.{slice_get_within}
+use Rattle.base.proofs.Lists.{take_get}
 use Rattle.machine_isa.specs.declared.instr.Instr.TheVariants as i
 use Rattle.base.specs.Capped.{cap}
 use Rattle.machine_semantics.specs.Image.{Image, Monitor, Routine}
@@ -12,7 +13,7 @@ use Rattle.valid_image.specs.Pieces.{belongs, called_by, called_from, called, pi
 use Rattle.valid_image.specs.Tables.{longer_stay, bound_of, stays_of, bound_at, stays_at, some_of, longest_of, own_stay, reach_of, reach, stay_of_process}
 use Rattle.valid_image.specs.Times.{is_some}
 use Rattle.valid_image_law.proofs.Tests.{meet}
-use Rattle.valid_image_law.proofs.Firsts.{take_get, row_is, rows_before}
+use Rattle.valid_image_law.proofs.Firsts.{row_is, rows_before}
 
 -- ---- calls
 

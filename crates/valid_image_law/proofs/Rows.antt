@@ -1,8 +1,9 @@
 -- The tables of a valid image: the exact cost of each routine, beside the declared one.
 use Rattle.std.proofs.Common.{◌≡◌, ◌≤◌, ◌<◌, inl, inr, ℕ, zero, suc, List, [], length, Some, None, arith, refl, ap, sym, subst, ◌∙◌, false}
 use Rattle.std.specs.Prelude.{take, nat_eq, nat_le, slice_get}
-use Rattle.std.proofs.lemmas.Bool.{cases_lt}
+use Rattle.std.proofs.lemmas.Bool.{cases_lt, leb-true, eqb-true}
 use Rattle.std.proofs.lemmas.Option.{slice_get_within}
+use Rattle.base.proofs.Lists.{some_at, take_get, take_past}
 use Rattle.machine_isa.specs.declared.instr.Instr.{Instr}
 use Rattle.base.specs.Capped.{cap}
 use Rattle.machine_semantics.specs.Image.{Image, Routine, Process}
@@ -11,8 +12,7 @@ use Rattle.valid_image.specs.Fault.{or_else, first_of, of_some}
 use Rattle.valid_image.specs.Sizes.{below, other, needed_by_routine, needed_stay, routine_cost_fault, needed_by_process, with_dispatch, process_cost_fault, cost_fault}
 use Rattle.valid_image.specs.Shape.{shape_fault}
 use Rattle.valid_image.specs.Tables.{table, count, routine_found, found_or_nothing, known_of, known, waits_of, waits_at, reach_of, reach, tree_waits}
-use Rattle.valid_image_law.proofs.Tests.{at_most, same_number}
-use Rattle.valid_image_law.proofs.Firsts.{neither, passed_test, none_of_all, some_at, take_get, take_past, row_is, table_length}
+use Rattle.valid_image_law.proofs.Firsts.{neither, passed_test, none_of_all, row_is, table_length}
 use Rattle.valid_image_law.proofs.Shapes.{routine_shaped}
 use Rattle.valid_image_law.proofs.Exact.{Alike, AreAlike, Same, routine_same}
 use Rattle.valid_image_law.proofs.Quiet.{AreQuiet, routine_quiet}
@@ -33,10 +33,10 @@ exact image = table (exact_of image.code) [] image.routines
 -- ---- what the test of costs tells
 
 pub at_least_needed : (d n : ℕ) → below d n ≡ None → n ≤ d
-at_least_needed d n is = at_most n d (passed_test (nat_le n d) d n is)
+at_least_needed d n is = leb-true n d (passed_test (nat_le n d) d n is)
 
 pub is_due : (d n : ℕ) → other d n ≡ None → d ≡ n
-is_due d n is = same_number d n (passed_test (nat_eq d n) d n is)
+is_due d n is = eqb-true d n (passed_test (nat_eq d n) d n is)
 
 pub record RoutineCosts (image : Image) (r : ℕ) (x : Routine) : Type 0 where
   pub run : cap (needed_by_routine image r x).run ≤ x.run

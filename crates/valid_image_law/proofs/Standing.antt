@@ -3,6 +3,7 @@ use Rattle.std.proofs.Common.{◌≡◌, ◌≤◌, ◌+◌, ℕ, length, Option
 use Rattle.std.specs.Prelude.{ℤ, pos, negsuc, ◌&&◌, ◌+ℤ◌, ◌-ℤ◌, cond, nat_eq, nat_lt, nat_le, slice_get}
 use Rattle.std.proofs.lemmas.Bool.Decides.{nat_tests}
 use Rattle.std.proofs.lemmas.Option.{slice_get_within}
+use Rattle.std.proofs.lemmas.Bool.{and_parts, eqb-true, leb-true}
 use Rattle.machine_isa.specs.declared.instr.Instr.{Instr}
 use Rattle.machine_isa.specs.declared.instr.Instr.TheVariants as i
 use Rattle.base.specs.Words.{is_word}
@@ -12,15 +13,15 @@ use Rattle.machine_safety_spec.specs.Walk.{Where, Reaches}
 use Rattle.valid_image_law.specs.Rules.{Callable, MayStand}
 use Rattle.valid_image.specs.Fault.{or_else}
 use Rattle.valid_image.specs.Operands.{Whose, Area, no_words, is_between, in_area, ends_in, local_words, own_words, words_of_monitor, monitor_words, is_same, is_own_condition, goes, is_device, may_call, bad, bad_array, is_user_number, bad_operand}
-use Rattle.valid_image_law.proofs.Tests.{both, same_number, at_most, below}
+use Rattle.valid_image_law.proofs.Tests.{below}
 use Rattle.valid_image_law.proofs.Firsts.{neither}
 
-no_bad : (b : Bool) (z : ℤ) → bad b z ≡ None → b ≡ true
+pub no_bad : (b : Bool) (z : ℤ) → bad b z ≡ None → b ≡ true
 no_bad true z is = refl
 no_bad false z is = absurd cc
 
 below_is : (n : ℕ) (z : ℤ) → in_area (record { base = 0; words = n }) z ≡ true → IsBelow z n
-below_is n (pos w) is = let t = both (nat_le 0 w) (nat_lt w (0 + n)) is in (w, refl, omega (arith, below w (0 + n) t.1))
+below_is n (pos w) is = let t = and_parts (nat_le 0 w) (nat_lt w (0 + n)) is in (w, refl, omega (arith, below w (0 + n) t.1))
 below_is n (negsuc w) is = absurd cc
 
 -- an array ends in its area
@@ -32,35 +33,35 @@ array_ends : (x : Area) (word low len : ℤ) → bad_array x word low len ≡ No
 array_ends x word low len is =
     let p = neither (bad (in_area x word) word) (or_else (bad (is_between 1 65536 len) len) (bad (ends_in x word len && is_word ((low +ℤ len) -ℤ pos 1)) word)) is in
     let q = neither (bad (is_between 1 65536 len) len) (bad (ends_in x word len && is_word ((low +ℤ len) -ℤ pos 1)) word) p.1 in
-    let e = both (ends_in x word len) (is_word ((low +ℤ len) -ℤ pos 1)) (no_bad (ends_in x word len && is_word ((low +ℤ len) -ℤ pos 1)) word q.1) in
+    let e = and_parts (ends_in x word len) (is_word ((low +ℤ len) -ℤ pos 1)) (no_bad (ends_in x word len && is_word ((low +ℤ len) -ℤ pos 1)) word q.1) in
     record { starts = no_bad (in_area x word) word p.0; ends = e.0 }
 
 array_is : (n : ℕ) (word len : ℤ) → Ends (record { base = 0; words = n }) word len → IsArray word len n
-array_is n (pos w) (pos k) e = record { from = w; count = k; word = refl; long = refl; fits = omega (arith, at_most (w + k) (0 + n) e.ends) }
+array_is n (pos w) (pos k) e = record { from = w; count = k; word = refl; long = refl; fits = omega (arith, leb-true (w + k) (0 + n) e.ends) }
 array_is n (pos w) (negsuc k) e = absurd (let a = e.ends in cc)
 array_is n (negsuc w) len e = absurd (let a = e.starts in cc)
 
 -- words of a monitor are there for an entry of it alone
 reached_by : (image : Image) (m : ℕ) (b : Bool) (o : Option Monitor) (word len : ℤ) → slice_get image.monitors m ≡ o → Ends (cond b (words_of_monitor o) no_words) word len → IsReached image (cond b (Some m) None) word len
 reached_by image m true (Some mon) (pos w) (pos k) at e =
-    let t = both (nat_le mon.base w) (nat_lt w (mon.base + mon.words)) e.starts in
-    record { number = m; is_entry = refl; mon = mon; there = at; from = w; count = k; word = refl; long = refl; above = at_most mon.base w t.0; below = at_most (w + k) (mon.base + mon.words) e.ends }
+    let t = and_parts (nat_le mon.base w) (nat_lt w (mon.base + mon.words)) e.starts in
+    record { number = m; is_entry = refl; mon = mon; there = at; from = w; count = k; word = refl; long = refl; above = leb-true mon.base w t.0; below = leb-true (w + k) (mon.base + mon.words) e.ends }
 reached_by image m true (Some mon) (pos w) (negsuc k) at e = absurd (let a = e.ends in cc)
 reached_by image m true (Some mon) (negsuc w) len at e = absurd (let a = e.starts in cc)
-reached_by image m true None (pos w) len at e = absurd (let t = both (nat_le 0 w) (nat_lt w (0 + 0)) e.starts in omega (arith, below w (0 + 0) t.1))
+reached_by image m true None (pos w) len at e = absurd (let t = and_parts (nat_le 0 w) (nat_lt w (0 + 0)) e.starts in omega (arith, below w (0 + 0) t.1))
 reached_by image m true None (negsuc w) len at e = absurd (let a = e.starts in cc)
-reached_by image m false o (pos w) len at e = absurd (let t = both (nat_le 0 w) (nat_lt w (0 + 0)) e.starts in omega (arith, below w (0 + 0) t.1))
+reached_by image m false o (pos w) len at e = absurd (let t = and_parts (nat_le 0 w) (nat_lt w (0 + 0)) e.starts in omega (arith, below w (0 + 0) t.1))
 reached_by image m false o (negsuc w) len at e = absurd (let a = e.starts in cc)
 
 -- one word ends where it starts
 one_word : (x : Area) (word : ℤ) → in_area x word ≡ true → Ends x word (pos 1)
-one_word x (pos w) is = let t = both (nat_le x.base w) (nat_lt w (x.base + x.words)) is in record { starts = is; ends = up w (x.base + x.words) (below w (x.base + x.words) t.1) } where
+one_word x (pos w) is = let t = and_parts (nat_le x.base w) (nat_lt w (x.base + x.words)) is in record { starts = is; ends = up w (x.base + x.words) (below w (x.base + x.words) t.1) } where
   up : (w n : ℕ) → w + 1 ≤ n → nat_le (w + 1) n ≡ true
   up w n le = grind (arith, nat_tests)
 one_word x (negsuc w) is = absurd cc
 
 same_some : (n : ℕ) (o : Option ℕ) → is_same n o ≡ true → o ≡ Some n
-same_some n (Some m) is = ap (λ k. Some k) (same_number m n is)
+same_some n (Some m) is = ap (λ k. Some k) (eqb-true m n is)
 same_some n None is = absurd cc
 
 -- a condition of the owner
@@ -72,18 +73,18 @@ pub record Conditioned (image : Image) (w : Whose) (c : ℤ) : Type 0 where
 
 conditioned : (image : Image) (w : Whose) (c : ℤ) → is_own_condition image w c ≡ true → Conditioned image w c
 conditioned image w (pos c) is =
-    let t = both (nat_eq w.kind 2) (is_same w.owner (slice_get image.conditions c)) is in
+    let t = and_parts (nat_eq w.kind 2) (is_same w.owner (slice_get image.conditions c)) is in
     record { number = c; is = refl; kind = t.0; of = same_some w.owner (slice_get image.conditions c) t.1 }
 conditioned image w (negsuc c) is = absurd cc
 
-condition_below : (image : Image) (w : Whose) (c : ℤ) → bad (is_own_condition image w c) c ≡ None → IsBelow c (length image.conditions)
+pub condition_below : (image : Image) (w : Whose) (c : ℤ) → bad (is_own_condition image w c) c ≡ None → IsBelow c (length image.conditions)
 condition_below image w c is = let x = conditioned image w c (no_bad (is_own_condition image w c) c is) in (x.number, x.is, slice_get_within image.conditions x.number w.owner x.of)
 
-device_there : (out : Bool) (o : Option Bool) → goes out o ≡ true → (b : Bool) × (o ≡ Some b)
+pub device_there : (out : Bool) (o : Option Bool) → goes out o ≡ true → (b : Bool) × (o ≡ Some b)
 device_there out (Some b) is = (b, refl)
 device_there out None is = absurd cc
 
-device_below : (image : Image) (out : Bool) (d : ℤ) → bad (is_device image out d) d ≡ None → IsBelow d (length image.devices)
+pub device_below : (image : Image) (out : Bool) (d : ℤ) → bad (is_device image out d) d ≡ None → IsBelow d (length image.devices)
 device_below image out (pos d) is = let x = device_there out (slice_get image.devices d) (no_bad (goes out (slice_get image.devices d)) (pos d) is) in (d, refl, slice_get_within image.devices d x.0 x.1)
 device_below image out (negsuc d) is = absurd cc
 

@@ -1,7 +1,7 @@
 -- The owner of the next address.
 use Rattle.std.proofs.Common.{◌≡◌, ◌≤◌, ◌<◌, ◌+◌, ◌⊎◌, inl, inr, ℕ, suc, List, [], ◌∷◌, Option, Some, None, arith, refl, ap, sym, ◌∙◌, true, false}
 use Rattle.std.specs.Prelude.{◌&&◌, cond, nat_eq, nat_le}
-use Rattle.std.proofs.lemmas.Bool.{cases_lt, cases_Bool}
+use Rattle.std.proofs.lemmas.Bool.{cases_lt, cases_Bool, eq-eqb, le-leb, lt-leb}
 use Rattle.std.proofs.lemmas.Bool.Decides.{nat_tests}
 use Rattle.valid_image.specs.Fault.{or_else}
 use Rattle.valid_image.specs.Pieces.{Piece, Owner, comes_closer, closest}
@@ -15,31 +15,22 @@ Early (Some b) a = b.start ≤ a
 abbrev owner : ℕ → ℕ → Owner
 owner k x = record { number = k; start = x }
 
-le_true : (m n : ℕ) → m ≤ n → nat_le m n ≡ true
-le_true m n le = grind (arith, nat_tests, le)
-
-le_false : (m n : ℕ) → n < m → nat_le m n ≡ false
-le_false m n less = grind (arith, nat_tests, less)
-
-eq_true : (m n : ℕ) → m ≡ n → nat_eq m n ≡ true
-eq_true m n is = grind (arith, nat_tests, is)
-
 eq_false : (m n : ℕ) → (m < n) ⊎ (n < m) → nat_eq m n ≡ false
 eq_false m n (inl less) = grind (arith, nat_tests, less)
 eq_false m n (inr more) = grind (arith, nat_tests, more)
 
 -- what starts past the address comes no closer, what starts before is tested against the best alone
-past : (best : Option Owner) (start a : ℕ) → a < start → comes_closer best start a ≡ false
-past None start a far = le_false start a far
-past (Some b) start a far = ap (λ t. t && nat_le b.start start) (le_false start a far)
+pub past : (best : Option Owner) (start a : ℕ) → a < start → comes_closer best start a ≡ false
+past None start a far = lt-leb start a far
+past (Some b) start a far = ap (λ t. t && nat_le b.start start) (lt-leb start a far)
 
 alike : (best : Option Owner) (start a : ℕ) → start ≤ a → comes_closer best start (a + 1) ≡ comes_closer best start a
-alike None start a le = le_true start (a + 1) (omega (arith, le)) ∙ sym (le_true start a le)
-alike (Some b) start a le = ap (λ t. t && nat_le b.start start) (le_true start (a + 1) (omega (arith, le)) ∙ sym (le_true start a le))
+alike None start a le = le-leb start (a + 1) (omega (arith, le)) ∙ sym (le-leb start a le)
+alike (Some b) start a le = ap (λ t. t && nat_le b.start start) (le-leb start (a + 1) (omega (arith, le)) ∙ sym (le-leb start a le))
 
 reached : (best : Option Owner) (start a : ℕ) → start ≡ a → Early best a → comes_closer best start a ≡ true
-reached None start a is early = le_true start a (omega (arith, is))
-reached (Some b) start a is early = ap (λ t. t && nat_le b.start start) (le_true start a (omega (arith, is))) ∙ le_true b.start start (omega (arith, early, is))
+reached None start a is early = le-leb start a (omega (arith, is))
+reached (Some b) start a is early = ap (λ t. t && nat_le b.start start) (le-leb start a (omega (arith, is))) ∙ le-leb b.start start (omega (arith, early, is))
 
 -- where a piece goes
 cases : (start a : ℕ) → (start ≤ a) ⊎ ((start ≡ a + 1) ⊎ (a + 1 < start))
@@ -78,7 +69,7 @@ leaves x xs k a best is = ap (λ b. closest xs (suc k) a (cond b (Some (owner k 
 -- ---- once a piece starts at the address, only a later one that starts there too is taken
 
 farther : (j start a : ℕ) → (start < a) ⊎ (a < start) → comes_closer (Some (owner j a)) start a ≡ false
-farther j start a (inl before) = ap (λ t. t && nat_le a start) (le_true start a (omega (arith, before))) ∙ le_false a start before
+farther j start a (inl before) = ap (λ t. t && nat_le a start) (le-leb start a (omega (arith, before))) ∙ lt-leb a start before
 farther j start a (inr after) = past (Some (owner j a)) start a after
 
 apart : (start a : ℕ) → (start ≡ a) ⊎ ((start < a) ⊎ (a < start))
@@ -94,7 +85,7 @@ on_start (x ∷ xs) k a j = elim (apart x.start a) [
       takes x xs k a (Some (owner j a)) (reached (Some (owner j a)) x.start a same (omega arith))
       ∙ (ap (λ n. closest xs (suc k) a (Some (owner k n))) same ∙ (on_start xs (suc k) a k
       ∙ (ap (λ n. or_else (starting xs (suc k) a) (Some (owner k n))) (sym same)
-      ∙ sym (ap (λ o. or_else o (Some (owner j a))) (starts_there x xs k a (eq_true x.start a same)) ∙ keep_some (starting xs (suc k) a) (Some (owner j a)) (owner k x.start)))))
+      ∙ sym (ap (λ o. or_else o (Some (owner j a))) (starts_there x xs k a (eq-eqb x.start a same)) ∙ keep_some (starting xs (suc k) a) (Some (owner j a)) (owner k x.start)))))
   | inr elsewhere ↦
       leaves x xs k a (Some (owner j a)) (farther j x.start a elsewhere)
       ∙ (on_start xs (suc k) a j ∙ sym (ap (λ o. or_else o (Some (owner j a))) (starts_not x xs k a (eq_false x.start a elsewhere)) ∙ drop_none (starting xs (suc k) a) (Some (owner j a))))
@@ -113,7 +104,7 @@ next_from (x ∷ xs) k a best early = elim (cases x.start a) [
       takes x xs k (a + 1) best (reached best x.start (a + 1) same (earlier best early))
       ∙ (ap (λ n. closest xs (suc k) (a + 1) (Some (owner k n))) same ∙ (on_start xs (suc k) (a + 1) k
       ∙ (ap (λ n. or_else (starting xs (suc k) (a + 1)) (Some (owner k n))) (sym same)
-      ∙ sym (ap (λ o. or_else o (closest (x ∷ xs) k a best)) (starts_there x xs k (a + 1) (eq_true x.start (a + 1) same)) ∙ keep_some (starting xs (suc k) (a + 1)) (closest (x ∷ xs) k a best) (owner k x.start)))))
+      ∙ sym (ap (λ o. or_else o (closest (x ∷ xs) k a best)) (starts_there x xs k (a + 1) (eq-eqb x.start (a + 1) same)) ∙ keep_some (starting xs (suc k) (a + 1)) (closest (x ∷ xs) k a best) (owner k x.start)))))
   | inr (inr far) ↦
       leaves x xs k (a + 1) best (past best x.start (a + 1) far)
       ∙ (next_from xs (suc k) a best early ∙ (ap (λ o. or_else (starting xs (suc k) (a + 1)) o) (sym (leaves x xs k a best (past best x.start a (omega (arith, far)))))
@@ -136,7 +127,7 @@ sweeping_finds_owners = record { first = λ xs. first_from xs 0; next = λ xs a.
   first_from (x ∷ xs) k = elim (apart x.start 0) [
     | inl same ↦
         takes x xs k 0 None (reached None x.start 0 same tt) ∙ (ap (λ n. closest xs (suc k) 0 (Some (owner k n))) same ∙ (on_start xs (suc k) 0 k
-        ∙ (ap (λ n. or_else (starting xs (suc k) 0) (Some (owner k n))) (sym same) ∙ sym (starts_there x xs k 0 (eq_true x.start 0 same)))))
+        ∙ (ap (λ n. or_else (starting xs (suc k) 0) (Some (owner k n))) (sym same) ∙ sym (starts_there x xs k 0 (eq-eqb x.start 0 same)))))
     | inr (inl less) ↦ absurd (omega (arith, less))
     | inr (inr more) ↦ leaves x xs k 0 None (past None x.start 0 more) ∙ (first_from xs (suc k) ∙ sym (starts_not x xs k 0 (eq_false x.start 0 (inr more)) ∙ no_more (starting xs (suc k) 0)))
   ]

@@ -1,7 +1,7 @@
 -- What each test tells where it passes.
 use Rattle.std.proofs.Common.{◌≡◌, ◌≤◌, ◌+◌, ◌-◌, ◌⊎◌, inl, inr, ℕ, suc, Option, Some, None, arith, refl, ap, sym, true, false, Bool}
-use Rattle.std.specs.Prelude.{ℤ, pos, negsuc, nat_eq, nat_lt, nat_le, ◌&&◌, ◌||◌, max}
-use Rattle.std.proofs.lemmas.Bool.{cases_Bool}
+use Rattle.std.specs.Prelude.{ℤ, pos, negsuc, nat_eq, nat_lt, nat_le, ◌&&◌, max}
+use Rattle.std.proofs.lemmas.Bool.{cases_Bool, and_parts, eqb-true, leb-true}
 use Rattle.std.proofs.lemmas.Bool.Decides.{nat_tests}
 use Rattle.machine_isa.specs.declared.instr.Instr.{Instr}
 use Rattle.machine_isa.specs.declared.instr.Instr.TheVariants as i
@@ -9,26 +9,12 @@ use Rattle.machine_isa.specs.Ticks.{ticks}
 use Rattle.machine_isa.specs.Operands.{takes, gives}
 use Rattle.valid_image.specs.Found.{Known, Found, plus, greater, longer, turns, amount, is_pos, in_line, is_jump_zero, is_jump, is_repeats, is_repeat, is_call, is_enter, is_leave, is_exit, is_reenter, natural, limit_at, guard, joined, chain, plain_step, arms, loop, call, wait}
 
-pub same_number : (m n : ℕ) → nat_eq m n ≡ true → m ≡ n
-same_number m n is = grind (arith, nat_tests)
-
-pub at_most : (m n : ℕ) → nat_le m n ≡ true → m ≤ n
-at_most m n is = grind (arith, nat_tests)
-
 pub below : (m n : ℕ) → nat_lt m n ≡ true → m + 1 ≤ n
 below m n is = grind (arith, nat_tests)
-
-pub either : (a b : Bool) → a || b ≡ true → (a ≡ true) ⊎ (b ≡ true)
-either true b is = inl refl
-either false b is = inr is
 
 -- the same place, or a later one
 pub meet : (a b : ℕ) → a ≤ b → (a ≡ b) ⊎ (a + 1 ≤ b)
 meet a b le = elim (cases_Bool (nat_eq a b)) [ inl is ↦ inl (grind (arith, nat_tests, is)) | inr is ↦ inr (grind (arith, nat_tests, is, le)) ]
-
-pub both : (a b : Bool) → a && b ≡ true → (a ≡ true) × (b ≡ true)
-both true b is = (refl, is)
-both false b is = absurd cc
 
 pub passed : (b : Bool) (x : Option Found) (f : Found) → guard b x ≡ Some f → (b ≡ true) × (x ≡ Some f)
 passed true x f is = (refl, is)
@@ -37,7 +23,7 @@ passed false x f is = absurd cc
 -- ---- one instruction
 
 pos_is : (n : ℕ) (z : ℤ) → is_pos n z ≡ true → z ≡ pos n
-pos_is n (pos m) is = ap pos (same_number m n is)
+pos_is n (pos m) is = ap pos (eqb-true m n is)
 pos_is n (negsuc m) is = absurd cc
 
 pub jump_zero_is : (n : ℕ) (x : Option Instr) → is_jump_zero n x ≡ true → x ≡ Some (i.JumpZero (pos n))
@@ -116,9 +102,9 @@ pub stepped : (x : Option Instr) (h : ℕ) (next : ℕ → Option Found) (f : Fo
 stepped None h next f is = absurd cc
 stepped (Some instr) h next f is =
     let p = passed (in_line instr && nat_le (takes instr) h) _ f is in
-    let t = both (in_line instr) (nat_le (takes instr) h) p.0 in
+    let t = and_parts (in_line instr) (nat_le (takes instr) h) p.0 in
     let j = joined_is (record { height = gives instr + (h - takes instr); cost = amount (ticks instr) 0 0; depth = gives instr + (h - takes instr) }) f (next (gives instr + (h - takes instr))) p.1 in
-    record { instr = instr; later = j.0; is = refl; plain = t.0; enough = at_most (takes instr) h t.1; more = j.1; whole = j.2 }
+    record { instr = instr; later = j.0; is = refl; plain = t.0; enough = leb-true (takes instr) h t.1; more = j.1; whole = j.2 }
 
 pub record Forked (x y : Option Found) (f : Found) : Type 0 where
   pub first : Found
@@ -133,7 +119,7 @@ forked None y f is = absurd cc
 forked (Some a) None f is = absurd cc
 forked (Some a) (Some b) f is =
     let p = passed (nat_eq a.height b.height) _ f is in
-    record { first = a; second = b; is = refl; other = refl; same = sym (same_number a.height b.height p.0); whole = cc }
+    record { first = a; second = b; is = refl; other = refl; same = sym (eqb-true a.height b.height p.0); whole = cc }
 
 pub record Looped (n h : ℕ) (x : Option Found) (f : Found) : Type 0 where
   pub turn : Found
@@ -143,7 +129,7 @@ pub record Looped (n h : ℕ) (x : Option Found) (f : Found) : Type 0 where
 
 pub looped : (n h : ℕ) (x : Option Found) (f : Found) → loop n h x ≡ Some f → Looped n h x f
 looped n h None f is = absurd cc
-looped n h (Some a) f is = let p = passed (nat_eq a.height 0) _ f is in record { turn = a; is = refl; back = same_number a.height 0 p.0; whole = cc }
+looped n h (Some a) f is = let p = passed (nat_eq a.height 0) _ f is in record { turn = a; is = refl; back = eqb-true a.height 0 p.0; whole = cc }
 
 pub record Called (h : ℕ) (x : Option Known) (f : Found) : Type 0 where
   pub known : Known
@@ -153,7 +139,7 @@ pub record Called (h : ℕ) (x : Option Known) (f : Found) : Type 0 where
 
 pub called : (h : ℕ) (x : Option Known) (f : Found) → call h x ≡ Some f → Called h x f
 called h None f is = absurd cc
-called h (Some k) f is = let p = passed (nat_le k.params h) _ f is in record { known = k; is = refl; enough = at_most k.params h p.0; whole = cc }
+called h (Some k) f is = let p = passed (nat_le k.params h) _ f is in record { known = k; is = refl; enough = leb-true k.params h p.0; whole = cc }
 
 pub record Waited (h : ℕ) (x : Option Instr) (f : Found) : Type 0 where
   pub condition : ℤ

@@ -1,7 +1,7 @@
 -- A valid image is timed.
 use Rattle.std.proofs.Common.{◌≡◌, ◌≤◌, ◌<◌, ◌+◌, ◌*◌, ◌-◌, inl, inr, ℕ, zero, suc, List, [], ◌∷◌, length, Option, Some, None, arith, refl, ap, sym, subst, ◌∙◌, true, false, Bool}
-use Rattle.std.specs.Prelude.{cond, nat_eq, nat_le, slice_get, slice_index_or}
-use Rattle.std.proofs.lemmas.Bool.{cases_lt, cases_Bool}
+use Rattle.std.specs.Prelude.{cond, nat_eq, nat_le, slice_get}
+use Rattle.std.proofs.lemmas.Bool.{cases_lt, cases_Bool, leb-true}
 use Rattle.std.proofs.lemmas.Bool.Decides.{nat_tests}
 use Rattle.base.specs.Capped.{cap}
 use Rattle.base.specs.declared.capped.Cost.{Cost}
@@ -11,7 +11,7 @@ use Rattle.machine_semantics.specs.Trees.{Segs}
 use Rattle.machine_semantics.specs.Image.{Image, Process}
 use Rattle.machine_safety_spec.specs.Safe.{Parts, part_of}
 use Rattle.machine_safety_spec.specs.Work.{worst_of}
-use Rattle.valid_image.specs.Tasks.{with_rank, process_at, task_of, tasks_from, tasks_of}
+use Rattle.valid_image.specs.Tasks.{with_rank, process_at, task_of, tasks_of}
 use Rattle.sched_timing.specs.Timed.{IsCovered, ImageIsTimed}
 use Rattle.valid_image.specs.Found.{Found}
 use Rattle.valid_image.specs.Fault.{unless}
@@ -20,7 +20,6 @@ use Rattle.valid_image.specs.Sizes.{below, cost_fault}
 use Rattle.valid_image.specs.Times.{process_bound_fault, bound_fault, rank_fault}
 use Rattle.valid_image.specs.Tables.{known, body_found, handler_start, handler_found, nothing_found, found_or_nothing, stay_of_process}
 use Rattle.valid_image.specs.Valid.{IsInLimits}
-use Rattle.valid_image_law.proofs.Tests.{at_most}
 use Rattle.valid_image_law.proofs.Firsts.{neither, passed_test, none_of_all}
 use Rattle.valid_image_law.proofs.Shapes.{process_shaped}
 use Rattle.valid_image_law.proofs.Exact.{IsWithin, itself, many, part_same}
@@ -28,17 +27,12 @@ use Rattle.valid_image_law.proofs.Rows.{exact, alike, process_costs, at_least_ne
 use Rattle.valid_image_law.proofs.Parts.{no_part, where_in, stay_by}
 use Rattle.valid_image_law.proofs.Processes.{exact_body, exact_handler, parts_some, parts_in}
 use Rattle.valid_image_law.proofs.Ranking.{ranked, one_each, blocks}
+use Rattle.sched_timing.proofs.Ranks.{tasks_at}
 
 -- ---- tasks in the order of ranks
 
-tasks_at : (image : Image) (j n i : ℕ) (d : Task) → i < n → slice_index_or (tasks_from image j n) i d ≡ task_of (slice_get image.processes (process_at image (j + i)))
-tasks_at image j zero i d below = absurd (omega (arith, below))
-tasks_at image j (suc n) zero d below = let z : j ≡ j + 0 = omega arith in ap (λ (x : ℕ). task_of (slice_get image.processes (process_at image x))) z
-tasks_at image j (suc n) (suc i) d below =
-    let z : suc j + i ≡ j + suc i = omega arith in tasks_at image (suc j) n i d (omega (arith, below)) ∙ ap (λ (x : ℕ). task_of (slice_get image.processes (process_at image x))) z
-
 -- the search for a rank that one process alone has ends there
-search : (rank i j : ℕ) (qs : List Process) (p : Process) → slice_get qs j ≡ Some p → p.rank ≡ rank → ((l : ℕ) (q : Process) → slice_get qs l ≡ Some q → q.rank ≡ rank → l ≡ j) → with_rank rank i qs ≡ i + j
+pub search : (rank i j : ℕ) (qs : List Process) (p : Process) → slice_get qs j ≡ Some p → p.rank ≡ rank → ((l : ℕ) (q : Process) → slice_get qs l ≡ Some q → q.rank ≡ rank → l ≡ j) → with_rank rank i qs ≡ i + j
 search rank i j [] p at is alone = absurd cc
 search rank i zero (q ∷ qs) p at is alone =
     let same : q ≡ p = cc in
@@ -68,7 +62,7 @@ own_task image ranked_all alone k p at =
 -- ---- costs
 
 -- a product of what is within
-times_within : (n a b : ℕ) → cap a ≤ cap b → cap (n * a) ≤ cap (n * b)
+pub times_within : (n a b : ℕ) → cap a ≤ cap b → cap (n * a) ≤ cap (n * b)
 times_within n a b le = elim (cases_lt 0 n) [
   | inl some ↦ many n a b some le
   | inr none ↦ (let z : n ≡ 0 = omega (arith, none) in let l : n * a ≡ 0 = ap (λ k. k * a) z ∙ omega arith in omega (arith, l))
@@ -118,7 +112,7 @@ module _ (image : Image) (shaped : shape_fault image ≡ None) (costs : cost_fau
   bound_meets : (k : ℕ) (p : Process) → slice_get image.processes k ≡ Some p → (demand_at (tasks_of image) (p.rank - 1) p.bound ≤ p.bound) × (p.bound ≤ p.deadline)
   bound_meets k p at =
       let t = neither (below p.bound (demand_at (tasks_of image) (p.rank - 1) p.bound)) (unless (nat_le p.bound (p.deadline)) p.bound (p.deadline)) (none_of_all (λ k p. process_bound_fault image p) image.processes bounds k p at) in
-      (at_least_needed p.bound (demand_at (tasks_of image) (p.rank - 1) p.bound) t.0, at_most p.bound (p.deadline) (passed_test (nat_le p.bound (p.deadline)) p.bound (p.deadline) t.1))
+      (at_least_needed p.bound (demand_at (tasks_of image) (p.rank - 1) p.bound) t.0, leb-true p.bound (p.deadline) (passed_test (nat_le p.bound (p.deadline)) p.bound (p.deadline) t.1))
 
   solved : (k : ℕ) (p : Process) → slice_get image.processes k ≡ Some p → Solves (tasks_of image) (p.rank - 1) p.bound
   solved k p at =

@@ -1,6 +1,7 @@
 -- Where the computation answers, the code is of the tree, with that height and that cost.
 use Rattle.std.proofs.Common.{◌≡◌, ◌≤◌, ◌+◌, ◌-◌, inr, ℕ, zero, suc, List, Option, Some, None, arith, refl, ap, sym, subst, ◌∙◌, true}
 use Rattle.std.specs.Prelude.{pos, nat_eq, nat_lt, ◌&&◌, slice_get}
+use Rattle.std.proofs.lemmas.Bool.{and_parts, eqb-true}
 use Rattle.machine_isa.specs.declared.instr.Instr.{Instr}
 use Rattle.machine_isa.specs.declared.instr.Instr.TheVariants as i
 use Rattle.machine_semantics.specs.Trees.{Seg, Segs, Line, Fork, Rep, Call, Stay, Wait, Exit, Nil, Cons, size, size_of}
@@ -9,7 +10,7 @@ use Rattle.machine_safety_spec.specs.Part.{IsPlain}
 use Rattle.machine_safety_spec.specs.Walk.{Where, Cost, Covers, At, IsLine, Walk, Walks, Reaches}
 use Rattle.valid_image.specs.Found.{Known, Found, plus, longer, amount, in_line, is_jump_zero, is_jump, is_repeats, is_repeat, is_call, is_enter, is_leave, is_exit, is_reenter, natural, limit_at, chain, line, arms, loop, call, wait, found, founds, entry}
 use Rattle.valid_image_law.specs.Rules.{Callable, Waitable, MayStand, AllMayStand, AllKnown, FoundWalks, with_leave}
-use Rattle.valid_image_law.proofs.Tests.{passed, both, same_number, jump_zero_is, jump_is, repeats_is, repeat_is, call_is, enter_is, leave_is, exit_is, reenter_is, chained, stepped, forked, looped, called, waited, stayed}
+use Rattle.valid_image_law.proofs.Tests.{passed, jump_zero_is, jump_is, repeats_is, repeat_is, call_is, enter_is, leave_is, exit_is, reenter_is, chained, stepped, forked, looped, called, waited, stayed}
 
 plain_of : (e : Where) (instr : Instr) → MayStand e instr → in_line instr ≡ true → IsPlain e.image e.part instr
 plain_of e (i.Call r) may plain = absurd cc
@@ -50,7 +51,7 @@ mutual
       let one = founds e.image.code known out held first (at + 1) h in
       let other = founds e.image.code known out held second (at + 1 + size first + 1) h in
       let p = passed (tests && jumps) (arms one other) f found_is in
-      let t = both tests jumps p.0 in
+      let t = and_parts tests jumps p.0 in
       let s = forked one other f p.1 in
       let deep' = subst (λ (x : Found). x.depth + base ≤ e.part.depth) s.whole deep in
       let end_is : at + size first + size second + 2 ≡ next = omega (arith, is) in
@@ -76,8 +77,8 @@ mutual
       let repeats = is_repeat (at + 1) (slice_get e.image.code (at + 1 + size body)) in
       let turn = founds e.image.code known (Some (at + 1 + size body + 1)) held body (at + 1) 0 in
       let p = passed (nat_lt 0 (suc n) && (counts && repeats)) (loop (suc n) h turn) f found_is in
-      let t = both (nat_lt 0 (suc n)) (counts && repeats) p.0 in
-      let u = both counts repeats t.1 in
+      let t = and_parts (nat_lt 0 (suc n)) (counts && repeats) p.0 in
+      let u = and_parts counts repeats t.1 in
       let s = looped (suc n) h turn f p.1 in
       let deep' = subst (λ (x : Found). x.depth + base ≤ e.part.depth) s.whole deep in
       subst (λ (x : Found). Walk e out held base (Rep (suc n) body) at next h x.height (with_leave x.cost)) (sym s.whole) (record {
@@ -144,14 +145,14 @@ mutual
       })
   seg_walks e known out held base Exit at h low high next f knows inside may from to is found_is deep =
       let p = passed (nat_eq h 1 && is_exit out (slice_get e.image.code at)) (Some (record { height = 0; cost = amount 3 0 0; depth = 0 })) f found_is in
-      let t = both (nat_eq h 1) (is_exit out (slice_get e.image.code at)) p.0 in
+      let t = and_parts (nat_eq h 1) (is_exit out (slice_get e.image.code at)) p.0 in
       let x = exit_is out (slice_get e.image.code at) t.1 in
       let whole : record { height = 0; cost = amount 3 0 0; depth = 0 } ≡ f = (let a = p.1 in cc) in
       subst (λ (x : Found). Walk e out held base Exit at next h x.height (with_leave x.cost)) whole (record {
         to = x.to;
         in_loop = x.in_loop;
         exits = x.exits;
-        taken = same_number h 1 t.0;
+        taken = eqb-true h 1 t.0;
         kept = refl;
         next_is = is;
         covers = record { run = omega arith; susp = omega arith; waits = omega arith; leave = omega arith };
@@ -190,14 +191,14 @@ entry_walks e known m (Cons (Stay n body) Nil) at low high f knows own level rea
     let leaves = is_leave m (slice_get e.image.code (at + 1 + size body)) in
     let x = founds e.image.code known None (Some m) body (at + 1) 0 in
     let p = passed (nat_eq n m && (enters && leaves)) (chain x (λ h. Some (record { height = h; cost = amount 8 0 0; depth = 0 }))) f found_is in
-    let t = both (nat_eq n m) (enters && leaves) p.0 in
-    let u = both enters leaves t.1 in
+    let t = and_parts (nat_eq n m) (enters && leaves) p.0 in
+    let u = and_parts enters leaves t.1 in
     let s = stayed x f p.1 in
     let deep' = subst (λ (x : Found). x.depth ≤ e.part.depth) s.whole deep in
     let short' = subst (λ (x : Found). x.cost.run - 5 ≤ e.part.stays m) s.whole short in
     let next : ℕ = at + size (Cons (Stay n body) Nil) in
     subst (λ (x : Found). Walks e None None 0 (Cons (Stay n body) Nil) at next 0 x.height (with_leave x.cost)) (sym s.whole)
-    (subst (λ (k : ℕ). Walks e None None 0 (Cons (Stay k body) Nil) at next 0 s.inner.height (with_leave (plus s.inner.cost (amount 8 0 0)))) (sym (same_number n m t.0)) (record {
+    (subst (λ (k : ℕ). Walks e None None 0 (Cons (Stay k body) Nil) at next 0 s.inner.height (with_leave (plus s.inner.cost (amount 8 0 0)))) (sym (eqb-true n m t.0)) (record {
       mid = next;
       between = s.inner.height;
       first = with_leave (plus s.inner.cost (amount 8 0 0));

@@ -46,7 +46,7 @@ every_valid_image_is_safe_and_in_time image limits valid =
 
 -- ---- the fault
 
-not_shown : (part : Part) (f : Option Fault) → shown_of part f ≡ None → f ≡ None
+pub not_shown : (part : Part) (f : Option Fault) → shown_of part f ≡ None → f ≡ None
 not_shown part None is = refl
 not_shown part (Some f) is = absurd cc
 

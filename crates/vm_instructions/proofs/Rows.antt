@@ -4,7 +4,7 @@ use Rattle.std.specs.Prelude.{ℤ, pos, slice_get, slice_set, IsSome, IfSome}
 use Rattle.std.proofs.Math.Seq.{take-set-lt}
 use Rattle.std.proofs.Math.ListN.{drop_of_length-le}
 use Rattle.std.proofs.lemmas.Bool.{cases_lt}
-use Rattle.std.proofs.lemmas.List.{append-nil, length-append, take-append-drop, take-take, map-append, take_more, length-set, take_more_set, take-set-le, drop-set-add, length-take, length-drop, reverse-append, drop-append-le, length-reverse}
+use Rattle.std.proofs.lemmas.List.{append-nil, length-append, take-append-drop, take-take, map-append, take_more, length-set, take_more_set, take-set-le, drop-set-add, length-take, length-drop, reverse-append, drop-append-le, length-reverse, length-map}
 use Rattle.machine_semantics.specs.State.{Operand, Caller, stack_below, zeros}
 use Rattle.machine_semantics.specs.Effect.{arguments}
 use Rattle.vm_instructions.specs.declared.operand.Operand.{Operand as Kept}
@@ -16,10 +16,6 @@ use Rattle.vm_instructions.specs.Inside.{part, operands_of, callers_of, laid_out
 
 pub length-part : {X : Type 0} (a b : ℕ) (row : List X) → b ≤ length row → length (part a b row) ≡ b - a
 length-part a b row within = omega (arith, length-drop a (take b row), length-take b row)
-
-length_map : {X Y : Type 0} (f : X → Y) (xs : List X) → length (map f xs) ≡ length xs
-length_map f [] = refl
-length_map f (x ∷ xs) = ap suc (length_map f xs)
 
 -- a write past a part
 pub part-set_past : {X : Type 0} (a b i : ℕ) (row : List X) (x : X) → b ≤ i → part a b (set row i x) ≡ part a b row
@@ -47,7 +43,7 @@ below_is (m ∷ ms) operands locals base floor up within within' =
       up.1,
       length-part m.base base locals within,
       length-part m.floor floor operands within',
-      length_map operand_of (reverse (part m.floor floor operands)),
+      length-map (reverse (part m.floor floor operands)) operand_of,
       length-reverse (part m.floor floor operands),
       below_is ms operands locals m.base m.floor up.2 (omega (arith, up.0)) (omega (arith, up.1)),
     )
@@ -59,7 +55,7 @@ used_laid operands locals ms floor top base size b f l o up =
       arith,
       length-part base size locals l,
       length-part floor top operands o,
-      length_map operand_of (reverse (part floor top operands)),
+      length-map (reverse (part floor top operands)) operand_of,
       length-reverse (part floor top operands),
       length-reverse ms,
       below_is (reverse ms) operands locals base floor up (omega arith) (omega arith),
@@ -116,7 +112,7 @@ is_full s f laid is room =
 pub some_operand : (s : Inside) (f : Frames) → AreLaid s → standing s ≡ f → 0 < length f.operands → s.floor < s.top
 some_operand s f laid is some =
     let h : 0 < length (standing s).operands = subst (λ (g : Frames). 0 < length g.operands) (sym is) some in
-    omega (arith, h, length-part s.floor s.top s.operands.items laid.operands_room, length_map operand_of (reverse (part s.floor s.top s.operands.items)), length-reverse (part s.floor s.top s.operands.items))
+    omega (arith, h, length-part s.floor s.top s.operands.items laid.operands_room, length-map (reverse (part s.floor s.top s.operands.items)) operand_of, length-reverse (part s.floor s.top s.operands.items))
 
 pub popped_room : (s : Inside) (f : Frames) → AreLaid s → standing s ≡ f → 0 < length f.operands → used (laid_out s.operands.items s.locals.items s.marks.items s.floor (s.top - 1) s.base s.size) < length s.operands.items
 popped_room s f laid is some =

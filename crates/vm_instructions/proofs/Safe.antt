@@ -152,7 +152,7 @@ taken_rest (suc n) [] xs r is = absurd cc
 taken_rest (suc n) (Counter c ∷ os) xs r is = absurd cc
 taken_rest (suc n) (Value x ∷ os) xs r is = let h = taken_rest n os (x ∷ xs) r is in (omega (arith, h.0), omega (arith, h.1))
 
-length-zeros : (n : ℕ) → length (zeros n) ≡ n
+pub length-zeros : (n : ℕ) → length (zeros n) ≡ n
 length-zeros zero = refl
 length-zeros (suc n) = ap suc (length-zeros n)
 

@@ -1,9 +1,8 @@
 -- Each address of the code is in a piece.
 use Rattle.std.proofs.Common.{◌≡◌, ◌≤◌, ◌<◌, ◌+◌, inl, inr, ℕ, zero, suc, List, length, Option, Some, None, arith, refl, ap, sym, ◌∙◌}
 use Rattle.std.specs.Prelude.{nat_eq, slice_get}
-use Rattle.std.proofs.lemmas.Bool.{cases_lt}
+use Rattle.std.proofs.lemmas.Bool.{cases_lt, eqb-true}
 use Rattle.machine_semantics.specs.Image.{Image}
-use Rattle.valid_image_law.proofs.Tests.{same_number}
 use Rattle.valid_image.specs.Fault.{or_else, first_of, of_some}
 use Rattle.valid_image.specs.Pieces.{Piece, end_of_piece, pieces, due_start}
 use Rattle.valid_image.specs.Shape.{routine_shape_fault, process_shape_fault, coverage_fault, shape_fault}
@@ -38,4 +37,4 @@ all_covered image none =
     (or_else (first_of (λ k. of_some (process_shape_fault image k) (slice_get image.processes k)) (length image.processes) 0) (coverage_fault image)) none in
     let two = neither (first_of (λ k. of_some (process_shape_fault image k) (slice_get image.processes k)) (length image.processes) 0) (coverage_fault image) one.1 in
     let end : ℕ = due_start (pieces image) (length (pieces image)) in
-    same_number end (length image.code) (passed_test (nat_eq end (length image.code)) end 0 two.1)
+    eqb-true end (length image.code) (passed_test (nat_eq end (length image.code)) end 0 two.1)

@@ -17,7 +17,7 @@ use Rattle.vm_law.specs.ScriptSuits.{ScriptsForImagesReadSuit, ScriptsSuit}
 use Rattle.vm_law.specs.Suits.{HasFrames}
 
 -- any line
-abbrev some_line : ScriptLine
+abbrev pub some_line : ScriptLine
 some_line = Set 0 0 (pos 0)
 
 -- a line of the run is that of a line of the text

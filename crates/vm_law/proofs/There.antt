@@ -1,67 +1,47 @@
 -- The operands of each instruction of a valid image are there.
-use Rattle.std.proofs.Common.{◌≡◌, ◌≤◌, ◌<◌, ◌+◌, ◌-◌, inl, inr, ℕ, suc, length, Option, Some, None, arith, refl, ap, sym, subst, ◌∙◌, true, false, Bool}
-use Rattle.std.specs.Prelude.{ℤ, pos, negsuc, ◌&&◌, ◌||◌, nat_eq, nat_le, slice_get, map, List, [], ◌∷◌, ◌++◌}
-use Rattle.std.proofs.lemmas.Bool.{cases_lt}
-use Rattle.std.proofs.lemmas.List.{length-map}
+use Rattle.std.proofs.Common.{◌≡◌, ◌≤◌, ◌<◌, ◌+◌, ◌-◌, inl, inr, ℕ, suc, length, Option, Some, None, arith, refl, ap, sym, subst, ◌∙◌, true, false}
+use Rattle.std.specs.Prelude.{ℤ, pos, negsuc, ◌&&◌, ◌||◌, nat_eq, nat_le, slice_get, map}
+use Rattle.std.proofs.lemmas.Bool.{cases_lt, and_parts, or_cases, eqb-true, leb-true}
+use Rattle.std.proofs.lemmas.List.{length-map, length-append}
 use Rattle.std.proofs.lemmas.Option.{slice_get_within}
+use Rattle.base.proofs.Lists.{some_at}
 use Rattle.machine_isa.specs.declared.instr.Instr.{Instr}
 use Rattle.machine_isa.specs.declared.instr.Instr.TheVariants as i
 use Rattle.machine_semantics.specs.Image.{Image, Routine, Process}
 use Rattle.machine_safety_spec.specs.Part.{IsBelow}
-use Rattle.valid_image_law.proofs.Tests.{both, either, same_number, at_most}
 use Rattle.valid_image.specs.Fault.{or_else}
 use Rattle.valid_image.specs.Pieces.{piece_of_routine, piece_of_process, pieces, belongs, piece_number}
-use Rattle.valid_image.specs.Operands.{Whose, whose_routine, whose_process, is_between, is_own_monitor, is_same, is_own_condition, goes, is_device, bad, is_user_number, bad_operand}
+use Rattle.valid_image.specs.Operands.{Whose, whose_routine, whose_process, is_between, is_own_monitor, is_same, is_own_condition, bad, is_user_number, bad_operand}
 use Rattle.valid_image.specs.Valid.{HasOwner, Operands, Shape, fault_of_part}
-use Rattle.valid_image_law.proofs.Firsts.{neither, some_at}
+use Rattle.valid_image_law.proofs.Firsts.{neither}
 use Rattle.valid_image_law.proofs.Owners.{owned}
 use Rattle.valid_image_law.proofs.Passing.{routine_operands, process_operands}
 use Rattle.valid_image_law.proofs.Shapes.{follow}
 use Rattle.vm_law.specs.Operands.{IsThere, AreThere, ValidOperandsAreThere}
 use Rattle.vm_law.proofs.Covered.{Has, covered, all_covered}
-
-no_bad : (b : Bool) (z : ℤ) → bad b z ≡ None → b ≡ true
-no_bad true z is = refl
-no_bad false z is = absurd cc
+use Rattle.valid_image_law.proofs.Standing.{condition_below, device_below, no_bad}
 
 -- ---- one operand
 
 monitor_below : (w : Whose) (n : ℕ) (z : ℤ) → (w.kind ≡ 2 → w.owner < n) → bad (is_own_monitor w z) z ≡ None → IsBelow z n
 monitor_below w n (pos m) owner fine =
-    let t = both (nat_eq w.kind 2) (nat_eq m w.owner) (no_bad (is_own_monitor w (pos m)) (pos m) fine) in
-    let low : w.owner < n = owner (same_number w.kind 2 t.0) in
-    (m, refl, omega (arith, low, same_number m w.owner t.1))
+    let t = and_parts (nat_eq w.kind 2) (nat_eq m w.owner) (no_bad (is_own_monitor w (pos m)) (pos m) fine) in
+    let low : w.owner < n = owner (eqb-true w.kind 2 t.0) in
+    (m, refl, omega (arith, low, eqb-true m w.owner t.1))
 monitor_below w n (negsuc m) owner fine = absurd cc
 
 some_same : (n : ℕ) (o : Option ℕ) → is_same n o ≡ true → (m : ℕ) × (o ≡ Some m)
 some_same n (Some m) is = (m, refl)
 some_same n None is = absurd cc
 
-condition_below : (image : Image) (w : Whose) (c : ℤ) → bad (is_own_condition image w c) c ≡ None → IsBelow c (length image.conditions)
-condition_below image w (pos c) fine =
-    let t = both (nat_eq w.kind 2) (is_same w.owner (slice_get image.conditions c)) (no_bad (is_own_condition image w (pos c)) (pos c) fine) in
-    let there = some_same w.owner (slice_get image.conditions c) t.1 in
-    (c, refl, slice_get_within image.conditions c there.0 there.1)
-condition_below image w (negsuc c) fine = absurd cc
-
-some_device : (out : Bool) (o : Option Bool) → goes out o ≡ true → (b : Bool) × (o ≡ Some b)
-some_device out (Some b) is = (b, refl)
-some_device out None is = absurd cc
-
-device_below : (image : Image) (out : Bool) (d : ℤ) → bad (is_device image out d) d ≡ None → IsBelow d (length image.devices)
-device_below image out (pos d) fine =
-    let there = some_device out (slice_get image.devices d) (no_bad (goes out (slice_get image.devices d)) (pos d) fine) in
-    (d, refl, slice_get_within image.devices d there.0 there.1)
-device_below image out (negsuc d) fine = absurd cc
-
 between_below : (low high n : ℕ) (z : ℤ) → high < n → is_between low high z ≡ true → IsBelow z n
 between_below low high n (pos k) above is =
-    let t = both (nat_le low k) (nat_le k high) is in
-    (k, refl, omega (arith, above, at_most k high t.1))
+    let t = and_parts (nat_le low k) (nat_le k high) is in
+    (k, refl, omega (arith, above, leb-true k high t.1))
 between_below low high n (negsuc k) above is = absurd cc
 
 raised_below : (z : ℤ) → bad (is_between 4 4 z || is_user_number z) z ≡ None → IsBelow z 1000
-raised_below z fine = elim (either (is_between 4 4 z) (is_user_number z) (no_bad (is_between 4 4 z || is_user_number z) z fine)) [
+raised_below z fine = elim (or_cases (is_between 4 4 z) (is_user_number z) (no_bad (is_between 4 4 z || is_user_number z) z fine)) [
   | inl four ↦ between_below 4 4 1000 z (omega arith) four
   | inr own ↦ between_below 10 999 1000 z (omega arith) own
 ]
@@ -90,10 +70,6 @@ module _ (image : Image) (w : Whose) (owner : w.kind ≡ 2 → w.owner < length 
 
 -- ---- all
 
-append_length : {A : Type 0} (xs ys : List A) → length (xs ++ ys) ≡ length xs + length ys
-append_length [] ys = omega arith
-append_length (x ∷ xs) ys = omega (arith, append_length xs ys)
-
 -- where no operand is out of range, and the pieces are the code
 module _ (image : Image) (owners : (r : ℕ) (x : Routine) → slice_get image.routines r ≡ Some x → HasOwner image x) (operands : fault_of_part image Operands ≡ None) (shape : fault_of_part image Shape ≡ None) where
   in_routine : (r a : ℕ) (x : Routine) (instr : Instr) → slice_get image.routines r ≡ Some x → belongs image r a ≡ true → slice_get image.code a ≡ Some instr → IsThere image instr
@@ -107,7 +83,7 @@ module _ (image : Image) (owners : (r : ℕ) (x : Routine) → slice_get image.r
 
   pieces_count : length (pieces image) ≡ length image.routines + length image.processes
   pieces_count =
-      append_length (map piece_of_routine image.routines) (map piece_of_process image.processes)
+      length-append (map piece_of_routine image.routines) (map piece_of_process image.processes)
       ∙ (ap (λ n. n + length (map piece_of_process image.processes)) (length-map image.routines piece_of_routine) ∙ ap (λ n. length image.routines + n) (length-map image.processes piece_of_process))
 
   in_piece : (k a : ℕ) (instr : Instr) → k < length (pieces image) → belongs image k a ≡ true → slice_get image.code a ≡ Some instr → IsThere image instr

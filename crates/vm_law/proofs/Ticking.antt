@@ -26,13 +26,9 @@ use Rattle.vm_law.proofs.There.{valid_operands_are_there}
 use Rattle.vm_law.specs.Logged.{AreNamesOf, HasLines, ValidRunsHaveLines}
 use Rattle.vm_law.proofs.Effects.{Shows, outcome_shows}
 use Rattle.vm_law.proofs.Starting.{WaitAt, one_line, starts_good}
+use Rattle.vm_runner.proofs.Waiting.{in_queue}
 
 -- ---- queues
-
-in_queue : (k c : ℕ) (qs : List (List ℕ)) → times k (queue_of qs c) ≡ 1 → c < length qs
-in_queue k c [] is = absurd cc
-in_queue k zero (q ∷ qs) is = omega arith
-in_queue k (suc c) (q ∷ qs) is = let below = in_queue k c qs is in omega (arith, below)
 
 -- who waits does so on a condition that has a queue
 waits_below : (s : State) (n : ℕ) → AreQueued s → length s.queues ≡ n → (k c due e : ℕ) (job : Job) → slice_get s.threads k ≡ Some (Waiting c due e job) → c < n

@@ -18,7 +18,7 @@ map_grown f xs i x at = map_more f xs i x (slice_get_within xs i x at) ∙ ap (�
 
 -- ---- words
 
-words_append : (xs : List Monitor) (m : Monitor) → words_of (xs ++ m ∷ []) ≡ words_of xs + m.words
+pub words_append : (xs : List Monitor) (m : Monitor) → words_of (xs ++ m ∷ []) ≡ words_of xs + m.words
 words_append [] m = omega arith
 words_append (x ∷ xs) m = omega (arith, words_append xs m)
 
@@ -27,7 +27,7 @@ words_grown xs i x at = ap words_of (take_grown xs i x at) ∙ words_append (tak
 
 -- ---- processes
 
-are_append : (ws : List Whole) (ps : List Process) (w : Whole) (p : Process) → AreProcesses ws ps → IsProcess w p → AreProcesses (ws ++ w ∷ []) (ps ++ p ∷ [])
+pub are_append : (ws : List Whole) (ps : List Process) (w : Whole) (p : Process) → AreProcesses ws ps → IsProcess w p → AreProcesses (ws ++ w ∷ []) (ps ++ p ∷ [])
 are_append [] [] w p are is = (is, tt)
 are_append [] (q ∷ ps) w p are is = absurd are
 are_append (v ∷ ws) [] w p are is = absurd are

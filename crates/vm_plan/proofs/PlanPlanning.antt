@@ -1,9 +1,9 @@
 -- A plan whose parts are made from an image is that of the image.
-use Rattle.std.proofs.Common.{◌≡◌, ◌≤◌, ◌*◌, arith, ℕ, zero, suc, List, [], ◌∷◌, length, map, Option, Some, None, refl, ap, sym, subst, ◌∙◌}
+use Rattle.std.proofs.Common.{◌≡◌, ◌≤◌, ◌*◌, arith, ℕ, List, [], ◌∷◌, length, map, Option, Some, None, refl, ap, sym, subst, ◌∙◌}
 use Rattle.std.specs.Prelude.{All, option_map, slice_get}
 use Rattle.std.proofs.lemmas.List.{length-map}
-use Rattle.std.proofs.lemmas.List.Elements.{All-nil, All-cons, All-head, All-tail}
 use Rattle.std.proofs.lemmas.Option.{slice_get-map}
+use Rattle.base.proofs.Lists.{one_of, unmapped}
 use Rattle.image.specs.declared.names.CondName.{CondName}
 use Rattle.image.specs.declared.names.DevName.{DevName}
 use Rattle.image.specs.declared.raw.RawImage.{RawImage}
@@ -19,11 +19,6 @@ use Rattle.vm_state.specs.declared.plan.Process.{Process}
 use Rattle.vm_state.specs.Plan.{AreProcesses, IsOf}
 use Rattle.vm_instructions.specs.declared.calls.Routine.{Routine as Called}
 use Rattle.vm_plan.specs.HasPlan.{CanRun, HasPlan, called_of}
-
-one_of : {X : Type 0} (P : X → Type 0) (xs : List X) (k : ℕ) (x : X) → All P xs → slice_get xs k ≡ Some x → P x
-one_of P [] k x all at = absurd cc
-one_of P (y ∷ xs) zero x all at = let same : y ≡ x = cc in subst P same (All-head P y xs all)
-one_of P (y ∷ xs) (suc k) x all at = one_of P xs k x (All-tail P y xs all) at
 
 map_twice : (ms : List RawMon) → map (λ (m : Monitor). m.ceiling) (map monitor_of ms) ≡ map (λ (m : RawMon). m.ceiling) ms
 map_twice [] = refl
@@ -59,10 +54,6 @@ planned raw plan has code routines processes conditions ceilings shared devices 
 }
 
 -- ---- what is asked of the parts
-
-unmapped : {X Y : Type 0} (P : Y → Type 0) (to : X → Y) (xs : List X) → All P (map to xs) → All (λ (x : X). P (to x)) xs
-unmapped P to [] all = All-nil (λ x. P (to x))
-unmapped P to (x ∷ xs) all = All-cons (λ y. P (to y)) x xs (All-head P (to x) (map to xs) all) (unmapped P to xs (All-tail P (to x) (map to xs) all))
 
 pub all_can : (raw : RawImage) (raws : List RawProc) (n : ℕ) → HasPlan (image_of raw) → raws ≡ raw.processes → n ≡ length raw.code → All (λ (p : RawProc). CanRun n (process_of p)) raws
 all_can raw raws n has same count =

@@ -1,10 +1,11 @@
 -- What a plan asks, from the tests of validity and the ranges of a file.
-use Rattle.std.proofs.Common.{◌≡◌, ◌≤◌, ◌<◌, ◌+◌, ◌∙◌, ℕ, zero, suc, Bool, true, false, List, [], ◌∷◌, length, map, Option, Some, None, arith, refl, ap, sym, subst}
+use Rattle.std.proofs.Common.{◌≡◌, ◌≤◌, ◌<◌, ◌+◌, ◌∙◌, ℕ, Bool, true, false, List, [], ◌∷◌, length, map, Option, Some, None, arith, refl, ap, sym, subst}
 use Rattle.std.specs.Prelude.{ℤ, pos, negsuc, All, cond, nat_eq, slice_get}
 use Rattle.std.proofs.lemmas.Bool.Decides.{nat_tests}
 use Rattle.std.proofs.lemmas.List.{length-map}
-use Rattle.std.proofs.lemmas.List.Elements.{All-nil, All-cons, All-head, All-tail, All-map}
+use Rattle.std.proofs.lemmas.List.Elements.{All-map}
 use Rattle.std.proofs.lemmas.Option.{slice_get_within}
+use Rattle.base.proofs.Lists.{one_of, all_of}
 use Rattle.image.specs.declared.names.CondName.{CondName}
 use Rattle.image.specs.declared.names.DevName.{DevName}
 use Rattle.image.specs.declared.raw.RawImage.{RawImage}
@@ -31,24 +32,13 @@ use Rattle.valid_image_law.proofs.Passing.{params_fit}
 use Rattle.valid_image_law.proofs.Whole.{valid_meets_premises}
 use Rattle.image_reader_law.proofs.Limits.{read_limits, read_monitors}
 
--- ---- lists
-
-all_of : {X : Type 0} (P : X → Type 0) (xs : List X) → ((k : ℕ) (x : X) → slice_get xs k ≡ Some x → P x) → All P xs
-all_of P [] each = All-nil P
-all_of P (x ∷ xs) each = All-cons P x xs (each 0 x refl) (all_of P xs (λ k y at. each (suc k) y at))
-
-one_of : {X : Type 0} (P : X → Type 0) (xs : List X) (k : ℕ) (x : X) → All P xs → slice_get xs k ≡ Some x → P x
-one_of P [] k x all at = absurd cc
-one_of P (y ∷ xs) zero x all at = let same : y ≡ x = cc in subst P same (All-head P y xs all)
-one_of P (y ∷ xs) (suc k) x all at = one_of P xs k x (All-tail P y xs all) at
-
 -- ---- numbers
 
-small : (z : ℤ) (n : ℕ) → n ≤ 65536 → IsBelow z n → IsSmall z
+pub small : (z : ℤ) (n : ℕ) → n ≤ 65536 → IsBelow z n → IsSmall z
 small (pos k) n le below = let same : k ≡ below.0 = (let is : pos k ≡ pos below.0 = below.1 in cc) in omega (arith, same, below.2, le)
 small (negsuc k) n le below = absurd (let is = below.1 in cc)
 
-limit_is : (z : ℤ) (n : ℕ) → IsBelow z n → IsLimit z
+pub limit_is : (z : ℤ) (n : ℕ) → IsBelow z n → IsLimit z
 limit_is (pos k) n below = tt
 limit_is (negsuc k) n below = absurd (let is = below.1 in cc)
 
@@ -69,12 +59,12 @@ module _ (image : Image) (monitors : length image.monitors ≤ 64) (conditions :
 -- ---- a process
 
 -- where the parts of a process stand
-record Stands (code : List Instr) (p : Process) : Type 0 where
-  locals : p.locals ≤ p.stack
-  body : end_of p false ≤ length code
-  handler : (number : ℕ) → lists p.numbers number ≡ true → end_of p true ≤ length code
+pub record Stands (code : List Instr) (p : Process) : Type 0 where
+  pub locals : p.locals ≤ p.stack
+  pub body : end_of p false ≤ length code
+  pub handler : (number : ℕ) → lists p.numbers number ≡ true → end_of p true ≤ length code
 
-stands : (image : Image) → MeetsPremises image → (k : ℕ) (p : Process) → slice_get image.processes k ≡ Some p → Stands image.code p
+pub stands : (image : Image) → MeetsPremises image → (k : ℕ) (p : Process) → slice_get image.processes k ≡ Some p → Stands image.code p
 stands image m = subst (λ (x : Image). (k : ℕ) (p : Process) → slice_get x.processes k ≡ Some p → Stands x.code p) m.of by where
   by : (k : ℕ) (p : Process) → slice_get m.e.image.processes k ≡ Some p → Stands m.e.image.code p
   by k p at =
@@ -86,7 +76,7 @@ stands image m = subst (λ (x : Image). (k : ℕ) (p : Process) → slice_get x.
         handler = λ number listed. (let h = fits.handles number listed in let within : end_of p true < length m.e.image.code = slice_get_within m.e.image.code (end_of p true) i.End h.1.ends in omega (arith, within));
       }
 
-handler_ends : (code : ℕ) (p : Process) (o : Option Segs) → p.handler_tree ≡ o → HasHandler p o → ((number : ℕ) → lists p.numbers number ≡ true → end_of p true ≤ code) → HandlerEnds code p.handler o
+pub handler_ends : (code : ℕ) (p : Process) (o : Option Segs) → p.handler_tree ≡ o → HasHandler p o → ((number : ℕ) → lists p.numbers number ≡ true → end_of p true ≤ code) → HandlerEnds code p.handler o
 handler_ends code p None is has ends = tt
 handler_ends code p (Some tree) is has ends = by p.numbers refl where
   by : (ns : List ℕ) → p.numbers ≡ ns → p.handler + size tree ≤ code

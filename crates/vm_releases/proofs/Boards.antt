@@ -16,6 +16,7 @@ use Rattle.vm_stretch.specs.Steps.{HasStarted, release_of}
 use Rattle.vm_releases.specs.Begin.{HaveQueues, expiry_at, expiry_of, release_at}
 use Rattle.vm_releases.specs.Expired.{EndsAs, timed_out}
 use Rattle.vm_releases.specs.declared.time_out.Wait.{Wait}
+use Rattle.vm_state.proofs.Waking.{threads_set}
 
 -- ---- plans
 
@@ -39,7 +40,7 @@ planned (w ∷ ws) (q ∷ ps) (suc k) p are below is = let rest = planned ws ps 
 
 -- ---- boards
 
-as_long : (cs : List Cell) (ws : List Whole) → rooms_of cs ≡ map (λ (p : Whole). p.stack) ws → length cs ≡ length ws
+pub as_long : (cs : List Cell) (ws : List Whole) → rooms_of cs ≡ map (λ (p : Whole). p.stack) ws → length cs ≡ length ws
 as_long [] [] rooms = refl
 as_long [] (w ∷ ws) rooms = absurd cc
 as_long (c ∷ cs) [] rooms = absurd cc
@@ -63,16 +64,6 @@ pub rooms_set : (cs : List Cell) (k : ℕ) (old new : Cell) → old ≡ get_or c
 rooms_set [] k old new is room = refl
 rooms_set (c ∷ cs) zero old new is room = let same : new.job.frames.room ≡ c.job.frames.room = room ∙ ap (λ (x : Cell). x.job.frames.room) is in ap (λ (n : ℕ). n ∷ rooms_of cs) same
 rooms_set (c ∷ cs) (suc k) old new is room = ap (λ (ns : List ℕ). c.job.frames.room ∷ ns) (rooms_set cs k old new is room)
-
-threads_set : (cs : List Cell) (k : ℕ) (c : Cell) → threads_of (slice_set cs k c) ≡ slice_set (threads_of cs) k (thread_of c)
-threads_set [] k c = refl
-threads_set (x ∷ cs) zero c = refl
-threads_set (x ∷ cs) (suc k) c = ap (λ (ts : List Thread). thread_of x ∷ ts) (threads_set cs k c)
-
-pub thread_at : (cs : List Cell) (k : ℕ) (c : Cell) → k < length cs → c ≡ get_or cs k c → slice_get (threads_of cs) k ≡ Some (thread_of c)
-thread_at [] k c below is = absurd (omega arith)
-thread_at (x ∷ cs) zero c below is = ap (λ (y : Cell). Some (thread_of y)) (sym is)
-thread_at (x ∷ cs) (suc k) c below is = thread_at cs k c (omega arith) is
 
 pub threads_are : (cs : List Cell) (k : ℕ) (c : Cell) (t : Thread) → thread_of c ≡ t → threads_of (slice_set cs k c) ≡ slice_set (threads_of cs) k t
 threads_are cs k c t is = threads_set cs k c ∙ ap (λ (x : Thread). slice_set (threads_of cs) k x) is

@@ -3,6 +3,7 @@ use Rattle.std.proofs.Common.{◌≡◌, ◌≢◌, ◌+◌, ℕ, List, Option, 
 use Rattle.std.specs.Prelude.{slice_get, slice_set, cond, nat_eq, nat_le, ◌&&◌, ◌-◌, ◌%◌}
 use Rattle.std.proofs.lemmas.List.{length-set}
 use Rattle.std.proofs.lemmas.Bool.Decides.{nat_tests}
+use Rattle.base.proofs.Lists.{get_other, get_set, drop_at}
 use Rattle.base.specs.declared.event.Event.{Event}
 use Rattle.machine_semantics.specs.Image.{Image, Process}
 use Rattle.machine_semantics.specs.State.{State}
@@ -10,8 +11,7 @@ use Rattle.machine_semantics.specs.Starts.{Started, followed, is_periodic_due, p
 use Rattle.vm_stretch.specs.StartLawsDue.{moved_on}
 use Rattle.vm_stretch.specs.Steps.{AreLeft, release_of}
 use Rattle.vm_stretch.proofs.Leading.{left_same}
-use Rattle.vm_stretch.proofs.Lists.{get_other, get_set, same_or_not}
-use Rattle.vm_stretch.proofs.Parting.{drop_at}
+use Rattle.vm_stretch.proofs.Lists.{same_or_not}
 use Rattle.vm_state.specs.declared.plan.Release.{Release}
 use Rattle.vm_state.specs.declared.plan.Release.TheVariants as release
 use Rattle.vm_state.specs.Plan.{IsRelease}

@@ -1,6 +1,7 @@
 -- Time-outs in the order of ranks.
 use Rattle.std.proofs.Common.{◌≡◌, ◌≢◌, ◌<◌, ◌+◌, ◌-◌, ◌*◌, ℕ, suc, List, Option, Some, None, length, arith, ap, sym, subst, ◌∙◌, inl, inr}
 use Rattle.std.specs.Prelude.{slice_get, slice_set}
+use Rattle.base.proofs.Lists.{get_other, get_set, some_at}
 use Rattle.base.specs.declared.event.Event.{Event}
 use Rattle.machine_semantics.specs.Image.{Image, Process}
 use Rattle.machine_semantics.specs.State.{Thread, State}
@@ -8,7 +9,7 @@ use Rattle.machine_semantics.specs.Starts.{Started, at_rank, followed, time_out,
 use Rattle.vm_stretch.specs.StretchDue.{time_out_of}
 use Rattle.vm_stretch.specs.Steps.{AreLeft, HasWaits}
 use Rattle.vm_stretch.proofs.Leading.{left_same}
-use Rattle.vm_stretch.proofs.Lists.{get_other, get_set, same_or_not, there_is}
+use Rattle.vm_stretch.proofs.Lists.{same_or_not}
 use Rattle.vm_stretch.proofs.Parting.{at_rank_none, at_rank_one, none_then, time_out_none}
 use Rattle.vm_stretch.proofs.Waiting.{due_of, time_out_ends}
 use Rattle.vm_releases.specs.Begin.{HaveQueues, WaitsAlone, expiry_at, expiry_of}
@@ -30,7 +31,7 @@ pub expiry_waits : (image : Image) (t n k : ℕ) (s s' : State) (w : Process) (s
 expiry_waits image t n k s s' w slots slots' at below count has is due set j tick j_below slot =
     elim (same_or_not k j) [
       | inl same ↦
-          let old = there_is slots (n + k) (omega (arith, below, count)) in
+          let old = some_at slots (n + k) (omega (arith, below, count)) in
           let here : slice_get slots' (n + k) ≡ Some None = ap (λ (xs : List (Option ℕ)). slice_get xs (n + k)) set ∙ get_set slots (n + k) None old.0 old.1 in
           let mine : slice_get slots' (n + k) ≡ Some tick = subst (λ (i : ℕ). slice_get slots' (n + i) ≡ Some tick) (sym same) slot in
           let both : Some tick ≡ Some None = sym mine ∙ here in

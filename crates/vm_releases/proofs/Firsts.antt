@@ -6,13 +6,14 @@ use Rattle.std.proofs.lemmas.Nat.{mod-mul-add}
 use Rattle.std.proofs.lemmas.Option.{slice_get_within}
 use Rattle.std.proofs.lemmas.Bool.{cases_Bool}
 use Rattle.std.proofs.lemmas.Bool.Decides.{nat_tests}
+use Rattle.base.proofs.Lists.{get_other, get_set, some_at}
 use Rattle.machine_semantics.specs.Image.{Image, Process, Script, Line}
 use Rattle.machine_semantics.specs.State.{Thread, Idle}
 use Rattle.machine_semantics.specs.Starts.{is_periodic_due}
 use Rattle.machine_semantics.specs.Run.{at_start}
 use Rattle.vm_stretch.specs.StretchDue.{AreInOrder, first_tick, time_out_of}
 use Rattle.vm_stretch.specs.StartLawsDue.{HasDue, IsReleaseFrom}
-use Rattle.vm_stretch.proofs.Lists.{get_other, get_set, same_or_not, there_is}
+use Rattle.vm_stretch.proofs.Lists.{same_or_not}
 use Rattle.vm_state.specs.declared.plan.Release.{Release}
 use Rattle.vm_state.specs.declared.plan.Release.TheVariants as release
 use Rattle.vm_state.specs.Plan.{IsRelease}
@@ -46,7 +47,7 @@ firsts_set image n first w slots slots' so at kind first_is is = subst (λ (xs :
   count = length-set slots n (Some first) ∙ so.count;
   releases = λ k p below there. elim (same_or_not n k) [
     | inl same ↦
-        let old = there_is slots n (let within = slice_get_within image.processes n w at in omega (arith, so.count, within)) in
+        let old = some_at slots n (let within = slice_get_within image.processes n w at in omega (arith, so.count, within)) in
         let both : Some w ≡ Some p = sym at ∙ ap (λ (i : ℕ). slice_get image.processes i) same ∙ there in
         let p_is : w ≡ p = cc in
         let made : Some first ≡ first_release w =
@@ -82,7 +83,7 @@ firsts_all image ls n slots slots' so all is = subst (λ (xs : List (Option ℕ)
       count = length-set slots (2 * m) (first_tick ls) ∙ so.count;
       releases = λ k p at. (let within = slice_get_within image.processes k p at in get_other slots (2 * m) k (first_tick ls) (λ same. absurd (omega (arith, same, within))) ∙ so.releases k p (omega (arith, all, within)) at);
       waits = λ k below. get_other slots (2 * m) (m + k) (first_tick ls) (λ same. absurd (omega (arith, same, below))) ∙ so.rest (m + k) (omega (arith, all)) (omega (arith, below));
-      line = (let old = there_is slots (2 * m) (omega (arith, so.count)) in get_set slots (2 * m) (first_tick ls) old.0 old.1);
+      line = (let old = some_at slots (2 * m) (omega (arith, so.count)) in get_set slots (2 * m) (first_tick ls) old.0 old.1);
     })
 
 -- ---- they are due

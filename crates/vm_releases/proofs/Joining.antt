@@ -3,6 +3,7 @@ use Rattle.std.proofs.Common.{◌≡◌, ◌≤◌, ◌<◌, ◌+◌, ◌*◌, �
 use Rattle.std.specs.Prelude.{slice_get, slice_set}
 use Rattle.std.proofs.lemmas.List.{length-set}
 use Rattle.std.proofs.lemmas.Option.{slice_get_within}
+use Rattle.base.proofs.Lists.{get_drop, get_other, get_set, some_at}
 use Rattle.base.specs.declared.event.Event.{Event}
 use Rattle.machine_semantics.specs.Image.{Image, Process as Whole, Script, Line}
 use Rattle.machine_semantics.specs.State.{State}
@@ -19,7 +20,6 @@ use Rattle.vm_stretch.specs.StartLawsDue.{AreDone, HasDue, moved_on}
 use Rattle.vm_stretch.specs.Steps.{HasStarted, HasWaits}
 use Rattle.vm_stretch.proofs.Counting.{starts_are_few}
 use Rattle.vm_stretch.proofs.Leading.{calm_first, calm_second, started_then}
-use Rattle.vm_stretch.proofs.Lists.{get_drop, get_other, get_set, there_is}
 use Rattle.vm_stretch.proofs.StartLawsMoving.{due_are_released, next_release}
 use Rattle.vm_stretch.proofs.Waiting.{due_of, lines_keep_waits, periodic_keeps_waits}
 use Rattle.vm_releases.specs.Begin.{AreToCome, MovedBelow, TellReleases, WaitsAlone}
@@ -83,7 +83,7 @@ lines_to_come image script t done s slots has within = record {
   order = has.order;
   past = has.past;
   coming = λ i l at late.
-      let rest = there_is script.lines done (let below = slice_get_within script.lines i l at in omega (arith, below, late)) in
+      let rest = some_at script.lines done (let below = slice_get_within script.lines i l at in omega (arith, below, late)) in
       let zero_more : done + 0 ≡ done = omega arith in
       let first : slice_get (drop done script.lines) 0 ≡ Some rest.0 = get_drop script.lines done 0 ∙ ap (λ (n : ℕ). slice_get script.lines n) zero_more ∙ rest.1 in
       let slot : slice_get slots (2 * length image.processes) ≡ Some (Some (line_tick rest.0)) = has.line ∙ ap (λ (o : Option ℕ). Some o) (first_is (drop done script.lines) rest.0 first) in
@@ -147,7 +147,7 @@ slots_again image script t done done' s s' ps slots set moved slots' are has is 
   releases = λ k p tick at slot.
       let n = length image.processes in
       let lt = slice_get_within image.processes k p at in
-      let old = there_is slots k (omega (arith, has.count, lt)) in
+      let old = some_at slots k (omega (arith, has.count, lt)) in
       let same : slice_get set k ≡ Some old.0 = ap (λ (xs : List (Option ℕ)). slice_get xs k) is ∙ get_other slots (2 * n) k (first_tick (drop done' script.lines)) (λ e. absurd (omega (arith, e, lt))) ∙ old.1 in
       let both : Some tick ≡ Some (moved_on t (Some (t + p.frame)) old.0) = sym slot ∙ alone.releases k lt ∙ below.moved k p old.0 lt at same in
       let new : tick ≡ moved_on t (Some (t + p.frame)) old.0 = cc in
@@ -155,7 +155,7 @@ slots_again image script t done done' s s' ps slots set moved slots' are has is 
   waits = waits;
   line =
       let n = length image.processes in
-      let old = there_is slots (2 * n) (omega (arith, has.count)) in
+      let old = some_at slots (2 * n) (omega (arith, has.count)) in
       alone.line ∙ below.others (2 * n) (omega arith) ∙ ap (λ (xs : List (Option ℕ)). slice_get xs (2 * n)) is ∙ get_set slots (2 * n) (first_tick (drop done' script.lines)) old.0 old.1;
   order = has.order;
   past = lines_are.past;

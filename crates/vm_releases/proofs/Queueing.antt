@@ -2,21 +2,22 @@
 use Rattle.std.proofs.Common.{◌≡◌, ◌≢◌, ◌+◌, ◌*◌, ℕ, zero, suc, List, [], ◌∷◌, Option, Some, None, length, arith, refl, sym, subst, ◌∙◌, true, false, Bool, inl, inr}
 use Rattle.std.specs.Prelude.{slice_get, slice_set, cond, nat_eq, ◌&&◌}
 use Rattle.std.proofs.lemmas.List.{length-set}
+use Rattle.base.proofs.Lists.{get_other}
 use Rattle.base.specs.declared.event.Act.TheVariants as act
 use Rattle.machine_semantics.specs.Image.{Image, Process, Line, Sets, Occurs}
 use Rattle.machine_semantics.specs.State.{Job, Thread, Idle, Ready, Waiting, State}
 use Rattle.machine_semantics.specs.Starts.{Started, is_periodic_due, line, lines, occurs, periodic, queue_of, raised, release, release_thread, released, time_out, told, unchanged, without}
-use Rattle.vm_stretch.proofs.Lists.{get_other, same_or_not}
+use Rattle.vm_stretch.proofs.Lists.{same_or_not}
 use Rattle.vm_releases.specs.Begin.{HaveQueues}
 
-got_set : {X : Type 0} (xs : List X) (k : ℕ) (x y : X) → slice_get (slice_set xs k x) k ≡ Some y → y ≡ x
-got_set [] k x y at = absurd cc
-got_set (z ∷ zs) zero x y at = cc
-got_set (z ∷ zs) (suc k) x y at = got_set zs k x y at
+get_set : {X : Type 0} (xs : List X) (k : ℕ) (x y : X) → slice_get (slice_set xs k x) k ≡ Some y → y ≡ x
+get_set [] k x y at = absurd cc
+get_set (z ∷ zs) zero x y at = cc
+get_set (z ∷ zs) (suc k) x y at = get_set zs k x y at
 
 ready_keeps : (s : State) (k : ℕ) (job : Job) (qs : List (List ℕ)) → HaveQueues s → length qs ≡ length s.queues → HaveQueues (record s { threads = slice_set s.threads k (Ready job); queues = qs })
 ready_keeps s k job qs have same = λ j c due e job' at. elim (same_or_not k j) [
-  | inl is ↦ absurd (let here : Waiting c due e job' ≡ Ready job = got_set s.threads k (Ready job) (Waiting c due e job') (subst (λ (i : ℕ). slice_get (slice_set s.threads k (Ready job)) i ≡ Some (Waiting c due e job')) (sym is) at) in cc)
+  | inl is ↦ absurd (let here : Waiting c due e job' ≡ Ready job = get_set s.threads k (Ready job) (Waiting c due e job') (subst (λ (i : ℕ). slice_get (slice_set s.threads k (Ready job)) i ≡ Some (Waiting c due e job')) (sym is) at) in cc)
   | inr differ ↦ (let old = have j c due e job' (sym (get_other s.threads k j (Ready job) differ) ∙ at) in omega (arith, old, same))
 ]
 

@@ -3,6 +3,7 @@ use Rattle.std.proofs.Common.{◌≡◌, ◌≤◌, ◌<◌, ◌+◌, ◌*◌, i
 use Rattle.std.specs.Prelude.{slice_get}
 use Rattle.std.proofs.lemmas.Bool.{cases_lt}
 use Rattle.std.proofs.lemmas.Option.{slice_get_within}
+use Rattle.base.proofs.Lists.{some_at}
 use Rattle.machine_semantics.specs.Image.{Image, Process, Script, Line}
 use Rattle.machine_semantics.specs.State.{Thread, Waiting, State}
 use Rattle.machine_semantics.specs.Starts.{starts, unchanged}
@@ -10,7 +11,6 @@ use Rattle.vm_stretch.specs.Quiet.{IsQuiet}
 use Rattle.vm_stretch.specs.StretchDue.{HasSlots, IsNextRelease, NoneBefore, time_out_of}
 use Rattle.vm_stretch.proofs.Quiet.{quiet_starts_nothing}
 use Rattle.vm_stretch.specs.StartLawsDue.{AreDone, HasDue, IsReleaseFrom}
-use Rattle.vm_stretch.proofs.Lists.{there_is}
 use Rattle.vm_stretch.proofs.StartLawsMoving.{due_are_released}
 use Rattle.vm_releases.specs.Begin.{AreToCome}
 use Rattle.vm_releases.proofs.Joining.{lines_to_come}
@@ -54,11 +54,11 @@ rests image script t done s slots has within none =
         | inr late ↦ (let low = come.coming i l at late in absurd (omega (arith, low, same)))
       ];
       releases = λ k p at.
-          let tick = there_is slots k (let low = slice_get_within image.processes k p at in omega (arith, low, has.count)) in
+          let tick = some_at slots k (let low = slice_get_within image.processes k p at in omega (arith, low, has.count)) in
           (due_are_released image script t done k s slots p tick.0 has at tick.1).1 (λ same. (let low = none k t (tick.1 ∙ ap (λ (x : Option ℕ). Some x) same) in absurd (omega (arith, low))));
       waits = λ k c e job at.
           let below : k < n = has.threads k (Waiting c t e job) at in
-          let tick = there_is slots (n + k) (omega (arith, below, has.count)) in
+          let tick = some_at slots (n + k) (omega (arith, below, has.count)) in
           let same : tick.0 ≡ Some t = has.waits k tick.0 below tick.1 ∙ ap (λ (o : Option Thread). time_out_of o) at in
           let low = none (n + k) t (tick.1 ∙ ap (λ (x : Option ℕ). Some x) same) in
           absurd (omega (arith, low));

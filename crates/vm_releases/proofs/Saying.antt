@@ -6,7 +6,7 @@ use Rattle.std.proofs.lemmas.List.{append-nil}
 use Rattle.std.proofs.lemmas.Option.{slice_get_within}
 use Rattle.std.proofs.lemmas.Bool.{cases_lt}
 use Rattle.std.proofs.lemmas.Bool.Decides.{nat_tests}
-use Rattle.vm_stretch.proofs.Lists.{get_drop}
+use Rattle.base.proofs.Lists.{get_drop, drop_at}
 use Rattle.base.specs.declared.event.Event.{Event}
 use Rattle.machine_semantics.specs.Image.{Image, Process, Line, Occurs}
 use Rattle.machine_semantics.specs.State.{State}
@@ -15,10 +15,11 @@ use Rattle.vm_stretch.specs.Quiet.{line_tick}
 use Rattle.vm_stretch.specs.StartLawsDue.{AreDone}
 use Rattle.vm_stretch.specs.Steps.{AreLeft, HasStarted, named, releases}
 use Rattle.vm_stretch.proofs.Leading.{left_begin, left_end, left_same}
-use Rattle.vm_stretch.proofs.Parting.{drop_at, lines_none, lines_skip, occurs_releases}
+use Rattle.vm_stretch.proofs.Parting.{lines_skip, occurs_releases}
 use Rattle.script.specs.declared.script.ScriptLine.{ScriptLine}
 use Rattle.vm_releases.specs.Begin.{AreBelow, AreToCome, line_of, lines_of}
 use Rattle.vm_releases.specs.Order.{rows_of}
+use Rattle.vm_stretch.proofs.Quiet.{lines_nothing}
 
 -- ---- rows of the order
 
@@ -81,7 +82,7 @@ pub lines_done : (image : Image) (t done : ℕ) (ls : List Line) (s s' : State) 
 lines_done image t done ls s s' es es' lines_are calm left =
     left_end (lines image t ls) s s' es es' (left_same (lines image t ls) (lines image t (drop done ls)) unchanged s s' es es' left none) calm where
       none : lines image t (drop done ls) s' ≡ unchanged s'
-      none = lines_none image t (drop done ls) s' (λ i l at same. (let later = lines_are.coming (done + i) l (sym (get_drop ls done i) ∙ at) (omega arith) in omega (arith, later, same)))
+      none = lines_nothing image t (drop done ls) s' (λ i l at same. (let later = lines_are.coming (done + i) l (sym (get_drop ls done i) ∙ at) (omega arith) in omega (arith, later, same)))
 
 -- where the next line is not of this tick, all are done that are
 pub none_more : (t k done : ℕ) (ls : List Line) (l : Line) → AreToCome t done ls → done ≤ k → ((i : ℕ) (m : Line) → slice_get ls i ≡ Some m → i < k → line_tick m ≤ t) → slice_get ls k ≡ Some l → line_tick l ≢ t → AreDone t k ls

@@ -4,6 +4,7 @@ use Rattle.std.specs.Prelude.{slice_get, cond, nat_eq}
 use Rattle.std.proofs.lemmas.Bool.{cases_lt}
 use Rattle.std.proofs.lemmas.Bool.Decides.{nat_tests}
 use Rattle.std.proofs.lemmas.Option.{slice_get_within}
+use Rattle.base.proofs.Lists.{some_at}
 use Rattle.vm_dispatch.specs.Due.{least}
 use Rattle.machine_semantics.specs.Image.{Image, Script, Line}
 use Rattle.machine_semantics.specs.State.{State}
@@ -11,7 +12,6 @@ use Rattle.machine_semantics.specs.Starts.{starts}
 use Rattle.vm_stretch.specs.Quiet.{line_tick}
 use Rattle.vm_stretch.specs.StretchDue.{HasSlots, IsNextRelease, NoneBefore, first_tick}
 use Rattle.vm_stretch.specs.StartLawsDue.{AreDone, HasDue, HasOwnRanks, moved_on}
-use Rattle.vm_stretch.proofs.Lists.{there_is}
 use Rattle.vm_stretch.proofs.Waiting.{StartsEnd, due_of, starts_end}
 use Rattle.vm_releases.proofs.Least.{at_least, least_there}
 
@@ -59,7 +59,7 @@ starts_later image script t done done' s slots slots' ranks has new lines i r at
     let within : i < 2 * n + 1 = (let w = slice_get_within slots' i (Some r) at in omega (arith, w, new.count)) in
     elim (cases_lt i n) [
       | inl release ↦
-          let p = there_is image.processes i release in
+          let p = some_at image.processes i release in
           let next : IsNextRelease t p.0 (Some r) = new.releases i p.0 (Some r) p.1 at in
           let after : t < r = next.1 in
           omega (arith, after)
@@ -68,12 +68,12 @@ starts_later image script t done done' s slots slots' ranks has new lines i r at
             let k : ℕ = i - n in
             let here : i ≡ n + k = omega (arith, above) in
             let below : k < n = omega (arith, wait, above) in
-            let p = there_is image.processes k below in
+            let p = some_at image.processes k below in
             let ends : StartsEnd t image s (starts image script t s).state = starts_end image script t s ranks in
             let at' : slice_get slots' (n + k) ≡ Some (Some r) = subst (λ (x : ℕ). slice_get slots' x ≡ Some (Some r)) here at in
             let is : Some r ≡ moved_on t None (due_of k s) = new.waits k (Some r) below at' ∙ ends.waits k p.0 p.1 in
             let moved = moved_later t r (due_of k s) is in
-            let old = there_is slots (n + k) (omega (arith, has.count, below)) in
+            let old = some_at slots (n + k) (omega (arith, has.count, below)) in
             let was : slice_get slots (n + k) ≡ Some (Some r) = old.1 ∙ ap (λ (x : Option ℕ). Some x) (has.waits k old.0 below old.1 ∙ moved.0) in
             let le : t ≤ r = has.none_late (n + k) r was in
             let apart : r ≢ t = moved.1 in

@@ -4,6 +4,7 @@ use Rattle.std.specs.Prelude.{ℤ, slice_get, nat_lt, min}
 use Rattle.std.proofs.lemmas.Bool.{cases_lt}
 use Rattle.std.proofs.lemmas.Bool.Decides.{nat_tests}
 use Rattle.std.proofs.lemmas.Option.{slice_get_within}
+use Rattle.base.proofs.Lists.{some_at}
 use Rattle.vm_dispatch.specs.Due.{least}
 use Rattle.machine_isa.specs.declared.instr.Instr.{Instr}
 use Rattle.machine_isa.specs.Ticks.{ticks}
@@ -18,7 +19,6 @@ use Rattle.vm_stretch.specs.Quiet.{AreQuiet, IsQuiet}
 use Rattle.vm_stretch.specs.RowLaws.{IsSafeRun, begun}
 use Rattle.vm_stretch.proofs.Jumping.{slots_are_quiet}
 use Rattle.vm_stretch.proofs.Runs.{turn_stays_in_run}
-use Rattle.vm_stretch.proofs.Lists.{there_is}
 use Rattle.vm_releases.proofs.Least.{least_there}
 use Rattle.vm_turn.specs.Settled.{CanPass}
 use Rattle.vm_turn.proofs.Safely.{turn_can_pass}
@@ -88,7 +88,7 @@ least_is_due image script t done v s s' slots has alike is quiet =
     let within : i < 2 * n + 1 = (let w = slice_get_within slots i (Some v) there.1 in omega (arith, w, has.count)) in
     elim (cases_lt i n) [
       | inl release ↦
-          let p = there_is image.processes i release in
+          let p = some_at image.processes i release in
           let due : is_periodic_due v p.0 ≡ true = (has.releases i p.0 (Some v) p.1 there.1).0 in
           absurd (let both : true ≡ false = sym due ∙ quiet.releases i p.0 p.1 in cc)
       | inr above ↦ elim (cases_lt i (2 * n)) [

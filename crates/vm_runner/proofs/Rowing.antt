@@ -5,13 +5,14 @@ use Rattle.std.proofs.lemmas.Bool.{cases_lt}
 use Rattle.std.proofs.lemmas.Bool.Decides.{nat_tests}
 use Rattle.std.specs.Global.{Vec}
 use Rattle.std.proofs.lemmas.Option.{slice_get_within}
+use Rattle.base.proofs.Lists.{get_set, get_other, some_at}
 use Rattle.base.specs.declared.event.Event.{Event}
 use Rattle.machine_isa.specs.declared.instr.Instr.{Instr}
 use Rattle.machine_isa.specs.Ticks.{ticks}
 use Rattle.machine_semantics.specs.Image.{Image, Process, Script}
 use Rattle.machine_semantics.specs.State.{Job, Thread, Ready, State}
 use Rattle.machine_semantics.specs.Starts.{Started, starts}
-use Rattle.machine_semantics.specs.Effect.{Own, Outcome, Goes, Does, Signals, Broadcasts, Waits, Raises, Ends, Stuck, effect}
+use Rattle.machine_semantics.specs.Effect.{Own, Outcome, Goes, Raises, Stuck, effect}
 use Rattle.machine_semantics.specs.Tick.{Ticked, at_next, owned_of, pick, settle}
 use Rattle.machine_semantics.specs.Run.{events_from, state_at}
 use Rattle.vm_instructions.specs.declared.row.Halt.{Halt}
@@ -20,19 +21,19 @@ use Rattle.vm_instructions.specs.Rows.{Ended, Runs, Spends, stays}
 use Rattle.vm_instructions.specs.Silent.{RaisesAs}
 use Rattle.vm_stretch.specs.StretchDue.{time_out_of}
 use Rattle.vm_stretch.specs.Quiet.{AreQuiet, IsQuiet}
-use Rattle.vm_stretch.specs.RowLaws.{IsInStack, IsPicked, IsSafeRun, begun}
+use Rattle.vm_stretch.specs.RowLaws.{IsPicked, IsSafeRun, begun}
 use Rattle.vm_stretch.specs.Silent.{Begins, Follows, IsAt, Leads, is_silent, next_own, with_process}
 use Rattle.vm_stretch.specs.Stretch.{left, left_at, left_of, outcome_at_once, outcomes, pass, pass_thread, place_of}
-use Rattle.vm_stretch.proofs.StretchMoving.{NotStuck, effect_same, get_set, moved, quiet_same, set_set, settled_same}
+use Rattle.vm_stretch.proofs.StretchMoving.{NotStuck, effect_same, moved, set_set, settled_same}
 use Rattle.vm_stretch.proofs.Quiet.{quiet_starts_nothing}
-use Rattle.vm_stretch.proofs.Rowing.{row_is_safe, row_is_turn, row_keeps_events, row_stays_in_run}
+use Rattle.vm_stretch.proofs.Rowing.{row_is_safe, row_is_turn, row_keeps_events, row_stays_in_run, quiet_with}
 use Rattle.vm_stretch.proofs.Runs.{turn_stays_in_run}
 use Rattle.vm_turn.specs.Own.{CanCome}
 use Rattle.vm_turn.specs.Rows.{CanEnd, CanRun, EndsIn, HasRun, IsSeenAt, effect_of, outcome_of, own_at}
 use Rattle.vm_state.specs.declared.board.Board.{Board}
 use Rattle.vm_state.specs.Board.{IsBoardOf, rows_of, state_of}
-use Rattle.vm_turn.proofs.Safely.{Found, picked}
-use Rattle.vm_stretch.proofs.Lists.{get_other, same_or_not, there_is}
+use Rattle.vm_turn.proofs.Safely.{Found, picked, can_of}
+use Rattle.vm_stretch.proofs.Lists.{same_or_not}
 use Rattle.machine_safety_spec.specs.Queues.{AreQueued, waits_on}
 use Rattle.vm_runner.specs.Turn.{BurnsNothing, HasPassed, Run, unspent}
 use Rattle.vm_runner.specs.Waits.{WaitsFrom, is_some_at_queue}
@@ -210,7 +211,7 @@ row_ends image s k p first budget (halt.Sees rest) new ready some runs =
     subst (λ (x : Own). RowEnds image s k p first (budget - rest) (halt.Sees rest) x) (sym runs.5) (seen_ends image s k p first (budget - rest) runs.0 runs.1 ready runs.3 rest)
 
 -- no more ticks are left than there were
-within_budget : (image : Image) (first : Own) (budget : ℕ) (h : Halt) (new : Own) → Runs image first budget h new → unspent h ≤ budget
+pub within_budget : (image : Image) (first : Own) (budget : ℕ) (h : Halt) (new : Own) → Runs image first budget h new → unspent h ≤ budget
 within_budget image first budget halt.Spent new runs = omega arith
 within_budget image first budget (halt.Raises rest number) new runs = runs.2
 within_budget image first budget (halt.Sees rest) new runs = runs.2
@@ -231,7 +232,7 @@ starts_here run t most k at words quiet burnt =
     let process : slice_get run.image.processes k ≡ Some f.p = subst (λ (m : ℕ). slice_get run.image.processes m ≡ Some f.p) same f.process in
     let ready : slice_get s.threads k ≡ Some (Ready f.job) = subst (λ (m : ℕ). slice_get s.threads m ≡ Some (Ready f.job)) same f.ready in
     let below = slice_get_within run.image.processes k f.p process in
-    let row = there_is s.owned k (omega (arith, below, words)) in
+    let row = some_at s.owned k (omega (arith, below, words)) in
     record {
       job = f.job;
       is = record {
@@ -270,17 +271,6 @@ can_run run t most k s safe is row =
 
 -- ---- what the row comes to
 
--- the outcome was not stuck, and what it left is within the stack
-can_come : (image : Image) (u k : ℕ) (p : Process) (job : Job) (s : State) (out : Outcome) → (settle image u k p job s out).stuck ≡ false → ((th : Thread) → slice_get (settle image u k p job s out).state.threads k ≡ Some th → IsInStack p th) → slice_get s.threads k ≡ Some (Ready job) → CanCome p.stack out
-can_come image u k p job s (Goes o) free stack at = stack (Ready o.job) (get_set s.threads k (Ready o.job) (Ready job) at)
-can_come image u k p job s (Does a o) free stack at = stack (Ready o.job) (get_set s.threads k (Ready o.job) (Ready job) at)
-can_come image u k p job s (Signals c o) free stack at = tt
-can_come image u k p job s (Broadcasts c o) free stack at = tt
-can_come image u k p job s (Waits c limit e o) free stack at = tt
-can_come image u k p job s (Raises e) free stack at = tt
-can_come image u k p job s Ends free stack at = tt
-can_come image u k p job s Stuck free stack at = absurd cc
-
 -- a row of so many ticks that has run up to here, and what it comes to in its last tick
 pub record RowRan (run : Run) (t k passed : ℕ) (h : Halt) (new : Own) : Type 0 where
   pub p : Process
@@ -300,9 +290,6 @@ pub record HasLed (image : Image) (script : Script) (t n k m : ℕ) (o : Own) (a
   pub free : all.stuck ≡ false
   pub state : state_at image script (t + n + m) ≡ all.state
   pub events : events_from image script (n + m) t (state_at image script t) ≡ (starts image script t (state_at image script t)).events ++ all.events
-
-quiet_with : (image : Image) (script : Script) (u k : ℕ) (o : Own) (s : State) → IsQuiet image script u s → IsQuiet image script u (with_process k o s)
-quiet_with image script u k o s quiet = let q : IsQuiet image script u _ = quiet_same image script u s k o.job quiet in record { lines = q.lines; releases = q.releases; waits = q.waits }
 
 has_led : (image : Image) (script : Script) (t most k n m : ℕ) (first o : Own) → IsSafeRun image script → IsPicked image script t most k first → Leads image first n o → 1 ≤ m → m ≤ left image o.job → n + m ≤ most
     → HasLed image script t n k m o (pass image (t + n) m (with_process k o (begun image script t)) (Some k))
@@ -336,7 +323,7 @@ has_led image script t most k n m first o safe is leads some fits within =
       ];
     }
 
-passes_as : (image : Image) (u k m : ℕ) (p : Process) (first o : Own) (s : State) → slice_get image.processes k ≡ Some p → slice_get s.threads k ≡ Some (Ready first.job) → slice_get s.owned k ≡ Some first.owned
+pub passes_as : (image : Image) (u k m : ℕ) (p : Process) (first o : Own) (s : State) → slice_get image.processes k ≡ Some p → slice_get s.threads k ≡ Some (Ready first.job) → slice_get s.owned k ≡ Some first.owned
     → pass image u m (with_process k o s) (Some k) ≡ settle image (u + (m - 1)) k p o.job (with_process k o s) (comes image s k m o)
 passes_as image u k m p first o s process ready owned =
     let w : State = with_process k o s in
@@ -346,7 +333,7 @@ passes_as image u k m p first o s process ready owned =
     ∙ ap (λ (x : Option Thread). pass_thread image u m k w (Some p) x) there
     ∙ ap (λ (ws : List ℤ). settle image (u + (m - 1)) k p o.job w (outcomes image w o.job ws m o.job.burn)) words
 
-seen_at : (image : Image) (first : Own) (budget : ℕ) (h : Halt) (new : Own) → Runs image first budget h new → IsSeenAt image h new.job.place
+pub seen_at : (image : Image) (first : Own) (budget : ℕ) (h : Halt) (new : Own) → Runs image first budget h new → IsSeenAt image h new.job.place
 seen_at image first budget halt.Spent new runs = tt
 seen_at image first budget (halt.Raises rest number) new runs = tt
 seen_at image first budget (halt.Sees rest) new runs =
@@ -412,7 +399,7 @@ enough run t most k s s' h is row has =
 
 -- ---- what code asks for at its end
 
-queued_row : (k : ℕ) (o : Own) (job : Job) (s : State) → slice_get s.threads k ≡ Some (Ready job) → AreQueued s → AreQueued (with_process k o s)
+pub queued_row : (k : ℕ) (o : Own) (job : Job) (s : State) → slice_get s.threads k ≡ Some (Ready job) → AreQueued s → AreQueued (with_process k o s)
 queued_row k o job s ready queued c j =
     queued c j ∙ elim (same_or_not k j) [
       | inl same ↦ subst (λ (i : ℕ). waits_on c (slice_get s.threads i) ≡ waits_on c (slice_get (slice_set s.threads k (Ready o.job)) i)) same
@@ -430,7 +417,7 @@ can_end run t k passed h s' safe has =
     let u : ℕ = t + (passed - 1) in
     let out : Outcome = outcome_of run.image w h has.new in
     let can : CanCome r.p.stack out =
-    can_come run.image u k r.p has.new.job w out (ap (λ (x : Ticked). x.stuck) (sym r.settled) ∙ r.free)
+    can_of run.image u k r.p has.new.job w out (ap (λ (x : Ticked). x.stuck) (sym r.settled) ∙ r.free)
     (λ th at. safe.stack (t + passed) k r.p th r.process (ap (λ (x : State). slice_get x.threads k) (r.state ∙ ap (λ (x : Ticked). x.state) r.settled) ∙ at)) r.ready in
     subst (λ (x : State). CanEnd run.image k x h) (sym has.is) (record {
       p = r.p;

@@ -3,6 +3,7 @@ use Rattle.std.proofs.Common.{◌≡◌, ◌≤◌, ◌<◌, ◌+◌, ◌-◌, i
 use Rattle.std.specs.Prelude.{ℤ, slice_get, cond, min, nat_le, nat_lt}
 use Rattle.std.proofs.lemmas.Bool.{cases_lt}
 use Rattle.std.proofs.lemmas.Bool.Decides.{nat_tests}
+use Rattle.base.proofs.Lists.{get_set}
 use Rattle.machine_isa.specs.declared.instr.Instr.{Instr}
 use Rattle.machine_isa.specs.Ticks.{ticks}
 use Rattle.machine_semantics.specs.Image.{Image}
@@ -16,7 +17,7 @@ use Rattle.vm_stretch.specs.Quiet.{AreQuiet, IsQuiet}
 use Rattle.vm_stretch.specs.RowLaws.{IsSafeRun, begun}
 use Rattle.vm_stretch.specs.StretchDue.{HasSlots, NoneBefore}
 use Rattle.vm_stretch.proofs.Jumping.{slots_are_quiet}
-use Rattle.vm_stretch.proofs.StretchMoving.{get_set, moved, pick_same, quiet_same, set_owned}
+use Rattle.vm_stretch.proofs.StretchMoving.{moved, pick_same, quiet_same, set_owned}
 use Rattle.vm_stretch.proofs.Quiet.{quiet_starts_nothing}
 use Rattle.vm_stretch.proofs.Runs.{turn_stays_in_run}
 use Rattle.vm_turn.specs.Settled.{CanPass}

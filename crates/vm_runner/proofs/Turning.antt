@@ -4,6 +4,7 @@ use Rattle.std.specs.Prelude.{slice_get, slice_set}
 use Rattle.std.proofs.lemmas.Bool.{cases_lt}
 use Rattle.std.proofs.lemmas.List.{length-set}
 use Rattle.std.proofs.lemmas.Option.{slice_get_within}
+use Rattle.base.proofs.Lists.{get_other, get_set, some_at}
 use Rattle.base.specs.declared.event.Event.{Event}
 use Rattle.machine_semantics.specs.Image.{Image, Script}
 use Rattle.machine_semantics.specs.State.{Thread, State}
@@ -12,16 +13,16 @@ use Rattle.machine_semantics.specs.Tick.{tick}
 use Rattle.machine_semantics.specs.Run.{at_start, events_from, state_at}
 use Rattle.vm_stretch.specs.StretchDue.{HasSlots, NoneBefore, time_out_of}
 use Rattle.vm_stretch.specs.Steps.{HasWaits}
-use Rattle.vm_stretch.proofs.Lists.{get_other, get_set, same_or_not, there_is}
+use Rattle.vm_stretch.proofs.Lists.{same_or_not}
 use Rattle.vm_state.specs.declared.threads.Cell.{Cell}
 use Rattle.vm_state.specs.Threads.{thread_of, threads_of}
-use Rattle.vm_releases.proofs.Boards.{thread_at}
 use Rattle.vm_releases.specs.Begin.{WaitsAlone}
 use Rattle.vm_runner.specs.Turn.{HasPassed, Run}
 use Rattle.vm_runner.specs.Waits.{WaitsFrom}
 use Rattle.vm_runner.specs.Standing.{events_between}
 use Rattle.machine_safety_spec.specs.Whole.{HasNoOverrun}
 use Rattle.vm_runner.proofs.Waiting.{is_waiting}
+use Rattle.vm_state.proofs.Waking.{thread_at}
 
 -- ---- slots
 
@@ -59,7 +60,7 @@ still_none image script t done v most s s' slots slots' has alone waits none low
             let w = is_waiting (slice_get s'.threads k) r (sym (waits k (Some r) below at')) in
             elim (from k w.0 r w.1.0 w.1.1.0 w.1.1.1) [
               | inl old ↦
-                  let was = there_is slots (n + k) (omega (arith, has.count, below)) in
+                  let was = some_at slots (n + k) (omega (arith, has.count, below)) in
                   let slot : slice_get slots (n + k) ≡ Some (Some r) = was.1 ∙ ap (λ (x : Option ℕ). Some x) (has.waits k was.0 below was.1 ∙ ap (λ (o : Option Thread). time_out_of o) old) in
                   let le = none (n + k) r slot in omega (arith, le, low)
               | inr later ↦ later
@@ -83,7 +84,7 @@ pub record OneNoted (n m : ℕ) (threads : List Thread) (start slots : List (Opt
 pub note_one : (n place : ℕ) (cs : List Cell) (cell : Cell) (start slots new : List (Option ℕ)) (due : Option ℕ) → place < n → place < length cs → cell ≡ get_or cs place cell → due ≡ time_out_of (Some (thread_of cell)) → length start ≡ 2 * n + 1
     → WaitsAlone n start slots → AreNoted n place (threads_of cs) slots → new ≡ slice_set slots (n + place) due → OneNoted n (place + 1) (threads_of cs) start new
 note_one n place cs cell start slots new due below within at due_is count alone noted is =
-    let there = there_is slots (n + place) (omega (arith, alone.count, count, below)) in
+    let there = some_at slots (n + place) (omega (arith, alone.count, count, below)) in
     let here : slice_get new (n + place) ≡ Some (time_out_of (slice_get (threads_of cs) place)) =
     ap (λ (xs : List (Option ℕ)). slice_get xs (n + place)) is ∙ get_set slots (n + place) due there.0 there.1
     ∙ ap (λ (o : Option ℕ). Some o) (due_is ∙ sym (ap (λ (o : Option Thread). time_out_of o) (thread_at cs place cell within at))) in

@@ -4,6 +4,7 @@ use Rattle.std.specs.Prelude.{slice_get, slice_set, cond, nat_eq}
 use Rattle.std.proofs.Math.Seq.{drop-append_seam}
 use Rattle.std.proofs.lemmas.Bool.Decides.{nat_tests}
 use Rattle.std.proofs.lemmas.List.{length-drop, take_all}
+use Rattle.base.proofs.Lists.{get_other, get_set, get_of_set}
 use Rattle.base.specs.declared.event.Event.{Event}
 use Rattle.machine_semantics.specs.Image.{Image, Process}
 use Rattle.machine_semantics.specs.State.{Job, Thread, Idle, Ready, Waiting, State}
@@ -11,10 +12,9 @@ use Rattle.machine_semantics.specs.Effect.{Outcome, Goes, Does, Signals, Broadca
 use Rattle.machine_semantics.specs.Starts.{queue_of, raised}
 use Rattle.machine_semantics.specs.Tick.{first, settle, wake, wake_all, wake_first, woken}
 use Rattle.machine_safety_spec.specs.Queues.{AreQueued, times, waits_on}
-use Rattle.vm_stretch.proofs.Lists.{get_other, get_set, same_or_not}
+use Rattle.vm_stretch.proofs.Lists.{same_or_not}
 use Rattle.vm_releases.specs.Begin.{HaveQueues}
 use Rattle.vm_stretch.specs.StretchDue.{time_out_of}
-use Rattle.vm_stretch.proofs.StretchMoving.{get_of_set}
 use Rattle.vm_runner.specs.Waits.{WaitsFrom, is_some_at_queue}
 
 -- ---- waits that begin
@@ -97,7 +97,7 @@ is_waiting (Some (Waiting c due e job)) r is = let same : due ≡ r = cc in (c, 
 
 -- ---- queues
 
-in_queue : (k c : ℕ) (qs : List (List ℕ)) → times k (queue_of qs c) ≡ 1 → c < length qs
+pub in_queue : (k c : ℕ) (qs : List (List ℕ)) → times k (queue_of qs c) ≡ 1 → c < length qs
 in_queue k c [] is = absurd cc
 in_queue k zero (q ∷ qs) is = omega arith
 in_queue k (suc c) (q ∷ qs) is = let below = in_queue k c qs is in omega (arith, below)

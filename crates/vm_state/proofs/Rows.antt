@@ -1,8 +1,9 @@
 -- Rows of processes that wait.
-use Rattle.std.proofs.Common.{◌≡◌, ◌≤◌, ◌<◌, ◌+◌, ◌++◌, ◌⊎◌, inl, inr, ℕ, zero, suc, Bool, true, false, List, [], ◌∷◌, Some, length, get_or, arith, refl, ap, sym, subst, ◌∙◌}
-use Rattle.std.specs.Prelude.{slice_get, slice_set, vec_capacity, replicate, filter, not, nat_eq}
+use Rattle.std.proofs.Common.{◌≡◌, ◌≤◌, ◌<◌, ◌+◌, ◌++◌, inl, inr, ℕ, zero, suc, Bool, true, false, List, [], ◌∷◌, Some, length, get_or, arith, refl, ap, sym, subst, ◌∙◌}
+use Rattle.std.specs.Prelude.{slice_set, vec_capacity, replicate, filter, not, nat_eq}
 use Rattle.std.specs.Global.{Vec}
 use Rattle.std.proofs.lemmas.Option.{slice_get-get_or}
+use Rattle.base.proofs.Lists.{get_of_set}
 use Rattle.machine_semantics.specs.Starts.{queue_of, without}
 use Rattle.vm_state.specs.Queues.{HaveRoom, rows_of}
 
@@ -19,13 +20,6 @@ pub rows_set : (vs : List (Vec ℕ)) (c : ℕ) (v : Vec ℕ) → rows_of (slice_
 rows_set [] c v = refl
 rows_set (w ∷ vs) zero v = refl
 rows_set (w ∷ vs) (suc c) v = ap (λ (xs : List (List ℕ)). w.items ∷ xs) (rows_set vs c v)
-
-get_of_set : {X : Type 0} (xs : List X) (k : ℕ) (x : X) (j : ℕ) (y : X) → slice_get (slice_set xs k x) j ≡ Some y → (x ≡ y) ⊎ (slice_get xs j ≡ Some y)
-get_of_set [] k x j y at = inr at
-get_of_set (z ∷ zs) zero x zero y at = inl cc
-get_of_set (z ∷ zs) zero x (suc j) y at = inr at
-get_of_set (z ∷ zs) (suc k) x zero y at = inr at
-get_of_set (z ∷ zs) (suc k) x (suc j) y at = get_of_set zs k x j y at
 
 pub room_set : (vs : List (Vec ℕ)) (c : ℕ) (v : Vec ℕ) → HaveRoom vs → 64 ≤ vec_capacity v → HaveRoom (slice_set vs c v)
 room_set vs c v have room k w at = elim (get_of_set vs c v k w at) [ inl same ↦ subst (λ (x : Vec ℕ). 64 ≤ vec_capacity x) same room | inr old ↦ have k w old ]

@@ -4,6 +4,7 @@ use Rattle.machine_semantics.specs.Image.{Process as Whole}
 use Rattle.machine_semantics.specs.State.{Idle, zeros}
 use Rattle.vm_state.specs.declared.plan.Process.{Process}
 use Rattle.std.specs.Global.{Vec}
+use Rattle.std.proofs.lemmas.List.{length-map}
 use Rattle.machine_semantics.specs.Run as run
 use Rattle.machine_semantics.specs.Run.{words_of}
 use Rattle.vm_state.specs.Threads.{rooms_of, threads_of}
@@ -28,10 +29,6 @@ alike f g h [] (p ∷ ps) are = absurd are
 alike f g h (w ∷ ws) [] are = absurd are
 alike f g h (w ∷ ws) (p ∷ ps) are = let e = h w p are.0 in let r = alike f g h ws ps are.1 in rw (e, r) refl
 
-pub length_map : {X Y : Type 0} (f : X → Y) (xs : List X) → length (map f xs) ≡ length xs
-length_map f [] = refl
-length_map f (x ∷ xs) = ap suc (length_map f xs)
-
 -- a board whose parts are made from the plan is that at the start
 pub begins : (plan : Plan) (b : Board)
     → threads_of b.cells.items ≡ map (λ (p : Process). Idle) plan.processes.items → rooms_of b.cells.items ≡ map (λ (p : Process). p.stack) plan.processes.items
@@ -48,8 +45,8 @@ begins plan b idle rooms owned shared queues devices image is =
       rw (threads, words, all, none, unset) refl,
       record {
         rooms = stacks;
-        owned = sym (length_map (λ (v : Vec ℤ). v.items) b.owned.items) ∙ ap (λ (xs : List (List ℤ)). length xs) words ∙ length_map (λ (p : Whole). zeros p.words) image.processes;
-        queues = ap (λ (xs : List (List ℕ)). length xs) none ∙ length_map (λ (c : ℕ). []) image.conditions;
-        devices = ap (λ (xs : List ℤ). length xs) unset ∙ length_map (λ (d : Bool). pos 0) image.devices;
+        owned = sym (length-map b.owned.items (λ (v : Vec ℤ). v.items)) ∙ ap (λ (xs : List (List ℤ)). length xs) words ∙ length-map image.processes (λ (p : Whole). zeros p.words);
+        queues = ap (λ (xs : List (List ℕ)). length xs) none ∙ length-map image.conditions (λ (c : ℕ). []);
+        devices = ap (λ (xs : List ℤ). length xs) unset ∙ length-map image.devices (λ (d : Bool). pos 0);
       },
     )

@@ -1,10 +1,11 @@
 -- Jumps from one due tick to the next.
 use Rattle.std.proofs.lemmas.Nat.{mod-mul-add, div-add-mod'}
-use Rattle.std.proofs.Common.{◌≡◌, ◌≢◌, ◌≤◌, ◌<◌, ◌+◌, ◌-◌, ◌*◌, ◌/◌, ◌%◌, ◌++◌, inl, inr, ℕ, zero, suc, List, [], ◌∷◌, Option, Some, None, length, drop, arith, refl, ap, sym, subst, ◌∙◌, true, false, Bool, append_assoc}
+use Rattle.std.proofs.Common.{◌≡◌, ◌≢◌, ◌≤◌, ◌<◌, ◌+◌, ◌-◌, ◌*◌, ◌/◌, ◌%◌, ◌++◌, inl, inr, ℕ, List, [], ◌∷◌, Option, Some, None, length, drop, arith, refl, ap, sym, subst, ◌∙◌, true, false, Bool, append_assoc}
 use Rattle.std.specs.Prelude.{slice_get, nat_eq, nat_le, ◌&&◌}
 use Rattle.std.proofs.lemmas.Bool.{cases_Bool, cases_lt, cases_eq}
 use Rattle.std.proofs.lemmas.Bool.Decides.{nat_tests}
 use Rattle.std.proofs.lemmas.Option.{slice_get_within, slice_get-get_or}
+use Rattle.base.proofs.Lists.{some_at, get_drop}
 use Rattle.base.specs.declared.event.Event.{Event}
 use Rattle.machine_semantics.specs.Image.{Image, Process, Script, Line}
 use Rattle.machine_semantics.specs.State.{Job, Thread, Waiting, State}
@@ -31,16 +32,6 @@ turns_are_the_run image script es turns =
     turns_from image script 0 (at_start image) es turns ∙ ap (λ (n : ℕ). events_from image script n 0 (at_start image)) e
 
 -- ---- slots
-
-there_is : {X : Type 0} (xs : List X) (k : ℕ) → k < length xs → (x : X) × (slice_get xs k ≡ Some x)
-there_is [] k below = absurd (omega arith)
-there_is (x ∷ xs) zero below = (x, refl)
-there_is (x ∷ xs) (suc k) below = there_is xs k (omega arith)
-
-get_drop : {X : Type 0} (xs : List X) (n i : ℕ) → slice_get (drop n xs) i ≡ slice_get xs (n + i)
-get_drop xs zero i = let e : i ≡ 0 + i = omega arith in ap (λ (k : ℕ). slice_get xs k) e
-get_drop [] (suc n) i = refl
-get_drop (x ∷ xs) (suc n) i = get_drop xs n i ∙ (let e : suc (n + i) ≡ suc n + i = omega arith in ap (λ (k : ℕ). slice_get (x ∷ xs) k) e)
 
 lines_quiet : (t n done : ℕ) (ls : List Line) (u i : ℕ) (l : Line) → ((i : ℕ) (l : Line) → slice_get ls i ≡ Some l → i < done → line_tick l ≤ t) → AreInOrder ls → ((r : ℕ) → first_tick (drop done ls) ≡ Some r → t + n ≤ r)
     → t < u → u < t + n → slice_get ls i ≡ Some l → line_tick l ≢ u
@@ -72,11 +63,11 @@ pub slots_are_quiet : SlotsAreQuiet
 slots_are_quiet image script t n done s slots has none u low high = record {
   lines = λ i l at. lines_quiet t n done script.lines u i l has.past has.order (λ r is. none (2 * length image.processes) r (has.line ∙ ap (λ (x : Option ℕ). Some x) is)) low high at;
   releases = λ k p at.
-      let slot = there_is slots k (let within = slice_get_within image.processes k p at in omega (arith, has.count)) in
+      let slot = some_at slots k (let within = slice_get_within image.processes k p at in omega (arith, has.count)) in
       release_quiet t u (t + n) p slot.0 (has.releases k p slot.0 at slot.1) (λ r is. none k r (slot.1 ∙ ap (λ (x : Option ℕ). Some x) is)) low high;
   waits = λ k c e job at.
       let below : k < length image.processes = has.threads k (Waiting c u e job) at in
-      let slot = there_is slots (length image.processes + k) (omega (arith, has.count)) in
+      let slot = some_at slots (length image.processes + k) (omega (arith, has.count)) in
       let due : slot.0 ≡ Some u = has.waits k slot.0 below slot.1 ∙ ap (λ (x : Option Thread). time_out_of x) at in
       let le : t + n ≤ u = none (length image.processes + k) u (slot.1 ∙ ap (λ (x : Option ℕ). Some x) due) in
       omega arith;

@@ -1,7 +1,8 @@
 -- The start events in parts: a line, a release, the process of a rank.
-use Rattle.std.proofs.Common.{◌≡◌, ◌≢◌, ◌≤◌, ◌<◌, ◌+◌, ◌++◌, ℕ, zero, suc, List, [], ◌∷◌, Option, Some, None, length, drop, arith, refl, ap, sym, subst, ◌∙◌, true, false, Bool, append-nil}
+use Rattle.std.proofs.Common.{◌≡◌, ◌≢◌, ◌<◌, ◌+◌, ◌++◌, ℕ, zero, suc, List, [], ◌∷◌, Option, Some, None, drop, arith, refl, ap, sym, subst, ◌∙◌, true, false, Bool, append-nil}
 use Rattle.std.specs.Prelude.{slice_get, nat_eq, cond, ◌&&◌}
 use Rattle.std.proofs.lemmas.Bool.Decides.{nat_tests}
+use Rattle.std.proofs.lemmas.Bool.{cond-false}
 use Rattle.base.specs.declared.event.Event.{Event}
 use Rattle.machine_semantics.specs.Image.{Image, Process, Line, Sets, Occurs}
 use Rattle.machine_semantics.specs.State.{Thread, Idle, Ready, Waiting, State}
@@ -10,17 +11,6 @@ use Rattle.vm_stretch.specs.Quiet.{line_tick}
 use Rattle.vm_stretch.specs.StretchDue.{time_out_of}
 use Rattle.vm_stretch.specs.Steps.{named, release_of, releases}
 use Rattle.vm_stretch.proofs.Waiting.{due_of}
-
-pub drop_at : {X : Type 0} (xs : List X) (k : ℕ) (x : X) → slice_get xs k ≡ Some x → drop k xs ≡ x ∷ drop (k + 1) xs
-drop_at [] k x at = absurd cc
-drop_at (y ∷ ys) zero x at = let same : y ≡ x = cc in ap (λ (z : _). z ∷ ys) same
-drop_at (y ∷ ys) (suc k) x at = drop_at ys k x at ∙ (let e : suc k + 1 ≡ suc (k + 1) = omega arith in ap (λ (z : _). x ∷ z) (sym (ap (λ (n : ℕ). drop n (y ∷ ys)) e)))
-
-pub drop_past : {X : Type 0} (xs : List X) (k : ℕ) → length xs ≤ k → drop k xs ≡ []
-drop_past [] zero past = refl
-drop_past [] (suc k) past = refl
-drop_past (x ∷ xs) zero past = absurd (omega arith)
-drop_past (x ∷ xs) (suc k) past = drop_past xs k (omega arith)
 
 as_it_is : (b : Bool) → elim b [ true ↦ true | false ↦ false ] ≡ b
 as_it_is true = refl
@@ -39,20 +29,12 @@ none_then s a go none = ap (λ (x : Started). followed x go) none
 
 -- ---- lines
 
-other_way : {X : Type 0} (b : Bool) (x y : X) → b ≡ false → cond b x y ≡ y
-other_way b x y e = rw e refl
-
-apart : (a b : ℕ) → a ≢ b → nat_eq a b ≡ false
+pub apart : (a b : ℕ) → a ≢ b → nat_eq a b ≡ false
 apart a b differ = grind (arith, nat_tests, differ)
 
 pub line_none : (image : Image) (t : ℕ) (l : Line) (s : State) → line_tick l ≢ t → line image t l s ≡ unchanged s
-line_none image t (Sets u d v) s differ = other_way (nat_eq u t) _ _ (apart u t differ)
-line_none image t (Occurs u e) s differ = other_way (nat_eq u t) _ _ (apart u t differ)
-
-pub lines_none : (image : Image) (t : ℕ) (ls : List Line) (s : State) → ((i : ℕ) (l : Line) → slice_get ls i ≡ Some l → line_tick l ≢ t) → lines image t ls s ≡ unchanged s
-lines_none image t [] s none = refl
-lines_none image t (l ∷ ls) s none =
-    none_then s (line image t l s) (lines image t ls) (line_none image t l s (none 0 l refl)) ∙ lines_none image t ls s (λ i m at. none (suc i) m at)
+line_none image t (Sets u d v) s differ = cond-false (nat_eq u t) _ _ (apart u t differ)
+line_none image t (Occurs u e) s differ = cond-false (nat_eq u t) _ _ (apart u t differ)
 
 -- lines of other ticks at the front do nothing
 pub lines_skip : (image : Image) (t done : ℕ) (ls : List Line) (s : State) → ((i : ℕ) (l : Line) → slice_get ls i ≡ Some l → i < done → line_tick l ≢ t) → lines image t ls s ≡ lines image t (drop done ls) s
@@ -87,12 +69,12 @@ time_out_none image t k p s not_due = by (slice_get s.threads k) not_due where
   by None none = refl
   by (Some Idle) none = refl
   by (Some (Ready job)) none = refl
-  by (Some (Waiting c due e job)) none = other_way (nat_eq due t) _ _ (apart due t (λ same. none (ap (λ (x : ℕ). Some x) same)))
+  by (Some (Waiting c due e job)) none = cond-false (nat_eq due t) _ _ (apart due t (λ same. none (ap (λ (x : ℕ). Some x) same)))
 
 pub at_rank_none : (image : Image) (t rank i : ℕ) (ps : List Process) (s : State) → ((j : ℕ) (q : Process) → slice_get ps j ≡ Some q → q.rank ≢ rank) → at_rank image t rank i ps s ≡ unchanged s
 at_rank_none image t rank i [] s none = refl
 at_rank_none image t rank i (q ∷ ps) s none =
-    none_then s (cond (nat_eq q.rank rank) (time_out image t i q s (slice_get s.threads i)) (unchanged s)) (at_rank image t rank (i + 1) ps) (other_way (nat_eq q.rank rank) _ _ (apart q.rank rank (none 0 q refl)))
+    none_then s (cond (nat_eq q.rank rank) (time_out image t i q s (slice_get s.threads i)) (unchanged s)) (at_rank image t rank (i + 1) ps) (cond-false (nat_eq q.rank rank) _ _ (apart q.rank rank (none 0 q refl)))
     ∙ at_rank_none image t rank (i + 1) ps s (λ j p at. none (suc j) p at)
 
 -- one process has the rank
@@ -113,6 +95,6 @@ at_rank_one image t rank i zero (q ∷ ps) p s at is own =
 at_rank_one image t rank i (suc k) (q ∷ ps) p s at is own =
     let differ : q.rank ≢ rank = λ ranked. (let no : 0 ≡ suc k = own 0 q refl ranked in absurd (omega (arith, no))) in
     let here : (i + 1) + k ≡ i + suc k = omega arith in
-    none_then s (cond (nat_eq q.rank rank) (time_out image t i q s (slice_get s.threads i)) (unchanged s)) (at_rank image t rank (i + 1) ps) (other_way (nat_eq q.rank rank) _ _ (apart q.rank rank differ))
+    none_then s (cond (nat_eq q.rank rank) (time_out image t i q s (slice_get s.threads i)) (unchanged s)) (at_rank image t rank (i + 1) ps) (cond-false (nat_eq q.rank rank) _ _ (apart q.rank rank differ))
     ∙ at_rank_one image t rank (i + 1) k ps p s at is (λ j r there ranked. (let e : suc j ≡ suc k = own (suc j) r there ranked in omega (arith, e)))
     ∙ ap (λ (n : ℕ). time_out image t n p s (slice_get s.threads n)) here

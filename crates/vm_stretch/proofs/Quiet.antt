@@ -1,16 +1,13 @@
 -- A quiet tick starts nothing.
-use Rattle.std.proofs.Common.{◌≡◌, ◌≢◌, ◌+◌, ◌++◌, inl, inr, ℕ, zero, suc, List, [], ◌∷◌, Option, Some, None, length, arith, refl, ap, sym, subst, ◌∙◌, true, false, Bool}
+use Rattle.std.proofs.Common.{◌≡◌, ◌≢◌, ◌+◌, ◌++◌, ℕ, zero, suc, List, [], ◌∷◌, Option, Some, None, length, arith, refl, ap, sym, subst, ◌∙◌, true, false, Bool}
 use Rattle.std.specs.Prelude.{slice_get, nat_eq, cond}
-use Rattle.std.proofs.lemmas.Bool.{cases_Bool, eqb-true}
-use Rattle.machine_semantics.specs.Image.{Image, Process, Script, Line, Sets, Occurs}
+use Rattle.std.proofs.lemmas.Bool.{cond-false}
+use Rattle.machine_semantics.specs.Image.{Image, Process, Script, Line}
 use Rattle.machine_semantics.specs.State.{Job, Thread, Idle, Ready, Waiting, State}
 use Rattle.machine_semantics.specs.Starts.{Started, unchanged, followed, line, lines, periodic, is_periodic_due, release, time_out, at_rank, time_outs, occurs, starts}
 use Rattle.vm_stretch.specs.Quiet.{line_tick, IsQuiet}
 use Rattle.vm_stretch.specs.StretchLaws.{QuietStartsNothing}
-
--- a test that fails takes the other way
-other_way : {X : Type 0} (b : Bool) (x y : X) → b ≡ false → cond b x y ≡ y
-other_way b x y e = rw e refl
+use Rattle.vm_stretch.proofs.Parting.{apart, line_none}
 
 -- nothing, and then nothing
 then_nothing : (s : State) (a : Started) (go : State → Started) → a ≡ unchanged s → go s ≡ unchanged s → followed a go ≡ unchanged s
@@ -18,25 +15,18 @@ then_nothing s a go first second =
     subst (λ (x : Started). followed x go ≡ unchanged s) (sym first)
     (let f : Started → Started = λ x. record { state = x.state; events = [] ++ x.events; overrun = x.overrun } in ap f second)
 
-apart : (a b : ℕ) → a ≢ b → nat_eq a b ≡ false
-apart a b differ = elim (cases_Bool (nat_eq a b)) [ inl is ↦ absurd (differ (eqb-true _ _ is)) | inr isnt ↦ isnt ]
-
-line_nothing : (image : Image) (u : ℕ) (l : Line) (s : State) → line_tick l ≢ u → line image u l s ≡ unchanged s
-line_nothing image u (Sets v d x) s differ = other_way (nat_eq v u) _ _ (apart v u differ)
-line_nothing image u (Occurs v e) s differ = other_way (nat_eq v u) _ _ (apart v u differ)
-
-lines_nothing : (image : Image) (u : ℕ) (ls : List Line) (s : State) → ((i : ℕ) (l : Line) → slice_get ls i ≡ Some l → line_tick l ≢ u) → lines image u ls s ≡ unchanged s
+pub lines_nothing : (image : Image) (u : ℕ) (ls : List Line) (s : State) → ((i : ℕ) (l : Line) → slice_get ls i ≡ Some l → line_tick l ≢ u) → lines image u ls s ≡ unchanged s
 lines_nothing image u [] s quiet = refl
-lines_nothing image u (l ∷ ls) s quiet = then_nothing s (line image u l s) (lines image u ls) (line_nothing image u l s (quiet 0 l refl)) (lines_nothing image u ls s (λ i m at. quiet (suc i) m at))
+lines_nothing image u (l ∷ ls) s quiet = then_nothing s (line image u l s) (lines image u ls) (line_none image u l s (quiet 0 l refl)) (lines_nothing image u ls s (λ i m at. quiet (suc i) m at))
 
-periodic_nothing : (image : Image) (u k : ℕ) (ps : List Process) (s : State) → ((j : ℕ) (p : Process) → slice_get ps j ≡ Some p → is_periodic_due u p ≡ false) → periodic image u k ps s ≡ unchanged s
+pub periodic_nothing : (image : Image) (u k : ℕ) (ps : List Process) (s : State) → ((j : ℕ) (p : Process) → slice_get ps j ≡ Some p → is_periodic_due u p ≡ false) → periodic image u k ps s ≡ unchanged s
 periodic_nothing image u k [] s quiet = refl
 periodic_nothing image u k (p ∷ ps) s quiet =
-    then_nothing s (cond (is_periodic_due u p) (release image u k p s) (unchanged s)) (periodic image u (k + 1) ps) (other_way (is_periodic_due u p) _ _ (quiet 0 p refl)) (periodic_nothing image u (k + 1) ps s (λ j q at. quiet (suc j) q at))
+    then_nothing s (cond (is_periodic_due u p) (release image u k p s) (unchanged s)) (periodic image u (k + 1) ps) (cond-false (is_periodic_due u p) _ _ (quiet 0 p refl)) (periodic_nothing image u (k + 1) ps s (λ j q at. quiet (suc j) q at))
 
 time_out_nothing : (image : Image) (u k : ℕ) (p : Process) (s : State) (thread : Option Thread) → ((c e : ℕ) (job : Job) → thread ≢ Some (Waiting c u e job)) → time_out image u k p s thread ≡ unchanged s
 time_out_nothing image u k p s (Some (Waiting c due e job)) quiet =
-    other_way (nat_eq due u) _ _ (apart due u (λ same. quiet c e job (ap (λ (d : ℕ). Some (Waiting c d e job)) same)))
+    cond-false (nat_eq due u) _ _ (apart due u (λ same. quiet c e job (ap (λ (d : ℕ). Some (Waiting c d e job)) same)))
 time_out_nothing image u k p s (Some (Ready job)) quiet = refl
 time_out_nothing image u k p s (Some Idle) quiet = refl
 time_out_nothing image u k p s None quiet = refl

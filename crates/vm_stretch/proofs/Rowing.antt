@@ -1,9 +1,10 @@
 -- Rows of instructions in runs.
-use Rattle.std.proofs.Common.{◌≡◌, ◌≤◌, ◌<◌, ◌+◌, ◌-◌, ◌++◌, ◌⊎◌, inl, inr, ℕ, zero, suc, List, [], ◌∷◌, Option, Some, None, arith, refl, ap, sym, subst, ◌∙◌, true, false, Bool, append_assoc}
+use Rattle.std.proofs.Common.{◌≡◌, ◌≤◌, ◌<◌, ◌+◌, ◌-◌, ◌++◌, ◌⊎◌, inl, inr, ℕ, List, [], Option, Some, None, arith, refl, ap, sym, subst, ◌∙◌, true, false, Bool, append_assoc}
 use Rattle.std.specs.Prelude.{ℤ, slice_get, slice_set, nat_lt, cond}
 use Rattle.std.proofs.lemmas.Bool.{cases_lt}
 use Rattle.std.proofs.lemmas.List.{append-nil}
 use Rattle.std.proofs.lemmas.Bool.Decides.{nat_tests}
+use Rattle.base.proofs.Lists.{set_same, get_set}
 use Rattle.machine_isa.specs.declared.instr.Instr.{Instr}
 use Rattle.machine_isa.specs.declared.instr.Instr.TheVariants as i
 use Rattle.machine_isa.specs.Ticks.{ticks}
@@ -19,7 +20,7 @@ use Rattle.vm_stretch.specs.Quiet.{IsQuiet, AreQuiet}
 use Rattle.vm_stretch.specs.Silent.{GoesTo, IsAt, Leads, Begins, Follows, is_silent, next_own, nowhere, CanGo, IsWithin, with_process}
 use Rattle.vm_stretch.specs.StretchLaws.{IsTurn, turn, turned, turn_events}
 use Rattle.vm_stretch.specs.RowLaws.{IsPicked, RowIsTurn, RowIsSafe, IsInStack, RowKeepsEvents, RowStaysInRun, SilentAnywhere, begun}
-use Rattle.vm_stretch.proofs.StretchMoving.{get_set, pick_same, quiet_same, set_set}
+use Rattle.vm_stretch.proofs.StretchMoving.{pick_same, quiet_same, set_set}
 use Rattle.vm_stretch.proofs.Quiet.{quiet_starts_nothing}
 use Rattle.vm_stretch.proofs.Runs.{on_from, tick_is, turn_keeps_state, turn_keeps_events, turn_stays_in_run}
 
@@ -33,21 +34,16 @@ silent_anywhere image s (i.In d) o silent = absurd cc
 silent_anywhere image s (i.Out d) o silent = absurd cc
 silent_anywhere image s _ o silent = refl
 
-set_same : {X : Type 0} (xs : List X) (k : ℕ) (x : X) → slice_get xs k ≡ Some x → slice_set xs k x ≡ xs
-set_same [] k x at = refl
-set_same (z ∷ zs) zero x at = let e : x ≡ z = cc in ap (λ (y : _). y ∷ zs) e
-set_same (z ∷ zs) (suc k) x at = ap (λ (ys : List _). z ∷ ys) (set_same zs k x at)
-
-inside_same : (image : Image) (first : Own) (n : ℕ) (o : Own) → Leads image first n o → o.job.inside ≡ first.job.inside
+pub inside_same : (image : Image) (first : Own) (n : ℕ) (o : Own) → Leads image first n o → o.job.inside ≡ first.job.inside
 inside_same image first n o Begins = refl
 inside_same image first n o (Follows before instr next step m time) = step.inside ∙ inside_same image first _ _ before
 
 -- the quiet of a state is that of its threads
-quiet_with : (image : Image) (script : Script) (u k : ℕ) (o : Own) (s : State) → IsQuiet image script u s → IsQuiet image script u (with_process k o s)
+pub quiet_with : (image : Image) (script : Script) (u k : ℕ) (o : Own) (s : State) → IsQuiet image script u s → IsQuiet image script u (with_process k o s)
 quiet_with image script u k o s quiet = let q : IsQuiet image script u _ = quiet_same image script u s k o.job quiet in record { lines = q.lines; releases = q.releases; waits = q.waits }
 
 -- all ticks that are left of an instruction, at once
-passes_to : (image : Image) (t k m : ℕ) (p : Process) (first o : Own) (instr : Instr) (s : State) → slice_get image.processes k ≡ Some p → slice_get s.threads k ≡ Some (Ready first.job) → slice_get s.owned k ≡ Some first.owned
+pub passes_to : (image : Image) (t k m : ℕ) (p : Process) (first o : Own) (instr : Instr) (s : State) → slice_get image.processes k ≡ Some p → slice_get s.threads k ≡ Some (Ready first.job) → slice_get s.owned k ≡ Some first.owned
     → IsAt image o instr → m ≡ ticks instr - o.job.done → pass image t m (with_process k o s) (Some k) ≡ settle image (t + (m - 1)) k p o.job (with_process k o s) (effect image (with_process k o s) instr (next_own o))
 passes_to image t k m p first o instr s process ready owned at time =
     let w : State = with_process k o s in
@@ -63,7 +59,7 @@ passes_to image t k m p first o instr s process ready owned at time =
     ∙ ap (λ (x : Option Thread). pass_thread image t m k w (Some p) x) there
     ∙ ap (λ (r : Outcome). settle image (t + (m - 1)) k p o.job w r) out
 
-passes : (image : Image) (t k m : ℕ) (p : Process) (first o next : Own) (instr : Instr) (s : State) → slice_get image.processes k ≡ Some p → slice_get s.threads k ≡ Some (Ready first.job) → slice_get s.owned k ≡ Some first.owned
+pub passes : (image : Image) (t k m : ℕ) (p : Process) (first o next : Own) (instr : Instr) (s : State) → slice_get image.processes k ≡ Some p → slice_get s.threads k ≡ Some (Ready first.job) → slice_get s.owned k ≡ Some first.owned
     → IsAt image o instr → effect image (with_process k o s) instr (next_own o) ≡ Goes next → m ≡ ticks instr - o.job.done → pass image t m (with_process k o s) (Some k) ≡ record { state = with_process k next s; events = []; stuck = false }
 passes image t k m p first o next instr s process ready owned at goes time =
     let w : State = with_process k o s in
@@ -72,7 +68,7 @@ passes image t k m p first o next instr s process ready owned at goes time =
     ∙ ap (λ (ts : List Thread). record { state = record w { threads = ts; owned = slice_set w.owned k next.owned; shared = next.shared }; events = []; stuck = false }) (set_set s.threads k (Ready o.job) (Ready next.job))
     ∙ ap (λ (ws : List (List ℤ)). record { state = record s { threads = slice_set s.threads k (Ready next.job); owned = ws; shared = next.shared }; events = []; stuck = false }) (set_set s.owned k o.owned next.owned)
 
-fits_left : (image : Image) (o : Own) (instr : Instr) (m : ℕ) → IsAt image o instr → m ≡ ticks instr - o.job.done → m ≤ left image o.job
+pub fits_left : (image : Image) (o : Own) (instr : Instr) (m : ℕ) → IsAt image o instr → m ≡ ticks instr - o.job.done → m ≤ left image o.job
 fits_left image o instr m at time =
     let e : left image o.job ≡ ticks instr - o.job.done = ap (λ (b : ℕ). left_of b o.job.done (slice_get image.code o.job.place)) at.burnt ∙ ap (λ (x : Option Instr). left_at o.job.done x) at.here in
     omega (arith, e)
@@ -179,12 +175,12 @@ row_keeps_events image script t budget k first is n o leads some within = (led i
 
 -- ---- what a run that is never stuck promises
 
-burn_same : (image : Image) (first : Own) (n : ℕ) (o : Own) → Leads image first n o → o.job.burn ≡ first.job.burn
+pub burn_same : (image : Image) (first : Own) (n : ℕ) (o : Own) → Leads image first n o → o.job.burn ≡ first.job.burn
 burn_same image first n o Begins = refl
 burn_same image first n o (Follows before instr next step m time) = step.burn ∙ burn_same image first _ _ before
 
 -- the outcome of the last tick is within the stack, where it was not stuck, and the state after it is
-within_of : (image : Image) (u k : ℕ) (p : Process) (job : Job) (w after : State) (out : Outcome) → (settle image u k p job w out).stuck ≡ false → after ≡ (settle image u k p job w out).state
+pub within_of : (image : Image) (u k : ℕ) (p : Process) (job : Job) (w after : State) (out : Outcome) → (settle image u k p job w out).stuck ≡ false → after ≡ (settle image u k p job w out).state
     → ((th : Thread) → slice_get after.threads k ≡ Some th → IsInStack p th) → slice_get w.threads k ≡ Some (Ready job) → IsWithin p.stack out
 within_of image u k p job w after (Goes o) free is stack there =
     stack (Ready o.job) (ap (λ (x : State). slice_get x.threads k) is ∙ get_set w.threads k (Ready o.job) (Ready job) there)
@@ -197,7 +193,7 @@ within_of image u k p job w after (Raises e) free is stack there = tt
 within_of image u k p job w after Ends free is stack there = tt
 
 -- an instruction is there, where the tick is not stuck
-there_is : (image : Image) (u k : ℕ) (p : Process) (job : Job) (w : State) (owned : List ℤ) (at : Option Instr) → (settle image u k p job w (outcome_at_once image w job owned 1 at)).stuck ≡ false → (instr : Instr) × (at ≡ Some instr)
+pub there_is : (image : Image) (u k : ℕ) (p : Process) (job : Job) (w : State) (owned : List ℤ) (at : Option Instr) → (settle image u k p job w (outcome_at_once image w job owned 1 at)).stuck ≡ false → (instr : Instr) × (at ≡ Some instr)
 there_is image u k p job w owned None free = absurd cc
 there_is image u k p job w owned (Some instr) free = (instr, refl)
 

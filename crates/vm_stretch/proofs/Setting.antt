@@ -3,9 +3,10 @@ use Rattle.std.proofs.Common.{◌≡◌, ◌+◌, ◌*◌, ℕ, Some, length, ar
 use Rattle.std.specs.Prelude.{slice_get, slice_set}
 use Rattle.std.proofs.lemmas.List.{length-set}
 use Rattle.std.proofs.lemmas.Option.{slice_get_within}
+use Rattle.base.proofs.Lists.{get_other, get_set, some_at}
 use Rattle.vm_stretch.specs.StretchDue.{time_out_of}
 use Rattle.vm_stretch.specs.StartLaws.{WaitKeepsSlots}
-use Rattle.vm_stretch.proofs.Lists.{get_other, get_set, same_or_not, there_is}
+use Rattle.vm_stretch.proofs.Lists.{same_or_not}
 
 pub wait_keeps_slots : WaitKeepsSlots
 wait_keeps_slots image script t done k s s' slots has below others threads =
@@ -16,7 +17,7 @@ wait_keeps_slots image script t done k s s' slots has below others threads =
       releases = λ j p tick at slot. (let within = slice_get_within image.processes j p at in has.releases j p tick at (sym (get_other slots (n + k) j due (λ same. absurd (omega (arith, same, within)))) ∙ slot));
       waits = λ j tick lt slot. elim (same_or_not k j) [
         | inl same ↦
-            let old = there_is slots (n + k) (omega (arith, below, has.count)) in
+            let old = some_at slots (n + k) (omega (arith, below, has.count)) in
             let mine : slice_get (slice_set slots (n + k) due) (n + k) ≡ Some tick = subst (λ (i : ℕ). slice_get (slice_set slots (n + k) due) (n + i) ≡ Some tick) (sym same) slot in
             let both : Some tick ≡ Some due = sym mine ∙ get_set slots (n + k) due old.0 old.1 in
             let is : tick ≡ due = cc in

@@ -3,13 +3,13 @@ use Rattle.std.proofs.Common.{◌≡◌, ◌≢◌, ◌≤◌, ◌<◌, ◌+◌,
 use Rattle.std.specs.Prelude.{cond, nat_eq}
 use Rattle.std.proofs.lemmas.Bool.Decides.{nat_tests}
 use Rattle.std.proofs.lemmas.Option.{slice_get_within}
+use Rattle.base.proofs.Lists.{some_at}
 use Rattle.machine_semantics.specs.Image.{Process}
 use Rattle.machine_semantics.specs.Starts.{is_periodic_due, starts}
 use Rattle.vm_stretch.specs.StretchDue.{IsNextRelease}
 use Rattle.vm_stretch.proofs.Jumping.{next_is_a_frame_later}
 use Rattle.vm_stretch.specs.StartLawsDue.{IsReleaseFrom, moved_on}
 use Rattle.vm_stretch.specs.StartLaws.{DueAreReleased, MovedAreSlots, SlotsAreDue}
-use Rattle.vm_stretch.proofs.Lists.{there_is}
 use Rattle.vm_stretch.proofs.Waiting.{StartsEnd, starts_end}
 
 -- ---- before
@@ -64,12 +64,12 @@ moved_are_slots image script t done done' s slots slots' frames ranks has moved 
     record {
       count = moved.count ∙ has.count;
       releases = λ k p tick at slot.
-          let old = there_is slots k (let within = slice_get_within image.processes k p at in omega (arith, has.count)) in
+          let old = some_at slots k (let within = slice_get_within image.processes k p at in omega (arith, has.count)) in
           let is : tick ≡ moved_on t (Some (t + p.frame)) old.0 = (let new = moved.releases k p old.0 at old.1 in let both : Some tick ≡ Some (moved_on t (Some (t + p.frame)) old.0) = sym slot ∙ new in cc) in
           subst (λ (x : Option ℕ). IsNextRelease t p x) (sym is) (next_release t p old.0 (frames k p at) (has.releases k p old.0 at old.1));
       waits = λ k tick below slot.
-          let old = there_is slots (length image.processes + k) (omega (arith, has.count, below)) in
-          let process = there_is image.processes k below in
+          let old = some_at slots (length image.processes + k) (omega (arith, has.count, below)) in
+          let process = some_at image.processes k below in
           let both : Some tick ≡ Some (moved_on t None old.0) = sym slot ∙ moved.waits k old.0 below old.1 in
           let is : tick ≡ moved_on t None old.0 = cc in
           is ∙ ap (λ (x : Option ℕ). moved_on t None x) (has.waits k old.0 below old.1) ∙ sym (ends.waits k process.0 process.1);
@@ -78,6 +78,6 @@ moved_are_slots image script t done done' s slots slots' frames ranks has moved 
       past = lines.past;
       threads = λ k x at.
           let within : k < length s.threads = (let new = slice_get_within (starts image script t s).state.threads k x at in omega (arith, new, ends.count)) in
-          let old = there_is s.threads k within in
+          let old = some_at s.threads k within in
           has.threads k old.0 old.1;
     }

@@ -1,8 +1,9 @@
 -- A process that stays at its instruction: what that changes, and what not.
-use Rattle.std.proofs.Common.{◌≡◌, ◌≢◌, ◌≤◌, ◌<◌, ◌+◌, ◌-◌, ◌++◌, ◌⊎◌, inl, inr, ℕ, zero, suc, List, [], ◌∷◌, Option, Some, None, length, arith, refl, ap, sym, subst, ◌∙◌, true, false, Bool}
+use Rattle.std.proofs.Common.{◌≡◌, ◌≢◌, ◌≤◌, ◌<◌, ◌+◌, ◌-◌, ◌++◌, inl, inr, ℕ, zero, suc, List, [], ◌∷◌, Option, Some, None, length, arith, refl, ap, sym, subst, ◌∙◌, true, false, Bool}
 use Rattle.std.specs.Prelude.{ℤ, pos, negsuc, slice_get, slice_set, nat_eq, nat_lt, cond, not, ◌&&◌}
 use Rattle.std.proofs.lemmas.Bool.{cases_Bool, ltb-true, ltb-false, cases_lt}
 use Rattle.std.proofs.lemmas.Bool.Decides.{nat_tests}
+use Rattle.base.proofs.Lists.{get_of_set}
 use Rattle.machine_isa.specs.declared.instr.Instr.{Instr}
 use Rattle.machine_isa.specs.declared.instr.Instr.TheVariants as i
 use Rattle.machine_isa.specs.Ticks.{ticks}
@@ -16,18 +17,6 @@ use Rattle.vm_stretch.specs.Stretch.{left, left_of, left_at, outcome_at_once, ou
 use Rattle.vm_stretch.specs.Quiet.{IsQuiet}
 
 -- ---- lists
-
-pub get_set : {X : Type 0} (xs : List X) (k : ℕ) (x y : X) → slice_get xs k ≡ Some y → slice_get (slice_set xs k x) k ≡ Some x
-get_set [] k x y at = absurd cc
-get_set (z ∷ zs) zero x y at = refl
-get_set (z ∷ zs) (suc k) x y at = get_set zs k x y at
-
-pub get_of_set : {X : Type 0} (xs : List X) (k : ℕ) (x : X) (j : ℕ) (y : X) → slice_get (slice_set xs k x) j ≡ Some y → (x ≡ y) ⊎ (slice_get xs j ≡ Some y)
-get_of_set [] k x j y at = inr at
-get_of_set (z ∷ zs) zero x zero y at = inl cc
-get_of_set (z ∷ zs) zero x (suc j) y at = inr at
-get_of_set (z ∷ zs) (suc k) x zero y at = inr at
-get_of_set (z ∷ zs) (suc k) x (suc j) y at = get_of_set zs k x j y at
 
 pub set_set : {X : Type 0} (xs : List X) (k : ℕ) (x y : X) → slice_set (slice_set xs k x) k y ≡ slice_set xs k y
 set_set [] k x y = refl

@@ -3,6 +3,7 @@ use Rattle.std.proofs.Common.{◌≡◌, ◌≢◌, ◌≤◌, ◌<◌, ◌+◌,
 use Rattle.std.specs.Prelude.{ℤ, slice_get, slice_set, nat_lt, cond}
 use Rattle.std.proofs.lemmas.Bool.{cases_Bool, ltb-true, ltb-false, cases_lt}
 use Rattle.std.proofs.lemmas.Bool.Decides.{nat_tests}
+use Rattle.base.proofs.Lists.{get_set}
 use Rattle.machine_isa.specs.declared.instr.Instr.{Instr}
 use Rattle.machine_isa.specs.Ticks.{ticks}
 use Rattle.base.specs.declared.event.Event.{Event}
@@ -13,7 +14,7 @@ use Rattle.machine_semantics.specs.Tick.{Candidate, Ticked, at_next, owned_of, s
 use Rattle.machine_semantics.specs.Starts.{raised}
 use Rattle.vm_stretch.specs.Stretch.{left, left_of, left_at, outcome_at_once, outcomes, pass_thread, pass, FitsThread, FitsIn, place_of}
 use Rattle.vm_stretch.specs.Quiet.{IsQuiet}
-use Rattle.vm_stretch.proofs.StretchMoving.{moved, get_set, set_owned, effect_same, pick_same, quiet_same, NotStuck, settled_same}
+use Rattle.vm_stretch.proofs.StretchMoving.{moved, set_owned, effect_same, pick_same, quiet_same, NotStuck, settled_same}
 
 -- ---- one tick
 

@@ -4,13 +4,14 @@ use Rattle.std.specs.Prelude.{slice_get, slice_set, cond, nat_eq, ◌&&◌}
 use Rattle.std.proofs.lemmas.List.{length-set}
 use Rattle.std.proofs.lemmas.Bool.{cases_lt}
 use Rattle.std.proofs.lemmas.Bool.Decides.{nat_tests}
+use Rattle.base.proofs.Lists.{get_set, get_other}
 use Rattle.base.specs.declared.event.Act.TheVariants as act
 use Rattle.machine_semantics.specs.Image.{Image, Process, Script, Line, Sets, Occurs}
 use Rattle.machine_semantics.specs.State.{Job, Thread, Idle, Ready, Waiting, State}
 use Rattle.machine_semantics.specs.Starts.{Started, unchanged, told, released, release, release_thread, occurs, line, lines, is_periodic_due, periodic, raised, without, queue_of, time_out, at_rank, time_outs, starts}
 use Rattle.vm_stretch.specs.StretchDue.{time_out_of}
 use Rattle.vm_stretch.specs.StartLawsDue.{HasOwnRanks, moved_on}
-use Rattle.vm_stretch.proofs.Lists.{get_set, get_other, same_or_not}
+use Rattle.vm_stretch.proofs.Lists.{same_or_not}
 
 -- when the wait of process k times out
 abbrev pub due_of : ℕ → State → Option ℕ

@@ -1,6 +1,7 @@
 -- How all processes stand in the choice, and that the foremost of them is found.
 use Rattle.std.proofs.Common.{◌≡◌, ◌≤◌, ◌<◌, ◌+◌, ℕ, zero, suc, true, false, List, [], ◌∷◌, Option, Some, None, length, drop, refl, arith, ap, sym, subst, ◌∙◌}
 use Rattle.std.specs.Prelude.{slice_get}
+use Rattle.std.proofs.lemmas.List.{drop_all}
 use Rattle.vm_dispatch.specs.declared.choice.Standing.{Standing}
 use Rattle.vm_dispatch.specs.Pick.{Entry, foremost, foremost_from, joined, place_of as entry_place}
 use Rattle.machine_semantics.specs.Image.{Image, Process}
@@ -67,12 +68,6 @@ next_stands image plan (w ∷ ws) (p ∷ ps) (c ∷ cs) (suc k) place known cell
     next_stands image plan ws ps cs k place known cell s is are.1 at_p at_c stand
     ∙ sym (ap (λ (n : ℕ). foremost_from place (s ∷ drop n (standings image (w ∷ ws) (threads_of (c ∷ cs))))) e)
 
-past : {X : Type 0} (xs : List X) (k : ℕ) → length xs ≤ k → drop k xs ≡ []
-past [] zero over = refl
-past [] (suc k) over = refl
-past (x ∷ xs) zero over = absurd (omega (arith, over))
-past (x ∷ xs) (suc k) over = past xs k (omega (arith, over))
-
 joined_none : (best : Option Entry) → joined best None ≡ best
 joined_none None = refl
 joined_none (Some e) = refl
@@ -82,7 +77,7 @@ pub found : (image : Image) (ts : List Thread) (k : ℕ) (best : Option Entry) �
     → foremost_from 0 (standings image image.processes ts) ≡ joined best (foremost_from k (drop k (standings image image.processes ts))) → entry_place best ≡ place_of (pick image ts)
 found image ts k best same over is =
     let all : List Standing = standings image image.processes ts in
-    let none : drop k all ≡ [] = past all k (let few = count image image.processes ts in omega (arith, few, over)) in
+    let none : drop k all ≡ [] = drop_all k all (let few = count image image.processes ts in omega (arith, few, over)) in
     let last : foremost_from 0 all ≡ best = is ∙ ap (λ (xs : List Standing). joined best (foremost_from k xs)) none ∙ joined_none best in
     ap (λ (o : Option Entry). entry_place o) (sym last) ∙ sym (pick_is_foremost image ts all (all_stand image image.processes ts same))
 

@@ -12,7 +12,7 @@ use Rattle.vm_turn.specs.Settled.{HaveRoom}
 
 -- ---- how often a number stands in a list
 
-more_by : (k j : ℕ) (js : List ℕ) (b : Bool) → nat_eq j k ≡ b → times k js ≤ times k (j ∷ js)
+pub more_by : (k j : ℕ) (js : List ℕ) (b : Bool) → nat_eq j k ≡ b → times k js ≤ times k (j ∷ js)
 more_by k j js true is = rw is (omega arith)
 more_by k j js false is = rw is (omega arith)
 
@@ -22,27 +22,27 @@ more k j js = more_by k j js (nat_eq j k) refl
 head : (k : ℕ) (q : List ℕ) → times k (k ∷ q) ≡ suc (times k q)
 head k q = let e : nat_eq k k ≡ true = grind (arith, nat_tests) in rw e refl
 
-length_by : (m j : ℕ) (js : List ℕ) (b : Bool) → nat_eq j m ≡ b → length js ≡ length (without m js) + times m js → length (j ∷ js) ≡ length (without m (j ∷ js)) + times m (j ∷ js)
+pub length_by : (m j : ℕ) (js : List ℕ) (b : Bool) → nat_eq j m ≡ b → length js ≡ length (without m js) + times m js → length (j ∷ js) ≡ length (without m (j ∷ js)) + times m (j ∷ js)
 length_by m j js true is h = rw is (omega (arith, h))
 length_by m j js false is h = rw is (omega (arith, h))
 
-length_without : (m : ℕ) (q : List ℕ) → length q ≡ length (without m q) + times m q
+pub length_without : (m : ℕ) (q : List ℕ) → length q ≡ length (without m q) + times m q
 length_without m [] = refl
 length_without m (j ∷ js) = length_by m j js (nat_eq j m) refl (length_without m js)
 
-kept_by : (k j : ℕ) (js ks : List ℕ) (b : Bool) → nat_eq j k ≡ b → times k js ≤ times k ks → times k (j ∷ js) ≤ times k (j ∷ ks)
+pub kept_by : (k j : ℕ) (js ks : List ℕ) (b : Bool) → nat_eq j k ≡ b → times k js ≤ times k ks → times k (j ∷ js) ≤ times k (j ∷ ks)
 kept_by k j js ks true is h = rw is (omega (arith, h))
 kept_by k j js ks false is h = rw is h
 
-fewer_by : (m k j : ℕ) (js : List ℕ) (b : Bool) → nat_eq j m ≡ b → times k (without m js) ≤ times k js → times k (without m (j ∷ js)) ≤ times k (j ∷ js)
+pub fewer_by : (m k j : ℕ) (js : List ℕ) (b : Bool) → nat_eq j m ≡ b → times k (without m js) ≤ times k js → times k (without m (j ∷ js)) ≤ times k (j ∷ js)
 fewer_by m k j js true is h = let n = more k j js in rw is (omega (arith, h, n))
 fewer_by m k j js false is h = let n = kept_by k j (without m js) js (nat_eq j k) refl h in rw is n
 
-fewer : (m k : ℕ) (q : List ℕ) → times k (without m q) ≤ times k q
+pub fewer : (m k : ℕ) (q : List ℕ) → times k (without m q) ≤ times k q
 fewer m k [] = omega arith
 fewer m k (j ∷ js) = fewer_by m k j js (nat_eq j m) refl (fewer m k js)
 
-gone_by : (m j : ℕ) (js : List ℕ) (b : Bool) → nat_eq j m ≡ b → times m (without m js) ≡ 0 → times m (without m (j ∷ js)) ≡ 0
+pub gone_by : (m j : ℕ) (js : List ℕ) (b : Bool) → nat_eq j m ≡ b → times m (without m js) ≡ 0 → times m (without m (j ∷ js)) ≡ 0
 gone_by m j js true is h = rw is h
 gone_by m j js false is h = rw (is, is) h
 
@@ -51,7 +51,7 @@ gone m [] = refl
 gone m (j ∷ js) = gone_by m j js (nat_eq j m) refl (gone m js)
 
 -- numbers below n, each once, are at most n
-few : (n : ℕ) (q : List ℕ) → ((j : ℕ) → times j q ≤ 1) → ((j : ℕ) → 0 < times j q → j < n) → length q ≤ n
+pub few : (n : ℕ) (q : List ℕ) → ((j : ℕ) → times j q ≤ 1) → ((j : ℕ) → 0 < times j q → j < n) → length q ≤ n
 few zero [] once below = omega arith
 few zero (x ∷ xs) once below = absurd (omega (arith, below x (omega (arith, head x xs))))
 few (suc m) q once below =
@@ -72,7 +72,7 @@ below_all n (x ∷ xs) below = (below x (omega (arith, head x xs)), below_all n 
 
 -- ---- queues
 
-once_waits : (c : ℕ) (th : Option Thread) → waits_on c th ≤ 1
+pub once_waits : (c : ℕ) (th : Option Thread) → waits_on c th ≤ 1
 once_waits c None = omega arith
 once_waits c (Some Idle) = omega arith
 once_waits c (Some (Ready job)) = omega arith
@@ -81,7 +81,7 @@ once_waits c (Some (Waiting d due number job)) = by (nat_eq d c) refl where
   by true is = rw is (omega arith)
   by false is = rw is (omega arith)
 
-there : (c j : ℕ) (threads : List Thread) → 0 < waits_on c (slice_get threads j) → j < length threads
+pub there : (c j : ℕ) (threads : List Thread) → 0 < waits_on c (slice_get threads j) → j < length threads
 there c j threads some = by (slice_get threads j) refl some where
   by : (th : Option Thread) → slice_get threads j ≡ th → 0 < waits_on c th → j < length threads
   by None is some' = absurd (omega arith)

@@ -1,6 +1,7 @@
 -- What the run promises of a turn.
 use Rattle.std.proofs.Common.{◌≡◌, ◌≤◌, ◌+◌, ◌-◌, ◌∙◌, ℕ, suc, Bool, true, false, List, [], ◌∷◌, Option, Some, None, refl, ap, sym, subst, arith}
 use Rattle.std.specs.Prelude.{cond, slice_get}
+use Rattle.base.proofs.Lists.{get_set}
 use Rattle.machine_semantics.specs.Image.{Image, Process}
 use Rattle.machine_semantics.specs.State.{Job, Thread, Idle, Ready, Waiting, State}
 use Rattle.machine_semantics.specs.Effect.{Outcome, Goes, Does, Signals, Broadcasts, Waits, Raises, Ends, Stuck}
@@ -10,7 +11,6 @@ use Rattle.machine_semantics.specs.Run.{state_at}
 use Rattle.vm_stretch.specs.Stretch.{FitsIn, FitsThread, left, outcomes, pass, pass_thread, place_of}
 use Rattle.vm_stretch.specs.StretchLaws.{turn}
 use Rattle.vm_stretch.specs.RowLaws.{IsInStack, begun}
-use Rattle.vm_stretch.proofs.StretchMoving.{get_set}
 use Rattle.vm_stretch.proofs.Runs.{turn_stays_in_run}
 use Rattle.vm_turn.specs.Own.{CanCome}
 use Rattle.vm_turn.specs.Settle.{TurnCanPass}
@@ -56,7 +56,7 @@ picked image ts k is = by (least image 0 image.processes ts) refl is where
 
 -- ---- what its outcome is
 
-can_of : (image : Image) (u k : ℕ) (p : Process) (job : Job) (s : State) (out : Outcome) → (settle image u k p job s out).stuck ≡ false → ((th : Thread) → slice_get (settle image u k p job s out).state.threads k ≡ Some th → IsInStack p th) → slice_get s.threads k ≡ Some (Ready job) → CanCome p.stack out
+pub can_of : (image : Image) (u k : ℕ) (p : Process) (job : Job) (s : State) (out : Outcome) → (settle image u k p job s out).stuck ≡ false → ((th : Thread) → slice_get (settle image u k p job s out).state.threads k ≡ Some th → IsInStack p th) → slice_get s.threads k ≡ Some (Ready job) → CanCome p.stack out
 can_of image u k p job s (Goes o) free stack at = stack (Ready o.job) (get_set s.threads k (Ready o.job) (Ready job) at)
 can_of image u k p job s (Does a o) free stack at = stack (Ready o.job) (get_set s.threads k (Ready o.job) (Ready job) at)
 can_of image u k p job s (Signals c o) free stack at = tt

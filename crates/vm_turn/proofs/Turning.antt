@@ -1,8 +1,10 @@
 -- A turn of one process of many.
-use Rattle.std.proofs.Common.{◌≡◌, ◌≤◌, ◌<◌, ◌∙◌, ℕ, zero, suc, List, [], ◌∷◌, Option, Some, length, map, get_or, refl, ap, sym, subst, arith}
+use Rattle.std.proofs.Common.{◌≡◌, ◌≤◌, ◌<◌, ◌∙◌, ℕ, zero, suc, List, [], ◌∷◌, Option, Some, length, get_or, refl, ap, sym, subst, arith}
 use Rattle.std.specs.Prelude.{ℤ, slice_get, slice_set}
 use Rattle.std.specs.Global.{Vec}
 use Rattle.std.proofs.lemmas.Option.{slice_get-get_or, slice_get_within}
+use Rattle.std.proofs.lemmas.List.{length-map, length-set}
+use Rattle.base.proofs.Lists.{map_get}
 use Rattle.machine_semantics.specs.Image.{Image, Process}
 use Rattle.machine_semantics.specs.State.{Job, Ready, State}
 use Rattle.machine_semantics.specs.Tick.{owned_of, settle}
@@ -29,20 +31,6 @@ use Rattle.vm_turn.specs.Settled.{CanPass, HaveRoom, IsAround, SettlesAs, after,
 
 pub read_at : {X : Type 0} (xs : List X) (k : ℕ) (x : X) → k < length xs → x ≡ get_or xs k x → slice_get xs k ≡ Some x
 read_at xs k x below is = slice_get-get_or xs k x below ∙ ap (λ (y : _). Some y) (sym is)
-
-map_at : {X Y : Type 0} (f : X → Y) (xs : List X) (k : ℕ) (x : X) → slice_get xs k ≡ Some x → slice_get (map f xs) k ≡ Some (f x)
-map_at f [] k x at = absurd cc
-map_at f (y ∷ xs) zero x at = let e : y ≡ x = cc in ap (λ (z : _). Some (f z)) e
-map_at f (y ∷ xs) (suc k) x at = map_at f xs k x at
-
-pub length_map : {X Y : Type 0} (f : X → Y) (xs : List X) → length (map f xs) ≡ length xs
-length_map f [] = refl
-length_map f (x ∷ xs) = ap suc (length_map f xs)
-
-pub length_set : {X : Type 0} (xs : List X) (k : ℕ) (x : X) → length (slice_set xs k x) ≡ length xs
-length_set [] k x = refl
-length_set (y ∷ xs) zero x = refl
-length_set (y ∷ xs) (suc k) x = ap suc (length_set xs k x)
 
 rows_set : (vs : List (Vec ℤ)) (k : ℕ) (v : Vec ℤ) → rows_of (slice_set vs k v) ≡ slice_set (rows_of vs) k v.items
 rows_set [] k v = refl
@@ -76,8 +64,8 @@ pub placed_at : (image : Image) (plan : Plan) (b : Board) (k : ℕ) → IsOf ima
 placed_at image plan b k is board there =
     let same = many image.processes plan.processes.items is.processes in
     let rooms = ap (λ (ns : List ℕ). length ns) board.rooms in
-    let left = length_map (λ (c : Cell). c.job.frames.room) b.cells.items in
-    let right = length_map (λ (p : Process). p.stack) image.processes in
+    let left = length-map b.cells.items (λ (c : Cell). c.job.frames.room) in
+    let right = length-map image.processes (λ (p : Process). p.stack) in
     record { process = omega (arith, there, same); cell = omega (arith, there, rooms, left, right); owned = omega (arith, there, board.owned); cells = omega (arith, same, rooms, left, right) }
 
 pub placed : (image : Image) (plan : Plan) (b : Board) (k n : ℕ) → IsOf image plan → IsBoardOf image b → CanPass image n k (state_of b) → Placed plan b k
@@ -95,7 +83,7 @@ reads_by (stand.Waiting c d n) j job is = absurd cc
 
 pub reads : (cs : List Cell) (k : ℕ) (job : Job) (c : Cell) → slice_get (threads_of cs) k ≡ Some (Ready job) → slice_get cs k ≡ Some c → Reads job c
 reads cs k job c ready at =
-    let e : thread_of c ≡ Ready job = cc (map_at thread_of cs k c at, ready) in
+    let e : thread_of c ≡ Ready job = cc (map_get thread_of cs k c at, ready) in
     let r = reads_by c.stand c.job job e in record { stands = r.0; same = r.1 }
 
 -- all that its turn asks for
@@ -106,7 +94,7 @@ pub record Needs (at : Around) (n : ℕ) (c : Cell) : Type 0 where
   pub can : CanCome c.job.frames.room (outcomes at.image at.state (job_of c.job) at.owned n c.job.burn)
 
 pub room_is : (image : Image) (b : Board) (k : ℕ) (p : Process) (c : Cell) → IsBoardOf image b → slice_get image.processes k ≡ Some p → slice_get b.cells.items k ≡ Some c → c.job.frames.room ≡ p.stack
-room_is image b k p c board at_p at_c = cc (map_at (λ (x : Cell). x.job.frames.room) b.cells.items k c at_c, map_at (λ (x : Process). x.stack) image.processes k p at_p, ap (λ (ns : List ℕ). slice_get ns k) board.rooms)
+room_is image b k p c board at_p at_c = cc (map_get (λ (x : Cell). x.job.frames.room) b.cells.items k c at_c, map_get (λ (x : Process). x.stack) image.processes k p at_p, ap (λ (ns : List ℕ). slice_get ns k) board.rooms)
 
 can_moved : (image : Image) (n room room' : ℕ) (s s' : State) (job job' : Job) (ow ow' : List ℤ) → room ≡ room' → s ≡ s' → job ≡ job' → ow ≡ ow' → CanCome room (outcomes image s job ow n job.burn) → CanCome room' (outcomes image s' job' ow' n job'.burn)
 can_moved image n room room' s s' job job' ow ow' a b c d can =
@@ -128,7 +116,7 @@ needs at b k n c board around can at_c =
     }
 
 pub row_is : (vs : List (Vec ℤ)) (k : ℕ) (v : Vec ℤ) → slice_get vs k ≡ Some v → owned_of (slice_get (rows_of vs) k) ≡ v.items
-row_is vs k v at = ap (λ (o : Option (List ℤ)). owned_of o) (map_at (λ (w : Vec ℤ). w.items) vs k v at)
+row_is vs k v at = ap (λ (o : Option (List ℤ)). owned_of o) (map_get (λ (w : Vec ℤ). w.items) vs k v at)
 
 pub words_are : (at : Around) (b : Board) (k : ℕ) (v : Vec ℤ) → IsAround at k b → slice_get b.owned.items k ≡ Some v → at.owned ≡ v.items
 words_are at b k v around at_v = around.owned ∙ ap (λ (s : State). owned_of (slice_get s.owned k)) around.state ∙ row_is b.owned.items k v at_v
@@ -163,7 +151,7 @@ pub keeps : (image : Image) (b new : Board) (k : ℕ) (c c' : Cell) (v : Vec ℤ
     → new.cells.items ≡ slice_set b.cells.items k c' → new.owned.items ≡ slice_set b.owned.items k v → new.queues ≡ b.queues → new.devices.items ≡ b.devices.items → IsBoardOf image new
 keeps image b new k c c' v board below is room cells owned queues devices = record {
   rooms = ap (λ (cs : List Cell). rooms_of cs) cells ∙ rooms_at b.cells.items k c c' below is room ∙ board.rooms;
-  owned = ap (λ (vs : List (Vec ℤ)). length vs) owned ∙ length_set b.owned.items k v ∙ board.owned;
+  owned = ap (λ (vs : List (Vec ℤ)). length vs) owned ∙ length-set b.owned.items k v ∙ board.owned;
   queues = ap (λ (qs : List (List ℕ)). length qs) queues ∙ board.queues;
   devices = ap (λ (ds : List ℤ). length ds) devices ∙ board.devices;
 }
@@ -172,10 +160,10 @@ keeps image b new k c c' v board below is room cells owned queues devices = reco
 pub room_while : (image : Image) (plan : Plan) (b new : Board) (k : ℕ) (job : Job) → IsOf image plan → IsBoardOf image b → AreQueued (state_of b) → slice_get (threads_of b.cells.items) k ≡ Some (Ready job) → new.queues ≡ b.queues → (cells : ℕ) → cells ≡ length b.cells.items → HaveRoom cells new.queues
 room_while image plan b new k job is board queued ready same cells count =
     let rooms = ap (λ (ns : List ℕ). length ns) board.rooms in
-    let left = length_map (λ (c : Cell). c.job.frames.room) b.cells.items in
-    let right = length_map (λ (p : Process). p.stack) image.processes in
+    let left = length-map b.cells.items (λ (c : Cell). c.job.frames.room) in
+    let right = length-map image.processes (λ (p : Process). p.stack) in
     subst (λ (qs : List (List ℕ)). HaveRoom cells qs) (sym same)
-    (room_of (threads_of b.cells.items) b.queues k cells (Ready job) queued ready (λ c. refl) (length_map thread_of b.cells.items ∙ sym count) (omega (arith, count, rooms, left, right, is.few)))
+    (room_of (threads_of b.cells.items) b.queues k cells (Ready job) queued ready (λ c. refl) (length-map b.cells.items thread_of ∙ sym count) (omega (arith, count, rooms, left, right, is.few)))
 
 pub room_for : (image : Image) (plan : Plan) (b new : Board) (k n : ℕ) → IsOf image plan → IsBoardOf image b → AreQueued (state_of b) → CanPass image n k (state_of b) → new.queues ≡ b.queues → (cells : ℕ) → cells ≡ length b.cells.items → HaveRoom cells new.queues
 room_for image plan b new k n is board queued can same cells count = room_while image plan b new k can.job is board queued can.ready same cells count

@@ -1,16 +1,9 @@
 -- The lines of the events that are left.
-use Rattle.std.proofs.Common.{◌≡◌, ◌<◌, ◌+◌, ℕ, List, [], ◌∷◌, ◌++◌, length, drop, get_or, refl, ap, ◌∙◌, add-one, drop-cons}
+use Rattle.std.proofs.Common.{◌≡◌, ◌<◌, ◌+◌, ℕ, List, ◌∷◌, ◌++◌, length, drop, get_or, ap, ◌∙◌, add-one, drop-cons}
 use Rattle.base.specs.declared.event.Event.{Event}
 use Rattle.image.specs.declared.names.ImageNames.{ImageNames}
 use Rattle.event_log.specs.Line.{line_of, log_of}
-
-log_of-cons : (names : ImageNames) (e : Event) (es : List Event) → log_of names (e ∷ es) ≡ line_of names e ++ log_of names es
-unfolding log_of
-log_of-cons names e es = refl
-
-pub log_of-nil : (names : ImageNames) → log_of names [] ≡ []
-unfolding log_of
-log_of-nil names = refl
+use Rattle.vm_run.proofs.Lines.{log_of-cons}
 
 pub log_of-drop : (names : ImageNames) (es : List Event) (i : ℕ) (d : Event) → i < length es → log_of names (drop i es) ≡ line_of names (get_or es i d) ++ log_of names (drop (i + 1) es)
 log_of-drop names es i d below =

@@ -1,7 +1,7 @@
 -- Lists, tests and rules: what stands in a list stands behind more of it, and where no rule fails, each of them holds of each part.
-use Rattle.std.proofs.Common.{◌≡◌, ℕ, ◌⊎◌, inl, inr, Bool, true, false, ◌&&◌, if◌then◌else◌, List, [], ◌∷◌, Option, Some, None, refl, sym, subst, arith}
+use Rattle.std.proofs.Common.{◌≡◌, ℕ, ◌⊎◌, inl, inr, Bool, true, false, if◌then◌else◌, List, [], ◌∷◌, Option, Some, None, refl, sym, subst, arith}
 use Rattle.std.specs.Prelude.{Contains}
-use Rattle.std.proofs.lemmas.List.Elements.{Contains-append_cases, Contains-append_right, Contains-push_cases}
+use Rattle.base.proofs.Members.{front_or_behind}
 use Rattle.syntax_tree.specs.Placed.{Prog}
 use Rattle.syntax_tree.specs.declared.place.Place.{Place}
 use Rattle.static_rule.specs.Parts.{Rule, FailsOf, FailsAmong}
@@ -13,32 +13,7 @@ use Rattle.static_types.specs.Conduct.{misplaced, misdirected}
 use Rattle.static_types.specs.Numbers.{crossed_loop, endless_loop, long_loop, bad_number, bad_limit}
 use Rattle.static_types.specs.Rules.{statement_rules, StatementFails}
 
--- ---- lists
-
--- one of a list is its first or one of the rest
-pub cons_cases : {X : Type 0} (x : X) (xs : List X) (y : X) → Contains (x ∷ xs) y → (x ≡ y) ⊎ Contains xs y
-cons_cases x xs y h = by (Contains-append_cases (x ∷ []) xs y h)
-  where
-    by : Contains (x ∷ []) y ⊎ Contains xs y → (x ≡ y) ⊎ Contains xs y
-    by (inr there) = inr there
-    by (inl here) = head (Contains-push_cases [] x y here)
-      where
-        head : Contains [] y ⊎ (x ≡ y) → (x ≡ y) ⊎ Contains xs y
-        head (inl none) = absurd (omega (arith, none.1))
-        head (inr is) = inl is
-
-pub cons_head : {X : Type 0} (x : X) (xs : List X) → Contains (x ∷ xs) x
-cons_head x xs = (0, omega arith, refl)
-
-pub cons_tail : {X : Type 0} (x : X) (xs : List X) (y : X) → Contains xs y → Contains (x ∷ xs) y
-cons_tail x xs y h = Contains-append_right (x ∷ []) xs y h
-
 -- ---- tests
-
-pub both_true : (a b : Bool) → (a && b) ≡ true → (a ≡ true) × (b ≡ true)
-both_true true true e = (refl, refl)
-both_true true false e = cc
-both_true false b e = cc
 
 -- ---- rules
 
@@ -49,7 +24,7 @@ none_given (Some p) h = absurd (h p refl)
 -- a rule that fails of one of the parts fails among them
 among : {X : Type 0} (rs : List (Rule X)) (xs : List X) (x : X) (number : ℕ) (place : Place) → Contains xs x → FailsOf rs x number place → FailsAmong rs xs number place
 among rs [] x number place h f = absurd (omega (arith, h.1))
-among rs (y ∷ ys) x number place h f = by (cons_cases y ys x h) (λ there. among rs ys x number place there f)
+among rs (y ∷ ys) x number place h f = by (front_or_behind y ys x h) (λ there. among rs ys x number place there f)
   where
     by : (y ≡ x) ⊎ Contains ys x → (Contains ys x → FailsAmong rs ys number place) → FailsAmong rs (y ∷ ys) number place
     by (inl same) rest = inl (subst (λ z. FailsOf rs z number place) (sym same) f)

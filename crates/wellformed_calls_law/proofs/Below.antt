@@ -2,6 +2,7 @@
 use Rattle.std.proofs.Common.{◌≡◌, ◌<◌, ℕ, Bool, true, false, if◌then◌else◌, List, [], ◌∷◌, Option, Some, None, ap, sym, ◌∙◌, subst, true≢false}
 use Rattle.std.specs.Prelude.{Contains}
 use Rattle.std.proofs.lemmas.Option.{same_Some}
+use Rattle.base.proofs.Members.{behind, at_front}
 use Rattle.syntax_tree.specs.Plain.{Name}
 use Rattle.syntax_tree.specs.Placed.{Scalar, Expr, literal, truth, variable, element, call, minus, negation, paren, row, Exprs, no_exprs, exprs, Operands, no_operands, operand, Ref, whole, part, Stmt, assign, assign_entry, assign_empty, perform, perform_entry, when, when_else, loop, exit_when, get, put, wait, signal, broadcast, except, assert, Stmts, no_stmts, stmts, Routine, Process, Prog, plain_expr, plain_exprs, plain_operands, plain_ref, plain_stmt, plain_stmts, plain_answers}
 use Rattle.syntax_tree.specs.declared.place.Place.{Place}
@@ -15,8 +16,6 @@ use Rattle.static_calls.specs.Calls.{called, expr_calls, exprs_calls, operands_c
 use Rattle.syntax_tree.specs.Parts.{routines}
 use Rattle.static_semantics.specs.Places.{IsFound, NamesFound}
 use Rattle.static_semantics.specs.Mirrors.{routine_of}
-use Rattle.static_calls.proofs.CallEdges.{cons-tail}
-use Rattle.wellformed_calls_law.proofs.Lists.{cons-head}
 use Rattle.wellformed_calls_law.proofs.WellformedCallsBehind.{behind_constant, at_body}
 
 -- the routine that a name means, which is declared at the place
@@ -43,7 +42,7 @@ abbrev pub AreNames : Prog Place → List Occurrence → Type 0
 AreNames g os = (o : Occurrence) → Contains os o → Contains (names g) o
 
 pub names-rest : (g : Prog Place) (o : Occurrence) (os : List Occurrence) → AreNames g (o ∷ os) → AreNames g os
-names-rest g o os h x listed = h x (cons-tail o os x listed)
+names-rest g o os h x listed = h x (behind o os x listed)
 
 entry-rest : (g : Prog Place) (site : Site) (mon : Name) (q : Place) (entry : Name) (t : Place) (os : List Occurrence) → AreNames g (entry_names site mon q entry t os) → AreNames g os
 entry-rest g site mon q entry t os h =
@@ -77,17 +76,17 @@ module _ (g : Prog Place) (p : Process Place) (level : Place → ℕ) (found : N
   call_below site known x q more rest ns fs = subst (λ v. v < n) (sym (ap (level_of level) k.found ∙ ap level k.is)) below
     where
       f : IsFound g q want_is.Routine (site.means x)
-      f = found.uses x q want_is.Routine (site.means x) (ns (used x q want_is.Routine (site.means x)) (cons-head (used x q want_is.Routine (site.means x)) more))
+      f = found.uses x q want_is.Routine (site.means x) (ns (used x q want_is.Routine (site.means x)) (at_front (used x q want_is.Routine (site.means x)) more))
 
       k : Leads g p x f.declared.place
       k = known x f.declared f.meant f.suited
 
       below : level f.declared.place < n
-      below = fs f.declared.place (subst (λ o. Contains (called o rest) f.declared.place) (sym f.found) (cons-head f.declared.place rest)) k.one k.listed k.is
+      below = fs f.declared.place (subst (λ o. Contains (called o rest) f.declared.place) (sym f.found) (at_front f.declared.place rest)) k.one k.listed k.is
 
   called_rest : (o : Option Place) (rest : List Place) → AllFall g level n (called o rest) → AllFall g level n rest
   called_rest None rest fs = fs
-  called_rest (Some q) rest fs = λ r listed. fs r (cons-tail q rest r listed)
+  called_rest (Some q) rest fs = λ r listed. fs r (behind q rest r listed)
 
   mutual
     expr_below : (site : Site) → Known g p site → (e : Expr Place) (more : List Occurrence) (rest : List Place) → AreNames g (expr_names site e more) → AllFall g level n (expr_calls (declared_at (names g)) e rest)

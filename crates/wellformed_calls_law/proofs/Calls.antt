@@ -48,7 +48,7 @@ pub record IsUsed (g : Prog Place) (c : Here) (x : Name) (q : Place) : Type 0 wh
 no_monitor : (c : Here) → may_call c ≡ true → is_monitor c.home ≡ true → ⊥
 no_monitor c may is = let e : not (true || c.is_function) ≡ true = subst (λ b. not (b || c.is_function) ≡ true) is may in cc
 
-entry_kind : (k : NameKind) → suits want_is.Entry k ≡ true → k ≡ kind_is.Entry
+pub entry_kind : (k : NameKind) → suits want_is.Entry k ≡ true → k ≡ kind_is.Entry
 entry_kind kind_is.Entry e = refl
 entry_kind k e = absurd (cc)
 

@@ -2,6 +2,7 @@
 use Rattle.std.proofs.Common.{◌≡◌, zero, suc, ◌≤◌, Bool, true, false, if◌then◌else◌, cond, List, [], ◌∷◌, Option, Some, None, refl, ap, sym, subst, arith}
 use Rattle.std.specs.Prelude.{ℤ, pos, negsuc, nat_abs, bytes_eq, Contains, IsSome, option_map, unwrap_or}
 use Rattle.std.proofs.lemmas.Bool.{lt-ltb}
+use Rattle.base.proofs.Members.{at_front, behind}
 use Rattle.base.specs.Words.{is_word}
 use Rattle.syntax_tree.specs.Plain.{Name, Var}
 use Rattle.syntax_tree.specs.Placed.{Constant, literal_constant, named_constant, Process, Prog, plain, plain_constant}
@@ -14,7 +15,6 @@ use Rattle.wellformed.specs.Statements.{IsConstant}
 use Rattle.static_semantics.specs.Written.{ConstantWritten}
 use Rattle.static_semantics.specs.Mirrors.{Mirrors}
 use Rattle.static_semantics.specs.Judged.{IsKept, AreNames}
-use Rattle.wellformed_calls_law.proofs.Basics.{cons_head, cons_tail}
 use Rattle.wellformed_calls_law.proofs.Uses.{constant_use}
 
 -- ---- words
@@ -34,8 +34,8 @@ named_listed name_of x [] a e = cc
 named_listed {A} name_of x (y ∷ ys) a e = by (bytes_eq (name_of y) x) e (λ h. named_listed name_of x ys a h)
   where
     by : (b : Bool) → cond b (Some y) (named name_of x ys) ≡ Some a → (named name_of x ys ≡ Some a → Contains ys a) → Contains (y ∷ ys) a
-    by true h rest = let same : y ≡ a = cc in subst (λ z. Contains (y ∷ ys) z) same (cons_head y ys)
-    by false h rest = cons_tail y ys a (rest h)
+    by true h rest = let same : y ≡ a = cc in subst (λ z. Contains (y ∷ ys) z) same (at_front y ys)
+    by false h rest = behind y ys a (rest h)
 
 -- what stands for a constant is one that is known
 meant_known : (b : Bool) (own outer : Option Var) (k : Option (Name × ℤ)) → (if b then turn else meant_own own (meant_outer outer (meant_constant k))) ≡ value → IsSome k

@@ -1,7 +1,7 @@
 -- Expressions: where the rules hold of an expression it has a sort, and it is well formed where it stands.
 use Rattle.std.proofs.Common.{◌≡◌, true, false, ◌&&◌, List, [], ◌∷◌, Option, Some, refl, ap, sym, ◌∙◌, subst}
 use Rattle.std.specs.Prelude.{map}
-use Rattle.std.proofs.lemmas.Bool.{or_parts}
+use Rattle.std.proofs.lemmas.Bool.{or_parts, and_parts}
 use Rattle.syntax_tree.specs.Placed.{Constant, literal_constant, named_constant, Param, Expr, literal, truth, variable, element, call, minus, negation, paren, row, Exprs, no_exprs, exprs, Operands, no_operands, operand, Ref, whole, part, Process, Prog, plain_param, plain_expr, plain_exprs, plain_operands}
 use Rattle.syntax_tree.specs.declared.place.Place.{Place}
 use Rattle.static_names.specs.Reach.{Site}
@@ -20,7 +20,6 @@ use Rattle.wellformed.specs.Typed.{params_of, IsOf, IsRow, AreArguments}
 use Rattle.static_semantics.specs.Written.{ExprWritten, ExprsWritten, OperandsWritten}
 use Rattle.static_semantics.specs.Mirrors.{Mirrors}
 use Rattle.static_semantics.specs.Judged.{IsKept, AreNames}
-use Rattle.wellformed_calls_law.proofs.Basics.{both_true}
 use Rattle.wellformed_calls_law.proofs.Uses.{sorts_same, more_names, word_of, element_of, answer_of, value_use, routine_use}
 
 -- ---- the names behind those of a part
@@ -84,8 +83,8 @@ mutual
   expr_fits g p at site c (variable q x) more kept mirrors written are agree stray =
       word_of (named_at g q) (meant c x) (value_use g p at site c x q more kept mirrors are) agree
   expr_fits g p at site c (element q x i) more kept mirrors written are agree stray =
-      let h = both_true (is_array (named_at g q)) (agrees (named_at g) i && fits sort_is.Number (sort (named_at g) i)) agree in
-      let k = both_true (agrees (named_at g) i) (fits sort_is.Number (sort (named_at g) i)) h.1 in
+      let h = and_parts (is_array (named_at g q)) (agrees (named_at g) i && fits sort_is.Number (sort (named_at g) i)) agree in
+      let k = and_parts (agrees (named_at g) i) (fits sort_is.Number (sort (named_at g) i)) h.1 in
       let w = element_of (named_at g q) (meant c x) (value_use g p at site c x q (expr_names site i more) kept mirrors are) h.0 in
       let inner = more_names g (uses site x q want_is.Value) (expr_names site i more) are in
       let index = expr_fits g p at site c i more kept mirrors written inner k.0 stray in
@@ -99,16 +98,16 @@ mutual
       let arguments = args_fit g p at site c r.one.params es more kept mirrors written inner called h.1 in
       (a.0, a.1, (a.2, subst (λ o. AreArguments c (params_of o) (plain_exprs es)) (sym r.found) arguments))
   expr_fits g p at site c (minus q e) more kept mirrors written are agree stray =
-      let h = both_true (agrees (named_at g) e) (fits sort_is.Number (sort (named_at g) e)) agree in
+      let h = and_parts (agrees (named_at g) e) (fits sort_is.Number (sort (named_at g) e)) agree in
       let inner = expr_fits g p at site c e more kept mirrors written are h.0 stray in
       (sort_is.Number, refl, (refl, of_want g c sort_is.Number e inner h.1))
   expr_fits g p at site c (negation q e) more kept mirrors written are agree stray =
-      let h = both_true (agrees (named_at g) e) (fits sort_is.Truth (sort (named_at g) e)) agree in
+      let h = and_parts (agrees (named_at g) e) (fits sort_is.Truth (sort (named_at g) e)) agree in
       let inner = expr_fits g p at site c e more kept mirrors written are h.0 stray in
       (sort_is.Truth, refl, (refl, of_want g c sort_is.Truth e inner h.1))
   expr_fits g p at site c (paren q e) more kept mirrors written are agree stray = expr_fits g p at site c e more kept mirrors written are agree stray
   expr_fits g p at site c (row e rs) more kept mirrors written are agree stray =
-      let h = both_true (agrees (named_at g) e) (operands_agree (named_at g) (sort (named_at g) e) rs) agree in
+      let h = and_parts (agrees (named_at g) e) (operands_agree (named_at g) (sort (named_at g) e) rs) agree in
       let k = or_parts (strays (named_at g) e) (operands_stray (named_at g) rs) stray in
       let left = expr_fits g p at site c e (operands_names site rs more) kept mirrors written.0 are h.0 k.0 in
       let behind = expr_rest g site e (operands_names site rs more) are in
@@ -121,8 +120,8 @@ mutual
       → (s : Sort) × (row_sort (Some t) rs ≡ Some s) × IsRow c t s (plain_operands rs)
   row_fits g p at site c t no_operands more kept mirrors written are agree stray = (t, refl, refl)
   row_fits g p at site c t (operand op e rs) more kept mirrors written are agree stray =
-      let h = both_true (agrees (named_at g) e) (takes op (Some t) (sort (named_at g) e) && operands_agree (named_at g) (Some (gives op)) rs) agree in
-      let m = both_true (takes op (Some t) (sort (named_at g) e)) (operands_agree (named_at g) (Some (gives op)) rs) h.1 in
+      let h = and_parts (agrees (named_at g) e) (takes op (Some t) (sort (named_at g) e) && operands_agree (named_at g) (Some (gives op)) rs) agree in
+      let m = and_parts (takes op (Some t) (sort (named_at g) e)) (operands_agree (named_at g) (Some (gives op)) rs) h.1 in
       let k = or_parts (strays (named_at g) e) (operands_stray (named_at g) rs) stray in
       let one = expr_fits g p at site c e (operands_names site rs more) kept mirrors written.0 are h.0 k.0 in
       let behind = expr_rest g site e (operands_names site rs more) are in
@@ -136,8 +135,8 @@ mutual
   args_fit g p at site c [] (exprs e es) more kept mirrors written are agree stray = cc
   args_fit g p at site c (v ∷ vs) no_exprs more kept mirrors written are agree stray = cc
   args_fit g p at site c (v ∷ vs) (exprs e es) more kept mirrors written are agree stray =
-      let h = both_true (agrees (named_at g) e) (fits (thing.sort_of v.kind) (sort (named_at g) e) && call_agrees (named_at g) (Some vs) es) agree in
-      let m = both_true (fits (thing.sort_of v.kind) (sort (named_at g) e)) (call_agrees (named_at g) (Some vs) es) h.1 in
+      let h = and_parts (agrees (named_at g) e) (fits (thing.sort_of v.kind) (sort (named_at g) e) && call_agrees (named_at g) (Some vs) es) agree in
+      let m = and_parts (fits (thing.sort_of v.kind) (sort (named_at g) e)) (call_agrees (named_at g) (Some vs) es) h.1 in
       let k = or_parts (strays (named_at g) e) (exprs_stray (named_at g) es) stray in
       let one = expr_fits g p at site c e (exprs_names site es more) kept mirrors written.0 are h.0 k.0 in
       let behind = expr_rest g site e (exprs_names site es more) are in
@@ -148,5 +147,5 @@ pub is_of_fits : (g : Prog Place) (p : Process Place) (at : Option Place) (site 
     → ExprWritten e → AreNames g (expr_names site e more) → is_of (named_at g) s e ≡ true → strays (named_at g) e ≡ false
     → IsOf c s (plain_expr e)
 is_of_fits g p at site c s e more kept mirrors written are agree stray =
-    let h = both_true (agrees (named_at g) e) (fits s (sort (named_at g) e)) agree in
+    let h = and_parts (agrees (named_at g) e) (fits s (sort (named_at g) e)) agree in
     of_want g c s e (expr_fits g p at site c e more kept mirrors written are h.0 stray) h.1

@@ -3,6 +3,7 @@ use Rattle.std.proofs.Common.{◌≡◌, ◌<◌, ℕ, ◌⊎◌, inl, inr, Bool
 use Rattle.std.specs.Prelude.{Contains, ◌&&◌, count_by}
 use Rattle.std.specs.List.{list_any}
 use Rattle.std.proofs.lemmas.Bool.{and_parts, and_from, eqb-true, eq-eqb, false_from_ne_true}
+use Rattle.base.proofs.Members.{at_front, none_in, front_or_behind, behind}
 use Rattle.syntax_tree.specs.Placed.{Routine, Prog}
 use Rattle.syntax_tree.specs.declared.place.Place.{Place}
 use Rattle.syntax_tree.specs.Parts.{same_place, routines}
@@ -10,23 +11,22 @@ use Rattle.static_names.specs.Occurrences.{names, declared_at}
 use Rattle.static_calls.specs.Calls.{routine_calls}
 use Rattle.static_calls.specs.Reaching.{Calls, Reaches, by_call, by_calls, ReachesItself}
 use Rattle.wellformed_calls_law.specs.Levels.{HasPlaceLevels}
-use Rattle.wellformed_calls_law.proofs.Lists.{Passing, any-passes, any-from, count-lt, count-few, cons-head, none-contained}
+use Rattle.wellformed_calls_law.proofs.Lists.{Passing, any-passes, any-from, count-lt, count-few}
 use Rattle.wellformed_calls_law.proofs.Through.{through, through-edge, through-joined, through-holds}
-use Rattle.static_calls.proofs.CallEdges.{cons-cases, cons-tail}
 
-place-true : (p q : Place) → same_place p q ≡ true → p ≡ q
+pub place-true : (p q : Place) → same_place p q ≡ true → p ≡ q
 place-true p q h = let parts = and_parts _ _ h in λ i. record { line = eqb-true p.line q.line parts.0 i; col = eqb-true p.col q.col parts.1 i }
 
 place-same : (p q : Place) → p ≡ q → same_place p q ≡ true
 place-same p q e = and_from _ _ (eq-eqb p.line q.line (ap (λ (r : Place). r.line) e)) (eq-eqb p.col q.col (ap (λ (r : Place). r.col) e))
 
 place-listed : (rs : List (Routine Place)) (r : Routine Place) → Contains rs r → Contains (map (λ q. q.place) rs) r.place
-place-listed [] r h = absurd (none-contained r h)
-place-listed (q ∷ rs) r h = by (cons-cases q rs r h) (place-listed rs r)
+place-listed [] r h = absurd (none_in r h)
+place-listed (q ∷ rs) r h = by (front_or_behind q rs r h) (place-listed rs r)
   where
     by : (q ≡ r) ⊎ Contains rs r → (Contains rs r → Contains (map (λ s. s.place) rs) r.place) → Contains (map (λ s. s.place) (q ∷ rs)) r.place
-    by (inl same) rest = subst (Contains (map (λ s. s.place) (q ∷ rs))) (ap (λ (s : Routine Place). s.place) same) (cons-head q.place (map (λ s. s.place) rs))
-    by (inr there) rest = cons-tail q.place (map (λ s. s.place) rs) r.place (rest there)
+    by (inl same) rest = subst (Contains (map (λ s. s.place) (q ∷ rs))) (ap (λ (s : Routine Place). s.place) same) (at_front q.place (map (λ s. s.place) rs))
+    by (inr there) rest = behind q.place (map (λ s. s.place) rs) r.place (rest there)
 
 reaches-joined : (g : Prog Place) (p q r : Place) → Reaches g p q → Reaches g q r → Reaches g p r
 reaches-joined g p q r (by_call c) rest = by_calls c rest

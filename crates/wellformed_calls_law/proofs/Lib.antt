@@ -4,8 +4,8 @@ pub mod Expressions
 pub mod Targets
 pub mod Constants
 mod Loops
-mod Numbers
-mod Calls
+pub mod Numbers
+pub mod Calls
 mod WellformedStatementsBehind
 mod Statements
 pub mod Lists

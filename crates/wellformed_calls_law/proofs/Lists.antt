@@ -4,13 +4,7 @@ use Rattle.std.specs.Prelude.{Contains, count_by}
 use Rattle.std.specs.List.{list_any}
 use Rattle.std.proofs.lemmas.Bool.{or_cases, or_left, or_right}
 use Rattle.std.proofs.lemmas.List.Sums.{sum_by-cons, count_by-le-length}
-use Rattle.static_calls.proofs.CallEdges.{cons-cases, cons-tail}
-
-pub cons-head : {X : Type 0} (x : X) (xs : List X) → Contains (x ∷ xs) x
-cons-head x xs = (0, omega arith, refl)
-
-pub none-contained : {X : Type 0} (x : X) → Contains [] x → ⊥
-none-contained x h = omega (arith, h.1)
+use Rattle.base.proofs.Members.{at_front, none_in, front_or_behind, behind}
 
 -- one of a list passes a test
 pub record Passing {X : Type 0} (test : X → Bool) (xs : List X) : Type 0 where
@@ -23,12 +17,12 @@ any-passes test [] h = absurd (true≢false (sym h))
 any-passes test (x ∷ xs) h = by (or_cases (test x) (list_any test xs) h) (any-passes test xs)
   where
     by : (test x ≡ true) ⊎ (list_any test xs ≡ true) → (list_any test xs ≡ true → Passing test xs) → Passing test (x ∷ xs)
-    by (inl here) rest = record { one = x; listed = cons-head x xs; passes = here }
-    by (inr there) rest = let p = rest there in record { one = p.one; listed = cons-tail x xs p.one p.listed; passes = p.passes }
+    by (inl here) rest = record { one = x; listed = at_front x xs; passes = here }
+    by (inr there) rest = let p = rest there in record { one = p.one; listed = behind x xs p.one p.listed; passes = p.passes }
 
 pub any-from : {X : Type 0} (test : X → Bool) (xs : List X) (x : X) → Contains xs x → test x ≡ true → list_any test xs ≡ true
-any-from test [] x h is = absurd (none-contained x h)
-any-from test (y ∷ ys) x h is = by (cons-cases y ys x h) (λ there. any-from test ys x there is)
+any-from test [] x h is = absurd (none_in x h)
+any-from test (y ∷ ys) x h is = by (front_or_behind y ys x h) (λ there. any-from test ys x there is)
   where
     by : (y ≡ x) ⊎ Contains ys x → (Contains ys x → list_any test ys ≡ true) → list_any test (y ∷ ys) ≡ true
     by (inl same) rest = or_left (test y) (list_any test ys) (ap test same ∙ is)
@@ -59,8 +53,8 @@ module _ {X : Type 0} (p q : X → Bool) (more : (x : X) → p x ≡ true → q 
 
   -- and more, where it passes one more
   pub count-lt : (xs : List X) (x : X) → Contains xs x → p x ≡ false → q x ≡ true → count_by p xs < count_by q xs
-  count-lt [] x h fails passes = absurd (none-contained x h)
-  count-lt (y ∷ ys) x h fails passes = by (cons-cases y ys x h) (λ there. count-lt ys x there fails passes)
+  count-lt [] x h fails passes = absurd (none_in x h)
+  count-lt (y ∷ ys) x h fails passes = by (front_or_behind y ys x h) (λ there. count-lt ys x there fails passes)
     where
       by : (y ≡ x) ⊎ Contains ys x → (Contains ys x → count_by p ys < count_by q ys) → count_by p (y ∷ ys) < count_by q (y ∷ ys)
       by (inl same) rest =

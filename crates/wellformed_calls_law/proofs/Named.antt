@@ -5,6 +5,7 @@ use Rattle.std.proofs.lemmas.List.{length-map}
 use Rattle.std.proofs.lemmas.List.Sums.{sum_by-cons}
 use Rattle.std.proofs.lemmas.List.Elements.{Contains-append_left, Contains-append_right}
 use Rattle.std.proofs.lemmas.Option.{same_Some, none-some}
+use Rattle.base.proofs.Members.{front_or_behind, behind, at_front, none_in}
 use Rattle.syntax_tree.specs.Plain as plain_of
 use Rattle.syntax_tree.specs.Plain.{Name}
 use Rattle.syntax_tree.specs.Placed.{Routine, Process, Decl, constant, device, event, routine, monitor, process, Prog, plain, plain_routine, plain_process, plain_decl}
@@ -13,8 +14,6 @@ use Rattle.syntax_tree.specs.declared.place.Place.{Place}
 use Rattle.source_semantics.specs.Names.{named, routine_in, routines_in, routine_count}
 use Rattle.source_semantics.specs.Run.{Found, of_program, of_process, entry_name, or_else, routine_named}
 use Rattle.static_semantics.specs.Mirrors.{routine_of}
-use Rattle.static_calls.proofs.CallEdges.{cons-cases, cons-tail}
-use Rattle.wellformed_calls_law.proofs.Lists.{cons-head, none-contained}
 
 -- the routine of that name in a list
 abbrev pub among : Name → List (Routine Place) → Option (Routine Place)
@@ -69,8 +68,8 @@ among-listed f [] one e = absurd (none-some one e)
 among-listed f (r ∷ rs) one e = by (bytes_eq r.name f) e (among-listed f rs one)
   where
     by : (b : Bool) → cond b (Some r) (among f rs) ≡ Some one → (among f rs ≡ Some one → Contains rs one) → Contains (r ∷ rs) one
-    by true e rest = subst (Contains (r ∷ rs)) (same_Some r one e) (cons-head r rs)
-    by false e rest = cons-tail r rs one (rest e)
+    by true e rest = subst (Contains (r ∷ rs)) (same_Some r one e) (at_front r rs)
+    by false e rest = behind r rs one (rest e)
 
 pub routine_of-cases : (g : Prog Place) (p : Process Place) (f : Name) (one : Routine Place) → routine_of g p f ≡ Some one → Contains p.routines one ⊎ Contains (program_routines g.decls) one
 routine_of-cases g p f one e = by (among f p.routines) refl e
@@ -89,19 +88,19 @@ later : {X : Type 0} (y : X) (xs : List X) (x : X) → Split xs x → Split (y �
 later y xs x s = record { before = y ∷ s.before; after = s.after; is = ap (λ zs. y ∷ zs) s.is }
 
 pub split-listed : {X : Type 0} (xs : List X) (x : X) → Contains xs x → Split xs x
-split-listed [] x h = absurd (none-contained x h)
-split-listed (y ∷ xs) x h = by (cons-cases y xs x h) (λ there. split-listed xs x there)
+split-listed [] x h = absurd (none_in x h)
+split-listed (y ∷ xs) x h = by (front_or_behind y xs x h) (λ there. split-listed xs x there)
   where
     by : (y ≡ x) ⊎ Contains xs x → (Contains xs x → Split xs x) → Split (y ∷ xs) x
     by (inl same) rest = record { before = []; after = xs; is = ap (λ z. z ∷ xs) same }
     by (inr there) rest = later y xs x (rest there)
 
 pub split-routine : (ds : List (Decl Place)) (r : Routine Place) → Contains (program_routines ds) r → Split ds (routine r)
-split-routine [] r h = absurd (none-contained r h)
+split-routine [] r h = absurd (none_in r h)
 split-routine (constant name q k ∷ ds) r h = later _ ds (routine r) (split-routine ds r h)
 split-routine (device name q is_out ∷ ds) r h = later _ ds (routine r) (split-routine ds r h)
 split-routine (event name q ∷ ds) r h = later _ ds (routine r) (split-routine ds r h)
-split-routine (routine s ∷ ds) r h = by (cons-cases s (program_routines ds) r h) (λ there. split-routine ds r there)
+split-routine (routine s ∷ ds) r h = by (front_or_behind s (program_routines ds) r h) (λ there. split-routine ds r there)
   where
     by : (s ≡ r) ⊎ Contains (program_routines ds) r → (Contains (program_routines ds) r → Split ds (routine r)) → Split (routine s ∷ ds) (routine r)
     by (inl same) rest = record { before = []; after = ds; is = ap (λ z. routine z ∷ ds) same }
@@ -116,11 +115,11 @@ listed-program [] r h = h
 listed-program (constant name q k ∷ ds) r h = listed-program ds r h
 listed-program (device name q is_out ∷ ds) r h = listed-program ds r h
 listed-program (event name q ∷ ds) r h = listed-program ds r h
-listed-program (routine s ∷ ds) r h = by (cons-cases s (program_routines ds) r h) (λ there. listed-program ds r there)
+listed-program (routine s ∷ ds) r h = by (front_or_behind s (program_routines ds) r h) (λ there. listed-program ds r there)
   where
     by : (s ≡ r) ⊎ Contains (program_routines ds) r → (Contains (program_routines ds) r → Contains (routines ds) r) → Contains (s ∷ routines ds) r
-    by (inl same) rest = subst (Contains (s ∷ routines ds)) same (cons-head s (routines ds))
-    by (inr there) rest = cons-tail s (routines ds) r (rest there)
+    by (inl same) rest = subst (Contains (s ∷ routines ds)) same (at_front s (routines ds))
+    by (inr there) rest = behind s (routines ds) r (rest there)
 listed-program (monitor m ∷ ds) r h = Contains-append_right m.entries (routines ds) r (listed-program ds r h)
 listed-program (process q ∷ ds) r h = Contains-append_right q.routines (routines ds) r (listed-program ds r h)
 
@@ -129,7 +128,7 @@ listed-process [] after p r h = Contains-append_left p.routines (routines after)
 listed-process (constant name q k ∷ ds) after p r h = listed-process ds after p r h
 listed-process (device name q is_out ∷ ds) after p r h = listed-process ds after p r h
 listed-process (event name q ∷ ds) after p r h = listed-process ds after p r h
-listed-process (routine s ∷ ds) after p r h = cons-tail s (routines (ds ++ process p ∷ after)) r (listed-process ds after p r h)
+listed-process (routine s ∷ ds) after p r h = behind s (routines (ds ++ process p ∷ after)) r (listed-process ds after p r h)
 listed-process (monitor m ∷ ds) after p r h = Contains-append_right m.entries (routines (ds ++ process p ∷ after)) r (listed-process ds after p r h)
 listed-process (process q ∷ ds) after p r h = Contains-append_right q.routines (routines (ds ++ process p ∷ after)) r (listed-process ds after p r h)
 

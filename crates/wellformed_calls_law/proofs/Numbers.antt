@@ -12,7 +12,7 @@ use Rattle.source_semantics.specs.Names.{constants}
 use Rattle.wellformed.specs.Statements.{IsConstant, IsWithin, AreTurns}
 use Rattle.wellformed_calls_law.proofs.Basics.{KeepsRules, held, not_held}
 
-in_order : (a b : ℤ) → int_lt b a ≡ false → int_le a b ≡ true
+pub in_order : (a b : ℤ) → int_lt b a ≡ false → int_le a b ≡ true
 in_order (pos a) (pos b) e = grind (arith, nat_tests)
 in_order (pos a) (negsuc b) e = absurd (cc)
 in_order (negsuc a) (pos b) e = refl

@@ -1,7 +1,7 @@
 -- Targets: where the rules hold of what is assigned to, it is one word that may be assigned to where it stands.
 use Rattle.std.proofs.Common.{◌≡◌, ◌⊎◌, inl, inr, true, false, ◌&&◌, List, Option, Some, None, ap, sym, ◌∙◌, true≢false}
 use Rattle.std.specs.Prelude.{not}
-use Rattle.std.proofs.lemmas.Bool.{or_parts}
+use Rattle.std.proofs.lemmas.Bool.{or_parts, and_parts}
 use Rattle.syntax_tree.specs.Plain.{Name}
 use Rattle.syntax_tree.specs.Placed.{Kind, Ref, whole, part, Process, Prog, plain_kind, plain_ref}
 use Rattle.syntax_tree.specs.declared.place.Place.{Place}
@@ -22,7 +22,6 @@ use Rattle.wellformed.specs.Typed.{IsTarget}
 use Rattle.static_semantics.specs.Written.{RefWritten}
 use Rattle.static_semantics.specs.Mirrors.{Mirrors, IsVariable}
 use Rattle.static_semantics.specs.Judged.{IsKept, IsHome, AreNames}
-use Rattle.wellformed_calls_law.proofs.Basics.{both_true}
 use Rattle.wellformed_calls_law.proofs.Uses.{word_of, element_of, more_names, variable_value, target_use}
 use Rattle.wellformed_calls_law.proofs.Expressions.{is_of_fits}
 
@@ -51,7 +50,7 @@ target_fits g p at site c home (whole q x) more kept mirrors in_home written are
     let w = word_of (named_at g q) (meant c x) (variable_value g p at c x u.0 (named_at g q) u.1 u.2) agree in
     (w.0, w.1, (assignable g home at c x u.0 (named_at g q) u.1 in_home u.2 k.0, w.2))
 target_fits g p at site c home (part q x i) more kept mirrors in_home written are agree stray =
-    let h = both_true (is_array (named_at g q)) (agrees (named_at g) i && fits sort_is.Number (sort (named_at g) i)) agree in
+    let h = and_parts (is_array (named_at g q)) (agrees (named_at g) i && fits sort_is.Number (sort (named_at g) i)) agree in
     let k = or_parts (is_foreign home (named_at g q)) (ref_strays (named_at g) (part q x i)) stray in
     let u = target_use g p at site c x q (expr_names site i more) kept mirrors are in
     let w = element_of (named_at g q) (meant c x) (variable_value g p at c x u.0 (named_at g q) u.1 u.2) h.0 in

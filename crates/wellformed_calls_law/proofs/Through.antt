@@ -3,8 +3,7 @@
 use Rattle.std.proofs.Common.{◌≡◌, ◌⊎◌, inl, inr, Bool, true, List, [], ◌∷◌, sym, subst}
 use Rattle.std.specs.Prelude.{Contains, ◌||◌, ◌&&◌}
 use Rattle.std.proofs.lemmas.Bool.{or_cases, or_left, or_right, and_parts, and_from}
-use Rattle.static_calls.proofs.CallEdges.{cons-cases}
-use Rattle.wellformed_calls_law.proofs.Lists.{none-contained}
+use Rattle.base.proofs.Members.{front_or_behind, none_in}
 
 module _ {X : Type 0} (edge : X → X → Bool) where
   abbrev pub through : List X → X → X → Bool
@@ -46,8 +45,8 @@ module _ {X : Type 0} (edge : X → X → Bool) where
 
   -- what is reached by way of a listed node is reached
   pub through-joined : (zs : List X) (m : X) → Contains zs m → (x y : X) → through zs x m ≡ true → through zs m y ≡ true → through zs x y ≡ true
-  through-joined [] m h x y a b = absurd (none-contained m h)
-  through-joined (z ∷ zs) m h x y a b = by (cons-cases z zs m h) (λ there. through-joined zs m there)
+  through-joined [] m h x y a b = absurd (none_in m h)
+  through-joined (z ∷ zs) m h x y a b = by (front_or_behind z zs m h) (λ there. through-joined zs m there)
     where
       both : ((v w : X) → through zs v m ≡ true → through zs m w ≡ true → through zs v w ≡ true)
           → (through zs x m ≡ true) ⊎ ((through zs x z ≡ true) × (through zs z m ≡ true))

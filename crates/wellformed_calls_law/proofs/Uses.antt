@@ -1,6 +1,7 @@
 -- The names of a text: what stands in it for a variable, a constant or a routine by the rules is what its meaning finds there.
 use Rattle.std.proofs.Common.{◌≡◌, ◌⊎◌, inl, inr, true, false, List, ◌∷◌, Option, Some, None, refl, ap, sym, ◌∙◌, true≢false}
 use Rattle.std.specs.Prelude.{not, option_map}
+use Rattle.base.proofs.Members.{at_front, behind}
 use Rattle.syntax_tree.specs.Plain.{Name}
 use Rattle.syntax_tree.specs.Placed.{Scalar, int, boolean, subrange, Kind, scalar, array, Expr, RoutineKind, procedure, function, Routine, Process, Prog, plain_scalar, plain_kind, plain_answers, plain_routine}
 use Rattle.syntax_tree.specs.declared.place.Place.{Place}
@@ -25,7 +26,6 @@ use Rattle.static_semantics.specs.Written.{ResultWritten}
 use Rattle.static_semantics.specs.Places.{IsFound}
 use Rattle.static_semantics.specs.Mirrors.{Mirrors, StandsAs, IsVariable}
 use Rattle.static_semantics.specs.Judged.{IsKept, AreNames}
-use Rattle.wellformed_calls_law.proofs.Basics.{cons_head, cons_tail}
 
 -- ---- sorts
 
@@ -37,10 +37,10 @@ sorts_same (subrange low high) = refl
 -- ---- names
 
 pub more_names : (g : Prog Place) (o : Occurrence) (more : List Occurrence) → AreNames g (o ∷ more) → AreNames g more
-more_names g o more are x h = are x (cons_tail o more x h)
+more_names g o more are x h = are x (behind o more x h)
 
 pub used_found : (g : Prog Place) (x : Name) (q : Place) (want : Want) (means : Option Declared) (more : List Occurrence) → IsKept g → AreNames g (used x q want means ∷ more) → IsFound g q want means
-used_found g x q want means more kept are = kept.names.uses x q want means (are (used x q want means) (cons_head (used x q want means) more))
+used_found g x q want means more kept are = kept.names.uses x q want means (are (used x q want means) (at_front (used x q want means) more))
 
 pub named_thing : (g : Prog Place) (q : Place) (want : Want) (means : Option Declared) (f : IsFound g q want means) → named_at g q ≡ Some (thing_at g f.declared.place)
 named_thing g q want means f = ap (option_map (thing_at g)) f.found

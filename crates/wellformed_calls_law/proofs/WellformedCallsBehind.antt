@@ -1,12 +1,11 @@
 -- What holds of a list of names and of each rest of it holds of what stands behind the names of a part of the tree.
 use Rattle.std.proofs.Common.{◌≡◌, ◌⊎◌, inl, inr, subst, List, [], ◌∷◌, ◌++◌, Option, Some, None}
 use Rattle.std.specs.Prelude.{Contains}
+use Rattle.base.proofs.Members.{front_or_behind, none_in}
 use Rattle.syntax_tree.specs.Placed.{Constant, literal_constant, named_constant, Scalar, int, boolean, subrange, Kind, scalar, array, Var, Param, Expr, literal, truth, variable, element, call, minus, negation, paren, row, Exprs, no_exprs, exprs, Operands, no_operands, operand, Ref, whole, part, Stmt, assign, assign_entry, assign_empty, perform, perform_entry, when, when_else, loop, exit_when, get, put, wait, signal, broadcast, except, assert, Stmts, no_stmts, stmts, Routine, Activation, periodic, at_event, Process}
 use Rattle.syntax_tree.specs.declared.place.Place.{Place}
 use Rattle.static_names.specs.Reach.{Names, Reach, Site, inside}
 use Rattle.static_names.specs.Occurrences.{Occurrence, closes, declarations, constant_names, scalar_names, kind_names, expr_names, exprs_names, operands_names, ref_names, entry_names, loop_name, stmt_names, stmts_names, vars_names, params_names, optional_names, routine_scope, routine_inner, routine_names, routines_names, activation_names, process_scope, process_inner, process_names}
-use Rattle.static_calls.proofs.CallEdges.{cons-cases}
-use Rattle.wellformed_calls_law.proofs.Lists.{none-contained}
 
 module _ (P : List Occurrence → Type 0) (rest : (o : Occurrence) (os : List Occurrence) → P (o ∷ os) → P os) where
   pub behind_declarations : (outside : Reach) (earlier scope : Names) (more : List Occurrence) → P (declarations outside earlier scope more) → P more
@@ -120,8 +119,8 @@ module _ (P : List Occurrence → Type 0) (rest : (o : Occurrence) (os : List Oc
     pub holds : P (routine_names outer r more)
 
   pub at_routine : (outer : Site) (rs : List (Routine Place)) (r : Routine Place) (more : List Occurrence) → Contains rs r → P (routines_names outer rs more) → AtRoutine outer r
-  at_routine outer [] r more listed h = absurd (none-contained r listed)
-  at_routine outer (q ∷ rs) r more listed h = by (cons-cases q rs r listed) (λ there. at_routine outer rs r more there (behind_routine outer q (routines_names outer rs more) h))
+  at_routine outer [] r more listed h = absurd (none_in r listed)
+  at_routine outer (q ∷ rs) r more listed h = by (front_or_behind q rs r listed) (λ there. at_routine outer rs r more there (behind_routine outer q (routines_names outer rs more) h))
     where
       by : (q ≡ r) ⊎ Contains rs r → (Contains rs r → AtRoutine outer r) → AtRoutine outer r
       by (inl same) later = subst (AtRoutine outer) same (record { more = routines_names outer rs more; holds = h })

@@ -1,5 +1,6 @@
 -- What stands behind a statement among the names and parts of a program.
 use Rattle.std.proofs.Common.{List, [], ◌∷◌, Contains, is_some}
+use Rattle.base.proofs.Members.{at_front, behind}
 use Rattle.syntax_tree.specs.Plain.{Name}
 use Rattle.syntax_tree.specs.Placed.{Constant, Stmt, assign, assign_entry, assign_empty, perform, perform_entry, when, when_else, loop, exit_when, get, put, wait, signal, broadcast, except, assert, Stmts, no_stmts, stmts, Prog}
 use Rattle.syntax_tree.specs.declared.place.Place.{Place}
@@ -9,18 +10,17 @@ use Rattle.static_names.specs.Occurrences.{Occurrence, declares, used, uses, nam
 use Rattle.static_declarations.specs.declared.home.Where.{Where}
 use Rattle.static_declarations.specs.Parts.{Part, statement, looped, stmt_parts, stmts_parts, parts}
 use Rattle.static_semantics.specs.Judged.{AreNames, AreParts}
-use Rattle.wellformed_calls_law.proofs.Basics.{cons_head, cons_tail}
 use Rattle.wellformed_calls_law.proofs.Uses.{more_names}
 use Rattle.wellformed_calls_law.proofs.Expressions.{expr_rest, exprs_rest, ref_rest, constant_rest}
 
 pub head_name : (g : Prog Place) (o : Occurrence) (more : List Occurrence) → AreNames g (o ∷ more) → Contains (names g) o
-head_name g o more h = h o (cons_head o more)
+head_name g o more h = h o (at_front o more)
 
 pub head_part : (g : Prog Place) (x : Part) (rest : List Part) → AreParts g (x ∷ rest) → Contains (parts g) x
-head_part g x rest h = h x (cons_head x rest)
+head_part g x rest h = h x (at_front x rest)
 
 pub more_parts : (g : Prog Place) (x : Part) (rest : List Part) → AreParts g (x ∷ rest) → AreParts g rest
-more_parts g x rest h y there = h y (cons_tail x rest y there)
+more_parts g x rest h y there = h y (behind x rest y there)
 
 pub entry_rest : (g : Prog Place) (site : Site) (k : Name) (p : Place) (x : Name) (q : Place) (more : List Occurrence) → AreNames g (entry_names site k p x q more) → AreNames g more
 entry_rest g site k p x q more h = more_names g (used x q want_is.Entry (through site k x)) more (more_names g (uses site k p want_is.Monitor) (used x q want_is.Entry (through site k x) ∷ more) h)

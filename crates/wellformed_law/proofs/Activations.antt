@@ -2,9 +2,11 @@
 use Rattle.std.proofs.Common.{◌≡◌, ℕ, Bool, true, false, ◌||◌, List, [], ◌∷◌, ◌++◌, map, append_assoc, Option, Some, None, ◌⊎◌, inl, inr, refl, ap, sym, ◌∙◌, subst, arith, true≢false}
 use Rattle.std.specs.Prelude.{Contains, All, AllPairs, ℤ, pos, negsuc, ◌&&◌, int_le}
 use Rattle.std.proofs.lemmas.Bool.Decides.{nat_tests}
-use Rattle.std.proofs.lemmas.List.{map-append}
+use Rattle.std.proofs.lemmas.List.{map-append, append-nil}
 use Rattle.std.proofs.lemmas.List.Elements.{All-contains}
 use Rattle.std.proofs.lemmas.List.Quantifiers.{all_pairs_push}
+use Rattle.std.proofs.lemmas.Bool.{and_parts}
+use Rattle.base.proofs.Members.{at_front, behind, none_in, front_or_behind, in_map}
 use Rattle.base.specs.Words.{same}
 use Rattle.syntax_tree.specs.Plain.{Name}
 use Rattle.syntax_tree.specs.Placed.{Constant, Activation, periodic, at_event, Handler, Process, process, Decl, event, Prog, plain, plain_constant, plain_activation, plain_handler, plain_process, plain_decl, optional}
@@ -26,12 +28,12 @@ use Rattle.wellformed.specs.WellFormed.{DeadlineFits, ActivationFits, IsHandled,
 use Rattle.static_semantics.specs.Places.{IsFound}
 use Rattle.static_semantics.specs.Written.{ConstantWritten, OptionalWritten, ActivationWritten, HandlerWritten}
 use Rattle.static_semantics.specs.Mirrors.{Mirrors, program_site, process_site}
-use Rattle.wellformed_law.proofs.Lists.{at_front, behind, none_in, front_or_behind, each_map, in_map, append_nil, Pictured, Adds, nothing_more, one_more, Within, front, rest}
+use Rattle.wellformed_law.proofs.Lists.{each_map, Pictured, Adds, nothing_more, one_more, Within, front, rest}
 use Rattle.wellformed_law.proofs.Adding.{constant_adds, constants_add, optional_adds}
 use Rattle.wellformed_law.proofs.Declared.{Lacks, lacks_both, lacks_map, outside_scope, event_declared}
 use Rattle.wellformed_law.proofs.Constants.{Reaches}
 use Rattle.wellformed_law.proofs.WellformedLaw.{Laws, kept, constant_fits}
-use Rattle.wellformed_law.proofs.TypesFit.{not_then, is_then}
+use Rattle.wellformed_calls_law.proofs.Basics.{not_held, held}
 
 -- ---- the events of activations
 
@@ -115,20 +117,16 @@ constant_names_of s (d ∷ cs) ys w c h = by (constant_names_of s cs ys (rest ys
     by again (inl e) = subst (λ z. Within (constant_names s z []) ys) e (front ys (constant_adds s d) (constants_names s cs []) w)
     by again (inr m) = again m
 
-both_true : (b c : Bool) → b && c ≡ true → (b ≡ true) × (c ≡ true)
-both_true true c h = (refl, h)
-both_true false c h = absurd (true≢false (sym h))
-
 module _ (g : Prog Place) (l : Laws g) where
   within_fits : (low high : ℕ) (k : Constant Place) → IsConstant (constants (plain g)) (plain_constant k) → out_of (value g) low high k ≡ None → IsWithin (plain g) low high (plain_constant k)
-  within_fits low high k c e = record { constant = c; limits = is_then (is_within low high (value g k)) (constant_place k) e }
+  within_fits low high k c e = record { constant = c; limits = held (is_within low high (value g k)) (constant_place k) e }
 
   deadline_fits : (site : Site) → Reaches (constants (plain g)) site → (frame : Constant Place) (d : Option (Constant Place)) → OptionalWritten d
       → Within (optional_names (constant_names site) d []) (names g) → bad_limit (value g) frame d ≡ None → DeadlineFits (plain g) (plain_constant frame) (optional plain_constant d)
   deadline_fits site reaches frame None w n near = tt
   deadline_fits site reaches frame (Some d) w n near =
-      let tests = both_true (int_le (pos 10) (value g d)) (int_le (value g d) (value g frame))
-      (is_then (int_le (pos 10) (value g d) && int_le (value g d) (value g frame)) (constant_place d) near) in
+      let tests = and_parts (int_le (pos 10) (value g d)) (int_le (value g d) (value g frame))
+      (held (int_le (pos 10) (value g d) && int_le (value g d) (value g frame)) (constant_place d) near) in
       (constant_fits g l site reaches d w n, tests.0, tests.1)
 
   pub activation_fits : (before : List (Decl Place)) (p : Process Place) (after : List (Decl Place)) → g.decls ≡ before ++ process p ∷ after → Reaches (constants (plain g)) (process_site g before p after)
@@ -180,13 +178,13 @@ module _ (g : Prog Place) (l : Laws g) where
   -- numbers that differ from all before
   numbers_differ : (before cs : List (Constant Place)) → Within (handled before cs []) (all_handled (processes g.decls)) → AllPairs (Differ (plain g)) (map plain_constant before)
       → AllPairs (Differ (plain g)) (map plain_constant (before ++ cs))
-  numbers_differ before [] w pairs = subst (λ cs. AllPairs (Differ (plain g)) (map plain_constant cs)) (sym (append_nil before)) pairs
+  numbers_differ before [] w pairs = subst (λ cs. AllPairs (Differ (plain g)) (map plain_constant cs)) (sym (append-nil before)) pairs
   numbers_differ before (c ∷ cs) w pairs = subst (λ ds. AllPairs (Differ (plain g)) (map plain_constant ds)) (append_assoc before (c ∷ []) cs)
       (numbers_differ (before ++ c ∷ []) cs (λ x m. w x (behind _ (handled (before ++ c ∷ []) cs []) x m))
       (subst (AllPairs (Differ (plain g))) (sym (map-append plain_constant before (c ∷ []))) (all_pairs_push (Differ (plain g)) (map plain_constant before) (plain_constant c) pairs apart)))
     where
       new : has_value (value g) (value g c) before ≡ false
-      new = not_then (has_value (value g) (value g c) before) (constant_place c) (l.limits.once (record { before = before; number = c }) (w _ (at_front _ (handled (before ++ c ∷ []) cs []))))
+      new = not_held (has_value (value g) (value g c) before) (constant_place c) (l.limits.once (record { before = before; number = c }) (w _ (at_front _ (handled (before ++ c ∷ []) cs []))))
 
       apart : All (λ a. Differ (plain g) a (plain_constant c)) (map plain_constant before)
       apart = each_map (λ a. Differ (plain g) a (plain_constant c)) plain_constant before (λ b h e. true≢false (sym (has_one (value g) (value g c) before b h e) ∙ new))
@@ -207,7 +205,7 @@ module _ (g : Prog Place) (l : Laws g) where
         constant = constant_fits g l site reaches c (All-contains ConstantWritten h.numbers c w.0 m)
             (constant_names_of site h.numbers (names g) (front (names g) (constants_add site h.numbers) (stmts_names site h.body []) n) c m);
         limits = subst (λ k. (is_within 1 4 (value g k) || is_within 10 999 (value g k)) ≡ true) one.is
-            (is_then (is_within 1 4 (value g one.one.number) || is_within 10 999 (value g one.one.number)) (constant_place one.one.number) (l.limits.numbers one.one one.listed));
+            (held (is_within 1 4 (value g one.one.number) || is_within 10 999 (value g one.one.number)) (constant_place one.one.number) (l.limits.numbers one.one one.listed));
       }
         where
           one : Pictured (λ h. h.number) (all_handled (processes g.decls)) c

@@ -4,6 +4,8 @@ use Rattle.std.specs.Prelude.{Contains, ℤ, pos, negsuc, nat_abs, IsSome, bytes
 use Rattle.std.proofs.lemmas.Option.{none-some, same_Some}
 use Rattle.std.proofs.lemmas.Bool.Decides.{nat_tests}
 use Rattle.std.proofs.lemmas.List.Elements.{Contains-append_left, Contains-append_cases, All-contains}
+use Rattle.std.proofs.lemmas.List.{append-nil}
+use Rattle.base.proofs.Members.{at_front, behind, none_in, front_or_behind}
 use Rattle.base.specs.Words.{is_word}
 use Rattle.syntax_tree.specs.Plain.{Name}
 use Rattle.syntax_tree.specs.Placed.{Constant, literal_constant, named_constant, Decl, constant, device, event, routine, monitor, process, Prog, plain, plain_constant, plain_decl}
@@ -21,8 +23,9 @@ use Rattle.static_semantics.specs.Places.{IsFound, NamesFound}
 use Rattle.static_semantics.specs.Written.{ConstantWritten, DeclWritten, IsWritten}
 use Rattle.static_semantics.specs.Mirrors.{NamesListed, program_site}
 use Rattle.static_semantics.specs.Judged.{ConstantsSmall, AreNames}
-use Rattle.wellformed_law.proofs.Lists.{at_front, behind, none_in, front_or_behind, append_nil, in_split}
-use Rattle.wellformed_law.proofs.Declared.{same_itself, Lacks, outside_scope, constant_before}
+use Rattle.wellformed_law.proofs.Lists.{in_split}
+use Rattle.wellformed_law.proofs.Declared.{Lacks, outside_scope, constant_before}
+use Rattle.static_names.proofs.Scopes.{same-refl}
 
 -- ---- small values
 
@@ -95,7 +98,7 @@ known_more known m x h = by (bytes_eq m.0 x)
     by false = h
 
 known_here : (known : List (Name × ℤ)) (x : Name) (v : ℤ) → IsSome (named (λ z. z.0) x ((x, v) ∷ known))
-known_here known x v = ap (λ b. is_some (cond b (Some (x, v)) (named (λ z. z.0) x known))) (same_itself x)
+known_here known x v = ap (λ b. is_some (cond b (Some (x, v)) (named (λ z. z.0) x known))) (same-refl x)
 
 knows_constant : (known : List (Name × ℤ)) (ds : List (Decl Place)) (n : Name) (p : Place) (k : Constant Place) (v : ℤ) → Knows known ds → Knows ((n, v) ∷ known) (ds ++ constant n p k ∷ [])
 knows_constant known ds n p k v knows x q c h = by (Contains-append_cases ds (constant n p k ∷ []) (constant x q c) h)
@@ -132,7 +135,7 @@ knows_other known ds d other knows x q c h = by (Contains-append_cases ds (d ∷
     by (inr m) = last (front_or_behind d [] (constant x q c) m)
 
 knows_all : (before rest : List (Decl Place)) (known : List (Name × ℤ)) → Knows known before → Knows (constants_from known (map plain_decl rest)) (before ++ rest)
-knows_all before [] known knows = subst (Knows known) (sym (append_nil before)) knows
+knows_all before [] known knows = subst (Knows known) (sym (append-nil before)) knows
 knows_all before (constant n p k ∷ ds) known knows =
     subst (Knows (constants_from ((n, constant_among known (plain_constant k)) ∷ known) (map plain_decl ds))) (append_assoc before (constant n p k ∷ []) ds)
     (knows_all (before ++ constant n p k ∷ []) ds ((n, constant_among known (plain_constant k)) ∷ known) (knows_constant known before n p k (constant_among known (plain_constant k)) knows))

@@ -16,8 +16,9 @@ use Rattle.source_semantics.specs.Names.{device_in, event_in, monitor_in, proces
 use Rattle.wellformed.specs.WellFormed.{kind_words, vars_words, CountsFit}
 use Rattle.wellformed_law.proofs.Lists.{sum_cons}
 use Rattle.wellformed_law.proofs.WellformedLaw.{Laws}
-use Rattle.wellformed_law.proofs.TypesFit.{not_then}
-use Rattle.wellformed_law.proofs.Standing.{plain_processes, plain_monitors}
+use Rattle.wellformed_law.proofs.Standing.{plain_processes}
+use Rattle.wellformed_names_law.proofs.ProgramScope.{monitors-plain}
+use Rattle.wellformed_calls_law.proofs.Basics.{not_held}
 
 -- nothing at the place past the last
 few : (most : ℕ) (places : List Place) → limit.one_too_many most places ≡ None → length places ≤ most
@@ -33,7 +34,7 @@ process_count : (ds : List (Decl Place)) → length (filter_map process_in (map 
 process_count ds = ap length (plain_processes ds) ∙ length-map (processes ds) plain_process ∙ sym (length-map (processes ds) (λ p. p.place))
 
 monitor_count : (ds : List (Decl Place)) → length (filter_map monitor_in (map plain_decl ds)) ≡ length (limit.monitor_places ds)
-monitor_count ds = ap length (plain_monitors ds) ∙ length-map (tree.monitors ds) plain_monitor ∙ sym (length-map (tree.monitors ds) (λ m. m.place))
+monitor_count ds = ap length (monitors-plain ds) ∙ length-map (tree.monitors ds) plain_monitor ∙ sym (length-map (tree.monitors ds) (λ m. m.place))
 
 device_count : (ds : List (Decl Place)) → length (filter_map device_in (map plain_decl ds)) ≡ length (tree.devices ds)
 device_count [] = refl
@@ -125,7 +126,7 @@ module _ (g : Prog Place) where
     few_monitors = same_few 64 (limit.monitor_places g.decls) (length (filter_map monitor_in (map plain_decl g.decls))) (monitor_count g.decls) l.limits.few_monitors;
     few_devices = same_few 64 (tree.devices g.decls) (length (filter_map device_in (map plain_decl g.decls))) (device_count g.decls) l.limits.few_devices;
     few_events = same_few 64 (events g.decls) (length (filter_map event_in (map plain_decl g.decls))) (event_count g.decls) l.limits.few_events;
-    few_conditions = same_few 256 (limit.conditions (tree.monitors g.decls)) (condition_count (filter_map monitor_in (map plain_decl g.decls))) (ap condition_count (plain_monitors g.decls) ∙ conditions_in (tree.monitors g.decls)) l.limits.few_conditions;
+    few_conditions = same_few 256 (limit.conditions (tree.monitors g.decls)) (condition_count (filter_map monitor_in (map plain_decl g.decls))) (ap condition_count (monitors-plain g.decls) ∙ conditions_in (tree.monitors g.decls)) l.limits.few_conditions;
     few_routines = same_few 512 (limit.routine_places g.decls) (sum_by routines_in (map plain_decl g.decls)) (routines_of g.decls) l.limits.few_routines;
-    few_words = subst (λ n. n ≤ 1048576) (sym (same_words g.decls)) (few_words (limit.words (value g) g.decls) (not_then (nat_lt 1048576 (limit.words (value g) g.decls)) g.place l.limits.few_words));
+    few_words = subst (λ n. n ≤ 1048576) (sym (same_words g.decls)) (few_words (limit.words (value g) g.decls) (not_held (nat_lt 1048576 (limit.words (value g) g.decls)) g.place l.limits.few_words));
   }

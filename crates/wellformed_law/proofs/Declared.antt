@@ -1,10 +1,10 @@
 -- The declarations of a program: where they stand, what reaches them by its name, and that each name and place is that of one.
-use Rattle.std.proofs.Common.{◌≡◌, Bool, true, false, if◌then◌else◌, List, [], ◌∷◌, ◌++◌, map, append_assoc, Option, Some, None, is_some, ◌⊎◌, inl, inr, refl, ap, sym, ◌∙◌, subst, arith, true≢false}
+use Rattle.std.proofs.Common.{◌≡◌, Bool, true, false, if◌then◌else◌, List, [], ◌∷◌, ◌++◌, map, append_assoc, Option, Some, None, is_some, ◌⊎◌, inl, inr, refl, ap, sym, ◌∙◌, subst, true≢false}
 use Rattle.std.specs.Prelude.{Contains}
 use Rattle.std.proofs.lemmas.Option.{none-some, same_Some}
 use Rattle.std.proofs.lemmas.List.Elements.{Contains-append_left, Contains-append_right, Contains-append_cases}
-use Rattle.std.proofs.lemmas.Slice.Eq.{bytes_eq-Decides}
-use Rattle.std.proofs.lemmas.Bool.Decides.{nat_tests}
+use Rattle.std.proofs.lemmas.List.{append-nil}
+use Rattle.base.proofs.Members.{at_front, behind, none_in, front_or_behind, in_map}
 use Rattle.syntax_tree.specs.Plain.{Name}
 use Rattle.syntax_tree.specs.Placed.{Constant, Decl, constant, device, event, routine, monitor, process, Prog}
 use Rattle.syntax_tree.specs.declared.place.Place.{Place}
@@ -17,16 +17,14 @@ use Rattle.static_names.specs.Occurrences.{Occurrence, declares, closes, used, d
 use Rattle.static_names.specs.Rules.{place_of}
 use Rattle.static_semantics.specs.Places.{StandApart, NamesFound}
 use Rattle.static_semantics.specs.Mirrors.{program_site}
-use Rattle.wellformed_law.proofs.Lists.{at_front, behind, none_in, front_or_behind, append_nil, in_map, Pictured, from_map, Split, split, rest_part, one_of}
+use Rattle.wellformed_law.proofs.Lists.{Pictured, from_map, rest_part, one_of}
 use Rattle.wellformed_law.proofs.Adding.{inner_adds}
+use Rattle.wellformed_calls_law.proofs.Named.{Split, split-listed}
+use Rattle.wellformed_names_law.proofs.Found.{same-itself}
+use Rattle.static_names.proofs.Scopes.{same-refl}
+use Rattle.wellformed_names_law.proofs.Lookups.{same-is}
 
 -- ---- names
-
-pub same_names : (x y : Name) → same x y ≡ true → x ≡ y
-same_names x y = (bytes_eq-Decides x y).0
-
-pub same_itself : (x : Name) → same x x ≡ true
-same_itself x = (bytes_eq-Decides x x).1 refl
 
 -- what counts of a scope is in it
 pub first_in : (ns : Names) (x : Name) (d : Declared) → first ns x ≡ Some d → Contains ns (x, d)
@@ -34,7 +32,7 @@ first_in [] x d e = absurd (none-some d e)
 first_in (n ∷ ns) x d e = by (first_in ns x d) (same x n.0) refl
   where
     by : (first ns x ≡ Some d → Contains ns (x, d)) → (b : Bool) → same x n.0 ≡ b → Contains (n ∷ ns) (x, d)
-    by again true s = subst (λ m. Contains (n ∷ ns) m) (λ i. (sym (same_names x n.0 s) i, same_Some n.1 d (ap (λ b. if b then Some n.1 else first ns x) (sym s) ∙ e) i)) (at_front n ns)
+    by again true s = subst (λ m. Contains (n ∷ ns) m) (λ i. (sym (same-is x n.0 s) i, same_Some n.1 d (ap (λ b. if b then Some n.1 else first ns x) (sym s) ∙ e) i)) (at_front n ns)
     by again false s = behind n ns (x, d) (again (ap (λ b. if b then Some n.1 else first ns x) (sym s) ∙ e))
 
 -- what is in a scope counts, or something else of its name does
@@ -44,7 +42,7 @@ first_some (n ∷ ns) x d h = by (first_some ns x d) (same x n.0) refl (front_or
   where
     by : (Contains ns (x, d) → is_some (first ns x) ≡ true) → (b : Bool) → same x n.0 ≡ b → (n ≡ (x, d)) ⊎ Contains ns (x, d) → is_some (if b then Some n.1 else first ns x) ≡ true
     by again true s c = refl
-    by again false s (inl e) = absurd (true≢false (sym (same_itself x) ∙ ap (λ m. same x m.0) (sym e) ∙ s))
+    by again false s (inl e) = absurd (true≢false (sym (same-refl x) ∙ ap (λ m. same x m.0) (sym e) ∙ s))
     by again false s (inr m) = again m
 
 -- ---- what a scope does not declare
@@ -149,7 +147,7 @@ event_declared g before rest x d e k = by (Contains-append_cases (program_name g
 decls_declare : (members : Place → Reach) (earlier : Names) (before : List (Decl Place)) (d : Decl Place) (after : List (Decl Place)) (more : List Occurrence)
     → Contains (decls_names members earlier (before ++ d ∷ after) more) (declares (decl_name d).0 (decl_name d).1.place (is_some (first (earlier ++ map decl_name before) (decl_name d).0)))
 decls_declare members earlier [] d after more =
-    subst (λ ns. Contains (decls_names members earlier (d ∷ after) more) (declares (decl_name d).0 (decl_name d).1.place (is_some (first ns (decl_name d).0)))) (sym (append_nil earlier)) (at_front _ _)
+    subst (λ ns. Contains (decls_names members earlier (d ∷ after) more) (declares (decl_name d).0 (decl_name d).1.place (is_some (first ns (decl_name d).0)))) (sym (append-nil earlier)) (at_front _ _)
 decls_declare members earlier (b ∷ before) d after more =
     behind _ _ _ (rest_part (inner_adds (record { means = first (earlier ++ others (b ∷ before ++ d ∷ after)); members = members }) b) _ _
     (subst (λ ns. Contains (decls_names members (earlier ++ decl_name b ∷ []) (before ++ d ∷ after) more) (declares (decl_name d).0 (decl_name d).1.place (is_some (first ns (decl_name d).0))))
@@ -182,11 +180,11 @@ pub one_named : (g : Prog Place) → NamesFound g → (d e : Decl Place) → Con
 one_named g found d e h k same_name = by (Contains-append_cases s.before (d ∷ s.after) e (subst (λ ds. Contains ds e) s.is k))
   where
     s : Split g.decls d
-    s = split g.decls d h
+    s = split-listed g.decls d h
 
     later : (d ≡ e) ⊎ Contains s.after e → d ≡ e
     later (inl w) = w
-    later (inr m) = let t = split s.after e m in
+    later (inr m) = let t = split-listed s.after e m in
         absurd (name_free g found (s.before ++ d ∷ t.before) e t.after (s.is ∙ ap (λ ds. s.before ++ d ∷ ds) t.is ∙ sym (append_assoc s.before (d ∷ t.before) (e ∷ t.after))) d (Contains-append_right s.before (d ∷ t.before) d (at_front d t.before)) same_name)
 
     by : Contains s.before e ⊎ Contains (d ∷ s.after) e → d ≡ e
@@ -195,21 +193,9 @@ one_named g found d e h k same_name = by (Contains-append_cases s.before (d ∷ 
 
 -- ---- each place is that of one declaration
 
-pub same_place_itself : (p : Place) → same_place p p ≡ true
-same_place_itself p = grind (arith, nat_tests)
-
-pub same_places : (p q : Place) → same_place p q ≡ true → p ≡ q
-same_places p q e = λ i. record { line = lines i; col = cols i }
-  where
-    lines : p.line ≡ q.line
-    lines = grind (arith, nat_tests)
-
-    cols : p.col ≡ q.col
-    cols = grind (arith, nat_tests)
-
 -- two declarations whose names stand at one place have one name
 pub one_placed : (g : Prog Place) → StandApart g → (d e : Decl Place) → Contains g.decls d → Contains g.decls e → (decl_name d).1.place ≡ (decl_name e).1.place → (decl_name d).0 ≡ (decl_name e).0
-one_placed g apart d e h k same_one = ap name_of (one_of (λ o. same_place (place_of o) at) (names g) (apart at) _ _ (declared d h) (declared e k) (same_place_itself at) (ap (λ q. same_place q at) (sym same_one) ∙ same_place_itself at))
+one_placed g apart d e h k same_one = ap name_of (one_of (λ o. same_place (place_of o) at) (names g) (apart at) _ _ (declared d h) (declared e k) (same-itself at) (ap (λ q. same_place q at) (sym same_one) ∙ same-itself at))
   where
     at : Place
     at = (decl_name d).1.place
@@ -219,5 +205,5 @@ one_placed g apart d e h k same_one = ap name_of (one_of (λ o. same_place (plac
     name_of (closes name place opening) = name
     name_of (used name place want means) = name
 
-    declared : (f : Decl Place) → (c : Contains g.decls f) → Contains (names g) (declares (decl_name f).0 (decl_name f).1.place (is_some (first (program_name g ∷ map decl_name (split g.decls f c).before) (decl_name f).0)))
-    declared f c = let s = split g.decls f c in declaration g s.before f s.after s.is
+    declared : (f : Decl Place) → (c : Contains g.decls f) → Contains (names g) (declares (decl_name f).0 (decl_name f).1.place (is_some (first (program_name g ∷ map decl_name (split-listed g.decls f c).before) (decl_name f).0)))
+    declared f c = let s = split-listed g.decls f c in declaration g s.before f s.after s.is

@@ -2,6 +2,7 @@
 use Rattle.std.proofs.Common.{◌≡◌, ℕ, suc, ◌+◌, Bool, true, false, cond, if◌then◌else◌, List, [], ◌∷◌, ◌++◌, map, Option, ◌⊎◌, inl, inr, refl, ap, sym, ◌∙◌, subst, arith, true≢false}
 use Rattle.std.specs.Prelude.{Contains, count_by, bytes_eq, nat_eq}
 use Rattle.std.proofs.lemmas.Bool.{eqb-true}
+use Rattle.base.proofs.Members.{at_front, behind, none_in, front_or_behind}
 use Rattle.syntax_tree.specs.Plain.{Name}
 use Rattle.syntax_tree.specs.Plain as plain_of
 use Rattle.syntax_tree.specs.Placed.{Activation, periodic, at_event, Process, process, Decl, constant, device, event, routine, monitor, Prog, plain, plain_activation, plain_process, plain_decl}
@@ -12,13 +13,18 @@ use Rattle.static_names.specs.Occurrences.{names, declared_at, constant_names, o
 use Rattle.static_numbers.specs.Processes.{is_at, is_activated_by, users}
 use Rattle.wellformed.specs.WellFormed.{is_event_of, EventsFit}
 use Rattle.static_semantics.specs.Mirrors.{process_site}
-use Rattle.wellformed_law.proofs.Lists.{at_front, behind, none_in, front_or_behind, sum_cons, Pictured, from_map, split, Within}
-use Rattle.wellformed_law.proofs.Declared.{same_names, same_itself, same_places, same_place_itself, one_named, one_placed}
+use Rattle.wellformed_law.proofs.Lists.{sum_cons, Pictured, from_map, Within}
+use Rattle.wellformed_law.proofs.Declared.{one_named, one_placed}
 use Rattle.wellformed_law.proofs.WellformedLaw.{Laws}
-use Rattle.wellformed_law.proofs.TypesFit.{is_then}
 use Rattle.wellformed_law.proofs.Standing.{plain_processes, process_declared}
 use Rattle.wellformed_law.proofs.Activations.{EventAt, event_at}
 use Rattle.wellformed_law.proofs.ProcessesFit.{in_process_names}
+use Rattle.wellformed_calls_law.proofs.Named.{split-listed}
+use Rattle.wellformed_calls_law.proofs.Falling.{place-true}
+use Rattle.wellformed_names_law.proofs.Lookups.{same-is}
+use Rattle.static_names.proofs.Scopes.{same-refl}
+use Rattle.wellformed_names_law.proofs.Found.{same-itself}
+use Rattle.wellformed_calls_law.proofs.Basics.{held}
 
 event_listed : (ds : List (Decl Place)) (n : Name) (q : Place) → Contains ds (event n q) → Contains (events ds) q
 event_listed [] n q h = absurd (none_in (event n q) h)
@@ -82,10 +88,10 @@ module _ (g : Prog Place) (l : Laws g) where
 
       apart : (b : Bool) → same_place r q ≡ b → bytes_eq n e ≡ false → same_place r q ≡ false
       apart false s w = s
-      apart true s w = absurd (true≢false (sym (ap (λ x. same x e) (one_placed g l.apart (event n r) (event e q) h k (same_places r q s)) ∙ same_itself e) ∙ w))
+      apart true s w = absurd (true≢false (sym (ap (λ x. same x e) (one_placed g l.apart (event n r) (event e q) h k (place-true r q s)) ∙ same-refl e) ∙ w))
 
       by : (b : Bool) → bytes_eq n e ≡ b → same_place r q ≡ b
-      by true w = ap (λ p. same_place p q) (ap place_of (one_named g l.found (event n r) (event e q) h k (same_names n e w))) ∙ same_place_itself q
+      by true w = ap (λ p. same_place p q) (ap place_of (one_named g l.found (event n r) (event e q) h k (same-is n e w))) ∙ same-itself q
       by false w = apart (same_place r q) refl w
 
   activated : (e : Name) (q : Place) → Contains g.decls (event e q) → (before : List (Decl Place)) (p : Process Place) (after : List (Decl Place)) → g.decls ≡ before ++ process p ∷ after
@@ -98,7 +104,7 @@ module _ (g : Prog Place) (l : Laws g) where
 
   pub events_fit : EventsFit (plain g)
   events_fit e h = ap (count_by (λ p. is_event_of e p.activation)) (plain_processes g.decls) ∙ sym (counted_once (declared_at (names g)) of.place e (processes g.decls) agree)
-      ∙ eqb-true (users (declared_at (names g)) of.place (processes g.decls)) 1 (is_then (nat_eq (users (declared_at (names g)) of.place (processes g.decls)) 1) of.place (l.limits.used_once of.place (event_listed g.decls e of.place of.listed)))
+      ∙ eqb-true (users (declared_at (names g)) of.place (processes g.decls)) 1 (held (nat_eq (users (declared_at (names g)) of.place (processes g.decls)) 1) of.place (l.limits.used_once of.place (event_listed g.decls e of.place of.listed)))
     where
       pictured : Pictured plain_decl g.decls (plain_of.event e)
       pictured = from_map plain_decl g.decls (plain_of.event e) h
@@ -107,5 +113,5 @@ module _ (g : Prog Place) (l : Laws g) where
       of = event_of g.decls e pictured.one pictured.listed pictured.is
 
       agree : (p : Process Place) → Contains (processes g.decls) p → is_activated_by (declared_at (names g)) of.place p.activation ≡ is_event_of e (plain_activation p.activation)
-      agree p m = let s = split g.decls (process p) (process_declared g.decls p m) in
+      agree p m = let s = split-listed g.decls (process p) (process_declared g.decls p m) in
           activated e of.place of.listed s.before p s.after s.is p.activation (in_process_names g l s.before p s.after s.is).activation

@@ -3,61 +3,14 @@ use Rattle.std.proofs.Common.{◌≡◌, ℕ, ◌+◌, ◌≤◌, Bool, true, co
 use Rattle.std.specs.Prelude.{Contains, All, sum_by, count_by}
 use Rattle.std.proofs.lemmas.List.Sums.{sum_by-append}
 use Rattle.std.proofs.Math.Nat.{zero-add}
-use Rattle.std.proofs.lemmas.List.Elements.{Contains-append_left, Contains-append_right, Contains-push, Contains-push_cases, Contains-append_cases, All-contains_itself, All-weaker, All-map}
-
-pub at_front : {X : Type 0} (x : X) (xs : List X) → Contains (x ∷ xs) x
-at_front x xs = Contains-append_left (x ∷ []) xs x (Contains-push [] x)
-
-pub behind : {X : Type 0} (y : X) (xs : List X) (x : X) → Contains xs x → Contains (y ∷ xs) x
-behind y xs x h = Contains-append_right (y ∷ []) xs x h
-
-pub none_in : {X : Type 0} (x : X) → Contains [] x → ⊥
-none_in x h = let l = h.1 in omega arith
-
-pub front_or_behind : {X : Type 0} (y : X) (xs : List X) (x : X) → Contains (y ∷ xs) x → (y ≡ x) ⊎ Contains xs x
-front_or_behind y xs x h = by (Contains-append_cases (y ∷ []) xs x h)
-  where
-    one : Contains [] x ⊎ (y ≡ x) → (y ≡ x) ⊎ Contains xs x
-    one (inl n) = absurd (none_in x n)
-    one (inr e) = inl e
-
-    by : Contains (y ∷ []) x ⊎ Contains xs x → (y ≡ x) ⊎ Contains xs x
-    by (inl a) = one (Contains-push_cases [] y x a)
-    by (inr a) = inr a
-
--- where a member stands
-pub record Split {X : Type 0} (xs : List X) (x : X) : Type 0 where
-  pub before : List X
-  pub after : List X
-  pub is : xs ≡ before ++ x ∷ after
-
-pub split : {X : Type 0} (xs : List X) (x : X) → Contains xs x → Split xs x
-split [] x h = absurd (none_in x h)
-split (y ∷ xs) x h = by (split xs x) (front_or_behind y xs x h)
-  where
-    further : Split xs x → Split (y ∷ xs) x
-    further s = record { before = y ∷ s.before; after = s.after; is = ap (λ zs. y ∷ zs) s.is }
-
-    by : (Contains xs x → Split xs x) → (y ≡ x) ⊎ Contains xs x → Split (y ∷ xs) x
-    by again (inl e) = record { before = []; after = xs; is = ap (λ z. z ∷ xs) e }
-    by again (inr m) = further (again m)
+use Rattle.std.proofs.lemmas.List.Elements.{Contains-append_left, Contains-append_right, All-map}
+use Rattle.base.proofs.Members.{at_front, behind, none_in, front_or_behind, each}
 
 pub in_split : {X : Type 0} (xs before after : List X) (x : X) → xs ≡ before ++ x ∷ after → Contains xs x
 in_split xs before after x is = subst (λ ys. Contains ys x) (sym is) (Contains-append_right before (x ∷ after) x (at_front x after))
 
-pub each : {X : Type 0} (P : X → Type 0) (xs : List X) → ((x : X) → Contains xs x → P x) → All P xs
-each P xs f = All-weaker (Contains xs) P f xs (All-contains_itself xs)
-
 pub each_map : {X Y : Type 0} (P : Y → Type 0) (f : X → Y) (xs : List X) → ((x : X) → Contains xs x → P (f x)) → All P (map f xs)
 each_map P f xs h = All-map P f xs (each (λ x. P (f x)) xs h)
-
-pub in_map : {X Y : Type 0} (f : X → Y) (xs : List X) (x : X) → Contains xs x → Contains (map f xs) (f x)
-in_map f [] x h = absurd (none_in x h)
-in_map f (y ∷ xs) x h = by (in_map f xs x) (front_or_behind y xs x h)
-  where
-    by : (Contains xs x → Contains (map f xs) (f x)) → (y ≡ x) ⊎ Contains xs x → Contains (f y ∷ map f xs) (f x)
-    by again (inl e) = subst (λ z. Contains (f y ∷ map f xs) (f z)) e (at_front (f y) (map f xs))
-    by again (inr m) = behind (f y) (map f xs) (f x) (again m)
 
 -- a member of the list whose picture this is
 pub record Pictured {X Y : Type 0} (f : X → Y) (xs : List X) (y : Y) : Type 0 where
@@ -99,10 +52,6 @@ front_part {X} {f} p more x h = subst (λ xs. Contains xs x) (sym (p.adds [] mor
 
 pub rest_part : {X : Type 0} {f : List X → List X} → Adds f → (more : List X) (x : X) → Contains more x → Contains (f more) x
 rest_part {X} {f} p more x h = subst (λ xs. Contains xs x) (sym (p.adds [] more)) (Contains-append_right (f []) more x h)
-
-pub append_nil : {X : Type 0} (xs : List X) → xs ++ [] ≡ xs
-append_nil [] = refl
-append_nil (x ∷ xs) = ap (λ ys. x ∷ ys) (append_nil xs)
 
 -- ---- counts
 

@@ -2,6 +2,7 @@
 use Rattle.std.proofs.Common.{◌≡◌, ℕ, true, false, List, [], ◌∷◌, ◌++◌, map, Some, None, ◌⊎◌, inl, inr, refl, subst}
 use Rattle.std.specs.Prelude.{Contains, All, filter_map}
 use Rattle.std.proofs.lemmas.List.Elements.{All-contains}
+use Rattle.base.proofs.Members.{front_or_behind, none_in}
 use Rattle.syntax_tree.specs.Plain as plain_of
 use Rattle.syntax_tree.specs.Placed.{Routine, Member, variable_member, condition_member, Monitor, Process, Decl, routine, monitor, process, Prog, plain, plain_decl, plain_routine, plain_monitor, plain_process}
 use Rattle.syntax_tree.specs.Parts.{program_routines, processes, monitors}
@@ -19,15 +20,17 @@ use Rattle.wellformed.specs.Here.{in_routine, in_process}
 use Rattle.wellformed.specs.WellFormed.{RoutineFits, ProcessFits, MonitorFits}
 use Rattle.static_semantics.specs.Written.{DeclWritten, RoutineWritten, ProcessWritten, MonitorWritten}
 use Rattle.static_semantics.specs.Mirrors.{Mirrors, program_site, process_site, monitor_site, monitors_in}
-use Rattle.wellformed_law.proofs.Lists.{front_or_behind, none_in, each_map, same_members, in_split, Split, split, Within, front, rest}
+use Rattle.wellformed_law.proofs.Lists.{each_map, same_members, in_split, Within, front, rest}
 use Rattle.wellformed_law.proofs.Adding.{activation_adds, vars_add, members_add, routines_add, stmts_add, optional_adds, handler_adds, declarations_add, routines_parts_add, stmts_parts_add, vars_bounds_add, members_bounds_add}
 use Rattle.wellformed_law.proofs.Declared.{Lacks, lacks_both, lacks_map}
 use Rattle.wellformed_law.proofs.Constants.{Reaches, reaches_program, reaches_inside, reaches_monitor}
 use Rattle.wellformed_law.proofs.WellformedLaw.{Laws, kept}
 use Rattle.wellformed_law.proofs.TypesFit.{vars_fit, members_fit}
-use Rattle.wellformed_law.proofs.Standing.{plain_processes, plain_monitors, plain_routines, process_declared, monitor_declared, routine_declared, MonitorAt, monitor_at, names_of_routine, parts_of_routine, bounds_of_routine, bounds_of_decl}
+use Rattle.wellformed_law.proofs.Standing.{plain_processes, process_declared, monitor_declared, routine_declared, MonitorAt, monitor_at, names_of_routine, parts_of_routine, bounds_of_routine, bounds_of_decl}
 use Rattle.wellformed_law.proofs.Texts.{routine_fits}
 use Rattle.wellformed_law.proofs.Activations.{handler_numbers_add, activation_fits, handler_fits}
+use Rattle.wellformed_calls_law.proofs.Named.{Split, split-listed}
+use Rattle.wellformed_names_law.proofs.ProgramScope.{monitors-plain, routines-plain}
 
 no_constant_in_process : (p : Process Place) → Lacks kind_is.Constant (process_scope p)
 no_constant_in_process p = lacks_both kind_is.Constant (map var_name p.vars) (map routine_name p.routines) (lacks_map kind_is.Constant var_name p.vars (λ v e. cc)) (lacks_map kind_is.Constant routine_name p.routines (λ v e. cc))
@@ -137,7 +140,7 @@ module _ (g : Prog Place) (l : Laws g) where
   shared_fit p mirrors = each_map (RoutineFits (plain g) (plain_process p) of_program) plain_routine (program_routines g.decls) (λ r m. one r (routine_declared g.decls r m))
     where
       one : (r : Routine Place) → Contains g.decls (routine r) → RoutineFits (plain g) (plain_process p) of_program (plain_routine r)
-      one r m = let s = split g.decls (routine r) m in
+      one r m = let s = split-listed g.decls (routine r) m in
           routine_fits g l p of_program (program_site g s.before (routine r ∷ s.after)) r (mirrors s.before s.after r s.is)
           (reaches_program g s.before (routine r ∷ s.after) s.is) (All-contains DeclWritten g.decls (routine r) l.written m)
           (l.all_names s.before (routine r) s.after s.is) (l.all_parts s.before (routine r) s.after s.is) (bounds_listed (routine r) m)
@@ -171,7 +174,7 @@ module _ (g : Prog Place) (l : Laws g) where
       (front all_bounds (members_bounds_add m.members) (routines_bounds m.entries []) (bounds_listed (monitor m) h))
     where
       s : Split g.decls (monitor m)
-      s = split g.decls (monitor m) h
+      s = split-listed g.decls (monitor m) h
 
       w : MonitorWritten m
       w = All-contains DeclWritten g.decls (monitor m) l.written h
@@ -184,7 +187,7 @@ module _ (g : Prog Place) (l : Laws g) where
         (front (parts g) (stmts_parts_add (outside_loops home_is.Free) p.body) (handler_parts p.handler []) below_routines);
     handler = handler_fits g l p site mirrors reaches p.handler w.handler inside.handler (rest (parts g) (stmts_parts_add (outside_loops home_is.Free) p.body) (handler_parts p.handler []) below_routines) (numbers_of_handler (processes g.decls) p listed);
     own = own_fit s.before p s.after s.is h;
-    shared = same_members (RoutineFits (plain g) (plain_process p) of_program) (filter_map routine_in (map plain_decl g.decls)) (map plain_routine (program_routines g.decls)) (plain_routines g.decls) (shared_fit p (l.mirrored p h).routines_of_program);
+    shared = same_members (RoutineFits (plain g) (plain_process p) of_program) (filter_map routine_in (map plain_decl g.decls)) (map plain_routine (program_routines g.decls)) (routines-plain g.decls) (shared_fit p (l.mirrored p h).routines_of_program);
     entries = λ k m e. entries_at k m (monitor_at g.decls k m e);
     levels = l.levels p h;
   }
@@ -193,7 +196,7 @@ module _ (g : Prog Place) (l : Laws g) where
       h = process_declared g.decls p listed
 
       s : Split g.decls (process p)
-      s = split g.decls (process p) h
+      s = split-listed g.decls (process p) h
 
       site : Site
       site = process_site g s.before p s.after
@@ -222,5 +225,5 @@ module _ (g : Prog Place) (l : Laws g) where
       (each_map (ProcessFits (plain g)) plain_process (processes g.decls) process_fit)
 
   pub all_monitors_fit : All (MonitorFits (plain g)) (filter_map monitor_in (map plain_decl g.decls))
-  all_monitors_fit = same_members (MonitorFits (plain g)) (filter_map monitor_in (map plain_decl g.decls)) (map plain_monitor (monitors g.decls)) (plain_monitors g.decls)
+  all_monitors_fit = same_members (MonitorFits (plain g)) (filter_map monitor_in (map plain_decl g.decls)) (map plain_monitor (monitors g.decls)) (monitors-plain g.decls)
       (each_map (MonitorFits (plain g)) plain_monitor (monitors g.decls) (λ m c. monitor_fit m (monitor_declared g.decls m c)))

@@ -1,6 +1,7 @@
 -- Where no rule fails among parts, each rule holds of each part.
 use Rattle.std.proofs.Common.{◌≡◌, ℕ, zero, suc, List, [], ◌∷◌, Option, Some, None, ◌⊎◌, inl, inr, refl, subst}
 use Rattle.std.specs.Prelude.{Contains, slice_get}
+use Rattle.base.proofs.Members.{at_front, none_in, front_or_behind}
 use Rattle.syntax_tree.specs.Placed.{Process, Prog}
 use Rattle.syntax_tree.specs.declared.place.Place.{Place}
 use Rattle.static_rule.specs.Parts.{Rule, FailsOf, FailsAmong}
@@ -11,7 +12,6 @@ use Rattle.static_numbers.specs.Types.{Bounds, decls_bounds, crossed, too_long}
 use Rattle.syntax_tree.specs.Parts.{processes, events, monitors, devices}
 use Rattle.static_numbers.specs.Processes.{bad_frame, bad_deadline, bad_first, misused_event, Handled, all_handled, bad_handled, repeated}
 use Rattle.static_numbers.specs.Counts.{process_places, monitor_places, conditions, routine_places, one_too_many, no_process, too_many_words}
-use Rattle.wellformed_law.proofs.Lists.{at_front, none_in, front_or_behind}
 
 -- the rule holds of the part
 holds : {X : Type 0} (r : Rule X) (rs : List (Rule X)) (x : X) → ((n : ℕ) (p : Place) → ¬ FailsOf (r ∷ rs) x n p) → r.fails x ≡ None

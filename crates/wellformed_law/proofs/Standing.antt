@@ -2,17 +2,18 @@
 use Rattle.std.proofs.Common.{◌≡◌, ℕ, zero, suc, Bool, List, [], ◌∷◌, ◌++◌, map, Some, ◌⊎◌, inl, inr, refl, ap, ◌∙◌, subst}
 use Rattle.std.specs.Prelude.{Contains, filter_map, slice_get}
 use Rattle.std.proofs.lemmas.Option.{none-some, same_Some}
+use Rattle.base.proofs.Members.{at_front, behind, none_in, front_or_behind}
 use Rattle.syntax_tree.specs.Plain as plain_of
-use Rattle.syntax_tree.specs.Placed.{Routine, Monitor, Process, Decl, constant, device, event, routine, monitor, process, plain_routine, plain_monitor, plain_process, plain_decl}
+use Rattle.syntax_tree.specs.Placed.{Routine, Monitor, Process, Decl, constant, device, event, routine, monitor, process, plain_monitor, plain_process, plain_decl}
 use Rattle.syntax_tree.specs.Parts.{program_routines, processes, monitors}
 use Rattle.syntax_tree.specs.declared.place.Place.{Place}
 use Rattle.static_names.specs.Reach.{Site}
 use Rattle.static_names.specs.Occurrences.{Occurrence, routine_names, routines_names}
 use Rattle.static_declarations.specs.Parts.{Part, routine_parts, routines_parts}
 use Rattle.static_numbers.specs.Types.{Bounds, decls_bounds, decl_bounds, routine_bounds, routines_bounds}
-use Rattle.source_semantics.specs.Names.{routine_in, monitor_in, process_in}
+use Rattle.source_semantics.specs.Names.{monitor_in, process_in}
 use Rattle.static_semantics.specs.Mirrors.{monitors_in}
-use Rattle.wellformed_law.proofs.Lists.{at_front, behind, none_in, front_or_behind, Within, front, rest}
+use Rattle.wellformed_law.proofs.Lists.{Within, front, rest}
 use Rattle.wellformed_law.proofs.Adding.{routine_adds, routine_parts_add, routine_bounds_add, decl_bounds_add}
 
 -- ---- plain lists
@@ -25,24 +26,6 @@ plain_processes (event n p ∷ ds) = plain_processes ds
 plain_processes (routine r ∷ ds) = plain_processes ds
 plain_processes (monitor m ∷ ds) = plain_processes ds
 plain_processes (process p ∷ ds) = ap (λ ps. plain_process p ∷ ps) (plain_processes ds)
-
-pub plain_monitors : (ds : List (Decl Place)) → filter_map monitor_in (map plain_decl ds) ≡ map plain_monitor (monitors ds)
-plain_monitors [] = refl
-plain_monitors (constant n p k ∷ ds) = plain_monitors ds
-plain_monitors (device n p is_out ∷ ds) = plain_monitors ds
-plain_monitors (event n p ∷ ds) = plain_monitors ds
-plain_monitors (routine r ∷ ds) = plain_monitors ds
-plain_monitors (monitor m ∷ ds) = ap (λ ms. plain_monitor m ∷ ms) (plain_monitors ds)
-plain_monitors (process p ∷ ds) = plain_monitors ds
-
-pub plain_routines : (ds : List (Decl Place)) → filter_map routine_in (map plain_decl ds) ≡ map plain_routine (program_routines ds)
-plain_routines [] = refl
-plain_routines (constant n p k ∷ ds) = plain_routines ds
-plain_routines (device n p is_out ∷ ds) = plain_routines ds
-plain_routines (event n p ∷ ds) = plain_routines ds
-plain_routines (routine r ∷ ds) = ap (λ rs. plain_routine r ∷ rs) (plain_routines ds)
-plain_routines (monitor m ∷ ds) = plain_routines ds
-plain_routines (process p ∷ ds) = plain_routines ds
 
 -- ---- from the lists to the declarations
 

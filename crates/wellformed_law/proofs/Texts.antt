@@ -1,5 +1,6 @@
 -- The routines of a program fit where they stand: their parameters, variables, bodies and answers.
 use Rattle.std.proofs.Common.{◌≡◌, false, List, [], ◌∷◌, map, Option, Some, None, is_some, refl}
+use Rattle.base.proofs.Members.{at_front}
 use Rattle.syntax_tree.specs.Placed.{Scalar, Expr, RoutineKind, procedure, function, Routine, Process, Prog, plain, plain_answers, plain_routine, plain_process}
 use Rattle.syntax_tree.specs.declared.place.Place.{Place}
 use Rattle.static_names.specs.Reach.{Site, inside}
@@ -14,7 +15,7 @@ use Rattle.wellformed.specs.WellFormed.{AnswersFit, RoutineFits}
 use Rattle.static_semantics.specs.Written.{ResultWritten, RoutineWritten}
 use Rattle.static_semantics.specs.Mirrors.{Mirrors}
 use Rattle.static_semantics.specs.Judged.{IsHome, IsPlaced}
-use Rattle.wellformed_law.proofs.Lists.{at_front, Within, front, rest}
+use Rattle.wellformed_law.proofs.Lists.{Within, front, rest}
 use Rattle.wellformed_law.proofs.Adding.{scalar_adds, expr_adds, stmts_add, params_add, vars_add, optional_adds, declarations_add, stmts_parts_add, params_bounds_add, result_bounds_add}
 use Rattle.wellformed_law.proofs.Declared.{Lacks, lacks_both, lacks_map}
 use Rattle.wellformed_law.proofs.Constants.{Reaches, reaches_inside}

@@ -1,9 +1,9 @@
 -- The types of variables, parameters and results fit.
-use Rattle.std.proofs.Common.{◌≡◌, Bool, true, false, if◌then◌else◌, List, [], ◌∷◌, map, Some, None, refl, sym, arith}
+use Rattle.std.proofs.Common.{◌≡◌, Bool, true, false, List, [], ◌∷◌, map, arith}
 use Rattle.std.specs.Prelude.{Contains, ℤ, pos, negsuc, ◌+ℤ◌, int_le, int_lt, All, filter_map}
-use Rattle.std.proofs.lemmas.Option.{none-some}
 use Rattle.std.proofs.lemmas.Bool.Decides.{nat_tests}
 use Rattle.std.proofs.lemmas.List.Elements.{All-nil, All-cons, All-head, All-tail}
+use Rattle.base.proofs.Members.{at_front, behind}
 use Rattle.syntax_tree.specs.Placed.{Constant, Scalar, int, boolean, subrange, Kind, scalar, array, Var, Param, Member, variable_member, condition_member, Prog, plain, plain_constant, plain_scalar, plain_kind, plain_var, plain_param, plain_member}
 use Rattle.syntax_tree.specs.declared.place.Place.{Place}
 use Rattle.static_names.specs.Reach.{Site}
@@ -14,25 +14,12 @@ use Rattle.source_semantics.specs.Names.{constants, variable_in}
 use Rattle.wellformed.specs.Statements.{IsConstant}
 use Rattle.wellformed.specs.WellFormed.{AreBounds, ScalarFits, KindFits, VarFits, ParamFits}
 use Rattle.static_semantics.specs.Written.{ScalarWritten, KindWritten, VarWritten, ParamWritten, MemberWritten}
-use Rattle.wellformed_law.proofs.Lists.{at_front, behind, Within, front, rest}
+use Rattle.wellformed_law.proofs.Lists.{Within, front, rest}
 use Rattle.wellformed_law.proofs.Adding.{constant_adds, scalar_adds, kind_adds, scalar_bounds_add, kind_bounds_add}
 use Rattle.wellformed_law.proofs.Constants.{Reaches}
 use Rattle.wellformed_law.proofs.WellformedLaw.{Laws, constant_fits}
-
-pub not_then : (b : Bool) (p : Place) → (if b then Some p else None) ≡ None → b ≡ false
-not_then true p e = absurd (none-some p (sym e))
-not_then false p e = refl
-
-pub is_then : (b : Bool) (p : Place) → (if b then None else Some p) ≡ None → b ≡ true
-is_then true p e = refl
-is_then false p e = absurd (none-some p (sym e))
-
--- the order of numbers
-not_above : (a b : ℤ) → int_lt b a ≡ false → int_le a b ≡ true
-not_above (pos a) (pos b) e = grind (arith, nat_tests)
-not_above (pos a) (negsuc b) e = grind (arith, nat_tests)
-not_above (negsuc a) (pos b) e = grind (arith, nat_tests)
-not_above (negsuc a) (negsuc b) e = grind (arith, nat_tests)
+use Rattle.wellformed_calls_law.proofs.Numbers.{in_order}
+use Rattle.wellformed_calls_law.proofs.Basics.{not_held}
 
 not_from : (a b : ℤ) → int_le b a ≡ false → int_lt a b ≡ true
 not_from (pos a) (pos b) e = grind (arith, nat_tests)
@@ -49,7 +36,7 @@ module _ (g : Prog Place) (l : Laws g) where
   bounds_fit of_array low high listed a b = record {
     low_constant = a;
     high_constant = b;
-    order = not_above (value g low) (value g high) (not_then (int_lt (value g high) (value g low)) (constant_place low) (l.limits.crossed_none (record { of_array = of_array; low = low; high = high }) listed));
+    order = in_order (value g low) (value g high) (not_held (int_lt (value g high) (value g low)) (constant_place low) (l.limits.crossed_none (record { of_array = of_array; low = low; high = high }) listed));
   }
 
   pub scalar_fits : (site : Site) → Reaches (constants (plain g)) site → (s : Scalar Place) → ScalarWritten s → Within (scalar_names site s []) (names g) → Within (scalar_bounds s []) all_bounds
@@ -67,7 +54,7 @@ module _ (g : Prog Place) (l : Laws g) where
     bounds_fit true low high (b _ (at_front _ (scalar_bounds s [])))
         (constant_fits g l site reaches low w.0 (front (names g) (constant_adds site low) (constant_names site high (scalar_names site s [])) n))
         (constant_fits g l site reaches high w.1 (front (names g) (constant_adds site high) (scalar_names site s []) above)),
-    not_from (value g high) (value g low +ℤ pos 65536) (not_then (int_le (value g low +ℤ pos 65536) (value g high)) (constant_place low) (l.limits.long_none (record { of_array = true; low = low; high = high }) (b _ (at_front _ (scalar_bounds s []))))),
+    not_from (value g high) (value g low +ℤ pos 65536) (not_held (int_le (value g low +ℤ pos 65536) (value g high)) (constant_place low) (l.limits.long_none (record { of_array = true; low = low; high = high }) (b _ (at_front _ (scalar_bounds s []))))),
     scalar_fits site reaches s w.2 (rest (names g) (constant_adds site high) (scalar_names site s []) above) (λ x h. b x (behind _ (scalar_bounds s []) x h)),
   )
     where

@@ -1,8 +1,8 @@
 -- An entry behind its monitor's name stands for what the meaning looks up, where the places of monitors are apart.
-use Rattle.std.proofs.Common.{◌≡◌, ℕ, ◌+◌, ◌≤◌, inl, inr, Bool, true, false, cond, ◌&&◌, List, [], ◌∷◌, ◌++◌, map, Option, Some, None, is_some, refl, ap, sym, subst, ◌∙◌, arith}
+use Rattle.std.proofs.Common.{◌≡◌, ℕ, ◌+◌, ◌≤◌, inl, inr, Bool, true, false, cond, List, [], ◌∷◌, ◌++◌, map, Option, Some, None, is_some, refl, ap, sym, subst, ◌∙◌, arith}
 use Rattle.std.specs.Prelude.{option_map}
-use Rattle.std.proofs.lemmas.Cmp.{nat_eq_equiv}
 use Rattle.std.proofs.lemmas.List.Elements.{All-contains}
+use Rattle.std.proofs.lemmas.Option.{none-some}
 use Rattle.syntax_tree.specs.Plain.{Name}
 use Rattle.syntax_tree.specs.Plain as plain_of
 use Rattle.syntax_tree.specs.Placed.{Routine, Monitor, Process, Decl, constant, device, event, routine, monitor, process, Prog, plain, plain_routine, plain_monitor}
@@ -22,12 +22,14 @@ use Rattle.static_semantics.specs.Written.{IsWritten, DeclWritten, RoutineWritte
 use Rattle.static_semantics.specs.Things.{ThingsKnown}
 use Rattle.static_semantics.specs.Places.{count_at, StandApart}
 use Rattle.static_semantics.specs.Mirrors.{IsEntryOf}
-use Rattle.wellformed_names_law.proofs.Members.{In, in-contains, ends-count, count-cons}
-use Rattle.wellformed_names_law.proofs.Lookups.{named-map, none-some, first-append, FoundBy, found-by, Either, in_first, in_second, either}
+use Rattle.wellformed_names_law.proofs.Members.{In, in-contains, ends-count, count-cons, sum-first}
+use Rattle.wellformed_names_law.proofs.Lookups.{named-map, FoundBy, found-by, Either, in_first, in_second, either}
 use Rattle.wellformed_names_law.proofs.NamesAfter.{ends-inner}
 use Rattle.wellformed_names_law.proofs.ThingsListed.{thing-known, routine-always, entry-always}
 use Rattle.wellformed_names_law.proofs.ProgramScope.{Listed, Looks, monitors-plain, monitor_called}
 use Rattle.wellformed_names_law.proofs.ProgramNames.{text_at, as_found}
+use Rattle.wellformed_names_law.proofs.Found.{same-itself}
+use Rattle.static_names.proofs.Programs.{first-append}
 
 -- ---- monitors have places of their own
 
@@ -42,9 +44,6 @@ rest-less a b r c s e l = omega arith
 
 at-least : (a b r c : ℕ) → c ≡ a + b → r ≤ b → 1 ≤ r → 1 ≤ c
 at-least a b r c s e l = omega arith
-
-first-one : (a b c : ℕ) → c ≡ a + b → a ≡ 1 → 1 ≤ c
-first-one a b c s e = omega arith
 
 same_monitor : (m k : Monitor Place) → monitor m ≡ monitor k → m ≡ k
 same_monitor m k e = cc
@@ -68,7 +67,7 @@ module _ (members : Place → Reach) (q : Place) where
 
   counted : (earlier : Names) (ds : List (Decl Place)) (more : List Occurrence) (m : Monitor Place) → In ds (monitor m) → same_place m.place q ≡ true → 1 ≤ count_at q (decls_names members earlier ds more)
   counted earlier [] more m i s = absurd i
-  counted earlier (c ∷ ds) more m (inl e) s = first-one _ _ _ (split earlier c ds more) (head c m e s)
+  counted earlier (c ∷ ds) more m (inl e) s = sum-first _ _ _ (split earlier c ds more) (head c m e s)
   counted earlier (c ∷ ds) more m (inr i) s = at-least _ _ _ _ (split earlier c ds more) (rest earlier c ds more) (counted (earlier ++ decl_name c ∷ []) ds more m i s)
 
   one-monitor : (earlier : Names) (ds : List (Decl Place)) (more : List Occurrence) → count_at q (decls_names members earlier ds more) ≤ 1
@@ -88,18 +87,11 @@ module _ (members : Place → Reach) (q : Place) where
   one-monitor earlier (c ∷ ds) more few m k (inr i) (inr j) s t =
       one-monitor (earlier ++ decl_name c ∷ []) ds more (rest-less _ _ _ _ (split earlier c ds more) (rest earlier c ds more) few) m k i j s t
 
-same_place-refl : (q : Place) → same_place q q ≡ true
-same_place-refl q = both _ _ (nat_eq_equiv.refl q.line) (nat_eq_equiv.refl q.col)
-  where
-    both : (a b : Bool) → a ≡ true → b ≡ true → (a && b) ≡ true
-    both true b e f = f
-    both false b e f = e
-
 pub monitors-apart : (g : Prog Place) → StandApart g → MonitorsApart g
 monitors-apart g apart m k i j s =
     one-monitor (λ place. first (entries_at g.decls place)) k.place (program_name g ∷ []) g.decls (closes g.close g.close_place g.name ∷ [])
     (rest-less _ _ _ _ (count-cons (λ o. same_place (place_of o) k.place) (declares g.name g.place false) (decls_names (λ place. first (entries_at g.decls place)) (program_name g ∷ []) g.decls (closes g.close g.close_place g.name ∷ []))) (self _) (apart k.place))
-    m k i j s (same_place-refl k.place)
+    m k i j s (same-itself k.place)
   where
     self : (n : ℕ) → n ≤ n
     self n = omega arith

@@ -16,7 +16,7 @@ use Rattle.wellformed_names_law.proofs.WellformedNamesCounts.{one, standing, cou
 
 -- ---- what stands at a place
 
-same-itself : (p : Place) → same_place p p ≡ true
+pub same-itself : (p : Place) → same_place p p ≡ true
 same-itself p = ap (λ b. b && eqb p.col p.col) (eq-eqb p.line p.line refl) ∙ eq-eqb p.col p.col refl
 
 unused : (b : Bool) (x : Option Place) (d : Place) (n : ℕ) → one b + n ≡ 0 → x ≡ None → or_else x (if b then Some d else None) ≡ None

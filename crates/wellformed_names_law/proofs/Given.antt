@@ -1,7 +1,7 @@
 -- What the tokens of a part give: where the literals among them are words, so are those of the tree.
 use Rattle.std.proofs.Common.{ℕ, zero, suc, ◌≤◌, List, [], ◌∷◌, subst, arith}
 use Rattle.std.specs.Prelude.{All}
-use Rattle.std.proofs.lemmas.List.Elements.{All-cons}
+use Rattle.std.proofs.lemmas.List.Elements.{All-cons, All-nil}
 use Rattle.syntax_tree.specs.declared.place.Place.{Place}
 use Rattle.syntax.specs.declared.token.Token.{Token}
 use Rattle.syntax.specs.declared.token.TokenKind.{TokenKind}
@@ -82,11 +82,8 @@ deeper (suc depth) k = k depth
 
 -- ---- lists
 
-nothing-there : {A : Type 0} (P : A → Type 0) → All P []
-nothing-there P k d below = absurd (omega arith)
-
 pub each : {A : Type 0} (R : A → List (Tok Place) → List (Tok Place) → Type 0) (P : A → Type 0) → ((x : A) → Gives (R x) (P x)) → (xs : List A) → Gives (Each R xs) (All P xs)
-each R P k [] = turn none (λ x. nothing-there P)
+each R P k [] = turn none (λ x. All-nil P)
 each R P k (x ∷ xs) = turn (k x ▸ each R P k xs) (λ y. All-cons P x xs y.0 y.1)
 
 pub listed : {A : Type 0} (R : A → List (Tok Place) → List (Tok Place) → Type 0) (P : A → Type 0) → ((x : A) → Gives (R x) (P x)) → (xs : List A) → Gives (Listed R xs) (All P xs)
@@ -94,5 +91,5 @@ listed R P k [] = record { from = λ ts us t fit. absurd t }
 listed R P k (x ∷ xs) = turn (k x ▸ each (λ y. a w.COMMA ▷ R y) P (λ y. any w.COMMA ▹ k y) xs) (λ y. All-cons P x xs y.0 y.1)
 
 pub some_listed : {A : Type 0} (R : A → List (Tok Place) → List (Tok Place) → Type 0) (P : A → Type 0) → ((x : A) → Gives (R x) (P x)) → (xs : List A) → Gives (SomeListed R xs) (All P xs)
-some_listed R P k [] = turn none (λ x. nothing-there P)
+some_listed R P k [] = turn none (λ x. All-nil P)
 some_listed R P k (x ∷ xs) = listed R P k (x ∷ xs)

@@ -1,5 +1,5 @@
 mod WellformedNamesCounts
-mod Found
+pub mod Found
 mod Parts
 mod ExprParts
 mod DeclParts

@@ -3,6 +3,7 @@ use Rattle.std.proofs.Common.{false, List, [], ◌∷◌, ◌++◌, map, sym, su
 use Rattle.std.specs.Prelude.{Contains, is_some}
 use Rattle.std.proofs.lemmas.List.{append-nil}
 use Rattle.std.proofs.lemmas.List.Elements.{Contains-append_left, Contains-append_right}
+use Rattle.base.proofs.Members.{behind}
 use Rattle.syntax_tree.specs.Placed.{Decl, Prog}
 use Rattle.syntax_tree.specs.declared.place.Place.{Place}
 use Rattle.static_names.specs.Reach.{Names, Reach, Site, first}
@@ -18,9 +19,6 @@ in_front f puts more x c = subst (λ l. Contains l x) (sym (puts [] more)) (Cont
 -- what follows stands in the whole
 in_rest : {A : Type 0} (f : List A → List A) → Puts f → (more : List A) (x : A) → Contains more x → Contains (f more) x
 in_rest f puts more x c = subst (λ l. Contains l x) (sym (puts [] more)) (Contains-append_right (f []) more x c)
-
-behind : {A : Type 0} (y : A) (xs : List A) (x : A) → Contains xs x → Contains (y ∷ xs) x
-behind y xs x c = Contains-append_right (y ∷ []) xs x c
 
 -- ---- parts
 

@@ -1,41 +1,22 @@
 -- The first declaration of a name in a scope, and the first thing of a name in a list of things.
 use Rattle.std.proofs.Common.{◌≡◌, inl, inr, Bool, true, false, cond, List, [], ◌∷◌, ◌++◌, map, Option, Some, None, refl, ap, sym, ◌∙◌}
 use Rattle.std.specs.Prelude.{option_map}
-use Rattle.std.proofs.lemmas.Cmp.{nat_list_eq_equiv}
 use Rattle.std.proofs.lemmas.Slice.Eq.{bytes_eq-Decides}
+use Rattle.std.proofs.lemmas.Option.{same_Some, none-some}
 use Rattle.syntax_tree.specs.Plain.{Name}
 use Rattle.static_names.specs.declared.kind.Declared.{Declared}
 use Rattle.static_names.specs.Reach.{same, Names, first, or_else}
 use Rattle.source_semantics.specs.Names.{named}
 use Rattle.wellformed_names_law.proofs.Members.{In}
-
-pub same-refl : (n : Name) → same n n ≡ true
-same-refl n = nat_list_eq_equiv.refl n
-
-pub same-symm : (n k : Name) → same n k ≡ same k n
-same-symm n k = nat_list_eq_equiv.symm n k
+use Rattle.static_names.proofs.Scopes.{same-refl, same-symm}
 
 pub same-is : (n k : Name) → same n k ≡ true → n ≡ k
 same-is n k e = (bytes_eq-Decides n k).0 e
-
-pub some-is : {X : Type 0} (a b : X) → Some a ≡ Some b → a ≡ b
-some-is a b e = cc
-
-pub none-some : {X : Type 0} (a : X) → None ≡ Some a → ⊥
-none-some a e = cc
 
 pub some-none : {X : Type 0} (a : X) → Some a ≡ None → ⊥
 some-none a e = cc
 
 -- ---- in a scope
-
-pub first-append : (xs ys : Names) (x : Name) → first (xs ++ ys) x ≡ or_else (first xs x) (first ys x)
-first-append [] ys x = refl
-first-append (d ∷ ds) ys x = by (same x d.0) (first-append ds ys x)
-  where
-    by : (b : Bool) → first (ds ++ ys) x ≡ or_else (first ds x) (first ys x) → cond b (Some d.1) (first (ds ++ ys) x) ≡ or_else (cond b (Some d.1) (first ds x)) (first ys x)
-    by true h = refl
-    by false h = h
 
 -- what is declared in a scope is found there
 pub first-not : (ds : Names) (e : Name × Declared) → In ds e → first ds e.0 ≡ None → ⊥
@@ -65,7 +46,7 @@ module _ {A : Type 0} (name_of : A → Name) where
   named-in (c ∷ things) x a e = by (same (name_of c) x) refl e (named-in things x a)
     where
       by : (b : Bool) → same (name_of c) x ≡ b → cond b (Some c) (named name_of x things) ≡ Some a → (named name_of x things ≡ Some a → NamedIn things x a) → NamedIn (c ∷ things) x a
-      by true s f h = record { listed = inl (some-is c a f); name = ap name_of (sym (some-is c a f)) ∙ same-is (name_of c) x s }
+      by true s f h = record { listed = inl (same_Some c a f); name = ap name_of (sym (same_Some c a f)) ∙ same-is (name_of c) x s }
       by false s f h = let l = h f in record { listed = inr l.listed; name = l.name }
 
 -- names are kept where things are changed
@@ -111,7 +92,7 @@ module _ {A : Type 0} (label : A → Name × Declared) where
   found-by (a ∷ things) x d e = by (same x (label a).0) refl e (found-by things x d)
     where
       by : (b : Bool) → same x (label a).0 ≡ b → cond b (Some (label a).1) (first (map label things) x) ≡ Some d → (first (map label things) x ≡ Some d → FoundBy things x d) → FoundBy (a ∷ things) x d
-      by true s f h = record { one = a; listed = inl refl; is = some-is (label a).1 d f; found = named-here label_name x a things s }
+      by true s f h = record { one = a; listed = inl refl; is = same_Some (label a).1 d f; found = named-here label_name x a things s }
       by false s f h = let l = h f in record { one = l.one; listed = inr l.listed; is = l.is; found = named-step label_name x a things s ∙ l.found }
 
   pub not-found-by : (things : List A) (x : Name) → first (map label things) x ≡ None → named label_name x things ≡ None

@@ -2,21 +2,16 @@
 use Rattle.std.proofs.Common.{◌≡◌, ℕ, ◌+◌, ◌<◌, ◌≤◌, zero, suc, ◌⊎◌, inl, inr, Bool, cond, List, [], ◌∷◌, ◌++◌, length, map, refl, ap, sym, subst, ◌∙◌, arith, append_assoc}
 use Rattle.std.specs.Prelude.{Contains, count_by, slice_index_or}
 use Rattle.std.proofs.lemmas.List.Sums.{sum_by-append}
+use Rattle.base.proofs.Members.{at_front, behind}
 
 abbrev pub In : {X : Type 0} → List X → X → Type 0
 In [] x = ⊥
 In (y ∷ ys) x = (y ≡ x) ⊎ In ys x
 
-pub contains-here : {X : Type 0} (x : X) (xs : List X) → Contains (x ∷ xs) x
-contains-here x xs = (0, omega arith, refl)
-
-pub contains-there : {X : Type 0} (y x : X) (xs : List X) → Contains xs x → Contains (y ∷ xs) x
-contains-there y x xs c = (suc c.0, let h = c.1 in omega arith, c.2)
-
 pub in-contains : {X : Type 0} (xs : List X) (x : X) → In xs x → Contains xs x
 in-contains [] x i = absurd i
-in-contains (y ∷ ys) x (inl e) = subst (Contains (y ∷ ys)) e (contains-here y ys)
-in-contains (y ∷ ys) x (inr i) = contains-there y x ys (in-contains ys x i)
+in-contains (y ∷ ys) x (inl e) = subst (Contains (y ∷ ys)) e (at_front y ys)
+in-contains (y ∷ ys) x (inr i) = behind y ys x (in-contains ys x i)
 
 pub contains-in : {X : Type 0} (xs : List X) (x : X) → Contains xs x → In xs x
 contains-in {X} xs x c = at xs c.0 c.1 c.2
@@ -71,3 +66,9 @@ count-cons p y ys = sum_by-append (λ x. cond (p x) 1 0) (y ∷ []) ys ∙ ap (�
   where
     zero-first : (n : ℕ) → 0 + n ≡ n
     zero-first n = omega arith
+
+pub sum-first : (a b c : ℕ) → c ≡ a + b → a ≡ 1 → 1 ≤ c
+sum-first a b c s e = omega arith
+
+sum-second : (a b c : ℕ) → c ≡ a + b → 1 ≤ b → 1 ≤ c
+sum-second a b c s e = omega arith

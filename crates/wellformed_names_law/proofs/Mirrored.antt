@@ -17,12 +17,13 @@ use Rattle.static_semantics.specs.Things.{ThingsKnown}
 use Rattle.static_semantics.specs.Places.{StandApart, NamesFound}
 use Rattle.static_semantics.specs.Mirrors.{NamesListed, Mirrors, AreMirrored, program_site, process_site, monitor_site, monitors_in}
 use Rattle.wellformed_names_law.proofs.Members.{In, contains-in, in-middle}
-use Rattle.wellformed_names_law.proofs.Lookups.{first-append, found-by, Either, in_first, in_second, either}
+use Rattle.wellformed_names_law.proofs.Lookups.{found-by, Either, in_first, in_second, either}
 use Rattle.wellformed_names_law.proofs.ThingsListed.{process_routine-always, entry-always}
 use Rattle.wellformed_names_law.proofs.ProgramScope.{Listed, program-means, routine_called, none-hidden}
 use Rattle.wellformed_names_law.proofs.ProgramNames.{program-stands}
 use Rattle.wellformed_names_law.proofs.EntryNames.{MonitorsApart, monitors-apart, MonitorOf, monitor-of, entries-of, entries-stand}
 use Rattle.wellformed_names_law.proofs.ScopeNames.{process-stands, monitor-stands, routine-stands}
+use Rattle.static_names.proofs.Programs.{first-append}
 
 -- ---- no monitor is declared inside a scope
 

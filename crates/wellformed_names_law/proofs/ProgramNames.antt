@@ -17,9 +17,10 @@ use Rattle.static_semantics.specs.Written.{IsWritten, DeclWritten}
 use Rattle.static_semantics.specs.Things.{ThingsKnown}
 use Rattle.static_semantics.specs.Mirrors.{StandsAs, routine_of}
 use Rattle.wellformed_names_law.proofs.Members.{In, in-contains, in-map}
-use Rattle.wellformed_names_law.proofs.Lookups.{same-refl, named-map}
+use Rattle.wellformed_names_law.proofs.Lookups.{named-map}
 use Rattle.wellformed_names_law.proofs.ThingsListed.{thing-known, routine-always}
 use Rattle.wellformed_names_law.proofs.ProgramScope.{Listed, Looks, routines-plain, routine_called}
+use Rattle.static_names.proofs.Scopes.{same-refl}
 
 -- where a text of a process stands
 abbrev pub text_at : Prog Place → Process Place → Home → Bool → List plain_of.Var → Here

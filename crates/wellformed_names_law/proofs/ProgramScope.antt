@@ -1,6 +1,7 @@
 -- What is in reach from the declarations of a program: each name is that of a declaration, which look-ups by name find.
 use Rattle.std.proofs.Common.{◌≡◌, ◌⊎◌, inl, inr, Bool, true, false, cond, ◌||◌, List, [], ◌∷◌, ◌++◌, map, Option, Some, None, is_some, refl, ap, sym, subst, ◌∙◌}
 use Rattle.std.specs.Prelude.{filter_map}
+use Rattle.std.proofs.lemmas.Option.{same_Some, none-some}
 use Rattle.syntax_tree.specs.Plain.{Name}
 use Rattle.syntax_tree.specs.Placed.{Routine, Monitor, Process, Decl, constant, device, event, routine, monitor, process, Prog, plain_routine, plain_monitor, plain_decl}
 use Rattle.syntax_tree.specs.Parts.{program_routines, monitors}
@@ -12,7 +13,8 @@ use Rattle.source_semantics.specs.Names.{named, routine_in, monitor_in}
 use Rattle.static_semantics.specs.Places.{NamesFound}
 use Rattle.static_semantics.specs.Mirrors.{NamesListed, program_site}
 use Rattle.wellformed_names_law.proofs.Members.{In, in-contains, in-right, in-map}
-use Rattle.wellformed_names_law.proofs.Lookups.{same-is, some-is, none-some, named-step, named-here, named-in, first-not}
+use Rattle.wellformed_names_law.proofs.Lookups.{same-is, named-step, named-here, named-in, first-not}
+use Rattle.static_names.proofs.Scopes.{none-of}
 
 pub routines-plain : (ds : List (Decl Place)) → filter_map routine_in (map plain_decl ds) ≡ map plain_routine (program_routines ds)
 routines-plain [] = refl
@@ -98,7 +100,7 @@ listed-step : (c : Decl Place) (es : Names) (ds : List (Decl Place)) (x : Name) 
 listed-step c es ds x d e rest = by (same x (decl_name c).0) refl e
   where
     by : (b : Bool) → same x (decl_name c).0 ≡ b → cond b (Some (decl_name c).1) (first es x) ≡ Some d → Listed (c ∷ ds) x d
-    by true s f = record { one = c; listed = inl refl; name = sym (same-is x (decl_name c).0 s); is = some-is (decl_name c).1 d f; looks = looks-here c ds x s }
+    by true s f = record { one = c; listed = inl refl; name = sym (same-is x (decl_name c).0 s); is = same_Some (decl_name c).1 d f; looks = looks-here c ds x s }
     by false s f = let l = rest f in record { one = l.one; listed = inr l.listed; name = l.name; is = l.is; looks = looks-after l.one c ds x s l.looks }
 
 listed-others : (ds : List (Decl Place)) (x : Name) (d : Declared) → first (others ds) x ≡ Some d → Listed ds x d
@@ -121,7 +123,7 @@ pub program-means : (g : Prog Place) (before rest : List (Decl Place)) → g.dec
 program-means g before rest is x d e = by (same x g.name) e
   where
     by : (b : Bool) → cond b (Some (program_name g).1) (first (map decl_name before ++ others rest) x) ≡ Some d → ((program_name g).1 ≡ d) ⊎ Listed g.decls x d
-    by true f = inl (some-is _ _ f)
+    by true f = inl (same_Some _ _ f)
     by false f = inr (subst (λ ds. Listed ds x d) (sym is) (listed-all before rest x d f))
 
 -- ---- routines are in reach everywhere
@@ -150,13 +152,9 @@ either-false : (a b : Bool) → (a || b) ≡ false → b ≡ false
 either-false false b e = e
 either-false true b e = let h : true ≡ false = e in cc
 
-not-some : {X : Type 0} (o : Option X) → is_some o ≡ false → o ≡ None
-not-some None e = refl
-not-some (Some x) e = cc
-
 pub declarations-free : (outside : Reach) (earlier ds : Names) (more : List Occurrence) → ((n : Name) (q : Place) (t : Bool) → In (declarations outside earlier ds more) (declares n q t) → t ≡ false) → (e : Name × Declared) → In ds e → outside e.0 ≡ None
 declarations-free outside earlier [] more free e i = absurd i
-declarations-free outside earlier (d ∷ ds) more free e (inl is) = ap (λ z. outside z.0) (sym is) ∙ not-some (outside d.0) (either-false (is_some (first earlier d.0)) (is_some (outside d.0)) (free d.0 d.1.place _ (inl refl)))
+declarations-free outside earlier (d ∷ ds) more free e (inl is) = ap (λ z. outside z.0) (sym is) ∙ none-of (outside d.0) (either-false (is_some (first earlier d.0)) (is_some (outside d.0)) (free d.0 d.1.place _ (inl refl)))
 declarations-free outside earlier (d ∷ ds) more free e (inr i) = declarations-free outside (earlier ++ d ∷ []) ds more (λ n q t j. free n q t (inr j)) e i
 
 pub record Split {X : Type 0} (xs : List X) (x : X) : Type 0 where

@@ -3,6 +3,7 @@
 use Rattle.std.proofs.Common.{◌≡◌, inl, inr, Bool, true, false, cond, List, [], ◌∷◌, ◌++◌, map, Option, Some, None, refl, ap, sym, subst, ◌∙◌}
 use Rattle.std.specs.Prelude.{option_map, filter_map, slice_get, bytes_eq}
 use Rattle.std.proofs.lemmas.List.Elements.{All-contains}
+use Rattle.std.proofs.lemmas.Option.{same_Some, none-some}
 use Rattle.syntax_tree.specs.Plain.{Name}
 use Rattle.syntax_tree.specs.Plain as plain_of
 use Rattle.syntax_tree.specs.Placed.{Var, Param, scalar, Routine, Member, variable_member, condition_member, Monitor, Process, Decl, constant, device, event, routine, monitor, process, Prog, plain, plain_var, plain_param, plain_member, plain_routine, plain_monitor, plain_process, plain_decl}
@@ -18,10 +19,11 @@ use Rattle.static_semantics.specs.Written.{IsWritten, DeclWritten, RoutineWritte
 use Rattle.static_semantics.specs.Things.{ThingsKnown}
 use Rattle.static_semantics.specs.Mirrors.{StandsAs, process_site, monitor_site, program_site, monitors_in}
 use Rattle.wellformed_names_law.proofs.Members.{In, in-contains, in-middle}
-use Rattle.wellformed_names_law.proofs.Lookups.{named-map, named-append, named-front, named-in, some-is, none-some, some-none, first-append, FoundBy, found-by, not-found-by, or_else-first, or_else-second, Either, in_first, in_second, either}
+use Rattle.wellformed_names_law.proofs.Lookups.{named-map, named-append, named-front, named-in, some-none, FoundBy, found-by, not-found-by, or_else-first, or_else-second, Either, in_first, in_second, either}
 use Rattle.wellformed_names_law.proofs.ThingsListed.{Always, thing-known, routine-always, param-always, own-always, process_var-always, process_routine-always, member-always, entry-always}
 use Rattle.wellformed_names_law.proofs.ProgramScope.{program-means, routine_called}
 use Rattle.wellformed_names_law.proofs.ProgramNames.{text_at, program-stands, process-routine-found, process-routine-listed}
+use Rattle.static_names.proofs.Programs.{first-append}
 
 -- ---- variables by their names
 
@@ -64,7 +66,7 @@ member-var-found (variable_member w ∷ ms) x v e = by (bytes_eq w.name x) e (me
 
     by : (b : Bool) → cond b (Some (variable_member w)) (named member_called x ms) ≡ Some (variable_member v) → (named member_called x ms ≡ Some (variable_member v) → var_named x (member_vars ms) ≡ Some (plain_var v))
         → cond b (Some (plain_var w)) (var_named x (member_vars ms)) ≡ Some (plain_var v)
-    by true f h = ap (λ z. Some (plain_var z)) (same_var (some-is _ _ f))
+    by true f h = ap (λ z. Some (plain_var z)) (same_var (same_Some _ _ f))
     by false f h = h f
 member-var-found (condition_member n q ∷ ms) x v e = by (bytes_eq n x) e (member-var-found ms x v)
   where
@@ -73,7 +75,7 @@ member-var-found (condition_member n q ∷ ms) x v e = by (bytes_eq n x) e (memb
 
     by : (b : Bool) → cond b (Some (condition_member n q)) (named member_called x ms) ≡ Some (variable_member v) → (named member_called x ms ≡ Some (variable_member v) → var_named x (member_vars ms) ≡ Some (plain_var v))
         → var_named x (member_vars ms) ≡ Some (plain_var v)
-    by true f h = absurd (other (some-is _ _ f))
+    by true f h = absurd (other (same_Some _ _ f))
     by false f h = h f
 
 member-var-not-found : (ms : List (Member Place)) (x : Name) → named member_called x ms ≡ None → var_named x (member_vars ms) ≡ None

@@ -1,9 +1,10 @@
 -- No two tokens of a text stand at one place: where one stands further on in the text, its line is further on, or its line is
 -- the same and its column further on.
-use Rattle.std.proofs.Common.{◌≡◌, ℕ, zero, suc, ◌+◌, ◌-◌, ◌<◌, ◌≤◌, Bool, true, false, not, List, [], ◌∷◌, length, take, get_or, slice_index_or, ◌⊎◌, inl, inr, refl, ap, sym, ◌∙◌, subst, arith, true≢false, eqb, eqb-true}
-use Rattle.std.specs.Prelude.{◌&&◌, count_by}
+use Rattle.std.proofs.Common.{◌≡◌, ℕ, zero, suc, ◌+◌, ◌-◌, ◌<◌, ◌≤◌, Bool, true, false, not, List, [], ◌∷◌, length, take, get_or, slice_index_or, ◌⊎◌, inl, inr, refl, ap, sym, ◌∙◌, subst, arith, eqb, eqb-true}
+use Rattle.std.specs.Prelude.{count_by}
 use Rattle.std.specs.List.{suffix_len}
 use Rattle.std.proofs.lemmas.List.Sums.{count_by_more_yes, count_by_more_no, suffix_len-take_yes}
+use Rattle.std.proofs.lemmas.Bool.{and_parts}
 use Rattle.syntax_tree.specs.declared.place.Place.{Place}
 use Rattle.syntax.specs.declared.token.Token.{Token}
 use Rattle.syntax.specs.Tokens.{is_line_feed, is_in_line, StandsIn}
@@ -73,16 +74,12 @@ two-places text t u st pt su pu order lines cols =
 
 -- ---- names among tokens
 
-both-true : (b c : Bool) → b && c ≡ true → (b ≡ true) × (c ≡ true)
-both-true true c h = (refl, h)
-both-true false c h = absurd (true≢false (sym h))
-
 -- the token stands at the place
 abbrev At : Place → Token → Type 0
 At z t = (t.line ≡ z.line) × (t.col ≡ z.col)
 
 stands-at : (z : Place) (t : Token) → same_place (record { line = t.line; col = t.col }) z ≡ true → At z t
-stands-at z t h = let b = both-true (eqb t.line z.line) (eqb t.col z.col) h in (eqb-true t.line z.line b.0, eqb-true t.col z.col b.1)
+stands-at z t h = let b = and_parts (eqb t.line z.line) (eqb t.col z.col) h in (eqb-true t.line z.line b.0, eqb-true t.col z.col b.1)
 
 weighs-one : (z : Place) (word : Word) (p : Place) → weigh z word p ≤ one (same_place p z)
 weighs-one z (named n) p = omega arith

@@ -1,6 +1,7 @@
 use Rattle.std.proofs.Common.{◌≡◌, ◌+◌, ℕ, length, get_or, drop, arith, sym, ◌∙◌}
-use Rattle.text_fields.proofs.Numerals.{no_empty, no_zero_first, no_other, no_more, next_digit, numeral_is, with_digit, read_end, grind_some}
+use Rattle.text_fields.proofs.Numerals.{no_empty, no_zero_first, no_other, no_more, next_digit, numeral_is, read_end, grind_some}
 use Rattle.command_words.proofs.making.key.Goals as goal
+use Rattle.text_fields.proofs.Digits.{with_digit}
 
 pub returns-then-is_empty-clause-none : goal.returns-then-is_empty-clause-none
 returns-then-is_empty-clause-none c n small e = no_empty c.args.word.now n small (grind arith) e

@@ -2,9 +2,9 @@ use Rattle.std.proofs.Common.{◌≡◌, ◌<◌, ◌∙◌, List, length, get_o
 use Rattle.image.specs.declared.raw.RawProc.{RawProc}
 use Rattle.image.specs.Raw.{image_of}
 use Rattle.loader.proofs.InOrder.{level_there}
-use Rattle.compile_schedule.proofs.NoFault.{no_rank_fault}
 use Rattle.compile_schedule.proofs.Growing.{none_bounds, one_bound, all_bounds}
 use Rattle.compile_schedule.proofs.least.bounds.Goals as goal
+use Rattle.code_measures.proofs.Valid.{no_rank_fault}
 
 pub task_set-requires-clause-ranks : goal.task_set-requires-clause-ranks
 task_set-requires-clause-ranks c = no_rank_fault (image_of c.args.image.now) c.requires.ranks

@@ -2,11 +2,11 @@ use Rattle.std.proofs.Common.{◌≡◌, ◌∙◌, List, sym, subst}
 use Rattle.image.specs.Raw.{image_of}
 use Rattle.sched_demand.specs.declared.tasks.DTask.{DTask}
 use Rattle.sched_demand.specs.Demand.{AreTasks}
-use Rattle.compile_schedule.proofs.NoFault.{no_rank_fault}
 use Rattle.command_due.specs.Tasks.{AreDemands}
 use Rattle.edf_command.specs.Listed.{demands_of}
 use Rattle.edf_command.proofs.Demanded.{are_a_set, are_demands}
 use Rattle.edf_command.proofs.tasks.demands.Goals as goal
+use Rattle.code_measures.proofs.Valid.{no_rank_fault}
 
 pub unreachable-requires : goal.unreachable-requires
 unreachable-requires c =

@@ -1,10 +1,13 @@
 use Rattle.std.proofs.Common.{◌≡◌, ◌+◌, ◌-◌, ◌<◌, ◌∙◌, ℕ, length, drop, ap, sym, arith}
 use Rattle.std.proofs.lemmas.Option.{slice_get-get_or}
+use Rattle.base.proofs.Lists.{some_at}
 use Rattle.vm_state.specs.Threads.{thread_of, threads_of}
 use Rattle.edf_machine.specs.Sights.{Seen, looked, seen_from, seen_of}
-use Rattle.edf_machine.proofs.Lists.{as_many, cells_count, process_is, read_at, there_is, thread_at}
+use Rattle.edf_machine.proofs.Lists.{thread_at}
 use Rattle.edf_machine.proofs.Seeing.{chosen_of, seen_more}
 use Rattle.edf_machine.proofs.choice.choose.Goals as goal
+use Rattle.vm_turn.proofs.Turning.{many as as_many, process_is, read_at}
+use Rattle.vm_releases.proofs.Boards.{cells_count}
 
 pub index-requires : goal.index-requires
 index-requires g c =
@@ -22,8 +25,8 @@ all-preserved g c =
     let are = c.requires.1.1 in
     let below : k < length image.processes = omega (arith, c.all.invariant.within, c.all-test.true) in
     let next : k + 1 ≡ c.all.place = omega (arith, c.all-test.true) in
-    let p = there_is image.processes k below in
-    let m = there_is ms k (omega (arith, below, are.count)) in
+    let p = some_at image.processes k below in
+    let m = some_at ms k (omega (arith, below, are.count)) in
     let at_p = read_at c.args.plan.now.processes.items k c.index.result.now (omega (arith, below, many)) c.index.ensures in
     let at_c = read_at c.args.board.now.cells.items k c.index-in-all.result.now (omega (arith, below, cells)) c.index-in-all.ensures in
     let seen : seen_of c.look-sight.result ≡ looked image k p.0 (thread_of c.index-in-all.result.now) m.0 (seen_of c.all.sight) =

@@ -1,7 +1,7 @@
 use Rattle.std.proofs.Common.{arith}
-use Rattle.edf_machine.proofs.Lists.{read_at}
 use Rattle.edf_machine.proofs.Marking.{one_begins}
 use Rattle.edf_machine.proofs.marks.mark_begun.Goals as goal
+use Rattle.vm_turn.proofs.Turning.{read_at}
 
 pub returns : goal.returns
 returns g c =

@@ -1,8 +1,10 @@
 use Rattle.std.proofs.Common.{◌∙◌, ◌<◌, length, arith}
 use Rattle.vm_state.specs.Threads.{threads_of, thread_of}
-use Rattle.edf_machine.proofs.Lists.{read_at, thread_at, threads_count}
+use Rattle.edf_machine.proofs.Lists.{thread_at}
 use Rattle.edf_machine.proofs.Marking.{release_all, release_one}
 use Rattle.edf_machine.proofs.marks.mark_releases.Goals as goal
+use Rattle.vm_turn.proofs.Turning.{read_at}
+use Rattle.vm_releases.proofs.Joining.{threads_count}
 
 pub loop-place-preserved : goal.loop-place-preserved
 loop-place-preserved g c =

@@ -1,8 +1,9 @@
 use Rattle.std.proofs.Common.{◌<◌, length, arith}
 use Rattle.vm_state.specs.Threads.{thread_of, threads_of}
-use Rattle.edf_machine.proofs.Lists.{read_at, thread_at}
+use Rattle.edf_machine.proofs.Lists.{thread_at}
 use Rattle.edf_machine.proofs.Marking.{note_one, noted_all}
 use Rattle.edf_machine.proofs.marks.note_idle.Goals as goal
+use Rattle.vm_turn.proofs.Turning.{read_at}
 
 pub loop-place-preserved : goal.loop-place-preserved
 loop-place-preserved g c =

@@ -1,8 +1,9 @@
 use Rattle.std.proofs.Common.{◌+◌, ◌-◌, ℕ, arith, sym, subst}
 use Rattle.vm_state.specs.Board.{state_of}
 use Rattle.vm_turn.specs.Rows.{EndsIn}
-use Rattle.edf_machine.proofs.Rowing.{Ran, can_end, can_run, enough, ran, row_passes, row_queued, row_starts, words_count}
+use Rattle.edf_machine.proofs.Rowing.{Ran, can_end, can_run, enough, ran, row_passes, row_queued, row_starts}
 use Rattle.edf_machine.proofs.turn.pass_row.Goals as goal
+use Rattle.vm_runner.proofs.Rowing.{words_count}
 
 pub run_row-halt-requires : goal.run_row-halt-requires
 run_row-halt-requires g c =

@@ -2,8 +2,9 @@ use Rattle.std.proofs.Common.{◌≡◌, ◌≤◌, arith}
 use Rattle.vm_stretch.specs.Stretch.{left}
 use Rattle.vm_state.specs.Board.{state_of}
 use Rattle.vm_releases.proofs.Joining.{threads_count}
-use Rattle.edf_machine.proofs.Passing.{below, fits_in, is_ready, ready_now, some_left}
+use Rattle.edf_machine.proofs.Passing.{below, is_ready, ready_now, some_left}
 use Rattle.edf_machine.proofs.turn.ticks_left.Goals as goal
+use Rattle.vm_runner.proofs.Passing.{fits_in}
 
 pub left-requires : goal.left-requires
 left-requires g c =

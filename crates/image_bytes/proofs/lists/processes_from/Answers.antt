@@ -2,16 +2,17 @@ use Rattle.std.proofs.Common.{◌<◌, length, sym, subst}
 use Rattle.image.specs.InRange.{IsProcessInRange}
 use Rattle.image.specs.Raw.{process_of}
 use Rattle.valid_image.specs.Valid.{HasHandler}
-use Rattle.image_bytes.proofs.Steps.{all_become, one_process_more}
+use Rattle.image_bytes.proofs.Steps.{one_process_more}
 use Rattle.image_bytes.proofs.lists.processes_from.Goals as goal
+use Rattle.image.proofs.Mapped.{all_mapped}
 
 pub process_is_read-requires : goal.process_is_read-requires
 process_is_read-requires c =
     let ps = c.args.processes.now in
     let p = c.index-processes-number.result in
     record {
-      handler = all_become process_of (λ q. HasHandler q q.handler_tree) ps c.loop-number.number p c.loop-number-test.true c.index-processes-number.is c.requires.handlers;
-      few = (all_become process_of IsProcessInRange ps c.loop-number.number p c.loop-number-test.true c.index-processes-number.is c.requires.in_range).numbers;
+      handler = all_mapped process_of (λ q. HasHandler q q.handler_tree) ps c.loop-number.number p c.loop-number-test.true c.index-processes-number.is c.requires.handlers;
+      few = (all_mapped process_of IsProcessInRange ps c.loop-number.number p c.loop-number-test.true c.index-processes-number.is c.requires.in_range).numbers;
     }
 
 pub loop-number-preserved : goal.loop-number-preserved

@@ -1,7 +1,7 @@
 use Rattle.std.proofs.Common.{arith, []}
 use Rattle.std.proofs.lemmas.Grind.{common_steps}
+use Rattle.base.proofs.Lists.{one_more}
 use Rattle.image.specs.Raw.{image_of}
-use Rattle.loader_code.proofs.Sweeping.{one_more}
 use Rattle.loader.specs.Stays.{AreStaysOfProcesses}
 use Rattle.loader.proofs.reached.longest_stays.Goals as goal
 

@@ -1,8 +1,8 @@
 use Rattle.std.proofs.Common.{◌≡◌, arith, None}
 use Rattle.std.proofs.lemmas.Grind.{common_steps}
+use Rattle.base.proofs.Lists.{one_more}
 use Rattle.image.specs.Raw.{image_of}
 use Rattle.valid_image.specs.Tables.{stay_of_process}
-use Rattle.loader_code.proofs.Sweeping.{one_more}
 use Rattle.loader.proofs.reached.of_processes.Goals as goal
 
 pub loop-number-preserved : goal.loop-number-preserved

@@ -1,9 +1,10 @@
 use Rattle.std.proofs.Common.{arith, ◌≡◌, ◌∙◌, []}
 use Rattle.std.proofs.lemmas.Grind.{common_steps}
 use Rattle.std.proofs.lemmas.List.{get_or_read}
+use Rattle.base.proofs.Lists.{one_more}
 use Rattle.image.specs.Raw.{image_of}
 use Rattle.valid_image.specs.Pieces.{called}
-use Rattle.loader_code.proofs.Sweeping.{one_more, piece_calls}
+use Rattle.loader_code.proofs.Sweeping.{piece_calls}
 use Rattle.loader_code.proofs.calls.calls_by_piece.Goals as goal
 
 pub loop-piece-preserved : goal.loop-piece-preserved

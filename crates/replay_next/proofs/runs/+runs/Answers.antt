@@ -2,6 +2,7 @@ mod OfStmts
 mod OfTurns
 use Rattle.std.specs.Prelude.{option_map, [], ◌∷◌, ◌++◌, ◌-◌, length, take, List}
 use Rattle.std.proofs.Common.{◌≡◌, ◌∙◌, ◌<◌, ◌+◌, ap, sym, arith, drop, map}
+use Rattle.std.proofs.lemmas.List.{drop_all}
 use Rattle.syntax_tree.specs.Placed.{placed_exprs, placed_param, placed_stmts, plain_exprs, plain_param, plain_stmts}
 use Rattle.source_semantics.specs.Run as run
 use Rattle.replay_state.specs.View.{action_of, answers_of, calls_of, item_of, vars_of}
@@ -43,7 +44,7 @@ row-returns t c =
     let s = site_of c.args.scope.now c.args.home c.args.depth in
     let m = memory_of c.args.memory.now in
     let l = c.loop-operand in
-    let past : drop l.operand-index c.args.rest.now ≡ [] = lists.drop_past c.args.rest.now l.operand-index c.loop-operand-test.false in
+    let past : drop l.operand-index c.args.rest.now ≡ [] = drop_all l.operand-index c.args.rest.now c.loop-operand-test.false in
     lists.row_ends s m (answer_of l.left) (drop l.operand-index c.args.rest.now) past ∙ l.invariant
 
 pub row-loop-operand-preserved : goal.row-loop-operand-preserved
@@ -76,7 +77,7 @@ arguments-returns-then-at-params t c =
     let s = site_of c.args.scope.now c.args.home c.args.depth in
     let m = memory_of c.args.memory.now in
     let l = c.loop-at in
-    let past : drop l.at c.args.params.now ≡ [] = lists.drop_past c.args.params.now l.at c.if-at-params.true in
+    let past : drop l.at c.args.params.now ≡ [] = drop_all l.at c.args.params.now c.if-at-params.true in
     lists.no_params_left s m (vars_of l.own.items) (drop l.at c.args.args.now) (drop l.at c.args.params.now) past ∙ l.invariant
 
 pub arguments-returns : goal.arguments-returns
@@ -84,7 +85,7 @@ arguments-returns t c =
     let s = site_of c.args.scope.now c.args.home c.args.depth in
     let m = memory_of c.args.memory.now in
     let l = c.loop-at in
-    let past : drop l.at c.args.args.now ≡ [] = lists.drop_past c.args.args.now l.at c.loop-at-test.false in
+    let past : drop l.at c.args.args.now ≡ [] = drop_all l.at c.args.args.now c.loop-at-test.false in
     lists.no_args_left s m (vars_of l.own.items) (drop l.at c.args.args.now) (drop l.at c.args.params.now) past ∙ l.invariant
 
 pub arguments-returns-in-Raised : goal.arguments-returns-in-Raised
@@ -247,7 +248,7 @@ pub run_all-returns : goal.run_all-returns
 run_all-returns t c =
     let s = site_of c.args.scope.now c.args.home c.args.depth in
     let l = c.loop-at in
-    let past : drop l.at c.args.stmts.now ≡ [] = lists.drop_past c.args.stmts.now l.at c.loop-at-test.false in
+    let past : drop l.at c.args.stmts.now ≡ [] = drop_all l.at c.args.stmts.now c.loop-at-test.false in
     lists.no_stmts_left s (memory_of l.memory) (drop l.at c.args.stmts.now) past ∙ l.invariant
 
 pub run_all-loop-at-preserved : goal.run_all-loop-at-preserved

@@ -2,9 +2,10 @@ use Rattle.std.proofs.Common.{◌≡◌, ◌≤◌, ◌*◌, ◌+◌, ℕ, arith
 use Rattle.std.proofs.lemmas.List.Sums.{sum_by_more}
 use Rattle.std.proofs.Math.Nat.{mul-le-mul}
 use Rattle.sched_demand.specs.Demand.{task_at, due_by, IsNext}
-use Rattle.sched_demand.proofs.Turns.{is_task, next_sooner, next_kept, block_some, block_none}
+use Rattle.sched_demand.proofs.Turns.{next_sooner, next_kept, block_some, block_none}
 use Rattle.sched_demand.proofs.looking.look_at.Goals.{then-turns-gt0, else-turns-gt0, then-after-next, else-after-next}
 use Rattle.sched_demand.proofs.looking.look_at.Goals as goal
+use Rattle.sched_demand.proofs.Demanding.{is_task}
 
 pub loop-task-preserved : goal.loop-task-preserved
 loop-task-preserved c =

@@ -1,9 +1,9 @@
 use Rattle.std.proofs.Common.{◌≡◌, ◌+◌, ℕ, Some, None, arith, ap, sym, ◌∙◌, true, false, get_or, Option}
 use Rattle.std.specs.Prelude.{slice_set}
 use Rattle.std.proofs.lemmas.Option.{slice_get-get_or}
+use Rattle.base.proofs.Lists.{some_at}
 use Rattle.machine_semantics.specs.Starts.{Started, is_periodic_due}
 use Rattle.vm_state.specs.Board.{state_of}
-use Rattle.vm_stretch.proofs.Lists.{there_is}
 use Rattle.vm_releases.specs.Begin.{clock_at, release_at}
 use Rattle.vm_releases.proofs.Boards.{as_many, planned}
 use Rattle.vm_releases.proofs.Clocking.{clock_releases, clock_rests, event_rests, frame_is, rest_is_moved, set_is_moved}
@@ -15,7 +15,7 @@ index-requires g c = omega (arith, as_many g.image.processes c.args.plan.now.pro
 
 pub returns-then-not-is_due-clause-started : goal.returns-then-not-is_due-clause-started
 returns-then-not-is_due-clause-started g c =
-    let w = there_is g.image.processes c.args.place c.requires.1.1.0 in
+    let w = some_at g.image.processes c.args.place c.requires.1.1.0 in
     let slot = slice_get-get_or c.args.slots.now c.args.place None (omega (arith, c.requires.1.1.0, c.requires.1.1.1.0)) in
     let rests : is_periodic_due c.args.tick w.0 ≡ false = (c.requires.1.1.1.1.0 w.0 (get_or c.args.slots.now c.args.place None) w.1 slot).1 (c.is_due.ensures.no c.if-not-is_due.true) in
     none_started (clock_at g.image c.args.tick c.args.place) (state_of c.args.board.now) c.args.fired.now.items (clock_rests g.image c.args.tick c.args.place w.0 (state_of c.args.board.now) w.1 rests)

@@ -1,11 +1,11 @@
 use Rattle.std.proofs.Common.{◌≡◌, ◌<◌, ◌+◌, ℕ, List, [], arith, ap, sym, subst, ◌∙◌, length, drop}
+use Rattle.std.proofs.lemmas.List.{drop_all}
+use Rattle.base.proofs.Lists.{some_at}
 use Rattle.machine_semantics.specs.Image.{Process}
 use Rattle.machine_semantics.specs.State.{State}
 use Rattle.machine_semantics.specs.Starts.{Started, periodic, unchanged}
 use Rattle.vm_state.specs.Board.{state_of}
 use Rattle.vm_stretch.proofs.Leading.{left_calm, left_end, left_room, left_same, left_step}
-use Rattle.vm_stretch.proofs.Lists.{there_is}
-use Rattle.vm_stretch.proofs.Parting.{drop_past}
 use Rattle.vm_releases.specs.Begin.{MovedBelow, clock_at}
 use Rattle.vm_releases.proofs.Boards.{as_many}
 use Rattle.vm_releases.proofs.Clocking.{clock_left, moved_more}
@@ -16,7 +16,7 @@ clock-requires g c =
     let k = c.loop-place.place in
     let count = as_many g.image.processes c.args.plan.now.processes.items c.requires.0.processes in
     let below : k < length g.image.processes = omega (arith, count, c.args.plan.now.processes.ok.0) in
-    let w = there_is g.image.processes k below in
+    let w = some_at g.image.processes k below in
     let go : State → Started = periodic g.image c.args.tick 0 g.image.processes in
     let step : State → Started = clock_at g.image c.args.tick k in
     let rest : State → Started = periodic g.image c.args.tick (k + 1) (drop (k + 1) g.image.processes) in
@@ -46,7 +46,7 @@ loop-place-preserved g c =
     let k = c.loop-place.place in
     let count = as_many g.image.processes c.args.plan.now.processes.items c.requires.0.processes in
     let below : k < length g.image.processes = omega (arith, count, c.args.plan.now.processes.ok.0) in
-    let w = there_is g.image.processes k below in
+    let w = some_at g.image.processes k below in
     let go : State → Started = periodic g.image c.args.tick 0 g.image.processes in
     let step : State → Started = clock_at g.image c.args.tick k in
     let rest : State → Started = periodic g.image c.args.tick (k + 1) (drop (k + 1) g.image.processes) in
@@ -61,7 +61,7 @@ pub returns-clause-started : goal.returns-clause-started
 returns-clause-started g c =
     let k = c.loop-place.place in
     let count = as_many g.image.processes c.args.plan.now.processes.items c.requires.0.processes in
-    let end : drop k g.image.processes ≡ [] = drop_past g.image.processes k (omega (arith, count, c.args.plan.now.processes.ok.0)) in
+    let end : drop k g.image.processes ≡ [] = drop_all k g.image.processes (omega (arith, count, c.args.plan.now.processes.ok.0)) in
     let go : State → Started = periodic g.image c.args.tick 0 g.image.processes in
     left_end go (state_of c.args.board.now) (state_of c.loop-place.board) c.args.fired.now.items c.loop-place.fired.items
     (left_same go (periodic g.image c.args.tick k (drop k g.image.processes)) unchanged (state_of c.args.board.now) (state_of c.loop-place.board) c.args.fired.now.items c.loop-place.fired.items c.loop-place.invariant.left

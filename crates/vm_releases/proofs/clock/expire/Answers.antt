@@ -1,8 +1,8 @@
 use Rattle.std.proofs.Common.{◌≡◌, ◌+◌, ℕ, List, Some, None, Option, arith, ap, sym, subst, ◌∙◌, length, get_or}
 use Rattle.std.specs.Prelude.{slice_get, slice_set}
 use Rattle.std.proofs.lemmas.Option.{slice_get-get_or}
+use Rattle.base.proofs.Lists.{get_other, some_at}
 use Rattle.vm_state.specs.Board.{state_of}
-use Rattle.vm_stretch.proofs.Lists.{get_other, there_is}
 use Rattle.vm_stretch.proofs.Waiting.{due_of}
 use Rattle.vm_releases.specs.Begin.{expiry_at}
 use Rattle.vm_releases.proofs.Boards.{as_many}
@@ -26,12 +26,12 @@ time_out-requires g c =
 
 pub returns-then-is_due-clause-queues : goal.returns-then-is_due-clause-queues
 returns-then-is_due-clause-queues g c =
-    let w = there_is g.image.processes c.args.place c.requires.1.1.0 in
+    let w = some_at g.image.processes c.args.place c.requires.1.1.0 in
     expiry_keeps g.image c.args.tick c.args.place (state_of c.args.board.now) (state_of c.time_out.new.board) w.0 w.1 c.time_out.ensures.started.state c.requires.1.1.1.1.0
 
 pub returns-then-is_due-clause-waits : goal.returns-then-is_due-clause-waits
 returns-then-is_due-clause-waits g c =
-    let w = there_is g.image.processes c.args.place c.requires.1.1.0 in
+    let w = some_at g.image.processes c.args.place c.requires.1.1.0 in
     let count = as_many g.image.processes c.args.plan.now.processes.items c.requires.0.processes in
     let same : c.len.result + c.args.place ≡ length g.image.processes + c.args.place = omega (arith, count, c.args.plan.now.processes.ok.0) in
     let slot : slice_get c.args.slots.now (length g.image.processes + c.args.place) ≡ Some (Some c.args.tick) =
@@ -49,7 +49,7 @@ returns-then-is_due-clause-others g c =
 
 pub returns-else-is_due-clause-started : goal.returns-else-is_due-clause-started
 returns-else-is_due-clause-started g c =
-    let w = there_is g.image.processes c.args.place c.requires.1.1.0 in
+    let w = some_at g.image.processes c.args.place c.requires.1.1.0 in
     let count = as_many g.image.processes c.args.plan.now.processes.items c.requires.0.processes in
     let same : c.len.result + c.args.place ≡ length g.image.processes + c.args.place = omega (arith, count, c.args.plan.now.processes.ok.0) in
     let slot : slice_get c.args.slots.now (length g.image.processes + c.args.place) ≡ Some (get_or c.args.slots.now (c.len.result + c.args.place) None) =

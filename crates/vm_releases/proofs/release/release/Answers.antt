@@ -1,7 +1,8 @@
 use Rattle.std.proofs.Common.{arith, ◌∙◌}
 use Rattle.vm_state.specs.Board.{state_of}
-use Rattle.vm_releases.proofs.Boards.{as_many, cells_count, planned, released_is, room_is, rooms_set, thread_at, threads_are}
+use Rattle.vm_releases.proofs.Boards.{as_many, cells_count, planned, released_is, room_is, rooms_set, threads_are}
 use Rattle.vm_releases.proofs.release.release.Goals as goal
+use Rattle.vm_state.proofs.Waking.{thread_at}
 
 pub index-requires : goal.index-requires
 index-requires g c = omega (arith, as_many g.image.processes c.args.plan.now.processes.items c.requires.0.processes, c.args.plan.now.processes.ok.0)

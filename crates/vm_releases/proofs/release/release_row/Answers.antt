@@ -1,11 +1,11 @@
 use Rattle.std.proofs.Common.{◌≡◌, ◌+◌, ℕ, List, Some, arith, drop, sym, subst, ap, ◌∙◌}
 use Rattle.std.specs.Prelude.{slice_get}
 use Rattle.std.proofs.lemmas.Option.{slice_get-get_or}
+use Rattle.base.proofs.Lists.{drop_at}
 use Rattle.machine_semantics.specs.State.{State}
 use Rattle.machine_semantics.specs.Starts.{Started, followed}
 use Rattle.vm_state.specs.Board.{state_of}
 use Rattle.vm_stretch.specs.Steps.{AreLeft, releases}
-use Rattle.vm_stretch.proofs.Parting.{drop_at}
 use Rattle.vm_stretch.proofs.Leading.{left_calm, left_room}
 use Rattle.vm_releases.specs.Begin.{release_at}
 use Rattle.vm_releases.proofs.release.release_row.Goals as goal

@@ -5,8 +5,9 @@ use Rattle.std.specs.Prelude.{slice_set}
 use Rattle.machine_semantics.specs.Starts.{queue_of, without}
 use Rattle.vm_state.specs.Threads.{thread_of}
 use Rattle.vm_state.specs.Board.{state_of}
-use Rattle.vm_releases.proofs.Boards.{as_many, cells_count, did_wait, expired_is, planned, rooms_set, thread_at, threads_are, wait_has_queue}
+use Rattle.vm_releases.proofs.Boards.{as_many, cells_count, did_wait, expired_is, planned, rooms_set, threads_are, wait_has_queue}
 use Rattle.vm_releases.proofs.time_out.time_out.Goals as goal
+use Rattle.vm_state.proofs.Waking.{thread_at}
 
 pub index-requires : goal.index-requires
 index-requires g c = omega (arith, as_many g.image.processes c.args.plan.now.processes.items c.requires.0.processes, c.args.plan.now.processes.ok.0)

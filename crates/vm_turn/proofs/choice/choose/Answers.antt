@@ -1,9 +1,10 @@
 -- The foremost of them is picked.
 use Rattle.std.proofs.Common.{◌≡◌, ◌<◌, ◌≤◌, ◌∙◌, Some, length, refl, arith}
+use Rattle.std.proofs.lemmas.List.{length-map}
 use Rattle.vm_dispatch.specs.Pick.{entry_of}
 use Rattle.vm_state.specs.Threads.{thread_of, threads_of}
 use Rattle.vm_turn.proofs.Choosing.{found, one_more}
-use Rattle.vm_turn.proofs.Turning.{length_map, many, read_at}
+use Rattle.vm_turn.proofs.Turning.{many, read_at}
 use Rattle.vm_turn.proofs.choice.choose.Goals as goal
 
 pub loop-k-init : goal.loop-k-init
@@ -21,7 +22,7 @@ loop-k-preserved c image is =
 pub returns : goal.returns
 returns c image is board =
     let cells = c.args.board.now.cells.items in
-    let threads : length (threads_of cells) ≡ length cells = length_map thread_of cells in
+    let threads : length (threads_of cells) ≡ length cells = length-map cells thread_of in
     let all : length cells ≤ c.loop-k.k = omega (arith, c.loop-k-test.false, c.len-k-end.ensures, c.args.board.now.cells.ok.0) in
     c.place_found.ensures
     ∙ found image (threads_of cells) c.loop-k.k (entry_of c.loop-k.best)

@@ -3,8 +3,9 @@ use Rattle.std.proofs.lemmas.List.{append-nil, drop_all}
 use Rattle.base.specs.declared.event.Event.{Event}
 use Rattle.base.specs.declared.event.Act.TheVariants as act
 use Rattle.event_log.specs.Line.{line_of, log_of}
-use Rattle.vm_watch.proofs.StopTextLines.{log_of-drop, log_of-nil}
+use Rattle.vm_watch.proofs.StopTextLines.{log_of-drop}
 use Rattle.vm_watch.proofs.events.put_log.Goals as goal
+use Rattle.vm_run.proofs.Lines.{log_of-nil}
 
 pub loop-event-preserved : goal.loop-event-preserved
 loop-event-preserved c =

@@ -10,8 +10,9 @@ use Rattle.syntax_tree.proofs.Views.{expr-Call, expr-Chain}
 use Rattle.code_spec.specs.Code.{op_instr}
 use Rattle.codegen_spec.specs.Told.{inside}
 use Rattle.codegen_spec.specs.Made.{args_out, call_out, expr_out, row_out, push, range_out}
-use Rattle.codegen.proofs.Steps.{args_end, called_is, inside_owner, turned, turned_both, on_ok}
+use Rattle.codegen.proofs.Steps.{args_end, called_is, turned, turned_both, on_ok}
 use Rattle.codegen.proofs.making.Out.+expr.Goals as goal
+use Rattle.code_cost.proofs.Steps.{owner_inside}
 
 pub operands-loop-operand-preserved : goal.operands-loop-operand-preserved
 operands-loop-operand-preserved g t c =
@@ -37,7 +38,7 @@ expr-returns-in-Call g t c =
     on_ok c.called.result c.called.ensures (λ e.
     e
     ∙ ap (λ es. call_out (option_copied c.routine.result) (λ rs. args_out p s (plain_exprs (placed_exprs es)) rs o) o) c.as_slice.ensures
-    ∙ called_is p (g.L.Lookup.scope c.args.names.now) s c.in-Call.name (plain_exprs (placed_exprs c.in-Call.args)) _ o (inside_owner c.args.loops.now _) c.routine.ensures
+    ∙ called_is p (g.L.Lookup.scope c.args.names.now) s c.in-Call.name (plain_exprs (placed_exprs c.in-Call.args)) _ o (owner_inside c.args.loops.now _) c.routine.ensures
     ∙ sym (ap (λ x. expr_out p s (plain_expr x) o) (ap placed_expr c.in-Call.is ∙ expr-Call c.in-Call.place c.in-Call.name c.in-Call.args)))
 
 pub args-loop-arg-preserved : goal.args-loop-arg-preserved
