@@ -4,8 +4,8 @@ use Rattle.std.specs.Prelude.{◌++◌, ◌==◌, ℕ, zero, suc, Bool, true, fa
 use Rattle.std.specs.List.{flat_map}
 use Rattle.machine_semantics.specs.Image.{Monitor, Routine, Process}
 use Rattle.machine_semantics.specs.Trees.{Segs}
-use Rattle.image.specs.declared.names.CondName.{CondName}
-use Rattle.image.specs.declared.names.DevName.{DevName}
+use Rattle.image.specs.declared.names.ConditionName.{ConditionName}
+use Rattle.image.specs.declared.names.DeviceName.{DeviceName}
 use Rattle.image.specs.declared.names.EventName.{EventName}
 use Rattle.image.specs.declared.names.ImageNames.{ImageNames}
 use Rattle.image.specs.Named.{NamedImage}
@@ -28,7 +28,7 @@ abbrev pub direction : (out : Bool) → List ℕ
 direction true = codes " out\n"
 direction false = codes " in\n"
 
-abbrev pub device_line : DevName → List ℕ
+abbrev pub device_line : DeviceName → List ℕ
 device_line d = codes "device " ++ (d.name ++ direction d.out)
 
 abbrev pub event_line : (name : List ℕ) → List ℕ
@@ -43,7 +43,7 @@ monitor_line name m =
     codes "monitor " ++ (name ++ (field (codes " base ") m.base ++ (field (codes " words ") m.words ++ (codes " ceiling " ++ (ceiling_text m.ceiling ++ codes "\n")))))
 
 -- a condition, with the number of its monitor
-abbrev pub condition_line : CondName → List ℕ
+abbrev pub condition_line : ConditionName → List ℕ
 condition_line c = codes "condition " ++ (c.name ++ (field (codes " ") c.mon ++ codes "\n"))
 
 -- ---- routines

@@ -7,8 +7,8 @@ use Rattle.machine_isa.specs.declared.instr.Instr.TheVariants as i
 use Rattle.machine_isa.specs.Bytes.{number, operands, word_bytes, instr_bytes}
 use Rattle.machine_semantics.specs.Image.{Monitor, Routine, Process}
 use Rattle.machine_semantics.specs.Trees.{Segs}
-use Rattle.image.specs.declared.names.CondName.{CondName}
-use Rattle.image.specs.declared.names.DevName.{DevName}
+use Rattle.image.specs.declared.names.ConditionName.{ConditionName}
+use Rattle.image.specs.declared.names.DeviceName.{DeviceName}
 use Rattle.image_format.specs.Numbers.{u16, flag, name_bytes}
 use Rattle.image.specs.Bytes.{Second, device_bytes, condition_bytes, monitor_bytes, owner_bytes, cost_bytes, routine_bytes, release_bytes, time_bytes, room_bytes, numbers_bytes, handler_bytes, process_bytes}
 use Rattle.image_format.specs.TreeBytes.{tree_bytes}
@@ -28,7 +28,7 @@ flag_long : (holds : Bool) → length (flag holds) ≡ 1
 flag_long true = refl
 flag_long false = refl
 
-pub device_pays : (d : DevName) → length d.name ≤ 63 → 10 * length (device_bytes d) ≤ 9 * length (device_line d)
+pub device_pays : (d : DeviceName) → length d.name ≤ 63 → 10 * length (device_bytes d) ≤ 9 * length (device_line d)
 device_pays d short = simp length-append (omega (arith, short, direction_long d.out, flag_long d.out))
 
 pub event_pays : (name : List ℕ) → length name ≤ 63 → 10 * length (name_bytes name) ≤ 9 * length (event_line name) + 10
@@ -37,7 +37,7 @@ event_pays name short = simp length-append (omega (arith, short))
 pub monitor_pays : (name : List ℕ) (m : Monitor) → length name ≤ 63 → 10 * length (monitor_bytes name m) ≤ 9 * length (monitor_line name m)
 monitor_pays name m short = simp length-append (omega (arith, short))
 
-pub condition_pays : (c : CondName) → length c.name ≤ 63 → 10 * length (condition_bytes c) ≤ 9 * length (condition_line c)
+pub condition_pays : (c : ConditionName) → length c.name ≤ 63 → 10 * length (condition_bytes c) ≤ 9 * length (condition_line c)
 condition_pays c short = simp length-append (omega (arith, short))
 
 -- ---- routines

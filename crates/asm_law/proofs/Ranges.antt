@@ -4,8 +4,8 @@ use Rattle.std.specs.Prelude.{nat_lt, nat_le}
 use Rattle.std.proofs.lemmas.Bool.{and_parts}
 use Rattle.std.proofs.lemmas.Bool.Decides.{nat_tests}
 use Rattle.machine_semantics.specs.Image.{Monitor, Process}
-use Rattle.image.specs.declared.names.CondName.{CondName}
-use Rattle.image.specs.declared.names.DevName.{DevName}
+use Rattle.image.specs.declared.names.ConditionName.{ConditionName}
+use Rattle.image.specs.declared.names.DeviceName.{DeviceName}
 use Rattle.image.specs.Bytes.{Second}
 use Rattle.image_reader.specs.declared.counts.Counts.{Counts}
 use Rattle.image_format.specs.Format.{u16, bytes_as_are, unless, is_fine, checked, each_is}
@@ -37,13 +37,13 @@ name_short taken name h =
     let sized = and_parts length_is ((bytes_as_are (length name)).is name) fields.0 in
     most 0 63 (length name) (and_parts (nat_lt (length name) 256) (is_fine (within 0 63 (length name))) sized.0).1
 
-pub device_short : (taken : List (List ℕ)) (d : DevName) → (g.device_format taken).is d ≡ true → length d.name ≤ 63
+pub device_short : (taken : List (List ℕ)) (d : DeviceName) → (g.device_format taken).is d ≡ true → length d.name ≤ 63
 device_short taken d h = name_short taken d.name (and_parts ((g.name_format taken).is d.name) true h).0
 
 pub monitor_short : (taken : List (List ℕ)) (m : List ℕ × Monitor) → (g.named_monitor_format taken).is m ≡ true → length m.0 ≤ 63
 monitor_short taken m h = name_short taken m.0 (and_parts ((g.name_format taken).is m.0) (g.monitor_format.is m.1) h).0
 
-pub condition_short : (taken : List (List ℕ)) (monitors : ℕ) (earlier : List CondName) (c : CondName) → (g.condition_format taken monitors earlier).is c ≡ true → length c.name ≤ 63
+pub condition_short : (taken : List (List ℕ)) (monitors : ℕ) (earlier : List ConditionName) (c : ConditionName) → (g.condition_format taken monitors earlier).is c ≡ true → length c.name ≤ 63
 condition_short taken monitors earlier c h =
     let fields = and_parts ((g.name_format taken).is c.name && (u16_below monitors).is c.mon) (is_fine (unless (not (g.is_again earlier c)) 5)) h in
     name_short taken c.name (and_parts ((g.name_format taken).is c.name) ((u16_below monitors).is c.mon) fields.0).0

@@ -5,7 +5,7 @@ use Rattle.std.proofs.lemmas.Bool.{and_parts}
 use Rattle.std.proofs.lemmas.List.{length-append}
 use Rattle.machine_semantics.specs.Image.{Monitor, Process}
 use Rattle.machine_isa.specs.Bytes.{instr_bytes}
-use Rattle.image.specs.declared.names.DevName.{DevName}
+use Rattle.image.specs.declared.names.DeviceName.{DeviceName}
 use Rattle.image.specs.declared.names.EventName.{EventName}
 use Rattle.image_format.specs.Numbers.{name_bytes}
 use Rattle.image.specs.Bytes.{Second, bytes_of, head_bytes, device_bytes, event_bytes, condition_bytes, monitor_bytes, monitors_bytes, routine_bytes, process_bytes, processes_bytes}
@@ -191,8 +191,8 @@ module _ (p : f.Parts) (k : Fits p) where
 
   devices_pay : 10 * length (flat_map device_bytes p.devices) ≤ 9 * length (flat_map device_line p.devices)
   devices_pay =
-      let all = each_pays (λ earlier. g.device_format ((p.program ∷ []) ++ map (λ (d : DevName). d.name) earlier)) device_bytes device_line 0
-      (λ earlier d h. let one = device_pays d (device_short ((p.program ∷ []) ++ map (λ (d : DevName). d.name) earlier) d h) in omega (arith, one))
+      let all = each_pays (λ earlier. g.device_format ((p.program ∷ []) ++ map (λ (d : DeviceName). d.name) earlier)) device_bytes device_line 0
+      (λ earlier d h. let one = device_pays d (device_short ((p.program ∷ []) ++ map (λ (d : DeviceName). d.name) earlier) d h) in omega (arith, one))
       [] (length p.devices) p.devices k.devices in
       omega (arith, all)
 

@@ -1,7 +1,7 @@
 -- Reading the numbers of a handler one after the other, as a loop does.
 use Rattle.std.proofs.Common.{◌≡◌, ℕ, suc, ◌-◌, ◌+◌, ◌≤◌, ◌<◌, List, [], ◌∷◌, ◌++◌, Bool, true, false, Ok, Err, codes, refl, sym, ap, ◌∙◌, arith, append_assoc, append-nil}
-use Rattle.text_fields.specs.declared.fault.ReadError.{ReadError}
-use Rattle.text_fields.specs.declared.fault.ReadError.TheVariants as errors
+use Rattle.text_fields.specs.declared.fault.FieldError.{FieldError}
+use Rattle.text_fields.specs.declared.fault.FieldError.TheVariants as errors
 use Rattle.text_fields.specs.Front.{◌>>=◌, Fails, Front, Read, begins as is_next, no_form}
 use Rattle.asm_lines.specs.Processes.{more_read, taken_read}
 
@@ -21,7 +21,7 @@ goes_on front most i last s n after total lt more h so_far =
     let step : with_front front (more_read (most - i) last s) ≡ with_front (front ++ n ∷ []) (more_read (most - (i + 1)) n after) = rw (k, more, h) (regroup front n (more_read (most - (i + 1)) n after)) in
     sym step ∙ so_far
 
-pub fails : (e : ReadError) (front : List ℕ) (most i last : ℕ) (s : Front) (total : Read (List ℕ)) → i < most → is_next (codes "\n") s.rest ≡ false → Fails e (taken_read last s)
+pub fails : (e : FieldError) (front : List ℕ) (most i last : ℕ) (s : Front) (total : Read (List ℕ)) → i < most → is_next (codes "\n") s.rest ≡ false → Fails e (taken_read last s)
     → with_front front (more_read (most - i) last s) ≡ total → Fails e total
 unfolding more_read
 fails errors.Memory front most i last s total lt more h so_far = tt

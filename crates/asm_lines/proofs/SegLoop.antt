@@ -3,8 +3,8 @@ use Rattle.std.proofs.Common.{◌≡◌, ℕ, suc, ◌-◌, ◌+◌, ◌≤◌, 
 use Rattle.machine_semantics.specs.Trees as tree
 use Rattle.machine_semantics.specs.Trees.{Segs, Nil, Cons}
 use Rattle.image_format.proofs.TreeLoop.{join, join-none, join_assoc}
-use Rattle.text_fields.specs.declared.fault.ReadError.{ReadError}
-use Rattle.text_fields.specs.declared.fault.ReadError.TheVariants as errors
+use Rattle.text_fields.specs.declared.fault.FieldError.{FieldError}
+use Rattle.text_fields.specs.declared.fault.FieldError.TheVariants as errors
 use Rattle.text_fields.specs.Front.{◌>>=◌, Fails, Front, Read, no_form}
 use Rattle.asm_lines.specs.Trees.{segs_read, tree_ends}
 
@@ -24,7 +24,7 @@ goes_on one front most i s t after total lt more h so_far =
     let step : with_front front (segs_read one (most - i) s) ≡ with_front (join front (Cons t Nil)) (segs_read one (most - (i + 1)) after) = rw (k, more, h) (regroup front t (segs_read one (most - (i + 1)) after)) in
     sym step ∙ so_far
 
-pub fails : (one : Front → Read tree.Seg) (e : ReadError) (front : Segs) (most i : ℕ) (s : Front) (total : Read Segs) → i < most → tree_ends s.rest ≡ false → Fails e (one s)
+pub fails : (one : Front → Read tree.Seg) (e : FieldError) (front : Segs) (most i : ℕ) (s : Front) (total : Read Segs) → i < most → tree_ends s.rest ≡ false → Fails e (one s)
     → with_front front (segs_read one (most - i) s) ≡ total → Fails e total
 unfolding segs_read
 fails one errors.Memory front most i s total lt more h so_far = tt

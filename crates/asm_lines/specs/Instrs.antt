@@ -6,7 +6,7 @@ use Rattle.machine_isa.specs.Bytes.{arity}
 use Rattle.machine_isa.specs.Numbered.{numbered}
 use Rattle.image_reader.specs.Grammar.{or_end}
 use Rattle.asm_format.specs.Mnemonics.{mnemonics}
-use Rattle.text_fields.specs.declared.fault.Fault.{Fault}
+use Rattle.text_fields.specs.declared.fault.FieldFault.{FieldFault}
 use Rattle.text_fields.specs.Front.{Front, Read, ◌>>=◌, no_form, moved, skip, end_read}
 use Rattle.text_fields.specs.LineFields.{signed_read}
 use Rattle.asm_lines.specs.Names.{word_len}

@@ -3,10 +3,10 @@ use Rattle.std.specs.Prelude.{◌&&◌, ◌==◌, not, ℕ, Bool, true, false, L
 use Rattle.std.specs.List.{prefix_len}
 use Rattle.syntax.specs.Spellings.{is_identifier, keywords}
 use Rattle.machine_semantics.specs.Image.{Monitor}
-use Rattle.image.specs.declared.names.CondName.{CondName}
-use Rattle.image.specs.declared.names.DevName.{DevName}
+use Rattle.image.specs.declared.names.ConditionName.{ConditionName}
+use Rattle.image.specs.declared.names.DeviceName.{DeviceName}
 use Rattle.image_reader.specs.Grammar.{has, is_again}
-use Rattle.text_fields.specs.declared.fault.Fault.{Fault}
+use Rattle.text_fields.specs.declared.fault.FieldFault.{FieldFault}
 use Rattle.text_fields.specs.Front.{Front, Read, ◌>>=◌, no_form, moved, noted, begins, skip, end_read}
 use Rattle.text_fields.specs.LineFields.{field_read, numeral_read}
 
@@ -42,7 +42,7 @@ head_read s = named_read (codes "image ") [] s >>= λ name. field_read (codes " 
 abbrev pub direction_read : Front → Read Bool
 direction_read s = if begins (codes " out") s.rest then (skip (codes " out") s >>= λ t. Ok (true, t)) else (skip (codes " in") s >>= λ t. Ok (false, t))
 
-unfoldable pub device_read : (taken : List (List ℕ)) → Front → Read DevName
+unfoldable pub device_read : (taken : List (List ℕ)) → Front → Read DeviceName
 device_read taken s = named_read (codes "device ") taken s >>= λ name. direction_read name.1 >>= λ out. end_read out.1 >>= λ t. Ok (record { name = name.0; out = out.0 }, t)
 
 unfoldable pub event_read : (taken : List (List ℕ)) → Front → Read (List ℕ)
@@ -64,9 +64,9 @@ monitor_read taken s =
     ceiling_read words.1 >>= λ ceiling. end_read ceiling.1 >>= λ t. Ok ((name.0, record { base = base.0; words = words.0; ceiling = ceiling.0 }), t)
 
 -- a condition of one of so many monitors; no earlier one of the same monitor has its name
-abbrev pub placed : (monitors : ℕ) → (earlier : List CondName) → List ℕ → ℕ × Front → Read CondName
+abbrev pub placed : (monitors : ℕ) → (earlier : List ConditionName) → List ℕ → ℕ × Front → Read ConditionName
 placed monitors earlier name (mon, s) =
     end_read (noted (noted s (nat_lt mon monitors)) (not (is_again earlier (record { name = name; mon = mon })))) >>= λ t. Ok (record { name = name; mon = mon }, t)
 
-unfoldable pub condition_read : (taken : List (List ℕ)) → (monitors : ℕ) → (earlier : List CondName) → Front → Read CondName
+unfoldable pub condition_read : (taken : List (List ℕ)) → (monitors : ℕ) → (earlier : List ConditionName) → Front → Read ConditionName
 condition_read taken monitors earlier s = named_read (codes "condition ") taken s >>= λ name. field_read (codes " ") 0 65535 name.1 >>= placed monitors earlier name.0

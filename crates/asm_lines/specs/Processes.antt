@@ -4,7 +4,7 @@ use Rattle.std.specs.List.{list_any}
 use Rattle.machine_semantics.specs.Image.{Process}
 use Rattle.machine_semantics.specs.Trees.{Segs}
 use Rattle.image_reader.specs.Grammar.{is_taken}
-use Rattle.text_fields.specs.declared.fault.Fault.{Fault}
+use Rattle.text_fields.specs.declared.fault.FieldFault.{FieldFault}
 use Rattle.text_fields.specs.Front.{Front, Read, ◌>>=◌, no_form, noted, begins, skip, end_read}
 use Rattle.text_fields.specs.LineFields.{field_read}
 use Rattle.asm_lines.specs.Names.{named_read}

@@ -2,7 +2,7 @@
 use Rattle.std.specs.Prelude.{◌==◌, ℕ, Bool, List, Ok, Result, codes, nat_lt, if◌then◌else◌}
 use Rattle.machine_semantics.specs.Image.{Routine}
 use Rattle.machine_semantics.specs.Trees.{Segs}
-use Rattle.text_fields.specs.declared.fault.Fault.{Fault}
+use Rattle.text_fields.specs.declared.fault.FieldFault.{FieldFault}
 use Rattle.text_fields.specs.Front.{Front, Read, ◌>>=◌, noted, begins, skip, end_read}
 use Rattle.text_fields.specs.LineFields.{field_read}
 use Rattle.asm_lines.specs.Trees.{tree_line_read}

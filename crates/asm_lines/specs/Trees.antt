@@ -1,7 +1,7 @@
 -- The lines of segment trees.
 use Rattle.std.specs.Prelude.{◌||◌, ◌&&◌, ℕ, zero, suc, Bool, List, length, Ok, Err, Result, codes, nat_lt, if◌then◌else◌}
 use Rattle.machine_semantics.specs.Trees.{Seg, Line, Fork, Rep, Call, Stay, Wait, Exit, Segs, Nil, Cons}
-use Rattle.text_fields.specs.declared.fault.Fault.{Fault}
+use Rattle.text_fields.specs.declared.fault.FieldFault.{FieldFault}
 use Rattle.text_fields.specs.Front.{Front, Read, ◌>>=◌, no_form, out_of_range, moved, noted, begins, skip, end_read}
 use Rattle.text_fields.specs.LineFields.{field_read}
 use Rattle.asm_lines.specs.TreeForm.{is_tree_line}

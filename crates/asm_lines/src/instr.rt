@@ -9,7 +9,7 @@ use crate::names::word_len;
 use image_reader::instr_or_end;
 use machine_isa::{Instr, arity};
 use text_fields::numbers::signed;
-use text_fields::{At, Fault, ReadError, end_line, refusal, skip};
+use text_fields::{FieldError, FieldFault, LineCursor, end_line, refusal, skip};
 
 /// The names of the instructions, by their numbers from 1.
 const MNEMONICS: [&str; 48] = [
@@ -41,7 +41,7 @@ fn number_named(word: &[u8]) -> Option<u8>
 
 /// An operand where one is named, else 0.
 #[tactic(auto, unfolding(crate::specs::Instrs::operand_read))]
-fn operand(at: At<'_>, is_named: bool) -> Result<(i32, At<'_>), ReadError>
+fn operand(at: LineCursor<'_>, is_named: bool) -> Result<(i32, LineCursor<'_>), FieldError>
     ensures { Gives (λ x. (x.0, front x.1)) result (operand_read is_named (front at.entry)) }
 {
     if !is_named {
@@ -53,7 +53,7 @@ fn operand(at: At<'_>, is_named: bool) -> Result<(i32, At<'_>), ReadError>
 
 /// The operands that the instruction of the number names, to the end of the line.
 #[tactic(auto, unfolding(crate::specs::Instrs::numbered_read))]
-fn numbered_at(number: u8, at: At<'_>) -> Result<(Instr, At<'_>), ReadError>
+fn numbered_at(number: u8, at: LineCursor<'_>) -> Result<(Instr, LineCursor<'_>), FieldError>
     ensures { Gives (λ x. (x.0, front x.1)) result (numbered_read number (front at.entry)) }
 {
     let named = arity(number);
@@ -66,19 +66,19 @@ fn numbered_at(number: u8, at: At<'_>) -> Result<(Instr, At<'_>), ReadError>
 
 /// The line of an instruction.
 #[tactic(auto, unfolding(crate::specs::Instrs::instr_read))]
-pub fn instr_line(at: At<'_>) -> Result<(Instr, At<'_>), ReadError>
+pub fn instr_line(at: LineCursor<'_>) -> Result<(Instr, LineCursor<'_>), FieldError>
     ensures { Gives (λ x. (x.0, front x.1)) result (instr_read (front at.entry)) }
 {
     let len = word_len(at.rest);
     let (word, rest) = at.rest.split_at(len);
-    let after = At {
+    let after = LineCursor {
         rest,
         start: at.start,
         is_fine: at.is_fine,
     };
     match number_named(word) {
         Some(number) => numbered_at(number, after),
-        None => Err(ReadError::Fault(Fault {
+        None => Err(FieldError::Fault(FieldFault {
             number: refusal::FORM,
             left: at.start,
         })),

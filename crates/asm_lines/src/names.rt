@@ -6,12 +6,13 @@ ghost use Rattle.image_reader.specs.Grammar.{has, is_again};
 ghost use Rattle.text_fields.specs.Front.{Gives, front};
 ghost use Rattle.asm_lines.specs.Names.{below_none, ceiling_read, condition_read, device_read, direction_read, event_read, head_read, is_in_word as in_word_test, may_be_name as name_test, monitor_read, name_read, named_read, placed, word_len as word_front};
 
-use image::{CondName, DevName, RawMon};
+use image::{ConditionName, DeviceName, RawMonitor};
 use image_reader::is_plain_name;
 use std::alloc::Global;
 use syntax_tree::Name;
 use text_fields::{
-    At, Fault, ReadError, begins_with, end_line, field, note, numeral, refusal, short_field, skip,
+    FieldError, FieldFault, LineCursor, begins_with, end_line, field, note, numeral, refusal,
+    short_field, skip,
 };
 
 /// Whether the name is one of these.
@@ -44,12 +45,16 @@ pub fn word_len(bytes: &[u8]) -> usize
 
 /// A word, which is to be a name that is not taken.
 #[tactic(auto, unfolding(crate::specs::Names::name_read))]
-fn name_at<'a>(alloc: Global, at: At<'a>, taken: &[Name]) -> Result<(Name, At<'a>), ReadError>
+fn name_at<'a>(
+    alloc: Global,
+    at: LineCursor<'a>,
+    taken: &[Name],
+) -> Result<(Name, LineCursor<'a>), FieldError>
     ensures { Gives (λ x. (x.0, front x.1)) result (name_read taken.now (front at.entry)) }
 {
     let len = word_len(at.rest);
     if len == 0 {
-        return Err(ReadError::Fault(Fault {
+        return Err(FieldError::Fault(FieldFault {
             number: refusal::FORM,
             left: at.start,
         }));
@@ -57,7 +62,7 @@ fn name_at<'a>(alloc: Global, at: At<'a>, taken: &[Name]) -> Result<(Name, At<'a
     let (word, rest) = at.rest.split_at(len);
     let holds = may_be_name(word, taken);
     let name = Name::new(alloc, word)?;
-    let after = At {
+    let after = LineCursor {
         rest,
         start: at.start,
         is_fine: at.is_fine && holds,
@@ -69,10 +74,10 @@ fn name_at<'a>(alloc: Global, at: At<'a>, taken: &[Name]) -> Result<(Name, At<'a
 #[tactic(auto, unfolding(crate::specs::Names::named_read))]
 pub fn named<'a>(
     alloc: Global,
-    at: At<'a>,
+    at: LineCursor<'a>,
     label: &[u8],
     taken: &[Name],
-) -> Result<(Name, At<'a>), ReadError>
+) -> Result<(Name, LineCursor<'a>), FieldError>
     ensures { Gives (λ x. (x.0, front x.1)) result
         (named_read label.now taken.now (front at.entry)) }
 {
@@ -82,7 +87,10 @@ pub fn named<'a>(
 
 /// The line of the program's name and the overhead.
 #[tactic(auto, unfolding(crate::specs::Names::head_read))]
-pub fn head_line(alloc: Global, at: At<'_>) -> Result<((Name, u16), At<'_>), ReadError>
+pub fn head_line(
+    alloc: Global,
+    at: LineCursor<'_>,
+) -> Result<((Name, u16), LineCursor<'_>), FieldError>
     ensures { Gives (λ x. ((x.0.0, x.0.1), front x.1)) result (head_read (front at.entry)) }
 {
     let (name, at) = named(alloc, at, b"image ", &[])?;
@@ -92,7 +100,7 @@ pub fn head_line(alloc: Global, at: At<'_>) -> Result<((Name, u16), At<'_>), Rea
 }
 
 /// Whether a device is one for output.
-fn direction(at: At<'_>) -> Result<(bool, At<'_>), ReadError>
+fn direction(at: LineCursor<'_>) -> Result<(bool, LineCursor<'_>), FieldError>
     ensures { Gives (λ x. (x.0, front x.1)) result (direction_read (front at.entry)) }
 {
     if begins_with(at.rest, b" out") {
@@ -107,24 +115,24 @@ fn direction(at: At<'_>) -> Result<(bool, At<'_>), ReadError>
 #[tactic(auto, unfolding(crate::specs::Names::device_read))]
 pub fn device_line<'a>(
     alloc: Global,
-    at: At<'a>,
+    at: LineCursor<'a>,
     taken: &[Name],
-) -> Result<(DevName, At<'a>), ReadError>
+) -> Result<(DeviceName, LineCursor<'a>), FieldError>
     ensures { Gives (λ x. (x.0, front x.1)) result (device_read taken.now (front at.entry)) }
 {
     let (name, at) = named(alloc, at, b"device ", taken)?;
     let (out, at) = direction(at)?;
     let at = end_line(at)?;
-    Ok((DevName { name, out }, at))
+    Ok((DeviceName { name, out }, at))
 }
 
 /// The line of an event.
 #[tactic(auto, unfolding(crate::specs::Names::event_read))]
 pub fn event_line<'a>(
     alloc: Global,
-    at: At<'a>,
+    at: LineCursor<'a>,
     taken: &[Name],
-) -> Result<(Name, At<'a>), ReadError>
+) -> Result<(Name, LineCursor<'a>), FieldError>
     ensures { Gives (λ x. (x.0, front x.1)) result (event_read taken.now (front at.entry)) }
 {
     let (name, at) = named(alloc, at, b"event ", taken)?;
@@ -133,7 +141,10 @@ pub fn event_line<'a>(
 }
 
 /// A ceiling below 65535; a greater number is no form of one.
-fn ceiling_below(number: Option<u32>, at: At<'_>) -> Result<(u16, At<'_>), ReadError>
+fn ceiling_below(
+    number: Option<u32>,
+    at: LineCursor<'_>,
+) -> Result<(u16, LineCursor<'_>), FieldError>
     ensures { Gives (λ x. (x.0, front x.1)) result (below_none number (front at.entry)) }
 {
     match number {
@@ -141,13 +152,13 @@ fn ceiling_below(number: Option<u32>, at: At<'_>) -> Result<(u16, At<'_>), ReadE
             if ceiling < 65_535 {
                 Ok((ceiling as u16, at))
             } else {
-                Err(ReadError::Fault(Fault {
+                Err(FieldError::Fault(FieldFault {
                     number: refusal::FORM,
                     left: at.start,
                 }))
             }
         }
-        None => Err(ReadError::Fault(Fault {
+        None => Err(FieldError::Fault(FieldFault {
             number: refusal::FORM,
             left: at.start,
         })),
@@ -156,7 +167,7 @@ fn ceiling_below(number: Option<u32>, at: At<'_>) -> Result<(u16, At<'_>), ReadE
 
 /// A ceiling below 65535, or that there is none.
 #[tactic(auto, unfolding(crate::specs::Names::ceiling_read))]
-fn ceiling(at: At<'_>) -> Result<(u16, At<'_>), ReadError>
+fn ceiling(at: LineCursor<'_>) -> Result<(u16, LineCursor<'_>), FieldError>
     ensures { Gives (λ x. (x.0, front x.1)) result (ceiling_read (front at.entry)) }
 {
     if begins_with(at.rest, b" ceiling none") {
@@ -172,9 +183,9 @@ fn ceiling(at: At<'_>) -> Result<(u16, At<'_>), ReadError>
 #[tactic(auto, unfolding(crate::specs::Names::monitor_read))]
 pub fn monitor_line<'a>(
     alloc: Global,
-    at: At<'a>,
+    at: LineCursor<'a>,
     taken: &[Name],
-) -> Result<((Name, RawMon), At<'a>), ReadError>
+) -> Result<((Name, RawMonitor), LineCursor<'a>), FieldError>
     ensures { Gives (λ x. ((x.0.0, monitor_of x.0.1), front x.1)) result
         (monitor_read taken.now (front at.entry)) }
 {
@@ -183,7 +194,7 @@ pub fn monitor_line<'a>(
     let (words, at) = field(at, b" words ", 0, 4_294_967_295)?;
     let (ceiling, at) = ceiling(at)?;
     let at = end_line(at)?;
-    let monitor = RawMon {
+    let monitor = RawMonitor {
         base,
         words,
         ceiling,
@@ -192,7 +203,7 @@ pub fn monitor_line<'a>(
 }
 
 /// Whether an earlier condition of the same monitor has the name.
-fn is_again_in(condition: &CondName, earlier: &[CondName]) -> bool
+fn is_again_in(condition: &ConditionName, earlier: &[ConditionName]) -> bool
     ensures { result ≡ is_again earlier.now condition.now }
 {
     earlier.iter().any(|other| condition.mon == other.mon && condition.name == other.name)
@@ -203,13 +214,13 @@ fn placed_condition<'a>(
     name: Name,
     mon: u16,
     monitors: usize,
-    earlier: &[CondName],
-    at: At<'a>,
-) -> Result<(CondName, At<'a>), ReadError>
+    earlier: &[ConditionName],
+    at: LineCursor<'a>,
+) -> Result<(ConditionName, LineCursor<'a>), FieldError>
     ensures { Gives (λ x. (x.0, front x.1)) result
         (placed monitors earlier.now name (mon, front at.entry)) }
 {
-    let condition = CondName { name, mon };
+    let condition = ConditionName { name, mon };
     let at = note(at, usize::from(mon) < monitors);
     let at = note(at, !is_again_in(&condition, earlier));
     let at = end_line(at)?;
@@ -220,11 +231,11 @@ fn placed_condition<'a>(
 #[tactic(auto, unfolding(crate::specs::Names::condition_read))]
 pub fn condition_line<'a>(
     alloc: Global,
-    at: At<'a>,
+    at: LineCursor<'a>,
     taken: &[Name],
     monitors: usize,
-    earlier: &[CondName],
-) -> Result<(CondName, At<'a>), ReadError>
+    earlier: &[ConditionName],
+) -> Result<(ConditionName, LineCursor<'a>), FieldError>
     ensures { Gives (λ x. (x.0, front x.1)) result
         (condition_read taken.now monitors earlier.now (front at.entry)) }
 {

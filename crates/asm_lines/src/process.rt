@@ -10,11 +10,13 @@ ghost use Rattle.asm_lines.specs.Kept.{line_of};
 use crate::names::named;
 use crate::routine::cost;
 use crate::trees::tree_line;
-use image::RawProc;
+use image::RawProcess;
 use image_format::SegTree;
 use std::alloc::Global;
 use syntax_tree::{List, Name};
-use text_fields::{At, Fault, ReadError, begins_with, end_line, field, note, refusal, short_field};
+use text_fields::{
+    FieldError, FieldFault, LineCursor, begins_with, end_line, field, note, refusal, short_field,
+};
 
 /// The longest time within which an activation may have to end.
 const LONGEST_FRAME: u32 = 1_000_000_000;
@@ -31,14 +33,14 @@ struct Release {
 
 /// The frame of a periodic process.
 #[tactic(auto, unfolding(crate::specs::Processes::periodic_frame_read))]
-fn periodic_frame(at: At<'_>) -> Result<(u32, At<'_>), ReadError>
+fn periodic_frame(at: LineCursor<'_>) -> Result<(u32, LineCursor<'_>), FieldError>
     ensures { Gives (λ x. (x.0, front x.1)) result (periodic_frame_read (front at.entry)) }
 {
     field(at, b" periodic frame ", 10, LONGEST_FRAME)
 }
 
 /// What releases a periodic process.
-fn periodic(at: At<'_>) -> Result<(Release, At<'_>), ReadError>
+fn periodic(at: LineCursor<'_>) -> Result<(Release, LineCursor<'_>), FieldError>
     ensures { Gives (λ x. (
       (x.0.kind, (x.0.frame, (x.0.deadline, (x.0.first, x.0.event)))),
       front
@@ -66,7 +68,11 @@ fn is_free(events: usize, used: &[u16], event: u16) -> bool
 }
 
 /// What releases a process of an event.
-fn evented<'a>(at: At<'a>, events: usize, used: &[u16]) -> Result<(Release, At<'a>), ReadError>
+fn evented<'a>(
+    at: LineCursor<'a>,
+    events: usize,
+    used: &[u16],
+) -> Result<(Release, LineCursor<'a>), FieldError>
     ensures { Gives (λ x. (
       (x.0.kind, (x.0.frame, (x.0.deadline, (x.0.first, x.0.event)))),
       front
@@ -89,7 +95,11 @@ fn evented<'a>(at: At<'a>, events: usize, used: &[u16]) -> Result<(Release, At<'
 
 /// What releases a process, and within what it ends.
 #[tactic(auto, unfolding(crate::specs::Processes::release_read))]
-fn release_at<'a>(at: At<'a>, events: usize, used: &[u16]) -> Result<(Release, At<'a>), ReadError>
+fn release_at<'a>(
+    at: LineCursor<'a>,
+    events: usize,
+    used: &[u16],
+) -> Result<(Release, LineCursor<'a>), FieldError>
     ensures { Gives (λ x. (
       (x.0.kind, (x.0.frame, (x.0.deadline, (x.0.first, x.0.event)))),
       front
@@ -115,7 +125,7 @@ struct Time {
 }
 
 #[tactic(auto, unfolding(crate::specs::Processes::time_read))]
-fn time_at(at: At<'_>) -> Result<(Time, At<'_>), ReadError>
+fn time_at(at: LineCursor<'_>) -> Result<(Time, LineCursor<'_>), FieldError>
     ensures { Gives (λ x. (
       (x.0.rank, (x.0.run, (x.0.susp, (x.0.waits, (x.0.block, x.0.bound))))),
       front x.1,
@@ -148,7 +158,7 @@ struct Room {
 }
 
 #[tactic(auto, unfolding(crate::specs::Processes::room_read))]
-fn room_at(at: At<'_>) -> Result<(Room, At<'_>), ReadError>
+fn room_at(at: LineCursor<'_>) -> Result<(Room, LineCursor<'_>), FieldError>
     ensures { Gives (λ x. ((x.0.words, (x.0.stack, (x.0.locals, x.0.start))), front x.1)) result
         (room_read (front at.entry)) }
 {
@@ -174,7 +184,7 @@ fn may_be_taken(number: u16) -> bool
 
 /// A number that a handler may take, above the last one.
 #[tactic(auto, unfolding(crate::specs::Processes::taken_read))]
-fn number_taken(at: At<'_>, last: u16) -> Result<(u16, At<'_>), ReadError>
+fn number_taken(at: LineCursor<'_>, last: u16) -> Result<(u16, LineCursor<'_>), FieldError>
     ensures { Gives (λ x. (x.0, front x.1)) result (taken_read last (front at.entry)) }
 {
     let (number, at) = short_field(at, b" ", 0, 65_535)?;
@@ -183,7 +193,11 @@ fn number_taken(at: At<'_>, last: u16) -> Result<(u16, At<'_>), ReadError>
 }
 
 /// More numbers that a handler takes, up to the end of the line, at most so many.
-fn more_numbers(alloc: Global, most: usize, at: At<'_>) -> Result<(List<u16>, At<'_>), ReadError>
+fn more_numbers(
+    alloc: Global,
+    most: usize,
+    at: LineCursor<'_>,
+) -> Result<(List<u16>, LineCursor<'_>), FieldError>
     ensures { Gives (λ x. (x.0, front x.1)) result (more_read most 0 (front at.entry)) }
 {
     let mut numbers = List::new(alloc);
@@ -198,7 +212,7 @@ fn more_numbers(alloc: Global, most: usize, at: At<'_>) -> Result<(List<u16>, At
         last = number;
         place = after;
     }
-    Err(ReadError::Fault(Fault {
+    Err(FieldError::Fault(FieldFault {
         number: refusal::FORM,
         left: place.start,
     }))
@@ -206,11 +220,11 @@ fn more_numbers(alloc: Global, most: usize, at: At<'_>) -> Result<(List<u16>, At
 
 /// The numbers that a handler takes, one or more.
 #[tactic(auto, unfolding(crate::specs::Processes::numbers_read))]
-fn numbers(alloc: Global, at: At<'_>) -> Result<(List<u16>, At<'_>), ReadError>
+fn numbers(alloc: Global, at: LineCursor<'_>) -> Result<(List<u16>, LineCursor<'_>), FieldError>
     ensures { Gives (λ x. (x.0, front x.1)) result (numbers_read (front at.entry)) }
 {
     if begins_with(at.rest, b"\n") {
-        return Err(ReadError::Fault(Fault {
+        return Err(FieldError::Fault(FieldFault {
             number: refusal::FORM,
             left: at.start,
         }));
@@ -227,7 +241,7 @@ struct Handler {
 
 /// The handler, where there is one.
 #[tactic(auto, unfolding(crate::specs::Processes::handler_read))]
-fn handler_at(alloc: Global, at: At<'_>) -> Result<(Handler, At<'_>), ReadError>
+fn handler_at(alloc: Global, at: LineCursor<'_>) -> Result<(Handler, LineCursor<'_>), FieldError>
     ensures { Gives (λ x. ((x.0.start, x.0.numbers), front x.1)) result
         (handler_read (front at.entry)) }
 {
@@ -249,8 +263,8 @@ fn handler_tree<'a>(
     alloc: Global,
     monitors: usize,
     numbers: &[u16],
-    at: At<'a>,
-) -> Result<(Option<SegTree>, At<'a>), ReadError>
+    at: LineCursor<'a>,
+) -> Result<(Option<SegTree>, LineCursor<'a>), FieldError>
     ensures { Gives (λ x. (x.0, front x.1)) result
         (handler_tree_read monitors numbers.now (front at.entry)) }
 {
@@ -276,10 +290,10 @@ pub struct ProcessLine {
 #[tactic(auto, unfolding(crate::specs::Processes::fields_read))]
 fn fields<'a>(
     alloc: Global,
-    at: At<'a>,
+    at: LineCursor<'a>,
     events: usize,
     used: &[u16],
-) -> Result<(ProcessLine, At<'a>), ReadError>
+) -> Result<(ProcessLine, LineCursor<'a>), FieldError>
     ensures { Gives (λ x. (line_of x.0, front x.1)) result
         (fields_read events used.now (front at.entry)) }
 {
@@ -301,11 +315,11 @@ fn fields<'a>(
 #[tactic(auto, unfolding(crate::specs::Processes::process_line_read))]
 pub fn process_line<'a>(
     alloc: Global,
-    at: At<'a>,
+    at: LineCursor<'a>,
     events: usize,
     taken: &[Name],
     used: &[u16],
-) -> Result<((Name, ProcessLine), At<'a>), ReadError>
+) -> Result<((Name, ProcessLine), LineCursor<'a>), FieldError>
     ensures { Gives (λ x. ((x.0.0, line_of x.0.1), front x.1)) result
         (process_line_read events taken.now used.now (front at.entry)) }
 {
@@ -315,7 +329,7 @@ pub fn process_line<'a>(
 }
 
 /// The process of the line and these trees.
-fn process_of_line(line: ProcessLine, body: SegTree, handler_tree: Option<SegTree>) -> RawProc
+fn process_of_line(line: ProcessLine, body: SegTree, handler_tree: Option<SegTree>) -> RawProcess
     ensures { process_of result ≡ process_with (line_of line) body handler_tree }
 {
     let ProcessLine {
@@ -324,7 +338,7 @@ fn process_of_line(line: ProcessLine, body: SegTree, handler_tree: Option<SegTre
         room,
         handler,
     } = line;
-    RawProc {
+    RawProcess {
         kind: release.kind,
         frame: release.frame,
         deadline: release.deadline,
@@ -351,12 +365,12 @@ fn process_of_line(line: ProcessLine, body: SegTree, handler_tree: Option<SegTre
 #[tactic(auto, unfolding(crate::specs::Processes::process_read))]
 pub fn process_at<'a>(
     alloc: Global,
-    at: At<'a>,
+    at: LineCursor<'a>,
     monitors: usize,
     events: usize,
     taken: &[Name],
     used: &[u16],
-) -> Result<((Name, RawProc), At<'a>), ReadError>
+) -> Result<((Name, RawProcess), LineCursor<'a>), FieldError>
     ensures { Gives (λ x. ((x.0.0, process_of x.0.1), front x.1)) result
         (process_read monitors events taken.now used.now (front at.entry)) }
 {

@@ -8,13 +8,13 @@ ghost use Rattle.asm_lines.specs.Routines.{cost_fields_read, cost_read, owned_re
 use crate::trees::tree_line;
 use image::RawRoutine;
 use std::alloc::Global;
-use text_fields::{At, ReadError, begins_with, end_line, field, note, short_field, skip};
+use text_fields::{FieldError, LineCursor, begins_with, end_line, field, note, short_field, skip};
 
 /// The longest time that is told.
 const LONGEST_COST: u32 = 1_000_000_001;
 
 /// A time behind these bytes.
-pub fn cost<'a>(at: At<'a>, label: &[u8]) -> Result<(u32, At<'a>), ReadError>
+pub fn cost<'a>(at: LineCursor<'a>, label: &[u8]) -> Result<(u32, LineCursor<'a>), FieldError>
     ensures { Gives (λ x. (x.0, front x.1)) result (cost_read label.now (front at.entry)) }
 {
     field(at, label, 0, LONGEST_COST)
@@ -28,7 +28,12 @@ struct Owner {
 }
 
 /// The owner of a kind, one of so many, behind these bytes.
-fn owned<'a>(kind: u8, at: At<'a>, label: &[u8], count: usize) -> Result<(Owner, At<'a>), ReadError>
+fn owned<'a>(
+    kind: u8,
+    at: LineCursor<'a>,
+    label: &[u8],
+    count: usize,
+) -> Result<(Owner, LineCursor<'a>), FieldError>
     ensures { Gives (λ x. ((x.0.kind, x.0.number), front x.1)) result
         (owned_read kind label.now count (front at.entry)) }
 {
@@ -39,7 +44,11 @@ fn owned<'a>(kind: u8, at: At<'a>, label: &[u8], count: usize) -> Result<(Owner,
 
 /// Whose a routine is, where there are so many processes and monitors.
 #[tactic(auto, unfolding(crate::specs::Routines::owner_read))]
-fn owner_at(at: At<'_>, processes: usize, monitors: usize) -> Result<(Owner, At<'_>), ReadError>
+fn owner_at(
+    at: LineCursor<'_>,
+    processes: usize,
+    monitors: usize,
+) -> Result<(Owner, LineCursor<'_>), FieldError>
     ensures { Gives (λ x. ((x.0.kind, x.0.number), front x.1)) result
         (owner_read processes monitors (front at.entry)) }
 {
@@ -63,7 +72,7 @@ struct Room {
 }
 
 #[tactic(auto, unfolding(crate::specs::Routines::place_read))]
-fn room_at(at: At<'_>) -> Result<(Room, At<'_>), ReadError>
+fn room_at(at: LineCursor<'_>) -> Result<(Room, LineCursor<'_>), FieldError>
     ensures { Gives (λ x. ((x.0.params, (x.0.locals, (x.0.result, x.0.start))), front x.1)) result
         (place_read (front at.entry)) }
 {
@@ -82,7 +91,7 @@ fn room_at(at: At<'_>) -> Result<(Room, At<'_>), ReadError>
 
 /// The stay of a monitor's routine.
 #[tactic(auto, unfolding(crate::specs::Routines::stay_read))]
-fn stay(at: At<'_>, kind: u8) -> Result<(u32, At<'_>), ReadError>
+fn stay(at: LineCursor<'_>, kind: u8) -> Result<(u32, LineCursor<'_>), FieldError>
     ensures { Gives (λ x. (x.0, front x.1)) result (stay_read kind (front at.entry)) }
 {
     if kind == 2 {
@@ -102,7 +111,7 @@ struct Time {
 }
 
 #[tactic(auto, unfolding(crate::specs::Routines::cost_fields_read))]
-fn time_at(at: At<'_>, kind: u8) -> Result<(Time, At<'_>), ReadError>
+fn time_at(at: LineCursor<'_>, kind: u8) -> Result<(Time, LineCursor<'_>), FieldError>
     ensures { Gives (λ x. ((x.0.run, (x.0.susp, (x.0.waits, x.0.stay))), front x.1)) result
         (cost_fields_read kind (front at.entry)) }
 {
@@ -130,10 +139,10 @@ pub struct RoutineLine {
 /// The line of a routine, where there are so many processes and monitors.
 #[tactic(auto, unfolding(crate::specs::Routines::routine_line_read))]
 pub fn routine_line(
-    at: At<'_>,
+    at: LineCursor<'_>,
     processes: usize,
     monitors: usize,
-) -> Result<(RoutineLine, At<'_>), ReadError>
+) -> Result<(RoutineLine, LineCursor<'_>), FieldError>
     ensures { Gives (λ x. (
       (
         (x.0.owner.kind, x.0.owner.number),
@@ -157,10 +166,10 @@ pub fn routine_line(
 #[tactic(auto, unfolding(crate::specs::Routines::routine_read))]
 pub fn routine_at(
     alloc: Global,
-    at: At<'_>,
+    at: LineCursor<'_>,
     processes: usize,
     monitors: usize,
-) -> Result<(RawRoutine, At<'_>), ReadError>
+) -> Result<(RawRoutine, LineCursor<'_>), FieldError>
     ensures { Gives (λ x. (routine_of x.0, front x.1)) result
         (routine_read processes monitors (front at.entry)) }
 {

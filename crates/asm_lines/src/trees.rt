@@ -9,7 +9,8 @@ use crate::form::is_tree_first;
 use image_format::{Seg, SegTree, Segs};
 use std::alloc::Global;
 use text_fields::{
-    At, Fault, ReadError, begins_with, end_line, field, note, refusal, short_field, skip,
+    FieldError, FieldFault, LineCursor, begins_with, end_line, field, note, refusal, short_field,
+    skip,
 };
 
 /// How deep trees nest at most.
@@ -23,7 +24,7 @@ fn tree_ends(bytes: &[u8]) -> bool
 }
 
 /// A line of so many instructions.
-fn line_at(at: At<'_>) -> Result<(Seg, At<'_>), ReadError>
+fn line_at(at: LineCursor<'_>) -> Result<(Seg, LineCursor<'_>), FieldError>
     ensures { Gives (λ x. (view x.0, front x.1)) result (line_read (front at.entry)) }
 {
     let (count, at) = field(at, b" line ", 1, 65_535)?;
@@ -31,7 +32,7 @@ fn line_at(at: At<'_>) -> Result<(Seg, At<'_>), ReadError>
 }
 
 /// A call.
-fn call_at(at: At<'_>) -> Result<(Seg, At<'_>), ReadError>
+fn call_at(at: LineCursor<'_>) -> Result<(Seg, LineCursor<'_>), FieldError>
     ensures { Gives (λ x. (view x.0, front x.1)) result (call_read (front at.entry)) }
 {
     let (routine, at) = short_field(at, b" call ", 0, 65_535)?;
@@ -44,8 +45,8 @@ fn arm_at(
     alloc: Global,
     monitors: usize,
     depth: u32,
-    at: At<'_>,
-) -> Result<(Segs, At<'_>), ReadError>
+    at: LineCursor<'_>,
+) -> Result<(Segs, LineCursor<'_>), FieldError>
     ensures { Gives (λ x. (views x.0, front x.1)) result
         (arm_read (tree_read monitors depth) (front at.entry)) }
 {
@@ -61,8 +62,8 @@ fn fork_at(
     alloc: Global,
     monitors: usize,
     depth: u32,
-    at: At<'_>,
-) -> Result<(Seg, At<'_>), ReadError>
+    at: LineCursor<'_>,
+) -> Result<(Seg, LineCursor<'_>), FieldError>
     ensures { Gives (λ x. (view x.0, front x.1)) result
         (fork_read (tree_read monitors depth) (front at.entry)) }
 {
@@ -78,8 +79,8 @@ fn rep_at(
     alloc: Global,
     monitors: usize,
     depth: u32,
-    at: At<'_>,
-) -> Result<(Seg, At<'_>), ReadError>
+    at: LineCursor<'_>,
+) -> Result<(Seg, LineCursor<'_>), FieldError>
     ensures { Gives (λ x. (view x.0, front x.1)) result
         (rep_read (tree_read monitors depth) (front at.entry)) }
 {
@@ -94,8 +95,8 @@ fn stay_at(
     alloc: Global,
     monitors: usize,
     depth: u32,
-    at: At<'_>,
-) -> Result<(Seg, At<'_>), ReadError>
+    at: LineCursor<'_>,
+) -> Result<(Seg, LineCursor<'_>), FieldError>
     ensures { Gives (λ x. (view x.0, front x.1)) result
         (stay_read monitors (tree_read monitors depth) (front at.entry)) }
 {
@@ -112,8 +113,8 @@ fn seg_at(
     alloc: Global,
     monitors: usize,
     depth: u32,
-    at: At<'_>,
-) -> Result<(Seg, At<'_>), ReadError>
+    at: LineCursor<'_>,
+) -> Result<(Seg, LineCursor<'_>), FieldError>
     ensures { Gives (λ x. (view x.0, front x.1)) result
         (seg_read monitors (tree_read monitors depth) (front at.entry)) }
 {
@@ -147,8 +148,8 @@ fn segs_at(
     monitors: usize,
     depth: u32,
     most: usize,
-    at: At<'_>,
-) -> Result<(Segs, At<'_>), ReadError>
+    at: LineCursor<'_>,
+) -> Result<(Segs, LineCursor<'_>), FieldError>
     ensures { Gives (λ x. (views x.0, front x.1)) result
         (segs_read (seg_read monitors (tree_read monitors depth)) most (front at.entry)) }
 {
@@ -162,7 +163,7 @@ fn segs_at(
         segs.push(seg)?;
         place = after;
     }
-    Err(ReadError::Fault(Fault {
+    Err(FieldError::Fault(FieldFault {
         number: refusal::FORM,
         left: place.start,
     }))
@@ -175,13 +176,13 @@ fn tree_at(
     alloc: Global,
     monitors: usize,
     depth: u32,
-    at: At<'_>,
-) -> Result<(Segs, At<'_>), ReadError>
+    at: LineCursor<'_>,
+) -> Result<(Segs, LineCursor<'_>), FieldError>
     ensures { Gives (λ x. (views x.0, front x.1)) result
         (tree_read monitors depth (front at.entry)) }
 {
     if depth == 0 {
-        return Err(ReadError::Fault(Fault {
+        return Err(FieldError::Fault(FieldFault {
             number: refusal::RANGE,
             left: at.start,
         }));
@@ -191,13 +192,17 @@ fn tree_at(
 
 /// The line of a tree.
 #[tactic(auto, unfolding(crate::specs::Trees::tree_line_read))]
-pub fn tree_line(alloc: Global, monitors: usize, at: At<'_>) -> Result<(SegTree, At<'_>), ReadError>
+pub fn tree_line(
+    alloc: Global,
+    monitors: usize,
+    at: LineCursor<'_>,
+) -> Result<(SegTree, LineCursor<'_>), FieldError>
     ensures { Gives (λ x. (x.0, front x.1)) result
         (tree_line_read monitors (front at.entry)) }
 {
     let has_form = is_tree_first(alloc, at.rest)?;
     if !has_form {
-        return Err(ReadError::Fault(Fault {
+        return Err(FieldError::Fault(FieldFault {
             number: refusal::FORM,
             left: at.start,
         }));

@@ -7,8 +7,8 @@ use Rattle.std.proofs.lemmas.Bool.{and_parts, and_from, false≢true, lt-ltb, le
 use Rattle.std.proofs.lemmas.Fmt.{decimal_nonempty}
 use Rattle.syntax.specs.Spellings.{is_identifier, is_letter, is_word, keywords}
 use Rattle.machine_semantics.specs.Image.{Monitor}
-use Rattle.image.specs.declared.names.CondName.{CondName}
-use Rattle.image.specs.declared.names.DevName.{DevName}
+use Rattle.image.specs.declared.names.ConditionName.{ConditionName}
+use Rattle.image.specs.declared.names.DeviceName.{DeviceName}
 use Rattle.image_format.specs.Format.{u16, u32, unless, is_fine}
 use Rattle.image_format.specs.TreeFormat.{within, u32_within, u16_within, u16_below}
 use Rattle.image_reader.specs.Grammar.{has, is_again, wrong_name, name_format, device_format, monitor_format, named_monitor_format, condition_format}
@@ -110,7 +110,7 @@ direction_stops : (out : Bool) (rest : List ℕ) → Stops is_in_word (direction
 direction_stops true rest = refl
 direction_stops false rest = refl
 
-pub device_reads : (taken : List (List ℕ)) (d : DevName) (rest : List ℕ) → (device_format taken).is d ≡ true → device_read taken (line_start (device_line d ++ rest)) ≡ Ok (d, line_start rest)
+pub device_reads : (taken : List (List ℕ)) (d : DeviceName) (rest : List ℕ) → (device_format taken).is d ≡ true → device_read taken (line_start (device_line d ++ rest)) ≡ Ok (d, line_start rest)
 unfolding device_read
 device_reads taken d rest h =
     let is = is_name taken d.name (and_parts ((name_format taken).is d.name) true h).0 in
@@ -177,7 +177,7 @@ monitor_reads taken m rest h =
 
 -- ---- conditions
 
-pub condition_reads : (taken : List (List ℕ)) (monitors : ℕ) (earlier : List CondName) (c : CondName) (rest : List ℕ) → (condition_format taken monitors earlier).is c ≡ true
+pub condition_reads : (taken : List (List ℕ)) (monitors : ℕ) (earlier : List ConditionName) (c : ConditionName) (rest : List ℕ) → (condition_format taken monitors earlier).is c ≡ true
     → condition_read taken monitors earlier (line_start (condition_line c ++ rest)) ≡ Ok (c, line_start rest)
 unfolding condition_read
 condition_reads taken monitors earlier c rest h =

@@ -9,8 +9,8 @@ use Rattle.machine_isa.specs.Bytes.{number}
 use Rattle.machine_semantics.specs.Image.{Monitor, Routine, Process}
 use Rattle.machine_semantics.specs.Trees.{Segs}
 use Rattle.image.specs.Bytes.{Second}
-use Rattle.image.specs.declared.names.CondName.{CondName}
-use Rattle.image.specs.declared.names.DevName.{DevName}
+use Rattle.image.specs.declared.names.ConditionName.{ConditionName}
+use Rattle.image.specs.declared.names.DeviceName.{DeviceName}
 use Rattle.image_reader.specs.declared.counts.Counts.{Counts}
 use Rattle.image_format.specs.Format.{Format, u16, u32, is_fine, unless, checked, each_is}
 use Rattle.image_format.specs.TreeFormat.{in_image, u16_below, tree_format}
@@ -91,7 +91,7 @@ direction_line : (out : Bool) → is_line (direction_word out) ≡ true
 direction_line true = refl
 direction_line false = refl
 
-pub device_owners : (taken : List (List ℕ)) (d : DevName) (rest : List ℕ) → (device_format taken).is d ≡ true → owners_in (device_line d ++ rest) ≡ owners_in rest
+pub device_owners : (taken : List (List ℕ)) (d : DeviceName) (rest : List ℕ) → (device_format taken).is d ≡ true → owners_in (device_line d ++ rest) ≡ owners_in rest
 device_owners taken d rest h =
     let is = is_name taken d.name (and_parts ((name_format taken).is d.name) true h).0 in
     let line = codes "device " ++ (d.name ++ direction_word d.out) in
@@ -128,7 +128,7 @@ monitor_owners taken m rest h =
     let whole : is_line line ≡ true = whole_4 m.0 base_text words_text (codes " ceiling " ++ ceiling_text m.1.ceiling) name base words ceiling in
     ap owners_in same ∙ other_line line rest whole (not_first 112 (codes "rocess ") line refl)
 
-pub condition_owners : (taken : List (List ℕ)) (monitors : ℕ) (earlier : List CondName) (c : CondName) (rest : List ℕ) → (condition_format taken monitors earlier).is c ≡ true → owners_in (condition_line c ++ rest) ≡ owners_in rest
+pub condition_owners : (taken : List (List ℕ)) (monitors : ℕ) (earlier : List ConditionName) (c : ConditionName) (rest : List ℕ) → (condition_format taken monitors earlier).is c ≡ true → owners_in (condition_line c ++ rest) ≡ owners_in rest
 condition_owners taken monitors earlier c rest h =
     let p = and_parts ((name_format taken).is c.name && (u16_below monitors).is c.mon) (is_fine (unless (not (is_again earlier c)) 5)) h in
     let q = and_parts ((name_format taken).is c.name) ((u16_below monitors).is c.mon) p.0 in

@@ -5,8 +5,8 @@ use Rattle.std.proofs.lemmas.Bool.{and_parts, and_from, lt-ltb}
 use Rattle.machine_isa.specs.declared.instr.Instr.{Instr}
 use Rattle.machine_semantics.specs.Image.{Monitor, Routine, Process}
 use Rattle.image.specs.Bytes.{Second}
-use Rattle.image.specs.declared.names.CondName.{CondName}
-use Rattle.image.specs.declared.names.DevName.{DevName}
+use Rattle.image.specs.declared.names.ConditionName.{ConditionName}
+use Rattle.image.specs.declared.names.DeviceName.{DeviceName}
 use Rattle.image_reader.specs.declared.counts.Counts.{Counts}
 use Rattle.image_format.specs.Format.{Format, each_is}
 use Rattle.image_format.specs.TreeFormat.{u16_within, u32_within}
@@ -60,7 +60,7 @@ some_stop test write first (x ∷ xs) rest some = subst (Stops test) (sym (appen
 
 -- ---- the first line of a section
 
-device_next : (d : DevName) (rest : List ℕ) → begins (codes "device ") (device_line d ++ rest) ≡ true
+device_next : (d : DeviceName) (rest : List ℕ) → begins (codes "device ") (device_line d ++ rest) ≡ true
 device_next d rest = begins_self (codes "device ") ((d.name ++ direction d.out) ++ rest)
 
 event_next : (name rest : List ℕ) → begins (codes "event ") (event_line name ++ rest) ≡ true
@@ -73,7 +73,7 @@ behind word more rest = ap (begins word) (append_assoc word more rest) ∙ begin
 monitor_next : (x : List ℕ × Monitor) (rest : List ℕ) → begins (codes "monitor ") (monitor_line x.0 x.1 ++ rest) ≡ true
 monitor_next x rest = behind (codes "monitor ") _ rest
 
-condition_next : (c : CondName) (rest : List ℕ) → begins (codes "condition ") (condition_line c ++ rest) ≡ true
+condition_next : (c : ConditionName) (rest : List ℕ) → begins (codes "condition ") (condition_line c ++ rest) ≡ true
 condition_next c rest = behind (codes "condition ") _ rest
 
 routine_next : (r : Routine) (rest : List ℕ) → begins (codes "routine ") (routine_lines r ++ rest) ≡ true
@@ -109,7 +109,7 @@ sections head devices conditions routines code e m p = rw (e, m, p) (simp append
 
 -- ---- what the format says of the parts
 
-abbrev devices_are : List ℕ → List DevName → Bool
+abbrev devices_are : List ℕ → List DeviceName → Bool
 devices_are program devices = each_is (λ earlier. device_format ((program ∷ []) ++ map (λ d. d.name) earlier)) [] (length devices) devices
 
 abbrev events_are : List (List ℕ) → List (List ℕ) → Bool
@@ -118,7 +118,7 @@ events_are taken events = each_is (λ earlier. name_format (taken ++ earlier)) [
 abbrev monitors_are : List (List ℕ) → List (List ℕ × Monitor) → Bool
 monitors_are taken monitors = each_is (λ earlier. named_monitor_format (taken ++ map (λ m. m.0) earlier)) [] (length monitors) monitors
 
-abbrev conditions_are : List (List ℕ) → ℕ → List CondName → Bool
+abbrev conditions_are : List (List ℕ) → ℕ → List ConditionName → Bool
 conditions_are taken monitors conditions = each_is (condition_format taken monitors) [] (length conditions) conditions
 
 abbrev routines_are : Counts → List Routine → Bool

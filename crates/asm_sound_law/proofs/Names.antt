@@ -5,7 +5,7 @@ use Rattle.std.proofs.lemmas.Bool.{ltb-true, lt-ltb, leb-true, le-leb, eq-eqb, e
 use Rattle.std.proofs.lemmas.List.{take-append-drop}
 use Rattle.text_fields.specs.Fields.{Lacks}
 use Rattle.syntax.specs.Spellings.{is_identifier, keywords}
-use Rattle.image.specs.declared.names.CondName.{CondName}
+use Rattle.image.specs.declared.names.ConditionName.{ConditionName}
 use Rattle.image_reader.specs.Grammar as g
 use Rattle.asm_format.specs.Text.{head_line, direction, device_line, event_line, ceiling_text, monitor_line, condition_line, field}
 use Rattle.text_fields.specs.Front.{Front, begins, moved, noted}
@@ -129,17 +129,17 @@ monitor_took taken s =
 
 -- ---- conditions
 
-placed_took : (taken : List (List ℕ)) (monitors : ℕ) (earlier : List CondName) (name : List ℕ) (s r t : Front) (mon : ℕ)
+placed_took : (taken : List (List ℕ)) (monitors : ℕ) (earlier : List ConditionName) (name : List ℕ) (s r t : Front) (mon : ℕ)
     → Takes Start Within 0 s r (codes "condition " ++ name) (IsName taken name) → Takes Within Within 0 r t (field (codes " ") mon) (IsIn 0 65535 mon)
     → Holds (λ z. Takes Start Start 0 s z.1 (condition_line z.0) ((g.condition_format taken monitors earlier).is z.0 ≡ true)) (placed monitors earlier name (mon, t))
 placed_took taken monitors earlier name s r t mon a b =
-    let c : CondName = record { name = name; mon = mon } in
+    let c : ConditionName = record { name = name; mon = mon } in
     let there = note (not (g.is_again earlier c)) (note (nat_lt mon monitors) b) in
     next (end_took (noted (noted t (nat_lt mon monitors)) (not (g.is_again earlier c)))) (λ u e.
     let took = on a (on there e) in
     went (shown took refl (λ held. both_true (both_true held.0 (both_true (any_u16 0 mon held.1.0.0.0) (fine_of 4 held.1.0.0.1))) (fine_of 5 held.1.0.1))))
 
-pub condition_took : (taken : List (List ℕ)) (monitors : ℕ) (earlier : List CondName) (s : Front)
+pub condition_took : (taken : List (List ℕ)) (monitors : ℕ) (earlier : List ConditionName) (s : Front)
     → Holds (λ z. Takes Start Start 0 s z.1 (condition_line z.0) ((g.condition_format taken monitors earlier).is z.0 ≡ true)) (condition_read taken monitors earlier s)
 unfolding condition_read
 condition_took taken monitors earlier s =

@@ -5,8 +5,8 @@ use Rattle.std.specs.List.{flat_map}
 use Rattle.std.proofs.lemmas.Bool.{eqb-true}
 use Rattle.machine_isa.specs.declared.instr.Instr.{Instr}
 use Rattle.machine_semantics.specs.Image.{Monitor, Routine, Process}
-use Rattle.image.specs.declared.names.CondName.{CondName}
-use Rattle.image.specs.declared.names.DevName.{DevName}
+use Rattle.image.specs.declared.names.ConditionName.{ConditionName}
+use Rattle.image.specs.declared.names.DeviceName.{DeviceName}
 use Rattle.image_reader.specs.Grammar as g
 use Rattle.image_reader.specs.File.{used_by, with_devices, with_monitors}
 use Rattle.asm_format.specs.Mnemonics.{instr_line}
@@ -30,7 +30,7 @@ use Rattle.image_reader_law.proofs.ImageFaultsWhole.{Work, Guarded, Named}
 abbrev Section : {A : Type 0} → (write : A → List ℕ) → (Held : List A → A → Type 0) → (most : ℕ) → Front → List A × Front → Type 0
 Section write Held most s z = (length z.0 ≤ most) × Takes Start Start 0 s z.1 (flat_map write z.0) (EachHeld Held [] z.0)
 
-abbrev pub IsDevice : (taken : List (List ℕ)) → List DevName → DevName → Type 0
+abbrev pub IsDevice : (taken : List (List ℕ)) → List DeviceName → DeviceName → Type 0
 IsDevice taken earlier d = (g.device_format (taken ++ map (λ e. e.name) earlier)).is d ≡ true
 
 devices_took : (taken : List (List ℕ)) (s : Front) → Holds (Section device_line (IsDevice taken) 64 s) (devices_read taken s)
@@ -56,7 +56,7 @@ monitors_took taken s =
     plain_rows (begins (codes "monitor ")) (λ earlier. monitor_read (taken ++ map (λ m. m.0) earlier)) (λ earlier. monitor_read (taken ++ map (λ m. m.0) earlier)) monitor_text (IsMonitor taken)
     (λ earlier t. monitor_took (taken ++ map (λ m. m.0) earlier) t) 64 s
 
-abbrev pub IsCondition : (taken : List (List ℕ)) → (monitors : ℕ) → List CondName → CondName → Type 0
+abbrev pub IsCondition : (taken : List (List ℕ)) → (monitors : ℕ) → List ConditionName → ConditionName → Type 0
 IsCondition taken monitors earlier c = (g.condition_format taken monitors earlier).is c ≡ true
 
 conditions_took : (taken : List (List ℕ)) (monitors : ℕ) (s : Front) → Holds (Section condition_line (IsCondition taken monitors) 256 s) (conditions_read taken monitors s)

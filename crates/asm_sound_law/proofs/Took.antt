@@ -3,7 +3,7 @@ use Rattle.std.proofs.Common.{◌≡◌, ◌<◌, ◌^◌, ◌+◌, ◌++◌, �
 use Rattle.std.specs.Prelude.{codes, if◌then◌else◌}
 use Rattle.std.specs.List.{count_by}
 use Rattle.std.proofs.lemmas.Bool.{and_parts}
-use Rattle.text_fields.specs.declared.fault.Fault.{Fault}
+use Rattle.text_fields.specs.declared.fault.FieldFault.{FieldFault}
 use Rattle.text_fields.specs.Front.{Front, ◌>>=◌, begins, noted}
 use Rattle.asm_lines.specs.TreeForm.{cuts}
 
@@ -87,40 +87,40 @@ nothing {p = p} s fine = record { fine = fine; are = refl; count = (let e : ahea
 
 -- ---- readings that went well
 
-abbrev okay : {A : Type 0} → A → Result A Fault
+abbrev okay : {A : Type 0} → A → Result A FieldFault
 okay x = Ok x
 
 pub same_ok : {A : Type 0} (x y : A) → okay x ≡ okay y → x ≡ y
 same_ok {A = A} x y h = ap value h where
-  value : Result A Fault → A
+  value : Result A FieldFault → A
   value (Ok z) = z
   value (Err e) = x
 
 -- where reading goes well, this holds of what it gives
-pub record Holds {A : Type 0} (P : A → Type 0) (r : Result A Fault) : Type 0 where
+pub record Holds {A : Type 0} (P : A → Type 0) (r : Result A FieldFault) : Type 0 where
   pub from : (x : A) → r ≡ Ok x → P x
 
 pub went : {A : Type 0} {P : A → Type 0} {x : A} → P x → Holds P (Ok x)
 went {P = P} {x = x} p = record { from = λ y e. subst P (same_ok x y e) p }
 
-pub failed : {A : Type 0} {P : A → Type 0} {e : Fault} → Holds P (Err e)
+pub failed : {A : Type 0} {P : A → Type 0} {e : FieldFault} → Holds P (Err e)
 failed = record { from = λ y e. cc }
 
-pub next : {A B : Type 0} {P : A → Type 0} {Q : B → Type 0} {r : Result A Fault} {g : A → Result B Fault} → Holds P r → ((x : A) → P x → Holds Q (g x)) → Holds Q (r >>= g)
+pub next : {A B : Type 0} {P : A → Type 0} {Q : B → Type 0} {r : Result A FieldFault} {g : A → Result B FieldFault} → Holds P r → ((x : A) → P x → Holds Q (g x)) → Holds Q (r >>= g)
 next {A = A} {B = B} {P = P} {Q = Q} {r = r} {g = g} h k = record { from = by r h.from } where
-  by : (o : Result A Fault) → ((x : A) → o ≡ Ok x → P x) → (y : B) → (o >>= g) ≡ Ok y → Q y
+  by : (o : Result A FieldFault) → ((x : A) → o ≡ Ok x → P x) → (y : B) → (o >>= g) ≡ Ok y → Q y
   by (Ok x) f y e = (k x (f x refl)).from y e
   by (Err x) f y e = cc
 
-pub choice : {A : Type 0} {P : A → Type 0} {x y : Result A Fault} (b : Bool) → (b ≡ true → Holds P x) → (b ≡ false → Holds P y) → Holds P (if b then x else y)
+pub choice : {A : Type 0} {P : A → Type 0} {x y : Result A FieldFault} (b : Bool) → (b ≡ true → Holds P x) → (b ≡ false → Holds P y) → Holds P (if b then x else y)
 choice {A = A} {P = P} {x = x} {y = y} b f g = by b f g where
   by : (c : Bool) → (c ≡ true → Holds P x) → (c ≡ false → Holds P y) → Holds P (if c then x else y)
   by true f g = f refl
   by false f g = g refl
 
 -- what holds of each thing that is given
-pub mapped : {A : Type 0} {P Q : A → Type 0} {r : Result A Fault} → ((x : A) → P x → Q x) → Holds P r → Holds Q r
+pub mapped : {A : Type 0} {P Q : A → Type 0} {r : Result A FieldFault} → ((x : A) → P x → Q x) → Holds P r → Holds Q r
 mapped f h = record { from = λ x e. f x (h.from x e) }
 
-pub both_hold : {A : Type 0} {P Q : A → Type 0} {r : Result A Fault} → Holds P r → Holds Q r → Holds (λ x. P x × Q x) r
+pub both_hold : {A : Type 0} {P Q : A → Type 0} {r : Result A FieldFault} → Holds P r → Holds Q r → Holds (λ x. P x × Q x) r
 both_hold f h = record { from = λ x e. (f.from x e, h.from x e) }

@@ -1,7 +1,7 @@
 -- Reading the parts of a kind one after the other, as a loop does.
 use Rattle.std.proofs.Common.{◌≡◌, ℕ, suc, ◌-◌, ◌+◌, ◌≤◌, ◌<◌, List, [], ◌∷◌, ◌++◌, Bool, true, false, Ok, Err, refl, sym, ap, ◌∙◌, arith, append_assoc, append-nil}
-use Rattle.text_fields.specs.declared.fault.ReadError.{ReadError}
-use Rattle.text_fields.specs.declared.fault.ReadError.TheVariants as errors
+use Rattle.text_fields.specs.declared.fault.FieldError.{FieldError}
+use Rattle.text_fields.specs.declared.fault.FieldError.TheVariants as errors
 use Rattle.text_fields.specs.Front.{◌>>=◌, Fails, Front, Read}
 use Rattle.assembler.specs.Sections.{no_more, rows_read}
 
@@ -23,7 +23,7 @@ goes_on is_next one line front most i s x after total lt next h so_far =
     rw (k, next, h) (regroup front x (rows_read is_next one line (front ++ x ∷ []) (most - (i + 1)) after)) in
     sym step ∙ so_far
 
-pub fails : {A B : Type 0} (is_next : List ℕ → Bool) (one : List A → Front → Read A) (line : List A → Front → Read B) (e : ReadError) (front : List A) (most i : ℕ) (s : Front) (total : Read (List A))
+pub fails : {A B : Type 0} (is_next : List ℕ → Bool) (one : List A → Front → Read A) (line : List A → Front → Read B) (e : FieldError) (front : List A) (most i : ℕ) (s : Front) (total : Read (List A))
     → i < most → is_next s.rest ≡ true → Fails e (one front s) → in_front front (rows_read is_next one line front (most - i) s) ≡ total → Fails e total
 unfolding rows_read
 fails is_next one line errors.Memory front most i s total lt next h so_far = tt
@@ -49,7 +49,7 @@ full {A = A} is_next one line front most i s t total le none so_far =
     let step : in_front front (rows_read is_next one line front (most - i) s) ≡ Ok (front, t) = rw (k, none) (ap (λ (ys : List A). Ok (ys, t)) (append-nil front)) in
     sym so_far ∙ step
 
-pub overfull : {A B : Type 0} (is_next : List ℕ → Bool) (one : List A → Front → Read A) (line : List A → Front → Read B) (e : ReadError) (front : List A) (most i : ℕ) (s : Front) (total : Read (List A))
+pub overfull : {A B : Type 0} (is_next : List ℕ → Bool) (one : List A → Front → Read A) (line : List A → Front → Read B) (e : FieldError) (front : List A) (most i : ℕ) (s : Front) (total : Read (List A))
     → most ≤ i → Fails e (no_more is_next (line front) s) → in_front front (rows_read is_next one line front (most - i) s) ≡ total → Fails e total
 unfolding rows_read
 overfull is_next one line errors.Memory front most i s total le h so_far = tt

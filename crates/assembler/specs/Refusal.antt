@@ -1,10 +1,10 @@
 -- The fault of a line where none may stand.
 use Rattle.std.specs.Prelude.{◌≡◌}
-use Rattle.text_fields.specs.declared.fault.ReadError.{ReadError}
-use Rattle.text_fields.specs.declared.fault.ReadError.TheVariants as errors
+use Rattle.text_fields.specs.declared.fault.FieldError.{FieldError}
+use Rattle.text_fields.specs.declared.fault.FieldError.TheVariants as errors
 use Rattle.text_fields.specs.Front.{Front}
 use Rattle.assembler.specs.Sections.{none_read}
 
-abbrev pub Refuses : ReadError → Front → Type 0
+abbrev pub Refuses : FieldError → Front → Type 0
 Refuses errors.Memory s = Unit {0}
 Refuses (errors.Fault f) s = f ≡ none_read s

@@ -3,10 +3,10 @@
 use Rattle.std.specs.Prelude.{◌+◌, ◌-◌, ◌++◌, ◌&&◌, ◌==◌, not, ℕ, zero, suc, Bool, true, false, List, [], ◌∷◌, length, map, take, Result, Ok, Err, codes, count_by, nat_lt, if◌then◌else◌}
 use Rattle.machine_isa.specs.declared.instr.Instr.{Instr}
 use Rattle.machine_semantics.specs.Image.{Monitor, Routine, Process}
-use Rattle.image.specs.declared.names.CondName.{CondName}
-use Rattle.image.specs.declared.names.DevName.{DevName}
+use Rattle.image.specs.declared.names.ConditionName.{ConditionName}
+use Rattle.image.specs.declared.names.DeviceName.{DeviceName}
 use Rattle.image_reader.specs.File.{Parts, all_used, used_by, with_devices, with_monitors}
-use Rattle.text_fields.specs.declared.fault.Fault.{Fault}
+use Rattle.text_fields.specs.declared.fault.FieldFault.{FieldFault}
 use Rattle.text_fields.specs.Front.{Front, Read, ◌>>=◌, no_form, out_of_range, begins, skip, end_read, line_start}
 use Rattle.asm_lines.specs.TreeForm.{cuts}
 use Rattle.asm_lines.specs.Names.{head_read, device_read, event_read, monitor_read, condition_read}
@@ -17,12 +17,12 @@ use Rattle.asm_lines.specs.Instrs.{instr_read}
 -- ---- parts of a kind, one after the other
 
 -- a line that must not stand here is in no form, or else out of range
-abbrev pub refused : {A : Type 0} → Read A → Front → Fault
+abbrev pub refused : {A : Type 0} → Read A → Front → FieldFault
 refused (Err e) s = e
 refused (Ok x) s = out_of_range s
 
 -- no more lines of the kind
-abbrev pub no_more : {A : Type 0} → (is_next : List ℕ → Bool) → (line : Front → Read A) → Front → Result Front Fault
+abbrev pub no_more : {A : Type 0} → (is_next : List ℕ → Bool) → (line : Front → Read A) → Front → Result Front FieldFault
 no_more is_next line s = if is_next s.rest then Err (refused (line s) s) else Ok s
 
 -- parts of a kind as long as a line of the kind is next, at most so many; a part may depend on
@@ -32,7 +32,7 @@ rows_read is_next one line earlier zero s = no_more is_next (line earlier) s >>=
 rows_read is_next one line earlier (suc n) s =
     if is_next s.rest then (one earlier s >>= λ x. rows_read is_next one line (earlier ++ x.0 ∷ []) n x.1 >>= λ xs. Ok (x.0 ∷ xs.0, xs.1)) else Ok ([], s)
 
-abbrev pub devices_read : (taken : List (List ℕ)) → Front → Read (List DevName)
+abbrev pub devices_read : (taken : List (List ℕ)) → Front → Read (List DeviceName)
 devices_read taken s =
     rows_read (begins (codes "device ")) (λ earlier. device_read (taken ++ map (λ d. d.name) earlier)) (λ earlier. device_read (taken ++ map (λ d. d.name) earlier)) [] 64 s
 
@@ -43,7 +43,7 @@ abbrev pub monitors_read : (taken : List (List ℕ)) → Front → Read (List (L
 monitors_read taken s =
     rows_read (begins (codes "monitor ")) (λ earlier. monitor_read (taken ++ map (λ m. m.0) earlier)) (λ earlier. monitor_read (taken ++ map (λ m. m.0) earlier)) [] 64 s
 
-abbrev pub conditions_read : (taken : List (List ℕ)) → (monitors : ℕ) → Front → Read (List CondName)
+abbrev pub conditions_read : (taken : List (List ℕ)) → (monitors : ℕ) → Front → Read (List ConditionName)
 conditions_read taken monitors s = rows_read (begins (codes "condition ")) (condition_read taken monitors) (condition_read taken monitors) [] 256 s
 
 abbrev pub routines_read : (processes monitors : ℕ) → Front → Read (List Routine)
@@ -60,11 +60,11 @@ abbrev pub is_end : List ℕ → Bool
 is_end bytes = begins (codes "end\n") bytes
 
 -- the last line
-unfoldable pub last_read : Front → Result Front Fault
+unfoldable pub last_read : Front → Result Front FieldFault
 last_read s = skip (codes "end") s >>= end_read
 
 -- a line after the processes, where there must be none: there is no process, or an event of none
-unfoldable pub none_read : Front → Fault
+unfoldable pub none_read : Front → FieldFault
 none_read s = if is_end s.rest then out_of_range s else refused (instr_read s) s
 
 -- there is a process, and each event is of one
@@ -81,26 +81,26 @@ work_read owners monitors events taken s =
     code_read (is_complete events processes.0) processes.1 >>= λ code. Ok ((routines.0, (processes.0, code.0)), code.1)
 
 -- the monitors, the conditions, and all that follows
-unfoldable pub guarded_read : (owners events : ℕ) → (taken : List (List ℕ)) → Front → Read (List (List ℕ × Monitor) × (List CondName × (List Routine × (List (List ℕ × Process) × List Instr))))
+unfoldable pub guarded_read : (owners events : ℕ) → (taken : List (List ℕ)) → Front → Read (List (List ℕ × Monitor) × (List ConditionName × (List Routine × (List (List ℕ × Process) × List Instr))))
 guarded_read owners events taken s =
     monitors_read taken s >>= λ monitors. conditions_read (with_monitors taken monitors.0) (length monitors.0) monitors.1 >>= λ conditions.
     work_read owners (length monitors.0) events (with_monitors taken monitors.0) conditions.1 >>= λ work. Ok ((monitors.0, (conditions.0, work.0)), work.1)
 
 -- the devices, the events, and all that follows
 unfoldable pub named_read : (owners : ℕ) → (program : List ℕ) → Front
-    → Read (List DevName × (List (List ℕ) × (List (List ℕ × Monitor) × (List CondName × (List Routine × (List (List ℕ × Process) × List Instr))))))
+    → Read (List DeviceName × (List (List ℕ) × (List (List ℕ × Monitor) × (List ConditionName × (List Routine × (List (List ℕ × Process) × List Instr))))))
 named_read owners program s =
     devices_read (program ∷ []) s >>= λ devices. events_read (with_devices (program ∷ []) devices.0) devices.1 >>= λ events.
     guarded_read owners (length events.0) (with_devices (program ∷ []) devices.0 ++ events.0) events.1 >>= λ guarded. Ok ((devices.0, (events.0, guarded.0)), guarded.1)
 
 -- the last line, and nothing after it
-abbrev pub nothing_after : Front → Result Front Fault
+abbrev pub nothing_after : Front → Result Front FieldFault
 nothing_after s = if length s.rest == 0 then Ok s else Err (no_form s)
 
-unfoldable pub finish_read : Front → Result Front Fault
+unfoldable pub finish_read : Front → Result Front FieldFault
 finish_read s = last_read s >>= nothing_after
 
-abbrev pub parts_of_lines : List ℕ × ℕ → List DevName × (List (List ℕ) × (List (List ℕ × Monitor) × (List CondName × (List Routine × (List (List ℕ × Process) × List Instr))))) → Parts
+abbrev pub parts_of_lines : List ℕ × ℕ → List DeviceName × (List (List ℕ) × (List (List ℕ × Monitor) × (List ConditionName × (List Routine × (List (List ℕ × Process) × List Instr))))) → Parts
 parts_of_lines head x = record {
   over = head.1;
   program = head.0;
@@ -119,7 +119,7 @@ abbrev pub owners_in : (text : List ℕ) → ℕ
 owners_in text = count_by (begins (codes "process ")) (cuts 10 text)
 
 -- the parts of an image that the text tells, or the first fault
-unfoldable pub text_read : (text : List ℕ) → Result Parts Fault
+unfoldable pub text_read : (text : List ℕ) → Result Parts FieldFault
 text_read text =
     head_read (line_start text) >>= λ head. named_read (owners_in text) head.0.0 head.1 >>= λ x. finish_read x.1 >>= λ t. Ok (parts_of_lines head.0 x.0)
 

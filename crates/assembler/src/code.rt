@@ -12,7 +12,7 @@ use asm_lines::instr_line;
 use machine_isa::Instr;
 use std::alloc::Global;
 use syntax_tree::List;
-use text_fields::{At, Fault, ReadError, begins_with, end_line, refusal, skip};
+use text_fields::{FieldError, FieldFault, LineCursor, begins_with, end_line, refusal, skip};
 
 /// How many instructions there are at most.
 const MOST_INSTRS: usize = 65_535;
@@ -46,10 +46,10 @@ fn is_end(bytes: &[u8]) -> bool
 
 /// The fault of a line after the processes, where there must be none.
 #[tactic(auto, unfolding(crate::specs::Sections::none_read))]
-fn no_line(at: At<'_>) -> ReadError
+fn no_line(at: LineCursor<'_>) -> FieldError
     ensures { Refuses result (front at.entry) }
 {
-    let wrong = ReadError::Fault(Fault {
+    let wrong = FieldError::Fault(FieldFault {
         number: refusal::RANGE,
         left: at.start,
     });
@@ -63,7 +63,7 @@ fn no_line(at: At<'_>) -> ReadError
 }
 
 /// No more instructions stand here.
-fn no_instr(at: At<'_>) -> Result<At<'_>, ReadError>
+fn no_instr(at: LineCursor<'_>) -> Result<LineCursor<'_>, FieldError>
     ensures { Gives front result (no_more (λ bytes. not (end_test bytes)) instr_read
         (front at.entry)) }
 {
@@ -71,7 +71,7 @@ fn no_instr(at: At<'_>) -> Result<At<'_>, ReadError>
         return Ok(at);
     }
     instr_line(at)?;
-    Err(ReadError::Fault(Fault {
+    Err(FieldError::Fault(FieldFault {
         number: refusal::RANGE,
         left: at.start,
     }))
@@ -80,9 +80,9 @@ fn no_instr(at: At<'_>) -> Result<At<'_>, ReadError>
 /// The instructions, where the processes are complete.
 pub fn code_at(
     alloc: Global,
-    at: At<'_>,
+    at: LineCursor<'_>,
     is_complete: bool,
-) -> Result<(List<Instr>, At<'_>), ReadError>
+) -> Result<(List<Instr>, LineCursor<'_>), FieldError>
     ensures { Gives (λ x. (x.0, front x.1)) result (code_read is_complete (front at.entry)) }
 {
     if !is_complete {
@@ -104,7 +104,7 @@ pub fn code_at(
 
 /// The last line.
 #[tactic(auto, unfolding(crate::specs::Sections::last_read))]
-fn last_line(at: At<'_>) -> Result<At<'_>, ReadError>
+fn last_line(at: LineCursor<'_>) -> Result<LineCursor<'_>, FieldError>
     ensures { Gives front result (last_read (front at.entry)) }
 {
     let at = skip(at, b"end")?;
@@ -113,14 +113,14 @@ fn last_line(at: At<'_>) -> Result<At<'_>, ReadError>
 
 /// The last line, and nothing after it.
 #[tactic(auto, unfolding(crate::specs::Sections::finish_read))]
-pub fn finish(at: At<'_>) -> Result<At<'_>, ReadError>
+pub fn finish(at: LineCursor<'_>) -> Result<LineCursor<'_>, FieldError>
     ensures { Gives front result (finish_read (front at.entry)) }
 {
     let at = last_line(at)?;
     if at.rest.len() == 0 {
         Ok(at)
     } else {
-        Err(ReadError::Fault(Fault {
+        Err(FieldError::Fault(FieldFault {
             number: refusal::FORM,
             left: at.start,
         }))

@@ -12,5 +12,5 @@ mod names;
 mod text;
 mod work;
 
-pub use fault::{AsmFault, LONG_TEXT};
+pub use fault::{AssemblyFault, LONG_TEXT};
 pub use text::asm;

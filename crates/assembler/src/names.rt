@@ -9,11 +9,11 @@ ghost use Rattle.asm_lines.specs.Names.{condition_read, device_read, event_read,
 ghost use Rattle.assembler.specs.Sections.{conditions_read, devices_read, events_read, monitors_read, no_more};
 
 use asm_lines::{condition_line, device_line, event_line, monitor_line};
-use image::{CondName, DevName};
-use image_reader::Monitors;
+use image::{ConditionName, DeviceName};
+use image_reader::NamedMonitors;
 use std::alloc::{AllocError, Global};
 use syntax_tree::{List, Name};
-use text_fields::{At, Fault, ReadError, begins_with, refusal};
+use text_fields::{FieldError, FieldFault, LineCursor, begins_with, refusal};
 
 /// How many devices there are at most.
 const MOST_DEVICES: usize = 64;
@@ -34,7 +34,11 @@ pub fn take(alloc: Global, taken: &mut List<Name>, name: &Name) -> Result<(), Al
 }
 
 /// No more devices stand here.
-fn no_device<'a>(alloc: Global, at: At<'a>, taken: &[Name]) -> Result<At<'a>, ReadError>
+fn no_device<'a>(
+    alloc: Global,
+    at: LineCursor<'a>,
+    taken: &[Name],
+) -> Result<LineCursor<'a>, FieldError>
     ensures { Gives front result (no_more (begins (codes "device ")) (device_read taken.now)
         (front at.entry)) }
 {
@@ -42,7 +46,7 @@ fn no_device<'a>(alloc: Global, at: At<'a>, taken: &[Name]) -> Result<At<'a>, Re
         return Ok(at);
     }
     device_line(alloc, at, taken)?;
-    Err(ReadError::Fault(Fault {
+    Err(FieldError::Fault(FieldFault {
         number: refusal::RANGE,
         left: at.start,
     }))
@@ -51,9 +55,9 @@ fn no_device<'a>(alloc: Global, at: At<'a>, taken: &[Name]) -> Result<At<'a>, Re
 /// The devices, whose names are taken.
 pub fn devices_at<'a>(
     alloc: Global,
-    at: At<'a>,
+    at: LineCursor<'a>,
     taken: &mut List<Name>,
-) -> Result<(List<DevName>, At<'a>), ReadError>
+) -> Result<(List<DeviceName>, LineCursor<'a>), FieldError>
     ensures read { Gives (λ x. (x.0, front x.1)) result (devices_read taken.old (front at.entry)) }
     ensures taken { IfOk result (λ x. taken.new ≡ taken.old ++ map (λ d. d.name) x.0) }
 {
@@ -73,7 +77,11 @@ pub fn devices_at<'a>(
 }
 
 /// No more events stand here.
-fn no_event<'a>(alloc: Global, at: At<'a>, taken: &[Name]) -> Result<At<'a>, ReadError>
+fn no_event<'a>(
+    alloc: Global,
+    at: LineCursor<'a>,
+    taken: &[Name],
+) -> Result<LineCursor<'a>, FieldError>
     ensures { Gives front result (no_more (begins (codes "event ")) (event_read taken.now)
         (front at.entry)) }
 {
@@ -81,7 +89,7 @@ fn no_event<'a>(alloc: Global, at: At<'a>, taken: &[Name]) -> Result<At<'a>, Rea
         return Ok(at);
     }
     event_line(alloc, at, taken)?;
-    Err(ReadError::Fault(Fault {
+    Err(FieldError::Fault(FieldFault {
         number: refusal::RANGE,
         left: at.start,
     }))
@@ -90,9 +98,9 @@ fn no_event<'a>(alloc: Global, at: At<'a>, taken: &[Name]) -> Result<At<'a>, Rea
 /// The names of the events, which are taken.
 pub fn events_at<'a>(
     alloc: Global,
-    at: At<'a>,
+    at: LineCursor<'a>,
     taken: &mut List<Name>,
-) -> Result<(List<Name>, At<'a>), ReadError>
+) -> Result<(List<Name>, LineCursor<'a>), FieldError>
     ensures read { Gives (λ x. (x.0, front x.1)) result (events_read taken.old (front at.entry)) }
     ensures taken { IfOk result (λ x. taken.new ≡ taken.old ++ x.0) }
 {
@@ -112,7 +120,11 @@ pub fn events_at<'a>(
 }
 
 /// No more monitors stand here.
-fn no_monitor<'a>(alloc: Global, at: At<'a>, taken: &[Name]) -> Result<At<'a>, ReadError>
+fn no_monitor<'a>(
+    alloc: Global,
+    at: LineCursor<'a>,
+    taken: &[Name],
+) -> Result<LineCursor<'a>, FieldError>
     ensures { Gives front result (no_more (begins (codes "monitor ")) (monitor_read taken.now)
         (front at.entry)) }
 {
@@ -120,7 +132,7 @@ fn no_monitor<'a>(alloc: Global, at: At<'a>, taken: &[Name]) -> Result<At<'a>, R
         return Ok(at);
     }
     monitor_line(alloc, at, taken)?;
-    Err(ReadError::Fault(Fault {
+    Err(FieldError::Fault(FieldFault {
         number: refusal::RANGE,
         left: at.start,
     }))
@@ -129,9 +141,9 @@ fn no_monitor<'a>(alloc: Global, at: At<'a>, taken: &[Name]) -> Result<At<'a>, R
 /// The monitors, whose names are taken.
 pub fn monitors_at<'a>(
     alloc: Global,
-    at: At<'a>,
+    at: LineCursor<'a>,
     taken: &mut List<Name>,
-) -> Result<(Monitors, At<'a>), ReadError>
+) -> Result<(NamedMonitors, LineCursor<'a>), FieldError>
     ensures read { Gives (λ x. (zip x.0.names (map monitor_of x.0.things), front x.1)) result
         (monitors_read taken.old (front at.entry)) }
     ensures taken { IfOk result (λ x. taken.new ≡
@@ -143,7 +155,7 @@ pub fn monitors_at<'a>(
     let mut place = at;
     for _ in 0..MOST_MONITORS {
         if !begins_with(place.rest, b"monitor ") {
-            return Ok((Monitors { names, things }, place));
+            return Ok((NamedMonitors { names, things }, place));
         }
         let ((name, monitor), after) = monitor_line(alloc, place, taken.as_slice())?;
         take(alloc, taken, &name)?;
@@ -152,17 +164,17 @@ pub fn monitors_at<'a>(
         place = after;
     }
     let place = no_monitor(alloc, place, taken.as_slice())?;
-    Ok((Monitors { names, things }, place))
+    Ok((NamedMonitors { names, things }, place))
 }
 
 /// No more conditions stand here.
 fn no_condition<'a>(
     alloc: Global,
-    at: At<'a>,
+    at: LineCursor<'a>,
     taken: &[Name],
     monitors: usize,
-    earlier: &[CondName],
-) -> Result<At<'a>, ReadError>
+    earlier: &[ConditionName],
+) -> Result<LineCursor<'a>, FieldError>
     ensures { Gives front result (no_more (begins (codes "condition "))
         (condition_read taken.now monitors earlier.now) (front at.entry)) }
 {
@@ -170,7 +182,7 @@ fn no_condition<'a>(
         return Ok(at);
     }
     condition_line(alloc, at, taken, monitors, earlier)?;
-    Err(ReadError::Fault(Fault {
+    Err(FieldError::Fault(FieldFault {
         number: refusal::RANGE,
         left: at.start,
     }))
@@ -179,10 +191,10 @@ fn no_condition<'a>(
 /// The conditions of so many monitors.
 pub fn conditions_at<'a>(
     alloc: Global,
-    at: At<'a>,
+    at: LineCursor<'a>,
     taken: &[Name],
     monitors: usize,
-) -> Result<(List<CondName>, At<'a>), ReadError>
+) -> Result<(List<ConditionName>, LineCursor<'a>), FieldError>
     ensures { Gives (λ x. (x.0, front x.1)) result
         (conditions_read taken.now monitors (front at.entry)) }
 {

@@ -11,15 +11,15 @@ ghost use Rattle.image_reader.specs.Held as held;
 ghost use Rattle.assembler.specs.Sections.{guarded_read, is_complete as complete_test, line_at, named_read, owners_in, text_read, work_read};
 
 use crate::code::{are_used, code_at, finish};
-use crate::fault::{AsmFault, LONG_TEXT};
+use crate::fault::{AssemblyFault, LONG_TEXT};
 use crate::names::{conditions_at, devices_at, events_at, monitors_at, take};
 use crate::work::{processes_at, routines_at};
 use asm_lines::head_line;
 use image::RawImage;
-use image_reader::{Guarded, Monitors, Named, Processes, Work, assemble};
+use image_reader::{Guarded, Named, NamedMonitors, NamedProcesses, Work, assemble};
 use std::alloc::Global;
 use syntax_tree::{List, Name};
-use text_fields::{At, ReadError, begins_with, cut_at};
+use text_fields::{FieldError, LineCursor, begins_with, cut_at};
 
 /// Whether there are processes, and each of so many events is used.
 fn serve_all(processes: usize, used: &[u16], events: usize) -> bool
@@ -29,7 +29,7 @@ fn serve_all(processes: usize, used: &[u16], events: usize) -> bool
 }
 
 /// Whether there is a process, and each of so many events is of one.
-fn is_complete(processes: &Processes, events: usize) -> bool
+fn is_complete(processes: &NamedProcesses, events: usize) -> bool
     requires each { length processes.now.names ≡ length processes.now.things }
     requires used { processes.now.used ≡
         used_by (zip processes.now.names (map process_of processes.now.things)) }
@@ -42,12 +42,12 @@ fn is_complete(processes: &Processes, events: usize) -> bool
 #[tactic(auto, unfolding(crate::specs::Sections::work_read))]
 fn work_at<'a>(
     alloc: Global,
-    at: At<'a>,
+    at: LineCursor<'a>,
     owners: usize,
     monitors: usize,
     events: usize,
     taken: &mut List<Name>,
-) -> Result<(Work, At<'a>), ReadError>
+) -> Result<(Work, LineCursor<'a>), FieldError>
     ensures read { Gives (λ x. (held.work_of x.0, front x.1)) result
         (work_read owners monitors events taken.old (front at.entry)) }
     ensures each { IfOk result (λ x. length x.0.processes.names ≡ length x.0.processes.things) }
@@ -65,7 +65,7 @@ fn work_at<'a>(
 }
 
 /// How many monitors these are.
-fn count_of(monitors: &Monitors) -> usize
+fn count_of(monitors: &NamedMonitors) -> usize
     requires { length monitors.now.names ≡ length monitors.now.things }
     ensures { result ≡ length (zip monitors.now.names (map monitor_of monitors.now.things)) }
 {
@@ -75,11 +75,11 @@ fn count_of(monitors: &Monitors) -> usize
 #[tactic(auto, unfolding(crate::specs::Sections::guarded_read))]
 fn guarded_at<'a>(
     alloc: Global,
-    at: At<'a>,
+    at: LineCursor<'a>,
     owners: usize,
     events: usize,
     taken: &mut List<Name>,
-) -> Result<(Guarded, At<'a>), ReadError>
+) -> Result<(Guarded, LineCursor<'a>), FieldError>
     ensures read { Gives (λ x. (held.guarded_of x.0, front x.1)) result
         (guarded_read owners events taken.old (front at.entry)) }
     ensures each_monitor { IfOk result (λ x. length x.0.monitors.names ≡
@@ -102,10 +102,10 @@ fn guarded_at<'a>(
 #[tactic(auto, unfolding(crate::specs::Sections::named_read))]
 fn named_at<'a>(
     alloc: Global,
-    at: At<'a>,
+    at: LineCursor<'a>,
     owners: usize,
     program: &Name,
-) -> Result<(Named, At<'a>), ReadError>
+) -> Result<(Named, LineCursor<'a>), FieldError>
     ensures read { Gives (λ x. (held.named_of x.0, front x.1)) result
         (named_read owners program.now (front at.entry)) }
     ensures each_monitor { IfOk result (λ x. length x.0.guarded.monitors.names ≡
@@ -142,11 +142,11 @@ fn owners_of(text: &[u8]) -> usize
 
 /// The image that the text tells.
 #[tactic(auto, unfolding(crate::specs::Sections::text_read))]
-fn image_at(alloc: Global, text: &[u8]) -> Result<RawImage, ReadError>
+fn image_at(alloc: Global, text: &[u8]) -> Result<RawImage, FieldError>
     ensures read { Gives parts_of result (text_read text.now) }
     ensures image { IfOk result (λ raw. named_of raw ≡ image_with (parts_of raw)) }
 {
-    let ((program, overhead), at) = head_line(alloc, At::begin(text))?;
+    let ((program, overhead), at) = head_line(alloc, LineCursor::begin(text))?;
     let owners = owners_of(text);
     let (named, at) = named_at(alloc, at, owners, &program)?;
     finish(at)?;
@@ -173,19 +173,19 @@ const LONGEST: usize = 8_388_608;
 /// an event of none. A line that is missing at the end counts too. Fault 3, with line 0, comes
 /// exactly where the text has more than 8,388,608 bytes. `Memory` may stand in place of any other
 /// answer.
-pub fn asm(alloc: Global, text: &[u8]) -> Result<RawImage, AsmFault>
+pub fn asm(alloc: Global, text: &[u8]) -> Result<RawImage, AssemblyFault>
     ensures { Tells text.now result }
 {
     if LONGEST < text.len() {
-        return Err(AsmFault::Bad {
+        return Err(AssemblyFault::Bad {
             number: LONG_TEXT,
             line: 0,
         });
     }
     match image_at(alloc, text) {
         Ok(image) => Ok(image),
-        Err(ReadError::Memory) => Err(AsmFault::Memory),
-        Err(ReadError::Fault(fault)) => Err(AsmFault::Bad {
+        Err(FieldError::Memory) => Err(AssemblyFault::Memory),
+        Err(FieldError::Fault(fault)) => Err(AssemblyFault::Bad {
             number: fault.number,
             line: line_of(text, fault.left),
         }),

@@ -12,11 +12,11 @@ ghost use Rattle.assembler.specs.Sections.{no_more, processes_read, routines_rea
 
 use crate::names::take;
 use asm_lines::{process_at, process_line, routine_at, routine_line};
-use image::{RawProc, RawRoutine};
-use image_reader::Processes;
+use image::{RawProcess, RawRoutine};
+use image_reader::NamedProcesses;
 use std::alloc::{AllocError, Global};
 use syntax_tree::{List, Name};
-use text_fields::{At, Fault, ReadError, begins_with, refusal};
+use text_fields::{FieldError, FieldFault, LineCursor, begins_with, refusal};
 
 /// How many routines there are at most.
 const MOST_ROUTINES: usize = 512;
@@ -24,7 +24,11 @@ const MOST_ROUTINES: usize = 512;
 const MOST_PROCESSES: usize = 64;
 
 /// No more routines stand here.
-fn no_routine(at: At<'_>, owners: usize, monitors: usize) -> Result<At<'_>, ReadError>
+fn no_routine(
+    at: LineCursor<'_>,
+    owners: usize,
+    monitors: usize,
+) -> Result<LineCursor<'_>, FieldError>
     ensures { Gives front result (no_more (begins (codes "routine "))
         (routine_line_read owners monitors) (front at.entry)) }
 {
@@ -32,7 +36,7 @@ fn no_routine(at: At<'_>, owners: usize, monitors: usize) -> Result<At<'_>, Read
         return Ok(at);
     }
     routine_line(at, owners, monitors)?;
-    Err(ReadError::Fault(Fault {
+    Err(FieldError::Fault(FieldFault {
         number: refusal::RANGE,
         left: at.start,
     }))
@@ -41,10 +45,10 @@ fn no_routine(at: At<'_>, owners: usize, monitors: usize) -> Result<At<'_>, Read
 /// The routines, where so many processes and monitors may own them.
 pub fn routines_at(
     alloc: Global,
-    at: At<'_>,
+    at: LineCursor<'_>,
     owners: usize,
     monitors: usize,
-) -> Result<(List<RawRoutine>, At<'_>), ReadError>
+) -> Result<(List<RawRoutine>, LineCursor<'_>), FieldError>
     ensures { Gives (λ x. (map routine_of x.0, front x.1)) result
         (routines_read owners monitors (front at.entry)) }
 {
@@ -63,7 +67,7 @@ pub fn routines_at(
 }
 
 /// Notes the event that releases the process, where there is one.
-fn use_event(used: &mut List<u16>, process: &RawProc) -> Result<(), AllocError>
+fn use_event(used: &mut List<u16>, process: &RawProcess) -> Result<(), AllocError>
     ensures { OnOk result (used.new ≡ used.old ++ event_of (process_of process.now)) }
 {
     if process.kind != 0 {
@@ -75,11 +79,11 @@ fn use_event(used: &mut List<u16>, process: &RawProc) -> Result<(), AllocError>
 /// No more processes stand here.
 fn no_process<'a>(
     alloc: Global,
-    at: At<'a>,
+    at: LineCursor<'a>,
     events: usize,
     taken: &[Name],
     used: &[u16],
-) -> Result<At<'a>, ReadError>
+) -> Result<LineCursor<'a>, FieldError>
     ensures { Gives front result (no_more (begins (codes "process "))
         (process_line_read events taken.now used.now) (front at.entry)) }
 {
@@ -87,7 +91,7 @@ fn no_process<'a>(
         return Ok(at);
     }
     process_line(alloc, at, events, taken, used)?;
-    Err(ReadError::Fault(Fault {
+    Err(FieldError::Fault(FieldFault {
         number: refusal::RANGE,
         left: at.start,
     }))
@@ -96,11 +100,11 @@ fn no_process<'a>(
 /// The processes of so many monitors and events, whose names are taken.
 pub fn processes_at<'a>(
     alloc: Global,
-    at: At<'a>,
+    at: LineCursor<'a>,
     monitors: usize,
     events: usize,
     taken: &mut List<Name>,
-) -> Result<(Processes, At<'a>), ReadError>
+) -> Result<(NamedProcesses, LineCursor<'a>), FieldError>
     ensures read { Gives (λ x. (zip x.0.names (map process_of x.0.things), front x.1)) result
         (processes_read monitors events taken.old (front at.entry)) }
     ensures used { IfOk result (λ x. x.0.used ≡
@@ -114,7 +118,7 @@ pub fn processes_at<'a>(
     for _ in 0..MOST_PROCESSES {
         if !begins_with(place.rest, b"process ") {
             return Ok((
-                Processes {
+                NamedProcesses {
                     names,
                     things,
                     used,
@@ -138,7 +142,7 @@ pub fn processes_at<'a>(
     }
     let place = no_process(alloc, place, events, taken.as_slice(), used.as_slice())?;
     Ok((
-        Processes {
+        NamedProcesses {
             names,
             things,
             used,

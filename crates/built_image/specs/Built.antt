@@ -1,6 +1,6 @@
 -- The image that is made of a program, and when a program is timely.
 use Rattle.std.specs.Prelude.{◌≡◌, ◌-◌, ℕ, Some, slice_get}
-use Rattle.syntax_tree.specs.Plain.{Prog}
+use Rattle.syntax_tree.specs.Plain.{Program}
 use Rattle.machine_semantics.specs.Image.{Image, Process}
 use Rattle.image.specs.Named.{NamedImage}
 use Rattle.sched_response.specs.Demand.{Solves, IsBound}
@@ -13,7 +13,7 @@ use Rattle.built_image.specs.Named.{names_of}
 
 -- All but the bounds: the code of the program with its words and tables, the overhead, the costs
 -- and stacks of its text, and ranks, ceilings and blocks by deadlines and stays.
-pub record IsShaped (g : Prog) (over : ℕ) (m : Image) : Type 0 where
+pub record IsShaped (g : Program) (over : ℕ) (m : Image) : Type 0 where
   pub overhead : m.over ≡ over
   pub code : Holds g (program_made g) m
   pub declares : Declares g m
@@ -29,20 +29,20 @@ abbrev pub HasLeastBounds : Image → Type 0
 HasLeastBounds m = (k : ℕ) (p : Process) → slice_get m.processes k ≡ Some p → IsBound (tasks_of m) (p.rank - 1) p.bound
 
 -- The image of a program with an overhead, with its names.
-pub record IsBuilt (g : Prog) (over : ℕ) (n : NamedImage) : Type 0 where
+pub record IsBuilt (g : Program) (over : ℕ) (n : NamedImage) : Type 0 where
   pub program : n.program ≡ g.name
   pub names : n.names ≡ names_of g
   pub shaped : IsShaped g over n.image
   pub bounds : HasLeastBounds n.image
 
 -- the recurrence of each process has a solution within its deadline
-pub record IsTimely (g : Prog) (over : ℕ) : Type 0 where
+pub record IsTimely (g : Program) (over : ℕ) : Type 0 where
   pub image : Image
   pub shaped : IsShaped g over image
   pub each : (k : ℕ) (p : Process) → slice_get image.processes k ≡ Some p → (r : ℕ) × Responds image p r
 
 -- that of some process has none
-pub record IsLate (g : Prog) (over : ℕ) : Type 0 where
+pub record IsLate (g : Program) (over : ℕ) : Type 0 where
   pub image : Image
   pub shaped : IsShaped g over image
   pub number : ℕ

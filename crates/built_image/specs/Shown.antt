@@ -1,6 +1,6 @@
 -- The table that a report shows of a program.
 use Rattle.std.specs.Prelude.{◌≡◌, ◌<◌, ◌-◌, ℕ, cond, List, [], ◌∷◌, Option, Some, None, nat_eq, length, map, slice_get}
-use Rattle.syntax_tree.specs.Plain.{Prog}
+use Rattle.syntax_tree.specs.Plain.{Program}
 use Rattle.machine_semantics.specs.Image.{Image, Monitor, Process}
 use Rattle.valid_image.specs.Tasks.{tasks_of}
 use Rattle.sched_table.specs.declared.table.Row.{Row}
@@ -33,7 +33,7 @@ abbrev pub table_of : Image → List (Option ℕ) → Table
 table_of m bounds = record {
   rows = rows_of m.processes bounds;
   ceilings = map ceiling_shown m.monitors;
-  mon_words = map (λ x. x.words) m.monitors;
+  monitor_words = map (λ x. x.words) m.monitors;
   code = length m.code;
 }
 
@@ -45,7 +45,7 @@ pub record AreLeast (m : Image) (bounds : List (Option ℕ)) : Type 0 where
       → IsBoundAt (tasks_of m) (p.rank - 1) b
 
 -- The table of a program with an overhead.
-pub record IsTableOf (g : Prog) (over : ℕ) (t : Table) : Type 0 where
+pub record IsTableOf (g : Program) (over : ℕ) (t : Table) : Type 0 where
   pub image : Image
   pub shaped : IsShaped g over image
   pub bounds : List (Option ℕ)

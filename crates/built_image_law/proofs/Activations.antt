@@ -3,7 +3,7 @@ use Rattle.std.proofs.Common.{◌≡◌, ◌≤◌, ℕ, true, ℤ, pos, negsuc,
 use Rattle.std.specs.Prelude.{◌&&◌, int_le}
 use Rattle.std.proofs.lemmas.Bool.Decides.{nat_tests}
 use Rattle.base.specs.Words.{within}
-use Rattle.syntax_tree.specs.Plain.{Constant, Activation, periodic, at_event, Prog}
+use Rattle.syntax_tree.specs.Plain.{Constant, Trigger, periodic, at_event, Program}
 use Rattle.source_semantics.specs.Names.{as_count, constant_value, count_value, frame_of, deadline_or, deadline_of}
 use Rattle.wellformed.specs.WellFormed.{DeadlineFits, ActivationFits}
 
@@ -29,19 +29,19 @@ no_more (pos m) (pos n) low is = in_order m n is
 no_more (pos m) (negsuc n) low is = absurd (first_of (cc, grind (arith, nat_tests, is)))
 no_more (negsuc m) w low is = absurd (first_of (cc, grind (arith, nat_tests, low)))
 
-pub record InLimits (g : Prog) (a : Activation) : Type 0 where
+pub record InLimits (g : Program) (a : Trigger) : Type 0 where
   pub frame_low : 10 ≤ frame_of g a
   pub frame_high : frame_of g a ≤ 1000000000
   pub deadline_low : 10 ≤ deadline_of g a
   pub deadline_high : deadline_of g a ≤ frame_of g a
 
-deadlines : (g : Prog) (frame : Constant) (deadline : Option Constant) → 10 ≤ count_value g frame → DeadlineFits g frame deadline
+deadlines : (g : Program) (frame : Constant) (deadline : Option Constant) → 10 ≤ count_value g frame → DeadlineFits g frame deadline
     → (10 ≤ deadline_or g (count_value g frame) deadline) × (deadline_or g (count_value g frame) deadline ≤ count_value g frame)
 deadlines g frame None low fits = (low, omega arith)
 deadlines g frame (Some d) low fits =
     (no_less 10 (constant_value g d) fits.1, no_more (constant_value g d) (constant_value g frame) fits.1 fits.2)
 
-pub in_limits : (g : Prog) (a : Activation) → ActivationFits g a → InLimits g a
+pub in_limits : (g : Program) (a : Trigger) → ActivationFits g a → InLimits g a
 in_limits g (periodic frame deadline first) fits =
     let f = between 10 1000000000 (constant_value g frame) fits.0.limits in
     let d = deadlines g frame deadline f.0 fits.1 in

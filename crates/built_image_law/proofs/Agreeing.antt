@@ -3,7 +3,7 @@ use Rattle.std.specs.Prelude.{◌≡◌, ◌+◌, ℕ, zero, suc, Bool, List, []
 use Rattle.std.proofs.Common.{refl, sym, ap, subst, ◌∙◌}
 use Rattle.std.proofs.lemmas.List.{map-id}
 use Rattle.machine_isa.specs.declared.instr.Instr.{Instr}
-use Rattle.syntax_tree.specs.Plain.{Activation, periodic, at_event, Handler, Monitor, Process, Prog}
+use Rattle.syntax_tree.specs.Plain.{Trigger, periodic, at_event, Handler, Monitor, Process, Program}
 use Rattle.machine_semantics.specs.Image as image
 use Rattle.code_spec.specs.Layout.{words_of, monitor_vars}
 use Rattle.code_spec.specs.Compiled.{IsReleased, AreMonitors}
@@ -24,7 +24,7 @@ use Rattle.built_image_law.proofs.Ranked.{ranks_agree, ceilings_agree, blocks_ag
 
 -- ---- routines
 
-routine_agrees : (g : Prog) (t : Text) (x : Part) (r s : image.Routine) → HoldsRoutine g t x r → HoldsRoutine g t x s → DeclaresRoutine g t r → DeclaresRoutine g t s → s ≡ r
+routine_agrees : (g : Program) (t : Text) (x : Part) (r s : image.Routine) → HoldsRoutine g t x r → HoldsRoutine g t x s → DeclaresRoutine g t r → DeclaresRoutine g t s → s ≡ r
 routine_agrees g t x r s a b c d =
     ap (λ v. record s { kind = v }) (b.kind ∙ sym a.kind)
     ∙ (ap (λ v. record s { kind = r.kind; owner = v }) (b.owner ∙ sym a.owner)
@@ -38,7 +38,7 @@ routine_agrees g t x r s a b c d =
     ∙ (ap (λ v. record r { run = s.run; susp = v }) (d.susp ∙ sym c.susp)
     ∙ ap (λ v. record r { run = v }) (d.run ∙ sym c.run))))))))))
 
-routines_agree : (g : Prog) (ts : List Text) (xs : List Part) (rs ss : List image.Routine) → HoldRoutines g ts xs rs → HoldRoutines g ts xs ss
+routines_agree : (g : Program) (ts : List Text) (xs : List Part) (rs ss : List image.Routine) → HoldRoutines g ts xs rs → HoldRoutines g ts xs ss
     → ((i : ℕ) (t : Text) (r : image.Routine) → slice_get ts i ≡ Some t → slice_get rs i ≡ Some r → DeclaresRoutine g t r)
     → ((i : ℕ) (t : Text) (r : image.Routine) → slice_get ts i ≡ Some t → slice_get ss i ≡ Some r → DeclaresRoutine g t r) → ss ≡ rs
 routines_agree g [] [] [] [] a b c d = refl
@@ -59,7 +59,7 @@ record SameRelease (p q : image.Process) : Type 0 where
   first : q.first ≡ p.first
   event : q.event ≡ p.event
 
-release_agrees : (g : Prog) (a : Activation) (p q : image.Process) → IsReleased g a p → IsReleased g a q → SameRelease p q
+release_agrees : (g : Program) (a : Trigger) (p q : image.Process) → IsReleased g a p → IsReleased g a q → SameRelease p q
 release_agrees g (periodic frame deadline first) p q a b = record { kind = b.0 ∙ sym a.0; first = b.1 ∙ sym a.1; event = b.2 ∙ sym a.2 }
 release_agrees g (at_event e frame deadline) p q a b = record { kind = b.0 ∙ sym a.0; first = b.1 ∙ sym a.1; event = b.2 ∙ sym a.2 }
 
@@ -68,13 +68,13 @@ record SameHandler (p q : image.Process) : Type 0 where
   numbers : q.numbers ≡ p.numbers
   tree : q.handler_tree ≡ p.handler_tree
 
-handler_agrees : (g : Prog) (h : Option Handler) (x : Option Part) (p q : image.Process) → HoldsHandler g h x p → HoldsHandler g h x q → SameHandler p q
+handler_agrees : (g : Program) (h : Option Handler) (x : Option Part) (p q : image.Process) → HoldsHandler g h x p → HoldsHandler g h x q → SameHandler p q
 handler_agrees g None None p q a b = record { start = b.0 ∙ sym a.0; numbers = b.1 ∙ sym a.1; tree = b.2 ∙ sym a.2 }
 handler_agrees g None (Some x) p q a b = absurd a
 handler_agrees g (Some h) None p q a b = absurd a
 handler_agrees g (Some h) (Some x) p q a b = record { start = b.0 ∙ sym a.0; numbers = b.1 ∙ sym a.1; tree = b.2 ∙ sym a.2 }
 
-process_agrees : (g : Prog) (over k : ℕ) (t : Process) (x : ProcessParts) (p q : image.Process) → HoldsProcess g t x p → HoldsProcess g t x q → DeclaresProcess g over k t p → DeclaresProcess g over k t q → without_rank q ≡ without_rank p
+process_agrees : (g : Program) (over k : ℕ) (t : Process) (x : ProcessParts) (p q : image.Process) → HoldsProcess g t x p → HoldsProcess g t x q → DeclaresProcess g over k t p → DeclaresProcess g over k t q → without_rank q ≡ without_rank p
 process_agrees g over k t x p q a b c d =
     let r = release_agrees g t.activation p q a.released b.released in
     let h = handler_agrees g t.handler x.handler p q a.handler b.handler in
@@ -95,7 +95,7 @@ process_agrees g over k t x p q a b c d =
     ∙ (ap (λ v. record (without_rank p) { numbers = v; handler_tree = q.handler_tree }) h.numbers
     ∙ ap (λ v. record (without_rank p) { handler_tree = v }) h.tree))))))))))))))
 
-processes_agree : (g : Prog) (over : ℕ) (number : ℕ → ℕ) (ts : List Process) (xs : List ProcessParts) (ps qs : List image.Process) → HoldProcesses g ts xs ps → HoldProcesses g ts xs qs
+processes_agree : (g : Program) (over : ℕ) (number : ℕ → ℕ) (ts : List Process) (xs : List ProcessParts) (ps qs : List image.Process) → HoldProcesses g ts xs ps → HoldProcesses g ts xs qs
     → ((i : ℕ) (t : Process) (p : image.Process) → slice_get ts i ≡ Some t → slice_get ps i ≡ Some p → DeclaresProcess g over (number i) t p)
     → ((i : ℕ) (t : Process) (p : image.Process) → slice_get ts i ≡ Some t → slice_get qs i ≡ Some p → DeclaresProcess g over (number i) t p) → map without_rank qs ≡ map without_rank ps
 processes_agree g over number [] [] [] [] a b c d = refl
@@ -112,7 +112,7 @@ processes_agree g over number (t ∷ ts) (x ∷ xs) (p ∷ ps) (q ∷ qs) a b c 
 
 -- ---- monitors
 
-words_agree : (g : Prog) (base : ℕ) (ms : List Monitor) (ks ls : List image.Monitor) → AreMonitors g base ms ks → AreMonitors g base ms ls → map without_ceiling ls ≡ map without_ceiling ks
+words_agree : (g : Program) (base : ℕ) (ms : List Monitor) (ks ls : List image.Monitor) → AreMonitors g base ms ks → AreMonitors g base ms ls → map without_ceiling ls ≡ map without_ceiling ks
 words_agree g base [] [] [] a b = refl
 words_agree g base [] [] (l ∷ ls) a b = absurd b
 words_agree g base [] (k ∷ ks) ls a b = absurd a
@@ -125,7 +125,7 @@ words_agree g base (m ∷ ms) (k ∷ ks) (l ∷ ls) a b =
 
 -- ---- but for ranks, ceilings, blocks and bounds
 
-shapes_agree_so_far : (g : Prog) (c : Code) (m n : image.Image) → n.over ≡ m.over → Holds g c m → Holds g c n → Declares g m → Declares g n → without_ranks n ≡ without_ranks m
+shapes_agree_so_far : (g : Program) (c : Code) (m n : image.Image) → n.over ≡ m.over → Holds g c m → Holds g c n → Declares g m → Declares g n → without_ranks n ≡ without_ranks m
 shapes_agree_so_far g c m n over a b d e =
     ap (λ v. record (without_ranks n) { over = v }) over
     ∙ (ap (λ v. record (without_ranks n) { over = m.over; monitors = v }) (words_agree g 0 (monitors g) m.monitors n.monitors a.monitor_words b.monitor_words)

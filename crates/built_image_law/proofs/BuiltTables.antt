@@ -1,7 +1,7 @@
 -- A shaped image has as many processes and monitors as its program, and its table as many rows and ceilings.
 use Rattle.std.proofs.Common.{◌≡◌, ◌+◌, ◌∙◌, refl, sym, ap, ℕ, suc, List, [], ◌∷◌, Option, length, map, arith}
 use Rattle.std.proofs.lemmas.List.{length-map}
-use Rattle.syntax_tree.specs.Plain.{Monitor, Process, Prog}
+use Rattle.syntax_tree.specs.Plain.{Monitor, Process, Program}
 use Rattle.source_semantics.specs.Names.{monitors, processes}
 use Rattle.machine_semantics.specs.Image as image
 use Rattle.code_spec.specs.Layout.{monitor_vars, words_of}
@@ -12,7 +12,7 @@ use Rattle.codegen_spec.specs.Held.{HoldProcesses}
 use Rattle.built_image.specs.Shown.{ceiling_shown, rows_of}
 use Rattle.built_image_law.specs.Tables.{TablesAreNamed}
 
-as_many_processes : (g : Prog) (ts : List Process) (xs : List ProcessParts) (ps : List image.Process) → HoldProcesses g ts xs ps → length ts ≡ length ps
+as_many_processes : (g : Program) (ts : List Process) (xs : List ProcessParts) (ps : List image.Process) → HoldProcesses g ts xs ps → length ts ≡ length ps
 as_many_processes g [] [] [] holds = refl
 as_many_processes g [] [] (p ∷ ps) holds = absurd holds
 as_many_processes g [] (x ∷ xs) ps holds = absurd holds
@@ -20,7 +20,7 @@ as_many_processes g (t ∷ ts) [] ps holds = absurd holds
 as_many_processes g (t ∷ ts) (x ∷ xs) [] holds = absurd holds
 as_many_processes g (t ∷ ts) (x ∷ xs) (p ∷ ps) holds = ap (λ n. suc n) (as_many_processes g ts xs ps holds.1)
 
-as_many_monitors : (g : Prog) (base : ℕ) (ms : List Monitor) (ks : List image.Monitor) → AreMonitors g base ms ks → length ms ≡ length ks
+as_many_monitors : (g : Program) (base : ℕ) (ms : List Monitor) (ks : List image.Monitor) → AreMonitors g base ms ks → length ms ≡ length ks
 as_many_monitors g base [] [] are = refl
 as_many_monitors g base [] (k ∷ ks) are = absurd are
 as_many_monitors g base (m ∷ ms) [] are = absurd are

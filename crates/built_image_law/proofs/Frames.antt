@@ -5,7 +5,7 @@ use Rattle.std.proofs.lemmas.Bool.{cases_Bool}
 use Rattle.std.proofs.lemmas.List.Sums.{sum_by-cons}
 use Rattle.std.proofs.lemmas.Option.{slice_get-map, slice_get_within, get_or_from_slice_get}
 use Rattle.base.proofs.Members.{front_or_behind, none_in}
-use Rattle.syntax_tree.specs.Plain.{Name, Activation, periodic, at_event, Process, Decl, constant, device, event, routine, monitor, process, Prog}
+use Rattle.syntax_tree.specs.Plain.{Name, Trigger, periodic, at_event, Process, Declaration, constant, device, event, routine, monitor, process, Program}
 use Rattle.source_semantics.specs.Names.{event_in, place_of, processes, frame_of}
 use Rattle.machine_semantics.specs.Image as image
 use Rattle.image.specs.declared.names.EventName.{EventName}
@@ -27,10 +27,10 @@ behind : (n e : Name) (ns : List Name) → bytes_eq n e ≡ false → slice_get 
 behind n e ns is_not rest = ap (λ (b : Bool). slice_get (n ∷ ns) (cond b 0 (suc (place_of e ns)))) is_not ∙ rest
 
 -- an event that is declared stands at its place
-abbrev Stands : Name → List Decl → Type 0
+abbrev Stands : Name → List Declaration → Type 0
 Stands e ds = slice_get (filter_map event_in ds) (place_of e (filter_map event_in ds)) ≡ Some e
 
-event_stands : (e : Name) (ds : List Decl) → Contains ds (event e) → Stands e ds
+event_stands : (e : Name) (ds : List Declaration) → Contains ds (event e) → Stands e ds
 event_stands e [] h = absurd (none_in (event e) h)
 event_stands e (constant n c ∷ ds) h = elim (front_or_behind (constant n c) ds (event e) h) [ inl is ↦ absurd cc | inr more ↦ event_stands e ds more ]
 event_stands e (device n o ∷ ds) h = elim (front_or_behind (device n o) ds (event e) h) [ inl is ↦ absurd cc | inr more ↦ event_stands e ds more ]
@@ -47,7 +47,7 @@ event_stands e (event n ∷ ds) h = elim (cases_Bool (bytes_eq n e)) [
 
 -- ---- the process that it releases
 
-same_test : (e : Name) (a : Activation) → is_released_by e a ≡ is_event_of e a
+same_test : (e : Name) (a : Trigger) → is_released_by e a ≡ is_event_of e a
 same_test e (periodic frame deadline first) = refl
 same_test e (at_event x frame deadline) = refl
 
@@ -58,7 +58,7 @@ abbrev worth : Bool → ℕ
 worth b = cond b 1 0
 
 -- where one process alone is released by an event, it is the first
-one_released : (g : Prog) (e : Name) (ps : List Process) (k : ℕ) (t : Process) → slice_get ps k ≡ Some t → tests e t ≡ true
+one_released : (g : Program) (e : Name) (ps : List Process) (k : ℕ) (t : Process) → slice_get ps k ≡ Some t → tests e t ≡ true
     → count_by (tests e) ps ≡ 1 → frame_released g e ps ≡ frame_of g t.activation
 one_released g e [] k t at is one = absurd cc
 one_released g e (q ∷ qs) zero t at is one =
@@ -79,8 +79,8 @@ one_released g e (q ∷ qs) (suc k) t at is one =
 
 -- ---- the frames
 
-of_activation : (g : Prog) (m : image.Image) (k : ℕ) (t : Process) (p : image.Process) → IsWellFormed g → slice_get (processes g) k ≡ Some t → p.kind ≡ 1
-    → (a : Activation) → t.activation ≡ a → IsReleased g a p → p.frame ≡ frame_of g a → ActivationFits g a
+of_activation : (g : Program) (m : image.Image) (k : ℕ) (t : Process) (p : image.Process) → IsWellFormed g → slice_get (processes g) k ≡ Some t → p.kind ≡ 1
+    → (a : Trigger) → t.activation ≡ a → IsReleased g a p → p.frame ≡ frame_of g a → ActivationFits g a
     → script.frame_of (names_of g) p.event ≡ p.frame
 of_activation g m k t p formed at kind (periodic frame deadline first) is released told fits =
     absurd (let z : p.kind ≡ 0 = released.0 in omega (arith, z, kind))
@@ -90,10 +90,10 @@ of_activation g m k t p formed at kind (at_event e frame deadline) is released t
     let here : slice_get events p.event ≡ Some e = ap (λ (n : ℕ). slice_get events n) released.2 ∙ there in
     let name : slice_get (map (λ (x : Name). named_event g x) events) p.event ≡ Some (named_event g e)
     = slice_get-map (λ (x : Name). named_event g x) events p.event ∙ ap (λ (o : Option Name). option_map (λ (x : Name). named_event g x) o) here in
-    let hit : tests e t ≡ true = ap (λ (x : Activation). is_event_of e x) is ∙ name_is e in
+    let hit : tests e t ≡ true = ap (λ (x : Trigger). is_event_of e x) is ∙ name_is e in
     let own : frame_released g e (processes g) ≡ frame_of g t.activation = one_released g e (processes g) k t at hit (formed.events_fit e fits.0) in
     ap (λ (o : Option EventName). unwrap_or (option_map (λ (y : EventName). y.frame) o) 0) name
-    ∙ (own ∙ (ap (λ (x : Activation). frame_of g x) is ∙ sym told))
+    ∙ (own ∙ (ap (λ (x : Trigger). frame_of g x) is ∙ sym told))
 
 pub names_have_frames : NamesHaveFrames
 names_have_frames g m formed code k p at kind =

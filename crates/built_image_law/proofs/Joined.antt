@@ -5,7 +5,7 @@ use Rattle.std.proofs.lemmas.Option.{slice_get_within, get_or_from_slice_get}
 use Rattle.syntax_tree.specs.Placed as placed
 use Rattle.syntax_tree.specs.Placed.{plain}
 use Rattle.syntax_tree.specs.declared.place.Place.{Place}
-use Rattle.syntax_tree.specs.Plain.{Constant, Handler, Process, Prog}
+use Rattle.syntax_tree.specs.Plain.{Constant, Handler, Process, Program}
 use Rattle.machine_isa.specs.declared.instr.Instr.{Instr}
 use Rattle.base.specs.Capped.{cap}
 use Rattle.source_semantics.specs.Names.{count_value, processes}
@@ -35,7 +35,7 @@ some_ascending : (f : Constant → ℕ) (cs : List Constant) → (cs ≡ [] → 
 some_ascending f [] some none = some refl
 some_ascending f (c ∷ cs) some none = one_inserted (f c) (ascending (map f cs)) none
 
-handler_there : (g : Prog) (code : List Instr) (k : ℕ) (t : Process) (o : Option Handler) (a b : ℕ) (p : image.Process) → EmitsHandler g code k t o a b p
+handler_there : (g : Program) (code : List Instr) (k : ℕ) (t : Process) (o : Option Handler) (a b : ℕ) (p : image.Process) → EmitsHandler g code k t o a b p
     → TakesSome o → HasHandler p p.handler_tree
 handler_there g code k t None a b p h some = subst (HasHandler p) (sym h.3) h.2
 handler_there g code k t (Some x) a b p h some =
@@ -43,7 +43,7 @@ handler_there g code k t (Some x) a b p h some =
 
 -- ---- processes
 
-pub as_many : (g : Prog) (code : List Instr) (k a b : ℕ) (ts : List Process) (ps : List image.Process) → EmitsProcesses g code k a b ts ps → length ps ≡ length ts
+pub as_many : (g : Program) (code : List Instr) (k a b : ℕ) (ts : List Process) (ps : List image.Process) → EmitsProcesses g code k a b ts ps → length ps ≡ length ts
 as_many g code k a b [] [] h = refl
 as_many g code k a b [] (p ∷ ps) h = absurd h
 as_many g code k a b (t ∷ ts) [] h = absurd h

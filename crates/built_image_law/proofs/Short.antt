@@ -38,7 +38,7 @@ process_short p ts us (v1, t1, (v2, t2, more)) short = first p.name p.place v1 v
 
 -- ---- declarations
 
-record DeclsAreShort (ds : List plain_of.Decl) : Type 0 where
+record DeclsAreShort (ds : List plain_of.Declaration) : Type 0 where
   processes : All (λ (p : plain_of.Process). IsShort p.name) (filter_map process_in ds)
   monitors : All MonitorIsShort (filter_map monitor_in ds)
   devices : All IsShort (filter_map device_in ds)

@@ -1,7 +1,7 @@
 -- No stay and so no block is longer than what a routine can declare.
 use Rattle.std.proofs.Common.{◌≡◌, ◌≤◌, ◌++◌, ℕ, zero, suc, Bool, true, false, cond, List, [], ◌∷◌, Option, Some, None, max, arith, refl}
 use Rattle.std.specs.Prelude.{◌&&◌, length, nat_eq, nat_le, nat_lt, slice_get}
-use Rattle.syntax_tree.specs.Plain.{Prog}
+use Rattle.syntax_tree.specs.Plain.{Program}
 use Rattle.base.specs.Capped.{cap}
 use Rattle.machine_semantics.specs.Image.{Image, Monitor, Process, Routine}
 use Rattle.valid_image.specs.Pieces.{called, piece_number}
@@ -106,7 +106,7 @@ module _ (image : Image) where
     block_within : (rank : ℕ) → needed_block image rank ≤ limit
     block_within rank = processes_within rank (length image.processes)
 
-stays_low : (g : Prog) (m : Image) → IsCodeOf g m → Declares g m → (r : ℕ) (x : Routine) → slice_get m.routines r ≡ Some x → x.stay ≤ limit
+stays_low : (g : Program) (m : Image) → IsCodeOf g m → Declares g m → (r : ℕ) (x : Routine) → slice_get m.routines r ≡ Some x → x.stay ≤ limit
 stays_low g m code declares r x at =
     let t = text_at g m.code 0 code.between (numbered g) m.routines r x code.routine_code at in
     let stay : x.stay ≡ cap (stay_of_entry g t.0) = (declares.routines r t.0 x t.1 at).stay in

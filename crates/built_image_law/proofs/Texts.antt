@@ -3,11 +3,11 @@ use Rattle.std.proofs.Common.{◌≡◌, ℕ, zero, suc, List, [], ◌∷◌, So
 use Rattle.std.specs.Prelude.{slice_get}
 use Rattle.machine_isa.specs.declared.instr.Instr.{Instr}
 use Rattle.syntax_tree.specs.Plain as tree
-use Rattle.syntax_tree.specs.Plain.{Prog}
+use Rattle.syntax_tree.specs.Plain.{Program}
 use Rattle.machine_semantics.specs.Image.{Process}
 use Rattle.code_spec.specs.Compiled.{EmitsProcess, EmitsProcesses}
 
-pub record Emitted (g : Prog) (code : List Instr) (ts : List tree.Process) (i : ℕ) (p : Process) : Type 0 where
+pub record Emitted (g : Program) (code : List Instr) (ts : List tree.Process) (i : ℕ) (p : Process) : Type 0 where
   pub text : tree.Process
   pub there : slice_get ts i ≡ Some text
   pub number : ℕ
@@ -15,7 +15,7 @@ pub record Emitted (g : Prog) (code : List Instr) (ts : List tree.Process) (i : 
   pub next : ℕ
   pub emits : EmitsProcess g code number text start next p
 
-pub emitted : (g : Prog) (code : List Instr) (k a b : ℕ) (ts : List tree.Process) (ps : List Process) → EmitsProcesses g code k a b ts ps
+pub emitted : (g : Program) (code : List Instr) (k a b : ℕ) (ts : List tree.Process) (ps : List Process) → EmitsProcesses g code k a b ts ps
     → (i : ℕ) (p : Process) → slice_get ps i ≡ Some p → Emitted g code ts i p
 emitted g code k a b [] [] h i p at = absurd cc
 emitted g code k a b [] (x ∷ xs) h i p at = absurd h

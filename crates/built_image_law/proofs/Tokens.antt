@@ -27,7 +27,7 @@ AllShort [] = Unit {0}
 AllShort (t ∷ ts) = WordIsShort t.word × AllShort ts
 
 word_short : (bytes : List ℕ) (k : TokenKind) → HasKind bytes k → WordIsShort (word_of k bytes)
-word_short bytes kind.Name h = h.2
+word_short bytes kind.Ident h = h.2
 word_short bytes (kind.Keyword n) h = tt
 word_short bytes (kind.Literal n) h = tt
 word_short bytes (kind.Sign n) h = tt

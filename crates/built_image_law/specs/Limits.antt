@@ -2,7 +2,7 @@
 use Rattle.std.specs.Prelude.{◌≡◌, ◌≤◌, ℕ, List, [], Option, Some, None, slice_get}
 use Rattle.syntax_tree.specs.Placed as placed
 use Rattle.syntax_tree.specs.Placed.{plain}
-use Rattle.syntax_tree.specs.Plain.{Handler, Process, Prog}
+use Rattle.syntax_tree.specs.Plain.{Handler, Process, Program}
 use Rattle.syntax_tree.specs.declared.place.Place.{Place}
 use Rattle.source_semantics.specs.Names.{processes}
 use Rattle.machine_semantics.specs.Image as image
@@ -20,7 +20,7 @@ use Rattle.command_due.specs.Source.{IsWritten}
 
 -- The law: no block of an image that declares what its text says is longer than this.
 abbrev pub BlocksAreInLimits : Type 0
-BlocksAreInLimits = (g : Prog) (m : image.Image) (rank : ℕ) → IsCodeOf g m → Declares g m
+BlocksAreInLimits = (g : Program) (m : image.Image) (rank : ℕ) → IsCodeOf g m → Declares g m
     → needed_block m rank ≤ 1000000001
 
 -- The law: where no rule of size fails, no stack of a process has more words.
@@ -41,7 +41,7 @@ HandlersTakeNumbers = (text : List ℕ) (g : placed.Prog Place) → IsTreeOf tex
 
 -- The law: the monitor of each entry of an image is there.
 abbrev pub EntriesHaveOwners : Type 0
-EntriesHaveOwners = (g : Prog) (m : image.Image) → IsCodeOf g m
+EntriesHaveOwners = (g : Program) (m : image.Image) → IsCodeOf g m
     → (r : ℕ) (x : image.Routine) → slice_get m.routines r ≡ Some x → HasOwner m x
 
 -- The law: so a shaped image of a well-formed program that is written, which is its code, has the

@@ -2,7 +2,7 @@
 use Rattle.std.specs.Prelude.{◌≤◌, ℕ, List, All, length, filter_map}
 use Rattle.syntax_tree.specs.Placed as placed
 use Rattle.syntax_tree.specs.Placed.{plain}
-use Rattle.syntax_tree.specs.Plain.{Name, Monitor, Prog}
+use Rattle.syntax_tree.specs.Plain.{Name, Monitor, Program}
 use Rattle.syntax_tree.specs.declared.place.Place.{Place}
 use Rattle.source_semantics.specs.Names.{processes, monitors, conditions_of, device_in, event_in}
 use Rattle.front_end.specs.Source.{IsTreeOf}
@@ -17,7 +17,7 @@ pub record MonitorIsShort (m : Monitor) : Type 0 where
   pub conditions : All IsShort (conditions_of m)
 
 -- the names of a program, of its processes, monitors and conditions, devices and events
-pub record NamesAreShort (g : Prog) : Type 0 where
+pub record NamesAreShort (g : Program) : Type 0 where
   pub of_program : IsShort g.name
   pub of_processes : All (λ p. IsShort p.name) (processes g)
   pub of_monitors : All MonitorIsShort (monitors g)

@@ -1,6 +1,6 @@
 -- Scripts for the names of a program, and its image.
 use Rattle.std.specs.Prelude.{ℕ, List}
-use Rattle.syntax_tree.specs.Plain.{Prog}
+use Rattle.syntax_tree.specs.Plain.{Program}
 use Rattle.machine_semantics.specs.Image.{Image}
 use Rattle.code_spec.specs.Compiled.{IsCodeOf}
 use Rattle.wellformed.specs.WellFormed.{IsWellFormed}
@@ -15,7 +15,7 @@ use Rattle.command_due.specs.Script.{said, run_of}
 -- The law: in the names of a well-formed program, the frame that stands at an event is that of each
 -- process that it releases.
 abbrev pub NamesHaveFrames : Type 0
-NamesHaveFrames = (g : Prog) (m : Image) → IsWellFormed g → IsCodeOf g m → HasFrames (names_of g) m
+NamesHaveFrames = (g : Program) (m : Image) → IsWellFormed g → IsCodeOf g m → HasFrames (names_of g) m
 
 -- the lines are in order, and the events respect the frames of the image's processes
 pub record Suits (m : Image) (lines : List ScriptLine) (end : ℕ) : Type 0 where
@@ -24,5 +24,5 @@ pub record Suits (m : Image) (lines : List ScriptLine) (end : ℕ) : Type 0 wher
 
 -- The law: each script for the names of a well-formed program suits the image of the program.
 abbrev pub ScriptsForTheNamesSuit : Type 0
-ScriptsForTheNamesSuit = (g : Prog) (m : Image) (text : List ℕ) (lines : List ScriptLine) (end : ℕ)
+ScriptsForTheNamesSuit = (g : Program) (m : Image) (text : List ℕ) (lines : List ScriptLine) (end : ℕ)
     → IsWellFormed g → IsCodeOf g m → IsScript (names_of g) text lines end → Suits m lines end

@@ -1,14 +1,14 @@
 //! Laws of what is built: one shape, one image, timely or late.
 //!
-//! `filled`: what does not depend on ranks and bounds, and that a program is timely exactly where
-//! each least bound is there. `built_once`: one image, one table. `built_scripts`, `built_limits`,
-//! `built_tables`, `short_names`: its scripts, the ranges of its numbers, a row for each name,
+//! `shape_before_times`: what does not depend on ranks and bounds, and that a program is timely exactly where
+//! each least bound is there. `one_image`: one image, one table. `suitable_scripts`, `number_limits`,
+//! `named_rows`, `names_fit`: its scripts, the ranges of its numbers, a row for each name,
 //! short names. Nothing here can run.
 #![tactic(auto)]
 
-pub mod built_limits;
-pub mod built_once;
-pub mod built_scripts;
-pub mod built_tables;
-pub mod filled;
-pub mod short_names;
+pub mod named_rows;
+pub mod names_fit;
+pub mod number_limits;
+pub mod one_image;
+pub mod shape_before_times;
+pub mod suitable_scripts;

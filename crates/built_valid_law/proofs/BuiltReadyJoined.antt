@@ -1,7 +1,7 @@
 -- The image that is built of a program can be run and stored.
 use Rattle.std.proofs.Common.{◌≡◌, ◌≤◌, ℕ, length, arith, sym, subst}
 use Rattle.syntax_tree.specs.Placed.{plain}
-use Rattle.syntax_tree.specs.Plain.{Prog}
+use Rattle.syntax_tree.specs.Plain.{Program}
 use Rattle.machine_semantics.specs.Image.{Image}
 use Rattle.image.specs.Named.{NamedImage}
 use Rattle.valid_image.specs.Valid.{HasLimits, IsValid, Sizes}
@@ -29,13 +29,13 @@ use Rattle.built_valid_law.proofs.Ranges.{in_range}
 use Rattle.vm_plan.proofs.Planned.{stands as standing}
 
 -- the image that is built of a program is its image, with its names
-same_image : (g : Prog) (over : ℕ) (n : NamedImage) → IsBuilt g over n → ◌≡◌ {A = NamedImage} (record { program = g.name; names = names_of g; image = n.image }) n
+same_image : (g : Program) (over : ℕ) (n : NamedImage) → IsBuilt g over n → ◌≡◌ {A = NamedImage} (record { program = g.name; names = names_of g; image = n.image }) n
 same_image g over n built = λ i. record { program = sym built.program i; names = sym built.names i; image = n.image }
 
 pub built_images_are_ready : CheckedProgramsAreReady → ProgramsThatKeepSizesAreSmall → BuiltImagesAreMade → BuiltImagesAreInLimits → CheckedImagesAreValid
     → ValidOperandsAreThere → ValidMeetsPremises → CodeHasItsLength → NamesOfTextsAreShort → NamesHaveFrames → BuiltImagesAreReady
 built_images_are_ready ready_law small_law made_law limits_law valid_law operands_law premises_law length_law short_law frames_law text g over n written built =
-    let p : Prog = plain g in
+    let p : Program = plain g in
     let m : Image = n.image in
     let ready : checked_of.IsReady p = ready_law g written.program.checked in
     let small : IsSmallEnough g = small_law g written.program.checked written.fits in

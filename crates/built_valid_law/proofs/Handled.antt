@@ -9,7 +9,7 @@ use Rattle.std.proofs.lemmas.List.Elements.{All-get_or, All-head, All-tail}
 use Rattle.std.proofs.lemmas.Map.Keys.{IsDistinct-from_apart}
 use Rattle.std.proofs.lemmas.Map.Steps.{length-le_from_distinct_below}
 use Rattle.base.specs.Words.{within}
-use Rattle.syntax_tree.specs.Plain.{Constant, literal_constant, Prog}
+use Rattle.syntax_tree.specs.Plain.{Constant, literal_constant, Program}
 use Rattle.source_semantics.specs.Names.{as_count, constant_value, count_value}
 use Rattle.code_spec.specs.Compiled.{ascending, inserted}
 use Rattle.wellformed.specs.WellFormed.{Differ, IsHandled}
@@ -53,7 +53,7 @@ apart (pos m) (pos n) a b differ same = differ (ap (λ (k : ℕ). pos k) same)
 apart (negsuc m) w a b differ same = first_of (cc, grind (arith, nat_tests, a))
 apart (pos m) (negsuc n) a b differ same = first_of (cc, grind (arith, nat_tests, b))
 
-module _ (g : Prog) where
+module _ (g : Program) where
   all_low : (cs : List Constant) → All (IsHandled g) cs → (q : ℕ) → list_any (eqb q) (map (λ (c : Constant). count_value g c) cs) ≡ true → q < 1000
   all_low [] handled q is = absurd cc
   all_low (c ∷ cs) handled q is = elim (or_cases (eqb q (count_value g c)) (list_any (eqb q) (map (λ (x : Constant). count_value g x) cs)) is) [

@@ -5,7 +5,7 @@ use Rattle.std.proofs.lemmas.Option.{slice_get_within}
 use Rattle.base.proofs.Lists.{all_of}
 use Rattle.machine_isa.specs.declared.instr.Instr.{Instr}
 use Rattle.machine_isa.specs.declared.instr.Instr.TheVariants as i
-use Rattle.syntax_tree.specs.Plain.{Activation, periodic, at_event, Prog}
+use Rattle.syntax_tree.specs.Plain.{Trigger, periodic, at_event, Program}
 use Rattle.source_semantics.specs.Names.{processes}
 use Rattle.machine_semantics.specs.Image.{Image, Process, Routine, end_of}
 use Rattle.code_spec.specs.Compiled.{IsCodeOf, IsReleased}
@@ -50,13 +50,13 @@ stands e ps image_fits k p at =
     }
 
 -- the clock or an event releases it
-kind_low : (g : Prog) (a : Activation) (p : Process) → IsReleased g a p → p.kind ≤ 1
+kind_low : (g : Program) (a : Trigger) (p : Process) → IsReleased g a p → p.kind ≤ 1
 kind_low g (periodic frame deadline first) p released = let z : p.kind ≡ 0 = released.0 in omega (arith, z)
 kind_low g (at_event e frame deadline) p released = let one : p.kind ≡ 1 = released.0 in omega (arith, one)
 
 -- ---- the plan
 
-pub has_plan : (g : Prog) (m : Image) → Counted g m → IsCodeOf g m → HasLimits m → fault_of_part m Sizes ≡ None → AreThere m
+pub has_plan : (g : Program) (m : Image) → Counted g m → IsCodeOf g m → HasLimits m → fault_of_part m Sizes ≡ None → AreThere m
     → ((k : ℕ) (p : Process) → slice_get m.processes k ≡ Some p → Stands m.code p) → HasPlan m
 has_plan g m counts code limits sizes there standing = record {
   numbers = λ n instr at. has_numbers m counts.few_monitors counts.conditions counts.devices instr (there n instr at);

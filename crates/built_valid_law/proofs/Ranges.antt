@@ -5,7 +5,7 @@ use Rattle.std.proofs.lemmas.Option.{get_or_from_slice_get, slice_get_within}
 use Rattle.base.proofs.Lists.{all_of}
 use Rattle.machine_isa.specs.declared.instr.Instr.{Instr}
 use Rattle.syntax_tree.specs.Plain as plain_of
-use Rattle.syntax_tree.specs.Plain.{Constant, Handler, Prog}
+use Rattle.syntax_tree.specs.Plain.{Constant, Handler, Program}
 use Rattle.source_semantics.specs.Names.{count_value, processes}
 use Rattle.machine_semantics.specs.Trees.{Segs}
 use Rattle.machine_semantics.specs.Image.{Image, Process, Routine}
@@ -32,14 +32,14 @@ handler_small m p (Some tree) short t = let low : segments tree < length m.code 
 
 -- ---- the numbers of a handler
 
-numbers_low : (g : Prog) (code : List Instr) (k : ℕ) (t : plain_of.Process) (o : Option Handler) (a b : ℕ) (p : Process) → EmitsHandler g code k t o a b p
+numbers_low : (g : Program) (code : List Instr) (k : ℕ) (t : plain_of.Process) (o : Option Handler) (a b : ℕ) (p : Process) → EmitsHandler g code k t o a b p
     → OptionalFits g t o → length p.numbers ≤ 1000
 numbers_low g code k t None a b p h fits = let none : length p.numbers ≡ 0 = ap (λ (ns : List ℕ). length ns) h.2 in omega (arith, none)
 numbers_low g code k t (Some x) a b p h fits =
     let are : length p.numbers ≡ length (ascending (map (λ (n : Constant). count_value g n) x.numbers)) = ap (λ (ns : List ℕ). length ns) h.4 in
     omega (arith, are, few_numbers g x.numbers fits.numbers fits.once)
 
-module _ (g : Prog) (m : Image) (formed : IsWellFormed g) (code : IsCodeOf g m) (valid : IsValid m) (short : length m.code ≤ 65535) where
+module _ (g : Program) (m : Image) (formed : IsWellFormed g) (code : IsCodeOf g m) (valid : IsValid m) (short : length m.code ≤ 65535) where
   routine_small : (r : ℕ) (x : Routine) → slice_get m.routines r ≡ Some x → IsSmall x.tree
   routine_small r x at =
       let s : RoutineShaped m r x = routine_shaped m (valid Shape) r x at in

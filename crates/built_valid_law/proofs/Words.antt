@@ -3,7 +3,7 @@ use Rattle.std.specs.Prelude.{sum_by}
 use Rattle.std.proofs.Common.{◌≡◌, ◌+◌, ◌≤◌, ℕ, suc, List, [], ◌∷◌, length, filter_map, refl, arith}
 use Rattle.std.proofs.lemmas.List.Sums.{sum_by-cons}
 use Rattle.machine_isa.specs.declared.instr.Instr.{Instr}
-use Rattle.syntax_tree.specs.Plain.{Monitor, Process, Prog}
+use Rattle.syntax_tree.specs.Plain.{Monitor, Process, Program}
 use Rattle.source_semantics.specs.Names.{monitors, processes, variable_in}
 use Rattle.machine_semantics.specs.Image as image
 use Rattle.valid_image.specs.Sizes.{words_over_all}
@@ -13,7 +13,7 @@ use Rattle.wellformed.specs.WellFormed.{vars_words, words}
 use Rattle.codegen_law.proofs.Counts.{words_same}
 use Rattle.built_valid_law.specs.Made.{WordsAreFew}
 
-monitor_words : (g : Prog) (base : ℕ) (ms : List Monitor) (ks : List image.Monitor) → AreMonitors g base ms ks
+monitor_words : (g : Program) (base : ℕ) (ms : List Monitor) (ks : List image.Monitor) → AreMonitors g base ms ks
     → sum_by (λ k. k.words) ks ≡ sum_by (λ m. vars_words g (filter_map variable_in m.members)) ms
 monitor_words g base [] [] h = refl
 monitor_words g base [] (k ∷ ks) h = absurd h
@@ -28,7 +28,7 @@ monitor_words g base (m ∷ ms) (k ∷ ks) h =
     = monitor_words g (base + words_of g (monitor_vars m)) ms ks h.2 in
     omega (arith, left, right, one, rest, h.1)
 
-process_words : (g : Prog) (code : List Instr) (k p q : ℕ) (ts : List Process) (ips : List image.Process) → EmitsProcesses g code k p q ts ips
+process_words : (g : Program) (code : List Instr) (k p q : ℕ) (ts : List Process) (ips : List image.Process) → EmitsProcesses g code k p q ts ips
     → sum_by (λ x. x.words) ips ≡ sum_by (λ t. vars_words g t.vars) ts
 process_words g code k p q [] [] h = refl
 process_words g code k p q [] (x ∷ xs) h = absurd h

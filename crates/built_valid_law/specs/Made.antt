@@ -2,7 +2,7 @@
 use Rattle.std.specs.Prelude.{◌≡◌, ◌≤◌, ℕ, Some, slice_get}
 use Rattle.syntax_tree.specs.Placed as placed
 use Rattle.syntax_tree.specs.Placed.{plain}
-use Rattle.syntax_tree.specs.Plain.{Prog}
+use Rattle.syntax_tree.specs.Plain.{Program}
 use Rattle.syntax_tree.specs.declared.place.Place.{Place}
 use Rattle.machine_semantics.specs.Image.{Image, Process}
 use Rattle.image.specs.Named.{NamedImage}
@@ -21,7 +21,7 @@ LeastBoundsAreBounds = (m : Image) → HasRanks m → HasLeastBounds m
 
 -- The law: the image of a well-formed program has few words.
 abbrev pub WordsAreFew : Type 0
-WordsAreFew = (g : Prog) (m : Image) → IsWellFormed g → IsCodeOf g m → words_over_all m ≤ 1048576
+WordsAreFew = (g : Program) (m : Image) → IsWellFormed g → IsCodeOf g m → words_over_all m ≤ 1048576
 
 -- The law: what is built of a checked program that is small enough is made of it.
 abbrev pub BuiltImagesAreMade : Type 0

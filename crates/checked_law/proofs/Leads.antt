@@ -8,7 +8,7 @@ use Rattle.syntax_tree.specs.Placed.{Routine, Member, variable_member, condition
 use Rattle.syntax_tree.specs.Parts.{program_routines, processes, monitors, routines}
 use Rattle.syntax_tree.specs.declared.place.Place.{Place}
 use Rattle.static_names.specs.declared.kind.Declared.{Declared}
-use Rattle.static_names.specs.declared.kind.Want.TheVariants as want_is
+use Rattle.static_names.specs.declared.kind.NameUse.TheVariants as want_is
 use Rattle.static_names.specs.Reach.{suits, Names, Site, first, inside, through}
 use Rattle.static_names.specs.Occurrences.{Occurrence, closes, declares, names, declared_at, stmts_names, routines_names, optional_names, handler_names, var_name, param_name, routine_name, entry_name, member_name, decl_name, others, program_name, routine_scope, process_scope, monitor_scope, monitor_inner}
 use Rattle.source_semantics.specs.Names.{named, place_of, monitor_number, routines as plain_routines_of, processes as plain_processes_of}

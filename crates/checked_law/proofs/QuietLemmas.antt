@@ -3,7 +3,7 @@ use Rattle.std.specs.Prelude.{◌≡◌, ◌⊎◌, ℕ, zero, suc, Bool, true, 
 use Rattle.std.proofs.Common.{inl, inr, refl, sym, ◌∙◌, ap, subst}
 use Rattle.std.proofs.lemmas.Bool.{and_parts, and_from, not-true, false≢true}
 use Rattle.base.proofs.Members.{at_front, behind, front_or_behind, none_in}
-use Rattle.syntax_tree.specs.Plain.{Stmt, assign, assign_entry, assign_empty, perform, perform_entry, when, when_else, loop, exit_when, get, put, wait, signal, broadcast, except, assert, Stmts, no_stmts, stmts, Handler, Process, Prog}
+use Rattle.syntax_tree.specs.Plain.{Stmt, assign, assign_entry, assign_empty, perform, perform_entry, when, when_else, loop, exit_when, get, put, wait, signal, broadcast, except, assert, Stmts, no_stmts, stmts, Handler, Process, Program}
 use Rattle.source_semantics.specs.Names.{processes, routine_count}
 use Rattle.code_spec.specs.Layout.{by_process}
 use Rattle.code_spec.specs.Numbering.{Text, Called, called_text, routine_calls, numbered}
@@ -63,7 +63,7 @@ all_to quiet means (d ∷ cs) h c u i e = by (and_parts (quiet_some quiet (means
     by k (inr there) rest = rest k.1 there
 
 -- what is quiet is so also where calls may be nested deeper
-pub deeper : (n : ℕ) (g : Prog) (t : Text) → quiet_within n g t ≡ true → quiet_within (suc n) g t ≡ true
+pub deeper : (n : ℕ) (g : Program) (t : Text) → quiet_within n g t ≡ true → quiet_within (suc n) g t ≡ true
 unfolding quiet_within
 deeper zero g t h = absurd (false≢true h)
 deeper (suc n) g t h =
@@ -72,11 +72,11 @@ deeper (suc n) g t h =
     (all_from (quiet_within (suc n) g) (called_text g t.owner) (routine_calls t.routine) (λ c u i e. deeper n g u (all_to (quiet_within n g) (called_text g t.owner) (routine_calls t.routine) k.1 c u i e)))
 
 -- what a quiet routine is
-pub record QuietText (g : Prog) (t : Text) : Type 0 where
+pub record QuietText (g : Program) (t : Text) : Type 0 where
   pub body : stmts_wait t.routine.body ≡ false
   pub calls : (u : Text) → CallsText g t u → reaches_no_wait g u ≡ true
 
-pub is_quiet : (g : Prog) (t : Text) → reaches_no_wait g t ≡ true → QuietText g t
+pub is_quiet : (g : Program) (t : Text) → reaches_no_wait g t ≡ true → QuietText g t
 unfolding reaches_no_wait quiet_within
 is_quiet g t h = by (routine_count g) refl h
   where
@@ -92,7 +92,7 @@ is_quiet g t h = by (routine_count g) refl h
 
 -- ---- the whole program
 
-module _ (g : Prog) (form : IsWellFormed g) (names : NamesApart g) (handlers : HandlersQuiet g) where
+module _ (g : Program) (form : IsWellFormed g) (names : NamesApart g) (handlers : HandlersQuiet g) where
   quiet_handler : (k : ℕ) (p : Process) → slice_get (processes g) k ≡ Some p → (o : Option Handler) → p.handler ≡ o → OptionalFits g p o → QuietHandler (reaches_no_wait g) g k p o
   quiet_handler k p at None is fit = tt
   quiet_handler k p at (Some h) is fit =

@@ -36,20 +36,20 @@ pub nothing_hidden : (ds : List (Decl Place)) (r : Routine Place) → In ds (rou
 nothing_hidden ds r i = refl
 
 -- what a process without routines finds is the program's
-of_program_found : (g : plain_of.Prog) (b : Bool) (f : Name) → FindsRoutine g (plain_process nobody) b f → OfProgram g (calls_routine f)
+of_program_found : (g : plain_of.Program) (b : Bool) (f : Name) → FindsRoutine g (plain_process nobody) b f → OfProgram g (calls_routine f)
 of_program_found g b f found = by (named (λ k. k.name) f (routines g)) refl found.is
   where
     by : (o : Option plain_of.Routine) → named (λ k. k.name) f (routines g) ≡ o → option_map (λ r. record { home = of_program; routine = r }) o ≡ Some found.found → OfProgram g (calls_routine f)
     by None is e = absurd (none-some found.found e)
     by (Some r) is e = (r, is)
 
-all_of_program : (g : plain_of.Prog) (b : Bool) (cs : List Called) → AllCalled (Finds g (plain_process nobody) b) cs → AllOfProgram g cs
+all_of_program : (g : plain_of.Program) (b : Bool) (cs : List Called) → AllCalled (Finds g (plain_process nobody) b) cs → AllOfProgram g cs
 all_of_program g b [] h = tt
 all_of_program g b (calls_routine f ∷ cs) h = (of_program_found g b f h.0, all_of_program g b cs h.1)
 all_of_program g b (calls_entry m e ∷ cs) h = (tt, all_of_program g b cs h.1)
 
 -- so a text calls the program's routines alone, if that process could run it
-pub calls_program : (g : plain_of.Prog) (home : Home) (r : plain_of.Routine) → RoutineFits g (plain_process nobody) home r → AllOfProgram g (routine_calls r)
+pub calls_program : (g : plain_of.Program) (home : Home) (r : plain_of.Routine) → RoutineFits g (plain_process nobody) home r → AllOfProgram g (routine_calls r)
 calls_program g home r fits =
     let h = in_routine g (plain_process nobody) home r in
     let t = text_finds h r.body r.answers fits.body fits.answers in

@@ -8,7 +8,7 @@ use Rattle.syntax_tree.specs.Placed.{Scalar, Expr, literal, truth, variable, ele
 use Rattle.syntax_tree.specs.declared.place.Place.{Place}
 use Rattle.static_names.specs.declared.kind.Declared.{Declared}
 use Rattle.static_names.specs.declared.kind.Kind.TheVariants as kind_is
-use Rattle.static_names.specs.declared.kind.Want.TheVariants as want_is
+use Rattle.static_names.specs.declared.kind.NameUse.TheVariants as want_is
 use Rattle.static_names.specs.Reach.{same, suits, or_else, Site, inside, through, members_of}
 use Rattle.static_names.specs.Occurrences.{Occurrence, used, uses, names, declared_at, constant_names, expr_names, exprs_names, operands_names, ref_names, entry_names, loop_name, stmt_names, stmts_names, optional_names, routine_scope, routine_names, closes}
 use Rattle.code_spec.specs.Numbering.{Called, calls_routine, calls_entry}

@@ -16,7 +16,7 @@ use Rattle.code_measures.specs.Whole.{HasRanks, IsBound, IsMade}
 use Rattle.checked_law.specs.Quiet.{reaches_no_wait}
 
 -- all that the laws ask of a program
-pub record IsReady (g : plain_of.Prog) : Type 0 where
+pub record IsReady (g : plain_of.Program) : Type 0 where
   pub formed : IsWellFormed g
   pub apart : NamesApart g
   pub numbered : AreNumbered g
@@ -29,7 +29,7 @@ CheckedProgramsAreReady = (g : Prog Place) → IsChecked g → IsReady (plain g)
 
 -- what is asked of an image beside a checked program: its code, what it declares, ranks and
 -- ceilings, bounds, and that its words are not too many
-pub record IsImageMade (g : plain_of.Prog) (m : image.Image) : Type 0 where
+pub record IsImageMade (g : plain_of.Program) (m : image.Image) : Type 0 where
   pub code : IsCodeOf g m
   pub declares : Declares g m
   pub few_words : words_over_all m ≤ 1048576

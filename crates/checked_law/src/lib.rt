@@ -1,18 +1,18 @@
 //! Law: a checked program has all that the laws of code ask.
 //!
-//! `checked_names`, `quiet`, `checked_quiet`: its names stand apart, and its handlers reach no
-//! wait. `checked`: so it is ready (`specs/Ready.antt`). `generated`, `generated_runs`, `small`:
+//! `names_apart`, `wait_free`, `wait_free_handlers`: its names stand apart, and its handlers reach no
+//! wait. `premises_of_laws`: so it is ready (`specs/Ready.antt`). `code_of_program`, `runs_of_generated`, `generated_within_limits`:
 //! where it keeps the rules of size, what the generator makes of it is its code. Nothing here can
 //! run.
 #![tactic(auto)]
 
-pub mod checked;
-mod checked_names;
-mod checked_quiet;
-pub mod generated;
-pub mod generated_runs;
-pub mod quiet;
-pub mod small;
+pub mod code_of_program;
+pub mod generated_within_limits;
+mod names_apart;
+pub mod premises_of_laws;
+pub mod runs_of_generated;
+pub mod wait_free;
+mod wait_free_handlers;
 
-pub use checked_names::names_are_apart;
-pub use checked_quiet::handlers_are_quiet;
+pub use names_apart::names_are_apart;
+pub use wait_free_handlers::handlers_are_quiet;

@@ -4,7 +4,7 @@ use Rattle.std.proofs.Common.{refl, sym, ◌∙◌, ap, subst, inl, inr}
 use Rattle.std.proofs.lemmas.Bool.{eq-eqb, or_cases, false≢true}
 use Rattle.std.proofs.lemmas.Option.{none-some, same_Some}
 use Rattle.base.proofs.Lists.{one_of}
-use Rattle.syntax_tree.specs.Plain.{Name, Answers, Routine, Monitor, Handler, Stmts, Process, Prog}
+use Rattle.syntax_tree.specs.Plain.{Name, Answers, Routine, Monitor, Handler, Stmts, Process, Program}
 use Rattle.source_semantics.specs.Names.{named, routines, monitors, processes, monitor_number, condition_number, routine_count}
 use Rattle.source_semantics.specs.Run.{Found, of_program, of_process, of_monitor, routine_named, entry_name, or_else}
 use Rattle.source_semantics.specs.Nesting.{Levels}
@@ -61,10 +61,10 @@ same_function by_program r = refl
 same_function (by_process k) r = refl
 same_function (by_monitor m) r = refl
 
-abbrev here_with : Prog → Process → Owner → Bool → Routine → Here
+abbrev here_with : Program → Process → Owner → Bool → Routine → Here
 here_with g p o b r = record { program = g; process = p; home = home_of o; is_function = b; turns = []; own = own_of r }
 
-module _ (g : Prog) (p : Process) (fits : ProcessFits g p) where
+module _ (g : Program) (p : Process) (fits : ProcessFits g p) where
   found_fits : (f : Name) (x : Found) → routine_named g p f ≡ Some x
       → RoutineFits g p x.home x.routine × (((x.home ≡ of_process) × (named entry_name f p.routines ≡ Some x.routine)) ⊎ ((x.home ≡ of_program) × (named entry_name f (routines g) ≡ Some x.routine)))
   found_fits f x is = by_found (named entry_name f p.routines) (named entry_name f (routines g)) refl refl is

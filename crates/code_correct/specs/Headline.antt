@@ -1,6 +1,6 @@
 -- The runs of the image of a program are source runs of it, and in time.
 use Rattle.std.specs.Prelude.{◌≡◌, ℕ, Some, slice_get}
-use Rattle.syntax_tree.specs.Plain.{Prog}
+use Rattle.syntax_tree.specs.Plain.{Program}
 use Rattle.syntax_tree.specs.Plain as tree
 use Rattle.source_semantics.specs.Names.{processes}
 use Rattle.source_semantics.specs.Starts.{Script}
@@ -39,14 +39,14 @@ WellFormedCodeIsRight = (w : Whole) → IsImageOf w → IsWellFormed w.program �
 -- The law: each run of the image of a well-formed program, over a script that respects its frames,
 -- is a run of the program and in time.
 abbrev pub WellFormedProgramsRun : Type 0
-WellFormedProgramsRun = (e : Where) (ps : ℕ → Parts) (g : Prog) (script : Script) → ImageFits e ps → ImageIsTimed e ps → IsImageOf (whole e.image g) → IsWellFormed g → NamesApart g
+WellFormedProgramsRun = (e : Where) (ps : ℕ → Parts) (g : Program) (script : Script) → ImageFits e ps → ImageIsTimed e ps → IsImageOf (whole e.image g) → IsWellFormed g → NamesApart g
     → IsFrom 0 script.lines → RespectsFrames e.image (script_of script)
     → IsSourceRun g script (events e.image (script_of script)) × IsInTime e.image (script_of script)
 
 -- The law: each run of the image of such a program, over a script that respects its frames, is a
 -- run of the program and in time.
 abbrev pub ProgramsRunRightAndInTime : Type 0
-ProgramsRunRightAndInTime = (e : Where) (ps : ℕ → Parts) (g : Prog) (orders : ℕ → Order) (script : Script) → ImageFits e ps → ImageIsTimed e ps → IsImageOf (whole e.image g) → IsProper (whole e.image g) orders
+ProgramsRunRightAndInTime = (e : Where) (ps : ℕ → Parts) (g : Program) (orders : ℕ → Order) (script : Script) → ImageFits e ps → ImageIsTimed e ps → IsImageOf (whole e.image g) → IsProper (whole e.image g) orders
     → IsFrom 0 script.lines → RespectsFrames e.image (script_of script)
     → IsSourceRun g script (events e.image (script_of script)) × IsInTime e.image (script_of script)
 
@@ -55,6 +55,6 @@ ProgramsRunRightAndInTime = (e : Where) (ps : ℕ → Parts) (g : Prog) (orders 
 -- of the run are a source run of the program, and the run is in time: no overrun, and every
 -- activation ends within its declared bound.
 abbrev pub RunsAreRightAndInTime : Type 0
-RunsAreRightAndInTime = (e : Where) (ps : ℕ → Parts) (g : Prog) (script : Script) → ImageFits e ps → ImageIsTimed e ps → IsImageOf (whole e.image g) → AreRight (whole e.image g)
+RunsAreRightAndInTime = (e : Where) (ps : ℕ → Parts) (g : Program) (script : Script) → ImageFits e ps → ImageIsTimed e ps → IsImageOf (whole e.image g) → AreRight (whole e.image g)
     → IsFrom 0 script.lines → RespectsFrames e.image (script_of script)
     → IsSourceRun g script (events e.image (script_of script)) × IsInTime e.image (script_of script)

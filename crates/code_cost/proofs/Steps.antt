@@ -1,15 +1,15 @@
 -- Loops that measure each part of a list.
 use Rattle.std.proofs.Common.{◌≡◌, ◌<◌, ◌+◌, ℕ, arith, List, [], ◌∷◌, ◌++◌, Some, refl, length, drop, get_or, slice_get, inl, inr, sym, ap, ◌∙◌}
 use Rattle.std.proofs.lemmas.Option.{slice_get_cases}
-use Rattle.syntax_tree.specs.Plain.{Process, Prog, Routine}
+use Rattle.syntax_tree.specs.Plain.{Process, Program, Routine}
 use Rattle.code_spec.specs.Layout.{routine_vars_words, Scope}
 use Rattle.code_spec.specs.Numbering.{Text}
 use Rattle.code_spec.specs.Compiled.{process_scope, routine_scope}
-use Rattle.code_cost.specs.declared.measure.Known.{Known}
+use Rattle.code_cost.specs.declared.measure.RoutineMeasure.{RoutineMeasure}
 use Rattle.code_cost.specs.declared.program.ProcessMeasure.{ProcessMeasure}
 use Rattle.code_cost.specs.Parts.{process_size, row_of, rows_from, sizes_from}
 use Rattle.std.proofs.lemmas.List.{drop_more}
-use Rattle.codegen_spec.specs.declared.spot.Loop.{Loop}
+use Rattle.codegen_spec.specs.declared.var_location.Loop.{Loop}
 use Rattle.codegen_spec.specs.Told.{inside, within}
 
 -- one turn of a loop that goes on with what is left of a list
@@ -37,7 +37,7 @@ at_place xs i within = elim (slice_get_cases xs i).1 [
 ]
 
 -- the row of the routine at a place is made, in its own scope
-pub row_turn : (g h : Prog) (ts : List Text) (n : ℕ) (c : Scope) (w : ℕ) (r : Routine) (k : Known) (rows new end : List Known) → n < length ts → h ≡ g
+pub row_turn : (g h : Program) (ts : List Text) (n : ℕ) (c : Scope) (w : ℕ) (r : Routine) (k : RoutineMeasure) (rows new end : List RoutineMeasure) → n < length ts → h ≡ g
     → ((t : Text) → slice_get ts n ≡ Some t → c ≡ routine_scope g t)
     → ((t : Text) → slice_get ts n ≡ Some t → w ≡ routine_vars_words g t.routine)
     → ((t : Text) → slice_get ts n ≡ Some t → r ≡ t.routine)
@@ -53,7 +53,7 @@ row_turn g h ts n c w r k rows new end within same is_c is_w is_r made pushed so
     ∙ sym (ap (λ us. rows_from g us rows) a.2) ∙ so_far
 
 -- the same of a process
-pub size_turn : (g h : Prog) (rows : List Known) (ps : List Process) (n : ℕ) (c : Scope) (p : Process) (k : ProcessMeasure) (sizes new end : List ProcessMeasure) → n < length ps → h ≡ g
+pub size_turn : (g h : Program) (rows : List RoutineMeasure) (ps : List Process) (n : ℕ) (c : Scope) (p : Process) (k : ProcessMeasure) (sizes new end : List ProcessMeasure) → n < length ps → h ≡ g
     → ((q : Process) → slice_get ps n ≡ Some q → c ≡ process_scope g n q)
     → ((q : Process) → slice_get ps n ≡ Some q → p ≡ q)
     → k ≡ process_size h c rows p → new ≡ sizes ++ k ∷ []

@@ -4,7 +4,7 @@ use Rattle.base.specs.Capped.{cap}
 use Rattle.base.specs.declared.capped.Cost.{Cost}
 use Rattle.valid_image.specs.Found.{amount}
 use Rattle.code_cost.specs.declared.measure.Measure.{Measure}
-use Rattle.code_cost.specs.declared.measure.Known.{Known}
+use Rattle.code_cost.specs.declared.measure.RoutineMeasure.{RoutineMeasure}
 
 abbrev pub held : ℕ → ℕ
 held n = min n 2147483647
@@ -54,19 +54,19 @@ looped t a = record {
 }
 
 -- the row of a routine, and a row that says nothing
-abbrev pub no_row : Known
+abbrev pub no_row : RoutineMeasure
 no_row = record { cost = running 0; stay = 0; height = 0; words = 0; length = 0 }
 
-abbrev pub row_or : Option Known → Known
+abbrev pub row_or : Option RoutineMeasure → RoutineMeasure
 row_or None = no_row
 row_or (Some k) = k
 
-abbrev pub row_at : List Known → ℕ → Known
+abbrev pub row_at : List RoutineMeasure → ℕ → RoutineMeasure
 row_at rows n = row_or (slice_get rows n)
 
 -- the arguments, and the call of a routine of which this is known: CALL, two words, its locals, and
 -- what it takes itself
-abbrev pub called : Known → Measure → Measure
+abbrev pub called : RoutineMeasure → Measure → Measure
 called k a = record {
   cost = added a.cost (added (running 6) k.cost);
   height = max a.height (held (held (2 + k.words) + k.height));

@@ -10,13 +10,13 @@ ghost use Rattle.codegen_spec.specs.Told.{inside, told_callee};
 ghost use Rattle.code_cost.specs.Sums.{nothing, row_at};
 ghost use Rattle.code_cost.specs.Forms.{args_size, argument, call_size, check as check_of, element_time, expr_size, load_time, row_size};
 
-use crate::measure::{Known, Measure, run};
-use codegen_spec::{Area, Callee, Lookup, Loop, Range, Spot};
+use crate::measure::{Measure, RoutineMeasure, run};
+use codegen_spec::{Area, Callee, Lookup, Loop, ValueRange, VarLocation};
 use machine_isa::Instr;
 use syntax_tree::{Expr, Name, Op};
 
 /// The ticks of a load of what a name means.
-pub fn load(spot: Option<Spot>) -> u64
+pub fn load(spot: Option<VarLocation>) -> u64
     ensures { result ≡ load_time spot }
 {
     match spot {
@@ -29,7 +29,7 @@ pub fn load(spot: Option<Spot>) -> u64
 }
 
 /// The ticks of a load of an element.
-pub fn load_at(spot: Option<Spot>) -> u64
+pub fn load_at(spot: Option<VarLocation>) -> u64
     ensures { result ≡ element_time spot }
 {
     match spot {
@@ -42,7 +42,7 @@ pub fn load_at(spot: Option<Spot>) -> u64
 }
 
 /// The check of a range.
-pub fn check(range: Option<Range>) -> Measure
+pub fn check(range: Option<ValueRange>) -> Measure
     ensures { result ≡ check_of range }
 {
     match range {
@@ -64,12 +64,12 @@ fn operator(op: Op) -> u64
 }
 
 /// What is known of the routine of this number.
-fn row(rows: &[Known], number: usize) -> Known
+fn row(rows: &[RoutineMeasure], number: usize) -> RoutineMeasure
     ensures { result ≡ row_at rows.now number }
 {
     match rows.get(number) {
         Some(known) => *known,
-        None => Known {
+        None => RoutineMeasure {
             cost: run(0),
             stay: 0,
             height: 0,
@@ -80,7 +80,12 @@ fn row(rows: &[Known], number: usize) -> Known
 }
 
 /// Arguments before this one, and then it, where this is the range of its parameter.
-fn with_argument(sum: Measure, number: usize, range: Option<Option<Range>>, one: Measure) -> Measure
+fn with_argument(
+    sum: Measure,
+    number: usize,
+    range: Option<Option<ValueRange>>,
+    one: Measure,
+) -> Measure
     ensures { result ≡ argument number sum range one }
 {
     let raised = one.above(number as u64);
@@ -95,7 +100,12 @@ fn with_argument(sum: Measure, number: usize, range: Option<Option<Range>>, one:
 }
 
 /// The same, where these are the ranges of all parameters.
-fn next_argument(sum: Measure, number: usize, ranges: &[Option<Range>], one: Measure) -> Measure
+fn next_argument(
+    sum: Measure,
+    number: usize,
+    ranges: &[Option<ValueRange>],
+    one: Measure,
+) -> Measure
     ensures { result ≡ argument number sum (slice_get ranges.now number) one }
 {
     with_argument(sum, number, ranges.get(number).copied(), one)
@@ -105,10 +115,10 @@ fn next_argument(sum: Measure, number: usize, ranges: &[Option<Range>], one: Mea
 #[cycle(expr)]
 fn args<L: Lookup>(
     names: &L,
-    rows: &[Known],
+    rows: &[RoutineMeasure],
     loops: &[Loop],
     args: &[Expr],
-    ranges: &[Option<Range>],
+    ranges: &[Option<ValueRange>],
 ) -> Measure
     ensures { result ≡ args_size (L.program names.now)
         (inside loops.now (L.scope names.now)) rows.now 0 nothing
@@ -128,7 +138,7 @@ fn args<L: Lookup>(
 #[cycle(expr)]
 pub fn call<L: Lookup>(
     names: &L,
-    rows: &[Known],
+    rows: &[RoutineMeasure],
     loops: &[Loop],
     callee: Option<&Callee>,
     given: &[Expr],
@@ -152,7 +162,7 @@ pub fn call<L: Lookup>(
 #[tactic(auto, using(crate::proofs::Steps::owner_inside))]
 pub fn routine_call<L: Lookup>(
     names: &L,
-    rows: &[Known],
+    rows: &[RoutineMeasure],
     loops: &[Loop],
     name: &Name,
     given: &[Expr],
@@ -170,7 +180,7 @@ pub fn routine_call<L: Lookup>(
 #[cycle(expr)]
 fn operands<L: Lookup>(
     names: &L,
-    rows: &[Known],
+    rows: &[RoutineMeasure],
     loops: &[Loop],
     first: Measure,
     operands: &[(Op, Expr)],
@@ -189,7 +199,7 @@ fn operands<L: Lookup>(
 
 /// The measure of an expression, which leaves its value on the stack.
 #[cycle(expr)]
-pub fn expr<L: Lookup>(names: &L, rows: &[Known], loops: &[Loop], expr: &Expr) -> Measure
+pub fn expr<L: Lookup>(names: &L, rows: &[RoutineMeasure], loops: &[Loop], expr: &Expr) -> Measure
     ensures { result ≡ expr_size (L.program names.now)
         (inside loops.now (L.scope names.now)) rows.now (plain_expr (placed_expr expr.now)) }
 {

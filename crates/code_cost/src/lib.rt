@@ -15,5 +15,5 @@ mod measure;
 mod program;
 mod statements;
 
-pub use measure::{Known, MOST, Measure};
+pub use measure::{MOST, Measure, RoutineMeasure};
 pub use program::{Measures, ProcessMeasure, measure_program};

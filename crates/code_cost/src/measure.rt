@@ -24,7 +24,7 @@ pub struct Measure {
 /// monitor, the words of stack that it takes above its locals, the words of its locals, and its
 /// number of instructions.
 #[derive(Clone, Copy, Debug, PartialEq, Eq)]
-pub struct Known {
+pub struct RoutineMeasure {
     pub cost: Cost,
     pub stay: u64,
     pub height: u64,
@@ -151,7 +151,7 @@ impl Measure {
     }
 
     /// The call of a routine, whose arguments this is.
-    pub fn call(self, routine: Known) -> Measure
+    pub fn call(self, routine: RoutineMeasure) -> Measure
         ensures { result ≡ called routine self }
     {
         Measure {

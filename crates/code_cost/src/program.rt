@@ -10,13 +10,13 @@ ghost use Rattle.code_cost.specs.Sums.{held};
 
 use crate::expressions::{check, expr};
 use crate::loops::count_from;
-use crate::measure::{Known, Measure, cap, hold};
+use crate::measure::{Measure, RoutineMeasure, cap, hold};
 use crate::statements::stmts;
 use base::Cost;
-use codegen_spec::{Lookup, Lookups, Owner, Range};
+use codegen_spec::{Lookup, Lookups, Owner, ValueRange};
 use machine_isa::Instr;
 use std::alloc::{AllocError, Global};
-use syntax_tree::{Handler, List, Proc, Routine, Scalar};
+use syntax_tree::{Handler, List, Process, Routine, Scalar};
 
 /// What a process takes at most: the cost of an activation, dispatches left aside, the words of
 /// its stack, and the number of its instructions.
@@ -31,17 +31,17 @@ pub struct ProcessMeasure {
 /// text.
 #[derive(Debug, Drop)]
 pub struct Measures {
-    pub routines: List<Known>,
+    pub routines: List<RoutineMeasure>,
     pub processes: List<ProcessMeasure>,
 }
 
 /// The range of a type, if it has one.
-fn range_of<L: Lookup>(names: &L, kind: &Scalar) -> Option<Range>
+fn range_of<L: Lookup>(names: &L, kind: &Scalar) -> Option<ValueRange>
     ensures { result ≡ range_told (L.program names.now) (plain_scalar (placed_scalar kind.now)) }
 {
     match kind {
         Scalar::Int | Scalar::Boolean => None,
-        Scalar::Subrange { low, high } => Some(Range {
+        Scalar::Subrange { low, high } => Some(ValueRange {
             low: names.value(low),
             high: names.value(high),
         }),
@@ -49,7 +49,7 @@ fn range_of<L: Lookup>(names: &L, kind: &Scalar) -> Option<Range>
 }
 
 /// The result of a function, with the check of its range.
-fn answer<L: Lookup>(names: &L, rows: &[Known], routine: &Routine) -> Measure
+fn answer<L: Lookup>(names: &L, rows: &[RoutineMeasure], routine: &Routine) -> Measure
     ensures { result ≡ answers_size (L.program names.now) (L.scope names.now) rows.now
         (plain_routine (placed_routine routine.now)).answers }
 {
@@ -65,7 +65,7 @@ fn answer<L: Lookup>(names: &L, rows: &[Known], routine: &Routine) -> Measure
 fn inner<L: Lookup>(
     alloc: Global,
     names: &L,
-    rows: &[Known],
+    rows: &[RoutineMeasure],
     routine: &Routine,
 ) -> Result<Measure, AllocError>
     ensures { IfOk result (λ m. m ≡ inner_size (L.program names.now) (L.scope names.now) rows.now
@@ -82,9 +82,9 @@ fn row<L: Lookup>(
     alloc: Global,
     names: &L,
     words: usize,
-    rows: &[Known],
+    rows: &[RoutineMeasure],
     routine: &Routine,
-) -> Result<Known, AllocError>
+) -> Result<RoutineMeasure, AllocError>
     ensures { IfOk result (λ k. k ≡ known_of (L.program names.now)
         (L.scope names.now) words rows.now (plain_routine (placed_routine routine.now))) }
 {
@@ -94,7 +94,7 @@ fn row<L: Lookup>(
         Owner::Program | Owner::Process { .. } => (Measure::instr(&Instr::Return, 0), 0),
     };
     let size = inner.then(frame);
-    Ok(Known {
+    Ok(RoutineMeasure {
         cost: size.cost,
         stay,
         height: size.height,
@@ -104,7 +104,7 @@ fn row<L: Lookup>(
 }
 
 /// All routines by number.
-fn rows<P: Lookups>(alloc: Global, program: &P) -> Result<List<Known>, AllocError>
+fn rows<P: Lookups>(alloc: Global, program: &P) -> Result<List<RoutineMeasure>, AllocError>
     ensures { IfOk result (λ rows. rows ≡ rows_of (P.program program.now)) }
 {
     let mut rows = List::new(alloc);
@@ -127,7 +127,7 @@ fn rows<P: Lookups>(alloc: Global, program: &P) -> Result<List<Known>, AllocErro
 fn handler<L: Lookup>(
     alloc: Global,
     names: &L,
-    rows: &[Known],
+    rows: &[RoutineMeasure],
     handler: &Option<Handler>,
 ) -> Result<Measure, AllocError>
     ensures { IfOk result (λ m. m ≡ handler_size (L.program names.now) (L.scope names.now) rows.now
@@ -144,7 +144,7 @@ fn handler<L: Lookup>(
 }
 
 /// The words of a process's loops, those of its handler among them.
-fn loop_words(process: &Proc) -> u64
+fn loop_words(process: &Process) -> u64
     ensures { result ≡ held (words_of_loops (plain_process (placed_process process.now))) }
 {
     let body = count_from(0, process.body.as_slice());
@@ -158,8 +158,8 @@ fn loop_words(process: &Proc) -> u64
 fn process<L: Lookup>(
     alloc: Global,
     names: &L,
-    rows: &[Known],
-    process: &Proc,
+    rows: &[RoutineMeasure],
+    process: &Process,
 ) -> Result<ProcessMeasure, AllocError>
     ensures { IfOk result (λ m. m ≡ process_size (L.program names.now) (L.scope names.now) rows.now
         (plain_process (placed_process process.now))) }

@@ -11,15 +11,15 @@ ghost use Rattle.code_cost.specs.Sums.{nothing};
 ghost use Rattle.code_cost.specs.Forms.{assigned, index_size, put_size, stmt_size, stmts_size, store_time};
 
 use crate::expressions::{call, check, expr, load, load_at, routine_call};
-use crate::measure::{Known, Measure};
+use crate::measure::{Measure, RoutineMeasure};
 use base::{Cost, OVER};
-use codegen_spec::{Lookup, Loop, Spot};
+use codegen_spec::{Lookup, Loop, VarLocation};
 use machine_isa::Instr;
 use std::alloc::{AllocError, Global};
 use syntax_tree::{Constant, Expr, Name, Ref, Stmt};
 
 /// The ticks of a store.
-fn store(spot: Option<Spot>, target: &Ref) -> u64
+fn store(spot: Option<VarLocation>, target: &Ref) -> u64
     ensures { result ≡ store_time spot (plain_ref (placed_ref target.now)) }
 {
     match spot {
@@ -32,7 +32,7 @@ fn store(spot: Option<Spot>, target: &Ref) -> u64
 }
 
 /// The check of the range and the store of what is assigned.
-fn put(spot: Option<Spot>, target: &Ref) -> Measure
+fn put(spot: Option<VarLocation>, target: &Ref) -> Measure
     ensures { result ≡ put_size spot (plain_ref (placed_ref target.now)) }
 {
     let range = match &spot {
@@ -45,7 +45,7 @@ fn put(spot: Option<Spot>, target: &Ref) -> Measure
 /// The index, what is assigned, and what stores it.
 fn assign<L: Lookup>(
     names: &L,
-    rows: &[Known],
+    rows: &[RoutineMeasure],
     loops: &[Loop],
     target: &Ref,
     value: Measure,
@@ -107,7 +107,7 @@ fn wait(ticks: u64) -> Measure
 fn body<L: Lookup>(
     alloc: Global,
     names: &L,
-    rows: &[Known],
+    rows: &[RoutineMeasure],
     loops: &mut Vec<Loop>,
     name: &Name,
     body: &[Stmt],
@@ -131,7 +131,7 @@ fn body<L: Lookup>(
 pub fn stmt<L: Lookup>(
     alloc: Global,
     names: &L,
-    rows: &[Known],
+    rows: &[RoutineMeasure],
     loops: &mut Vec<Loop>,
     stmt: &Stmt,
 ) -> Result<Measure, AllocError>
@@ -245,7 +245,7 @@ pub fn stmt<L: Lookup>(
 pub fn stmts<L: Lookup>(
     alloc: Global,
     names: &L,
-    rows: &[Known],
+    rows: &[RoutineMeasure],
     loops: &mut Vec<Loop>,
     stmts: &[Stmt],
 ) -> Result<Measure, AllocError>

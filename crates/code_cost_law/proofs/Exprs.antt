@@ -1,6 +1,6 @@
 -- The measure of expressions.
 use Rattle.std.proofs.Common.{◌≡◌, ◌≤◌, ◌+◌, ℕ, List, [], ◌∷◌, ◌++◌, length, map, Option, Some, None, option_map, slice_get, refl, ap, sym, subst, ◌∙◌, arith, max, append_assoc, length-append}
-use Rattle.syntax_tree.specs.Plain.{Name, Op, or, and, equal, unequal, less, less_equal, greater, greater_equal, add, sub, mul, div, remainder, Param, Expr, literal, truth, variable, element, call, minus, negation, paren, row, Exprs, no_exprs, exprs, Operands, no_operands, operand, Prog}
+use Rattle.syntax_tree.specs.Plain.{Name, Op, or, and, equal, unequal, less, less_equal, greater, greater_equal, add, sub, mul, div, remainder, Param, Expr, literal, truth, variable, element, call, minus, negation, paren, row, Exprs, no_exprs, exprs, Operands, no_operands, operand, Program}
 use Rattle.base.specs.Capped.{cap}
 use Rattle.base.specs.declared.capped.Cost.{Cost}
 use Rattle.machine_isa.specs.Ticks.{ticks}
@@ -18,9 +18,9 @@ use Rattle.code_cost_spec.specs.Heights.{expr_height, row_height, args_height, c
 use Rattle.code_cost_spec.specs.Lengths.{check_length, expr_length, row_length, args_length, call_length}
 use Rattle.code_measures.specs.Sound.{SoundExpr, SoundRow, SoundArgs}
 use Rattle.code_measures.proofs.Seen.{Sees}
-use Rattle.codegen_spec.specs.declared.spot.Range.{Range}
+use Rattle.codegen_spec.specs.declared.var_location.ValueRange.{ValueRange}
 use Rattle.codegen_spec.specs.Told.{told_spot, told_range, range_told, told_callee}
-use Rattle.code_cost.specs.declared.measure.Known.{Known}
+use Rattle.code_cost.specs.declared.measure.RoutineMeasure.{RoutineMeasure}
 use Rattle.code_cost.specs.Sums.{held, joined, above, called, of, nothing, row_at}
 use Rattle.code_cost.specs.Forms.{load_time, element_time, check, argument, call_size, expr_size, row_size, args_size}
 use Rattle.code_cost_law.specs.Measured.{measured, IsRow}
@@ -33,7 +33,7 @@ pub record Alike (d c : Scope) : Type 0 where
   pub own : d.own ≡ c.own
   pub owner : d.owner ≡ c.owner
 
-pub alike_spot : (g : Prog) (d c : Scope) (x : Name) → Alike d c → spot_of g d x ≡ spot_of g c x
+pub alike_spot : (g : Program) (d c : Scope) (x : Name) → Alike d c → spot_of g d x ≡ spot_of g c x
 alike_spot g d c x s = ap (λ ps. or_else (in_area in_frame (place_named x ps)) (outer_spot g d.owner x)) s.own ∙ ap (λ o. or_else (in_area in_frame (place_named x c.own)) (outer_spot g o x)) s.owner
 
 -- ---- single instructions
@@ -95,12 +95,12 @@ check_is (Some r) = same (omega arith) (omega arith) (omega arith) (omega arith)
 
 -- ---- a call
 
-pub row_tells : (g : Prog) (rows : List Known) (k : Calls) (t : Text) (c : Cost) (h n : ℕ) → IsRow g rows k t
+pub row_tells : (g : Program) (rows : List RoutineMeasure) (k : Calls) (t : Text) (c : Cost) (h n : ℕ) → IsRow g rows k t
     → called (row_at rows (number_of g t)) (measured c h n) ≡ measured (plus c (longer 6 (k.cost t))) (max h (2 + routine_words g t.routine + k.height t)) (n + 1)
 row_tells g rows k t c h n is =
     rows_same (row_at rows (number_of g t)) is.run is.susp is.waits is.height is.words ∙ called_is (k.cost t) (row_at rows (number_of g t)).stay (k.height t) (routine_words g t.routine) (row_at rows (number_of g t)).length c h n
   where
-    rows_same : (r : Known) → r.cost.run ≡ cap (k.cost t).run → r.cost.susp ≡ cap (k.cost t).susp → r.cost.waits ≡ cap (k.cost t).waits → r.height ≡ held (k.height t) → r.words ≡ held (routine_words g t.routine)
+    rows_same : (r : RoutineMeasure) → r.cost.run ≡ cap (k.cost t).run → r.cost.susp ≡ cap (k.cost t).susp → r.cost.waits ≡ cap (k.cost t).waits → r.height ≡ held (k.height t) → r.words ≡ held (routine_words g t.routine)
         → called r (measured c h n) ≡ called (record { cost = amount (cap (k.cost t).run) (cap (k.cost t).susp) (cap (k.cost t).waits); stay = r.stay; height = held (k.height t); words = held (routine_words g t.routine); length = r.length }) (measured c h n)
     rows_same r a b e f w =
         same (ap (λ x. cap (cap c.run + cap (6 + x))) a) (ap (λ x. cap (cap c.susp + cap (0 + x))) b) (ap (λ x. cap (cap c.waits + cap (0 + x))) e)
@@ -108,7 +108,7 @@ row_tells g rows k t c h n is =
 
 -- ---- expressions
 
-module _ (g : Prog) (rows : List Known) (k : Calls) where
+module _ (g : Program) (rows : List RoutineMeasure) (k : Calls) where
   abbrev pub ExprIs : (d : Scope) (n : Names) → Expr → Type 0
   ExprIs d n e = expr_size g d rows e ≡ measured (expr_cost g n k e) (expr_height g n.owner k e) (expr_length g n.owner e)
 
@@ -133,7 +133,7 @@ module _ (g : Prog) (rows : List Known) (k : Calls) where
       ∙ joined_is c (plus e (run (check_ticks r))) h (max (front + j) 0) n (m + check_length r)
       ∙ measured_same _ _ _ _ _ _ refl refl refl (omega arith) refl
 
-  third : (front back : List (Option Range)) (r : Option Range) → slice_get (front ++ r ∷ back) (length front) ≡ Some r
+  third : (front back : List (Option ValueRange)) (r : Option ValueRange) → slice_get (front ++ r ∷ back) (length front) ≡ Some r
   third [] back r = refl
   third (x ∷ front) back r = third front back r
 
@@ -147,7 +147,7 @@ module _ (g : Prog) (rows : List Known) (k : Calls) where
       ∙ measured_same _ _ _ _ _ _ refl refl refl (omega arith) refl
 
   -- the arguments of a call are measured
-  abbrev pub ArgsAre : (d : Scope) (n : Names) (before : Cost) (h m : ℕ) → Exprs → List Param → List (Option Range) → Type 0
+  abbrev pub ArgsAre : (d : Scope) (n : Names) (before : Cost) (h m : ℕ) → Exprs → List Param → List (Option ValueRange) → Type 0
   ArgsAre d n before h m es ps front =
       args_size g d rows (length front) (measured before h m) es (front ++ map (λ p. range_told g p.kind) ps)
       ≡ measured (plus before (args_cost g n k es ps)) (max h (length front + args_height g n.owner k es)) (m + args_length g n.owner es ps)
@@ -214,7 +214,7 @@ module _ (g : Prog) (rows : List Known) (k : Calls) where
         ∙ row_is d c n (plus before (plus x (run t))) (max h (max (1 + j) 0)) (m + (l + 1)) r a s ok.1
         ∙ measured_same _ _ _ _ _ _ (omega arith) (omega arith) (omega arith) (omega arith) (omega arith)
 
-    pub args_is : (d c : Scope) (n : Names) (before : Cost) (h m : ℕ) (es : Exprs) (ps : List Param) (front : List (Option Range)) → Alike d c → Sees g c n → SoundArgs g (λ t. IsRow g rows k t) c es ps
+    pub args_is : (d c : Scope) (n : Names) (before : Cost) (h m : ℕ) (es : Exprs) (ps : List Param) (front : List (Option ValueRange)) → Alike d c → Sees g c n → SoundArgs g (λ t. IsRow g rows k t) c es ps
         → length front ≤ h
         → args_size g d rows (length front) (measured before h m) es (front ++ map (λ p. range_told g p.kind) ps)
         ≡ measured (plus before (args_cost g n k es ps)) (max h (length front + args_height g n.owner k es)) (m + args_length g n.owner es ps)

@@ -2,7 +2,7 @@
 use Rattle.std.specs.Prelude.{◌≡◌, ◌≤◌, ◌<◌, ℕ, zero, suc, Some, slice_get}
 use Rattle.std.proofs.Common.{sym, subst, ◌∙◌, arith}
 use Rattle.std.proofs.lemmas.Option.{slice_get_within}
-use Rattle.syntax_tree.specs.Plain.{Prog}
+use Rattle.syntax_tree.specs.Plain.{Program}
 use Rattle.source_semantics.specs.Names.{routine_count}
 use Rattle.code_spec.specs.Numbering.{Text, numbered, number_of}
 use Rattle.code_cost_spec.specs.Costs.{routine_cost}
@@ -13,10 +13,10 @@ use Rattle.code_measures.specs.Declared.{IsBelow, IsSound}
 use Rattle.code_measures.proofs.Likes.{Same, CallsSame, routine_same}
 use Rattle.code_measures.proofs.Rows.{cost_at, height_at}
 
-abbrev AtLevels : Prog → Text → (n m : ℕ) → Type 0
+abbrev AtLevels : Program → Text → (n m : ℕ) → Type 0
 AtLevels g t n m = Same ((calls_at n g).cost t) ((calls_at m g).cost t) ((calls_at n g).height t) ((calls_at m g).height t)
 
-module _ (g : Prog) (sound : IsSound g) where
+module _ (g : Program) (sound : IsSound g) where
   abbrev Before : ℕ → Type 0
   Before r = (q : ℕ) (u : Text) → q < r → slice_get (numbered g) q ≡ Some u → (n m : ℕ) → q < n → q < m → AtLevels g u n m
 

@@ -1,7 +1,7 @@
 -- The measures of a routine and of a process, where the rows tell of all that they call.
 use Rattle.std.specs.Prelude.{◌≡◌, ◌+◌, ℕ, Option, Some, None, max}
 use Rattle.std.proofs.Common.{refl, ap, ◌∙◌, arith, List}
-use Rattle.syntax_tree.specs.Plain.{Answers, Routine, Handler, Process, Prog}
+use Rattle.syntax_tree.specs.Plain.{Answers, Routine, Handler, Process, Program}
 use Rattle.base.specs.Capped.{cap}
 use Rattle.base.specs.declared.capped.Cost.{Cost}
 use Rattle.source_semantics.specs.Store.{range_of}
@@ -17,7 +17,7 @@ use Rattle.code_cost_spec.specs.Levels.{routine_names, process_names, calls_of}
 use Rattle.code_measures.specs.Sound.{SoundAnswers, SoundRoutine, SoundHandler, SoundProcess}
 use Rattle.codegen_spec.specs.Told.{range_told}
 use Rattle.code_cost.specs.declared.measure.Measure.{Measure}
-use Rattle.code_cost.specs.declared.measure.Known.{Known}
+use Rattle.code_cost.specs.declared.measure.RoutineMeasure.{RoutineMeasure}
 use Rattle.code_cost.specs.Sums.{held, of, joined}
 use Rattle.code_cost.specs.Forms.{check, stmts_size}
 use Rattle.code_cost.specs.Parts.{answers_size, inner_size, frame_size, stay_time, row_of, handler_size, loop_words, part_size, process_size}
@@ -36,7 +36,7 @@ framed by_program c h n = same (omega arith) (omega arith) (omega arith) (omega 
 framed (by_process k) c h n = same (omega arith) (omega arith) (omega arith) (omega arith) (omega arith)
 framed (by_monitor m) c h n = same (omega arith) (omega arith) (omega arith) (omega arith) (omega arith)
 
-module _ (g : Prog) (rows : List Known) where
+module _ (g : Program) (rows : List RoutineMeasure) where
   abbrev Told : Text → Type 0
   Told y = IsRow g rows (calls_of g) y
 
@@ -75,7 +75,7 @@ module _ (g : Prog) (rows : List Known) where
   stays (by_monitor m) n r = omega arith
 
   -- the row of a routine, from those before it
-  abbrev pub next_row : Text → Known
+  abbrev pub next_row : Text → RoutineMeasure
   next_row t = row_of g (routine_scope g t) (routine_vars_words g t.routine) rows t.routine
 
   pub row_is_of : (t : Text) → SoundRoutine g (λ y. Told y) t → AllBoundsFit g t.routine.body → IsRowOf g t (next_row t)

@@ -2,14 +2,14 @@
 use Rattle.std.specs.Prelude.{◌≡◌, ◌<◌, ◌+◌, ◌++◌, ℕ, zero, suc, List, [], ◌∷◌, Some, length, take, slice_get}
 use Rattle.std.proofs.Common.{refl, sym, ap, subst, ◌∙◌, arith}
 use Rattle.base.proofs.Lists.{take_get}
-use Rattle.syntax_tree.specs.Plain.{Prog}
+use Rattle.syntax_tree.specs.Plain.{Program}
 use Rattle.valid_image.specs.Tables.{table}
 use Rattle.code_spec.specs.Numbering.{Text, numbered, number_of}
 use Rattle.code_cost_spec.specs.Levels.{calls_of}
 use Rattle.code_measures.specs.Declared.{IsBelow, IsSound}
 use Rattle.code_measures.proofs.Firsts.{table_length, row_is}
 use Rattle.code_measures.proofs.Maps.{map_routine}
-use Rattle.code_cost.specs.declared.measure.Known.{Known}
+use Rattle.code_cost.specs.declared.measure.RoutineMeasure.{RoutineMeasure}
 use Rattle.code_cost.specs.Sums.{held, row_or}
 use Rattle.code_cost.specs.Parts.{rows_from, rows_of}
 use Rattle.code_cost_law.specs.Measured.{IsRow}
@@ -18,26 +18,26 @@ use Rattle.code_cost_law.specs.Defined.{LoopsFit}
 use Rattle.code_cost_law.proofs.Levels.{known_as}
 use Rattle.code_cost_law.proofs.Parts.{next_row, row_is_of}
 
-is_table : (g : Prog) (ts : List Text) (rows : List Known) → rows_from g ts rows ≡ table (next_row g) rows ts
+is_table : (g : Program) (ts : List Text) (rows : List RoutineMeasure) → rows_from g ts rows ≡ table (next_row g) rows ts
 is_table g [] rows = refl
 is_table g (t ∷ ts) rows = is_table g ts (rows ++ next_row g rows t ∷ [])
 
-pub as_many_rows : (g : Prog) → length (rows_of g) ≡ length (numbered g)
+pub as_many_rows : (g : Program) → length (rows_of g) ≡ length (numbered g)
 as_many_rows g =
     let long : length (table (next_row g) [] (numbered g)) ≡ 0 + length (numbered g) = table_length (next_row g) [] (numbered g) in
     ap (λ rs. length rs) (is_table g (numbered g) []) ∙ omega (arith, long)
 
-made_there : (g : Prog) (r : ℕ) (t : Text) → slice_get (numbered g) r ≡ Some t → slice_get (rows_of g) r ≡ Some (next_row g (take r (rows_of g)) t)
+made_there : (g : Program) (r : ℕ) (t : Text) → slice_get (numbered g) r ≡ Some t → slice_get (rows_of g) r ≡ Some (next_row g (take r (rows_of g)) t)
 made_there g r t at = subst (λ rs. slice_get rs r ≡ Some (next_row g (take r rs) t)) (sym (is_table g (numbered g) [])) (row_is (next_row g) (numbered g) r t at)
 
-module _ (g : Prog) (sound : IsSound g) (fits : LoopsFit g) where
+module _ (g : Program) (sound : IsSound g) (fits : LoopsFit g) where
   pub record HasRow (r : ℕ) (t : Text) : Type 0 where
-    pub row : Known
+    pub row : RoutineMeasure
     pub there : slice_get (rows_of g) r ≡ Some row
     pub is : IsRowOf g t row
 
   -- it tells what is known of the routine where it is called
-  pub tells : (rows : List Known) (t : Text) (row : Known) → slice_get rows (number_of g t) ≡ Some row → IsRowOf g t row → slice_get (numbered g) (number_of g t) ≡ Some t → IsRow g rows (calls_of g) t
+  pub tells : (rows : List RoutineMeasure) (t : Text) (row : RoutineMeasure) → slice_get rows (number_of g t) ≡ Some row → IsRowOf g t row → slice_get (numbered g) (number_of g t) ≡ Some t → IsRow g rows (calls_of g) t
   tells rows t row at is there =
       let known = known_as g sound (number_of g t) t there in
       record {

@@ -1,6 +1,6 @@
 -- The measure of statements.
 use Rattle.std.proofs.Common.{◌≡◌, ◌≤◌, ◌+◌, ℕ, ℤ, pos, negsuc, List, [], ◌∷◌, Option, Some, None, option_map, refl, ap, subst, ◌∙◌, arith, max}
-use Rattle.syntax_tree.specs.Plain.{Constant, Expr, Ref, whole, part, Stmt, assign, assign_entry, assign_empty, perform, perform_entry, when, when_else, loop, exit_when, get, put, wait, signal, broadcast, except, assert, Stmts, no_stmts, stmts, Prog}
+use Rattle.syntax_tree.specs.Plain.{Constant, Expr, Ref, whole, part, Stmt, assign, assign_entry, assign_empty, perform, perform_entry, when, when_else, loop, exit_when, get, put, wait, signal, broadcast, except, assert, Stmts, no_stmts, stmts, Program}
 use Rattle.base.specs.Capped.{cap}
 use Rattle.base.specs.declared.capped.Cost.{Cost}
 use Rattle.source_semantics.specs.Names.{constant_value, as_count}
@@ -19,7 +19,7 @@ use Rattle.code_measures.proofs.Seen.{Sees, sees, sees_inside}
 use Rattle.codegen_spec.specs.Told.{fit, told_spot, told_callee, within}
 use Rattle.codegen_spec.specs.Made.{turns_between, worth}
 use Rattle.code_cost.specs.declared.measure.Measure.{Measure}
-use Rattle.code_cost.specs.declared.measure.Known.{Known}
+use Rattle.code_cost.specs.declared.measure.RoutineMeasure.{RoutineMeasure}
 use Rattle.code_cost.specs.Sums.{joined, above, forked, looped, of, nothing}
 use Rattle.code_cost.specs.Forms.{store_time, check_of, put_size, call_size, expr_size, args_size, index_size, assigned, stmt_size, stmts_size}
 use Rattle.code_cost.specs.Forms as forms
@@ -69,7 +69,7 @@ put_here s r =
     ∙ joined_is (run (check_ticks (range_seen v))) (run (store_ticks v r)) 0 0 (check_length (range_seen v)) 1
     ∙ measured_same (plus (run (check_ticks (range_seen v))) (run (store_ticks v r))) (run (check_ticks (range_seen v) + store_ticks v r)) (max 0 0) 0 (check_length (range_seen v) + 1) (check_length (range_seen v) + 1) refl refl refl (omega arith) refl
 
-module _ (g : Prog) (rows : List Known) (k : Calls) where
+module _ (g : Program) (rows : List RoutineMeasure) (k : Calls) where
   -- the check and the store of what is assigned
   put_is : (d c : Scope) (n : Names) (r : Ref) → Alike d c → Sees g c n → put_size (told_spot (spot_of g d (ref_name r))) r ≡ measured (run (put_ticks n r)) 0 (put_length n r)
   put_is d c n r a s =
@@ -191,9 +191,9 @@ module _ (g : Prog) (rows : List Known) (k : Calls) where
         ∙ stmts_are d c n (plus before x) (max h j) (m + l) ss a s ok.1 fits.1
         ∙ measured_same _ _ _ _ _ _ (omega arith) (omega arith) (omega arith) (omega arith) (omega arith)
 
-pub expressions : (g : Prog) (rows : List Known) (k : Calls) (c : Scope) (e : Expr) → SoundExpr g (λ t. IsRow g rows k t) c e → expr_size g c rows e ≡ measured (expr_cost g (names_of g c) k e) (expr_height g c.owner k e) (expr_length g c.owner e)
+pub expressions : (g : Program) (rows : List RoutineMeasure) (k : Calls) (c : Scope) (e : Expr) → SoundExpr g (λ t. IsRow g rows k t) c e → expr_size g c rows e ≡ measured (expr_cost g (names_of g c) k e) (expr_height g c.owner k e) (expr_length g c.owner e)
 expressions g rows k c e ok = expr_is g rows k c c (names_of g c) e (record { own = refl; owner = refl }) (sees g c) ok
 
-pub statements : (g : Prog) (rows : List Known) (k : Calls) (c : Scope) (ss : Stmts) → SoundAll g (λ t. IsRow g rows k t) c ss → AllBoundsFit g ss
+pub statements : (g : Program) (rows : List RoutineMeasure) (k : Calls) (c : Scope) (ss : Stmts) → SoundAll g (λ t. IsRow g rows k t) c ss → AllBoundsFit g ss
     → stmts_size g c rows nothing ss ≡ measured (stmts_cost g (names_of g c) k ss) (stmts_height g c.owner k ss) (stmts_length g (names_of g c) ss)
 statements g rows k c ss ok fits = from_nothing g rows k c (names_of g c) ss (stmts_are g rows k c c (names_of g c) (run 0) 0 0 ss (record { own = refl; owner = refl }) (sees g c) ok fits)

@@ -2,12 +2,12 @@
 use Rattle.std.specs.Prelude.{◌≡◌, ◌≤◌, ◌<◌, ◌+◌, ℕ, zero, suc, List, [], ◌∷◌, Some, length, slice_get, sum_by}
 use Rattle.std.proofs.Common.{refl, sym, subst, arith}
 use Rattle.std.proofs.lemmas.List.Sums.{sum_by-cons}
-use Rattle.syntax_tree.specs.Plain.{Process, Prog}
+use Rattle.syntax_tree.specs.Plain.{Process, Program}
 use Rattle.source_semantics.specs.Names.{processes}
 use Rattle.code_spec.specs.Numbering.{Text, numbered}
 use Rattle.code_cost_spec.specs.Lengths.{routine_length, process_length}
 use Rattle.code_cost_spec.specs.Levels.{routine_names, process_names, routines_length, processes_length, code_length}
-use Rattle.code_cost.specs.declared.measure.Known.{Known}
+use Rattle.code_cost.specs.declared.measure.RoutineMeasure.{RoutineMeasure}
 use Rattle.code_cost.specs.declared.program.ProcessMeasure.{ProcessMeasure}
 use Rattle.code_cost.specs.declared.program.Measures.{Measures}
 use Rattle.code_cost.specs.Sums.{held}
@@ -20,14 +20,14 @@ sum_held a b c d e f = omega (arith, e, f)
 both_held : (a b c d : ℕ) → held a ≡ held b → held c ≡ held d → held (a + c) ≡ held (b + d)
 both_held a b c d e f = omega (arith, e, f)
 
-abbrev rows_total : List Known → ℕ
+abbrev rows_total : List RoutineMeasure → ℕ
 rows_total rows = sum_by (λ r. r.length) rows
 
 abbrev sizes_total : List ProcessMeasure → ℕ
 sizes_total sizes = sum_by (λ p. p.length) sizes
 
-rows_add_up : (g : Prog) (ts : List Text) (rows : List Known) → length rows ≡ length ts
-    → ((r : ℕ) (t : Text) (row : Known) → slice_get ts r ≡ Some t → slice_get rows r ≡ Some row → row.length ≡ held (routine_length g (routine_names g t) t))
+rows_add_up : (g : Program) (ts : List Text) (rows : List RoutineMeasure) → length rows ≡ length ts
+    → ((r : ℕ) (t : Text) (row : RoutineMeasure) → slice_get ts r ≡ Some t → slice_get rows r ≡ Some row → row.length ≡ held (routine_length g (routine_names g t) t))
     → held (rows_total rows) ≡ held (routines_length g ts)
 rows_add_up g [] [] long is = refl
 rows_add_up g [] (row ∷ rows) long is = absurd (omega (arith, long))
@@ -38,7 +38,7 @@ rows_add_up g (t ∷ ts) (row ∷ rows) long is =
     subst (λ n. held n ≡ held (routine_length g (routine_names g t) t + routines_length g ts)) (sym more)
     (sum_held row.length (routine_length g (routine_names g t) t) (rows_total rows) (routines_length g ts) (is 0 t row refl refl) rest)
 
-sizes_add_up : (g : Prog) (n : ℕ) (ps : List Process) (sizes : List ProcessMeasure) → length sizes ≡ length ps
+sizes_add_up : (g : Program) (n : ℕ) (ps : List Process) (sizes : List ProcessMeasure) → length sizes ≡ length ps
     → ((k : ℕ) (p : Process) (size : ProcessMeasure) → slice_get ps k ≡ Some p → slice_get sizes k ≡ Some size → size.length ≡ held (process_length g (process_names g (n + k) p) p))
     → held (sizes_total sizes) ≡ held (processes_length g n ps)
 sizes_add_up g n [] [] long is = refl

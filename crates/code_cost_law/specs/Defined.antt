@@ -1,7 +1,7 @@
 -- What the measures of a whole program are: what is defined of its routines and processes, as far
 -- as it is counted.
 use Rattle.std.specs.Prelude.{◌≡◌, ◌≤◌, ◌<◌, ◌+◌, ℕ, Option, Some, None, length, slice_get, sum_by}
-use Rattle.syntax_tree.specs.Plain.{Handler, Process, Prog}
+use Rattle.syntax_tree.specs.Plain.{Handler, Process, Program}
 use Rattle.source_semantics.specs.Names.{processes}
 use Rattle.code_spec.specs.Numbering.{Text, numbered}
 use Rattle.code_cost_spec.specs.Levels.{code_length}
@@ -13,12 +13,12 @@ use Rattle.code_cost_law.specs.Measured.{AllBoundsFit}
 
 -- ---- loops
 
-abbrev pub HandlerLoopsFit : Prog → Option Handler → Type 0
+abbrev pub HandlerLoopsFit : Program → Option Handler → Type 0
 HandlerLoopsFit g None = Unit {0}
 HandlerLoopsFit g (Some h) = AllBoundsFit g h.body
 
 -- the bounds of each loop of the program are numbers of 32 bits
-pub record LoopsFit (g : Prog) : Type 0 where
+pub record LoopsFit (g : Program) : Type 0 where
   pub routines : (r : ℕ) (t : Text) → slice_get (numbered g) r ≡ Some t
       → AllBoundsFit g t.routine.body
   pub bodies : (k : ℕ) (p : Process) → slice_get (processes g) k ≡ Some p
@@ -28,7 +28,7 @@ pub record LoopsFit (g : Prog) : Type 0 where
 
 -- The law: what is measured of a program is what is defined of it.
 abbrev pub MeasuresAreDefined : Type 0
-MeasuresAreDefined = (g : Prog) → IsSound g → LoopsFit g → AreDefined g (measures_of g)
+MeasuresAreDefined = (g : Program) → IsSound g → LoopsFit g → AreDefined g (measures_of g)
 
 -- ---- all lengths
 
@@ -38,5 +38,5 @@ total m = sum_by (λ r. r.length) m.routines + sum_by (λ p. p.length) m.process
 -- The law: the lengths add up to the number of instructions, where that is at most 65,535; else to
 -- more than 65,535.
 abbrev pub TotalIsDefined : Type 0
-TotalIsDefined = (g : Prog) (m : Measures) → AreDefined g m
+TotalIsDefined = (g : Program) (m : Measures) → AreDefined g m
     → (code_length g ≤ 65535 → total m ≡ code_length g) × (65535 < code_length g → 65535 < total m)

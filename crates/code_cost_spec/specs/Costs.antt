@@ -1,7 +1,7 @@
 -- The cost of each form: ticks of execution, suspension and waits, exact. Costs add up along lists,
 -- multiply by turns, and are the larger of two arms, each component by itself.
 use Rattle.std.specs.Prelude.{ℕ, ◌+◌, ◌*◌, List, [], ◌∷◌, Option, Some, None, pos}
-use Rattle.syntax_tree.specs.Plain.{Param, Expr, literal, truth, variable, element, call, minus, negation, paren, row, Exprs, no_exprs, exprs, Operands, no_operands, operand, Ref, whole, part, Stmt, assign, assign_entry, assign_empty, perform, perform_entry, when, when_else, loop, exit_when, get, put, wait, signal, broadcast, except, assert, Stmts, no_stmts, stmts, Answers, Routine, Handler, Process, Prog}
+use Rattle.syntax_tree.specs.Plain.{Param, Expr, literal, truth, variable, element, call, minus, negation, paren, row, Exprs, no_exprs, exprs, Operands, no_operands, operand, Ref, whole, part, Stmt, assign, assign_entry, assign_empty, perform, perform_entry, when, when_else, loop, exit_when, get, put, wait, signal, broadcast, except, assert, Stmts, no_stmts, stmts, Answers, Routine, Handler, Process, Program}
 use Rattle.base.specs.declared.capped.Cost.{Cost}
 use Rattle.machine_isa.specs.Ticks.{ticks}
 use Rattle.machine_isa.specs.declared.instr.Instr.TheVariants as i
@@ -51,7 +51,7 @@ call_cost k None args = run 0
 call_cost k (Some t) args = plus (args t.routine.params) (longer (ticks (i.Call (pos 0))) (k.cost t))
 
 abbrev mutual
-  pub expr_cost : Prog → Names → Calls → Expr → Cost
+  pub expr_cost : Program → Names → Calls → Expr → Cost
   expr_cost g n k (literal v) = run (ticks (i.Push (pos 0)))
   expr_cost g n k (truth b) = run (ticks (i.Push (pos 0)))
   expr_cost g n k (variable x) = run (load_ticks (n.view x))
@@ -63,18 +63,18 @@ abbrev mutual
   expr_cost g n k (row e r) = plus (expr_cost g n k e) (row_cost g n k r)
 
   -- each operand and its operator
-  pub row_cost : Prog → Names → Calls → Operands → Cost
+  pub row_cost : Program → Names → Calls → Operands → Cost
   row_cost g n k no_operands = run 0
   row_cost g n k (operand op e r) = plus (expr_cost g n k e) (plus (run (ticks (op_instr op))) (row_cost g n k r))
 
   -- each argument, and the check of its parameter's range
-  pub args_cost : Prog → Names → Calls → Exprs → List Param → Cost
+  pub args_cost : Program → Names → Calls → Exprs → List Param → Cost
   args_cost g n k no_exprs ps = run 0
   args_cost g n k (exprs e es) [] = run 0
   args_cost g n k (exprs e es) (p ∷ ps) = plus (expr_cost g n k e) (plus (run (check_ticks (range_of g p.kind))) (args_cost g n k es ps))
 
 -- the index of what is assigned to, if any
-abbrev pub index_cost : Prog → Names → Calls → Ref → Cost
+abbrev pub index_cost : Program → Names → Calls → Ref → Cost
 index_cost g n k (whole x) = run 0
 index_cost g n k (part x e) = expr_cost g n k e
 
@@ -85,7 +85,7 @@ abbrev pub loop_cost : (turns : ℕ) → Cost → Cost
 loop_cost t c = amount (5 + t * (c.run + 10)) (t * c.susp) (t * c.waits)
 
 abbrev mutual
-  pub stmt_cost : Prog → Names → Calls → Stmt → Cost
+  pub stmt_cost : Program → Names → Calls → Stmt → Cost
   stmt_cost g n k (assign r e) = plus (index_cost g n k r) (plus (expr_cost g n k e) (run (put_ticks n r)))
   stmt_cost g n k (assign_entry r m e es) = plus (index_cost g n k r) (plus (call_cost k (entry_in g m e) (λ ps. args_cost g n k es ps)) (run (put_ticks n r)))
   stmt_cost g n k (assign_empty r x) = plus (index_cost g n k r) (run (ticks (i.Empty (pos 0)) + store_ticks (n.view (ref_name r)) r))
@@ -103,19 +103,19 @@ abbrev mutual
   stmt_cost g n k (except e) = run (ticks (i.Raise (pos 0)))
   stmt_cost g n k (assert e) = longer 6 (expr_cost g n k e)
 
-  pub stmts_cost : Prog → Names → Calls → Stmts → Cost
+  pub stmts_cost : Program → Names → Calls → Stmts → Cost
   stmts_cost g n k no_stmts = run 0
   stmts_cost g n k (stmts s ss) = plus (stmt_cost g n k s) (stmts_cost g n k ss)
 
 -- ---- routines and processes
 
 -- the result of a function, and the check of its range
-abbrev pub answers_cost : Prog → Names → Calls → Option Answers → Cost
+abbrev pub answers_cost : Program → Names → Calls → Option Answers → Cost
 answers_cost g n k None = run 0
 answers_cost g n k (Some a) = plus (expr_cost g n k a.value) (run (check_ticks (range_of g a.kind)))
 
 -- body and result
-abbrev pub inner_cost : Prog → Names → Calls → Routine → Cost
+abbrev pub inner_cost : Program → Names → Calls → Routine → Cost
 inner_cost g n k r = plus (stmts_cost g n k r.body) (answers_cost g n k r.answers)
 
 -- an entry is entered and left
@@ -125,19 +125,19 @@ monitor_ticks (by_process k) = 0
 monitor_ticks (by_monitor m) = ticks (i.Enter (pos 0)) + ticks (i.Leave (pos 0))
 
 -- a routine with its RET or RETV
-abbrev pub routine_cost : Prog → Names → Calls → Text → Cost
+abbrev pub routine_cost : Program → Names → Calls → Text → Cost
 routine_cost g n k t = longer (ticks i.Return + monitor_ticks t.owner) (inner_cost g n k t.routine)
 
 -- how long an entry stays in its monitor: body and result, and LEAVE
-abbrev pub stay_cost : Prog → Names → Calls → Owner → Routine → ℕ
+abbrev pub stay_cost : Program → Names → Calls → Owner → Routine → ℕ
 stay_cost g n k by_program r = 0
 stay_cost g n k (by_process j) r = 0
 stay_cost g n k (by_monitor m) r = (inner_cost g n k r).run + ticks (i.Leave (pos 0))
 
-abbrev pub handler_cost : Prog → Names → Calls → Option Handler → Cost
+abbrev pub handler_cost : Program → Names → Calls → Option Handler → Cost
 handler_cost g n k None = run 0
 handler_cost g n k (Some h) = stmts_cost g n k h.body
 
 -- a process: its body, its handler and END
-abbrev pub process_cost : Prog → Names → Calls → Process → Cost
+abbrev pub process_cost : Program → Names → Calls → Process → Cost
 process_cost g n k p = longer (ticks i.End) (plus (stmts_cost g n k p.body) (handler_cost g n k p.handler))

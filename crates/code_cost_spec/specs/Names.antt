@@ -1,6 +1,6 @@
 -- What names mean in a text, as far as costs go, and what is known of the routines that it calls.
 use Rattle.std.specs.Prelude.{ℕ, cond, Option, Some, None, bytes_eq, option_map}
-use Rattle.syntax_tree.specs.Plain.{Name, Prog}
+use Rattle.syntax_tree.specs.Plain.{Name, Program}
 use Rattle.source_semantics.specs.Store.{Range}
 use Rattle.base.specs.declared.capped.Cost.{Cost}
 use Rattle.code_spec.specs.Layout.{Owner, Area, in_frame, Spot, Scope, spot_of}
@@ -26,7 +26,7 @@ abbrev pub view_of : Spot → View
 view_of s = record { area = s.area; range = s.place.range }
 
 -- the names in reach where a text stands
-abbrev pub names_of : Prog → Scope → Names
+abbrev pub names_of : Program → Scope → Names
 names_of g c = record { owner = c.owner; view = λ x. option_map view_of (spot_of g c x) }
 
 -- a loop's variable

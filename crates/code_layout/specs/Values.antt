@@ -3,7 +3,7 @@ use Rattle.std.specs.Prelude.{◌≡◌, List, map}
 use Rattle.std.specs.Borrow.{Bor}
 use Rattle.syntax_tree.specs.Plain.{Name}
 use Rattle.syntax_tree.specs.Placed.{placed_decl, plain_decl}
-use Rattle.syntax_tree.specs.declared.decl.Prog.{Prog as Tree}
+use Rattle.syntax_tree.specs.declared.decl.Program.{Program as Tree}
 use Rattle.static_declarations.specs.declared.values.Number.{Number}
 use Rattle.static_declarations.specs.Seen.{kept_worth, with_decls, no_worth}
 

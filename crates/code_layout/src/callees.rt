@@ -6,18 +6,18 @@ ghost use Rattle.codegen_spec.specs.Told.{callee as callee_of, range_told};
 ghost use Rattle.code_names.specs.Texts.{text_of};
 
 use crate::tables::Tables;
-use crate::{Values, range_of};
-use code_names::Text;
-use codegen_spec::{Callee, Range};
+use crate::{ConstantValues, range_of};
+use code_names::Body;
+use codegen_spec::{Callee, ValueRange};
 use std::alloc::{AllocError, Global};
 use syntax_tree::{List, Param};
 
 /// The range of each parameter, if it has one.
 fn ranges(
     alloc: Global,
-    values: &Values<'_>,
+    values: &ConstantValues<'_>,
     params: &[Param],
-) -> Result<List<Option<Range>>, AllocError>
+) -> Result<List<Option<ValueRange>>, AllocError>
     ensures { IfOk result (λ ranges. ranges ≡
         map (λ p. range_told (plain (placed values.now)) p.kind)
         (map plain_param (map placed_param params.now))) }
@@ -30,7 +30,7 @@ fn ranges(
 }
 
 /// A routine that is called: its number, and the range of each of its parameters.
-pub fn callee(alloc: Global, tables: &Tables<'_>, text: Text<'_>) -> Result<Callee, AllocError>
+pub fn callee(alloc: Global, tables: &Tables<'_>, text: Body<'_>) -> Result<Callee, AllocError>
     ensures { IfOk result (λ callee. callee ≡
         callee_of (plain (placed tables.now)) (text_of text.entry)) }
 {

@@ -3,21 +3,21 @@
 ghost use Rattle.std.specs.Prelude.{◌≡◌, ◌+◌, IfOk};
 ghost use Rattle.syntax_tree.specs.Placed.{placed, placed_monitor, placed_process, placed_routine, plain, plain_monitor, plain_process, plain_routine};
 ghost use Rattle.code_spec.specs.Layout.{monitor_vars, places_from, routine_places, routine_vars_words, words_of};
-ghost use Rattle.codegen_spec.specs.declared.spot.Area.TheVariants as in_area;
+ghost use Rattle.codegen_spec.specs.declared.var_location.Area.TheVariants as in_area;
 ghost use Rattle.code_layout.specs.LookupTables.{IsLaid};
 
-use crate::{Laying, Values, lay_members, lay_params, lay_vars};
+use crate::{ConstantValues, VarLayout, lay_members, lay_params, lay_vars};
 use codegen_spec::Area;
 use std::alloc::{AllocError, Global};
-use syntax_tree::{Mon, Proc, Routine};
+use syntax_tree::{Monitor, Process, Routine};
 
 /// The parameters and variables of a routine. Where they take more words than a number can tell,
 /// there is not memory enough for them.
 pub fn laid_routine<'a>(
     alloc: Global,
-    values: &Values<'_>,
+    values: &ConstantValues<'_>,
     routine: &'a Routine,
-) -> Result<Laying<'a>, AllocError>
+) -> Result<VarLayout<'a>, AllocError>
     ensures places { IfOk result (λ laid. IsLaid in_area.Frame
         (routine_places (plain (placed values.now)) (plain_routine (placed_routine routine.now)))
         laid.names.items laid.spots.items) }
@@ -25,7 +25,7 @@ pub fn laid_routine<'a>(
         routine_vars_words (plain (placed values.now))
         (plain_routine (placed_routine routine.now))) }
 {
-    let mut laid = Laying::new(alloc, 0);
+    let mut laid = VarLayout::new(alloc, 0);
     lay_params(values, &mut laid, routine.params.as_slice())?;
     lay_vars(values, Area::Frame, &mut laid, routine.vars.as_slice())?;
     Ok(laid)
@@ -34,16 +34,16 @@ pub fn laid_routine<'a>(
 /// The variables of a process.
 pub fn laid_process<'a>(
     alloc: Global,
-    values: &Values<'_>,
-    process: &'a Proc,
-) -> Result<Laying<'a>, AllocError>
+    values: &ConstantValues<'_>,
+    process: &'a Process,
+) -> Result<VarLayout<'a>, AllocError>
     ensures places { IfOk result (λ laid. IsLaid in_area.Process
         (places_from (plain (placed values.now)) 0
         (plain_process (placed_process process.now)).vars) laid.names.items laid.spots.items) }
     ensures words { IfOk result (λ laid. laid.word ≡
         words_of (plain (placed values.now)) (plain_process (placed_process process.now)).vars) }
 {
-    let mut laid = Laying::new(alloc, 0);
+    let mut laid = VarLayout::new(alloc, 0);
     lay_vars(values, Area::Process, &mut laid, process.vars.as_slice())?;
     Ok(laid)
 }
@@ -51,10 +51,10 @@ pub fn laid_process<'a>(
 /// The variables of a monitor, whose words begin at this one.
 pub fn laid_monitor<'a>(
     alloc: Global,
-    values: &Values<'_>,
+    values: &ConstantValues<'_>,
     base: u64,
-    monitor: &'a Mon,
-) -> Result<Laying<'a>, AllocError>
+    monitor: &'a Monitor,
+) -> Result<VarLayout<'a>, AllocError>
     ensures places { IfOk result (λ laid. IsLaid in_area.Monitor
         (places_from (plain (placed values.now)) base
         (monitor_vars (plain_monitor (placed_monitor monitor.now)))) laid.names.items
@@ -63,7 +63,7 @@ pub fn laid_monitor<'a>(
         words_of (plain (placed values.now)) (monitor_vars
         (plain_monitor (placed_monitor monitor.now)))) }
 {
-    let mut laid = Laying::new(alloc, base);
+    let mut laid = VarLayout::new(alloc, base);
     lay_members(values, &mut laid, monitor.members.as_slice())?;
     Ok(laid)
 }

@@ -9,19 +9,19 @@
 mod callees;
 mod fitting;
 mod frames;
-mod laying;
 mod lookup;
-mod spots;
 mod tables;
 mod values;
+mod var_layout;
+mod var_locations;
 mod variables;
 
 pub use callees::callee;
 pub use fitting::{fit_value, fit_word};
 pub use frames::{laid_monitor, laid_process, laid_routine};
-pub use laying::{Laying, lay_members, lay_params, lay_vars, range_of};
 pub use lookup::{tables_tell, variables_are_told};
-pub use spots::Spots;
 pub use tables::{Tables, number};
-pub use values::Values;
+pub use values::ConstantValues;
+pub use var_layout::{VarLayout, lay_members, lay_params, lay_vars, range_of};
+pub use var_locations::VarLocations;
 pub use variables::variable;

@@ -1,31 +1,31 @@
 //! What is the same in all texts of a program.
 
 ghost use Rattle.std.specs.Prelude.{◌≡◌, IfOk, OnOk, List, ◌∷◌, ◌++◌, filter_map, map, pos};
-ghost use Rattle.syntax_tree.specs.Plain.{Decl as SpecDecl};
+ghost use Rattle.syntax_tree.specs.Plain.{Declaration as SpecDecl};
 ghost use Rattle.syntax_tree.specs.Placed.{placed, placed_constant, placed_decl, plain, plain_constant, plain_decl};
 ghost use Rattle.source_semantics.specs.Names.{constant_value, device_in, device_number, place_of};
 ghost use Rattle.code_spec.specs.Code.{constant_named};
 ghost use Rattle.code_names.specs.First.{names_of};
 ghost use Rattle.codegen_spec.specs.Told.{fit, value_told};
 
-use crate::{Values, fit_value, fit_word};
+use crate::{ConstantValues, fit_value, fit_word};
 use code_names::{NameList, Numbering};
 use std::alloc::{AllocError, Global};
 use std::marker::Model;
-use syntax_tree::{Constant, Decl, Name, Prog};
+use syntax_tree::{Constant, Declaration, Name, Program};
 
 /// The constants, devices, routines, monitors and processes of a program.
 #[derive(Drop)]
 pub struct Tables<'a> {
     numbering: Numbering<'a>,
-    values: Values<'a>,
+    values: ConstantValues<'a>,
     devices: NameList<'a>,
 }
 
 impl<'a> Model for Tables<'a> {
     ghost use Rattle.std.specs.Coded.{codes};
-    ghost use Rattle.syntax_tree.specs.declared.decl.Prog.{Prog as Tree};
-    ghost use Rattle.syntax_tree.specs.contracts.decl.Prog as tree;
+    ghost use Rattle.syntax_tree.specs.declared.decl.Program.{Program as Tree};
+    ghost use Rattle.syntax_tree.specs.contracts.decl.Program as tree;
     ghost use Rattle.code_layout.specs.LookupTables.{AreTables};
 
     ghost Value = { Tree };
@@ -38,19 +38,19 @@ impl<'a> Model for Tables<'a> {
 }
 
 /// Lists the device that a declaration declares, if it does.
-fn list_device<'a>(names: &mut Vec<&'a [u8]>, decl: &'a Decl) -> Result<(), AllocError>
+fn list_device<'a>(names: &mut Vec<&'a [u8]>, decl: &'a Declaration) -> Result<(), AllocError>
     ensures { OnOk result ((rest : List SpecDecl) → names_of names.new.items ++
         filter_map device_in rest ≡ names_of names.old.items ++
         filter_map device_in (plain_decl (placed_decl decl.now) ∷ rest)) }
 {
-    if let Decl::Device { name, .. } = decl {
+    if let Declaration::Device { name, .. } = decl {
         names.push(name.as_bytes())?;
     }
     Ok(())
 }
 
 /// The names of the devices.
-fn device_names<'a>(alloc: Global, decls: &'a [Decl]) -> Result<NameList<'a>, AllocError>
+fn device_names<'a>(alloc: Global, decls: &'a [Declaration]) -> Result<NameList<'a>, AllocError>
     ensures { IfOk result (λ names. names ≡ filter_map device_in
         (map plain_decl (map placed_decl decls.now))) }
 {
@@ -74,11 +74,11 @@ pub fn number(list: &NameList<'_>, name: &Name) -> usize
 
 impl<'a> Tables<'a> {
     /// Goes once through the text of the program.
-    pub fn new(alloc: Global, program: &'a Prog) -> Result<Tables<'a>, AllocError>
+    pub fn new(alloc: Global, program: &'a Program) -> Result<Tables<'a>, AllocError>
         ensures { IfOk result (λ t. t ≡ program.now) }
     {
         let numbering = Numbering::new(alloc, program)?;
-        let values = Values::new(alloc, program)?;
+        let values = ConstantValues::new(alloc, program)?;
         let devices = device_names(alloc, program.decls.as_slice())?;
         Ok(Tables {
             numbering,
@@ -95,7 +95,7 @@ impl<'a> Tables<'a> {
     }
 
     /// The values of the constants.
-    pub fn values(&self) -> &Values<'a>
+    pub fn values(&self) -> &ConstantValues<'a>
         ensures { result.now ≡ self.now }
     {
         &self.values

@@ -7,19 +7,19 @@ ghost use Rattle.source_semantics.specs.Names.{constants, constant_value, value_
 use static_declarations::values;
 use std::alloc::{AllocError, Global};
 use std::marker::Model;
-use syntax_tree::{Constant, Name, Prog};
+use syntax_tree::{Constant, Name, Program};
 
 /// The constants of a program with their values.
 #[derive(Drop)]
-pub struct Values<'a> {
-    program: &'a Prog,
+pub struct ConstantValues<'a> {
+    program: &'a Program,
     kept: values::Values<'a>,
 }
 
-impl<'a> Model for Values<'a> {
+impl<'a> Model for ConstantValues<'a> {
     ghost use Rattle.std.specs.Coded.{codes};
-    ghost use Rattle.syntax_tree.specs.declared.decl.Prog.{Prog as Tree};
-    ghost use Rattle.syntax_tree.specs.contracts.decl.Prog as tree;
+    ghost use Rattle.syntax_tree.specs.declared.decl.Program.{Program as Tree};
+    ghost use Rattle.syntax_tree.specs.contracts.decl.Program as tree;
     ghost use Rattle.code_layout.specs.Values.{IsKept};
 
     ghost Value = { Tree };
@@ -31,13 +31,13 @@ impl<'a> Model for Values<'a> {
     ghost invariant = { λ v. IsKept v.program.now v.kept.entries };
 }
 
-impl<'a> Values<'a> {
+impl<'a> ConstantValues<'a> {
     /// Goes once through the declarations of the program.
-    pub fn new(alloc: Global, program: &'a Prog) -> Result<Values<'a>, AllocError>
+    pub fn new(alloc: Global, program: &'a Program) -> Result<ConstantValues<'a>, AllocError>
         ensures { IfOk result (λ v. v ≡ program.now) }
     {
         let kept = values::values(alloc, program.decls.as_slice())?;
-        Ok(Values { program, kept })
+        Ok(ConstantValues { program, kept })
     }
 
     /// The value of a constant, from -4,294,967,295 to 4,294,967,295.

@@ -10,7 +10,7 @@ use Rattle.base.specs.declared.event.Act.{Act}
 use Rattle.base.specs.declared.event.Act.TheVariants as act
 use Rattle.base.specs.Words.{of_bool}
 use Rattle.syntax_tree.specs.Plain as tree
-use Rattle.syntax_tree.specs.Plain.{Prog, Handler}
+use Rattle.syntax_tree.specs.Plain.{Program, Handler}
 use Rattle.source_semantics.specs.Names.{processes}
 use Rattle.source_semantics.specs.Store.{Vars}
 use Rattle.source_semantics.specs.Run.{Call, Action, gets, puts, enters, leaves, waits, signals, broadcasts, asks_empty, raises, ends}
@@ -35,13 +35,13 @@ use Rattle.code_lifting.proofs.Moves.{saving, saved_holds, Saved, inside_saved, 
 
 -- ---- the job after a raise
 
-pub record AfterRaise (g : Prog) (number : ℕ) (h : Option Handler) (j : Job) : Type 0 where
+pub record AfterRaise (g : Program) (number : ℕ) (h : Option Handler) (j : Job) : Type 0 where
   pub doing : (job_after_raise g number h j).doing ≡ active (released_of j.doing)
   pub vars : (job_after_raise g number h j).vars ≡ j.vars
   pub calls : (job_after_raise g number h j).calls ≡ (job_after_raise g number h (record { vars = j.vars; doing = idle; calls = []; handling = j.handling })).calls
   pub handling : (job_after_raise g number h j).handling ≡ (job_after_raise g number h (record { vars = j.vars; doing = idle; calls = []; handling = j.handling })).handling
 
-pub after_raise_is : (g : Prog) (number : ℕ) (h : Option Handler) (j : Job) → AfterRaise g number h j
+pub after_raise_is : (g : Program) (number : ℕ) (h : Option Handler) (j : Job) → AfterRaise g number h j
 after_raise_is g number None j = record { doing = refl; vars = refl; calls = refl; handling = refl }
 after_raise_is g number (Some h) j = record {
   doing = doing (lists g number h.numbers && not j.handling);

@@ -3,7 +3,7 @@ use Rattle.std.proofs.Common.{◌≡◌, ◌≤◌, ◌+◌, ℕ, zero, suc, Lis
 use Rattle.std.specs.Prelude.{slice_get}
 use Rattle.std.proofs.lemmas.Option.{slice_get_within}
 use Rattle.base.proofs.Lists.{some_at}
-use Rattle.syntax_tree.specs.Plain.{Prog, Activation, periodic, at_event}
+use Rattle.syntax_tree.specs.Plain.{Program, Trigger, periodic, at_event}
 use Rattle.syntax_tree.specs.Plain as tree
 use Rattle.source_semantics.specs.Names.{processes, monitors, frame_of}
 use Rattle.source_semantics.specs.Config.{free_hold}
@@ -25,13 +25,13 @@ use Rattle.code_lifting.proofs.Words.{IsMonitor, monitor_at, same_length, from_b
 -- ---- processes
 
 -- both are there, with the code of the process between two addresses, or none is
-abbrev Pair : Prog → List Instr → ℕ → Option Process → Option tree.Process → Type 0
+abbrev Pair : Program → List Instr → ℕ → Option Process → Option tree.Process → Type 0
 Pair g code k None None = Unit {0}
 Pair g code k (Some p) (Some text) = (a : ℕ) × (b : ℕ) × EmitsProcess g code k text a b p
 Pair g code k None (Some text) = ⊥
 Pair g code k (Some p) None = ⊥
 
-pairs : (g : Prog) (code : List Instr) (k a b : ℕ) (xs : List tree.Process) (ps : List Process) → EmitsProcesses g code k a b xs ps → (i : ℕ) → Pair g code (k + i) (slice_get ps i) (slice_get xs i)
+pairs : (g : Program) (code : List Instr) (k a b : ℕ) (xs : List tree.Process) (ps : List Process) → EmitsProcesses g code k a b xs ps → (i : ℕ) → Pair g code (k + i) (slice_get ps i) (slice_get xs i)
 pairs g code k a b [] [] emits i = tt
 pairs g code k a b [] (p ∷ ps) emits i = absurd emits
 pairs g code k a b (x ∷ xs) [] emits i = absurd emits
@@ -40,7 +40,7 @@ pairs g code k a b (x ∷ xs) (p ∷ ps) emits (suc i) =
     let z : suc k + i ≡ k + suc i = omega arith in
     subst (λ (n : ℕ). Pair g code n (slice_get ps i) (slice_get xs i)) z (pairs g code (suc k) emits.0 b xs ps emits.2 i)
 
-timed_by : (g : Prog) (p : Process) (a : Activation) → IsReleased g a p → p.frame ≡ frame_of g a → IsTimed g p a
+timed_by : (g : Program) (p : Process) (a : Trigger) → IsReleased g a p → p.frame ≡ frame_of g a → IsTimed g p a
 timed_by g p (periodic frame deadline first) released frame_is = (released.0, frame_is, released.1)
 timed_by g p (at_event e frame deadline) released frame_is = (released.0, released.2)
 

@@ -105,7 +105,7 @@ module _ (image : Image) (t : ℕ) where
   time_out_devices k p s (Some Idle) = refl
   time_out_devices k p s (Some (Ready job)) = refl
   time_out_devices k p s (Some (Waiting c due number job)) = by (nat_eq due t) where
-    by : (b : Bool) → (cond b (start.told t k (act.TimeOut c number) (record s { queues = slice_set s.queues c (start.without k (start.queue_of s.queues c)) }) (Ready (record (start.raised p number job) { burn = 2 * image.over }))) (start.unchanged s)).state.devices ≡ s.devices
+    by : (b : Bool) → (cond b (start.told t k (act.TimeOut c number) (record s { queues = slice_set s.queues c (start.without k (start.queue_of s.queues c)) }) (Ready (record (start.raised p number job) { dispatch_ticks = 2 * image.over }))) (start.unchanged s)).state.devices ≡ s.devices
     by true = refl
     by false = refl
 
@@ -206,7 +206,7 @@ thread_devices image t k s None (Some th) = refl
 thread_devices image t k s (Some p) None = refl
 thread_devices image t k s (Some p) (Some Idle) = refl
 thread_devices image t k s (Some p) (Some (Waiting c due number job)) = refl
-thread_devices image t k s (Some p) (Some (Ready job)) = settle_devices image t k p job s (outcome image s job (owned_of (slice_get s.owned k)) job.burn)
+thread_devices image t k s (Some p) (Some (Ready job)) = settle_devices image t k p job s (outcome image s job (owned_of (slice_get s.owned k)) job.dispatch_ticks)
 
 pub picked_devices : (image : Image) (t : ℕ) (s : State) (o : Option Candidate) → (run_picked image t s o).state.devices ≡ s.devices
 picked_devices image t s None = refl

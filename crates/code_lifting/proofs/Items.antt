@@ -4,7 +4,7 @@ use Rattle.std.specs.Prelude.{slice_get, cond, nat_eq, ◌&&◌, flat_map}
 use Rattle.std.proofs.lemmas.Bool.{cases_eq}
 use Rattle.base.specs.declared.event.Event.{Event}
 use Rattle.syntax_tree.specs.Plain as tree
-use Rattle.syntax_tree.specs.Plain.{Prog}
+use Rattle.syntax_tree.specs.Plain.{Program}
 use Rattle.source_semantics.specs.Names.{processes}
 use Rattle.source_semantics.specs.Config.{Job, Config}
 use Rattle.source_semantics.specs.Ranks.{by_rank}
@@ -66,16 +66,16 @@ quiet_changed t jobs jobs' k j (out i ∷ xs) js released timed q = (
 
 -- ---- the items of a tick
 
-abbrev pub event_items_by : Prog → ℕ → ℕ → List tree.Process → List Item
+abbrev pub event_items_by : Program → ℕ → ℕ → List tree.Process → List Item
 event_items_by g e k [] = []
 event_items_by g e k (p ∷ ps) = cond (waits_for_event g e p.activation) (rel k ∷ []) [] ++ event_items_by g e (suc k) ps
 
-abbrev pub event_items : Prog → ℕ → List Line → List Item
+abbrev pub event_items : Program → ℕ → List Line → List Item
 event_items g t [] = []
 event_items g t (sets u d v ∷ ls) = event_items g t ls
 event_items g t (occurs u e ∷ ls) = cond (nat_eq u t) (event_items_by g e 0 (processes g)) [] ++ event_items g t ls
 
-abbrev pub periodic_items : Prog → ℕ → ℕ → List tree.Process → List Item
+abbrev pub periodic_items : Program → ℕ → ℕ → List tree.Process → List Item
 periodic_items g t k [] = []
 periodic_items g t k (p ∷ ps) = cond (is_due g t p.activation) (rel k ∷ []) [] ++ periodic_items g t (suc k) ps
 
@@ -83,7 +83,7 @@ abbrev pub out_items : List ℕ → List Item
 out_items [] = []
 out_items (k ∷ ks) = out k ∷ out_items ks
 
-abbrev pub all_items : Prog → Script → ℕ → List Item
+abbrev pub all_items : Program → Script → ℕ → List Item
 all_items g s t = event_items g t s.lines ++ (periodic_items g t 0 (processes g) ++ out_items (by_rank g))
 
 owed_if : (t : ℕ) (jobs : List Job) (b : Bool) (i : Item) → owed t jobs (cond b (i ∷ []) []) ≡ cond b (told t jobs i) []
@@ -93,14 +93,14 @@ owed_if t jobs true i = append_nil (told t jobs i) where
   append_nil (e ∷ es) = ap (λ (xs : List Event). e ∷ xs) (append_nil es)
 owed_if t jobs false i = refl
 
-releases_are : (g : Prog) (c : Config) (t e k : ℕ) (ps : List tree.Process) → releases_by g c t e k ps ≡ owed t c.jobs (event_items_by g e k ps)
+releases_are : (g : Program) (c : Config) (t e k : ℕ) (ps : List tree.Process) → releases_by g c t e k ps ≡ owed t c.jobs (event_items_by g e k ps)
 releases_are g c t e k [] = refl
 releases_are g c t e k (p ∷ ps) =
     ap (λ (es : List Event). cond (waits_for_event g e p.activation) (release_missing t k (slice_get c.jobs k)) [] ++ es) (releases_are g c t e (suc k) ps)
     ∙ ap (λ (es : List Event). es ++ owed t c.jobs (event_items_by g e (suc k) ps)) (sym (owed_if t c.jobs (waits_for_event g e p.activation) (rel k)))
     ∙ sym (owed_both t c.jobs (cond (waits_for_event g e p.activation) (rel k ∷ []) []) (event_items_by g e (suc k) ps))
 
-events_are : (g : Prog) (c : Config) (t : ℕ) (ls : List Line) → event_releases g c t ls ≡ owed t c.jobs (event_items g t ls)
+events_are : (g : Program) (c : Config) (t : ℕ) (ls : List Line) → event_releases g c t ls ≡ owed t c.jobs (event_items g t ls)
 events_are g c t [] = refl
 events_are g c t (sets u d v ∷ ls) = events_are g c t ls
 events_are g c t (occurs u e ∷ ls) =
@@ -111,7 +111,7 @@ events_are g c t (occurs u e ∷ ls) =
       by true = releases_are g c t e 0 (processes g)
       by false = refl
 
-periodic_are : (g : Prog) (c : Config) (t k : ℕ) (ps : List tree.Process) → periodic_releases g c t k ps ≡ owed t c.jobs (periodic_items g t k ps)
+periodic_are : (g : Program) (c : Config) (t k : ℕ) (ps : List tree.Process) → periodic_releases g c t k ps ≡ owed t c.jobs (periodic_items g t k ps)
 periodic_are g c t k [] = refl
 periodic_are g c t k (p ∷ ps) =
     ap (λ (es : List Event). cond (is_due g t p.activation) (release_missing t k (slice_get c.jobs k)) [] ++ es) (periodic_are g c t (suc k) ps)
@@ -123,7 +123,7 @@ outs_are c t [] = refl
 outs_are c t (k ∷ ks) = ap (λ (es : List Event). time_out t k (slice_get c.jobs k) ++ es) (outs_are c t ks)
 
 -- what is due at a tick in which nobody has acted
-pub due_is : (g : Prog) (s : Script) (c : Config) (t : ℕ) → c.acted && nat_eq c.tick t ≡ false → due g s c t ≡ owed t c.jobs (all_items g s t)
+pub due_is : (g : Program) (s : Script) (c : Config) (t : ℕ) → c.acted && nat_eq c.tick t ≡ false → due g s c t ≡ owed t c.jobs (all_items g s t)
 unfolding due
 due_is g s c t fresh =
     ap (λ (b : Bool). cond b [] (event_releases g c t s.lines ++ (periodic_releases g c t 0 (processes g) ++ time_outs g c t))) fresh

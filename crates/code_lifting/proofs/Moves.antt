@@ -222,7 +222,7 @@ module _ (w : Whole) (r : Relations) (compiled : IsCompiled w r) (owned : List (
               (set_changes threads k (Ready job) (Ready job) at) (words_there (Ready job) at) (changed_changes woken jobs k j at_j) (not_changed holds m hold.0 hold.1) (inl in_m) (inl (inside, hold.2)) (λ v same. refl)
               (λ text at_text. related.reaches k m text in_m at_text) (subst (λ (x : Job). Same w r k holds words shared (Some (Ready job)) (Some x)) (sym doing_same) s)
     by (Some (Waiting c due number job)) (Some j) at at_j is s =
-        let new : target.Job = record job { burn = 2 * w.image.over } in
+        let new : target.Job = record job { dispatch_ticks = 2 * w.image.over } in
         let p : (p : Process) × (slice_get w.image.processes k ≡ Some p) = some_at w.image.processes k (omega (arith, slice_get_within threads k (Waiting c due number job) at, related.many_threads)) in
         let text : Text w r k p.0 = text_of w r compiled k p.0 p.1 in
         subst (λ (t : Option Thread). Related w r (slice_set threads k (tick.woken w.image t)) owned shared (changed woken k jobs) holds) (sym at)

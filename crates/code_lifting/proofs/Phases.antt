@@ -9,7 +9,7 @@ use Rattle.base.specs.declared.event.Event.{Event}
 use Rattle.base.specs.declared.event.Act.{Act}
 use Rattle.base.specs.declared.event.Act.TheVariants as act
 use Rattle.syntax_tree.specs.Plain as tree
-use Rattle.syntax_tree.specs.Plain.{Prog}
+use Rattle.syntax_tree.specs.Plain.{Program}
 use Rattle.source_semantics.specs.Names.{processes}
 use Rattle.source_semantics.specs.Store.{Vars}
 use Rattle.source_semantics.specs.Run.{Call}
@@ -208,9 +208,9 @@ module _ (w : Whole) (r : Relations) (compiled : IsCompiled w r) (script : Scrip
 
   time_out_same : (k : ℕ) (p : Process) (text : tree.Process) (holds : List Hold) (words shared : List ℤ) (condition due e : ℕ) (job : target.Job) (j : Job) → slice_get w.image.processes k ≡ Some p → slice_get (processes w.program) k ≡ Some text
       → IsProcess w r k p text → Waits w r k words shared condition due e job j
-      → Same w r k holds words shared (Some (Ready (record (raised p e job) { burn = 2 * w.image.over }))) (Some (job_after_raise w.program e text.handler j))
+      → Same w r k holds words shared (Some (Ready (record (raised p e job) { dispatch_ticks = 2 * w.image.over }))) (Some (job_after_raise w.program e text.handler j))
   time_out_same k p text holds words shared condition due e job j at at_text is_process waits =
-      let new : target.Job = record (raised p e job) { burn = 2 * w.image.over } in
+      let new : target.Job = record (raised p e job) { dispatch_ticks = 2 * w.image.over } in
       let is : AfterRaise w.program e text.handler j = after_raise_is w.program e text.handler j in
       let stands : r.stands k (own new words shared) (view_raised w.program text e j.vars j.handling) =
       is_process.faithful.stable (own (raised p e job) words shared) (view_raised w.program text e j.vars j.handling) (raised p e job).done (2 * w.image.over) shared (waits.late p text at at_text) (λ v same. refl) in (
@@ -248,7 +248,7 @@ module _ (w : Whole) (r : Relations) (compiled : IsCompiled w r) (script : Scrip
       tells_if b is_due = ap (λ (x : Option Job). source.time_out t k x) at_j ∙ ap (λ (d : Doing). source.doing_time_out t k d) same.doing ∙ ap (λ (x : Bool). cond x (event ∷ []) []) is_due
 
       new_thread : Thread
-      new_thread = Ready (record (raised p e job) { burn = 2 * w.image.over })
+      new_thread = Ready (record (raised p e job) { dispatch_ticks = 2 * w.image.over })
 
       after : State
       after = record { threads = slice_set s.threads k new_thread; owned = s.owned; shared = s.shared; queues = slice_set s.queues condition (without k (queue_of s.queues condition)); devices = s.devices }

@@ -6,7 +6,7 @@ use Rattle.std.proofs.lemmas.Bool.Decides.{nat_tests}
 use Rattle.std.proofs.lemmas.Option.{slice_get_within}
 use Rattle.base.proofs.Lists.{one_some, some_at}
 use Rattle.syntax_tree.specs.Plain as tree
-use Rattle.syntax_tree.specs.Plain.{Prog}
+use Rattle.syntax_tree.specs.Plain.{Program}
 use Rattle.source_semantics.specs.Names.{processes}
 use Rattle.source_semantics.specs.Config.{Doing, is_ready, Job, Hold, Config, inside}
 use Rattle.source_semantics.specs.Ranks.{rank, ceiling, monitors_of, includes, least_rank, min_with, rank_inside, comes_before}
@@ -137,7 +137,7 @@ least_is image from (p ∷ ps) (Ready job ∷ ts) = best (least image (from + 1)
 
 -- ---- ranks and ceilings agree
 
-is_reached_by_one : (g : Prog) (m k i : ℕ) (ps : List tree.Process) (text : tree.Process) → slice_get ps i ≡ Some text → includes m (monitors_of g text) ≡ true → (n : ℕ) × (least_rank g m k ps ≡ Some n)
+is_reached_by_one : (g : Program) (m k i : ℕ) (ps : List tree.Process) (text : tree.Process) → slice_get ps i ≡ Some text → includes m (monitors_of g text) ≡ true → (n : ℕ) × (least_rank g m k ps ≡ Some n)
 is_reached_by_one g m k i [] text at reached = absurd cc
 is_reached_by_one g m k zero (p ∷ ps) text at reached =
     let same : p ≡ text = one_some refl at in (
@@ -174,7 +174,7 @@ module _ (w : Whole) (r : Relations) (compiled : IsCompiled w r) where
   ready_job k holds words shared (Some (Ready job)) j s ready = (job, refl)
   ready_job k holds words shared (Some (Waiting c due number job)) j s ready = absurd (let no_one : is_ready j.doing ≡ false = ap (λ (d : Doing). is_ready d) s.doing in cc)
 
-  none_before : (g : Prog) (c : Config) (k n : ℕ) (jobs : List Job) → ((i : ℕ) (j : Job) → slice_get jobs i ≡ Some j → is_ready j.doing ≡ true → comes_before g c (n + i) k ≡ false) → before g c k (ready_from n jobs) ≡ []
+  none_before : (g : Program) (c : Config) (k n : ℕ) (jobs : List Job) → ((i : ℕ) (j : Job) → slice_get jobs i ≡ Some j → is_ready j.doing ≡ true → comes_before g c (n + i) k ≡ false) → before g c k (ready_from n jobs) ≡ []
   none_before g c k n [] least = refl
   none_before g c k n (j ∷ js) least =
       by (is_ready j.doing) refl (none_before g c k (suc n) js (λ i other at ready. let z : n + suc i ≡ suc n + i = omega arith in subst (λ (x : ℕ). comes_before g c x k ≡ false) z (least (suc i) other at ready))) where

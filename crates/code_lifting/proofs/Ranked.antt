@@ -5,7 +5,7 @@ use Rattle.std.proofs.lemmas.Bool.{cases_Bool, cases_eq}
 use Rattle.std.proofs.lemmas.Bool.Decides.{nat_tests}
 use Rattle.std.proofs.lemmas.List.{length-map}
 use Rattle.base.proofs.Lists.{some_at}
-use Rattle.syntax_tree.specs.Plain.{Prog}
+use Rattle.syntax_tree.specs.Plain.{Program}
 use Rattle.source_semantics.specs.Names.{processes, deadline_of}
 use Rattle.source_semantics.specs.Ranks.{rank, higher, deadlines, numbers_from, by_rank}
 use Rattle.code_lifting.proofs.Items.{Item, out, out_items}
@@ -59,7 +59,7 @@ higher_less fi i fj j b (suc m) (f ∷ fs) is at there =
     let head : count (above f b fi i) + 0 ≤ count (above f b fj j) + 0 = at_most (above f b fi i) (above f b fj j) 0 0 (λ h. above_all f b fi i fj j is h) (omega arith) in
     omega (arith, rest, head)
 
-pub ranks_differ : (g : Prog) (i j : ℕ) → i < length (processes g) → j < length (processes g) → rank g i ≡ rank g j → i ≡ j
+pub ranks_differ : (g : Program) (i j : ℕ) → i < length (processes g) → j < length (processes g) → rank g i ≡ rank g j → i ≡ j
 ranks_differ g i j below_i below_j same = elim (cases_eq i j) [
   | inl is ↦ is
   | inr differ ↦
@@ -76,12 +76,12 @@ ranks_differ g i j below_i below_j same = elim (cases_eq i j) [
 
 -- ---- the processes of a rank, of n from k on
 
-abbrev pub of_rank : Prog → (r k n : ℕ) → List Item
+abbrev pub of_rank : Program → (r k n : ℕ) → List Item
 of_rank g r k zero = []
 of_rank g r k (suc n) = cond (nat_eq (rank g k) r) (out k ∷ []) [] ++ of_rank g r (suc k) n
 
 -- those of n ranks from r on
-abbrev pub of_ranks : Prog → (r n : ℕ) → List Item
+abbrev pub of_ranks : Program → (r n : ℕ) → List Item
 of_ranks g r zero = []
 of_ranks g r (suc n) = of_rank g r 0 (length (processes g)) ++ of_ranks g (suc r) n
 
@@ -89,7 +89,7 @@ abbrev one_item : ℕ → Option ℕ → List Item
 one_item k None = []
 one_item k (Some i) = out (k + i) ∷ []
 
-none_of_rank : (g : Prog) (r k n : ℕ) → ((i : ℕ) → k ≤ i → i < k + n → nat_eq (rank g i) r ≡ false) → of_rank g r k n ≡ []
+none_of_rank : (g : Program) (r k n : ℕ) → ((i : ℕ) → k ≤ i → i < k + n → nat_eq (rank g i) r ≡ false) → of_rank g r k n ≡ []
 none_of_rank g r k zero none = refl
 none_of_rank g r k (suc n) none =
     ap (λ (b : Bool). cond b (out k ∷ []) [] ++ of_rank g r (suc k) n) (none k (omega arith) (omega arith)) ∙ none_of_rank g r (suc k) n (λ i low lt. none i (omega (arith, low)) (omega (arith, lt)))
@@ -100,7 +100,7 @@ position_first f x xs is = grind (arith, nat_tests, is)
 position_later : {A : Type 0} (f : A → Bool) (x : A) (xs : List A) → f x ≡ false → position f (x ∷ xs) ≡ option_map suc (position f xs)
 position_later f x xs is = grind (arith, nat_tests, is)
 
-first_of_rank : (g : Prog) (r k n : ℕ) → k + n ≤ length (processes g) → of_rank g r k n ≡ one_item k (position (λ i. nat_eq (rank g i) r) (numbers_from n k))
+first_of_rank : (g : Program) (r k n : ℕ) → k + n ≤ length (processes g) → of_rank g r k n ≡ one_item k (position (λ i. nat_eq (rank g i) r) (numbers_from n k))
 first_of_rank g r k zero all = refl
 first_of_rank g r k (suc n) all = elim (cases_Bool (nat_eq (rank g k) r)) [
   | inl is ↦
@@ -134,12 +134,12 @@ outs_of f r rs = by (f r) refl where
   by None is = rw is refl
   by (Some i) is = let z : i ≡ 0 + i = omega arith in rw is (ap (λ (x : ℕ). out x ∷ out_items (filter_map f rs)) z)
 
-ranks_from : (g : Prog) (r n : ℕ) → of_ranks g r n ≡ out_items (filter_map (λ x. position (λ k. nat_eq (rank g k) x) (numbers_from (length (processes g)) 0)) (numbers_from n r))
+ranks_from : (g : Program) (r n : ℕ) → of_ranks g r n ≡ out_items (filter_map (λ x. position (λ k. nat_eq (rank g k) x) (numbers_from (length (processes g)) 0)) (numbers_from n r))
 ranks_from g r zero = refl
 ranks_from g r (suc n) =
     ap (λ (xs : List Item). xs ++ of_ranks g (suc r) n) (first_of_rank g r 0 (length (processes g)) (omega arith))
     ∙ ap (λ (xs : List Item). one_item 0 (position (λ k. nat_eq (rank g k) r) (numbers_from (length (processes g)) 0)) ++ xs) (ranks_from g (suc r) n)
     ∙ sym (outs_of (λ x. position (λ k. nat_eq (rank g k) x) (numbers_from (length (processes g)) 0)) r (numbers_from n (suc r)))
 
-pub all_ranks : (g : Prog) → of_ranks g 1 (length (processes g)) ≡ out_items (by_rank g)
+pub all_ranks : (g : Program) → of_ranks g 1 (length (processes g)) ≡ out_items (by_rank g)
 all_ranks g = ranks_from g 1 (length (processes g))

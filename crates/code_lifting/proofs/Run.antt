@@ -6,7 +6,7 @@ use Rattle.std.proofs.lemmas.List.{length-map}
 use Rattle.base.proofs.Lists.{one_some}
 use Rattle.base.specs.declared.event.Event.{Event}
 use Rattle.syntax_tree.specs.Plain as tree
-use Rattle.syntax_tree.specs.Plain.{Prog}
+use Rattle.syntax_tree.specs.Plain.{Program}
 use Rattle.source_semantics.specs.Names.{processes, monitors}
 use Rattle.source_semantics.specs.Config.{Job, Hold, Config, idle_job, free_hold}
 use Rattle.source_semantics.specs.Config as config
@@ -47,7 +47,7 @@ no_queues [] = refl
 no_queues (c ∷ cs) = ap (λ (qs : List (List ℕ)). [] ∷ qs) (no_queues cs)
 
 module _ (w : Whole) (r : Relations) (compiled : IsCompiled w r) where
-  abbrev g : Prog
+  abbrev g : Program
   g = w.program
 
   abbrev holds : List Hold

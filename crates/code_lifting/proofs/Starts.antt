@@ -4,7 +4,7 @@ use Rattle.std.specs.Prelude.{ℤ, slice_get, slice_set, cond, nat_eq, nat_le, �
 use Rattle.std.proofs.lemmas.Bool.{cases_lt}
 use Rattle.base.specs.declared.event.Event.{Event}
 use Rattle.syntax_tree.specs.Plain as tree
-use Rattle.syntax_tree.specs.Plain.{Prog, Activation, periodic, at_event}
+use Rattle.syntax_tree.specs.Plain.{Program, Trigger, periodic, at_event}
 use Rattle.source_semantics.specs.Names.{processes, count_value}
 use Rattle.source_semantics.specs.Config.{Config}
 use Rattle.source_semantics.specs.Ranks.{rank, by_rank}
@@ -21,11 +21,11 @@ use Rattle.code_lifting.proofs.Items.{Item, rel, out, quiet_none, event_items_by
 use Rattle.code_lifting.proofs.Ranked.{of_rank, of_ranks, all_ranks}
 use Rattle.code_lifting.proofs.Phases.{Once, Phase, nothing, device, both, where_so, release_plays, time_out_plays}
 
-pub event_is_due : (g : Prog) (p : Process) (e : ℕ) (a : Activation) → IsTimed g p a → nat_eq p.kind 1 && nat_eq p.event e ≡ waits_for_event g e a
+pub event_is_due : (g : Program) (p : Process) (e : ℕ) (a : Trigger) → IsTimed g p a → nat_eq p.kind 1 && nat_eq p.event e ≡ waits_for_event g e a
 event_is_due g p e (periodic frame deadline first) timed = ap (λ (n : ℕ). nat_eq n 1 && nat_eq p.event e) timed.0
 event_is_due g p e (at_event name frame deadline) timed = ap (λ (n : ℕ). nat_eq n 1 && nat_eq p.event e) timed.0 ∙ ap (λ (n : ℕ). nat_eq n e) timed.1
 
-pub periodic_is_due : (g : Prog) (p : Process) (t : ℕ) (a : Activation) → IsTimed g p a → is_periodic_due t p ≡ is_due g t a
+pub periodic_is_due : (g : Program) (p : Process) (t : ℕ) (a : Trigger) → IsTimed g p a → is_periodic_due t p ≡ is_due g t a
 periodic_is_due g p t (periodic frame deadline first) timed =
     ap (λ (n : ℕ). nat_eq n 0 && nat_le p.first t && nat_eq ((t - p.first) % p.frame) 0) timed.0
     ∙ ap (λ (n : ℕ). nat_le p.first t && nat_eq ((t - p.first) % n) 0) timed.1
@@ -33,7 +33,7 @@ periodic_is_due g p t (periodic frame deadline first) timed =
 periodic_is_due g p t (at_event name frame deadline) timed = ap (λ (n : ℕ). nat_eq n 0 && nat_le p.first t && nat_eq ((t - p.first) % p.frame) 0) timed.0
 
 module _ (w : Whole) (r : Relations) (compiled : IsCompiled w r) (script : Script) (t : ℕ) (below : t < script.end_tick) where
-  abbrev g : Prog
+  abbrev g : Program
   g = w.program
 
   abbrev Plays : List Item → (State → Started) → Type 0

@@ -81,12 +81,12 @@ module _ (w : Whole) (r : Relations) (compiled : IsCompiled w r) (script : Scrip
 
   pub tick_passes : r.stands k (own job words s.shared) v → (b : ℕ) → (settle w.image t k p job s (outcome w.image s job words b)).stuck ≡ false → Passing (settle w.image t k p job s (outcome w.image s job words b))
   tick_passes stands (suc b) free =
-      silently (record job { burn = b }) refl (text.is.faithful.stable (own job words s.shared) v job.done b s.shared stands (λ i same. refl))
+      silently (record job { dispatch_ticks = b }) refl (text.is.faithful.stable (own job words s.shared) v job.done b s.shared stands (λ i same. refl))
   tick_passes stands zero free = by_instr (text.is.faithful.ticks s (own job words s.shared) v refl stands) where
     by_last : (instr : Instr) (b : Bool) → Agrees of_process (r.stands k) r.free (r.rests k) s (own job words s.shared) v n n.action (effects.effect w.image s instr (own (at_next job) words s.shared))
         → (settle w.image t k p job s (cond b (Goes (own (record job { done = job.done + 1 }) words s.shared)) (effects.effect w.image s instr (own (at_next job) words s.shared)))).stuck ≡ false
         → Passing (settle w.image t k p job s (cond b (Goes (own (record job { done = job.done + 1 }) words s.shared)) (effects.effect w.image s instr (own (at_next job) words s.shared))))
-    by_last instr true agrees free_now = silently (record job { done = job.done + 1 }) refl (text.is.faithful.stable (own job words s.shared) v (job.done + 1) job.burn s.shared stands (λ i same. refl))
+    by_last instr true agrees free_now = silently (record job { done = job.done + 1 }) refl (text.is.faithful.stable (own job words s.shared) v (job.done + 1) job.dispatch_ticks s.shared stands (λ i same. refl))
     by_last instr false agrees free_now =
         ran w r compiled script t k p text.text at_process text.there s c is_same queued devices job at_thread j at_job released doing n n.action
         (effects.effect w.image s instr (own (at_next job) words s.shared)) agrees free_now
@@ -177,7 +177,7 @@ picked_runs w r compiled script t s c queued devices below now free es then = by
     text = text_of w r compiled x.place l.p process
 
     runs_is : run_thread w.image t x.place s (slice_get w.image.processes x.place) (slice_get s.threads x.place)
-        ≡ settle w.image t x.place l.p l.job s (outcome w.image s l.job (owned_of (slice_get s.owned x.place)) l.job.burn)
+        ≡ settle w.image t x.place l.p l.job s (outcome w.image s l.job (owned_of (slice_get s.owned x.place)) l.job.dispatch_ticks)
     runs_is = ap (λ (o : Option Process). run_thread w.image t x.place s o (slice_get s.threads x.place)) process ∙ ap (λ (o : Option Thread). run_thread w.image t x.place s (Some l.p) o) ready
 
     by_job : (j : Option Job) → slice_get c.jobs x.place ≡ j → Same w r x.place c.holds (owned_of (slice_get s.owned x.place)) s.shared (Some (Ready l.job)) j
@@ -187,4 +187,4 @@ picked_runs w r compiled script t s c queued devices below now free es then = by
         thread_runs w r compiled script t x.place l.p text process s c now.same queued devices l.job ready j at_job same.0 same.1 x refl l below now
         (run_thread w.image t x.place s (slice_get w.image.processes x.place) (slice_get s.threads x.place))
         (subst (λ (y : Ticked). Passes w r compiled script t x.place l.p text.text process text.there s c now.same queued devices l.job ready j at_job same.0 same.1 (next_of w.program text.text (view_of c.holds j l.job.inside)) (next_of w.program text.text (view_of c.holds j l.job.inside)).action y) (sym runs_is)
-        (tick_passes w r compiled script t x.place l.p text process s c now.same queued devices l.job ready j at_job same.0 same.1 same.2 l.job.burn (subst (λ (y : Ticked). y.stuck ≡ false) runs_is free_now))) es go
+        (tick_passes w r compiled script t x.place l.p text process s c now.same queued devices l.job ready j at_job same.0 same.1 same.2 l.job.dispatch_ticks (subst (λ (y : Ticked). y.stuck ≡ false) runs_is free_now))) es go

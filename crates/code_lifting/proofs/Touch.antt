@@ -84,7 +84,7 @@ module _ (w : Whole) (r : Relations) (compiled : IsCompiled w r) where
         s.0,
         s.1,
         subst (λ (vars : Vars). r.stands k (own job words shared') (record { calls = j.calls; vars = j.vars; monitor = vars; handling = j.handling })) (sym vars_same)
-            (text.is.faithful.stable (own job words shared) (view_of holds j job.inside) job.done job.burn shared' s.2 words_same),
+            (text.is.faithful.stable (own job words shared) (view_of holds j job.inside) job.done job.dispatch_ticks shared' s.2 words_same),
       )
   same_elsewhere k holds holds' words shared shared' (Some (Waiting c due number job)) (Some j) is words_same vars_same s =
       let p : (p : Process) × (slice_get w.image.processes k ≡ Some p) = is (Waiting c due number job) refl in
@@ -96,7 +96,7 @@ module _ (w : Whole) (r : Relations) (compiled : IsCompiled w r) where
         doing = s.doing;
         due_at = s.due_at;
         outside = s.outside;
-        stands = text.is.faithful.stable (own job words shared) (record { calls = j.calls; vars = j.vars; monitor = []; handling = j.handling }) job.done job.burn shared' s.stands words_same;
+        stands = text.is.faithful.stable (own job words shared) (record { calls = j.calls; vars = j.vars; monitor = []; handling = j.handling }) job.done job.dispatch_ticks shared' s.stands words_same;
         late = λ q textq at_q at_text. text.is.faithful.stable _ _ _ _ shared' (s.late q textq at_q at_text) (same_nowhere w shared shared');
       }
 

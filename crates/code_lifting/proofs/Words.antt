@@ -7,7 +7,7 @@ use Rattle.std.proofs.lemmas.List.{length-replicate}
 use Rattle.std.proofs.lemmas.List.Sums.{sum_by-append}
 use Rattle.std.proofs.Math.Nat.{zero-add}
 use Rattle.base.proofs.Lists.{one_some}
-use Rattle.syntax_tree.specs.Plain.{Prog, Var, Kind, scalar, array as array_of}
+use Rattle.syntax_tree.specs.Plain.{Program, Var, Kind, scalar, array as array_of}
 use Rattle.syntax_tree.specs.Plain as tree
 use Rattle.source_semantics.specs.Names.{monitors, conditions_of, condition_count}
 use Rattle.source_semantics.specs.Store.{Held, one, many, Vars, fresh, fresh_held}
@@ -22,13 +22,13 @@ use Rattle.code_simulation_spec.specs.Memory.{IsAt, HoldsHeld, Holds}
 
 -- ---- the monitors of the image and those of the text
 
-pub record IsMonitor (g : Prog) (base : ℕ) (ms : List tree.Monitor) (i : ℕ) (k : Monitor) : Type 0 where
+pub record IsMonitor (g : Program) (base : ℕ) (ms : List tree.Monitor) (i : ℕ) (k : Monitor) : Type 0 where
   pub text : tree.Monitor
   pub there : slice_get ms i ≡ Some text
   pub base_is : k.base ≡ base_from g base i ms
   pub words_is : k.words ≡ words_of g (layout.monitor_vars text)
 
-pub monitor_at : (g : Prog) (base : ℕ) (ms : List tree.Monitor) (ks : List Monitor) → AreMonitors g base ms ks → (i : ℕ) (k : Monitor) → slice_get ks i ≡ Some k → IsMonitor g base ms i k
+pub monitor_at : (g : Program) (base : ℕ) (ms : List tree.Monitor) (ks : List Monitor) → AreMonitors g base ms ks → (i : ℕ) (k : Monitor) → slice_get ks i ≡ Some k → IsMonitor g base ms i k
 monitor_at g base [] [] are i k at = absurd cc
 monitor_at g base [] (x ∷ ks) are i k at = absurd are
 monitor_at g base (m ∷ ms) [] are i k at = absurd are
@@ -39,14 +39,14 @@ monitor_at g base (m ∷ ms) (x ∷ ks) are (suc i) k at =
     let later : IsMonitor g (base + words_of g (layout.monitor_vars m)) ms i k = monitor_at g (base + words_of g (layout.monitor_vars m)) ms ks are.2 i k at in
     record { text = later.text; there = later.there; base_is = later.base_is; words_is = later.words_is }
 
-pub same_length : (g : Prog) (base : ℕ) (ms : List tree.Monitor) (ks : List Monitor) → AreMonitors g base ms ks → length ks ≡ length ms
+pub same_length : (g : Program) (base : ℕ) (ms : List tree.Monitor) (ks : List Monitor) → AreMonitors g base ms ks → length ks ≡ length ms
 same_length g base [] [] are = refl
 same_length g base [] (x ∷ ks) are = absurd are
 same_length g base (m ∷ ms) [] are = absurd are
 same_length g base (m ∷ ms) (x ∷ ks) are = ap suc (same_length g (base + words_of g (layout.monitor_vars m)) ms ks are.2)
 
 -- each stands from the base on, and ends within all of them
-pub from_base : (g : Prog) (base : ℕ) (ms : List tree.Monitor) (ks : List Monitor) → AreMonitors g base ms ks → (i : ℕ) (k : Monitor) → slice_get ks i ≡ Some k → (base ≤ k.base) × (k.base + k.words ≤ base + target.words_of ks)
+pub from_base : (g : Program) (base : ℕ) (ms : List tree.Monitor) (ks : List Monitor) → AreMonitors g base ms ks → (i : ℕ) (k : Monitor) → slice_get ks i ≡ Some k → (base ≤ k.base) × (k.base + k.words ≤ base + target.words_of ks)
 from_base g base [] [] are i k at = absurd cc
 from_base g base [] (x ∷ ks) are i k at = absurd are
 from_base g base (m ∷ ms) [] are i k at = absurd are
@@ -58,7 +58,7 @@ from_base g base (m ∷ ms) (x ∷ ks) are (suc i) k at =
     let later : (base + words_of g (layout.monitor_vars m) ≤ k.base) × (k.base + k.words ≤ base + words_of g (layout.monitor_vars m) + target.words_of ks) = from_base g (base + words_of g (layout.monitor_vars m)) ms ks are.2 i k at in
     (omega (arith, later.0), omega (arith, later.1, are.1))
 
-in_turn : (g : Prog) (base : ℕ) (ms : List tree.Monitor) (ks : List Monitor) → AreMonitors g base ms ks → (i j : ℕ) (a b : Monitor) → i < j → slice_get ks i ≡ Some a → slice_get ks j ≡ Some b → a.base + a.words ≤ b.base
+in_turn : (g : Program) (base : ℕ) (ms : List tree.Monitor) (ks : List Monitor) → AreMonitors g base ms ks → (i j : ℕ) (a b : Monitor) → i < j → slice_get ks i ≡ Some a → slice_get ks j ≡ Some b → a.base + a.words ≤ b.base
 in_turn g base [] [] are i j a b lt at_i at_j = absurd cc
 in_turn g base [] (x ∷ ks) are i j a b lt at_i at_j = absurd are
 in_turn g base (m ∷ ms) [] are i j a b lt at_i at_j = absurd are
@@ -95,7 +95,7 @@ reaches image m v k at low below = ap (λ (o : Option Monitor). is_among_some o 
   both : (a b c : ℕ) → a ≤ b → b < c → nat_le a b && nat_lt b c ≡ true
   both a b c le lt = grind (arith, nat_tests, le, lt)
 
-pub words_apart : (g : Prog) (image : Image) → AreMonitors g 0 (monitors g) image.monitors → (m n v : ℕ) → is_reached image (Some m) (pos v) ≡ true → is_reached image (Some n) (pos v) ≡ true → m ≡ n
+pub words_apart : (g : Program) (image : Image) → AreMonitors g 0 (monitors g) image.monitors → (m n v : ℕ) → is_reached image (Some m) (pos v) ≡ true → is_reached image (Some n) (pos v) ≡ true → m ≡ n
 words_apart g image are m n v is_m is_n =
     let x : Reached image m v = reached_of image m v is_m in
     let y : Reached image n v = reached_of image n v is_n in
@@ -123,11 +123,11 @@ get_replicate (suc n) (suc k) v lt = get_replicate n k v (omega (arith, lt))
 abbrev Zeros : (ℕ → Type 0) → List ℤ → (w n : ℕ) → Type 0
 Zeros opens ws w n = (k : ℕ) → k < n → IsAt opens ws (w + k) (pos 0)
 
-kind_holds : (opens : ℕ → Type 0) (g : Prog) (ws : List ℤ) (w : ℕ) (k : Kind) → Zeros opens ws w (size_of (shape_of g k)) → HoldsHeld opens ws w (shape_of g k) (fresh_held g k)
+kind_holds : (opens : ℕ → Type 0) (g : Program) (ws : List ℤ) (w : ℕ) (k : Kind) → Zeros opens ws w (size_of (shape_of g k)) → HoldsHeld opens ws w (shape_of g k) (fresh_held g k)
 kind_holds opens g ws w (scalar s) z = let e : w + 0 ≡ w = omega arith in subst (λ (x : ℕ). IsAt opens ws x (pos 0)) e (z 0 (omega arith))
 kind_holds opens g ws w (array_of low high s) z = (refl, length-replicate _ _, λ k lt. (pos 0, get_replicate _ k (pos 0) lt, z k lt))
 
-pub vars_hold : (opens : ℕ → Type 0) (g : Prog) (ws : List ℤ) (w : ℕ) (vs : List Var) → Zeros opens ws w (words_of g vs) → Holds opens ws (places_from g w vs) (map (fresh g) vs)
+pub vars_hold : (opens : ℕ → Type 0) (g : Program) (ws : List ℤ) (w : ℕ) (vs : List Var) → Zeros opens ws w (words_of g vs) → Holds opens ws (places_from g w vs) (map (fresh g) vs)
 vars_hold opens g ws w [] z = tt
 vars_hold opens g ws w (v ∷ vs) z = (
   record { name = refl; range = refl; held = kind_holds opens g ws w v.kind (λ k lt. z k (omega (arith, lt))) },

@@ -1,6 +1,6 @@
 -- An image that is compiled from a program, a script for both, and the law of its runs.
 use Rattle.std.specs.Prelude.{◌≡◌, ◌≤◌, ◌<◌, ℕ, true, false, ℤ, pos, List, [], ◌∷◌, Option, Some, None, length, map, slice_get, unwrap_or}
-use Rattle.syntax_tree.specs.Plain.{Prog, Activation, periodic, at_event}
+use Rattle.syntax_tree.specs.Plain.{Program, Trigger, periodic, at_event}
 use Rattle.syntax_tree.specs.Plain as tree
 use Rattle.source_semantics.specs.Names.{processes, monitors, condition_count, count_value, event_number}
 use Rattle.source_semantics.specs.Store.{Vars}
@@ -23,7 +23,7 @@ use Rattle.code_spec.specs.Boundary.{SameInside, IsFaithful}
 use Rattle.code_lifting.specs.Related.{Whole, Relations}
 
 -- the process is released when its text says
-abbrev pub IsTimed : Prog → Process → Activation → Type 0
+abbrev pub IsTimed : Program → Process → Trigger → Type 0
 IsTimed g p (periodic frame deadline first) = (p.kind ≡ 0) × (p.frame ≡ count_value g frame) × (p.first ≡ first_of g first)
 IsTimed g p (at_event e frame deadline) = (p.kind ≡ 1) × (p.event ≡ event_number g e)
 

@@ -1,6 +1,6 @@
 -- The image of a program, and what its words hold.
 use Rattle.std.specs.Prelude.{◌≡◌, ℕ, ℤ, List, Some, None, slice_get, unwrap_or}
-use Rattle.syntax_tree.specs.Plain.{Prog}
+use Rattle.syntax_tree.specs.Plain.{Program}
 use Rattle.syntax_tree.specs.Plain as tree
 use Rattle.source_semantics.specs.Names.{processes}
 use Rattle.source_semantics.specs.Store.{Vars}
@@ -43,11 +43,11 @@ abbrev pub AreRight : Whole → Type 0
 AreRight w = (k : ℕ) (p : Process) (text : tree.Process) (a b : ℕ) → slice_get w.image.processes k ≡ Some p → slice_get (processes w.program) k ≡ Some text → EmitsProcess w.program w.image.code k text a b p
     → IsRight (compiled_of w k p text) (FreeHolds w) (RestHolds w k)
 
-abbrev pub whole : Image → Prog → Whole
+abbrev pub whole : Image → Program → Whole
 whole image g = record { image = image; program = g }
 
 -- The law: the events of each run of the image of a program, without overrun, are a source run of
 -- the program. The image is valid, and the code of each of its processes is right.
 abbrev pub RunsAreSourceRuns : Type 0
-RunsAreSourceRuns = (e : Where) (ps : ℕ → Parts) (g : Prog) (script : Script) → ImageFits e ps → IsImageOf (whole e.image g) → AreRight (whole e.image g)
+RunsAreSourceRuns = (e : Where) (ps : ℕ → Parts) (g : Program) (script : Script) → ImageFits e ps → IsImageOf (whole e.image g) → AreRight (whole e.image g)
     → IsFrom 0 script.lines → HasNoOverrun e.image (script_of script) → IsSourceRun g script (events e.image (script_of script))

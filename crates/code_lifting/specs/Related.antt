@@ -1,6 +1,6 @@
 -- The state of the machine and a configuration of the source meaning say the same.
 use Rattle.std.specs.Prelude.{◌≡◌, ◌+◌, ℕ, true, ℤ, List, [], Option, Some, None, length, slice_get}
-use Rattle.syntax_tree.specs.Plain.{Prog}
+use Rattle.syntax_tree.specs.Plain.{Program}
 use Rattle.syntax_tree.specs.Plain as tree
 use Rattle.source_semantics.specs.Names.{processes}
 use Rattle.source_semantics.specs.Store.{Vars}
@@ -17,7 +17,7 @@ use Rattle.code_spec.specs.Boundary.{View, view, view_raised}
 -- the image and the program
 pub record Whole : Type 0 where
   pub image : Image
-  pub program : Prog
+  pub program : Program
 
 -- the relations that the code of the processes is proved with: the process with this number stands
 -- for a view; the words of the monitor with this number hold its variables; the words of the

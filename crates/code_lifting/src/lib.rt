@@ -5,5 +5,5 @@
 //! run. `specs/Image.antt` has the premises on the image. Nothing here can run.
 #![tactic(auto)]
 
-pub mod compiled;
-pub mod lifted;
+pub mod runs_of_source;
+pub mod runs_refine;

@@ -4,7 +4,7 @@ use Rattle.std.proofs.Common.{refl, sym, ap, subst, ◌∙◌, arith}
 use Rattle.std.proofs.lemmas.Bool.Decides.{nat_tests}
 use Rattle.std.proofs.lemmas.Bool.{and_from, eq-eqb, le-leb}
 use Rattle.base.proofs.Numbers.{itself}
-use Rattle.syntax_tree.specs.Plain.{Ref, whole, part, Prog}
+use Rattle.syntax_tree.specs.Plain.{Ref, whole, part, Program}
 use Rattle.base.specs.declared.capped.Cost.{Cost}
 use Rattle.machine_isa.specs.declared.instr.Instr.{Instr}
 use Rattle.machine_isa.specs.declared.instr.Instr.TheVariants as i
@@ -39,7 +39,7 @@ pub check_low : (x : Option Range) (h : ℕ) → check_height x h ≤ h
 check_low None h = omega arith
 check_low (Some x) h = omega arith
 
-module _ (g : Prog) (known : List Known) (k : Calls) (code : List Instr) (out held : Option ℕ) where
+module _ (g : Program) (known : List Known) (k : Calls) (code : List Instr) (out held : Option ℕ) where
   -- two arms
   pub fork_found : (first second after : Segs) (p mid q : ℕ) (f s r : Found) → At code p (i.JumpZero (pos (mid + 1))) → At code mid (i.Jump (pos q)) → mid ≡ p + 1 + size first → q ≡ mid + 1 + size second
       → founds code known out held first (p + 1) 0 ≡ Some f → founds code known out held second (mid + 1) 0 ≡ Some s → f.height ≡ 0 → s.height ≡ 0 → founds code known out held after q 0 ≡ Some r

@@ -1,7 +1,7 @@
 -- The processes of an image that declares what its text says.
 use Rattle.std.specs.Prelude.{◌≡◌, ◌+◌, ℕ, zero, suc, List, [], ◌∷◌, length, Option, Some, None, slice_get}
 use Rattle.std.proofs.Common.{refl, sym, subst, arith}
-use Rattle.syntax_tree.specs.Plain.{Process, Prog}
+use Rattle.syntax_tree.specs.Plain.{Process, Program}
 use Rattle.source_semantics.specs.Names.{processes, routine_count}
 use Rattle.machine_isa.specs.declared.instr.Instr.{Instr}
 use Rattle.machine_semantics.specs.Image as image
@@ -19,14 +19,14 @@ use Rattle.code_measures.proofs.Maps.{map_process}
 use Rattle.code_measures.proofs.Rows.{row}
 
 -- a routine of the image is that of a text
-pub text_at : (g : Prog) (code : List Instr) (p q : ℕ) (ts : List Text) (rs : List image.Routine) (r : ℕ) (x : image.Routine) → EmitsRoutines g code p q ts rs → slice_get rs r ≡ Some x → (t : Text) × (slice_get ts r ≡ Some t)
+pub text_at : (g : Program) (code : List Instr) (p q : ℕ) (ts : List Text) (rs : List image.Routine) (r : ℕ) (x : image.Routine) → EmitsRoutines g code p q ts rs → slice_get rs r ≡ Some x → (t : Text) × (slice_get ts r ≡ Some t)
 text_at g code p q [] [] r x h at = absurd cc
 text_at g code p q [] (y ∷ ys) r x h at = absurd h
 text_at g code p q (u ∷ us) [] r x h at = absurd h
 text_at g code p q (u ∷ us) (y ∷ ys) zero x h at = (u, refl)
 text_at g code p q (u ∷ us) (y ∷ ys) (suc r) x h at = text_at g code h.0 q us ys r x h.4 at
 
-body_at : (g : Prog) (code : List Instr) (k p q : ℕ) (ts : List Process) (rs : List image.Process) (r : ℕ) (x : image.Process) → EmitsProcesses g code k p q ts rs → slice_get rs r ≡ Some x
+body_at : (g : Program) (code : List Instr) (k p q : ℕ) (ts : List Process) (rs : List image.Process) (r : ℕ) (x : image.Process) → EmitsProcesses g code k p q ts rs → slice_get rs r ≡ Some x
     → (t : Process) × (next : ℕ) × (slice_get ts r ≡ Some t) × EmitsProcess g code (k + r) t x.start next x
 body_at g code k p q [] [] r x h at = absurd cc
 body_at g code k p q [] (y ∷ ys) r x h at = absurd h
@@ -42,7 +42,7 @@ body_at g code k p q (u ∷ us) (y ∷ ys) (suc r) x h at =
     further : (k r : ℕ) → suc k + r ≡ k + suc r
     further k r = omega arith
 
-module _ (g : Prog) (m : image.Image) (is : IsCodeOf g m) (sound : IsSound g) (declares : Declares g m) where
+module _ (g : Program) (m : image.Image) (is : IsCodeOf g m) (sound : IsSound g) (declares : Declares g m) where
   pub known_all : (t : Text) → IsBelow g (length (numbered g)) t → IsKnown g (known m) (declared_calls g) t
   known_all t low = let b = row g m is sound declares (number_of g t) t low.there in record { known_as = b.row; there = b.there; params = b.params; results = b.results; locals = b.locals; height = b.height; cost = b.cost }
 

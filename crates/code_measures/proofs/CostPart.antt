@@ -3,7 +3,7 @@ use Rattle.std.specs.Prelude.{◌≡◌, ◌≤◌, ◌+◌, ◌-◌, ◌*◌, �
 use Rattle.std.proofs.Common.{refl, sym, ap, subst, ◌∙◌, arith}
 use Rattle.std.proofs.lemmas.Option.{slice_get_within}
 use Rattle.std.proofs.lemmas.Bool.{le-leb}
-use Rattle.syntax_tree.specs.Plain.{Prog}
+use Rattle.syntax_tree.specs.Plain.{Program}
 use Rattle.base.specs.Capped.{cap}
 use Rattle.base.specs.declared.capped.Cost.{Cost}
 use Rattle.source_semantics.specs.Names.{routine_count}
@@ -47,7 +47,7 @@ enough d n le = ap (λ b. unless b d n) (le-leb n d le)
 exactly : (d n : ℕ) → n ≡ d → below d n ≡ None
 exactly d n e = enough d n (omega (arith, e))
 
-module _ (g : Prog) (m : image.Image) (is : IsCodeOf g m) (sound : IsSound g) (declares : Declares g m) where
+module _ (g : Program) (m : image.Image) (is : IsCodeOf g m) (sound : IsSound g) (declares : Declares g m) where
   stay_fits : (r : ℕ) (t : Text) (x : image.Routine) (f : Found) (w : Owner) → t.owner ≡ w → x.kind ≡ kind_number t.owner → routine_found m.code (take r (known m)) x ≡ Some f
       → ((j : ℕ) → t.owner ≡ by_monitor j → f.cost.run - 5 ≡ stay_cost g (routine_names g t) (declared_calls g) t.owner t.routine)
       → Like (inner_cost g (routine_names g t) (declared_calls g) t.routine) (inner_cost g (routine_names g t) (calls_of g) t.routine) → x.stay ≡ cap (stay_of_entry g t) → cap (needed_stay m r x) ≤ x.stay

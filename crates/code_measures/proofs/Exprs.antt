@@ -3,7 +3,7 @@ use Rattle.std.specs.Prelude.{◌≡◌, ◌≤◌, ◌+◌, ◌-◌, ◌++◌, 
 use Rattle.std.proofs.Common.{refl, sym, ap, subst, ◌∙◌, arith}
 use Rattle.std.proofs.lemmas.Bool.{le-leb}
 use Rattle.base.proofs.Numbers.{itself}
-use Rattle.syntax_tree.specs.Plain.{Name, Param, Op, Expr, literal, truth, variable, element, call, minus, negation, paren, row, Exprs, no_exprs, exprs, Operands, no_operands, operand, Answers, Prog}
+use Rattle.syntax_tree.specs.Plain.{Name, Param, Op, Expr, literal, truth, variable, element, call, minus, negation, paren, row, Exprs, no_exprs, exprs, Operands, no_operands, operand, Answers, Program}
 use Rattle.base.specs.declared.capped.Cost.{Cost}
 use Rattle.machine_isa.specs.declared.instr.Instr.{Instr}
 use Rattle.machine_isa.specs.declared.instr.Instr.TheVariants as i
@@ -29,7 +29,7 @@ use Rattle.code_measures.proofs.Sizes.{Alike}
 use Rattle.code_measures.proofs.Seen.{Sees, op_in_line, op_takes, op_gives}
 
 -- each expression takes a word
-pub expr_high : (g : Prog) (known : List Known) (k : Calls) (c : Scope) (n : Names) (x : Expr) → Sees g c n → SoundExpr g (λ y. IsKnown g known k y) c x → 1 ≤ expr_height g n.owner k x
+pub expr_high : (g : Program) (known : List Known) (k : Calls) (c : Scope) (n : Names) (x : Expr) → Sees g c n → SoundExpr g (λ y. IsKnown g known k y) c x → 1 ≤ expr_height g n.owner k x
 expr_high g known k c n (literal v) s ok = omega arith
 expr_high g known k c n (truth b) s ok = omega arith
 expr_high g known k c n (variable x) s ok = omega arith
@@ -46,7 +46,7 @@ pub few : (b : Bool) → count_of b ≤ 1
 few true = omega arith
 few false = omega arith
 
-module _ (g : Prog) (known : List Known) (k : Calls) (code : List Instr) (out held : Option ℕ) where
+module _ (g : Program) (known : List Known) (k : Calls) (code : List Instr) (out held : Option ℕ) where
   -- the tree of a piece of code that ends at q, where the rest comes to r from height `to` on, comes to that with the piece's cost and height
   -- ---- calls
 

@@ -3,7 +3,7 @@ use Rattle.std.specs.Prelude.{◌≡◌, ◌<◌, ◌+◌, ◌&&◌, ◌||◌, n
 use Rattle.std.proofs.Common.{refl, sym, ap, subst, ◌∙◌, arith}
 use Rattle.std.proofs.lemmas.Bool.{eq-eqb}
 use Rattle.base.proofs.Lists.{take_get}
-use Rattle.syntax_tree.specs.Plain.{Param, Expr, literal, truth, variable, element, call, minus, negation, paren, row, Exprs, no_exprs, exprs, Operands, no_operands, operand, Ref, whole, part, Stmt, assign, assign_entry, assign_empty, perform, perform_entry, when, when_else, loop, exit_when, get, put, wait, signal, broadcast, except, assert, Stmts, no_stmts, stmts, Answers, Handler, Process, Prog}
+use Rattle.syntax_tree.specs.Plain.{Param, Expr, literal, truth, variable, element, call, minus, negation, paren, row, Exprs, no_exprs, exprs, Operands, no_operands, operand, Ref, whole, part, Stmt, assign, assign_entry, assign_empty, perform, perform_entry, when, when_else, loop, exit_when, get, put, wait, signal, broadcast, except, assert, Stmts, no_stmts, stmts, Answers, Handler, Process, Program}
 use Rattle.source_semantics.specs.Names.{constant_value}
 use Rattle.source_semantics.specs.Store.{range_of}
 use Rattle.machine_semantics.specs.Image as image
@@ -26,7 +26,7 @@ use Rattle.code_measures.proofs.Rows.{stands}
 use Rattle.code_measures.proofs.Bodies.{BodyIs, body}
 use Rattle.code_measures.proofs.CostPart.{none_all}
 
-module _ (g : Prog) (rows : List Reach) (may : Text → Type 0) (silent : (t : Text) → may t → waits_at rows (number_of g t) ≡ false) where
+module _ (g : Program) (rows : List Reach) (may : Text → Type 0) (silent : (t : Text) → may t → waits_at rows (number_of g t) ≡ false) where
   before_quiet : (k : ℕ) (after : Segs) → tree_waits rows (before k after) ≡ tree_waits rows after
   before_quiet k Nil = refl
   before_quiet k (Cons (Line n) rest) = refl
@@ -115,7 +115,7 @@ module _ (g : Prog) (rows : List Reach) (may : Text → Type 0) (silent : (t : T
   routine_quiet t (by_process k) ok free = stmts_quiet t.routine.body (routine_scope g t) (routine_scope g t) _ refl ok.0 free ∙ answers_quiet t.routine.answers (routine_scope g t) ok.1
   routine_quiet t (by_monitor m) ok free = ap (λ b. b || false) (stmts_quiet t.routine.body (routine_scope g t) (routine_scope g t) _ refl ok.0 free ∙ answers_quiet t.routine.answers (routine_scope g t) ok.1)
 
-module _ (g : Prog) (m : image.Image) (is : IsCodeOf g m) (sound : IsSound g) (declares : Declares g m) (quiet : Text → Bool) (are : AreQuiet g quiet) where
+module _ (g : Program) (m : image.Image) (is : IsCodeOf g m) (sound : IsSound g) (declares : Declares g m) (quiet : Text → Bool) (are : AreQuiet g quiet) where
   quiet_below : (n r : ℕ) (t : Text) → r < n → slice_get (numbered g) r ≡ Some t → quiet t ≡ true → waits_at (reach m) r ≡ false
   quiet_below zero r t lt at q = absurd (omega (arith, lt))
   quiet_below (suc n) r t lt at q =

@@ -1,7 +1,7 @@
 -- Code has as many instructions as its tree says.
 use Rattle.std.specs.Prelude.{◌≡◌, ◌+◌, ◌++◌, ℕ, suc, List, [], ◌∷◌, Option, Some, None, pos, length}
 use Rattle.std.proofs.Common.{refl, ap, subst, ◌∙◌, arith}
-use Rattle.syntax_tree.specs.Plain.{Param, Expr, literal, truth, variable, element, call, minus, negation, paren, row, Exprs, no_exprs, exprs, Operands, no_operands, operand, Ref, whole, part, Stmt, assign, assign_entry, assign_empty, perform, perform_entry, when, when_else, loop, exit_when, get, put, wait, signal, broadcast, except, assert, Stmts, no_stmts, stmts, Answers, Handler, Process, Prog}
+use Rattle.syntax_tree.specs.Plain.{Param, Expr, literal, truth, variable, element, call, minus, negation, paren, row, Exprs, no_exprs, exprs, Operands, no_operands, operand, Ref, whole, part, Stmt, assign, assign_entry, assign_empty, perform, perform_entry, when, when_else, loop, exit_when, get, put, wait, signal, broadcast, except, assert, Stmts, no_stmts, stmts, Answers, Handler, Process, Program}
 use Rattle.source_semantics.specs.Names.{device_number}
 use Rattle.source_semantics.specs.Store.{Range, range_of}
 use Rattle.machine_isa.specs.declared.instr.Instr.{Instr}
@@ -25,7 +25,7 @@ check_long : (x : Option Range) → length (range_code x) ≡ check_length x
 check_long None = refl
 check_long (Some x) = refl
 
-module _ (g : Prog) (c : Scope) (o : Owner) (own : c.owner ≡ o) where
+module _ (g : Program) (c : Scope) (o : Owner) (own : c.owner ≡ o) where
   call_long : (t : Option Text) (args : List Param → List Instr) (n : List Param → ℕ) → ((ps : List Param) → length (args ps) ≡ n ps) → length (call_code g t args) ≡ call_length t n
   call_long None args n same = refl
   call_long (Some t) args n same = length_both (args t.routine.params) (i.Call (pos (number_of g t)) ∷ []) ∙ ap (λ k. k + 1) (same t.routine.params)
@@ -65,7 +65,7 @@ module _ (g : Prog) (c : Scope) (o : Owner) (own : c.owner ≡ o) where
   index_long (whole x) = refl
   index_long (part x e) = expr_long e
 
-module _ (g : Prog) (may : Text → Type 0) (code : List Instr) where
+module _ (g : Program) (may : Text → Type 0) (code : List Instr) where
   put_long : (c : Scope) (n : Names) (r : Ref) → Sees g c n → SoundRef g c r → length (put_code g c r) ≡ put_length n r
   put_long c n r s ok =
       let j : length (range_code (range_of_spot (spot_of g c (ref_name r))) ++ store_code g c r) ≡ length (range_code (range_of_spot (spot_of g c (ref_name r)))) + length (store_code g c r) = length_both (range_code (range_of_spot (spot_of g c (ref_name r)))) (store_code g c r) in

@@ -1,7 +1,7 @@
 -- Where calls cost the same once capped, so does what calls; and where they take the same heights, so does it.
 use Rattle.std.specs.Prelude.{◌≡◌, ◌+◌, ℕ, List, [], ◌∷◌, Option, Some, None, max}
 use Rattle.std.proofs.Common.{refl, sym, ap, subst, ◌∙◌}
-use Rattle.syntax_tree.specs.Plain.{Param, Expr, literal, truth, variable, element, call, minus, negation, paren, row, Exprs, no_exprs, exprs, Operands, no_operands, operand, Ref, whole, part, Stmt, assign, assign_entry, assign_empty, perform, perform_entry, when, when_else, loop, exit_when, get, put, wait, signal, broadcast, except, assert, Stmts, no_stmts, stmts, Answers, Handler, Process, Prog}
+use Rattle.syntax_tree.specs.Plain.{Param, Expr, literal, truth, variable, element, call, minus, negation, paren, row, Exprs, no_exprs, exprs, Operands, no_operands, operand, Ref, whole, part, Stmt, assign, assign_entry, assign_empty, perform, perform_entry, when, when_else, loop, exit_when, get, put, wait, signal, broadcast, except, assert, Stmts, no_stmts, stmts, Answers, Handler, Process, Program}
 use Rattle.base.specs.declared.capped.Cost.{Cost}
 use Rattle.code_spec.specs.Layout.{Scope, routine_words}
 use Rattle.code_spec.specs.Numbering.{Text, routine_in, entry_in}
@@ -27,7 +27,7 @@ CallsSame may k1 k2 = (t : Text) → may t → Same (k1.cost t) (k2.cost t) (k1.
 same : (c : Cost) (h : ℕ) → Same c c h h
 same c h = record { cost = like_same c; height = refl }
 
-module _ (g : Prog) (may : Text → Type 0) (k1 k2 : Calls) (calls : CallsSame may k1 k2) where
+module _ (g : Program) (may : Text → Type 0) (k1 k2 : Calls) (calls : CallsSame may k1 k2) where
   call_same : (n : Names) (o : Option Text) (t : Text) (args1 args2 : List Param → Cost) (h1 h2 : ℕ) → o ≡ Some t → may t → Same (args1 t.routine.params) (args2 t.routine.params) h1 h2
       → Same (call_cost k1 o args1) (call_cost k2 o args2) (call_height g k1 o h1) (call_height g k2 o h2)
   call_same n o t args1 args2 h1 h2 is knows s =

@@ -1,13 +1,13 @@
 -- What may be called by one account may be called by another.
 use Rattle.std.specs.Prelude.{ℕ, List, [], ◌∷◌, Option, Some, None}
-use Rattle.syntax_tree.specs.Plain.{Param, Expr, literal, truth, variable, element, call, minus, negation, paren, row, Exprs, no_exprs, exprs, Operands, no_operands, operand, Ref, whole, part, Stmt, assign, assign_entry, assign_empty, perform, perform_entry, when, when_else, loop, exit_when, get, put, wait, signal, broadcast, except, assert, Stmts, no_stmts, stmts, Answers, Handler, Process, Prog}
+use Rattle.syntax_tree.specs.Plain.{Param, Expr, literal, truth, variable, element, call, minus, negation, paren, row, Exprs, no_exprs, exprs, Operands, no_operands, operand, Ref, whole, part, Stmt, assign, assign_entry, assign_empty, perform, perform_entry, when, when_else, loop, exit_when, get, put, wait, signal, broadcast, except, assert, Stmts, no_stmts, stmts, Answers, Handler, Process, Program}
 use Rattle.code_spec.specs.Layout.{Scope}
 use Rattle.code_spec.specs.Numbering.{Text}
 use Rattle.code_spec.specs.Emits.{inner}
 use Rattle.code_spec.specs.Compiled.{routine_scope, process_scope}
 use Rattle.code_measures.specs.Sound.{SoundExpr, SoundRow, SoundArgs, SoundIndex, Sound, SoundAll, SoundAnswers, SoundRoutine, SoundHandler, SoundProcess}
 
-module _ (g : Prog) (may might : Text → Type 0) (so : (t : Text) → may t → might t) where
+module _ (g : Program) (may might : Text → Type 0) (so : (t : Text) → may t → might t) where
   mutual
     map_expr : (x : Expr) (c : Scope) → SoundExpr g may c x → SoundExpr g might c x
     map_expr (literal v) c ok = ok

@@ -3,7 +3,7 @@ use Rattle.std.specs.Prelude.{◌≡◌, ◌≤◌, ◌+◌, ◌-◌, ℕ, true,
 use Rattle.std.proofs.Common.{refl, sym, ap, subst, ◌∙◌, arith}
 use Rattle.std.proofs.lemmas.Bool.{and_from, eq-eqb}
 use Rattle.base.proofs.Numbers.{itself}
-use Rattle.syntax_tree.specs.Plain.{Stmts, Answers, Handler, Process, Prog}
+use Rattle.syntax_tree.specs.Plain.{Stmts, Answers, Handler, Process, Program}
 use Rattle.base.specs.declared.capped.Cost.{Cost}
 use Rattle.machine_isa.specs.declared.instr.Instr.{Instr}
 use Rattle.machine_isa.specs.declared.instr.Instr.TheVariants as i
@@ -37,7 +37,7 @@ abbrev at_end : Option Answers → Found
 at_end o = record { height = count_of (is_some o); cost = amount 0 0 0; depth = 0 }
 
 -- the code from p to q is that of the result, if there is one
-abbrev pub Answered : Prog → List Instr → Scope → (p q : ℕ) → Option Answers → Type 0
+abbrev pub Answered : Program → List Instr → Scope → (p q : ℕ) → Option Answers → Type 0
 Answered g code c p q None = q ≡ p
 Answered g code c p q (Some a) = EmitsAnswer g code c p q a
 
@@ -50,7 +50,7 @@ last_code by_program o = return_of o ∷ []
 last_code (by_process k) o = return_of o ∷ []
 last_code (by_monitor m) o = i.Leave (pos m) ∷ return_of o ∷ []
 
-pub ends_apart : (g : Prog) (code : List Instr) (c : Scope) (w : Owner) (p q : ℕ) (o : Option Answers) → EmitsEnd g code c w p q o → (r : ℕ) × Answered g code c p r o × IsLine code r q (last_code w o)
+pub ends_apart : (g : Program) (code : List Instr) (c : Scope) (w : Owner) (p q : ℕ) (o : Option Answers) → EmitsEnd g code c w p q o → (r : ℕ) × Answered g code c p r o × IsLine code r q (last_code w o)
 ends_apart g code c by_program p q None h = (p, refl, h)
 ends_apart g code c by_program p q (Some a) h = (h.0, h.1, h.2)
 ends_apart g code c (by_process k) p q None h = (p, refl, h)
@@ -58,7 +58,7 @@ ends_apart g code c (by_process k) p q (Some a) h = (h.0, h.1, h.2)
 ends_apart g code c (by_monitor m) p q None h = (p, refl, h)
 ends_apart g code c (by_monitor m) p q (Some a) h = (h.0, h.1, h.2)
 
-module _ (g : Prog) (known : List Known) (k : Calls) (code : List Instr) where
+module _ (g : Program) (known : List Known) (k : Calls) (code : List Instr) where
   module _ (c : Scope) (out held : Option ℕ) where
     last_check : (x : Option Range) (p q : ℕ) → IsLine code p q (range_code x)
         → founds code known out held (line (length (range_code x)) Nil) p 1 ≡ Some (adds (run (check_ticks x)) (check_height x 1) (record { height = 1; cost = amount 0 0 0; depth = 0 }))
@@ -232,7 +232,7 @@ routines_are_measured g code known k t r q is_r h ok = by_owner t.owner refl
 
 -- ---- processes
 
-module _ (g : Prog) (code : List Instr) (known : List Known) (k : Calls) (j : ℕ) (p : Process) where
+module _ (g : Program) (code : List Instr) (known : List Known) (k : Calls) (j : ℕ) (p : Process) where
   process_part : (w from mid : ℕ) (body : Stmts) → SoundAll g (λ y. IsKnown g known k y) (process_scope g j p) body → EmitsAll g code (process_scope g j p) w from mid body → At code mid i.End
       → part_found code known (stmts_segs g (process_scope g j p) body Nil) from ≡ Some (adds (stmts_cost g (process_names g j p) k body) (stmts_height g (by_process j) k body) nothing_found)
   process_part w from mid body ok h end =

@@ -3,7 +3,7 @@ use Rattle.std.specs.Prelude.{◌≡◌, ◌≤◌, ◌<◌, ℕ, zero, suc, Lis
 use Rattle.std.proofs.Common.{refl, sym, ap, subst, ◌∙◌, arith}
 use Rattle.std.proofs.lemmas.Option.{slice_get_within}
 use Rattle.base.proofs.Lists.{take_get}
-use Rattle.syntax_tree.specs.Plain.{Prog}
+use Rattle.syntax_tree.specs.Plain.{Program}
 use Rattle.source_semantics.specs.Names.{routine_count}
 use Rattle.machine_isa.specs.declared.instr.Instr.{Instr}
 use Rattle.machine_semantics.specs.Image as image
@@ -27,24 +27,24 @@ use Rattle.code_measures.proofs.Maps.{map_routine}
 
 -- ---- levels
 
-pub cost_at : (n : ℕ) (g : Prog) (t : Text) → (calls_at (suc n) g).cost t ≡ routine_cost g (routine_names g t) (calls_at n g) t
+pub cost_at : (n : ℕ) (g : Program) (t : Text) → (calls_at (suc n) g).cost t ≡ routine_cost g (routine_names g t) (calls_at n g) t
 unfolding calls_at
 cost_at n g t = refl
 
-pub height_at : (n : ℕ) (g : Prog) (t : Text) → (calls_at (suc n) g).height t ≡ routine_height g t.owner (calls_at n g) t.routine
+pub height_at : (n : ℕ) (g : Program) (t : Text) → (calls_at (suc n) g).height t ≡ routine_height g t.owner (calls_at n g) t.routine
 unfolding calls_at
 height_at n g t = refl
 
 -- ---- a routine of the image
 
-pub record Stands (g : Prog) (m : image.Image) (r : ℕ) (t : Text) : Type 0 where
+pub record Stands (g : Program) (m : image.Image) (r : ℕ) (t : Text) : Type 0 where
   pub x : image.Routine
   pub there : slice_get m.routines r ≡ Some x
   pub is_r : IsRoutine g t x
   pub next : ℕ
   pub emits : EmitsRoutine g m.code t x.start next
 
-stands_at : (g : Prog) (code : List Instr) (p q : ℕ) (ts : List Text) (rs : List image.Routine) (r : ℕ) (t : Text) → EmitsRoutines g code p q ts rs → slice_get ts r ≡ Some t
+stands_at : (g : Program) (code : List Instr) (p q : ℕ) (ts : List Text) (rs : List image.Routine) (r : ℕ) (t : Text) → EmitsRoutines g code p q ts rs → slice_get ts r ≡ Some t
     → (x : image.Routine) × (next : ℕ) × (slice_get rs r ≡ Some x) × IsRoutine g t x × EmitsRoutine g code t x.start next
 stands_at g code p q [] rs r t h at = absurd cc
 stands_at g code p q (u ∷ us) [] r t h at = absurd h
@@ -52,12 +52,12 @@ stands_at g code p q (u ∷ us) (y ∷ ys) zero t h at =
     let same : u ≡ t = cc in (y, h.0, refl, subst (λ z. IsRoutine g z y) same h.1, subst (λ z. EmitsRoutine g code z y.start h.0) same (subst (λ a. EmitsRoutine g code u a h.0) (sym h.2) h.3))
 stands_at g code p q (u ∷ us) (y ∷ ys) (suc r) t h at = stands_at g code h.0 q us ys r t h.4 at
 
-pub stands : (g : Prog) (m : image.Image) → IsCodeOf g m → (r : ℕ) (t : Text) → slice_get (numbered g) r ≡ Some t → Stands g m r t
+pub stands : (g : Program) (m : image.Image) → IsCodeOf g m → (r : ℕ) (t : Text) → slice_get (numbered g) r ≡ Some t → Stands g m r t
 stands g m is r t at = let s = stands_at g m.code 0 is.between (numbered g) m.routines r t is.routine_code at in record { x = s.0; there = s.2; is_r = s.3; next = s.1; emits = s.4 }
 
 -- ---- its row
 
-module _ (g : Prog) (m : image.Image) (is : IsCodeOf g m) (sound : IsSound g) (declares : Declares g m) where
+module _ (g : Program) (m : image.Image) (is : IsCodeOf g m) (sound : IsSound g) (declares : Declares g m) where
   pub record RowIs (r : ℕ) (t : Text) : Type 0 where
     pub row : Known
     pub there : slice_get (known m) r ≡ Some row

@@ -1,7 +1,7 @@
 -- Names as the costs see them are those of the code.
 use Rattle.std.specs.Prelude.{◌≡◌, ℕ, Bool, true, false, cond, Option, Some, None, bytes_eq, option_map}
 use Rattle.std.proofs.Common.{refl, ap, ◌∙◌}
-use Rattle.syntax_tree.specs.Plain.{Name, Op, or, and, equal, unequal, less, less_equal, greater, greater_equal, add, sub, mul, div, remainder, Prog}
+use Rattle.syntax_tree.specs.Plain.{Name, Op, or, and, equal, unequal, less, less_equal, greater, greater_equal, add, sub, mul, div, remainder, Program}
 use Rattle.source_semantics.specs.Run.{or_else}
 use Rattle.machine_isa.specs.Operands.{takes, gives}
 use Rattle.valid_image.specs.Found.{in_line}
@@ -10,21 +10,21 @@ use Rattle.code_spec.specs.Emits.{inner, counter_place}
 use Rattle.code_spec.specs.Code.{op_instr, range_of_spot}
 use Rattle.code_cost_spec.specs.Names.{Names, view_of, names_of, inside, counter, range_seen}
 
-pub record Sees (g : Prog) (c : Scope) (n : Names) : Type 0 where
+pub record Sees (g : Program) (c : Scope) (n : Names) : Type 0 where
   pub owner : c.owner ≡ n.owner
   pub view : (y : Name) → option_map view_of (spot_of g c y) ≡ n.view y
 
-pub sees : (g : Prog) (c : Scope) → Sees g c (names_of g c)
+pub sees : (g : Program) (c : Scope) → Sees g c (names_of g c)
 sees g c = record { owner = refl; view = λ y. refl }
 
-pub sees_inside : (g : Prog) (c : Scope) (n : Names) (x : Name) (w q : ℕ) → Sees g c n → Sees g (inner c x w q) (inside n x)
+pub sees_inside : (g : Program) (c : Scope) (n : Names) (x : Name) (w q : ℕ) → Sees g c n → Sees g (inner c x w q) (inside n x)
 sees_inside g c n x w q s = record { owner = s.owner; view = λ y. by_case y (bytes_eq x y) }
   where
     by_case : (y : Name) (b : Bool) → option_map view_of (or_else (in_area in_frame (cond b (Some (counter_place x w)) (place_named y c.own))) (outer_spot g c.owner y)) ≡ cond b (Some counter) (n.view y)
     by_case y true = refl
     by_case y false = s.view y
 
-pub range_is : (g : Prog) (c : Scope) (n : Names) (x : Name) → Sees g c n → range_of_spot (spot_of g c x) ≡ range_seen (n.view x)
+pub range_is : (g : Program) (c : Scope) (n : Names) (x : Name) → Sees g c n → range_of_spot (spot_of g c x) ≡ range_seen (n.view x)
 range_is g c n x s = by_spot (spot_of g c x) ∙ ap range_seen (s.view x)
   where
     by_spot : (o : Option Spot) → range_of_spot o ≡ range_seen (option_map view_of o)

@@ -5,7 +5,7 @@ use Rattle.std.proofs.lemmas.Option.{slice_get_within}
 use Rattle.std.proofs.lemmas.List.{length-map}
 use Rattle.std.proofs.lemmas.Bool.{and_from, eq-eqb}
 use Rattle.base.proofs.Lists.{map_get, append_front, append_back}
-use Rattle.syntax_tree.specs.Plain.{Process, Prog}
+use Rattle.syntax_tree.specs.Plain.{Process, Program}
 use Rattle.source_semantics.specs.Names.{processes}
 use Rattle.machine_isa.specs.declared.instr.Instr.{Instr}
 use Rattle.machine_semantics.specs.Image as image
@@ -64,7 +64,7 @@ process_piece : (m : image.Image) (k : ℕ) (x : image.Process) → slice_get m.
 process_piece m k x at =
     append_back (map piece_of_routine m.routines) (map piece_of_process m.processes) (length m.routines + k) k (omega (arith, length-map m.routines piece_of_routine)) ∙ map_get piece_of_process m.processes k x at
 
-routines_follow : (g : Prog) (code : List Instr) (p q : ℕ) (ts : List Text) (rs : List image.Routine) → EmitsRoutines g code p q ts rs
+routines_follow : (g : Program) (code : List Instr) (p q : ℕ) (ts : List Text) (rs : List image.Routine) → EmitsRoutines g code p q ts rs
     → ((r : ℕ) (t : Text) (x : image.Routine) (next : ℕ) → slice_get ts r ≡ Some t → slice_get rs r ≡ Some x → IsRoutine g t x → EmitsRoutine g code t x.start next → next ≡ x.start + (size x.tree + 1)) → Follow p (map piece_of_routine rs) q
 routines_follow g code p q [] [] h ends = h
 routines_follow g code p q [] (y ∷ ys) h ends = absurd h
@@ -75,7 +75,7 @@ routines_follow g code p q (u ∷ us) (y ∷ ys) h ends = (
       (routines_follow g code h.0 q us ys h.4 (λ r t x next at there is_r emits. ends (suc r) t x next at there is_r emits)),
 )
 
-processes_follow : (g : Prog) (code : List Instr) (k p q : ℕ) (ts : List Process) (rs : List image.Process) → EmitsProcesses g code k p q ts rs
+processes_follow : (g : Program) (code : List Instr) (k p q : ℕ) (ts : List Process) (rs : List image.Process) → EmitsProcesses g code k p q ts rs
     → ((r : ℕ) (t : Process) (x : image.Process) (next : ℕ) → slice_get ts r ≡ Some t → slice_get rs r ≡ Some x → EmitsProcess g code (k + r) t x.start next x → next ≡ x.start + (size x.body + 1 + handler_length x.handler_tree))
     → Follow p (map piece_of_process rs) q
 processes_follow g code k p q [] [] h ends = h
@@ -93,7 +93,7 @@ processes_follow g code k p q (u ∷ us) (y ∷ ys) h ends = (
     further : (k r : ℕ) → suc k + r ≡ k + suc r
     further k r = omega arith
 
-module _ (g : Prog) (m : image.Image) (is : IsCodeOf g m) (sound : IsSound g) (declares : Declares g m) where
+module _ (g : Program) (m : image.Image) (is : IsCodeOf g m) (sound : IsSound g) (declares : Declares g m) where
   all_follow : Follow 0 (pieces m) (length m.code)
   all_follow =
       follow_joined 0 is.between (length m.code) (map piece_of_routine m.routines) (map piece_of_process m.processes)

@@ -2,7 +2,7 @@
 use Rattle.std.specs.Prelude.{◌≡◌, ◌≤◌, ◌+◌, ℕ, zero, suc, List, [], ◌∷◌, length, Some, None, slice_get, max, min}
 use Rattle.std.proofs.Common.{refl, sym, ap, subst, ◌∙◌, arith}
 use Rattle.std.proofs.lemmas.Bool.{eq-eqb}
-use Rattle.syntax_tree.specs.Plain.{Process, Prog}
+use Rattle.syntax_tree.specs.Plain.{Process, Program}
 use Rattle.syntax_tree.specs.Plain as tree
 use Rattle.source_semantics.specs.Names.{monitors}
 use Rattle.machine_semantics.specs.Image as image
@@ -32,7 +32,7 @@ due_is : (ms : List image.Monitor) (j : ℕ) → due_from 0 ms j ≡ due_base ms
 due_is ms zero = refl
 due_is ms (suc j) = refl
 
-bases_follow : (g : Prog) (b : ℕ) (ms : List tree.Monitor) (ks : List image.Monitor) (j : ℕ) (x : image.Monitor) → AreMonitors g b ms ks → slice_get ks j ≡ Some x → x.base ≡ due_from b ks j
+bases_follow : (g : Program) (b : ℕ) (ms : List tree.Monitor) (ks : List image.Monitor) (j : ℕ) (x : image.Monitor) → AreMonitors g b ms ks → slice_get ks j ≡ Some x → x.base ≡ due_from b ks j
 bases_follow g b [] [] j x h at = absurd cc
 bases_follow g b [] (y ∷ ys) j x h at = absurd h
 bases_follow g b (k ∷ ks) [] j x h at = absurd h
@@ -43,7 +43,7 @@ bases_follow g b (k ∷ ks) (y ∷ ys) (suc j) x h at =
     further : y.base ≡ b → y.words ≡ words_of g (monitor_vars k) → b + words_of g (monitor_vars k) ≡ y.base + y.words
     further e f = omega (arith, e, f)
 
-module _ (g : Prog) (m : image.Image) (is : IsCodeOf g m) (sound : IsSound g) (declares : Declares g m) where
+module _ (g : Program) (m : image.Image) (is : IsCodeOf g m) (sound : IsSound g) (declares : Declares g m) where
   locals_fit : (r : ℕ) (x : image.Routine) → slice_get m.routines r ≡ Some x → below x.locals x.params ≡ None
   locals_fit r x at =
       let t = text_at g m.code 0 is.between (numbered g) m.routines r x is.routine_code at in

@@ -2,7 +2,7 @@
 use Rattle.std.specs.Prelude.{◌≡◌, ◌+◌, ℕ, zero, suc, Bool, true, false, cond, List, [], ◌∷◌, ◌++◌, Option, Some, None, ℤ, pos, length, bytes_eq}
 use Rattle.std.proofs.Common.{refl, sym, ap, subst, arith}
 use Rattle.std.proofs.lemmas.Bool.{both_ways}
-use Rattle.syntax_tree.specs.Plain.{Name, Param, Expr, literal, truth, variable, element, call, minus, negation, paren, row, Exprs, no_exprs, exprs, Operands, no_operands, operand, Ref, whole, part, Stmt, assign, assign_entry, assign_empty, perform, perform_entry, when, when_else, loop, exit_when, get, put, wait, signal, broadcast, except, assert, Stmts, no_stmts, stmts, Prog}
+use Rattle.syntax_tree.specs.Plain.{Name, Param, Expr, literal, truth, variable, element, call, minus, negation, paren, row, Exprs, no_exprs, exprs, Operands, no_operands, operand, Ref, whole, part, Stmt, assign, assign_entry, assign_empty, perform, perform_entry, when, when_else, loop, exit_when, get, put, wait, signal, broadcast, except, assert, Stmts, no_stmts, stmts, Program}
 use Rattle.source_semantics.specs.Store.{range_of}
 use Rattle.machine_isa.specs.declared.instr.Instr.{Instr}
 use Rattle.machine_isa.specs.declared.instr.Instr.TheVariants as i
@@ -33,11 +33,11 @@ line_size zero after = omega arith
 line_size (suc k) after = before_size (suc k) after
 
 -- two scopes of one owner, where what may be assigned to has one range
-pub record Alike (g : Prog) (c d : Scope) : Type 0 where
+pub record Alike (g : Program) (c d : Scope) : Type 0 where
   pub owner : c.owner ≡ d.owner
   pub range : (y : Name) (sp : Spot) → spot_of g c y ≡ Some sp → sp.place.fixed ≡ false → range_of_spot (spot_of g d y) ≡ sp.place.range
 
-pub alike : (g : Prog) (c : Scope) → Alike g c c
+pub alike : (g : Program) (c : Scope) → Alike g c c
 alike g c = record { owner = refl; range = λ y sp is free. ap (λ t. range_of_spot t) is }
 
 pub some_same : (x y : Spot) → Some x ≡ Some y → x ≡ y
@@ -47,7 +47,7 @@ some_same x y e = ap (λ o. unwrapped o) e
     unwrapped None = y
     unwrapped (Some z) = z
 
-pub alike_inner : (g : Prog) (c d : Scope) (x : Name) (w q : ℕ) → Alike g c d → Alike g (inner c x w q) d
+pub alike_inner : (g : Program) (c d : Scope) (x : Name) (w q : ℕ) → Alike g c d → Alike g (inner c x w q) d
 alike_inner g c d x w q a = record {
   owner = a.owner;
   range = λ y sp is free. by_case y sp free (bytes_eq x y) is;
@@ -60,7 +60,7 @@ alike_inner g c d x w q a = record {
 
 -- ---- expressions
 
-module _ (g : Prog) (c d : Scope) (a : Alike g c d) where
+module _ (g : Program) (c d : Scope) (a : Alike g c d) where
   call_sizes : (t : Option Text) (es : Exprs) (after : Segs) → ((ps : List Param) (k : Segs) → size (args_segs g d es ps k) ≡ length (args_code g c es ps) + size k)
       → size (call_segs g t (λ ps k. args_segs g d es ps k) after) ≡ length (call_code g t (λ ps. args_code g c es ps)) + size after
   call_sizes None es after args = omega arith
@@ -122,7 +122,7 @@ module _ (g : Prog) (c d : Scope) (a : Alike g c d) where
 
 -- ---- statements
 
-module _ (g : Prog) (may : Text → Type 0) where
+module _ (g : Program) (may : Text → Type 0) where
   -- what may be assigned to is stored by one instruction, in both scopes with one check
   spot_store : (c : Scope) (x : Name) (sp : Option Spot) → spot_of g c x ≡ sp → IsSingle sp → (length (store_spot sp) ≡ 1)
   spot_store c x None is h = absurd h

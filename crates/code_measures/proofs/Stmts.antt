@@ -3,7 +3,7 @@ use Rattle.std.specs.Prelude.{◌≡◌, ◌≤◌, ◌+◌, ◌*◌, ◌++◌, 
 use Rattle.std.proofs.Common.{refl, sym, ap, subst, ◌∙◌, arith}
 use Rattle.std.proofs.lemmas.Bool.{le-leb}
 use Rattle.base.proofs.Numbers.{itself}
-use Rattle.syntax_tree.specs.Plain.{Stmt, assign, assign_entry, assign_empty, perform, perform_entry, when, when_else, loop, exit_when, get, put, wait, signal, broadcast, except, assert, Stmts, no_stmts, stmts, Answers, Prog}
+use Rattle.syntax_tree.specs.Plain.{Stmt, assign, assign_entry, assign_empty, perform, perform_entry, when, when_else, loop, exit_when, get, put, wait, signal, broadcast, except, assert, Stmts, no_stmts, stmts, Answers, Program}
 use Rattle.base.specs.declared.capped.Cost.{Cost}
 use Rattle.machine_isa.specs.declared.instr.Instr.{Instr}
 use Rattle.machine_isa.specs.declared.instr.Instr.TheVariants as i
@@ -62,7 +62,7 @@ loop_same t c h r =
     more3 : t * (c.waits + 0) ≡ t * c.waits → 0 + (0 + (t * (c.waits + 0) + r.cost.waits)) ≡ t * c.waits + r.cost.waits
     more3 e = omega (arith, e)
 
-module _ (g : Prog) (known : List Known) (k : Calls) (code : List Instr) where
+module _ (g : Program) (known : List Known) (k : Calls) (code : List Instr) where
   -- counting on
   counted : (w mid back : ℕ) (out held : Option ℕ) → Has code mid (i.LoadLocal (pos w) ∷ i.Push (pos 1) ∷ i.Add ∷ i.StoreLocal (pos w) ∷ i.Repeat (pos back) ∷ [])
       → founds code known out held (line 4 Nil) mid 0 ≡ Some (adds (run 2) 1 (adds (run 1) 2 (adds (run 2) 1 (adds (run 2) 0 done))))

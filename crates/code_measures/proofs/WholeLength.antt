@@ -1,7 +1,7 @@
 -- The number of instructions of a whole program.
 use Rattle.std.specs.Prelude.{◌≡◌, ◌+◌, ℕ, suc, List, [], ◌∷◌, length, Some, slice_get}
 use Rattle.std.proofs.Common.{refl, sym, subst, arith}
-use Rattle.syntax_tree.specs.Plain.{Process, Prog}
+use Rattle.syntax_tree.specs.Plain.{Process, Program}
 use Rattle.source_semantics.specs.Names.{processes}
 use Rattle.machine_isa.specs.declared.instr.Instr.{Instr}
 use Rattle.machine_semantics.specs.Image as image
@@ -14,7 +14,7 @@ use Rattle.code_measures.proofs.Lengths.{routine_long, process_long}
 use Rattle.code_measures.specs.Declared.{IsBelow}
 use Rattle.code_measures.specs.Whole.{CodeHasItsLength}
 
-routines_long : (g : Prog) (code : List Instr) (p q : ℕ) (ts : List Text) (rs : List image.Routine) → EmitsRoutines g code p q ts rs
+routines_long : (g : Program) (code : List Instr) (p q : ℕ) (ts : List Text) (rs : List image.Routine) → EmitsRoutines g code p q ts rs
     → ((r : ℕ) (t : Text) (from to : ℕ) → slice_get ts r ≡ Some t → EmitsRoutine g code t from to → to ≡ from + routine_length g (routine_names g t) t) → q ≡ p + routines_length g ts
 routines_long g code p q [] [] h long = let e : q ≡ p = h in omega (arith, e)
 routines_long g code p q [] (y ∷ ys) h long = absurd h
@@ -23,7 +23,7 @@ routines_long g code p q (u ∷ us) (y ∷ ys) h long =
     let a : h.0 ≡ p + routine_length g (routine_names g u) u = long 0 u p h.0 refl h.3 in
     let b : q ≡ h.0 + routines_length g us = routines_long g code h.0 q us ys h.4 (λ r t from to at emits. long (suc r) t from to at emits) in omega (arith, a, b)
 
-processes_long : (g : Prog) (code : List Instr) (k p q : ℕ) (ts : List Process) (rs : List image.Process) → EmitsProcesses g code k p q ts rs
+processes_long : (g : Program) (code : List Instr) (k p q : ℕ) (ts : List Process) (rs : List image.Process) → EmitsProcesses g code k p q ts rs
     → ((r : ℕ) (t : Process) (from to : ℕ) (x : image.Process) → slice_get ts r ≡ Some t → EmitsProcess g code (k + r) t from to x → to ≡ from + process_length g (process_names g (k + r) t) t) → q ≡ p + processes_length g k ts
 processes_long g code k p q [] [] h long = let e : q ≡ p = h in omega (arith, e)
 processes_long g code k p q [] (y ∷ ys) h long = absurd h

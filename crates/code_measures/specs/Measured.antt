@@ -1,6 +1,6 @@
 -- What the code of a program comes to is what its tree says.
 use Rattle.std.specs.Prelude.{◌≡◌, ◌+◌, ◌-◌, ℕ, List, Option, Some, None, max}
-use Rattle.syntax_tree.specs.Plain.{Process, Prog}
+use Rattle.syntax_tree.specs.Plain.{Process, Program}
 use Rattle.machine_isa.specs.declared.instr.Instr.{Instr}
 use Rattle.machine_semantics.specs.Image as image
 use Rattle.machine_semantics.specs.Trees.{Segs, size}
@@ -18,7 +18,7 @@ use Rattle.code_measures.specs.Sound.{IsKnown, SoundRoutine, SoundProcess}
 
 -- the code of a routine is of its tree, keeps to the rules of heights, and comes to the cost, the
 -- height and the stay that the text says
-pub record IsMeasured (g : Prog) (code : List Instr) (known : List Known) (k : Calls) (t : Text) (r : image.Routine) (q : ℕ) : Type 0 where
+pub record IsMeasured (g : Program) (code : List Instr) (known : List Known) (k : Calls) (t : Text) (r : image.Routine) (q : ℕ) : Type 0 where
   pub found : Found
   pub is : routine_found code known r ≡ Some found
   pub cost : longer 4 found.cost ≡ routine_cost g (routine_names g t) k t
@@ -28,7 +28,7 @@ pub record IsMeasured (g : Prog) (code : List Instr) (known : List Known) (k : C
 
 -- The law for one routine: its tree's cost and height are those that its code comes to.
 abbrev pub RoutinesAreMeasured : Type 0
-RoutinesAreMeasured = (g : Prog) (code : List Instr) (known : List Known) (k : Calls) (t : Text) (r : image.Routine) (q : ℕ)
+RoutinesAreMeasured = (g : Program) (code : List Instr) (known : List Known) (k : Calls) (t : Text) (r : image.Routine) (q : ℕ)
     → IsRoutine g t r → EmitsRoutine g code t r.start q → SoundRoutine g (λ y. IsKnown g known k y) t → IsMeasured g code known k t r q
 
 -- what the code of a handler comes to, from behind the END of the body on
@@ -37,7 +37,7 @@ handler_part code known None at = Some nothing_found
 handler_part code known (Some tree) at = part_found code known tree at
 
 -- the same of a process, with its handler
-pub record IsMeasuredProcess (g : Prog) (code : List Instr) (known : List Known) (k : Calls) (j : ℕ) (p : Process) (ip : image.Process) (q : ℕ) : Type 0 where
+pub record IsMeasuredProcess (g : Program) (code : List Instr) (known : List Known) (k : Calls) (j : ℕ) (p : Process) (ip : image.Process) (q : ℕ) : Type 0 where
   pub body : Found
   pub body_is : part_found code known ip.body ip.start ≡ Some body
   pub handler : Found
@@ -48,5 +48,5 @@ pub record IsMeasuredProcess (g : Prog) (code : List Instr) (known : List Known)
 
 -- The law for one process.
 abbrev pub ProcessesAreMeasured : Type 0
-ProcessesAreMeasured = (g : Prog) (code : List Instr) (known : List Known) (k : Calls) (j : ℕ) (p : Process) (ip : image.Process) (q : ℕ)
+ProcessesAreMeasured = (g : Program) (code : List Instr) (known : List Known) (k : Calls) (j : ℕ) (p : Process) (ip : image.Process) (q : ℕ)
     → EmitsProcess g code j p ip.start q ip → SoundProcess g (λ y. IsKnown g known k y) j p → IsMeasuredProcess g code known k j p ip q

@@ -1,6 +1,6 @@
 -- An image that is the code of a program, and declares what its text says, is valid.
 use Rattle.std.specs.Prelude.{◌≡◌, ◌≤◌, ◌-◌, ℕ, Bool, Some, None, length, slice_get}
-use Rattle.syntax_tree.specs.Plain.{Prog}
+use Rattle.syntax_tree.specs.Plain.{Program}
 use Rattle.sched_response.specs.Demand.{demand_at}
 use Rattle.machine_semantics.specs.Image as image
 use Rattle.valid_image.specs.Tasks.{tasks_of}
@@ -29,7 +29,7 @@ pub record IsBound (m : image.Image) (p : image.Process) : Type 0 where
 
 -- The image of a program: its code, what it declares of costs, stacks, ranks, ceilings and blocks,
 -- its bounds; its words are not too many, and its handlers do not wait.
-pub record IsMade (g : Prog) (m : image.Image) : Type 0 where
+pub record IsMade (g : Program) (m : image.Image) : Type 0 where
   pub code : IsCodeOf g m
   pub sound : IsSound g
   pub declares : Declares g m
@@ -50,15 +50,15 @@ pub record SixPartsHold (m : image.Image) : Type 0 where
 
 -- The law: six of the seven parts of validity hold of the image of a program.
 abbrev pub MadeImagesKeepSixParts : Type 0
-MadeImagesKeepSixParts = (g : Prog) (m : image.Image) → IsMade g m → SixPartsHold m
+MadeImagesKeepSixParts = (g : Program) (m : image.Image) → IsMade g m → SixPartsHold m
 
 -- The law: with operands as they should be, the image is valid.
 abbrev pub MadeImagesAreValid : Type 0
-MadeImagesAreValid = (g : Prog) (m : image.Image) → IsMade g m → fault_of_part m Operands ≡ None → IsValid m
+MadeImagesAreValid = (g : Program) (m : image.Image) → IsMade g m → fault_of_part m Operands ≡ None → IsValid m
 
 -- The law: the code has as many instructions as the text says.
 abbrev pub CodeHasItsLength : Type 0
-CodeHasItsLength = (g : Prog) (m : image.Image) → IsCodeOf g m → IsSound g → length m.code ≡ code_length g
+CodeHasItsLength = (g : Program) (m : image.Image) → IsCodeOf g m → IsSound g → length m.code ≡ code_length g
 
 -- A program with a monitor, a wait, a signal and a handler, and its image, meet all premises.
 abbrev pub MeetingIsMade : Type 0

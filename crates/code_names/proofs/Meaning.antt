@@ -4,14 +4,14 @@ use Rattle.std.specs.Prelude.{option_map, bytes_eq, filter_map, slice_get, unwra
 use Rattle.std.specs.Borrow.{Bor}
 use Rattle.std.proofs.lemmas.Cmp.{nat_eq_equiv}
 use Rattle.std.proofs.lemmas.Bool.{ne_eqb}
-use Rattle.syntax_tree.specs.Plain.{Name, Routine, Decl, constant, device, event, routine, monitor, process, Prog}
+use Rattle.syntax_tree.specs.Plain.{Name, Routine, Declaration, constant, device, event, routine, monitor, process, Program}
 use Rattle.source_semantics.specs.Names.{named, routine_in, monitor_in, process_in, monitors, processes, monitor_number}
 use Rattle.source_semantics.specs.Run.{or_else}
 use Rattle.code_spec.specs.Layout.{Owner, by_program, by_process, by_monitor}
 use Rattle.code_spec.specs.Numbering.{Text, same_owner, routine_of, process_routines, entry_of, entry_in, texts_of as owned, texts_from}
 use Rattle.code_names.specs.First.{index_of}
 use Rattle.code_names.proofs.NameListTable.{get_some, named-index, place-index, or-none}
-use Rattle.syntax_tree.specs.declared.decl.Mon as code_monitor
+use Rattle.syntax_tree.specs.declared.decl.Monitor as code_monitor
 use Rattle.code_names.specs.Parts.{all_texts, monitor_of, seen_monitors}
 use Rattle.code_names.specs.Texts.{is_text, text_named}
 
@@ -48,7 +48,7 @@ found-none o p e f (r ∷ rs) = ap (λ b. cond (b && bytes_eq r.name f) (Some t)
 passed : (o p : Owner) → same_owner p o ≡ false → (f : Name) (rs : List Routine) (ts : List Text) → text_named o f (owned p rs ++ ts) ≡ text_named o f ts
 passed o p e f rs ts = found-append o f (owned p rs) ts ∙ ap (λ x. or_else x (text_named o f ts)) (found-none o p e f rs)
 
-pub of-program : (f : Name) (k m : ℕ) (ds : List Decl) → text_named by_program f (texts_from k m ds) ≡ routine_of by_program (filter_map routine_in ds) f
+pub of-program : (f : Name) (k m : ℕ) (ds : List Declaration) → text_named by_program f (texts_from k m ds) ≡ routine_of by_program (filter_map routine_in ds) f
 of-program f k m [] = refl
 of-program f k m (constant n c ∷ ds) = of-program f k m ds
 of-program f k m (device n is_out ∷ ds) = of-program f k m ds
@@ -63,7 +63,7 @@ of-program f k m (monitor d ∷ ds) = passed by_program (by_monitor m) refl f d.
 of-program f k m (process p ∷ ds) = passed by_program (by_process k) refl f p.routines (texts_from (suc k) m ds) ∙ of-program f (suc k) m ds
 
 -- no process of a later number has a routine of this one
-none-process : (f : Name) (j k m : ℕ) (ds : List Decl) → text_named (by_process j) f (texts_from (suc (j + k)) m ds) ≡ None
+none-process : (f : Name) (j k m : ℕ) (ds : List Declaration) → text_named (by_process j) f (texts_from (suc (j + k)) m ds) ≡ None
 none-process f j k m [] = refl
 none-process f j k m (constant n c ∷ ds) = none-process f j k m ds
 none-process f j k m (device n is_out ∷ ds) = none-process f j k m ds
@@ -74,7 +74,7 @@ none-process f j k m (process p ∷ ds) =
     passed (by_process j) (by_process (suc (j + k))) (ne_eqb (suc (j + k)) j (λ e. omega arith)) f p.routines (texts_from (suc (suc (j + k))) m ds)
     ∙ ap (λ n. text_named (by_process j) f (texts_from (suc n) m ds)) (omega arith) ∙ none-process f j (suc k) m ds
 
-none-monitor : (f : Name) (j k m : ℕ) (ds : List Decl) → text_named (by_monitor j) f (texts_from k (suc (j + m)) ds) ≡ None
+none-monitor : (f : Name) (j k m : ℕ) (ds : List Declaration) → text_named (by_monitor j) f (texts_from k (suc (j + m)) ds) ≡ None
 none-monitor f j k m [] = refl
 none-monitor f j k m (constant n c ∷ ds) = none-monitor f j k m ds
 none-monitor f j k m (device n is_out ∷ ds) = none-monitor f j k m ds
@@ -86,7 +86,7 @@ none-monitor f j k m (monitor d ∷ ds) =
     ∙ ap (λ n. text_named (by_monitor j) f (texts_from k (suc n) ds)) (omega arith) ∙ none-monitor f j k (suc m) ds
 
 -- the routines of process k + i, from the i-th process on
-pub of-process : (f : Name) (i k m : ℕ) (ds : List Decl) → text_named (by_process (k + i)) f (texts_from k m ds) ≡ routine_of (by_process (k + i)) (process_routines (slice_get (filter_map process_in ds) i)) f
+pub of-process : (f : Name) (i k m : ℕ) (ds : List Declaration) → text_named (by_process (k + i)) f (texts_from k m ds) ≡ routine_of (by_process (k + i)) (process_routines (slice_get (filter_map process_in ds) i)) f
 of-process f i k m [] = refl
 of-process f i k m (constant n c ∷ ds) = of-process f i k m ds
 of-process f i k m (device n is_out ∷ ds) = of-process f i k m ds
@@ -107,7 +107,7 @@ of-process f (suc i) k m (process p ∷ ds) =
     ∙ ap (λ n. text_named (by_process n) f (texts_from (suc k) m ds)) e ∙ of-process f i (suc k) m ds
     ∙ ap (λ n. routine_of (by_process n) (process_routines (slice_get (filter_map process_in ds) i)) f) (sym e)
 
-pub of-monitor : (f : Name) (i k m : ℕ) (ds : List Decl) → text_named (by_monitor (m + i)) f (texts_from k m ds) ≡ entry_of (m + i) (slice_get (filter_map monitor_in ds) i) f
+pub of-monitor : (f : Name) (i k m : ℕ) (ds : List Declaration) → text_named (by_monitor (m + i)) f (texts_from k m ds) ≡ entry_of (m + i) (slice_get (filter_map monitor_in ds) i) f
 of-monitor f i k m [] = refl
 of-monitor f i k m (constant n c ∷ ds) = of-monitor f i k m ds
 of-monitor f i k m (device n is_out ∷ ds) = of-monitor f i k m ds
@@ -130,30 +130,30 @@ of-monitor f (suc i) k m (monitor d ∷ ds) =
 
 -- ---- names in calls
 
-pub process-own : (g : Prog) (k : ℕ) (f : Name) → text_named (by_process k) f (all_texts g) ≡ routine_of (by_process k) (process_routines (slice_get (processes g) k)) f
+pub process-own : (g : Program) (k : ℕ) (f : Name) → text_named (by_process k) f (all_texts g) ≡ routine_of (by_process k) (process_routines (slice_get (processes g) k)) f
 process-own g k f =
     let e : 0 + k ≡ k = omega arith in
     let P : ℕ → Type 0 = λ n. text_named (by_process n) f (all_texts g) ≡ routine_of (by_process n) (process_routines (slice_get (processes g) k)) f in
     subst P e (of-process f k 0 0 g.decls)
 
-monitor-own : (g : Prog) (k : ℕ) (f : Name) → text_named (by_monitor k) f (all_texts g) ≡ entry_of k (slice_get (monitors g) k) f
+monitor-own : (g : Program) (k : ℕ) (f : Name) → text_named (by_monitor k) f (all_texts g) ≡ entry_of k (slice_get (monitors g) k) f
 monitor-own g k f =
     let e : 0 + k ≡ k = omega arith in
     let P : ℕ → Type 0 = λ n. text_named (by_monitor n) f (all_texts g) ≡ entry_of n (slice_get (monitors g) k) f in
     subst P e (of-monitor f k 0 0 g.decls)
 
-abbrev monitor_names : Prog → List Name
+abbrev monitor_names : Program → List Name
 monitor_names g = map (λ m. m.name) (monitors g)
 
-pub entry-meant : (g : Prog) (m f : Name) (k : ℕ) → index_of m (monitor_names g) ≡ Some k → text_named (by_monitor k) f (all_texts g) ≡ entry_in g m f
+pub entry-meant : (g : Program) (m f : Name) (k : ℕ) → index_of m (monitor_names g) ≡ Some k → text_named (by_monitor k) f (all_texts g) ≡ entry_in g m f
 entry-meant g m f k e =
     monitor-own g k f
     ∙ ap (λ n. entry_of n (slice_get (monitors g) k) f) (sym (ap (λ o. unwrap_or o (length (monitor_names g))) e) ∙ place-index m (monitor_names g))
     ∙ ap (λ o. entry_of (monitor_number g m) o f) (ap (get_some (monitors g)) (sym e) ∙ named-index (λ k. k.name) m (monitors g))
 
-pub entry-none : (g : Prog) (m f : Name) → index_of m (monitor_names g) ≡ None → None ≡ entry_in g m f
+pub entry-none : (g : Program) (m f : Name) → index_of m (monitor_names g) ≡ None → None ≡ entry_in g m f
 entry-none g m f e = ap (λ o. entry_of (monitor_number g m) o f) (ap (get_some (monitors g)) (sym e) ∙ named-index (λ k. k.name) m (monitors g))
 
-pub names-seen : (ms : List (Bor code_monitor.Mon)) → map (λ m. (monitor_of m).name) ms ≡ map (λ m. m.name) (seen_monitors ms)
+pub names-seen : (ms : List (Bor code_monitor.Monitor)) → map (λ m. (monitor_of m).name) ms ≡ map (λ m. m.name) (seen_monitors ms)
 names-seen [] = refl
 names-seen (m ∷ ms) = ap (λ ns. (monitor_of m).name ∷ ns) (names-seen ms)

@@ -2,14 +2,14 @@
 use Rattle.std.proofs.Common.{◌≡◌, ◌∙◌, sym, ap, refl, ℕ, suc, ◌+◌, Bool, true, false, cond, ◌||◌, List, [], ◌∷◌, ◌++◌, Option, Some, None, length, arith, length-append}
 use Rattle.std.specs.Prelude.{option_map, is_some, filter_map, unwrap_or, sum_by, fold}
 use Rattle.std.specs.List.{cons_option}
-use Rattle.syntax_tree.specs.Plain.{Decl, constant, device, event, routine, monitor, process, Routine, Prog}
+use Rattle.syntax_tree.specs.Plain.{Declaration, constant, device, event, routine, monitor, process, Routine, Program}
 use Rattle.source_semantics.specs.Names.{routines_in}
 use Rattle.code_spec.specs.Layout.{Owner, by_process, by_monitor}
 use Rattle.code_spec.specs.Numbering.{Text, Called, is_among, visit_some, visit_all, visit, visit_texts, called_text, routine_calls, numbered, number_of, place_among, texts_from, texts_of as owned}
 use Rattle.code_names.specs.Texts.{is_text, text_index}
 use Rattle.code_names.specs.Parts.{callees_of, all_texts}
 
-all-visited : (n : ℕ) (g : Prog) (means : Called → Option Text) (cs : List Called) (done : List Text) → visit_all (visit n g) means done cs ≡ visit_texts n g done (filter_map means cs)
+all-visited : (n : ℕ) (g : Program) (means : Called → Option Text) (cs : List Called) (done : List Text) → visit_all (visit n g) means done cs ≡ visit_texts n g done (filter_map means cs)
 all-visited n g means [] done = refl
 all-visited n g means (c ∷ cs) done = by-meaning (λ d. all-visited n g means cs d) (means c)
   where
@@ -18,7 +18,7 @@ all-visited n g means (c ∷ cs) done = by-meaning (λ d. all-visited n g means 
     by-meaning rest None = rest done
     by-meaning rest (Some t) = rest (visit n g done t)
 
-pub visit-zero : (n : ℕ) (g : Prog) (done : List Text) (t : Text) → n ≡ 0 → done ≡ visit n g done t
+pub visit-zero : (n : ℕ) (g : Program) (done : List Text) (t : Text) → n ≡ 0 → done ≡ visit n g done t
 unfolding visit
 visit-zero n g done t e = ap (λ k. visit k g done t) (sym e)
 
@@ -34,16 +34,16 @@ among-index t (u ∷ us) = by-test (among-index t us) (is_text t.owner t.routine
     by-test rest true = refl
     by-test rest false = rest ∙ sym (next (text_index t.owner t.routine.name us))
 
-stepped : (m : ℕ) (g : Prog) (done : List Text) (t : Text) → visit (suc m) g done t ≡ cond (is_among t done) done (visit_all (visit m g) (called_text g t.owner) done (routine_calls t.routine) ++ t ∷ [])
+stepped : (m : ℕ) (g : Program) (done : List Text) (t : Text) → visit (suc m) g done t ≡ cond (is_among t done) done (visit_all (visit m g) (called_text g t.owner) done (routine_calls t.routine) ++ t ∷ [])
 unfolding visit
 stepped m g done t = refl
 
-pub visit-done : (n m : ℕ) (g : Prog) (done : List Text) (t : Text) → n ≡ suc m → is_some (text_index t.owner t.routine.name done) ≡ true → done ≡ visit n g done t
+pub visit-done : (n m : ℕ) (g : Program) (done : List Text) (t : Text) → n ≡ suc m → is_some (text_index t.owner t.routine.name done) ≡ true → done ≡ visit n g done t
 visit-done n m g done t e among =
     sym (ap (λ k. visit k g done t) e ∙ stepped m g done t
     ∙ ap (λ b. cond b done (visit_all (visit m g) (called_text g t.owner) done (routine_calls t.routine) ++ t ∷ [])) (among-index t done ∙ among))
 
-pub visit-next : (n m : ℕ) (g : Prog) (done : List Text) (t : Text) → n ≡ suc m → is_some (text_index t.owner t.routine.name done) ≡ false → visit_texts m g done (callees_of g t) ++ t ∷ [] ≡ visit n g done t
+pub visit-next : (n m : ℕ) (g : Program) (done : List Text) (t : Text) → n ≡ suc m → is_some (text_index t.owner t.routine.name done) ≡ false → visit_texts m g done (callees_of g t) ++ t ∷ [] ≡ visit n g done t
 visit-next n m g done t e among =
     sym (ap (λ k. visit k g done t) e ∙ stepped m g done t
     ∙ ap (λ b. cond b done (visit_all (visit m g) (called_text g t.owner) done (routine_calls t.routine) ++ t ∷ [])) (among-index t done ∙ among)
@@ -51,7 +51,7 @@ visit-next n m g done t e among =
 
 -- ---- all routines
 
-fold-from : (a : ℕ) (ds : List Decl) → fold (λ s d. s + routines_in d) a ds ≡ a + sum_by routines_in ds
+fold-from : (a : ℕ) (ds : List Declaration) → fold (λ s d. s + routines_in d) a ds ≡ a + sum_by routines_in ds
 fold-from a [] = omega arith
 fold-from a (d ∷ ds) =
     let first = fold-from (a + routines_in d) ds in
@@ -62,7 +62,7 @@ owned-length : (o : Owner) (rs : List Routine) → length (owned o rs) ≡ lengt
 owned-length o [] = refl
 owned-length o (r ∷ rs) = ap (λ n. suc n) (owned-length o rs)
 
-pub count-texts : (k m : ℕ) (ds : List Decl) → length (texts_from k m ds) ≡ sum_by routines_in ds
+pub count-texts : (k m : ℕ) (ds : List Declaration) → length (texts_from k m ds) ≡ sum_by routines_in ds
 count-texts k m [] = refl
 count-texts k m (constant n c ∷ ds) = count-texts k m ds
 count-texts k m (device n is_out ∷ ds) = count-texts k m ds
@@ -81,7 +81,7 @@ count-texts k m (process p ∷ ds) =
     let o = owned-length (by_process k) p.routines in
     omega (arith, rest, f, l, o)
 
-pub numbered-is : (n : ℕ) (g : Prog) → n ≡ length (all_texts g) → visit_texts n g [] (all_texts g) ≡ numbered g
+pub numbered-is : (n : ℕ) (g : Program) → n ≡ length (all_texts g) → visit_texts n g [] (all_texts g) ≡ numbered g
 unfolding numbered
 numbered-is n g e = ap (λ k. visit_texts k g [] (all_texts g)) (e ∙ count-texts 0 0 g.decls)
 
@@ -98,9 +98,9 @@ place-among t (u ∷ us) = by-test (place-among t us) (is_text t.owner t.routine
     by-test rest true = refl
     by-test rest false = later (text_index t.owner t.routine.name us) (length us) ∙ ap (λ k. suc k) rest
 
-pub number-is : (g : Prog) (t : Text) → unwrap_or (text_index t.owner t.routine.name (numbered g)) (length (numbered g)) ≡ number_of g t
+pub number-is : (g : Program) (t : Text) → unwrap_or (text_index t.owner t.routine.name (numbered g)) (length (numbered g)) ≡ number_of g t
 unfolding number_of
 number-is g t = place-among t (numbered g)
 
-pub number-found : (g : Prog) (t : Text) (us : List Text) (o : Option ℕ) → o ≡ text_index t.owner t.routine.name us → us ≡ numbered g → unwrap_or o (length us) ≡ number_of g t
+pub number-found : (g : Program) (t : Text) (us : List Text) (o : Option ℕ) → o ≡ text_index t.owner t.routine.name us → us ≡ numbered g → unwrap_or o (length us) ≡ number_of g t
 number-found g t us o e is = ap (λ x. unwrap_or x (length us)) e ∙ ap (λ l. unwrap_or (text_index t.owner t.routine.name l) (length l)) is ∙ number-is g t

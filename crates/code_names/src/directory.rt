@@ -12,26 +12,26 @@ ghost use Rattle.code_names.specs.Parts.{seen_monitors, seen_processes, all_text
 
 use crate::NameList;
 use crate::calls::{Called, routine_calls};
-use crate::parts::{Parts, parts_of};
-use crate::text::{Owner, Text};
+use crate::parts::{ProgramParts, parts_of};
+use crate::text::{Body, RoutineOwner};
 use crate::text_list::TextList;
 use std::alloc::{AllocError, Global};
 use std::marker::Model;
-use syntax_tree::{Mon, Name, Proc, Prog};
+use syntax_tree::{Monitor, Name, Process, Program};
 
 /// The routines, monitors and processes of a program, in which those that names mean are found at
 /// once.
 #[derive(Drop)]
 pub struct Directory<'a> {
-    program: &'a Prog,
-    parts: Parts<'a>,
+    program: &'a Program,
+    parts: ProgramParts<'a>,
     monitor_names: NameList<'a>,
 }
 
 impl<'a> Model for Directory<'a> {
     ghost use Rattle.std.specs.Coded.{codes};
-    ghost use Rattle.syntax_tree.specs.declared.decl.Prog.{Prog as Tree};
-    ghost use Rattle.syntax_tree.specs.contracts.decl.Prog as tree;
+    ghost use Rattle.syntax_tree.specs.declared.decl.Program.{Program as Tree};
+    ghost use Rattle.syntax_tree.specs.contracts.decl.Program as tree;
     ghost use Rattle.syntax_tree.specs.Placed.{placed, plain};
     ghost use Rattle.code_names.specs.Parts.{IsDirectory};
 
@@ -45,7 +45,7 @@ impl<'a> Model for Directory<'a> {
 }
 
 /// The names of monitors.
-fn monitor_names<'a>(alloc: Global, monitors: &[&'a Mon]) -> Result<NameList<'a>, AllocError>
+fn monitor_names<'a>(alloc: Global, monitors: &[&'a Monitor]) -> Result<NameList<'a>, AllocError>
     ensures { IfOk result (λ names. names ≡ map (λ m. (monitor_of m).name) monitors.now) }
 {
     let mut names = Vec::new(alloc);
@@ -57,7 +57,7 @@ fn monitor_names<'a>(alloc: Global, monitors: &[&'a Mon]) -> Result<NameList<'a>
 }
 
 impl<'a> Directory<'a> {
-    pub fn new(alloc: Global, program: &'a Prog) -> Result<Directory<'a>, AllocError>
+    pub fn new(alloc: Global, program: &'a Program) -> Result<Directory<'a>, AllocError>
         ensures { IfOk result (λ d. d ≡ program.now) }
     {
         let parts = parts_of(alloc, program)?;
@@ -69,26 +69,26 @@ impl<'a> Directory<'a> {
         })
     }
 
-    pub fn program(&self) -> &'a Prog
+    pub fn program(&self) -> &'a Program
         ensures { result.now ≡ self.now }
     {
         self.program
     }
 
-    pub fn monitors(&self) -> &[&'a Mon]
+    pub fn monitors(&self) -> &[&'a Monitor]
         ensures { seen_monitors result.now ≡ monitors_in (plain (placed self.now)) }
     {
         self.parts.monitors.as_slice()
     }
 
-    pub fn processes(&self) -> &[&'a Proc]
+    pub fn processes(&self) -> &[&'a Process]
         ensures { seen_processes result.now ≡ processes_in (plain (placed self.now)) }
     {
         self.parts.processes.as_slice()
     }
 
     /// The first routine or entry of that owner and name.
-    fn own(&self, owner: Owner, name: &Name) -> Option<Text<'a>>
+    fn own(&self, owner: RoutineOwner, name: &Name) -> Option<Body<'a>>
         ensures { option_map text_of result ≡
             text_named (owner_of owner) name.now (all_texts (plain (placed self.now))) }
     {
@@ -96,20 +96,20 @@ impl<'a> Directory<'a> {
     }
 
     /// The routine of the program of that name.
-    fn in_program(&self, name: &Name) -> Option<Text<'a>>
+    fn in_program(&self, name: &Name) -> Option<Body<'a>>
         ensures { option_map text_of result ≡
             routine_of by_program (routines_in (plain (placed self.now))) name.now }
     {
-        self.own(Owner::Program, name)
+        self.own(RoutineOwner::Program, name)
     }
 
     /// The routine that a call in a text of a process names: one of the process, else one of the
     /// program.
-    fn in_process(&self, number: usize, name: &Name) -> Option<Text<'a>>
+    fn in_process(&self, number: usize, name: &Name) -> Option<Body<'a>>
         ensures { option_map text_of result ≡
             routine_in (plain (placed self.now)) (by_process number) name.now }
     {
-        match self.own(Owner::Process(number), name) {
+        match self.own(RoutineOwner::Process(number), name) {
             Some(text) => Some(text),
             None => self.in_program(name),
         }
@@ -117,30 +117,30 @@ impl<'a> Directory<'a> {
 
     /// The routine that a call in a text of the owner names: one of the process whose text it is,
     /// else one of the program; `None` where it names none.
-    pub fn routine(&self, owner: Owner, name: &Name) -> Option<Text<'a>>
+    pub fn routine(&self, owner: RoutineOwner, name: &Name) -> Option<Body<'a>>
         ensures { option_map text_of result ≡
             routine_in (plain (placed self.now)) (owner_of owner) name.now }
     {
         match owner {
-            Owner::Program => self.in_program(name),
-            Owner::Process(number) => self.in_process(number, name),
-            Owner::Monitor(_) => self.in_program(name),
+            RoutineOwner::Program => self.in_program(name),
+            RoutineOwner::Process(number) => self.in_process(number, name),
+            RoutineOwner::Monitor(_) => self.in_program(name),
         }
     }
 
     /// The entry that a call names, of the monitor that it names; `None` where it names none.
-    pub fn entry(&self, monitor: &Name, name: &Name) -> Option<Text<'a>>
+    pub fn entry(&self, monitor: &Name, name: &Name) -> Option<Body<'a>>
         ensures { option_map text_of result ≡
             entry_in (plain (placed self.now)) monitor.now name.now }
     {
         match self.monitor_names.index(monitor) {
-            Some(number) => self.own(Owner::Monitor(number), name),
+            Some(number) => self.own(RoutineOwner::Monitor(number), name),
             None => None,
         }
     }
 
     /// What a call in a text of the owner names.
-    pub fn called(&self, owner: Owner, called: &Called<'_>) -> Option<Text<'a>>
+    pub fn called(&self, owner: RoutineOwner, called: &Called<'_>) -> Option<Body<'a>>
         ensures { option_map text_of result ≡
             called_text (plain (placed self.now)) (owner_of owner) (called_of called.now) }
     {
@@ -158,7 +158,7 @@ impl<'a> Directory<'a> {
     }
 
     /// What a routine calls, in the order of the calls.
-    pub fn callees(&self, alloc: Global, text: Text<'a>) -> Result<Vec<Text<'a>>, AllocError>
+    pub fn callees(&self, alloc: Global, text: Body<'a>) -> Result<Vec<Body<'a>>, AllocError>
         ensures { IfOk result (λ list. texts_of list.items ≡
             callees_of (plain (placed self.now)) (text_of text.entry)) }
     {
@@ -172,7 +172,7 @@ impl<'a> Directory<'a> {
 }
 
 /// Lists what is called, if something is.
-fn list_callee<'a>(list: &mut Vec<Text<'a>>, callee: Option<Text<'a>>) -> Result<(), AllocError>
+fn list_callee<'a>(list: &mut Vec<Body<'a>>, callee: Option<Body<'a>>) -> Result<(), AllocError>
     ensures { OnOk result ((rest : List SpecText) → texts_of list.new.items ++ rest ≡
         texts_of list.old.items ++ cons_option (option_map text_of callee.entry) rest) }
 {

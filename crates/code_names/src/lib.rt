@@ -19,5 +19,5 @@ pub use calls::Called;
 pub use directory::Directory;
 pub use name_list::NameList;
 pub use numbering::Numbering;
-pub use text::{Owner, Text};
+pub use text::{Body, RoutineOwner};
 pub use text_list::TextList;

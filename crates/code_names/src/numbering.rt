@@ -7,11 +7,11 @@ ghost use Rattle.code_names.specs.Texts.{text_of, texts_of};
 
 use crate::directory::Directory;
 use crate::order::ordered;
-use crate::text::Text;
+use crate::text::Body;
 use crate::text_list::TextList;
 use std::alloc::{AllocError, Global};
 use std::marker::Model;
-use syntax_tree::Prog;
+use syntax_tree::Program;
 
 /// The routines and entries of a program by their numbers. Those that a routine calls have lower
 /// numbers, where none reaches itself by calls.
@@ -24,8 +24,8 @@ pub struct Numbering<'a> {
 impl<'a> Model for Numbering<'a> {
     ghost use Rattle.std.specs.Prelude.{◌≡◌};
     ghost use Rattle.std.specs.Coded.{codes};
-    ghost use Rattle.syntax_tree.specs.declared.decl.Prog.{Prog as Tree};
-    ghost use Rattle.syntax_tree.specs.contracts.decl.Prog as tree;
+    ghost use Rattle.syntax_tree.specs.declared.decl.Program.{Program as Tree};
+    ghost use Rattle.syntax_tree.specs.contracts.decl.Program as tree;
     ghost use Rattle.code_names.specs.Parts.{IsNumbered};
 
     ghost Value = { Tree };
@@ -39,7 +39,7 @@ impl<'a> Model for Numbering<'a> {
 
 impl<'a> Numbering<'a> {
     /// Numbers the routines of a program, in time in proportion to its text.
-    pub fn new(alloc: Global, program: &'a Prog) -> Result<Numbering<'a>, AllocError>
+    pub fn new(alloc: Global, program: &'a Program) -> Result<Numbering<'a>, AllocError>
         ensures { IfOk result (λ n. n ≡ program.now) }
     {
         let directory = Directory::new(alloc, program)?;
@@ -62,7 +62,7 @@ impl<'a> Numbering<'a> {
     }
 
     /// The number of a routine; the count of routines where it has none.
-    pub fn number(&self, text: Text<'_>) -> usize
+    pub fn number(&self, text: Body<'_>) -> usize
         ensures { result ≡ number_of (plain (placed self.now)) (text_of text.entry) }
     {
         match self.order.index(text.owner, &text.routine.name) {

@@ -6,7 +6,7 @@ ghost use Rattle.code_spec.specs.Numbering.{visit as visit_of, numbered};
 ghost use Rattle.code_names.specs.Texts.{text_of, texts_of};
 
 use crate::directory::Directory;
-use crate::text::Text;
+use crate::text::Body;
 use crate::text_list::TextList;
 use std::alloc::{AllocError, Global};
 
@@ -17,7 +17,7 @@ fn visit<'a>(
     depth: usize,
     directory: &Directory<'a>,
     done: &mut TextList<'a>,
-    text: Text<'a>,
+    text: Body<'a>,
 ) -> Result<(), AllocError>
     ensures { OnOk result (texts_of done.new ≡
         visit_of depth (plain (placed directory.now)) (texts_of done.old) (text_of text.entry)) }

@@ -1,43 +1,43 @@
 //! The routines, monitors and processes of a program, in the order of the text.
 
 ghost use Rattle.std.specs.Prelude.{◌≡◌, IfOk, OnOk, List, ◌∷◌, ◌++◌, length, map};
-ghost use Rattle.syntax_tree.specs.Plain.{Decl as SpecDecl};
+ghost use Rattle.syntax_tree.specs.Plain.{Declaration as SpecDecl};
 ghost use Rattle.syntax_tree.specs.Placed.{placed, placed_decl, placed_routine, plain, plain_decl, plain_routine};
 ghost use Rattle.source_semantics.specs.Names.{monitors as monitors_in, processes as processes_in};
 ghost use Rattle.code_spec.specs.Numbering.{texts_of as owned, texts_from};
 ghost use Rattle.code_names.specs.Texts.{owner_of, texts_of};
 ghost use Rattle.code_names.specs.Parts.{seen_monitors, seen_processes, monitors_of, processes_of};
 
-use crate::text::{Owner, Text};
+use crate::text::{Body, RoutineOwner};
 use crate::text_list::TextList;
 use std::alloc::{AllocError, Global};
-use syntax_tree::{Decl, Mon, Proc, Prog, Routine};
+use syntax_tree::{Declaration, Monitor, Process, Program, Routine};
 
 /// The routines and entries of a program, its monitors and its processes.
 #[derive(Drop)]
-pub struct Parts<'a> {
+pub struct ProgramParts<'a> {
     pub texts: TextList<'a>,
-    pub monitors: Vec<&'a Mon>,
-    pub processes: Vec<&'a Proc>,
+    pub monitors: Vec<&'a Monitor>,
+    pub processes: Vec<&'a Process>,
 }
 
 /// Lists routines of one owner behind those before.
 fn list_all<'a>(
     texts: &mut TextList<'a>,
-    owner: Owner,
+    owner: RoutineOwner,
     routines: &'a [Routine],
 ) -> Result<(), AllocError>
     ensures { OnOk result (texts_of texts.new ≡ texts_of texts.old ++
         owned (owner_of owner) (map plain_routine (map placed_routine routines.now))) }
 {
     for routine in routines {
-        texts.push(Text { owner, routine })?;
+        texts.push(Body { owner, routine })?;
     }
     Ok(())
 }
 
 /// Lists the parts of a declaration.
-fn list_decl<'a>(parts: &mut Parts<'a>, decl: &'a Decl) -> Result<(), AllocError>
+fn list_decl<'a>(parts: &mut ProgramParts<'a>, decl: &'a Declaration) -> Result<(), AllocError>
     ensures texts { OnOk result ((rest : List SpecDecl) → texts_of parts.new.texts ++
         texts_from (length parts.new.processes.items) (length parts.new.monitors.items) rest ≡
         texts_of parts.old.texts ++ texts_from (length parts.old.processes.items)
@@ -52,22 +52,24 @@ fn list_decl<'a>(parts: &mut Parts<'a>, decl: &'a Decl) -> Result<(), AllocError
         processes_of (plain_decl (placed_decl decl.now) ∷ rest)) }
 {
     match decl {
-        Decl::Const { .. } | Decl::Device { .. } | Decl::Event { .. } => Ok(()),
-        Decl::Routine(routine) => {
-            parts.texts.push(Text {
-                owner: Owner::Program,
+        Declaration::Const { .. } | Declaration::Device { .. } | Declaration::Event { .. } => Ok(
+            (),
+        ),
+        Declaration::Routine(routine) => {
+            parts.texts.push(Body {
+                owner: RoutineOwner::Program,
                 routine,
             })?;
             Ok(())
         }
-        Decl::Mon(monitor) => {
-            let owner = Owner::Monitor(parts.monitors.as_slice().len());
+        Declaration::Monitor(monitor) => {
+            let owner = RoutineOwner::Monitor(parts.monitors.as_slice().len());
             list_all(&mut parts.texts, owner, monitor.entries.as_slice())?;
             parts.monitors.push(monitor)?;
             Ok(())
         }
-        Decl::Proc(process) => {
-            let owner = Owner::Process(parts.processes.as_slice().len());
+        Declaration::Process(process) => {
+            let owner = RoutineOwner::Process(parts.processes.as_slice().len());
             list_all(&mut parts.texts, owner, process.routines.as_slice())?;
             parts.processes.push(process)?;
             Ok(())
@@ -76,7 +78,7 @@ fn list_decl<'a>(parts: &mut Parts<'a>, decl: &'a Decl) -> Result<(), AllocError
 }
 
 /// All parts of a program.
-pub fn parts_of<'a>(alloc: Global, program: &'a Prog) -> Result<Parts<'a>, AllocError>
+pub fn parts_of<'a>(alloc: Global, program: &'a Program) -> Result<ProgramParts<'a>, AllocError>
     ensures texts { IfOk result (λ parts. texts_of parts.texts ≡
         texts_from 0 0 (plain (placed program.now)).decls) }
     ensures monitors { IfOk result (λ parts. seen_monitors parts.monitors.items ≡
@@ -84,7 +86,7 @@ pub fn parts_of<'a>(alloc: Global, program: &'a Prog) -> Result<Parts<'a>, Alloc
     ensures processes { IfOk result (λ parts. seen_processes parts.processes.items ≡
         processes_in (plain (placed program.now))) }
 {
-    let mut parts = Parts {
+    let mut parts = ProgramParts {
         texts: TextList::new(alloc),
         monitors: Vec::new(alloc),
         processes: Vec::new(alloc),

@@ -4,7 +4,7 @@ use syntax_tree::Routine;
 
 /// Whose a routine is: the program's, or that of a process or a monitor by its number.
 #[derive(Clone, Copy, Debug, PartialEq, Eq, Hash)]
-pub enum Owner {
+pub enum RoutineOwner {
     Program,
     Process(usize),
     Monitor(usize),
@@ -12,7 +12,7 @@ pub enum Owner {
 
 /// A routine, or an entry of a monitor.
 #[derive(Clone, Copy)]
-pub struct Text<'a> {
-    pub owner: Owner,
+pub struct Body<'a> {
+    pub owner: RoutineOwner,
     pub routine: &'a Routine,
 }

@@ -3,26 +3,26 @@
 ghost use Rattle.std.specs.Prelude.{◌≡◌, ◌++◌, ◌∷◌, [], length, slice_get, option_map, OnOk, OnErr};
 ghost use Rattle.code_names.specs.Texts.{owner_of, text_of, texts_of, text_index, text_named, first_text, with_first};
 
-use crate::text::{Owner, Text};
+use crate::text::{Body, RoutineOwner};
 use indexmap::IndexMap;
 use std::alloc::{AllocError, Global};
 use std::marker::Model;
 use syntax_tree::Name;
 
 /// For each owner and name the index of the first in the list.
-type Indexes<'a> = IndexMap<(Owner, &'a [u8]), usize>;
+type Indexes<'a> = IndexMap<(RoutineOwner, &'a [u8]), usize>;
 
 /// Routines in an order of their own, in which the first of an owner and a name is found at once.
 #[derive(Drop)]
 pub struct TextList<'a> {
-    texts: Vec<Text<'a>>,
+    texts: Vec<Body<'a>>,
     first: Indexes<'a>,
 }
 
 impl<'a> Model for TextList<'a> {
     ghost use Rattle.std.specs.Prelude.{List};
     ghost use Rattle.std.specs.Coded.{codes};
-    ghost use Rattle.code_names.specs.declared.text.Text.{Text as Item};
+    ghost use Rattle.code_names.specs.declared.text.Body.{Body as Item};
     ghost use Rattle.syntax_tree.specs.contracts.decl.Routine as tree;
     ghost use Rattle.code_names.specs.Texts.{texts_of, HasFirsts};
 
@@ -38,7 +38,7 @@ impl<'a> Model for TextList<'a> {
 /// Keeps the index of a routine, unless one of its owner and name has one.
 fn keep<'a>(
     first: &mut Indexes<'a>,
-    owner: Owner,
+    owner: RoutineOwner,
     name: &'a [u8],
     index: usize,
 ) -> Result<(), AllocError>
@@ -69,27 +69,27 @@ impl<'a> TextList<'a> {
         self.texts.len()
     }
 
-    pub fn as_slice(&self) -> &[Text<'a>]
+    pub fn as_slice(&self) -> &[Body<'a>]
         ensures { result.now ≡ self.now }
     {
         self.texts.as_slice()
     }
 
-    pub fn get(&self, index: usize) -> Option<Text<'a>>
+    pub fn get(&self, index: usize) -> Option<Body<'a>>
         ensures { result ≡ slice_get self.now index }
     {
         self.texts.get(index).copied()
     }
 
     /// The index of the first routine of that owner and name, from 0; `None` where there is none.
-    pub fn index(&self, owner: Owner, name: &Name) -> Option<usize>
+    pub fn index(&self, owner: RoutineOwner, name: &Name) -> Option<usize>
         ensures { result ≡ text_index (owner_of owner) name.now (texts_of self.now) }
     {
         self.first.get(&(owner, name.as_bytes())).copied()
     }
 
     /// The first routine of that owner and name; `None` where there is none.
-    pub fn find(&self, owner: Owner, name: &Name) -> Option<Text<'a>>
+    pub fn find(&self, owner: RoutineOwner, name: &Name) -> Option<Body<'a>>
         ensures { option_map text_of result ≡
             text_named (owner_of owner) name.now (texts_of self.now) }
     {
@@ -98,7 +98,7 @@ impl<'a> TextList<'a> {
     }
 
     /// Puts a routine at the end.
-    pub fn push(&mut self, text: Text<'a>) -> Result<(), AllocError>
+    pub fn push(&mut self, text: Body<'a>) -> Result<(), AllocError>
         ensures { OnOk result (self.new ≡ self.old ++ text.entry ∷ []) }
     {
         let index = self.texts.as_slice().len();

@@ -2,7 +2,7 @@
 use Rattle.std.specs.Prelude.{◌≡◌, ◌++◌, Bool, true, List, [], ◌∷◌, Option, Some, None, IsSome, option_map, Contains}
 use Rattle.std.proofs.Common.{inl, inr, refl, subst, ℕ, zero, suc, ◌<◌, length, slice_index_or, arith}
 use Rattle.std.proofs.lemmas.Option.{none-some}
-use Rattle.syntax_tree.specs.Plain.{Name, Param, Expr, literal, truth, variable, element, call, minus, negation, paren, row, Exprs, no_exprs, exprs, Operands, no_operands, operand, Ref, whole, part, Stmt, assign, assign_entry, assign_empty, perform, perform_entry, when, when_else, loop, exit_when, get, put, wait, signal, broadcast, except, assert, Stmts, no_stmts, stmts, Answers, Process, Prog}
+use Rattle.syntax_tree.specs.Plain.{Name, Param, Expr, literal, truth, variable, element, call, minus, negation, paren, row, Exprs, no_exprs, exprs, Operands, no_operands, operand, Ref, whole, part, Stmt, assign, assign_entry, assign_empty, perform, perform_entry, when, when_else, loop, exit_when, get, put, wait, signal, broadcast, except, assert, Stmts, no_stmts, stmts, Answers, Process, Program}
 use Rattle.static_declarations.specs.declared.sort.Sort.{Sort}
 use Rattle.static_declarations.specs.declared.sort.Sort.TheVariants as sort_is
 use Rattle.source_semantics.specs.Run.{Found, routine_named, entry_named}
@@ -43,7 +43,7 @@ called_all P (c ∷ cs) h = (h c (0, omega arith, refl), called_all P cs (λ d i
 
 -- ---- what is found
 
-function_found : (g : Prog) (p : Process) (may : Bool) (f : Name) (s : Sort) → answer_sort (routine_named g p f) ≡ Some s → FindsRoutine g p may f
+function_found : (g : Program) (p : Process) (may : Bool) (f : Name) (s : Sort) → answer_sort (routine_named g p f) ≡ Some s → FindsRoutine g p may f
 function_found g p may f s e = by (routine_named g p f) refl e
   where
     answers : (a : Option Answers) → option_map (λ x. sort_of x.kind) a ≡ Some s → IsSome a
@@ -125,7 +125,7 @@ mutual
   stmts_find no_stmts h k = tt
   stmts_find (stmts s ss) h k = called_both (P h) (stmt_calls s) (stmts_calls ss) (stmt_finds s h k.0) (stmts_find ss h k.1)
 
-answers_find : (h : Here) (g : Prog) (a : Option Answers) → AnswersFit g h a → AllCalled (Finds h.program h.process (may_call h)) (answers_calls a)
+answers_find : (h : Here) (g : Program) (a : Option Answers) → AnswersFit g h a → AllCalled (Finds h.program h.process (may_call h)) (answers_calls a)
 answers_find h g None k = tt
 answers_find h g (Some a) k = expr_finds h a.value (sort_of a.kind) k.1
 

@@ -4,7 +4,7 @@ use Rattle.std.proofs.Common.{inl, inr, refl, sym, ◌∙◌, ap, subst, arith, 
 use Rattle.std.proofs.lemmas.Bool.{lt-ltb, ltb-true}
 use Rattle.std.proofs.lemmas.List.Sums.{count_by-le-length}
 use Rattle.std.proofs.lemmas.Option.{none-some, same_Some}
-use Rattle.syntax_tree.specs.Plain.{Name, Answers, Expr, literal, truth, variable, element, call, minus, negation, paren, row, Exprs, no_exprs, exprs, Operands, no_operands, operand, Ref, whole, part, Stmt, assign, assign_entry, assign_empty, perform, perform_entry, when, when_else, loop, exit_when, get, put, wait, signal, broadcast, except, assert, Stmts, no_stmts, stmts, Routine, Monitor, Process, Prog}
+use Rattle.syntax_tree.specs.Plain.{Name, Answers, Expr, literal, truth, variable, element, call, minus, negation, paren, row, Exprs, no_exprs, exprs, Operands, no_operands, operand, Ref, whole, part, Stmt, assign, assign_entry, assign_empty, perform, perform_entry, when, when_else, loop, exit_when, get, put, wait, signal, broadcast, except, assert, Stmts, no_stmts, stmts, Routine, Monitor, Process, Program}
 use Rattle.source_semantics.specs.Names.{named, routines, monitors, processes, monitor_number, routine_count}
 use Rattle.source_semantics.specs.Run.{Home, of_program, of_process, of_monitor, or_else, entry_name, routine_named}
 use Rattle.source_semantics.specs.Nesting.{ExprBelow, ExprsBelow, OperandsBelow, RefBelow, StmtBelow, StmtsBelow, AnswersBelow, Levels}
@@ -115,7 +115,7 @@ entry_below false m n e = omega arith
 below_all : (n k : ℕ) → n < n + n + 1 + k
 below_all n k = omega arith
 
-module _ (g : Prog) (form : IsWellFormed g) (names : NamesApart g) where
+module _ (g : Program) (form : IsWellFormed g) (names : NamesApart g) where
   -- levels for each process
   levels_of : (k : ℕ) → (level : Name → ℕ) × ((p : Process) → slice_get (processes g) k ≡ Some p → Levels g p level)
   levels_of k = by (slice_get (processes g) k) refl

@@ -6,7 +6,7 @@ use Rattle.std.proofs.lemmas.List.Sums.{sum_by-cons, count_by-le-length}
 use Rattle.std.proofs.lemmas.Option.{none-some}
 use Rattle.std.proofs.lemmas.Bool.{false≢true}
 use Rattle.base.proofs.Members.{at_front, behind, front_or_behind, none_in}
-use Rattle.syntax_tree.specs.Plain.{Monitor, Process, Decl, constant, device, event, routine, monitor, process, Prog}
+use Rattle.syntax_tree.specs.Plain.{Monitor, Process, Declaration, constant, device, event, routine, monitor, process, Program}
 use Rattle.source_semantics.specs.Names.{routines, monitors, processes, routines_in, routine_count}
 use Rattle.code_spec.specs.Layout.{Owner, by_program, by_process, by_monitor}
 use Rattle.code_spec.specs.Numbering.{Text, same_text, routine_of, process_routines, entry_of, is_among, texts_of, texts_from, numbered, number_of}
@@ -18,7 +18,7 @@ use Rattle.code_names_law.proofs.Visits.{Good, nothing_done, all_good}
 
 -- ---- texts are those of the declarations
 
-is_among_texts : (g : Prog) (t : Text) → IsText g t → is_among t (texts g) ≡ true
+is_among_texts : (g : Program) (t : Text) → IsText g t → is_among t (texts g) ≡ true
 is_among_texts g t is = by t.owner refl is
   where
     whole : (o : Owner) → t.owner ≡ o → is_among (record { owner = o; routine = t.routine }) (texts g) ≡ true → is_among t (texts g) ≡ true
@@ -38,7 +38,7 @@ is_among_texts g t is = by t.owner refl is
     by (by_process k) e h = whole (by_process k) e (in_process k (slice_get (processes g) k) refl (subst (λ o. text_named g o t.routine.name ≡ Some t) e h))
     by (by_monitor k) e h = whole (by_monitor k) e (in_monitor k (slice_get (monitors g) k) refl (subst (λ o. text_named g o t.routine.name ≡ Some t) e h))
 
-among_contains : (g : Prog) (us : List Text) (t : Text) → AllTexts g us → IsText g t → is_among t us ≡ true → Contains us t
+among_contains : (g : Program) (us : List Text) (t : Text) → AllTexts g us → IsText g t → is_among t us ≡ true → Contains us t
 among_contains g [] t all is h = absurd (false≢true h)
 among_contains g (u ∷ us) t all is h = by (same_text u t) refl h (λ k. among_contains g us t all.1 is k)
   where
@@ -46,7 +46,7 @@ among_contains g (u ∷ us) t all is h = by (same_text u t) refl h (λ k. among_
     by true e h k = subst (Contains (u ∷ us)) (text_same g u t all.0 is e) (at_front u us)
     by false e h k = behind u us t (k h)
 
-contained_text : (g : Prog) (us : List Text) (t : Text) → AllTexts g us → Contains us t → IsText g t
+contained_text : (g : Program) (us : List Text) (t : Text) → AllTexts g us → Contains us t → IsText g t
 contained_text g [] t all h = absurd (none_in t h)
 contained_text g (u ∷ us) t all h = by (front_or_behind u us t h) (λ k. contained_text g us t all.1 k)
   where
@@ -54,7 +54,7 @@ contained_text g (u ∷ us) t all h = by (front_or_behind u us t h) (λ k. conta
     by (inl e) k = subst (IsText g) e all.0
     by (inr h) k = k h
 
-module _ (g : Prog) (differ : NamesDiffer g) where
+module _ (g : Program) (differ : NamesDiffer g) where
   pub text_listed : (t : Text) → IsText g t → Contains (texts g) t
   text_listed t is = among_contains g (texts g) t (program_texts g differ) is (is_among_texts g t is)
 
@@ -63,7 +63,7 @@ module _ (g : Prog) (differ : NamesDiffer g) where
 
 -- ---- how many texts there are
 
-count_texts : (k m : ℕ) (ds : List Decl) → length (texts_from k m ds) ≡ sum_by routines_in ds
+count_texts : (k m : ℕ) (ds : List Declaration) → length (texts_from k m ds) ≡ sum_by routines_in ds
 count_texts k m [] = refl
 count_texts k m (routine r ∷ ds) = let sum = sum_by-cons routines_in (routine r) ds in let rest = count_texts k m ds in omega arith
 count_texts k m (monitor d ∷ ds) =
@@ -82,7 +82,7 @@ count_texts k m (constant n c ∷ ds) = let sum = sum_by-cons routines_in (const
 count_texts k m (device n b ∷ ds) = let sum = sum_by-cons routines_in (device n b) ds in let rest = count_texts k m ds in omega arith
 count_texts k m (event n ∷ ds) = let sum = sum_by-cons routines_in (event n) ds in let rest = count_texts k m ds in omega arith
 
-pub texts_counted : (g : Prog) → length (texts g) ≡ routine_count g
+pub texts_counted : (g : Program) → length (texts g) ≡ routine_count g
 texts_counted g = count_texts 0 0 g.decls
 
 -- ---- the law

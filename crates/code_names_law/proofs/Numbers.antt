@@ -4,7 +4,7 @@ use Rattle.std.proofs.Common.{inl, inr, refl, sym, ◌∙◌, ap, subst}
 use Rattle.std.proofs.lemmas.Bool.{eq-eqb, eqb-true, and_parts, false≢true, or_cases}
 use Rattle.std.proofs.lemmas.Slice.Eq.{bytes_eq-Decides}
 use Rattle.std.proofs.lemmas.Option.{same_Some, none-some}
-use Rattle.syntax_tree.specs.Plain.{Name, Routine, Monitor, Process, Prog}
+use Rattle.syntax_tree.specs.Plain.{Name, Routine, Monitor, Process, Program}
 use Rattle.source_semantics.specs.Names.{named, routines, monitors, processes, monitor_number, place_of}
 use Rattle.source_semantics.specs.Run.{or_else}
 use Rattle.code_spec.specs.Layout.{Owner, by_program, by_process, by_monitor}
@@ -39,20 +39,20 @@ found_there f (s ∷ rs) r e = by_case (bytes_eq s.name f) (λ h. found_there f 
 -- ---- texts of a program
 
 -- the routine or entry of that name, of an owner
-abbrev pub text_named : Prog → Owner → Name → Option Text
+abbrev pub text_named : Program → Owner → Name → Option Text
 text_named g by_program f = routine_of by_program (routines g) f
 text_named g (by_process k) f = routine_of (by_process k) (process_routines (slice_get (processes g) k)) f
 text_named g (by_monitor m) f = entry_of m (slice_get (monitors g) m) f
 
 -- a routine or an entry of the program, the one that is found by its name
-abbrev pub IsText : Prog → Text → Type 0
+abbrev pub IsText : Program → Text → Type 0
 IsText g t = text_named g t.owner t.routine.name ≡ Some t
 
-abbrev pub AllTexts : Prog → List Text → Type 0
+abbrev pub AllTexts : Program → List Text → Type 0
 AllTexts g [] = Unit {0}
 AllTexts g (t ∷ ts) = IsText g t × AllTexts g ts
 
-pub all_both : (g : Prog) (ts us : List Text) → AllTexts g ts → AllTexts g us → AllTexts g (ts ++ us)
+pub all_both : (g : Program) (ts us : List Text) → AllTexts g ts → AllTexts g us → AllTexts g (ts ++ us)
 all_both g [] us h k = k
 all_both g (t ∷ ts) us h k = (h.0, all_both g ts us h.1 k)
 
@@ -71,7 +71,7 @@ again o rs f t all e =
     let j : (j : ℕ) × (slice_get rs j ≡ Some t.routine) = found_there f rs t.routine h.1 in
     ap (λ x. option_map (λ r. record { owner = o; routine = r }) x) (all j.0 t.routine j.1) ∙ ap (λ y. Some (record { owner = y; routine = t.routine })) (sym h.0)
 
-module _ (g : Prog) (differ : NamesDiffer g) where
+module _ (g : Program) (differ : NamesDiffer g) where
   pub program_text : (f : Name) (t : Text) → routine_of by_program (routines g) f ≡ Some t → IsText g t
   program_text f t e =
       subst (λ o. text_named g o t.routine.name ≡ Some t) (sym (of_list by_program (routines g) f t e).0) (again by_program (routines g) f t differ.program e)
@@ -108,7 +108,7 @@ monitor_there f (m ∷ ms) k e = by_case (bytes_eq m.name f) (λ h. monitor_ther
     by_case true r h = h
     by_case false r h = r h
 
-module _ (g : Prog) (differ : NamesDiffer g) where
+module _ (g : Program) (differ : NamesDiffer g) where
   pub entry_text : (mon entry : Name) (t : Text) → entry_in g mon entry ≡ Some t → IsText g t
   entry_text mon entry t e = by_monitor_found (named (λ x. x.name) mon (monitors g)) refl e
     where
@@ -189,7 +189,7 @@ visit_all_keeps v means u keeps done (c ∷ cs) h = visit_all_keeps v means u ke
     by_meaning None = h
     by_meaning (Some t) = keeps done t h
 
-pub visit_keeps : (n : ℕ) (g : Prog) (done : List Text) (t u : Text) → is_among u done ≡ true → is_among u (visit n g done t) ≡ true
+pub visit_keeps : (n : ℕ) (g : Program) (done : List Text) (t u : Text) → is_among u done ≡ true → is_among u (visit n g done t) ≡ true
 unfolding visit
 visit_keeps zero g done t u h = h
 visit_keeps (suc n) g done t u h = by_case (is_among t done) (visit_all_keeps (visit n g) (called_text g t.owner) u (λ d k e. visit_keeps n g d k u e) done (routine_calls t.routine) h)
@@ -198,7 +198,7 @@ visit_keeps (suc n) g done t u h = by_case (is_among t done) (visit_all_keeps (v
     by_case true k = h
     by_case false k = among_front u (visit_all (visit n g) (called_text g t.owner) done (routine_calls t.routine)) (t ∷ []) k
 
-visit_adds : (n : ℕ) (g : Prog) (done : List Text) (t : Text) → is_among t (visit (suc n) g done t) ≡ true
+visit_adds : (n : ℕ) (g : Program) (done : List Text) (t : Text) → is_among t (visit (suc n) g done t) ≡ true
 unfolding visit
 visit_adds n g done t = by_case (is_among t done) refl
   where
@@ -206,7 +206,7 @@ visit_adds n g done t = by_case (is_among t done) refl
     by_case true e = e
     by_case false e = among_back t (visit_all (visit n g) (called_text g t.owner) done (routine_calls t.routine)) (t ∷ []) (ap (λ b. b || false) (text_is t))
 
-pub visit_texts_keeps : (n : ℕ) (g : Prog) (done ts : List Text) (u : Text) → is_among u done ≡ true → is_among u (visit_texts n g done ts) ≡ true
+pub visit_texts_keeps : (n : ℕ) (g : Program) (done ts : List Text) (u : Text) → is_among u done ≡ true → is_among u (visit_texts n g done ts) ≡ true
 visit_texts_keeps n g done [] u h = h
 visit_texts_keeps n g done (t ∷ ts) u h = visit_texts_keeps n g (visit n g done t) ts u (visit_keeps n g done t u h)
 
@@ -225,7 +225,7 @@ same_among t u (v ∷ us) e h = by_either (or_cases (same_text v t) (is_among t 
     by_either (inl h) k = ap (λ b. b || is_among u us) (sym same ∙ h)
     by_either (inr h) k = ap (λ b. same_text v u || b) (k h) ∙ or_true (same_text v u)
 
-pub visit_texts_adds : (n : ℕ) (g : Prog) (done ts : List Text) (u : Text) → is_among u ts ≡ true → is_among u (visit_texts (suc n) g done ts) ≡ true
+pub visit_texts_adds : (n : ℕ) (g : Program) (done ts : List Text) (u : Text) → is_among u ts ≡ true → is_among u (visit_texts (suc n) g done ts) ≡ true
 visit_texts_adds n g done [] u h = absurd (false≢true h)
 visit_texts_adds n g done (t ∷ ts) u h = by_either (or_cases (same_text t u) (is_among u ts) h) (λ k. visit_texts_adds n g (visit (suc n) g done t) ts u k)
   where

@@ -3,7 +3,7 @@ use Rattle.std.specs.Prelude.{◌≡◌, ◌≤◌, ℕ, true, List, [], ◌∷�
 use Rattle.std.proofs.Common.{refl, sym, ◌∙◌, ap, subst, arith}
 use Rattle.std.proofs.lemmas.Option.{none-some, same_Some}
 use Rattle.base.proofs.Lists.{one_of}
-use Rattle.syntax_tree.specs.Plain.{Name, Routine, Monitor, Process, Prog}
+use Rattle.syntax_tree.specs.Plain.{Name, Routine, Monitor, Process, Program}
 use Rattle.source_semantics.specs.Names.{named, routines, monitors, processes, monitor_number}
 use Rattle.source_semantics.specs.Run.{Found, of_program, of_process, of_monitor, or_else, entry_name, routine_named, entry_named, entry_of as source_entry}
 use Rattle.code_spec.specs.Layout.{Owner, by_program, by_process, by_monitor, home_of}
@@ -24,7 +24,7 @@ pub record Named (in_code : Option Text) (found : Found) : Type 0 where
 
 -- ---- entries
 
-pub entry_names : (g : Prog) (mon en : Name) (x : Found) → entry_named g mon en ≡ Some x → Named (entry_in g mon en) x
+pub entry_names : (g : Program) (mon en : Name) (x : Found) → entry_named g mon en ≡ Some x → Named (entry_in g mon en) x
 entry_names g mon en x is = by (named (λ k. k.name) mon (monitors g)) is
   where
     found : (r : Option Routine) → option_map (λ y. record { home = of_monitor (monitor_number g mon); routine = y }) r ≡ Some x → Named (option_map (λ y. record { owner = by_monitor (monitor_number g mon); routine = y }) r) x
@@ -38,7 +38,7 @@ entry_names g mon en x is = by (named (λ k. k.name) mon (monitors g)) is
 -- ---- routines
 
 -- in the text of a process
-pub own_names : (g : Prog) (k : ℕ) (p : Process) → slice_get (processes g) k ≡ Some p → (f : Name) (x : Found) → routine_named g p f ≡ Some x → Named (routine_in g (by_process k) f) x
+pub own_names : (g : Program) (k : ℕ) (p : Process) → slice_get (processes g) k ≡ Some p → (f : Name) (x : Found) → routine_named g p f ≡ Some x → Named (routine_in g (by_process k) f) x
 own_names g k p at f x is =
     subst (λ q. Named (or_else (routine_of (by_process k) (process_routines q) f) (routine_of by_program (routines g) f)) x) (sym at) (by (named entry_name f p.routines) (named entry_name f (routines g)) is)
   where
@@ -49,7 +49,7 @@ own_names g k p at f x is =
     by None None h = absurd (none-some x h)
 
 -- in the text of a routine of the program, or of an entry
-pub shared_names : (g : Prog) (p : Process) (f : Name) (x : Found) → routine_named g p f ≡ Some x → (r : Routine) → named (λ k. k.name) f (routines g) ≡ Some r → named (λ k. k.name) f p.routines ≡ None
+pub shared_names : (g : Program) (p : Process) (f : Name) (x : Found) → routine_named g p f ≡ Some x → (r : Routine) → named (λ k. k.name) f (routines g) ≡ Some r → named (λ k. k.name) f p.routines ≡ None
     → Named (routine_of by_program (routines g) f) x
 shared_names g p f x is r found apart = record {
   text = record { owner = by_program; routine = r };
@@ -62,7 +62,7 @@ shared_names g p f x is r found apart = record {
 -- ---- what holds of a whole program
 
 -- no image is asked for
-abbrev pub setting_at : Prog → ℕ → Process → Setting
+abbrev pub setting_at : Program → ℕ → Process → Setting
 setting_at g n p = record {
   image = record { over = 0; monitors = []; conditions = []; devices = []; routines = []; processes = []; code = [] };
   program = g;
@@ -73,16 +73,16 @@ setting_at g n p = record {
 }
 
 -- what each call finds by the meaning is what it names in the code
-abbrev pub Means : Prog → Process → Owner → Called → Type 0
+abbrev pub Means : Program → Process → Owner → Called → Type 0
 Means g p o (calls_routine f) = (x : Found) → routine_named g p f ≡ Some x → Named (routine_in g o f) x
 Means g p o (calls_entry m e) = (x : Found) → entry_named g m e ≡ Some x → Named (entry_in g m e) x
 
-pub own_means : (g : Prog) (k : ℕ) (p : Process) → slice_get (processes g) k ≡ Some p → (cs : List Called) → AllCalled (Means g p (by_process k)) cs
+pub own_means : (g : Program) (k : ℕ) (p : Process) → slice_get (processes g) k ≡ Some p → (cs : List Called) → AllCalled (Means g p (by_process k)) cs
 own_means g k p at [] = tt
 own_means g k p at (calls_routine f ∷ cs) = (own_names g k p at f, own_means g k p at cs)
 own_means g k p at (calls_entry m e ∷ cs) = (entry_names g m e, own_means g k p at cs)
 
-module _ (g : Prog) (p : Process) (apart : (f : Name) (r : Routine) → named (λ x. x.name) f (routines g) ≡ Some r → named (λ x. x.name) f p.routines ≡ None) where
+module _ (g : Program) (p : Process) (apart : (f : Name) (r : Routine) → named (λ x. x.name) f (routines g) ≡ Some r → named (λ x. x.name) f p.routines ≡ None) where
   pub program_means : (cs : List Called) → AllOfProgram g cs → AllCalled (Means g p by_program) cs
   program_means [] h = tt
   program_means (calls_routine f ∷ cs) h = (λ x is. shared_names g p f x is h.0.0 h.0.1 (apart f h.0.0 h.0.1), program_means cs h.1)
@@ -96,7 +96,7 @@ module _ (g : Prog) (p : Process) (apart : (f : Name) (r : Routine) → named (�
 -- ---- texts
 
 -- a process that runs the text: its own, or the first where it is the program's or an entry
-pub record Stands (g : Prog) (o : Owner) (r : Routine) : Type 0 where
+pub record Stands (g : Program) (o : Owner) (r : Routine) : Type 0 where
   pub number : ℕ
   pub process : Process
   pub at : slice_get (processes g) number ≡ Some process
@@ -104,7 +104,7 @@ pub record Stands (g : Prog) (o : Owner) (r : Routine) : Type 0 where
   pub fits : RoutineFits g process (home_of o) r
   pub means : AllCalled (Means g process o) (routine_calls r)
 
-module _ (g : Prog) (form : IsWellFormed g) (names : NamesApart g) where
+module _ (g : Program) (form : IsWellFormed g) (names : NamesApart g) where
   pub process_fits : (k : ℕ) (p : Process) → slice_get (processes g) k ≡ Some p → ProcessFits g p
   process_fits k p at = one_of (λ q. ProcessFits g q) (processes g) k p form.processes_fit at
 
@@ -167,12 +167,12 @@ module _ (g : Prog) (form : IsWellFormed g) (names : NamesApart g) where
       }
 
 -- the list in which a text stands
-pub data Listed (g : Prog) (r : Routine) : Owner → Type 0 where
+pub data Listed (g : Program) (r : Routine) : Owner → Type 0 where
   of_the_program : named (λ k. k.name) r.name (routines g) ≡ Some r → Listed g r by_program
   of_a_process : (k : ℕ) (p : Process) → slice_get (processes g) k ≡ Some p → named (λ x. x.name) r.name p.routines ≡ Some r → Listed g r (by_process k)
   of_a_monitor : (m : ℕ) (d : Monitor) → slice_get (monitors g) m ≡ Some d → named (λ x. x.name) r.name d.entries ≡ Some r → Listed g r (by_monitor m)
 
-pub is_listed : (g : Prog) (o : Owner) (r : Routine) → IsText g (record { owner = o; routine = r }) → Listed g r o
+pub is_listed : (g : Program) (o : Owner) (r : Routine) → IsText g (record { owner = o; routine = r }) → Listed g r o
 is_listed g by_program r is = of_the_program (of_list by_program (routines g) r.name (record { owner = by_program; routine = r }) is).1
 is_listed g (by_process k) r is = by (slice_get (processes g) k) refl is
   where
@@ -185,7 +185,7 @@ is_listed g (by_monitor m) r is = by (slice_get (monitors g) m) refl is
     by None at h = absurd (none-some (record { owner = by_monitor m; routine = r }) h)
     by (Some d) at h = of_a_monitor m d at (of_list (by_monitor m) d.entries r.name (record { owner = by_monitor m; routine = r }) h).1
 
-pub text_stands : (g : Prog) → IsWellFormed g → NamesApart g → (o : Owner) (r : Routine) → IsText g (record { owner = o; routine = r }) → Stands g o r
+pub text_stands : (g : Program) → IsWellFormed g → NamesApart g → (o : Owner) (r : Routine) → IsText g (record { owner = o; routine = r }) → Stands g o r
 text_stands g form names o r is = by o (is_listed g o r is)
   where
     by : (o : Owner) → Listed g r o → Stands g o r

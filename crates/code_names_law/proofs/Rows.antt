@@ -4,7 +4,7 @@ use Rattle.std.proofs.Common.{inl, inr, refl, sym, ◌∙◌, ap, subst, arith}
 use Rattle.std.proofs.lemmas.List.Sums.{sum_by-cons}
 use Rattle.std.proofs.lemmas.Option.{none-some, same_Some}
 use Rattle.std.proofs.lemmas.Bool.{false≢true, and_parts}
-use Rattle.syntax_tree.specs.Plain.{Name, Routine, Monitor, Process, Decl, constant, device, event, routine, monitor, process, Prog}
+use Rattle.syntax_tree.specs.Plain.{Name, Routine, Monitor, Process, Declaration, constant, device, event, routine, monitor, process, Program}
 use Rattle.source_semantics.specs.Names.{named, routines, monitors, processes, routine_in as a_routine, monitor_in, process_in, monitor_number, routines_in, routine_count}
 use Rattle.source_semantics.specs.Run.{Found, of_program, of_process, routine_named, or_else, entry_name}
 use Rattle.machine_isa.specs.declared.instr.Instr.{Instr}
@@ -19,12 +19,12 @@ use Rattle.code_names_law.proofs.Numbers.{found_there, name_same, text_named, Is
 
 -- ---- every text of the program is one that is found by its name
 
-module _ (g : Prog) where
+module _ (g : Program) where
   texts_of_all : (o : Owner) (rs : List Routine) → ((j : ℕ) (r : Routine) → slice_get rs j ≡ Some r → IsText g (record { owner = o; routine = r })) → AllTexts g (texts_of o rs)
   texts_of_all o [] h = tt
   texts_of_all o (r ∷ rs) h = (h 0 r refl, texts_of_all o rs (λ j s e. h (suc j) s e))
 
-  texts_from_all : (k m : ℕ) (ds : List Decl) → ((j : ℕ) (r : Routine) → slice_get (filter_map a_routine ds) j ≡ Some r → IsText g (record { owner = by_program; routine = r }))
+  texts_from_all : (k m : ℕ) (ds : List Declaration) → ((j : ℕ) (r : Routine) → slice_get (filter_map a_routine ds) j ≡ Some r → IsText g (record { owner = by_program; routine = r }))
       → ((j : ℕ) (d : Monitor) → slice_get (filter_map monitor_in ds) j ≡ Some d → AllTexts g (texts_of (by_monitor (m + j)) d.entries))
       → ((j : ℕ) (p : Process) → slice_get (filter_map process_in ds) j ≡ Some p → AllTexts g (texts_of (by_process (k + j)) p.routines)) → AllTexts g (texts_from k m ds)
   texts_from_all k m [] hr hm hp = tt
@@ -51,7 +51,7 @@ module _ (g : Prog) where
   texts_from_all k m (device n b ∷ ds) hr hm hp = texts_from_all k m ds hr hm hp
   texts_from_all k m (event n ∷ ds) hr hm hp = texts_from_all k m ds hr hm hp
 
-module _ (g : Prog) (differ : NamesDiffer g) where
+module _ (g : Program) (differ : NamesDiffer g) where
   pub program_texts : AllTexts g (texts_from 0 0 g.decls)
   program_texts = texts_from_all g 0 0 g.decls
       (λ j r e. ap (λ x. option_map (λ y. record { owner = by_program; routine = y }) x) (differ.program j r e))
@@ -82,12 +82,12 @@ placed t (v ∷ us) h = by_case (same_text v t) refl h (λ k. placed t us k)
     by_case true e h k = (v, refl, e)
     by_case false e h k = k h
 
-pub text_at : (g : Prog) (us : List Text) (j : ℕ) (u : Text) → AllTexts g us → slice_get us j ≡ Some u → IsText g u
+pub text_at : (g : Program) (us : List Text) (j : ℕ) (u : Text) → AllTexts g us → slice_get us j ≡ Some u → IsText g u
 text_at g [] j u h e = absurd (none-some u e)
 text_at g (v ∷ us) zero u h e = subst (λ y. IsText g y) (same_Some v u e) h.0
 text_at g (v ∷ us) (suc j) u h e = text_at g us j u h.1 e
 
-pub text_same : (g : Prog) (u t : Text) → IsText g u → IsText g t → same_text u t ≡ true → u ≡ t
+pub text_same : (g : Program) (u t : Text) → IsText g u → IsText g t → same_text u t ≡ true → u ≡ t
 text_same g u t hu ht e =
     let parts : (same_owner u.owner t.owner ≡ true) × (bytes_eq u.routine.name t.routine.name ≡ true) = and_parts (same_owner u.owner t.owner) (bytes_eq u.routine.name t.routine.name) e in
     same_Some u t (sym hu ∙ (ap (λ o. text_named g o u.routine.name) (owner_same u.owner t.owner parts.0) ∙ (ap (λ x. text_named g t.owner x) (name_same u.routine.name t.routine.name parts.1) ∙ ht)))
@@ -97,7 +97,7 @@ no_entries : (rs : List Routine) → length rs ≡ 0 → rs ≡ []
 no_entries [] e = refl
 no_entries (r ∷ rs) e = absurd (omega arith)
 
-no_texts : (k m : ℕ) (ds : List Decl) → sum_by routines_in ds ≡ 0 → texts_from k m ds ≡ []
+no_texts : (k m : ℕ) (ds : List Declaration) → sum_by routines_in ds ≡ 0 → texts_from k m ds ≡ []
 no_texts k m [] e = refl
 no_texts k m (routine r ∷ ds) e = let sum : sum_by routines_in (routine r ∷ ds) ≡ 1 + sum_by routines_in ds = sum_by-cons routines_in (routine r) ds in absurd (omega arith)
 no_texts k m (monitor d ∷ ds) e =
@@ -114,7 +114,7 @@ no_texts k m (constant n c ∷ ds) e = let sum : sum_by routines_in (constant n 
 no_texts k m (device n b ∷ ds) e = let sum : sum_by routines_in (device n b ∷ ds) ≡ 0 + sum_by routines_in ds = sum_by-cons routines_in (device n b) ds in no_texts k m ds (omega arith)
 no_texts k m (event n ∷ ds) e = let sum : sum_by routines_in (event n ∷ ds) ≡ 0 + sum_by routines_in ds = sum_by-cons routines_in (event n) ds in no_texts k m ds (omega arith)
 
-is_numbered : (g : Prog) (t : Text) → is_among t (texts_from 0 0 g.decls) ≡ true → is_among t (numbered g) ≡ true
+is_numbered : (g : Program) (t : Text) → is_among t (texts_from 0 0 g.decls) ≡ true → is_among t (numbered g) ≡ true
 unfolding numbered
 is_numbered g t h = by_count (routine_count g) refl
   where
@@ -123,7 +123,7 @@ is_numbered g t h = by_count (routine_count g) refl
     by_count (suc n) e = visit_texts_adds n g [] (texts_from 0 0 g.decls) t h
 
 -- a text stands under its number
-pub numbered_at : (g : Prog) (t : Text) → NamesDiffer g → IsText g t → is_among t (texts_from 0 0 g.decls) ≡ true → slice_get (numbered g) (number_of g t) ≡ Some t
+pub numbered_at : (g : Program) (t : Text) → NamesDiffer g → IsText g t → is_among t (texts_from 0 0 g.decls) ≡ true → slice_get (numbered g) (number_of g t) ≡ Some t
 unfolding number_of
 numbered_at g t differ is h =
     let at : (u : Text) × (slice_get (numbered g) (place_among t (numbered g)) ≡ Some u) × (same_text u t ≡ true) = placed t (numbered g) (is_numbered g t h) in
@@ -131,7 +131,7 @@ numbered_at g t differ is h =
 
 -- ---- rows
 
-pub row_of : (g : Prog) (code : List Instr) (p q : ℕ) (ts : List Text) (rs : List image.Routine) (j : ℕ) (t : Text) → EmitsRoutines g code p q ts rs → slice_get ts j ≡ Some t
+pub row_of : (g : Program) (code : List Instr) (p q : ℕ) (ts : List Text) (rs : List image.Routine) (j : ℕ) (t : Text) → EmitsRoutines g code p q ts rs → slice_get ts j ≡ Some t
     → (r : image.Routine) × (slice_get rs j ≡ Some r) × IsRoutine g t r × (next : ℕ) × EmitsRoutine g code t r.start next
 row_of g code p q [] [] j t h e = absurd (none-some t e)
 row_of g code p q [] (r ∷ rs) j t h e = absurd h
@@ -142,7 +142,7 @@ row_of g code p q (u ∷ ts) (r ∷ rs) zero t h e =
 row_of g code p q (u ∷ ts) (r ∷ rs) (suc j) t h e = row_of g code h.0 q ts rs j t h.4 e
 
 -- the code of a process
-pub process_of : (g : Prog) (code : List Instr) (k p q : ℕ) (ts : List Process) (is : List image.Process) (j : ℕ) (t : Process) (ip : image.Process) → EmitsProcesses g code k p q ts is → slice_get ts j ≡ Some t → slice_get is j ≡ Some ip
+pub process_of : (g : Program) (code : List Instr) (k p q : ℕ) (ts : List Process) (is : List image.Process) (j : ℕ) (t : Process) (ip : image.Process) → EmitsProcesses g code k p q ts is → slice_get ts j ≡ Some t → slice_get is j ≡ Some ip
     → (start : ℕ) × (next : ℕ) × EmitsProcess g code (k + j) t start next ip
 process_of g code k p q [] [] j t ip h e i = absurd (none-some t e)
 process_of g code k p q [] (x ∷ is) j t ip h e i = absurd h
@@ -172,7 +172,7 @@ found_among o f (s ∷ rs) r e = by_case (bytes_eq s.name f) e (λ h. found_amon
         ∙ ap (λ b. b || is_among (record { owner = o; routine = r }) (texts_of o rs)) (text_is (record { owner = o; routine = r }))
     by_case false h k = ap (λ b. same_text (record { owner = o; routine = s }) (record { owner = o; routine = r }) || b) (k h) ∙ or_true (same_text (record { owner = o; routine = s }) (record { owner = o; routine = r }))
 
-pub among_program : (f : Name) (r : Routine) (k m : ℕ) (ds : List Decl) → named (λ x. x.name) f (filter_map a_routine ds) ≡ Some r → is_among (record { owner = by_program; routine = r }) (texts_from k m ds) ≡ true
+pub among_program : (f : Name) (r : Routine) (k m : ℕ) (ds : List Declaration) → named (λ x. x.name) f (filter_map a_routine ds) ≡ Some r → is_among (record { owner = by_program; routine = r }) (texts_from k m ds) ≡ true
 among_program f r k m [] e = absurd (none-some r e)
 among_program f r k m (routine s ∷ ds) e = by_case (bytes_eq s.name f) e (λ h. among_program f r k m ds h)
   where
@@ -191,7 +191,7 @@ among_program f r k m (event n ∷ ds) e = among_program f r k m ds e
 behind_one : (t u : Text) (us : List Text) → is_among t us ≡ true → same_text u t || is_among t us ≡ true
 behind_one t u us h = ap (λ b. same_text u t || b) h ∙ or_true (same_text u t)
 
-pub among_process : (f : Name) (r : Routine) (p : Process) (j k m n : ℕ) (ds : List Decl) → slice_get (filter_map process_in ds) j ≡ Some p → named (λ x. x.name) f p.routines ≡ Some r → n ≡ k + j → is_among (record { owner = by_process n; routine = r }) (texts_from k m ds) ≡ true
+pub among_process : (f : Name) (r : Routine) (p : Process) (j k m n : ℕ) (ds : List Declaration) → slice_get (filter_map process_in ds) j ≡ Some p → named (λ x. x.name) f p.routines ≡ Some r → n ≡ k + j → is_among (record { owner = by_process n; routine = r }) (texts_from k m ds) ≡ true
 among_process f r p j k m n [] e found is = absurd (none-some p e)
 among_process f r p j k m n (routine s ∷ ds) e found is = behind_one (record { owner = by_process n; routine = r }) (record { owner = by_program; routine = s }) (texts_from k m ds) (among_process f r p j k m n ds e found is)
 among_process f r p j k m n (monitor d ∷ ds) e found is = among_back (record { owner = by_process n; routine = r }) (texts_of (by_monitor m) d.entries) (texts_from k (suc m) ds) (among_process f r p j k (suc m) n ds e found is)
@@ -204,7 +204,7 @@ among_process f r p j k m n (constant x c ∷ ds) e found is = among_process f r
 among_process f r p j k m n (device x b ∷ ds) e found is = among_process f r p j k m n ds e found is
 among_process f r p j k m n (event x ∷ ds) e found is = among_process f r p j k m n ds e found is
 
-pub among_monitor : (f : Name) (r : Routine) (d : Monitor) (j k m n : ℕ) (ds : List Decl) → slice_get (filter_map monitor_in ds) j ≡ Some d → named (λ x. x.name) f d.entries ≡ Some r → n ≡ m + j → is_among (record { owner = by_monitor n; routine = r }) (texts_from k m ds) ≡ true
+pub among_monitor : (f : Name) (r : Routine) (d : Monitor) (j k m n : ℕ) (ds : List Declaration) → slice_get (filter_map monitor_in ds) j ≡ Some d → named (λ x. x.name) f d.entries ≡ Some r → n ≡ m + j → is_among (record { owner = by_monitor n; routine = r }) (texts_from k m ds) ≡ true
 among_monitor f r d j k m n [] e found is = absurd (none-some d e)
 among_monitor f r d j k m n (routine s ∷ ds) e found is = behind_one (record { owner = by_monitor n; routine = r }) (record { owner = by_program; routine = s }) (texts_from k m ds) (among_monitor f r d j k m n ds e found is)
 among_monitor f r d zero k m n (monitor q ∷ ds) e found is =
@@ -220,7 +220,7 @@ among_monitor f r d j k m n (event x ∷ ds) e found is = among_monitor f r d j 
 -- ---- the texts that a process may run
 
 -- what a name means to a process
-meant : (p : Process) (g : Prog) (f : Name) (x : Found) → routine_named g p f ≡ Some x → ((x.home ≡ of_process) × (named entry_name f p.routines ≡ Some x.routine)) ⊎ ((x.home ≡ of_program) × (named entry_name f (routines g) ≡ Some x.routine))
+meant : (p : Process) (g : Program) (f : Name) (x : Found) → routine_named g p f ≡ Some x → ((x.home ≡ of_process) × (named entry_name f p.routines ≡ Some x.routine)) ⊎ ((x.home ≡ of_program) × (named entry_name f (routines g) ≡ Some x.routine))
 meant p g f x e = by_found (named entry_name f p.routines) (named entry_name f (routines g)) refl refl e
   where
     by_found : (a b : Option Routine) → named entry_name f p.routines ≡ a → named entry_name f (routines g) ≡ b → or_else (option_map (λ r. record { home = of_process; routine = r }) a) (option_map (λ r. record { home = of_program; routine = r }) b) ≡ Some x

@@ -4,7 +4,7 @@ use Rattle.std.proofs.Common.{refl, sym, ◌∙◌, ap, subst}
 use Rattle.std.proofs.lemmas.Option.{same_Some, none-some}
 use Rattle.std.proofs.lemmas.Bool.{false≢true}
 use Rattle.base.proofs.Members.{none_in}
-use Rattle.syntax_tree.specs.Plain.{Name, Param, Constant, Answers, Var, Routine, Monitor, Expr, literal, truth, variable, element, call, minus, negation, paren, row, Exprs, no_exprs, exprs, Operands, no_operands, operand, Ref, whole, part, Stmt, assign, assign_entry, assign_empty, perform, perform_entry, when, when_else, loop, exit_when, get, put, wait, signal, broadcast, except, assert, Stmts, no_stmts, stmts, Prog}
+use Rattle.syntax_tree.specs.Plain.{Name, Param, Constant, Answers, Var, Routine, Monitor, Expr, literal, truth, variable, element, call, minus, negation, paren, row, Exprs, no_exprs, exprs, Operands, no_operands, operand, Ref, whole, part, Stmt, assign, assign_entry, assign_empty, perform, perform_entry, when, when_else, loop, exit_when, get, put, wait, signal, broadcast, except, assert, Stmts, no_stmts, stmts, Program}
 use Rattle.source_semantics.specs.Names.{named, constant_value, monitors, processes, monitor_number, condition_number, routine_count, conditions_of}
 use Rattle.source_semantics.specs.Store.{up_to}
 use Rattle.source_semantics.specs.Run.{Found, of_monitor, routine_named, entry_named, entry_of as source_entry}
@@ -155,7 +155,7 @@ module _ (e : Setting) (w : Whole e) (n : ℕ) where
 -- ---- entries
 
 -- what the names in a call of an entry mean
-entry_means : (g : Prog) (mon en : Name) (x : Found) → entry_named g mon en ≡ Some x
+entry_means : (g : Program) (mon en : Name) (x : Found) → entry_named g mon en ≡ Some x
     → (t : Text) × (entry_in g mon en ≡ Some t) × (found_of t ≡ x) × (t.owner ≡ by_monitor (monitor_number g mon)) × ((k : Monitor) × (slice_get (monitors g) (monitor_number g mon) ≡ Some k))
 entry_means g mon en x is = by_monitor_found (named (λ k. k.name) mon (monitors g)) refl is
   where

@@ -3,7 +3,7 @@ use Rattle.std.specs.Prelude.{◌≡◌, ◌<◌, ℕ, zero, suc, true, false, L
 use Rattle.std.proofs.lemmas.Option.{none-some, same_Some}
 use Rattle.std.proofs.Common.{refl, sym, ◌∙◌, ap, subst, arith}
 use Rattle.std.proofs.lemmas.Bool.{false≢true}
-use Rattle.syntax_tree.specs.Plain.{Name, Param, Answers, Var, Routine, Expr, literal, truth, variable, element, call, minus, negation, paren, row, Exprs, no_exprs, exprs, Operands, no_operands, operand, Ref, whole, part, Stmt, assign, assign_entry, assign_empty, perform, perform_entry, when, when_else, loop, exit_when, get, put, wait, signal, broadcast, except, assert, Stmts, no_stmts, stmts, Process, Prog}
+use Rattle.syntax_tree.specs.Plain.{Name, Param, Answers, Var, Routine, Expr, literal, truth, variable, element, call, minus, negation, paren, row, Exprs, no_exprs, exprs, Operands, no_operands, operand, Ref, whole, part, Stmt, assign, assign_entry, assign_empty, perform, perform_entry, when, when_else, loop, exit_when, get, put, wait, signal, broadcast, except, assert, Stmts, no_stmts, stmts, Process, Program}
 use Rattle.source_semantics.specs.Names.{named, routines, processes, routine_count}
 use Rattle.source_semantics.specs.Run.{Found, of_program, of_process, routine_named, entry_named, entry_name, or_else}
 use Rattle.source_semantics.specs.Nesting.{ExprBelow, ExprsBelow, OperandsBelow, RefBelow, StmtBelow, StmtsBelow, AnswersBelow, Levels}
@@ -85,7 +85,7 @@ mutual
 -- ---- what may call nothing uses no monitors
 
 mutual
-  stmt_quiet : (g : Prog) (calls : Name → List ℕ) (s : Stmt) (h : Here) → may_call h ≡ false → Fits h s → uses g calls s ≡ []
+  stmt_quiet : (g : Program) (calls : Name → List ℕ) (s : Stmt) (h : Here) → may_call h ≡ false → Fits h s → uses g calls s ≡ []
   stmt_quiet g calls (assign r x) h q k = refl
   stmt_quiet g calls (assign_entry r m e es) h q k = absurd (false≢true (sym q ∙ k.0))
   stmt_quiet g calls (assign_empty r x) h q k = refl
@@ -103,14 +103,14 @@ mutual
   stmt_quiet g calls (except c) h q k = refl
   stmt_quiet g calls (assert x) h q k = refl
 
-  pub stmts_quiet : (g : Prog) (calls : Name → List ℕ) (ss : Stmts) (h : Here) → may_call h ≡ false → AllFit h ss → uses_all g calls ss ≡ []
+  pub stmts_quiet : (g : Program) (calls : Name → List ℕ) (ss : Stmts) (h : Here) → may_call h ≡ false → AllFit h ss → uses_all g calls ss ≡ []
   stmts_quiet g calls no_stmts h q k = refl
   stmts_quiet g calls (stmts s ss) h q k = ap (λ xs. xs ++ uses_all g calls ss) (stmt_quiet g calls s h q k.0) ∙ stmts_quiet g calls ss h q k.1
 
 -- ---- no greater depth reaches further
 
 mutual
-  stmt_same : (g : Prog) (level : Name → ℕ) (n : ℕ) (a b : Name → List ℕ) (s : Stmt) → StmtBelow level n s → ((f : Name) → level f < n → a f ≡ b f) → uses g a s ≡ uses g b s
+  stmt_same : (g : Program) (level : Name → ℕ) (n : ℕ) (a b : Name → List ℕ) (s : Stmt) → StmtBelow level n s → ((f : Name) → level f < n → a f ≡ b f) → uses g a s ≡ uses g b s
   stmt_same g level n a b (assign r x) k e = refl
   stmt_same g level n a b (assign_entry r m en es) k e = refl
   stmt_same g level n a b (assign_empty r x) k e = refl
@@ -128,11 +128,11 @@ mutual
   stmt_same g level n a b (except c) k e = refl
   stmt_same g level n a b (assert x) k e = refl
 
-  stmts_same : (g : Prog) (level : Name → ℕ) (n : ℕ) (a b : Name → List ℕ) (ss : Stmts) → StmtsBelow level n ss → ((f : Name) → level f < n → a f ≡ b f) → uses_all g a ss ≡ uses_all g b ss
+  stmts_same : (g : Program) (level : Name → ℕ) (n : ℕ) (a b : Name → List ℕ) (ss : Stmts) → StmtsBelow level n ss → ((f : Name) → level f < n → a f ≡ b f) → uses_all g a ss ≡ uses_all g b ss
   stmts_same g level n a b no_stmts k e = refl
   stmts_same g level n a b (stmts s ss) k e = ap (λ xs. xs ++ uses_all g a ss) (stmt_same g level n a b s k.0 e) ∙ ap (λ ys. uses g b s ++ ys) (stmts_same g level n a b ss k.1 e)
 
-deep : (g : Prog) (p : Process) (level : Name → ℕ) → Levels g p level → (n : ℕ) (f : Name) → level f < n → reached g p n f ≡ reached g p (suc n) f
+deep : (g : Program) (p : Process) (level : Name → ℕ) → Levels g p level → (n : ℕ) (f : Name) → level f < n → reached g p n f ≡ reached g p (suc n) f
 unfolding reached
 deep g p level levels zero f lt = absurd (omega arith)
 deep g p level levels (suc n) f lt = by_found (routine_named g p f) refl (λ k below. deep g p level levels n k below)
@@ -208,7 +208,7 @@ pub answers_proper : (e : Setting) (w : Whole e) (n : ℕ) (c : Scope) (vars : L
 answers_proper e w n c vars place None h b a = tt
 answers_proper e w n c vars place (Some x) h b a = expr_proper e w n c [] vars place x.value (sort_of x.kind) h.1 b a
 
-pub answers_below : (level : Name → ℕ) (n : ℕ) (h : Here) (g : Prog) → ((f : Name) (x : Found) → routine_named h.program h.process f ≡ Some x → level f < n) → (an : Option Answers) → AnswersFit g h an → AnswersBelow level n an
+pub answers_below : (level : Name → ℕ) (n : ℕ) (h : Here) (g : Program) → ((f : Name) (x : Found) → routine_named h.program h.process f ≡ Some x → level f < n) → (an : Option Answers) → AnswersFit g h an → AnswersBelow level n an
 answers_below level n h g few None k = tt
 answers_below level n h g few (Some a) k = expr_below level n h few a.value (sort_of a.kind) k.1
 

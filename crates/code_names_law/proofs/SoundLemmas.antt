@@ -2,7 +2,7 @@
 use Rattle.std.specs.Prelude.{◌≡◌, ◌<◌, ℕ, zero, suc, Bool, List, [], ◌∷◌, Option, Some, None, slice_get, length, Contains}
 use Rattle.std.proofs.Common.{sym, ◌∙◌, ap, subst, arith}
 use Rattle.std.proofs.lemmas.Option.{none-some}
-use Rattle.syntax_tree.specs.Plain.{Routine, Stmts, Handler, Process, Prog}
+use Rattle.syntax_tree.specs.Plain.{Routine, Stmts, Handler, Process, Program}
 use Rattle.source_semantics.specs.Names.{processes}
 use Rattle.code_spec.specs.Layout.{Owner, by_process, home_of}
 use Rattle.code_spec.specs.Numbering.{Text, Called, calls_routine, calls_entry, called_text, stmts_calls, answers_calls, routine_calls, numbered, number_of}
@@ -24,7 +24,7 @@ use Rattle.code_names_law.proofs.Owners.{Means, setting_at, process_fits, text_s
 use Rattle.code_names_law.proofs.Levels.{level, are_levels}
 
 -- what a call finds is what it names, and may be called
-call_agrees : (g : Prog) (p : Process) (may : Text → Type 0) (o : Owner) (b : Bool) (c : Called) → Finds g p b c → Means g p o c → ((u : Text) → called_text g o c ≡ Some u → may u) → CallAgrees g p may o c
+call_agrees : (g : Program) (p : Process) (may : Text → Type 0) (o : Owner) (b : Bool) (c : Called) → Finds g p b c → Means g p o c → ((u : Text) → called_text g o c ≡ Some u → may u) → CallAgrees g p may o c
 call_agrees g p may o b (calls_routine f) found means allowed =
     let n = means found.found found.is in
     record { text = n.text; is = n.is; found = found.is ∙ ap (λ y. Some y) (sym n.same); allowed = allowed n.text n.is }
@@ -33,12 +33,12 @@ call_agrees g p may o b (calls_entry m e) found means allowed =
     record { text = n.text; is = n.is; found = found.is ∙ ap (λ y. Some y) (sym n.same); allowed = allowed n.text n.is }
 
 -- so it is of all calls
-pub calls_agree : (g : Prog) (p : Process) (may : Text → Type 0) (o : Owner) (b : Bool) (cs : List Called) → AllCalled (Finds g p b) cs → AllCalled (Means g p o) cs
+pub calls_agree : (g : Program) (p : Process) (may : Text → Type 0) (o : Owner) (b : Bool) (cs : List Called) → AllCalled (Finds g p b) cs → AllCalled (Means g p o) cs
     → ((c : Called) (u : Text) → Contains cs c → called_text g o c ≡ Some u → may u) → AllCalled (CallAgrees g p may o) cs
 calls_agree g p may o b cs found means allowed =
     called_all (CallAgrees g p may o) cs (λ c i. call_agrees g p may o b c (called_one (Finds g p b) cs c found i) (called_one (Means g p o) cs c means i) (λ u is. allowed c u i is))
 
-module _ (g : Prog) (form : IsWellFormed g) (names : NamesApart g) where
+module _ (g : Program) (form : IsWellFormed g) (names : NamesApart g) where
   pub are_numbered : AreNumbered g
   are_numbered = routines_are_numbered g (level g form names) names.differ (are_levels g form names)
 

@@ -3,7 +3,7 @@ use Rattle.std.specs.Prelude.{◌≡◌, ◌++◌, ℕ, List, [], ◌∷◌, Opt
 use Rattle.std.proofs.Common.{refl, sym, ◌∙◌, ap, subst}
 use Rattle.std.proofs.lemmas.Option.{none-some}
 use Rattle.base.proofs.Members.{none_in}
-use Rattle.syntax_tree.specs.Plain.{Name, Param, Answers, Var, Routine, Expr, literal, truth, variable, element, call, minus, negation, paren, row, Exprs, no_exprs, exprs, Operands, no_operands, operand, Ref, whole, part, Stmt, assign, assign_entry, assign_empty, perform, perform_entry, when, when_else, loop, exit_when, get, put, wait, signal, broadcast, except, assert, Stmts, no_stmts, stmts, Process, Prog}
+use Rattle.syntax_tree.specs.Plain.{Name, Param, Answers, Var, Routine, Expr, literal, truth, variable, element, call, minus, negation, paren, row, Exprs, no_exprs, exprs, Operands, no_operands, operand, Ref, whole, part, Stmt, assign, assign_entry, assign_empty, perform, perform_entry, when, when_else, loop, exit_when, get, put, wait, signal, broadcast, except, assert, Stmts, no_stmts, stmts, Process, Program}
 use Rattle.source_semantics.specs.Names.{processes}
 use Rattle.source_semantics.specs.Run.{Found, routine_named, entry_named}
 use Rattle.code_spec.specs.Layout.{Owner, by_program, by_process, by_monitor, home_of, Spot, Scope, spot_of}
@@ -39,7 +39,7 @@ pub record Agrees (may : Text → Type 0) (in_code : Option Text) (in_source : O
   pub found : in_source ≡ Some (found_of text)
   pub allowed : may text
 
-abbrev pub CallAgrees : Prog → Process → (Text → Type 0) → Owner → Called → Type 0
+abbrev pub CallAgrees : Program → Process → (Text → Type 0) → Owner → Called → Type 0
 CallAgrees g p may o (calls_routine f) = Agrees may (routine_in g o f) (routine_named g p f)
 CallAgrees g p may o (calls_entry m n) = Agrees may (entry_in g m n) (entry_named g m n)
 

@@ -3,13 +3,13 @@ use Rattle.std.specs.Prelude.{◌≡◌, ◌+◌, ◌<◌, ℕ, zero, suc, Bool,
 use Rattle.std.proofs.Common.{refl, sym, ◌∙◌, ap, subst, arith, append_assoc, length-append}
 use Rattle.std.proofs.lemmas.Slice.Eq.{bytes_eq-Decides}
 use Rattle.std.proofs.lemmas.Option.{same_Some, none-some}
-use Rattle.syntax_tree.specs.Plain.{Name, Monitor, Prog}
+use Rattle.syntax_tree.specs.Plain.{Name, Monitor, Program}
 use Rattle.source_semantics.specs.Names.{place_of, conditions_of, condition_from}
 use Rattle.machine_semantics.specs.Image as image
 use Rattle.code_spec.specs.Layout.{words_of, monitor_vars}
 use Rattle.code_spec.specs.Compiled.{AreMonitors, condition_monitors}
 
-pub monitor_row : (g : Prog) (base : ℕ) (ms : List Monitor) (ks : List image.Monitor) (m : ℕ) (d : Monitor) → AreMonitors g base ms ks → slice_get ms m ≡ Some d → (r : image.Monitor) × (slice_get ks m ≡ Some r)
+pub monitor_row : (g : Program) (base : ℕ) (ms : List Monitor) (ks : List image.Monitor) (m : ℕ) (d : Monitor) → AreMonitors g base ms ks → slice_get ms m ≡ Some d → (r : image.Monitor) × (slice_get ks m ≡ Some r)
 monitor_row g base [] ks m d h e = absurd (none-some d e)
 monitor_row g base (x ∷ ms) [] m d h e = absurd h
 monitor_row g base (x ∷ ms) (k ∷ ks) zero d h e = (k, refl)

@@ -3,7 +3,7 @@ use Rattle.std.specs.Prelude.{◌≡◌, ◌+◌, ◌-◌, ◌<◌, ◌≤◌, �
 use Rattle.std.proofs.Common.{refl, sym, ◌∙◌, ap, subst, arith}
 use Rattle.std.proofs.Math.IntN.{suc_ℤ, +ℤ-suc_ℤ, suc_ℤ-+ℤ, +ℤ-neg_ℤ_cancel, +ℤ_comm, +ℤ_idl}
 use Rattle.std.proofs.lemmas.Bool.{lt-ltb, ltb-true, leb-true}
-use Rattle.syntax_tree.specs.Plain.{Constant, Prog}
+use Rattle.syntax_tree.specs.Plain.{Constant, Program}
 use Rattle.base.specs.Words.{word, raised, is_word, in_word}
 use Rattle.source_semantics.specs.Names.{constant_value}
 use Rattle.source_semantics.specs.Store.{up_to}
@@ -100,7 +100,7 @@ word_lower : (v : ℤ) → is_word v ≡ true → Lower v
 word_lower (pos a) h = tt
 word_lower (negsuc a) h = ltb-true a 2147483648 h
 
-pub turns_count : (g : Prog) (low high : Constant) → AreTurns g low high → ((k : ℕ) × (up_to (constant_value g high -ℤ constant_value g low) ≡ suc k) × CountsOn (constant_value g low) (suc k))
+pub turns_count : (g : Program) (low high : Constant) → AreTurns g low high → ((k : ℕ) × (up_to (constant_value g high -ℤ constant_value g low) ≡ suc k) × CountsOn (constant_value g low) (suc k))
 turns_count g low high t =
     let d : (d : ℕ) × (up (constant_value g low) d ≡ constant_value g high) = steps_to (constant_value g low) (constant_value g high) t.order in (
       d.0,

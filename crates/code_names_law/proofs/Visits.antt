@@ -3,7 +3,7 @@ use Rattle.std.specs.Prelude.{◌≡◌, ◌<◌, ◌≤◌, ◌⊎◌, ◌||◌
 use Rattle.std.proofs.Common.{inl, inr, refl, sym, ◌∙◌, ap, subst, arith, length-append}
 use Rattle.std.proofs.lemmas.Bool.{false≢true}
 use Rattle.base.proofs.Members.{at_front, behind, front_or_behind, none_in}
-use Rattle.syntax_tree.specs.Plain.{Prog}
+use Rattle.syntax_tree.specs.Plain.{Program}
 use Rattle.code_spec.specs.Numbering.{Text, same_text, Called, called_text, routine_calls, is_among, place_among, visit_some, visit_all, visit, visit_texts}
 use Rattle.code_names_law.specs.Kept.{NamesDiffer}
 use Rattle.code_names_law.proofs.Numbers.{IsText, AllTexts, called_is_text, text_is, among_front, among_back, visit_all_keeps, visit_keeps}
@@ -12,12 +12,12 @@ use Rattle.code_names_law.specs.Numbered.{texts, CallsText}
 use Rattle.code_names_law.proofs.Lists.{among_at, place_front, place_below, place_last, snoc_cases, among_snoc, count_lt}
 
 -- each text stands once, behind all that it calls, and there are no more than texts of the program
-pub record Good (g : Prog) (done : List Text) : Type 0 where
+pub record Good (g : Program) (done : List Text) : Type 0 where
   pub once : (k : ℕ) (t : Text) → slice_get done k ≡ Some t → place_among t done ≡ k
   pub behind : (k : ℕ) (t u : Text) → slice_get done k ≡ Some t → CallsText g t u → (is_among u done ≡ true) × (place_among u done < k)
   pub few : length done ≤ count_by (λ u. is_among u done) (texts g)
 
-pub nothing_done : (g : Prog) → Good g []
+pub nothing_done : (g : Program) → Good g []
 nothing_done g = record {
   once = λ k t e. absurd (none t e);
   behind = λ k t u e. absurd (none t e);
@@ -28,11 +28,11 @@ nothing_done g = record {
     none t e = cc
 
 -- what stands there once all that a text calls is visited
-abbrev with_called : ℕ → Prog → List Text → Text → List Text
+abbrev with_called : ℕ → Program → List Text → Text → List Text
 with_called n g done t = visit_all (visit n g) (called_text g t.owner) done (routine_calls t.routine)
 
 -- one that is not there, behind all that it calls
-one_more : (g : Prog) (done : List Text) (t : Text) → Good g done → Contains (texts g) t → is_among t done ≡ false → ((u : Text) → CallsText g t u → is_among u done ≡ true) → Good g (done ++ t ∷ [])
+one_more : (g : Program) (done : List Text) (t : Text) → Good g done → Contains (texts g) t → is_among t done ≡ false → ((u : Text) → CallsText g t u → is_among u done ≡ true) → Good g (done ++ t ∷ [])
 one_more g done t good listed new calls = record {
   once = λ k v e. once k v (snoc_cases done t v k e);
   behind = λ k v u e called. behind k v u (snoc_cases done t v k e) called;
@@ -56,7 +56,7 @@ one_more g done t good listed new calls = record {
         let a : is_among u done ≡ true = calls u (subst (λ w. CallsText g w u) (sym h.1) called) in
         there u k (a, subst (λ n. place_among u done < n) (sym h.0) (place_below u done a))
 
-module _ (g : Prog) (differ : NamesDiffer g) (level : Text → ℕ) (listed : (t : Text) → IsText g t → Contains (texts g) t) (falls : (t u : Text) → IsText g t → CallsText g t u → level u < level t) where
+module _ (g : Program) (differ : NamesDiffer g) (level : Text → ℕ) (listed : (t : Text) → IsText g t → Contains (texts g) t) (falls : (t u : Text) → IsText g t → CallsText g t u → level u < level t) where
   -- what a visit of a text leaves, with whom it adds
   pub record Visited (done : List Text) (t : Text) (after : List Text) : Type 0 where
     pub good : Good g after

@@ -1,6 +1,6 @@
 -- What a well-formed text calls.
 use Rattle.std.specs.Prelude.{◌≡◌, ◌⊎◌, Bool, true, List, [], ◌∷◌, Option, Some, IsSome}
-use Rattle.syntax_tree.specs.Plain.{Name, Stmts, Answers, Process, Prog}
+use Rattle.syntax_tree.specs.Plain.{Name, Stmts, Answers, Process, Program}
 use Rattle.source_semantics.specs.Run.{Found, routine_named, entry_named}
 use Rattle.code_spec.specs.Numbering.{Called, calls_routine, calls_entry, stmts_calls, answers_calls}
 use Rattle.wellformed.specs.Here.{Here}
@@ -13,18 +13,18 @@ AllCalled P [] = Unit {0}
 AllCalled P (c ∷ cs) = P c × AllCalled P cs
 
 -- a routine that is found, a function where the text may call nothing else
-pub record FindsRoutine (g : Prog) (p : Process) (may : Bool) (f : Name) : Type 0 where
+pub record FindsRoutine (g : Program) (p : Process) (may : Bool) (f : Name) : Type 0 where
   pub found : Found
   pub is : routine_named g p f ≡ Some found
   pub allowed : IsSome found.routine.answers ⊎ (may ≡ true)
 
 -- an entry that is found, where the text may call it
-pub record FindsEntry (g : Prog) (may : Bool) (m e : Name) : Type 0 where
+pub record FindsEntry (g : Program) (may : Bool) (m e : Name) : Type 0 where
   pub found : Found
   pub is : entry_named g m e ≡ Some found
   pub allowed : may ≡ true
 
-abbrev pub Finds : Prog → Process → Bool → Called → Type 0
+abbrev pub Finds : Program → Process → Bool → Called → Type 0
 Finds g p may (calls_routine f) = FindsRoutine g p may f
 Finds g p may (calls_entry m e) = FindsEntry g may m e
 

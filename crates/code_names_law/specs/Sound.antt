@@ -1,5 +1,5 @@
 -- Well-formed programs are sound.
-use Rattle.syntax_tree.specs.Plain.{Prog}
+use Rattle.syntax_tree.specs.Plain.{Program}
 use Rattle.wellformed.specs.WellFormed.{IsWellFormed}
 use Rattle.code_names_law.specs.Ruled.{NamesApart}
 use Rattle.code_names_law.specs.Numbered.{AreNumbered}
@@ -7,8 +7,8 @@ use Rattle.code_measures.specs.Declared.{IsSound}
 
 -- The law: each routine and entry stands once in the list by number, behind all that it calls.
 abbrev pub RoutinesHaveNumbers : Type 0
-RoutinesHaveNumbers = (g : Prog) → IsWellFormed g → NamesApart g → AreNumbered g
+RoutinesHaveNumbers = (g : Program) → IsWellFormed g → NamesApart g → AreNumbered g
 
 -- The law: its texts are sound, and each calls routines with lower numbers alone.
 abbrev pub WellFormedProgramsAreSound : Type 0
-WellFormedProgramsAreSound = (g : Prog) → IsWellFormed g → NamesApart g → IsSound g
+WellFormedProgramsAreSound = (g : Program) → IsWellFormed g → NamesApart g → IsSound g

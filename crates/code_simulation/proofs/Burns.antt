@@ -10,7 +10,7 @@ use Rattle.machine_semantics.specs.Effect as table
 use Rattle.machine_semantics.specs.Effect.{Own, Outcome, Goes, Does, Signals, Broadcasts, Waits, Raises, Ends, Stuck, effect, is_reached}
 
 abbrev pub burnt : ℕ → Own → Own
-burnt d o = record { job = record (o.job) { burn = d }; owned = o.owned; shared = o.shared }
+burnt d o = record { job = record (o.job) { dispatch_ticks = d }; owned = o.owned; shared = o.shared }
 
 abbrev pub burnt_outcome : ℕ → Outcome → Outcome
 burnt_outcome d (Goes o) = Goes (burnt d o)

@@ -5,7 +5,7 @@ use Rattle.std.proofs.lemmas.Bool.{eq-eqb}
 use Rattle.machine_isa.specs.declared.instr.Instr.{Instr}
 use Rattle.machine_isa.specs.declared.instr.Instr.TheVariants as i
 use Rattle.base.specs.Words.{of_bool}
-use Rattle.syntax_tree.specs.Plain.{Prog, Process}
+use Rattle.syntax_tree.specs.Plain.{Program, Process}
 use Rattle.source_semantics.specs.Store.{Vars}
 use Rattle.source_semantics.specs.Run.{Call, Action, gets, puts, enters, leaves, waits, signals, broadcasts, asks_empty, raises, ends}
 use Rattle.source_semantics.specs.Next.{Next, next_from, given}
@@ -49,12 +49,12 @@ based e o q n a b inside handling h = by_action a h
 -- ---- ticks that passed, ticks of dispatch, and words that others left
 
 abbrev pub resumed : Own → ℕ → ℕ → List ℤ → Own
-resumed b done burn shared = record { job = record (b.job) { done = done; burn = burn }; owned = b.owned; shared = shared }
+resumed b done dispatch_ticks shared = record { job = record (b.job) { done = done; dispatch_ticks = dispatch_ticks }; owned = b.owned; shared = shared }
 
-resumed_next : (e : Setting) (o : Own) (n : Next) (a : Action) (b : Own) (done burn : ℕ) (shared : List ℤ) → SameInside e.image b.job.inside b.shared shared → NextComes e o n a b → NextComes e o n a (resumed b done burn shared)
-resumed_next e o n a b done burn shared same h = by_action a h
+resumed_next : (e : Setting) (o : Own) (n : Next) (a : Action) (b : Own) (done dispatch_ticks : ℕ) (shared : List ℤ) → SameInside e.image b.job.inside b.shared shared → NextComes e o n a b → NextComes e o n a (resumed b done dispatch_ticks shared)
+resumed_next e o n a b done dispatch_ticks shared same h = by_action a h
   where
-    acts : (a : Action) → NextActs e o a n b → NextActs e o a n (resumed b done burn shared)
+    acts : (a : Action) → NextActs e o a n b → NextActs e o a n (resumed b done dispatch_ticks shared)
     acts a h = record {
       below = h.below;
       instr = h.instr;
@@ -73,7 +73,7 @@ resumed_next e o n a b done burn shared same h = by_action a h
       stands = h.stands;
     }
 
-    by_action : (a : Action) → NextComes e o n a b → NextComes e o n a (resumed b done burn shared)
+    by_action : (a : Action) → NextComes e o n a b → NextComes e o n a (resumed b done dispatch_ticks shared)
     by_action (gets d) h = acts (gets d) h
     by_action (puts d v) h = acts (puts d v) h
     by_action (enters m) h = acts (enters m) h
@@ -85,7 +85,7 @@ resumed_next e o n a b done burn shared same h = by_action a h
     by_action (raises k) h = record {
       instr = h.instr;
       here = h.here;
-      raises = λ s us left. effect_burnt burn e.image s h.instr (next_own (left_by us b)) ∙ ap (λ r. burnt_outcome burn r) (h.raises s us (λ w r. left w r ∙ same w r));
+      raises = λ s us left. effect_burnt dispatch_ticks e.image s h.instr (next_own (left_by us b)) ∙ ap (λ r. burnt_outcome dispatch_ticks r) (h.raises s us (λ w r. left w r ∙ same w r));
       inside = h.inside;
       handling = h.handling;
       frame = h.frame;
@@ -93,17 +93,17 @@ resumed_next e o n a b done burn shared same h = by_action a h
     }
     by_action ends h = record { here = h.here; inside = h.inside; outside = h.outside; others = others_left e b.job.inside b.owned b.shared shared n.process n.monitor h.others same }
 
-resumed_runs : (e : Setting) (o : Own) (n : Next) (a : Action) (b : Own) (done burn : ℕ) (shared : List ℤ) → SameInside e.image b.job.inside b.shared shared → Runs e.image (λ x. NextComes e o n a x) b
-    → Runs e.image (λ x. NextComes e o n a x) (resumed b done burn shared)
-resumed_runs e o n a b done burn shared same (arrived g) = arrived (resumed_next e o n a b done burn shared same g)
-resumed_runs e o n a b done burn shared same (moved j next at h l) =
-    moved j (λ us. burnt burn (next us)) at
-    (λ s us left. effect_burnt burn e.image s j (next_own (left_by us b)) ∙ ap (λ r. burnt_outcome burn r) (h s us (λ w r. left w r ∙ same w r)))
-    (λ us left. resumed_runs e o n a (next us) (next us).job.done burn (next us).shared (λ w r. refl) (l us (λ w r. left w r ∙ same w r)))
+resumed_runs : (e : Setting) (o : Own) (n : Next) (a : Action) (b : Own) (done dispatch_ticks : ℕ) (shared : List ℤ) → SameInside e.image b.job.inside b.shared shared → Runs e.image (λ x. NextComes e o n a x) b
+    → Runs e.image (λ x. NextComes e o n a x) (resumed b done dispatch_ticks shared)
+resumed_runs e o n a b done dispatch_ticks shared same (arrived g) = arrived (resumed_next e o n a b done dispatch_ticks shared same g)
+resumed_runs e o n a b done dispatch_ticks shared same (moved j next at h l) =
+    moved j (λ us. burnt dispatch_ticks (next us)) at
+    (λ s us left. effect_burnt dispatch_ticks e.image s j (next_own (left_by us b)) ∙ ap (λ r. burnt_outcome dispatch_ticks r) (h s us (λ w r. left w r ∙ same w r)))
+    (λ us left. resumed_runs e o n a (next us) (next us).job.done dispatch_ticks (next us).shared (λ w r. refl) (l us (λ w r. left w r ∙ same w r)))
 
 -- ---- a value that is given
 
-given_next : (g : Prog) (p : Process) (calls : List Call) (bottom : Call) (v : Option ℤ) (process monitor : Vars)
+given_next : (g : Program) (p : Process) (calls : List Call) (bottom : Call) (v : Option ℤ) (process monitor : Vars)
     → next_from g p (given v (calls ++ bottom ∷ [])) None process monitor ≡ next_from g p (calls ++ bottom ∷ []) v process monitor
 given_next g p [] bottom v process monitor = refl
 given_next g p (call ∷ calls) bottom v process monitor = refl
@@ -387,11 +387,11 @@ pub emitted_is_faithful : EmittedIsFaithful
 emitted_is_faithful c order is = record {
   begins = begins_rests c order is;
   starts = λ owned shared vars rests. released_stands c order is owned shared vars (record { process_words = rests; monitor_words = tt });
-  stable = λ o v done burn shared h same. record {
+  stable = λ o v done dispatch_ticks shared h same. record {
     handling = h.handling;
     handled = h.handled;
-    leads = then_runs (resumed_runs (setting_of c order) o (next_of c.program c.text v) (next_of c.program c.text v).action o done burn shared same h.leads)
-        (λ b g. arrived (based (setting_of c order) o (resumed o done burn shared) (next_of c.program c.text v) (next_of c.program c.text v).action b refl refl g));
+    leads = then_runs (resumed_runs (setting_of c order) o (next_of c.program c.text v) (next_of c.program c.text v).action o done dispatch_ticks shared same h.leads)
+        (λ b g. arrived (based (setting_of c order) o (resumed o done dispatch_ticks shared) (next_of c.program c.text v) (next_of c.program c.text v).action b refl refl g));
   };
   ticks = λ s o v shared h. ticks_asked c order is s o v h.handling h.handled h.leads;
 }

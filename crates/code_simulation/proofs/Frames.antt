@@ -2,7 +2,7 @@
 use Rattle.std.specs.Prelude.{◌≡◌, ◌+◌, ◌<◌, ℕ, zero, suc, false, List, [], ◌∷◌, ◌++◌, Some, ℤ, pos, length, slice_get, map, replicate}
 use Rattle.std.proofs.Common.{refl, sym, ◌∙◌, ap, subst, arith, length-append}
 use Rattle.std.proofs.lemmas.Bool.{both_ways}
-use Rattle.syntax_tree.specs.Plain.{Param, Kind, scalar, array as array_of, Var, Routine, Prog}
+use Rattle.syntax_tree.specs.Plain.{Param, Kind, scalar, array as array_of, Var, Routine, Program}
 use Rattle.source_semantics.specs.Store.{Vars, fresh, fresh_held}
 use Rattle.source_semantics.specs.Run.{own_vars}
 use Rattle.machine_semantics.specs.State.{zeros, Operand, Value}
@@ -57,14 +57,14 @@ anywhere k = Unit {0}
 abbrev pub AreZeros : List ℤ → ℕ → ℕ → Type 0
 AreZeros ws w n = (k : ℕ) → k < n → slice_get ws (w + k) ≡ Some (pos 0)
 
-fresh_holds : (g : Prog) (ws : List ℤ) (w : ℕ) (k : Kind) → AreZeros ws w (size_of (shape_of g k)) → HoldsHeld anywhere ws w (shape_of g k) (fresh_held g k)
+fresh_holds : (g : Program) (ws : List ℤ) (w : ℕ) (k : Kind) → AreZeros ws w (size_of (shape_of g k)) → HoldsHeld anywhere ws w (shape_of g k) (fresh_held g k)
 fresh_holds g ws w (scalar s) z = record { holds = subst (λ n. slice_get ws n ≡ Some (pos 0)) (none w) (z 0 (omega arith)); open_to = tt }
   where
     none : (n : ℕ) → n + 0 ≡ n
     none n = omega arith
 fresh_holds g ws w (array_of low high s) z = (refl, length_replicate _, λ k lt. (pos 0, get_replicate _ k lt, record { holds = z k lt; open_to = tt }))
 
-pub vars_hold : (g : Prog) (ws : List ℤ) (w : ℕ) (vs : List Var) → AreZeros ws w (words_of g vs) → Holds anywhere ws (places_from g w vs) (map (fresh g) vs)
+pub vars_hold : (g : Program) (ws : List ℤ) (w : ℕ) (vs : List Var) → AreZeros ws w (words_of g vs) → Holds anywhere ws (places_from g w vs) (map (fresh g) vs)
 vars_hold g ws w [] z = tt
 vars_hold g ws w (v ∷ vs) z = (
   record { name = refl; range = refl; held = fresh_holds g ws w v.kind (λ k lt. z k (omega arith)) },
@@ -74,7 +74,7 @@ vars_hold g ws w (v ∷ vs) z = (
     further : (a b k : ℕ) → a + (b + k) ≡ a + b + k
     further a b k = omega arith
 
-params_hold : (g : Prog) (ws : List ℤ) (w : ℕ) (ps : List Param) (values : List ℤ) (vs : Vars) → HoldValues g ps values vs → ((k : ℕ) (v : ℤ) → slice_get values k ≡ Some v → slice_get ws (w + k) ≡ Some v)
+params_hold : (g : Program) (ws : List ℤ) (w : ℕ) (ps : List Param) (values : List ℤ) (vs : Vars) → HoldValues g ps values vs → ((k : ℕ) (v : ℤ) → slice_get values k ≡ Some v → slice_get ws (w + k) ≡ Some v)
     → Holds anywhere ws (param_places g w ps) vs
 params_hold g ws w [] [] [] h z = tt
 params_hold g ws w (p ∷ ps) (v ∷ values) (s ∷ vs) h z = (
@@ -102,7 +102,7 @@ holds_both ws [] qs (s ∷ vs) us h k = absurd h
 holds_both ws (p ∷ ps) qs [] us h k = absurd h
 holds_both ws (p ∷ ps) qs (s ∷ vs) us h k = (h.0, holds_both ws ps qs vs us h.1 k)
 
-pub values_count : (g : Prog) (ps : List Param) (values : List ℤ) (vs : Vars) → HoldValues g ps values vs → length values ≡ count ps
+pub values_count : (g : Program) (ps : List Param) (values : List ℤ) (vs : Vars) → HoldValues g ps values vs → length values ≡ count ps
 values_count g [] [] [] h = refl
 values_count g (p ∷ ps) (v ∷ values) (s ∷ vs) h = ap (λ k. suc k) (values_count g ps values vs h.1)
 values_count g [] [] (s ∷ vs) h = absurd h
@@ -116,11 +116,11 @@ abbrev pub AllFree : List Place → Type 0
 AllFree [] = Unit {0}
 AllFree (p ∷ ps) = (p.fixed ≡ false) × AllFree ps
 
-free_params : (g : Prog) (w : ℕ) (ps : List Param) → AllFree (param_places g w ps)
+free_params : (g : Program) (w : ℕ) (ps : List Param) → AllFree (param_places g w ps)
 free_params g w [] = tt
 free_params g w (p ∷ ps) = (refl, free_params g (suc w) ps)
 
-pub free_vars : (g : Prog) (w : ℕ) (vs : List Var) → AllFree (places_from g w vs)
+pub free_vars : (g : Program) (w : ℕ) (vs : List Var) → AllFree (places_from g w vs)
 free_vars g w [] = tt
 free_vars g w (v ∷ vs) = (refl, free_vars g (w + size_of (shape_of g v.kind)) vs)
 
@@ -142,13 +142,13 @@ free_kept ws (p ∷ ps) (s ∷ vs) f h = ((λ t. absurd (both_ways p.fixed f.0 t
 -- ---- the new frame
 
 -- how many words stand behind the arguments
-abbrev pub behind_params : Prog → Routine → ℕ
+abbrev pub behind_params : Program → Routine → ℕ
 behind_params g r = words_of g r.vars + loops r.body
 
-abbrev pub new_locals : Prog → Routine → List ℤ → List ℤ
+abbrev pub new_locals : Program → Routine → List ℤ → List ℤ
 new_locals g r values = values ++ zeros (behind_params g r)
 
-pub new_frame : (g : Prog) (t : Text) (values : List ℤ) (vs : Vars) → HoldValues g t.routine.params values vs
+pub new_frame : (g : Program) (t : Text) (values : List ℤ) (vs : Vars) → HoldValues g t.routine.params values vs
     → FitsFrame (routine_scope g t) (no_values (routine_places g t.routine)) (new_locals g t.routine values) (own_vars g t.routine vs)
 new_frame g t values vs h =
     let many : length values ≡ count t.routine.params = values_count g t.routine.params values vs h in

@@ -1,7 +1,7 @@
 -- Variables share no word.
 use Rattle.std.specs.Prelude.{◌+◌, ◌≤◌, ℕ, suc, false, List, [], ◌∷◌, ◌++◌, slice_get}
 use Rattle.std.proofs.Common.{arith, inl}
-use Rattle.syntax_tree.specs.Plain.{Param, Var, Prog}
+use Rattle.syntax_tree.specs.Plain.{Param, Var, Program}
 use Rattle.source_semantics.specs.Names.{processes, monitors}
 use Rattle.source_semantics.specs.Store.{range_of, kind_range}
 use Rattle.code_spec.specs.Layout.{single, size_of, shape_of, Place, places_from, param_places, words_of, count, loops, routine_vars_words, monitor_base, vars_of_process, vars_of_monitor}
@@ -26,27 +26,27 @@ apart_above : (p : Place) (w : ℕ) (ps : List Place) → p.word + size_of p.sha
 apart_above p w [] le h = tt
 apart_above p w (q ∷ ps) le h = (inl (omega (arith, h.0, le)), apart_above p w ps le h.1)
 
-vars_above : (g : Prog) (w : ℕ) (vs : List Var) → AllAbove w (places_from g w vs)
+vars_above : (g : Program) (w : ℕ) (vs : List Var) → AllAbove w (places_from g w vs)
 vars_above g w [] = tt
 vars_above g w (v ∷ vs) = (omega arith, above_less w (w + size_of (shape_of g v.kind)) (places_from g (w + size_of (shape_of g v.kind)) vs) (omega arith) (vars_above g (w + size_of (shape_of g v.kind)) vs))
 
-vars_below : (g : Prog) (w : ℕ) (vs : List Var) → AllBelow (w + words_of g vs) (places_from g w vs)
+vars_below : (g : Program) (w : ℕ) (vs : List Var) → AllBelow (w + words_of g vs) (places_from g w vs)
 vars_below g w [] = tt
 vars_below g w (v ∷ vs) = (omega arith, below_more (w + size_of (shape_of g v.kind) + words_of g vs) (w + (size_of (shape_of g v.kind) + words_of g vs)) (places_from g (w + size_of (shape_of g v.kind)) vs) (omega arith) (vars_below g (w + size_of (shape_of g v.kind)) vs))
 
-pub vars_apart : (g : Prog) (w : ℕ) (vs : List Var) → AllApart (places_from g w vs)
+pub vars_apart : (g : Program) (w : ℕ) (vs : List Var) → AllApart (places_from g w vs)
 vars_apart g w [] = tt
 vars_apart g w (v ∷ vs) = (apart_above (record { name = v.name; range = kind_range g v.kind; word = w; shape = shape_of g v.kind; fixed = false }) (w + size_of (shape_of g v.kind)) (places_from g (w + size_of (shape_of g v.kind)) vs) (omega arith) (vars_above g (w + size_of (shape_of g v.kind)) vs), vars_apart g (w + size_of (shape_of g v.kind)) vs)
 
-params_above : (g : Prog) (w : ℕ) (ps : List Param) → AllAbove w (param_places g w ps)
+params_above : (g : Program) (w : ℕ) (ps : List Param) → AllAbove w (param_places g w ps)
 params_above g w [] = tt
 params_above g w (p ∷ ps) = (omega arith, above_less w (suc w) (param_places g (suc w) ps) (omega arith) (params_above g (suc w) ps))
 
-params_below : (g : Prog) (w : ℕ) (ps : List Param) → AllBelow (w + count ps) (param_places g w ps)
+params_below : (g : Program) (w : ℕ) (ps : List Param) → AllBelow (w + count ps) (param_places g w ps)
 params_below g w [] = tt
 params_below g w (p ∷ ps) = (omega arith, below_more (suc w + count ps) (w + suc (count ps)) (param_places g (suc w) ps) (omega arith) (params_below g (suc w) ps))
 
-params_apart : (g : Prog) (w : ℕ) (ps : List Param) → AllApart (param_places g w ps)
+params_apart : (g : Program) (w : ℕ) (ps : List Param) → AllApart (param_places g w ps)
 params_apart g w [] = tt
 params_apart g w (p ∷ ps) = (apart_above (record { name = p.name; range = range_of g p.kind; word = w; shape = single; fixed = false }) (suc w) (param_places g (suc w) ps) (omega arith) (params_above g (suc w) ps), params_apart g (suc w) ps)
 
@@ -63,7 +63,7 @@ both_below w [] qs b d = d
 both_below w (p ∷ ps) qs b d = (b.0, both_below w ps qs b.1 d)
 
 -- the variables of a routine are apart, and behind them there is room for its loops
-pub routine_room : (g : Prog) (t : Text) → Room (routine_scope g t) (routine_vars_words g t.routine) (loops t.routine.body)
+pub routine_room : (g : Program) (t : Text) → Room (routine_scope g t) (routine_vars_words g t.routine) (loops t.routine.body)
 routine_room g t = record {
   apart = both_apart (count t.routine.params) (param_places g 0 t.routine.params) (places_from g (count t.routine.params) t.routine.vars) (params_apart g 0 t.routine.params)
       (below_more (0 + count t.routine.params) (count t.routine.params) (param_places g 0 t.routine.params) (omega arith) (params_below g 0 t.routine.params)) (vars_apart g (count t.routine.params) t.routine.vars)

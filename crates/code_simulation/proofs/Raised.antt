@@ -1,7 +1,7 @@
 -- Where a process stands after a raise, and at the start of its body.
 use Rattle.std.specs.Prelude.{◌≡◌, ◌+◌, ◌<◌, ◌&&◌, nat_le, ℕ, zero, suc, Bool, true, false, not, cond, List, [], ◌∷◌, Option, Some, None, ℤ, pos, length, nat_eq, map, slice_get}
 use Rattle.std.proofs.Common.{refl, sym, ◌∙◌, ap, subst, arith}
-use Rattle.syntax_tree.specs.Plain.{Constant, Stmts, Handler, Prog}
+use Rattle.syntax_tree.specs.Plain.{Constant, Stmts, Handler, Program}
 use Rattle.source_semantics.specs.Names.{count_value, routine_count}
 use Rattle.source_semantics.specs.Store.{Vars, fresh}
 use Rattle.source_semantics.specs.Next.{next_from}
@@ -30,7 +30,7 @@ use Rattle.code_simulation.specs.Process.{setting_of, ProperHandler, IsEmitted, 
 use Rattle.code_simulation.proofs.Sizes.{stmts_size}
 use Rattle.code_measures.proofs.Sizes.{alike}
 
-lists_same : (g : Prog) (n : ℕ) (cs : List Constant) → lists (map (λ k. count_value g k) cs) n ≡ lists_of g n cs
+lists_same : (g : Program) (n : ℕ) (cs : List Constant) → lists (map (λ k. count_value g k) cs) n ≡ lists_of g n cs
 lists_same g n [] = refl
 lists_same g n (k ∷ cs) = ap (λ b. cond (nat_eq (count_value g k) n) true b) (lists_same g n cs)
 

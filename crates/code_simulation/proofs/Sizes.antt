@@ -1,7 +1,7 @@
 -- The tree of a text covers as many instructions as its code has.
 use Rattle.std.specs.Prelude.{◌≡◌, ◌+◌, ℕ, suc, List, [], ◌∷◌, ◌++◌, Option, Some, None, ℤ, pos, length}
 use Rattle.std.proofs.Common.{refl, ap, subst, arith}
-use Rattle.syntax_tree.specs.Plain.{Name, Param, Expr, literal, truth, variable, element, call, minus, negation, paren, row, Exprs, no_exprs, exprs, Operands, no_operands, operand, Ref, whole, part, Stmt, assign, assign_entry, assign_empty, perform, perform_entry, when, when_else, loop, exit_when, get, put, wait, signal, broadcast, except, assert, Stmts, no_stmts, stmts, Prog}
+use Rattle.syntax_tree.specs.Plain.{Name, Param, Expr, literal, truth, variable, element, call, minus, negation, paren, row, Exprs, no_exprs, exprs, Operands, no_operands, operand, Ref, whole, part, Stmt, assign, assign_entry, assign_empty, perform, perform_entry, when, when_else, loop, exit_when, get, put, wait, signal, broadcast, except, assert, Stmts, no_stmts, stmts, Program}
 use Rattle.source_semantics.specs.Store.{range_of}
 use Rattle.machine_isa.specs.declared.instr.Instr.{Instr}
 use Rattle.machine_isa.specs.declared.instr.Instr.TheVariants as i
@@ -19,7 +19,7 @@ use Rattle.code_measures.proofs.Lines.{length_both}
 
 -- ---- expressions
 
-module _ (g : Prog) (c d : Scope) (a : Alike g c d) where
+module _ (g : Program) (c d : Scope) (a : Alike g c d) where
   call_sizes : (t : Option Text) (es : Exprs) (after : Segs) → ((ps : List Param) (k : Segs) → size (args_segs g d es ps k) ≡ length (args_code g c es ps) + size k)
       → size (call_segs g t (λ ps k. args_segs g d es ps k) after) ≡ length (call_code g t (λ ps. args_code g c es ps)) + size after
   call_sizes None es after args = omega arith

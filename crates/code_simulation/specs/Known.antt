@@ -1,6 +1,6 @@
 -- What is known of calls: the code of routines, and what it comes to.
 use Rattle.std.specs.Prelude.{◌≡◌, ℕ, ◌<◌, true, false, List, [], ◌∷◌, Some, None, ℤ, slice_get}
-use Rattle.syntax_tree.specs.Plain.{Name, Param, Answers, Prog}
+use Rattle.syntax_tree.specs.Plain.{Name, Param, Answers, Program}
 use Rattle.base.specs.Words.{Answer, word, raised}
 use Rattle.source_semantics.specs.Store.{one, Vars, range_of}
 use Rattle.source_semantics.specs.Run.{Memory, Calls, Bound, bound, unbound, routine_named}
@@ -51,7 +51,7 @@ pub record CallsCome (e : Setting) (n : ℕ) (calls : Calls) : Type 0 where
 -- ---- arguments
 
 -- the parameters' variables hold these values
-abbrev pub HoldValues : Prog → List Param → List ℤ → Vars → Type 0
+abbrev pub HoldValues : Program → List Param → List ℤ → Vars → Type 0
 HoldValues g [] [] [] = Unit {0}
 HoldValues g (p ∷ ps) (v ∷ vs) (s ∷ ss) = (s ≡ record { name = p.name; range = range_of g p.kind; held = one v }) × HoldValues g ps vs ss
 HoldValues g ps vs ss = ⊥

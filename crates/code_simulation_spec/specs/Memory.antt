@@ -1,6 +1,6 @@
 -- The words of the machine hold the memory of the source.
 use Rattle.std.specs.Prelude.{◌≡◌, ℕ, ◌+◌, ◌<◌, ◌≤◌, ◌⊎◌, Bool, true, false, List, [], ◌∷◌, Option, Some, None, ℤ, pos, length, slice_get}
-use Rattle.syntax_tree.specs.Plain.{Name, Prog, Process}
+use Rattle.syntax_tree.specs.Plain.{Name, Program, Process}
 use Rattle.source_semantics.specs.Store.{Held, one, many, Slot, Vars}
 use Rattle.source_semantics.specs.Run.{Memory, Calls, Site}
 use Rattle.machine_semantics.specs.Image.{Image}
@@ -19,7 +19,7 @@ pub record Order : Type 0 where
 -- and its routines in order.
 pub record Setting : Type 0 where
   pub image : Image
-  pub program : Prog
+  pub program : Program
   pub text : Process
   pub number : ℕ
   pub frame : ℕ
@@ -113,7 +113,7 @@ pub record FitsFrame (c : Scope) (fixed : List ℤ) (locals : List ℤ) (own : V
   pub kept : KeptAll c.own fixed own
 
 -- the places of the monitor that the process is inside
-abbrev pub inside_places : Prog → Option ℕ → List Place
+abbrev pub inside_places : Program → Option ℕ → List Place
 inside_places g None = []
 inside_places g (Some m) = monitor_places g m
 

@@ -1,6 +1,6 @@
 -- Where the frames of a process stand for its calls in progress.
 use Rattle.std.specs.Prelude.{◌≡◌, ℕ, suc, ◌+◌, ◌≤◌, Bool, true, false, List, [], ◌∷◌, ◌++◌, Option, Some, None, ℤ, pos, ◌+ℤ◌}
-use Rattle.syntax_tree.specs.Plain.{Name, Stmts, Answers, Prog}
+use Rattle.syntax_tree.specs.Plain.{Name, Stmts, Answers, Program}
 use Rattle.source_semantics.specs.Names.{routine_count}
 use Rattle.source_semantics.specs.Run.{Target, Item, do_all, turns_left, receive, store, enter_again, leave_with, give, Call}
 use Rattle.machine_isa.specs.declared.instr.Instr.{Instr}
@@ -100,7 +100,7 @@ index_on None os = os
 index_on (Some i) os = Value i ∷ os
 
 -- the check of the range of what is stored to, and the store
-abbrev pub target_code : Prog → Scope → Name → Option ℤ → List Instr
+abbrev pub target_code : Program → Scope → Name → Option ℤ → List Instr
 target_code g c x None = range_code (range_of_spot (spot_of g c x)) ++ store_spot (spot_of g c x)
 target_code g c x (Some i) = range_code (range_of_spot (spot_of g c x)) ++ store_element (spot_of g c x)
 

@@ -58,7 +58,7 @@ plain_process_at (process q ∷ ds) (suc k) p e = plain_process_at ds k p e
 -- ---- parts that fail
 
 -- a routine or an entry among the texts fails at the place
-pub record RoutineOver (g : plain_of.Prog) (s : Measures) (ts : List Text) (p : Place) : Type 0 where
+pub record RoutineOver (g : plain_of.Program) (s : Measures) (ts : List Text) (p : Place) : Type 0 where
   pub text : Text
   pub listed : Contains ts text
   pub fails : routine_over g s text ≡ Some p
@@ -70,7 +70,7 @@ pub record ProcessOver (s : Measures) (k : ℕ) (ps : List (Process Place)) (p :
   pub listed : slice_get ps number ≡ Some text
   pub fails : process_over s (k + number) text ≡ Some p
 
-module _ (g : plain_of.Prog) (s : Measures) (p : Place) where
+module _ (g : plain_of.Program) (s : Measures) (p : Place) where
   before : (ts us : List Text) → RoutineOver g s ts p → RoutineOver g s (ts ++ us) p
   before ts us r = record { text = r.text; listed = Contains-append_left ts us r.text r.listed; fails = r.fails }
 

@@ -17,7 +17,7 @@ use Rattle.code_spec.specs.Numbering as numbering
 use Rattle.code_cost_spec.specs.Levels.{process_names, routines_length, processes_length, code_length, stack_of_process}
 use Rattle.code_cost_spec.specs.Lengths.{process_length}
 use Rattle.code_cost.specs.Sums.{held}
-use Rattle.code_cost.specs.declared.measure.Known.{Known}
+use Rattle.code_cost.specs.declared.measure.RoutineMeasure.{RoutineMeasure}
 use Rattle.code_cost.specs.declared.program.ProcessMeasure.{ProcessMeasure}
 use Rattle.code_cost.specs.declared.program.Measures.{Measures}
 use Rattle.code_cost.specs.Sizes.{IsRowOf, AreDefined}
@@ -28,8 +28,8 @@ use Rattle.code_size.proofs.Parts.{as_long, plain_texts, plain_process_at, Routi
 
 -- ---- lengths
 
-rows_total : (g : plain_of.Prog) (ts : List numbering.Text) (rows : List Known) → length rows ≡ length ts
-    → ((r : ℕ) (t : numbering.Text) (row : Known) → slice_get ts r ≡ Some t → slice_get rows r ≡ Some row → IsRowOf g t row)
+rows_total : (g : plain_of.Program) (ts : List numbering.Text) (rows : List RoutineMeasure) → length rows ≡ length ts
+    → ((r : ℕ) (t : numbering.Text) (row : RoutineMeasure) → slice_get ts r ≡ Some t → slice_get rows r ≡ Some row → IsRowOf g t row)
     → held (sum_by (λ row. row.length) rows) ≡ held (routines_length g ts)
 rows_total g [] [] same are = refl
 rows_total g [] (row ∷ rows) same are = absurd (omega arith)
@@ -37,10 +37,10 @@ rows_total g (t ∷ ts) [] same are = absurd (omega arith)
 rows_total g (t ∷ ts) (row ∷ rows) same are =
     let one = (are 0 t row refl refl).length in
     let rest = rows_total g ts rows (omega arith) (λ r u k a b. are (suc r) u k a b) in
-    let sums = sum_by-cons (λ (k : Known). k.length) row rows in
+    let sums = sum_by-cons (λ (k : RoutineMeasure). k.length) row rows in
     omega arith
 
-sizes_total : (g : plain_of.Prog) (n : ℕ) (ps : List plain_of.Process) (sizes : List ProcessMeasure) → length sizes ≡ length ps
+sizes_total : (g : plain_of.Program) (n : ℕ) (ps : List plain_of.Process) (sizes : List ProcessMeasure) → length sizes ≡ length ps
     → ((k : ℕ) (p : plain_of.Process) (size : ProcessMeasure) → slice_get ps k ≡ Some p → slice_get sizes k ≡ Some size → size.length ≡ held (process_length g (process_names g (n + k) p) p))
     → held (sum_by (λ size. size.length) sizes) ≡ held (processes_length g n ps)
 sizes_total g n [] [] same are = refl
@@ -54,7 +54,7 @@ sizes_total g n (p ∷ ps) (size ∷ sizes) same are =
     let sums = sum_by-cons (λ (m : ProcessMeasure). m.length) size sizes in
     omega arith
 
-pub total_is : (g : plain_of.Prog) (m : Measures) → AreDefined g m → held (length_told m) ≡ held (code_length g)
+pub total_is : (g : plain_of.Program) (m : Measures) → AreDefined g m → held (length_told m) ≡ held (code_length g)
 total_is g m d =
     let rows = rows_total g (numbering.numbered g) m.routines d.rows (λ r t row a b. d.routines r t row a b) in
     let sizes = sizes_total g 0 (names.processes g) m.processes d.sizes

@@ -126,7 +126,7 @@ array_routine_over = record {
 
 -- ---- puts
 
-puts_length : (g : plain_of.Prog) (n : Names) (times c : ℕ) → stmts_length g n (plain_stmts (puts times c)) ≡ 2 * times
+puts_length : (g : plain_of.Program) (n : Names) (times c : ℕ) → stmts_length g n (plain_stmts (puts times c)) ≡ 2 * times
 puts_length g n zero c = refl
 puts_length g n (suc k) c = let e = puts_length g n k (8 + c) in omega arith
 
@@ -134,7 +134,7 @@ puts_loops : (times c : ℕ) → loops (plain_stmts (puts times c)) ≡ 0
 puts_loops zero c = refl
 puts_loops (suc k) c = let e = puts_loops k (8 + c) in omega arith
 
-puts_height : (g : plain_of.Prog) (o : Owner) (k : Calls) (times c : ℕ) → stmts_height g o k (plain_stmts (puts times c)) ≤ 1
+puts_height : (g : plain_of.Program) (o : Owner) (k : Calls) (times c : ℕ) → stmts_height g o k (plain_stmts (puts times c)) ≤ 1
 puts_height g o k zero c = omega arith
 puts_height g o k (suc n) c = let e = puts_height g o k n (8 + c) in omega arith
 

@@ -28,7 +28,7 @@ texts_from k m (event n p ∷ ds) = texts_from k m ds
 
 -- the words that a routine takes by itself: its locals, its operands, and what the routines that it
 -- calls take
-abbrev pub routine_stack : plain_of.Prog → Owner → plain_of.Routine → ℕ
+abbrev pub routine_stack : plain_of.Program → Owner → plain_of.Routine → ℕ
 routine_stack g o r = routine_words g r + routine_height g o (calls_of g) r
 
 -- the program has more than 65,535 instructions; the place is that of its name

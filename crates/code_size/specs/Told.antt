@@ -3,11 +3,11 @@ use Rattle.std.specs.Prelude.{◌+◌, ℕ, suc, List, [], ◌∷◌, Option, So
 use Rattle.syntax_tree.specs.Placed.{Routine, Process, Decl, constant, device, event, routine, monitor, process, plain_routine}
 use Rattle.syntax_tree.specs.Plain as plain_of
 use Rattle.syntax_tree.specs.declared.place.Place.{Place}
-use Rattle.static_rule.specs.declared.broken.Broken.{Broken}
+use Rattle.static_rule.specs.declared.violation.Violation.{Violation}
 use Rattle.static_rule.specs.Parts.{Rule}
 use Rattle.code_spec.specs.Layout.{Owner, by_program, by_process, by_monitor}
 use Rattle.code_spec.specs.Numbering as numbering
-use Rattle.code_cost.specs.declared.measure.Known.{Known}
+use Rattle.code_cost.specs.declared.measure.RoutineMeasure.{RoutineMeasure}
 use Rattle.code_cost.specs.declared.program.ProcessMeasure.{ProcessMeasure}
 use Rattle.code_cost.specs.declared.program.Measures.{Measures}
 use Rattle.code_size.specs.Rules.{Text}
@@ -19,7 +19,7 @@ abbrev pub length_told : Measures → ℕ
 length_told m = sum_by (λ row. row.length) m.routines + sum_by (λ size. size.length) m.processes
 
 -- the rule for so many instructions, where it fails
-abbrev pub code_broken : Place → ℕ → Option Broken
+abbrev pub code_broken : Place → ℕ → Option Violation
 code_broken place length = if nat_lt 65535 length then Some (record { number = 46; place = place }) else None
 
 -- ---- stacks
@@ -28,7 +28,7 @@ code_broken place length = if nat_lt 65535 length then Some (record { number = 4
 abbrev pub over_stack : Place → (words : ℕ) → Option Place
 over_stack place words = if nat_lt 4096 words then Some place else None
 
-abbrev pub row_over : Place → Option Known → Option Place
+abbrev pub row_over : Place → Option RoutineMeasure → Option Place
 row_over place None = None
 row_over place (Some row) = over_stack place (row.words + row.height)
 
@@ -40,7 +40,7 @@ abbrev pub plain_text : Text → numbering.Text
 plain_text t = record { owner = t.owner; routine = plain_routine t.routine }
 
 -- the place of a routine or an entry, where its row says that it takes too many words by itself
-abbrev pub routine_over : plain_of.Prog → Measures → Text → Option Place
+abbrev pub routine_over : plain_of.Program → Measures → Text → Option Place
 routine_over g m t = row_over t.routine.place (slice_get m.routines (numbering.number_of g (plain_text t)))
 
 -- the place of process k, where its size says that its stack is too large
@@ -52,11 +52,11 @@ pub data Part : Type 0 where
   routine_part : Text → Part
   process_part : ℕ → Process Place → Part
 
-abbrev pub part_over : plain_of.Prog → Measures → Part → Option Place
+abbrev pub part_over : plain_of.Program → Measures → Part → Option Place
 part_over g m (routine_part t) = routine_over g m t
 part_over g m (process_part k p) = process_over m k p
 
-abbrev pub stack_rules : plain_of.Prog → Measures → List (Rule Part)
+abbrev pub stack_rules : plain_of.Program → Measures → List (Rule Part)
 stack_rules g m = record { number = 47; fails = part_over g m } ∷ []
 
 -- routines of one owner, and then more

@@ -12,19 +12,19 @@ use crate::lengths::code_length;
 use crate::stacks::first_large;
 use code_cost::Measures;
 use code_names::Numbering;
-use static_rule::{Broken, rule, sooner};
+use static_rule::{Violation, rule, sooner};
 use std::alloc::{AllocError, Global};
-use syntax_tree::{Place, Prog};
+use syntax_tree::{Place, Program};
 
 /// A program has at most so many instructions.
 const MOST_INSTRUCTIONS: u64 = 65_535;
 
 /// The rule for the number of instructions, where it fails: at the place of the program's name.
-fn long_code(place: Place, measures: &Measures) -> Option<Broken>
+fn long_code(place: Place, measures: &Measures) -> Option<Violation>
     ensures { result ≡ code_broken place (length_told measures.now) }
 {
     if code_length(measures) > MOST_INSTRUCTIONS {
-        Some(Broken {
+        Some(Violation {
             number: rule::LONG_CODE,
             place,
         })
@@ -40,9 +40,9 @@ fn long_code(place: Place, measures: &Measures) -> Option<Broken>
 /// itself. It takes time in proportion to the text. Only memory can be wanting.
 pub fn too_large(
     alloc: Global,
-    program: &Prog,
+    program: &Program,
     measures: &Measures,
-) -> Result<Option<Broken>, AllocError>
+) -> Result<Option<Violation>, AllocError>
     requires numbers { HaveNumbers (plain (placed program.now)) }
     requires defined { AreDefined (plain (placed program.now)) measures.now }
     ensures { IfOk result (λ first. IsFirstOf (SizeFails (placed program.now)) first) }

@@ -7,9 +7,9 @@ ghost use Rattle.code_names.specs.Texts.{owner_of};
 ghost use Rattle.code_size.specs.Told.{Part, over_stack, parts_from, process_over, routine_over, routine_parts, stack_rules};
 
 use code_cost::Measures;
-use code_names::{Numbering, Owner, Text};
-use static_rule::{Broken, blame, rule};
-use syntax_tree::{Decl, Place, Proc, Routine};
+use code_names::{Body, Numbering, RoutineOwner};
+use static_rule::{Violation, blame, rule};
+use syntax_tree::{Declaration, Place, Process, Routine};
 
 /// A stack has at most so many words.
 const MOST_WORDS: u64 = 4096;
@@ -29,19 +29,19 @@ fn over(place: Place, words: u64, more: u64) -> Option<Place>
 fn large_routine(
     numbering: &Numbering<'_>,
     measures: &Measures,
-    owner: Owner,
+    owner: RoutineOwner,
     routine: &Routine,
 ) -> Option<Place>
     ensures { result ≡ routine_over (plain (placed numbering.now)) measures.now
         (record { owner = owner_of owner; routine = placed_routine routine.now }) }
 {
-    let number = numbering.number(Text { owner, routine });
+    let number = numbering.number(Body { owner, routine });
     let row = measures.routines.get(number)?;
     over(routine.place, row.words, row.height)
 }
 
 /// The place of a process, where its stack is too large.
-fn large_process(measures: &Measures, number: usize, process: &Proc) -> Option<Place>
+fn large_process(measures: &Measures, number: usize, process: &Process) -> Option<Place>
     ensures { result ≡ process_over measures.now number (placed_process process.now) }
 {
     let size = measures.processes.get(number)?;
@@ -50,10 +50,10 @@ fn large_process(measures: &Measures, number: usize, process: &Proc) -> Option<P
 
 /// Tries routines of one owner.
 fn try_routines(
-    first: &mut Option<Broken>,
+    first: &mut Option<Violation>,
     numbering: &Numbering<'_>,
     measures: &Measures,
-    owner: Owner,
+    owner: RoutineOwner,
     routines: &[Routine],
 )
     ensures { let rules = stack_rules (plain (placed numbering.now)) measures.now in
@@ -71,7 +71,11 @@ fn try_routines(
 }
 
 /// The stack that is too large and comes first, if there is any.
-pub fn first_large(numbering: &Numbering<'_>, measures: &Measures, decls: &[Decl]) -> Option<Broken>
+pub fn first_large(
+    numbering: &Numbering<'_>,
+    measures: &Measures,
+    decls: &[Declaration],
+) -> Option<Violation>
     ensures { result ≡ noted (stack_rules (plain (placed numbering.now)) measures.now) None
         (parts_from 0 0 (map placed_decl decls.now)) }
 {
@@ -80,19 +84,19 @@ pub fn first_large(numbering: &Numbering<'_>, measures: &Measures, decls: &[Decl
     let mut monitors = 0;
     for decl in decls {
         match decl {
-            Decl::Const { .. } | Decl::Device { .. } | Decl::Event { .. } => {}
-            Decl::Routine(routine) => {
-                let place = large_routine(numbering, measures, Owner::Program, routine);
+            Declaration::Const { .. } | Declaration::Device { .. } | Declaration::Event { .. } => {}
+            Declaration::Routine(routine) => {
+                let place = large_routine(numbering, measures, RoutineOwner::Program, routine);
                 blame(&mut first, rule::LARGE_STACK, place);
             }
-            Decl::Mon(monitor) => {
-                let owner = Owner::Monitor(monitors);
+            Declaration::Monitor(monitor) => {
+                let owner = RoutineOwner::Monitor(monitors);
                 let entries = monitor.entries.as_slice();
                 try_routines(&mut first, numbering, measures, owner, entries);
                 monitors += 1;
             }
-            Decl::Proc(process) => {
-                let owner = Owner::Process(processes);
+            Declaration::Process(process) => {
+                let owner = RoutineOwner::Process(processes);
                 let place = large_process(measures, processes, process);
                 blame(&mut first, rule::LARGE_STACK, place);
                 let routines = process.routines.as_slice();

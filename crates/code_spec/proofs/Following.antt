@@ -47,18 +47,18 @@ module _ (c : Compiled) (Free : Freeing) (Rests : Resting) (S T : Own → View �
 -- ---- a relation that is closed shows that the code is right
 
 module _ (c : Compiled) (Stands : Own → View → Type 0) (Free : Freeing) (Rests : Resting) (faithful : IsFaithful c Stands Free Rests) where
-  ticking : (s : State) (o : Own) (v : View) (done burn : ℕ) → Stands o v → SameInside c.image o.job.inside o.shared s.shared
+  ticking : (s : State) (o : Own) (v : View) (done dispatch_ticks : ℕ) → Stands o v → SameInside c.image o.job.inside o.shared s.shared
       → (instr : Instr) × (slice_get c.image.code o.job.place ≡ Some instr)
-      × Agrees c Stands Free Rests s (elsewhere o done burn s) v (next_of c.program c.text v) (next_of c.program c.text v).action (effect c.image s instr (next_own (elsewhere o done burn s)))
-  ticking s o v done burn h same = faithful.ticks s (elsewhere o done burn s) v refl (faithful.stable o v done burn s.shared h same)
+      × Agrees c Stands Free Rests s (elsewhere o done dispatch_ticks s) v (next_of c.program c.text v) (next_of c.program c.text v).action (effect c.image s instr (next_own (elsewhere o done dispatch_ticks s)))
+  ticking s o v done dispatch_ticks h same = faithful.ticks s (elsewhere o done dispatch_ticks s) v refl (faithful.stable o v done dispatch_ticks s.shared h same)
 
   stands_follow : (n : ℕ) (o : Own) (v : View) → Stands o v → Follows n c Free Rests o v
   stands_follow zero o v h = tt
-  stands_follow (suc n) o v h = λ s done burn same. (
-    (ticking s o v done burn h same).0,
-    (ticking s o v done burn h same).1,
-    agrees_into c Free Rests Stands (Follows n c Free Rests) (λ p u stands. stands_follow n p u stands) s (elsewhere o done burn s) v (next_of c.program c.text v) (next_of c.program c.text v).action
-        (effect c.image s (ticking s o v done burn h same).0 (next_own (elsewhere o done burn s))) (ticking s o v done burn h same).2,
+  stands_follow (suc n) o v h = λ s done dispatch_ticks same. (
+    (ticking s o v done dispatch_ticks h same).0,
+    (ticking s o v done dispatch_ticks h same).1,
+    agrees_into c Free Rests Stands (Follows n c Free Rests) (λ p u stands. stands_follow n p u stands) s (elsewhere o done dispatch_ticks s) v (next_of c.program c.text v) (next_of c.program c.text v).action
+        (effect c.image s (ticking s o v done dispatch_ticks h same).0 (next_own (elsewhere o done dispatch_ticks s))) (ticking s o v done dispatch_ticks h same).2,
   )
 
   pub faithful_is_right : IsRight c Free Rests
@@ -112,16 +112,16 @@ module _ (c : Compiled) (Free : Freeing) (Rests : Resting) where
     stable = still;
     ticks = ticking;
   } where
-    still : (o : Own) (v : View) (done burn : ℕ) (shared : List ℤ) → Always o v → SameInside c.image o.job.inside o.shared shared → Always (record { job = record (o.job) { done = done; burn = burn }; owned = o.owned; shared = shared }) v
-    still o v done burn shared h same zero = tt
-    still o v done burn shared h same (suc n) = λ s d b again. h (suc n) s d b (λ w reached. again w reached ∙ same w reached)
+    still : (o : Own) (v : View) (done dispatch_ticks : ℕ) (shared : List ℤ) → Always o v → SameInside c.image o.job.inside o.shared shared → Always (record { job = record (o.job) { done = done; dispatch_ticks = dispatch_ticks }; owned = o.owned; shared = shared }) v
+    still o v done dispatch_ticks shared h same zero = tt
+    still o v done dispatch_ticks shared h same (suc n) = λ s d b again. h (suc n) s d b (λ w reached. again w reached ∙ same w reached)
 
     ticking : (s : State) (o : Own) (v : View) → s.shared ≡ o.shared → Always o v
         → (instr : Instr) × (slice_get c.image.code o.job.place ≡ Some instr) × Agrees c Always Free Rests s o v (next_of c.program c.text v) (next_of c.program c.text v).action (effect c.image s instr (next_own o))
     ticking s o v shared h = (at.0, at.1, agrees_always s o v (next_of c.program c.text v) (next_of c.program c.text v).action (effect c.image s at.0 (next_own o)) each) where
       one : (n : ℕ) → (instr : Instr) × (slice_get c.image.code o.job.place ≡ Some instr) × Agrees c (F n) Free Rests s o v (next_of c.program c.text v) (next_of c.program c.text v).action (effect c.image s instr (next_own o))
       one n = subst (λ (us : List ℤ). (instr : Instr) × (slice_get c.image.code o.job.place ≡ Some instr) × Agrees c (F n) Free Rests s (record { job = o.job; owned = o.owned; shared = us }) v (next_of c.program c.text v) (next_of c.program c.text v).action (effect c.image s instr (next_own (record { job = o.job; owned = o.owned; shared = us })))) shared
-          (h (suc n) s o.job.done o.job.burn (λ w reached. ap (λ (us : List ℤ). slice_get us w) shared))
+          (h (suc n) s o.job.done o.job.dispatch_ticks (λ w reached. ap (λ (us : List ℤ). slice_get us w) shared))
 
       at : (instr : Instr) × (slice_get c.image.code o.job.place ≡ Some instr) × Agrees c (F 0) Free Rests s o v (next_of c.program c.text v) (next_of c.program c.text v).action (effect c.image s instr (next_own o))
       at = one 0

@@ -4,7 +4,7 @@ use Rattle.std.specs.Prelude.{◌≡◌, ℕ, Bool, true, false, ℤ, List, [], 
 use Rattle.machine_isa.specs.declared.instr.Instr.{Instr}
 use Rattle.base.specs.declared.event.Act.TheVariants as act
 use Rattle.base.specs.Words.{of_bool}
-use Rattle.syntax_tree.specs.Plain.{Prog}
+use Rattle.syntax_tree.specs.Plain.{Program}
 use Rattle.syntax_tree.specs.Plain as tree
 use Rattle.source_semantics.specs.Store.{Vars, fresh}
 use Rattle.source_semantics.specs.Run.{Call, Action, gets, puts, enters, leaves, waits, signals, broadcasts, asks_empty, raises, ends}
@@ -33,15 +33,15 @@ abbrev pub view : List Call → Vars → Vars → Bool → View
 view calls vars monitor handling = record { calls = calls; vars = vars; monitor = monitor; handling = handling }
 
 -- the next action of a process that is so
-abbrev pub next_of : Prog → tree.Process → View → Next
+abbrev pub next_of : Program → tree.Process → View → Next
 next_of g text v = next_from g text v.calls None v.vars v.monitor
 
 -- after a raise of the number, where the process has these variables: in its handler, or before the
 -- end alone; it is inside no monitor
-abbrev pub job_raised : Prog → tree.Process → ℕ → Vars → Bool → config.Job
+abbrev pub job_raised : Program → tree.Process → ℕ → Vars → Bool → config.Job
 job_raised g text number vars handling = job_after_raise g number text.handler (record { vars = vars; doing = idle; calls = []; handling = handling })
 
-abbrev pub view_raised : Prog → tree.Process → ℕ → Vars → Bool → View
+abbrev pub view_raised : Program → tree.Process → ℕ → Vars → Bool → View
 view_raised g text number vars handling =
     view (job_raised g text number vars handling).calls vars [] (job_raised g text number vars handling).handling
 
@@ -64,7 +64,7 @@ SameOutside image inside before after = (w : ℕ) → is_reached image inside (p
 -- the image and the program; a process of them, by its number, in the image and in the text
 pub record Compiled : Type 0 where
   pub image : Image
-  pub program : Prog
+  pub program : Program
   pub number : ℕ
   pub process : Process
   pub text : tree.Process
@@ -163,8 +163,8 @@ pub record IsFaithful (c : Compiled) (Stands : Standing) (Free : Freeing) (Rests
   pub begins : Rests (zeros c.process.words) (map (fresh c.program) c.text.vars)
   pub starts : (owned shared : List ℤ) (vars : Vars) → Rests owned vars
       → Stands (record { job = released c.image c.process; owned = owned; shared = shared }) (view_released c.text vars)
-  pub stable : (o : Own) (v : View) (done burn : ℕ) (shared : List ℤ) → Stands o v → SameInside c.image o.job.inside o.shared shared
-      → Stands (record { job = record (o.job) { done = done; burn = burn }; owned = o.owned; shared = shared }) v
+  pub stable : (o : Own) (v : View) (done dispatch_ticks : ℕ) (shared : List ℤ) → Stands o v → SameInside c.image o.job.inside o.shared shared
+      → Stands (record { job = record (o.job) { done = done; dispatch_ticks = dispatch_ticks }; owned = o.owned; shared = shared }) v
   pub ticks : (s : State) (o : Own) (v : View) → s.shared ≡ o.shared → Stands o v
       → (instr : Instr) × (slice_get c.image.code o.job.place ≡ Some instr)
       × Agrees c Stands Free Rests s o v (next_of c.program c.text v) (next_of c.program c.text v).action (effect c.image s instr (next_own o))

@@ -1,6 +1,6 @@
 -- The code of expressions, of arguments, and of what is stored to: straight lines of instructions.
 use Rattle.std.specs.Prelude.{ℕ, List, [], ◌∷◌, ◌++◌, Option, Some, None, ℤ, pos}
-use Rattle.syntax_tree.specs.Plain.{Name, Param, Op, or, and, equal, unequal, less, less_equal, greater, greater_equal, add, sub, mul, div, remainder, Expr, literal, truth, variable, element, call, minus, negation, paren, row, Exprs, no_exprs, exprs, Operands, no_operands, operand, Ref, whole, part, Prog}
+use Rattle.syntax_tree.specs.Plain.{Name, Param, Op, or, and, equal, unequal, less, less_equal, greater, greater_equal, add, sub, mul, div, remainder, Expr, literal, truth, variable, element, call, minus, negation, paren, row, Exprs, no_exprs, exprs, Operands, no_operands, operand, Ref, whole, part, Program}
 use Rattle.base.specs.Words.{of_bool}
 use Rattle.source_semantics.specs.Names.{named, constants}
 use Rattle.source_semantics.specs.Store.{Range, range_of}
@@ -61,7 +61,7 @@ abbrev pub load_element : Option Spot → Instr
 load_element None = i.Push (pos 0)
 load_element (Some s) = load_shape s.area s.place.word s.place.shape
 
-abbrev pub constant_named : Prog → Name → Option (Name × ℤ)
+abbrev pub constant_named : Program → Name → Option (Name × ℤ)
 constant_named g x = named (λ k. k.0) x (constants g)
 
 -- the check of a range, where there is one
@@ -72,12 +72,12 @@ range_code (Some r) = i.Range r.low r.high ∷ []
 -- ---- expressions
 
 -- a call of a routine, whose arguments are given
-abbrev pub call_code : Prog → Option Text → (List Param → List Instr) → List Instr
+abbrev pub call_code : Program → Option Text → (List Param → List Instr) → List Instr
 call_code g None args = []
 call_code g (Some t) args = args t.routine.params ++ (i.Call (pos (number_of g t)) ∷ [])
 
 abbrev mutual
-  pub code_of : Prog → Scope → Expr → List Instr
+  pub code_of : Program → Scope → Expr → List Instr
   code_of g c (literal n) = i.Push (pos n) ∷ []
   code_of g c (truth b) = i.Push (of_bool b) ∷ []
   code_of g c (variable x) = load_name (spot_of g c x) (constant_named g x) ∷ []
@@ -88,12 +88,12 @@ abbrev mutual
   code_of g c (paren e) = code_of g c e
   code_of g c (row e r) = code_of g c e ++ row_code g c r
 
-  pub row_code : Prog → Scope → Operands → List Instr
+  pub row_code : Program → Scope → Operands → List Instr
   row_code g c no_operands = []
   row_code g c (operand op e r) = code_of g c e ++ (op_instr op ∷ row_code g c r)
 
   -- each argument, and the check of its parameter's range
-  pub args_code : Prog → Scope → Exprs → List Param → List Instr
+  pub args_code : Program → Scope → Exprs → List Param → List Instr
   args_code g c no_exprs ps = []
   args_code g c (exprs e es) [] = []
   args_code g c (exprs e es) (p ∷ ps) = code_of g c e ++ (range_code (range_of g p.kind) ++ args_code g c es ps)
@@ -117,11 +117,11 @@ store_element None = []
 store_element (Some s) = store_shape s.area s.place.word s.place.shape
 
 -- the index of what is stored to, if any
-abbrev pub index_code : Prog → Scope → Ref → List Instr
+abbrev pub index_code : Program → Scope → Ref → List Instr
 index_code g c (whole x) = []
 index_code g c (part x e) = code_of g c e
 
-abbrev pub store_code : Prog → Scope → Ref → List Instr
+abbrev pub store_code : Program → Scope → Ref → List Instr
 store_code g c (whole x) = store_spot (spot_of g c x)
 store_code g c (part x e) = store_element (spot_of g c x)
 
@@ -131,5 +131,5 @@ ref_name (part x e) = x
 
 -- the check of the range of what is stored to, and the store, of the top operand, above the index
 -- of an element
-abbrev pub put_code : Prog → Scope → Ref → List Instr
+abbrev pub put_code : Program → Scope → Ref → List Instr
 put_code g c r = range_code (range_of_spot (spot_of g c (ref_name r))) ++ store_code g c r

@@ -1,7 +1,7 @@
 -- The image of a program, as far as its text alone decides it: code, segment trees, words and
 -- addresses. Costs, ranks, ceilings and bounds are told of elsewhere.
 use Rattle.std.specs.Prelude.{◌≡◌, ℕ, suc, ◌+◌, Bool, false, List, [], ◌∷◌, Option, Some, None, pos, map, length, ◌++◌, replicate, is_some, filter_map, cond, nat_le}
-use Rattle.syntax_tree.specs.Plain.{Answers, Monitor, Process, Handler, Activation, periodic, at_event, Decl, device, Prog}
+use Rattle.syntax_tree.specs.Plain.{Answers, Monitor, Process, Handler, Trigger, periodic, at_event, Declaration, device, Program}
 use Rattle.source_semantics.specs.Names.{monitors, processes, count_value, event_number, conditions_of, frame_of, deadline_of}
 use Rattle.source_semantics.specs.Store.{range_of}
 use Rattle.source_semantics.specs.Starts.{first_of}
@@ -23,15 +23,15 @@ is_function (by_process k) a = is_some a
 is_function (by_monitor m) a = false
 
 -- where the text of a routine stands
-abbrev pub routine_scope : Prog → Text → Scope
+abbrev pub routine_scope : Program → Text → Scope
 routine_scope g t = record { owner = t.owner; is_function = is_function t.owner t.routine.answers; own = routine_places g t.routine; exit = None; frame = routine_words g t.routine }
 
 -- the code from p to q is that of the result expression, with the check of its range
-abbrev pub EmitsAnswer : Prog → List Instr → Scope → (p q : ℕ) → Answers → Type 0
+abbrev pub EmitsAnswer : Program → List Instr → Scope → (p q : ℕ) → Answers → Type 0
 EmitsAnswer g code c p q a = (r : ℕ) × IsLine code p r (code_of g c a.value) × IsLine code r q (range_code (range_of g a.kind))
 
 -- behind a body from p on the rest of a routine, up to q
-abbrev pub EmitsEnd : Prog → List Instr → Scope → Owner → (p q : ℕ) → Option Answers → Type 0
+abbrev pub EmitsEnd : Program → List Instr → Scope → Owner → (p q : ℕ) → Option Answers → Type 0
 EmitsEnd g code c (by_monitor m) p q None = IsLine code p q (i.Leave (pos m) ∷ i.Return ∷ [])
 EmitsEnd g code c (by_monitor m) p q (Some a) = (r : ℕ) × EmitsAnswer g code c p r a × IsLine code r q (i.Leave (pos m) ∷ i.ReturnValue ∷ [])
 EmitsEnd g code c by_program p q None = IsLine code p q (i.Return ∷ [])
@@ -46,7 +46,7 @@ enter_code by_program = []
 enter_code (by_process k) = []
 
 -- the code from p to q is that of the routine
-pub record EmitsRoutine (g : Prog) (code : List Instr) (t : Text) (p q : ℕ) : Type 0 where
+pub record EmitsRoutine (g : Program) (code : List Instr) (t : Text) (p q : ℕ) : Type 0 where
   pub inside : ℕ
   pub enters : IsLine code p inside (enter_code t.owner)
   pub behind : ℕ
@@ -64,7 +64,7 @@ owner_number (by_process k) = k
 owner_number (by_monitor m) = m
 
 -- a routine of the image
-pub record IsRoutine (g : Prog) (t : Text) (r : image.Routine) : Type 0 where
+pub record IsRoutine (g : Program) (t : Text) (r : image.Routine) : Type 0 where
   pub kind : r.kind ≡ kind_number t.owner
   pub owner : r.owner ≡ owner_number t.owner
   pub params : r.params ≡ count t.routine.params
@@ -73,7 +73,7 @@ pub record IsRoutine (g : Prog) (t : Text) (r : image.Routine) : Type 0 where
   pub tree : r.tree ≡ routine_segs g (routine_scope g t) t.owner t.routine
 
 -- routines one after the other, in the code from p to q
-abbrev pub EmitsRoutines : Prog → List Instr → (p q : ℕ) → List Text → List image.Routine → Type 0
+abbrev pub EmitsRoutines : Program → List Instr → (p q : ℕ) → List Text → List image.Routine → Type 0
 EmitsRoutines g code p q [] [] = q ≡ p
 EmitsRoutines g code p q (t ∷ ts) (r ∷ rs) = (next : ℕ) × IsRoutine g t r × (r.start ≡ p) × EmitsRoutine g code t p next × EmitsRoutines g code next q ts rs
 EmitsRoutines g code p q ts rs = ⊥
@@ -81,7 +81,7 @@ EmitsRoutines g code p q ts rs = ⊥
 -- ---- processes
 
 -- where the body and the handler of process k stand
-abbrev pub process_scope : Prog → ℕ → Process → Scope
+abbrev pub process_scope : Program → ℕ → Process → Scope
 process_scope g k p = record { owner = by_process k; is_function = false; own = []; exit = None; frame = frame_words p }
 
 -- numbers from the least to the greatest
@@ -95,19 +95,19 @@ ascending (k ∷ ks) = inserted k (ascending ks)
 
 -- the code from p to q is that of the handler, if there is one, with its numbers in ascending
 -- order, and this is its tree
-abbrev pub EmitsHandler : Prog → List Instr → ℕ → Process → Option Handler → (p q : ℕ) → image.Process → Type 0
+abbrev pub EmitsHandler : Program → List Instr → ℕ → Process → Option Handler → (p q : ℕ) → image.Process → Type 0
 EmitsHandler g code k t None p q ip = (q ≡ p) × (ip.handler ≡ 0) × (ip.numbers ≡ []) × (ip.handler_tree ≡ None)
 EmitsHandler g code k t (Some h) p q ip =
     (behind : ℕ) × EmitsAll g code (process_scope g k t) (loops t.body) p behind h.body × IsLine code behind q (i.End ∷ [])
     × (ip.handler ≡ p) × (ip.numbers ≡ ascending (map (λ n. count_value g n) h.numbers)) × (ip.handler_tree ≡ Some (stmts_segs g (process_scope g k t) h.body Nil))
 
 -- how a process is released
-abbrev pub IsReleased : Prog → Activation → image.Process → Type 0
+abbrev pub IsReleased : Program → Trigger → image.Process → Type 0
 IsReleased g (periodic frame deadline first) ip = (ip.kind ≡ 0) × (ip.first ≡ first_of g first) × (ip.event ≡ 0)
 IsReleased g (at_event e frame deadline) ip = (ip.kind ≡ 1) × (ip.first ≡ 0) × (ip.event ≡ event_number g e)
 
 -- the code from p to q is that of process k, with its END
-pub record EmitsProcess (g : Prog) (code : List Instr) (k : ℕ) (t : Process) (p q : ℕ) (ip : image.Process) : Type 0 where
+pub record EmitsProcess (g : Program) (code : List Instr) (k : ℕ) (t : Process) (p q : ℕ) (ip : image.Process) : Type 0 where
   pub behind : ℕ
   pub body : EmitsAll g code (process_scope g k t) 0 p behind t.body
   pub end : At code behind i.End
@@ -121,14 +121,14 @@ pub record EmitsProcess (g : Prog) (code : List Instr) (k : ℕ) (t : Process) (
   pub released : IsReleased g t.activation ip
 
 -- the processes from number k on
-abbrev pub EmitsProcesses : Prog → List Instr → ℕ → (p q : ℕ) → List Process → List image.Process → Type 0
+abbrev pub EmitsProcesses : Program → List Instr → ℕ → (p q : ℕ) → List Process → List image.Process → Type 0
 EmitsProcesses g code k p q [] [] = q ≡ p
 EmitsProcesses g code k p q (t ∷ ts) (ip ∷ ips) = (next : ℕ) × EmitsProcess g code k t p next ip × EmitsProcesses g code (suc k) next q ts ips
 EmitsProcesses g code k p q ts ips = ⊥
 
 -- ---- monitors, conditions and devices
 
-abbrev pub AreMonitors : Prog → ℕ → List Monitor → List image.Monitor → Type 0
+abbrev pub AreMonitors : Program → ℕ → List Monitor → List image.Monitor → Type 0
 AreMonitors g base [] [] = Unit {0}
 AreMonitors g base (m ∷ ms) (k ∷ ks) = (k.base ≡ base) × (k.words ≡ words_of g (monitor_vars m)) × AreMonitors g (base + words_of g (monitor_vars m)) ms ks
 AreMonitors g base ms ks = ⊥
@@ -138,7 +138,7 @@ abbrev pub condition_monitors : ℕ → List Monitor → List ℕ
 condition_monitors m [] = []
 condition_monitors m (k ∷ ks) = replicate (length (conditions_of k)) m ++ condition_monitors (suc m) ks
 
-abbrev pub device_direction : Decl → Option Bool
+abbrev pub device_direction : Declaration → Option Bool
 device_direction (device n is_out) = Some is_out
 device_direction _ = None
 
@@ -146,7 +146,7 @@ device_direction _ = None
 
 -- the image is that of the program: all routines by number, then all processes in the order of the
 -- text, and nothing else
-pub record IsCodeOf (g : Prog) (m : image.Image) : Type 0 where
+pub record IsCodeOf (g : Program) (m : image.Image) : Type 0 where
   pub between : ℕ
   pub routine_code : EmitsRoutines g m.code 0 between (numbered g) m.routines
   pub process_code : EmitsProcesses g m.code 0 between (length m.code) (processes g) m.processes

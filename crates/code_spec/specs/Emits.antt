@@ -1,6 +1,6 @@
 -- The code of statements. The addresses inside the code of a statement are told by existing.
 use Rattle.std.specs.Prelude.{◌≡◌, ℕ, suc, ◌+◌, ◌-ℤ◌, true, List, [], ◌∷◌, ◌++◌, Some, None, ℤ, pos, length, slice_get}
-use Rattle.syntax_tree.specs.Plain.{Name, Stmt, assign, assign_entry, assign_empty, perform, perform_entry, when, when_else, loop, exit_when, get, put, wait, signal, broadcast, except, assert, Stmts, no_stmts, stmts, Prog}
+use Rattle.syntax_tree.specs.Plain.{Name, Stmt, assign, assign_entry, assign_empty, perform, perform_entry, when, when_else, loop, exit_when, get, put, wait, signal, broadcast, except, assert, Stmts, no_stmts, stmts, Program}
 use Rattle.source_semantics.specs.Names.{constant_value, count_value, device_number, condition_number}
 use Rattle.source_semantics.specs.Store.{up_to}
 use Rattle.machine_isa.specs.declared.instr.Instr.{Instr}
@@ -35,7 +35,7 @@ abbrev pub turns_of : (low high : ℤ) → ℕ
 turns_of low high = up_to (high -ℤ low)
 
 -- the condition of the monitor whose text it is, and that monitor
-abbrev pub condition_of : Prog → Owner → Name → ℕ
+abbrev pub condition_of : Program → Owner → Name → ℕ
 condition_of g (by_monitor m) x = condition_number g m x
 condition_of g by_program x = 0
 condition_of g (by_process k) x = 0
@@ -48,7 +48,7 @@ monitor_of (by_process k) = 0
 -- The code from p to q is that of the statement, whose first loop in the text, if it has one, has
 -- its variable at word w of the frame.
 abbrev mutual
-  pub Emits : Prog → List Instr → Scope → (w p q : ℕ) → Stmt → Type 0
+  pub Emits : Program → List Instr → Scope → (w p q : ℕ) → Stmt → Type 0
   Emits g code c w p q (assign r e) = IsLine code p q (index_code g c r ++ (code_of g c e ++ put_code g c r))
   Emits g code c w p q (assign_entry r m e es) =
       IsLine code p q (index_code g c r ++ (call_code g (entry_in g m e) (λ ps. args_code g c es ps) ++ put_code g c r))
@@ -79,6 +79,6 @@ abbrev mutual
       (r : ℕ) × IsLine code p r (code_of g c e) × At code r (i.JumpZero (pos (r + 1 + 1))) × At code (r + 1) (i.Jump (pos q))
       × At code (r + 1 + 1) (i.Raise (pos 4)) × (q ≡ r + 1 + 1 + 1)
 
-  pub EmitsAll : Prog → List Instr → Scope → (w p q : ℕ) → Stmts → Type 0
+  pub EmitsAll : Program → List Instr → Scope → (w p q : ℕ) → Stmts → Type 0
   EmitsAll g code c w p q no_stmts = q ≡ p
   EmitsAll g code c w p q (stmts s ss) = (r : ℕ) × Emits g code c w p r s × EmitsAll g code c (w + loops_in s) r q ss

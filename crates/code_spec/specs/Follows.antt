@@ -10,17 +10,17 @@ use Rattle.code_spec.specs.Boundary.{Compiled, View, view_released, next_of, Fre
 
 -- the process with other ticks of its instruction passed, ticks of dispatch, and words of all
 -- monitors
-abbrev pub elsewhere : Own → (done burn : ℕ) → State → Own
-elsewhere o done burn s = record { job = record (o.job) { done = done; burn = burn }; owned = o.owned; shared = s.shared }
+abbrev pub elsewhere : Own → (done dispatch_ticks : ℕ) → State → Own
+elsewhere o done dispatch_ticks s = record { job = record (o.job) { done = done; dispatch_ticks = dispatch_ticks }; owned = o.owned; shared = s.shared }
 
 -- so many last ticks of its instructions agree with the source meaning, from this view on, while
 -- others write what it does not reach
 abbrev pub Follows : ℕ → (c : Compiled) → Freeing → Resting → Own → View → Type 0
 Follows zero c Free Rests o v = Unit {0}
 Follows (suc n) c Free Rests o v =
-    (s : State) (done burn : ℕ) → SameInside c.image o.job.inside o.shared s.shared
+    (s : State) (done dispatch_ticks : ℕ) → SameInside c.image o.job.inside o.shared s.shared
     → (instr : Instr) × (slice_get c.image.code o.job.place ≡ Some instr)
-    × Agrees c (Follows n c Free Rests) Free Rests s (elsewhere o done burn s) v (next_of c.program c.text v) (next_of c.program c.text v).action (effect c.image s instr (next_own (elsewhere o done burn s)))
+    × Agrees c (Follows n c Free Rests) Free Rests s (elsewhere o done dispatch_ticks s) v (next_of c.program c.text v) (next_of c.program c.text v).action (effect c.image s instr (next_own (elsewhere o done dispatch_ticks s)))
 
 -- each activation of the process follows the source meaning, from its release on
 pub record IsRight (c : Compiled) (Free : Freeing) (Rests : Resting) : Type 0 where

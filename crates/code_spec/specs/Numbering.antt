@@ -1,6 +1,6 @@
 -- The numbers of routines and entries: callees come first.
 use Rattle.std.specs.Prelude.{ℕ, zero, suc, Bool, true, false, cond, ◌&&◌, ◌||◌, List, [], ◌∷◌, ◌++◌, Option, Some, None, nat_eq, bytes_eq, option_map, slice_get, map}
-use Rattle.syntax_tree.specs.Plain.{Name, Expr, literal, truth, variable, element, call, minus, negation, paren, row, Exprs, no_exprs, exprs, Operands, no_operands, operand, Ref, whole, part, Stmt, assign, assign_entry, assign_empty, perform, perform_entry, when, when_else, loop, exit_when, get, put, wait, signal, broadcast, except, assert, Stmts, no_stmts, stmts, Answers, Routine, Monitor, Process, Decl, constant, device, event, routine, monitor, process, Prog}
+use Rattle.syntax_tree.specs.Plain.{Name, Expr, literal, truth, variable, element, call, minus, negation, paren, row, Exprs, no_exprs, exprs, Operands, no_operands, operand, Ref, whole, part, Stmt, assign, assign_entry, assign_empty, perform, perform_entry, when, when_else, loop, exit_when, get, put, wait, signal, broadcast, except, assert, Stmts, no_stmts, stmts, Answers, Routine, Monitor, Process, Declaration, constant, device, event, routine, monitor, process, Program}
 use Rattle.source_semantics.specs.Names.{named, monitors, processes, routines, monitor_number, routine_count}
 use Rattle.source_semantics.specs.Run.{or_else}
 use Rattle.code_spec.specs.Layout.{Owner, by_program, by_process, by_monitor}
@@ -30,7 +30,7 @@ process_routines None = []
 process_routines (Some p) = p.routines
 
 -- the routine that a call names: in a process's text one of the process, else one of the program
-abbrev pub routine_in : Prog → Owner → Name → Option Text
+abbrev pub routine_in : Program → Owner → Name → Option Text
 routine_in g by_program f = routine_of by_program (routines g) f
 routine_in g (by_monitor m) f = routine_of by_program (routines g) f
 routine_in g (by_process k) f = or_else (routine_of (by_process k) (process_routines (slice_get (processes g) k)) f) (routine_of by_program (routines g) f)
@@ -40,7 +40,7 @@ entry_of m None e = None
 entry_of m (Some k) e = routine_of (by_monitor m) k.entries e
 
 -- the entry that a call names
-abbrev pub entry_in : Prog → Name → Name → Option Text
+abbrev pub entry_in : Program → Name → Name → Option Text
 entry_in g m e = entry_of (monitor_number g m) (named (λ k. k.name) m (monitors g)) e
 
 -- ---- what a text calls, in the order in which the names stand
@@ -103,7 +103,7 @@ answers_calls (Some a) = expr_calls a.value
 abbrev pub routine_calls : Routine → List Called
 routine_calls r = stmts_calls r.body ++ answers_calls r.answers
 
-abbrev pub called_text : Prog → Owner → Called → Option Text
+abbrev pub called_text : Program → Owner → Called → Option Text
 called_text g o (calls_routine f) = routine_in g o f
 called_text g o (calls_entry m e) = entry_in g m e
 
@@ -125,7 +125,7 @@ visit_all visit means done (c ∷ cs) = visit_all visit means (visit_some visit 
 
 -- Takes a routine in behind those that have their numbers, unless it has one: first what it calls.
 -- The number says how deep calls go.
-unfoldable pub visit : ℕ → Prog → List Text → Text → List Text
+unfoldable pub visit : ℕ → Program → List Text → Text → List Text
 visit zero g done t = done
 visit (suc n) g done t = cond (is_among t done) done (visit_all (visit n g) (called_text g t.owner) done (routine_calls t.routine) ++ t ∷ [])
 
@@ -133,7 +133,7 @@ abbrev pub texts_of : Owner → List Routine → List Text
 texts_of o rs = map (λ r. record { owner = o; routine = r }) rs
 
 -- routines and entries in the order of the text; the processes and monitors from these numbers on
-abbrev pub texts_from : ℕ → ℕ → List Decl → List Text
+abbrev pub texts_from : ℕ → ℕ → List Declaration → List Text
 texts_from k m [] = []
 texts_from k m (routine r ∷ ds) = record { owner = by_program; routine = r } ∷ texts_from k m ds
 texts_from k m (monitor d ∷ ds) = texts_of (by_monitor m) d.entries ++ texts_from k (suc m) ds
@@ -142,17 +142,17 @@ texts_from k m (constant n c ∷ ds) = texts_from k m ds
 texts_from k m (device n is_out ∷ ds) = texts_from k m ds
 texts_from k m (event n ∷ ds) = texts_from k m ds
 
-abbrev pub visit_texts : ℕ → Prog → List Text → List Text → List Text
+abbrev pub visit_texts : ℕ → Program → List Text → List Text → List Text
 visit_texts n g done [] = done
 visit_texts n g done (t ∷ ts) = visit_texts n g (visit n g done t) ts
 
 -- all routines and entries by number; calls are nested at most as deep as there are routines
-unfoldable pub numbered : Prog → List Text
+unfoldable pub numbered : Program → List Text
 numbered g = visit_texts (routine_count g) g [] (texts_from 0 0 g.decls)
 
 abbrev pub place_among : Text → List Text → ℕ
 place_among t [] = 0
 place_among t (u ∷ us) = cond (same_text u t) 0 (suc (place_among t us))
 
-unfoldable pub number_of : Prog → Text → ℕ
+unfoldable pub number_of : Program → Text → ℕ
 number_of g t = place_among t (numbered g)

@@ -1,6 +1,6 @@
 -- The segment trees of a program, from its text: each line as long as it can be.
 use Rattle.std.specs.Prelude.{ℕ, zero, suc, ◌+◌, List, [], ◌∷◌, Option, Some, None, length}
-use Rattle.syntax_tree.specs.Plain.{Param, Expr, literal, truth, variable, element, call, minus, negation, paren, row, Exprs, no_exprs, exprs, Operands, no_operands, operand, Ref, whole, part, Stmt, assign, assign_entry, assign_empty, perform, perform_entry, when, when_else, loop, exit_when, get, put, wait, signal, broadcast, except, assert, Stmts, no_stmts, stmts, Answers, Routine, Prog}
+use Rattle.syntax_tree.specs.Plain.{Param, Expr, literal, truth, variable, element, call, minus, negation, paren, row, Exprs, no_exprs, exprs, Operands, no_operands, operand, Ref, whole, part, Stmt, assign, assign_entry, assign_empty, perform, perform_entry, when, when_else, loop, exit_when, get, put, wait, signal, broadcast, except, assert, Stmts, no_stmts, stmts, Answers, Routine, Program}
 use Rattle.source_semantics.specs.Names.{constant_value}
 use Rattle.source_semantics.specs.Store.{range_of}
 use Rattle.machine_semantics.specs.Trees.{Segs, Line, Fork, Rep, Call, Stay, Wait, Exit, Nil, Cons}
@@ -20,13 +20,13 @@ line zero after = after
 line (suc k) after = before (suc k) after
 
 -- a call with its arguments, before a tree
-abbrev pub call_segs : Prog → Option Text → (List Param → Segs → Segs) → Segs → Segs
+abbrev pub call_segs : Program → Option Text → (List Param → Segs → Segs) → Segs → Segs
 call_segs g None args after = after
 call_segs g (Some t) args after = args t.routine.params (Cons (Call (number_of g t)) after)
 
 -- an expression, before a tree
 abbrev mutual
-  pub expr_segs : Prog → Scope → Expr → Segs → Segs
+  pub expr_segs : Program → Scope → Expr → Segs → Segs
   expr_segs g c (literal n) after = line 1 after
   expr_segs g c (truth b) after = line 1 after
   expr_segs g c (variable x) after = line 1 after
@@ -37,26 +37,26 @@ abbrev mutual
   expr_segs g c (paren e) after = expr_segs g c e after
   expr_segs g c (row e r) after = expr_segs g c e (row_segs g c r after)
 
-  pub row_segs : Prog → Scope → Operands → Segs → Segs
+  pub row_segs : Program → Scope → Operands → Segs → Segs
   row_segs g c no_operands after = after
   row_segs g c (operand op e r) after = expr_segs g c e (line 1 (row_segs g c r after))
 
-  pub args_segs : Prog → Scope → Exprs → List Param → Segs → Segs
+  pub args_segs : Program → Scope → Exprs → List Param → Segs → Segs
   args_segs g c no_exprs ps after = after
   args_segs g c (exprs e es) [] after = after
   args_segs g c (exprs e es) (p ∷ ps) after = expr_segs g c e (line (length (range_code (range_of g p.kind))) (args_segs g c es ps after))
 
-abbrev pub index_segs : Prog → Scope → Ref → Segs → Segs
+abbrev pub index_segs : Program → Scope → Ref → Segs → Segs
 index_segs g c (whole x) after = after
 index_segs g c (part x e) after = expr_segs g c e after
 
 -- the check of the range, if any, and the store
-abbrev pub put_segs : Prog → Scope → Ref → Segs → Segs
+abbrev pub put_segs : Program → Scope → Ref → Segs → Segs
 put_segs g c r after = line (length (range_code (range_of_spot (spot_of g c (ref_name r)))) + 1) after
 
 -- a statement, before a tree
 abbrev mutual
-  pub stmt_segs : Prog → Scope → Stmt → Segs → Segs
+  pub stmt_segs : Program → Scope → Stmt → Segs → Segs
   stmt_segs g c (assign r e) after = index_segs g c r (expr_segs g c e (put_segs g c r after))
   stmt_segs g c (assign_entry r m e es) after = index_segs g c r (call_segs g (entry_in g m e) (λ ps k. args_segs g c es ps k) (put_segs g c r after))
   stmt_segs g c (assign_empty r x) after = index_segs g c r (line 2 after)
@@ -75,17 +75,17 @@ abbrev mutual
   stmt_segs g c (except n) after = line 1 after
   stmt_segs g c (assert e) after = expr_segs g c e (Cons (Fork Nil (line 1 Nil)) after)
 
-  pub stmts_segs : Prog → Scope → Stmts → Segs → Segs
+  pub stmts_segs : Program → Scope → Stmts → Segs → Segs
   stmts_segs g c no_stmts after = after
   stmts_segs g c (stmts s ss) after = stmt_segs g c s (stmts_segs g c ss after)
 
 -- the result expression of a function, with the check of its range
-abbrev pub answers_segs : Prog → Scope → Option Answers → Segs
+abbrev pub answers_segs : Program → Scope → Option Answers → Segs
 answers_segs g c None = Nil
 answers_segs g c (Some a) = expr_segs g c a.value (line (length (range_code (range_of g a.kind))) Nil)
 
 -- a routine, but for the return that ends it; an entry is a stay in its monitor
-abbrev pub routine_segs : Prog → Scope → Owner → Routine → Segs
+abbrev pub routine_segs : Program → Scope → Owner → Routine → Segs
 routine_segs g c (by_monitor m) r = Cons (Stay m (stmts_segs g c r.body (answers_segs g c r.answers))) Nil
 routine_segs g c by_program r = stmts_segs g c r.body (answers_segs g c r.answers)
 routine_segs g c (by_process k) r = stmts_segs g c r.body (answers_segs g c r.answers)

@@ -1,14 +1,14 @@
 -- Loops that make the code of each part of a list.
 use Rattle.std.proofs.Common.{◌≡◌, ◌<◌, ◌+◌, ◌-◌, min, ℕ, zero, suc, ℤ, arith, List, [], ◌∷◌, refl, length, drop, get_or, slice_get, Option, Result, Ok, Err, OnOk, sym, ap, ◌∙◌}
 use Rattle.std.proofs.lemmas.List.{drop_more}
-use Rattle.syntax_tree.specs.Plain.{Exprs, Name, Prog, call}
+use Rattle.syntax_tree.specs.Plain.{Exprs, Name, Program, call}
 use Rattle.syntax_tree.specs.Placed.{placed_exprs, plain_exprs}
 use Rattle.syntax_tree.specs.declared.expr.Expr.{Expr}
 use Rattle.code_spec.specs.Numbering.{routine_in}
 use Rattle.machine_isa.specs.declared.instr.Instr.{Instr}
 use Rattle.code_spec.specs.Layout.{Scope}
-use Rattle.codegen_spec.specs.declared.spot.Range.{Range}
-use Rattle.codegen_spec.specs.declared.spot.Callee.{Callee}
+use Rattle.codegen_spec.specs.declared.var_location.ValueRange.{ValueRange}
+use Rattle.codegen_spec.specs.declared.var_location.Callee.{Callee}
 use Rattle.codegen_spec.specs.Told.{told_callee, within}
 use Rattle.codegen_spec.specs.Made.{Out, aims, aim_one, args_out, call_out, expr_out}
 
@@ -31,7 +31,7 @@ turned_both all xs ys i j x y old new end in_xs in_ys is_x is_y next so_far step
     ∙ sym step ∙ sym (ap (λ zs. all old zs (y ∷ drop (i + 1) ys)) first) ∙ sym (ap (λ zs. all old (drop i xs) zs) second) ∙ so_far
 
 -- behind the shorter of two lists no argument is left that has a parameter
-pub args_end : (g : Prog) (c : Scope) (es : List Expr) (rs : List (Option Range)) (n : ℕ) (o : Out) → n ≡ min (length es) (length rs)
+pub args_end : (g : Program) (c : Scope) (es : List Expr) (rs : List (Option ValueRange)) (n : ℕ) (o : Out) → n ≡ min (length es) (length rs)
     → args_out g c (plain_exprs (placed_exprs (drop n es))) (drop n rs) o ≡ o
 args_end g c [] rs zero o is = refl
 args_end g c [] rs (suc k) o is = refl
@@ -41,7 +41,7 @@ args_end g c (e ∷ es) (r ∷ rs) zero o is = absurd (omega arith)
 args_end g c (e ∷ es) (r ∷ rs) (suc k) o is = args_end g c es rs k o (omega arith)
 
 -- the call of what a name means
-pub called_is : (g : Prog) (c d : Scope) (f : Name) (es : Exprs) (k : Option Callee) (o : Out) → d.owner ≡ c.owner → k ≡ told_callee g (routine_in g c.owner f)
+pub called_is : (g : Program) (c d : Scope) (f : Name) (es : Exprs) (k : Option Callee) (o : Out) → d.owner ≡ c.owner → k ≡ told_callee g (routine_in g c.owner f)
     → call_out k (λ rs. args_out g d es rs o) o ≡ expr_out g d (call f es) o
 called_is g c d f es k o own is =
     ap (λ x. call_out x (λ rs. args_out g d es rs o) o) (is ∙ ap (λ w. told_callee g (routine_in g w f)) (sym own))

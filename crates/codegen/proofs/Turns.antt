@@ -1,6 +1,6 @@
 -- One turn of a loop that makes the routines or the processes of a program.
 use Rattle.std.proofs.Common.{◌≡◌, ◌<◌, ◌+◌, ℕ, suc, arith, List, Some, length, drop, slice_get, sym, ap, ◌∙◌}
-use Rattle.syntax_tree.specs.Plain.{Process, Prog, Routine}
+use Rattle.syntax_tree.specs.Plain.{Process, Program, Routine}
 use Rattle.code_spec.specs.Layout.{Scope, routine_vars_words}
 use Rattle.code_spec.specs.Numbering.{Text}
 use Rattle.code_spec.specs.Compiled.{process_scope, routine_scope}
@@ -9,7 +9,7 @@ use Rattle.codegen_spec.specs.Parts.{process_made, processes_made, routine_made,
 use Rattle.code_cost.proofs.Steps.{at_place}
 
 -- the routine at a place is made, in its own scope
-pub routine_turn : (g h : Prog) (ts : List Text) (n : ℕ) (c : Scope) (w : ℕ) (r : Routine) (old new end : Code) → n < length ts → h ≡ g
+pub routine_turn : (g h : Program) (ts : List Text) (n : ℕ) (c : Scope) (w : ℕ) (r : Routine) (old new end : Code) → n < length ts → h ≡ g
     → ((t : Text) → slice_get ts n ≡ Some t → c ≡ routine_scope g t)
     → ((t : Text) → slice_get ts n ≡ Some t → w ≡ routine_vars_words g t.routine)
     → ((t : Text) → slice_get ts n ≡ Some t → r ≡ t.routine)
@@ -24,7 +24,7 @@ routine_turn g h ts n c w r old new end within same is_c is_w is_r made so_far =
     ∙ sym (ap (λ us. texts_made g us old) a.2) ∙ so_far
 
 -- the same of a process
-pub process_turn : (g h : Prog) (ps : List Process) (n : ℕ) (c : Scope) (p : Process) (old new end : Code) → n < length ps → h ≡ g
+pub process_turn : (g h : Program) (ps : List Process) (n : ℕ) (c : Scope) (p : Process) (old new end : Code) → n < length ps → h ≡ g
     → ((q : Process) → slice_get ps n ≡ Some q → c ≡ process_scope g n q)
     → ((q : Process) → slice_get ps n ≡ Some q → p ≡ q)
     → new ≡ process_made h c p old

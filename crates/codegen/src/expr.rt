@@ -10,14 +10,14 @@ ghost use Rattle.codegen_spec.specs.Told.{fit as fitting, inside, range_told, to
 ghost use Rattle.codegen_spec.specs.Made.{call_out, called as called_of, load_at_from, load_at_told, load_from, load_told, range_out};
 ghost use Rattle.codegen.specs.Of.{args_of, expr_of, row_of};
 
-use crate::making::{Out, fit};
-use codegen_spec::{Area, Callee, Lookup, Loop, Range, Shape, Spot};
+use crate::code_builder::{CodeBuilder, fit};
+use codegen_spec::{Area, Callee, Lookup, Loop, ValueRange, VarLocation, VarShape};
 use image_format::Seg;
 use machine_isa::Instr;
 use std::alloc::AllocError;
 use syntax_tree::{Expr, Op, Scalar};
 
-fn load(spot: &Spot) -> Instr
+fn load(spot: &VarLocation) -> Instr
     ensures { result ≡ load_from spot.now.area spot.now.word }
 {
     let word = spot.word;
@@ -28,13 +28,13 @@ fn load(spot: &Spot) -> Instr
     }
 }
 
-fn load_at(spot: &Spot) -> Instr
+fn load_at(spot: &VarLocation) -> Instr
     ensures { result ≡ load_at_from spot.now.area spot.now.word spot.now.shape }
 {
     let word = spot.word;
     match spot.shape {
-        Shape::Single => Instr::Push { value: 0 },
-        Shape::Array { low, len } => match spot.area {
+        VarShape::Single => Instr::Push { value: 0 },
+        VarShape::Array { low, len } => match spot.area {
             Area::Frame => Instr::LoadLocalAt { word, low, len },
             Area::Process => Instr::LoadOwnAt { word, low, len },
             Area::Monitor => Instr::LoadMonAt { word, low, len },
@@ -88,21 +88,21 @@ fn element<L: Lookup>(names: &L, loops: &[Loop], name: &syntax_tree::Name) -> In
 }
 
 /// The range of a type, if it has one.
-pub fn range_of<L: Lookup>(names: &L, kind: &Scalar) -> Option<Range>
+pub fn range_of<L: Lookup>(names: &L, kind: &Scalar) -> Option<ValueRange>
     ensures { result ≡ range_told (L.program names.now) (plain_scalar (placed_scalar kind.now)) }
 {
     match kind {
         Scalar::Int | Scalar::Boolean => None,
-        Scalar::Subrange { low, high } => Some(Range {
+        Scalar::Subrange { low, high } => Some(ValueRange {
             low: names.value(low),
             high: names.value(high),
         }),
     }
 }
 
-impl Out {
+impl CodeBuilder {
     /// The check of a range, if there is one.
-    pub fn range(&mut self, range: &Option<Range>) -> Result<(), AllocError>
+    pub fn range(&mut self, range: &Option<ValueRange>) -> Result<(), AllocError>
         ensures { OnOk result (self.new ≡ range_out range.now self.old) }
     {
         match range {
@@ -132,7 +132,7 @@ impl Out {
         names: &L,
         loops: &[Loop],
         args: &[Expr],
-        ranges: &[Option<Range>],
+        ranges: &[Option<ValueRange>],
     ) -> Result<(), AllocError>
         ensures { let g = L.program names.now in let c = inside loops.now (L.scope names.now) in
             OnOk result (self.new ≡ args_of g c args.now ranges.now self.old) }

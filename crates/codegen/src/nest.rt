@@ -8,7 +8,7 @@ ghost use Rattle.machine_isa.specs.declared.instr.Instr.TheVariants as i;
 ghost use Rattle.codegen_spec.specs.Told.{fit as fitting};
 ghost use Rattle.codegen_spec.specs.Made.{aim as aim_of, aim_one as aim_one_of, aimed, aims, asserting, between, choice, closed, counting, joined, looped, one_arm, open_exit, patched, push as push_of, turning, stepped as stepped_of, turns_told, worth_told};
 
-use crate::making::{Out, fit};
+use crate::code_builder::{CodeBuilder, fit};
 use codegen_spec::Lookup;
 use image_format::{Seg, Segs};
 use machine_isa::Instr;
@@ -35,7 +35,7 @@ fn aimed(instr: Instr, to: i32) -> Instr
     }
 }
 
-impl Out {
+impl CodeBuilder {
     /// The rest of a turn: its variable goes to the next number.
     pub fn step(&mut self, word: i32) -> Result<(), AllocError>
         ensures { OnOk result (self.new ≡ stepped_of word self.old) }

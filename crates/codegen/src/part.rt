@@ -4,7 +4,7 @@ ghost use Rattle.std.specs.Prelude.{◌≡◌, OnOk, IfOk, Some, option_map};
 ghost use Rattle.syntax_tree.specs.Placed.{optional, placed_handler, placed_routine, plain_handler, plain_routine};
 ghost use Rattle.codegen_spec.specs.Parts.{answer_out, entered, handler_part, inner_out, left, process_out, return_of, routine_out};
 
-use crate::{Out, fit, range_of};
+use crate::{CodeBuilder, fit, range_of};
 use codegen_spec::{Lookup, Owner, Part};
 use image_format::{Seg, Segs};
 use machine_isa::Instr;
@@ -22,7 +22,7 @@ pub fn return_from(routine: &Routine) -> Instr
 }
 
 /// The result of a function, with the check of its range.
-fn answer<L: Lookup>(out: &mut Out, names: &L, routine: &Routine) -> Result<(), AllocError>
+fn answer<L: Lookup>(out: &mut CodeBuilder, names: &L, routine: &Routine) -> Result<(), AllocError>
     ensures { OnOk result (out.new
         ≡ answer_out (L.program names.now) (L.scope names.now)
         (plain_routine (placed_routine routine.now)).answers out.old) }
@@ -37,7 +37,7 @@ fn answer<L: Lookup>(out: &mut Out, names: &L, routine: &Routine) -> Result<(), 
 }
 
 /// The statements of a routine and its result.
-fn inner<L: Lookup>(out: &mut Out, names: &L, routine: &Routine) -> Result<(), AllocError>
+fn inner<L: Lookup>(out: &mut CodeBuilder, names: &L, routine: &Routine) -> Result<(), AllocError>
     ensures { OnOk result (out.new ≡ inner_out (L.program names.now) (L.scope names.now)
         (plain_routine (placed_routine routine.now)) out.old) }
 {
@@ -47,7 +47,7 @@ fn inner<L: Lookup>(out: &mut Out, names: &L, routine: &Routine) -> Result<(), A
 
 /// An entry but for its return: a stay in its monitor.
 fn stay<L: Lookup>(
-    out: &mut Out,
+    out: &mut CodeBuilder,
     names: &L,
     number: usize,
     routine: &Routine,
@@ -71,7 +71,11 @@ fn stay<L: Lookup>(
 }
 
 /// A routine or entry but for its return.
-pub fn text<L: Lookup>(out: &mut Out, names: &L, routine: &Routine) -> Result<(), AllocError>
+pub fn text<L: Lookup>(
+    out: &mut CodeBuilder,
+    names: &L,
+    routine: &Routine,
+) -> Result<(), AllocError>
     ensures { OnOk result (out.new ≡ routine_out (L.program names.now) (L.scope names.now)
         (L.scope names.now).owner (plain_routine (placed_routine routine.now)) out.old) }
 {
@@ -82,7 +86,11 @@ pub fn text<L: Lookup>(out: &mut Out, names: &L, routine: &Routine) -> Result<()
 }
 
 /// The handler of a process, behind its body.
-fn handler_of<L: Lookup>(out: &mut Out, names: &L, handler: &Handler) -> Result<Part, AllocError>
+fn handler_of<L: Lookup>(
+    out: &mut CodeBuilder,
+    names: &L,
+    handler: &Handler,
+) -> Result<Part, AllocError>
     ensures code { OnOk result (out.new.code ≡
         (process_out (L.program names.now) (L.scope names.now)
         (Some (plain_handler (placed_handler handler.now))) out.old).code) }
@@ -98,7 +106,7 @@ fn handler_of<L: Lookup>(out: &mut Out, names: &L, handler: &Handler) -> Result<
 
 /// The handler of a process, if it has one, behind its body.
 pub fn handler<L: Lookup>(
-    out: &mut Out,
+    out: &mut CodeBuilder,
     names: &L,
     handler: &Option<Handler>,
 ) -> Result<Option<Part>, AllocError>

@@ -11,7 +11,7 @@ ghost use Rattle.codegen_spec.specs.Told.{fit as fitting, inside, told_callee, w
 ghost use Rattle.codegen_spec.specs.Made.{call_out, condition_told, count_told, push as push_of, choice as choice_of, closed, one_arm, stmt_out, waiting};
 ghost use Rattle.codegen.specs.Of.{args_of, expr_of, index_of, put_of, stmt_of, stmts_of, store_of};
 
-use crate::making::{Out, fit};
+use crate::code_builder::{CodeBuilder, fit};
 use codegen_spec::{Lookup, Loop, Owner};
 use image_format::Seg;
 use machine_isa::Instr;
@@ -37,7 +37,7 @@ fn monitor<L: Lookup>(names: &L) -> usize
     }
 }
 
-impl Out {
+impl CodeBuilder {
     fn assign<L: Lookup>(
         &mut self,
         names: &L,

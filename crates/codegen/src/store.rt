@@ -5,15 +5,15 @@ ghost use Rattle.codegen_spec.specs.Told.{inside};
 ghost use Rattle.codegen_spec.specs.Made.{put_part, put_whole, store_part, store_whole};
 ghost use Rattle.codegen.specs.Of.{index_of, put_of, store_of};
 
-use crate::making::Out;
-use codegen_spec::{Area, Lookup, Loop, Shape, Spot};
+use crate::code_builder::CodeBuilder;
+use codegen_spec::{Area, Lookup, Loop, VarLocation, VarShape};
 use machine_isa::Instr;
 use std::alloc::AllocError;
 use syntax_tree::Ref;
 
-impl Out {
+impl CodeBuilder {
     /// The store in a variable.
-    fn store_whole(&mut self, spot: &Spot) -> Result<(), AllocError>
+    fn store_whole(&mut self, spot: &VarLocation) -> Result<(), AllocError>
         ensures { OnOk result (self.new ≡ store_whole (Some spot.now) self.old) }
     {
         let word = spot.word;
@@ -25,13 +25,13 @@ impl Out {
     }
 
     /// The store in an element, whose index is below the value.
-    fn store_part(&mut self, spot: &Spot) -> Result<(), AllocError>
+    fn store_part(&mut self, spot: &VarLocation) -> Result<(), AllocError>
         ensures { OnOk result (self.new ≡ store_part (Some spot.now) self.old) }
     {
         let word = spot.word;
         match spot.shape {
-            Shape::Single => Ok(()),
-            Shape::Array { low, len } => match spot.area {
+            VarShape::Single => Ok(()),
+            VarShape::Array { low, len } => match spot.area {
                 Area::Frame => self.push(Instr::StoreLocalAt { word, low, len }),
                 Area::Process => self.push(Instr::StoreOwnAt { word, low, len }),
                 Area::Monitor => self.push(Instr::StoreMonAt { word, low, len }),
@@ -40,7 +40,7 @@ impl Out {
     }
 
     /// The check of the range, if any, and the store in a variable.
-    fn put_whole(&mut self, spot: &Spot) -> Result<(), AllocError>
+    fn put_whole(&mut self, spot: &VarLocation) -> Result<(), AllocError>
         ensures { OnOk result (self.new ≡ put_whole (Some spot.now) self.old) }
     {
         self.range(&spot.range)?;
@@ -48,7 +48,7 @@ impl Out {
     }
 
     /// The check of the range, if any, and the store in an element.
-    fn put_part(&mut self, spot: &Spot) -> Result<(), AllocError>
+    fn put_part(&mut self, spot: &VarLocation) -> Result<(), AllocError>
         ensures { OnOk result (self.new ≡ put_part (Some spot.now) self.old) }
     {
         self.range(&spot.range)?;

@@ -27,8 +27,8 @@ pub struct ProgramTexts<'p, 'a> {
 
 impl<'p, 'a> Model for ProgramTexts<'p, 'a> {
     ghost use Rattle.std.specs.Coded.{codes};
-    ghost use Rattle.syntax_tree.specs.declared.decl.Prog.{Prog as Tree};
-    ghost use Rattle.syntax_tree.specs.contracts.decl.Prog as tree;
+    ghost use Rattle.syntax_tree.specs.declared.decl.Program.{Program as Tree};
+    ghost use Rattle.syntax_tree.specs.contracts.decl.Program as tree;
 
     ghost Value = { Tree };
 

@@ -1,7 +1,7 @@
 -- The code that the generator makes of an expression is that of the expression, and has no exit.
 use Rattle.std.proofs.Common.{◌≡◌, ℕ, ℤ, Bool, true, false, pos, List, [], ◌∷◌, ◌++◌, map, Option, Some, None, option_map, refl, sym, ap, ◌∙◌, append_assoc, append-nil}
 use Rattle.std.proofs.lemmas.List.{map-append}
-use Rattle.syntax_tree.specs.Plain.{Name, Param, Op, or, and, equal, unequal, less, less_equal, greater, greater_equal, add, sub, mul, div, remainder, Expr, literal, truth, variable, element, call, minus, negation, paren, row, Exprs, no_exprs, exprs, Operands, no_operands, operand, Prog}
+use Rattle.syntax_tree.specs.Plain.{Name, Param, Op, or, and, equal, unequal, less, less_equal, greater, greater_equal, add, sub, mul, div, remainder, Expr, literal, truth, variable, element, call, minus, negation, paren, row, Exprs, no_exprs, exprs, Operands, no_operands, operand, Program}
 use Rattle.base.specs.Words.{of_bool}
 use Rattle.machine_isa.specs.declared.instr.Instr.{Instr}
 use Rattle.machine_isa.specs.declared.instr.Instr.TheVariants as i
@@ -9,7 +9,7 @@ use Rattle.code_spec.specs.Layout.{Area, in_frame, in_process, in_monitor, Shape
 use Rattle.source_semantics.specs.Store.{Range, range_of}
 use Rattle.code_spec.specs.Numbering.{Text, routine_in, number_of}
 use Rattle.code_spec.specs.Code.{load, load_name, load_shape, load_element, op_instr, constant_named, range_code, call_code, code_of, row_code, args_code}
-use Rattle.codegen_spec.specs.declared.spot.Range.{Range as Range_told}
+use Rattle.codegen_spec.specs.declared.var_location.ValueRange.{ValueRange as Range_told}
 use Rattle.codegen_spec.specs.Told.{fit, told_area, told_range, told_shape, told_spot, range_told, told_callee, value_told}
 use Rattle.codegen_spec.specs.Made.{Out, push, aimed, load_from, load_told, load_at_from, load_at_told, range_out, called, call_out, expr_out, row_out, args_out}
 use Rattle.codegen_law.specs.MadeRightFits.{Fit, ShapeFits, RangeFits, SpotFits, CallFits, ExprFits, RowFits, ArgsFit}
@@ -113,7 +113,7 @@ called_made : (n : ℕ) → Fit (pos n) → LineMade (called n) (λ y. i.Call (p
 called_made n h = record { code = i.Call (pos n) ∷ []; made = λ o. ap (λ z. o.code ++ i.Call z ∷ []) h; word = λ o. refl; still = λ t. refl; emits = λ y. refl }
 
 -- a call of what it names, if it names a routine
-pub call_made : (g : Prog) (t : Option Text) (args : List (Option Range_told) → Out → Out) (text : Option ℕ → List Param → List Instr) (Fits : List Param → Type 0)
+pub call_made : (g : Program) (t : Option Text) (args : List (Option Range_told) → Out → Out) (text : Option ℕ → List Param → List Instr) (Fits : List Param → Type 0)
     → CallFits g t Fits → ((ps : List Param) → Fits ps → LineMade (λ o. args (map (λ p. range_told g p.kind) ps) o) (λ y. text y ps))
     → LineMade (λ o. call_out (told_callee g t) (λ rs. args rs o) o) (λ y. call_code g t (λ ps. text y ps))
 call_made g None args text Fits h m = none_made
@@ -121,15 +121,15 @@ call_made g (Some t) args text Fits h m =
     both_made (λ o. args (map (λ p. range_told g p.kind) t.routine.params) o) (called (number_of g t)) (λ y. text y t.routine.params) (λ y. i.Call (pos (number_of g t)) ∷ []) (m t.routine.params h.1) (called_made (number_of g t) h.0)
 
 -- what is made of an expression
-abbrev pub ExprMade : Prog → Scope → Expr → Type 0
+abbrev pub ExprMade : Program → Scope → Expr → Type 0
 ExprMade g c e = LineMade (expr_out g c e) (λ y. code_of g (aiming c y) e)
 
 -- one instruction that follows an expression
-followed : (g : Prog) (c : Scope) (e : Expr) (j k : Instr) → ExprMade g c e → j ≡ k → Still (k ∷ []) → LineMade (λ o. push (expr_out g c e o) j) (λ y. code_of g (aiming c y) e ++ k ∷ [])
+followed : (g : Program) (c : Scope) (e : Expr) (j k : Instr) → ExprMade g c e → j ≡ k → Still (k ∷ []) → LineMade (λ o. push (expr_out g c e o) j) (λ y. code_of g (aiming c y) e ++ k ∷ [])
 followed g c e j k m same still = both_made (expr_out g c e) (λ o. push o j) (λ y. code_of g (aiming c y) e) (λ y. k ∷ []) m (one_made (λ o. j) k (λ o. same) still)
 
 mutual
-  pub expr_made : (g : Prog) (c : Scope) (e : Expr) → ExprFits g c e → ExprMade g c e
+  pub expr_made : (g : Program) (c : Scope) (e : Expr) → ExprFits g c e → ExprMade g c e
   expr_made g c (literal n) h = one_made (λ o. i.Push (fit (pos n))) (i.Push (pos n)) (λ o. ap (λ z. i.Push z) h) (λ t. refl)
   expr_made g c (truth b) h = one_made (λ o. i.Push (of_bool b)) (i.Push (of_bool b)) (λ o. refl) (λ t. refl)
   expr_made g c (variable x) h =
@@ -144,13 +144,13 @@ mutual
   expr_made g c (paren e) h = expr_made g c e h
   expr_made g c (row e r) h = both_made (expr_out g c e) (row_out g c r) (λ y. code_of g (aiming c y) e) (λ y. row_code g (aiming c y) r) (expr_made g c e h.0) (row_made g c r h.1)
 
-  row_made : (g : Prog) (c : Scope) (r : Operands) → RowFits g c r → LineMade (row_out g c r) (λ y. row_code g (aiming c y) r)
+  row_made : (g : Program) (c : Scope) (r : Operands) → RowFits g c r → LineMade (row_out g c r) (λ y. row_code g (aiming c y) r)
   row_made g c no_operands h = none_made
   row_made g c (operand op e r) h =
       both_made (expr_out g c e) (λ o. row_out g c r (push o (op_instr op))) (λ y. code_of g (aiming c y) e) (λ y. op_instr op ∷ row_code g (aiming c y) r) (expr_made g c e h.0)
       (both_made (λ o. push o (op_instr op)) (row_out g c r) (λ y. op_instr op ∷ []) (λ y. row_code g (aiming c y) r) (one_made (λ o. op_instr op) (op_instr op) (λ o. refl) (still_op op)) (row_made g c r h.1))
 
-  pub args_made : (g : Prog) (c : Scope) (es : Exprs) (ps : List Param) → ArgsFit g c es ps → LineMade (λ o. args_out g c es (map (λ p. range_told g p.kind) ps) o) (λ y. args_code g (aiming c y) es ps)
+  pub args_made : (g : Program) (c : Scope) (es : Exprs) (ps : List Param) → ArgsFit g c es ps → LineMade (λ o. args_out g c es (map (λ p. range_told g p.kind) ps) o) (λ y. args_code g (aiming c y) es ps)
   args_made g c no_exprs ps h = none_made
   args_made g c (exprs e es) [] h = none_made
   args_made g c (exprs e es) (p ∷ ps) h =

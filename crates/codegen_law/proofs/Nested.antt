@@ -1,7 +1,7 @@
 -- The code that the generator makes of choices, of loops and of lists of statements.
 use Rattle.std.proofs.Common.{◌≡◌, Bool, true, false, ◌+◌, ◌-◌, ◌≤◌, min, ℕ, suc, ℤ, pos, List, [], ◌∷◌, ◌++◌, map, length, slice_set, Option, refl, sym, ap, subst, ◌∙◌, append_assoc, append-nil, arith}
 use Rattle.std.proofs.lemmas.List.{map-append, length-append, length-map}
-use Rattle.syntax_tree.specs.Plain.{Name, Expr, Exprs, Stmt, assign, assign_entry, assign_empty, perform, perform_entry, when, when_else, loop, exit_when, get, put, wait, signal, broadcast, except, assert, Stmts, no_stmts, stmts, Constant, Prog}
+use Rattle.syntax_tree.specs.Plain.{Name, Expr, Exprs, Stmt, assign, assign_entry, assign_empty, perform, perform_entry, when, when_else, loop, exit_when, get, put, wait, signal, broadcast, except, assert, Stmts, no_stmts, stmts, Constant, Program}
 use Rattle.source_semantics.specs.Names.{constant_value, count_value, device_number}
 use Rattle.machine_isa.specs.declared.instr.Instr.{Instr}
 use Rattle.machine_isa.specs.declared.instr.Instr.TheVariants as i
@@ -28,7 +28,7 @@ armed pre ca begun jump done =
 abbrev arm_end : List Instr → ℕ → List Instr
 arm_end z at = slice_set (z ++ i.Jump (fit (pos (length z + 1))) ∷ []) at (i.JumpZero (fit (pos (length z + 1))))
 
-when_made : (g : Prog) (c : Scope) (e : Expr) (a : Stmts) (b : Bool) (p w : ℕ) (m : ExprMade g c e) → StmtsMade g c a b (p + length m.code + 1) w → StmtMade g c (when e a) b p w
+when_made : (g : Program) (c : Scope) (e : Expr) (a : Stmts) (b : Bool) (p w : ℕ) (m : ExprMade g c e) → StmtsMade g c a b (p + length m.code + 1) w → StmtMade g c (when e a) b p w
 when_made g c e a b p w m n =
     let mid : ℕ = p + length m.code + 1 + length n.code in
     let j : Instr = i.Jump (fit (pos (mid + 1))) in
@@ -78,7 +78,7 @@ met pre ca cd z old j mid size =
     ap (λ k. slice_set k mid j) here ∙ ap (λ k. slice_set (front ++ old ∷ cd) k j) (sym size) ∙ set_at front old j cd
     ∙ append_assoc (pre ++ z ∷ []) ca (j ∷ cd) ∙ append_assoc pre (z ∷ []) (ca ++ j ∷ cd)
 
-when_else_made : (g : Prog) (c : Scope) (e : Expr) (a d : Stmts) (b : Bool) (p w : ℕ) (m : ExprMade g c e) (n : StmtsMade g c a b (p + length m.code + 1) w)
+when_else_made : (g : Program) (c : Scope) (e : Expr) (a d : Stmts) (b : Bool) (p w : ℕ) (m : ExprMade g c e) (n : StmtsMade g c a b (p + length m.code + 1) w)
     → StmtsMade g c d b (p + length m.code + 1 + length n.code + 1) (w + loops a) → StmtMade g c (when_else e a d) b p w
 when_else_made g c e a d b p w m n k =
     let r : ℕ = p + length m.code in
@@ -139,7 +139,7 @@ when_else_made g c e a d b p w m n k =
     }
 
 -- a loop, whose variable has this word
-abbrev loop_at : Prog → Scope → Name → (low high : Constant) → Stmts → ℕ → Out → Out
+abbrev loop_at : Program → Scope → Name → (low high : Constant) → Stmts → ℕ → Out → Out
 loop_at g c x low high ss w o =
     looped (turns_of (fit (constant_value g low)) (fit (constant_value g high)))
     (length (turning (turns_of (fit (constant_value g low)) (fit (constant_value g high))) (counting (fit (constant_value g low)) o)).code)
@@ -175,7 +175,7 @@ tailed (x ∷ xs) a b d e f = ap (λ k. x ∷ k) (tailed xs a b d e f)
 aimed_fit : (t : ℤ) (q : ℕ) (js : List Instr) → map (aimed t) (map (aimed (fit (pos q))) js) ≡ map (aimed (fit (pos q))) js
 aimed_fit t q js = all_twice t (min q 2147483647) js
 
-loop_made : (g : Prog) (c : Scope) (x : Name) (low high : Constant) (ss : Stmts) (b : Bool) (p w : ℕ) → Fit (constant_value g low) → Fit (constant_value g high)
+loop_made : (g : Program) (c : Scope) (x : Name) (low high : Constant) (ss : Stmts) (b : Bool) (p w : ℕ) → Fit (constant_value g low) → Fit (constant_value g high)
     → Fit (pos (turns_of (constant_value g low) (constant_value g high))) → Fit (pos w) → StmtsMade g (within c x w) ss true (p + 1 + 1 + 1) (suc w) → StmtMade g c (loop x low high ss) b p w
 loop_made g c x low high ss b p w fits_low fits_high fits_turns fits_word n =
     let lo : ℤ = constant_value g low in
@@ -240,11 +240,11 @@ loop_made g c x low high ss b p w fits_low fits_high fits_turns fits_word n =
     }
 
 -- a call with its arguments
-called_line : (g : Prog) (c : Scope) (t : Option Text) (es : Exprs) → CallFits g t (λ ps. ArgsFit g c es ps)
+called_line : (g : Program) (c : Scope) (t : Option Text) (es : Exprs) → CallFits g t (λ ps. ArgsFit g c es ps)
     → LineMade (λ o. call_out (told_callee g t) (λ rs. args_out g c es rs o) o) (λ y. call_code g t (λ ps. args_code g (aiming c y) es ps))
 called_line g c t es h = call_made g t (λ rs o. args_out g c es rs o) (λ y ps. args_code g (aiming c y) es ps) (λ ps. ArgsFit g c es ps) h (λ ps k. args_made g c es ps k)
 
-wait_made : (g : Prog) (c : Scope) (x : Name) (l n : Constant) (b : Bool) (p w : ℕ) → StmtFits g c b w (wait x l n) → StmtMade g c (wait x l n) b p w
+wait_made : (g : Program) (c : Scope) (x : Name) (l n : Constant) (b : Bool) (p w : ℕ) → StmtFits g c b w (wait x l n) → StmtMade g c (wait x l n) b p w
 wait_made g c x l n b p w h =
     let js : List Instr = i.Wait (pos (condition_of g c.owner x)) (pos (count_value g l)) (pos (count_value g n)) ∷ i.Reenter (pos (monitor_of c.owner)) ∷ [] in
     line_made g c (wait x l n) b p w (λ y. js) (record {
@@ -260,7 +260,7 @@ wait_made g c x l n b p w h =
     }) refl (λ all y q l. l)
 
 mutual
-  pub stmt_made : (g : Prog) (c : Scope) (s : Stmt) (b : Bool) (p w : ℕ) → StmtFits g c b w s → StmtMade g c s b p w
+  pub stmt_made : (g : Program) (c : Scope) (s : Stmt) (b : Bool) (p w : ℕ) → StmtFits g c b w s → StmtMade g c s b p w
   stmt_made g c (assign r e) b p w h =
       line_made g c (assign r e) b p w (λ y. index_code g (aiming c y) r ++ (code_of g (aiming c y) e ++ put_code g (aiming c y) r))
       (both_made (index_out g c r) (λ o. put_out g c r (expr_out g c e o)) (λ y. index_code g (aiming c y) r) (λ y. code_of g (aiming c y) e ++ put_code g (aiming c y) r) (index_made g c r h.0)
@@ -314,7 +314,7 @@ mutual
       line_made g c (except n) b p w (λ y. i.Raise (pos (count_value g n)) ∷ []) (one_made (λ o. i.Raise (count_told g n)) (i.Raise (pos (count_value g n))) (λ o. ap (λ z. i.Raise z) h) (λ t. refl)) refl (λ all y q l. l)
   stmt_made g c (assert e) b p w h = assert_made g c e b p w (expr_made g c e h)
 
-  pub stmts_made : (g : Prog) (c : Scope) (ss : Stmts) (b : Bool) (p w : ℕ) → StmtsFit g c b w ss → StmtsMade g c ss b p w
+  pub stmts_made : (g : Program) (c : Scope) (ss : Stmts) (b : Bool) (p w : ℕ) → StmtsFit g c b w ss → StmtsMade g c ss b p w
   stmts_made g c no_stmts b p w h = record { code = []; made = λ o long at. sym (append-nil o.code); word = λ o at. at ∙ omega arith; still = λ f t. refl; emits = λ all y small h. omega arith }
   stmts_made g c (stmts s ss) b p w h =
       let m = stmt_made g c s b p w h.0 in

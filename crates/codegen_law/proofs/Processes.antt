@@ -1,7 +1,7 @@
 -- What is made of a process is its code, with its trees.
 use Rattle.std.proofs.Common.{◌≡◌, ◌+◌, ◌≤◌, ℕ, suc, false, List, [], ◌∷◌, ◌++◌, length, Option, Some, None, option_map, pos, refl, sym, ap, subst, ◌∙◌, append_assoc, append-nil, arith}
 use Rattle.std.proofs.lemmas.List.{length-append}
-use Rattle.syntax_tree.specs.Plain.{Stmts, Handler, Process, Prog}
+use Rattle.syntax_tree.specs.Plain.{Stmts, Handler, Process, Program}
 use Rattle.machine_isa.specs.declared.instr.Instr.{Instr}
 use Rattle.machine_isa.specs.declared.instr.Instr.TheVariants as i
 use Rattle.machine_semantics.specs.Image as image
@@ -29,13 +29,13 @@ use Rattle.codegen_spec.specs.Held.{HoldsHandler, HoldsProcess}
 use Rattle.code_measures.proofs.Lines.{has_first}
 
 -- what is made of a process behind so much code, and its parts
-abbrev pub body_of : Prog → ℕ → Process → List Instr → Out
+abbrev pub body_of : Program → ℕ → Process → List Instr → Out
 body_of g n t k = body_out g (process_scope g n t) t k
 
-abbrev pub whole_of : Prog → ℕ → Process → List Instr → Out
+abbrev pub whole_of : Program → ℕ → Process → List Instr → Out
 whole_of g n t k = process_out g (process_scope g n t) t.handler (ended (body_of g n t k))
 
-abbrev pub parts_of : Prog → ℕ → Process → List Instr → ProcessParts
+abbrev pub parts_of : Program → ℕ → Process → List Instr → ProcessParts
 parts_of g n t k = record {
   body = part_of (length k) (body_of g n t k) (ended (body_of g n t k));
   handler = option_map (λ x. handler_part g (process_scope g n t) (ended (body_of g n t k)) x) t.handler;
@@ -43,7 +43,7 @@ parts_of g n t k = record {
 
 -- ---- the length, which does not ask how large anything is
 
-module _ (g : Prog) (may : Text → Type 0) (n : ℕ) (t : Process) where
+module _ (g : Program) (may : Text → Type 0) (n : ℕ) (t : Process) where
   text_long : (ss : Stmts) → SoundAll g may (process_scope g n t) ss → (o : Out) → length (stmts_out g (process_scope g n t) ss o).code ≡ length o.code + stmts_length g (process_names g n t) ss
   text_long ss sound o =
       let grows : Grows ⊥ (stmts_out g (process_scope g n t) ss) (stmts_segs g (process_scope g n t) ss) (stmts_length g (process_names g n t) ss) =
@@ -62,7 +62,7 @@ module _ (g : Prog) (may : Text → Type 0) (n : ℕ) (t : Process) where
       let e : length ((body_of g n t k).code ++ i.End ∷ []) ≡ length (body_of g n t k).code + 1 = length-append (body_of g n t k).code (i.End ∷ []) in
       handler_long t.handler (ended (body_of g n t k)) sound.1 ∙ omega arith
 
-module _ (g : Prog) (few : (t : Text) → number_of g t ≤ 65535) (may : Text → Type 0) (n : ℕ) (t : Process) where
+module _ (g : Program) (few : (t : Text) → number_of g t ≤ 65535) (may : Text → Type 0) (n : ℕ) (t : Process) where
   -- ---- the handler
 
   -- what is made of the handler at p, behind the END of the body

@@ -1,7 +1,7 @@
 -- What is made of a program, put into an image, is the code of the program.
 use Rattle.std.proofs.Common.{◌≡◌, ◌+◌, ◌≤◌, ℕ, suc, List, [], ◌∷◌, ◌++◌, length, Some, slice_get, refl, sym, ap, subst, ◌∙◌, append_assoc, append-nil, arith}
 use Rattle.std.proofs.lemmas.List.{length-append}
-use Rattle.syntax_tree.specs.Plain.{Process, Prog}
+use Rattle.syntax_tree.specs.Plain.{Process, Program}
 use Rattle.source_semantics.specs.Names.{processes}
 use Rattle.machine_isa.specs.declared.instr.Instr.{Instr}
 use Rattle.machine_semantics.specs.Image as image
@@ -29,7 +29,7 @@ use Rattle.code_measures.proofs.Lines.{has_first}
 
 -- ---- the length, which does not ask how large anything is
 
-module _ (g : Prog) where
+module _ (g : Program) where
   texts_long : (ts : List Text) (k : Code) → ((r : ℕ) (t : Text) → slice_get ts r ≡ Some t → (below : ℕ) × SoundRoutine g (λ y. IsBelow g below y) t) → length (texts_made g ts k).instrs ≡ length k.instrs + routines_length g ts
   texts_long [] k sound = omega arith
   texts_long (t ∷ ts) k sound =
@@ -61,7 +61,7 @@ made_has_its_length g sound =
     processes_long g 0 (processes g) k (λ r t at. let e : r ≡ 0 + r = omega arith in subst (λ i. (below : ℕ) × SoundProcess g (λ y. IsBelow g below y) i t) e (length (numbered g), sound.bodies r t at)) in
     omega arith
 
-module _ (g : Prog) (few : (t : Text) → number_of g t ≤ 65535) where
+module _ (g : Program) (few : (t : Text) → number_of g t ≤ 65535) where
   -- ---- routines
 
   record Ready (t : Text) : Type 0 where

@@ -1,7 +1,7 @@
 -- What holds of each routine and entry of a program holds of all that have numbers, and of all that calls name.
 use Rattle.std.proofs.Common.{◌≡◌, ◌+◌, ℕ, zero, suc, Bool, true, false, cond, List, [], ◌∷◌, ◌++◌, filter_map, Option, Some, None, option_map, bytes_eq, slice_get, refl, subst, arith}
 use Rattle.std.proofs.lemmas.Option.{none-some, same_Some}
-use Rattle.syntax_tree.specs.Plain.{Name, Routine, Monitor, Process, Decl, constant, device, event, routine, monitor, process, Prog}
+use Rattle.syntax_tree.specs.Plain.{Name, Routine, Monitor, Process, Declaration, constant, device, event, routine, monitor, process, Program}
 use Rattle.source_semantics.specs.Names.{named, routines, monitors, processes, routine_in as a_routine, monitor_in, process_in, monitor_number, routine_count}
 use Rattle.source_semantics.specs.Run.{or_else}
 use Rattle.code_spec.specs.Layout.{Owner, by_program, by_process, by_monitor}
@@ -11,7 +11,7 @@ use Rattle.code_names_law.proofs.Numbers.{monitor_there}
 abbrev pub text_of : Owner → Routine → Text
 text_of o r = record { owner = o; routine = r }
 
-module _ (g : Prog) (P : Text → Type 0) where
+module _ (g : Program) (P : Text → Type 0) where
   -- it holds of each of an owner's
   abbrev pub OfEach : Owner → List Routine → Type 0
   OfEach o rs = (j : ℕ) (r : Routine) → slice_get rs j ≡ Some r → P (text_of o r)
@@ -76,7 +76,7 @@ module _ (g : Prog) (P : Text → Type 0) where
     one_more : (n j : ℕ) → n + suc j ≡ suc n + j
     one_more n j = omega arith
 
-    all_texts : (k m : ℕ) (ds : List Decl) → OfEach by_program (filter_map a_routine ds) → ((j : ℕ) (d : Monitor) → slice_get (filter_map monitor_in ds) j ≡ Some d → OfEach (by_monitor (m + j)) d.entries)
+    all_texts : (k m : ℕ) (ds : List Declaration) → OfEach by_program (filter_map a_routine ds) → ((j : ℕ) (d : Monitor) → slice_get (filter_map monitor_in ds) j ≡ Some d → OfEach (by_monitor (m + j)) d.entries)
         → ((j : ℕ) (p : Process) → slice_get (filter_map process_in ds) j ≡ Some p → OfEach (by_process (k + j)) p.routines) → OfTexts (texts_from k m ds)
     all_texts k m [] hr hm hp = tt
     all_texts k m (routine r ∷ ds) hr hm hp = (hr 0 r refl, all_texts k m ds (λ j s e. hr (suc j) s e) hm hp)

@@ -1,7 +1,7 @@
 -- What is made of a routine is its code, with its tree.
 use Rattle.std.proofs.Common.{◌≡◌, ◌+◌, ◌-◌, ◌≤◌, min, ℕ, false, List, [], ◌∷◌, ◌++◌, map, length, Option, Some, None, pos, refl, sym, ap, subst, ◌∙◌, append_assoc, arith}
 use Rattle.std.proofs.lemmas.List.{length-append}
-use Rattle.syntax_tree.specs.Plain.{Answers, Routine, Prog}
+use Rattle.syntax_tree.specs.Plain.{Answers, Routine, Program}
 use Rattle.source_semantics.specs.Store.{range_of}
 use Rattle.machine_isa.specs.declared.instr.Instr.{Instr}
 use Rattle.machine_isa.specs.declared.instr.Instr.TheVariants as i
@@ -37,29 +37,29 @@ use Rattle.code_measures.proofs.Lines.{has_first}
 
 -- ---- the result
 
-abbrev pub answer_code : Prog → Scope → Option Answers → List Instr
+abbrev pub answer_code : Program → Scope → Option Answers → List Instr
 answer_code g c None = []
 answer_code g c (Some a) = code_of g c a.value ++ range_code (range_of g a.kind)
 
-answer_line : (g : Prog) (c : Scope) (a : Option Answers) → AnswersFit g c a → LineMade (answer_out g c a) (λ y. answer_code g (aiming c y) a)
+answer_line : (g : Program) (c : Scope) (a : Option Answers) → AnswersFit g c a → LineMade (answer_out g c a) (λ y. answer_code g (aiming c y) a)
 answer_line g c None h = none_made
 answer_line g c (Some a) h = both_made (expr_out g c a.value) (range_out (range_told g a.kind)) (λ y. code_of g (aiming c y) a.value) (λ y. range_code (range_of g a.kind)) (expr_made g c a.value h.0) (range_made (range_of g a.kind) h.1)
 
-abbrev answer_tail : Prog → Scope → Option Answers → Segs → Segs
+abbrev answer_tail : Program → Scope → Option Answers → Segs → Segs
 answer_tail g c None k = k
 answer_tail g c (Some a) k = expr_segs g c a.value (line (length (range_code (range_of g a.kind))) k)
 
-answer_grows : (g : Prog) (S : Type 0) → (S → (t : Text) → number_of g t ≤ 65535) → (c : Scope) (a : Option Answers) → Grows S (answer_out g c a) (answer_tail g c a) (answers_length g (names_of g c) a)
+answer_grows : (g : Program) (S : Type 0) → (S → (t : Text) → number_of g t ≤ 65535) → (c : Scope) (a : Option Answers) → Grows S (answer_out g c a) (answer_tail g c a) (answers_length g (names_of g c) a)
 answer_grows g S few c None = none
 answer_grows g S few c (Some a) =
     both (expr_out g c a.value) (range_out (range_told g a.kind)) (expr_segs g c a.value) (λ k. line (length (range_code (range_of g a.kind))) k) (expr_length g c.owner a.value) (check_length (range_of g a.kind))
     (expr_grows g S few c c c.owner refl refl a.value) (range_grows (range_of g a.kind))
 
-answer_segs : (g : Prog) (c : Scope) (a : Option Answers) → answer_tail g c a Nil ≡ answers_segs g c a
+answer_segs : (g : Program) (c : Scope) (a : Option Answers) → answer_tail g c a Nil ≡ answers_segs g c a
 answer_segs g c None = refl
 answer_segs g c (Some a) = refl
 
-answered : (g : Prog) (all : List Instr) (c : Scope) (a : Answers) (p r : ℕ) → Has all p (answer_code g c (Some a)) → r ≡ p + length (answer_code g c (Some a)) → EmitsAnswer g all c p r a
+answered : (g : Program) (all : List Instr) (c : Scope) (a : Answers) (p r : ℕ) → Has all p (answer_code g c (Some a)) → r ≡ p + length (answer_code g c (Some a)) → EmitsAnswer g all c p r a
 answered g all c a p r h e =
     let value : List Instr = code_of g c a.value in
     let check : List Instr = range_code (range_of g a.kind) in
@@ -76,17 +76,17 @@ leave_code by_program j = j ∷ []
 leave_code (by_process k) j = j ∷ []
 
 -- a result, and what stands behind it
-abbrev Closing : Prog → List Instr → Scope → (p q : ℕ) → Answers → List Instr → Type 0
+abbrev Closing : Program → List Instr → Scope → (p q : ℕ) → Answers → List Instr → Type 0
 Closing g all c p q a js = (r : ℕ) × EmitsAnswer g all c p r a × IsLine all r q js
 
-closing : (g : Prog) (all : List Instr) (c : Scope) (a : Answers) (p q : ℕ) (js : List Instr) → Has all p (answer_code g c (Some a) ++ js) → q ≡ p + length (answer_code g c (Some a) ++ js) → Closing g all c p q a js
+closing : (g : Program) (all : List Instr) (c : Scope) (a : Answers) (p q : ℕ) (js : List Instr) → Has all p (answer_code g c (Some a) ++ js) → q ≡ p + length (answer_code g c (Some a) ++ js) → Closing g all c p q a js
 closing g all c a p q js h e =
     let xs : List Instr = answer_code g c (Some a) in
     let long : length (xs ++ js) ≡ length xs + length js = length-append xs js in
     let end : q ≡ p + length xs + length js = omega arith in
     (p + length xs, answered g all c a p (p + length xs) (has_first all p xs js h) refl, record { has = has_rest all p (p + length xs) xs js refl h; end = end })
 
-ends : (g : Prog) (all : List Instr) (c : Scope) (o : Owner) (a : Option Answers) (p q : ℕ) → Has all p (answer_code g c a ++ leave_code o (return_of a)) → q ≡ p + length (answer_code g c a ++ leave_code o (return_of a)) → EmitsEnd g all c o p q a
+ends : (g : Program) (all : List Instr) (c : Scope) (o : Owner) (a : Option Answers) (p q : ℕ) → Has all p (answer_code g c a ++ leave_code o (return_of a)) → q ≡ p + length (answer_code g c a ++ leave_code o (return_of a)) → EmitsEnd g all c o p q a
 ends g all c by_program None p q h e = record { has = h; end = e }
 ends g all c (by_process k) None p q h e = record { has = h; end = e }
 ends g all c (by_monitor m) None p q h e = record { has = h; end = e }
@@ -100,10 +100,10 @@ four : (a b c d : List Instr) → ((a ++ b) ++ c) ++ d ≡ a ++ (b ++ (c ++ d))
 four a b c d = simp append_assoc
 
 -- what is made of a routine behind so much code, and its return
-abbrev pub whole_out : Prog → Text → List Instr → Out
+abbrev pub whole_out : Program → Text → List Instr → Out
 whole_out g t k = routine_out g (routine_scope g t) t.owner t.routine (opened (routine_vars_words g t.routine) k)
 
-module _ (g : Prog) (c : Scope) (r : Routine) (w p : ℕ) (m : StmtsMade g c r.body false p w) (a : LineMade (answer_out g c r.answers) (λ y. answer_code g (aiming c y) r.answers)) where
+module _ (g : Program) (c : Scope) (r : Routine) (w p : ℕ) (m : StmtsMade g c r.body false p w) (a : LineMade (answer_out g c r.answers) (λ y. answer_code g (aiming c y) r.answers)) where
   inner_made : (o : Out) → length o.code ≡ p → o.word ≡ w → (inner_out g c r o).code ≡ (o.code ++ m.code) ++ a.code
   inner_made o long at = a.made (stmts_out g c r.body o) ∙ ap (λ z. z ++ a.code) (m.made o long at)
 
@@ -129,12 +129,12 @@ module _ (g : Prog) (c : Scope) (r : Routine) (w p : ℕ) (m : StmtsMade g c r.b
       ∙ ap (λ z. k ++ i.Enter z ∷ (m.code ++ (a.code ++ i.Leave z ∷ j ∷ []))) same
 
 -- what is made of a routine at p
-pub record RoutineCode (g : Prog) (t : Text) (p : ℕ) : Type 0 where
+pub record RoutineCode (g : Program) (t : Text) (p : ℕ) : Type 0 where
   pub code : List Instr
   pub made : (k : List Instr) → length k ≡ p → (push (whole_out g t k) (return_of t.routine.answers)).code ≡ k ++ code
   pub emits : (all : List Instr) → p + length code ≤ 2147483647 → Has all p code → EmitsRoutine g all t p (p + length code)
 
-pub routine_code : (g : Prog) (t : Text) (p : ℕ) → RoutineFits g t → RoutineCode g t p
+pub routine_code : (g : Program) (t : Text) (p : ℕ) → RoutineFits g t → RoutineCode g t p
 routine_code g t p fits =
     let c : Scope = routine_scope g t in
     let w : ℕ = routine_vars_words g t.routine in
@@ -168,7 +168,7 @@ routine_code g t p fits =
 
 -- ---- the tree
 
-module _ (g : Prog) (S : Type 0) (few : S → (t : Text) → number_of g t ≤ 65535) (c : Scope) (r : Routine) (w l : ℕ) (body : Grows S (stmts_out g c r.body) (stmts_segs g c r.body) l) where
+module _ (g : Program) (S : Type 0) (few : S → (t : Text) → number_of g t ≤ 65535) (c : Scope) (r : Routine) (w l : ℕ) (body : Grows S (stmts_out g c r.body) (stmts_segs g c r.body) l) where
   inner_grows : Grows S (inner_out g c r) (λ k. stmts_segs g c r.body (answer_tail g c r.answers k)) (l + answers_length g (names_of g c) r.answers)
   inner_grows = both (stmts_out g c r.body) (answer_out g c r.answers) (stmts_segs g c r.body) (answer_tail g c r.answers) l (answers_length g (names_of g c) r.answers) body (answer_grows g S few c r.answers)
 
@@ -198,20 +198,20 @@ module _ (g : Prog) (S : Type 0) (few : S → (t : Text) → number_of g t ≤ 6
       ap (λ x. tree_of (map view (stay (min n 65535) (closed o) ∷ line_of x))) nothing
       ∙ ap (λ s. Cons s Nil) (view_stay (min n 65535) (closed o) ∙ ap (λ x. tree.Stay x (views (closed o))) same ∙ ap (λ x. tree.Stay n x) (inner_tree z (entered n (opened w k)) refl refl less))
 
-pub body_grows : (g : Prog) (S : Type 0) → (S → (t : Text) → number_of g t ≤ 65535) → (may : Text → Type 0) (t : Text) → (S → RoutineFits g t) → SoundRoutine g may t
+pub body_grows : (g : Program) (S : Type 0) → (S → (t : Text) → number_of g t ≤ 65535) → (may : Text → Type 0) (t : Text) → (S → RoutineFits g t) → SoundRoutine g may t
     → Grows S (stmts_out g (routine_scope g t) t.routine.body) (stmts_segs g (routine_scope g t) t.routine.body) (stmts_length g (routine_names g t) t.routine.body)
 body_grows g S few may t fits sound =
     let c : Scope = routine_scope g t in
     stmts_grows g S few may t.routine.body c c None (routine_names g t) (alike g c) (sees g c) (λ z. all_bounds_fit g c false (routine_vars_words g t.routine) t.routine.body (fits z).body) sound.0
 
 -- the length does not ask how large anything is
-pub routine_long : (g : Prog) (may : Text → Type 0) (t : Text) → SoundRoutine g may t → (k : List Instr) → length (push (whole_out g t k) (return_of t.routine.answers)).code ≡ length k + routine_length g (routine_names g t) t
+pub routine_long : (g : Program) (may : Text → Type 0) (t : Text) → SoundRoutine g may t → (k : List Instr) → length (push (whole_out g t k) (return_of t.routine.answers)).code ≡ length k + routine_length g (routine_names g t) t
 routine_long g may t sound k =
     let e : length (whole_out g t k).code ≡ length k + (stmts_length g (routine_names g t) t.routine.body + answers_length g (routine_names g t) t.routine.answers) + monitor_length t.owner =
     framed_long g ⊥ (λ z. absurd z) (routine_scope g t) t.routine (routine_vars_words g t.routine) (stmts_length g (routine_names g t) t.routine.body) (body_grows g ⊥ (λ z. absurd z) may t (λ z. absurd z) sound) t.owner k in
     length-append (whole_out g t k).code (return_of t.routine.answers ∷ []) ∙ omega arith
 
-pub routine_tree : (g : Prog) → ((t : Text) → number_of g t ≤ 65535) → (may : Text → Type 0) (t : Text) → RoutineFits g t → SoundRoutine g may t → (k : List Instr)
+pub routine_tree : (g : Program) → ((t : Text) → number_of g t ≤ 65535) → (may : Text → Type 0) (t : Text) → RoutineFits g t → SoundRoutine g may t → (k : List Instr)
     → length (whole_out g t k).code ≤ 4294967295 → views (closed (whole_out g t k)) ≡ routine_segs g (routine_scope g t) t.owner t.routine
 routine_tree g few may t fits sound k small =
     framed_tree g (Unit {0}) (λ z. few) (routine_scope g t) t.routine (routine_vars_words g t.routine) (stmts_length g (routine_names g t) t.routine.body) (body_grows g (Unit {0}) (λ z. few) may t (λ z. fits) sound) tt t.owner k fits.owner small

@@ -1,7 +1,7 @@
 -- What is made of a text is as long as the text says, and its segments are those of the text.
 use Rattle.std.proofs.Common.{◌≡◌, ◌+◌, ◌-◌, ◌≤◌, min, ℕ, List, [], ◌∷◌, ◌++◌, map, length, Option, Some, None, option_map, ℤ, pos, refl, sym, ap, ◌∙◌, arith}
 use Rattle.std.proofs.lemmas.List.{length-append, length-set}
-use Rattle.syntax_tree.specs.Plain.{Name, Constant, Param, Expr, literal, truth, variable, element, call, minus, negation, paren, row, Exprs, no_exprs, exprs, Operands, no_operands, operand, Ref, whole, part, Stmt, assign, assign_entry, assign_empty, perform, perform_entry, when, when_else, loop, exit_when, get, put, wait, signal, broadcast, except, assert, Stmts, no_stmts, stmts, Prog}
+use Rattle.syntax_tree.specs.Plain.{Name, Constant, Param, Expr, literal, truth, variable, element, call, minus, negation, paren, row, Exprs, no_exprs, exprs, Operands, no_operands, operand, Ref, whole, part, Stmt, assign, assign_entry, assign_empty, perform, perform_entry, when, when_else, loop, exit_when, get, put, wait, signal, broadcast, except, assert, Stmts, no_stmts, stmts, Program}
 use Rattle.base.specs.Words.{of_bool}
 use Rattle.source_semantics.specs.Names.{constant_value, device_number}
 use Rattle.source_semantics.specs.Store.{Range, range_of}
@@ -23,7 +23,7 @@ use Rattle.code_cost_spec.specs.Lengths.{check_length, call_length, expr_length,
 use Rattle.code_measures.specs.Sound.{SoundRef, Sound, SoundAll}
 use Rattle.code_measures.proofs.Sizes.{Alike, alike_inner, same_range}
 use Rattle.code_measures.proofs.Seen.{Sees, sees_inside, range_is}
-use Rattle.codegen_spec.specs.declared.spot.Range.{Range as Range_told}
+use Rattle.codegen_spec.specs.declared.var_location.ValueRange.{ValueRange as Range_told}
 use Rattle.codegen_spec.specs.Told.{fit, told_area, told_range, told_shape, told_spot, told_callee, range_told, value_told, within}
 use Rattle.codegen_spec.specs.Made.{Out, push, closed, patched, load_told, load_at_told, call_out, expr_out, row_out, args_out, condition_told, count_told, store_whole, store_part, store_out, index_out, range_out, store_to, store_at_out, put_whole, put_part, put_out, open_exit, aim, between, choice, counting, turning, stepped, worth, turns_between, stmt_out, stmts_out}
 use Rattle.codegen_law.specs.MadeRightFits.{Fit}
@@ -39,7 +39,7 @@ range_grows (Some r) = one (λ o. i.Range (fit r.low) (fit r.high))
 
 -- ---- expressions
 
-module _ (g : Prog) (S : Type 0) (few : S → (t : Text) → number_of g t ≤ 65535) where
+module _ (g : Program) (S : Type 0) (few : S → (t : Text) → number_of g t ≤ 65535) where
   -- a call of what it names, if it names a routine
   call_grows : (t : Option Text) (args : List (Option Range_told) → Out → Out) (segs : List Param → Segs → Segs) (count : List Param → ℕ)
       → ((ps : List Param) → Grows S (λ o. args (map (λ p. range_told g p.kind) ps) o) (segs ps) (count ps)) → Grows S (λ o. call_out (told_callee g t) (λ rs. args rs o) o) (λ k. call_segs g t segs k) (call_length t count)
@@ -141,7 +141,7 @@ part_stores : {S : Type 0} (s : Option Spot) → IsArray s → Grows S (store_pa
 part_stores None h = absurd h
 part_stores (Some s) h = store_grows s.area (fit (pos s.place.word)) s.place.shape h
 
-empty_grows : {S : Type 0} (g : Prog) (c : Scope) (r : Ref) (j : Instr) → SoundRef g c r → Grows S (λ o. store_out g c r (push o j)) (λ k. line 2 k) 2
+empty_grows : {S : Type 0} (g : Program) (c : Scope) (r : Ref) (j : Instr) → SoundRef g c r → Grows S (λ o. store_out g c r (push o j)) (λ k. line 2 k) 2
 empty_grows g c (whole x) j h =
     told_as (λ o. store_whole (told_spot (spot_of g c x)) (push o j)) (λ k. line 1 (line 1 k)) (λ k. line 2 k) 2 2 (λ k. line_line 1 1 k) refl
     (both (λ o. push o j) (store_whole (told_spot (spot_of g c x))) (λ k. line 1 k) (λ k. line 1 k) 1 1 (one (λ o. j)) (whole_stores (spot_of g c x) h.0))
@@ -149,13 +149,13 @@ empty_grows g c (part x e) j h =
     told_as (λ o. store_part (told_spot (spot_of g c x)) (push o j)) (λ k. line 1 (line 1 k)) (λ k. line 2 k) 2 2 (λ k. line_line 1 1 k) refl
     (both (λ o. push o j) (store_part (told_spot (spot_of g c x))) (λ k. line 1 k) (λ k. line 1 k) 1 1 (one (λ o. j)) (part_stores (spot_of g c x) h.0))
 
-wait_grows : {S : Type 0} (g : Prog) (c : Scope) (x : Name) (l n : Constant) → Grows S (stmt_out g c (wait x l n)) (λ k. Cons tree.Wait k) 2
+wait_grows : {S : Type 0} (g : Program) (c : Scope) (x : Name) (l n : Constant) → Grows S (stmt_out g c (wait x l n)) (λ k. Cons tree.Wait k) 2
 wait_grows g c x l n =
     let j : Instr = i.Wait (condition_told g c x) (count_told g l) (count_told g n) in
     let k : Instr = i.Reenter (fit (pos (monitor_of c.owner))) in
     segment (λ o. o) (λ o. push (push o j) k) (λ k. k) (λ o. seg.Wait) tree.Wait 0 2 none (λ o. length-append (o.code ++ j ∷ []) (k ∷ []) ∙ ap (λ m. m + 1) (length-append o.code (j ∷ [])) ∙ omega arith) (λ z o h small. view_wait) (λ i after. refl)
 
-assert_grows : {S : Type 0} (g : Prog) (c d : Scope) (e : Expr) (m : ℕ) → Grows S (expr_out g c e) (expr_segs g d e) m → Grows S (stmt_out g c (assert e)) (stmt_segs g d (assert e)) (m + 3)
+assert_grows : {S : Type 0} (g : Program) (c d : Scope) (e : Expr) (m : ℕ) → Grows S (expr_out g c e) (expr_segs g d e) m → Grows S (stmt_out g c (assert e)) (stmt_segs g d (assert e)) (m + 3)
 assert_grows g c d e m test =
     let skip : Out → Instr = λ o. i.JumpZero (fit (pos (length (expr_out g c e o).code + 2))) in
     let over_it : Out → Instr = λ o. i.Jump (fit (pos (length (expr_out g c e o).code + 3))) in
@@ -164,7 +164,7 @@ assert_grows g c d e m test =
     (λ o. length-append (((expr_out g c e o).code ++ skip o ∷ []) ++ over_it o ∷ []) (i.Raise (pos 4) ∷ []) ∙ ap (λ k. k + 1) (length-append ((expr_out g c e o).code ++ skip o ∷ []) (over_it o ∷ []) ∙ ap (λ k. k + 1) (length-append (expr_out g c e o).code (skip o ∷ []))) ∙ omega arith)
     (λ z o h small. view_fork [] (seg.Line 1 ∷ []) ∙ ap (λ x. tree.Fork Nil (Cons x Nil)) (view_line 1)) (λ i after. refl)
 
-module _ (g : Prog) (S : Type 0) (few : S → (t : Text) → number_of g t ≤ 65535) (may : Text → Type 0) where
+module _ (g : Program) (S : Type 0) (few : S → (t : Text) → number_of g t ≤ 65535) (may : Text → Type 0) where
   put_grows : (c d : Scope) (y : Option ℕ) (n : Names) (r : Ref) → Alike g (aiming c y) d → Sees g (aiming c y) n → SoundRef g (aiming c y) r → Grows S (put_out g c r) (put_segs g d r) (put_length n r)
   put_grows c d y n (whole x) a s h =
       told_as (put_out g c (whole x)) (λ k. line (length (range_code (range_of_spot (spot_of g c x))) + 1) k) (put_segs g d (whole x)) (check_length (range_of_spot (spot_of g c x)) + 1) (put_length n (whole x))

@@ -1,7 +1,7 @@
 -- The code that the generator makes of statements is that of the statements.
 use Rattle.std.proofs.Common.{◌≡◌, Bool, true, ◌+◌, ◌≤◌, min, ℕ, ℤ, pos, List, [], ◌∷◌, ◌++◌, map, length, Option, Some, None, option_map, refl, sym, ap, subst, ◌∙◌, append_assoc, arith}
 use Rattle.std.proofs.lemmas.List.{map-append, length-append}
-use Rattle.syntax_tree.specs.Plain.{Expr, Ref, whole, part, Stmt, exit_when, assert, Stmts, Prog}
+use Rattle.syntax_tree.specs.Plain.{Expr, Ref, whole, part, Stmt, exit_when, assert, Stmts, Program}
 use Rattle.machine_isa.specs.declared.instr.Instr.{Instr}
 use Rattle.machine_isa.specs.declared.instr.Instr.TheVariants as i
 use Rattle.code_spec.specs.Layout.{Area, in_frame, in_process, in_monitor, Shape, single, array, Spot, Scope, spot_of, loops_in, loops}
@@ -50,7 +50,7 @@ part_stored : (s : Option Spot) → SpotFits s → LineMade (store_part (told_sp
 part_stored None h = none_made
 part_stored (Some s) h = stored_at s.area s.place.word s.place.shape h.0 h.1
 
-pub store_made : (g : Prog) (c : Scope) (r : Ref) → RefFits g c r → LineMade (store_out g c r) (λ y. store_code g (aiming c y) r)
+pub store_made : (g : Program) (c : Scope) (r : Ref) → RefFits g c r → LineMade (store_out g c r) (λ y. store_code g (aiming c y) r)
 store_made g c (whole x) h = whole_stored (spot_of g c x) h
 store_made g c (part x e) h = part_stored (spot_of g c x) h.0
 
@@ -63,24 +63,24 @@ part_put : (s : Option Spot) → SpotFits s → LineMade (put_part (told_spot s)
 part_put None h = none_made
 part_put (Some s) h = both_made (range_out (option_map told_range s.place.range)) (store_part (told_spot (Some s))) (λ y. range_code s.place.range) (λ y. store_element (Some s)) (range_made s.place.range h.2) (part_stored (Some s) h)
 
-pub put_made : (g : Prog) (c : Scope) (r : Ref) → RefFits g c r → LineMade (put_out g c r) (λ y. put_code g (aiming c y) r)
+pub put_made : (g : Program) (c : Scope) (r : Ref) → RefFits g c r → LineMade (put_out g c r) (λ y. put_code g (aiming c y) r)
 put_made g c (whole x) h = whole_put (spot_of g c x) h
 put_made g c (part x e) h = part_put (spot_of g c x) h.0
 
-pub index_made : (g : Prog) (c : Scope) (r : Ref) → RefFits g c r → LineMade (index_out g c r) (λ y. index_code g (aiming c y) r)
+pub index_made : (g : Program) (c : Scope) (r : Ref) → RefFits g c r → LineMade (index_out g c r) (λ y. index_code g (aiming c y) r)
 index_made g c (whole x) h = none_made
 index_made g c (part x e) h = expr_made g c e h.1
 
 -- ---- what is made of a statement, whose code begins at p and whose first loop has word w
 
-pub record StmtMade (g : Prog) (c : Scope) (s : Stmt) (b : Bool) (p w : ℕ) : Type 0 where
+pub record StmtMade (g : Program) (c : Scope) (s : Stmt) (b : Bool) (p w : ℕ) : Type 0 where
   pub code : List Instr
   pub made : (o : Out) → length o.code ≡ p → o.word ≡ w → (stmt_out g c s o).code ≡ o.code ++ code
   pub word : (o : Out) → o.word ≡ w → (stmt_out g c s o).word ≡ w + loops_in s
   pub still : Outside b → Still code
   pub emits : (all : List Instr) (y : Exits b) → p + length code ≤ 2147483647 → Has all p (map (aimed (to_of b y)) code) → Emits g all (aiming c (exit_of b y)) w p (p + length code) s
 
-pub record StmtsMade (g : Prog) (c : Scope) (ss : Stmts) (b : Bool) (p w : ℕ) : Type 0 where
+pub record StmtsMade (g : Program) (c : Scope) (ss : Stmts) (b : Bool) (p w : ℕ) : Type 0 where
   pub code : List Instr
   pub made : (o : Out) → length o.code ≡ p → o.word ≡ w → (stmts_out g c ss o).code ≡ o.code ++ code
   pub word : (o : Out) → o.word ≡ w → (stmts_out g c ss o).word ≡ w + loops ss
@@ -92,7 +92,7 @@ lined : (all : List Instr) (p : ℕ) (t : ℤ) (js ks : List Instr) → ks ≡ j
 lined all p t js ks e s h = record { has = subst (λ z. Has all p z) (s t ∙ sym e) h; end = ap (λ z. p + length z) (sym e) }
 
 -- a statement that is a line
-pub line_made : (g : Prog) (c : Scope) (s : Stmt) (b : Bool) (p w : ℕ) (text : Option ℕ → List Instr) → LineMade (stmt_out g c s) text → loops_in s ≡ 0
+pub line_made : (g : Program) (c : Scope) (s : Stmt) (b : Bool) (p w : ℕ) (text : Option ℕ → List Instr) → LineMade (stmt_out g c s) text → loops_in s ≡ 0
     → ((all : List Instr) (y : Option ℕ) (q : ℕ) → IsLine all p q (text y) → Emits g all (aiming c y) w p q s) → StmtMade g c s b p w
 line_made g c s b p w text m no_loop is = record {
   code = m.code;
@@ -103,7 +103,7 @@ line_made g c s b p w text m no_loop is = record {
 }
 
 -- an assertion: a jump over the exception, or to it
-pub assert_made : (g : Prog) (c : Scope) (e : Expr) (b : Bool) (p w : ℕ) → ExprMade g c e → StmtMade g c (assert e) b p w
+pub assert_made : (g : Program) (c : Scope) (e : Expr) (b : Bool) (p w : ℕ) → ExprMade g c e → StmtMade g c (assert e) b p w
 assert_made g c e b p w m =
     let r : ℕ = p + length m.code in
     let rest : List Instr = i.JumpZero (fit (pos (r + 2))) ∷ i.Jump (fit (pos (r + 3))) ∷ i.Raise (pos 4) ∷ [] in
@@ -136,7 +136,7 @@ assert_made g c e b p w m =
           );
     }
 
-pub exit_made : (g : Prog) (c : Scope) (e : Expr) (p w : ℕ) → ExprMade g c e → StmtMade g c (exit_when e) true p w
+pub exit_made : (g : Program) (c : Scope) (e : Expr) (p w : ℕ) → ExprMade g c e → StmtMade g c (exit_when e) true p w
 exit_made g c e p w m = record {
   code = m.code ++ open_exit ∷ [];
   made = λ o long at. ap (λ z. z ++ open_exit ∷ []) (m.made o) ∙ append_assoc o.code m.code (open_exit ∷ []);

@@ -1,7 +1,7 @@
 -- No number of a text that is well formed where it stands is cut off.
 use Rattle.std.specs.Prelude.{All}
 use Rattle.std.proofs.Common.{◌≡◌, ◌+◌, ◌≤◌, ℕ, suc, Bool, T, List, [], ◌∷◌, Option, Some, None, pos, refl, sym, subst, arith}
-use Rattle.syntax_tree.specs.Plain.{Name, Param, Var, Answers, Expr, literal, truth, variable, element, call, minus, negation, paren, row, Exprs, no_exprs, exprs, Operands, no_operands, operand, Ref, whole, part, Stmt, assign, assign_entry, assign_empty, perform, perform_entry, when, when_else, loop, exit_when, get, put, wait, signal, broadcast, except, assert, Stmts, no_stmts, stmts, Process, Prog}
+use Rattle.syntax_tree.specs.Plain.{Name, Param, Var, Answers, Expr, literal, truth, variable, element, call, minus, negation, paren, row, Exprs, no_exprs, exprs, Operands, no_operands, operand, Ref, whole, part, Stmt, assign, assign_entry, assign_empty, perform, perform_entry, when, when_else, loop, exit_when, get, put, wait, signal, broadcast, except, assert, Stmts, no_stmts, stmts, Process, Program}
 use Rattle.source_semantics.specs.Names.{constant_value, device_number}
 use Rattle.source_semantics.specs.Run.{Home, routine_named, entry_named}
 use Rattle.static_declarations.specs.declared.sort.Sort.{Sort}
@@ -21,7 +21,7 @@ use Rattle.codegen_law.proofs.Words.{fit_low, word_fits, count_fits, few_between
 use Rattle.codegen_law.proofs.Places.{scalar_fits, first_of_all, rest_of_all, within_fits}
 
 -- what holds of all texts of a program
-pub record Facts (g : Prog) : Type 0 where
+pub record Facts (g : Program) : Type 0 where
   pub constants : (x : Name) → Fit (value_told (constant_named g x))
   pub devices : (d : Name) → Fit (pos (device_number g d))
   pub conditions : (o : Owner) (x : Name) → Fit (pos (condition_of g o x))
@@ -30,20 +30,20 @@ pub record Facts (g : Prog) : Type 0 where
   pub entries : (m f : Name) (t : Text) → entry_in g m f ≡ Some t → All (ParamFits g) t.routine.params
 
 -- where a text stands: what a name of a variable means is an operand
-pub record TextStands (g : Prog) (c : Scope) : Type 0 where
+pub record TextStands (g : Program) (c : Scope) : Type 0 where
   pub spots : (x : Name) → SpotFits (spot_of g c x)
   pub monitor : Fit (pos (monitor_of c.owner))
 
-call_fits : (g : Prog) → Facts g → (x : Option Text) (F : List Param → Type 0) → ((t : Text) → x ≡ Some t → F t.routine.params) → CallFits g x F
+call_fits : (g : Program) → Facts g → (x : Option Text) (F : List Param → Type 0) → ((t : Text) → x ≡ Some t → F t.routine.params) → CallFits g x F
 call_fits g facts None F h = tt
 call_fits g facts (Some t) F h = (facts.numbers t, h t refl)
 
-turns_fit : (g : Prog) (low high : _) → AreTurns g low high → Fit (pos (turns_of (constant_value g low) (constant_value g high)))
+turns_fit : (g : Program) (low high : _) → AreTurns g low high → Fit (pos (turns_of (constant_value g low) (constant_value g high)))
 turns_fit g low high h =
     let few : turns_of (constant_value g low) (constant_value g high) ≤ 1000000 = few_between (constant_value g low) (constant_value g high) 1000000 h.few in
     fit_low (turns_of (constant_value g low) (constant_value g high)) (omega arith)
 
-module _ (g : Prog) (facts : Facts g) (p : Process) (home : Home) (is_function : Bool) (own : List Var) where
+module _ (g : Program) (facts : Facts g) (p : Process) (home : Home) (is_function : Bool) (own : List Var) where
   abbrev pub here : List Name → Here
   here turns = record { program = g; process = p; home = home; is_function = is_function; turns = turns; own = own }
 

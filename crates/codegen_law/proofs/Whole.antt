@@ -2,7 +2,7 @@
 use Rattle.std.specs.Prelude.{sum_by}
 use Rattle.std.proofs.Common.{◌≡◌, ◌+◌, ◌≤◌, ◌<◌, ℕ, zero, suc, List, [], ◌∷◌, length, filter_map, Option, Some, None, pos, slice_get, refl, ap, arith}
 use Rattle.base.proofs.Lists.{one_of}
-use Rattle.syntax_tree.specs.Plain.{Name, Routine, Monitor, Process, Handler, Prog}
+use Rattle.syntax_tree.specs.Plain.{Name, Routine, Monitor, Process, Handler, Program}
 use Rattle.source_semantics.specs.Names.{routines, monitors, processes, variable_in}
 use Rattle.source_semantics.specs.Run.{of_program, of_process, of_monitor}
 use Rattle.code_spec.specs.Layout.{Owner, by_program, by_process, by_monitor, home_of, Scope, in_process, in_monitor, outer_spot, words_of, vars_of_process, vars_of_monitor, monitor_vars, process_places, monitor_places, monitor_base, places_from, routine_vars_words, routine_words, loops, handler_loops, count}
@@ -29,12 +29,12 @@ there_low (y ∷ ys) zero x e = omega arith
 there_low (y ∷ ys) (suc j) x e = let h : j < length ys = there_low ys j x e in omega arith
 
 -- a text that a process runs, well formed as that process sees it
-record IsRun (g : Prog) (t : Text) : Type 0 where
+record IsRun (g : Program) (t : Text) : Type 0 where
   process : Process
   fits : formed.RoutineFits g process (home_of t.owner) t.routine
   owner : OwnerFits t.owner
 
-module _ (g : Prog) (form : IsWellFormed g) where
+module _ (g : Program) (form : IsWellFormed g) where
   first_process : (ps : List Process) → processes g ≡ ps → 1 ≤ length ps → (p : Process) × (slice_get (processes g) 0 ≡ Some p)
   first_process [] is h = absurd (omega arith)
   first_process (p ∷ ps) is h = (p, ap (λ z. slice_get z 0) is)

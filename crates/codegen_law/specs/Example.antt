@@ -1,10 +1,10 @@
 -- A text to which the law applies.
 use Rattle.std.specs.Prelude.{[], ◌∷◌, Some, None, false, pos}
-use Rattle.syntax_tree.specs.Plain.{literal_constant, literal, variable, row, operand, no_operands, less, put, loop, exit_when, when_else, assign, whole, Stmts, no_stmts, stmts, Prog}
+use Rattle.syntax_tree.specs.Plain.{literal_constant, literal, variable, row, operand, no_operands, less, put, loop, exit_when, when_else, assign, whole, Stmts, no_stmts, stmts, Program}
 use Rattle.code_spec.specs.Layout.{Scope, by_program, single}
 use Rattle.codegen_law.specs.MadeRightFits.{StmtsFit}
 
-abbrev pub empty : Prog
+abbrev pub empty : Program
 empty = record { name = []; decls = [] }
 
 -- a variable 1 with the range 0 .. 9, at word 0

@@ -1,7 +1,7 @@
 -- The law: no number of a well-formed program is cut off, where its code and the frames of its
 -- routines are not too large.
 use Rattle.std.specs.Prelude.{◌≡◌, ◌≤◌, ℕ, Some, slice_get}
-use Rattle.syntax_tree.specs.Plain.{Prog}
+use Rattle.syntax_tree.specs.Plain.{Program}
 use Rattle.code_spec.specs.Layout.{routine_words}
 use Rattle.code_spec.specs.Numbering.{Text, numbered}
 use Rattle.code_cost_spec.specs.Levels.{code_length}
@@ -10,12 +10,12 @@ use Rattle.wellformed.specs.WellFormed.{IsWellFormed}
 use Rattle.codegen_law.specs.MadeWholeFits.{ProgramFits}
 
 -- the last word of each routine's frame has a number that is an operand
-abbrev pub FramesFit : Prog → Type 0
+abbrev pub FramesFit : Program → Type 0
 FramesFit g = (r : ℕ) (t : Text) → slice_get (numbered g) r ≡ Some t
     → routine_words g t.routine ≤ 2147483647
 
 abbrev pub WellFormedProgramsFit : Type 0
-WellFormedProgramsFit = (g : Prog) → IsWellFormed g → FramesFit g
+WellFormedProgramsFit = (g : Program) → IsWellFormed g → FramesFit g
     → code_length g ≤ 65535 → ProgramFits g
 
 -- A program with a monitor, a wait, a signal and a handler meets the premises.

@@ -1,6 +1,6 @@
 -- The law: what the generator makes of statements is their code, where it stands.
 use Rattle.std.specs.Prelude.{◌≡◌, ◌≤◌, ◌+◌, ◌++◌, false, length, List, None}
-use Rattle.syntax_tree.specs.Plain.{Stmts, Prog}
+use Rattle.syntax_tree.specs.Plain.{Stmts, Program}
 use Rattle.machine_isa.specs.declared.instr.Instr.{Instr}
 use Rattle.code_spec.specs.Layout.{Scope}
 use Rattle.machine_semantics.specs.Trees.{Nil}
@@ -17,23 +17,23 @@ use Rattle.codegen_law.specs.MadeRightFits.{StmtsFit}
 -- Statements with no loop around, behind the code of an Out: whatever is made behind them, the code
 -- up to the end of what is made of them is theirs.
 abbrev pub MadeIsEmitted : Type 0
-MadeIsEmitted = (g : Prog) (c : Scope) (ss : Stmts) (o : Out) (behind : List Instr)
+MadeIsEmitted = (g : Program) (c : Scope) (ss : Stmts) (o : Out) (behind : List Instr)
     → StmtsFit g c false o.word ss → length (stmts_out g c ss o).code ≤ 2147483647
     → EmitsAll g ((stmts_out g c ss o).code ++ behind) (record c { exit = None }) o.word
     (length o.code) (length (stmts_out g c ss o).code) ss
 
 -- Statements whose names mean variables of their form, whatever their calls mean
-abbrev pub NamesFit : Prog → Scope → Stmts → Type 0
+abbrev pub NamesFit : Program → Scope → Stmts → Type 0
 NamesFit g c ss = SoundAll g (λ t. Unit {0}) c ss
 
 -- What is made of them has as many instructions as the text says.
 abbrev pub MadeHasItsLength : Type 0
-MadeHasItsLength = (g : Prog) (c : Scope) (ss : Stmts) (o : Out) → NamesFit g c ss
+MadeHasItsLength = (g : Program) (c : Scope) (ss : Stmts) (o : Out) → NamesFit g c ss
     → length (stmts_out g c ss o).code ≡ length o.code + stmts_length g (names_of g c) ss
 
 -- The segments that are made of a part are those of the text: each line as long as it can be.
 abbrev pub MadeHasItsSegments : Type 0
-MadeHasItsSegments = (g : Prog) (c : Scope) (ss : Stmts) (o : Out) → NamesFit g c ss
+MadeHasItsSegments = (g : Program) (c : Scope) (ss : Stmts) (o : Out) → NamesFit g c ss
     → StmtsFit g c false o.word ss → ((t : Text) → number_of g t ≤ 65535)
     → length o.code + stmts_length g (names_of g c) ss ≤ 4294967295
     → views (closed (stmts_out g c ss (begun o))) ≡ stmts_segs g c ss Nil

@@ -4,7 +4,7 @@ use Rattle.std.proofs.Common.{sym, ap, subst, ◌∙◌, arith}
 use Rattle.std.proofs.lemmas.Bool.{le-leb, lt-ltb, and_from}
 use Rattle.std.proofs.lemmas.List.Elements.{All-head, All-tail}
 use Rattle.base.specs.Words.{is_word}
-use Rattle.syntax_tree.specs.Plain.{Name, Scalar, int, boolean, subrange, Kind, scalar, array as array_of, Prog}
+use Rattle.syntax_tree.specs.Plain.{Name, Scalar, int, boolean, subrange, Kind, scalar, array as array_of, Program}
 use Rattle.source_semantics.specs.Names.{constant_value}
 use Rattle.source_semantics.specs.Store.{range_of, kind_range, up_to}
 use Rattle.source_semantics.specs.Run.{or_else as either}
@@ -40,16 +40,16 @@ array_lies x k n low from some few to last =
 
 -- ---- variables
 
-pub scalar_order : (g : Prog) (s : Scalar) → ScalarFits g s → InOrder (range_of g s)
+pub scalar_order : (g : Program) (s : Scalar) → ScalarFits g s → InOrder (range_of g s)
 scalar_order g int h = tt
 scalar_order g boolean h = tt
 scalar_order g (subrange low high) h = h.order
 
-kind_order : (g : Prog) (k : Kind) → KindFits g k → InOrder (kind_range g k)
+kind_order : (g : Program) (k : Kind) → KindFits g k → InOrder (kind_range g k)
 kind_order g (scalar s) h = scalar_order g s h
 kind_order g (array_of low high s) h = scalar_order g s h.2
 
-kind_lies : (g : Prog) (x : Area) (b : ℕ) (k : Kind) → KindFits g k → x.base ≤ b → b + size_of (shape_of g k) ≤ x.base + x.words → ShapeLies x b (shape_of g k)
+kind_lies : (g : Program) (x : Area) (b : ℕ) (k : Kind) → KindFits g k → x.base ≤ b → b + size_of (shape_of g k) ≤ x.base + x.words → ShapeLies x b (shape_of g k)
 kind_lies g x b (scalar s) h from to = word_inside x b from (omega (arith, to))
 kind_lies g x b (array_of low high s) h from to =
     let v : Span (constant_value g low) (constant_value g high) 65536 = span (constant_value g low) (constant_value g high) 65536 h.0.order h.1 in
@@ -87,7 +87,7 @@ named_lies m w a n (p ∷ ps) h = by (bytes_eq p.name n) (named_lies m w a n ps 
     by false k = k
 
 -- a variable of the frame, else one beside it
-pub spot_lies : (g : Prog) (m : Image) (w : Whose) (c : Scope) (n : Name) → AllLie (area_of m w in_frame) c.own → SpotLies m w (outer_spot g c.owner n) → SpotLies m w (spot_of g c n)
+pub spot_lies : (g : Program) (m : Image) (w : Whose) (c : Scope) (n : Name) → AllLie (area_of m w in_frame) c.own → SpotLies m w (outer_spot g c.owner n) → SpotLies m w (spot_of g c n)
 spot_lies g m w c n own outer = by (in_area in_frame (place_named n c.own)) (named_lies m w in_frame n c.own own)
   where
     by : (o : Option Spot) → SpotLies m w o → SpotLies m w (either o (outer_spot g c.owner n))

@@ -3,7 +3,7 @@ use Rattle.std.specs.Prelude.{◌≡◌, ◌<◌, ◌⊎◌, ◌&&◌, ◌||◌,
 use Rattle.std.proofs.Common.{inl, inr, refl, sym, ap, subst, ◌∙◌}
 use Rattle.std.proofs.lemmas.Bool.{eq-eqb, eqb-true, lt-ltb, or_right, and_from}
 use Rattle.std.proofs.lemmas.Option.{none-some, same_Some}
-use Rattle.syntax_tree.specs.Plain.{Name, Routine, Monitor, Process, Prog}
+use Rattle.syntax_tree.specs.Plain.{Name, Routine, Monitor, Process, Program}
 use Rattle.source_semantics.specs.Names.{named, routines, monitors, processes, monitor_number}
 use Rattle.source_semantics.specs.Run.{or_else}
 use Rattle.machine_semantics.specs.Image as image
@@ -54,7 +54,7 @@ inside_ok m w n h = by (nat_eq w.kind 2) refl
     by true e = ap (λ c. not c) (h (eqb-true w.kind 2 e))
     by false e = refl
 
-module _ (g : Prog) where
+module _ (g : Program) where
   entry_owner : (mon en : Name) (u : Text) → entry_in g mon en ≡ Some u → u.owner ≡ by_monitor (monitor_number g mon)
   entry_owner mon en u e = by (named (λ k. k.name) mon (monitors g)) e
     where
@@ -77,7 +77,7 @@ module _ (g : Prog) where
   open_called w (by_process k) (calls_entry mon en) u mine e = subst (λ y. OpenTo w y) (sym (entry_owner mon en u e)) tt
   open_called w (by_monitor j) (calls_entry mon en) u mine e = subst (λ y. OpenTo w y) (sym (entry_owner mon en u e)) tt
 
-module _ (g : Prog) (m : image.Image) (form : IsWellFormed g) (names : NamesApart g) (is : IsCodeOf g m) where
+module _ (g : Program) (m : image.Image) (form : IsWellFormed g) (names : NamesApart g) (is : IsCodeOf g m) where
   -- where a call's routine has a lower number, and nothing bound is reached from an entry, it may be called
   pub called_ok : (w : Whose) (o : Owner) (c : Called) (u : Text) → called_text g o c ≡ Some u → IsMine w o → number_of g u < w.number → (w.kind ≡ 2 → bound_at (reach m) (number_of g u) ≡ false) → MayCall g m w u
   called_ok w o c u e mine low free =
@@ -105,7 +105,7 @@ IsShared by_program = Unit {0}
 IsShared (by_process k) = ⊥
 IsShared (by_monitor j) = Unit {0}
 
-shared_owner : (g : Prog) (o : Owner) (f : Name) (u : Text) → IsShared o → routine_in g o f ≡ Some u → u.owner ≡ by_program
+shared_owner : (g : Program) (o : Owner) (f : Name) (u : Text) → IsShared o → routine_in g o f ≡ Some u → u.owner ≡ by_program
 shared_owner g by_program f u h e = program_owner g f u e
 shared_owner g (by_process k) f u h e = absurd h
 shared_owner g (by_monitor j) f u h e = program_owner g f u e
@@ -116,7 +116,7 @@ not_both b f t = cc
 answers_is : (r : Routine) → IsSome r.answers → is_some r.answers ≡ true
 answers_is r h = h
 
-module _ (g : Prog) (form : IsWellFormed g) (names : NamesApart g) where
+module _ (g : Program) (form : IsWellFormed g) (names : NamesApart g) where
   -- where a text may call nothing else, it calls functions of the program
   pub calls_functions : (o : Owner) (r : Routine) → IsText g (record { owner = o; routine = r }) → IsShared o → ((p : Process) → calls_more (in_routine g p (home_of o) r) ≡ false)
       → (u : Text) → CallsText g (record { owner = o; routine = r }) u → IsFunction u

@@ -2,7 +2,7 @@
 use Rattle.std.specs.Prelude.{◌≡◌, ℕ, length, Option, Some, slice_get}
 use Rattle.std.proofs.Common.{inl, inr, sym, subst, ◌∙◌, arith}
 use Rattle.std.proofs.lemmas.Option.{slice_get_within}
-use Rattle.syntax_tree.specs.Plain.{Process, Prog}
+use Rattle.syntax_tree.specs.Plain.{Process, Program}
 use Rattle.source_semantics.specs.Names.{processes}
 use Rattle.machine_isa.specs.declared.instr.Instr.{Instr}
 use Rattle.machine_semantics.specs.Image as image
@@ -52,7 +52,7 @@ lies_in_process g m is k t ip at made a lt mine = by (lies g m is (piece_number 
 
 -- ---- any property
 
-module _ (P : Instr → Type 0) (g : Prog) (m : image.Image) (is : IsCodeOf g m) where
+module _ (P : Instr → Type 0) (g : Program) (m : image.Image) (is : IsCodeOf g m) where
   pub routine_piece_keeps : (r : ℕ) (t : Text) → slice_get (numbered g) r ≡ Some t → RoutineHas P g t → PieceKeeps m P r
   routine_piece_keeps r t at has a j mine there =
       let l : LiesInRoutine g m.code t a = lies_in_routine g m is r t at a (slice_get_within m.code a j there) mine in

@@ -2,7 +2,7 @@
 use Rattle.std.specs.Prelude.{◌≡◌, ◌+◌, ℕ, suc, List, [], ◌∷◌, length, Option, Some, None, pos, slice_get}
 use Rattle.std.proofs.Common.{inl, inr, sym, ap, subst, ◌∙◌, arith}
 use Rattle.std.proofs.lemmas.Bool.{cases_lt}
-use Rattle.syntax_tree.specs.Plain.{Stmt, assign, assign_entry, assign_empty, perform, perform_entry, when, when_else, loop, exit_when, get, put, wait, signal, broadcast, except, assert, Stmts, no_stmts, stmts, Answers, Handler, Process, Prog}
+use Rattle.syntax_tree.specs.Plain.{Stmt, assign, assign_entry, assign_empty, perform, perform_entry, when, when_else, loop, exit_when, get, put, wait, signal, broadcast, except, assert, Stmts, no_stmts, stmts, Answers, Handler, Process, Program}
 use Rattle.source_semantics.specs.Names.{constant_value}
 use Rattle.machine_isa.specs.declared.instr.Instr.{Instr}
 use Rattle.machine_isa.specs.declared.instr.Instr.TheVariants as i
@@ -40,7 +40,7 @@ module _ (code : List Instr) (P : Instr → Type 0) where
 
   -- ---- statements
 
-  module _ (g : Prog) (branches : EachBranch P) where
+  module _ (g : Program) (branches : EachBranch P) where
     mutual
       stmt_keeps : (s : Stmt) (c : Scope) (w p q : ℕ) → Emits g code c w p q s → StmtHas P g c w s → Keeps code P p q
       stmt_keeps (assign r e) c w p q m h = keep_line p q _ m h
@@ -85,7 +85,7 @@ module _ (code : List Instr) (P : Instr → Type 0) where
 
   -- ---- routines and processes
 
-  module _ (g : Prog) where
+  module _ (g : Program) where
     answer_keeps : (a : Answers) (c : Scope) (p q : ℕ) → EmitsAnswer g code c p q a → AnswerHas P g c a → Keeps code P p q
     answer_keeps a c p q m h = keep_both p m.0 q (keep_line p m.0 _ m.1 h.0) (keep_line m.0 q _ m.2 h.1)
 

@@ -3,7 +3,7 @@ use Rattle.std.specs.Prelude.{◌≡◌, ◌||◌, ℕ, Bool, true, false, ℤ, 
 use Rattle.std.proofs.Common.{refl, sym, subst}
 use Rattle.std.proofs.lemmas.List.Elements.{All-head, All-tail}
 use Rattle.base.specs.Words.{within}
-use Rattle.syntax_tree.specs.Plain.{Name, Param, Op, or, and, equal, unequal, less, less_equal, greater, greater_equal, add, sub, mul, div, remainder, Expr, literal, truth, variable, element, call, minus, negation, paren, row, Exprs, no_exprs, exprs, Operands, no_operands, operand, Ref, whole, part, Prog}
+use Rattle.syntax_tree.specs.Plain.{Name, Param, Op, or, and, equal, unequal, less, less_equal, greater, greater_equal, add, sub, mul, div, remainder, Expr, literal, truth, variable, element, call, minus, negation, paren, row, Exprs, no_exprs, exprs, Operands, no_operands, operand, Ref, whole, part, Program}
 use Rattle.source_semantics.specs.Names.{as_count}
 use Rattle.source_semantics.specs.Store.{Range, range_of}
 use Rattle.machine_isa.specs.declared.instr.Instr.{Instr}
@@ -123,7 +123,7 @@ module _ (m : Image) (w : Whose) where
 
   -- ---- expressions
 
-  module _ (g : Prog) where
+  module _ (g : Program) where
     -- the variables in reach lie in their areas
     pub record Reaches (c : Scope) : Type 0 where
       pub own : AllLie (area_of m w in_frame) c.own

@@ -3,7 +3,7 @@ use Rattle.std.specs.Prelude.{◌≡◌, ◌+◌, ◌++◌, ◌≤◌, ◌<◌, 
 use Rattle.std.proofs.Common.{inl, inr, refl, sym, ap, subst, ◌∙◌, arith}
 use Rattle.std.proofs.lemmas.Bool.{cases_lt, le-leb, lt-leb, eqb-true}
 use Rattle.std.proofs.lemmas.List.{length-map}
-use Rattle.syntax_tree.specs.Plain.{Stmt, assign, assign_entry, assign_empty, perform, perform_entry, when, when_else, loop, exit_when, get, put, wait, signal, broadcast, except, assert, Stmts, no_stmts, stmts, Answers, Handler, Process, Prog}
+use Rattle.syntax_tree.specs.Plain.{Stmt, assign, assign_entry, assign_empty, perform, perform_entry, when, when_else, loop, exit_when, get, put, wait, signal, broadcast, except, assert, Stmts, no_stmts, stmts, Answers, Handler, Process, Program}
 use Rattle.source_semantics.specs.Names.{processes}
 use Rattle.machine_isa.specs.declared.instr.Instr.{Instr}
 use Rattle.machine_semantics.specs.Image as image
@@ -15,7 +15,7 @@ use Rattle.code_spec.specs.Compiled.{routine_scope, process_scope, enter_code, E
 
 -- ---- code goes forward
 
-module _ (g : Prog) (code : List Instr) where
+module _ (g : Program) (code : List Instr) where
   line_on : (p q : ℕ) (js : List Instr) → IsLine code p q js → p ≤ q
   line_on p q js l = omega (arith, l.end)
 
@@ -126,12 +126,12 @@ module _ (R : ℕ → ℕ → ℕ → Type 0) where
 
 -- ---- the pieces of an image
 
-pub record OfRoutine (g : Prog) (code : List Instr) (k p q : ℕ) : Type 0 where
+pub record OfRoutine (g : Program) (code : List Instr) (k p q : ℕ) : Type 0 where
   pub text : Text
   pub there : slice_get (numbered g) k ≡ Some text
   pub emits : EmitsRoutine g code text p q
 
-pub record OfProcess (g : Prog) (m : image.Image) (k p q : ℕ) : Type 0 where
+pub record OfProcess (g : Program) (m : image.Image) (k p q : ℕ) : Type 0 where
   pub number : ℕ
   pub is : k ≡ piece_number m number
   pub text : Process
@@ -140,10 +140,10 @@ pub record OfProcess (g : Prog) (m : image.Image) (k p q : ℕ) : Type 0 where
   pub in_image : slice_get m.processes number ≡ Some made
   pub emits : EmitsProcess g m.code number text p q made
 
-abbrev pub OfText : Prog → image.Image → (k p q : ℕ) → Type 0
+abbrev pub OfText : Program → image.Image → (k p q : ℕ) → Type 0
 OfText g m k p q = OfRoutine g m.code k p q ⊎ OfProcess g m k p q
 
-module _ (R : ℕ → ℕ → ℕ → Type 0) (g : Prog) (code : List Instr) where
+module _ (R : ℕ → ℕ → ℕ → Type 0) (g : Program) (code : List Instr) where
   routines_chain : (k p q : ℕ) (ts : List Text) (rs : List image.Routine) → EmitsRoutines g code p q ts rs
       → ((r : ℕ) (t : Text) (a b : ℕ) → slice_get ts r ≡ Some t → EmitsRoutine g code t a b → R (k + r) a b) → Chain R k p (map piece_of_routine rs) q
   routines_chain k p q [] [] h f = h
@@ -176,7 +176,7 @@ module _ (R : ℕ → ℕ → ℕ → Type 0) (g : Prog) (code : List Instr) whe
             subst (λ v. R v a b) e (f (suc r) t x a b there made (subst (λ j. EmitsProcess g code j t a b x) d emits))),
       )
 
-pub routines_counted : (g : Prog) (code : List Instr) (p q : ℕ) (ts : List Text) (rs : List image.Routine) → EmitsRoutines g code p q ts rs → length rs ≡ length ts
+pub routines_counted : (g : Program) (code : List Instr) (p q : ℕ) (ts : List Text) (rs : List image.Routine) → EmitsRoutines g code p q ts rs → length rs ≡ length ts
 routines_counted g code p q [] [] h = refl
 routines_counted g code p q [] (y ∷ ys) h = absurd h
 routines_counted g code p q (u ∷ us) [] h = absurd h
@@ -186,7 +186,7 @@ owner_is : (k : ℕ) (x : Option Owner) → is_owner k x ≡ true → (o : Owner
 owner_is k None h = absurd cc
 owner_is k (Some o) h = (o, refl, eqb-true o.number k h)
 
-module _ (g : Prog) (m : image.Image) (is : IsCodeOf g m) where
+module _ (g : Program) (m : image.Image) (is : IsCodeOf g m) where
   all_chain : Chain (OfText g m) 0 0 (pieces m) (length m.code)
   all_chain =
       chain_joined (OfText g m) 0 0 is.between (length m.code) (length m.routines) (map piece_of_routine m.routines) (map piece_of_process m.processes) (omega (arith, length-map m.routines piece_of_routine))

@@ -4,7 +4,7 @@ use Rattle.std.proofs.Common.{refl, sym, ap, subst, ◌∙◌, arith}
 use Rattle.std.proofs.lemmas.Bool.{eq-eqb, and_from}
 use Rattle.base.proofs.Lists.{one_of}
 use Rattle.base.proofs.Members.{none_in}
-use Rattle.syntax_tree.specs.Plain.{Name, Monitor, Process, device, Prog}
+use Rattle.syntax_tree.specs.Plain.{Name, Monitor, Process, device, Program}
 use Rattle.source_semantics.specs.Names.{monitors, processes, device_number, conditions_of, condition_number}
 use Rattle.machine_isa.specs.declared.instr.Instr.{Instr}
 use Rattle.machine_semantics.specs.Image as image
@@ -24,13 +24,13 @@ use Rattle.codegen_operands.specs.Fine.{Stands}
 use Rattle.code_names_law.proofs.Owners.{process_fits}
 
 -- a process of the text has its process in the image
-pub record Made (g : Prog) (m : image.Image) (k : ℕ) (t : Process) : Type 0 where
+pub record Made (g : Program) (m : image.Image) (k : ℕ) (t : Process) : Type 0 where
   pub process : image.Process
   pub there : slice_get m.processes k ≡ Some process
   pub next : ℕ
   pub emits : EmitsProcess g m.code k t process.start next process
 
-made_at : (g : Prog) (code : List Instr) (n p q : ℕ) (ts : List Process) (rs : List image.Process) (k : ℕ) (t : Process) → EmitsProcesses g code n p q ts rs → slice_get ts k ≡ Some t
+made_at : (g : Program) (code : List Instr) (n p q : ℕ) (ts : List Process) (rs : List image.Process) (k : ℕ) (t : Process) → EmitsProcesses g code n p q ts rs → slice_get ts k ≡ Some t
     → (x : image.Process) × (next : ℕ) × (slice_get rs k ≡ Some x) × EmitsProcess g code (n + k) t x.start next x
 made_at g code n p q [] rs k t h at = absurd cc
 made_at g code n p q (u ∷ us) [] k t h at = absurd h
@@ -43,13 +43,13 @@ made_at g code n p q (u ∷ us) (y ∷ ys) (suc k) t h at =
     let further : suc n + k ≡ n + suc k = omega arith in
     (b.0, b.1, b.2, subst (λ j. EmitsProcess g code j t b.0.start b.1 b.0) further b.3)
 
-pub made : (g : Prog) (m : image.Image) → IsCodeOf g m → (k : ℕ) (t : Process) → slice_get (processes g) k ≡ Some t → Made g m k t
+pub made : (g : Program) (m : image.Image) → IsCodeOf g m → (k : ℕ) (t : Process) → slice_get (processes g) k ≡ Some t → Made g m k t
 made g m is k t at =
     let b = made_at g m.code 0 is.between (length m.code) (processes g) m.processes k t is.process_code at in
     let flat : 0 + k ≡ k = omega arith in
     record { process = b.0; there = b.2; next = b.1; emits = subst (λ j. EmitsProcess g m.code j t b.0.start b.1 b.0) flat b.3 }
 
-text_from : (g : Prog) (code : List Instr) (n p q : ℕ) (ts : List Process) (rs : List image.Process) (k : ℕ) (x : image.Process) → EmitsProcesses g code n p q ts rs → slice_get rs k ≡ Some x → (t : Process) × (slice_get ts k ≡ Some t)
+text_from : (g : Program) (code : List Instr) (n p q : ℕ) (ts : List Process) (rs : List image.Process) (k : ℕ) (x : image.Process) → EmitsProcesses g code n p q ts rs → slice_get rs k ≡ Some x → (t : Process) × (slice_get ts k ≡ Some t)
 text_from g code n p q [] [] k x h at = absurd cc
 text_from g code n p q [] (y ∷ ys) k x h at = absurd h
 text_from g code n p q (u ∷ us) [] k x h at = absurd h
@@ -57,10 +57,10 @@ text_from g code n p q (u ∷ us) (y ∷ ys) zero x h at = (u, refl)
 text_from g code n p q (u ∷ us) (y ∷ ys) (suc k) x h at = text_from g code (suc n) h.0 q us ys k x h.2 at
 
 -- and the other way
-pub text_there : (g : Prog) (m : image.Image) → IsCodeOf g m → (k : ℕ) (x : image.Process) → slice_get m.processes k ≡ Some x → (t : Process) × (slice_get (processes g) k ≡ Some t)
+pub text_there : (g : Program) (m : image.Image) → IsCodeOf g m → (k : ℕ) (x : image.Process) → slice_get m.processes k ≡ Some x → (t : Process) × (slice_get (processes g) k ≡ Some t)
 text_there g m is k x at = text_from g m.code 0 is.between (length m.code) (processes g) m.processes k x is.process_code at
 
-module _ (g : Prog) (m : image.Image) (form : IsWellFormed g) (names : NamesApart g) (one : DevicesGoOneWay g) (is : IsCodeOf g m) where
+module _ (g : Program) (m : image.Image) (form : IsWellFormed g) (names : NamesApart g) (one : DevicesGoOneWay g) (is : IsCodeOf g m) where
   goes_so : (out : Bool) → goes out (Some out) ≡ true
   goes_so true = refl
   goes_so false = refl

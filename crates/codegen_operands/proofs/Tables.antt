@@ -3,7 +3,7 @@ use Rattle.std.specs.Prelude.{◌≡◌, ◌+◌, ◌<◌, ℕ, zero, suc, Bool,
 use Rattle.std.proofs.Common.{refl, ap, subst, arith}
 use Rattle.std.proofs.lemmas.Slice.Eq.{bytes_eq-Decides}
 use Rattle.std.proofs.lemmas.Option.{same_Some}
-use Rattle.syntax_tree.specs.Plain.{Name, Decl, constant, device, event, routine, monitor, process}
+use Rattle.syntax_tree.specs.Plain.{Name, Declaration, constant, device, event, routine, monitor, process}
 use Rattle.source_semantics.specs.Names.{place_of, device_in}
 use Rattle.code_spec.specs.Layout.{words_of, monitor_vars}
 use Rattle.code_spec.specs.Compiled.{device_direction}
@@ -18,13 +18,13 @@ monitors_have_words g b (m ∷ ms) (x ∷ xs) (suc j) d h at = monitors_have_wor
 
 -- ---- devices
 
-abbrev AllGo : Name → Bool → List Decl → Type 0
+abbrev AllGo : Name → Bool → List Declaration → Type 0
 AllGo d out ds = (a : Bool) → Contains ds (device d a) → a ≡ out
 
-go_on : (d : Name) (out : Bool) (x : Decl) (ds : List Decl) → AllGo d out (x ∷ ds) → AllGo d out ds
+go_on : (d : Name) (out : Bool) (x : Declaration) (ds : List Declaration) → AllGo d out (x ∷ ds) → AllGo d out ds
 go_on d out x ds h a i = h a (suc i.0, let k = i.1 in omega arith, i.2)
 
-there_on : (x y : Decl) (ds : List Decl) → (x ≡ y → ⊥) → Contains (x ∷ ds) y → Contains ds y
+there_on : (x y : Declaration) (ds : List Declaration) → (x ≡ y → ⊥) → Contains (x ∷ ds) y → Contains ds y
 there_on x y ds differs i = at i.0 i.1 i.2
   where
     at : (k : ℕ) → k < length (x ∷ ds) → slice_index_or (x ∷ ds) k y ≡ y → Contains ds y
@@ -34,7 +34,7 @@ there_on x y ds differs i = at i.0 i.1 i.2
 differs : (n : Name) (a : Bool) (d : Name) (out : Bool) → bytes_eq n d ≡ false → device n a ≡ device d out → ⊥
 differs n a d out e is = let same : n ≡ d = cc in let t : bytes_eq n d ≡ true = (bytes_eq-Decides n d).1 same in cc
 
-stands : (d : Name) (out : Bool) (ds : List Decl) → AllGo d out ds → Contains ds (device d out) → slice_get (filter_map device_direction ds) (place_of d (filter_map device_in ds)) ≡ Some out
+stands : (d : Name) (out : Bool) (ds : List Declaration) → AllGo d out ds → Contains ds (device d out) → slice_get (filter_map device_direction ds) (place_of d (filter_map device_in ds)) ≡ Some out
 stands d out [] all i = let low : i.0 < 0 = i.1 in absurd (omega arith)
 stands d out (device n a ∷ ds) all i = by (bytes_eq n d) refl (λ e. stands d out ds (go_on d out (device n a) ds all) (there_on (device n a) (device d out) ds (λ is. differs n a d out e is) i))
   where

@@ -2,7 +2,7 @@
 use Rattle.std.specs.Prelude.{◌≡◌, ◌≤◌, ◌<◌, ◌+◌, ℕ, suc, true, false, pos, List, [], ◌∷◌, ◌++◌, Option, Some, None, All, Contains}
 use Rattle.std.proofs.Common.{refl, arith}
 use Rattle.base.proofs.Members.{none_in}
-use Rattle.syntax_tree.specs.Plain.{Name, Var, Stmt, assign, assign_entry, assign_empty, perform, perform_entry, when, when_else, loop, exit_when, get, put, wait, signal, broadcast, except, assert, Stmts, no_stmts, stmts, Answers, Routine, Handler, Process, Prog}
+use Rattle.syntax_tree.specs.Plain.{Name, Var, Stmt, assign, assign_entry, assign_empty, perform, perform_entry, when, when_else, loop, exit_when, get, put, wait, signal, broadcast, except, assert, Stmts, no_stmts, stmts, Answers, Routine, Handler, Process, Program}
 use Rattle.source_semantics.specs.Names.{constant_value, count_value, device_number}
 use Rattle.source_semantics.specs.Store.{range_of}
 use Rattle.machine_isa.specs.declared.instr.Instr.{Instr}
@@ -26,10 +26,10 @@ use Rattle.codegen_operands.specs.Texts.{RoutinesAreFine, ProcessesAreFine}
 use Rattle.codegen_operands.proofs.Lines.{all_both, number_between, range_fine, wait_fine, raise_fine, Reaches, call_fine, expr_fine, args_fine, index_fine, store_code_fine, put_fine}
 
 -- where a text stands, by the rules
-abbrev here_at : Prog → Process → Scope → List Name → List Var → Here
+abbrev here_at : Program → Process → Scope → List Name → List Var → Here
 here_at g p c turns vars = record { program = g; process = p; home = home_of c.owner; is_function = c.is_function; turns = turns; own = vars }
 
-module _ (g : Prog) (m : Image) (w : Whose) (p : Process) where
+module _ (g : Program) (m : Image) (w : Whose) (p : Process) where
   abbrev Fine : Instr → Type 0
   Fine = IsFine m w
 

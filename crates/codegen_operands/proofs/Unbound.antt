@@ -4,7 +4,7 @@ use Rattle.std.proofs.Common.{refl, sym, ap, subst, ◌∙◌, arith}
 use Rattle.std.proofs.lemmas.Bool.{ltb-true, not-true}
 use Rattle.std.proofs.lemmas.Option.{slice_get_within}
 use Rattle.base.proofs.Lists.{take_get}
-use Rattle.syntax_tree.specs.Plain.{Process, Prog}
+use Rattle.syntax_tree.specs.Plain.{Process, Program}
 use Rattle.machine_isa.specs.declared.instr.Instr.{Instr}
 use Rattle.machine_isa.specs.declared.instr.Instr.TheVariants as i
 use Rattle.machine_semantics.specs.Image as image
@@ -99,7 +99,7 @@ module _ (m : image.Image) (r locals : ℕ) where
       ∙ (ap (λ n. not (nat_eq n 0) || some_of (bound_at rows) (called m (length rows))) kind
       ∙ (ap (λ n. some_of (bound_at rows) (called m n)) long ∙ from_unbound r (length m.code) 0 keeps))
 
-module _ (g : Prog) (m : image.Image) (form : IsWellFormed g) (names : NamesApart g) (one : DevicesGoOneWay g) (is : IsCodeOf g m) where
+module _ (g : Program) (m : image.Image) (form : IsWellFormed g) (names : NamesApart g) (one : DevicesGoOneWay g) (is : IsCodeOf g m) where
   no_process : (w : Whose) (u : Text) → u.owner ≡ by_program → IsMine w u.owner
   no_process w u e k h = absurd (differs k (sym e ∙ h))
     where

@@ -1,7 +1,7 @@
 -- No operand of the image is out of range.
 use Rattle.std.specs.Prelude.{◌≡◌, ◌≤◌, ◌<◌, ℕ, Bool, true, false, cond, length, Option, Some, None, slice_get}
 use Rattle.std.proofs.Common.{refl, sym, ap, subst, ◌∙◌, arith}
-use Rattle.syntax_tree.specs.Plain.{Routine, Process, Handler, Prog}
+use Rattle.syntax_tree.specs.Plain.{Routine, Process, Handler, Program}
 use Rattle.source_semantics.specs.Names.{processes}
 use Rattle.machine_isa.specs.declared.instr.Instr.{Instr}
 use Rattle.machine_semantics.specs.Image as image
@@ -54,7 +54,7 @@ room a b e = omega (arith, e)
 owned_kind : (w : Whose) (o : Owner) → w.kind ≡ kind_number o → w.owner ≡ owner_number o → IsMine w o
 owned_kind w o kind owner k e = (kind ∙ ap (λ y. kind_number y) e, owner ∙ ap (λ y. owner_number y) e)
 
-module _ (g : Prog) (m : image.Image) (form : IsWellFormed g) (names : NamesApart g) (one : DevicesGoOneWay g) (is : IsCodeOf g m) where
+module _ (g : Program) (m : image.Image) (form : IsWellFormed g) (names : NamesApart g) (one : DevicesGoOneWay g) (is : IsCodeOf g m) where
   -- ---- routines
 
   text_stood : (w : Whose) (o : Owner) (r : Routine) → Listed g r o → w.kind ≡ kind_number o → w.owner ≡ owner_number o → Stands g m w o

@@ -1,6 +1,6 @@
 -- What it takes that each instruction of the code of a text has a property: by cases over the text.
 use Rattle.std.specs.Prelude.{◌+◌, ℕ, suc, List, [], ◌∷◌, ◌++◌, Option, Some, None, pos}
-use Rattle.syntax_tree.specs.Plain.{Stmt, assign, assign_entry, assign_empty, perform, perform_entry, when, when_else, loop, exit_when, get, put, wait, signal, broadcast, except, assert, Stmts, no_stmts, stmts, Answers, Handler, Process, Prog}
+use Rattle.syntax_tree.specs.Plain.{Stmt, assign, assign_entry, assign_empty, perform, perform_entry, when, when_else, loop, exit_when, get, put, wait, signal, broadcast, except, assert, Stmts, no_stmts, stmts, Answers, Handler, Process, Program}
 use Rattle.source_semantics.specs.Names.{constant_value, count_value, device_number}
 use Rattle.source_semantics.specs.Store.{range_of}
 use Rattle.machine_isa.specs.declared.instr.Instr.{Instr}
@@ -26,7 +26,7 @@ pub record EachBranch (P : Instr → Type 0) : Type 0 where
 -- each instruction of a statement but its branches; its first loop in the text, if it has one, has
 -- its variable at word w
 abbrev mutual
-  pub StmtHas : (Instr → Type 0) → Prog → Scope → (w : ℕ) → Stmt → Type 0
+  pub StmtHas : (Instr → Type 0) → Program → Scope → (w : ℕ) → Stmt → Type 0
   StmtHas P g c w (assign r e) = AllOf P (index_code g c r ++ (code_of g c e ++ put_code g c r))
   StmtHas P g c w (assign_entry r m e es) =
       AllOf P (index_code g c r ++ (call_code g (entry_in g m e) (λ ps. args_code g c es ps) ++ put_code g c r))
@@ -50,18 +50,18 @@ abbrev mutual
   StmtHas P g c w (except n) = P (i.Raise (pos (count_value g n)))
   StmtHas P g c w (assert e) = AllOf P (code_of g c e) × P (i.Raise (pos 4))
 
-  pub StmtsHave : (Instr → Type 0) → Prog → Scope → (w : ℕ) → Stmts → Type 0
+  pub StmtsHave : (Instr → Type 0) → Program → Scope → (w : ℕ) → Stmts → Type 0
   StmtsHave P g c w no_stmts = Unit {0}
   StmtsHave P g c w (stmts s ss) = StmtHas P g c w s × StmtsHave P g c (w + loops_in s) ss
 
 -- ---- routines
 
 -- what a function answers, with the check of its range
-abbrev pub AnswerHas : (Instr → Type 0) → Prog → Scope → Answers → Type 0
+abbrev pub AnswerHas : (Instr → Type 0) → Program → Scope → Answers → Type 0
 AnswerHas P g c a = AllOf P (code_of g c a.value) × AllOf P (range_code (range_of g a.kind))
 
 -- what ends a routine
-abbrev pub EndHas : (Instr → Type 0) → Prog → Scope → Option Answers → Type 0
+abbrev pub EndHas : (Instr → Type 0) → Program → Scope → Option Answers → Type 0
 EndHas P g c None = P i.Return
 EndHas P g c (Some a) = AnswerHas P g c a × P i.ReturnValue
 
@@ -71,7 +71,7 @@ LeaveHas P (by_process k) = Unit {0}
 LeaveHas P (by_monitor m) = P (i.Leave (pos m))
 
 -- each instruction of a routine
-pub record RoutineHas (P : Instr → Type 0) (g : Prog) (t : Text) : Type 0 where
+pub record RoutineHas (P : Instr → Type 0) (g : Program) (t : Text) : Type 0 where
   pub branches : EachBranch P
   pub enters : AllOf P (enter_code t.owner)
   pub body : StmtsHave P g (routine_scope g t) (routine_vars_words g t.routine) t.routine.body
@@ -80,12 +80,12 @@ pub record RoutineHas (P : Instr → Type 0) (g : Prog) (t : Text) : Type 0 wher
 
 -- ---- processes
 
-abbrev pub HandlerHas : (Instr → Type 0) → Prog → ℕ → Process → Option Handler → Type 0
+abbrev pub HandlerHas : (Instr → Type 0) → Program → ℕ → Process → Option Handler → Type 0
 HandlerHas P g k p None = Unit {0}
 HandlerHas P g k p (Some h) = StmtsHave P g (process_scope g k p) (loops p.body) h.body
 
 -- each instruction of a process, of its body and of its handler
-pub record ProcessHas (P : Instr → Type 0) (g : Prog) (k : ℕ) (p : Process) : Type 0 where
+pub record ProcessHas (P : Instr → Type 0) (g : Program) (k : ℕ) (p : Process) : Type 0 where
   pub branches : EachBranch P
   pub body : StmtsHave P g (process_scope g k p) 0 p.body
   pub handler : HandlerHas P g k p p.handler

@@ -3,7 +3,7 @@ use Rattle.std.specs.Prelude.{◌≡◌, ◌⊎◌, ◌||◌, not, ℕ, zero, su
 use Rattle.std.proofs.Common.{inl, inr, refl, sym, ap, subst, ◌∙◌}
 use Rattle.std.proofs.lemmas.Bool.{false≢true}
 use Rattle.std.proofs.lemmas.Option.{same_Some}
-use Rattle.syntax_tree.specs.Plain.{Name, Answers, Routine, Process, Prog}
+use Rattle.syntax_tree.specs.Plain.{Name, Answers, Routine, Process, Program}
 use Rattle.source_semantics.specs.Names.{monitor_number}
 use Rattle.code_spec.specs.Layout.{Owner, by_program, by_process, by_monitor, home_of}
 use Rattle.code_spec.specs.Numbering.{Text, Called, calls_routine, calls_entry, called_text, stmts_calls, answers_calls, routine_calls, routine_in, entry_in}
@@ -26,7 +26,7 @@ use Rattle.codegen_ranks.proofs.Owners.{Near, Known, named_near, near_entry, ent
 abbrev pub is_closed : Owner → Routine → Bool
 is_closed o r = is_monitor (home_of o) || is_function_at (home_of o) r
 
-known_as : (g : Prog) (k : ℕ) (p : Process) (o : Owner) → OwnerKnown (setting_at g k p) o → Known k o
+known_as : (g : Program) (k : ℕ) (p : Process) (o : Owner) → OwnerKnown (setting_at g k p) o → Known k o
 known_as g k p by_program h = tt
 known_as g k p (by_process i) h = h
 known_as g k p (by_monitor m) h = tt
@@ -35,7 +35,7 @@ known_as g k p (by_monitor m) h = tt
 may_not : (b : Bool) → b ≡ true → not b ≡ true → ⊥
 may_not b e h = false≢true (sym (ap (λ z. not z) e) ∙ h)
 
-module _ (g : Prog) (form : IsWellFormed g) (names : NamesApart g) where
+module _ (g : Program) (form : IsWellFormed g) (names : NamesApart g) where
   -- what it calls is a function
   pub record IsFunction (o : Owner) (u : Text) : Type 0 where
     pub near : Near o u

@@ -2,7 +2,7 @@
 use Rattle.std.specs.Prelude.{◌≡◌, ◌+◌, ◌≤◌, ◌&&◌, ◌||◌, ℕ, zero, suc, Bool, true, false, cond, List, [], ◌∷◌, Option, Some, None, length, map, nat_eq, nat_lt, slice_get, unwrap_or, option_map}
 use Rattle.std.proofs.Common.{refl, sym, ap, subst, ◌∙◌, arith}
 use Rattle.std.proofs.lemmas.List.{length-map}
-use Rattle.syntax_tree.specs.Plain.{Process, Prog}
+use Rattle.syntax_tree.specs.Plain.{Process, Program}
 use Rattle.sched_response.specs.Counts.{count_below}
 use Rattle.source_semantics.specs.Names.{processes, deadline_of}
 use Rattle.source_semantics.specs.Ranks.{deadlines, higher, rank}
@@ -44,7 +44,7 @@ higher_most k deadline b (f ∷ ds) =
     worth true = omega arith
     worth false = omega arith
 
-pub rank_most : (g : Prog) (k : ℕ) → rank g k ≤ suc (length (processes g))
+pub rank_most : (g : Program) (k : ℕ) → rank g k ≤ suc (length (processes g))
 rank_most g k =
     let most : higher k (unwrap_or (slice_get (deadlines g) k) 0) 0 (deadlines g) ≤ length (deadlines g) = higher_most k (unwrap_or (slice_get (deadlines g) k) 0) 0 (deadlines g) in
     let many : length (deadlines g) ≡ length (processes g) = length-map (processes g) (λ (p : Process). deadline_of g p.activation) in
@@ -52,7 +52,7 @@ rank_most g k =
 
 -- ---- the deadlines of an image
 
-deadlines_same : (g : Prog) (code : List Instr) (k p q : ℕ) (ts : List Process) (ips : List image.Process) (i : ℕ) → EmitsProcesses g code k p q ts ips
+deadlines_same : (g : Program) (code : List Instr) (k p q : ℕ) (ts : List Process) (ips : List image.Process) (i : ℕ) → EmitsProcesses g code k p q ts ips
     → slice_get (map (λ (t : Process). deadline_of g t.activation) ts) i ≡ option_map (λ x. x.deadline) (slice_get ips i)
 deadlines_same g code k p q [] [] i h = refl
 deadlines_same g code k p q [] (y ∷ ys) i h = absurd h
@@ -64,7 +64,7 @@ there_same : (o : Option image.Process) → deadline_there o ≡ unwrap_or (opti
 there_same None = refl
 there_same (Some x) = refl
 
-module _ (g : Prog) (m : image.Image) (is : IsCodeOf g m) where
+module _ (g : Program) (m : image.Image) (is : IsCodeOf g m) where
   deadline_same : (i : ℕ) → deadline_at m i ≡ unwrap_or (slice_get (deadlines g) i) 0
   deadline_same i =
       there_same (slice_get m.processes i)

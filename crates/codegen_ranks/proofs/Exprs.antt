@@ -1,7 +1,7 @@
 -- What the code of expressions calls.
 use Rattle.std.specs.Prelude.{◌≡◌, ◌||◌, ◌++◌, ℕ, Bool, false, List, [], ◌∷◌, Option, Some, None, ℤ, pos}
 use Rattle.std.proofs.Common.{refl, sym, ap, subst, ◌∙◌}
-use Rattle.syntax_tree.specs.Plain.{Name, Param, Op, or, and, equal, unequal, less, less_equal, greater, greater_equal, add, sub, mul, div, remainder, Expr, literal, truth, variable, element, call, minus, negation, paren, row, Exprs, no_exprs, exprs, Operands, no_operands, operand, Ref, whole, part, Prog}
+use Rattle.syntax_tree.specs.Plain.{Name, Param, Op, or, and, equal, unequal, less, less_equal, greater, greater_equal, add, sub, mul, div, remainder, Expr, literal, truth, variable, element, call, minus, negation, paren, row, Exprs, no_exprs, exprs, Operands, no_operands, operand, Ref, whole, part, Program}
 use Rattle.source_semantics.specs.Store.{Range, range_of}
 use Rattle.machine_isa.specs.declared.instr.Instr.{Instr}
 use Rattle.machine_isa.specs.declared.instr.Instr.TheVariants as i
@@ -73,17 +73,17 @@ module _ (test : ℕ → Bool) where
   element_store_calls None = refl
   element_store_calls (Some s) = shape_store_calls s.area s.place.word s.place.shape
 
-  pub store_calls : (g : Prog) (c : Scope) (r : Ref) → some_in test (store_code g c r) ≡ false
+  pub store_calls : (g : Program) (c : Scope) (r : Ref) → some_in test (store_code g c r) ≡ false
   store_calls g c (whole x) = spot_store_calls (spot_of g c x)
   store_calls g c (part x e) = element_store_calls (spot_of g c x)
 
-  pub put_calls : (g : Prog) (c : Scope) (r : Ref) → some_in test (put_code g c r) ≡ false
+  pub put_calls : (g : Program) (c : Scope) (r : Ref) → some_in test (put_code g c r) ≡ false
   put_calls g c r =
       in_front test (range_code (range_of_spot (spot_of g c (ref_name r)))) (store_code g c r) false (range_calls (range_of_spot (spot_of g c (ref_name r)))) (store_calls g c r)
 
 -- ---- expressions
 
-module _ (g : Prog) (test : ℕ → Bool) (may : Text → Type 0) (c : Scope) where
+module _ (g : Program) (test : ℕ → Bool) (may : Text → Type 0) (c : Scope) where
   -- one of the calls passes
   abbrev pub Calls : List Called → Bool
   Calls cs = some_called (by_number g test) (called_text g c.owner) cs

@@ -2,7 +2,7 @@
 use Rattle.std.specs.Prelude.{◌≡◌, ◌+◌, ◌<◌, ◌≤◌, ℕ, zero, suc, Bool, true, false, cond, min, List, [], ◌∷◌, Option, Some, None, length, slice_get, unwrap_or}
 use Rattle.std.proofs.Common.{refl, sym, ap, ◌∙◌, arith}
 use Rattle.base.proofs.Lists.{some_at}
-use Rattle.syntax_tree.specs.Plain.{Process, Prog}
+use Rattle.syntax_tree.specs.Plain.{Process, Program}
 use Rattle.source_semantics.specs.Names.{processes}
 use Rattle.source_semantics.specs.Ranks.{rank, monitors_of, includes, least_rank, min_with}
 use Rattle.machine_semantics.specs.Image as image
@@ -42,11 +42,11 @@ least_most f (suc n) = let rest : least f n ≤ 65535 = least_most f n in omega 
 -- ---- that of the meaning
 
 -- process i of the list uses the monitor
-abbrev used_by : Prog → ℕ → Option Process → Bool
+abbrev used_by : Program → ℕ → Option Process → Bool
 used_by g j None = false
 used_by g j (Some p) = includes j (monitors_of g p)
 
-least_same : (g : Prog) (j b : ℕ) (ps : List Process) → ((k : ℕ) → rank g k ≤ 65535)
+least_same : (g : Program) (j b : ℕ) (ps : List Process) → ((k : ℕ) → rank g k ≤ 65535)
     → unwrap_or (least_rank g j b ps) 65535 ≡ least (λ i. cond (used_by g j (slice_get ps i)) (rank g (b + i)) 65535) (length ps)
 least_same g j b [] few = refl
 least_same g j b (p ∷ ps) few =

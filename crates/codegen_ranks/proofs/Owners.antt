@@ -2,7 +2,7 @@
 use Rattle.std.specs.Prelude.{◌≡◌, ◌⊎◌, ℕ, false, Option, Some, None, slice_get, option_map}
 use Rattle.std.proofs.Common.{inl, inr, refl, sym, ap, subst, ◌∙◌}
 use Rattle.std.proofs.lemmas.Option.{none-some, same_Some}
-use Rattle.syntax_tree.specs.Plain.{Name, Routine, Monitor, Process, Prog}
+use Rattle.syntax_tree.specs.Plain.{Name, Routine, Monitor, Process, Program}
 use Rattle.source_semantics.specs.Names.{named, routines, monitors, processes, monitor_number}
 use Rattle.source_semantics.specs.Run.{of_program, of_process, or_else, entry_name, routine_named}
 use Rattle.code_spec.specs.Layout.{Owner, by_program, by_process, by_monitor, home_of}
@@ -18,7 +18,7 @@ use Rattle.codegen_ranks.specs.Touches.{is_entry_of}
 abbrev pub Near : Owner → Text → Type 0
 Near o t = (t.owner ≡ by_program) ⊎ ((k : ℕ) × (o ≡ by_process k) × (t.owner ≡ by_process k))
 
-pub named_near : (g : Prog) (o : Owner) (f : Name) (t : Text) → routine_in g o f ≡ Some t → Near o t
+pub named_near : (g : Program) (o : Owner) (f : Name) (t : Text) → routine_in g o f ≡ Some t → Near o t
 named_near g by_program f t e = inl (of_list by_program (routines g) f t e).0
 named_near g (by_monitor m) f t e = inl (of_list by_program (routines g) f t e).0
 named_near g (by_process k) f t e = by (routine_of (by_process k) (process_routines (slice_get (processes g) k)) f) refl e
@@ -42,7 +42,7 @@ pub near_known : (k : ℕ) (o : Owner) (t : Text) → Known k o → Near o t →
 near_known k o t known (inl e) = subst (λ w. Known k w) (sym e) tt
 near_known k o t known (inr e) = subst (λ w. Known k w) (sym e.2) (subst (λ w. Known k w) e.1 known)
 
-pub entry_owner : (g : Prog) (m e : Name) (t : Text) → entry_in g m e ≡ Some t → t.owner ≡ by_monitor (monitor_number g m)
+pub entry_owner : (g : Program) (m e : Name) (t : Text) → entry_in g m e ≡ Some t → t.owner ≡ by_monitor (monitor_number g m)
 entry_owner g m e t is = by (named (λ k. k.name) m (monitors g)) is
   where
     by : (d : Option Monitor) → entry_of (monitor_number g m) d e ≡ Some t → t.owner ≡ by_monitor (monitor_number g m)
@@ -51,7 +51,7 @@ entry_owner g m e t is = by (named (λ k. k.name) m (monitors g)) is
 
 -- ---- the same in the meaning of programs
 
-module _ (g : Prog) (names : NamesApart g) (k : ℕ) (p : Process) (at : slice_get (processes g) k ≡ Some p) where
+module _ (g : Program) (names : NamesApart g) (k : ℕ) (p : Process) (at : slice_get (processes g) k ≡ Some p) where
   shared : (f : Name) (t : Text) → routine_of by_program (routines g) f ≡ Some t → routine_named g p f ≡ Some (found_of t)
   shared f t e =
       let found = of_list by_program (routines g) f t e in

@@ -1,7 +1,7 @@
 -- What the code of routines and processes calls.
 use Rattle.std.specs.Prelude.{◌≡◌, ◌+◌, ◌||◌, ℕ, Bool, false, List, [], ◌∷◌, Option, Some, None}
 use Rattle.std.proofs.Common.{refl, sym, ap, ◌∙◌}
-use Rattle.syntax_tree.specs.Plain.{Answers, Handler, Process, Prog}
+use Rattle.syntax_tree.specs.Plain.{Answers, Handler, Process, Program}
 use Rattle.source_semantics.specs.Ranks.{handler_body}
 use Rattle.source_semantics.specs.Store.{range_of}
 use Rattle.machine_isa.specs.declared.instr.Instr.{Instr}
@@ -34,7 +34,7 @@ module _ (test : ℕ → Bool) where
   last_calls (by_process k) a = return_calls a
   last_calls (by_monitor m) a = return_calls a
 
-module _ (g : Prog) (test : ℕ → Bool) (may : Text → Type 0) (code : List Instr) where
+module _ (g : Program) (test : ℕ → Bool) (may : Text → Type 0) (code : List Instr) where
   answers_span : (c : Scope) (o : Option Answers) (p q : ℕ) → SoundAnswers g may c o → Answered g code c p q o → Spans test code p q (In g test may code c (answers_calls o))
   answers_span c None p q ok h = nothing test code p q h
   answers_span c (Some a) p q ok h =

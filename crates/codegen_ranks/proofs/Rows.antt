@@ -3,7 +3,7 @@ use Rattle.std.specs.Prelude.{◌≡◌, ◌<◌, ◌≤◌, ◌||◌, ◌&&◌,
 use Rattle.std.proofs.Common.{refl, ap, ◌∙◌, arith}
 use Rattle.std.proofs.lemmas.Option.{slice_get_within}
 use Rattle.base.proofs.Lists.{take_get}
-use Rattle.syntax_tree.specs.Plain.{Process, Prog}
+use Rattle.syntax_tree.specs.Plain.{Process, Program}
 use Rattle.source_semantics.specs.Names.{processes, routine_count}
 use Rattle.machine_semantics.specs.Image as image
 use Rattle.valid_image.specs.Pieces.{called, piece_number}
@@ -33,12 +33,12 @@ entry_numbers j by_program = refl
 entry_numbers j (by_process k) = refl
 entry_numbers j (by_monitor m) = refl
 
-own_some : (g : Prog) (j : ℕ) (t : Text) (x : image.Routine) → IsRoutine g t x → is_some (own_stay x j) ≡ is_entry_of j t.owner
+own_some : (g : Program) (j : ℕ) (t : Text) (x : image.Routine) → IsRoutine g t x → is_some (own_stay x j) ≡ is_entry_of j t.owner
 own_some g j t x is =
     some_where (nat_eq x.kind 2 && nat_eq x.owner j) x.stay
     ∙ (ap (λ k. nat_eq k 2 && nat_eq x.owner j) is.kind ∙ (ap (λ k. nat_eq (kind_number t.owner) 2 && nat_eq k j) is.owner ∙ entry_numbers j t.owner))
 
-module _ (g : Prog) (m : image.Image) (form : IsWellFormed g) (names : NamesApart g) (is : IsCodeOf g m) (routines : RoutinesCallTheirTexts) (bodies : ProcessesCallTheirTexts) (j : ℕ) where
+module _ (g : Program) (m : image.Image) (form : IsWellFormed g) (names : NamesApart g) (is : IsCodeOf g m) (routines : RoutinesCallTheirTexts) (bodies : ProcessesCallTheirTexts) (j : ℕ) where
   -- what a row says
   row_says : (r : ℕ) (t : Text) → slice_get (numbered g) r ≡ Some t
       → is_some (stays_at (reach m) j r) ≡ is_entry_of j t.owner || some_called (by_number g (λ q. is_some (stays_at (take r (reach m)) j q))) (called_text g t.owner) (routine_calls t.routine)

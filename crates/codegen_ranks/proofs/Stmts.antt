@@ -1,7 +1,7 @@
 -- What the code of statements calls.
 use Rattle.std.specs.Prelude.{◌≡◌, ◌+◌, ◌||◌, ◌++◌, ℕ, suc, Bool, false, List, [], ◌∷◌, pos}
 use Rattle.std.proofs.Common.{refl, sym, ap, ◌∙◌, arith}
-use Rattle.syntax_tree.specs.Plain.{Stmt, assign, assign_entry, assign_empty, perform, perform_entry, when, when_else, loop, exit_when, get, put, wait, signal, broadcast, except, assert, Stmts, no_stmts, stmts, Prog}
+use Rattle.syntax_tree.specs.Plain.{Stmt, assign, assign_entry, assign_empty, perform, perform_entry, when, when_else, loop, exit_when, get, put, wait, signal, broadcast, except, assert, Stmts, no_stmts, stmts, Program}
 use Rattle.source_semantics.specs.Names.{constant_value, count_value, device_number}
 use Rattle.machine_isa.specs.declared.instr.Instr.{Instr}
 use Rattle.machine_isa.specs.declared.instr.Instr.TheVariants as i
@@ -15,7 +15,7 @@ use Rattle.codegen_ranks.proofs.Tests.{or_false, called_both, in_parts, in_front
 use Rattle.codegen_ranks.proofs.Exprs.{store_calls, put_calls, call_same, expr_same, args_same, index_same}
 use Rattle.codegen_ranks.proofs.Spans.{Spans, as_well, nothing, join, has_spans, line_spans, one_spans}
 
-module _ (g : Prog) (test : ℕ → Bool) (may : Text → Type 0) (code : List Instr) where
+module _ (g : Program) (test : ℕ → Bool) (may : Text → Type 0) (code : List Instr) where
   abbrev pub In : Scope → List Called → Bool
   In c cs = some_called (by_number g test) (called_text g c.owner) cs
 

@@ -1,7 +1,7 @@
 -- The monitors that a process uses are those that its text comes to.
 use Rattle.std.specs.Prelude.{◌≡◌, ◌||◌, ℕ, zero, suc, false, Option, Some, None, length, slice_get}
 use Rattle.std.proofs.Common.{refl, sym, ap, ◌∙◌}
-use Rattle.syntax_tree.specs.Plain.{Handler, Process, Prog}
+use Rattle.syntax_tree.specs.Plain.{Handler, Process, Program}
 use Rattle.source_semantics.specs.Names.{processes, routine_count}
 use Rattle.source_semantics.specs.Ranks.{uses_all, called_uses, reached, handler_body, monitors_of, includes}
 use Rattle.code_spec.specs.Layout.{Owner, by_process}
@@ -20,7 +20,7 @@ use Rattle.codegen_ranks.proofs.Owners.{Known, named_near, near_entry, near_know
 use Rattle.codegen_ranks.proofs.Closed.{function_touches, entry_touches}
 use Rattle.codegen_ranks.proofs.Uses.{Agrees, uses_all_same}
 
-module _ (g : Prog) (form : IsWellFormed g) (names : NamesApart g) (k : ℕ) (p : Process) (at : slice_get (processes g) k ≡ Some p) (j : ℕ) where
+module _ (g : Program) (form : IsWellFormed g) (names : NamesApart g) (k : ℕ) (p : Process) (at : slice_get (processes g) k ≡ Some p) (j : ℕ) where
   -- a procedure: no entry, and without a result
   procedure_touches : (n : ℕ) (t : Text) → is_entry_of j t.owner ≡ false → t.routine.answers ≡ None → touches (suc n) g j t ≡ some_called (touches n g j) (called_text g t.owner) (stmts_calls t.routine.body)
   unfolding touches

@@ -1,7 +1,7 @@
 -- The monitors that statements use, where calls are told of by a test.
 use Rattle.std.specs.Prelude.{◌≡◌, ◌++◌, ◌||◌, ℕ, Bool, false, List, [], ◌∷◌, Option, Some, None, nat_eq}
 use Rattle.std.proofs.Common.{refl, sym, ap, ◌∙◌}
-use Rattle.syntax_tree.specs.Plain.{Name, Param, Expr, literal, truth, variable, element, call, minus, negation, paren, row, Exprs, no_exprs, exprs, Operands, no_operands, operand, Ref, whole, part, Stmt, assign, assign_entry, assign_empty, perform, perform_entry, when, when_else, loop, exit_when, get, put, wait, signal, broadcast, except, assert, Stmts, no_stmts, stmts, Answers, Prog}
+use Rattle.syntax_tree.specs.Plain.{Name, Param, Expr, literal, truth, variable, element, call, minus, negation, paren, row, Exprs, no_exprs, exprs, Operands, no_operands, operand, Ref, whole, part, Stmt, assign, assign_entry, assign_empty, perform, perform_entry, when, when_else, loop, exit_when, get, put, wait, signal, broadcast, except, assert, Stmts, no_stmts, stmts, Answers, Program}
 use Rattle.source_semantics.specs.Names.{monitor_number}
 use Rattle.source_semantics.specs.Ranks.{uses, uses_all, includes}
 use Rattle.code_spec.specs.Layout.{Owner, Scope}
@@ -13,12 +13,12 @@ use Rattle.codegen_ranks.proofs.Tests.{or_false, or_both, called_both}
 use Rattle.codegen_ranks.proofs.Lists.{includes_both}
 
 -- what calls use is what the test says: a function uses nothing, an entry its monitor
-pub record Agrees (g : Prog) (may : Text → Type 0) (j : ℕ) (calls : Name → List ℕ) (test : Text → Bool) (o : Owner) : Type 0 where
+pub record Agrees (g : Program) (may : Text → Type 0) (j : ℕ) (calls : Name → List ℕ) (test : Text → Bool) (o : Owner) : Type 0 where
   pub functions : (f : Name) (t : Text) (a : Answers) → routine_in g o f ≡ Some t → may t → t.routine.answers ≡ Some a → test t ≡ false
   pub procedures : (f : Name) (t : Text) → routine_in g o f ≡ Some t → may t → t.routine.answers ≡ None → includes j (calls f) ≡ test t
   pub entries : (m e : Name) (t : Text) → entry_in g m e ≡ Some t → test t ≡ nat_eq (monitor_number g m) j
 
-module _ (g : Prog) (may : Text → Type 0) (j : ℕ) (calls : Name → List ℕ) (test : Text → Bool) where
+module _ (g : Program) (may : Text → Type 0) (j : ℕ) (calls : Name → List ℕ) (test : Text → Bool) where
   abbrev In : Scope → List Called → Bool
   In c cs = some_called test (called_text g c.owner) cs
 

@@ -4,7 +4,7 @@ use Rattle.std.proofs.Common.{refl, sym, ap, subst, ◌∙◌, arith}
 use Rattle.std.proofs.lemmas.Bool.Decides.{nat_tests}
 use Rattle.std.proofs.lemmas.Option.{slice_get_within, same_Some}
 use Rattle.std.proofs.lemmas.List.{length-map, length-append}
-use Rattle.syntax_tree.specs.Plain.{Process, Prog}
+use Rattle.syntax_tree.specs.Plain.{Process, Program}
 use Rattle.source_semantics.specs.Names.{processes}
 use Rattle.machine_isa.specs.declared.instr.Instr.{Instr}
 use Rattle.machine_semantics.specs.Image as image
@@ -22,13 +22,13 @@ use Rattle.codegen_ranks.proofs.Pieces.{Laid, laid_both, Lies, lies}
 
 -- ---- lists
 
-pub as_many_routines : (g : Prog) (code : List Instr) (p q : ℕ) (ts : List Text) (rs : List image.Routine) → EmitsRoutines g code p q ts rs → length rs ≡ length ts
+pub as_many_routines : (g : Program) (code : List Instr) (p q : ℕ) (ts : List Text) (rs : List image.Routine) → EmitsRoutines g code p q ts rs → length rs ≡ length ts
 as_many_routines g code p q [] [] h = refl
 as_many_routines g code p q [] (y ∷ ys) h = absurd h
 as_many_routines g code p q (u ∷ us) [] h = absurd h
 as_many_routines g code p q (u ∷ us) (y ∷ ys) h = ap (λ n. suc n) (as_many_routines g code h.0 q us ys h.4)
 
-pub as_many_processes : (g : Prog) (code : List Instr) (k p q : ℕ) (ts : List Process) (rs : List image.Process) → EmitsProcesses g code k p q ts rs → length rs ≡ length ts
+pub as_many_processes : (g : Program) (code : List Instr) (k p q : ℕ) (ts : List Process) (rs : List image.Process) → EmitsProcesses g code k p q ts rs → length rs ≡ length ts
 as_many_processes g code k p q [] [] h = refl
 as_many_processes g code k p q [] (y ∷ ys) h = absurd h
 as_many_processes g code k p q (u ∷ us) [] h = absurd h
@@ -102,7 +102,7 @@ module _ (test : ℕ → Bool) (m : image.Image) (k : ℕ) where
 
 -- ---- the image of a program
 
-module _ (g : Prog) (m : image.Image) (is : IsCodeOf g m) (sound : IsSound g) (test : ℕ → Bool) where
+module _ (g : Program) (m : image.Image) (is : IsCodeOf g m) (sound : IsSound g) (test : ℕ → Bool) where
   -- what is known of piece k, which lies from p to q
   record Calls (k p q : ℕ) : Type 0 where
     routine : (t : Text) → slice_get (numbered g) k ≡ Some t → Spans test m.code p q (some_called (by_number g test) (called_text g t.owner) (routine_calls t.routine))

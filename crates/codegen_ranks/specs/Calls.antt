@@ -1,6 +1,6 @@
 -- What the code of a program calls is what its text calls, told by tests on routines.
 use Rattle.std.specs.Prelude.{◌≡◌, ◌||◌, ◌++◌, ℕ, Bool, false, List, [], ◌∷◌, Option, Some, None, slice_get}
-use Rattle.syntax_tree.specs.Plain.{Process, Prog}
+use Rattle.syntax_tree.specs.Plain.{Process, Program}
 use Rattle.source_semantics.specs.Names.{processes}
 use Rattle.source_semantics.specs.Ranks.{handler_body}
 use Rattle.machine_semantics.specs.Image as image
@@ -22,7 +22,7 @@ some_called test means [] = false
 some_called test means (c ∷ cs) = passes_some test (means c) || some_called test means cs
 
 -- the text's number passes
-abbrev pub by_number : Prog → (ℕ → Bool) → Text → Bool
+abbrev pub by_number : Program → (ℕ → Bool) → Text → Bool
 by_number g test t = test (number_of g t)
 
 -- what the body and the handler of a process call
@@ -31,12 +31,12 @@ process_calls p = stmts_calls p.body ++ stmts_calls (handler_body p.handler)
 
 -- The law: the piece of a routine calls one that passes a test just where its text does.
 abbrev pub RoutinesCallTheirTexts : Type 0
-RoutinesCallTheirTexts = (g : Prog) (m : image.Image) → IsCodeOf g m → IsSound g
+RoutinesCallTheirTexts = (g : Program) (m : image.Image) → IsCodeOf g m → IsSound g
     → (test : ℕ → Bool) (r : ℕ) (t : Text) → slice_get (numbered g) r ≡ Some t
     → some_of test (called m r) ≡ some_called (by_number g test) (called_text g t.owner) (routine_calls t.routine)
 
 -- The law: and so does that of a process.
 abbrev pub ProcessesCallTheirTexts : Type 0
-ProcessesCallTheirTexts = (g : Prog) (m : image.Image) → IsCodeOf g m → IsSound g
+ProcessesCallTheirTexts = (g : Program) (m : image.Image) → IsCodeOf g m → IsSound g
     → (test : ℕ → Bool) (k : ℕ) (p : Process) → slice_get (processes g) k ≡ Some p
     → some_of test (called m (piece_number m k)) ≡ some_called (by_number g test) (called_text g (by_process k)) (process_calls p)

@@ -1,6 +1,6 @@
 -- The monitors that texts come to by their calls.
 use Rattle.std.specs.Prelude.{◌≡◌, ◌||◌, ℕ, zero, suc, Bool, false, Some, nat_eq, slice_get}
-use Rattle.syntax_tree.specs.Plain.{Process, Prog}
+use Rattle.syntax_tree.specs.Plain.{Process, Program}
 use Rattle.source_semantics.specs.Names.{processes, routine_count}
 use Rattle.source_semantics.specs.Ranks.{includes, monitors_of}
 use Rattle.machine_semantics.specs.Image.{Image}
@@ -19,22 +19,22 @@ is_entry_of j (by_process k) = false
 is_entry_of j (by_monitor m) = nat_eq m j
 
 -- a text is an entry of the monitor, or comes to one by calls that are nested at most so deep
-unfoldable pub touches : (depth : ℕ) → Prog → (monitor : ℕ) → Text → Bool
+unfoldable pub touches : (depth : ℕ) → Program → (monitor : ℕ) → Text → Bool
 touches zero g j t = is_entry_of j t.owner
 touches (suc n) g j t = is_entry_of j t.owner || some_called (touches n g j) (called_text g t.owner) (routine_calls t.routine)
 
 -- the body or the handler of process k comes to an entry of the monitor; calls are nested at most
 -- as deep as there are routines
-abbrev pub process_touches : Prog → (monitor k : ℕ) → Process → Bool
+abbrev pub process_touches : Program → (monitor k : ℕ) → Process → Bool
 process_touches g j k p = some_called (touches (routine_count g) g j) (called_text g (by_process k)) (process_calls p)
 
 -- The law: the code of a process reaches an entry of a monitor just where its text comes to one.
 abbrev pub CodeEntersWhatTextsTouch : Type 0
-CodeEntersWhatTextsTouch = (g : Prog) (m : Image) → IsWellFormed g → NamesApart g → IsCodeOf g m
+CodeEntersWhatTextsTouch = (g : Program) (m : Image) → IsWellFormed g → NamesApart g → IsCodeOf g m
     → (k : ℕ) (p : Process) → slice_get (processes g) k ≡ Some p → (j : ℕ) → enters m k j ≡ process_touches g j k p
 
 -- The law: a monitor is among those that a process uses just where its text comes to an entry of
 -- it.
 abbrev pub TextsUseWhatTheyTouch : Type 0
-TextsUseWhatTheyTouch = (g : Prog) → IsWellFormed g → NamesApart g
+TextsUseWhatTheyTouch = (g : Program) → IsWellFormed g → NamesApart g
     → (k : ℕ) (p : Process) → slice_get (processes g) k ≡ Some p → (j : ℕ) → includes j (monitors_of g p) ≡ process_touches g j k p

@@ -1,7 +1,7 @@
 -- What the generator makes of expressions and statements: code behind the code that it has, with
 -- the segments beside it.
 use Rattle.std.specs.Prelude.{ℕ, zero, suc, ◌+◌, ◌-◌, min, cond, List, [], ◌∷◌, ◌++◌, Option, Some, None, ℤ, pos, negsuc, length, slice_get, slice_set, int_lt}
-use Rattle.syntax_tree.specs.Plain.{Constant, Expr, literal, truth, variable, element, call, minus, negation, paren, row, Exprs, no_exprs, exprs, Operands, no_operands, operand, Ref, whole, part, Stmt, assign, assign_entry, assign_empty, perform, perform_entry, when, when_else, loop, exit_when, get, put, wait, signal, broadcast, except, assert, Stmts, no_stmts, stmts, Prog}
+use Rattle.syntax_tree.specs.Plain.{Constant, Expr, literal, truth, variable, element, call, minus, negation, paren, row, Exprs, no_exprs, exprs, Operands, no_operands, operand, Ref, whole, part, Stmt, assign, assign_entry, assign_empty, perform, perform_entry, when, when_else, loop, exit_when, get, put, wait, signal, broadcast, except, assert, Stmts, no_stmts, stmts, Program}
 use Rattle.syntax_tree.specs.Placed.{placed_constant, plain_constant}
 use Rattle.syntax_tree.specs.declared.expr.Constant.{Constant as Told}
 use Rattle.base.specs.Words.{of_bool}
@@ -15,13 +15,13 @@ use Rattle.code_spec.specs.Layout.{Scope, spot_of}
 use Rattle.code_spec.specs.Code.{constant_named, op_instr}
 use Rattle.code_spec.specs.Numbering.{entry_in, routine_in}
 use Rattle.code_spec.specs.Emits.{condition_of, monitor_of, turns_of}
-use Rattle.codegen_spec.specs.declared.spot.Area.{Area}
-use Rattle.codegen_spec.specs.declared.spot.Area.TheVariants as area
-use Rattle.codegen_spec.specs.declared.spot.Shape.{Shape}
-use Rattle.codegen_spec.specs.declared.spot.Shape.TheVariants as shape
-use Rattle.codegen_spec.specs.declared.spot.Range.{Range}
-use Rattle.codegen_spec.specs.declared.spot.Spot.{Spot}
-use Rattle.codegen_spec.specs.declared.spot.Callee.{Callee}
+use Rattle.codegen_spec.specs.declared.var_location.Area.{Area}
+use Rattle.codegen_spec.specs.declared.var_location.Area.TheVariants as area
+use Rattle.codegen_spec.specs.declared.var_location.VarShape.{VarShape}
+use Rattle.codegen_spec.specs.declared.var_location.VarShape.TheVariants as shape
+use Rattle.codegen_spec.specs.declared.var_location.ValueRange.{ValueRange}
+use Rattle.codegen_spec.specs.declared.var_location.VarLocation.{VarLocation}
+use Rattle.codegen_spec.specs.declared.var_location.Callee.{Callee}
 use Rattle.codegen_spec.specs.Told.{fit, told_callee, told_spot, value_told, within}
 
 -- the code, the segments that are closed, where the line began that is still open, and the word of
@@ -68,22 +68,22 @@ load_from area.Frame w = i.LoadLocal w
 load_from area.Process w = i.LoadOwn w
 load_from area.Monitor w = i.LoadMon w
 
-abbrev pub load_told : Option Spot → ℤ → Instr
+abbrev pub load_told : Option VarLocation → ℤ → Instr
 load_told (Some s) k = load_from s.area s.word
 load_told None k = i.Push k
 
-abbrev pub load_at_from : Area → ℤ → Shape → Instr
+abbrev pub load_at_from : Area → ℤ → VarShape → Instr
 load_at_from a w shape.Single = i.Push (pos 0)
 load_at_from area.Frame w (shape.Array low len) = i.LoadLocalAt w low len
 load_at_from area.Process w (shape.Array low len) = i.LoadOwnAt w low len
 load_at_from area.Monitor w (shape.Array low len) = i.LoadMonAt w low len
 
-abbrev pub load_at_told : Option Spot → Instr
+abbrev pub load_at_told : Option VarLocation → Instr
 load_at_told (Some s) = load_at_from s.area s.word s.shape
 load_at_told None = i.Push (pos 0)
 
 -- the check of a range, if there is one
-abbrev pub range_out : Option Range → Out → Out
+abbrev pub range_out : Option ValueRange → Out → Out
 range_out None o = o
 range_out (Some r) o = push o (i.Range r.low r.high)
 
@@ -93,12 +93,12 @@ called n o = joined (push o (i.Call (fit (pos n)))) (closed o) (seg.Call (min n 
 
 -- a call of what it names, if it names a routine: its arguments, with the ranges of the parameters,
 -- and the call
-abbrev pub call_out : Option Callee → (List (Option Range) → Out) → Out → Out
+abbrev pub call_out : Option Callee → (List (Option ValueRange) → Out) → Out → Out
 call_out None args o = o
 call_out (Some k) args o = called k.number (args k.ranges)
 
 abbrev mutual
-  pub expr_out : Prog → Scope → Expr → Out → Out
+  pub expr_out : Program → Scope → Expr → Out → Out
   expr_out g c (literal n) o = push o (i.Push (fit (pos n)))
   expr_out g c (truth b) o = push o (i.Push (of_bool b))
   expr_out g c (variable x) o = push o (load_told (told_spot (spot_of g c x)) (fit (value_told (constant_named g x))))
@@ -109,19 +109,19 @@ abbrev mutual
   expr_out g c (paren e) o = expr_out g c e o
   expr_out g c (row e r) o = row_out g c r (expr_out g c e o)
 
-  pub row_out : Prog → Scope → Operands → Out → Out
+  pub row_out : Program → Scope → Operands → Out → Out
   row_out g c no_operands o = o
   row_out g c (operand op e r) o = row_out g c r (push (expr_out g c e o) (op_instr op))
 
   -- each argument, and the check of its parameter's range
-  pub args_out : Prog → Scope → Exprs → List (Option Range) → Out → Out
+  pub args_out : Program → Scope → Exprs → List (Option ValueRange) → Out → Out
   args_out g c no_exprs rs o = o
   args_out g c (exprs e es) [] o = o
   args_out g c (exprs e es) (r ∷ rs) o = args_out g c es rs (range_out r (expr_out g c e o))
 
 -- ---- what is stored to
 
-abbrev pub index_out : Prog → Scope → Ref → Out → Out
+abbrev pub index_out : Program → Scope → Ref → Out → Out
 index_out g c (whole x) o = o
 index_out g c (part x e) o = expr_out g c e o
 
@@ -130,35 +130,35 @@ store_to area.Frame w = i.StoreLocal w
 store_to area.Process w = i.StoreOwn w
 store_to area.Monitor w = i.StoreMon w
 
-abbrev pub store_at_out : Area → ℤ → Shape → Out → Out
+abbrev pub store_at_out : Area → ℤ → VarShape → Out → Out
 store_at_out a w shape.Single o = o
 store_at_out area.Frame w (shape.Array low len) o = push o (i.StoreLocalAt w low len)
 store_at_out area.Process w (shape.Array low len) o = push o (i.StoreOwnAt w low len)
 store_at_out area.Monitor w (shape.Array low len) o = push o (i.StoreMonAt w low len)
 
 -- the check of the range, if any, and the store, where what is stored to is a variable
-abbrev pub put_whole : Option Spot → Out → Out
+abbrev pub put_whole : Option VarLocation → Out → Out
 put_whole None o = o
 put_whole (Some s) o = push (range_out s.range o) (store_to s.area s.word)
 
-abbrev pub put_part : Option Spot → Out → Out
+abbrev pub put_part : Option VarLocation → Out → Out
 put_part None o = o
 put_part (Some s) o = store_at_out s.area s.word s.shape (range_out s.range o)
 
-abbrev pub put_out : Prog → Scope → Ref → Out → Out
+abbrev pub put_out : Program → Scope → Ref → Out → Out
 put_out g c (whole x) o = put_whole (told_spot (spot_of g c x)) o
 put_out g c (part x e) o = put_part (told_spot (spot_of g c x)) o
 
 -- the store alone
-abbrev pub store_whole : Option Spot → Out → Out
+abbrev pub store_whole : Option VarLocation → Out → Out
 store_whole None o = o
 store_whole (Some s) o = push o (store_to s.area s.word)
 
-abbrev pub store_part : Option Spot → Out → Out
+abbrev pub store_part : Option VarLocation → Out → Out
 store_part None o = o
 store_part (Some s) o = store_at_out s.area s.word s.shape o
 
-abbrev pub store_out : Prog → Scope → Ref → Out → Out
+abbrev pub store_out : Program → Scope → Ref → Out → Out
 store_out g c (whole x) o = store_whole (told_spot (spot_of g c x)) o
 store_out g c (part x e) o = store_part (told_spot (spot_of g c x)) o
 
@@ -207,18 +207,18 @@ abbrev pub counting : ℤ → Out → Out
 counting low o = push (push o (i.Push low)) (i.StoreLocal (fit (pos o.word)))
 
 -- the number that a constant is, as it fits into an operand
-abbrev pub worth : Prog → Constant → ℤ
+abbrev pub worth : Program → Constant → ℤ
 worth g c = fit (constant_value g c)
 
 -- how many turns a loop with these bounds has
-abbrev pub turns_between : Prog → (low high : Constant) → ℕ
+abbrev pub turns_between : Program → (low high : Constant) → ℕ
 turns_between g low high = turns_of (worth g low) (worth g high)
 
 -- the same of constants as the generator has them
-abbrev pub worth_told : Prog → Told → ℤ
+abbrev pub worth_told : Program → Told → ℤ
 worth_told g c = worth g (plain_constant (placed_constant c))
 
-abbrev pub turns_told : Prog → (low high : Told) → ℕ
+abbrev pub turns_told : Program → (low high : Told) → ℕ
 turns_told g low high = turns_of (worth_told g low) (worth_told g high)
 
 -- a loop of these turns begins behind its first store
@@ -234,11 +234,11 @@ abbrev pub looped : ℕ → ℕ → List Seg → Out → Out
 looped n start before body = joined (aim start (push body (i.Repeat (fit (pos start))))) before (rep (min n 4294967295) (closed body))
 
 -- a condition of the monitor whose text it is
-abbrev pub condition_told : Prog → Scope → (cond : List ℕ) → ℤ
+abbrev pub condition_told : Program → Scope → (cond : List ℕ) → ℤ
 condition_told g c x = fit (pos (condition_of g c.owner x))
 
 -- a constant that is used as a number of ticks or as an exception number
-abbrev pub count_told : Prog → Constant → ℤ
+abbrev pub count_told : Program → Constant → ℤ
 count_told g n = fit (pos (count_value g n))
 
 -- a wait for a condition, with the way back into the monitor
@@ -253,7 +253,7 @@ asserting o =
     (fork [] (seg.Line 1 ∷ []))
 
 abbrev mutual
-  pub stmt_out : Prog → Scope → Stmt → Out → Out
+  pub stmt_out : Program → Scope → Stmt → Out → Out
   stmt_out g c (assign r e) o = put_out g c r (expr_out g c e (index_out g c r o))
   stmt_out g c (put d e) o = push (expr_out g c e o) (i.Out (fit (pos (device_number g d))))
   stmt_out g c (when e a) o =
@@ -278,6 +278,6 @@ abbrev mutual
   stmt_out g c (except n) o = push o (i.Raise (count_told g n))
   stmt_out g c (assert e) o = asserting (expr_out g c e o)
 
-  pub stmts_out : Prog → Scope → Stmts → Out → Out
+  pub stmts_out : Program → Scope → Stmts → Out → Out
   stmts_out g c no_stmts o = o
   stmts_out g c (stmts s ss) o = stmts_out g c ss (stmt_out g c s o)

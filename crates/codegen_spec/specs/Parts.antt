@@ -1,6 +1,6 @@
 -- What the generator makes of routines, processes and a program.
 use Rattle.std.specs.Prelude.{ℕ, suc, List, [], ◌∷◌, ◌++◌, Option, Some, None, min, pos, length, option_map}
-use Rattle.syntax_tree.specs.Plain.{Answers, Handler, Process, Prog, Routine}
+use Rattle.syntax_tree.specs.Plain.{Answers, Handler, Process, Program, Routine}
 use Rattle.source_semantics.specs.Names.{processes}
 use Rattle.machine_isa.specs.declared.instr.Instr.{Instr}
 use Rattle.machine_isa.specs.declared.instr.Instr.TheVariants as i
@@ -25,12 +25,12 @@ part_of start inner o = record { start = start; end = length o.code; tree = clos
 -- ---- routines
 
 -- the result of a function, with the check of its range
-abbrev pub answer_out : Prog → Scope → Option Answers → Out → Out
+abbrev pub answer_out : Program → Scope → Option Answers → Out → Out
 answer_out g c None o = o
 answer_out g c (Some a) o = range_out (range_told g a.kind) (expr_out g c a.value o)
 
 -- the statements of a routine and its result
-abbrev pub inner_out : Prog → Scope → Routine → Out → Out
+abbrev pub inner_out : Program → Scope → Routine → Out → Out
 inner_out g c r o = answer_out g c r.answers (stmts_out g c r.body o)
 
 -- the monitor is entered, and a part with segments of its own begins
@@ -42,7 +42,7 @@ abbrev pub left : ℕ → Out → Out
 left m o = joined (push o (i.Leave (fit (pos m)))) [] (stay (min m 65535) (closed o))
 
 -- a routine but for the return that ends it; an entry is a stay in its monitor
-abbrev pub routine_out : Prog → Scope → Owner → Routine → Out → Out
+abbrev pub routine_out : Program → Scope → Owner → Routine → Out → Out
 routine_out g c by_program r o = inner_out g c r o
 routine_out g c (by_process k) r o = inner_out g c r o
 routine_out g c (by_monitor m) r o = left m (inner_out g c r (entered m o))
@@ -60,39 +60,39 @@ with_routine k o j = record {
 }
 
 -- a routine whose parameters and variables take so many words
-abbrev pub routine_made : Prog → Scope → ℕ → Routine → Code → Code
+abbrev pub routine_made : Program → Scope → ℕ → Routine → Code → Code
 routine_made g c w r k = with_routine k (routine_out g c c.owner r (opened w k.instrs)) (return_of r.answers)
 
-abbrev pub text_made : Prog → Text → Code → Code
+abbrev pub text_made : Program → Text → Code → Code
 text_made g t k = routine_made g (routine_scope g t) (routine_vars_words g t.routine) t.routine k
 
-abbrev pub texts_made : Prog → List Text → Code → Code
+abbrev pub texts_made : Program → List Text → Code → Code
 texts_made g [] k = k
 texts_made g (t ∷ ts) k = texts_made g ts (text_made g t k)
 
 -- ---- processes
 
 -- the body, which ends
-abbrev pub body_out : Prog → Scope → Process → List Instr → Out
+abbrev pub body_out : Program → Scope → Process → List Instr → Out
 body_out g c p code = stmts_out g c p.body (opened 0 code)
 
 abbrev pub ended : Out → Out
 ended o = push o i.End
 
 -- the handler behind the body, its loops behind those of the body
-abbrev pub handler_out : Prog → Scope → Handler → Out → Out
+abbrev pub handler_out : Program → Scope → Handler → Out → Out
 handler_out g c h o = stmts_out g c h.body (begun o)
 
 -- the code of a process with its handler, if it has one
-abbrev pub process_out : Prog → Scope → Option Handler → Out → Out
+abbrev pub process_out : Program → Scope → Option Handler → Out → Out
 process_out g c None o = o
 process_out g c (Some h) o = ended (handler_out g c h o)
 
 -- the handler as a part, behind the body that has ended
-abbrev pub handler_part : Prog → Scope → Out → Handler → Part
+abbrev pub handler_part : Program → Scope → Out → Handler → Part
 handler_part g c o h = part_of (length o.code) (handler_out g c h o) (ended (handler_out g c h o))
 
-abbrev pub with_process : Prog → Scope → Option Handler → Code → Out → Code
+abbrev pub with_process : Program → Scope → Option Handler → Code → Out → Code
 with_process g c h k o = record {
   instrs = (process_out g c h (ended o)).code;
   routines = k.routines;
@@ -102,11 +102,11 @@ with_process g c h k o = record {
   } ∷ [];
 }
 
-abbrev pub process_made : Prog → Scope → Process → Code → Code
+abbrev pub process_made : Program → Scope → Process → Code → Code
 process_made g c p k = with_process g c p.handler k (body_out g c p k.instrs)
 
 -- the processes from number n on
-abbrev pub processes_made : Prog → ℕ → List Process → Code → Code
+abbrev pub processes_made : Program → ℕ → List Process → Code → Code
 processes_made g n [] k = k
 processes_made g n (p ∷ ps) k = processes_made g (suc n) ps (process_made g (process_scope g n p) p k)
 
@@ -116,5 +116,5 @@ abbrev pub nothing_made : Code
 nothing_made = record { instrs = []; routines = []; processes = [] }
 
 -- all routines by number, then all processes in the order of the text
-abbrev pub program_made : Prog → Code
+abbrev pub program_made : Program → Code
 program_made g = processes_made g 0 (processes g) (texts_made g (numbered g) nothing_made)

@@ -1,21 +1,21 @@
 -- What the generator is told about names. Numbers stand as they fit into an operand.
 use Rattle.std.specs.Prelude.{ℕ, min, true, List, [], ◌∷◌, map, Option, Some, None, ℤ, pos, negsuc, option_map}
-use Rattle.syntax_tree.specs.Plain.{Name, Scalar, Prog}
+use Rattle.syntax_tree.specs.Plain.{Name, Scalar, Program}
 use Rattle.source_semantics.specs.Store as store
 use Rattle.source_semantics.specs.Store.{range_of}
 use Rattle.code_spec.specs.Layout as layout
 use Rattle.code_spec.specs.Layout.{Place, Scope, single}
 use Rattle.code_spec.specs.Numbering.{Text, number_of}
-use Rattle.codegen_spec.specs.declared.spot.Area.{Area}
-use Rattle.codegen_spec.specs.declared.spot.Area.TheVariants as area
-use Rattle.codegen_spec.specs.declared.spot.Shape.{Shape}
-use Rattle.codegen_spec.specs.declared.spot.Shape.TheVariants as shape
-use Rattle.codegen_spec.specs.declared.spot.Range.{Range}
-use Rattle.codegen_spec.specs.declared.spot.Spot.{Spot}
-use Rattle.codegen_spec.specs.declared.spot.Loop.{Loop}
-use Rattle.codegen_spec.specs.declared.spot.Owner.{Owner}
-use Rattle.codegen_spec.specs.declared.spot.Owner.TheVariants as owner
-use Rattle.codegen_spec.specs.declared.spot.Callee.{Callee}
+use Rattle.codegen_spec.specs.declared.var_location.Area.{Area}
+use Rattle.codegen_spec.specs.declared.var_location.Area.TheVariants as area
+use Rattle.codegen_spec.specs.declared.var_location.VarShape.{VarShape}
+use Rattle.codegen_spec.specs.declared.var_location.VarShape.TheVariants as shape
+use Rattle.codegen_spec.specs.declared.var_location.ValueRange.{ValueRange}
+use Rattle.codegen_spec.specs.declared.var_location.VarLocation.{VarLocation}
+use Rattle.codegen_spec.specs.declared.var_location.Loop.{Loop}
+use Rattle.codegen_spec.specs.declared.var_location.Owner.{Owner}
+use Rattle.codegen_spec.specs.declared.var_location.Owner.TheVariants as owner
+use Rattle.codegen_spec.specs.declared.var_location.Callee.{Callee}
 
 -- the greatest number where it is greater, the least where it is less
 abbrev pub fit : ℤ → ℤ
@@ -27,14 +27,14 @@ told_area layout.in_frame = area.Frame
 told_area layout.in_process = area.Process
 told_area layout.in_monitor = area.Monitor
 
-abbrev pub told_shape : layout.Shape → Shape
+abbrev pub told_shape : layout.Shape → VarShape
 told_shape layout.single = shape.Single
 told_shape (layout.array low len) = shape.Array (fit low) (fit (pos len))
 
-abbrev pub told_range : store.Range → Range
+abbrev pub told_range : store.Range → ValueRange
 told_range r = record { low = fit r.low; high = fit r.high }
 
-abbrev pub told : layout.Spot → Spot
+abbrev pub told : layout.Spot → VarLocation
 told s = record {
   area = told_area s.area;
   word = fit (pos s.place.word);
@@ -42,7 +42,7 @@ told s = record {
   range = option_map told_range s.place.range;
 }
 
-abbrev pub told_spot : Option layout.Spot → Option Spot
+abbrev pub told_spot : Option layout.Spot → Option VarLocation
 told_spot s = option_map told s
 
 abbrev pub value_told : Option (Name × ℤ) → ℤ
@@ -55,14 +55,14 @@ told_owner (layout.by_process k) = owner.Process k
 told_owner (layout.by_monitor m) = owner.Monitor m
 
 -- the range of a type, if it has one
-abbrev pub range_told : Prog → Scalar → Option Range
+abbrev pub range_told : Program → Scalar → Option ValueRange
 range_told g k = option_map told_range (range_of g k)
 
 -- a routine that is called: its number, and the range of each parameter
-abbrev pub callee : Prog → Text → Callee
+abbrev pub callee : Program → Text → Callee
 callee g t = record { number = number_of g t; ranges = map (λ p. range_told g p.kind) t.routine.params }
 
-abbrev pub told_callee : Prog → Option Text → Option Callee
+abbrev pub told_callee : Program → Option Text → Option Callee
 told_callee g t = option_map (λ u. callee g u) t
 
 -- where a loop's variable lies: at this word of the frame

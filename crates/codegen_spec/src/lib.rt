@@ -9,8 +9,8 @@
 
 mod code;
 mod lookup;
-mod spot;
+mod var_location;
 
 pub use code::{Code, Part, ProcessParts};
 pub use lookup::{Lookup, Lookups};
-pub use spot::{Area, Callee, Loop, Owner, Range, Shape, Spot};
+pub use var_location::{Area, Callee, Loop, Owner, ValueRange, VarLocation, VarShape};

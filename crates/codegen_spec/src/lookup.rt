@@ -12,18 +12,18 @@ ghost use Rattle.code_spec.specs.Compiled.{process_scope, routine_scope};
 ghost use Rattle.code_spec.specs.Emits.{condition_of};
 ghost use Rattle.codegen_spec.specs.Told.{fit, inside, told_callee, told_owner, told_spot, value_told};
 
-use crate::spot::{Callee, Loop, Owner, Spot};
-use syntax_tree::{Constant, Name, Proc, Routine};
+use crate::var_location::{Callee, Loop, Owner, VarLocation};
+use syntax_tree::{Constant, Name, Process, Routine};
 
 /// The names of a program, as one text of it sees them: that of a routine, or of a process, its
 /// body and its handler. The loops around a statement come from the generator, the outermost first.
 pub trait Lookup {
-    ghost program: { Self → plain.Prog };
+    ghost program: { Self → plain.Program };
 
     ghost scope: { Self → Scope };
 
     /// The variable that a name means; `None` where it means none.
-    fn variable(&self, loops: &[Loop], name: &Name) -> Option<Spot>
+    fn variable(&self, loops: &[Loop], name: &Name) -> Option<VarLocation>
         ensures { result ≡ told_spot (spot_of (program self.now)
             (inside loops.now (scope self.now)) name.now) };
 
@@ -65,7 +65,7 @@ pub trait Lookup {
 pub trait Lookups {
     type Names: Lookup;
 
-    ghost program: { Self → plain.Prog };
+    ghost program: { Self → plain.Program };
 
     /// How many routines and entries there are.
     fn routines(&self) -> usize
@@ -93,7 +93,7 @@ pub trait Lookups {
     fn processes(&self) -> usize
         ensures { result ≡ length (processes_of (program self.now)) };
 
-    fn process(&self, number: usize) -> &Proc
+    fn process(&self, number: usize) -> &Process
         requires { number < length (processes_of (program self.now)) }
         ensures { (p : plain.Process) → slice_get (processes_of (program self.now)) number ≡
             Some p → plain_process (placed_process result.now) ≡ p };

@@ -4,7 +4,7 @@ use Rattle.std.specs.Prelude.{option_map, bytes_eq}
 use Rattle.std.proofs.lemmas.Bool.{eqb-true, and_parts}
 use Rattle.std.proofs.lemmas.Option.{slice_get-map}
 use Rattle.std.proofs.lemmas.Slice.Eq.{bytes_eq-Decides}
-use Rattle.syntax_tree.specs.Plain.{Name, Prog}
+use Rattle.syntax_tree.specs.Plain.{Name, Program}
 use Rattle.source_semantics.specs.Names.{monitors, routines}
 use Rattle.source_semantics.specs.Run.{or_else}
 use Rattle.code_spec.specs.Layout.{Owner, by_program, by_process, by_monitor}
@@ -50,16 +50,16 @@ found-again o f ts t e =
     ∙ ap (λ n. text_named o n ts) ((bytes_eq-Decides t.routine.name f).0 parts.1) ∙ e
 
 -- the callee at the first text of the owner and name of one that is found
-pub callee-found : (g : Prog) (o : Owner) (f : Name) (t : Text) → text_named o f (all_texts g) ≡ Some t → get_some (callees_told g) (text_index t.owner t.routine.name (all_texts g)) ≡ Some (callee g t)
+pub callee-found : (g : Program) (o : Owner) (f : Name) (t : Text) → text_named o f (all_texts g) ≡ Some t → get_some (callees_told g) (text_index t.owner t.routine.name (all_texts g)) ≡ Some (callee g t)
 callee-found g o f t e =
     got-map (callee g) (all_texts g) (text_index t.owner t.routine.name (all_texts g))
     ∙ ap (option_map (callee g)) (text-index t.owner t.routine.name (all_texts g) ∙ found-again o f (all_texts g) t e)
 
 -- a routine that a call names is a first one
-program-found : (g : Prog) (f : Name) (t : Text) → routine_of by_program (routines g) f ≡ Some t → text_named by_program f (all_texts g) ≡ Some t
+program-found : (g : Program) (f : Name) (t : Text) → routine_of by_program (routines g) f ≡ Some t → text_named by_program f (all_texts g) ≡ Some t
 program-found g f t e = of-program f 0 0 g.decls ∙ e
 
-pub routine-found : (g : Prog) (o : Owner) (f : Name) (t : Text) → routine_in g o f ≡ Some t → get_some (callees_told g) (text_index t.owner t.routine.name (all_texts g)) ≡ Some (callee g t)
+pub routine-found : (g : Program) (o : Owner) (f : Name) (t : Text) → routine_in g o f ≡ Some t → get_some (callees_told g) (text_index t.owner t.routine.name (all_texts g)) ≡ Some (callee g t)
 routine-found g by_program f t e = callee-found g by_program f t (program-found g f t e)
 routine-found g (by_monitor m) f t e = callee-found g by_program f t (program-found g f t e)
 routine-found g (by_process k) f t e = by-own (text_named (by_process k) f (all_texts g)) refl (ap (λ o. or_else o (routine_of by_program (routines g) f)) (process-own g k f) ∙ e)
@@ -69,7 +69,7 @@ routine-found g (by_process k) f t e = by-own (text_named (by_process k) f (all_
     by-own None is found = callee-found g by_program f t (program-found g f t found)
     by-own (Some u) is found = callee-found g (by_process k) f t (is ∙ found)
 
-pub entry-found : (g : Prog) (m f : Name) (t : Text) → entry_in g m f ≡ Some t → get_some (callees_told g) (text_index t.owner t.routine.name (all_texts g)) ≡ Some (callee g t)
+pub entry-found : (g : Program) (m f : Name) (t : Text) → entry_in g m f ≡ Some t → get_some (callees_told g) (text_index t.owner t.routine.name (all_texts g)) ≡ Some (callee g t)
 entry-found g m f t e = by-index (index_of m (map (λ k. k.name) (monitors g))) refl
   where
     by-index : (o : Option ℕ) → index_of m (map (λ k. k.name) (monitors g)) ≡ o → get_some (callees_told g) (text_index t.owner t.routine.name (all_texts g)) ≡ Some (callee g t)

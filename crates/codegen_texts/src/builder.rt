@@ -11,12 +11,12 @@ ghost use Rattle.codegen_texts.specs.Texts.{next_process, next_routine, program_
 
 use crate::text::{ProcessText, RoutineText};
 use crate::texts::Texts;
-use code_layout::{Tables, Values, laid_routine};
-use code_names::Text;
+use code_layout::{ConstantValues, Tables, laid_routine};
+use code_names::Body;
 use codegen_spec::Lookup;
 use std::alloc::{AllocError, Global};
 use std::marker::Model;
-use syntax_tree::{Proc, Routine};
+use syntax_tree::{Process, Routine};
 
 /// Takes the texts of a program one by one, each with its names: the routines by their numbers, and
 /// the processes in the order of the text. Contracts see the program, and how many are taken.
@@ -30,7 +30,7 @@ pub struct TextsBuilder<'t, 'a, N: Lookup> {
 impl<'t, 'a, N: Lookup> Model for TextsBuilder<'t, 'a, N> {
     ghost use Rattle.std.specs.Prelude.{length, map};
     ghost use Rattle.std.specs.Coded.{codes};
-    ghost use Rattle.syntax_tree.specs.contracts.decl.Prog as tree;
+    ghost use Rattle.syntax_tree.specs.contracts.decl.Program as tree;
     ghost use Rattle.syntax_tree.specs.Placed.{placed, plain};
     ghost use Rattle.codegen_texts.specs.Texts.{AreFirst, Taken, told_process, told_routine};
 
@@ -45,7 +45,7 @@ impl<'t, 'a, N: Lookup> Model for TextsBuilder<'t, 'a, N> {
 
 /// The words of a routine's parameters and variables. Where they are more than a number can tell,
 /// there is not memory enough for them.
-fn words(alloc: Global, values: &Values<'_>, routine: &Routine) -> Result<usize, AllocError>
+fn words(alloc: Global, values: &ConstantValues<'_>, routine: &Routine) -> Result<usize, AllocError>
     ensures { IfOk result (λ words. words ≡ routine_vars_words (plain (placed values.now))
         (plain_routine (placed_routine routine.now))) }
 {
@@ -66,7 +66,7 @@ impl<'t, 'a, N: Lookup + Drop> TextsBuilder<'t, 'a, N> {
     }
 
     /// Takes the next routine or entry by number, with its names.
-    pub fn routine(&mut self, alloc: Global, text: Text<'a>, names: N) -> Result<(), AllocError>
+    pub fn routine(&mut self, alloc: Global, text: Body<'a>, names: N) -> Result<(), AllocError>
         requires next { next_routine self.old ≡ Some (text_of text) }
         requires program { N.program names ≡ program_of self.old }
         requires scope { N.scope names ≡ routine_scope (program_of self.old) (text_of text) }
@@ -83,7 +83,7 @@ impl<'t, 'a, N: Lookup + Drop> TextsBuilder<'t, 'a, N> {
     }
 
     /// Takes the next process in the order of the text, with its names.
-    pub fn process(&mut self, process: &'a Proc, names: N) -> Result<(), AllocError>
+    pub fn process(&mut self, process: &'a Process, names: N) -> Result<(), AllocError>
         requires next { next_process self.old ≡ Some (plain_process (placed_process process.now)) }
         requires program { N.program names ≡ program_of self.old }
         requires scope { N.scope names ≡ process_scope (program_of self.old) self.old.processes

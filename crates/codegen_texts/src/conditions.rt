@@ -12,11 +12,11 @@ ghost use Rattle.codegen_texts.specs.Shared.{conditions_from, number_among};
 use code_layout::{Tables, fit_word, number};
 use code_names::NameList;
 use std::alloc::{AllocError, Global};
-use syntax_tree::{Member, Mon, Name};
+use syntax_tree::{Member, Monitor, Name};
 
 /// The conditions of a monitor, and the number of the first.
 #[derive(Drop)]
-pub struct Numbered<'a> {
+pub struct MonitorConditions<'a> {
     pub first: usize,
     pub names: NameList<'a>,
 }
@@ -24,7 +24,7 @@ pub struct Numbered<'a> {
 /// The conditions of each monitor, and how many there are.
 #[derive(Drop)]
 pub struct Conditions<'a> {
-    pub lists: Vec<Numbered<'a>>,
+    pub lists: Vec<MonitorConditions<'a>>,
     pub count: usize,
 }
 
@@ -41,7 +41,7 @@ fn list_condition<'a>(names: &mut Vec<&'a [u8]>, member: &'a Member) -> Result<(
 }
 
 /// The conditions of a monitor.
-fn own_conditions<'a>(alloc: Global, monitor: &'a Mon) -> Result<NameList<'a>, AllocError>
+fn own_conditions<'a>(alloc: Global, monitor: &'a Monitor) -> Result<NameList<'a>, AllocError>
     ensures { IfOk result (λ names. names ≡ conditions_of
         (plain_monitor (placed_monitor monitor.now))) }
 {
@@ -57,7 +57,7 @@ fn own_conditions<'a>(alloc: Global, monitor: &'a Mon) -> Result<NameList<'a>, A
 /// enough for them.
 fn numbered_conditions<'a>(
     alloc: Global,
-    monitors: &[&'a Mon],
+    monitors: &[&'a Monitor],
 ) -> Result<Conditions<'a>, AllocError>
     ensures lists { IfOk result (λ all. all.lists.items ≡
         conditions_from 0 (seen_monitors monitors.now)) }
@@ -70,7 +70,7 @@ fn numbered_conditions<'a>(
         let Some(next) = count.checked_add(names.len()) else {
             return Err(AllocError);
         };
-        lists.push(Numbered {
+        lists.push(MonitorConditions {
             first: count,
             names,
         })?;
@@ -94,7 +94,7 @@ pub fn program_conditions<'a>(
 }
 
 /// The number of a condition among those of a monitor, which begin at their first.
-fn own_number(own: &Numbered<'_>, name: &Name) -> i32
+fn own_number(own: &MonitorConditions<'_>, name: &Name) -> i32
     ensures { result ≡ fit (pos (own.now.first + place_of name.now own.now.names)) }
 {
     let place = number(&own.names, name) as u64;

@@ -2,24 +2,24 @@
 
 ghost use Rattle.std.specs.Prelude.{◌≡◌, IfOk};
 ghost use Rattle.syntax_tree.specs.Placed.{placed, plain};
-ghost use Rattle.codegen_spec.specs.declared.spot.Area.TheVariants as in_area;
+ghost use Rattle.codegen_spec.specs.declared.var_location.Area.TheVariants as in_area;
 ghost use Rattle.code_layout.specs.LayoutTables.{table_of};
 ghost use Rattle.codegen_texts.specs.Sites.{scope_at};
 
 use crate::program::ProgramNames;
 use crate::site::{Site, told};
-use code_layout::{Laying, Spots, laid_routine, variable};
-use code_names::{Owner, Text};
-use codegen_spec::{Callee, Lookup, Loop, Owner as ToldOwner, Spot};
+use code_layout::{VarLayout, VarLocations, laid_routine, variable};
+use code_names::{Body, RoutineOwner};
+use codegen_spec::{Callee, Lookup, Loop, Owner as ToldOwner, VarLocation};
 use std::alloc::{AllocError, Global};
-use syntax_tree::{Constant, Name, Proc};
+use syntax_tree::{Constant, Name, Process};
 
 /// The names that one text sees: those of the program, and its own parameters and variables.
 #[derive(Drop)]
 pub struct Names<'p, 'a> {
     program: &'p ProgramNames<'a>,
     site: Site<'a>,
-    own: Spots<'a>,
+    own: VarLocations<'a>,
     ghost laid: { own ≡ table_of in_area.Frame (scope_at (plain (placed program.now)) site).own },
 }
 
@@ -33,14 +33,14 @@ impl<'p, 'a> Names<'p, 'a> {
     pub fn of_routine(
         alloc: Global,
         program: &'p ProgramNames<'a>,
-        text: Text<'a>,
+        text: Body<'a>,
     ) -> Result<Names<'p, 'a>, AllocError>
         ensures program { IfOk result (λ names. program_of names ≡ plain (placed program.now)) }
         ensures scope { IfOk result (λ names. scope_of names ≡
             routine_scope (plain (placed program.now)) (text_of text.entry)) }
     {
         let laid = laid_routine(alloc, program.tables().values(), text.routine)?;
-        let own = Spots::new(alloc, laid)?;
+        let own = VarLocations::new(alloc, laid)?;
         Ok(Names {
             program,
             site: Site::Routine(text),
@@ -53,14 +53,14 @@ impl<'p, 'a> Names<'p, 'a> {
         alloc: Global,
         program: &'p ProgramNames<'a>,
         number: usize,
-        process: &'a Proc,
+        process: &'a Process,
     ) -> Result<Names<'p, 'a>, AllocError>
         ensures program { IfOk result (λ names. program_of names ≡ plain (placed program.now)) }
         ensures scope { IfOk result (λ names. scope_of names ≡
             process_scope (plain (placed program.now)) number
             (plain_process (placed_process process.now))) }
     {
-        let own = Spots::new(alloc, Laying::new(alloc, 0))?;
+        let own = VarLocations::new(alloc, VarLayout::new(alloc, 0))?;
         Ok(Names {
             program,
             site: Site::Process { number, process },
@@ -69,12 +69,12 @@ impl<'p, 'a> Names<'p, 'a> {
     }
 
     /// Whose text it is.
-    fn whose(&self) -> Owner
+    fn whose(&self) -> RoutineOwner
         ensures { owner_of result ≡ (scope_of self.now).owner }
     {
         match self.site {
             Site::Routine(text) => text.owner,
-            Site::Process { number, .. } => Owner::Process(number),
+            Site::Process { number, .. } => RoutineOwner::Process(number),
         }
     }
 }
@@ -86,7 +86,7 @@ impl<'p, 'a> Lookup for Names<'p, 'a> {
 
     ghost scope = { λ names. scope_of names };
 
-    fn variable(&self, loops: &[Loop], name: &Name) -> Option<Spot> {
+    fn variable(&self, loops: &[Loop], name: &Name) -> Option<VarLocation> {
         let outer = self.program.outer(self.whose());
         variable(&self.own, outer, loops, name)
     }

@@ -6,37 +6,37 @@ ghost use Rattle.source_semantics.specs.Names.{monitors as monitors_in, processe
 ghost use Rattle.code_names.specs.Parts.{seen_monitors, seen_processes};
 ghost use Rattle.codegen_texts.specs.Shared.{monitor_tables, process_table, process_tables};
 
-use code_layout::{Spots, Tables, Values, laid_monitor, laid_process};
+use code_layout::{ConstantValues, Tables, VarLocations, laid_monitor, laid_process};
 use std::alloc::{AllocError, Global};
-use syntax_tree::{Mon, Proc};
+use syntax_tree::{Monitor, Process};
 
 /// The variables of each process and of each monitor.
 #[derive(Drop)]
-pub struct Outer<'a> {
-    pub processes: Vec<Spots<'a>>,
-    pub monitors: Vec<Spots<'a>>,
+pub struct OuterLocations<'a> {
+    pub processes: Vec<VarLocations<'a>>,
+    pub monitors: Vec<VarLocations<'a>>,
 }
 
 /// The variables of a process.
 fn process_spots<'a>(
     alloc: Global,
-    values: &Values<'_>,
-    process: &'a Proc,
-) -> Result<Spots<'a>, AllocError>
+    values: &ConstantValues<'_>,
+    process: &'a Process,
+) -> Result<VarLocations<'a>, AllocError>
     ensures { IfOk result (λ spots. spots ≡ process_table (plain (placed values.now))
         (plain_process (placed_process process.now))) }
 {
     let laid = laid_process(alloc, values, process)?;
-    let spots = Spots::new(alloc, laid)?;
+    let spots = VarLocations::new(alloc, laid)?;
     Ok(spots)
 }
 
 /// The variables of each process.
 fn processes_spots<'a>(
     alloc: Global,
-    values: &Values<'_>,
-    processes: &[&'a Proc],
-) -> Result<Vec<Spots<'a>>, AllocError>
+    values: &ConstantValues<'_>,
+    processes: &[&'a Process],
+) -> Result<Vec<VarLocations<'a>>, AllocError>
     ensures { IfOk result (λ tables. tables.items ≡
         process_tables (plain (placed values.now)) (seen_processes processes.now)) }
 {
@@ -51,9 +51,9 @@ fn processes_spots<'a>(
 /// The variables of each monitor, in one area: the words of each behind those of the one before.
 fn monitors_spots<'a>(
     alloc: Global,
-    values: &Values<'_>,
-    monitors: &[&'a Mon],
-) -> Result<Vec<Spots<'a>>, AllocError>
+    values: &ConstantValues<'_>,
+    monitors: &[&'a Monitor],
+) -> Result<Vec<VarLocations<'a>>, AllocError>
     ensures { IfOk result (λ tables. tables.items ≡
         monitor_tables (plain (placed values.now)) 0 (seen_monitors monitors.now)) }
 {
@@ -62,14 +62,14 @@ fn monitors_spots<'a>(
     for monitor in monitors {
         let laid = laid_monitor(alloc, values, base, monitor)?;
         base = laid.word;
-        let spots = Spots::new(alloc, laid)?;
+        let spots = VarLocations::new(alloc, laid)?;
         tables.push(spots)?;
     }
     Ok(tables)
 }
 
 /// The variables of the processes and of the monitors of a program.
-pub fn outer_spots<'a>(alloc: Global, tables: &Tables<'a>) -> Result<Outer<'a>, AllocError>
+pub fn outer_spots<'a>(alloc: Global, tables: &Tables<'a>) -> Result<OuterLocations<'a>, AllocError>
     ensures processes { IfOk result (λ outer. outer.processes.items ≡
         process_tables (plain (placed tables.now)) (processes_in (plain (placed tables.now)))) }
     ensures monitors { IfOk result (λ outer. outer.monitors.items ≡
@@ -78,7 +78,7 @@ pub fn outer_spots<'a>(alloc: Global, tables: &Tables<'a>) -> Result<Outer<'a>, 
     let directory = tables.numbering().directory();
     let processes = processes_spots(alloc, tables.values(), directory.processes())?;
     let monitors = monitors_spots(alloc, tables.values(), directory.monitors())?;
-    Ok(Outer {
+    Ok(OuterLocations {
         processes,
         monitors,
     })

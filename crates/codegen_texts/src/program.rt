@@ -16,13 +16,13 @@ ghost use Rattle.codegen_texts.specs.Shared.{callees_told};
 
 use crate::callees::callees;
 use crate::conditions::{Conditions, condition_number, program_conditions};
-use crate::outer::{Outer, outer_spots};
-use code_layout::{Spots, Tables};
-use code_names::{Numbering, Owner, Text};
+use crate::outer::{OuterLocations, outer_spots};
+use code_layout::{Tables, VarLocations};
+use code_names::{Body, Numbering, RoutineOwner};
 use codegen_spec::Callee;
 use std::alloc::{AllocError, Global};
 use std::marker::Model;
-use syntax_tree::{Name, Prog};
+use syntax_tree::{Name, Program};
 
 /// The names of a program that all its texts share: constants, devices, callees, the variables of
 /// processes and monitors, and the conditions.
@@ -30,14 +30,14 @@ use syntax_tree::{Name, Prog};
 pub struct ProgramNames<'a> {
     tables: Tables<'a>,
     callees: Vec<Callee>,
-    outer: Outer<'a>,
+    outer: OuterLocations<'a>,
     conditions: Conditions<'a>,
 }
 
 impl<'a> Model for ProgramNames<'a> {
     ghost use Rattle.std.specs.Coded.{codes};
-    ghost use Rattle.syntax_tree.specs.declared.decl.Prog.{Prog as Tree};
-    ghost use Rattle.syntax_tree.specs.contracts.decl.Prog as tree;
+    ghost use Rattle.syntax_tree.specs.declared.decl.Program.{Program as Tree};
+    ghost use Rattle.syntax_tree.specs.contracts.decl.Program as tree;
     ghost use Rattle.codegen_texts.specs.Shared.{AreNames};
 
     ghost Value = { Tree };
@@ -51,7 +51,7 @@ impl<'a> Model for ProgramNames<'a> {
 
 impl<'a> ProgramNames<'a> {
     /// Goes once through the text of the program.
-    pub fn new(alloc: Global, program: &'a Prog) -> Result<ProgramNames<'a>, AllocError>
+    pub fn new(alloc: Global, program: &'a Program) -> Result<ProgramNames<'a>, AllocError>
         ensures { IfOk result (λ n. n ≡ program.now) }
     {
         let tables = Tables::new(alloc, program)?;
@@ -81,7 +81,7 @@ impl<'a> ProgramNames<'a> {
     }
 
     /// The variables of a process, if there is one of that number.
-    fn of_process(&self, number: usize) -> Option<&Spots<'a>>
+    fn of_process(&self, number: usize) -> Option<&VarLocations<'a>>
         ensures { (x : SpecName) → outer_in result x ≡
             told_spot (outer_spot (plain (placed self.now)) (owner_of (Owner.Process number)) x) }
     {
@@ -89,7 +89,7 @@ impl<'a> ProgramNames<'a> {
     }
 
     /// The variables of a monitor, if there is one of that number.
-    fn of_monitor(&self, number: usize) -> Option<&Spots<'a>>
+    fn of_monitor(&self, number: usize) -> Option<&VarLocations<'a>>
         ensures { (x : SpecName) → outer_in result x ≡
             told_spot (outer_spot (plain (placed self.now)) (owner_of (Owner.Monitor number)) x) }
     {
@@ -97,14 +97,14 @@ impl<'a> ProgramNames<'a> {
     }
 
     /// The variables that a text of the owner names beside those of its frame.
-    pub fn outer(&self, owner: Owner) -> Option<&Spots<'a>>
+    pub fn outer(&self, owner: RoutineOwner) -> Option<&VarLocations<'a>>
         ensures { (x : SpecName) → outer_in result x ≡
             told_spot (outer_spot (plain (placed self.now)) (owner_of owner) x) }
     {
         match owner {
-            Owner::Program => None,
-            Owner::Process(number) => self.of_process(number),
-            Owner::Monitor(number) => self.of_monitor(number),
+            RoutineOwner::Program => None,
+            RoutineOwner::Process(number) => self.of_process(number),
+            RoutineOwner::Monitor(number) => self.of_monitor(number),
         }
     }
 
@@ -117,18 +117,18 @@ impl<'a> ProgramNames<'a> {
     }
 
     /// The number of a condition that a text of the owner names, which is that of a monitor.
-    pub fn condition(&self, owner: Owner, name: &Name) -> i32
+    pub fn condition(&self, owner: RoutineOwner, name: &Name) -> i32
         ensures { result ≡ fit (pos (condition_of (plain (placed self.now))
             (owner_of owner) name.now)) }
     {
         match owner {
-            Owner::Program | Owner::Process(_) => 0,
-            Owner::Monitor(number) => self.condition_in(number, name),
+            RoutineOwner::Program | RoutineOwner::Process(_) => 0,
+            RoutineOwner::Monitor(number) => self.condition_in(number, name),
         }
     }
 
     /// The callee of the first text of the owner and name of this one.
-    fn callee(&self, text: Text<'_>) -> Option<&Callee>
+    fn callee(&self, text: Body<'_>) -> Option<&Callee>
         ensures { option_copied result ≡ get_some (callees_told (plain (placed self.now)))
             (text_index (owner_of text.entry.owner) text.entry.routine.now.name
             (all_texts (plain (placed self.now)))) }
@@ -141,7 +141,7 @@ impl<'a> ProgramNames<'a> {
     }
 
     /// The routine that a call in a text of the owner names; `None` where it names none.
-    pub fn routine(&self, owner: Owner, name: &Name) -> Option<&Callee>
+    pub fn routine(&self, owner: RoutineOwner, name: &Name) -> Option<&Callee>
         ensures { option_copied result ≡ told_callee (plain (placed self.now))
             (routine_in (plain (placed self.now)) (owner_of owner) name.now) }
     {

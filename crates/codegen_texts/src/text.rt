@@ -1,6 +1,6 @@
 //! Texts, each with its names.
 
-use syntax_tree::{Proc, Routine};
+use syntax_tree::{Process, Routine};
 
 /// A routine or entry, the words of its parameters and variables, and the names that it sees.
 #[derive(Drop)]
@@ -13,6 +13,6 @@ pub struct RoutineText<'a, N> {
 /// A process, and the names that its body and its handler see.
 #[derive(Drop)]
 pub struct ProcessText<'a, N> {
-    pub process: &'a Proc,
+    pub process: &'a Process,
     pub names: N,
 }

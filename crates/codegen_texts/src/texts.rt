@@ -11,13 +11,13 @@ ghost use Rattle.code_spec.specs.Compiled.{process_scope, routine_scope};
 use crate::text::{ProcessText, RoutineText};
 use codegen_spec::{Lookup, Lookups};
 use std::marker::Model;
-use syntax_tree::{Proc, Prog, Routine};
+use syntax_tree::{Process, Program, Routine};
 
 /// The texts of a program, each with the names that it sees: its routines and entries by their
 /// numbers, and its processes in the order of the text. Contracts see it as the program.
 #[derive(Drop)]
 pub struct Texts<'a, N: Lookup> {
-    pub(crate) program: &'a Prog,
+    pub(crate) program: &'a Program,
     pub(crate) routines: Vec<RoutineText<'a, N>>,
     pub(crate) processes: Vec<ProcessText<'a, N>>,
 }
@@ -25,8 +25,8 @@ pub struct Texts<'a, N: Lookup> {
 impl<'a, N: Lookup> Model for Texts<'a, N> {
     ghost use Rattle.std.specs.Prelude.{map};
     ghost use Rattle.std.specs.Coded.{codes};
-    ghost use Rattle.syntax_tree.specs.declared.decl.Prog.{Prog as Tree};
-    ghost use Rattle.syntax_tree.specs.contracts.decl.Prog as tree;
+    ghost use Rattle.syntax_tree.specs.declared.decl.Program.{Program as Tree};
+    ghost use Rattle.syntax_tree.specs.contracts.decl.Program as tree;
     ghost use Rattle.syntax_tree.specs.Placed.{placed, plain};
     ghost use Rattle.codegen_texts.specs.Texts.{AreTexts, told_process, told_routine};
 
@@ -93,7 +93,7 @@ impl<'a, N: Lookup> Lookups for Texts<'a, N> {
         self.processes.len()
     }
 
-    fn process(&self, number: usize) -> &Proc {
+    fn process(&self, number: usize) -> &Process {
         self.process_text(number).process
     }
 

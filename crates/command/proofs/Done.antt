@@ -30,7 +30,7 @@ use Rattle.command_due.specs.AsmDue.{IsAsmDue, asm_faulty, asm_invalid, assemble
 use Rattle.asm_law.specs.AsmLaws.{ImagesToldAreHeld}
 use Rattle.asm_format.specs.Text.{text_of as lines_told}
 use Rattle.command_due.specs.StopDue.{IsWatchDue, watch_refused, watch_bad_script, watched}
-use Rattle.command_words.specs.declared.stop.Stop.{Stop}
+use Rattle.command_words.specs.declared.stop.Breakpoint.{Breakpoint}
 use Rattle.command_due.specs.ReplayDue.{IsRecorded, IsJudged, misread as misread_log, is_refused, is_run, IsReplayDue, replay_faulty, replay_bad_script, replay_judged, run_line}
 use Rattle.sched_demand.specs.declared.judging.Judgement.TheVariants as judgement
 use Rattle.command_due.specs.EdfDue.{IsEdfDue, edf_faulty, edf_waits, edf_unfit, edf_bad_script, edf_ran, edf_log}
@@ -209,7 +209,7 @@ module _ (laws : Printing) (faithful : BuiltImagesAreFaithful) (before now : Out
     is_stored = stored_bytes o.image (lines_told (named_of raw)) text before.files.held now.files.held (image_is o _ same) kept;
   }
 
-  watch_whole : (stop : Stop) (image script : List ℕ) → IsWatchDue stop (before.files.held image) (before.files.held script) o → HasWatched image script stop before now
+  watch_whole : (stop : Breakpoint) (image script : List ℕ) → IsWatchDue stop (before.files.held image) (before.files.held script) o → HasWatched image script stop before now
   watch_whole stop image script (watch_refused bytes is r) = absurd (image_zero bytes o r zero)
   watch_whole stop image script (watch_bad_script bytes other raw fault is file that f same) = absurd (let five = status_of o _ same in omega (arith, five, zero))
   watch_whole stop image script (watched bytes other raw lines end seen is file that s tells same) = record {

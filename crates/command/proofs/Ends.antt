@@ -7,7 +7,7 @@ use Rattle.load.specs.Program.{program_text}
 use Rattle.load.specs.Script.{script_text}
 use Rattle.command.specs.Due.{IsSummary}
 use Rattle.command.specs.Made.{HasProgram, HasTexts, KeepsOthers, ProgramFailed, ScriptFailed, PutFailed, IsCutBy, no_program, no_script, no_line, Made}
-use Rattle.command.specs.declared.summing.Texts.{Texts}
+use Rattle.command.specs.declared.summing.LoadTexts.{LoadTexts}
 use Rattle.command.specs.Texts.{AreTextsOf}
 use Rattle.command.specs.Steps.{HasScript, GoesOn}
 use Rattle.command_answers.proofs.Held.{rose_since}
@@ -29,7 +29,7 @@ both false f p q = tt
 -- ---- the whole call
 
 -- the program stood in its file before the script was written
-module _ (tells : Bool) (load : Load) (texts : Texts) (b m n : FilesState) (o p : SinkState) (status : ℕ) where
+module _ (tells : Bool) (load : Load) (texts : LoadTexts) (b m n : FilesState) (o p : SinkState) (status : ℕ) where
   kept_program : OthersStay m.held n.held load.script → m.held load.program ≡ Some (program_text load.key load.count)
       → load.program ≢ load.script → n.held load.program ≡ Some (program_text load.key load.count)
   kept_program others has other = others load.program other ∙ has

@@ -10,7 +10,7 @@ use Rattle.script.specs.Faults.{IsFault}
 use Rattle.script.specs.OneAnswer.{NoScriptIsFaulty}
 use Rattle.command_due.specs.Source.{IsTextFault, IsLateText, Style}
 use Rattle.compile.specs.declared.built.Built.{Built}
-use Rattle.compile.specs.declared.built.Late.{Late}
+use Rattle.compile.specs.declared.built.LateProgram.{LateProgram}
 use Rattle.compile.specs.Compile.{Compiles}
 use Rattle.compile.specs.declared.compiling.CompileFault.{CompileFault}
 use Rattle.compile.specs.declared.compiling.CompileFault.TheVariants as fault
@@ -28,7 +28,7 @@ no_fault faultless text p answer number place is compiles =
 abbrev silent : Style
 silent names program table = []
 
-pub never_late : IsNeverLate → (text : List ℕ) → IsProgramText text → (answer : Result Built CompileFault) (l : Late)
+pub never_late : IsNeverLate → (text : List ℕ) → IsProgramText text → (answer : Result Built CompileFault) (l : LateProgram)
     → answer ≡ Err (fault.Untimely l) → Compiles 0 text answer → ⊥
 never_late never text p answer l is compiles =
     never p.key p.count p.some p.few silent [] (subst (λ t. IsLateText silent 0 t []) p.is ((subst (Compiles 0 text) is compiles).late silent))

@@ -23,7 +23,7 @@ use Rattle.command_due.specs.EdfDue.{IsEdfDue, IsJudgedText, IsUnfit, edf_faulty
 use Rattle.command_due.specs.Waits.{WaitFails}
 use Rattle.command_due_law.specs.Word.{AnswersOfTextsAreOne}
 use Rattle.command_due.specs.ReplayDue.{IsJudged, misread as misread_log, is_refused, is_run, IsReplayDue, replay_faulty, replay_bad_script, replay_judged}
-use Rattle.command_words.specs.declared.stop.Stop.{Stop}
+use Rattle.command_words.specs.declared.stop.Breakpoint.{Breakpoint}
 use Rattle.command_due.specs.Runs.{IsUnsolved}
 use Rattle.command_due_law.specs.DueOnce.{WrittenOrFaulty, WrittenOnce}
 use Rattle.command_answers.specs.Files.{IsDue}
@@ -80,7 +80,7 @@ dis_late : (bytes : List ℕ) (o : Outcome) → IsDisDue bytes o → o.status �
 dis_late bytes o (dis_misread number offset fault same) three = let four = status_of o _ same in absurd (omega (arith, four, three))
 dis_late bytes o (disassembled raw held same) three = let zero = status_of o _ same in absurd (omega (arith, zero, three))
 
-watch_late : (stop : Stop) (image script : Option (List ℕ)) (o : Outcome) → IsWatchDue stop image script o → o.status ≡ 3 → ⊥
+watch_late : (stop : Breakpoint) (image script : Option (List ℕ)) (o : Outcome) → IsWatchDue stop image script o → o.status ≡ 3 → ⊥
 watch_late stop image script o (watch_refused bytes is r) three = image_late bytes o r three
 watch_late stop image script o (watch_bad_script bytes other raw fault is file that f same) three = let five = status_of o _ same in absurd (omega (arith, five, three))
 watch_late stop image script o (watched bytes other raw lines end text is file that s tells same) three = let zero = status_of o _ same in absurd (omega (arith, zero, three))

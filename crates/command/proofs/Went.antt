@@ -6,7 +6,7 @@ use Rattle.outside.specs.Outside.{FilesState, SinkState, Outside, outside, Rose,
 use Rattle.command_words.specs.Calls.{Call}
 use Rattle.command_answers.specs.declared.status.Status.{Status}
 use Rattle.command_answers.specs.declared.status.Status.TheVariants as status
-use Rattle.command_answers.specs.declared.act.Act.{Act}
+use Rattle.command_answers.specs.declared.act.PreparedCall.{PreparedCall}
 use Rattle.command_answers.specs.declared.act.Store.{Store}
 use Rattle.command_answers.specs.Files.{Held, target_of}
 use Rattle.command_answers.specs.Acts.{number_of, outcome_of, bytes_due, IsAtTarget}
@@ -53,7 +53,7 @@ number_low status.Log = omega arith
 
 -- ---- a call that was performed
 
-module _ (call : Call) (b m n : FilesState) (o o' : SinkState) (act : Act) (status : ℕ) (stay : AllStay b.held m.held) (less : NoneFell b.write_faults m.write_faults) where
+module _ (call : Call) (b m n : FilesState) (o o' : SinkState) (act : PreparedCall) (status : ℕ) (stay : AllStay b.held m.held) (less : NoneFell b.write_faults m.write_faults) where
   whole : IsPrepared true call b act → Performed true act (outside m o) (outside n o') status → IsAnswer status → IsWhole call (outside b o) (outside n o') status
   whole p d answer =
       record {

@@ -5,14 +5,14 @@ use Rattle.outside.specs.Outside.{Outside, AllStay, OthersStay, Appends, Appends
 use Rattle.command_words.specs.Calls.{Load}
 use Rattle.load.specs.Script.{script_text}
 use Rattle.command.specs.Made.{ScriptFailed, PutFailed}
-use Rattle.command.specs.declared.summing.Texts.{Texts}
+use Rattle.command.specs.declared.summing.LoadTexts.{LoadTexts}
 
 -- the script stands in its file
 abbrev pub HasScript : Load → Outside → Type 0
 HasScript load now = now.files.held load.script ≡ Some (script_text load.key load.count)
 
 -- the script was stored, and then the line put, as far as the status says
-pub record GoesOn (tells : Bool) (load : Load) (texts : Texts) (before now : Outside) (status : ℕ) : Type 0 where
+pub record GoesOn (tells : Bool) (load : Load) (texts : LoadTexts) (before now : Outside) (status : ℕ) : Type 0 where
   pub range : (status ≡ 0) ⊎ ((status ≡ 7) ⊎ (status ≡ 8))
   pub line : status ≡ 0 → Appends before.out.taken now.out.taken texts.summary
   pub stored : OnTrue tells (status ≡ 0 → HasScript load now)

@@ -10,7 +10,7 @@ use Rattle.command_programs.specs.Runnable.{IsRunnableBuilt}
 use Rattle.load.specs.Program.{program_text}
 use Rattle.load.specs.Script.{script_text}
 use Rattle.command.specs.Due.{IsSummary}
-use Rattle.command.specs.declared.summing.Texts.{Texts}
+use Rattle.command.specs.declared.summing.LoadTexts.{LoadTexts}
 
 -- the text is that of the program of some load
 pub record IsProgramText (text : List ℕ) : Type 0 where
@@ -40,7 +40,7 @@ pub record IsReadOf (built : Built) (text : List ℕ) (script : Script) : Type 0
   pub runs : RunsRaw built.image script
 
 -- the texts of the load, and the line that tells of its run
-pub record AreTextsOf (key count : ℕ) (texts : Texts) : Type 0 where
+pub record AreTextsOf (key count : ℕ) (texts : LoadTexts) : Type 0 where
   pub program : texts.program ≡ program_text key count
   pub script : texts.script ≡ script_text key count
   pub summary : IsSummary key count texts.summary

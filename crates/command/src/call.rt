@@ -14,21 +14,21 @@ ghost use Rattle.command_answers.specs.Promise.{HasDone, IsRefusedForTime};
 ghost use Rattle.command.specs.Targets.{IsNoTarget};
 
 use crate::carry::carry_out;
-use asm_law::asm_laws::images_told_are_held;
-use built_image_law::built_once::timely_or_late;
+use asm_law::text_and_image::images_told_are_held;
+use built_image_law::one_image::timely_or_late;
 use command_answers::Status;
-use command_due_law::due_once::{
+use command_due_law::edf_promise::{answers_of_texts_are_one, feasible_texts_keep_their_word};
+use command_due_law::one_answer::{
     asm_is_one, compile_is_one, dis_is_one, go_is_one, migrate_is_one, print_is_one,
     reports_are_one, run_is_one, slack_is_one, watch_is_one, written_once, written_or_faulty,
 };
-use command_due_law::edf_word::{answers_of_texts_are_one, feasible_texts_keep_their_word};
-use compiler_correct::built_laws::built_images_are_faithful;
+use compiler_correct::faithful_images::built_images_are_faithful;
 use image_reader_law::images_read_are_in_their_ranges;
 use outside::{Files, Sink};
 use std::alloc::Global;
 use syntax_printer::{reads_back, tokens_are_spelled};
-use valid_image_law::valid_law::every_valid_image_is_safe_and_in_time;
-use vm_law::script_suits::scripts_suit;
+use valid_image_law::validity_law::every_valid_image_is_safe_and_in_time;
+use vm_law::suitable_scripts::scripts_suit;
 
 /// Does what the words ask:
 ///

@@ -10,7 +10,7 @@ ghost use Rattle.command.specs.Made.{Made};
 ghost use Rattle.command.specs.Targets.{IsNoTarget};
 
 use crate::{make, prepare};
-use command_answers::{Status, Unready};
+use command_answers::{PrepareError, Status};
 use command_perform::perform;
 use command_words::words::{no_command_is_a_load, one_command, one_load};
 use command_words::{Command, Request, read_words};
@@ -45,8 +45,8 @@ fn carry<F: Files, O: Sink>(
 {
     match prepare(alloc, command, files) {
         Ok(act) => perform(alloc, &act, files, out),
-        Err(Unready::Unread) => Status::Unread,
-        Err(Unready::Memory) => Status::Memory,
+        Err(PrepareError::Unread) => Status::Unread,
+        Err(PrepareError::Memory) => Status::Memory,
     }
 }
 

@@ -3,7 +3,7 @@
 ghost use Rattle.std.specs.Prelude.{◌≡◌, Some, IfOk};
 ghost use Rattle.command_answers.specs.Acts.{CanRun, log_due};
 
-use command_answers::Run;
+use command_answers::PreparedRun;
 use command_perform::Ready;
 use outside::{Sink, SinkFailed};
 use std::alloc::{AllocError, Global};
@@ -30,7 +30,7 @@ impl Sink for Log {
 }
 
 /// The log of a run that the machine can make.
-pub fn log_of(alloc: Global, run: &Run) -> Result<Vec<u8>, AllocError>
+pub fn log_of(alloc: Global, run: &PreparedRun) -> Result<Vec<u8>, AllocError>
     requires { CanRun run.now }
     ensures { IfOk result (λ bytes. bytes.items ≡ log_due (Some run.now)) }
 {

@@ -8,7 +8,7 @@ ghost use Rattle.command.specs.Made.{Made};
 ghost use Rattle.command.specs.Steps.{GoesOn};
 ghost use Rattle.command.specs.Texts.{AreTextsOf};
 
-use crate::summing::{Texts, texts_of};
+use crate::summing::{LoadTexts, texts_of};
 use command_answers::Status;
 use command_words::Load;
 use outside::{Files, Sink, WriteFault};
@@ -17,7 +17,7 @@ use std::alloc::Global;
 /// Stores the script, behind the program, and puts the line.
 fn store_script<F: Files, O: Sink>(
     load: &Load<'_>,
-    texts: &Texts,
+    texts: &LoadTexts,
     files: &mut F,
     out: &mut O,
 ) -> Status

@@ -11,7 +11,7 @@ ghost use Rattle.command_words.specs.Calls.{over_of};
 ghost use Rattle.command_words.specs.Words.{call_of};
 ghost use Rattle.command_answers.specs.Prepared.{Prepares};
 
-use command_answers::{Act, Unready};
+use command_answers::{PrepareError, PreparedCall};
 use command_images::{prepare_asm, prepare_dis, prepare_migrate, prepare_run, prepare_watch};
 use command_programs::{
     Format, prepare_compile, prepare_go, prepare_print, prepare_report, prepare_slack,
@@ -33,7 +33,7 @@ pub fn prepare<'a, F: Files>(
     alloc: Global,
     command: &Command<'a>,
     files: &mut F,
-) -> Result<Act<'a>, Unready>
+) -> Result<PreparedCall<'a>, PrepareError>
     requires overhead { over_of (call_of command.now) ≤ 1000 }
     ensures prepared { Prepares F.tells (call_of command.now) (F.state files.old)
         (F.state files.new) result }

@@ -8,7 +8,7 @@ ghost use Rattle.command.specs.Texts.{AreTextsOf, IsMadeOf, IsReadOf};
 
 use crate::log::log_of;
 use crate::texts::{compile_load, read_load};
-use command_answers::{Dispatch, Run};
+use command_answers::{Dispatch, PreparedRun};
 use compile::Built;
 use load::{make_program, make_script, mark_after, summary_line};
 use load_law::load_texts;
@@ -18,7 +18,7 @@ use syntax_tree::Text;
 
 /// The texts of a load, and the line that tells of its run.
 #[derive(Drop)]
-pub struct Texts {
+pub struct LoadTexts {
     pub program: Text,
     pub script: Text,
     pub summary: Text,
@@ -53,7 +53,7 @@ fn summary_of(
 {
     load_texts();
     let code = built.image.code.len() as u32;
-    let run = Run {
+    let run = PreparedRun {
         image: built.image,
         script,
         dispatch: Dispatch::Ranks,
@@ -72,7 +72,7 @@ fn summary_of(
 
 /// The texts of the load of a key with so many processes, from 1 to 64, and the line that tells of
 /// its run.
-pub fn texts_of(alloc: Global, key: u64, count: u32) -> Result<Texts, AllocError>
+pub fn texts_of(alloc: Global, key: u64, count: u32) -> Result<LoadTexts, AllocError>
     requires some { 1 ≤ count }
     requires few { count ≤ 64 }
     ensures { IfOk result (AreTextsOf key count) }
@@ -82,7 +82,7 @@ pub fn texts_of(alloc: Global, key: u64, count: u32) -> Result<Texts, AllocError
     let built = compile_load(alloc, program.as_bytes())?;
     let read = read_load(alloc, script.as_bytes(), &built)?;
     let summary = summary_of(alloc, key, count, built, read)?;
-    Ok(Texts {
+    Ok(LoadTexts {
         program,
         script,
         summary,

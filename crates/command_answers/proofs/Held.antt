@@ -5,7 +5,7 @@ use Rattle.std.specs.Bool.{OnTrue}
 use Rattle.outside.specs.Outside.{FilesState, Rose}
 use Rattle.command_words.specs.Calls.{Call}
 use Rattle.command_words.specs.Calls as call
-use Rattle.command_answers.specs.declared.act.Act.{Act}
+use Rattle.command_answers.specs.declared.act.PreparedCall.{PreparedCall}
 use Rattle.command_answers.specs.Files.{IsDue, target_of}
 use Rattle.command_answers.specs.Acts.{outcome_of}
 use Rattle.command_answers.specs.Acting.{CanBeDone}
@@ -20,7 +20,7 @@ of_held false held P Q is then = tt
 
 -- ---- acts
 
-pub acted : (tells : Bool) (call : Call) (before : FilesState) (act : Act) → CanBeDone (target_of call) act → OnTrue tells (IsDue call before.held (outcome_of act)) → IsPrepared tells call before act
+pub acted : (tells : Bool) (call : Call) (before : FilesState) (act : PreparedCall) → CanBeDone (target_of call) act → OnTrue tells (IsDue call before.held (outcome_of act)) → IsPrepared tells call before act
 acted tells call before act can due = record { due = due; at = can.at; stored = can.stored; runs = can.runs; answered = can.answered; is_command = can.is_command }
 
 -- ---- reads that failed

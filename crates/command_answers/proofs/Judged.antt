@@ -9,7 +9,7 @@ use Rattle.script.specs.Faults.{IsFault}
 use Rattle.script.specs.Scripts.{IsScript}
 use Rattle.image.specs.Named.{NamedImage}
 use Rattle.command_due.specs.Script.{script_fault_line}
-use Rattle.command_answers.specs.declared.act.Act.{Act}
+use Rattle.command_answers.specs.declared.act.PreparedCall.{PreparedCall}
 use Rattle.command_answers.specs.declared.status.Status.TheVariants as status
 use Rattle.command_answers.specs.Acts.{outcome_of}
 use Rattle.command_answers.specs.Acting.{puts}
@@ -24,13 +24,13 @@ of_made (Err why) it P is then = tt
 
 -- ---- scripts
 
-pub ran_over : {E : Type 0} (front : List ℕ) (image : Option (List ℕ)) (n : NamedImage) (script : Script) (P : List ℕ → Type 0) (made : Result Act E)
+pub ran_over : {E : Type 0} (front : List ℕ) (image : Option (List ℕ)) (n : NamedImage) (script : Script) (P : List ℕ → Type 0) (made : Result PreparedCall E)
     → ((text : List ℕ) → P text → IsScript n.names text script.lines script.end) → IfOk made (λ act. outcome_of act ≡ ran front image n script.lines script.end)
     → IfOk made (λ act. (text : List ℕ) → P text → IsRunOver front image n text (outcome_of act))
 ran_over front image n script P (Ok act) is_script is = λ text p. is_run script.lines script.end (is_script text p) is
 ran_over front image n script P (Err e) is_script is = tt
 
-pub bad_over : {E : Type 0} (front : List ℕ) (image : Option (List ℕ)) (n : NamedImage) (why : ScriptFault) (P : List ℕ → Type 0) (made : Result Act E)
+pub bad_over : {E : Type 0} (front : List ℕ) (image : Option (List ℕ)) (n : NamedImage) (why : ScriptFault) (P : List ℕ → Type 0) (made : Result PreparedCall E)
     → ((text : List ℕ) → P text → (why ≡ script_fault.Memory) ⊎ IsFault n.names text why)
     → IfOk made (λ act. act ≡ puts status.Script (script_fault_line why)) → IfOk made (λ act. why ≢ script_fault.Memory)
     → IfOk made (λ act. (text : List ℕ) → P text → IsRunOver front image n text (outcome_of act))

@@ -21,8 +21,8 @@ use Rattle.command_answers.specs.declared.status.Status.TheVariants as status
 use Rattle.command_answers.specs.declared.act.Dispatch.{Dispatch}
 use Rattle.command_answers.specs.declared.act.Dispatch.TheVariants as dispatch
 use Rattle.command_answers.specs.declared.act.Store.{Store}
-use Rattle.command_answers.specs.declared.act.Run.{Run}
-use Rattle.command_answers.specs.declared.act.Act.{Act}
+use Rattle.command_answers.specs.declared.act.PreparedRun.{PreparedRun}
+use Rattle.command_answers.specs.declared.act.PreparedCall.{PreparedCall}
 use Rattle.command_answers.specs.Files.{target_of}
 
 abbrev pub number_of : Status → ℕ
@@ -43,7 +43,7 @@ log_by dispatch.Ranks n lines end = log n lines end
 log_by dispatch.Deadlines n lines end = edf_log n lines end
 
 -- the log of a run, if there is one
-abbrev pub log_due : Option Run → List ℕ
+abbrev pub log_due : Option PreparedRun → List ℕ
 log_due None = []
 log_due (Some run) = log_by run.dispatch (named_of run.image) run.script.lines run.script.end
 
@@ -52,7 +52,7 @@ abbrev pub bytes_due : Option Store → Option (List ℕ)
 bytes_due store = option_map (λ s. s.bytes.items) store
 
 -- what the act comes to, if nothing fails
-abbrev pub outcome_of : Act → Outcome
+abbrev pub outcome_of : PreparedCall → Outcome
 outcome_of act = record { status = number_of act.status; text = act.text ++ log_due act.run; image = bytes_due act.store }
 
 -- what is stored is stored in the file that the call writes
@@ -60,11 +60,11 @@ abbrev pub IsAtTarget : Call → Option Store → Type 0
 IsAtTarget call store = IfSome store (λ s. target_of call ≡ Some s.name.now)
 
 -- an image that is run by ranks
-abbrev pub by_ranks : RawImage → Script → Run
+abbrev pub by_ranks : RawImage → Script → PreparedRun
 by_ranks image script = record { image = image; script = script; dispatch = dispatch.Ranks }
 
 -- the machine can run the image over the script
-pub record CanRunByRanks (run : Run) : Type 0 where
+pub record CanRunByRanks (run : PreparedRun) : Type 0 where
   pub limits : HasLimits (image_of run.image)
   pub valid : IsValid (image_of run.image)
   pub plan : HasPlan (image_of run.image)
@@ -73,14 +73,14 @@ pub record CanRunByRanks (run : Run) : Type 0 where
 
 -- under earliest deadline first: the run is one that the machine takes, and each of its events has
 -- a line
-pub record CanRunByDeadlines (run : Run) : Type 0 where
+pub record CanRunByDeadlines (run : PreparedRun) : Type 0 where
   pub plan : HasPlan (image_of run.image)
   pub runnable : IsRunnable (image_of run.image) (script_of run.script)
   pub lines : All (AreIn run.image.names) (events (image_of run.image) (script_of run.script))
 
-abbrev pub CanRunBy : Dispatch → Run → Type 0
+abbrev pub CanRunBy : Dispatch → PreparedRun → Type 0
 CanRunBy dispatch.Ranks run = CanRunByRanks run
 CanRunBy dispatch.Deadlines run = CanRunByDeadlines run
 
-abbrev pub CanRun : Run → Type 0
+abbrev pub CanRun : PreparedRun → Type 0
 CanRun run = CanRunBy run.dispatch run

@@ -3,15 +3,15 @@ use Rattle.std.specs.Prelude.{◌≡◌, ◌≢◌, ◌<◌, ◌⊎◌, ℕ, Boo
 use Rattle.std.specs.Bool.{OnTrue}
 use Rattle.outside.specs.Outside.{FilesState, Rose}
 use Rattle.command_words.specs.Calls.{Call}
-use Rattle.command_answers.specs.declared.act.Act.{Act}
+use Rattle.command_answers.specs.declared.act.PreparedCall.{PreparedCall}
 use Rattle.command_answers.specs.Files.{IsDue, ReachesScript, ReachesLog, source_of, script_of, log_file_of}
 use Rattle.command_answers.specs.Acts.{number_of, outcome_of, IsAtTarget, CanRun}
 use Rattle.command_answers.specs.Went.{IsAnswer}
-use Rattle.command_answers.specs.declared.unready.Unready.{Unready}
-use Rattle.command_answers.specs.declared.unready.Unready.TheVariants as unready
+use Rattle.command_answers.specs.declared.prepare_error.PrepareError.{PrepareError}
+use Rattle.command_answers.specs.declared.prepare_error.PrepareError.TheVariants as unready
 
 -- the act comes to what is due of the call
-pub record IsPrepared (tells : Bool) (call : Call) (before : FilesState) (act : Act) : Type 0 where
+pub record IsPrepared (tells : Bool) (call : Call) (before : FilesState) (act : PreparedCall) : Type 0 where
   pub due : OnTrue tells (IsDue call before.held (outcome_of act))
   pub at : IsAtTarget call act.store
   -- an image is stored with status 0 alone
@@ -32,7 +32,7 @@ ReadsFailed tells call before now =
     ⊎ (IsSomeAnd (log_file_of call) (Failed before now) × OnTrue tells (ReachesLog call before.held))
 
 -- want of memory says nothing of the files
-abbrev pub Prepares : Bool → Call → (before now : FilesState) → Result Act Unready → Type 0
+abbrev pub Prepares : Bool → Call → (before now : FilesState) → Result PreparedCall PrepareError → Type 0
 Prepares tells call before now (Ok act) = IsPrepared tells call before act
 Prepares tells call before now (Err unready.Unread) = ReadsFailed tells call before now
 Prepares tells call before now (Err unready.Memory) = Unit {0}

@@ -24,7 +24,7 @@ use Rattle.image_reader.specs.Answer.{Holds}
 use Rattle.asm_format.specs.Text.{text_of}
 use Rattle.command_due.specs.Texts.{IsTextOf}
 use Rattle.command_due.specs.StopDue.{IsStopText}
-use Rattle.command_words.specs.declared.stop.Stop.{Stop}
+use Rattle.command_words.specs.declared.stop.Breakpoint.{Breakpoint}
 use Rattle.base.specs.declared.event.Event.{Event}
 use Rattle.source_semantics.specs.Source.{IsSourceRun}
 use Rattle.built_image.specs.Named.{names_of}
@@ -124,7 +124,7 @@ pub record HasDisassembled (image text : List ℕ) (before now : Outside) : Type
   pub is_stored : now.files.held text ≡ Some (text_of (named_of raw))
 
 -- `watch`: an image is valid, and the state of its run over the script is put where it stops
-pub record HasWatched (image script : List ℕ) (stop : Stop) (before now : Outside) : Type 0 where
+pub record HasWatched (image script : List ℕ) (stop : Breakpoint) (before now : Outside) : Type 0 where
   pub bytes : List ℕ
   pub held : before.files.held image ≡ Some bytes
   pub raw : RawImage

@@ -1,6 +1,6 @@
 -- What is promised of a run of a program under earliest deadline first.
 use Rattle.std.specs.Prelude.{◌≡◌, ℕ, false, Some, slice_get}
-use Rattle.syntax_tree.specs.Plain.{Prog}
+use Rattle.syntax_tree.specs.Plain.{Program}
 use Rattle.source_semantics.specs.Starts.{Script}
 use Rattle.source_semantics.specs.Any.{IsAnySourceRun}
 use Rattle.machine_semantics.specs.Image.{Image, Process}
@@ -13,7 +13,7 @@ use Rattle.edf_timing.specs.InTime.{MeetsDeadlines}
 -- No tick is stuck, each process is within its declared stack, and those inside monitors are apart;
 -- each activation ends by its deadline; and what is told is a run of the program in which any ready
 -- process may act.
-pub record IsEdfRun (g : Prog) (image : Image) (script : Script) : Type 0 where
+pub record IsEdfRun (g : Program) (image : Image) (script : Script) : Type 0 where
   pub never_stuck : (t : ℕ) → (tick image (script_of script) t (state_at image (script_of script) t)).stuck ≡ false
   pub stacks : (t k : ℕ) (p : Process) (thread : Thread) → slice_get image.processes k ≡ Some p → slice_get (state_at image (script_of script) t).state.threads k ≡ Some thread → StackFits p thread
   pub apart : (t : ℕ) → Apart image (state_at image (script_of script) t).state.threads

@@ -23,7 +23,7 @@ pub enum Dispatch {
 
 /// A run whose log is to be put.
 #[derive(Drop)]
-pub struct Run {
+pub struct PreparedRun {
     pub image: RawImage,
     pub script: Script,
     pub dispatch: Dispatch,
@@ -33,9 +33,9 @@ pub struct Run {
 /// the log of a run, each as far as there is one. The status is that of a call in which nothing
 /// fails from here on.
 #[derive(Drop)]
-pub struct Act<'a> {
+pub struct PreparedCall<'a> {
     pub status: Status,
     pub text: Text,
     pub store: Option<Store<'a>>,
-    pub run: Option<Run>,
+    pub run: Option<PreparedRun>,
 }

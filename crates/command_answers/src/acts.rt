@@ -4,15 +4,15 @@ ghost use Rattle.std.specs.Prelude.{◌≡◌, IfOk};
 ghost use Rattle.command_due.specs.Source.{fault_line};
 ghost use Rattle.command_answers.specs.Acting.{puts};
 
-use crate::{Act, Status, fault_line};
+use crate::{PreparedCall, Status, fault_line};
 use std::alloc::{AllocError, Global};
 use syntax_tree::{Place, Text};
 
 /// The act that puts a text, and stores and runs nothing.
-pub fn put<'a>(status: Status, text: Text) -> Act<'a>
+pub fn put<'a>(status: Status, text: Text) -> PreparedCall<'a>
     ensures { result ≡ puts status text }
 {
-    Act {
+    PreparedCall {
         status,
         text,
         store: None,
@@ -22,7 +22,11 @@ pub fn put<'a>(status: Status, text: Text) -> Act<'a>
 
 /// The act for a text that is no program text, or whose program is too large: it puts the line of
 /// its fault.
-pub fn put_fault<'a>(alloc: Global, number: u8, place: Place) -> Result<Act<'a>, AllocError>
+pub fn put_fault<'a>(
+    alloc: Global,
+    number: u8,
+    place: Place,
+) -> Result<PreparedCall<'a>, AllocError>
     ensures { IfOk result (λ act. act ≡ puts Status.Text (fault_line number place)) }
 {
     Ok(put(Status::Text, fault_line(alloc, number, place)?))

@@ -15,20 +15,20 @@
 mod act;
 mod acts;
 mod lines;
+mod prepare_error;
 mod reading;
 mod scripts;
 mod status;
-mod unready;
 
-pub use act::{Act, Dispatch, Run, Store};
+pub use act::{Dispatch, PreparedCall, PreparedRun, Store};
 pub use acts::{put, put_fault};
 pub use lines::{
     fault_line, image_fault_line, log_fault_line, refused_line, run_line, script_fault_line,
     text_fault_line, valid_fault_line,
 };
+pub use prepare_error::PrepareError;
 pub use reading::{
     Content, LONGEST_IMAGE, LONGEST_IMAGE_TEXT, LONGEST_LOG, LONGEST_PROGRAM, LONGEST_SCRIPT, read,
 };
 pub use scripts::{judge_script, refuse_script};
 pub use status::Status;
-pub use unready::Unready;

@@ -5,7 +5,7 @@ ghost use Rattle.std.specs.Bool.{OnTrue};
 ghost use Rattle.outside.specs.Outside.{AllStay, NoneFell, Rose};
 ghost use Rattle.command_answers.specs.Contents.{IsContent};
 
-use crate::unready::Unready;
+use crate::prepare_error::PrepareError;
 use outside::{Files, ReadFault};
 
 /// How many bytes a program text has at most.
@@ -29,7 +29,7 @@ pub enum Content {
     /// All its bytes.
     Bytes(Vec<u8>),
     /// More bytes than were asked for.
-    Long,
+    TooLong,
 }
 
 /// What the file of a name holds: its bytes, where they are at most `most`.
@@ -37,7 +37,7 @@ pub enum Content {
 /// # Errors
 ///
 /// `Unread` only where the name's count of faults rose. `Memory` where there is not enough memory.
-pub fn read<F: Files>(files: &mut F, name: &str, most: usize) -> Result<Content, Unready>
+pub fn read<F: Files>(files: &mut F, name: &str, most: usize) -> Result<Content, PrepareError>
     ensures content { IfOk result (λ content.
         OnTrue F.tells (IsSomeAnd ((F.state files.old).held name.now) (IsContent most content))) }
     ensures unread { result ≡ Err Unready.Unread →
@@ -49,8 +49,8 @@ pub fn read<F: Files>(files: &mut F, name: &str, most: usize) -> Result<Content,
 {
     match files.read(name, most) {
         Ok(bytes) => Ok(Content::Bytes(bytes)),
-        Err(ReadFault::Long) => Ok(Content::Long),
-        Err(ReadFault::Failed) => Err(Unready::Unread),
-        Err(ReadFault::Memory) => Err(Unready::Memory),
+        Err(ReadFault::Long) => Ok(Content::TooLong),
+        Err(ReadFault::Failed) => Err(PrepareError::Unread),
+        Err(ReadFault::Memory) => Err(PrepareError::Memory),
     }
 }

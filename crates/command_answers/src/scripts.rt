@@ -10,7 +10,7 @@ ghost use Rattle.command_answers.specs.Contents.{IsContent};
 
 use crate::acts::put;
 use crate::reading::Content;
-use crate::{Act, Status, script_fault_line};
+use crate::{PreparedCall, Status, script_fault_line};
 use image::ImageNames;
 use script::{Script, ScriptFault, read_script, refusal};
 use std::alloc::{AllocError, Global};
@@ -36,7 +36,7 @@ pub fn judge_script(
 {
     match content {
         Content::Bytes(text) => read_script(alloc, text.as_slice(), names),
-        Content::Long => Err(ScriptFault::Bad {
+        Content::TooLong => Err(ScriptFault::Bad {
             number: refusal::LONG,
             line: 0,
             a: 0,
@@ -46,7 +46,7 @@ pub fn judge_script(
 }
 
 /// The act for a text that is no script: it puts the line of its fault.
-pub fn refuse_script<'a>(alloc: Global, fault: &ScriptFault) -> Result<Act<'a>, AllocError>
+pub fn refuse_script<'a>(alloc: Global, fault: &ScriptFault) -> Result<PreparedCall<'a>, AllocError>
     ensures act { IfOk result (λ act. act ≡ puts Status.Script (script_fault_line fault.now)) }
     ensures is_fault { IfOk result (λ act. fault.now ≢ ScriptFault.Memory) }
 {

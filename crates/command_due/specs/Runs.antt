@@ -30,7 +30,7 @@ abbrev pub KeepsItsWord : ImageNames → Image → Type 0
 KeepsItsWord names image = (text : List ℕ) (lines : List ScriptLine) (end : ℕ) → IsScript names text lines end → IsKept image lines end
 
 -- and the log of every such run is that of a run of the program
-pub record IsFaithful (g : plain_of.Prog) (n : NamedImage) : Type 0 where
+pub record IsFaithful (g : plain_of.Program) (n : NamedImage) : Type 0 where
   pub valid : IsValid n.image
   pub runs : (text : List ℕ) (lines : List ScriptLine) (end : ℕ) → IsScript n.names text lines end
       → IsSourceRun g (said lines end) (events n.image (run_of lines end))

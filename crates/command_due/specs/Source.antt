@@ -39,7 +39,7 @@ abbrev pub report_of : Style → NamedImage → List ℕ
 report_of show n = show n.names n.program (table_of n.image (map (λ p. Some p.bound) n.image.processes))
 
 -- the report of a program that is not timely
-abbrev pub late_report : Style → plain_of.Prog → Table → List ℕ
+abbrev pub late_report : Style → plain_of.Program → Table → List ℕ
 late_report show g t = show (names_of g) g.name t
 
 -- ---- programs in time

@@ -2,8 +2,8 @@
 use Rattle.std.specs.Prelude.{◌≡◌, ◌<◌, ◌⊎◌, ◌+◌, ℕ, Option, Some, None, IsSomeAnd, min}
 use Rattle.machine_semantics.specs.Image.{Image, Script}
 use Rattle.vm_stretch.specs.Completed.{completed_at}
-use Rattle.command_words.specs.declared.stop.Stop.{Stop}
-use Rattle.command_words.specs.declared.stop.Stop.TheVariants.{Tick, Effect}
+use Rattle.command_words.specs.declared.stop.Breakpoint.{Breakpoint}
+use Rattle.command_words.specs.declared.stop.Breakpoint.TheVariants.{Tick, Effect}
 
 -- the instruction at the address has its effect in tick t
 abbrev pub HasEffect : Image → Script → (address t : ℕ) → Type 0
@@ -21,7 +21,7 @@ HasNoEffect image script address = (t : ℕ) → t < script.end_tick → ¬ HasE
 
 -- the run stops before tick t: at a tick, or at its end if this comes before; right after the first
 -- effect at an address, or at its end where there is none
-abbrev pub IsStop : Image → Script → Stop → (t : ℕ) → Type 0
+abbrev pub IsStop : Image → Script → Breakpoint → (t : ℕ) → Type 0
 IsStop image script (Tick tick) t = t ≡ min tick script.end_tick
 IsStop image script (Effect address) t =
     ((effect : ℕ) × IsFirstEffect image script address effect × (t ≡ effect + 1))

@@ -4,7 +4,7 @@ use Rattle.image.specs.Bytes.{Version}
 use Rattle.image.specs.Named.{NamedImage}
 use Rattle.image.specs.Raw.{image_of, named_of}
 use Rattle.image.specs.declared.raw.RawImage.{RawImage}
-use Rattle.image_format.specs.declared.fault.Fault.{Fault}
+use Rattle.image_format.specs.declared.fault.ByteFault.{ByteFault}
 use Rattle.image_format.specs.Format.{Read, fault}
 use Rattle.image_reader.specs.File.{Parts, image_with, read_file}
 use Rattle.image_reader.specs.Answer.{Holds, HasFault, parts_of}
@@ -23,7 +23,7 @@ parts_once r v w p q one two =
 pub fault_once : (r : Read (Version × Parts)) (m n k l : ℕ) → r ≡ Err (fault m k) → r ≡ Err (fault n l) → (m ≡ n) × (k ≡ l)
 fault_once r m n k l one two =
     let same : fault m k ≡ fault n l = cc in
-    (ap (λ (f : Fault). f.number) same, ap (λ (f : Fault). f.left) same)
+    (ap (λ (f : ByteFault). f.number) same, ap (λ (f : ByteFault). f.left) same)
 
 not_both : (r : Read (Version × Parts)) (v : Version) (p : Parts) (n k : ℕ) → r ≡ Ok ((v, p), []) → r ≡ Err (fault n k) → ⊥
 not_both r v p n k one two = absurd (cc)

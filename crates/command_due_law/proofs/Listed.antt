@@ -8,7 +8,7 @@ use Rattle.machine_semantics.specs.Image.{Image, Process}
 use Rattle.sched_table.proofs.Onto.{onto}
 use Rattle.valid_image.specs.Times.{rank_fault}
 use Rattle.valid_image_law.proofs.Ranking.{ranked, one_each}
-use Rattle.sched_demand.specs.declared.tasks.DTask.{DTask}
+use Rattle.sched_demand.specs.declared.tasks.DemandTask.{DemandTask}
 use Rattle.sched_demand.specs.Demand.{task_at}
 use Rattle.command_due.specs.Tasks.{AreDemands}
 
@@ -89,10 +89,10 @@ none_or_last d (p ∷ ps) = elim (cases_Bool (nat_eq p.deadline d)) [
 
 -- ---- one list
 
-same_fields : (x y : DTask) → x.frame ≡ y.frame → x.deadline ≡ y.deadline → x.cost ≡ y.cost → x.block ≡ y.block → x ≡ y
+same_fields : (x y : DemandTask) → x.frame ≡ y.frame → x.deadline ≡ y.deadline → x.cost ≡ y.cost → x.block ≡ y.block → x ≡ y
 same_fields x y frames deadlines costs blocks = λ i. record { frame = frames i; deadline = deadlines i; cost = costs i; block = blocks i }
 
-module _ (m : Image) (none : rank_fault m ≡ None) (ts us : List DTask) (one : AreDemands m ts) (two : AreDemands m us) where
+module _ (m : Image) (none : rank_fault m ≡ None) (ts us : List DemandTask) (one : AreDemands m ts) (two : AreDemands m us) where
   same_block : (k : ℕ) (p : Process) → slice_get m.processes k ≡ Some p → (task_at ts (p.rank - 1)).block ≡ (task_at us (p.rank - 1)).block
   same_block k p at = elim (none_or_last p.deadline m.processes) [
     | inl none ↦ absurd (none k p at refl)
@@ -109,5 +109,5 @@ module _ (m : Image) (none : rank_fault m ≡ None) (ts us : List DTask) (one : 
   pub one_list : ts ≡ us
   one_list = same_elements ts us (one.many ∙ sym two.many) (λ k x y at there.
       let low : k < length m.processes = omega (arith, slice_get_within ts k x at, one.many) in
-      let d : DTask = record { frame = 0; deadline = 0; cost = 0; block = 0 } in
+      let d : DemandTask = record { frame = 0; deadline = 0; cost = 0; block = 0 } in
       sym (get_or_from_slice_get ts k x d at) ∙ (same_task k low ∙ get_or_from_slice_get us k y d there))

@@ -17,8 +17,8 @@ use Rattle.command_due.specs.CommandsDue.{Outcome, told, bad_script, IsImageFile
 use Rattle.command_due.specs.Stops.{IsStop, IsFirstEffect}
 use Rattle.command_due.specs.Text.{stop_text}
 use Rattle.command_due.specs.StopDue.{IsStopText, IsWatchDue, watch_refused, watch_bad_script, watched}
-use Rattle.command_words.specs.declared.stop.Stop.{Stop}
-use Rattle.command_words.specs.declared.stop.Stop.TheVariants.{Tick, Effect}
+use Rattle.command_words.specs.declared.stop.Breakpoint.{Breakpoint}
+use Rattle.command_words.specs.declared.stop.Breakpoint.TheVariants.{Tick, Effect}
 use Rattle.command_due_law.specs.DueOnce.{ImagesHeldAreOne, ImageFilesAreNotRefused, ImageRefusalsAreOne, StopsAreOne, WatchIsOne}
 use Rattle.command_due_law.proofs.DueOnceScripts.{text_once}
 
@@ -40,17 +40,17 @@ stops_are_one image script (Effect address) t other (inl one) (inr two) = absurd
 stops_are_one image script (Effect address) t other (inr one) (inl two) = absurd (one.0 two.0 two.1.before two.1.is)
 stops_are_one image script (Effect address) t other (inr one) (inr two) = one.1 ∙ sym two.1
 
-stop_text_once : StopsAreOne → (n : NamedImage) (lines : List ScriptLine) (end : ℕ) (stop : Stop) (text other : List ℕ) → IsStopText n lines end stop text → IsStopText n lines end stop other → text ≡ other
+stop_text_once : StopsAreOne → (n : NamedImage) (lines : List ScriptLine) (end : ℕ) (stop : Breakpoint) (text other : List ℕ) → IsStopText n lines end stop text → IsStopText n lines end stop other → text ≡ other
 stop_text_once stops n lines end stop text other one two =
     one.2 ∙ (ap (stop_text n (run_of lines end)) (stops n.image (run_of lines end) stop one.0 two.0 one.1 two.1) ∙ sym two.2)
 
 -- what comes of an image that is valid, by the script's text
-data Seen (stop : Stop) (n : NamedImage) (script : Option (List ℕ)) (outcome : Outcome) : Type 0 where
+data Seen (stop : Breakpoint) (n : NamedImage) (script : Option (List ℕ)) (outcome : Outcome) : Type 0 where
   faulty : (other : List ℕ) (fault : ScriptFault) → script ≡ Some other → IsFault n.names other fault → outcome ≡ bad_script fault → Seen stop n script outcome
   seen : (other : List ℕ) (lines : List ScriptLine) (end : ℕ) (text : List ℕ) → script ≡ Some other → IsScript n.names other lines end
       → IsStopText n lines end stop text → outcome ≡ told 0 text → Seen stop n script outcome
 
-seen_once : IsOneScript → NoScriptIsFaulty → FaultsAreOne → StopsAreOne → (stop : Stop) (n : NamedImage) (script : Option (List ℕ)) (outcome other : Outcome)
+seen_once : IsOneScript → NoScriptIsFaulty → FaultsAreOne → StopsAreOne → (stop : Breakpoint) (n : NamedImage) (script : Option (List ℕ)) (outcome other : Outcome)
     → Seen stop n script outcome → Seen stop n script other → outcome ≡ other
 seen_once scripts apart faults stops stop n script outcome other first second = by first second
   where
@@ -69,12 +69,12 @@ seen_once scripts apart faults stops stop n script outcome other first second = 
         was ∙ (ap (told 0) (stop_text_once stops n lines' end' stop shown shown' moved tells') ∙ sym was')
 
 -- bytes are refused, or this comes of their image
-data Tried (stop : Stop) (bytes : List ℕ) (script : Option (List ℕ)) (outcome : Outcome) : Type 0 where
+data Tried (stop : Breakpoint) (bytes : List ℕ) (script : Option (List ℕ)) (outcome : Outcome) : Type 0 where
   unfit : IsImageRefused bytes outcome → Tried stop bytes script outcome
   fit : (raw : RawImage) → IsImageFile bytes raw → Seen stop (named_of raw) script outcome → Tried stop bytes script outcome
 
 module _ (images : ImagesHeldAreOne) (apart : ImageFilesAreNotRefused) (refusals : ImageRefusalsAreOne) where
-  tried_once : IsOneScript → NoScriptIsFaulty → FaultsAreOne → StopsAreOne → (stop : Stop) (bytes : List ℕ) (script : Option (List ℕ)) (outcome other : Outcome)
+  tried_once : IsOneScript → NoScriptIsFaulty → FaultsAreOne → StopsAreOne → (stop : Breakpoint) (bytes : List ℕ) (script : Option (List ℕ)) (outcome other : Outcome)
       → Tried stop bytes script outcome → Tried stop bytes script other → outcome ≡ other
   tried_once scripts never faults stops stop bytes script outcome other (unfit one) (unfit two) = refusals bytes outcome other one two
   tried_once scripts never faults stops stop bytes script outcome other (unfit one) (fit raw is comes) = absurd (apart bytes raw outcome is one)

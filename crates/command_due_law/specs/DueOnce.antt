@@ -13,7 +13,7 @@ use Rattle.command_due.specs.AsmDue.{IsAsmDue, IsDisDue}
 use Rattle.machine_semantics.specs.Image.{Image, Script}
 use Rattle.command_due.specs.Stops.{IsStop}
 use Rattle.command_due.specs.StopDue.{IsWatchDue}
-use Rattle.command_words.specs.declared.stop.Stop.{Stop}
+use Rattle.command_words.specs.declared.stop.Breakpoint.{Breakpoint}
 use Rattle.command_due.specs.Lines.{IsSlackText}
 
 -- ---- a program text
@@ -112,10 +112,10 @@ DisIsOne = (bytes : List ℕ) (outcome other : Outcome) → IsDisDue bytes outco
 
 -- The law: a run stops before one tick.
 abbrev pub StopsAreOne : Type 0
-StopsAreOne = (image : Image) (script : Script) (stop : Stop) (t other : ℕ) → IsStop image script stop t → IsStop image script stop other → t ≡ other
+StopsAreOne = (image : Image) (script : Script) (stop : Breakpoint) (t other : ℕ) → IsStop image script stop t → IsStop image script stop other → t ≡ other
 
 -- The law: what is due of `watch` is one.
 abbrev pub WatchIsOne : Type 0
 WatchIsOne =
-    (stop : Stop) (image script : Option (List ℕ)) (outcome other : Outcome) → IsWatchDue stop image script outcome → IsWatchDue stop image script other
+    (stop : Breakpoint) (image script : Option (List ℕ)) (outcome other : Outcome) → IsWatchDue stop image script outcome → IsWatchDue stop image script other
     → outcome ≡ other

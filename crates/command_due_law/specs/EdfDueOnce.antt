@@ -1,6 +1,6 @@
 -- What is due of `edf` is one.
 use Rattle.std.specs.Prelude.{◌≡◌, ℕ, List, Option}
-use Rattle.syntax_tree.specs.Plain.{Prog}
+use Rattle.syntax_tree.specs.Plain.{Program}
 use Rattle.machine_semantics.specs.Image.{Image}
 use Rattle.image.specs.Named.{NamedImage}
 use Rattle.code_measures.specs.Whole.{HasRanks}
@@ -12,7 +12,7 @@ use Rattle.command_due.specs.EdfDue.{IsEdfDue}
 
 -- The law: the image of a program under earliest deadline first is one.
 abbrev pub EdfImagesAreOne : Type 0
-EdfImagesAreOne = (g : Prog) (m n : NamedImage) → IsEdfImage g m → IsEdfImage g n → m ≡ n
+EdfImagesAreOne = (g : Program) (m n : NamedImage) → IsEdfImage g m → IsEdfImage g n → m ≡ n
 
 -- The law: the test of the demand says one thing of an image with its ranks, ceilings and blocks.
 abbrev pub AnswersAreOne : Type 0

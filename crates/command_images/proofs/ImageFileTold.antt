@@ -6,14 +6,14 @@ use Rattle.image.specs.declared.raw.RawImage.{RawImage}
 use Rattle.image_reader_law.specs.ValidLimits.{ImagesReadHaveFewMonitors, ImagesReadHaveLimits}
 use Rattle.command_due.specs.CommandsDue.{stored}
 use Rattle.assembler.specs.Answer.{Tells}
-use Rattle.assembler.specs.declared.fault.AsmFault.{AsmFault}
-use Rattle.assembler.specs.declared.fault.AsmFault.TheVariants as asm
+use Rattle.assembler.specs.declared.fault.AssemblyFault.{AssemblyFault}
+use Rattle.assembler.specs.declared.fault.AssemblyFault.TheVariants as asm
 use Rattle.asm_law.specs.AsmLaws.{ImagesToldAreHeld, TextsReadAreOfImages}
 use Rattle.command_images.specs.Telling.{IsTold, IsValidText, JudgesTold, LoadsText, TellsImage}
-use Rattle.command_images.specs.declared.telling.TextFault.{TextFault}
-use Rattle.command_images.specs.declared.telling.TextFault.TheVariants as fault
+use Rattle.command_images.specs.declared.telling.ImageTextFault.{ImageTextFault}
+use Rattle.command_images.specs.declared.telling.ImageTextFault.TheVariants as fault
 
-pub tells : (text : List ℕ) → TextsReadAreOfImages → ImagesToldAreHeld → ImagesReadHaveLimits → ImagesReadHaveFewMonitors → (answer : Result RawImage AsmFault) → Tells text answer → TellsImage text answer
+pub tells : (text : List ℕ) → TextsReadAreOfImages → ImagesToldAreHeld → ImagesReadHaveLimits → ImagesReadHaveFewMonitors → (answer : Result RawImage AssemblyFault) → Tells text answer → TellsImage text answer
 tells text read held limits monitors (Ok raw) t =
     let is = read text raw t.short t.is_read t.image in
     let bytes = held text raw is in
@@ -21,7 +21,7 @@ tells text read held limits monitors (Ok raw) t =
 tells text read held limits monitors (Err (asm.Bad number line)) t = t
 tells text read held limits monitors (Err asm.Memory) t = tt
 
-pub loads_text : (text : List ℕ) (raw : RawImage) → ImagesToldAreHeld → IsTold text raw → (answer : Result RawImage TextFault) → JudgesTold raw answer → LoadsText text answer
+pub loads_text : (text : List ℕ) (raw : RawImage) → ImagesToldAreHeld → IsTold text raw → (answer : Result RawImage ImageTextFault) → JudgesTold raw answer → LoadsText text answer
 loads_text text raw held is (Ok same) h =
     subst (λ (x : RawImage). IsValidText text x) (sym h.0)
     (let valid : IsValidText text raw = record { told = is.told; file = record { held = held text raw is.told; valid = h.1 } } in valid)

@@ -12,12 +12,12 @@ use Rattle.image_reader.specs.declared.fault.ImageFault.{ImageFault}
 use Rattle.image_reader.specs.declared.fault.ImageFault.TheVariants as image_fault
 use Rattle.asm_format.specs.Text.{text_of}
 use Rattle.command_images.specs.Telling.{IsInvalidText, LoadsText}
-use Rattle.command_images.specs.declared.telling.TextFault.{TextFault}
-use Rattle.command_images.specs.declared.telling.TextFault.TheVariants as text_fault
+use Rattle.command_images.specs.declared.telling.ImageTextFault.{ImageTextFault}
+use Rattle.command_images.specs.declared.telling.ImageTextFault.TheVariants as text_fault
 use Rattle.command_due.specs.CommandsDue.{Outcome, told, stored, image_fault_line, valid_fault_line}
 use Rattle.assembler.specs.Faults.{longest_text}
 use Rattle.command_due.specs.AsmDue.{keeps, text_fault_line, IsAsmDue, asm_faulty, asm_invalid, assembled, IsDisDue, dis_misread, disassembled}
-use Rattle.command_answers.specs.declared.act.Act.{Act}
+use Rattle.command_answers.specs.declared.act.PreparedCall.{PreparedCall}
 use Rattle.command_answers.specs.declared.status.Status.TheVariants as status
 use Rattle.command_answers.specs.Acts.{outcome_of}
 use Rattle.command_answers.specs.Acting.{puts}
@@ -26,31 +26,31 @@ use Rattle.command_images.specs.Held.{HasNames}
 
 -- ---- `asm`
 
-pub loaded_range : ImagesReadCanBeWritten → (text : List ℕ) (answer : Result RawImage TextFault) → LoadsText text answer → IfOk answer (λ raw. IsInRange (named_of raw))
+pub loaded_range : ImagesReadCanBeWritten → (text : List ℕ) (answer : Result RawImage ImageTextFault) → LoadsText text answer → IfOk answer (λ raw. IsInRange (named_of raw))
 loaded_range law text (Ok raw) is = law (stored (named_of raw)) raw is.file.held
 loaded_range law text (Err why) is = tt
 
 pub long_text : (text : List ℕ) → longest_text < length text → LoadsText text (Err (text_fault.Text 3 0))
 long_text text long = inl (record { long = long; is = refl; nowhere = refl })
 
-pub faulty_image_text : (why : TextFault) (number line : ℕ) → why ≡ text_fault.Text number line → (text : List ℕ) → LoadsText text (Err why) → IsAsmDue text (told 4 (text_fault_line number line))
-faulty_image_text why number line is text answer = asm_faulty number line (subst (λ (w : TextFault). LoadsText text (Err w)) is answer) refl
+pub faulty_image_text : (why : ImageTextFault) (number line : ℕ) → why ≡ text_fault.Text number line → (text : List ℕ) → LoadsText text (Err why) → IsAsmDue text (told 4 (text_fault_line number line))
+faulty_image_text why number line is text answer = asm_faulty number line (subst (λ (w : ImageTextFault). LoadsText text (Err w)) is answer) refl
 
-pub invalid_image_text : (why : TextFault) (number a b : ℕ) → why ≡ text_fault.Invalid number a b → (text : List ℕ) → LoadsText text (Err why)
+pub invalid_image_text : (why : ImageTextFault) (number a b : ℕ) → why ≡ text_fault.Invalid number a b → (text : List ℕ) → LoadsText text (Err why)
     → IsAsmDue text (told 4 (valid_fault_line (record { number = number; a = a; b = b })))
 invalid_image_text why number a b is text answer =
-    let found : IsInvalidText text number a b = subst (λ (w : TextFault). LoadsText text (Err w)) is answer in
+    let found : IsInvalidText text number a b = subst (λ (w : ImageTextFault). LoadsText text (Err w)) is answer in
     asm_invalid found.raw (record { number = number; a = a; b = b }) found.told found.first refl
 
 pub refused_text_line : (line : List ℕ) (text : List ℕ) → IsAsmDue text (told 4 line) → IsAsmDue text (outcome_of (puts status.Image line))
 refused_text_line line text is = subst (λ (o : Outcome). IsAsmDue text o) (sym (outcome_of_puts status.Image line)) is
 
-pub assembled_image : {E : Type 0} (raw : RawImage) (P : List ℕ → Type 0) (made : Result Act E) → ((text : List ℕ) → P text → LoadsText text (Ok raw))
+pub assembled_image : {E : Type 0} (raw : RawImage) (P : List ℕ → Type 0) (made : Result PreparedCall E) → ((text : List ℕ) → P text → LoadsText text (Ok raw))
     → IfOk made (λ act. outcome_of act ≡ keeps (stored (named_of raw))) → IfOk made (λ act. (text : List ℕ) → P text → IsAsmDue text (outcome_of act))
 assembled_image raw P (Ok act) loads is = λ text p. assembled raw (loads text p).told (loads text p).file.valid is
 assembled_image raw P (Err e) loads is = tt
 
-pub refused_asm : {E : Type 0} (why : TextFault) (P : List ℕ → Type 0) (made : Result Act E) → ((text : List ℕ) → P text → LoadsText text (Err why))
+pub refused_asm : {E : Type 0} (why : ImageTextFault) (P : List ℕ → Type 0) (made : Result PreparedCall E) → ((text : List ℕ) → P text → LoadsText text (Err why))
     → IfOk made (λ act. (text : List ℕ) → LoadsText text (Err why) → IsAsmDue text (outcome_of act)) → IfOk made (λ act. (text : List ℕ) → P text → IsAsmDue text (outcome_of act))
 refused_asm why P (Ok act) answer due = λ text p. due text (answer text p)
 refused_asm why P (Err e) answer due = tt
@@ -77,12 +77,12 @@ misread_bytes why number offset is bytes answer = dis_misread number offset (sub
 pub refused_bytes_line : (line : List ℕ) (bytes : List ℕ) → IsDisDue bytes (told 4 line) → IsDisDue bytes (outcome_of (puts status.Image line))
 refused_bytes_line line bytes is = subst (λ (o : Outcome). IsDisDue bytes o) (sym (outcome_of_puts status.Image line)) is
 
-pub told_image : {E : Type 0} (raw : RawImage) (P : List ℕ → Type 0) (made : Result Act E) → ((bytes : List ℕ) → P bytes → Tells bytes (Ok raw))
+pub told_image : {E : Type 0} (raw : RawImage) (P : List ℕ → Type 0) (made : Result PreparedCall E) → ((bytes : List ℕ) → P bytes → Tells bytes (Ok raw))
     → IfOk made (λ act. outcome_of act ≡ keeps (text_of (named_of raw))) → IfOk made (λ act. (bytes : List ℕ) → P bytes → IsDisDue bytes (outcome_of act))
 told_image raw P (Ok act) loads is = λ bytes p. disassembled raw (loads bytes p) is
 told_image raw P (Err e) loads is = tt
 
-pub refused_dis : {E : Type 0} (why : ImageFault) (P : List ℕ → Type 0) (made : Result Act E) → ((bytes : List ℕ) → P bytes → Tells bytes (Err why))
+pub refused_dis : {E : Type 0} (why : ImageFault) (P : List ℕ → Type 0) (made : Result PreparedCall E) → ((bytes : List ℕ) → P bytes → Tells bytes (Err why))
     → IfOk made (λ act. (bytes : List ℕ) → Tells bytes (Err why) → IsDisDue bytes (outcome_of act)) → IfOk made (λ act. (bytes : List ℕ) → P bytes → IsDisDue bytes (outcome_of act))
 refused_dis why P (Ok act) answer due = λ bytes p. due bytes (answer bytes p)
 refused_dis why P (Err e) answer due = tt

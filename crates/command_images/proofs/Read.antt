@@ -6,10 +6,10 @@ use Rattle.image.specs.declared.raw.RawImage.{RawImage}
 use Rattle.outside.specs.Outside.{FilesState, AllStay, NoneFell, Rose}
 use Rattle.command_words.specs.Calls as call
 use Rattle.command_due.specs.CommandsDue.{Outcome, IsImageFile, IsImageRefused, IsRunDue, run_refused, run_bad_script, ran}
-use Rattle.command_answers.specs.declared.act.Act.{Act}
+use Rattle.command_answers.specs.declared.act.PreparedCall.{PreparedCall}
 use Rattle.command_answers.specs.Acts.{outcome_of}
-use Rattle.command_answers.specs.declared.unready.Unready.{Unready}
-use Rattle.command_answers.specs.declared.unready.Unready.TheVariants as unready
+use Rattle.command_answers.specs.declared.prepare_error.PrepareError.{PrepareError}
+use Rattle.command_answers.specs.declared.prepare_error.PrepareError.TheVariants as unready
 use Rattle.command_answers.specs.Acting.{CanBeDone}
 use Rattle.command_answers.specs.Prepared.{Prepares, ReadsFailed}
 use Rattle.command_answers.specs.Scripted as scripted
@@ -48,7 +48,7 @@ run_script_failed tells image script before mid now P raw is loads first rose =
       of_held tells (before.held image) P (λ bytes. (r : RawImage) × IsImageFile bytes r) is (λ bytes p. (raw, loads bytes p)),
     ))
 
-pub run_prepares : (tells : Bool) (image script : List ℕ) (before mid now : FilesState) (P : List ℕ → Type 0) (raw : RawImage) (result : Result Act Unready)
+pub run_prepares : (tells : Bool) (image script : List ℕ) (before mid now : FilesState) (P : List ℕ → Type 0) (raw : RawImage) (result : Result PreparedCall PrepareError)
     → OnTrue tells (IsSomeAnd (before.held image) P) → ((bytes : List ℕ) → P bytes → IsImageFile bytes raw) → AllStay before.held mid.held → NoneFell before.read_faults mid.read_faults
     → IfOk result (λ act. OnTrue tells (IsSomeAnd (mid.held script) (λ other. IsRawRunDue raw other (outcome_of act)))) → IfOk result (CanBeDone None)
     → (result ≡ Err unready.Unread → Rose (mid.read_faults script) (now.read_faults script)) → Prepares tells (call.run image script) before now result

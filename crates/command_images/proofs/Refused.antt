@@ -12,7 +12,7 @@ use Rattle.command_images.specs.Loading.{IsInvalid, Loads}
 use Rattle.command_images.specs.declared.loading.FileFault.{FileFault}
 use Rattle.command_images.specs.declared.loading.FileFault.TheVariants as file_fault
 use Rattle.command_due.specs.CommandsDue.{Outcome, told, image_fault_line, valid_fault_line, IsImageFile, IsImageRefused, misread, invalid, IsMigrateDue, migrate_refused, migrated, stored}
-use Rattle.command_answers.specs.declared.act.Act.{Act}
+use Rattle.command_answers.specs.declared.act.PreparedCall.{PreparedCall}
 use Rattle.command_answers.specs.declared.status.Status.TheVariants as status
 use Rattle.command_answers.specs.Acts.{outcome_of}
 use Rattle.command_answers.specs.Acting.{puts}
@@ -43,12 +43,12 @@ invalid_image why number a b is bytes answer =
 pub refused_line : (line : List ℕ) (bytes : List ℕ) → IsImageRefused bytes (told 4 line) → IsImageRefused bytes (outcome_of (puts status.Image line))
 refused_line line bytes is = subst (λ (o : Outcome). IsImageRefused bytes o) (sym (outcome_of_puts status.Image line)) is
 
-pub migrated_image : {E : Type 0} (raw : RawImage) (P : List ℕ → Type 0) (made : Result Act E) → ((bytes : List ℕ) → P bytes → IsImageFile bytes raw)
+pub migrated_image : {E : Type 0} (raw : RawImage) (P : List ℕ → Type 0) (made : Result PreparedCall E) → ((bytes : List ℕ) → P bytes → IsImageFile bytes raw)
     → IfOk made (λ act. outcome_of act ≡ keeps (stored (named_of raw))) → IfOk made (λ act. (bytes : List ℕ) → P bytes → IsMigrateDue bytes (outcome_of act))
 migrated_image raw P (Ok act) loads is = λ bytes p. migrated raw (loads bytes p) is
 migrated_image raw P (Err e) loads is = tt
 
-pub refused_migrate : {E : Type 0} (why : FileFault) (P : List ℕ → Type 0) (made : Result Act E) → ((bytes : List ℕ) → P bytes → Loads bytes (Err why))
+pub refused_migrate : {E : Type 0} (why : FileFault) (P : List ℕ → Type 0) (made : Result PreparedCall E) → ((bytes : List ℕ) → P bytes → Loads bytes (Err why))
     → IfOk made (λ act. (bytes : List ℕ) → Loads bytes (Err why) → IsImageRefused bytes (outcome_of act)) → IfOk made (λ act. (bytes : List ℕ) → P bytes → IsMigrateDue bytes (outcome_of act))
 refused_migrate why P (Ok act) answer due = λ bytes p. migrate_refused (due bytes (answer bytes p))
 refused_migrate why P (Err e) answer due = tt

@@ -5,12 +5,12 @@ use Rattle.image.specs.declared.raw.RawImage.{RawImage}
 use Rattle.valid_image.specs.Valid.{IsValid, fault_of}
 use Rattle.loader.specs.Verified.{HasRanges}
 use Rattle.command_due.specs.CommandsDue.{IsImageFile, stored}
-use Rattle.assembler.specs.declared.fault.AsmFault.{AsmFault}
-use Rattle.assembler.specs.declared.fault.AsmFault.TheVariants as asm
+use Rattle.assembler.specs.declared.fault.AssemblyFault.{AssemblyFault}
+use Rattle.assembler.specs.declared.fault.AssemblyFault.TheVariants as asm
 use Rattle.assembler.specs.Faults.{IsFaultOf}
 use Rattle.command_due.specs.Texts.{IsTextOf}
-use Rattle.command_images.specs.declared.telling.TextFault.{TextFault}
-use Rattle.command_images.specs.declared.telling.TextFault.TheVariants as fault
+use Rattle.command_images.specs.declared.telling.ImageTextFault.{ImageTextFault}
+use Rattle.command_images.specs.declared.telling.ImageTextFault.TheVariants as fault
 
 -- the text is that of the image, and the image's bytes hold it and are those of a valid one
 pub record IsValidText (text : List ℕ) (raw : RawImage) : Type 0 where
@@ -24,7 +24,7 @@ pub record IsInvalidText (text : List ℕ) (number a b : ℕ) : Type 0 where
   pub first : fault_of (image_of raw) ≡ Some (record { number = number; a = a; b = b })
 
 -- want of memory says nothing of the text
-abbrev pub LoadsText : List ℕ → Result RawImage TextFault → Type 0
+abbrev pub LoadsText : List ℕ → Result RawImage ImageTextFault → Type 0
 LoadsText text (Ok raw) = IsValidText text raw
 LoadsText text (Err (fault.Text number line)) = IsFaultOf text number line
 LoadsText text (Err (fault.Invalid number a b)) = IsInvalidText text number a b
@@ -37,13 +37,13 @@ pub record IsTold (text : List ℕ) (raw : RawImage) : Type 0 where
   pub told : IsTextOf text raw
   pub ranges : HasRanges raw
 
-abbrev pub TellsImage : List ℕ → Result RawImage AsmFault → Type 0
+abbrev pub TellsImage : List ℕ → Result RawImage AssemblyFault → Type 0
 TellsImage text (Ok raw) = IsTold text raw
 TellsImage text (Err (asm.Bad number line)) = IsFaultOf text number line
 TellsImage text (Err asm.Memory) = Unit {0}
 
 -- of an image that a text tells: the same, which is valid, or its first fault
-abbrev pub JudgesTold : RawImage → Result RawImage TextFault → Type 0
+abbrev pub JudgesTold : RawImage → Result RawImage ImageTextFault → Type 0
 JudgesTold raw (Ok same) = (same ≡ raw) × IsValid (image_of raw)
 JudgesTold raw (Err (fault.Text number line)) = ⊥
 JudgesTold raw (Err (fault.Invalid number a b)) = fault_of (image_of raw) ≡ Some (record { number = number; a = a; b = b })

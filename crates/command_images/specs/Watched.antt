@@ -8,16 +8,16 @@ use Rattle.script.specs.declared.fault.ScriptFault.{ScriptFault}
 use Rattle.script.specs.Scripts.{IsScript}
 use Rattle.command_due.specs.CommandsDue.{Outcome, told, IsScriptFault, bad_script}
 use Rattle.command_due.specs.StopDue.{IsStopText}
-use Rattle.command_words.specs.declared.stop.Stop.{Stop}
+use Rattle.command_words.specs.declared.stop.Breakpoint.{Breakpoint}
 
 -- the state where the run over these lines stops is put
-abbrev pub IsSeen : Stop → RawImage → List ScriptLine → (end : ℕ) → Outcome → Type 0
+abbrev pub IsSeen : Breakpoint → RawImage → List ScriptLine → (end : ℕ) → Outcome → Type 0
 IsSeen stop raw lines end outcome = (text : List ℕ) × IsStopText (named_of raw) lines end stop text × (outcome ≡ told 0 text)
 
-abbrev pub IsTold : Stop → RawImage → Script → Outcome → Type 0
+abbrev pub IsTold : Breakpoint → RawImage → Script → Outcome → Type 0
 IsTold stop raw script outcome = IsSeen stop raw script.lines script.end outcome
 
 -- the line of the text's fault, or the state of the run over its script
-pub data IsSeenDue (stop : Stop) (raw : RawImage) (text : List ℕ) (outcome : Outcome) : Type 0 where
+pub data IsSeenDue (stop : Breakpoint) (raw : RawImage) (text : List ℕ) (outcome : Outcome) : Type 0 where
   misspelled : (fault : ScriptFault) → IsScriptFault (named_of raw) text fault → outcome ≡ bad_script fault → IsSeenDue stop raw text outcome
   seen : (lines : List ScriptLine) (end : ℕ) → IsScript raw.names text lines end → IsSeen stop raw lines end outcome → IsSeenDue stop raw text outcome

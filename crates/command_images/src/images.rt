@@ -17,7 +17,7 @@ ghost use Rattle.command_answers.specs.Runnable.{IsRunnable};
 
 use crate::{FileFault, load};
 use command_answers::{
-    Act, Content, LONGEST_IMAGE, Status, Store, Unready, image_fault_line, put, read,
+    Content, LONGEST_IMAGE, PrepareError, PreparedCall, Status, Store, image_fault_line, put, read,
     valid_fault_line,
 };
 use image::{RawImage, write_image};
@@ -26,8 +26,8 @@ use image_reader_law::images_read_can_be_written;
 use outside::Files;
 use std::alloc::{AllocError, Global};
 use syntax_tree::Text;
-use vm_law::script_suits::scripts_suit;
-use vm_plan::plan_laws::valid_images_read_are_ready;
+use vm_law::suitable_scripts::scripts_suit;
+use vm_plan::runnable_images::valid_images_read_are_ready;
 
 /// The valid image that bytes are, which can be run and stored.
 fn load_bytes(alloc: Global, bytes: &[u8]) -> Result<RawImage, FileFault>
@@ -52,7 +52,7 @@ pub fn load_content(alloc: Global, content: &Content) -> Result<RawImage, FileFa
 {
     match content {
         Content::Bytes(bytes) => load_bytes(alloc, bytes.as_slice()),
-        Content::Long => Err(FileFault::Image {
+        Content::TooLong => Err(FileFault::Image {
             number: refusal::LONG,
             offset: LONGEST_IMAGE as u32,
         }),
@@ -72,7 +72,7 @@ fn line_of(alloc: Global, fault: FileFault) -> Result<Text, AllocError>
 }
 
 /// The act for bytes that are no valid image: it puts the line of their fault.
-pub fn refuse_image<'a>(alloc: Global, fault: FileFault) -> Result<Act<'a>, AllocError>
+pub fn refuse_image<'a>(alloc: Global, fault: FileFault) -> Result<PreparedCall<'a>, AllocError>
     ensures due { IfOk result (λ act. (bytes : List ℕ) → Loads bytes (Err fault) →
         IsImageRefused bytes (outcome_of act)) }
     ensures quiet { IfOk result IsQuiet }
@@ -86,13 +86,13 @@ pub fn store_image<'a>(
     alloc: Global,
     raw: &RawImage,
     target: &'a str,
-) -> Result<Act<'a>, AllocError>
+) -> Result<PreparedCall<'a>, AllocError>
     requires { IsInRange (named_of raw.now) }
     ensures outcome { IfOk result (λ act. outcome_of act ≡ keeps (stored (named_of raw.now))) }
     ensures done { IfOk result (CanBeDone (Some target.now)) }
 {
     let bytes = write_image(alloc, raw)?;
-    Ok(Act {
+    Ok(PreparedCall {
         status: Status::Done,
         text: Text::new(alloc),
         store: Some(Store {
@@ -104,7 +104,11 @@ pub fn store_image<'a>(
 }
 
 /// The act of `migrate` for what the image's file holds.
-fn migrate_act<'a>(alloc: Global, content: &Content, target: &'a str) -> Result<Act<'a>, AllocError>
+fn migrate_act<'a>(
+    alloc: Global,
+    content: &Content,
+    target: &'a str,
+) -> Result<PreparedCall<'a>, AllocError>
     ensures due { IfOk result (λ act. (bytes : List ℕ) → IsContent longest content.now bytes →
         IsMigrateDue bytes (outcome_of act)) }
     ensures done { IfOk result (CanBeDone (Some target.now)) }
@@ -121,7 +125,7 @@ pub fn prepare_migrate<'a, F: Files>(
     image: &str,
     target: &'a str,
     files: &mut F,
-) -> Result<Act<'a>, Unready>
+) -> Result<PreparedCall<'a>, PrepareError>
     ensures prepared { Prepares F.tells (call.migrate image.now target.now) (F.state files.old)
         (F.state files.new) result }
     ensures files { AllStay (F.state files.old).held (F.state files.new).held }
@@ -132,6 +136,6 @@ pub fn prepare_migrate<'a, F: Files>(
     let content = read(files, image, LONGEST_IMAGE)?;
     match migrate_act(alloc, &content, target) {
         Ok(act) => Ok(act),
-        Err(_) => Err(Unready::Memory),
+        Err(_) => Err(PrepareError::Memory),
     }
 }

@@ -17,6 +17,6 @@ mod watching;
 pub use images::prepare_migrate;
 pub use loading::{FileFault, load};
 pub use running::prepare_run;
-pub use telling::{TextFault, load_text};
+pub use telling::{ImageTextFault, load_text};
 pub use texts::{prepare_asm, prepare_dis};
 pub use watching::prepare_watch;

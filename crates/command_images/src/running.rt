@@ -14,8 +14,8 @@ ghost use Rattle.command_images.specs.Scripted.{IsRawRunDue, raw_run};
 
 use crate::images::{load_content, refuse_image};
 use command_answers::{
-    Act, Content, Dispatch, LONGEST_IMAGE, LONGEST_SCRIPT, Run, Status, Unready, judge_script,
-    read, refuse_script,
+    Content, Dispatch, LONGEST_IMAGE, LONGEST_SCRIPT, PrepareError, PreparedCall, PreparedRun,
+    Status, judge_script, read, refuse_script,
 };
 use image::RawImage;
 use outside::Files;
@@ -24,16 +24,16 @@ use std::alloc::{AllocError, Global};
 use syntax_tree::Text;
 
 /// The act that runs an image over a script.
-fn run_raw<'a>(alloc: Global, image: RawImage, script: Script) -> Act<'a>
+fn run_raw<'a>(alloc: Global, image: RawImage, script: Script) -> PreparedCall<'a>
     requires { RunsRaw image script }
     ensures outcome { outcome_of result ≡ raw_run image script }
     ensures done { CanBeDone None result }
 {
-    Act {
+    PreparedCall {
         status: Status::Done,
         text: Text::new(alloc),
         store: None,
-        run: Some(Run {
+        run: Some(PreparedRun {
             image,
             script,
             dispatch: Dispatch::Ranks,
@@ -42,7 +42,11 @@ fn run_raw<'a>(alloc: Global, image: RawImage, script: Script) -> Act<'a>
 }
 
 /// The act of `run` for what the script's file holds, where the image is a valid one.
-fn run_act<'a>(alloc: Global, raw: RawImage, content: &Content) -> Result<Act<'a>, AllocError>
+fn run_act<'a>(
+    alloc: Global,
+    raw: RawImage,
+    content: &Content,
+) -> Result<PreparedCall<'a>, AllocError>
     requires { IsRunnable raw }
     ensures due { IfOk result (λ act. (text : List ℕ) → IsContent longest_text content.now text →
         IsRawRunDue raw text (outcome_of act)) }
@@ -60,7 +64,7 @@ fn run_on<'a, F: Files>(
     raw: RawImage,
     script: &str,
     files: &mut F,
-) -> Result<Act<'a>, Unready>
+) -> Result<PreparedCall<'a>, PrepareError>
     requires { IsRunnable raw }
     ensures due { IfOk result (λ act. OnTrue F.tells
         (IsSomeAnd ((F.state files.old).held script.now)
@@ -77,7 +81,7 @@ fn run_on<'a, F: Files>(
     let content = read(files, script, LONGEST_SCRIPT)?;
     match run_act(alloc, raw, &content) {
         Ok(act) => Ok(act),
-        Err(_) => Err(Unready::Memory),
+        Err(_) => Err(PrepareError::Memory),
     }
 }
 
@@ -87,7 +91,7 @@ pub fn prepare_run<'a, F: Files>(
     image: &str,
     script: &str,
     files: &mut F,
-) -> Result<Act<'a>, Unready>
+) -> Result<PreparedCall<'a>, PrepareError>
     ensures prepared { Prepares F.tells (call.run image.now script.now) (F.state files.old)
         (F.state files.new) result }
     ensures files { AllStay (F.state files.old).held (F.state files.new).held }
@@ -100,7 +104,7 @@ pub fn prepare_run<'a, F: Files>(
         Ok(raw) => run_on(alloc, raw, script, files),
         Err(fault) => match refuse_image(alloc, fault) {
             Ok(act) => Ok(act),
-            Err(_) => Err(Unready::Memory),
+            Err(_) => Err(PrepareError::Memory),
         },
     }
 }

@@ -19,11 +19,11 @@ ghost use Rattle.command_words.specs.Calls as call;
 ghost use Rattle.command_images.specs.Held.{HasNames};
 
 use crate::images::store_image;
-use crate::{TextFault, load_text};
+use crate::{ImageTextFault, load_text};
 use assembler::LONG_TEXT;
 use command_answers::{
-    Act, Content, LONGEST_IMAGE, LONGEST_IMAGE_TEXT, Status, Store, Unready, image_fault_line, put,
-    read, text_fault_line, valid_fault_line,
+    Content, LONGEST_IMAGE, LONGEST_IMAGE_TEXT, PrepareError, PreparedCall, Status, Store,
+    image_fault_line, put, read, text_fault_line, valid_fault_line,
 };
 use disassembler::dis;
 use image::RawImage;
@@ -37,7 +37,7 @@ use syntax_tree::Text;
 // ---- `asm`
 
 /// The valid image that a text tells, which can be stored.
-fn load_lines(alloc: Global, text: &[u8]) -> Result<RawImage, TextFault>
+fn load_lines(alloc: Global, text: &[u8]) -> Result<RawImage, ImageTextFault>
     ensures loads { LoadsText text.now result }
     ensures range { IfOk result (λ raw. IsInRange (named_of raw)) }
 {
@@ -50,14 +50,14 @@ fn load_lines(alloc: Global, text: &[u8]) -> Result<RawImage, TextFault>
 /// # Errors
 ///
 /// As those of `load_text`; the fault of a text that is too long is 3, on line 0.
-fn load_content(alloc: Global, content: &Content) -> Result<RawImage, TextFault>
+fn load_content(alloc: Global, content: &Content) -> Result<RawImage, ImageTextFault>
     ensures loads { (text : List ℕ) → IsContent longest_text content.now text →
         LoadsText text result }
     ensures range { IfOk result (λ raw. IsInRange (named_of raw)) }
 {
     match content {
         Content::Bytes(text) => load_lines(alloc, text.as_slice()),
-        Content::Long => Err(TextFault::Text {
+        Content::TooLong => Err(ImageTextFault::Text {
             number: LONG_TEXT,
             line: 0,
         }),
@@ -65,19 +65,19 @@ fn load_content(alloc: Global, content: &Content) -> Result<RawImage, TextFault>
 }
 
 /// The line of the fault of a text that is that of no valid image.
-fn line_of_text(alloc: Global, fault: TextFault) -> Result<Text, AllocError>
+fn line_of_text(alloc: Global, fault: ImageTextFault) -> Result<Text, AllocError>
     ensures { IfOk result (λ line. (text : List ℕ) → LoadsText text (Err fault) →
         IsAsmDue text (told 4 line)) }
 {
     match fault {
-        TextFault::Text { number, line } => text_fault_line(alloc, number, line),
-        TextFault::Invalid { number, a, b } => valid_fault_line(alloc, number, a, b),
-        TextFault::Memory => Err(AllocError),
+        ImageTextFault::Text { number, line } => text_fault_line(alloc, number, line),
+        ImageTextFault::Invalid { number, a, b } => valid_fault_line(alloc, number, a, b),
+        ImageTextFault::Memory => Err(AllocError),
     }
 }
 
 /// The act for a text that is that of no valid image: it puts the line of its fault.
-fn refuse_text<'a>(alloc: Global, fault: TextFault) -> Result<Act<'a>, AllocError>
+fn refuse_text<'a>(alloc: Global, fault: ImageTextFault) -> Result<PreparedCall<'a>, AllocError>
     ensures due { IfOk result (λ act. (text : List ℕ) → LoadsText text (Err fault) →
         IsAsmDue text (outcome_of act)) }
     ensures quiet { IfOk result IsQuiet }
@@ -87,7 +87,11 @@ fn refuse_text<'a>(alloc: Global, fault: TextFault) -> Result<Act<'a>, AllocErro
 }
 
 /// The act of `asm` for what the text's file holds.
-fn asm_act<'a>(alloc: Global, content: &Content, image: &'a str) -> Result<Act<'a>, AllocError>
+fn asm_act<'a>(
+    alloc: Global,
+    content: &Content,
+    image: &'a str,
+) -> Result<PreparedCall<'a>, AllocError>
     ensures due { IfOk result (λ act. (text : List ℕ) → IsContent longest_text content.now text →
         IsAsmDue text (outcome_of act)) }
     ensures done { IfOk result (CanBeDone (Some image.now)) }
@@ -104,7 +108,7 @@ pub fn prepare_asm<'a, F: Files>(
     text: &str,
     image: &'a str,
     files: &mut F,
-) -> Result<Act<'a>, Unready>
+) -> Result<PreparedCall<'a>, PrepareError>
     ensures prepared { Prepares F.tells (call.asm text.now image.now) (F.state files.old)
         (F.state files.new) result }
     ensures files { AllStay (F.state files.old).held (F.state files.new).held }
@@ -115,7 +119,7 @@ pub fn prepare_asm<'a, F: Files>(
     let content = read(files, text, LONGEST_IMAGE_TEXT)?;
     match asm_act(alloc, &content, image) {
         Ok(act) => Ok(act),
-        Err(_) => Err(Unready::Memory),
+        Err(_) => Err(PrepareError::Memory),
     }
 }
 
@@ -141,7 +145,7 @@ fn read_content(alloc: Global, content: &Content) -> Result<RawImage, ImageFault
 {
     match content {
         Content::Bytes(bytes) => read_bytes(alloc, bytes.as_slice()),
-        Content::Long => Err(ImageFault::Bad {
+        Content::TooLong => Err(ImageFault::Bad {
             number: refusal::LONG,
             offset: LONGEST_IMAGE as u32,
         }),
@@ -149,14 +153,18 @@ fn read_content(alloc: Global, content: &Content) -> Result<RawImage, ImageFault
 }
 
 /// The act that stores the text of an image under the name `target`.
-fn store_text<'a>(alloc: Global, raw: &RawImage, target: &'a str) -> Result<Act<'a>, AllocError>
+fn store_text<'a>(
+    alloc: Global,
+    raw: &RawImage,
+    target: &'a str,
+) -> Result<PreparedCall<'a>, AllocError>
     requires { HasNames raw.now }
     ensures outcome { IfOk result (λ act. outcome_of act ≡ keeps (text_of (named_of raw.now))) }
     ensures done { IfOk result (CanBeDone (Some target.now)) }
 {
     let text = dis(alloc, raw)?;
     let bytes = Vec::from_slice(alloc, text.as_bytes())?;
-    Ok(Act {
+    Ok(PreparedCall {
         status: Status::Done,
         text: Text::new(alloc),
         store: Some(Store {
@@ -179,7 +187,7 @@ fn line_of_bytes(alloc: Global, fault: ImageFault) -> Result<Text, AllocError>
 }
 
 /// The act for bytes that are no image: it puts the line of their fault.
-fn refuse_bytes<'a>(alloc: Global, fault: ImageFault) -> Result<Act<'a>, AllocError>
+fn refuse_bytes<'a>(alloc: Global, fault: ImageFault) -> Result<PreparedCall<'a>, AllocError>
     ensures due { IfOk result (λ act. (bytes : List ℕ) → Tells bytes (Err fault) →
         IsDisDue bytes (outcome_of act)) }
     ensures quiet { IfOk result IsQuiet }
@@ -189,7 +197,11 @@ fn refuse_bytes<'a>(alloc: Global, fault: ImageFault) -> Result<Act<'a>, AllocEr
 }
 
 /// The act of `dis` for what the image's file holds.
-fn dis_act<'a>(alloc: Global, content: &Content, text: &'a str) -> Result<Act<'a>, AllocError>
+fn dis_act<'a>(
+    alloc: Global,
+    content: &Content,
+    text: &'a str,
+) -> Result<PreparedCall<'a>, AllocError>
     ensures due { IfOk result (λ act. (bytes : List ℕ) → IsContent longest content.now bytes →
         IsDisDue bytes (outcome_of act)) }
     ensures done { IfOk result (CanBeDone (Some text.now)) }
@@ -206,7 +218,7 @@ pub fn prepare_dis<'a, F: Files>(
     image: &str,
     text: &'a str,
     files: &mut F,
-) -> Result<Act<'a>, Unready>
+) -> Result<PreparedCall<'a>, PrepareError>
     ensures prepared { Prepares F.tells (call.dis image.now text.now) (F.state files.old)
         (F.state files.new) result }
     ensures files { AllStay (F.state files.old).held (F.state files.new).held }
@@ -217,6 +229,6 @@ pub fn prepare_dis<'a, F: Files>(
     let content = read(files, image, LONGEST_IMAGE)?;
     match dis_act(alloc, &content, text) {
         Ok(act) => Ok(act),
-        Err(_) => Err(Unready::Memory),
+        Err(_) => Err(PrepareError::Memory),
     }
 }

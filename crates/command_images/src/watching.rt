@@ -14,10 +14,10 @@ ghost use Rattle.command_images.specs.Watched.{IsSeenDue, IsTold};
 
 use crate::images::{load_content, refuse_image};
 use command_answers::{
-    Act, Content, LONGEST_IMAGE, LONGEST_SCRIPT, Status, Unready, judge_script, put, read,
-    refuse_script,
+    Content, LONGEST_IMAGE, LONGEST_SCRIPT, PrepareError, PreparedCall, Status, judge_script, put,
+    read, refuse_script,
 };
-use command_words::Stop;
+use command_words::Breakpoint;
 use image::RawImage;
 use outside::Files;
 use script::Script;
@@ -29,8 +29,8 @@ fn put_seen<'a>(
     alloc: Global,
     raw: &RawImage,
     script: &Script,
-    stop: Stop,
-) -> Result<Act<'a>, AllocError>
+    stop: Breakpoint,
+) -> Result<PreparedCall<'a>, AllocError>
     requires { RunsRaw raw.now script.now }
     ensures told { IfOk result (λ act. IsTold stop raw.now script.now (outcome_of act)) }
     ensures quiet { IfOk result IsQuiet }
@@ -44,8 +44,8 @@ fn watch_act<'a>(
     alloc: Global,
     raw: &RawImage,
     content: &Content,
-    stop: Stop,
-) -> Result<Act<'a>, AllocError>
+    stop: Breakpoint,
+) -> Result<PreparedCall<'a>, AllocError>
     requires { IsRunnable raw.now }
     ensures due { IfOk result (λ act. (text : List ℕ) → IsContent longest_text content.now text →
         IsSeenDue stop raw.now text (outcome_of act)) }
@@ -62,9 +62,9 @@ fn watch_on<'a, F: Files>(
     alloc: Global,
     raw: &RawImage,
     script: &str,
-    stop: Stop,
+    stop: Breakpoint,
     files: &mut F,
-) -> Result<Act<'a>, Unready>
+) -> Result<PreparedCall<'a>, PrepareError>
     requires { IsRunnable raw.now }
     ensures due { IfOk result (λ act. OnTrue F.tells
         (IsSomeAnd ((F.state files.old).held script.now)
@@ -81,7 +81,7 @@ fn watch_on<'a, F: Files>(
     let content = read(files, script, LONGEST_SCRIPT)?;
     match watch_act(alloc, raw, &content, stop) {
         Ok(act) => Ok(act),
-        Err(_) => Err(Unready::Memory),
+        Err(_) => Err(PrepareError::Memory),
     }
 }
 
@@ -90,9 +90,9 @@ pub fn prepare_watch<'a, F: Files>(
     alloc: Global,
     image: &str,
     script: &str,
-    stop: Stop,
+    stop: Breakpoint,
     files: &mut F,
-) -> Result<Act<'a>, Unready>
+) -> Result<PreparedCall<'a>, PrepareError>
     ensures prepared { Prepares F.tells (call.watch image.now script.now stop)
         (F.state files.old) (F.state files.new) result }
     ensures files { AllStay (F.state files.old).held (F.state files.new).held }
@@ -105,7 +105,7 @@ pub fn prepare_watch<'a, F: Files>(
         Ok(raw) => watch_on(alloc, &raw, script, stop, files),
         Err(fault) => match refuse_image(alloc, fault) {
             Ok(act) => Ok(act),
-            Err(_) => Err(Unready::Memory),
+            Err(_) => Err(PrepareError::Memory),
         },
     }
 }

@@ -3,7 +3,7 @@ use Rattle.std.proofs.Common.{◌≡◌, ◌∙◌, ℕ, List, [], ◌∷◌, So
 use Rattle.std.specs.Prelude.{All, IfOk}
 use Rattle.command_answers.specs.declared.act.Dispatch.{Dispatch}
 use Rattle.command_answers.specs.declared.act.Dispatch.TheVariants as dispatch
-use Rattle.command_answers.specs.declared.act.Run.{Run}
+use Rattle.command_answers.specs.declared.act.PreparedRun.{PreparedRun}
 use Rattle.command_answers.specs.Acts.{CanRun, CanRunBy, CanRunByDeadlines, log_by, log_due}
 use Rattle.edf_semantics.specs.Run.{events}
 use Rattle.edf_machine.specs.Marks.{HasDeadlines}
@@ -13,7 +13,7 @@ use Rattle.edf_machine.specs.Standing.{StandsIn}
 use Rattle.edf_machine.proofs.Rest.{all_is_to_come}
 use Rattle.edf_machine.specs.Coming.{coming, log_to_come}
 use Rattle.base.specs.declared.event.Event.{Event}
-use Rattle.image.specs.declared.raw.RawProc.{RawProc}
+use Rattle.image.specs.declared.raw.RawProcess.{RawProcess}
 use Rattle.image.specs.Raw.{image_of, named_of, process_of}
 use Rattle.event_log.specs.InRange.{AreIn}
 use Rattle.event_log.specs.Line.{log_of}
@@ -26,11 +26,11 @@ coming_first : (image : Image) (script : Script) (t : ℕ) → t ≡ 0 → comin
 coming_first image script t first = ap (λ (u : ℕ). coming image script u) first ∙ all_is_to_come image script
 
 -- the deadlines of the image are those that stand in its file
-same_deadlines : (processes : List RawProc) → map (λ (p : Process). p.deadline) (map process_of processes) ≡ map (λ (p : RawProc). p.deadline) processes
+same_deadlines : (processes : List RawProcess) → map (λ (p : Process). p.deadline) (map process_of processes) ≡ map (λ (p : RawProcess). p.deadline) processes
 same_deadlines [] = refl
 same_deadlines (p ∷ processes) = ap (λ (ds : List ℕ). p.deadline ∷ ds) (same_deadlines processes)
 
-module _ (run : Run) (image : Image) (same : image ≡ image_of run.image) where
+module _ (run : PreparedRun) (image : Image) (same : image ≡ image_of run.image) where
   pub is_runnable : CanRunByDeadlines run → IsRunnable image (script_of run.script)
   is_runnable can = subst (λ (x : Image). IsRunnable x (script_of run.script)) (sym same) can.runnable
 
@@ -49,7 +49,7 @@ module _ (run : Run) (image : Image) (same : image ≡ image_of run.image) where
       ∙ ap (λ (d : Dispatch). log_by d (named_of run.image) run.script.lines run.script.end) (sym by_deadlines)))
 
   -- these are the deadlines of the image
-  pub has_deadlines : (deadlines : List ℕ) → deadlines ≡ map (λ (p : RawProc). p.deadline) run.image.processes → HasDeadlines image deadlines
+  pub has_deadlines : (deadlines : List ℕ) → deadlines ≡ map (λ (p : RawProcess). p.deadline) run.image.processes → HasDeadlines image deadlines
   has_deadlines deadlines taken =
       ap (λ (x : Image). map (λ (p : Process). p.deadline) x.processes) same
       ∙ (same_deadlines run.image.processes ∙ sym taken)
@@ -66,5 +66,5 @@ module _ (run : Run) (image : Image) (same : image ≡ image_of run.image) where
   made_by_deadlines (Err e) by_deadlines can start stands = tt
 
 -- the run under earliest deadline first can be made
-pub can_by_deadlines : (run : Run) → run.dispatch ≡ dispatch.Deadlines → CanRun run → CanRunByDeadlines run
+pub can_by_deadlines : (run : PreparedRun) → run.dispatch ≡ dispatch.Deadlines → CanRun run → CanRunByDeadlines run
 can_by_deadlines run by_deadlines can = subst (λ (d : Dispatch). CanRunBy d run) by_deadlines can

@@ -2,7 +2,7 @@
 use Rattle.std.proofs.Common.{◌++◌, ℕ, Bool, List, [], Option, Some, None, Result, Ok, Err, OnOk, OnErr, inl, inr, refl, arith}
 use Rattle.std.specs.Prelude.{IsSomeAnd}
 use Rattle.command_answers.specs.declared.act.Store.{Store}
-use Rattle.command_answers.specs.declared.act.Act.{Act}
+use Rattle.command_answers.specs.declared.act.PreparedCall.{PreparedCall}
 use Rattle.command_answers.specs.Acts.{outcome_of}
 use Rattle.outside.specs.Outside.{outside, FilesState, SinkState, Rose, Appends, AppendsFront, Appends-nothing, Appends-append, AppendsFront-append}
 use Rattle.command_perform.specs.Performed.{OthersKept, StoreFailed, Performed}
@@ -32,7 +32,7 @@ failed_store : (store : Option Store) (files files' : FilesState) (out : SinkSta
 failed_store None files files' out rose = absurd rose
 failed_store (Some s) files files' out rose = rose
 
-pub not_stored : (tells : Bool) (act : Act) (files files' : FilesState) (out : SinkState)
+pub not_stored : (tells : Bool) (act : PreparedCall) (files files' : FilesState) (out : SinkState)
     → IsSomeAnd act.store (λ s. Rose (files.write_faults s.name.now) (files'.write_faults s.name.now)) → OthersKept act.store files.held files'.held
     → Performed tells act (outside files out) (outside files' out) 7
 not_stored tells act files files' out rose others = record {

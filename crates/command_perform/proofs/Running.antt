@@ -3,7 +3,7 @@ use Rattle.std.proofs.Common.{◌≡◌, ◌-◌, ◌∙◌, ℕ, List, Some, Re
 use Rattle.std.specs.Prelude.{All, IfOk}
 use Rattle.command_answers.specs.declared.act.Dispatch.{Dispatch}
 use Rattle.command_answers.specs.declared.act.Dispatch.TheVariants as dispatch
-use Rattle.command_answers.specs.declared.act.Run.{Run}
+use Rattle.command_answers.specs.declared.act.PreparedRun.{PreparedRun}
 use Rattle.command_answers.specs.Acts.{CanRun, CanRunBy, CanRunByRanks, log_by, log_due}
 use Rattle.base.specs.declared.event.Event.{Event}
 use Rattle.image.specs.Raw.{image_of, named_of}
@@ -31,7 +31,7 @@ all_coming image script =
 coming_first : (image : Image) (script : Script) (t : ℕ) → t ≡ 0 → coming image script t ≡ events image script
 coming_first image script t first = ap (λ (u : ℕ). coming image script u) first ∙ all_coming image script
 
-module _ (run : Run) (image : Image) (same : image ≡ image_of run.image) where
+module _ (run : PreparedRun) (image : Image) (same : image ≡ image_of run.image) where
   pub is_runnable : CanRunByRanks run → IsRunnable image (script_of run.script)
   is_runnable can =
       subst (λ (x : Image). IsRunnable x (script_of run.script)) (sym same)
@@ -65,5 +65,5 @@ module _ (run : Run) (image : Image) (same : image ≡ image_of run.image) where
   made_by_ranks (Err e) by_ranks can start stands = tt
 
 -- the run by ranks can be made
-pub can_by_ranks : (run : Run) → run.dispatch ≡ dispatch.Ranks → CanRun run → CanRunByRanks run
+pub can_by_ranks : (run : PreparedRun) → run.dispatch ≡ dispatch.Ranks → CanRun run → CanRunByRanks run
 can_by_ranks run by_ranks can = subst (λ (d : Dispatch). CanRunBy d run) by_ranks can

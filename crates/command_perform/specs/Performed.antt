@@ -3,7 +3,7 @@ use Rattle.std.specs.Prelude.{◌≡◌, ◌≢◌, ◌⊎◌, ℕ, Bool, Option
 use Rattle.std.specs.Bool.{OnTrue}
 use Rattle.outside.specs.Outside.{Outside, Rose, AllStay, OthersStay, Appends, AppendsFront}
 use Rattle.command_answers.specs.declared.act.Store.{Store}
-use Rattle.command_answers.specs.declared.act.Act.{Act}
+use Rattle.command_answers.specs.declared.act.PreparedCall.{PreparedCall}
 use Rattle.command_answers.specs.Files.{Held}
 use Rattle.command_answers.specs.Acts.{number_of, outcome_of}
 
@@ -22,7 +22,7 @@ abbrev pub StoreFailed : Option Store → (before now : Outside) → Type 0
 StoreFailed None before now = ⊥
 StoreFailed (Some s) before now = Rose (before.files.write_faults s.name.now) (now.files.write_faults s.name.now)
 
-pub record Performed (tells : Bool) (act : Act) (before now : Outside) (status : ℕ) : Type 0 where
+pub record Performed (tells : Bool) (act : PreparedCall) (before now : Outside) (status : ℕ) : Type 0 where
   -- the status of the act, or 7 or 8
   pub range : (status ≡ number_of act.status) ⊎ ((status ≡ 7) ⊎ (status ≡ 8))
   pub whole : status ≢ 7 → status ≢ 8 → Appends before.out.taken now.out.taken (outcome_of act).text

@@ -1,7 +1,7 @@
 -- Runs made ready.
 use Rattle.std.specs.Prelude.{◌≡◌, Option, option_map}
 use Rattle.command_answers.specs.declared.act.Dispatch.TheVariants as dispatch
-use Rattle.command_answers.specs.declared.act.Run.{Run}
+use Rattle.command_answers.specs.declared.act.PreparedRun.{PreparedRun}
 use Rattle.command_answers.specs.Acts.{CanRunByDeadlines, CanRunByRanks}
 use Rattle.edf_machine.specs.declared.machine.EdfMachine.{EdfMachine}
 use Rattle.edf_machine.specs.Standing as edf
@@ -10,26 +10,26 @@ use Rattle.vm_runner.specs.declared.machine.Machine.{Machine}
 use Rattle.vm_runner.specs.Standing as ranked
 use Rattle.vm_releases.specs.Begin.{script_of}
 use Rattle.vm_state.specs.Plan.{IsOf}
-use Rattle.command_perform.specs.declared.course.Course.{Course}
-use Rattle.command_perform.specs.declared.course.Course.TheVariants as course
+use Rattle.command_perform.specs.declared.any_machine.AnyMachine.{AnyMachine}
+use Rattle.command_perform.specs.declared.any_machine.AnyMachine.TheVariants as course
 use Rattle.command_perform.specs.declared.ready.Ready.{Ready}
 
 -- the machine stands before tick 0 of a run by ranks that it can make
-pub record IsByRanks (run : Run) (machine : Machine) : Type 0 where
+pub record IsByRanks (run : PreparedRun) (machine : Machine) : Type 0 where
   pub dispatch : run.dispatch ≡ dispatch.Ranks
   pub can : CanRunByRanks run
   pub start : machine.tick ≡ 0
   pub stands : ranked.StandsIn (image_of run.image) (script_of run.script) machine
 
 -- likewise under earliest deadline first
-pub record IsByDeadlines (run : Run) (machine : EdfMachine) : Type 0 where
+pub record IsByDeadlines (run : PreparedRun) (machine : EdfMachine) : Type 0 where
   pub dispatch : run.dispatch ≡ dispatch.Deadlines
   pub can : CanRunByDeadlines run
   pub start : machine.tick ≡ 0
   pub stands : edf.StandsIn (image_of run.image) (script_of run.script) machine
 
 -- the machine is the one of the run's dispatch
-abbrev pub IsCourseOf : Run → Course → Type 0
+abbrev pub IsCourseOf : PreparedRun → AnyMachine → Type 0
 IsCourseOf run (course.Ranks machine) = IsByRanks run machine
 IsCourseOf run (course.Deadlines machine) = IsByDeadlines run machine
 
@@ -39,5 +39,5 @@ pub record IsReady (ready : Ready) : Type 0 where
   pub course : IsCourseOf ready.run.now ready.course
 
 -- the run, if there is one
-abbrev pub run_of : Option Ready → Option Run
+abbrev pub run_of : Option Ready → Option PreparedRun
 run_of ready = option_map (λ (r : Ready). r.run.now) ready

@@ -6,7 +6,7 @@
 //! or a full stack: none ever comes.
 #![tactic(auto)]
 
-mod course;
+mod any_machine;
 mod performing;
 mod ready;
 

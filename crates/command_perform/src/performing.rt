@@ -8,12 +8,12 @@ ghost use Rattle.command_perform.specs.Performed.{OthersKept, Performed, StoresI
 ghost use Rattle.command_perform.specs.Ready.{IsReady, run_of};
 
 use crate::ready::Ready;
-use command_answers::{Act, Run, Status, Store};
+use command_answers::{PreparedCall, PreparedRun, Status, Store};
 use outside::{Files, Sink, SinkFailed, WriteFault};
 use std::alloc::{AllocError, Global};
 
 /// Makes the run ready, if there is one.
-fn make_ready(alloc: Global, run: &Option<Run>) -> Result<Option<Ready<'_>>, AllocError>
+fn make_ready(alloc: Global, run: &Option<PreparedRun>) -> Result<Option<Ready<'_>>, AllocError>
     requires { IfSome run.now CanRun }
     ensures run { IfOk result (λ ready. run_of ready ≡ run.now) }
     ensures ready { IfOk result (λ ready. IfSome ready IsReady) }
@@ -79,7 +79,7 @@ fn tell<O: Sink>(text: &[u8], run: Option<Ready<'_>>, out: &mut O) -> Result<(),
 /// write, and then nothing was stored or put.
 pub fn perform<F: Files, O: Sink>(
     alloc: Global,
-    act: &Act<'_>,
+    act: &PreparedCall<'_>,
     files: &mut F,
     out: &mut O,
 ) -> Status

@@ -7,25 +7,25 @@ ghost use Rattle.outside.specs.Outside.{Appends, AppendsFront, Rose};
 ghost use Rattle.machine_semantics.specs.Image.{Image};
 ghost use Rattle.command_perform.specs.Ready.{IsReady};
 
-use crate::course::Course;
-use command_answers::Run;
+use crate::any_machine::AnyMachine;
+use command_answers::PreparedRun;
 use outside::{Sink, SinkFailed};
 use std::alloc::{AllocError, Global};
 use vm_plan::plan::plan_of;
-use vm_state::Plan;
+use vm_state::DecodedImage;
 
 /// A run whose machine, which is the one of its dispatch, stands before tick 0. It takes no more
 /// memory.
 #[derive(Drop)]
 pub struct Ready<'a> {
-    run: &'a Run,
-    plan: Plan,
-    course: Course,
+    run: &'a PreparedRun,
+    plan: DecodedImage,
+    course: AnyMachine,
 }
 
 impl<'a> Ready<'a> {
     /// Makes the plan of the image and the machine; an error says that memory is short.
-    pub fn new(alloc: Global, run: &'a Run) -> Result<Ready<'a>, AllocError>
+    pub fn new(alloc: Global, run: &'a PreparedRun) -> Result<Ready<'a>, AllocError>
         ghost image: { Image }
         requires image { image ≡ image_of run.now.image }
         requires can { CanRun run.now }
@@ -33,7 +33,7 @@ impl<'a> Ready<'a> {
         ensures ready { IfOk result (λ ready. IsReady ready) }
     {
         let plan = plan_of(alloc, &run.image)?;
-        let course = Course::new(alloc, &plan, run)?;
+        let course = AnyMachine::new(alloc, &plan, run)?;
         Ok(Ready { run, plan, course })
     }
 

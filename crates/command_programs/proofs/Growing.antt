@@ -7,7 +7,7 @@ use Rattle.machine_semantics.specs.Image.{Process}
 use Rattle.image.specs.Named.{NamedImage}
 use Rattle.image.specs.Raw.{image_of, named_of, process_of}
 use Rattle.image.specs.declared.raw.RawImage.{RawImage}
-use Rattle.image.specs.declared.raw.RawProc.{RawProc}
+use Rattle.image.specs.declared.raw.RawProcess.{RawProcess}
 use Rattle.sched_slack.specs.declared.spare.Spare.{Spare}
 use Rattle.sched_slack.specs.Slack.{with_more, IsSpare}
 use Rattle.valid_image.specs.Tasks.{process_at, tasks_of, with_rank}
@@ -50,7 +50,7 @@ pub then_ok : {A E : Type 0} (r : Result A E) (P Q : Type 0) → OnOk r P → (P
 then_ok (Ok x) P Q p f = f p
 then_ok (Err e) P Q p f = tt
 
-pub added : (image : RawImage) (ts : List Task) (number level at : ℕ) (p : RawProc) (spare : Spare) (bounds name failing before now : List ℕ)
+pub added : (image : RawImage) (ts : List Task) (number level at : ℕ) (p : RawProcess) (spare : Spare) (bounds name failing before now : List ℕ)
     → slice_get (image_of image).processes number ≡ Some (process_of p) → ts ≡ tasks_of (image_of image) → level ≡ p.rank - 1 → IsSpare ts level spare
     → AreLeastBounds (map process_of image.processes) (with_more ts level spare.extra) bounds → name ≡ slice_index_or image.names.processes number []
     → at ≡ with_rank (spare.fails + 1) 0 (map process_of image.processes) → failing ≡ slice_index_or image.names.processes at []

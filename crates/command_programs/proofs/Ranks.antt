@@ -8,7 +8,7 @@ use Rattle.base.proofs.Lists.{map_get, some_at}
 use Rattle.machine_semantics.specs.Image.{Image, Process}
 use Rattle.image.specs.Raw.{image_of, process_of}
 use Rattle.image.specs.declared.raw.RawImage.{RawImage}
-use Rattle.image.specs.declared.raw.RawProc.{RawProc}
+use Rattle.image.specs.declared.raw.RawProcess.{RawProcess}
 use Rattle.sched_response.specs.declared.tasks.Task.{Task}
 use Rattle.sched_response.specs.Demand.{task_at, deadline_at, AreTasks, IsTask, Solves}
 use Rattle.sched_slack.specs.Slack.{with_more, IsTimely}
@@ -82,18 +82,18 @@ levels_more ps ts level extra levels k p at = omega (arith, levels k p at, lengt
 
 -- ---- the process of a number
 
-pub became_at : (ps : List RawProc) (k : ℕ) (p : RawProc) → k < length ps → p ≡ get_or ps k p → slice_get (map process_of ps) k ≡ Some (process_of p)
-became_at ps k p low at = map_get process_of ps k p (slice_get-get_or ps k p low ∙ ap (λ (x : RawProc). Some x) (sym at))
+pub became_at : (ps : List RawProcess) (k : ℕ) (p : RawProcess) → k < length ps → p ≡ get_or ps k p → slice_get (map process_of ps) k ≡ Some (process_of p)
+became_at ps k p low at = map_get process_of ps k p (slice_get-get_or ps k p low ∙ ap (λ (x : RawProcess). Some x) (sym at))
 
-pub level_at : (ps : List RawProc) (ts : List Task) (k level : ℕ) (p : RawProc) → HaveLevels (map process_of ps) ts → k < length ps → p ≡ get_or ps k p → level ≡ p.rank - 1 → level < length ts
+pub level_at : (ps : List RawProcess) (ts : List Task) (k level : ℕ) (p : RawProcess) → HaveLevels (map process_of ps) ts → k < length ps → p ≡ get_or ps k p → level ≡ p.rank - 1 → level < length ts
 level_at ps ts k level p levels low at rank =
     let there : p.rank - 1 < length ts = levels k (process_of p) (became_at ps k p low at) in
     omega (arith, there, rank)
 
-pub process_there : (image : RawImage) (ps : List RawProc) (k : ℕ) (p : RawProc) → ps ≡ image.processes → k < length ps → p ≡ get_or ps k p → slice_get (image_of image).processes k ≡ Some (process_of p)
+pub process_there : (image : RawImage) (ps : List RawProcess) (k : ℕ) (p : RawProcess) → ps ≡ image.processes → k < length ps → p ≡ get_or ps k p → slice_get (image_of image).processes k ≡ Some (process_of p)
 process_there image ps k p same low at =
-    let there : k < length image.processes = omega (arith, low, ap (λ (xs : List RawProc). length xs) same) in
-    map_get process_of image.processes k p (slice_get-get_or image.processes k p there ∙ ap (λ (x : RawProc). Some x) (sym (at ∙ ap (λ (xs : List RawProc). get_or xs k p) same)))
+    let there : k < length image.processes = omega (arith, low, ap (λ (xs : List RawProcess). length xs) same) in
+    map_get process_of image.processes k p (slice_get-get_or image.processes k p there ∙ ap (λ (x : RawProcess). Some x) (sym (at ∙ ap (λ (xs : List RawProcess). get_or xs k p) same)))
 
 -- ---- what is asked of the set, once it is as before
 
@@ -110,9 +110,9 @@ timely_kept old now kept level extra fits = subst (λ (us : List Task). IsTimely
 pub levels_kept : (m : Image) (old now : List Task) → now ≡ old → AreTimelyTasks m old → (ps : List Process) → ps ≡ m.processes → HaveLevels ps now
 levels_kept m old now kept tasks ps same = subst (λ (us : List Task). HaveLevels ps us) (sym kept) (subst (λ (qs : List Process). HaveLevels qs old) (sym same) tasks.levels)
 
-pub level_there : (image : RawImage) (ts : List Task) (ps : List RawProc) (k level : ℕ) (p : RawProc) → AreTimelyTasks (image_of image) ts → ps ≡ image.processes → k < length image.processes → p ≡ get_or ps k p
+pub level_there : (image : RawImage) (ts : List Task) (ps : List RawProcess) (k level : ℕ) (p : RawProcess) → AreTimelyTasks (image_of image) ts → ps ≡ image.processes → k < length image.processes → p ≡ get_or ps k p
     → level ≡ p.rank - 1 → level < length ts
 level_there image ts ps k level p tasks same low at rank =
-    let here = process_there image ps k p same (omega (arith, low, ap (λ (xs : List RawProc). length xs) same)) at in
+    let here = process_there image ps k p same (omega (arith, low, ap (λ (xs : List RawProcess). length xs) same)) at in
     let there : p.rank - 1 < length ts = tasks.levels k (process_of p) here in
     omega (arith, there, rank)

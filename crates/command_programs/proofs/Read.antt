@@ -12,10 +12,10 @@ use Rattle.compile.specs.declared.built.Built.{Built}
 use Rattle.command_due.specs.Source.{IsTimelyText}
 use Rattle.command_due.specs.CommandsDue.{Outcome, IsRefused, IsReportDue, IsGoDue, go_refused, go_bad_script, went, ran}
 use Rattle.compile.specs.Compile.{IsImageOf}
-use Rattle.command_answers.specs.declared.act.Act.{Act}
+use Rattle.command_answers.specs.declared.act.PreparedCall.{PreparedCall}
 use Rattle.command_answers.specs.Acts.{outcome_of}
-use Rattle.command_answers.specs.declared.unready.Unready.{Unready}
-use Rattle.command_answers.specs.declared.unready.Unready.TheVariants as unready
+use Rattle.command_answers.specs.declared.prepare_error.PrepareError.{PrepareError}
+use Rattle.command_answers.specs.declared.prepare_error.PrepareError.TheVariants as unready
 use Rattle.command_programs.specs.declared.programs.Format.{Format}
 use Rattle.command_programs.specs.declared.programs.Format.TheVariants as format
 use Rattle.command_answers.specs.Acting.{CanBeDone, IsQuiet}
@@ -25,7 +25,7 @@ use Rattle.command_answers.specs.Scripted as scripted
 use Rattle.command_programs.specs.Scripted.{IsBuiltRunDue, bytes_for}
 use Rattle.command_answers.proofs.Held.{of_held, acted, rose_since}
 
-pub reported : (tells : Bool) (format : Format) (program : List ℕ) (over : ℕ) (before : FilesState) (act : Act) (P : List ℕ → Type 0)
+pub reported : (tells : Bool) (format : Format) (program : List ℕ) (over : ℕ) (before : FilesState) (act : PreparedCall) (P : List ℕ → Type 0)
     → IsQuiet act → OnTrue tells (IsSomeAnd (before.held program) P) → ((text : List ℕ) → P text → IsReportDue (shown format) over text (outcome_of act))
     → IsPrepared tells (report_call format program over) before act
 reported tells format.Text program over before act P quiet is due =
@@ -70,7 +70,7 @@ go_script_failed tells program image script over before mid now P b is compiles 
       of_held tells (before.held program) P (λ text. (n : NamedImage) × IsTimelyText over text n) is (λ text p. timely over text b (compiles text p)),
     ))
 
-pub go_prepares : (tells : Bool) (program image script : List ℕ) (over : ℕ) (before mid now : FilesState) (P : List ℕ → Type 0) (b : Built) (result : Result Act Unready)
+pub go_prepares : (tells : Bool) (program image script : List ℕ) (over : ℕ) (before mid now : FilesState) (P : List ℕ → Type 0) (b : Built) (result : Result PreparedCall PrepareError)
     → OnTrue tells (IsSomeAnd (before.held program) P) → ((text : List ℕ) → P text → IsImageOf over text b) → AllStay before.held mid.held → NoneFell before.read_faults mid.read_faults
     → IfOk result (λ act. OnTrue tells (IsSomeAnd (mid.held script) (λ other. IsBuiltRunDue b other (outcome_of act)))) → IfOk result (CanBeDone (Some image))
     → (result ≡ Err unready.Unread → Rose (mid.read_faults script) (now.read_faults script)) → Prepares tells (call.go program image script over) before now result

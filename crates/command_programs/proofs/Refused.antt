@@ -9,7 +9,7 @@ use Rattle.image.specs.Raw.{named_of}
 use Rattle.syntax_printer.specs.Canonical.{canonical}
 use Rattle.sched_table.specs.Report.{report_text}
 use Rattle.compile.specs.declared.built.Built.{Built}
-use Rattle.compile.specs.declared.built.Late.{Late}
+use Rattle.compile.specs.declared.built.LateProgram.{LateProgram}
 use Rattle.command_due.specs.Source.{Style, IsWritten, IsTextFault, fault_line}
 use Rattle.command_due.specs.CommandsDue.{Outcome, told, IsRefused, faulty, late, IsReportDue, report_refused, report_timely, IsPrintDue, print_faulty, printed, IsCompileDue, compile_refused, compiled, stored}
 use Rattle.command_due.specs.SpareDue.{IsSlackDue, slack_refused, slack_told}
@@ -18,9 +18,9 @@ use Rattle.compile.specs.Compile.{Compiles, IsImageOf, IsLateWith}
 use Rattle.compile.specs.declared.compiling.CompileFault.{CompileFault}
 use Rattle.compile.specs.declared.compiling.CompileFault.TheVariants as compile_fault
 use Rattle.compile.specs.Written.{ReadsWritten}
-use Rattle.compile.specs.declared.written.TextFault.{TextFault}
-use Rattle.compile.specs.declared.written.TextFault.TheVariants as text_fault
-use Rattle.command_answers.specs.declared.act.Act.{Act}
+use Rattle.compile.specs.declared.read_text.ProgramTextFault.{ProgramTextFault}
+use Rattle.compile.specs.declared.read_text.ProgramTextFault.TheVariants as text_fault
+use Rattle.command_answers.specs.declared.act.PreparedCall.{PreparedCall}
 use Rattle.command_answers.specs.declared.status.Status.TheVariants as status
 use Rattle.command_answers.specs.Acts.{outcome_of}
 use Rattle.command_answers.specs.Acting.{puts}
@@ -36,7 +36,7 @@ pub faulty_text : (show : Style) (why : CompileFault) (number : ℕ) (place : Pl
 faulty_text show why number place is over text answer =
     faulty number place (subst (λ (w : CompileFault). Compiles over text (Err w)) is answer) (outcome_of_puts status.Text (fault_line number place))
 
-pub late_text : (show : Style) (why : CompileFault) (l : Late) → why ≡ compile_fault.Untimely l → (over : ℕ) (text : List ℕ) → Compiles over text (Err why)
+pub late_text : (show : Style) (why : CompileFault) (l : LateProgram) → why ≡ compile_fault.Untimely l → (over : ℕ) (text : List ℕ) → Compiles over text (Err why)
     → IsRefused show over text (outcome_of (puts status.Late (show l.names l.program l.table)))
 late_text show why l is over text answer =
     let told_late : IsLateWith over text l = subst (λ (w : CompileFault). Compiles over text (Err w)) is answer in
@@ -47,7 +47,7 @@ pub timely_report : (show : Style) (over : ℕ) (text : List ℕ) (b : Built) �
 timely_report show over text b image =
     report_timely (named_of b.image) image.timely (outcome_of_puts status.Done (show b.image.names b.image.program b.table) ∙ ap (told 0) (image.report show))
 
-pub refused_report : {E : Type 0} (show : Style) (over : ℕ) (why : CompileFault) (P : List ℕ → Type 0) (made : Result Act E) → ((text : List ℕ) → P text → Compiles over text (Err why))
+pub refused_report : {E : Type 0} (show : Style) (over : ℕ) (why : CompileFault) (P : List ℕ → Type 0) (made : Result PreparedCall E) → ((text : List ℕ) → P text → Compiles over text (Err why))
     → IfOk made (λ act. (k : ℕ) (text : List ℕ) → Compiles k text (Err why) → IsRefused show k text (outcome_of act))
     → IfOk made (λ act. (text : List ℕ) → P text → IsReportDue show over text (outcome_of act))
 refused_report show over why P (Ok act) answer due = λ text p. report_refused (due over text (answer text p))
@@ -56,13 +56,13 @@ refused_report show over why P (Err e) answer due = tt
 pub told_slack : (over : ℕ) (text : List ℕ) (b : Built) (lines : List ℕ) → IsImageOf over text b → IsSlackText (named_of b.image) lines → IsSlackDue over text (outcome_of (puts status.Done lines))
 told_slack over text b lines image is = slack_told (named_of b.image) lines image.timely is (outcome_of_puts status.Done lines)
 
-pub told_over : {E : Type 0} (over : ℕ) (b : Built) (P : List ℕ → Type 0) (made : Result Act E) → ((text : List ℕ) → P text → IsImageOf over text b)
+pub told_over : {E : Type 0} (over : ℕ) (b : Built) (P : List ℕ → Type 0) (made : Result PreparedCall E) → ((text : List ℕ) → P text → IsImageOf over text b)
     → IfOk made (λ act. (k : ℕ) (text : List ℕ) → IsImageOf k text b → IsSlackDue k text (outcome_of act))
     → IfOk made (λ act. (text : List ℕ) → P text → IsSlackDue over text (outcome_of act))
 told_over over b P (Ok act) image due = λ text p. due over text (image text p)
 told_over over b P (Err e) image due = tt
 
-pub refused_slack : {E : Type 0} (over : ℕ) (why : CompileFault) (P : List ℕ → Type 0) (made : Result Act E) → ((text : List ℕ) → P text → Compiles over text (Err why))
+pub refused_slack : {E : Type 0} (over : ℕ) (why : CompileFault) (P : List ℕ → Type 0) (made : Result PreparedCall E) → ((text : List ℕ) → P text → Compiles over text (Err why))
     → IfOk made (λ act. (k : ℕ) (text : List ℕ) → Compiles k text (Err why) → IsRefused report_text k text (outcome_of act))
     → IfOk made (λ act. (text : List ℕ) → P text → IsSlackDue over text (outcome_of act))
 refused_slack over why P (Ok act) answer due = λ text p. slack_refused (due over text (answer text p))
@@ -71,9 +71,9 @@ refused_slack over why P (Err e) answer due = tt
 faulty_print : (text : List ℕ) (number : ℕ) (place : Place) → IsTextFault text number place → IsPrintDue text (outcome_of (puts status.Text (fault_line number place)))
 faulty_print text number place is = print_faulty number place is (outcome_of_puts status.Text (fault_line number place))
 
-pub faulty_read : (why : TextFault) (number : ℕ) (place : Place) → why ≡ text_fault.Text number place → (text : List ℕ) → ReadsWritten text (Err why)
+pub faulty_read : (why : ProgramTextFault) (number : ℕ) (place : Place) → why ≡ text_fault.Text number place → (text : List ℕ) → ReadsWritten text (Err why)
     → IsPrintDue text (outcome_of (puts status.Text (fault_line number place)))
-faulty_read why number place is text answer = faulty_print text number place (subst (λ (w : TextFault). ReadsWritten text (Err w)) is answer)
+faulty_read why number place is text answer = faulty_print text number place (subst (λ (w : ProgramTextFault). ReadsWritten text (Err w)) is answer)
 
 pub written_print : (text : List ℕ) (g : Prog Place) → IsWritten text g → IsPrintDue text (outcome_of (puts status.Done (canonical (bare g))))
 written_print text g is = printed g is (outcome_of_puts status.Done (canonical (bare g)))
@@ -82,7 +82,7 @@ pub stored_outcome : (text report bytes kept : List ℕ) → text ≡ report →
 stored_outcome text report bytes kept text_is bytes_are =
     ap (λ (t : List ℕ). comes_to 0 t (Some bytes)) (append-nil text ∙ text_is) ∙ ap (λ (b : List ℕ). comes_to 0 report (Some b)) bytes_are
 
-pub stored_compile : {E : Type 0} (over : ℕ) (b : Built) (P : List ℕ → Type 0) (made : Result Act E) → ((text : List ℕ) → P text → IsImageOf over text b)
+pub stored_compile : {E : Type 0} (over : ℕ) (b : Built) (P : List ℕ → Type 0) (made : Result PreparedCall E) → ((text : List ℕ) → P text → IsImageOf over text b)
     → IfOk made (λ act. (k : ℕ) (text : List ℕ) → IsImageOf k text b → IsCompileDue k text (outcome_of act))
     → IfOk made (λ act. (text : List ℕ) → P text → IsCompileDue over text (outcome_of act))
 stored_compile over b P (Ok act) image due = λ text p. due over text (image text p)
@@ -93,7 +93,7 @@ pub compiled_text : (over : ℕ) (text : List ℕ) (b : Built) (outcome : Outcom
 compiled_text over text b outcome image is =
     compiled (named_of b.image) image.timely (is ∙ ap (λ (shown : List ℕ). comes_to 0 shown (Some (stored (named_of b.image)))) (image.report report_text))
 
-pub refused_compile : {E : Type 0} (over : ℕ) (why : CompileFault) (P : List ℕ → Type 0) (made : Result Act E) → ((text : List ℕ) → P text → Compiles over text (Err why))
+pub refused_compile : {E : Type 0} (over : ℕ) (why : CompileFault) (P : List ℕ → Type 0) (made : Result PreparedCall E) → ((text : List ℕ) → P text → Compiles over text (Err why))
     → IfOk made (λ act. (k : ℕ) (text : List ℕ) → Compiles k text (Err why) → IsRefused report_text k text (outcome_of act))
     → IfOk made (λ act. (text : List ℕ) → P text → IsCompileDue over text (outcome_of act))
 refused_compile over why P (Ok act) answer due = λ text p. compile_refused (due over text (answer text p))

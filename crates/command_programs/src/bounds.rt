@@ -7,14 +7,14 @@ ghost use Rattle.sched_slack.specs.Slack.{with_more, IsTimely, IsSpare};
 ghost use Rattle.command_due.specs.Lines.{AreLeastBounds};
 ghost use Rattle.command_programs.specs.Levels.{HaveLevels};
 
-use image::RawProc;
+use image::RawProcess;
 use sched_response::{TaskSet, bound_of};
 use sched_slack::{Spare, slack_of};
 use std::alloc::{AllocError, Global};
 use syntax_tree::List;
 
 /// The level of the rank of a process.
-pub fn level_of(process: &RawProc) -> usize
+pub fn level_of(process: &RawProcess) -> usize
     ensures { result ≡ process.now.rank - 1 }
 {
     (process.rank as usize).saturating_sub(1)
@@ -48,7 +48,7 @@ fn least_bound(set: &TaskSet, level: usize) -> u64
 /// The least bound of each process by a timely set, in the order of the text.
 fn least_bounds(
     alloc: Global,
-    processes: &[RawProc],
+    processes: &[RawProcess],
     set: &TaskSet,
 ) -> Result<List<u64>, AllocError>
     requires timely { IsTimely set.now }
@@ -67,7 +67,7 @@ fn least_bounds(
 /// afterwards as before.
 pub fn bounds_with(
     alloc: Global,
-    processes: &[RawProc],
+    processes: &[RawProcess],
     set: &mut TaskSet,
     level: usize,
     extra: u64,

@@ -15,8 +15,8 @@ ghost use Rattle.command_programs.specs.Scripted.{IsBuiltRunDue, built_run};
 use crate::compile_content;
 use crate::programs::{Format, refuse};
 use command_answers::{
-    Act, Content, Dispatch, LONGEST_PROGRAM, LONGEST_SCRIPT, Run, Status, Store, Unready,
-    judge_script, read, refuse_script,
+    Content, Dispatch, LONGEST_PROGRAM, LONGEST_SCRIPT, PrepareError, PreparedCall, PreparedRun,
+    Status, Store, judge_script, read, refuse_script,
 };
 use compile::Built;
 use image::write_image;
@@ -31,7 +31,7 @@ fn run_built<'a>(
     built: Built,
     script: Script,
     image: &'a str,
-) -> Result<Act<'a>, AllocError>
+) -> Result<PreparedCall<'a>, AllocError>
     requires ready { IsRunnableBuilt built }
     requires runs { RunsBuilt built script }
     ensures outcome { IfOk result (λ act. outcome_of act ≡ built_run built script) }
@@ -40,11 +40,11 @@ fn run_built<'a>(
     let Built { image: raw, table } = built;
     let text = sched_table::report(alloc, &raw.names, &raw.program, &table)?;
     let bytes = write_image(alloc, &raw)?;
-    Ok(Act {
+    Ok(PreparedCall {
         status: Status::Done,
         text,
         store: Some(Store { name: image, bytes }),
-        run: Some(Run {
+        run: Some(PreparedRun {
             image: raw,
             script,
             dispatch: Dispatch::Ranks,
@@ -58,7 +58,7 @@ fn go_act<'a>(
     built: Built,
     content: &Content,
     image: &'a str,
-) -> Result<Act<'a>, AllocError>
+) -> Result<PreparedCall<'a>, AllocError>
     requires { IsRunnableBuilt built }
     ensures due { IfOk result (λ act. (text : List ℕ) → IsContent longest_text content.now text →
         IsBuiltRunDue built text (outcome_of act)) }
@@ -77,7 +77,7 @@ fn go_on<'a, F: Files>(
     image: &'a str,
     script: &str,
     files: &mut F,
-) -> Result<Act<'a>, Unready>
+) -> Result<PreparedCall<'a>, PrepareError>
     requires { IsRunnableBuilt built }
     ensures due { IfOk result (λ act. OnTrue F.tells
         (IsSomeAnd ((F.state files.old).held script.now)
@@ -94,7 +94,7 @@ fn go_on<'a, F: Files>(
     let content = read(files, script, LONGEST_SCRIPT)?;
     match go_act(alloc, built, &content, image) {
         Ok(act) => Ok(act),
-        Err(_) => Err(Unready::Memory),
+        Err(_) => Err(PrepareError::Memory),
     }
 }
 
@@ -106,7 +106,7 @@ pub fn prepare_go<'a, F: Files>(
     script: &str,
     over: u16,
     files: &mut F,
-) -> Result<Act<'a>, Unready>
+) -> Result<PreparedCall<'a>, PrepareError>
     requires { over ≤ 1000 }
     ensures prepared { Prepares F.tells (call.go program.now image.now script.now over)
         (F.state files.old) (F.state files.new) result }
@@ -120,7 +120,7 @@ pub fn prepare_go<'a, F: Files>(
         Ok(built) => go_on(alloc, built, image, script, files),
         Err(fault) => match refuse(alloc, Format::Text, fault) {
             Ok(act) => Ok(act),
-            Err(_) => Err(Unready::Memory),
+            Err(_) => Err(PrepareError::Memory),
         },
     }
 }

@@ -17,9 +17,9 @@ ghost use Rattle.command_programs.specs.Runnable.{IsRunnableBuilt, Readies};
 
 use crate::{compile_content, read_content, slack_text};
 use command_answers::{
-    Act, Content, LONGEST_PROGRAM, Status, Store, Unready, put, put_fault, read,
+    Content, LONGEST_PROGRAM, PrepareError, PreparedCall, Status, Store, put, put_fault, read,
 };
-use compile::{Built, CompileFault, TextFault};
+use compile::{Built, CompileFault, ProgramTextFault};
 use image::{ImageNames, write_image};
 use outside::Files;
 use sched_table::Table;
@@ -54,7 +54,11 @@ pub fn report(
 
 /// The act for a text that gave no image: it puts the line of its fault, or the report on its
 /// program, which is late.
-pub fn refuse<'a>(alloc: Global, format: Format, fault: CompileFault) -> Result<Act<'a>, AllocError>
+pub fn refuse<'a>(
+    alloc: Global,
+    format: Format,
+    fault: CompileFault,
+) -> Result<PreparedCall<'a>, AllocError>
     requires { Readies (Err fault) }
     ensures due { IfOk result (λ act. (over : ℕ) (text : List ℕ) → Compiles over text (Err fault) →
         IsRefused (shown format) over text (outcome_of act)) }
@@ -71,7 +75,11 @@ pub fn refuse<'a>(alloc: Global, format: Format, fault: CompileFault) -> Result<
 }
 
 /// The act that puts the report on a program that is timely.
-fn put_report<'a>(alloc: Global, format: Format, built: &Built) -> Result<Act<'a>, AllocError>
+fn put_report<'a>(
+    alloc: Global,
+    format: Format,
+    built: &Built,
+) -> Result<PreparedCall<'a>, AllocError>
     requires { IsRunnableBuilt built.now }
     ensures { IfOk result (λ act. act ≡ puts Status.Done
         (shown format built.now.image.names built.now.image.program built.now.table)) }
@@ -87,7 +95,7 @@ fn report_act<'a>(
     format: Format,
     content: &Content,
     over: u16,
-) -> Result<Act<'a>, AllocError>
+) -> Result<PreparedCall<'a>, AllocError>
     requires { over ≤ 1000 }
     ensures due { IfOk result (λ act. (text : List ℕ) → IsContent longest_text content.now text →
         IsReportDue (shown format) over text (outcome_of act)) }
@@ -100,7 +108,7 @@ fn report_act<'a>(
 }
 
 /// The act that puts what the processes of a program that is timely can spare.
-fn put_slack<'a>(alloc: Global, built: &Built) -> Result<Act<'a>, AllocError>
+fn put_slack<'a>(alloc: Global, built: &Built) -> Result<PreparedCall<'a>, AllocError>
     requires { IsRunnableBuilt built.now }
     ensures due { IfOk result (λ act. (over : ℕ) (text : List ℕ) →
         Compiles over text (Ok built.now) → IsSlackDue over text (outcome_of act)) }
@@ -111,7 +119,11 @@ fn put_slack<'a>(alloc: Global, built: &Built) -> Result<Act<'a>, AllocError>
 }
 
 /// The act of `slack` for what the program's file holds.
-fn slack_act<'a>(alloc: Global, content: &Content, over: u16) -> Result<Act<'a>, AllocError>
+fn slack_act<'a>(
+    alloc: Global,
+    content: &Content,
+    over: u16,
+) -> Result<PreparedCall<'a>, AllocError>
     requires { over ≤ 1000 }
     ensures due { IfOk result (λ act. (text : List ℕ) → IsContent longest_text content.now text →
         IsSlackDue over text (outcome_of act)) }
@@ -124,20 +136,24 @@ fn slack_act<'a>(alloc: Global, content: &Content, over: u16) -> Result<Act<'a>,
 }
 
 /// The act of `print` for what the program's file holds.
-fn print_act<'a>(alloc: Global, content: &Content) -> Result<Act<'a>, AllocError>
+fn print_act<'a>(alloc: Global, content: &Content) -> Result<PreparedCall<'a>, AllocError>
     ensures due { IfOk result (λ act. (text : List ℕ) → IsContent longest_text content.now text →
         IsPrintDue text (outcome_of act)) }
     ensures quiet { IfOk result IsQuiet }
 {
     match read_content(alloc, content) {
         Ok(program) => Ok(put(Status::Done, syntax_printer::print(alloc, program.prog())?)),
-        Err(TextFault::Text { number, place }) => put_fault(alloc, number, place),
-        Err(TextFault::Memory) => Err(AllocError),
+        Err(ProgramTextFault::Text { number, place }) => put_fault(alloc, number, place),
+        Err(ProgramTextFault::Memory) => Err(AllocError),
     }
 }
 
 /// The act that stores the image of a program that is timely, and puts the report.
-fn store_built<'a>(alloc: Global, built: &Built, image: &'a str) -> Result<Act<'a>, AllocError>
+fn store_built<'a>(
+    alloc: Global,
+    built: &Built,
+    image: &'a str,
+) -> Result<PreparedCall<'a>, AllocError>
     requires { IsRunnableBuilt built.now }
     ensures due { IfOk result (λ act. (over : ℕ) (text : List ℕ) →
         Compiles over text (Ok built.now) → IsCompileDue over text (outcome_of act)) }
@@ -146,7 +162,7 @@ fn store_built<'a>(alloc: Global, built: &Built, image: &'a str) -> Result<Act<'
     let raw = &built.image;
     let text = sched_table::report(alloc, &raw.names, &raw.program, &built.table)?;
     let bytes = write_image(alloc, raw)?;
-    Ok(Act {
+    Ok(PreparedCall {
         status: Status::Done,
         text,
         store: Some(Store { name: image, bytes }),
@@ -160,7 +176,7 @@ fn compile_act<'a>(
     content: &Content,
     image: &'a str,
     over: u16,
-) -> Result<Act<'a>, AllocError>
+) -> Result<PreparedCall<'a>, AllocError>
     requires { over ≤ 1000 }
     ensures due { IfOk result (λ act. (text : List ℕ) → IsContent longest_text content.now text →
         IsCompileDue over text (outcome_of act)) }
@@ -179,7 +195,7 @@ pub fn prepare_report<'a, F: Files>(
     program: &str,
     over: u16,
     files: &mut F,
-) -> Result<Act<'a>, Unready>
+) -> Result<PreparedCall<'a>, PrepareError>
     requires { over ≤ 1000 }
     ensures prepared { Prepares F.tells (report_call format program.now over) (F.state files.old)
         (F.state files.new) result }
@@ -191,7 +207,7 @@ pub fn prepare_report<'a, F: Files>(
     let content = read(files, program, LONGEST_PROGRAM)?;
     match report_act(alloc, format, &content, over) {
         Ok(act) => Ok(act),
-        Err(_) => Err(Unready::Memory),
+        Err(_) => Err(PrepareError::Memory),
     }
 }
 
@@ -201,7 +217,7 @@ pub fn prepare_slack<'a, F: Files>(
     program: &str,
     over: u16,
     files: &mut F,
-) -> Result<Act<'a>, Unready>
+) -> Result<PreparedCall<'a>, PrepareError>
     requires { over ≤ 1000 }
     ensures prepared { Prepares F.tells (call.slack program.now over) (F.state files.old)
         (F.state files.new) result }
@@ -213,7 +229,7 @@ pub fn prepare_slack<'a, F: Files>(
     let content = read(files, program, LONGEST_PROGRAM)?;
     match slack_act(alloc, &content, over) {
         Ok(act) => Ok(act),
-        Err(_) => Err(Unready::Memory),
+        Err(_) => Err(PrepareError::Memory),
     }
 }
 
@@ -222,7 +238,7 @@ pub fn prepare_print<'a, F: Files>(
     alloc: Global,
     program: &str,
     files: &mut F,
-) -> Result<Act<'a>, Unready>
+) -> Result<PreparedCall<'a>, PrepareError>
     ensures prepared { Prepares F.tells (call.print program.now) (F.state files.old)
         (F.state files.new) result }
     ensures files { AllStay (F.state files.old).held (F.state files.new).held }
@@ -233,7 +249,7 @@ pub fn prepare_print<'a, F: Files>(
     let content = read(files, program, LONGEST_PROGRAM)?;
     match print_act(alloc, &content) {
         Ok(act) => Ok(act),
-        Err(_) => Err(Unready::Memory),
+        Err(_) => Err(PrepareError::Memory),
     }
 }
 
@@ -244,7 +260,7 @@ pub fn prepare_compile<'a, F: Files>(
     image: &'a str,
     over: u16,
     files: &mut F,
-) -> Result<Act<'a>, Unready>
+) -> Result<PreparedCall<'a>, PrepareError>
     requires { over ≤ 1000 }
     ensures prepared { Prepares F.tells (call.compile program.now image.now over)
         (F.state files.old) (F.state files.new) result }
@@ -256,6 +272,6 @@ pub fn prepare_compile<'a, F: Files>(
     let content = read(files, program, LONGEST_PROGRAM)?;
     match compile_act(alloc, &content, image, over) {
         Ok(act) => Ok(act),
-        Err(_) => Err(Unready::Memory),
+        Err(_) => Err(PrepareError::Memory),
     }
 }

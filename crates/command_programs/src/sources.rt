@@ -12,14 +12,14 @@ ghost use Rattle.compile.specs.Written.{ReadsWritten};
 ghost use Rattle.command_answers.specs.Contents.{IsContent};
 ghost use Rattle.command_programs.specs.Runnable.{Readies};
 
-use built_valid_law::built_ready::built_images_are_ready;
+use built_valid_law::runnable_image::built_images_are_ready;
 use command_answers::Content;
-use compile::{Built, CompileFault, TextFault, compile, read_written};
+use compile::{Built, CompileFault, ProgramTextFault, compile, read_written};
 use static_rule::rule;
 use static_semantics::Checked;
 use std::alloc::Global;
 use syntax_tree::Place;
-use vm_law::script_suits::scripts_suit;
+use vm_law::suitable_scripts::scripts_suit;
 
 /// Where a fault of a whole text stands.
 const START: Place = Place { line: 1, col: 1 };
@@ -52,7 +52,7 @@ pub fn compile_content(alloc: Global, content: &Content, over: u16) -> Result<Bu
 {
     match content {
         Content::Bytes(text) => compile_text(alloc, text.as_slice(), over),
-        Content::Long => Err(CompileFault::Text {
+        Content::TooLong => Err(CompileFault::Text {
             number: rule::LONG_TEXT,
             place: START,
         }),
@@ -64,12 +64,12 @@ pub fn compile_content(alloc: Global, content: &Content, over: u16) -> Result<Bu
 /// # Errors
 ///
 /// As those of `read_written`; the fault of a text that is too long is 4, at its first byte.
-pub fn read_content(alloc: Global, content: &Content) -> Result<Checked, TextFault>
+pub fn read_content(alloc: Global, content: &Content) -> Result<Checked, ProgramTextFault>
     ensures { (text : List ℕ) → IsContent longest_text content.now text → ReadsWritten text result }
 {
     match content {
         Content::Bytes(text) => read_written(alloc, text.as_slice()),
-        Content::Long => Err(TextFault::Text {
+        Content::TooLong => Err(ProgramTextFault::Text {
             number: rule::LONG_TEXT,
             place: START,
         }),

@@ -13,7 +13,7 @@ use loader::{task_set, with_rank};
 use sched_response::TaskSet;
 use std::alloc::{AllocError, Global};
 use syntax_tree::Text;
-use valid_image_law::valid_law::valid_meets_premises;
+use valid_image_law::validity_law::valid_meets_premises;
 
 /// Puts the line of the process of the number at the end of a text. The set is afterwards as
 /// before.

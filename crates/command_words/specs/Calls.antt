@@ -1,6 +1,6 @@
 -- What words ask for.
 use Rattle.std.specs.Prelude.{ℕ, List}
-use Rattle.command_words.specs.declared.stop.Stop.{Stop}
+use Rattle.command_words.specs.declared.stop.Breakpoint.{Breakpoint}
 
 -- a command with the names of its files, and with an overhead in ticks where it has one
 pub data Call : Type 0 where
@@ -14,7 +14,7 @@ pub data Call : Type 0 where
   migrate : (image target : List ℕ) → Call
   asm : (text image : List ℕ) → Call
   dis : (image text : List ℕ) → Call
-  watch : (image script : List ℕ) (stop : Stop) → Call
+  watch : (image script : List ℕ) (stop : Breakpoint) → Call
   replay : (program script log : List ℕ) → Call
   edf : (program script : List ℕ) → Call
 

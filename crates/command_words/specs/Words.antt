@@ -8,8 +8,8 @@ use Rattle.command_words.specs.declared.words_command.Command.TheVariants as com
 use Rattle.command_words.specs.declared.words_load.Load as made
 use Rattle.command_words.specs.declared.request.Request.{Request}
 use Rattle.command_words.specs.declared.request.Request.TheVariants as request
-use Rattle.command_words.specs.declared.stop.Stop.{Stop}
-use Rattle.command_words.specs.declared.stop.Stop.TheVariants.{Tick, Effect}
+use Rattle.command_words.specs.declared.stop.Breakpoint.{Breakpoint}
+use Rattle.command_words.specs.declared.stop.Breakpoint.TheVariants.{Tick, Effect}
 
 -- not empty, and no dash at its front
 abbrev pub is_word : List ℕ → Bool
@@ -26,7 +26,7 @@ overhead_of word = number_up_to 1000 word
 
 -- where the word says to stop: before a tick up to 1000000000, or, behind @, after the first effect
 -- at an address up to 65534
-abbrev pub stop_of : List ℕ → Option Stop
+abbrev pub stop_of : List ℕ → Option Breakpoint
 stop_of [] = None
 stop_of (first ∷ rest) =
     if first == 64 then option_map Effect (number_up_to 65534 rest)

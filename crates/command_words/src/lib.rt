@@ -21,6 +21,6 @@ mod words_load;
 
 pub use reading::read_words;
 pub use request::Request;
-pub use stop::Stop;
+pub use stop::Breakpoint;
 pub use words_command::Command;
 pub use words_load::Load;

@@ -4,7 +4,7 @@ ghost use Rattle.std.specs.Prelude.{◌≡◌, ◌≤◌, ◌<◌, ◌^◌, map,
 ghost use Rattle.command_words.specs.Calls.{over_of};
 ghost use Rattle.command_words.specs.Words.{number_up_to, overhead_of, last_overhead, go_row, check_row, compile_row, json_row, slack_row, print_row, run_row, migrate_row, asm_row, dis_row, watch_row, replay_row, edf_row, stop_of, row_of, call_of};
 
-use crate::stop::Stop;
+use crate::stop::Breakpoint;
 use crate::words_command::Command;
 use text_fields::unsigned;
 
@@ -210,27 +210,27 @@ fn numeral(word: &[u8], most: u64) -> Option<u64>
 }
 
 /// Before which tick the word says to stop.
-fn before_tick(word: &[u8]) -> Option<Stop>
+fn before_tick(word: &[u8]) -> Option<Breakpoint>
     ensures { result ≡ option_map Stop.Tick (number_up_to 1000000000 word.now) }
 {
     match numeral(word, GREATEST_TICK) {
-        Some(tick) => Some(Stop::Tick(tick)),
+        Some(tick) => Some(Breakpoint::Tick(tick)),
         None => None,
     }
 }
 
 /// After whose effect the word says to stop.
-fn after_effect(word: &[u8]) -> Option<Stop>
+fn after_effect(word: &[u8]) -> Option<Breakpoint>
     ensures { result ≡ option_map Stop.Effect (number_up_to 65534 word.now) }
 {
     match numeral(word, GREATEST_ADDRESS) {
-        Some(address) => Some(Stop::Effect(address as u32)),
+        Some(address) => Some(Breakpoint::Effect(address as u32)),
         None => None,
     }
 }
 
 /// Where the word says to stop.
-fn stop(word: &[u8]) -> Option<Stop>
+fn stop(word: &[u8]) -> Option<Breakpoint>
     ensures { result ≡ stop_of word.now }
 {
     match word {

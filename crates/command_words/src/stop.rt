@@ -2,7 +2,7 @@
 
 /// Where a run stops to be watched.
 #[derive(Clone, Copy, Debug, PartialEq, Eq)]
-pub enum Stop {
+pub enum Breakpoint {
     /// Before a tick, from 0 to 1,000,000,000.
     Tick(u64),
     /// Right after the first effect of the instruction at an address, from 0 to 65534.

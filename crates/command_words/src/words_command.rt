@@ -1,6 +1,6 @@
 //! Commands.
 
-use crate::stop::Stop;
+use crate::stop::Breakpoint;
 
 /// A command, with the names of the files that its words give, and its overhead in ticks, 0 where
 /// no word gives one.
@@ -62,7 +62,7 @@ pub enum Command<'a> {
     Watch {
         image: &'a str,
         script: &'a str,
-        stop: Stop,
+        stop: Breakpoint,
     },
     /// Judges whether a log is that of a run of a program over a script.
     Replay {

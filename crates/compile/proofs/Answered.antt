@@ -17,7 +17,7 @@ use Rattle.built_image.specs.Shown.{AreLeast, table_of}
 use Rattle.built_image_law.specs.FilledLaws.{BoundedImagesAreBuilt, LateWhereOneIsNone}
 use Rattle.built_image_law.specs.Tables.{TablesAreNamed}
 use Rattle.compile.specs.declared.built.Built.{Built}
-use Rattle.compile.specs.declared.built.Late.{Late}
+use Rattle.compile.specs.declared.built.LateProgram.{LateProgram}
 use Rattle.compile.specs.Build.{IsBuiltOf, IsLateOf}
 use Rattle.compile.specs.Steps.{IsRanked, IsFilled, IsReport}
 
@@ -54,7 +54,7 @@ none_there (Some b ∷ bs) missing =
     let r : (k : ℕ) × (slice_get bs k ≡ Some None) = none_there bs (λ all. missing (All-cons IsSome (Some b) bs refl all)) in
     (suc r.0, r.1)
 
-pub is_late : LateWhereOneIsNone → TablesAreNamed → (g : Prog Place) (over : ℕ) (image : RawImage) (bounds : List (Option ℕ)) (l : Late)
+pub is_late : LateWhereOneIsNone → TablesAreNamed → (g : Prog Place) (over : ℕ) (image : RawImage) (bounds : List (Option ℕ)) (l : LateProgram)
     → IsRanked g over image → AreLeast (image_of image) bounds → ¬ All IsSome bounds → IsReport image bounds l → IsLateOf g over l
 is_late late_law named_law g over image bounds l ranked least missing report = record {
   fits = ranked.fits;

@@ -77,22 +77,22 @@ few-count (pos n) h =
     elim (either (int_le (pos 1) (pos n)) (int_le (pos n) (pos 4)) (int_le (pos 10) (pos n)) (int_le (pos n) (pos 999)) h)
     [ inl e ↦ let low : n ≤ 4 = leb-true n 4 e in omega arith | inr e ↦ leb-true n 999 e ]
 
-exceptions : (g : plain_of.Prog) (ns : List plain_of.Constant) → All (IsHandled g) ns → AreExceptions g ns
+exceptions : (g : plain_of.Program) (ns : List plain_of.Constant) → All (IsHandled g) ns → AreExceptions g ns
 exceptions g [] h = tt
 exceptions g (n ∷ ns) h =
     let first : IsHandled g n = h 0 n (omega arith) in
     (few-count (constant_value g n) first.limits, exceptions g ns (λ k d low. h (suc k) d (omega arith)))
 
-handler-fits : (g : plain_of.Prog) (p : plain_of.Process) (h : Option plain_of.Handler) → OptionalFits g p h → FitsHandler g h
+handler-fits : (g : plain_of.Program) (p : plain_of.Process) (h : Option plain_of.Handler) → OptionalFits g p h → FitsHandler g h
 handler-fits g p None fits = tt
 handler-fits g p (Some h) fits = exceptions g h.numbers fits.numbers
 
-process-formed : (g : plain_of.Prog) (ps : List plain_of.Process) → All (ProcessFits g) ps → (n : ℕ) (p : plain_of.Process) → slice_get ps n ≡ Some p → ProcessFits g p
+process-formed : (g : plain_of.Program) (ps : List plain_of.Process) → All (ProcessFits g) ps → (n : ℕ) (p : plain_of.Process) → slice_get ps n ≡ Some p → ProcessFits g p
 process-formed g ps all n p there = subst (λ q. ProcessFits g q) (get_or_from_slice_get ps n p p there) (all n p (slice_get_within ps n p there))
 
 -- ---- monitors
 
-monitors-same : (g : plain_of.Prog) (ms : List plain_of.Monitor) → monitors_words g ms ≡ sum_by (λ m. vars_words g (filter_map variable_in m.members)) ms
+monitors-same : (g : plain_of.Program) (ms : List plain_of.Monitor) → monitors_words g ms ≡ sum_by (λ m. vars_words g (filter_map variable_in m.members)) ms
 monitors-same g [] = refl
 monitors-same g (m ∷ ms) =
     let more : sum_by (λ y. vars_words g (filter_map variable_in y.members)) (m ∷ ms) ≡ vars_words g (filter_map variable_in m.members) + sum_by (λ y. vars_words g (filter_map variable_in y.members)) ms = sum_by-cons (λ y. vars_words g (filter_map variable_in y.members)) m ms in
@@ -104,7 +104,7 @@ monitors-same g (m ∷ ms) =
 
 pub fits-fields : CheckedProgramsAreReady → CheckedProgramsFitFields
 fits-fields all_ready g checked sizes =
-    let p : plain_of.Prog = plain g in
+    let p : plain_of.Program = plain g in
     let ready : IsReady p = all_ready g checked in
     let formed : IsWellFormed p = ready.formed in
     let low : code_length p ≤ 65535 = not_over 65535 (code_length p) (λ over. sizes 46 g.place (inl (refl, record { is = refl; over = over }))) in

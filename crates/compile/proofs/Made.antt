@@ -2,7 +2,7 @@
 use Rattle.std.proofs.Common.{◌≡◌, ◌≤◌, ◌+◌, ◌∙◌, sym, ap, subst, refl, ℕ, zero, suc, List, [], ◌∷◌, ◌++◌, length, append_assoc, append-nil, arith}
 use Rattle.std.specs.Prelude.{Option, Some, None, is_some, option_map, slice_get, unwrap_or}
 use Rattle.std.proofs.lemmas.List.{length-append}
-use Rattle.syntax_tree.specs.Plain.{Handler, Process, Prog}
+use Rattle.syntax_tree.specs.Plain.{Handler, Process, Program}
 use Rattle.source_semantics.specs.Names.{processes}
 use Rattle.machine_isa.specs.declared.instr.Instr.{Instr}
 use Rattle.machine_isa.specs.declared.instr.Instr.TheVariants as i
@@ -27,7 +27,7 @@ use Rattle.codegen_law.proofs.Routines.{whole_out, routine_long}
 use Rattle.codegen_law.proofs.Processes.{body_of, parts_of, process_long}
 use Rattle.compile_image.specs.Fields.{Begins, Begin, HandlerBegins, HasParts, HaveHandlers}
 
-module _ (g : Prog) where
+module _ (g : Program) where
   -- ---- the parts
 
   abbrev new_routines : List Text → Code → List Part

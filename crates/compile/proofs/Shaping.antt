@@ -6,7 +6,7 @@ use Rattle.std.proofs.lemmas.Option.{slice_get_within, get_or_from_slice_get}
 use Rattle.syntax_tree.specs.declared.place.Place.{Place}
 use Rattle.syntax_tree.specs.Placed as placed
 use Rattle.syntax_tree.specs.Placed.{plain}
-use Rattle.syntax_tree.specs.Plain.{Process, Prog}
+use Rattle.syntax_tree.specs.Plain.{Process, Program}
 use Rattle.source_semantics.specs.Names.{processes}
 use Rattle.machine_semantics.specs.Image as image
 use Rattle.image.specs.declared.raw.RawImage.{RawImage}
@@ -34,7 +34,7 @@ use Rattle.compile.specs.Steps.{IsAssembled, IsRanked}
 
 -- ---- processes
 
-as_many : (g : Prog) (ts : List Process) (xs : List ProcessParts) (ps : List image.Process) → HoldProcesses g ts xs ps → length ps ≡ length ts
+as_many : (g : Program) (ts : List Process) (xs : List ProcessParts) (ps : List image.Process) → HoldProcesses g ts xs ps → length ps ≡ length ts
 as_many g [] [] [] h = refl
 as_many g [] [] (p ∷ ps) h = absurd h
 as_many g [] (x ∷ xs) ps h = absurd h
@@ -51,7 +51,7 @@ few_processes g over raw ready put =
 -- ---- bounds
 
 -- a deadline is at least 10
-pub no_bound_is_0 : (g : Prog) (m : image.Image) → IsWellFormed g → IsCodeOf g m → Each (λ k p. p.bound ≡ p.deadline) m.processes
+pub no_bound_is_0 : (g : Program) (m : image.Image) → IsWellFormed g → IsCodeOf g m → Each (λ k p. p.bound ≡ p.deadline) m.processes
     → (k : ℕ) (p : image.Process) → slice_get m.processes k ≡ Some p → 1 ≤ p.bound
 no_bound_is_0 g m formed code bounds k p at =
     let e : Emitted g m.code (processes g) k p = emitted g m.code 0 code.between (length m.code) (processes g) m.processes code.process_code k p at in

@@ -1,7 +1,7 @@
 -- The bounds of all loops of a program that is well formed.
 use Rattle.std.proofs.Common.{◌≡◌, ◌≤◌, ℕ, List, [], ◌∷◌, length, Option, Some, None, slice_get, refl, ap, arith}
 use Rattle.base.proofs.Lists.{one_of}
-use Rattle.syntax_tree.specs.Plain.{Routine, Handler, Monitor, Process, Prog}
+use Rattle.syntax_tree.specs.Plain.{Routine, Handler, Monitor, Process, Program}
 use Rattle.syntax_tree.specs.Placed as placed
 use Rattle.syntax_tree.specs.Placed.{plain}
 use Rattle.syntax_tree.specs.declared.place.Place.{Place}
@@ -18,7 +18,7 @@ use Rattle.code_cost_law.specs.Defined.{HandlerLoopsFit}
 use Rattle.compile.specs.Loops.{WellFormedLoopsFit, CheckedLoopsFit}
 use Rattle.compile.proofs.Texts.{all_fit}
 
-module _ (g : Prog) (form : IsWellFormed g) where
+module _ (g : Program) (form : IsWellFormed g) where
   abbrev LoopsOf : Text → Type 0
   LoopsOf t = AllBoundsFit g t.routine.body
 

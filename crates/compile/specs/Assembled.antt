@@ -15,7 +15,7 @@ KeepsToSizes g = (number : ℕ) (place : Place) → ¬ SizeFails g number place
 
 -- a part for each routine, and for the body and the handler of each process
 abbrev pub MadeHasParts : Type 0
-MadeHasParts = (g : plain_of.Prog) → HasParts g (program_made g)
+MadeHasParts = (g : plain_of.Program) → HasParts g (program_made g)
 
 -- each number fits its field
 abbrev pub CheckedProgramsFitFields : Type 0

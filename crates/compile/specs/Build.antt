@@ -11,7 +11,7 @@ use Rattle.built_image.specs.Built.{IsBuilt, IsLate}
 use Rattle.built_image.specs.Named.{names_of}
 use Rattle.built_image.specs.Shown.{IsTableOf, table_of}
 use Rattle.compile.specs.declared.built.Built.{Built}
-use Rattle.compile.specs.declared.built.Late.{Late}
+use Rattle.compile.specs.declared.built.LateProgram.{LateProgram}
 use Rattle.compile.specs.declared.built.BuildFault.{BuildFault}
 use Rattle.compile.specs.declared.built.BuildFault.TheVariants as fault
 
@@ -27,7 +27,7 @@ pub record IsBuiltOf (g : Prog Place) (over : ℕ) (b : Built) : Type 0 where
   pub named : IsNamed b.image.names b.table
 
 -- the program is late, and the table is its own
-pub record IsLateOf (g : Prog Place) (over : ℕ) (l : Late) : Type 0 where
+pub record IsLateOf (g : Prog Place) (over : ℕ) (l : LateProgram) : Type 0 where
   pub fits : KeepsSizes g
   pub late : IsLate (plain g) over
   pub table : IsTableOf (plain g) over l.table

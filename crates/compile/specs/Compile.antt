@@ -3,7 +3,7 @@ use Rattle.std.specs.Prelude.{◌≡◌, ℕ, List, Result, Ok, Err}
 use Rattle.image.specs.Raw.{named_of}
 use Rattle.sched_table.specs.Late.{IsNamed}
 use Rattle.compile.specs.declared.built.Built.{Built}
-use Rattle.compile.specs.declared.built.Late.{Late}
+use Rattle.compile.specs.declared.built.LateProgram.{LateProgram}
 use Rattle.command_due.specs.Source.{Style, IsTextFault, IsTimelyText, IsLateText, report_of}
 use Rattle.compile.specs.declared.compiling.CompileFault.{CompileFault}
 use Rattle.compile.specs.declared.compiling.CompileFault.TheVariants as fault
@@ -15,7 +15,7 @@ pub record IsImageOf (over : ℕ) (text : List ℕ) (b : Built) : Type 0 where
   pub named : IsNamed b.image.names b.table
 
 -- the text is that of a late program, with the table of its report
-pub record IsLateWith (over : ℕ) (text : List ℕ) (l : Late) : Type 0 where
+pub record IsLateWith (over : ℕ) (text : List ℕ) (l : LateProgram) : Type 0 where
   pub late : (show : Style) → IsLateText show over text (show l.names l.program l.table)
   pub named : IsNamed l.names l.table
 

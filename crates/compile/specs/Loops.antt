@@ -8,7 +8,7 @@ use Rattle.wellformed.specs.WellFormed.{IsWellFormed}
 use Rattle.code_cost_law.specs.Defined.{LoopsFit}
 
 abbrev pub WellFormedLoopsFit : Type 0
-WellFormedLoopsFit = (g : plain_of.Prog) → IsWellFormed g → LoopsFit g
+WellFormedLoopsFit = (g : plain_of.Program) → IsWellFormed g → LoopsFit g
 
 abbrev pub CheckedLoopsFit : Type 0
 CheckedLoopsFit = (g : Prog Place) → IsChecked g → LoopsFit (plain g)

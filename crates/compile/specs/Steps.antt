@@ -17,14 +17,14 @@ use Rattle.built_image.specs.Filled.{DiffersInBounds}
 use Rattle.built_image.specs.Named.{names_of}
 use Rattle.built_image.specs.Shown.{table_of}
 use Rattle.compile.specs.declared.built.Built.{Built}
-use Rattle.compile.specs.declared.built.Late.{Late}
+use Rattle.compile.specs.declared.built.LateProgram.{LateProgram}
 use Rattle.compile.specs.declared.built.BuildFault.{BuildFault}
 use Rattle.compile.specs.declared.built.BuildFault.TheVariants as fault
-use Rattle.compile.specs.declared.parts.Parts.{Parts}
+use Rattle.compile.specs.declared.measured_code.MeasuredCode.{MeasuredCode}
 use Rattle.compile.specs.Build.{KeepsSizes}
 
 -- the code of the program, of which no rule of size fails, and its measures
-pub record AreParts (g : Prog Place) (p : Parts) : Type 0 where
+pub record AreParts (g : Prog Place) (p : MeasuredCode) : Type 0 where
   pub fits : KeepsSizes g
   pub code : p.code ≡ program_made (plain g)
   pub defined : AreDefined (plain g) p.measures
@@ -60,7 +60,7 @@ pub record IsFilled (before : RawImage) (least : List (Option ℕ)) (b : Built) 
   pub table : b.table ≡ table_of (image_of b.image) least
 
 -- the names of the image, and its table with these bounds
-pub record IsReport (image : RawImage) (bounds : List (Option ℕ)) (l : Late) : Type 0 where
+pub record IsReport (image : RawImage) (bounds : List (Option ℕ)) (l : LateProgram) : Type 0 where
   pub names : l.names ≡ image.names
   pub program : l.program ≡ image.program
   pub table : l.table ≡ table_of (image_of image) bounds

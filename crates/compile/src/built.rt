@@ -15,7 +15,7 @@ pub struct Built {
 
 /// A program that is late: the names of its parts, its own, and the table that is shown of it.
 #[derive(Drop)]
-pub struct Late {
+pub struct LateProgram {
     pub names: ImageNames,
     pub program: Name,
     pub table: Table,
@@ -27,7 +27,7 @@ pub enum BuildFault {
     /// A rule of size fails: 46 for the number of instructions, 47 for a stack, at its place.
     TooLarge { number: u8, place: Place },
     /// The recurrence of some process has no solution within its deadline.
-    Untimely(Late),
+    Untimely(LateProgram),
     /// There was not enough memory.
     Memory,
 }

@@ -3,7 +3,7 @@
 ghost use Rattle.std.specs.Prelude.{◌≡◌, ◌≤◌, ℕ, List};
 ghost use Rattle.compile.specs.Compile.{Compiles};
 
-use crate::{BuildFault, Built, Late, build};
+use crate::{BuildFault, Built, LateProgram, build};
 use front_end::{SourceFault, read};
 use std::alloc::Global;
 use syntax_tree::Place;
@@ -14,7 +14,7 @@ pub enum CompileFault {
     /// It is no program text, or its program is too large: the fault, by its number and its place.
     Text { number: u8, place: Place },
     /// Its program is not timely with the overhead.
-    Untimely(Late),
+    Untimely(LateProgram),
     /// There was not enough memory.
     Memory,
 }

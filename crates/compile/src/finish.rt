@@ -3,7 +3,7 @@
 ghost use Rattle.std.specs.Prelude.{◌≡◌, ◌≤◌, ◌↔◌, All, IfOk, IsSome, IsTrue, length};
 ghost use Rattle.compile.specs.Steps.{IsFilled, IsReport};
 
-use crate::built::{Built, Late};
+use crate::built::{Built, LateProgram};
 use compile_schedule::{table, with_bounds};
 use image::RawImage;
 use std::alloc::{AllocError, Global};
@@ -37,13 +37,13 @@ pub fn reported(
     alloc: Global,
     image: RawImage,
     bounds: &List<Option<u32>>,
-) -> Result<Late, AllocError>
+) -> Result<LateProgram, AllocError>
     requires one_each { length bounds.now ≡ length image.processes }
     requires code { length image.code ≤ 65535 }
     ensures { IfOk result (IsReport image bounds.now) }
 {
     let table = table(alloc, &image, bounds)?;
-    Ok(Late {
+    Ok(LateProgram {
         names: image.names,
         program: image.program,
         table,

@@ -6,22 +6,29 @@ ghost use Rattle.static_semantics.specs.Static.{IsChecked};
 ghost use Rattle.front_end.specs.Program.{IsProgramOf};
 ghost use Rattle.compile.specs.Steps.{AreParts, IsAssembled, IsRanked, IsSizeFault};
 
-use crate::assembled::{checked_programs_fit_fields, made_programs_have_parts};
 use crate::built::BuildFault;
-use crate::parts::{Parts, parts_of};
-use built_image_law::built_limits::shaped_images_are_in_limits;
-use built_image_law::filled::ranked_images_are_shaped;
-use checked_law::checked::checked_programs_are_ready;
-use checked_law::small::{generated_code_is_code, programs_that_keep_sizes_are_small};
-use code_measures::whole::code_has_its_length;
+use crate::fields_fit::{checked_programs_fit_fields, made_programs_have_parts};
+use crate::measured_code::{MeasuredCode, parts_of};
+use built_image_law::number_limits::shaped_images_are_in_limits;
+use built_image_law::shape_before_times::ranked_images_are_shaped;
+use checked_law::generated_within_limits::{
+    generated_code_is_code, programs_that_keep_sizes_are_small,
+};
+use checked_law::premises_of_laws::checked_programs_are_ready;
+use code_measures::declared_images_valid::code_has_its_length;
 use compile_image::assemble;
 use compile_schedule::rank;
 use image::RawImage;
 use std::alloc::{AllocError, Global};
-use syntax_tree::Prog;
+use syntax_tree::Program;
 
 /// The parts of a checked program, put together.
-fn assembled(alloc: Global, program: &Prog, over: u16, parts: Parts) -> Result<RawImage, AllocError>
+fn assembled(
+    alloc: Global,
+    program: &Program,
+    over: u16,
+    parts: MeasuredCode,
+) -> Result<RawImage, AllocError>
     requires over { over ≤ 1000 }
     requires checked { IsChecked (placed program.now) }
     requires parts { AreParts (placed program.now) parts }
@@ -29,13 +36,13 @@ fn assembled(alloc: Global, program: &Prog, over: u16, parts: Parts) -> Result<R
 {
     made_programs_have_parts();
     checked_programs_fit_fields();
-    let Parts { code, measures } = parts;
+    let MeasuredCode { code, measures } = parts;
     assemble(alloc, program, over, code, &measures)
 }
 
 /// The image of the program of a text, with its ranks, ceilings and blocks; each bound is the
 /// deadline.
-pub fn ranked(alloc: Global, program: &Prog, over: u16) -> Result<RawImage, BuildFault>
+pub fn ranked(alloc: Global, program: &Program, over: u16) -> Result<RawImage, BuildFault>
     ghost text: { List ℕ }
     requires over { over ≤ 1000 }
     requires written { IsProgramOf text (placed program.now) }

@@ -2,7 +2,7 @@
 use Rattle.std.proofs.Common.{◌≡◌, ◌≤◌, ◌∙◌, ap, refl, ℕ, suc, Bool, List, [], ◌∷◌, length, map, arith}
 use Rattle.std.specs.Prelude.{Option, bytes_eq, is_some, option_map}
 use Rattle.std.proofs.lemmas.List.{length-map}
-use Rattle.syntax_tree.specs.Plain.{Name, Process, Prog}
+use Rattle.syntax_tree.specs.Plain.{Name, Process, Program}
 use Rattle.syntax_tree.specs.Placed.{placed_param, placed_routine, plain_param, plain_routine}
 use Rattle.syntax_tree.specs.declared.decl.Routine as code_routine
 use Rattle.base.specs.Capped.{cap}
@@ -14,11 +14,11 @@ use Rattle.valid_image.specs.Sizes.{with_dispatch}
 use Rattle.code_spec.specs.Layout.{count, frame_words, words_of}
 use Rattle.code_spec.specs.Numbering.{Text}
 use Rattle.code_spec.specs.Compiled.{kind_number, owner_number}
-use Rattle.code_cost.specs.declared.measure.Known.{Known}
+use Rattle.code_cost.specs.declared.measure.RoutineMeasure.{RoutineMeasure}
 use Rattle.code_cost.specs.declared.program.ProcessMeasure.{ProcessMeasure}
 use Rattle.codegen_spec.specs.declared.code.Part.{Part}
 use Rattle.codegen_spec.specs.declared.code.ProcessParts.{ProcessParts}
-use Rattle.compile_image.specs.declared.releases.Release.{Release}
+use Rattle.compile_image.specs.declared.releases.ReleaseFields.{ReleaseFields}
 use Rattle.compile_image.proofs.Inserted.{one_more}
 use Rattle.compile_image.specs.Told.{numbers_told, process_told, release_told, routine_told, start_told}
 
@@ -38,7 +38,7 @@ place-most e (n ∷ ns) = one_more (bytes_eq n e) (place_of e ns) (length ns) (p
 abbrev routine_with : image.Routine → (kind owner params : ℕ) → Bool → tree.Segs → image.Routine
 routine_with r kind owner params gives segs = record r { kind = kind; owner = owner; params = params; gives = gives; tree = segs }
 
-pub routine-is : (t : Text) (x : Part) (row : Known) (kind owner params : ℕ) (gives : Bool) (segs : tree.Segs)
+pub routine-is : (t : Text) (x : Part) (row : RoutineMeasure) (kind owner params : ℕ) (gives : Bool) (segs : tree.Segs)
     → kind ≡ kind_number t.owner → owner ≡ owner_number t.owner → params ≡ count t.routine.params → gives ≡ is_some t.routine.answers → segs ≡ views x.tree
     → record (routine_told t x row) { kind = kind; owner = owner; params = params; gives = gives; tree = segs } ≡ routine_told t x row
 routine-is t x row kind owner params gives segs a b c d e =
@@ -51,7 +51,7 @@ routine-is t x row kind owner params gives segs a b c d e =
 
 -- ---- a process
 
-abbrev process_with : image.Process → Release → (run words locals handler : ℕ) → List ℕ → tree.Segs → Option tree.Segs → image.Process
+abbrev process_with : image.Process → ReleaseFields → (run words locals handler : ℕ) → List ℕ → tree.Segs → Option tree.Segs → image.Process
 process_with p release run words locals handler numbers body segs = record p {
   kind = release.kind;
   frame = release.frame;
@@ -67,8 +67,8 @@ process_with p release run words locals handler numbers body segs = record p {
   handler_tree = segs;
 }
 
-module _ (g : Prog) (events : List Name) (over : ℕ) (p : Process) (x : ProcessParts) (size : ProcessMeasure) where
-  pub process-is : (release : Release) (run words locals handler : ℕ) (numbers : List ℕ) (body : tree.Segs) (segs : Option tree.Segs) → release ≡ release_told g events p.activation
+module _ (g : Program) (events : List Name) (over : ℕ) (p : Process) (x : ProcessParts) (size : ProcessMeasure) where
+  pub process-is : (release : ReleaseFields) (run words locals handler : ℕ) (numbers : List ℕ) (body : tree.Segs) (segs : Option tree.Segs) → release ≡ release_told g events p.activation
       → run ≡ cap (with_dispatch over size.cost) → words ≡ words_of g p.vars → locals ≡ frame_words p → handler ≡ start_told x.handler → numbers ≡ numbers_told g p.handler
       → body ≡ views x.body.tree → segs ≡ option_map (λ y. views y.tree) x.handler
       → record (process_told g events over p x size) {
@@ -87,7 +87,7 @@ module _ (g : Prog) (events : List Name) (over : ℕ) (p : Process) (x : Process
       } ≡ process_told g events over p x size
   process-is release run words locals handler numbers body segs a b c d e f h i =
       let q : image.Process = process_told g events over p x size in
-      let r : Release = release_told g events p.activation in
+      let r : ReleaseFields = release_told g events p.activation in
       ap (λ v. process_with q v run words locals handler numbers body segs) a
       ∙ ap (λ v. process_with q r v words locals handler numbers body segs) b
       ∙ ap (λ v. process_with q r q.run v locals handler numbers body segs) c

@@ -2,7 +2,7 @@
 use Rattle.std.proofs.Common.{◌≡◌, ◌∙◌, sym, ap, subst, refl, ℕ, zero, suc, List, [], ◌∷◌, length}
 use Rattle.std.specs.Prelude.{Option, Some, None, filter_map, is_some, option_map, slice_get}
 use Rattle.std.proofs.lemmas.Option.{same_Some as same}
-use Rattle.syntax_tree.specs.Plain.{Name, Activation, periodic, at_event, Handler, Process, Prog}
+use Rattle.syntax_tree.specs.Plain.{Name, Trigger, periodic, at_event, Handler, Process, Program}
 use Rattle.base.specs.Capped.{cap}
 use Rattle.source_semantics.specs.Names.{deadline_of, event_in, frame_of, processes}
 use Rattle.machine_semantics.specs.Image as image
@@ -24,7 +24,7 @@ use Rattle.compile_image.specs.Rows.{FitsSize, FitSizes, IsCapped}
 use Rattle.compile_image.specs.Told.{numbers_told, process_told, processes_told, release_told, start_told}
 use Rattle.compile_image.proofs.Costs.{dispatched, exact-held, first-low, is-capped, low-held, none-left, none-there, same-rest}
 
-size-fits : (g : Prog) (k : ℕ) (p : Process) (x : ProcessParts) (size : ProcessMeasure) → FitsProcess g k p → Begin x → IsSizeOf g k p size → FitsSize g p x size
+size-fits : (g : Program) (k : ℕ) (p : Process) (x : ProcessParts) (size : ProcessMeasure) → FitsProcess g k p → Begin x → IsSizeOf g k p size → FitsSize g p x size
 size-fits g k p x size fits begins is = record {
   words = fits.words;
   locals = first-low (frame_words p) _ fits.stack;
@@ -35,7 +35,7 @@ size-fits g k p x size fits begins is = record {
 }
 
 -- what holds of a process by its number, in lists of which this is the beginning
-all-fit : (g : Prog) (number : ℕ → ℕ) (ps : List Process) (xs : List ProcessParts) (sizes : List ProcessMeasure) → HaveHandlers ps xs → length sizes ≡ length ps
+all-fit : (g : Program) (number : ℕ → ℕ) (ps : List Process) (xs : List ProcessParts) (sizes : List ProcessMeasure) → HaveHandlers ps xs → length sizes ≡ length ps
     → ((k : ℕ) (p : Process) → slice_get ps k ≡ Some p → FitsProcess g (number k) p)
     → ((k : ℕ) (x : ProcessParts) → slice_get xs k ≡ Some x → Begin x)
     → ((k : ℕ) (p : Process) (size : ProcessMeasure) → slice_get ps k ≡ Some p → slice_get sizes k ≡ Some size → IsSizeOf g (number k) p size)
@@ -50,32 +50,32 @@ all-fit g number (p ∷ ps) (x ∷ xs) (s ∷ ss) a b fits begins is = (
   all-fit g (λ k. number (suc k)) ps xs ss a.1 (same-rest (length ss) (length ps) b) (λ k. fits (suc k)) (λ k. begins (suc k)) (λ k. is (suc k)),
 )
 
-pub sizes-fit : (g : Prog) (k : Code) (m : Measures) → HasParts g k → FitsFields g k → AreDefined g m → FitSizes g (processes g) k.processes m.processes
+pub sizes-fit : (g : Program) (k : Code) (m : Measures) → HasParts g k → FitsFields g k → AreDefined g m → FitSizes g (processes g) k.processes m.processes
 sizes-fit g k m parts fits is = all-fit g (λ n. n) (processes g) k.processes m.processes parts.processes is.sizes fits.processes fits.process_parts is.bodies
 
 -- ---- what the image holds
 
-handler-held : (g : Prog) (h : Option Handler) (x : Option Part) (p : image.Process) → is_some x ≡ is_some h → p.handler ≡ start_told x → p.numbers ≡ numbers_told g h
+handler-held : (g : Program) (h : Option Handler) (x : Option Part) (p : image.Process) → is_some x ≡ is_some h → p.handler ≡ start_told x → p.numbers ≡ numbers_told g h
     → p.handler_tree ≡ option_map (λ y. views y.tree) x → HoldsHandler g h x p
 handler-held g None None p same start numbers tree = (start, numbers, tree)
 handler-held g None (Some x) p same start numbers tree = absurd (cc)
 handler-held g (Some h) None p same start numbers tree = absurd (cc)
 handler-held g (Some h) (Some x) p same start numbers tree = (start, numbers, tree)
 
-frame-told : (g : Prog) (events : List Name) (a : Activation) → (release_told g events a).frame ≡ frame_of g a
+frame-told : (g : Program) (events : List Name) (a : Trigger) → (release_told g events a).frame ≡ frame_of g a
 frame-told g events (periodic frame deadline first) = refl
 frame-told g events (at_event e frame deadline) = refl
 
-deadline-told : (g : Prog) (events : List Name) (a : Activation) → (release_told g events a).deadline ≡ deadline_of g a
+deadline-told : (g : Program) (events : List Name) (a : Trigger) → (release_told g events a).deadline ≡ deadline_of g a
 deadline-told g events (periodic frame deadline first) = refl
 deadline-told g events (at_event e frame deadline) = refl
 
-released : (g : Prog) (a : Activation) (p : image.Process) → p.kind ≡ (release_told g (filter_map event_in g.decls) a).kind → p.first ≡ (release_told g (filter_map event_in g.decls) a).first
+released : (g : Program) (a : Trigger) (p : image.Process) → p.kind ≡ (release_told g (filter_map event_in g.decls) a).kind → p.first ≡ (release_told g (filter_map event_in g.decls) a).first
     → p.event ≡ (release_told g (filter_map event_in g.decls) a).event → IsReleased g a p
 released g (periodic frame deadline first) p kind start event = (kind, start, event)
 released g (at_event e frame deadline) p kind start event = (kind, start, event)
 
-process-held : (g : Prog) (over : ℕ) (p : Process) (x : ProcessParts) (size : ProcessMeasure) → is_some x.handler ≡ is_some p.handler → HoldsProcess g p x (process_told g (filter_map event_in g.decls) over p x size)
+process-held : (g : Program) (over : ℕ) (p : Process) (x : ProcessParts) (size : ProcessMeasure) → is_some x.handler ≡ is_some p.handler → HoldsProcess g p x (process_told g (filter_map event_in g.decls) over p x size)
 process-held g over p x size same =
     let y : image.Process = process_told g (filter_map event_in g.decls) over p x size in
     record {
@@ -89,7 +89,7 @@ process-held g over p x size same =
       released = released g p.activation y refl refl refl;
     }
 
-all-held : (g : Prog) (over : ℕ) (ps : List Process) (xs : List ProcessParts) (sizes : List ProcessMeasure) → FitSizes g ps xs sizes → HaveHandlers ps xs
+all-held : (g : Program) (over : ℕ) (ps : List Process) (xs : List ProcessParts) (sizes : List ProcessMeasure) → FitSizes g ps xs sizes → HaveHandlers ps xs
     → HoldProcesses g ps xs (processes_told g (filter_map event_in g.decls) over ps xs sizes)
 all-held g over [] [] [] fit same = tt
 all-held g over [] [] (s ∷ ss) fit same = absurd fit
@@ -98,19 +98,19 @@ all-held g over (p ∷ ps) [] sizes fit same = absurd fit
 all-held g over (p ∷ ps) (x ∷ xs) [] fit same = absurd fit
 all-held g over (p ∷ ps) (x ∷ xs) (s ∷ ss) fit same = (process-held g over p x s same.0, all-held g over ps xs ss fit.1 same.1)
 
-pub processes-held : (g : Prog) (over : ℕ) (k : Code) (m : Measures) → HasParts g k → FitsFields g k → AreDefined g m
+pub processes-held : (g : Program) (over : ℕ) (k : Code) (m : Measures) → HasParts g k → FitsFields g k → AreDefined g m
     → HoldProcesses g (processes g) k.processes (processes_told g (filter_map event_in g.decls) over (processes g) k.processes m.processes)
 processes-held g over k m parts fits is = all-held g over (processes g) k.processes m.processes (sizes-fit g k m parts fits is) parts.processes
 
 -- ---- what the image declares
 
-record Found (g : Prog) (events : List Name) (over : ℕ) (p : Process) (sizes : List ProcessMeasure) (n : ℕ) (y : image.Process) : Type 0 where
+record Found (g : Program) (events : List Name) (over : ℕ) (p : Process) (sizes : List ProcessMeasure) (n : ℕ) (y : image.Process) : Type 0 where
   parts : ProcessParts
   size : ProcessMeasure
   known : slice_get sizes n ≡ Some size
   is : process_told g events over p parts size ≡ y
 
-found : (g : Prog) (events : List Name) (over : ℕ) (ps : List Process) (xs : List ProcessParts) (sizes : List ProcessMeasure) → FitSizes g ps xs sizes
+found : (g : Program) (events : List Name) (over : ℕ) (ps : List Process) (xs : List ProcessParts) (sizes : List ProcessMeasure) → FitSizes g ps xs sizes
     → (n : ℕ) (p : Process) (y : image.Process) → slice_get ps n ≡ Some p → slice_get (processes_told g events over ps xs sizes) n ≡ Some y → Found g events over p sizes n y
 found g events over [] [] [] fit n p y there is = absurd (cc)
 found g events over [] [] (s ∷ ss) fit n p y there is = absurd fit
@@ -123,7 +123,7 @@ found g events over (q ∷ ps) (x ∷ xs) (s ∷ ss) fit (suc n) p y there is =
     let d = found g events over ps xs ss fit.1 n p y there is in
     record { parts = d.parts; size = d.size; known = d.known; is = d.is }
 
-size-declares : (g : Prog) (events : List Name) (over k : ℕ) (p : Process) (x : ProcessParts) (size : ProcessMeasure) (y : image.Process) → FitsProcess g k p → IsSizeOf g k p size
+size-declares : (g : Program) (events : List Name) (over k : ℕ) (p : Process) (x : ProcessParts) (size : ProcessMeasure) (y : image.Process) → FitsProcess g k p → IsSizeOf g k p size
     → process_told g events over p x size ≡ y → DeclaresProcess g over k p y
 size-declares g events over k p x size y fits of is = record {
   run = ap (λ z. z.run) (sym is) ∙ ap (λ c. cap (with_dispatch over c)) of.cost ∙ dispatched over (cost_of_process g k p);
@@ -135,7 +135,7 @@ size-declares g events over k p x size y fits of is = record {
     exact : size.stack ≡ stack_of_process g k p
     exact = exact-held size.stack (stack_of_process g k p) of.stack fits.stack
 
-pub process-declares : (g : Prog) (events : List Name) (over : ℕ) (k : Code) (m : Measures) → HasParts g k → FitsFields g k → AreDefined g m
+pub process-declares : (g : Program) (events : List Name) (over : ℕ) (k : Code) (m : Measures) → HasParts g k → FitsFields g k → AreDefined g m
     → (n : ℕ) (p : Process) (y : image.Process) → slice_get (processes g) n ≡ Some p → slice_get (processes_told g events over (processes g) k.processes m.processes) n ≡ Some y
     → DeclaresProcess g over n p y
 process-declares g events over k m parts fits is n p y there told =

@@ -2,10 +2,10 @@
 use Rattle.std.proofs.Common.{◌≡◌, ◌∙◌, sym, ap, subst, refl, ℕ, suc, ◌+◌, ◌++◌, List, [], ◌∷◌, length, map, replicate}
 use Rattle.std.specs.Prelude.{filter_map, slice_get}
 use Rattle.std.proofs.lemmas.List.{map-append}
-use Rattle.syntax_tree.specs.Plain.{Name, Monitor, Decl, constant, device, event, routine, monitor, process, Prog}
+use Rattle.syntax_tree.specs.Plain.{Name, Monitor, Declaration, constant, device, event, routine, monitor, process, Program}
 use Rattle.source_semantics.specs.Names.{conditions_of, event_in, monitors, processes}
 use Rattle.machine_semantics.specs.Image as image
-use Rattle.image.specs.declared.names.CondName.{CondName}
+use Rattle.image.specs.declared.names.ConditionName.{ConditionName}
 use Rattle.image.specs.declared.raw.RawImage.{RawImage}
 use Rattle.image.specs.Raw.{image_of, monitor_of, process_of, routine_of}
 use Rattle.code_spec.specs.Layout.{monitor_vars, words_of}
@@ -24,23 +24,23 @@ use Rattle.compile_image.proofs.Rows.{handlers-long}
 use Rattle.compile_image.proofs.RoutineTable.{routines-held, routine-declares, rows-fit}
 use Rattle.compile_image.proofs.ProcessTable.{processes-held, process-declares, sizes-fit}
 
-are-monitors : (g : Prog) (base : ℕ) (ms : List Monitor) → AreMonitors g base ms (monitors_told g base ms)
+are-monitors : (g : Program) (base : ℕ) (ms : List Monitor) → AreMonitors g base ms (monitors_told g base ms)
 are-monitors g base [] = tt
 are-monitors g base (m ∷ ms) = (refl, refl, are-monitors g (base + words_of g (monitor_vars m)) ms)
 
-one-monitor : (m : ℕ) (cs : List Name) → map (λ (c : CondName). c.mon) (map (λ c. record { name = c; mon = m }) cs) ≡ replicate (length cs) m
+one-monitor : (m : ℕ) (cs : List Name) → map (λ (c : ConditionName). c.mon) (map (λ c. record { name = c; mon = m }) cs) ≡ replicate (length cs) m
 one-monitor m [] = refl
 one-monitor m (c ∷ cs) = ap (λ (ns : List ℕ). m ∷ ns) (one-monitor m cs)
 
-conditions-told : (m : ℕ) (ks : List Monitor) → map (λ (c : CondName). c.mon) (named_conditions m ks) ≡ condition_monitors m ks
+conditions-told : (m : ℕ) (ks : List Monitor) → map (λ (c : ConditionName). c.mon) (named_conditions m ks) ≡ condition_monitors m ks
 conditions-told m [] = refl
 conditions-told m (k ∷ ks) =
-    let own : List CondName = map (λ c. record { name = c; mon = m }) (conditions_of k) in
-    map-append (λ (c : CondName). c.mon) own (named_conditions (suc m) ks)
-    ∙ ap (λ (ns : List ℕ). ns ++ map (λ (c : CondName). c.mon) (named_conditions (suc m) ks)) (one-monitor m (conditions_of k))
+    let own : List ConditionName = map (λ c. record { name = c; mon = m }) (conditions_of k) in
+    map-append (λ (c : ConditionName). c.mon) own (named_conditions (suc m) ks)
+    ∙ ap (λ (ns : List ℕ). ns ++ map (λ (c : ConditionName). c.mon) (named_conditions (suc m) ks)) (one-monitor m (conditions_of k))
     ∙ ap (λ (ns : List ℕ). replicate (length (conditions_of k)) m ++ ns) (conditions-told (suc m) ks)
 
-devices-told : (ds : List Decl) → map (λ d. d.out) (filter_map named_device ds) ≡ filter_map device_direction ds
+devices-told : (ds : List Declaration) → map (λ d. d.out) (filter_map named_device ds) ≡ filter_map device_direction ds
 devices-told [] = refl
 devices-told (constant n c ∷ ds) = devices-told ds
 devices-told (device n is_out ∷ ds) = ap (λ bs. is_out ∷ bs) (devices-told ds)
@@ -50,7 +50,7 @@ devices-told (monitor m ∷ ds) = devices-told ds
 devices-told (process p ∷ ds) = devices-told ds
 
 -- an image as it stands in a file, whose parts are told so
-pub assembled : (g : Prog) (over : ℕ) (k : Code) (m : Measures) (raw : RawImage) → raw.overhead ≡ over → raw.names ≡ names_of g
+pub assembled : (g : Program) (over : ℕ) (k : Code) (m : Measures) (raw : RawImage) → raw.overhead ≡ over → raw.names ≡ names_of g
     → map monitor_of raw.monitors ≡ monitors_told g 0 (monitors g)
     → map routine_of raw.routines ≡ routines_told (numbered g) k.routines m.routines
     → map process_of raw.processes ≡ processes_told g (filter_map event_in g.decls) over (processes g) k.processes m.processes
@@ -65,7 +65,7 @@ assembled g over k m raw overhead names mons routines bodies code = record {
   code = code;
 }
 
-pub all-fit : (g : Prog) (k : Code) (m : Measures) → HasParts g k → FitsFields g k → AreDefined g m → FitAll g k m
+pub all-fit : (g : Program) (k : Code) (m : Measures) → HasParts g k → FitsFields g k → AreDefined g m → FitAll g k m
 all-fit g k m parts fits is = record {
   few_monitors = fits.few_monitors;
   few_events = fits.few_events;
@@ -78,7 +78,7 @@ all-fit g k m parts fits is = record {
   fit_sizes = sizes-fit g k m parts fits is;
 }
 
-pub told-holds : (g : Prog) (over : ℕ) (k : Code) (m : Measures) (i : image.Image) → HasParts g k → FitsFields g k → AreDefined g m → IsTold g over k m i → Holds g k i
+pub told-holds : (g : Program) (over : ℕ) (k : Code) (m : Measures) (i : image.Image) → HasParts g k → FitsFields g k → AreDefined g m → IsTold g over k m i → Holds g k i
 told-holds g over k m i parts fits is told = record {
   code = told.code;
   routines = subst (λ ys. HoldRoutines g (numbered g) k.routines ys) (sym told.routines) (routines-held g k m parts fits is);
@@ -88,7 +88,7 @@ told-holds g over k m i parts fits is told = record {
   device_table = told.devices ∙ devices-told g.decls;
 }
 
-pub told-declares : (g : Prog) (over : ℕ) (k : Code) (m : Measures) (i : image.Image) → HasParts g k → FitsFields g k → AreDefined g m → IsTold g over k m i → Declares g i
+pub told-declares : (g : Program) (over : ℕ) (k : Code) (m : Measures) (i : image.Image) → HasParts g k → FitsFields g k → AreDefined g m → IsTold g over k m i → Declares g i
 told-declares g over k m i parts fits is told = record {
   routines = λ r t y there found. routine-declares g k m parts fits is r t y there (ap (λ ys. slice_get ys r) (sym told.routines) ∙ found);
   bodies = λ n p y there found.

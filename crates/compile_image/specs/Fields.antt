@@ -1,6 +1,6 @@
 -- When the numbers of a program fit the fields of its image, and its code has a part for each text.
 use Rattle.std.specs.Prelude.{◌≡◌, ◌≤◌, ◌+◌, ℕ, List, [], ◌∷◌, Option, Some, None, filter_map, is_some, length, slice_get}
-use Rattle.syntax_tree.specs.Plain.{Constant, Handler, Monitor, Process, Prog}
+use Rattle.syntax_tree.specs.Plain.{Constant, Handler, Monitor, Process, Program}
 use Rattle.source_semantics.specs.Names.{count_value, event_in, monitors, processes}
 use Rattle.code_spec.specs.Layout.{monitor_vars, routine_words, words_of}
 use Rattle.code_spec.specs.Numbering.{Text, numbered}
@@ -20,33 +20,33 @@ HaveHandlers ps xs = ⊥
 
 -- A part for each routine, and for the body and the handler of each process. What is made of the
 -- program has them.
-pub record HasParts (g : Prog) (k : Code) : Type 0 where
+pub record HasParts (g : Program) (k : Code) : Type 0 where
   pub routines : length k.routines ≡ length (numbered g)
   pub processes : HaveHandlers (processes g) k.processes
 
 -- ---- numbers that fit
 
 -- the number of its owner has two bytes, and its frame at most 4,096 words
-pub record FitsText (g : Prog) (t : Text) : Type 0 where
+pub record FitsText (g : Program) (t : Text) : Type 0 where
   pub owner : owner_number t.owner ≤ 65535
   pub words : routine_words g t.routine ≤ 4096
 
 -- exception numbers are at most 999
-abbrev pub AreExceptions : Prog → List Constant → Type 0
+abbrev pub AreExceptions : Program → List Constant → Type 0
 AreExceptions g [] = Unit {0}
 AreExceptions g (n ∷ ns) = (count_value g n ≤ 999) × AreExceptions g ns
 
-abbrev pub FitsHandler : Prog → Option Handler → Type 0
+abbrev pub FitsHandler : Program → Option Handler → Type 0
 FitsHandler g None = Unit {0}
 FitsHandler g (Some h) = AreExceptions g h.numbers
 
-pub record FitsProcess (g : Prog) (k : ℕ) (p : Process) : Type 0 where
+pub record FitsProcess (g : Program) (k : ℕ) (p : Process) : Type 0 where
   pub words : words_of g p.vars ≤ 1048576
   pub stack : stack_of_process g k p ≤ 4096
   pub handler : FitsHandler g p.handler
 
 -- the words of monitors
-abbrev pub monitors_words : Prog → List Monitor → ℕ
+abbrev pub monitors_words : Program → List Monitor → ℕ
 monitors_words g [] = 0
 monitors_words g (m ∷ ms) = words_of g (monitor_vars m) + monitors_words g ms
 
@@ -64,7 +64,7 @@ pub record Begin (x : ProcessParts) : Type 0 where
 
 -- What is asked of the numbers of a program and its code. It follows from the static rules, and
 -- from the two rules of size.
-pub record FitsFields (g : Prog) (k : Code) : Type 0 where
+pub record FitsFields (g : Program) (k : Code) : Type 0 where
   pub few_monitors : length (monitors g) ≤ 64
   pub few_events : length (filter_map event_in g.decls) ≤ 64
   pub monitor_words : monitors_words g (monitors g) ≤ 1048576

@@ -1,12 +1,12 @@
 -- Texts, parts and measures that fit their fields, one by one, and as many of each.
 use Rattle.std.specs.Prelude.{◌≡◌, ◌≤◌, List, [], ◌∷◌, filter_map, length}
-use Rattle.syntax_tree.specs.Plain.{Process, Prog}
+use Rattle.syntax_tree.specs.Plain.{Process, Program}
 use Rattle.source_semantics.specs.Names.{event_in, monitors, processes}
 use Rattle.base.specs.declared.capped.Cost.{Cost}
 use Rattle.code_spec.specs.Layout.{count, frame_words, words_of}
 use Rattle.code_spec.specs.Numbering.{Text, numbered}
 use Rattle.code_spec.specs.Compiled.{owner_number}
-use Rattle.code_cost.specs.declared.measure.Known.{Known}
+use Rattle.code_cost.specs.declared.measure.RoutineMeasure.{RoutineMeasure}
 use Rattle.code_cost.specs.declared.program.ProcessMeasure.{ProcessMeasure}
 use Rattle.code_cost.specs.declared.program.Measures.{Measures}
 use Rattle.codegen_spec.specs.declared.code.Part.{Part}
@@ -20,7 +20,7 @@ pub record IsCapped (c : Cost) : Type 0 where
   pub susp : c.susp ≤ 1000000001
   pub waits : c.waits ≤ 1000000001
 
-pub record FitsRow (t : Text) (x : Part) (row : Known) : Type 0 where
+pub record FitsRow (t : Text) (x : Part) (row : RoutineMeasure) : Type 0 where
   pub owner : owner_number t.owner ≤ 65535
   pub params : count t.routine.params ≤ 4096
   pub start : Begins x
@@ -28,12 +28,12 @@ pub record FitsRow (t : Text) (x : Part) (row : Known) : Type 0 where
   pub cost : IsCapped row.cost
   pub stay : row.stay ≤ 1000000001
 
-abbrev pub FitRows : List Text → List Part → List Known → Type 0
+abbrev pub FitRows : List Text → List Part → List RoutineMeasure → Type 0
 FitRows [] [] [] = Unit {0}
 FitRows (t ∷ ts) (x ∷ xs) (row ∷ rows) = FitsRow t x row × FitRows ts xs rows
 FitRows ts xs rows = ⊥
 
-pub record FitsSize (g : Prog) (p : Process) (x : ProcessParts) (size : ProcessMeasure) : Type 0 where
+pub record FitsSize (g : Program) (p : Process) (x : ProcessParts) (size : ProcessMeasure) : Type 0 where
   pub words : words_of g p.vars ≤ 1048576
   pub locals : frame_words p ≤ 4096
   pub stack : size.stack ≤ 4096
@@ -41,13 +41,13 @@ pub record FitsSize (g : Prog) (p : Process) (x : ProcessParts) (size : ProcessM
   pub starts : Begin x
   pub cost : IsCapped size.cost
 
-abbrev pub FitSizes : Prog → List Process → List ProcessParts → List ProcessMeasure → Type 0
+abbrev pub FitSizes : Program → List Process → List ProcessParts → List ProcessMeasure → Type 0
 FitSizes g [] [] [] = Unit {0}
 FitSizes g (p ∷ ps) (x ∷ xs) (size ∷ sizes) = FitsSize g p x size × FitSizes g ps xs sizes
 FitSizes g ps xs sizes = ⊥
 
 -- each part of the image fits its fields, and there is one for each part of the program
-pub record FitAll (g : Prog) (k : Code) (m : Measures) : Type 0 where
+pub record FitAll (g : Program) (k : Code) (m : Measures) : Type 0 where
   pub few_monitors : length (monitors g) ≤ 64
   pub few_events : length (filter_map event_in g.decls) ≤ 64
   pub monitor_words : monitors_words g (monitors g) ≤ 1048576

@@ -1,31 +1,35 @@
 //! The names of devices and events.
 
 ghost use Rattle.std.specs.Prelude.{◌≡◌, ◌++◌, ◌∷◌, IfOk, OnOk, List, filter_map, map};
-ghost use Rattle.syntax_tree.specs.Plain.{Decl as SpecDecl};
+ghost use Rattle.syntax_tree.specs.Plain.{Declaration as SpecDecl};
 ghost use Rattle.syntax_tree.specs.Placed.{placed_decl, plain_decl};
 ghost use Rattle.built_image.specs.Named.{named_device};
 ghost use Rattle.compile_image.specs.Released.{events_found};
 
 use crate::events::Released;
 use crate::lists::copied;
-use image::{DevName, EventName};
+use image::{DeviceName, EventName};
 use std::alloc::{AllocError, Global};
-use syntax_tree::{Decl, List};
+use syntax_tree::{Declaration, List};
 
 /// Lists what is declared, if it is a device.
-fn list_device(alloc: Global, devices: &mut List<DevName>, decl: &Decl) -> Result<(), AllocError>
+fn list_device(
+    alloc: Global,
+    devices: &mut List<DeviceName>,
+    decl: &Declaration,
+) -> Result<(), AllocError>
     ensures { OnOk result ((rest : List SpecDecl) → devices.new ++ filter_map named_device rest ≡
         devices.old ++ filter_map named_device (plain_decl (placed_decl decl.now) ∷ rest)) }
 {
-    if let Decl::Device { name, is_out, .. } = decl {
+    if let Declaration::Device { name, is_out, .. } = decl {
         let name = copied(alloc, name)?;
-        devices.push(DevName { name, out: *is_out })?;
+        devices.push(DeviceName { name, out: *is_out })?;
     }
     Ok(())
 }
 
 /// The devices with their directions.
-pub fn device_names(alloc: Global, decls: &[Decl]) -> Result<List<DevName>, AllocError>
+pub fn device_names(alloc: Global, decls: &[Declaration]) -> Result<List<DeviceName>, AllocError>
     ensures { IfOk result (λ devices. devices ≡
         filter_map named_device (map plain_decl (map placed_decl decls.now))) }
 {
@@ -41,14 +45,14 @@ fn list_event(
     alloc: Global,
     released: &Released<'_>,
     events: &mut List<EventName>,
-    decl: &Decl,
+    decl: &Declaration,
 ) -> Result<(), AllocError>
     ensures { OnOk result ((rest : List SpecDecl) → events.new ++
         events_found released.now.frames released.now.events rest ≡ events.old ++
         events_found released.now.frames released.now.events
         (plain_decl (placed_decl decl.now) ∷ rest)) }
 {
-    if let Decl::Event { name, .. } = decl {
+    if let Declaration::Event { name, .. } = decl {
         let frame = released.frame(name);
         let name = copied(alloc, name)?;
         events.push(EventName { name, frame })?;
@@ -60,7 +64,7 @@ fn list_event(
 pub fn event_names(
     alloc: Global,
     released: &Released<'_>,
-    decls: &[Decl],
+    decls: &[Declaration],
 ) -> Result<List<EventName>, AllocError>
     ensures { IfOk result (λ events. events ≡
         events_found released.now.frames released.now.events

@@ -8,10 +8,10 @@ ghost use Rattle.code_names.specs.First.{index_of, names_of};
 ghost use Rattle.compile_image.specs.Released.{frame_found, released_events, released_frames};
 
 use crate::counts::count;
-use code_layout::Values;
+use code_layout::ConstantValues;
 use code_names::NameList;
 use std::alloc::{AllocError, Global};
-use syntax_tree::{Activation, List, Name, Proc};
+use syntax_tree::{List, Name, Process, Trigger};
 
 /// The events that release processes, in the order of these processes, each with the frame of its
 /// process in ticks.
@@ -23,10 +23,10 @@ pub struct Released<'a> {
 
 /// Lists the event that releases a process, if one does, and the frame.
 fn list_event<'a>(
-    values: &Values<'_>,
+    values: &ConstantValues<'_>,
     events: &mut Vec<&'a [u8]>,
     frames: &mut List<u32>,
-    process: &'a Proc,
+    process: &'a Process,
 ) -> Result<(), AllocError>
     ensures events { OnOk result ((rest : List SpecProcess) → names_of events.new.items ++
         released_events rest ≡ names_of events.old.items ++
@@ -36,7 +36,7 @@ fn list_event<'a>(
         released_frames (plain (placed values.now))
         (plain_process (placed_process process.now) ∷ rest)) }
 {
-    if let Activation::AtEvent { event, frame, .. } = &process.activation {
+    if let Trigger::AtEvent { event, frame, .. } = &process.activation {
         events.push(event.as_bytes())?;
         frames.push(count(values, frame))?;
     }
@@ -46,8 +46,8 @@ fn list_event<'a>(
 /// The events that release these processes.
 pub fn released_by_events<'a>(
     alloc: Global,
-    values: &Values<'_>,
-    processes: &[&'a Proc],
+    values: &ConstantValues<'_>,
+    processes: &[&'a Process],
 ) -> Result<Released<'a>, AllocError>
     ensures events { IfOk result (λ r. r.events ≡ released_events (seen_processes processes.now)) }
     ensures frames { IfOk result (λ r. r.frames ≡

@@ -7,6 +7,7 @@
 //! is asked of the numbers.
 #![tactic(auto)]
 
+mod assemble_image;
 mod counts;
 mod declared;
 mod events;
@@ -19,8 +20,7 @@ mod parts;
 mod processes;
 mod releases;
 mod routines;
-mod whole;
 
+pub use assemble_image::assemble;
 pub use counts::count;
 pub use names::image_names;
-pub use whole::assemble;

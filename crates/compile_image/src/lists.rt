@@ -7,9 +7,9 @@ ghost use Rattle.code_names.specs.Parts.{seen_monitors, seen_processes};
 ghost use Rattle.built_image.specs.Named.{named_conditions};
 ghost use Rattle.compile_image.specs.Released.{conditions_named};
 
-use image::CondName;
+use image::ConditionName;
 use std::alloc::{AllocError, Global};
-use syntax_tree::{List, Member, Mon, Name, Proc};
+use syntax_tree::{List, Member, Monitor, Name, Process};
 
 /// A name once more.
 pub fn copied(alloc: Global, name: &Name) -> Result<Name, AllocError>
@@ -19,7 +19,7 @@ pub fn copied(alloc: Global, name: &Name) -> Result<Name, AllocError>
 }
 
 /// The names of processes.
-pub fn process_names(alloc: Global, processes: &[&Proc]) -> Result<List<Name>, AllocError>
+pub fn process_names(alloc: Global, processes: &[&Process]) -> Result<List<Name>, AllocError>
     ensures { IfOk result (λ names. names ≡ map (λ p. p.name) (seen_processes processes.now)) }
 {
     let mut names = List::new(alloc);
@@ -30,7 +30,7 @@ pub fn process_names(alloc: Global, processes: &[&Proc]) -> Result<List<Name>, A
 }
 
 /// The names of monitors.
-pub fn monitor_names(alloc: Global, monitors: &[&Mon]) -> Result<List<Name>, AllocError>
+pub fn monitor_names(alloc: Global, monitors: &[&Monitor]) -> Result<List<Name>, AllocError>
     ensures { IfOk result (λ names. names ≡ map (λ m. m.name) (seen_monitors monitors.now)) }
 {
     let mut names = List::new(alloc);
@@ -44,7 +44,7 @@ pub fn monitor_names(alloc: Global, monitors: &[&Mon]) -> Result<List<Name>, All
 fn list_condition(
     alloc: Global,
     monitor: u16,
-    conditions: &mut List<CondName>,
+    conditions: &mut List<ConditionName>,
     member: &Member,
 ) -> Result<(), AllocError>
     ensures { OnOk result ((rest : List SpecMember) → conditions.new ++
@@ -53,7 +53,7 @@ fn list_condition(
 {
     if let Member::Condition { name, .. } = member {
         let name = copied(alloc, name)?;
-        conditions.push(CondName { name, mon: monitor })?;
+        conditions.push(ConditionName { name, mon: monitor })?;
     }
     Ok(())
 }
@@ -62,7 +62,7 @@ fn list_condition(
 fn list_conditions(
     alloc: Global,
     monitor: u16,
-    conditions: &mut List<CondName>,
+    conditions: &mut List<ConditionName>,
     members: &[Member],
 ) -> Result<(), AllocError>
     ensures { OnOk result (conditions.new ≡ conditions.old ++
@@ -75,7 +75,10 @@ fn list_conditions(
 }
 
 /// The conditions of all monitors, each with the number of its monitor.
-pub fn condition_names(alloc: Global, monitors: &[&Mon]) -> Result<List<CondName>, AllocError>
+pub fn condition_names(
+    alloc: Global,
+    monitors: &[&Monitor],
+) -> Result<List<ConditionName>, AllocError>
     requires few { length monitors.now ≤ 64 }
     ensures { IfOk result (λ conditions. conditions ≡
         named_conditions 0 (seen_monitors monitors.now)) }

@@ -4,7 +4,7 @@ ghost use Rattle.std.specs.Prelude.{◌≡◌, ◌+◌, ◌≤◌};
 ghost use Rattle.syntax_tree.specs.Placed.{placed_process, placed_stmt, placed_stmts, plain_process, plain_stmt, plain_stmts};
 ghost use Rattle.code_spec.specs.Layout.{frame_words, loops, loops_in};
 
-use syntax_tree::{Proc, Stmt};
+use syntax_tree::{Process, Stmt};
 
 /// The loops of a statement, behind so many.
 #[cycle(count)]
@@ -39,7 +39,7 @@ fn count_from(before: u32, stmts: &[Stmt]) -> u32
 }
 
 /// The words of a process's frame: one for each loop of its body and its handler.
-pub fn frame(process: &Proc) -> u32
+pub fn frame(process: &Process) -> u32
     requires { frame_words (plain_process (placed_process process.now)) ≤ 4096 }
     ensures { result ≡ frame_words (plain_process (placed_process process.now)) }
 {

@@ -8,18 +8,18 @@ ghost use Rattle.code_names.specs.Parts.{seen_monitors};
 ghost use Rattle.compile_image.specs.Fields.{monitors_words};
 ghost use Rattle.compile_image.specs.Told.{monitor_told, monitors_told};
 
-use code_layout::{Values, laid_monitor};
-use image::RawMon;
+use code_layout::{ConstantValues, laid_monitor};
+use image::RawMonitor;
 use std::alloc::{AllocError, Global};
-use syntax_tree::{List, Mon};
+use syntax_tree::{List, Monitor};
 
 /// A monitor whose words begin at this one.
 fn raw_monitor(
     alloc: Global,
-    values: &Values<'_>,
+    values: &ConstantValues<'_>,
     base: u32,
-    monitor: &Mon,
-) -> Result<RawMon, AllocError>
+    monitor: &Monitor,
+) -> Result<RawMonitor, AllocError>
     requires { base + words_of (plain (placed values.now))
         (monitor_vars (plain_monitor (placed_monitor monitor.now))) ≤ 1048576 }
     ensures told { IfOk result (λ raw. monitor_of raw ≡
@@ -30,7 +30,7 @@ fn raw_monitor(
 {
     let laid = laid_monitor(alloc, values, u64::from(base), monitor)?;
     let end = laid.word as u32;
-    Ok(RawMon {
+    Ok(RawMonitor {
         base,
         words: end - base,
         ceiling: 0,
@@ -40,9 +40,9 @@ fn raw_monitor(
 /// The monitors, the words of each right behind those of the one before.
 pub fn raw_monitors(
     alloc: Global,
-    values: &Values<'_>,
-    monitors: &[&Mon],
-) -> Result<List<RawMon>, AllocError>
+    values: &ConstantValues<'_>,
+    monitors: &[&Monitor],
+) -> Result<List<RawMonitor>, AllocError>
     requires { monitors_words (plain (placed values.now)) (seen_monitors monitors.now) ≤ 1048576 }
     ensures { IfOk result (λ list. map monitor_of list ≡
         monitors_told (plain (placed values.now)) 0 (seen_monitors monitors.now)) }

@@ -8,16 +8,16 @@ ghost use Rattle.built_image.specs.Named.{named_conditions, named_event, names_o
 use crate::declared::{device_names, event_names};
 use crate::events::released_by_events;
 use crate::lists::{condition_names, monitor_names, process_names};
-use code_layout::Values;
+use code_layout::ConstantValues;
 use code_names::Directory;
-use image::{DevName, EventName, ImageNames};
+use image::{DeviceName, EventName, ImageNames};
 use std::alloc::{AllocError, Global};
-use syntax_tree::{List, Prog};
+use syntax_tree::{List, Program};
 
 /// The events with the frames of the processes that they release.
 fn all_events(
     alloc: Global,
-    program: &Prog,
+    program: &Program,
     directory: &Directory<'_>,
 ) -> Result<List<EventName>, AllocError>
     requires { directory.now ≡ program.now }
@@ -25,7 +25,7 @@ fn all_events(
         map (λ e. named_event (plain (placed program.now)) e)
         (filter_map event_in (plain (placed program.now)).decls)) }
 {
-    let values = Values::new(alloc, program)?;
+    let values = ConstantValues::new(alloc, program)?;
     let released = released_by_events(alloc, &values, directory.processes())?;
     let events = event_names(alloc, &released, program.decls.as_slice())?;
     Ok(events)
@@ -35,7 +35,7 @@ fn all_events(
 fn with_parts(
     alloc: Global,
     directory: &Directory<'_>,
-    devices: List<DevName>,
+    devices: List<DeviceName>,
     events: List<EventName>,
 ) -> Result<ImageNames, AllocError>
     requires { length (monitors_in (plain (placed directory.now))) ≤ 64 }
@@ -64,7 +64,7 @@ fn with_parts(
 /// The names of a program's parts, as an image has them, each list in the order of the text. There
 /// must be at most 64 monitors, so that the number of each fits its field. It takes time in
 /// proportion to the text, and fails only where memory is wanting.
-pub fn image_names(alloc: Global, program: &Prog) -> Result<ImageNames, AllocError>
+pub fn image_names(alloc: Global, program: &Program) -> Result<ImageNames, AllocError>
     requires few { length (monitors_in (plain (placed program.now))) ≤ 64 }
     ensures { IfOk result (λ names. names ≡ names_of (plain (placed program.now))) }
 {

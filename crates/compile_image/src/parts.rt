@@ -1,7 +1,7 @@
 //! The monitors, routines and processes of an image.
 
 ghost use Rattle.std.specs.Prelude.{◌≡◌, ◌≤◌, ◌++◌, ◌∷◌, IfOk, OnOk, List, filter_map, length, map};
-ghost use Rattle.syntax_tree.specs.Plain.{Decl as SpecDecl};
+ghost use Rattle.syntax_tree.specs.Plain.{Declaration as SpecDecl};
 ghost use Rattle.syntax_tree.specs.Placed.{placed, placed_decl, plain, plain_decl};
 ghost use Rattle.source_semantics.specs.Names.{event_in, monitors, processes};
 ghost use Rattle.image.specs.Raw.{monitor_of, process_of, routine_of};
@@ -18,32 +18,32 @@ use code_cost::Measures;
 use code_layout::Tables;
 use code_names::NameList;
 use codegen_spec::Code;
-use image::{RawMon, RawProc, RawRoutine};
+use image::{RawMonitor, RawProcess, RawRoutine};
 use std::alloc::{AllocError, Global};
-use syntax_tree::{Decl, List, Prog};
+use syntax_tree::{Declaration, List, Program};
 
 /// The parts of an image, each list in the order of the numbers.
 #[derive(Drop)]
-pub struct Parts {
-    pub monitors: List<RawMon>,
+pub struct ImageParts {
+    pub monitors: List<RawMonitor>,
     pub routines: List<RawRoutine>,
-    pub processes: List<RawProc>,
+    pub processes: List<RawProcess>,
 }
 
 /// Lists what is declared, if it is an event.
-fn list_event<'a>(names: &mut Vec<&'a [u8]>, decl: &'a Decl) -> Result<(), AllocError>
+fn list_event<'a>(names: &mut Vec<&'a [u8]>, decl: &'a Declaration) -> Result<(), AllocError>
     ensures { OnOk result ((rest : List SpecDecl) → names_of names.new.items ++
         filter_map event_in rest ≡ names_of names.old.items ++
         filter_map event_in (plain_decl (placed_decl decl.now) ∷ rest)) }
 {
-    if let Decl::Event { name, .. } = decl {
+    if let Declaration::Event { name, .. } = decl {
         names.push(name.as_bytes())?;
     }
     Ok(())
 }
 
 /// The events of a program.
-fn event_names<'a>(alloc: Global, decls: &'a [Decl]) -> Result<NameList<'a>, AllocError>
+fn event_names<'a>(alloc: Global, decls: &'a [Declaration]) -> Result<NameList<'a>, AllocError>
     ensures { IfOk result (λ names. names ≡ filter_map event_in
         (map plain_decl (map placed_decl decls.now))) }
 {
@@ -56,7 +56,7 @@ fn event_names<'a>(alloc: Global, decls: &'a [Decl]) -> Result<NameList<'a>, All
 }
 
 /// The monitors of a program.
-fn all_monitors(alloc: Global, tables: &Tables<'_>) -> Result<List<RawMon>, AllocError>
+fn all_monitors(alloc: Global, tables: &Tables<'_>) -> Result<List<RawMonitor>, AllocError>
     requires { monitors_words (plain (placed tables.now)) (monitors (plain (placed tables.now))) ≤
         1048576 }
     ensures { IfOk result (λ list. map monitor_of list ≡
@@ -99,7 +99,7 @@ fn all_processes(
     over: u16,
     code: &Code,
     measures: &Measures,
-) -> Result<List<RawProc>, AllocError>
+) -> Result<List<RawProcess>, AllocError>
     requires over { over ≤ 1000 }
     requires events { length events.now ≤ 64 }
     requires parts { length code.now.processes ≡ length (processes (plain (placed tables.now))) }
@@ -132,7 +132,7 @@ fn all_parts(
     over: u16,
     code: &Code,
     measures: &Measures,
-) -> Result<Parts, AllocError>
+) -> Result<ImageParts, AllocError>
     requires over { over ≤ 1000 }
     requires events { length events.now ≤ 64 }
     requires fits { FitAll (plain (placed tables.now)) code.now measures.now }
@@ -148,7 +148,7 @@ fn all_parts(
     let monitors = all_monitors(alloc, tables)?;
     let routines = all_routines(alloc, tables, code, measures)?;
     let processes = all_processes(alloc, tables, events, over, code, measures)?;
-    Ok(Parts {
+    Ok(ImageParts {
         monitors,
         routines,
         processes,
@@ -158,11 +158,11 @@ fn all_parts(
 /// The parts of the image of a program.
 pub fn parts_of(
     alloc: Global,
-    program: &Prog,
+    program: &Program,
     over: u16,
     code: &Code,
     measures: &Measures,
-) -> Result<Parts, AllocError>
+) -> Result<ImageParts, AllocError>
     requires over { over ≤ 1000 }
     requires fits { FitAll (plain (placed program.now)) code.now measures.now }
     ensures monitors { IfOk result (λ parts. map monitor_of parts.monitors ≡

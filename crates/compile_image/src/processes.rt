@@ -15,13 +15,13 @@ use crate::loops::frame;
 use crate::releases::released;
 use base::{Cost, OVER};
 use code_cost::ProcessMeasure;
-use code_layout::{Values, laid_process};
+use code_layout::{ConstantValues, laid_process};
 use code_names::NameList;
 use codegen_spec::ProcessParts;
-use image::RawProc;
+use image::RawProcess;
 use image_format::SegTree;
 use std::alloc::{AllocError, Global};
-use syntax_tree::{List, Proc};
+use syntax_tree::{List, Process};
 
 /// The ticks of an activation, with two dispatches at the release and two after each wait, where
 /// the overhead is the ticks of one; up to 1,000,000,001.
@@ -36,7 +36,11 @@ fn with_dispatches(over: u16, cost: Cost) -> u32
 }
 
 /// The words of a process's variables.
-fn data_words(alloc: Global, values: &Values<'_>, process: &Proc) -> Result<u32, AllocError>
+fn data_words(
+    alloc: Global,
+    values: &ConstantValues<'_>,
+    process: &Process,
+) -> Result<u32, AllocError>
     requires { words_of (plain (placed values.now)) (plain_process
         (placed_process process.now)).vars ≤ 1048576 }
     ensures { IfOk result (λ words. words ≡ words_of (plain (placed values.now))
@@ -49,13 +53,13 @@ fn data_words(alloc: Global, values: &Values<'_>, process: &Proc) -> Result<u32,
 /// A process with its parts of the code and its measures.
 fn raw_process(
     alloc: Global,
-    values: &Values<'_>,
+    values: &ConstantValues<'_>,
     events: &NameList<'_>,
     over: u16,
-    process: &Proc,
+    process: &Process,
     parts: &ProcessParts,
     size: ProcessMeasure,
-) -> Result<RawProc, AllocError>
+) -> Result<RawProcess, AllocError>
     requires over { over ≤ 1000 }
     requires events { length events.now ≤ 64 }
     requires fits { FitsSize (plain (placed values.now))
@@ -69,7 +73,7 @@ fn raw_process(
     let numbers = handler_numbers(alloc, values, &process.handler)?;
     let body = SegTree::of(alloc, parts.body.tree.as_slice())?;
     let handler_tree = handler_tree(alloc, &parts.handler)?;
-    Ok(RawProc {
+    Ok(RawProcess {
         kind: release.kind,
         frame: release.frame,
         deadline: release.deadline,
@@ -95,13 +99,13 @@ fn raw_process(
 /// The processes in the order of the text.
 pub fn raw_processes(
     alloc: Global,
-    values: &Values<'_>,
+    values: &ConstantValues<'_>,
     events: &NameList<'_>,
     over: u16,
-    processes: &[&Proc],
+    processes: &[&Process],
     parts: &[ProcessParts],
     sizes: &[ProcessMeasure],
-) -> Result<List<RawProc>, AllocError>
+) -> Result<List<RawProcess>, AllocError>
     requires over { over ≤ 1000 }
     requires events { length events.now ≤ 64 }
     requires parts { length parts.now ≡ length processes.now }

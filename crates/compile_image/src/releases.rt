@@ -7,14 +7,14 @@ ghost use Rattle.source_semantics.specs.Starts.{first_of};
 ghost use Rattle.compile_image.specs.Told.{release_told};
 
 use crate::count;
-use code_layout::{Values, number};
+use code_layout::{ConstantValues, number};
 use code_names::NameList;
-use syntax_tree::{Activation, Constant, Name};
+use syntax_tree::{Constant, Name, Trigger};
 
 /// When a process is released: kind 0 every `frame` ticks from `first` on, kind 1 at an event, and
 /// within how many ticks an activation has to end.
 #[derive(Clone, Copy, Debug)]
-pub struct Release {
+pub struct ReleaseFields {
     pub kind: u8,
     pub frame: u32,
     pub deadline: u32,
@@ -23,7 +23,7 @@ pub struct Release {
 }
 
 /// The deadline, which is the frame where none is told.
-fn deadline(values: &Values<'_>, frame: u32, told: &Option<Constant>) -> u32
+fn deadline(values: &ConstantValues<'_>, frame: u32, told: &Option<Constant>) -> u32
     ensures { result ≡ deadline_or (plain (placed values.now)) frame
         (optional plain_constant (optional placed_constant told.now)) }
 {
@@ -34,7 +34,7 @@ fn deadline(values: &Values<'_>, frame: u32, told: &Option<Constant>) -> u32
 }
 
 /// The tick of the first release, 0 where none is told.
-fn first(values: &Values<'_>, told: &Option<Constant>) -> u32
+fn first(values: &ConstantValues<'_>, told: &Option<Constant>) -> u32
     ensures { result ≡ first_of (plain (placed values.now))
         (optional plain_constant (optional placed_constant told.now)) }
 {
@@ -54,19 +54,23 @@ fn event_number(events: &NameList<'_>, event: &Name) -> u16
 }
 
 /// When a process is released, where these are the events of the program.
-pub fn released(values: &Values<'_>, events: &NameList<'_>, activation: &Activation) -> Release
+pub fn released(
+    values: &ConstantValues<'_>,
+    events: &NameList<'_>,
+    activation: &Trigger,
+) -> ReleaseFields
     requires { length events.now ≤ 64 }
     ensures { result ≡ release_told (plain (placed values.now)) events.now
         (plain_activation (placed_activation activation.now)) }
 {
     match activation {
-        Activation::Periodic {
+        Trigger::Periodic {
             frame,
             deadline: told,
             first: start,
         } => {
             let frame = count(values, frame);
-            Release {
+            ReleaseFields {
                 kind: 0,
                 frame,
                 deadline: deadline(values, frame, told),
@@ -74,14 +78,14 @@ pub fn released(values: &Values<'_>, events: &NameList<'_>, activation: &Activat
                 event: 0,
             }
         }
-        Activation::AtEvent {
+        Trigger::AtEvent {
             event,
             frame,
             deadline: told,
             ..
         } => {
             let frame = count(values, frame);
-            Release {
+            ReleaseFields {
                 kind: 1,
                 frame,
                 deadline: deadline(values, frame, told),

@@ -9,8 +9,8 @@ ghost use Rattle.code_names.specs.Texts.{owner_of, text_of, texts_of};
 ghost use Rattle.compile_image.specs.Rows.{FitRows, FitsRow};
 ghost use Rattle.compile_image.specs.Told.{routine_told, routines_told};
 
-use code_cost::Known;
-use code_names::{Owner, Text};
+use code_cost::RoutineMeasure;
+use code_names::{Body, RoutineOwner};
 use codegen_spec::Part;
 use image::RawRoutine;
 use image_format::SegTree;
@@ -18,24 +18,24 @@ use std::alloc::{AllocError, Global};
 use syntax_tree::{List, Routine};
 
 /// The number that tells whose a routine is: the program's, a process's or a monitor's.
-fn kind(owner: Owner) -> u8
+fn kind(owner: RoutineOwner) -> u8
     ensures { result ≡ kind_number (owner_of owner) }
 {
     match owner {
-        Owner::Program => 0,
-        Owner::Process(_) => 1,
-        Owner::Monitor(_) => 2,
+        RoutineOwner::Program => 0,
+        RoutineOwner::Process(_) => 1,
+        RoutineOwner::Monitor(_) => 2,
     }
 }
 
 /// The number of the process or monitor whose a routine is, 0 for one of the program.
-fn owner_index(owner: Owner) -> u16
+fn owner_index(owner: RoutineOwner) -> u16
     requires { owner_number (owner_of owner) ≤ 65535 }
     ensures { result ≡ owner_number (owner_of owner) }
 {
     match owner {
-        Owner::Program => 0,
-        Owner::Process(number) | Owner::Monitor(number) => number as u16,
+        RoutineOwner::Program => 0,
+        RoutineOwner::Process(number) | RoutineOwner::Monitor(number) => number as u16,
     }
 }
 
@@ -57,9 +57,9 @@ fn answers(routine: &Routine) -> bool
 /// A routine with its part of the code and its measures.
 fn raw_routine(
     alloc: Global,
-    text: Text<'_>,
+    text: Body<'_>,
     part: &Part,
-    row: Known,
+    row: RoutineMeasure,
 ) -> Result<RawRoutine, AllocError>
     requires { FitsRow (text_of text) part.now row }
     ensures { IfOk result (λ raw. routine_of raw ≡ routine_told (text_of text.entry) part.now row) }
@@ -83,9 +83,9 @@ fn raw_routine(
 /// The routines by number.
 pub fn raw_routines(
     alloc: Global,
-    texts: &[Text<'_>],
+    texts: &[Body<'_>],
     parts: &[Part],
-    rows: &[Known],
+    rows: &[RoutineMeasure],
 ) -> Result<List<RawRoutine>, AllocError>
     requires parts { length parts.now ≡ length texts.now }
     requires rows { length rows.now ≡ length texts.now }

@@ -5,8 +5,8 @@ use Rattle.std.proofs.lemmas.List.{take_all}
 use Rattle.base.proofs.Lists.{one_longer}
 use Rattle.machine_semantics.specs.Image.{Image, Process}
 use Rattle.image.specs.declared.raw.RawImage.{RawImage}
-use Rattle.image.specs.declared.raw.RawMon.{RawMon}
-use Rattle.image.specs.declared.raw.RawProc.{RawProc}
+use Rattle.image.specs.declared.raw.RawMonitor.{RawMonitor}
+use Rattle.image.specs.declared.raw.RawProcess.{RawProcess}
 use Rattle.image.specs.Raw.{image_of, monitor_of, process_of, named_of}
 use Rattle.valid_image.specs.Times.{rank_of, ceiling_of, needed_block}
 use Rattle.loader.specs.Stays.{AreStays}
@@ -21,23 +21,23 @@ use Rattle.compile_schedule.specs.Ranking.{timed, but_rank, but_ceiling, but_blo
 
 -- ---- one more of a list
 
-pub record RankedSoFar (m : Image) (before : List RawProc) (i : ℕ) (now : List RawProc) : Type 0 where
+pub record RankedSoFar (m : Image) (before : List RawProcess) (i : ℕ) (now : List RawProcess) : Type 0 where
   pub long : length now ≡ i
   pub same : map but_rank now ≡ map but_rank (take i before)
   pub ranks : Each (λ k p. p.rank ≡ rank_of m k) now
 
-pub record CeiledSoFar (m : Image) (before : List RawMon) (i : ℕ) (now : List RawMon) : Type 0 where
+pub record CeiledSoFar (m : Image) (before : List RawMonitor) (i : ℕ) (now : List RawMonitor) : Type 0 where
   pub long : length now ≡ i
   pub same : map but_ceiling now ≡ map but_ceiling (take i before)
   pub ceilings : Each (λ j x. x.ceiling ≡ ceiling_of m j) now
 
-pub record BlockedSoFar (m : Image) (before : List RawProc) (i : ℕ) (now : List RawProc) : Type 0 where
+pub record BlockedSoFar (m : Image) (before : List RawProcess) (i : ℕ) (now : List RawProcess) : Type 0 where
   pub long : length now ≡ i
   pub same : map but_block now ≡ map but_block (take i before)
   pub blocks : Each (λ k p. p.block ≡ needed_block m p.rank) now
   pub bounds : Each (λ k p. p.bound ≡ p.deadline) now
 
-pub one_ranked : (m : Image) (before old new : List RawProc) (i : ℕ) (t : Times) (p q : RawProc) → i < length before → p ≡ get_or before i p → RankedSoFar m before i old
+pub one_ranked : (m : Image) (before old new : List RawProcess) (i : ℕ) (t : Times) (p q : RawProcess) → i < length before → p ≡ get_or before i p → RankedSoFar m before i old
     → new ≡ old ++ q ∷ [] → process_of q ≡ timed t (process_of p) → t.rank ≡ rank_of m i → RankedSoFar m before (i + 1) new
 one_ranked m before old new i t p q low at so_far grown is rank = record {
   long = one_longer old new q i so_far.long grown;
@@ -45,13 +45,13 @@ one_ranked m before old new i t p q low at so_far grown is rank = record {
   ranks = each_more (λ k x. x.rank ≡ rank_of m k) old new i q so_far.long grown so_far.ranks (ap (λ (x : Process). x.rank) is ∙ rank);
 }
 
-pub none_ranked : (m : Image) (before now : List RawProc) → now ≡ [] → RankedSoFar m before 0 now
+pub none_ranked : (m : Image) (before now : List RawProcess) → now ≡ [] → RankedSoFar m before 0 now
 none_ranked m before now none = subst (RankedSoFar m before 0) (sym none) (record { long = refl; same = refl; ranks = none_yet (λ k p. p.rank ≡ rank_of m k) })
 
-pub all_ranked : (m : Image) (before now : List RawProc) (i : ℕ) → length before ≤ i → RankedSoFar m before i now → AreRanked m before now
+pub all_ranked : (m : Image) (before now : List RawProcess) (i : ℕ) → length before ≤ i → RankedSoFar m before i now → AreRanked m before now
 all_ranked m before now i past so_far = record { same = so_far.same ∙ ap (λ ps. map but_rank ps) (take_all i before past); ranks = so_far.ranks }
 
-pub one_ceiled : (m : Image) (before old new : List RawMon) (i : ℕ) (x y : RawMon) → i < length before → x ≡ get_or before i x → CeiledSoFar m before i old
+pub one_ceiled : (m : Image) (before old new : List RawMonitor) (i : ℕ) (x y : RawMonitor) → i < length before → x ≡ get_or before i x → CeiledSoFar m before i old
     → new ≡ old ++ y ∷ [] → but_ceiling y ≡ but_ceiling x → y.ceiling ≡ ceiling_of m i → CeiledSoFar m before (i + 1) new
 one_ceiled m before old new i x y low at so_far grown is ceiling = record {
   long = one_longer old new y i so_far.long grown;
@@ -59,13 +59,13 @@ one_ceiled m before old new i x y low at so_far grown is ceiling = record {
   ceilings = each_more (λ k z. z.ceiling ≡ ceiling_of m k) old new i y so_far.long grown so_far.ceilings ceiling;
 }
 
-pub none_ceiled : (m : Image) (before now : List RawMon) → now ≡ [] → CeiledSoFar m before 0 now
+pub none_ceiled : (m : Image) (before now : List RawMonitor) → now ≡ [] → CeiledSoFar m before 0 now
 none_ceiled m before now none = subst (CeiledSoFar m before 0) (sym none) (record { long = refl; same = refl; ceilings = none_yet (λ j x. x.ceiling ≡ ceiling_of m j) })
 
-pub all_ceiled : (m : Image) (before now : List RawMon) (i : ℕ) → length before ≤ i → CeiledSoFar m before i now → AreCeiled m before now
+pub all_ceiled : (m : Image) (before now : List RawMonitor) (i : ℕ) → length before ≤ i → CeiledSoFar m before i now → AreCeiled m before now
 all_ceiled m before now i past so_far = record { same = so_far.same ∙ ap (λ xs. map but_ceiling xs) (take_all i before past); ceilings = so_far.ceilings }
 
-pub one_blocked : (m : Image) (before old new : List RawProc) (i : ℕ) (t : Times) (p q : RawProc) → i < length before → p ≡ get_or before i p → BlockedSoFar m before i old
+pub one_blocked : (m : Image) (before old new : List RawProcess) (i : ℕ) (t : Times) (p q : RawProcess) → i < length before → p ≡ get_or before i p → BlockedSoFar m before i old
     → new ≡ old ++ q ∷ [] → process_of q ≡ timed t (process_of p) → t.rank ≡ p.rank → t.block ≡ needed_block m p.rank → t.bound ≡ p.deadline → BlockedSoFar m before (i + 1) new
 one_blocked m before old new i t p q low at so_far grown is rank block bound = record {
   long = one_longer old new q i so_far.long grown;
@@ -76,7 +76,7 @@ one_blocked m before old new i t p q low at so_far grown is rank block bound = r
       (ap (λ (x : Process). x.bound) is ∙ (bound ∙ sym (ap (λ (x : Process). x.deadline) is)));
 }
 
-pub none_blocked : (m : Image) (before now : List RawProc) → now ≡ [] → BlockedSoFar m before 0 now
+pub none_blocked : (m : Image) (before now : List RawProcess) → now ≡ [] → BlockedSoFar m before 0 now
 none_blocked m before now none = subst (BlockedSoFar m before 0) (sym none) (record {
   long = refl;
   same = refl;
@@ -84,12 +84,12 @@ none_blocked m before now none = subst (BlockedSoFar m before 0) (sym none) (rec
   bounds = none_yet (λ k p. p.bound ≡ p.deadline);
 })
 
-pub all_blocked : (m : Image) (before now : List RawProc) (i : ℕ) → length before ≤ i → BlockedSoFar m before i now → AreBlocked m before now
+pub all_blocked : (m : Image) (before now : List RawProcess) (i : ℕ) → length before ≤ i → BlockedSoFar m before i now → AreBlocked m before now
 all_blocked m before now i past so_far = record { same = so_far.same ∙ ap (λ ps. map but_block ps) (take_all i before past); blocks = so_far.blocks; bounds = so_far.bounds }
 
 -- ---- images
 
-pub image_ranked : (before : RawImage) (processes : List RawProc) (monitors : List RawMon) → AreRanked (image_of before) before.processes processes → AreCeiled (image_of before) before.monitors monitors
+pub image_ranked : (before : RawImage) (processes : List RawProcess) (monitors : List RawMonitor) → AreRanked (image_of before) before.processes processes → AreCeiled (image_of before) before.monitors monitors
     → IsRanked before (record before { monitors = monitors; processes = processes })
 image_ranked before processes monitors ranks ceilings = record {
   program = refl;
@@ -103,7 +103,7 @@ image_ranked before processes monitors ranks ceilings = record {
   ceilings = each_mapped monitor_of (λ j x. x.ceiling ≡ ceiling_of (image_of before) j) monitors ceilings.ceilings;
 }
 
-pub image_blocked : (before : RawImage) (processes : List RawProc) → AreBlocked (image_of before) before.processes processes → IsBlocked before (record before { processes = processes })
+pub image_blocked : (before : RawImage) (processes : List RawProcess) → AreBlocked (image_of before) before.processes processes → IsBlocked before (record before { processes = processes })
 image_blocked before processes are = record {
   program = refl;
   names = refl;

@@ -8,7 +8,7 @@ use Rattle.sched_response.specs.declared.tasks.Task.{Task}
 use Rattle.sched_response.specs.Demand.{deadline_at, IsBound}
 use Rattle.machine_semantics.specs.Image.{Image, Process}
 use Rattle.image.specs.declared.raw.RawImage.{RawImage}
-use Rattle.image.specs.declared.raw.RawProc.{RawProc}
+use Rattle.image.specs.declared.raw.RawProcess.{RawProcess}
 use Rattle.image.specs.Raw.{image_of, process_of}
 use Rattle.valid_image.specs.Tasks.{tasks_of}
 use Rattle.sched_table.specs.Table.{IsBoundAt}
@@ -41,7 +41,7 @@ pub record LeastSoFar (m : Image) (i : ℕ) (bounds : List (Option ℕ)) : Type 
   pub long : length bounds ≡ i
   pub each : Each (IsBoundOf m) bounds
 
-pub one_bound : (image : RawImage) (ts : List Task) (i : ℕ) (old new : List (Option ℕ)) (p : RawProc) (b : Option ℕ) → i < length image.processes → p ≡ get_or image.processes i p → ts ≡ tasks_of (image_of image)
+pub one_bound : (image : RawImage) (ts : List Task) (i : ℕ) (old new : List (Option ℕ)) (p : RawProcess) (b : Option ℕ) → i < length image.processes → p ≡ get_or image.processes i p → ts ≡ tasks_of (image_of image)
     → IsBoundAt ts (p.rank - 1) b → new ≡ old ++ b ∷ [] → LeastSoFar (image_of image) i old → LeastSoFar (image_of image) (i + 1) new
 one_bound image ts i old new p b low at tasks is grown so_far = record {
   long = one_longer old new b i so_far.long grown;
@@ -62,12 +62,12 @@ all_bounds image i bounds past so_far = record {
 
 -- ---- bounds filled in
 
-pub record BoundedSoFar (found : List (Option ℕ)) (before : List RawProc) (i : ℕ) (now : List RawProc) : Type 0 where
+pub record BoundedSoFar (found : List (Option ℕ)) (before : List RawProcess) (i : ℕ) (now : List RawProcess) : Type 0 where
   pub long : length now ≡ i
   pub same : map but_bound now ≡ map but_bound (take i before)
   pub bounds : Each (λ k p. (b : ℕ) → slice_get found k ≡ Some (Some b) → p.bound ≡ b) now
 
-pub one_bounded : (bounds : List (Option ℕ)) (before old new : List RawProc) (i : ℕ) (t : Times) (p q : RawProc) (o : Option ℕ) → i < length before → p ≡ get_or before i p → BoundedSoFar bounds before i old
+pub one_bounded : (bounds : List (Option ℕ)) (before old new : List RawProcess) (i : ℕ) (t : Times) (p q : RawProcess) (o : Option ℕ) → i < length before → p ≡ get_or before i p → BoundedSoFar bounds before i old
     → new ≡ old ++ q ∷ [] → process_of q ≡ timed t (process_of p) → t.rank ≡ p.rank → t.block ≡ p.block → o ≡ get_or bounds i None → t.bound ≡ unwrap_or o p.bound → BoundedSoFar bounds before (i + 1) new
 one_bounded bounds before old new i t p q o low at so_far grown is rank block there bound = record {
   long = one_longer old new q i so_far.long grown;
@@ -78,16 +78,16 @@ one_bounded bounds before old new i t p q o low at so_far grown is rank block th
       ap (λ (x : Process). x.bound) is ∙ (bound ∙ ap (λ x. unwrap_or x p.bound) (there ∙ get_or_from_slice_get bounds i (Some b) None found)));
 }
 
-pub none_bounded : (bounds : List (Option ℕ)) (before now : List RawProc) → now ≡ [] → BoundedSoFar bounds before 0 now
+pub none_bounded : (bounds : List (Option ℕ)) (before now : List RawProcess) → now ≡ [] → BoundedSoFar bounds before 0 now
 none_bounded bounds before now none =
     subst (BoundedSoFar bounds before 0) (sym none) (record { long = refl; same = refl; bounds = none_yet (λ k p. (b : ℕ) → slice_get bounds k ≡ Some (Some b) → p.bound ≡ b) })
 
-pub all_bounded : (bounds : List (Option ℕ)) (before now : List RawProc) (i : ℕ) → length before ≤ i → BoundedSoFar bounds before i now → AreBounded bounds before now
+pub all_bounded : (bounds : List (Option ℕ)) (before now : List RawProcess) (i : ℕ) → length before ≤ i → BoundedSoFar bounds before i now → AreBounded bounds before now
 all_bounded bounds before now i past so_far = record { same = so_far.same ∙ ap (λ ps. map but_bound ps) (take_all i before past); bounds = so_far.bounds }
 
 -- ---- images
 
-pub image_bounded : (before : RawImage) (bounds : List (Option ℕ)) (processes : List RawProc) → AreBounded bounds before.processes processes
+pub image_bounded : (before : RawImage) (bounds : List (Option ℕ)) (processes : List RawProcess) → AreBounded bounds before.processes processes
     → without_bounds (record (image_of before) { processes = map process_of processes }) ≡ without_bounds (image_of before)
 image_bounded before bounds processes are =
     ap (λ v. record (image_of before) { processes = v })

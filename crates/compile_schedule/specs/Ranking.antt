@@ -2,8 +2,8 @@
 use Rattle.std.specs.Prelude.{◌≡◌, List, map}
 use Rattle.machine_semantics.specs.Image.{Image, Monitor, Process}
 use Rattle.image.specs.declared.raw.RawImage.{RawImage}
-use Rattle.image.specs.declared.raw.RawMon.{RawMon}
-use Rattle.image.specs.declared.raw.RawProc.{RawProc}
+use Rattle.image.specs.declared.raw.RawMonitor.{RawMonitor}
+use Rattle.image.specs.declared.raw.RawProcess.{RawProcess}
 use Rattle.image.specs.Raw.{image_of, monitor_of, process_of}
 use Rattle.valid_image.specs.Times.{rank_of, ceiling_of, needed_block}
 use Rattle.built_image.specs.Filled.{without_rank, without_ranks, without_ceiling}
@@ -16,27 +16,27 @@ timed t p = record p { rank = t.rank; block = t.block; bound = t.bound }
 
 -- ---- lists
 
-abbrev pub but_rank : RawProc → Process
+abbrev pub but_rank : RawProcess → Process
 but_rank p = without_rank (process_of p)
 
-abbrev pub but_ceiling : RawMon → Monitor
+abbrev pub but_ceiling : RawMonitor → Monitor
 but_ceiling x = without_ceiling (monitor_of x)
 
-abbrev pub but_block : RawProc → Process
+abbrev pub but_block : RawProcess → Process
 but_block p = without_block (process_of p)
 
 -- the same processes, each with its rank in the image
-pub record AreRanked (m : Image) (before now : List RawProc) : Type 0 where
+pub record AreRanked (m : Image) (before now : List RawProcess) : Type 0 where
   pub same : map but_rank now ≡ map but_rank before
   pub ranks : Each (λ k p. p.rank ≡ rank_of m k) now
 
 -- the same monitors, each with its ceiling in the image
-pub record AreCeiled (m : Image) (before now : List RawMon) : Type 0 where
+pub record AreCeiled (m : Image) (before now : List RawMonitor) : Type 0 where
   pub same : map but_ceiling now ≡ map but_ceiling before
   pub ceilings : Each (λ j x. x.ceiling ≡ ceiling_of m j) now
 
 -- the same processes, each with the block of its rank in the image, and its deadline as its bound
-pub record AreBlocked (m : Image) (before now : List RawProc) : Type 0 where
+pub record AreBlocked (m : Image) (before now : List RawProcess) : Type 0 where
   pub same : map but_block now ≡ map but_block before
   pub blocks : Each (λ k p. p.block ≡ needed_block m p.rank) now
   pub bounds : Each (λ k p. p.bound ≡ p.deadline) now

@@ -4,7 +4,7 @@ ghost use Rattle.std.specs.Prelude.{◌≡◌, IfOk};
 ghost use Rattle.image.specs.Raw.{process_of};
 ghost use Rattle.compile_schedule.specs.Ranking.{timed};
 
-use image::RawProc;
+use image::RawProcess;
 use image_format::SegTree;
 use std::alloc::{AllocError, Global};
 use syntax_tree::List;
@@ -41,13 +41,17 @@ fn copied_numbers(alloc: Global, numbers: &[u16]) -> Result<List<u16>, AllocErro
 
 /// The process once more, with this rank, this block and this bound. It takes time and memory in
 /// proportion to its segment trees, and fails only where memory is wanting.
-pub fn with_times(alloc: Global, process: &RawProc, times: Times) -> Result<RawProc, AllocError>
+pub fn with_times(
+    alloc: Global,
+    process: &RawProcess,
+    times: Times,
+) -> Result<RawProcess, AllocError>
     ensures { IfOk result (λ now. process_of now ≡ timed times (process_of process.now)) }
 {
     let numbers = copied_numbers(alloc, process.numbers.as_slice())?;
     let body = process.body.copied(alloc)?;
     let handler_tree = copied_handler(alloc, &process.handler_tree)?;
-    Ok(RawProc {
+    Ok(RawProcess {
         kind: process.kind,
         frame: process.frame,
         deadline: process.deadline,

@@ -8,14 +8,14 @@
 #![tactic(auto)]
 
 mod copies;
-mod filled;
-mod least;
+mod least_bounds;
 mod processes;
 mod ranks;
 mod shown;
+mod with_bounds_filled;
 
 pub use copies::{Times, with_times};
-pub use filled::with_bounds;
-pub use least::bounds;
+pub use least_bounds::bounds;
 pub use ranks::rank;
 pub use shown::table;
+pub use with_bounds_filled::with_bounds;

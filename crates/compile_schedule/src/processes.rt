@@ -6,13 +6,13 @@ ghost use Rattle.compile_schedule.specs.Ranking.{AreBlocked, AreCeiled, AreRanke
 ghost use Rattle.loader.specs.Stays.{AreStays};
 
 use crate::copies::{Times, with_times};
-use image::{RawImage, RawMon, RawProc};
+use image::{RawImage, RawMonitor, RawProcess};
 use loader::{Stays, ceiling_of, needed_block, rank_of};
 use std::alloc::{AllocError, Global};
 use syntax_tree::List;
 
 /// The processes with their ranks; their blocks and bounds are 0.
-pub(crate) fn ranked(alloc: Global, image: &RawImage) -> Result<List<RawProc>, AllocError>
+pub(crate) fn ranked(alloc: Global, image: &RawImage) -> Result<List<RawProcess>, AllocError>
     requires { length image.now.processes ≤ 64 }
     ensures { IfOk result (AreRanked (image_of image.now) image.now.processes) }
 {
@@ -36,7 +36,7 @@ pub(crate) fn ceiled(
     alloc: Global,
     image: &RawImage,
     stays: &Stays,
-) -> Result<List<RawMon>, AllocError>
+) -> Result<List<RawMonitor>, AllocError>
     requires few { length image.now.processes ≤ 64 }
     requires stays { AreStays (image_of image.now) stays.now }
     ensures { IfOk result (AreCeiled (image_of image.now) image.now.monitors) }
@@ -46,7 +46,7 @@ pub(crate) fn ceiled(
     for number in 0..monitors.len() {
         let monitor = &monitors[number];
         let ceiling = ceiling_of(image, stays, number);
-        all.push(RawMon {
+        all.push(RawMonitor {
             base: monitor.base,
             words: monitor.words,
             ceiling,
@@ -60,7 +60,7 @@ pub(crate) fn blocked(
     alloc: Global,
     image: &RawImage,
     stays: &Stays,
-) -> Result<List<RawProc>, AllocError>
+) -> Result<List<RawProcess>, AllocError>
     requires { AreStays (image_of image.now) stays.now }
     ensures { IfOk result (AreBlocked (image_of image.now) image.now.processes) }
 {

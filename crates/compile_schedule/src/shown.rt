@@ -5,7 +5,7 @@ ghost use Rattle.built_image.specs.Shown.{ceiling_shown, row_of, rows_of, table_
 ghost use Rattle.image.specs.Raw.{image_of, monitor_of, process_of};
 
 use base::Cost;
-use image::{RawImage, RawMon, RawProc};
+use image::{RawImage, RawMonitor, RawProcess};
 use sched_table::{Row, Size, Table};
 use std::alloc::{AllocError, Global};
 use syntax_tree::List;
@@ -24,7 +24,7 @@ fn ticks(bound: Option<u32>) -> Option<u64>
 }
 
 /// The row of a process with its bound, if it has one.
-fn process_row(process: &RawProc, bound: Option<u32>) -> Row
+fn process_row(process: &RawProcess, bound: Option<u32>) -> Row
     ensures { result ≡ row_of (process_of process.now) bound }
 {
     Row {
@@ -48,7 +48,7 @@ fn process_row(process: &RawProc, bound: Option<u32>) -> Row
 /// The rows of processes with their bounds.
 fn rows(
     alloc: Global,
-    processes: &[RawProc],
+    processes: &[RawProcess],
     bounds: &[Option<u32>],
 ) -> Result<List<Row>, AllocError>
     requires { length bounds.now ≡ length processes.now }
@@ -63,7 +63,7 @@ fn rows(
 }
 
 /// The ceiling of a monitor, if a process enters it.
-fn monitor_ceiling(monitor: &RawMon) -> Option<u16>
+fn monitor_ceiling(monitor: &RawMonitor) -> Option<u16>
     ensures { result ≡ ceiling_shown (monitor_of monitor.now) }
 {
     if monitor.ceiling == NO_RANK {
@@ -74,7 +74,7 @@ fn monitor_ceiling(monitor: &RawMon) -> Option<u16>
 }
 
 /// The ceilings of monitors.
-fn ceilings(alloc: Global, monitors: &[RawMon]) -> Result<List<Option<u16>>, AllocError>
+fn ceilings(alloc: Global, monitors: &[RawMonitor]) -> Result<List<Option<u16>>, AllocError>
     ensures { IfOk result (λ all. all ≡ map ceiling_shown (map monitor_of monitors.now)) }
 {
     let mut all = List::new(alloc);
@@ -86,7 +86,7 @@ fn ceilings(alloc: Global, monitors: &[RawMon]) -> Result<List<Option<u16>>, All
 }
 
 /// The words of monitors.
-fn words(alloc: Global, monitors: &[RawMon]) -> Result<List<u32>, AllocError>
+fn words(alloc: Global, monitors: &[RawMonitor]) -> Result<List<u32>, AllocError>
     ensures { IfOk result (λ all. all ≡ map (λ x. x.words) (map monitor_of monitors.now)) }
 {
     let mut all = List::new(alloc);
@@ -108,11 +108,11 @@ pub fn table(
 {
     let rows = rows(alloc, image.processes.as_slice(), bounds.as_slice())?;
     let ceilings = ceilings(alloc, image.monitors.as_slice())?;
-    let mon_words = words(alloc, image.monitors.as_slice())?;
+    let monitor_words = words(alloc, image.monitors.as_slice())?;
     Ok(Table {
         rows,
         ceilings,
-        mon_words,
+        monitor_words,
         code: image.code.len() as u32,
     })
 }

@@ -5,4 +5,4 @@
 //! (`BuiltImagesAreFaithful` of `command_due`). Nothing here can run.
 #![tactic(auto)]
 
-pub mod built_laws;
+pub mod faithful_images;

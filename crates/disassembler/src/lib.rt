@@ -4,7 +4,7 @@
 //! have names, valid or not.
 #![tactic(auto)]
 
-mod dis_image;
+mod image_text;
 mod instr;
 mod names;
 mod numbers;
@@ -12,4 +12,4 @@ mod process;
 mod routine;
 mod trees;
 
-pub use dis_image::dis;
+pub use image_text::dis;

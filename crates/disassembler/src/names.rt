@@ -5,7 +5,7 @@ ghost use Rattle.image.specs.Raw.{monitor_of};
 ghost use Rattle.asm_format.specs.Text.{ceiling_text, condition_line, device_line, direction, event_line, head_line, monitor_line};
 
 use crate::numbers::put_field;
-use image::{CondName, DevName, RawMon};
+use image::{ConditionName, DeviceName, RawMonitor};
 use std::alloc::AllocError;
 use syntax_tree::{Name, Text};
 
@@ -28,7 +28,7 @@ fn direction_of(out: bool) -> &'static [u8]
 }
 
 /// Puts the line of a device.
-pub fn put_device(text: &mut Text, device: &DevName) -> Result<(), AllocError>
+pub fn put_device(text: &mut Text, device: &DeviceName) -> Result<(), AllocError>
     ensures { OnOk result (text.new ≡ text.old ++ device_line device.now) }
 {
     text.extend(b"device ")?;
@@ -60,7 +60,7 @@ fn put_ceiling(text: &mut Text, ceiling: u16) -> Result<(), AllocError>
 }
 
 /// Puts the line of a monitor.
-pub fn put_monitor(text: &mut Text, name: &Name, monitor: &RawMon) -> Result<(), AllocError>
+pub fn put_monitor(text: &mut Text, name: &Name, monitor: &RawMonitor) -> Result<(), AllocError>
     ensures { OnOk result (text.new ≡ text.old ++ monitor_line name.now (monitor_of monitor.now)) }
 {
     text.extend(b"monitor ")?;
@@ -74,7 +74,7 @@ pub fn put_monitor(text: &mut Text, name: &Name, monitor: &RawMon) -> Result<(),
 }
 
 /// Puts the line of a condition.
-pub fn put_condition(text: &mut Text, condition: &CondName) -> Result<(), AllocError>
+pub fn put_condition(text: &mut Text, condition: &ConditionName) -> Result<(), AllocError>
     ensures { OnOk result (text.new ≡ text.old ++ condition_line condition.now) }
 {
     text.extend(b"condition ")?;

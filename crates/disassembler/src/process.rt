@@ -6,13 +6,13 @@ ghost use Rattle.asm_format.specs.Text.{handler_line, handler_text, process_line
 
 use crate::numbers::{put_field, put_numbers};
 use crate::trees::put_tree;
-use image::RawProc;
+use image::RawProcess;
 use image_format::SegTree;
 use std::alloc::{AllocError, Global};
 use syntax_tree::{Name, Text};
 
 /// Puts what releases a periodic process, and within what it ends.
-fn put_periodic(text: &mut Text, process: &RawProc) -> Result<(), AllocError>
+fn put_periodic(text: &mut Text, process: &RawProcess) -> Result<(), AllocError>
     ensures { OnOk result (text.new ≡ text.old ++ release_text (process_of process.now) 0) }
 {
     put_field(text, b" periodic frame ", process.frame)?;
@@ -22,7 +22,7 @@ fn put_periodic(text: &mut Text, process: &RawProc) -> Result<(), AllocError>
 }
 
 /// Puts the event that releases a process, and within what it ends.
-fn put_evented(text: &mut Text, process: &RawProc) -> Result<(), AllocError>
+fn put_evented(text: &mut Text, process: &RawProcess) -> Result<(), AllocError>
     ensures { OnOk result (text.new ≡ text.old ++ release_text (process_of process.now) 1) }
 {
     put_field(text, b" event ", u32::from(process.event))?;
@@ -32,7 +32,7 @@ fn put_evented(text: &mut Text, process: &RawProc) -> Result<(), AllocError>
 }
 
 /// Puts what releases a process, and within what it ends.
-fn put_release(text: &mut Text, process: &RawProc) -> Result<(), AllocError>
+fn put_release(text: &mut Text, process: &RawProcess) -> Result<(), AllocError>
     ensures { OnOk result (text.new ≡ text.old ++
         release_text (process_of process.now) process.now.kind) }
 {
@@ -43,7 +43,7 @@ fn put_release(text: &mut Text, process: &RawProc) -> Result<(), AllocError>
 }
 
 /// Puts the rank of a process, and what it takes of time.
-fn put_time(text: &mut Text, process: &RawProc) -> Result<(), AllocError>
+fn put_time(text: &mut Text, process: &RawProcess) -> Result<(), AllocError>
     ensures { OnOk result (text.new ≡ text.old ++ time_text (process_of process.now)) }
 {
     put_field(text, b" rank ", u32::from(process.rank))?;
@@ -56,7 +56,7 @@ fn put_time(text: &mut Text, process: &RawProc) -> Result<(), AllocError>
 }
 
 /// Puts what a process takes of memory, and where it begins.
-fn put_room(text: &mut Text, process: &RawProc) -> Result<(), AllocError>
+fn put_room(text: &mut Text, process: &RawProcess) -> Result<(), AllocError>
     ensures { OnOk result (text.new ≡ text.old ++ room_text (process_of process.now)) }
 {
     put_field(text, b" data ", process.words)?;
@@ -104,7 +104,7 @@ pub fn put_process(
     alloc: Global,
     text: &mut Text,
     name: &Name,
-    process: &RawProc,
+    process: &RawProcess,
 ) -> Result<(), AllocError>
     ensures { OnOk result (text.new ≡ text.old ++ process_lines name.now (process_of process.now)) }
 {

@@ -1,15 +1,15 @@
 -- The image of a file as its numbers stand in it.
 use Rattle.std.proofs.Common.{◌≡◌, ◌∙◌, ℕ, Bool, List, [], ◌∷◌, map, ap, refl, sym}
 use Rattle.image.specs.declared.raw.RawImage.{RawImage}
-use Rattle.image.specs.declared.raw.RawMon.{RawMon}
-use Rattle.image.specs.declared.raw.RawProc.{RawProc}
+use Rattle.image.specs.declared.raw.RawMonitor.{RawMonitor}
+use Rattle.image.specs.declared.raw.RawProcess.{RawProcess}
 use Rattle.image.specs.declared.raw.RawRoutine.{RawRoutine}
 use Rattle.image.specs.Named.{NamedImage}
 use Rattle.image.specs.Raw.{monitor_of, named_of, process_of, routine_of}
 use Rattle.machine_semantics.specs.Image.{Monitor, Process, Routine}
 use Rattle.image_loaded.specs.Shape.{AreOf}
 
-abbrev raw_monitor : Monitor → RawMon
+abbrev raw_monitor : Monitor → RawMonitor
 raw_monitor m = record { base = m.base; words = m.words; ceiling = m.ceiling }
 
 abbrev raw_routine : Routine → RawRoutine
@@ -27,7 +27,7 @@ raw_routine r = record {
   tree = r.tree;
 }
 
-abbrev raw_process : Process → RawProc
+abbrev raw_process : Process → RawProcess
 raw_process p = record {
   kind = p.kind;
   frame = p.frame;

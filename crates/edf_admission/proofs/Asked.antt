@@ -7,18 +7,18 @@ use Rattle.machine_semantics.specs.Image.{Image, Process}
 use Rattle.valid_image.specs.Times.{rank_fault}
 use Rattle.valid_image.specs.Valid.{HasLimits, IsInLimits}
 use Rattle.valid_image_law.proofs.Ranking.{ranked, one_each}
-use Rattle.sched_demand.specs.declared.tasks.DTask.{DTask}
+use Rattle.sched_demand.specs.declared.tasks.DemandTask.{DemandTask}
 use Rattle.sched_demand.specs.Demand.{task_at, AreTasks, IsTask}
 use Rattle.command_due.specs.Tasks.{AreDemands}
 use Rattle.edf_admission.specs.Steps.{AreAsked, IsAsked, IsLastBlock}
 use Rattle.edf_admission.proofs.Ranks.{in_order}
 
-abbrev pub no_demand : DTask
+abbrev pub no_demand : DemandTask
 no_demand = record { frame = 0; deadline = 0; cost = 0; block = 0 }
 
 -- ---- the first tasks
 
-abbrev pub FirstAreAsked : Image → (many : ℕ) → List DTask → Type 0
+abbrev pub FirstAreAsked : Image → (many : ℕ) → List DemandTask → Type 0
 FirstAreAsked m many ts = (length ts ≡ many) × ((level : ℕ) → level < many → IsAsked m (level + 1) (task_at ts level))
 
 -- ---- all tasks
@@ -38,7 +38,7 @@ module _ (m : Image) (none : rank_fault m ≡ None) where
       let same : one.q ≡ two.q = same_process one.k two.k one.q two.q one.at two.at (omega (arith, high, low)) in
       sym one.is ∙ (ap (λ (q : Process). q.block) same ∙ two.is)
 
-  module _ (ts : List DTask) (asked : AreAsked m ts) where
+  module _ (ts : List DemandTask) (asked : AreAsked m ts) where
     -- the task of a process
     record Own (p : Process) : Type 0 where
       asks : IsAsked m (p.rank - 1 + 1) (task_at ts (p.rank - 1))
@@ -62,7 +62,7 @@ module _ (m : Image) (none : rank_fault m ≡ None) where
     }
 
     module _ (limits : HasLimits m) where
-      a_task : (rank : ℕ) (t : DTask) → IsAsked m rank t → IsTask t
+      a_task : (rank : ℕ) (t : DemandTask) → IsAsked m rank t → IsTask t
       a_task rank t a =
           let l : IsInLimits a.has.p = limits.processes a.k a.has.p a.has.at in
           let b : IsInLimits a.block.q = limits.processes a.block.k a.block.q a.block.at in
@@ -81,7 +81,7 @@ module _ (m : Image) (none : rank_fault m ≡ None) where
         few = omega (arith, asked.many, limits.few);
         each = All-from_get_or IsTask ts no_demand (λ level low. a_task (level + 1) (task_at ts level) (asked.each level low));
         ordered = record {
-          ascending = IsNonDecreasingBy-from_default (λ (t : DTask). t.deadline) ts no_demand (λ i j le low.
+          ascending = IsNonDecreasingBy-from_default (λ (t : DemandTask). t.deadline) ts no_demand (λ i j le low.
               let a = asked.each i (omega (arith, le, low)) in
               let b = asked.each j low in
               let up = in_order m none a.k b.k a.has.p b.has.p a.has.at b.has.at (omega (arith, a.has.is, b.has.is, le)) in

@@ -9,7 +9,7 @@ use Rattle.valid_image.specs.Tasks.{process_at}
 use Rattle.valid_image_law.proofs.Parts.{no_part, where_in}
 use Rattle.valid_image_law.proofs.Processes.{parts_in}
 use Rattle.loader.proofs.Order.{HasNoFaultBefore, none_before}
-use Rattle.sched_demand.specs.declared.tasks.DTask.{DTask}
+use Rattle.sched_demand.specs.declared.tasks.DemandTask.{DemandTask}
 use Rattle.sched_demand.specs.declared.judging.Judgement.TheVariants as verdict
 use Rattle.sched_demand.specs.Demand.{IsJudged, IsReach}
 use Rattle.sched_demand.proofs.Rising.{one_reach}
@@ -21,7 +21,7 @@ use Rattle.edf_admission.specs.Admitted.{IsAdmitted}
 use Rattle.edf_admission.specs.Runs.{EveryAdmittedShapeMeetsDeadlines, IsSafe}
 use Rattle.edf_admission.proofs.Premises.{are_demands, fits, is_waitless}
 
-judged_once : (ts : List DTask) (reach count : ℕ) → IsReach ts reach → IsJudged ts reach (verdict.Feasible count) → IsJudgedFeasible ts count
+judged_once : (ts : List DemandTask) (reach count : ℕ) → IsReach ts reach → IsJudged ts reach (verdict.Feasible count) → IsJudgedFeasible ts count
 judged_once ts reach count is judged other is_other = subst (λ (r : ℕ). IsJudged ts r (verdict.Feasible count)) (one_reach ts reach other is is_other) judged
 
 module _ (shape : NamedImage) (is : IsShape shape) (admitted : IsAdmitted shape.image) where

@@ -9,7 +9,7 @@ use Rattle.base.specs.Capped.{cap}
 use Rattle.machine_semantics.specs.Image.{Image, Process}
 use Rattle.valid_image.specs.Times.{rank_fault}
 use Rattle.loader.proofs.Order.{ranks_none}
-use Rattle.sched_demand.specs.declared.tasks.DTask.{DTask}
+use Rattle.sched_demand.specs.declared.tasks.DemandTask.{DemandTask}
 use Rattle.sched_demand.specs.declared.judging.Judgement.{Judgement}
 use Rattle.sched_demand.specs.declared.judging.Judgement.TheVariants as verdict
 use Rattle.sched_demand.specs.Demand.{task_at, demand_at, IsJudged, IsReach}
@@ -50,16 +50,16 @@ last_there m k p at = let s = some_so_far m k p at (length m.processes) (omega a
 
 -- ---- one list of tasks
 
-any_default : (ts : List DTask) (level : ℕ) (d e : DTask) → level < length ts → get_or ts level d ≡ get_or ts level e
+any_default : (ts : List DemandTask) (level : ℕ) (d e : DemandTask) → level < length ts → get_or ts level d ≡ get_or ts level e
 any_default ts level d e low = get_or_from_slice_get ts level (get_or ts level e) d (slice_get-get_or ts level e low)
 
-same_task : (t u : DTask) → t.frame ≡ u.frame → t.deadline ≡ u.deadline → t.cost ≡ u.cost → t.block ≡ u.block → t ≡ u
+same_task : (t u : DemandTask) → t.frame ≡ u.frame → t.deadline ≡ u.deadline → t.cost ≡ u.cost → t.block ≡ u.block → t ≡ u
 same_task t u frame deadline cost block =
     ap (λ (n : ℕ). record t { frame = n }) frame
     ∙ (ap (λ (n : ℕ). record { frame = u.frame; deadline = n; cost = t.cost; block = t.block }) deadline
     ∙ (ap (λ (n : ℕ). record { frame = u.frame; deadline = u.deadline; cost = n; block = t.block }) cost ∙ ap (λ (n : ℕ). record { frame = u.frame; deadline = u.deadline; cost = u.cost; block = n }) block))
 
-module _ (m : Image) (none : rank_fault m ≡ None) (ts us : List DTask) (one : AreDemands m ts) (other : AreDemands m us) where
+module _ (m : Image) (none : rank_fault m ≡ None) (ts us : List DemandTask) (one : AreDemands m ts) (other : AreDemands m us) where
   same_at : (level : ℕ) → level < length m.processes → task_at ts level ≡ task_at us level
   same_at level low =
       let had = each_rank_is_had m none level low in
@@ -80,7 +80,7 @@ module _ (m : Image) (none : rank_fault m ≡ None) (ts us : List DTask) (one : 
 
 -- ---- one answer
 
-one_judgement : (ts : List DTask) (reach : ℕ) (a b : Judgement) → IsJudged ts reach a → IsJudged ts reach b → a ≡ b
+one_judgement : (ts : List DemandTask) (reach : ℕ) (a b : Judgement) → IsJudged ts reach a → IsJudged ts reach b → a ≡ b
 one_judgement ts reach (verdict.Feasible count) (verdict.Feasible other) one two = ap (λ (n : ℕ). verdict.Feasible n) (one.0 ∙ sym two.0)
 one_judgement ts reach (verdict.Feasible count) (verdict.Late other at demand) one two = absurd (let met = one.2 at two.2.point in omega (arith, met, two.2.late))
 one_judgement ts reach (verdict.Feasible count) verdict.Many one two = absurd (omega (arith, one.0, one.1, two))
@@ -102,8 +102,8 @@ one_judgement ts reach verdict.Many verdict.Many one two = refl
 pub one_answer : (m : Image) (a b : Judgement) → rank_fault m ≡ None → IsAnswer m a → IsAnswer m b → a ≡ b
 one_answer m a b none one two =
     let tasks : two.tasks ≡ one.tasks = same_tasks m none two.tasks one.tasks two.demands one.demands in
-    let reach : two.reach ≡ one.reach = one_reach one.tasks two.reach one.reach (subst (λ (ts : List DTask). IsReach ts two.reach) tasks two.is_reach) one.is_reach in
-    one_judgement one.tasks one.reach a b one.judged (subst (λ (r : ℕ). IsJudged one.tasks r b) reach (subst (λ (ts : List DTask). IsJudged ts two.reach b) tasks two.judged))
+    let reach : two.reach ≡ one.reach = one_reach one.tasks two.reach one.reach (subst (λ (ts : List DemandTask). IsReach ts two.reach) tasks two.is_reach) one.is_reach in
+    one_judgement one.tasks one.reach a b one.judged (subst (λ (r : ℕ). IsJudged one.tasks r b) reach (subst (λ (ts : List DemandTask). IsJudged ts two.reach b) tasks two.judged))
 
 pub each_shape_has_one_answer : EachShapeHasOneAnswer
 each_shape_has_one_answer named a b shape one two = one_answer named.image a b (ranks_none named.image shape.valid) one two

@@ -5,8 +5,8 @@ use Rattle.std.proofs.lemmas.List.{length-map}
 use Rattle.std.proofs.lemmas.List.Elements.{All-map}
 use Rattle.std.proofs.lemmas.Option.{slice_get_within}
 use Rattle.base.proofs.Lists.{one_of, all_of}
-use Rattle.image.specs.declared.names.CondName.{CondName}
-use Rattle.image.specs.declared.names.DevName.{DevName}
+use Rattle.image.specs.declared.names.ConditionName.{ConditionName}
+use Rattle.image.specs.declared.names.DeviceName.{DeviceName}
 use Rattle.image.specs.declared.raw.RawImage.{RawImage}
 use Rattle.image.specs.Named.{NamedImage}
 use Rattle.image.specs.Raw.{image_of, monitor_of, named_of, process_of}
@@ -82,8 +82,8 @@ module _ (bytes : List ℕ) (raw : RawImage) (are : AreOf bytes (named_of raw)) 
   has_plan : HasPlan (image_of raw)
   has_plan =
       let monitors : length (image_of raw).monitors ≤ 64 = omega (arith, read_monitors bytes raw (holds bytes raw are), length-map raw.monitors monitor_of) in
-      let conditions : length (image_of raw).conditions ≤ 256 = omega (arith, named.conditions, length-map raw.names.conditions (λ (c : CondName). c.mon)) in
-      let devices : length (image_of raw).devices ≤ 64 = omega (arith, named.devices, length-map raw.names.devices (λ (d : DevName). d.out)) in
+      let conditions : length (image_of raw).conditions ≤ 256 = omega (arith, named.conditions, length-map raw.names.conditions (λ (c : ConditionName). c.mon)) in
+      let devices : length (image_of raw).devices ≤ 64 = omega (arith, named.devices, length-map raw.names.devices (λ (d : DeviceName). d.out)) in
       record {
         numbers = λ n instr at. has_numbers (image_of raw) monitors conditions devices instr (all_there (image_of raw) is.limits.owners none.operands none.shape n instr at);
         params = all_of (λ (r : Routine). r.params ≤ r.locals) (image_of raw).routines (params_fit (image_of raw) none.sizes);
@@ -97,8 +97,8 @@ module _ (bytes : List ℕ) (raw : RawImage) (are : AreOf bytes (named_of raw)) 
     sound = named.sound;
     processes = named.processes ∙ sym (length-map raw.processes process_of);
     monitors = named.monitors ∙ sym (length-map raw.monitors monitor_of);
-    conditions = sym (length-map raw.names.conditions (λ (c : CondName). c.mon));
-    devices = sym (length-map raw.names.devices (λ (d : DevName). d.out));
+    conditions = sym (length-map raw.names.conditions (λ (c : ConditionName). c.mon));
+    devices = sym (length-map raw.names.devices (λ (d : DeviceName). d.out));
   }
 
   can_be_run : CanBeRun (named_of raw)

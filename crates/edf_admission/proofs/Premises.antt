@@ -22,7 +22,7 @@ use Rattle.valid_image_law.proofs.Ranking.{blocks, one_each, ranked, within_rank
 use Rattle.valid_image_law.proofs.Rows.{alike, exact, process_costs}
 use Rattle.valid_image_law.proofs.Shapes.{process_shaped}
 use Rattle.loader.proofs.Order.{HasNoFaultBefore}
-use Rattle.sched_demand.specs.declared.tasks.DTask.{DTask}
+use Rattle.sched_demand.specs.declared.tasks.DemandTask.{DemandTask}
 use Rattle.sched_demand.specs.Demand.{task_at, AreTasks}
 use Rattle.edf_semantics.specs.Safe.{IsWaitless, rank_of_some}
 use Rattle.edf_timing.specs.InTime as timed
@@ -97,7 +97,7 @@ module _ (m : Image) (none : HasNoFaultBefore m) (limits : HasLimits m) (over : 
       let is : had.1.p.rank ≡ suc level = omega (arith, had.1.is) in
       record { k = had.0; p = had.1.p; at = had.1.at; is = is; place = found_at level had.0 had.1.p had.1.at is }
 
-  module _ (ts : List DTask) (asked : AreDemands m ts) (are : AreTasks ts) where
+  module _ (ts : List DemandTask) (asked : AreDemands m ts) (are : AreTasks ts) where
     are_ranks : AreRanks (length ts) (timed.rank_of m) (process_at m)
     are_ranks = record {
       rank_below = λ k low.

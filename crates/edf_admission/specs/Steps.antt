@@ -1,7 +1,7 @@
 -- What the parts of the call find: the process of a rank, the block of a deadline, and the tasks.
 use Rattle.std.specs.Prelude.{◌≡◌, ◌+◌, ◌<◌, ◌≤◌, ℕ, List, Some, length, slice_get}
 use Rattle.machine_semantics.specs.Image.{Image, Process}
-use Rattle.sched_demand.specs.declared.tasks.DTask.{DTask}
+use Rattle.sched_demand.specs.declared.tasks.DemandTask.{DemandTask}
 use Rattle.sched_demand.specs.Demand.{task_at}
 use Rattle.command_due.specs.Tasks.{IsLastOfDeadline}
 
@@ -32,7 +32,7 @@ IsBlockOfLast m k block = (p : Process) → slice_get m.processes k ≡ Some p �
 
 -- the task has the frame, the deadline and the cost of the process of the rank, and the block of
 -- its deadline
-pub record IsAsked (m : Image) (rank : ℕ) (t : DTask) : Type 0 where
+pub record IsAsked (m : Image) (rank : ℕ) (t : DemandTask) : Type 0 where
   pub k : ℕ
   pub has : HasRank m rank k
   pub frame : t.frame ≡ has.p.frame
@@ -41,7 +41,7 @@ pub record IsAsked (m : Image) (rank : ℕ) (t : DTask) : Type 0 where
   pub block : IsLastBlock m has.p.deadline t.block
 
 -- the task of each rank, in the order of ranks
-pub record AreAsked (m : Image) (ts : List DTask) : Type 0 where
+pub record AreAsked (m : Image) (ts : List DemandTask) : Type 0 where
   pub many : length ts ≡ length m.processes
   pub each : (level : ℕ) → level < length ts → IsAsked m (level + 1) (task_at ts level)
 

@@ -7,7 +7,7 @@ ghost use Rattle.edf_admission.specs.Steps.{AreAsked, EachRankIsHad, HasRank, Is
 
 use image_loaded::Shape;
 use sched_demand::demand::each_set_has_one_reach;
-use sched_demand::{DTask, DemandSet, Judgement, judge};
+use sched_demand::{DemandSet, DemandTask, Judgement, judge};
 use std::alloc::{AllocError, Global};
 
 /// The number of the process of the rank.
@@ -42,14 +42,14 @@ fn block_of_last(shape: &Shape, number: u16) -> u32
 }
 
 /// What the process of the rank asks for.
-fn demand(shape: &Shape, rank: u16) -> DTask
+fn demand(shape: &Shape, rank: u16) -> DemandTask
     requires { SomeHasRank shape.now.image rank }
     ensures { IsAsked shape.now.image rank result }
 {
     let number = with_rank(shape, rank);
     let block = block_of_last(shape, number);
     let process = shape.process(number);
-    DTask {
+    DemandTask {
         frame: process.frame as u64,
         deadline: process.deadline as u64,
         cost: process.run as u64,
@@ -58,7 +58,7 @@ fn demand(shape: &Shape, rank: u16) -> DTask
 }
 
 /// What the processes ask for, in the order of ranks.
-fn tasks(alloc: Global, shape: &Shape) -> Result<Vec<DTask>, AllocError>
+fn tasks(alloc: Global, shape: &Shape) -> Result<Vec<DemandTask>, AllocError>
     requires { EachRankIsHad shape.now.image }
     ensures { IfOk result (λ all. AreAsked shape.now.image all.items) }
 {

@@ -9,7 +9,7 @@ ghost use Rattle.image_loaded.specs.Shape.{AreOf};
 ghost use Rattle.edf_admission.specs.Ready.{CanBeRun};
 
 use crate::EdfImage;
-use vm_law::script_suits::scripts_suit;
+use vm_law::suitable_scripts::scripts_suit;
 
 /// The image of a file can be run, and every script that is read for its names suits it. The call
 /// does nothing.

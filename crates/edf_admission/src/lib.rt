@@ -9,15 +9,15 @@
 //! asked. No command stands on this room.
 #![tactic(auto)]
 
+pub mod admission_law;
 mod asking;
-pub mod edf_admit;
-mod edf_admit_image;
+mod edf_image;
 mod fault;
 mod file;
 mod run;
 mod waiting;
 
-pub use edf_admit_image::EdfImage;
+pub use edf_image::EdfImage;
 pub use fault::EdfFault;
 pub use file::images_of_files_can_be_run;
 pub use run::AdmittedRun;

@@ -12,13 +12,13 @@ ghost use Rattle.edf_admission.specs.Ready.{CanBeRun, IsReady, run_log};
 
 use crate::EdfImage;
 use edf_machine::EdfMachine;
-use edf_machine::edf_runnable::{waitless_runs_are_runnable, waitless_runs_have_lines};
+use edf_machine::runnable_law::{waitless_runs_are_runnable, waitless_runs_have_lines};
 use image_loaded::Shape;
 use outside::{Sink, SinkFailed};
 use script::Script;
 use std::alloc::{AllocError, Global};
 use vm_plan::plan_bytes_plan::plan_of;
-use vm_state::Plan;
+use vm_state::DecodedImage;
 
 /// The deadline of each process in ticks; an error says that memory is short.
 fn deadlines_of(alloc: Global, shape: &Shape) -> Result<Vec<u32>, AllocError>
@@ -35,7 +35,7 @@ fn deadlines_of(alloc: Global, shape: &Shape) -> Result<Vec<u32>, AllocError>
 /// The machine before tick 0 of the run; an error says that memory is short.
 fn machine_of(
     alloc: Global,
-    plan: &Plan,
+    plan: &DecodedImage,
     image: &EdfImage,
     script: &Script,
 ) -> Result<EdfMachine, AllocError>
@@ -77,7 +77,7 @@ fn put_log<O: Sink>(
 /// A run of an admitted image under earliest deadline first, over a script.
 #[derive(Drop)]
 pub struct AdmittedRun {
-    plan: Plan,
+    plan: DecodedImage,
     machine: EdfMachine,
 }
 

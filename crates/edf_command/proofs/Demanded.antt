@@ -12,7 +12,7 @@ use Rattle.valid_image.specs.Times.{rank_fault}
 use Rattle.valid_image.specs.Valid.{HasLimits}
 use Rattle.valid_image_law.proofs.Ranking.{ranked, one_each}
 use Rattle.loader.proofs.InOrder.{are_tasks, tasks_long}
-use Rattle.sched_demand.specs.declared.tasks.DTask.{DTask}
+use Rattle.sched_demand.specs.declared.tasks.DemandTask.{DemandTask}
 use Rattle.sched_demand.specs.Demand.{task_at, AreTasks, IsTask}
 use Rattle.command_due.specs.Tasks.{AreDemands}
 use Rattle.edf_command.specs.Listed.{demand_of, demands_of, last_block}
@@ -22,7 +22,7 @@ use Rattle.edf_command.proofs.Owned.{own_task}
 abbrev no_task : Task
 no_task = record { frame = 0; deadline = 0; run = 0; susp = 0; waits = 0; block = 0 }
 
-abbrev no_demand : DTask
+abbrev no_demand : DemandTask
 no_demand = record { frame = 0; deadline = 0; cost = 0; block = 0 }
 
 module _ (m : Image) (none : rank_fault m ≡ None) where
@@ -41,11 +41,11 @@ module _ (m : Image) (none : rank_fault m ≡ None) where
   pub are_demands : AreDemands m (demands_of m)
   are_demands = record {
     many = many_demands ∙ many;
-    frame = λ k p at. ap (λ (t : DTask). t.frame) (own k p at);
-    deadline = λ k p at. ap (λ (t : DTask). t.deadline) (own k p at);
-    cost = λ k p at. ap (λ (t : DTask). t.cost) (own k p at);
+    frame = λ k p at. ap (λ (t : DemandTask). t.frame) (own k p at);
+    deadline = λ k p at. ap (λ (t : DemandTask). t.deadline) (own k p at);
+    cost = λ k p at. ap (λ (t : DemandTask). t.cost) (own k p at);
     block = λ j k p q at_p at_q same last. (let r = ranked m none k q at_q in
-        ap (λ (t : DTask). t.block) (own j p at_p)
+        ap (λ (t : DemandTask). t.block) (own j p at_p)
         ∙ last_found p.deadline 0 0 k m.processes q at_q (sym same) (omega (arith, r.0)) (λ i x at of. last i x at (of ∙ same)) (λ i x at of. one_each m none i k x q at at_q of));
   }
 
@@ -54,7 +54,7 @@ module _ (m : Image) (none : rank_fault m ≡ None) where
     base = are_tasks m limits none
 
     -- the demand of a level, whatever stands past the end
-    at_level : (i : ℕ) (d : DTask) → i < length (tasks_of m) → get_or (demands_of m) i d ≡ demand_of m.processes (get_or (tasks_of m) i no_task)
+    at_level : (i : ℕ) (d : DemandTask) → i < length (tasks_of m) → get_or (demands_of m) i d ≡ demand_of m.processes (get_or (tasks_of m) i no_task)
     at_level i d low = get_or-map (demand_of m.processes) (tasks_of m) i no_task d low
 
     a_task : (t : Task) → response.IsTask t → IsTask (demand_of m.processes t)
@@ -71,8 +71,8 @@ module _ (m : Image) (none : rank_fault m ≡ None) where
     same_blocks i j low_i low_j same =
         let one = at_level i no_demand (omega (arith, low_i, many_demands)) in
         let two = at_level j no_demand (omega (arith, low_j, many_demands)) in
-        let due : (get_or (tasks_of m) i no_task).deadline ≡ (get_or (tasks_of m) j no_task).deadline = sym (ap (λ (t : DTask). t.deadline) one) ∙ (same ∙ ap (λ (t : DTask). t.deadline) two) in
-        ap (λ (t : DTask). t.block) one ∙ (ap (λ (d : ℕ). last_block m.processes d) due ∙ sym (ap (λ (t : DTask). t.block) two))
+        let due : (get_or (tasks_of m) i no_task).deadline ≡ (get_or (tasks_of m) j no_task).deadline = sym (ap (λ (t : DemandTask). t.deadline) one) ∙ (same ∙ ap (λ (t : DemandTask). t.deadline) two) in
+        ap (λ (t : DemandTask). t.block) one ∙ (ap (λ (d : ℕ). last_block m.processes d) due ∙ sym (ap (λ (t : DemandTask). t.block) two))
 
     pub are_a_set : AreTasks (demands_of m)
     are_a_set = record {
@@ -80,11 +80,11 @@ module _ (m : Image) (none : rank_fault m ≡ None) where
       few = omega (arith, many_demands, base.few);
       each = All-map IsTask (demand_of m.processes) (tasks_of m) (All-weaker response.IsTask (λ t. IsTask (demand_of m.processes t)) a_task (tasks_of m) base.each);
       ordered = record {
-        ascending = IsNonDecreasingBy-from_default (λ (t : DTask). t.deadline) (demands_of m) no_demand (λ i j le below.
+        ascending = IsNonDecreasingBy-from_default (λ (t : DemandTask). t.deadline) (demands_of m) no_demand (λ i j le below.
             let low_j : j < length (tasks_of m) = omega (arith, below, many_demands) in
             let low_i : i < length (tasks_of m) = omega (arith, le, low_j) in
-            let one : (get_or (demands_of m) i no_demand).deadline ≡ (get_or (tasks_of m) i no_task).deadline = ap (λ (t : DTask). t.deadline) (at_level i no_demand low_i) in
-            let two : (get_or (demands_of m) j no_demand).deadline ≡ (get_or (tasks_of m) j no_task).deadline = ap (λ (t : DTask). t.deadline) (at_level j no_demand low_j) in
+            let one : (get_or (demands_of m) i no_demand).deadline ≡ (get_or (tasks_of m) i no_task).deadline = ap (λ (t : DemandTask). t.deadline) (at_level i no_demand low_i) in
+            let two : (get_or (demands_of m) j no_demand).deadline ≡ (get_or (tasks_of m) j no_task).deadline = ap (λ (t : DemandTask). t.deadline) (at_level j no_demand low_j) in
             omega (arith, one, two, base.ascending i j no_task le low_j));
         one_block = same_blocks;
       };

@@ -2,13 +2,13 @@
 use Rattle.std.proofs.Common.{◌≡◌, ◌≤◌, ◌^◌, length, filter_map, arith, ap}
 use Rattle.std.proofs.lemmas.List.{length-map}
 use Rattle.image.specs.declared.names.ImageNames.{ImageNames}
-use Rattle.syntax_tree.specs.Plain.{Name, Prog}
+use Rattle.syntax_tree.specs.Plain.{Name, Program}
 use Rattle.source_semantics.specs.Names.{event_in}
 use Rattle.wellformed.specs.WellFormed.{CountsFit}
 use Rattle.built_image.specs.Named.{names_of, named_event}
 use Rattle.built_valid_law.proofs.Counts.{names_of_devices}
 
-module _ (g : Prog) (counts : CountsFit g) (names : ImageNames) (same : names ≡ names_of g) where
+module _ (g : Program) (counts : CountsFit g) (names : ImageNames) (same : names ≡ names_of g) where
   pub few_devices : length names.devices ≤ 2 ^ 16
   few_devices =
       let many = names_of_devices g.decls in

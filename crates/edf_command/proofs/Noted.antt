@@ -4,12 +4,12 @@ use Rattle.syntax_tree.specs.Placed.{Scalar, Expr, Prog}
 use Rattle.syntax_tree.specs.declared.place.Place.{Place}
 use Rattle.static_rule.specs.First.{IsFirst}
 use Rattle.static_rule.specs.Parts.{FailsAmong, FailsOf, noted}
-use Rattle.static_rule.specs.declared.broken.Broken.{Broken}
+use Rattle.static_rule.specs.declared.violation.Violation.{Violation}
 use Rattle.static_declarations.specs.Parts.{Part, answer_parts, parts}
 use Rattle.command_due.specs.Waits.{wait_rules, IsFirstWait, WaitFails}
 
 -- the result of a function does not wait
-pub results_wait_not : (first : Option Broken) (name : Place) (s : Option (Scalar Place)) (e : Option (Expr Place)) (more : List Part)
+pub results_wait_not : (first : Option Violation) (name : Place) (s : Option (Scalar Place)) (e : Option (Expr Place)) (more : List Part)
     → noted wait_rules first (answer_parts name s e more) ≡ noted wait_rules first more
 unfolding wait_rules
 results_wait_not first name (Some s) (Some e) more = refl
@@ -27,5 +27,5 @@ among [] number place h = absurd h
 among (x ∷ xs) number place (inl h) = of_part x number place h
 among (x ∷ xs) number place (inr h) = among xs number place h
 
-pub first_is_wait : (g : Prog Place) (b : Broken) → IsFirst (WaitFails g) b → IsFirstWait g b.place
+pub first_is_wait : (g : Prog Place) (b : Violation) → IsFirst (WaitFails g) b → IsFirstWait g b.place
 first_is_wait g b first = subst (λ (n : ℕ). IsFirst (WaitFails g) (record { number = n; place = b.place })) (among (parts g) b.number b.place first.broken) first

@@ -11,13 +11,13 @@ use Rattle.command_words.specs.Calls as call
 use Rattle.command_due.specs.Source.{fault_line}
 use Rattle.command_due.specs.CommandsDue.{Outcome, told}
 use Rattle.compile.specs.Written.{ReadsWritten}
-use Rattle.compile.specs.declared.written.TextFault.{TextFault}
-use Rattle.compile.specs.declared.written.TextFault.TheVariants as text_fault
-use Rattle.command_answers.specs.declared.act.Act.{Act}
+use Rattle.compile.specs.declared.read_text.ProgramTextFault.{ProgramTextFault}
+use Rattle.compile.specs.declared.read_text.ProgramTextFault.TheVariants as text_fault
+use Rattle.command_answers.specs.declared.act.PreparedCall.{PreparedCall}
 use Rattle.command_answers.specs.declared.status.Status.TheVariants as status
 use Rattle.command_answers.specs.Acts.{outcome_of}
-use Rattle.command_answers.specs.declared.unready.Unready.{Unready}
-use Rattle.command_answers.specs.declared.unready.Unready.TheVariants as unready
+use Rattle.command_answers.specs.declared.prepare_error.PrepareError.{PrepareError}
+use Rattle.command_answers.specs.declared.prepare_error.PrepareError.TheVariants as unready
 use Rattle.command_answers.specs.Acting.{CanBeDone, puts}
 use Rattle.command_answers.specs.Prepared.{Failed, Prepares}
 use Rattle.command_answers.proofs.Coming.{outcome_of_puts}
@@ -27,7 +27,7 @@ use Rattle.edf_command.specs.Judged.{IsMet, IsScriptDue, IsStopped, IsSubjectDue
 
 -- ---- texts that are not judged
 
-pub unread_stops : (text : List ℕ) (why : TextFault) → ReadsWritten text (Err why) → Stops text why
+pub unread_stops : (text : List ℕ) (why : ProgramTextFault) → ReadsWritten text (Err why) → Stops text why
 unread_stops text (text_fault.Text number place) is = faulty is
 unread_stops text text_fault.Memory is = tt
 
@@ -36,9 +36,9 @@ of_stopped text number place script (faulty is) = edf_faulty text number place r
 of_stopped text number place script (waits g written first is) =
     edf_waits text g place refl written first (outcome_of_puts status.Text (fault_line number place) ∙ ap (λ (n : ℕ). told 2 (fault_line n place)) is)
 
-pub stopped_edf : (why : TextFault) (number : ℕ) (place : Place) → why ≡ text_fault.Text number place → (text : List ℕ) (script : Option (List ℕ)) → Stops text why
+pub stopped_edf : (why : ProgramTextFault) (number : ℕ) (place : Place) → why ≡ text_fault.Text number place → (text : List ℕ) (script : Option (List ℕ)) → Stops text why
     → IsEdfDue (Some text) script (outcome_of (puts status.Text (fault_line number place)))
-stopped_edf why number place is text script stops = of_stopped text number place script (subst (λ (w : TextFault). Stops text w) is stops)
+stopped_edf why number place is text script stops = of_stopped text number place script (subst (λ (w : ProgramTextFault). Stops text w) is stops)
 
 pub stopped : (tells : Bool) (held script : Option (List ℕ)) (P : List ℕ → Type 0) (outcome : Outcome) → OnTrue tells (IsSomeAnd held P)
     → ((text : List ℕ) → P text → IsEdfDue (Some text) script outcome) → OnTrue tells (IsEdfDue held script outcome)
@@ -72,7 +72,7 @@ module _ (tells : Bool) (program script : List ℕ) (before mid now : FilesState
   due_of true None a b outcome is judged due same = absurd is
   due_of false held a b outcome is judged due same = tt
 
-  pub edf_prepares : (result : Result Act Unready) → OnTrue tells (IsSomeAnd (before.held program) P) → ((text : List ℕ) → P text → IsJudgedText text n answer)
+  pub edf_prepares : (result : Result PreparedCall PrepareError) → OnTrue tells (IsSomeAnd (before.held program) P) → ((text : List ℕ) → P text → IsJudgedText text n answer)
       → AllStay before.held mid.held → NoneFell before.read_faults mid.read_faults → IfOk result (λ act. OnTrue tells (IsSubjectDue n answer (mid.held script) (outcome_of act)))
       → IfOk result (CanBeDone None) → (result ≡ Err unready.Unread → Failed mid now script × IsMet answer) → Prepares tells (call.edf program script) before now result
   edf_prepares (Ok act) is judged stays fell due done unread =

@@ -9,7 +9,7 @@ use Rattle.script.specs.Scripts.{IsScript}
 use Rattle.sched_demand.specs.declared.judging.Judgement.{Judgement}
 use Rattle.sched_demand.specs.declared.judging.Judgement.TheVariants as judgement
 use Rattle.command_answers.specs.declared.act.Dispatch.TheVariants as dispatch
-use Rattle.command_answers.specs.declared.act.Run.{Run}
+use Rattle.command_answers.specs.declared.act.PreparedRun.{PreparedRun}
 use Rattle.command_answers.specs.declared.status.Status.TheVariants as status
 use Rattle.command_answers.specs.Acts.{CanRunByDeadlines}
 use Rattle.command_answers.specs.Acting.{CanBeDone}
@@ -22,7 +22,7 @@ use Rattle.edf_command.specs.declared.judging.Subject.{Subject}
 use Rattle.edf_command.specs.Judged.{IsMet, IsSubject}
 
 module _ (law : EdfImagesAreReady) (s : Subject) (subject : IsSubject s) (script : Script) (is : (text : List ℕ) × IsScript s.image.names text script.lines script.end) where
-  abbrev run : Run
+  abbrev run : PreparedRun
   run = record { image = s.image; script = script; dispatch = dispatch.Deadlines }
 
   of_answer : (answer : Judgement) → s.answer ≡ answer → IsMet answer → CanRunByDeadlines run

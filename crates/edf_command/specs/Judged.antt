@@ -11,8 +11,8 @@ use Rattle.sched_demand.specs.declared.judging.Judgement.{Judgement}
 use Rattle.sched_demand.specs.declared.judging.Judgement.TheVariants as judgement
 use Rattle.command_due.specs.Source.{IsWritten, IsTextFault}
 use Rattle.command_due.specs.CommandsDue.{Outcome, told, bad_script, IsScriptFault}
-use Rattle.compile.specs.declared.written.TextFault.{TextFault}
-use Rattle.compile.specs.declared.written.TextFault.TheVariants as fault
+use Rattle.compile.specs.declared.read_text.ProgramTextFault.{ProgramTextFault}
+use Rattle.compile.specs.declared.read_text.ProgramTextFault.TheVariants as fault
 use Rattle.command_due.specs.EdfDue.{IsJudgedText, IsUnfit, edf_log}
 use Rattle.command_due.specs.Report.{edf_report}
 use Rattle.command_due.specs.Waits.{IsFirstWait}
@@ -32,7 +32,7 @@ pub data IsStopped (text : List ℕ) (number : ℕ) (place : Place) : Type 0 whe
   waits : (g : Prog Place) → IsWritten text g → IsFirstWait g place → number ≡ 48 → IsStopped text number place
 
 -- want of memory says nothing of the text
-abbrev pub Stops : List ℕ → TextFault → Type 0
+abbrev pub Stops : List ℕ → ProgramTextFault → Type 0
 Stops text (fault.Text number place) = IsStopped text number place
 Stops text fault.Memory = Unit {0}
 

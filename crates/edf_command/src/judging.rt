@@ -13,9 +13,9 @@ ghost use Rattle.edf_command.specs.Judged.{IsSubject, Stops};
 ghost use Rattle.syntax_tree.specs.Placed.{placed};
 
 use crate::{ShapeFault, first_wait, judge_program};
-use checked_law::checked::checked_programs_are_ready;
-use command_answers::{Act, Content, put_fault};
-use compile::{TextFault, read_written};
+use checked_law::premises_of_laws::checked_programs_are_ready;
+use command_answers::{Content, PreparedCall, put_fault};
+use compile::{ProgramTextFault, read_written};
 use image::RawImage;
 use sched_demand::Judgement;
 use static_rule::rule;
@@ -36,7 +36,11 @@ pub struct Subject {
 }
 
 /// A program without waits, judged.
-fn judge_waitless(alloc: Global, text: Vec<u8>, program: &Checked) -> Result<Subject, TextFault>
+fn judge_waitless(
+    alloc: Global,
+    text: Vec<u8>,
+    program: &Checked,
+) -> Result<Subject, ProgramTextFault>
     ghost source: { List ℕ }
     requires source { text.items ≡ source }
     requires written { IsWritten source (placed program.now) }
@@ -53,12 +57,16 @@ fn judge_waitless(alloc: Global, text: Vec<u8>, program: &Checked) -> Result<Sub
             answer: judged.answer,
         }),
         Err(ShapeFault::TooLarge { .. }) => unreachable!(),
-        Err(ShapeFault::Memory) => Err(TextFault::Memory),
+        Err(ShapeFault::Memory) => Err(ProgramTextFault::Memory),
     }
 }
 
 /// The program of a text, judged.
-fn judge_written(alloc: Global, text: Vec<u8>, program: &Checked) -> Result<Subject, TextFault>
+fn judge_written(
+    alloc: Global,
+    text: Vec<u8>,
+    program: &Checked,
+) -> Result<Subject, ProgramTextFault>
     requires { IsWritten text.items (placed program.now) }
     ensures subject { IfOk result IsSubject }
     ensures text { IfOk result (λ subject. subject.text.items ≡ text.items) }
@@ -66,7 +74,7 @@ fn judge_written(alloc: Global, text: Vec<u8>, program: &Checked) -> Result<Subj
 {
     match first_wait(program.prog()) {
         None => judge_waitless(alloc, text, program),
-        Some(place) => Err(TextFault::Text {
+        Some(place) => Err(ProgramTextFault::Text {
             number: rule::WAITS,
             place,
         }),
@@ -74,7 +82,7 @@ fn judge_written(alloc: Global, text: Vec<u8>, program: &Checked) -> Result<Subj
 }
 
 /// A text, read and judged.
-fn judge_text(alloc: Global, text: Vec<u8>) -> Result<Subject, TextFault>
+fn judge_text(alloc: Global, text: Vec<u8>) -> Result<Subject, ProgramTextFault>
     ensures subject { IfOk result IsSubject }
     ensures text { IfOk result (λ subject. subject.text.items ≡ text.items) }
     ensures fault { IfErr result (Stops text.items) }
@@ -91,7 +99,7 @@ fn judge_text(alloc: Global, text: Vec<u8>) -> Result<Subject, TextFault>
 ///
 /// As those of `read_written`; 48 at the first wait statement; the fault of a text that is too long
 /// is 4, at its first byte.
-pub fn judge_source(alloc: Global, content: Content) -> Result<Subject, TextFault>
+pub fn judge_source(alloc: Global, content: Content) -> Result<Subject, ProgramTextFault>
     ensures subject { IfOk result IsSubject }
     ensures judged { IfOk result (λ subject. (text : List ℕ) →
         IsContent longest_text content text →
@@ -101,7 +109,7 @@ pub fn judge_source(alloc: Global, content: Content) -> Result<Subject, TextFaul
 {
     match content {
         Content::Bytes(text) => judge_text(alloc, text),
-        Content::Long => Err(TextFault::Text {
+        Content::TooLong => Err(ProgramTextFault::Text {
             number: rule::LONG_TEXT,
             place: START,
         }),
@@ -109,13 +117,16 @@ pub fn judge_source(alloc: Global, content: Content) -> Result<Subject, TextFaul
 }
 
 /// The act for a text that gave no such program: it puts the line of its fault.
-pub fn refuse_source<'a>(alloc: Global, fault: TextFault) -> Result<Act<'a>, AllocError>
+pub fn refuse_source<'a>(
+    alloc: Global,
+    fault: ProgramTextFault,
+) -> Result<PreparedCall<'a>, AllocError>
     ensures due { IfOk result (λ act. (text : List ℕ) (script : Option (List ℕ)) →
         Stops text fault → IsEdfDue (Some text) script (outcome_of act)) }
     ensures quiet { IfOk result IsQuiet }
 {
     match fault {
-        TextFault::Text { number, place } => put_fault(alloc, number, place),
-        TextFault::Memory => Err(AllocError),
+        ProgramTextFault::Text { number, place } => put_fault(alloc, number, place),
+        ProgramTextFault::Memory => Err(AllocError),
     }
 }

@@ -4,7 +4,7 @@ ghost use Rattle.std.specs.Prelude.{◌≡◌, ◌++◌, length, map, IfOk, OnOk
 ghost use Rattle.image.specs.Raw.{named_of, process_of};
 ghost use Rattle.command_due.specs.Report.{edf_report, judgement_lines, points_text, process_line, processes_lines, times_text, verdict_text};
 
-use image::{RawImage, RawProc};
+use image::{RawImage, RawProcess};
 use sched_demand::Judgement;
 use sched_table::{add_name, add_number};
 use std::alloc::{AllocError, Global};
@@ -12,7 +12,7 @@ use syntax_tree::{Name, Text};
 
 /// Puts the times of a process at the end of a text.
 #[tactic(auto, unfolding(command_due::specs::Report::times_text))]
-fn add_times(text: &mut Text, process: &RawProc) -> Result<(), AllocError>
+fn add_times(text: &mut Text, process: &RawProcess) -> Result<(), AllocError>
     ensures { OnOk result (text.new ≡ text.old ++ times_text (process_of process.now)) }
 {
     add_number(text, " frame ", u64::from(process.frame))?;
@@ -22,7 +22,7 @@ fn add_times(text: &mut Text, process: &RawProc) -> Result<(), AllocError>
 
 /// Puts the line of a process at the end of a text.
 #[tactic(auto, unfolding(command_due::specs::Report::process_line))]
-fn add_process(text: &mut Text, name: &Name, process: &RawProc) -> Result<(), AllocError>
+fn add_process(text: &mut Text, name: &Name, process: &RawProcess) -> Result<(), AllocError>
     ensures { OnOk result (text.new ≡ text.old ++ process_line name.now
         (process_of process.now)) }
 {
@@ -34,7 +34,11 @@ fn add_process(text: &mut Text, name: &Name, process: &RawProc) -> Result<(), Al
 }
 
 /// Puts the lines of the processes at the end of a text.
-fn add_processes(text: &mut Text, names: &[Name], processes: &[RawProc]) -> Result<(), AllocError>
+fn add_processes(
+    text: &mut Text,
+    names: &[Name],
+    processes: &[RawProcess],
+) -> Result<(), AllocError>
     requires { length names.now ≡ length processes.now }
     ensures { OnOk result (text.new ≡ text.old ++ processes_lines names.now
         (map process_of processes.now)) }

@@ -12,7 +12,7 @@ ghost use Rattle.command_words.specs.Calls as call;
 
 use crate::judging::{Subject, judge_source, refuse_source};
 use crate::running::{refuse_unfit, run_act};
-use command_answers::{Act, LONGEST_PROGRAM, LONGEST_SCRIPT, Unready, read};
+use command_answers::{LONGEST_PROGRAM, LONGEST_SCRIPT, PrepareError, PreparedCall, read};
 use outside::Files;
 use sched_demand::Judgement;
 use std::alloc::Global;
@@ -23,7 +23,7 @@ fn run_on<'a, F: Files>(
     subject: Subject,
     script: &str,
     files: &mut F,
-) -> Result<Act<'a>, Unready>
+) -> Result<PreparedCall<'a>, PrepareError>
     requires subject { IsSubject subject }
     requires met { IsMet subject.answer }
     ensures due { IfOk result (λ act. OnTrue F.tells
@@ -40,7 +40,7 @@ fn run_on<'a, F: Files>(
     let content = read(files, script, LONGEST_SCRIPT)?;
     match run_act(alloc, subject, &content) {
         Ok(act) => Ok(act),
-        Err(_) => Err(Unready::Memory),
+        Err(_) => Err(PrepareError::Memory),
     }
 }
 
@@ -50,7 +50,7 @@ fn judged_on<'a, F: Files>(
     subject: Subject,
     script: &str,
     files: &mut F,
-) -> Result<Act<'a>, Unready>
+) -> Result<PreparedCall<'a>, PrepareError>
     requires { IsSubject subject }
     ensures due { IfOk result (λ act. OnTrue F.tells (IsSubjectDue (named_of subject.image)
         subject.answer ((F.state files.old).held script.now) (outcome_of act))) }
@@ -67,7 +67,7 @@ fn judged_on<'a, F: Files>(
     }
     match refuse_unfit(alloc, &subject) {
         Ok(act) => Ok(act),
-        Err(_) => Err(Unready::Memory),
+        Err(_) => Err(PrepareError::Memory),
     }
 }
 
@@ -77,7 +77,7 @@ pub fn prepare_edf<'a, F: Files>(
     program: &str,
     script: &str,
     files: &mut F,
-) -> Result<Act<'a>, Unready>
+) -> Result<PreparedCall<'a>, PrepareError>
     ensures prepared { Prepares F.tells (call.edf program.now script.now)
         (F.state files.old) (F.state files.new) result }
     ensures files { AllStay (F.state files.old).held (F.state files.new).held }
@@ -90,7 +90,7 @@ pub fn prepare_edf<'a, F: Files>(
         Ok(subject) => judged_on(alloc, subject, script, files),
         Err(fault) => match refuse_source(alloc, fault) {
             Ok(act) => Ok(act),
-            Err(_) => Err(Unready::Memory),
+            Err(_) => Err(PrepareError::Memory),
         },
     }
 }

@@ -13,13 +13,15 @@ ghost use Rattle.script.specs.Scripts.{IsScript, longest_text};
 
 use crate::judging::Subject;
 use crate::report;
-use command_answers::{Act, Content, Dispatch, Run, Status, judge_script, put, refuse_script};
+use command_answers::{
+    Content, Dispatch, PreparedCall, PreparedRun, Status, judge_script, put, refuse_script,
+};
 use edf_feasible::edf_ready::edf_images_are_ready;
 use script::Script;
 use std::alloc::{AllocError, Global};
 
 /// The act for a program whose demand is not met: it puts the report.
-pub fn refuse_unfit<'a>(alloc: Global, subject: &Subject) -> Result<Act<'a>, AllocError>
+pub fn refuse_unfit<'a>(alloc: Global, subject: &Subject) -> Result<PreparedCall<'a>, AllocError>
     requires { IsSubject subject.now }
     ensures act { IfOk result (λ act. act ≡
         puts Status.Late (edf_report (named_of subject.now.image) subject.now.answer)) }
@@ -30,7 +32,11 @@ pub fn refuse_unfit<'a>(alloc: Global, subject: &Subject) -> Result<Act<'a>, All
 }
 
 /// The act that puts the report and runs the image over a script.
-fn run_image<'a>(alloc: Global, subject: Subject, script: Script) -> Result<Act<'a>, AllocError>
+fn run_image<'a>(
+    alloc: Global,
+    subject: Subject,
+    script: Script,
+) -> Result<PreparedCall<'a>, AllocError>
     requires subject { IsSubject subject }
     requires met { IsMet subject.answer }
     requires script { (text : List ℕ) ×
@@ -42,11 +48,11 @@ fn run_image<'a>(alloc: Global, subject: Subject, script: Script) -> Result<Act<
 {
     edf_images_are_ready();
     let text = report(alloc, &subject.image, subject.answer)?;
-    Ok(Act {
+    Ok(PreparedCall {
         status: Status::Done,
         text,
         store: None,
-        run: Some(Run {
+        run: Some(PreparedRun {
             image: subject.image,
             script,
             dispatch: Dispatch::Deadlines,
@@ -59,7 +65,7 @@ pub fn run_act<'a>(
     alloc: Global,
     subject: Subject,
     content: &Content,
-) -> Result<Act<'a>, AllocError>
+) -> Result<PreparedCall<'a>, AllocError>
     requires subject { IsSubject subject }
     requires met { IsMet subject.answer }
     ensures due { IfOk result (λ act. (text : List ℕ) → IsContent longest_text content.now text →

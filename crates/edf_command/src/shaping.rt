@@ -7,14 +7,14 @@ ghost use Rattle.front_end.specs.Program.{IsProgramOf};
 ghost use Rattle.compile.specs.Steps.{IsRanked};
 ghost use Rattle.edf_command.specs.Steps.{due_of, IsEdfShape, IsSizeFault};
 
-use built_image_law::built_tables::tables_are_named;
-use built_image_law::filled::shapes_leave_bounds_aside;
+use built_image_law::named_rows::tables_are_named;
+use built_image_law::shape_before_times::shapes_leave_bounds_aside;
 use compile::{BuildFault, ranked};
 use compile_schedule::with_bounds;
-use image::{RawImage, RawProc};
+use image::{RawImage, RawProcess};
 use static_semantics::Checked;
 use std::alloc::{AllocError, Global};
-use syntax_tree::{List, Place, Prog};
+use syntax_tree::{List, Place, Program};
 
 /// Why a program has no image.
 #[derive(Drop)]
@@ -38,7 +38,7 @@ impl From<AllocError> for ShapeFault {
 
 /// The image of the program of a text without overhead, with its ranks, ceilings and blocks,
 /// whatever its bounds.
-fn with_ranks(alloc: Global, program: &Prog) -> Result<RawImage, ShapeFault>
+fn with_ranks(alloc: Global, program: &Program) -> Result<RawImage, ShapeFault>
     ghost text: { List ℕ }
     requires written { IsProgramOf text (placed program.now) }
     ensures image { IfOk result (IsRanked (placed program.now) 0) }
@@ -53,7 +53,7 @@ fn with_ranks(alloc: Global, program: &Prog) -> Result<RawImage, ShapeFault>
 }
 
 /// The deadlines of processes, as bounds.
-fn deadlines(alloc: Global, processes: &[RawProc]) -> Result<List<Option<u32>>, AllocError>
+fn deadlines(alloc: Global, processes: &[RawProcess]) -> Result<List<Option<u32>>, AllocError>
     ensures { IfOk result (λ all. all ≡ map due_of (map process_of processes.now)) }
 {
     let mut all = List::new(alloc);
@@ -64,7 +64,7 @@ fn deadlines(alloc: Global, processes: &[RawProc]) -> Result<List<Option<u32>>, 
 }
 
 /// The image of the program of a text, each bound being the deadline.
-fn with_deadlines(alloc: Global, program: &Prog) -> Result<RawImage, ShapeFault>
+fn with_deadlines(alloc: Global, program: &Program) -> Result<RawImage, ShapeFault>
     ghost text: { List ℕ }
     requires written { IsProgramOf text (placed program.now) }
     ensures image { IfOk result (IsEdfShape (placed program.now)) }

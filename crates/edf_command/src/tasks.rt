@@ -8,15 +8,15 @@ ghost use Rattle.sched_demand.specs.Demand.{AreTasks};
 ghost use Rattle.command_due.specs.Tasks.{AreDemands, IsAnswer};
 ghost use Rattle.edf_command.specs.Listed.{demand_of, demands_of, last_block as block_of_last};
 
-use image::{RawImage, RawProc};
+use image::{RawImage, RawProcess};
 use loader::{task_at, with_rank};
 use sched_demand::demand::each_set_has_one_reach;
-use sched_demand::{DTask, DemandSet, Judgement, judge};
+use sched_demand::{DemandSet, DemandTask, Judgement, judge};
 use sched_response::Task;
 use std::alloc::{AllocError, Global};
 
 /// The block of the last process with the deadline in the order of ranks; 0 where none has it.
-fn last_block(processes: &[RawProc], deadline: u64) -> u64
+fn last_block(processes: &[RawProcess], deadline: u64) -> u64
     ensures { result ≡ block_of_last (map process_of processes.now) deadline }
 {
     let mut rank = 0;
@@ -31,10 +31,10 @@ fn last_block(processes: &[RawProc], deadline: u64) -> u64
 }
 
 /// What a process asks for by itself, and the block of its deadline.
-fn task_with_block(processes: &[RawProc], task: Task) -> DTask
+fn task_with_block(processes: &[RawProcess], task: Task) -> DemandTask
     ensures { result ≡ demand_of (map process_of processes.now) task }
 {
-    DTask {
+    DemandTask {
         frame: task.frame,
         deadline: task.deadline,
         cost: task.run,
@@ -44,7 +44,7 @@ fn task_with_block(processes: &[RawProc], task: Task) -> DTask
 
 /// The tasks in the order of ranks.
 #[tactic(auto, using(crate::proofs::Growing::no_more_tasks))]
-fn tasks(alloc: Global, image: &RawImage) -> Result<Vec<DTask>, AllocError>
+fn tasks(alloc: Global, image: &RawImage) -> Result<Vec<DemandTask>, AllocError>
     ensures { IfOk result (λ v. v.items ≡ demands_of (image_of image.now)) }
 {
     let processes = image.processes.as_slice();

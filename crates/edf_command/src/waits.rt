@@ -7,18 +7,18 @@ ghost use Rattle.static_declarations.specs.Parts.{Part, routine_parts, routines_
 ghost use Rattle.command_due.specs.Waits.{wait_rules, IsFirstWaitOf};
 
 use crate::walk::stmts;
-use static_rule::Broken;
-use syntax_tree::{Decl, Handler, Place, Prog, Routine};
+use static_rule::Violation;
+use syntax_tree::{Declaration, Handler, Place, Program, Routine};
 
 /// The statements of a routine.
-fn routine(first: &mut Option<Broken>, routine: &Routine)
+fn routine(first: &mut Option<Violation>, routine: &Routine)
     ensures { (is_entry : Bool) (more : List Part) → noted wait_rules first.new more
         ≡ noted wait_rules first.old (routine_parts is_entry (placed_routine routine.now) more) }
 {
     stmts(first, routine.body.as_slice());
 }
 
-fn routines(first: &mut Option<Broken>, list: &[Routine])
+fn routines(first: &mut Option<Violation>, list: &[Routine])
     ensures { (is_entry : Bool) (more : List Part) → noted wait_rules first.new more
         ≡ noted wait_rules first.old (routines_parts is_entry (map placed_routine list.now) more) }
 {
@@ -27,7 +27,7 @@ fn routines(first: &mut Option<Broken>, list: &[Routine])
     }
 }
 
-fn handler(first: &mut Option<Broken>, handler: &Option<Handler>)
+fn handler(first: &mut Option<Violation>, handler: &Option<Handler>)
     ensures { (more : List Part) → noted wait_rules first.new more
         ≡ noted wait_rules first.old (handler_parts (optional placed_handler handler.now) more) }
 {
@@ -36,15 +36,15 @@ fn handler(first: &mut Option<Broken>, handler: &Option<Handler>)
     }
 }
 
-fn decl(first: &mut Option<Broken>, decl: &Decl)
+fn decl(first: &mut Option<Violation>, decl: &Declaration)
     ensures { (more : List Part) → noted wait_rules first.new more
         ≡ noted wait_rules first.old (decl_parts (placed_decl decl.now) more) }
 {
     match decl {
-        Decl::Const { .. } | Decl::Device { .. } | Decl::Event { .. } => {}
-        Decl::Routine(one) => routine(first, one),
-        Decl::Mon(monitor) => routines(first, monitor.entries.as_slice()),
-        Decl::Proc(process) => {
+        Declaration::Const { .. } | Declaration::Device { .. } | Declaration::Event { .. } => {}
+        Declaration::Routine(one) => routine(first, one),
+        Declaration::Monitor(monitor) => routines(first, monitor.entries.as_slice()),
+        Declaration::Process(process) => {
             routines(first, process.routines.as_slice());
             stmts(first, process.body.as_slice());
             handler(first, &process.handler);
@@ -52,7 +52,7 @@ fn decl(first: &mut Option<Broken>, decl: &Decl)
     }
 }
 
-fn decls(first: &mut Option<Broken>, list: &[Decl])
+fn decls(first: &mut Option<Violation>, list: &[Declaration])
     ensures { (more : List Part) → noted wait_rules first.new more
         ≡ noted wait_rules first.old (decls_parts (map placed_decl list.now) more) }
 {
@@ -63,7 +63,7 @@ fn decls(first: &mut Option<Broken>, list: &[Decl])
 
 /// The place of the first wait statement of the program, which is that of its first token; `None`
 /// exactly where no statement waits.
-pub fn first_wait(program: &Prog) -> Option<Place>
+pub fn first_wait(program: &Program) -> Option<Place>
     ensures { IsFirstWaitOf (placed program.now) result }
 {
     let mut first = None;

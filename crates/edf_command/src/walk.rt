@@ -7,12 +7,12 @@ ghost use Rattle.static_declarations.specs.declared.home.Where.{Where};
 ghost use Rattle.static_declarations.specs.Parts.{Part, statement, stmt_parts, stmts_parts};
 ghost use Rattle.command_due.specs.Waits.{wait_rules};
 
-use static_rule::{Broken, blame, rule};
+use static_rule::{Violation, blame, rule};
 use syntax_tree::Stmt;
 
 /// Notes the place of a statement that waits, the statements in it aside.
 #[tactic(auto, unfolding(command_due::specs::Waits::wait_rules))]
-fn note_wait(first: &mut Option<Broken>, s: &Stmt)
+fn note_wait(first: &mut Option<Violation>, s: &Stmt)
     ensures { (here : Where) → first.new ≡ note wait_rules first.old
         (statement here (placed_stmt s.now)) }
 {
@@ -23,7 +23,7 @@ fn note_wait(first: &mut Option<Broken>, s: &Stmt)
 
 /// Notes the places of the statements of a list that wait, and of those in them.
 #[cycle(stmt)]
-pub fn stmts(first: &mut Option<Broken>, list: &[Stmt])
+pub fn stmts(first: &mut Option<Violation>, list: &[Stmt])
     ensures { (here : Where) (more : List Part) → noted wait_rules first.new more
         ≡ noted wait_rules first.old (stmts_parts here (placed_stmts list.now) more) }
 {
@@ -34,7 +34,7 @@ pub fn stmts(first: &mut Option<Broken>, list: &[Stmt])
 
 /// Notes the place of a statement that waits, and the places of those in it.
 #[cycle(stmt)]
-fn stmt(first: &mut Option<Broken>, s: &Stmt)
+fn stmt(first: &mut Option<Violation>, s: &Stmt)
     ensures { (here : Where) (more : List Part) → noted wait_rules first.new more
         ≡ noted wait_rules first.old (stmt_parts here (placed_stmt s.now) more) }
 {

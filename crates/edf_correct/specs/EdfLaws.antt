@@ -28,7 +28,7 @@ use Rattle.edf_feasible.specs.Waits.{HasNoWait}
 -- are a run of the program in which any ready process may act. The image fits its trees and waits
 -- nowhere.
 abbrev pub CompiledRunsAreRuns : Type 0
-CompiledRunsAreRuns = (e : Where) (ps : ℕ → Parts) (g : plain_of.Prog) (script : Script) → ImageFits e ps → IsWaitless e ps → IsImageOf (whole e.image g) → AreRight (whole e.image g)
+CompiledRunsAreRuns = (e : Where) (ps : ℕ → Parts) (g : plain_of.Program) (script : Script) → ImageFits e ps → IsWaitless e ps → IsImageOf (whole e.image g) → AreRight (whole e.image g)
     → IsFrom 0 script.lines → HasNoOverrun e.image (script_of script) → IsAnySourceRun g script (events e.image (script_of script))
 
 -- The law: where a text is that of a program that keeps to all rules, is not too large and has no

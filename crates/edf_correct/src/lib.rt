@@ -1,8 +1,8 @@
 //! Law: runs of a program whose demand is met are right.
 //!
-//! `edf_laws`: from the text of a program without waits to its runs under this dispatch, which are
+//! `text_to_runs`: from the text of a program without waits to its runs under this dispatch, which are
 //! runs of the program in which any ready process may act, and meet its deadlines. Nothing here can
 //! run.
 #![tactic(auto)]
 
-pub mod edf_laws;
+pub mod text_to_runs;

@@ -1,7 +1,7 @@
 -- The costs of a program without a wait have no waits.
 use Rattle.std.proofs.Common.{◌≡◌, ℕ, zero, suc, List, [], ◌∷◌, Option, Some, None, arith, refl}
 use Rattle.std.specs.Prelude.{slice_get}
-use Rattle.syntax_tree.specs.Plain.{Name, Param, Expr, literal, truth, variable, element, call, minus, negation, paren, row, Exprs, no_exprs, exprs, Operands, no_operands, operand, Ref, whole, part, Stmt, assign, assign_entry, assign_empty, perform, perform_entry, when, when_else, loop, exit_when, get, put, wait, signal, broadcast, except, assert, Stmts, no_stmts, stmts, Answers, Routine, Monitor, Handler, Process, Prog}
+use Rattle.syntax_tree.specs.Plain.{Name, Param, Expr, literal, truth, variable, element, call, minus, negation, paren, row, Exprs, no_exprs, exprs, Operands, no_operands, operand, Ref, whole, part, Stmt, assign, assign_entry, assign_empty, perform, perform_entry, when, when_else, loop, exit_when, get, put, wait, signal, broadcast, except, assert, Stmts, no_stmts, stmts, Answers, Routine, Monitor, Handler, Process, Program}
 use Rattle.base.specs.declared.capped.Cost.{Cost}
 use Rattle.source_semantics.specs.Names.{constant_value, named, routines, monitors, monitor_number, processes, routine_count}
 use Rattle.source_semantics.specs.Run.{or_else}
@@ -20,11 +20,11 @@ abbrev IsNone : Cost → Type 0
 IsNone c = c.waits ≡ 0
 
 -- what a call names costs no waits
-record CallsHaveNone (g : Prog) (k : Calls) : Type 0 where
+record CallsHaveNone (g : Program) (k : Calls) : Type 0 where
   routine : (o : Owner) (f : Name) (t : Text) → routine_in g o f ≡ Some t → IsNone (k.cost t)
   entry : (m e : Name) (t : Text) → entry_in g m e ≡ Some t → IsNone (k.cost t)
 
-module _ (g : Prog) (k : Calls) (calls : CallsHaveNone g k) where
+module _ (g : Program) (k : Calls) (calls : CallsHaveNone g k) where
   call_none : (o : Option Text) (args : List Param → Cost) → ((t : Text) → o ≡ Some t → IsNone (k.cost t)) → ((ps : List Param) → IsNone (args ps)) → IsNone (call_cost k o args)
   call_none None args callee none = refl
   call_none (Some t) args callee none = omega (arith, callee t refl, none t.routine.params)
@@ -87,7 +87,7 @@ module _ (g : Prog) (k : Calls) (calls : CallsHaveNone g k) where
 
 -- ---- what a call names is a text of the program
 
-module _ (g : Prog) (free : HasNoWait g) where
+module _ (g : Program) (free : HasNoWait g) where
   in_list : (o : Owner) (rs : List Routine) (f : Name) (t : Text) → NoneWaits rs → routine_of o rs f ≡ Some t → NoWaits t.routine.body
   in_list o rs f t none at = let found = found_there f rs t.routine (of_list o rs f t at).1 in none found.0 t.routine found.1
 

@@ -4,7 +4,7 @@ use Rattle.std.specs.Prelude.{◌^◌, All}
 use Rattle.syntax_tree.specs.Placed.{plain}
 use Rattle.machine_semantics.specs.Image.{Image, Script}
 use Rattle.image.specs.declared.names.ImageNames.{ImageNames}
-use Rattle.sched_demand.specs.declared.tasks.DTask.{DTask}
+use Rattle.sched_demand.specs.declared.tasks.DemandTask.{DemandTask}
 use Rattle.sched_timing.specs.Timed.{RespectsFrames}
 use Rattle.code_lifting.specs.Compiled as lifted
 use Rattle.event_log.specs.InRange.{AreIn}
@@ -39,14 +39,14 @@ same_run lines end = ap (λ ls. record { lines = ls; end_tick = end }) (same_lin
 
 -- ---- the runs of an image that meets the premises
 
-runnable : WaitlessRunsAreRunnable → (image : Image) (tasks : List DTask) (script : Script) (m : MeetsPremises image tasks) → FramesAreShort image → HasNoOverrun image script
+runnable : WaitlessRunsAreRunnable → (image : Image) (tasks : List DemandTask) (script : Script) (m : MeetsPremises image tasks) → FramesAreShort image → HasNoOverrun image script
     → AreInOrder script.lines → script.end_tick ≤ 1000000000 → IsRunnable image script
 runnable law image tasks script m frames calm order short =
     let few : script.end_tick < 2 ^ 63 = omega (arith, short) in
     subst (λ (x : Image). FramesAreShort x → HasNoOverrun x script → IsRunnable x script) m.of
     (λ frames' calm'. law m.e m.ps script m.fits m.waitless frames' calm' order few) frames calm
 
-lines_told : WaitlessRunsHaveLines → (names : ImageNames) (image : Image) (tasks : List DTask) (script : Script) (m : MeetsPremises image tasks) → AreThere image → AreNamesOf names image
+lines_told : WaitlessRunsHaveLines → (names : ImageNames) (image : Image) (tasks : List DemandTask) (script : Script) (m : MeetsPremises image tasks) → AreThere image → AreNamesOf names image
     → script.end_tick ≤ 1000000000 → All (AreIn names) (events image script)
 lines_told law names image tasks script m there named short =
     subst (λ (x : Image). AreThere x → AreNamesOf names x → All (AreIn names) (events x script)) m.of

@@ -6,7 +6,7 @@ use Rattle.syntax_tree.specs.Plain as tree
 use Rattle.syntax_tree.specs.Placed.{plain}
 use Rattle.source_semantics.specs.Names.{processes}
 use Rattle.machine_semantics.specs.Image.{Image, Process}
-use Rattle.sched_demand.specs.declared.tasks.DTask.{DTask}
+use Rattle.sched_demand.specs.declared.tasks.DemandTask.{DemandTask}
 use Rattle.sched_demand.specs.declared.judging.Judgement.TheVariants as judgement
 use Rattle.sched_demand.specs.Demand.{IsReach, IsJudged}
 use Rattle.sched_demand.proofs.Rising.{one_reach}
@@ -30,7 +30,7 @@ use Rattle.edf_feasible.proofs.Premises.{premises}
 -- ---- the premises
 
 -- no deadline of a well-formed program is 0, so no bound of its image
-pub bounds_pass : (g : tree.Prog) (m : Image) → IsWellFormed g → IsCodeOf g m → ((k : ℕ) (p : Process) → slice_get m.processes k ≡ Some p → p.bound ≡ p.deadline)
+pub bounds_pass : (g : tree.Program) (m : Image) → IsWellFormed g → IsCodeOf g m → ((k : ℕ) (p : Process) → slice_get m.processes k ≡ Some p → p.bound ≡ p.deadline)
     → (k : ℕ) (p : Process) → slice_get m.processes k ≡ Some p → 1 ≤ p.bound
 bounds_pass g m formed code bounds k p at =
     let e : Emitted g m.code (processes g) k p = emitted g m.code 0 code.between (length m.code) (processes g) m.processes code.process_code k p at in
@@ -48,7 +48,7 @@ waitless_images_meet_premises waits_law ready_law code_law words_law operands_la
 
 -- ---- the deadlines
 
-judged_once : (ts : List DTask) (reach count : ℕ) → IsReach ts reach → IsJudged ts reach (judgement.Feasible count) → IsJudgedFeasible ts count
+judged_once : (ts : List DemandTask) (reach count : ℕ) → IsReach ts reach → IsJudged ts reach (judgement.Feasible count) → IsJudgedFeasible ts count
 judged_once ts reach count is judged other is_other = subst (λ (r : ℕ). IsJudged ts r (judgement.Feasible count)) (one_reach ts reach other is is_other) judged
 
 pub edf_deadlines_are_met : WaitlessImagesMeetPremises → EdfDeadlinesAreMet

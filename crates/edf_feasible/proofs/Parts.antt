@@ -2,7 +2,7 @@
 use Rattle.std.proofs.Common.{◌≡◌, ℕ, Some, None, subst, sym}
 use Rattle.std.specs.Prelude.{slice_get}
 use Rattle.syntax_tree.specs.Placed.{plain}
-use Rattle.syntax_tree.specs.Plain.{Prog}
+use Rattle.syntax_tree.specs.Plain.{Program}
 use Rattle.machine_semantics.specs.Image.{Image, Process}
 use Rattle.image.specs.declared.names.ImageNames.{ImageNames}
 use Rattle.built_image_law.specs.Limits.{ShapedImagesAreInLimits}
@@ -29,7 +29,7 @@ use Rattle.vm_plan.proofs.Planned.{Stands}
 
 pub edf_images_have_parts : CheckedProgramsAreReady → GeneratedCodeIsCode → WordsAreFew → CheckedOperandsAreInRange → ShapedImagesAreInLimits → NamesOfTextsAreShort → NamesHaveFrames → EdfImagesHaveParts
 edf_images_have_parts ready_law code_law words_law operands_law limits_law short_law frames_law text g n tasks written edf meets =
-    let p : Prog = plain g in
+    let p : Program = plain g in
     let m : Image = n.image in
     let checked = written.program.checked in
     let ready : IsReady p = ready_law g checked in

@@ -4,12 +4,12 @@ use Rattle.std.specs.Prelude.{slice_get}
 use Rattle.std.proofs.lemmas.Bool.{cases_lt}
 use Rattle.base.proofs.Lists.{some_at}
 use Rattle.base.specs.Capped.{cap}
-use Rattle.syntax_tree.specs.Plain.{Prog}
+use Rattle.syntax_tree.specs.Plain.{Program}
 use Rattle.syntax_tree.specs.Plain as tree
 use Rattle.source_semantics.specs.Names.{processes}
 use Rattle.machine_semantics.specs.Image.{Image, Monitor, Process}
 use Rattle.machine_safety_spec.specs.Safe.{ImageFits, part_of}
-use Rattle.sched_demand.specs.declared.tasks.DTask.{DTask}
+use Rattle.sched_demand.specs.declared.tasks.DemandTask.{DemandTask}
 use Rattle.sched_demand.specs.Demand.{task_at, AreTasks}
 use Rattle.sched_demand.proofs.Demanding.{sorted}
 use Rattle.valid_image.specs.Shape.{shape_fault, handler_fault}
@@ -39,7 +39,7 @@ use Rattle.edf_feasible.proofs.Covering.{covered, stays_are}
 use Rattle.edf_feasible.proofs.Placing.{place_in, are_ranks, last_of}
 use Rattle.code_measures.proofs.Valid.{no_rank_fault}
 
-module _ (g : Prog) (m : Image) (ready : IsReady g) (code : IsCodeOf g m) (declares : Declares g m) (few : words_over_all m ≤ 1048576) (has_ranks : HasRanks m) (operands : fault_of_part m Operands ≡ None) (limits : HasLimits m)
+module _ (g : Program) (m : Image) (ready : IsReady g) (code : IsCodeOf g m) (declares : Declares g m) (few : words_over_all m ≤ 1048576) (has_ranks : HasRanks m) (operands : fault_of_part m Operands ≡ None) (limits : HasLimits m)
     (no_waits : (k : ℕ) (p : tree.Process) → slice_get (processes g) k ≡ Some p → (cost_of_process g k p).waits ≡ 0) where
   shaped : shape_fault m ≡ None
   shaped = no_shape_fault g m code ready.sound declares
@@ -76,7 +76,7 @@ module _ (g : Prog) (m : Image) (ready : IsReady g) (code : IsCodeOf g m) (decla
 
   -- ---- the tasks
 
-  module _ (ts : List DTask) (asked : AreDemands m ts) (are : AreTasks ts) where
+  module _ (ts : List DemandTask) (asked : AreDemands m ts) (are : AreTasks ts) where
     rank_is : (k : ℕ) (p : Process) → slice_get m.processes k ≡ Some p → timed.rank_of m k ≡ p.rank - 1
     rank_is k p at = ap (λ (o : Option Process). rank_of_some o - 1) at
 

@@ -9,7 +9,7 @@ use Rattle.static_rule.specs.Parts.{FailsAmong}
 use Rattle.source_semantics.specs.Names.{routine_in, monitor_in, process_in}
 use Rattle.static_declarations.specs.declared.home.Where.{Where}
 use Rattle.static_declarations.specs.Parts.{Part, statement, answer, looped, home_of, outside_loops, stmt_parts, stmts_parts, answer_parts, routine_parts, routines_parts, handler_parts, decls_parts}
-use Rattle.static_declarations.specs.declared.home.Home.TheVariants as home_is
+use Rattle.static_declarations.specs.declared.home.StmtContext.TheVariants as home_is
 use Rattle.code_measures.specs.Quiet.{NoWait, NoWaits}
 use Rattle.command_due.specs.Waits.{wait_rules}
 use Rattle.edf_feasible.specs.EdfWaits.{NoneWaits}
@@ -103,7 +103,7 @@ pub record ProcessQuiet (p : plain_of.Process) : Type 0 where
   pub handler : HandlerQuiet p.handler
   pub own : NoneWaits p.routines
 
-pub record AreQuiet (ds : List plain_of.Decl) : Type 0 where
+pub record AreQuiet (ds : List plain_of.Declaration) : Type 0 where
   pub program : NoneWaits (filter_map routine_in ds)
   pub entries : (m : ℕ) (k : plain_of.Monitor) → slice_get (filter_map monitor_in ds) m ≡ Some k → NoneWaits k.entries
   pub bodies : (k : ℕ) (p : plain_of.Process) → slice_get (filter_map process_in ds) k ≡ Some p → ProcessQuiet p

@@ -3,7 +3,7 @@ use Rattle.std.proofs.Common.{◌≡◌, ◌-◌, ℕ, suc, List, [], ◌∷◌,
 use Rattle.std.specs.Prelude.{slice_get, option_map}
 use Rattle.std.proofs.lemmas.Option.{slice_get-map}
 use Rattle.machine_semantics.specs.Image.{Image, Process}
-use Rattle.sched_demand.specs.declared.tasks.DTask.{DTask}
+use Rattle.sched_demand.specs.declared.tasks.DemandTask.{DemandTask}
 use Rattle.sched_demand.specs.Demand.{task_at}
 use Rattle.built_image.specs.Filled.{without_bound, without_bounds}
 use Rattle.built_image_law.specs.FilledLaws.{ShapesAgree}
@@ -34,19 +34,19 @@ length_map : (f : Process → Process) (ps : List Process) → length (map f ps)
 length_map f [] = refl
 length_map f (p ∷ ps) = ap suc (length_map f ps)
 
-demands_of : (m n : Image) (ts : List DTask) → without_bounds n ≡ without_bounds m → AreDemands m ts → AreDemands n ts
+demands_of : (m n : Image) (ts : List DemandTask) → without_bounds n ≡ without_bounds m → AreDemands m ts → AreDemands n ts
 demands_of m n ts same d = record {
   many = d.many ∙ (sym (length_map without_bound m.processes) ∙ ap (λ (x : Image). length x.processes) (sym same) ∙ length_map without_bound n.processes);
-  frame = λ k p at. (let t = twin m n same k p at in at_rank k p t (λ (x : DTask). x.frame) ∙ d.frame k t.q t.at ∙ ap (λ (x : Process). x.frame) (sym t.is));
-  deadline = λ k p at. (let t = twin m n same k p at in at_rank k p t (λ (x : DTask). x.deadline) ∙ d.deadline k t.q t.at ∙ ap (λ (x : Process). x.deadline) (sym t.is));
-  cost = λ k p at. (let t = twin m n same k p at in at_rank k p t (λ (x : DTask). x.cost) ∙ d.cost k t.q t.at ∙ ap (λ (x : Process). x.run) (sym t.is));
+  frame = λ k p at. (let t = twin m n same k p at in at_rank k p t (λ (x : DemandTask). x.frame) ∙ d.frame k t.q t.at ∙ ap (λ (x : Process). x.frame) (sym t.is));
+  deadline = λ k p at. (let t = twin m n same k p at in at_rank k p t (λ (x : DemandTask). x.deadline) ∙ d.deadline k t.q t.at ∙ ap (λ (x : Process). x.deadline) (sym t.is));
+  cost = λ k p at. (let t = twin m n same k p at in at_rank k p t (λ (x : DemandTask). x.cost) ∙ d.cost k t.q t.at ∙ ap (λ (x : Process). x.run) (sym t.is));
   block = λ j k p q at_p at_q alike last.
       (let t = twin m n same j p at_p in
       let u = twin m n same k q at_q in
       let due : t.q.deadline ≡ u.q.deadline = ap (λ (x : Process). x.deadline) (sym t.is) ∙ alike ∙ ap (λ (x : Process). x.deadline) u.is in
-      at_rank j p t (λ (x : DTask). x.block) ∙ d.block j k t.q u.q t.at u.at due (still_last u.q q u.is last) ∙ ap (λ (x : Process). x.block) (sym u.is));
+      at_rank j p t (λ (x : DemandTask). x.block) ∙ d.block j k t.q u.q t.at u.at due (still_last u.q q u.is last) ∙ ap (λ (x : Process). x.block) (sym u.is));
 } where
-  at_rank : {A : Type 0} (k : ℕ) (p : Process) (t : Twin m k p) (f : DTask → A) → f (task_at ts (p.rank - 1)) ≡ f (task_at ts (t.q.rank - 1))
+  at_rank : {A : Type 0} (k : ℕ) (p : Process) (t : Twin m k p) (f : DemandTask → A) → f (task_at ts (p.rank - 1)) ≡ f (task_at ts (t.q.rank - 1))
   at_rank k p t f = ap (λ (x : Process). f (task_at ts (x.rank - 1))) t.is
 
   still_last : (u q : Process) → without_bound q ≡ without_bound u → IsLastOfDeadline n q → IsLastOfDeadline m u

@@ -6,7 +6,7 @@ use Rattle.syntax_tree.specs.Plain as plain_of
 use Rattle.machine_semantics.specs.Image.{Image}
 use Rattle.machine_safety_spec.specs.Walk.{Where}
 use Rattle.machine_safety_spec.specs.Safe.{Parts, ImageFits}
-use Rattle.sched_demand.specs.declared.tasks.DTask.{DTask}
+use Rattle.sched_demand.specs.declared.tasks.DemandTask.{DemandTask}
 use Rattle.sched_demand.specs.declared.judging.Judgement.{Judgement}
 use Rattle.sched_demand.specs.Demand.{AreTasks}
 use Rattle.edf_semantics.specs.Safe.{IsWaitless}
@@ -18,7 +18,7 @@ use Rattle.command_due.specs.Tasks.{AreDemands, IsAnswer, IsAnswerFor}
 use Rattle.edf_feasible.specs.Waits.{HasNoWait}
 
 -- what the laws of safety and of time under earliest deadline first ask of an image and its tasks
-pub record MeetsPremises (image : Image) (tasks : List DTask) : Type 0 where
+pub record MeetsPremises (image : Image) (tasks : List DemandTask) : Type 0 where
   pub e : Where
   pub ps : ℕ → Parts
   pub of : e.image ≡ image
@@ -29,9 +29,9 @@ pub record MeetsPremises (image : Image) (tasks : List DTask) : Type 0 where
 
 -- The law: the image of a program without waits meets it, with the tasks that it asks for.
 abbrev pub WaitlessImagesMeetPremises : Type 0
-WaitlessImagesMeetPremises = (text : List ℕ) (g : Prog Place) (n : NamedImage) (tasks : List DTask) → IsWritten text g → HasNoWait (plain g) → IsEdfImage (plain g) n
+WaitlessImagesMeetPremises = (text : List ℕ) (g : Prog Place) (n : NamedImage) (tasks : List DemandTask) → IsWritten text g → HasNoWait (plain g) → IsEdfImage (plain g) n
     → AreDemands n.image tasks → AreTasks tasks → MeetsPremises n.image tasks
 
 -- The law: what the test says of a program, it says of its image.
 abbrev pub AnswersAreOfTheImage : Type 0
-AnswersAreOfTheImage = (g : plain_of.Prog) (n : NamedImage) (answer : Judgement) → IsEdfImage g n → IsAnswerFor g answer → IsAnswer n.image answer
+AnswersAreOfTheImage = (g : plain_of.Program) (n : NamedImage) (answer : Judgement) → IsEdfImage g n → IsAnswerFor g answer → IsAnswer n.image answer

@@ -2,7 +2,7 @@
 use Rattle.std.specs.Prelude.{ℕ, List, All}
 use Rattle.syntax_tree.specs.declared.place.Place.{Place}
 use Rattle.syntax_tree.specs.Placed.{Prog, plain}
-use Rattle.sched_demand.specs.declared.tasks.DTask.{DTask}
+use Rattle.sched_demand.specs.declared.tasks.DemandTask.{DemandTask}
 use Rattle.sched_demand.specs.declared.judging.Judgement.TheVariants as judgement
 use Rattle.image.specs.Named.{NamedImage}
 use Rattle.vm_plan.specs.HasPlan.{HasPlan}
@@ -39,7 +39,7 @@ pub record HasParts (n : NamedImage) : Type 0 where
 
 -- The law: so it is with the image of a program that is written, where it meets those premises.
 abbrev pub EdfImagesHaveParts : Type 0
-EdfImagesHaveParts = (text : List ℕ) (g : Prog Place) (n : NamedImage) (tasks : List DTask) → IsWritten text g → IsEdfImage (plain g) n → MeetsPremises n.image tasks → HasParts n
+EdfImagesHaveParts = (text : List ℕ) (g : Prog Place) (n : NamedImage) (tasks : List DemandTask) → IsWritten text g → IsEdfImage (plain g) n → MeetsPremises n.image tasks → HasParts n
 
 -- The law: where a text is that of a program that keeps to all rules, is not too large and has no
 -- wait, and the test answers that the demand of its image is feasible, the image has a plan, the

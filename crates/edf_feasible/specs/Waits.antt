@@ -1,6 +1,6 @@
 -- A program whose text has no `wait` statement.
 use Rattle.std.specs.Prelude.{◌≡◌, ℕ, List, Option, Some, None, slice_get}
-use Rattle.syntax_tree.specs.Plain.{Routine, Monitor, Handler, Process, Prog}
+use Rattle.syntax_tree.specs.Plain.{Routine, Monitor, Handler, Process, Program}
 use Rattle.source_semantics.specs.Names.{routines, monitors, processes}
 use Rattle.code_cost_spec.specs.Levels.{cost_of_process}
 use Rattle.code_measures.specs.Quiet.{NoWaits}
@@ -20,11 +20,11 @@ pub record ProcessHasNoWait (p : Process) : Type 0 where
   pub own : NoneWaits p.routines
 
 -- no statement of the program is a wait
-pub record HasNoWait (g : Prog) : Type 0 where
+pub record HasNoWait (g : Program) : Type 0 where
   pub program : NoneWaits (routines g)
   pub entries : (m : ℕ) (k : Monitor) → slice_get (monitors g) m ≡ Some k → NoneWaits k.entries
   pub bodies : (k : ℕ) (p : Process) → slice_get (processes g) k ≡ Some p → ProcessHasNoWait p
 
 -- The law: so the cost of each process has no waits.
 abbrev pub TextsWithoutWaitsHaveNone : Type 0
-TextsWithoutWaitsHaveNone = (g : Prog) → HasNoWait g → (k : ℕ) (p : Process) → slice_get (processes g) k ≡ Some p → (cost_of_process g k p).waits ≡ 0
+TextsWithoutWaitsHaveNone = (g : Program) → HasNoWait g → (k : ℕ) (p : Process) → slice_get (processes g) k ≡ Some p → (cost_of_process g k p).waits ≡ 0

@@ -1,7 +1,7 @@
 -- Elements of lists, and how many there are.
 use Rattle.std.proofs.Common.{◌≡◌, ◌⊎◌, inl, inr, ℕ, zero, suc, List, [], ◌∷◌, Some, arith, refl, ap}
 use Rattle.std.specs.Prelude.{slice_get, slice_set}
-use Rattle.vm_state.specs.declared.threads.Cell.{Cell}
+use Rattle.vm_state.specs.declared.threads.ControlBlock.{ControlBlock}
 use Rattle.vm_state.specs.Threads.{thread_of, threads_of}
 
 pub at_set : {X : Type 0} (xs : List X) (k : ℕ) (x : X) (j : ℕ) (y : X) → slice_get (slice_set xs k x) j ≡ Some y → ((k ≡ j) × (x ≡ y)) ⊎ ((k ≡ j → ⊥) × (slice_get xs j ≡ Some y))
@@ -13,7 +13,7 @@ at_set (z ∷ zs) (suc k) x (suc j) y at = elim (at_set zs k x j y at) [ inl h �
 
 -- ---- processes, and cells of a board
 
-pub thread_at : (cs : List Cell) (k : ℕ) (c : Cell) → slice_get cs k ≡ Some c → slice_get (threads_of cs) k ≡ Some (thread_of c)
+pub thread_at : (cs : List ControlBlock) (k : ℕ) (c : ControlBlock) → slice_get cs k ≡ Some c → slice_get (threads_of cs) k ≡ Some (thread_of c)
 thread_at [] k c at = absurd cc
-thread_at (d ∷ cs) zero c at = let e : d ≡ c = cc in ap (λ (x : Cell). Some (thread_of x)) e
+thread_at (d ∷ cs) zero c at = let e : d ≡ c = cc in ap (λ (x : ControlBlock). Some (thread_of x)) e
 thread_at (d ∷ cs) (suc k) c at = thread_at cs k c at

@@ -9,7 +9,7 @@ use Rattle.machine_semantics.specs.State.{Thread}
 use Rattle.edf_semantics.specs.Choice.{Mark}
 use Rattle.edf_semantics.specs.Run.{begin, first_marks, mark_of, marks_of}
 use Rattle.edf_semantics.proofs.Marking.{begin_at, begin_other, length_begin, length_marks, marks_at}
-use Rattle.edf_machine.specs.declared.marks.Mark.{Mark as Kept}
+use Rattle.edf_machine.specs.declared.marks.DeadlineState.{DeadlineState as Kept}
 use Rattle.edf_machine.specs.Marks.{AreMarks, AreNoted, HasDeadlines, IsMark, first_kept, is_idle}
 use Rattle.edf_machine.proofs.Lists.{at_set}
 

@@ -39,7 +39,7 @@ early_now run k safe is instr at = safe.early run.tick k (is_ready run k is).job
 
 -- of what it is at some is left
 pub some_left : (run : Run) (k : ℕ) → IsSafeRun run.image run.script → (is : chosen run.image run.script run.tick ≡ Some k) → 1 ≤ left run.image (is_ready run k is).job
-some_left run k safe is = by (is_ready run k is).job.burn (slice_get run.image.code (is_ready run k is).job.place) refl where
+some_left run k safe is = by (is_ready run k is).job.dispatch_ticks (slice_get run.image.code (is_ready run k is).job.place) refl where
   by : (b : ℕ) (o : Option Instr) → slice_get run.image.code (is_ready run k is).job.place ≡ o → 1 ≤ left_of b (is_ready run k is).job.done o
   by (suc b) o at = omega arith
   by zero None at = omega arith
@@ -76,7 +76,7 @@ can_start run n k safe is it =
     let r : IsReady image s.threads k = is_ready run k is in
     let u : ℕ = t + (n - 1) in
     let taken : IsTaken image run.script t n = turn_stays_in_run image run.script safe.unstuck t n it in
-    let all : turn image run.script t n ≡ settle image u k r.p r.job s (outcomes image s r.job (owned_of (slice_get s.owned k)) n r.job.burn) =
+    let all : turn image run.script t n ≡ settle image u k r.p r.job s (outcomes image s r.job (owned_of (slice_get s.owned k)) n r.job.dispatch_ticks) =
     ap (λ (c : Option ℕ). pass image t n s c) is
     ∙ ap (λ (x : Option Process). pass_thread image t n k s x (slice_get s.threads k)) r.process
     ∙ ap (λ (x : Option Thread). pass_thread image t n k s (Some r.p) x) r.ready in
@@ -88,7 +88,7 @@ can_start run n k safe is it =
       some = it.some;
       fits = subst (λ (x : Option Thread). FitsThread image n x) r.ready (subst (λ (c : Option ℕ). FitsIn image n s c) is it.fits);
       early = early_now run k safe is;
-      can = can_of image u k r.p r.job s (outcomes image s r.job (owned_of (slice_get s.owned k)) n r.job.burn) (ap (λ (x : Ticked). x.stuck) (sym all) ∙ taken.free)
+      can = can_of image u k r.p r.job s (outcomes image s r.job (owned_of (slice_get s.owned k)) n r.job.dispatch_ticks) (ap (λ (x : Ticked). x.stuck) (sym all) ∙ taken.free)
           (λ th at_th. safe.stack (t + n) k r.p th r.process (ap (λ (w : Marked). slice_get w.state.threads k) taken.state ∙ ap (λ (x : Ticked). slice_get x.state.threads k) all ∙ at_th)) r.ready;
     }
 

@@ -8,7 +8,7 @@ use Rattle.machine_semantics.specs.Image.{Process}
 use Rattle.machine_semantics.specs.State.{Job, Ready, State}
 use Rattle.machine_semantics.specs.Effect.{Own, Outcome}
 use Rattle.machine_semantics.specs.Tick.{Ticked, owned_of, settle}
-use Rattle.vm_instructions.specs.declared.row.Halt.{Halt}
+use Rattle.vm_instructions.specs.declared.burst.Halt.{Halt}
 use Rattle.vm_instructions.specs.Rows.{Runs}
 use Rattle.vm_stretch.specs.Quiet.{AreQuiet}
 use Rattle.vm_stretch.specs.Silent.{with_process}
@@ -33,7 +33,7 @@ use Rattle.vm_turn.proofs.Safely.{can_of}
 pub record RowStarts (run : Run) (most k : ℕ) : Type 0 where
   pub job : Job
   pub is : IsChosen run.image run.script run.tick most k (own_at k job (start run))
-  pub burnt : job.burn ≡ 0
+  pub burnt : job.dispatch_ticks ≡ 0
 
 starts_here : (run : Run) (most k : ℕ) → chosen run.image run.script run.tick ≡ Some k → length (start run).owned ≡ length run.image.processes → AreQuiet run.image run.script run.tick most (start run) → BurnsNothing (start run) k → RowStarts run most k
 starts_here run most k at words quiet burnt =

@@ -13,7 +13,7 @@ use Rattle.vm_releases.proofs.Resting.{Rests, rests}
 use Rattle.edf_semantics.specs.Choice.{Mark}
 use Rattle.edf_semantics.specs.Run.{Marked, events_from, first_marks, marks_of, state_at, tick}
 use Rattle.edf_machine.specs.Marks.{AreMarks}
-use Rattle.edf_machine.specs.declared.marks.Mark.{Mark as Kept}
+use Rattle.edf_machine.specs.declared.marks.DeadlineState.{DeadlineState as Kept}
 use Rattle.edf_semantics.specs.Turn.{begun, marked, started}
 use Rattle.edf_semantics.proofs.Staying.{marks_same}
 use Rattle.edf_timing.specs.Runs.{HasNoOverrun}

@@ -3,7 +3,7 @@ use Rattle.std.specs.Prelude.{◌≡◌, ◌+◌, ℕ, Bool, true, false, List, 
 use Rattle.machine_semantics.specs.Image.{Image, Process}
 use Rattle.machine_semantics.specs.State.{Thread, Idle, Ready, Waiting}
 use Rattle.edf_semantics.specs.Choice.{Mark}
-use Rattle.edf_machine.specs.declared.marks.Mark.{Mark as Kept}
+use Rattle.edf_machine.specs.declared.marks.DeadlineState.{DeadlineState as Kept}
 
 -- what code knows of a process is what the meaning does: the deadline of its activation is so many
 -- ticks after the release

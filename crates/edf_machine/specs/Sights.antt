@@ -1,23 +1,23 @@
 -- What is seen of the processes from one on, and what one more adds.
 use Rattle.std.specs.Prelude.{◌≡◌, ◌||◌, ℕ, true, false, not, List, Option, Some, None, if◌then◌else◌, map, slice_get}
-use Rattle.vm_state.specs.declared.threads.Cell.{Cell}
+use Rattle.vm_state.specs.declared.threads.ControlBlock.{ControlBlock}
 use Rattle.vm_state.specs.Threads.{thread_of}
 use Rattle.machine_semantics.specs.Image.{Image, Monitor, Process}
 use Rattle.machine_semantics.specs.State.{Thread, Idle, Ready, Waiting}
 use Rattle.machine_semantics.specs.Tick.{ceiling}
-use Rattle.vm_state.specs.declared.plan.Plan.{Plan}
-use Rattle.vm_state.specs.declared.plan.Process.{Process as Planned}
+use Rattle.vm_state.specs.declared.decoded_image.DecodedImage.{DecodedImage}
+use Rattle.vm_state.specs.declared.decoded_image.DecodedProcess.{DecodedProcess as Planned}
 use Rattle.vm_state.specs.Plan.{IsOf, IsProcess}
 use Rattle.edf_semantics.specs.Choice.{Entry, Mark, entry, least_ceiling, soonest, sooner_of, with_inside}
-use Rattle.edf_machine.specs.declared.choice.Found.{Found}
-use Rattle.edf_machine.specs.declared.choice.Sight.{Sight}
-use Rattle.edf_machine.specs.declared.marks.Mark.{Mark as Kept}
+use Rattle.edf_machine.specs.declared.choice.ReadyProcess.{ReadyProcess}
+use Rattle.edf_machine.specs.declared.choice.Candidates.{Candidates}
+use Rattle.edf_machine.specs.declared.marks.DeadlineState.{DeadlineState as Kept}
 use Rattle.edf_machine.specs.Marks.{IsMark}
 
-abbrev pub entry_of : Found → Entry
+abbrev pub entry_of : ReadyProcess → Entry
 entry_of f = record { place = f.place; due = f.due; rank = f.rank; begun = f.begun }
 
-abbrev pub entry_some : Option Found → Option Entry
+abbrev pub entry_some : Option ReadyProcess → Option Entry
 entry_some None = None
 entry_some (Some f) = Some (entry_of f)
 
@@ -28,7 +28,7 @@ pub record Seen : Type 0 where
   pub begun : Option Entry
   pub least : Option ℕ
 
-abbrev pub seen_of : Sight → Seen
+abbrev pub seen_of : Candidates → Seen
 seen_of s = record { first = entry_some s.first; begun = entry_some s.begun; least = s.least }
 
 -- of the processes from k on
@@ -50,5 +50,5 @@ abbrev pub IsCeiling : List ℕ → ℕ → ℕ → Type 0
 IsCeiling ceilings m c = (image : Image) → map (λ (x : Monitor). x.ceiling) image.monitors ≡ ceilings → c ≡ ceiling (slice_get image.monitors m)
 
 -- what was seen before, and what is seen once process k is looked at too
-abbrev pub Looks : Plan → Planned → Cell → Kept → ℕ → Sight → Sight → Type 0
+abbrev pub Looks : DecodedImage → Planned → ControlBlock → Kept → ℕ → Candidates → Candidates → Type 0
 Looks plan known cell kept k old new = (image : Image) (p : Process) (m : Mark) → IsOf image plan → IsProcess p known → IsMark p kept m → seen_of new ≡ looked image k p (thread_of cell) m (seen_of old)

@@ -8,13 +8,13 @@ ghost use Rattle.vm_state.specs.Plan.{IsOf};
 ghost use Rattle.edf_machine.specs.Marks.{AreMarks, Marking};
 ghost use Rattle.edf_machine.specs.Sights.{IsCeiling, Looks, entry_of, entry_some};
 
-use crate::marks::Mark;
-use vm_state::{Board, Cell, Plan, Process, Stand};
+use crate::marks::DeadlineState;
+use vm_state::{ControlBlock, DecodedImage, DecodedProcess, MachineState, SchedulingState};
 
 /// A ready process: its number, the tick of its deadline, its rank, and whether its activation has
 /// had a tick.
 #[derive(Clone, Copy)]
-pub struct Found {
+pub struct ReadyProcess {
     place: usize,
     due: u64,
     rank: u16,
@@ -24,15 +24,15 @@ pub struct Found {
 /// What was seen of the processes that were looked at: the first of those that are ready, the first
 /// of those that have begun, and the least ceiling of a monitor that somebody is inside.
 #[derive(Clone, Copy)]
-pub struct Sight {
-    first: Option<Found>,
-    begun: Option<Found>,
+pub struct Candidates {
+    first: Option<ReadyProcess>,
+    begun: Option<ReadyProcess>,
     least: Option<u16>,
 }
 
 /// Whether the first comes before: its deadline is sooner, or the same and its rank is less.
 #[inline(always)]
-fn is_sooner(a: &Found, b: &Found) -> bool
+fn is_sooner(a: &ReadyProcess, b: &ReadyProcess) -> bool
     ensures { result ≡ is_sooner (entry_of a.now) (entry_of b.now) }
 {
     a.due < b.due || (a.due == b.due && a.rank < b.rank)
@@ -40,7 +40,7 @@ fn is_sooner(a: &Found, b: &Found) -> bool
 
 /// The one that comes before; of two alike the first.
 #[inline(always)]
-fn sooner_of(a: Found, best: Option<Found>) -> Option<Found>
+fn sooner_of(a: ReadyProcess, best: Option<ReadyProcess>) -> Option<ReadyProcess>
     ensures { entry_some result ≡ sooner_of (entry_of a) (entry_some best) }
 {
     match best {
@@ -92,7 +92,7 @@ fn with_inside(ceilings: &[u16], inside: Option<u16>, least: Option<u16>) -> Opt
 
 /// The first of those that have begun, with a process.
 #[inline(always)]
-fn with_begun(found: Found, begun: Option<Found>) -> Option<Found>
+fn with_begun(found: ReadyProcess, begun: Option<ReadyProcess>) -> Option<ReadyProcess>
     ensures yes { found.begun ≡ true →
         entry_some result ≡ sooner_of (entry_of found) (entry_some begun) }
     ensures no { found.begun ≡ false → entry_some result ≡ entry_some begun }
@@ -106,25 +106,25 @@ fn with_begun(found: Found, begun: Option<Found>) -> Option<Found>
 /// What is seen once a process is looked at too, after all those with greater numbers.
 #[inline(always)]
 fn look(
-    plan: &Plan,
-    process: &Process,
-    cell: &Cell,
-    mark: &Mark,
+    plan: &DecodedImage,
+    process: &DecodedProcess,
+    cell: &ControlBlock,
+    mark: &DeadlineState,
     place: usize,
-    sight: Sight,
-) -> Sight
+    sight: Candidates,
+) -> Candidates
     ensures { Looks plan.now process.now cell.now mark.now place sight result }
 {
-    let Stand::Ready = cell.stand else {
+    let SchedulingState::Ready = cell.stand else {
         return sight;
     };
-    let found = Found {
+    let found = ReadyProcess {
         place,
         due: mark.due,
         rank: process.rank,
         begun: mark.begun,
     };
-    Sight {
+    Candidates {
         first: sooner_of(found, sight.first),
         begun: with_begun(found, sight.begun),
         least: with_inside(&plan.ceilings, cell.job.inside, sight.least),
@@ -133,7 +133,7 @@ fn look(
 
 /// Whether a process may go: its activation has had a tick, or no monitor is occupied, or its rank
 /// is below the least ceiling.
-fn may_go(found: &Found, least: Option<u16>) -> bool
+fn may_go(found: &ReadyProcess, least: Option<u16>) -> bool
     ensures { result ≡ may_go (entry_of found.now) least }
 {
     match least {
@@ -143,7 +143,7 @@ fn may_go(found: &Found, least: Option<u16>) -> bool
 }
 
 /// The first that is ready, if it may go; else the first of those that have begun.
-fn taken(sight: Sight) -> Option<usize>
+fn taken(sight: Candidates) -> Option<usize>
     ensures { result ≡
         taken sight.least (place_of (entry_some sight.begun)) (entry_some sight.first) }
 {
@@ -163,14 +163,14 @@ fn taken(sight: Sight) -> Option<usize>
 /// alike the one of the less rank, if its activation has had a tick, or no monitor is occupied, or
 /// its rank is below the least ceiling of those that are; else the first in this order whose
 /// activation has had a tick. `None` where there is none.
-pub fn choose(plan: &Plan, board: &Board, marks: &[Mark]) -> Option<usize>
+pub fn choose(plan: &DecodedImage, board: &MachineState, marks: &[DeadlineState]) -> Option<usize>
     ghost at: { Marking }
     requires plan { IsOf at.image plan.now }
     requires board { IsBoardOf at.image board.now }
     requires marks { AreMarks at.image marks.now at.marks }
     ensures { result ≡ choose at.image (state_of board.now).threads at.marks }
 {
-    let mut sight = Sight {
+    let mut sight = Candidates {
         first: None,
         begun: None,
         least: None,

@@ -1,6 +1,6 @@
 //! The choice, the machine and its log, under deadlines.
 //!
-//! A `Mark` is what the choice knows of a process: when its activation is due, and whether it has
+//! A `DeadlineState` is what the choice knows of a process: when its activation is due, and whether it has
 //! had a tick (`specs/Marks.antt`). `choose` gives the process that the meaning chooses, by one
 //! look at each.
 //!
@@ -11,15 +11,15 @@
 #![tactic(auto)]
 
 mod choice;
-pub mod edf_run;
-pub mod edf_runnable;
 mod machine;
 mod marks;
+pub mod run_law;
+pub mod runnable_law;
 mod span;
 mod to_end;
 mod turn;
 
 pub use choice::choose;
 pub use machine::EdfMachine;
-pub use marks::{Mark, first_marks, mark_begun, mark_releases, note_idle};
+pub use marks::{DeadlineState, first_marks, mark_begun, mark_releases, note_idle};
 pub use to_end::run;

@@ -13,22 +13,22 @@ ghost use Rattle.edf_machine.specs.Turn.{Run};
 
 use crate::span::span;
 use crate::turn::take_turn;
-use crate::{Mark, first_marks, mark_releases, note_idle};
+use crate::{DeadlineState, first_marks, mark_releases, note_idle};
 use base::Event;
 use script::Script;
 use std::alloc::{AllocError, Global};
-use vm_releases::Agenda;
-use vm_runner::Turn;
-use vm_state::{Board, Fired, MOST, Plan};
+use vm_releases::Timers;
+use vm_runner::Progress;
+use vm_state::{DecodedImage, EventBuffer, MOST, MachineState};
 
 /// The simulated machine under earliest deadline first. Once made, it takes no memory.
 #[derive(Drop)]
 pub struct EdfMachine {
     tick: u64,
-    board: Board,
-    marks: Vec<Mark>,
-    agenda: Agenda,
-    fired: Fired,
+    board: MachineState,
+    marks: Vec<DeadlineState>,
+    agenda: Timers,
+    fired: EventBuffer,
 }
 
 impl EdfMachine {
@@ -36,7 +36,7 @@ impl EdfMachine {
     /// all the memory that the run needs; an error says that memory is short.
     pub fn new(
         alloc: Global,
-        plan: &Plan,
+        plan: &DecodedImage,
         deadlines: &[u32],
         script: &Script,
     ) -> Result<EdfMachine, AllocError>
@@ -49,10 +49,10 @@ impl EdfMachine {
     {
         Ok(EdfMachine {
             tick: 0,
-            board: Board::new(alloc, plan)?,
+            board: MachineState::new(alloc, plan)?,
             marks: first_marks(alloc, deadlines)?,
-            agenda: Agenda::new(alloc, plan, script)?,
-            fired: Fired::new(),
+            agenda: Timers::new(alloc, plan, script)?,
+            fired: EventBuffer::new(),
         })
     }
 
@@ -66,7 +66,7 @@ impl EdfMachine {
 
     /// The start events of the tick, which is before the end, and the marks after them.
     #[inline(always)]
-    fn start(&mut self, plan: &Plan, script: &Script)
+    fn start(&mut self, plan: &DecodedImage, script: &Script)
         ghost run: { Run }
         requires plan { IsOf run.image plan.now }
         requires script { run.script ≡ script_of script.now }
@@ -89,7 +89,7 @@ impl EdfMachine {
 
     /// The start events of the tick, which is before the end, and then ticks at once.
     #[inline(always)]
-    fn step(&mut self, plan: &Plan, script: &Script)
+    fn step(&mut self, plan: &DecodedImage, script: &Script)
         ghost run: { Run }
         requires plan { IsOf run.image plan.now }
         requires script { run.script ≡ script_of script.now }
@@ -129,7 +129,7 @@ impl EdfMachine {
     /// One row more, from a tick at which nothing is due: what falls in it stands after the events
     /// before.
     #[inline(always)]
-    fn row_on(&mut self, plan: &Plan, end: u64)
+    fn row_on(&mut self, plan: &DecodedImage, end: u64)
         ghost run: { Run }
         requires plan { IsOf run.image plan.now }
         requires tick { run.tick ≡ self.old.tick }
@@ -158,7 +158,7 @@ impl EdfMachine {
 
     /// The start events of the tick, which is before the end, and a row, and then rows while
     /// nothing is due and there is room for one more event.
-    fn rows(&mut self, plan: &Plan, script: &Script)
+    fn rows(&mut self, plan: &DecodedImage, script: &Script)
         ghost run: { Run }
         requires plan { IsOf run.image plan.now }
         requires script { run.script ≡ script_of script.now }
@@ -180,7 +180,7 @@ impl EdfMachine {
 
     /// Turns at once: the processes that are chosen run on over instructions and events, up to the
     /// next tick at which something is due, or while there is room for another event.
-    pub fn advance_row(&mut self, plan: &Plan, script: &Script) -> Turn
+    pub fn advance_row(&mut self, plan: &DecodedImage, script: &Script) -> Progress
         ghost image: { Image }
         requires plan { IsOf image plan.now }
         requires runnable { IsRunnable image (script_of script.now) }
@@ -195,13 +195,13 @@ impl EdfMachine {
         ensures events { result ≡ Turn.Events → self.new.fired.items ≢ [] }
     {
         if self.tick >= script.end() {
-            return Turn::Done;
+            return Progress::Done;
         }
         self.rows(plan, script);
         if self.fired.is_empty() {
-            Turn::Quiet
+            Progress::Quiet
         } else {
-            Turn::Events
+            Progress::Events
         }
     }
 

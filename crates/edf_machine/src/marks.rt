@@ -10,11 +10,11 @@ ghost use Rattle.vm_state.specs.Board.{state_of};
 ghost use Rattle.edf_machine.specs.Marks.{AreMarks, AreNoted, IsMark, Marking, first_kept, is_idle};
 
 use std::alloc::{AllocError, Global};
-use vm_state::{Board, Cell, Stand};
+use vm_state::{ControlBlock, MachineState, SchedulingState};
 
 /// What the choice knows of a process beside where it stands.
 #[derive(Clone, Copy)]
-pub struct Mark {
+pub struct DeadlineState {
     /// The ticks from a release to its deadline.
     pub deadline: u32,
     /// The tick of the deadline of the activation.
@@ -27,12 +27,12 @@ pub struct Mark {
 
 /// By process its mark before the first tick, of its deadline in ticks. An error says that memory
 /// is short.
-pub fn first_marks(alloc: Global, deadlines: &[u32]) -> Result<Vec<Mark>, AllocError>
+pub fn first_marks(alloc: Global, deadlines: &[u32]) -> Result<Vec<DeadlineState>, AllocError>
     ensures { IfOk result (λ marks. marks.items ≡ map first_kept deadlines.now) }
 {
     let mut marks = Vec::with_capacity(alloc, deadlines.len())?;
     for deadline in deadlines {
-        marks.push(Mark {
+        marks.push(DeadlineState {
             deadline: *deadline,
             due: u64::from(*deadline),
             begun: false,
@@ -43,14 +43,14 @@ pub fn first_marks(alloc: Global, deadlines: &[u32]) -> Result<Vec<Mark>, AllocE
 }
 
 /// Notes whether a process is idle.
-fn note(mark: &mut Mark, cell: &Cell)
+fn note(mark: &mut DeadlineState, cell: &ControlBlock)
     ensures { mark.new ≡ record mark.old { idle = is_idle (thread_of cell.now) } }
 {
-    mark.idle = matches!(cell.stand, Stand::Idle);
+    mark.idle = matches!(cell.stand, SchedulingState::Idle);
 }
 
 /// Notes which processes are idle, before the start events of a tick.
-pub fn note_idle(board: &Board, marks: &mut Vec<Mark>)
+pub fn note_idle(board: &MachineState, marks: &mut Vec<DeadlineState>)
     ghost at: { Marking }
     requires marks { AreMarks at.image marks.old.items at.marks }
     requires cells { length board.now.cells.items ≡ length at.image.processes }
@@ -63,20 +63,20 @@ pub fn note_idle(board: &Board, marks: &mut Vec<Mark>)
 }
 
 /// An activation is due so many ticks after its release.
-fn release(mark: &mut Mark, cell: &Cell, tick: u64)
+fn release(mark: &mut DeadlineState, cell: &ControlBlock, tick: u64)
     requires { tick < 2 ^ 63 }
     ensures { (p : Process) (old : Thread) (m : Known) → IsMark p mark.old m →
         mark.old.idle ≡ is_idle old →
         IsMark p mark.new (mark_of tick old (thread_of cell.now) m) }
 {
-    if mark.idle && matches!(cell.stand, Stand::Ready) {
+    if mark.idle && matches!(cell.stand, SchedulingState::Ready) {
         mark.due = tick + u64::from(mark.deadline);
         mark.begun = false;
     }
 }
 
 /// Marks the releases of a tick, after its start events.
-pub fn mark_releases(board: &Board, marks: &mut Vec<Mark>, tick: u64)
+pub fn mark_releases(board: &MachineState, marks: &mut Vec<DeadlineState>, tick: u64)
     ghost at: { Marking }
     requires marks { AreMarks at.image marks.old.items at.marks }
     requires noted { AreNoted at.olds marks.old.items }
@@ -92,7 +92,7 @@ pub fn mark_releases(board: &Board, marks: &mut Vec<Mark>, tick: u64)
 }
 
 /// Marks that the activation of a process has had a tick.
-pub fn mark_begun(marks: &mut Vec<Mark>, place: usize)
+pub fn mark_begun(marks: &mut Vec<DeadlineState>, place: usize)
     ghost at: { Marking }
     requires marks { AreMarks at.image marks.old.items at.marks }
     requires place { place < length at.image.processes }

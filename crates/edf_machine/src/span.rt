@@ -3,11 +3,11 @@
 ghost use Rattle.std.specs.Prelude.{◌≡◌, ◌≤◌, ◌<◌, ◌+◌};
 ghost use Rattle.vm_stretch.specs.StretchDue.{NoneBefore};
 
-use vm_releases::Agenda;
+use vm_releases::Timers;
 
 /// The ticks from this one up to the end or to the next at which something is due.
 #[inline(always)]
-pub(crate) fn span(agenda: &Agenda, tick: u64, end: u64) -> u64
+pub(crate) fn span(agenda: &Timers, tick: u64, end: u64) -> u64
     requires before { tick < end }
     requires later { NoneBefore (tick + 1) agenda.now.slots }
     ensures some { 1 ≤ result }

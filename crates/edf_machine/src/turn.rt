@@ -13,13 +13,13 @@ ghost use Rattle.edf_semantics.specs.Turn.{begun, chosen, marked};
 ghost use Rattle.edf_machine.specs.Runnable.{IsRunnable};
 ghost use Rattle.edf_machine.specs.Turn.{HasPassed, Run};
 
-use crate::{Mark, choose, mark_begun};
+use crate::{DeadlineState, choose, mark_begun};
 use vm_instructions::Halt;
-use vm_state::{Board, Fired, Plan};
+use vm_state::{DecodedImage, EventBuffer, MachineState};
 use vm_turn::{end_row, left, pass, run_row};
 
 /// The ticks left of what the process that is chosen is at, or as many as are asked for.
-fn ticks_left(plan: &Plan, board: &Board, who: usize, most: u64) -> u32
+fn ticks_left(plan: &DecodedImage, board: &MachineState, who: usize, most: u64) -> u32
     ghost run: { Run }
     requires plan { IsOf run.image plan.now }
     requires runnable { IsRunnable run.image run.script }
@@ -35,12 +35,12 @@ fn ticks_left(plan: &Plan, board: &Board, who: usize, most: u64) -> u32
 
 /// Ticks at once of what the process that is chosen is at, so many at most: how many passed.
 fn pass_one(
-    plan: &Plan,
-    board: &mut Board,
+    plan: &DecodedImage,
+    board: &mut MachineState,
     who: usize,
     tick: u64,
     most: u64,
-    fired: &mut Fired,
+    fired: &mut EventBuffer,
 ) -> u64
     ghost run: { Run }
     requires plan { IsOf run.image plan.now }
@@ -76,12 +76,12 @@ fn unspent(halt: Halt) -> u64
 /// A row of instructions of the process that is chosen, so many ticks at most: how many passed.
 #[inline(always)]
 fn pass_row(
-    plan: &Plan,
-    board: &mut Board,
+    plan: &DecodedImage,
+    board: &mut MachineState,
     who: usize,
     tick: u64,
     most: u64,
-    fired: &mut Fired,
+    fired: &mut EventBuffer,
 ) -> u64
     ghost run: { Run }
     requires plan { IsOf run.image plan.now }
@@ -107,22 +107,22 @@ fn pass_row(
 
 /// Whether a process has ticks of dispatch to burn.
 #[inline(always)]
-fn burns(board: &Board, who: usize) -> bool
+fn burns(board: &MachineState, who: usize) -> bool
     requires { who < vec_len board.now.cells }
     ensures { result ≡ false → BurnsNothing (state_of board.now) who }
 {
-    board.cells[who].job.burn > 0
+    board.cells[who].job.dispatch_ticks > 0
 }
 
 /// Ticks of the process that is chosen, so many at most: how many passed.
 #[inline(always)]
 fn pass_chosen(
-    plan: &Plan,
-    board: &mut Board,
+    plan: &DecodedImage,
+    board: &mut MachineState,
     who: usize,
     tick: u64,
     most: u64,
-    fired: &mut Fired,
+    fired: &mut EventBuffer,
 ) -> u64
     ghost run: { Run }
     requires plan { IsOf run.image plan.now }
@@ -148,10 +148,10 @@ fn pass_chosen(
 /// A turn of so many ticks at most: how many it took.
 #[inline(always)]
 pub(crate) fn take_turn(
-    plan: &Plan,
-    board: &mut Board,
-    marks: &mut Vec<Mark>,
-    fired: &mut Fired,
+    plan: &DecodedImage,
+    board: &mut MachineState,
+    marks: &mut Vec<DeadlineState>,
+    fired: &mut EventBuffer,
     tick: u64,
     most: u64,
 ) -> u64

@@ -29,11 +29,11 @@ run_keeps e ps image_fits t s fits (Some c) ch =
     let process : slice_get e.image.processes c.place ≡ Some ch.p = ap (λ (x : ℕ). slice_get e.image.processes x) (sym at) ∙ ch.process in
     let ready : slice_get s.threads c.place ≡ Some (Ready ch.job) = ap (λ (x : ℕ). slice_get s.threads x) (sym at) ∙ ch.ready in
     let f : ThreadFits e ch.p (ps c.place) (Ready ch.job) (owned_of (slice_get s.owned c.place)) s.shared = fits.threads c.place ch.p (Ready ch.job) process ready in
-    let o : (l : Cost) × TickFits e ch.p (ps c.place) ch.job (owned_of (slice_get s.owned c.place)) s.shared l (outcome e.image s ch.job (owned_of (slice_get s.owned c.place)) ch.job.burn) =
-    outcome_fits e ps image_fits s c ch c.place refl process fits f.0 f.1 ch.job.burn refl in
+    let o : (l : Cost) × TickFits e ch.p (ps c.place) ch.job (owned_of (slice_get s.owned c.place)) s.shared l (outcome e.image s ch.job (owned_of (slice_get s.owned c.place)) ch.job.dispatch_ticks) =
+    outcome_fits e ps image_fits s c ch c.place refl process fits f.0 f.1 ch.job.dispatch_ticks refl in
     subst (λ (x : Option Process). ((run_thread e.image t c.place s x (slice_get s.threads c.place)).stuck ≡ false) × StateFits e ps (run_thread e.image t c.place s x (slice_get s.threads c.place)).state) (sym process)
     (subst (λ (x : Option Thread). ((run_thread e.image t c.place s (Some ch.p) x).stuck ≡ false) × StateFits e ps (run_thread e.image t c.place s (Some ch.p) x).state) (sym ready)
-    (settle_keeps e ps image_fits t s c ch c.place refl process ready fits o.0 (outcome e.image s ch.job (owned_of (slice_get s.owned c.place)) ch.job.burn) o.1))
+    (settle_keeps e ps image_fits t s c ch c.place refl process ready fits o.0 (outcome e.image s ch.job (owned_of (slice_get s.owned c.place)) ch.job.dispatch_ticks) o.1))
 
 -- who is chosen may run
 pub may_run : (image : Image) (ts : List Thread) (ms : List Mark) (now : ℕ) → length ms ≡ length image.processes

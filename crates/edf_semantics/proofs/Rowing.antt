@@ -177,18 +177,18 @@ row_is_safe image script t budget k first is burnt never n o leads within =
     let u : ℕ = t + n in
     let was : Led image script t budget k n o = led image script t budget k first never.unstuck is n o leads in
     let st : Stood image script t k n o = was.stood within in
-    let burn : o.job.burn ≡ 0 = burn_same image first n o leads ∙ burnt in
+    let dispatch_ticks : o.job.dispatch_ticks ≡ 0 = burn_same image first n o leads ∙ burnt in
     let there : slice_get w.threads k ≡ Some (Ready o.job) = get_set s.threads k (Ready o.job) (Ready first.job) is.ready in
     let free : (pass image u 1 w (Some k)).stuck ≡ false =
     sym (ap (λ (x : Passed). x.stuck) (tick_is image script u (state_at image script u)) ∙ ap (λ (c : Option ℕ). (pass image u 1 (begun image script u) c).stuck) st.chosen ∙ ap (λ (x : State). (pass image u 1 x (Some k)).stuck) st.stood) ∙ never.unstuck u in
     let settled : pass image u 1 w (Some k) ≡ settle image (u + (1 - 1)) k is.p o.job w (outcome_at_once image w o.job (owned_of (slice_get w.owned k)) 1 (slice_get image.code o.job.place)) =
     ap (λ (x : Option Process). pass_thread image u 1 k w x (slice_get w.threads k)) is.process
     ∙ ap (λ (x : Option Thread). pass_thread image u 1 k w (Some is.p) x) there
-    ∙ ap (λ (b : ℕ). settle image (u + (1 - 1)) k is.p o.job w (outcomes image w o.job (owned_of (slice_get w.owned k)) 1 b)) burn in
+    ∙ ap (λ (b : ℕ). settle image (u + (1 - 1)) k is.p o.job w (outcomes image w o.job (owned_of (slice_get w.owned k)) 1 b)) dispatch_ticks in
     let found : (instr : Instr) × (slice_get image.code o.job.place ≡ Some instr) =
     there_is image (u + (1 - 1)) k is.p o.job w (owned_of (slice_get w.owned k)) (slice_get image.code o.job.place) (ap (λ (x : Ticked). x.stuck) (sym settled) ∙ free) in
     let at : IsAt image o found.0 = record {
-      burnt = burn;
+      burnt = dispatch_ticks;
       here = found.1;
       early = never.early u k o.job found.0 (ap (λ (x : State). slice_get x.threads k) st.stood ∙ there) found.1;
     } in

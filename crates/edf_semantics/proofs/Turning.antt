@@ -68,7 +68,7 @@ record GoesWithin (image : Image) (s : State) (job : Job) (owned : List ℤ) (b 
   pub inside : o.job.inside ≡ job.inside
 
 goes_within : (image : Image) (s : State) (job : Job) (owned : List ℤ) (b : ℕ) → 1 < left_of b job.done (slice_get image.code job.place) → GoesWithin image s job owned b
-goes_within image s job owned (suc b) more = record { o = record { job = record job { burn = suc b - 1 }; owned = owned; shared = s.shared }; goes = refl; inside = refl }
+goes_within image s job owned (suc b) more = record { o = record { job = record job { dispatch_ticks = suc b - 1 }; owned = owned; shared = s.shared }; goes = refl; inside = refl }
 goes_within image s job owned zero more = record { o = record { job = record job { done = job.done + 1 }; owned = owned; shared = s.shared }; goes = by (slice_get image.code job.place) more; inside = refl } where
   by : (at : Option Instr) → 1 < left_at job.done at → outcome_at_once image s job owned 1 at ≡ Goes (record { job = record job { done = job.done + 1 }; owned = owned; shared = s.shared })
   by None low = absurd (omega (arith, low))
@@ -81,7 +81,7 @@ one_moves : (image : Image) (t k : ℕ) (s : State) (p : Process) (job : Job) (n
     → (new : Job) × ((new.inside ≡ job.inside) × (next.threads ≡ slice_set s.threads k (Ready new)))
 one_moves image t k s p job next process ready more is =
     let words : List ℤ = owned_of (slice_get s.owned k) in
-    let g : GoesWithin image s job words job.burn = goes_within image s job words job.burn more in
+    let g : GoesWithin image s job words job.dispatch_ticks = goes_within image s job words job.dispatch_ticks more in
     let all : pass image t 1 s (Some k) ≡ settle image (t + (1 - 1)) k p job s (Goes g.o) =
     ap (λ (x : Option Process). pass_thread image t 1 k s x (slice_get s.threads k)) process
     ∙ ap (λ (x : Option Thread). pass_thread image t 1 k s (Some p) x) ready

@@ -43,7 +43,7 @@ pub record IsSafeRun (image : Image) (script : Script) : Type 0 where
 
 -- The law: in such a run a process that is chosen can take each of its ticks.
 abbrev pub RowIsSafe : Type 0
-RowIsSafe = (image : Image) (script : Script) (t budget k : ℕ) (first : Own) (is : IsChosen image script t budget k first) → first.job.burn ≡ 0 → IsSafeRun image script → IsSafeFor image is.p.stack first budget
+RowIsSafe = (image : Image) (script : Script) (t budget k : ℕ) (first : Own) (is : IsChosen image script t budget k first) → first.job.dispatch_ticks ≡ 0 → IsSafeRun image script → IsSafeFor image is.p.stack first budget
 
 -- m ticks from tick t + n on, to which n ticks have led it on, come to this at once
 pub record IsRowTaken (image : Image) (script : Script) (t k n m : ℕ) (all : Ticked) : Type 0 where

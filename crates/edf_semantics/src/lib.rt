@@ -8,10 +8,10 @@
 //! `specs/Choice.antt` defines the choice, `specs/Run.antt` the machine with it: start events,
 //! instructions and effects are those of `machine_semantics`. The law of `specs/Safe.antt`: in a
 //! run of an image that fits its trees and waits nowhere, no tick is stuck, each process is within
-//! its stack, and those inside monitors are apart. `edf_stretch` has ticks that pass at once.
+//! its stack, and those inside monitors are apart. `batched_ticks` has ticks that pass at once.
 //! Nothing here can run.
 #![tactic(auto)]
 
-pub mod edf;
-pub mod edf_stretch;
+pub mod batched_ticks;
 pub mod example;
+pub mod safety_law;

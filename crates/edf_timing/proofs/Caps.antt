@@ -12,7 +12,7 @@ use Rattle.machine_safety_spec.specs.Work.{worst_of, activation}
 use Rattle.machine_safety_spec.specs.Waits.{IsRanked}
 use Rattle.sched_theorem.specs.Placed.{AreRanks}
 use Rattle.sched_theorem.proofs.Totals.{total_term}
-use Rattle.sched_demand.specs.declared.tasks.DTask.{DTask}
+use Rattle.sched_demand.specs.declared.tasks.DemandTask.{DemandTask}
 use Rattle.sched_demand.specs.Demand.{task_at, AreTasks, due_by, demand_at, IsReach, IsPoint, IsFeasible}
 use Rattle.sched_demand.proofs.Demanding.{sum_is, is_task, sorted, level_of, level_block, due_some}
 use Rattle.edf_timing.specs.InTime.{IsTaskOf, rank_of, AreDemandsOf}
@@ -29,11 +29,11 @@ starts_once r frame low pos = elim (cases_lt 0 (div_ceil r frame)) [
 ]
 
 -- the cost and the block of a task are within the limit
-record IsSmall (t : DTask) : Type 0 where
+record IsSmall (t : DemandTask) : Type 0 where
   cost : t.cost ≤ 1000000000
   block : t.block ≤ 1000000000
 
-small : (ts : List DTask) (reach j : ℕ) → AreTasks ts → IsReach ts reach → IsFeasible ts reach → j < length ts → IsSmall (task_at ts j)
+small : (ts : List DemandTask) (reach j : ℕ) → AreTasks ts → IsReach ts reach → IsFeasible ts reach → j < length ts → IsSmall (task_at ts j)
 small ts reach j are reaches feasible below =
     let x = is_task ts j are below in
     elim (cases_lt reach 1000000000) [
@@ -68,7 +68,7 @@ small ts reach j are reaches feasible below =
     ]
 
 -- the premise with numbers that were not capped
-pub record IsUncapped (e : Where) (ps : ℕ → Parts) (ts : List DTask) (place : ℕ → ℕ) (reach : ℕ) : Type 0 where
+pub record IsUncapped (e : Where) (ps : ℕ → Parts) (ts : List DemandTask) (place : ℕ → ℕ) (reach : ℕ) : Type 0 where
   pub tasks : AreTasks ts
   pub many : length ts ≡ length e.image.processes
   pub task : (k : ℕ) (p : Process) → slice_get e.image.processes k ≡ Some p → IsTaskOf p (task_at ts (p.rank - 1))
@@ -80,7 +80,7 @@ pub record IsUncapped (e : Where) (ps : ℕ → Parts) (ts : List DTask) (place 
   pub reaches : IsReach ts reach
   pub feasible : IsFeasible ts reach
 
-pub uncapped : (e : Where) (ps : ℕ → Parts) (ts : List DTask) (place : ℕ → ℕ) (reach : ℕ) → IsRanked e.image → AreDemandsOf e ps ts place → IsReach ts reach → IsFeasible ts reach → IsUncapped e ps ts place reach
+pub uncapped : (e : Where) (ps : ℕ → Parts) (ts : List DemandTask) (place : ℕ → ℕ) (reach : ℕ) → IsRanked e.image → AreDemandsOf e ps ts place → IsReach ts reach → IsFeasible ts reach → IsUncapped e ps ts place reach
 uncapped e ps ts place reach ranked d reaches feasible = record {
   tasks = d.tasks;
   many = d.many;

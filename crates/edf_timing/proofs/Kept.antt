@@ -61,7 +61,7 @@ thread_empty e t k s None (Some th) at empty calm = empty
 thread_empty e t k s (Some p) None at empty calm = empty
 thread_empty e t k s (Some p) (Some Idle) at empty calm = empty
 thread_empty e t k s (Some p) (Some (Waiting c due number job)) at empty calm = empty
-thread_empty e t k s (Some p) (Some (Ready job)) at empty calm = settle_empty e t k p job s (outcome e.image s job (owned_of (slice_get s.owned k)) job.burn) at empty calm
+thread_empty e t k s (Some p) (Some (Ready job)) at empty calm = settle_empty e t k p job s (outcome e.image s job (owned_of (slice_get s.owned k)) job.dispatch_ticks) at empty calm
 
 picked_empty : (e : Where) (t : ℕ) (s : State) (o : Option Candidate) → AreEmpty s.queues → NobodyWaits (run_picked e.image t s o).state → AreEmpty (run_picked e.image t s o).state.queues
 picked_empty e t s None empty calm = empty
@@ -107,7 +107,7 @@ module _ (e : Where) (ps : ℕ → Parts) (fits : ImageFits e ps) (waitless : Is
       taken : List (List ℕ)
       taken = slice_set s.queues c (without k (queue_of s.queues c))
 
-      by_due : (b : Bool) → AreEmpty (cond b (told u k (act.TimeOut c number) (record s { queues = taken }) (Ready (record (raised p number job) { burn = 2 * e.image.over }))) (unchanged s)).state.queues
+      by_due : (b : Bool) → AreEmpty (cond b (told u k (act.TimeOut c number) (record s { queues = taken }) (Ready (record (raised p number job) { dispatch_ticks = 2 * e.image.over }))) (unchanged s)).state.queues
       by_due true = subst (λ (x : List ℕ). AreEmpty (slice_set s.queues c (without k x))) (sym (empty c)) (set_empty s.queues c empty)
       by_due false = empty
 

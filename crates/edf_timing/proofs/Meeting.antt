@@ -26,7 +26,7 @@ use Rattle.sched_timing.proofs.Spacing.{releases_apart, once}
 use Rattle.sched_timing.proofs.Overruns.{starts_in_time}
 use Rattle.sched_timing.proofs.Told.{release_is_told}
 use Rattle.sched_timing.proofs.Turns.{Turn, passes_pick}
-use Rattle.sched_demand.specs.declared.tasks.DTask.{DTask}
+use Rattle.sched_demand.specs.declared.tasks.DemandTask.{DemandTask}
 use Rattle.sched_demand.specs.Demand.{task_at}
 use Rattle.sched_demand.specs.Activations.{Activation, Starts, Runs, Chooses}
 use Rattle.sched_demand.specs.Earliest as law
@@ -75,7 +75,7 @@ act_some (Some Idle) n left active = absurd (omega arith)
 act_some (Some (Waiting c d number job)) n left active = absurd (omega arith)
 act_some None n left active = absurd (omega arith)
 
-module _ (e : Where) (ps : ℕ → Parts) (image_fits : ImageFits e ps) (waitless : IsWaitless e ps) (ts : List DTask) (place : ℕ → ℕ) (reach : ℕ) (feasible : IsUncapped e ps ts place reach) (script : Script) where
+module _ (e : Where) (ps : ℕ → Parts) (image_fits : ImageFits e ps) (waitless : IsWaitless e ps) (ts : List DemandTask) (place : ℕ → ℕ) (reach : ℕ) (feasible : IsUncapped e ps ts place reach) (script : Script) where
   abbrev at : ℕ → Marked
   at t = state_at e.image script t
 

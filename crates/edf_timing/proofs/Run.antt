@@ -6,7 +6,7 @@ use Rattle.std.proofs.lemmas.List.{length-map}
 use Rattle.base.proofs.Lists.{one_some}
 use Rattle.base.specs.declared.event.Event.{Event}
 use Rattle.syntax_tree.specs.Plain as tree
-use Rattle.syntax_tree.specs.Plain.{Prog}
+use Rattle.syntax_tree.specs.Plain.{Program}
 use Rattle.source_semantics.specs.Names.{processes, monitors}
 use Rattle.source_semantics.specs.Config.{Hold, Config, idle_job, free_hold}
 use Rattle.source_semantics.specs.Config as config
@@ -32,7 +32,7 @@ use Rattle.code_lifting.proofs.Run.{no_queues}
 -- ---- at the start
 
 module _ (w : Whole) (r : Relations) (compiled : IsCompiled w r) where
-  abbrev g : Prog
+  abbrev g : Program
   g = w.program
 
   abbrev holds : List Hold

@@ -5,7 +5,7 @@ use Rattle.std.proofs.lemmas.Bool.{cases_lt}
 use Rattle.std.proofs.lemmas.List.{append-nil}
 use Rattle.base.specs.declared.event.Event.{Event}
 use Rattle.syntax_tree.specs.Plain as tree
-use Rattle.syntax_tree.specs.Plain.{Prog}
+use Rattle.syntax_tree.specs.Plain.{Program}
 use Rattle.source_semantics.specs.Names.{processes}
 use Rattle.source_semantics.specs.Config.{Config}
 use Rattle.source_semantics.specs.Ranks.{by_rank}
@@ -24,7 +24,7 @@ use Rattle.edf_timing.proofs.Phases.{Phase, nothing, device, both, where_so, rel
 use Rattle.code_lifting.proofs.Starts.{periodic_is_due, event_is_due}
 
 module _ (w : Whole) (r : Relations) (compiled : IsCompiled w r) (script : Script) (t : ℕ) (below : t < script.end_tick) where
-  abbrev g : Prog
+  abbrev g : Program
   g = w.program
 
   abbrev Plays : List Item → (State → Started) → Type 0

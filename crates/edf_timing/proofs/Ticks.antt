@@ -110,7 +110,7 @@ module _ (w : Whole) (r : Relations) (compiled : IsCompiled w r) (script : Scrip
   by_job k p job None at_process at_thread at_job same = absurd same
   by_job k p job (Some j) at_process at_thread at_job same = λ free then.
       leads k p at_process job at_thread j at_job same.0 same.1 (text_of w r compiled k p at_process) (run_thread w.image t k s (Some p) (Some (Ready job)))
-      (tick_passes w r compiled script t k p (text_of w r compiled k p at_process) at_process s c now.same queued devices job at_thread j at_job same.0 same.1 same.2 job.burn free) then
+      (tick_passes w r compiled script t k p (text_of w r compiled k p at_process) at_process s c now.same queued devices job at_thread j at_job same.0 same.1 same.2 job.dispatch_ticks free) then
 
   by_thread : (k : ℕ) (p : Option Process) (th : Option Thread) → slice_get w.image.processes k ≡ p → slice_get s.threads k ≡ th → Leads (run_thread w.image t k s p th)
   by_thread k None None at_process at_thread = rests

@@ -10,7 +10,7 @@ use Rattle.machine_safety_spec.specs.Work.{worst_of, activation}
 use Rattle.machine_safety.specs.Example.{cost}
 use Rattle.machine_safety.proofs.Building.{exact, own_fits}
 use Rattle.sched_timing.specs.Timed.{RespectsFrames}
-use Rattle.sched_demand.specs.declared.tasks.DTask.{DTask}
+use Rattle.sched_demand.specs.declared.tasks.DemandTask.{DemandTask}
 use Rattle.sched_demand.specs.Demand.{task_at, IsTask, AreTasks, asked, demand_at, IsReach, IsFeasible, IsJudged}
 use Rattle.edf_semantics.specs.Safe.{IsWaitless}
 use Rattle.edf_semantics.specs.Example.{two}
@@ -152,7 +152,7 @@ tasks = record {
   };
 }
   where
-    ordered : (j k : ℕ) (d : DTask) → j ≤ k → k < 2 → (slice_index_or two_tasks j d).deadline ≤ (slice_index_or two_tasks k d).deadline
+    ordered : (j k : ℕ) (d : DemandTask) → j ≤ k → k < 2 → (slice_index_or two_tasks j d).deadline ≤ (slice_index_or two_tasks k d).deadline
     ordered zero zero d le below = omega arith
     ordered zero (suc zero) d le below = omega arith
     ordered (suc zero) (suc zero) d le below = omega arith

@@ -4,7 +4,7 @@ use Rattle.machine_semantics.specs.Image.{Script}
 use Rattle.machine_safety_spec.specs.Walk.{Where}
 use Rattle.machine_safety_spec.specs.Safe.{Parts, ImageFits}
 use Rattle.machine_safety.specs.Example.{cost, own_part}
-use Rattle.sched_demand.specs.declared.tasks.DTask.{DTask}
+use Rattle.sched_demand.specs.declared.tasks.DemandTask.{DemandTask}
 use Rattle.edf_semantics.specs.Safe.{IsWaitless}
 use Rattle.edf_semantics.specs.Example.{two}
 use Rattle.edf_timing.specs.InTime.{AreDemandsOf, IsJudgedFeasible, MeetsDeadlines}
@@ -20,7 +20,7 @@ body_cost (suc k) = 22
 abbrev pub two_parts : ℕ → Parts
 two_parts k = record { body = own_part 1 0 0; handler = own_part 1 0 0; body_cost = cost (body_cost k) 0 0; handler_cost = cost 0 0 0 }
 
-abbrev pub two_tasks : List DTask
+abbrev pub two_tasks : List DemandTask
 two_tasks = record { frame = 30; deadline = 30; cost = 15; block = 0 } ∷ record { frame = 52; deadline = 52; cost = 26; block = 0 } ∷ []
 
 pub record TwoMeetPremise : Type 0 where

@@ -10,7 +10,7 @@ use Rattle.machine_safety_spec.specs.Work.{worst_of, activation}
 use Rattle.sched_theorem.specs.Placed.{AreRanks}
 use Rattle.sched_timing.specs.Views.{is_due}
 use Rattle.sched_timing.specs.Timed.{RespectsFrames}
-use Rattle.sched_demand.specs.declared.tasks.DTask.{DTask}
+use Rattle.sched_demand.specs.declared.tasks.DemandTask.{DemandTask}
 use Rattle.sched_demand.specs.Demand.{task_at, AreTasks, IsReach, IsJudged}
 use Rattle.sched_demand.specs.declared.judging.Judgement.TheVariants as judgement
 use Rattle.base.specs.Capped.{cap}
@@ -19,7 +19,7 @@ use Rattle.edf_semantics.specs.Run.{tick, state_at, events}
 use Rattle.edf_semantics.specs.Safe.{IsWaitless, rank_at}
 
 -- the task has the frame, the deadline and the cost of the process
-pub record IsTaskOf (p : Process) (t : DTask) : Type 0 where
+pub record IsTaskOf (p : Process) (t : DemandTask) : Type 0 where
   pub frame : t.frame ≡ p.frame
   pub deadline : t.deadline ≡ p.deadline
   pub cost : t.cost ≡ p.run
@@ -31,7 +31,7 @@ rank_of image k = rank_at image k - 1
 -- The premise: the tasks are those of the image in the order of ranks. Its declared costs cover what
 -- an activation takes, and the blocks of the tasks the stays, where numbers above the limit count as
 -- one above it.
-pub record AreDemandsOf (e : Where) (ps : ℕ → Parts) (ts : List DTask) (place : ℕ → ℕ) : Type 0 where
+pub record AreDemandsOf (e : Where) (ps : ℕ → Parts) (ts : List DemandTask) (place : ℕ → ℕ) : Type 0 where
   pub tasks : AreTasks ts
   pub many : length ts ≡ length e.image.processes
   pub task : (k : ℕ) (p : Process) → slice_get e.image.processes k ≡ Some p → IsTaskOf p (task_at ts (p.rank - 1))
@@ -69,11 +69,11 @@ pub record MeetsDeadlines (image : Image) (script : Script) : Type 0 where
   pub log : (k : ℕ) (p : Process) → slice_get image.processes k ≡ Some p → EndsWithin k p.deadline script.end_tick (events image script)
 
 -- what the test says of the tasks, for whatever row has to be tested
-abbrev pub IsJudgedFeasible : List DTask → ℕ → Type 0
+abbrev pub IsJudgedFeasible : List DemandTask → ℕ → Type 0
 IsJudgedFeasible ts count = (reach : ℕ) → IsReach ts reach → IsJudged ts reach (judgement.Feasible count)
 
 -- The law: where the test says that the demand of an image is feasible, each activation of each run
 -- ends by its deadline, whatever the script, as far as it respects the frames.
 abbrev pub EveryRunMeetsDeadlines : Type 0
-EveryRunMeetsDeadlines = (e : Where) (ps : ℕ → Parts) (script : Script) (ts : List DTask) (place : ℕ → ℕ) (count : ℕ) → ImageFits e ps → IsWaitless e ps → AreDemandsOf e ps ts place → IsJudgedFeasible ts count
+EveryRunMeetsDeadlines = (e : Where) (ps : ℕ → Parts) (script : Script) (ts : List DemandTask) (place : ℕ → ℕ) (count : ℕ) → ImageFits e ps → IsWaitless e ps → AreDemandsOf e ps ts place → IsJudgedFeasible ts count
     → RespectsFrames e.image script → script.end_tick ≤ 1000000000 → MeetsDeadlines e.image script

@@ -2,7 +2,7 @@
 use Rattle.std.proofs.Common.{◌≡◌, ◌≢◌, ℕ, ◌+◌, ◌<◌, List, [], length, get_or, Bool, true, false, cond, Option, Some, None, refl, sym, ap, subst, ◌∙◌, arith}
 use Rattle.std.specs.Prelude.{nat_eq, IfSome, IfNone, slice_get, unwrap_or, option_map}
 use Rattle.std.proofs.lemmas.Option.{slice_get_read}
-use Rattle.image.specs.declared.names.DevName.{DevName}
+use Rattle.image.specs.declared.names.DeviceName.{DeviceName}
 use Rattle.std.specs.Borrow.{Bor}
 use Rattle.std.specs.Map.{lookup}
 use Rattle.std.specs.Cmp.Lexicographic.{pointwise}
@@ -49,8 +49,8 @@ is_none o other count name q is number = at o (subst (λ r. IsNumber r count nam
 pub name_at : (xs : List (List ℕ)) (k : ℕ) (x : List ℕ) → k < length xs → x ≡ get_or xs k x → x ≡ unwrap_or (slice_get xs k) []
 name_at xs k x below is = sym (ap (λ o. unwrap_or o []) (slice_get_read xs (length xs) k x refl below is))
 
-pub device_at : (xs : List DevName) (k : ℕ) (x : DevName) → k < length xs → x ≡ get_or xs k x → x.name ≡ unwrap_or (option_map (λ (device : DevName). device.name) (slice_get xs k)) []
-device_at xs k x below is = sym (ap (λ o. unwrap_or (option_map (λ (device : DevName). device.name) o) []) (slice_get_read xs (length xs) k x refl below is))
+pub device_at : (xs : List DeviceName) (k : ℕ) (x : DeviceName) → k < length xs → x ≡ get_or xs k x → x.name ≡ unwrap_or (option_map (λ (device : DeviceName). device.name) (slice_get xs k)) []
+device_at xs k x below is = sym (ap (λ o. unwrap_or (option_map (λ (device : DeviceName). device.name) o) []) (slice_get_read xs (length xs) k x refl below is))
 
 -- names that are the same have the same numbers
 pub numbers_same : (entries : List (Bor (List ℕ) × ℕ)) (count other : ℕ) (name own : ℕ → List ℕ) → count ≡ other → ((k : ℕ) → k < other → name k ≡ own k) → AreNumbers entries count name → AreNumbers entries other own

@@ -6,8 +6,8 @@ use Rattle.std.proofs.lemmas.List.Elements.{All-head, All-tail}
 use Rattle.text_fields.specs.Fields.{IsWord, Lacks, IsCutAt}
 use Rattle.text_fields.proofs.Cuts.{cut_once, cut_lacks}
 use Rattle.image.specs.declared.names.ImageNames.{ImageNames}
-use Rattle.image.specs.declared.names.CondName.{CondName}
-use Rattle.image.specs.declared.names.DevName.{DevName}
+use Rattle.image.specs.declared.names.ConditionName.{ConditionName}
+use Rattle.image.specs.declared.names.DeviceName.{DeviceName}
 use Rattle.event_log.specs.Line.{condition_name, device_name, monitor_name, qualified}
 use Rattle.event_log.specs.Logs.{AreWords}
 
@@ -32,10 +32,10 @@ below_more P k all here i below = at (below_or i k below)
 pub word_at : (xs : List (List ℕ)) (k : ℕ) → k < length xs → All IsWord xs → IsWord (unwrap_or (slice_get xs k) [])
 word_at xs k below words = subst IsWord (sym (unwrap_or-slice_get xs k [])) (words k [] below)
 
-pub device_word : (xs : List DevName) (k : ℕ) → k < length xs → All (λ device. IsWord device.name) xs → IsWord (unwrap_or (option_map (λ (device : DevName). device.name) (slice_get xs k)) [])
+pub device_word : (xs : List DeviceName) (k : ℕ) → k < length xs → All (λ device. IsWord device.name) xs → IsWord (unwrap_or (option_map (λ (device : DeviceName). device.name) (slice_get xs k)) [])
 device_word [] k below words = absurd (omega arith)
-device_word (x ∷ xs) zero below words = All-head (λ (device : DevName). IsWord device.name) x xs words
-device_word (x ∷ xs) (suc k) below words = device_word xs k (omega arith) (All-tail (λ (device : DevName). IsWord device.name) x xs words)
+device_word (x ∷ xs) zero below words = All-head (λ (device : DeviceName). IsWord device.name) x xs words
+device_word (x ∷ xs) (suc k) below words = device_word xs k (omega arith) (All-tail (λ (device : DeviceName). IsWord device.name) x xs words)
 
 -- a condition's name is two words
 pub record IsPair (name : List ℕ) : Type 0 where
@@ -45,17 +45,17 @@ pub record IsPair (name : List ℕ) : Type 0 where
   pub second : IsWord own
   pub text : name ≡ monitor ++ 32 ∷ own
 
-pair_at : (names : ImageNames) (xs : List CondName) (k : ℕ) → k < length xs → All IsWord names.monitors → All (λ condition. IsWord condition.name) xs → All (λ condition. condition.mon < length names.monitors) xs → IsPair (qualified names (slice_get xs k))
+pair_at : (names : ImageNames) (xs : List ConditionName) (k : ℕ) → k < length xs → All IsWord names.monitors → All (λ condition. IsWord condition.name) xs → All (λ condition. condition.mon < length names.monitors) xs → IsPair (qualified names (slice_get xs k))
 pair_at names [] k below monitors words placed = absurd (omega arith)
 pair_at names (x ∷ xs) zero below monitors words placed = record {
   monitor = monitor_name names x.mon;
   own = x.name;
-  first = word_at names.monitors x.mon (All-head (λ (condition : CondName). condition.mon < length names.monitors) x xs placed) monitors;
-  second = All-head (λ (condition : CondName). IsWord condition.name) x xs words;
+  first = word_at names.monitors x.mon (All-head (λ (condition : ConditionName). condition.mon < length names.monitors) x xs placed) monitors;
+  second = All-head (λ (condition : ConditionName). IsWord condition.name) x xs words;
   text = refl;
 }
 pair_at names (x ∷ xs) (suc k) below monitors words placed =
-    pair_at names xs k (omega arith) monitors (All-tail (λ (condition : CondName). IsWord condition.name) x xs words) (All-tail (λ (condition : CondName). condition.mon < length names.monitors) x xs placed)
+    pair_at names xs k (omega arith) monitors (All-tail (λ (condition : ConditionName). IsWord condition.name) x xs words) (All-tail (λ (condition : ConditionName). condition.mon < length names.monitors) x xs placed)
 
 pub condition_pair : (names : ImageNames) (c : ℕ) → AreWords names → c < length names.conditions → IsPair (condition_name names c)
 condition_pair names c words below = pair_at names names.conditions c below words.monitors words.conditions words.placed

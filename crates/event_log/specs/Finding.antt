@@ -3,7 +3,7 @@ use Rattle.std.specs.Prelude.{◌≡◌, ◌≢◌, ◌<◌, ℕ, List, length, 
 use Rattle.std.specs.Borrow.{Bor}
 use Rattle.std.specs.Map.{lookup}
 use Rattle.std.specs.Cmp.Lexicographic.{pointwise}
-use Rattle.event_log.specs.declared.find.Named.{Named}
+use Rattle.event_log.specs.declared.find.NameIndex.{NameIndex}
 use Rattle.event_log.specs.Line.{condition_name, device_name, monitor_name, process_name}
 
 -- the number of a name in a map
@@ -19,7 +19,7 @@ abbrev pub AreNumbers : List (Bor (List ℕ) × ℕ) → ℕ → (ℕ → List �
 AreNumbers entries count name = (q : List ℕ) → IsNumber (number_in entries q) count name q
 
 -- the maps have the numbers of the names
-pub record AreFound (named : Named) : Type 0 where
+pub record AreFound (named : NameIndex) : Type 0 where
   pub processes_found : AreNumbers named.processes.entries (length named.names.now.processes) (process_name named.names.now)
   pub monitors_found : AreNumbers named.monitors.entries (length named.names.now.monitors) (monitor_name named.names.now)
   pub conditions_found : AreNumbers named.conditions.entries (length named.names.now.conditions) (condition_name named.names.now)

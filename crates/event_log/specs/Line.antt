@@ -4,7 +4,7 @@ use Rattle.std.specs.Fmt.{signed_decimal}
 use Rattle.base.specs.declared.event.Event.{Event}
 use Rattle.base.specs.declared.event.Act.{Act}
 use Rattle.base.specs.declared.event.Act.TheVariants as act
-use Rattle.image.specs.declared.names.CondName.{CondName}
+use Rattle.image.specs.declared.names.ConditionName.{ConditionName}
 use Rattle.image.specs.declared.names.ImageNames.{ImageNames}
 
 -- the name of a process, a monitor and a device by its number
@@ -18,7 +18,7 @@ abbrev pub device_name : ImageNames → ℕ → List ℕ
 device_name names d = unwrap_or (option_map (λ device. device.name) (slice_get names.devices d)) []
 
 -- the name of a condition, after its monitor's
-abbrev pub qualified : ImageNames → Option CondName → List ℕ
+abbrev pub qualified : ImageNames → Option ConditionName → List ℕ
 qualified names None = []
 qualified names (Some condition) = monitor_name names condition.mon ++ (codes " " ++ condition.name)
 

@@ -11,7 +11,7 @@ ghost use Rattle.event_log.specs.Finding.{AreFound};
 ghost use Rattle.event_log.specs.Logs.{AreWords};
 ghost use Rattle.event_log.specs.Parts.{ActIsTold, IsSaid, IsUnsaid, act_words};
 
-use crate::find::{Named, find_condition, find_device, find_monitor, find_process};
+use crate::find::{NameIndex, find_condition, find_device, find_monitor, find_process};
 use crate::verb::{Verb, verb_named};
 use base::Act;
 use text_fields::fields_number::signed;
@@ -84,7 +84,7 @@ fn read_truth(word: &[u8]) -> Option<bool>
 }
 
 /// The process that the word names, or nobody where it is a dash.
-fn read_woken(names: &Named<'_, '_>, word: &[u8]) -> Option<Woken>
+fn read_woken(names: &NameIndex<'_, '_>, word: &[u8]) -> Option<Woken>
     requires found { AreFound names.now }
     ensures within { IfSome result (λ woken. WokenIsIn names.now.names.now woken.process) }
     ensures found { IfSome result (λ woken.
@@ -104,7 +104,7 @@ fn read_woken(names: &Named<'_, '_>, word: &[u8]) -> Option<Woken>
 }
 
 /// The device and the value that the bytes spell.
-fn read_transfer(names: &Named<'_, '_>, bytes: &[u8]) -> Option<Transfer>
+fn read_transfer(names: &NameIndex<'_, '_>, bytes: &[u8]) -> Option<Transfer>
     requires words { AreWords names.now.names.now }
     requires found { AreFound names.now }
     ensures within { IfSome result (λ t. t.dev < length names.now.names.now.devices) }
@@ -127,7 +127,7 @@ fn read_transfer(names: &Named<'_, '_>, bytes: &[u8]) -> Option<Transfer>
 }
 
 /// The condition that the bytes name, behind its monitor.
-fn read_condition(names: &Named<'_, '_>, bytes: &[u8]) -> Option<u16>
+fn read_condition(names: &NameIndex<'_, '_>, bytes: &[u8]) -> Option<u16>
     requires words { AreWords names.now.names.now }
     requires found { AreFound names.now }
     ensures within { IfSome result (λ c. c < length names.now.names.now.conditions) }
@@ -147,7 +147,7 @@ fn front_of<'a>(bytes: &'a [u8], first: &[u8], second: &[u8], rest: &[u8]) -> &'
 }
 
 /// The condition that the bytes begin with, and what stands behind it and a space.
-fn read_asked<'a>(names: &Named<'_, '_>, bytes: &'a [u8]) -> Option<Asked<'a>>
+fn read_asked<'a>(names: &NameIndex<'_, '_>, bytes: &'a [u8]) -> Option<Asked<'a>>
     requires words { AreWords names.now.names.now }
     requires found { AreFound names.now }
     ensures within { IfSome result (λ asked. asked.cond < length names.now.names.now.conditions) }
@@ -176,7 +176,7 @@ fn read_asked<'a>(names: &Named<'_, '_>, bytes: &'a [u8]) -> Option<Asked<'a>>
 }
 
 /// The condition and the number that the bytes spell.
-fn read_counted(names: &Named<'_, '_>, bytes: &[u8]) -> Option<Counted>
+fn read_counted(names: &NameIndex<'_, '_>, bytes: &[u8]) -> Option<Counted>
     requires words { AreWords names.now.names.now }
     requires found { AreFound names.now }
     ensures within { IfSome result (λ it. it.cond < length names.now.names.now.conditions) }
@@ -199,7 +199,7 @@ fn read_counted(names: &Named<'_, '_>, bytes: &[u8]) -> Option<Counted>
 }
 
 /// The condition and the process, if any, that the bytes spell.
-fn read_signal(names: &Named<'_, '_>, bytes: &[u8]) -> Option<Signal>
+fn read_signal(names: &NameIndex<'_, '_>, bytes: &[u8]) -> Option<Signal>
     requires words { AreWords names.now.names.now }
     requires found { AreFound names.now }
     ensures within { IfSome result (λ it. it.cond < length names.now.names.now.conditions) }
@@ -227,7 +227,7 @@ fn read_signal(names: &Named<'_, '_>, bytes: &[u8]) -> Option<Signal>
 }
 
 /// The condition and the truth that the bytes spell.
-fn read_empty(names: &Named<'_, '_>, bytes: &[u8]) -> Option<Empty>
+fn read_empty(names: &NameIndex<'_, '_>, bytes: &[u8]) -> Option<Empty>
     requires words { AreWords names.now.names.now }
     requires found { AreFound names.now }
     ensures within { IfSome result (λ it. it.cond < length names.now.names.now.conditions) }
@@ -262,7 +262,7 @@ fn read_bare(verb: Verb) -> Option<Act>
 }
 
 /// The act with this verb and these bytes behind it.
-fn read_args(names: &Named<'_, '_>, verb: Verb, bytes: &[u8]) -> Option<Act>
+fn read_args(names: &NameIndex<'_, '_>, verb: Verb, bytes: &[u8]) -> Option<Act>
     requires words { AreWords names.now.names.now }
     requires found { AreFound names.now }
     ensures found { IfSome result (λ a. IsSaid names.now.names.now verb (Some bytes.now) a) }
@@ -318,7 +318,7 @@ fn read_args(names: &Named<'_, '_>, verb: Verb, bytes: &[u8]) -> Option<Act>
 }
 
 /// The act that the bytes behind a process tell.
-pub fn read_act(names: &Named<'_, '_>, bytes: &[u8]) -> Option<Act>
+pub fn read_act(names: &NameIndex<'_, '_>, bytes: &[u8]) -> Option<Act>
     requires words { AreWords names.now.names.now }
     requires found { AreFound names.now }
     ensures told { IfSome result (λ a. ActIsTold names.now.names.now a) }

@@ -4,22 +4,22 @@ ghost use Rattle.std.specs.Prelude.{◌≡◌, ◌≢◌, ◌<◌, ℕ, length, 
 ghost use Rattle.event_log.specs.Line.{condition_name, device_name, monitor_name, process_name};
 ghost use Rattle.event_log.specs.Finding.{AreFound};
 
-use crate::numbers::{Numbers, find};
+use crate::numbers::{NumbersByName, find};
 use image::ImageNames;
 use text_fields::is_same;
 
 /// Names, and their numbers by name. A condition's name stands behind that of its monitor.
 #[derive(Drop)]
-pub struct Named<'a, 't> {
+pub struct NameIndex<'a, 't> {
     pub names: &'a ImageNames,
-    pub processes: Numbers<'a>,
-    pub monitors: Numbers<'a>,
-    pub conditions: Numbers<'t>,
-    pub devices: Numbers<'a>,
+    pub processes: NumbersByName<'a>,
+    pub monitors: NumbersByName<'a>,
+    pub conditions: NumbersByName<'t>,
+    pub devices: NumbersByName<'a>,
 }
 
 /// The number of the process of this name.
-pub fn find_process(names: &Named<'_, '_>, word: &[u8]) -> Option<u16>
+pub fn find_process(names: &NameIndex<'_, '_>, word: &[u8]) -> Option<u16>
     requires { AreFound names.now }
     ensures within { IfSome result (λ k. k < length names.now.names.now.processes) }
     ensures found { IfSome result (λ k. process_name names.now.names.now k ≡ word.now) }
@@ -31,7 +31,7 @@ pub fn find_process(names: &Named<'_, '_>, word: &[u8]) -> Option<u16>
 
 /// The same, which tries the process of this number first: lines of one process often stand
 /// together.
-pub fn find_near(names: &Named<'_, '_>, word: &[u8], near: u16) -> Option<u16>
+pub fn find_near(names: &NameIndex<'_, '_>, word: &[u8], near: u16) -> Option<u16>
     requires { AreFound names.now }
     ensures within { IfSome result (λ k. k < length names.now.names.now.processes) }
     ensures found { IfSome result (λ k. process_name names.now.names.now k ≡ word.now) }
@@ -47,7 +47,7 @@ pub fn find_near(names: &Named<'_, '_>, word: &[u8], near: u16) -> Option<u16>
 }
 
 /// The number of the monitor of this name.
-pub fn find_monitor(names: &Named<'_, '_>, word: &[u8]) -> Option<u16>
+pub fn find_monitor(names: &NameIndex<'_, '_>, word: &[u8]) -> Option<u16>
     requires { AreFound names.now }
     ensures within { IfSome result (λ m. m < length names.now.names.now.monitors) }
     ensures found { IfSome result (λ m. monitor_name names.now.names.now m ≡ word.now) }
@@ -58,7 +58,7 @@ pub fn find_monitor(names: &Named<'_, '_>, word: &[u8]) -> Option<u16>
 }
 
 /// The number of the condition of this name, which stands behind that of its monitor.
-pub fn find_condition(names: &Named<'_, '_>, word: &[u8]) -> Option<u16>
+pub fn find_condition(names: &NameIndex<'_, '_>, word: &[u8]) -> Option<u16>
     requires { AreFound names.now }
     ensures within { IfSome result (λ c. c < length names.now.names.now.conditions) }
     ensures found { IfSome result (λ c. condition_name names.now.names.now c ≡ word.now) }
@@ -69,7 +69,7 @@ pub fn find_condition(names: &Named<'_, '_>, word: &[u8]) -> Option<u16>
 }
 
 /// The number of the device of this name.
-pub fn find_device(names: &Named<'_, '_>, word: &[u8]) -> Option<u16>
+pub fn find_device(names: &NameIndex<'_, '_>, word: &[u8]) -> Option<u16>
     requires { AreFound names.now }
     ensures within { IfSome result (λ d. d < length names.now.names.now.devices) }
     ensures found { IfSome result (λ d. device_name names.now.names.now d ≡ word.now) }

@@ -12,14 +12,14 @@ mod fault;
 mod find;
 mod line;
 mod lines;
-mod log_reading;
 mod numbers;
+mod one_log_law;
 mod read;
 mod verb;
 mod words;
 
 pub use fault::LogFault;
-pub use lines::{Line, write_line};
-pub use log_reading::one_log;
+pub use lines::{LineBuffer, write_line};
+pub use one_log_law::one_log;
 pub use read::read_log;
 pub use words::are_words;

@@ -6,7 +6,7 @@ ghost use Rattle.event_log.specs.Finding.{AreFound};
 ghost use Rattle.event_log.specs.Logs.{AreWords, Tells};
 
 use crate::act::read_act;
-use crate::find::{Named, find_near};
+use crate::find::{NameIndex, find_near};
 use base::Event;
 use text_fields::{cut_at, unsigned};
 
@@ -15,7 +15,7 @@ const LAST_TICK: u64 = 999_999_999;
 
 /// The event that a line tells, which is given without its LF; None where it tells none. The
 /// process of the number is tried first.
-pub fn read_line(line: &[u8], names: &Named<'_, '_>, near: u16) -> Option<Event>
+pub fn read_line(line: &[u8], names: &NameIndex<'_, '_>, near: u16) -> Option<Event>
     requires words { AreWords names.now.names.now }
     requires found { AreFound names.now }
     ensures found { IfSome result (λ event. Tells names.now.names.now line.now event) }

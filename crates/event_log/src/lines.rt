@@ -14,7 +14,7 @@ ghost use Rattle.event_log.specs.Line.{act_text, condition_name, device_name, li
 
 use arrayvec::ArrayVec;
 use base::{Act, Event};
-use image::{CondName, ImageNames};
+use image::{ConditionName, ImageNames};
 use itoa::Buffer;
 use std::marker::Model;
 
@@ -23,12 +23,12 @@ type Text = ArrayVec<u8, 320>;
 
 /// Room for a line, and for the digits of its numbers. It is seen as the line.
 #[derive(Drop)]
-pub struct Line {
+pub struct LineBuffer {
     text: Text,
     digits: Buffer,
 }
 
-impl Model for Line {
+impl Model for LineBuffer {
     ghost use Rattle.std.specs.Prelude.{List, ℕ};
 
     ghost Value = { List ℕ };
@@ -67,7 +67,7 @@ fn device_of(names: &ImageNames, number: u16) -> &[u8]
 }
 
 /// A condition, which is told by the name of its monitor and its own.
-fn condition_of(names: &ImageNames, number: u16) -> &CondName
+fn condition_of(names: &ImageNames, number: u16) -> &ConditionName
     requires sound { AreSound names.now }
     requires condition { number < length names.now.conditions }
     ensures name { condition_name names.now number ≡ qualified names.now (Some result.now) }
@@ -261,12 +261,12 @@ fn write(text: &mut Text, digits: &mut Buffer, names: &ImageNames, event: &Event
     add_act(text, digits, names, event.act);
 }
 
-impl Line {
+impl LineBuffer {
     /// Room for a line; none is written yet.
-    pub fn new() -> Line
+    pub fn new() -> LineBuffer
         ensures { result ≡ [] }
     {
-        Line {
+        LineBuffer {
             text: Text::new(),
             digits: Buffer::new(),
         }
@@ -283,7 +283,7 @@ impl Line {
 /// Makes the line that of an event in the log, with its LF: at most 273 bytes. The numbers of the
 /// event are in range of the names, which have at most 63 bytes, and its tick is below
 /// 1,000,000,000. It takes no memory.
-pub fn write_line(line: &mut Line, names: &ImageNames, event: &Event)
+pub fn write_line(line: &mut LineBuffer, names: &ImageNames, event: &Event)
     requires { AreIn names.now event.now }
     ensures text { line.new ≡ line_of names.now event.now }
     ensures short { length line.new ≤ 273 }

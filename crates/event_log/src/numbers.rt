@@ -5,28 +5,28 @@ ghost use Rattle.event_log.specs.Line.{condition_name, device_name, monitor_name
 ghost use Rattle.event_log.specs.Logs.{AreFew, AreWords};
 ghost use Rattle.event_log.specs.Finding.{AreNumbers, number_in};
 
-use image::{CondName, ImageNames};
+use image::{ConditionName, ImageNames};
 use indexmap::IndexMap;
 use std::alloc::{AllocError, Global};
 use syntax_tree::{List, Name};
 
 /// Numbers by name.
-pub type Numbers<'a> = IndexMap<&'a [u8], u16>;
+pub type NumbersByName<'a> = IndexMap<&'a [u8], u16>;
 
 /// The number of a name.
-pub fn find(numbers: &Numbers<'_>, name: &[u8]) -> Option<u16>
+pub fn find(numbers: &NumbersByName<'_>, name: &[u8]) -> Option<u16>
     ensures { result ≡ number_in numbers.now.entries name.now }
 {
     numbers.get(name).copied()
 }
 
 /// The numbers of these names; of two that are the same, that of the later.
-pub fn numbers_of<'a>(alloc: Global, list: &'a [Name]) -> Result<Numbers<'a>, AllocError>
+pub fn numbers_of<'a>(alloc: Global, list: &'a [Name]) -> Result<NumbersByName<'a>, AllocError>
     requires { length list.now ≤ 2 ^ 16 }
     ensures { IfOk result (λ numbers.
         AreNumbers numbers.entries (length list.now) (λ k. unwrap_or (slice_get list.now k) [])) }
 {
-    let mut numbers = Numbers::new(alloc);
+    let mut numbers = NumbersByName::new(alloc);
     for (k, name) in list.iter().enumerate() {
         numbers.insert(name.as_bytes(), k as u16)?;
     }
@@ -34,13 +34,16 @@ pub fn numbers_of<'a>(alloc: Global, list: &'a [Name]) -> Result<Numbers<'a>, Al
 }
 
 /// The numbers of the devices.
-pub fn device_numbers<'a>(alloc: Global, names: &'a ImageNames) -> Result<Numbers<'a>, AllocError>
+pub fn device_numbers<'a>(
+    alloc: Global,
+    names: &'a ImageNames,
+) -> Result<NumbersByName<'a>, AllocError>
     requires { length names.now.devices ≤ 2 ^ 16 }
     ensures { IfOk result (λ numbers.
         AreNumbers numbers.entries (length names.now.devices) (device_name names.now)) }
 {
     let devices = names.devices.as_slice();
-    let mut numbers = Numbers::new(alloc);
+    let mut numbers = NumbersByName::new(alloc);
     for (k, device) in devices.iter().enumerate() {
         numbers.insert(device.name.as_bytes(), k as u16)?;
     }

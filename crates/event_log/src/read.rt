@@ -6,7 +6,7 @@ ghost use Rattle.event_log.specs.Finding.{AreFound};
 ghost use Rattle.event_log.specs.Logs.{AreFew, AreWords, IsFault, IsLog, longest_text};
 
 use crate::fault::LogFault;
-use crate::find::Named;
+use crate::find::NameIndex;
 use crate::line::read_line;
 use crate::numbers::{device_numbers, numbers_of, qualified_names};
 use crate::words::are_words;
@@ -20,7 +20,11 @@ use text_fields::cut_at;
 const LONGEST_TEXT: usize = 67_108_864;
 
 /// Reads a text that is not too long, line by line.
-fn read_lines(alloc: Global, text: &[u8], names: &Named<'_, '_>) -> Result<List<Event>, LogFault>
+fn read_lines(
+    alloc: Global,
+    text: &[u8],
+    names: &NameIndex<'_, '_>,
+) -> Result<List<Event>, LogFault>
     requires short { length text.now ≤ longest_text }
     requires words { AreWords names.now.names.now }
     requires found { AreFound names.now }
@@ -72,7 +76,7 @@ pub fn read_log(alloc: Global, text: &[u8], names: &ImageNames) -> Result<List<E
         return Err(LogFault::Line(1));
     }
     let texts = qualified_names(alloc, names)?;
-    let named = Named {
+    let named = NameIndex {
         names,
         processes: numbers_of(alloc, names.processes.as_slice())?,
         monitors: numbers_of(alloc, names.monitors.as_slice())?,

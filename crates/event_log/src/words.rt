@@ -4,7 +4,7 @@ ghost use Rattle.std.specs.Prelude.{◌≡◌, ◌<◌, true, false, length, All
 ghost use Rattle.text_fields.specs.Fields.{IsWord};
 ghost use Rattle.event_log.specs.Logs.{AreWords};
 
-use image::{CondName, DevName, ImageNames};
+use image::{ConditionName, DeviceName, ImageNames};
 use syntax_tree::Name;
 use text_fields::{cut_at, is_word};
 
@@ -33,7 +33,7 @@ fn are_names(list: &[Name]) -> bool
 }
 
 /// Whether the names of all the conditions are words.
-fn are_conditions(list: &[CondName]) -> bool
+fn are_conditions(list: &[ConditionName]) -> bool
     ensures yes { result ≡ true → All (λ condition. IsWord condition.name) list.now }
     ensures no { result ≡ false → ¬ All (λ condition. IsWord condition.name) list.now }
 {
@@ -46,7 +46,7 @@ fn are_conditions(list: &[CondName]) -> bool
 }
 
 /// Whether all the conditions stand in one of so many monitors.
-fn are_placed(list: &[CondName], monitors: usize) -> bool
+fn are_placed(list: &[ConditionName], monitors: usize) -> bool
     ensures yes { result ≡ true → All (λ condition. condition.mon < monitors) list.now }
     ensures no { result ≡ false → ¬ All (λ condition. condition.mon < monitors) list.now }
 {
@@ -59,7 +59,7 @@ fn are_placed(list: &[CondName], monitors: usize) -> bool
 }
 
 /// Whether the names of all the devices are words.
-fn are_devices(list: &[DevName]) -> bool
+fn are_devices(list: &[DeviceName]) -> bool
     ensures yes { result ≡ true → All (λ device. IsWord device.name) list.now }
     ensures no { result ≡ false → ¬ All (λ device. IsWord device.name) list.now }
 {

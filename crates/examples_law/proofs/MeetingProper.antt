@@ -3,7 +3,7 @@ use Rattle.std.proofs.Common.{◌≡◌, ◌⊎◌, inl, inr, ℕ, zero, suc, Li
 use Rattle.std.specs.Prelude.{slice_get, bytes_eq, cond, codes, option_map}
 use Rattle.std.proofs.lemmas.Bool.{cases_Bool}
 use Rattle.base.proofs.Lists.{one_some}
-use Rattle.syntax_tree.specs.Plain.{Name, Prog}
+use Rattle.syntax_tree.specs.Plain.{Name, Program}
 use Rattle.syntax_tree.specs.Plain as tree
 use Rattle.source_semantics.specs.Names.{named, processes, monitors, routine_count}
 use Rattle.source_semantics.specs.Run.{routine_named}

@@ -2,7 +2,7 @@
 use Rattle.std.proofs.Common.{◌≡◌, ◌<◌, ℕ, zero, suc, [], ◌∷◌, Some, None, arith, refl, ap, sym, subst, ◌∙◌, true, false}
 use Rattle.std.specs.Prelude.{All, Contains, Bool, codes, slice_get, is_some, unwrap_or}
 use Rattle.std.proofs.lemmas.List.Elements.{All-nil}
-use Rattle.syntax_tree.specs.Plain.{Name, Monitor, Process, Decl, constant, device, event, routine, monitor, process, Prog}
+use Rattle.syntax_tree.specs.Plain.{Name, Monitor, Process, Declaration, constant, device, event, routine, monitor, process, Program}
 use Rattle.static_declarations.specs.declared.sort.Sort.TheVariants as sort_is
 use Rattle.source_semantics.specs.Run.{Found, of_monitor, routine_named}
 use Rattle.source_semantics.specs.Nesting.{Levels}
@@ -27,13 +27,13 @@ of_one : (P : ℕ → Monitor → Type 0) (m : Monitor) → P 0 m → (k : ℕ) 
 of_one P m is zero n found = subst (P 0) (ap (λ o. unwrap_or o m) found) is
 of_one P m is (suc k) n found = let b : false ≡ true = ap is_some found in absurd cc
 
-no_levels : (g : Prog) (p : Process) → ((f : Name) (r : Found) → routine_named g p f ≡ Some r → ⊥) → (level : Name → ℕ) × Levels g p level
+no_levels : (g : Program) (p : Process) → ((f : Name) (r : Found) → routine_named g p f ≡ Some r → ⊥) → (level : Name → ℕ) × Levels g p level
 no_levels g p none = (λ f. 0, record { body = λ f r found. absurd (none f r found); answers = λ f r found. absurd (none f r found); few = λ f r found. absurd (none f r found) })
 
 is_none_found : (f : Name) (r : Found) → None ≡ Some r → ⊥
 is_none_found f r e = let b : false ≡ true = ap is_some e in absurd cc
 
-abbrev is_event : Decl → Bool
+abbrev is_event : Declaration → Bool
 is_event (constant n c) = false
 is_event (device n is_out) = false
 is_event (event n) = true
@@ -41,7 +41,7 @@ is_event (routine r) = false
 is_event (monitor m) = false
 is_event (process p) = false
 
-no_event_in_two : (d1 d2 : Decl) (e : Name) → Contains (d1 ∷ d2 ∷ []) (event e) → is_event d1 ≡ false → is_event d2 ≡ false → ⊥
+no_event_in_two : (d1 d2 : Declaration) (e : Name) → Contains (d1 ∷ d2 ∷ []) (event e) → is_event d1 ≡ false → is_event d2 ≡ false → ⊥
 no_event_in_two d1 d2 e (zero, below, is) first second = let b : false ≡ true = sym first ∙ ap is_event is in absurd cc
 no_event_in_two d1 d2 e (suc zero, below, is) first second = let b : false ≡ true = sym second ∙ ap is_event is in absurd cc
 no_event_in_two d1 d2 e (suc (suc k), below, is) first second = absurd (omega arith)
@@ -74,10 +74,10 @@ one_put_fits = record {
 }
 
 -- the body of the one process, which stands behind a declaration
-body_of : (g : Prog) (p : Process) → processes g ≡ p ∷ [] → IsWellFormed g → AllFit (in_process g p) p.body
+body_of : (g : Program) (p : Process) → processes g ≡ p ∷ [] → IsWellFormed g → AllFit (in_process g p) p.body
 body_of g p is fits = (subst (All (ProcessFits g)) is fits.processes_fit 0 p (omega arith)).body
 
-abbrev way_of : Decl → Bool
+abbrev way_of : Declaration → Bool
 way_of (device n is_out) = is_out
 way_of (constant n c) = false
 way_of (event n) = false
@@ -85,7 +85,7 @@ way_of (routine r) = false
 way_of (monitor m) = false
 way_of (process p) = false
 
-no_out_in_two : (d1 d2 : Decl) (n : Name) → Contains (d1 ∷ d2 ∷ []) (device n true) → way_of d1 ≡ false → way_of d2 ≡ false → ⊥
+no_out_in_two : (d1 d2 : Declaration) (n : Name) → Contains (d1 ∷ d2 ∷ []) (device n true) → way_of d1 ≡ false → way_of d2 ≡ false → ⊥
 no_out_in_two d1 d2 n (zero, below, is) first second = let b : false ≡ true = sym first ∙ ap way_of is in absurd cc
 no_out_in_two d1 d2 n (suc zero, below, is) first second = let b : false ≡ true = sym second ∙ ap way_of is in absurd cc
 no_out_in_two d1 d2 n (suc (suc k), below, is) first second = absurd (omega arith)
@@ -130,7 +130,7 @@ handled_range_fits = record {
   };
 }
 
-no_event_in_four : (d1 d2 d3 d4 : Decl) (e : Name) → Contains (d1 ∷ d2 ∷ d3 ∷ d4 ∷ []) (event e) → is_event d1 ≡ false → is_event d2 ≡ false → is_event d3 ≡ false → is_event d4 ≡ false → ⊥
+no_event_in_four : (d1 d2 d3 d4 : Declaration) (e : Name) → Contains (d1 ∷ d2 ∷ d3 ∷ d4 ∷ []) (event e) → is_event d1 ≡ false → is_event d2 ≡ false → is_event d3 ≡ false → is_event d4 ≡ false → ⊥
 no_event_in_four d1 d2 d3 d4 e (zero, below, is) first second third fourth = let b : false ≡ true = sym first ∙ ap is_event is in absurd cc
 no_event_in_four d1 d2 d3 d4 e (suc zero, below, is) first second third fourth = let b : false ≡ true = sym second ∙ ap is_event is in absurd cc
 no_event_in_four d1 d2 d3 d4 e (suc (suc zero), below, is) first second third fourth = let b : false ≡ true = sym third ∙ ap is_event is in absurd cc

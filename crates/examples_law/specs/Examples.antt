@@ -1,12 +1,12 @@
 -- Programs that are not well formed, and some that are.
 use Rattle.std.specs.Prelude.{ℕ, Bool, false, true, [], ◌∷◌, Some, None, codes}
-use Rattle.syntax_tree.specs.Plain.{Prog, Process, Stmt, Decl, device, process, periodic, literal_constant, literal, variable, loop, put, perform, no_exprs, stmts, no_stmts}
+use Rattle.syntax_tree.specs.Plain.{Program, Process, Stmt, Declaration, device, process, periodic, literal_constant, literal, variable, loop, put, perform, no_exprs, stmts, no_stmts}
 
-abbrev pub valve : Bool → Decl
+abbrev pub valve : Bool → Declaration
 valve is_out = device (codes "valve") is_out
 
 -- one process of one statement
-abbrev pub doing : Decl → Stmt → Prog
+abbrev pub doing : Declaration → Stmt → Program
 doing d s = record {
   name = codes "a";
   decls =
@@ -15,13 +15,13 @@ doing d s = record {
       ∷ [];
 }
 
-abbrev pub put_inwards : Prog
+abbrev pub put_inwards : Program
 put_inwards = doing (valve false) (put (codes "valve") (literal 7))
 
-abbrev pub undeclared : Prog
+abbrev pub undeclared : Program
 undeclared = doing (valve true) (put (codes "valve") (variable (codes "x")))
 
-abbrev pub endless : Prog
+abbrev pub endless : Program
 endless = doing (valve true) (loop (codes "i") (literal_constant false 2147483647) (literal_constant false 2147483647) no_stmts)
 
 -- a process with a procedure that calls itself
@@ -35,7 +35,7 @@ circle = record {
   handler = None;
 }
 
-abbrev pub circular : Prog
+abbrev pub circular : Program
 circular = record { name = codes "a"; decls = process circle ∷ [] }
 
 -- a process that is released each 100 ticks and has to end within so many
@@ -49,5 +49,5 @@ due_in deadline = record {
   handler = None;
 }
 
-abbrev pub hurrying : ℕ → Prog
+abbrev pub hurrying : ℕ → Program
 hurrying deadline = record { name = codes "a"; decls = valve true ∷ process (due_in deadline) ∷ [] }

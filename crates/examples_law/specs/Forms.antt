@@ -1,6 +1,6 @@
 -- A program with the forms that the mine pump has not, and its code, written by hand.
 use Rattle.std.specs.Prelude.{◌≡◌, true, false, List, [], ◌∷◌, Some, None, codes, map, pos}
-use Rattle.syntax_tree.specs.Plain.{literal_constant, int, boolean, subrange, scalar, array, less, equal, variable, literal, truth, call, row, no_exprs, exprs, no_operands, operand, part, assign_empty, perform, perform_entry, when_else, loop, exit_when, signal, except, assert, no_stmts, stmts, variable_member, condition_member, periodic, routine, monitor, process, Prog}
+use Rattle.syntax_tree.specs.Plain.{literal_constant, int, boolean, subrange, scalar, array, less, equal, variable, literal, truth, call, row, no_exprs, exprs, no_operands, operand, part, assign_empty, perform, perform_entry, when_else, loop, exit_when, signal, except, assert, no_stmts, stmts, variable_member, condition_member, periodic, routine, monitor, process, Program}
 use Rattle.machine_isa.specs.declared.instr.Instr.{Instr}
 use Rattle.machine_isa.specs.declared.instr.Instr.TheVariants as i
 use Rattle.machine_semantics.specs.Trees.{Segs, Line, Fork, Rep, Call, Stay, Exit, Nil, Cons}
@@ -11,7 +11,7 @@ use Rattle.codegen_spec.specs.Parts.{program_made}
 -- monitor m: var n : array 2 .. 4 of boolean, condition c; procedure e = n(3) := empty c; signal c
 -- process p: var b : int; procedure idle =; for k : 1 .. 2 do exit when lim(k) = b; if b < 2 then
 -- assert true else except 7; m.e; idle
-abbrev pub forms : Prog
+abbrev pub forms : Program
 forms = record {
   name = codes "forms";
   decls =

@@ -1,6 +1,6 @@
 -- That what is made of a program is the code of an image, with its addresses and trees.
 use Rattle.std.specs.Prelude.{◌≡◌, ℕ, Option, Some, None, map, option_map}
-use Rattle.syntax_tree.specs.Plain.{Prog}
+use Rattle.syntax_tree.specs.Plain.{Program}
 use Rattle.machine_semantics.specs.Image.{Image}
 use Rattle.image_format.specs.View.{views}
 use Rattle.codegen_spec.specs.declared.code.Part.{Part}
@@ -11,7 +11,7 @@ abbrev pub handler_start : Option Part → ℕ
 handler_start None = 0
 handler_start (Some h) = h.start
 
-pub record IsMadeAs (g : Prog) (m : Image) : Type 0 where
+pub record IsMadeAs (g : Program) (m : Image) : Type 0 where
   pub code : (program_made g).instrs ≡ m.code
   pub starts : map (λ p. p.start) (program_made g).routines ≡ map (λ r. r.start) m.routines
   pub trees : map (λ p. views p.tree) (program_made g).routines ≡ map (λ r. r.tree) m.routines

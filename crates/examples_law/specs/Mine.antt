@@ -1,12 +1,12 @@
 -- A mine pump: its text, and its image as far as the text decides it.
 use Rattle.std.specs.Prelude.{true, false, List, [], ◌∷◌, Some, None, pos, codes}
-use Rattle.syntax_tree.specs.Plain.{literal_constant, int, boolean, subrange, scalar, array, add, less, variable, literal, truth, element, negation, row, no_exprs, exprs, no_operands, operand, whole, part, assign, assign_entry, perform_entry, when, loop, get, put, wait, broadcast, Stmts, no_stmts, stmts, variable_member, condition_member, periodic, at_event, device, event, monitor, process, Prog}
+use Rattle.syntax_tree.specs.Plain.{literal_constant, int, boolean, subrange, scalar, array, add, less, variable, literal, truth, element, negation, row, no_exprs, exprs, no_operands, operand, whole, part, assign, assign_entry, perform_entry, when, loop, get, put, wait, broadcast, Stmts, no_stmts, stmts, variable_member, condition_member, periodic, at_event, device, event, monitor, process, Program}
 use Rattle.machine_isa.specs.declared.instr.Instr.{Instr}
 use Rattle.machine_isa.specs.declared.instr.Instr.TheVariants as i
 use Rattle.machine_semantics.specs.Trees.{Line, Fork, Rep, Call, Stay, Wait, Nil, Cons}
 use Rattle.machine_semantics.specs.Image.{Image}
 
-abbrev pub mine : Prog
+abbrev pub mine : Program
 mine = record {
   name = codes "mine";
   decls =

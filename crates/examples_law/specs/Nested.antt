@@ -1,11 +1,11 @@
 -- Routines that stand before those that they call.
 use Rattle.std.specs.Prelude.{◌≡◌, ℕ, List, [], ◌∷◌, Some, None, false, map, codes}
-use Rattle.syntax_tree.specs.Plain.{Name, literal_constant, int, add, remainder, variable, literal, call, row, no_exprs, exprs, no_operands, operand, whole, assign, assign_entry, perform, perform_entry, put, Stmts, no_stmts, stmts, periodic, device, routine, monitor, process, Prog}
+use Rattle.syntax_tree.specs.Plain.{Name, literal_constant, int, add, remainder, variable, literal, call, row, no_exprs, exprs, no_operands, operand, whole, assign, assign_entry, perform, perform_entry, put, Stmts, no_stmts, stmts, periodic, device, routine, monitor, process, Program}
 use Rattle.code_spec.specs.Numbering.{numbered}
 
 -- show calls limit and then twice in one expression, limit calls twice; the monitor's entry calls
 -- limit; the process's own calls them all
-abbrev pub nested : Prog
+abbrev pub nested : Program
 nested = record {
   name = codes "nested";
   decls =

@@ -8,7 +8,7 @@ use Rattle.syntax.specs.declared.token.Tokens.{Tokens}
 use Rattle.syntax.specs.Faults.{Faulty}
 use Rattle.syntax.specs.Lex.{HasOneList, HasTokensOrFault, HasOneFault}
 use Rattle.syntax.specs.Tokens.{tokens, IsEnd}
-use Rattle.syntax_parser.specs.declared.fault.SynFault.TheVariants as syn
+use Rattle.syntax_parser.specs.declared.fault.SyntaxFault.TheVariants as syn
 use Rattle.syntax_parser.specs.Faults.{OpensAt, StopsAt}
 use Rattle.front_end.specs.declared.fault.SourceFault.{SourceFault}
 use Rattle.front_end.specs.declared.fault.SourceFault.TheVariants.{Fault}

@@ -10,8 +10,8 @@ use Rattle.syntax.specs.declared.token.Tokens.{Tokens}
 use Rattle.syntax.specs.Lex.{HasOneList, HasTokensOrFault}
 use Rattle.syntax.specs.Tokens.{tokens, IsEnd}
 use Rattle.syntax.specs.Grammar.{tree}
-use Rattle.syntax_parser.specs.declared.fault.SynFault.{SynFault}
-use Rattle.syntax_parser.specs.declared.fault.SynFault.TheVariants as syn
+use Rattle.syntax_parser.specs.declared.fault.SyntaxFault.{SyntaxFault}
+use Rattle.syntax_parser.specs.declared.fault.SyntaxFault.TheVariants as syn
 use Rattle.syntax_parser.specs.Faults.{OpensAt, StopsAt}
 use Rattle.front_end.specs.declared.fault.SourceFault.{SourceFault}
 use Rattle.front_end.specs.declared.fault.SourceFault.TheVariants.{Memory}
@@ -24,34 +24,34 @@ pub only_lexical : {X : Type 0} (r : Result X SourceFault) (P : X → Type 0) (f
 only_lexical (Ok x) P fault made memory = absurd made
 only_lexical (Err e) P fault made memory = made ∙ ap lexical memory
 
-pub only_syntactic : {X : Type 0} (r : Result X SourceFault) (P : X → Type 0) (fault : SynFault) → IsErrAnd r (λ made. made ≡ syntactic fault) → fault ≡ syn.Memory → MatchResult r P (λ f. f ≡ Memory)
+pub only_syntactic : {X : Type 0} (r : Result X SourceFault) (P : X → Type 0) (fault : SyntaxFault) → IsErrAnd r (λ made. made ≡ syntactic fault) → fault ≡ syn.Memory → MatchResult r P (λ f. f ≡ Memory)
 only_syntactic (Ok x) P fault made memory = absurd made
 only_syntactic (Err e) P fault made memory = made ∙ ap syntactic memory
 
 -- what the parser says of the place of its fault
-pub stands_as : {X : Type 0} (text : List ℕ) (toks : Tokens) (fault : SynFault)
-    → ((p : Place) → ◌≡◌ {A = Result X SynFault} (Err fault) (Err (syn.Syntax p)) → StopsAt text toks p)
-    → ((p : Place) → ◌≡◌ {A = Result X SynFault} (Err fault) (Err (syn.Nesting p)) → OpensAt text toks.list p)
-    → ((p : Place) → OpensAt text toks.list p → ◌≡◌ {A = Result X SynFault} (Err fault) (Err (syn.Nesting p)) ⊎ ◌≡◌ {A = Result X SynFault} (Err fault) (Err syn.Memory))
+pub stands_as : {X : Type 0} (text : List ℕ) (toks : Tokens) (fault : SyntaxFault)
+    → ((p : Place) → ◌≡◌ {A = Result X SyntaxFault} (Err fault) (Err (syn.Syntax p)) → StopsAt text toks p)
+    → ((p : Place) → ◌≡◌ {A = Result X SyntaxFault} (Err fault) (Err (syn.Nesting p)) → OpensAt text toks.list p)
+    → ((p : Place) → OpensAt text toks.list p → ◌≡◌ {A = Result X SyntaxFault} (Err fault) (Err (syn.Nesting p)) ⊎ ◌≡◌ {A = Result X SyntaxFault} (Err fault) (Err syn.Memory))
     → Stands text toks fault
 stands_as {X} text toks (syn.Syntax place) stops nesting deep = (stops place refl, λ p opens. by p (deep p opens))
   where
-    by : (p : Place) → ◌≡◌ {A = Result X SynFault} (Err (syn.Syntax place)) (Err (syn.Nesting p)) ⊎ ◌≡◌ {A = Result X SynFault} (Err (syn.Syntax place)) (Err syn.Memory) → ⊥
+    by : (p : Place) → ◌≡◌ {A = Result X SyntaxFault} (Err (syn.Syntax place)) (Err (syn.Nesting p)) ⊎ ◌≡◌ {A = Result X SyntaxFault} (Err (syn.Syntax place)) (Err syn.Memory) → ⊥
     by p (inl e) = cc
     by p (inr e) = cc
 stands_as text toks (syn.Nesting place) stops nesting deep = nesting place refl
 stands_as text toks syn.Memory stops nesting deep = tt
 
 -- the parser's fault is the text's
-parser_fault : (text : List ℕ) (toks : Tokens) (fault : SynFault) → tokens text toks.list → IsEnd text toks.end → ((g : Prog Place) → tree text toks.list g → fault ≡ syn.Memory)
+parser_fault : (text : List ℕ) (toks : Tokens) (fault : SyntaxFault) → tokens text toks.list → IsEnd text toks.end → ((g : Prog Place) → tree text toks.list g → fault ≡ syn.Memory)
     → Stands text toks fault → IsSourceFaultOf text (syntactic fault)
 parser_fault text toks (syn.Syntax p) listed end only stands =
-    no_program refl (record { toks = toks; listed = listed; end = end; none = λ g grown. let e : ◌≡◌ {A = SynFault} (syn.Syntax p) syn.Memory = only g grown in cc; stands = stands })
+    no_program refl (record { toks = toks; listed = listed; end = end; none = λ g grown. let e : ◌≡◌ {A = SyntaxFault} (syn.Syntax p) syn.Memory = only g grown in cc; stands = stands })
 parser_fault text toks (syn.Nesting p) listed end only stands =
-    too_deep refl (record { toks = toks; listed = listed; end = end; none = λ g grown. let e : ◌≡◌ {A = SynFault} (syn.Nesting p) syn.Memory = only g grown in cc; stands = stands })
+    too_deep refl (record { toks = toks; listed = listed; end = end; none = λ g grown. let e : ◌≡◌ {A = SyntaxFault} (syn.Nesting p) syn.Memory = only g grown in cc; stands = stands })
 parser_fault text toks syn.Memory listed end only stands = tt
 
-pub syntactic_fault : {X : Type 0} (r : Result X SourceFault) (text : List ℕ) (toks : Tokens) (fault : SynFault) → IsErrAnd r (λ made. made ≡ syntactic fault) → tokens text toks.list → IsEnd text toks.end
+pub syntactic_fault : {X : Type 0} (r : Result X SourceFault) (text : List ℕ) (toks : Tokens) (fault : SyntaxFault) → IsErrAnd r (λ made. made ≡ syntactic fault) → tokens text toks.list → IsEnd text toks.end
     → ((g : Prog Place) → tree text toks.list g → fault ≡ syn.Memory) → Stands text toks fault → IfErr r (λ f. IsSourceFaultOf text f)
 syntactic_fault (Ok x) text toks fault made listed end only stands = tt
 syntactic_fault (Err e) text toks fault made listed end only stands = subst (IsSourceFaultOf text) (sym made) (parser_fault text toks fault listed end only stands)
@@ -68,7 +68,7 @@ pub one_tree : HasOneList → ((text : List ℕ) (toks : List Token) (g h : Prog
 one_tree one_list one text g h first second =
     one text first.toks g h first.grown (subst (λ toks. tree text toks h) (one_list text second.toks first.toks second.listed first.listed) second.grown)
 
-no_tree : HasOneList → (text : List ℕ) (g : Prog Place) (fault : SynFault) → IsTreeOf text g → HasNoTree text fault → ⊥
+no_tree : HasOneList → (text : List ℕ) (g : Prog Place) (fault : SyntaxFault) → IsTreeOf text g → HasNoTree text fault → ⊥
 no_tree one_list text g fault is none = none.none g (subst (λ toks. tree text toks g) (one_list text is.toks none.toks.list is.listed none.listed) is.grown)
 
 pub tree_or_fault : HasOneList → HasTokensOrFault → HasTreeOrFault

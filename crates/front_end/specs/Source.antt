@@ -9,8 +9,8 @@ use Rattle.syntax.specs.declared.token.Tokens.{Tokens}
 use Rattle.syntax.specs.Faults.{Faulty}
 use Rattle.syntax.specs.Tokens.{tokens, IsEnd}
 use Rattle.syntax.specs.Grammar.{tree}
-use Rattle.syntax_parser.specs.declared.fault.SynFault.{SynFault}
-use Rattle.syntax_parser.specs.declared.fault.SynFault.TheVariants as syn
+use Rattle.syntax_parser.specs.declared.fault.SyntaxFault.{SyntaxFault}
+use Rattle.syntax_parser.specs.declared.fault.SyntaxFault.TheVariants as syn
 use Rattle.syntax_parser.specs.Faults.{OpensAt, StopsAt}
 use Rattle.front_end.specs.declared.fault.SourceFault.{SourceFault}
 use Rattle.front_end.specs.declared.fault.SourceFault.TheVariants.{Fault, Memory}
@@ -24,13 +24,13 @@ pub record IsTreeOf (text : List ℕ) (g : Prog Place) : Type 0 where
 -- a fault of nesting stands at the token that opens level 65; there is another only where no token
 -- does, and it stands at the token with which the tokens read no longer begin a program, or at the
 -- text's end
-abbrev pub Stands : List ℕ → Tokens → SynFault → Type 0
+abbrev pub Stands : List ℕ → Tokens → SyntaxFault → Type 0
 Stands text toks (syn.Syntax place) = StopsAt text toks place × ((p : Place) → ¬ OpensAt text toks.list p)
 Stands text toks (syn.Nesting place) = OpensAt text toks.list place
 Stands text toks syn.Memory = Unit {0}
 
 -- the text has tokens, they have no tree, and this is what the parser says of them
-pub record HasNoTree (text : List ℕ) (fault : SynFault) : Type 0 where
+pub record HasNoTree (text : List ℕ) (fault : SyntaxFault) : Type 0 where
   pub toks : Tokens
   pub listed : tokens text toks.list
   pub end : IsEnd text toks.end
@@ -68,7 +68,7 @@ lexical (lex.Ident line col) = Fault 3 (record { line = line; col = col })
 lexical lex.Long = Fault 4 start
 lexical lex.Memory = Memory
 
-abbrev pub syntactic : SynFault → SourceFault
+abbrev pub syntactic : SyntaxFault → SourceFault
 syntactic (syn.Syntax place) = Fault 10 place
 syntactic (syn.Nesting place) = Fault 11 place
 syntactic syn.Memory = Memory

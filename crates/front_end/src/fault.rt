@@ -2,7 +2,7 @@
 
 use static_rule::rule;
 use syntax::LexFault;
-use syntax_parser::SynFault;
+use syntax_parser::SyntaxFault;
 use syntax_tree::Place;
 use thiserror::Error;
 
@@ -51,23 +51,23 @@ impl From<LexFault> for SourceFault {
     }
 }
 
-impl From<SynFault> for SourceFault {
+impl From<SyntaxFault> for SourceFault {
     ghost use Rattle.std.specs.Prelude.{◌≡◌};
     ghost use Rattle.front_end.specs.Source.{syntactic};
 
     ghost from_gives = { λ fault made. made ≡ syntactic fault };
 
-    fn from(fault: SynFault) -> Self {
+    fn from(fault: SyntaxFault) -> Self {
         match fault {
-            SynFault::Syntax(place) => SourceFault::Fault {
+            SyntaxFault::Syntax(place) => SourceFault::Fault {
                 number: rule::SYNTAX,
                 place,
             },
-            SynFault::Nesting(place) => SourceFault::Fault {
+            SyntaxFault::Nesting(place) => SourceFault::Fault {
                 number: rule::NESTING,
                 place,
             },
-            SynFault::Memory => SourceFault::Memory,
+            SyntaxFault::Memory => SourceFault::Memory,
         }
     }
 }

@@ -9,13 +9,13 @@
 #![tactic(auto)]
 
 mod fault;
+mod one_fault_law;
+mod one_program_law;
 mod program;
-mod program_law;
-mod program_laws;
 mod source;
 
 pub use fault::SourceFault;
+pub use one_fault_law::one_fault;
+pub use one_program_law::{one_program, one_tree, program_or_fault};
 pub use program::read;
-pub use program_law::{one_program, one_tree, program_or_fault};
-pub use program_laws::one_fault;
 pub use source::read_tree;

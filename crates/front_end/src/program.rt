@@ -6,7 +6,7 @@ ghost use Rattle.syntax_tree.specs.declared.place.Place.{Place as SpecPlace};
 ghost use Rattle.front_end.specs.Program.{IsProgramOf, IsFaultOf, nominal, regular};
 
 use crate::fault::SourceFault;
-use crate::program_law::{one_tree, program_or_fault};
+use crate::one_program_law::{one_tree, program_or_fault};
 use crate::source::read_tree;
 use static_names::{NameFault, name};
 use static_semantics::{Checked, RuleFault, check};

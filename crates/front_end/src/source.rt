@@ -9,7 +9,7 @@ use crate::fault::SourceFault;
 use std::alloc::Global;
 use syntax::{lex, one_list};
 use syntax_parser::parse;
-use syntax_tree::Prog;
+use syntax_tree::Program;
 
 /// The tree of a text.
 ///
@@ -19,7 +19,7 @@ use syntax_tree::Prog;
 /// of an earlier group comes first: the length (4), then bytes, literals and identifiers (1, 2, 3),
 /// then the grammar and its nesting (10, 11). `Memory` where there is not enough memory for the
 /// tokens or the tree.
-pub fn read_tree(alloc: Global, text: &[u8]) -> Result<Prog, SourceFault>
+pub fn read_tree(alloc: Global, text: &[u8]) -> Result<Program, SourceFault>
     // What is read is the tree of the text.
     ensures found { IfOk result (λ g. IsTreeOf text.now (placed g)) }
     // A tree of the text is read, unless memory runs out.

@@ -1,7 +1,7 @@
 //! What a command puts.
 
 use command::rte;
-use outside::{MemSink, RealFiles};
+use outside::{MemorySink, RealFiles};
 use std::alloc::{AllocError, Global};
 use std::{fs, io};
 
@@ -26,7 +26,7 @@ pub fn of_rte<R: std::rt::Files + AllocGlobal>(
     let alloc = rt.alloc();
     let words = words_of(alloc, words)?;
     let mut files = RealFiles::new(alloc, rt);
-    let mut out = MemSink::new(alloc, ROOM, Vec::new(alloc))?;
+    let mut out = MemorySink::new(alloc, ROOM, Vec::new(alloc))?;
     *status = rte(alloc, words.as_slice(), &mut files, &mut out).code();
     Ok(String::from_utf8_lossy(alloc, out.bytes())?)
 }

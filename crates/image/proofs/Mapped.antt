@@ -2,7 +2,7 @@
 use Rattle.std.proofs.Common.{◌≡◌, ◌<◌, ◌+◌, ◌++◌, ℕ, List, [], ◌∷◌, All, length, map, take, drop, get_or, sym, ◌∙◌, ap, subst, append_assoc}
 use Rattle.std.specs.List.{flat_map}
 use Rattle.std.proofs.lemmas.List.{get_or-map, drop_more, take_more, map-append, flat_map_more, length-map}
-use Rattle.image.specs.declared.raw.RawProc.{RawProc}
+use Rattle.image.specs.declared.raw.RawProcess.{RawProcess}
 use Rattle.image.specs.Bytes.{Second, process_bytes, processes_bytes}
 use Rattle.image.specs.Raw.{process_of}
 
@@ -21,7 +21,7 @@ one_more f bytes xs i x start out new within is so_far put =
     put ∙ ap (λ (ys : List ℕ). ys ++ bytes (f x)) so_far ∙ flat_map_more bytes start (map f (take i xs)) (f x) ∙ ap (λ ys. start ++ flat_map bytes ys) (sym mapped)
 
 -- the bytes of one more process, where the rest is still to be put
-pub one_process_more : (names : List (List ℕ)) (ps : List RawProc) (i : ℕ) (name : List ℕ) (p : RawProc) (all out new : List ℕ) → i < length names → i < length ps
+pub one_process_more : (names : List (List ℕ)) (ps : List RawProcess) (i : ℕ) (name : List ℕ) (p : RawProcess) (all out new : List ℕ) → i < length names → i < length ps
     → name ≡ get_or names i name → p ≡ get_or ps i p → out ++ processes_bytes Second (drop i names) (map process_of (drop i ps)) ≡ all → new ≡ out ++ process_bytes Second name (process_of p)
     → new ++ processes_bytes Second (drop (i + 1) names) (map process_of (drop (i + 1) ps)) ≡ all
 one_process_more names ps i name p all out new named within name-is p-is so_far put =

@@ -5,8 +5,8 @@ use Rattle.std.specs.List.{flat_map}
 use Rattle.machine_isa.specs.Bytes.{instr_bytes}
 use Rattle.machine_semantics.specs.Image.{Image, Monitor, Routine, Process}
 use Rattle.machine_semantics.specs.Trees.{Segs}
-use Rattle.image.specs.declared.names.CondName.{CondName}
-use Rattle.image.specs.declared.names.DevName.{DevName}
+use Rattle.image.specs.declared.names.ConditionName.{ConditionName}
+use Rattle.image.specs.declared.names.DeviceName.{DeviceName}
 use Rattle.image.specs.declared.names.EventName.{EventName}
 use Rattle.image.specs.declared.names.ImageNames.{ImageNames}
 use Rattle.image.specs.Named.{NamedImage}
@@ -34,7 +34,7 @@ abbrev pub head_bytes : Version → NamedImage → List ℕ
 head_bytes version named = codes "RTEU" ++ (version_bytes version named.image.over ++ (counts_bytes named.names named.image ++ name_bytes named.program))
 
 -- a device: its name, and 1 where it is an out device
-abbrev pub device_bytes : DevName → List ℕ
+abbrev pub device_bytes : DeviceName → List ℕ
 device_bytes d = name_bytes d.name ++ flag d.out
 
 -- an event: its name
@@ -42,7 +42,7 @@ abbrev pub event_bytes : EventName → List ℕ
 event_bytes e = name_bytes e.name
 
 -- a condition: its name, and the number of its monitor
-abbrev pub condition_bytes : CondName → List ℕ
+abbrev pub condition_bytes : ConditionName → List ℕ
 condition_bytes c = name_bytes c.name ++ u16 c.mon
 
 -- a monitor: its name, where its words begin and how many they are, and its ceiling

@@ -4,7 +4,7 @@ use Rattle.machine_isa.specs.declared.instr.Instr.{Instr}
 use Rattle.machine_isa.specs.declared.instr.Instr.TheVariants as i
 use Rattle.machine_semantics.specs.Image.{Process}
 use Rattle.machine_semantics.specs.Trees.{Segs, Line, Fork, Rep, Call, Stay, Wait, Exit, Nil, Cons}
-use Rattle.image.specs.declared.names.DevName.{DevName}
+use Rattle.image.specs.declared.names.DeviceName.{DeviceName}
 use Rattle.image.specs.Named.{NamedImage}
 
 -- a periodic process alone, which puts to its devices
@@ -32,7 +32,7 @@ alone frame cost stack body = record {
 }
 
 -- a program a of one process p, with these devices
-abbrev pub program_a : List DevName → Process → List Instr → NamedImage
+abbrev pub program_a : List DeviceName → Process → List Instr → NamedImage
 program_a devices process code = record {
   program = 97 ∷ [];
   names = record { processes = (112 ∷ []) ∷ []; monitors = []; conditions = []; devices = devices; events = [] };

@@ -1,14 +1,14 @@
 -- What an image as it stands in a file means: the image that the machine runs, and its names.
 use Rattle.std.specs.Prelude.{map}
-use Rattle.image.specs.declared.raw.RawMon.{RawMon}
+use Rattle.image.specs.declared.raw.RawMonitor.{RawMonitor}
 use Rattle.image.specs.declared.raw.RawRoutine.{RawRoutine}
-use Rattle.image.specs.declared.raw.RawProc.{RawProc}
+use Rattle.image.specs.declared.raw.RawProcess.{RawProcess}
 use Rattle.image.specs.declared.raw.RawImage.{RawImage}
 use Rattle.image.specs.Named.{NamedImage}
 use Rattle.machine_semantics.specs.Image.{Image, Monitor, Routine, Process}
 
 -- a monitor, as the machine knows it
-abbrev pub monitor_of : RawMon → Monitor
+abbrev pub monitor_of : RawMonitor → Monitor
 monitor_of m = record { base = m.base; words = m.words; ceiling = m.ceiling }
 
 -- a routine, likewise
@@ -28,7 +28,7 @@ routine_of r = record {
 }
 
 -- a process, likewise
-abbrev pub process_of : RawProc → Process
+abbrev pub process_of : RawProcess → Process
 process_of p = record {
   kind = p.kind;
   frame = p.frame;

@@ -7,10 +7,10 @@ ghost use Rattle.image.specs.InRange.{AreCounted, AreNamed, IsInRange, IsProcess
 ghost use Rattle.image.specs.Raw.{image_of, monitor_of, named_of, process_of, routine_of};
 ghost use Rattle.machine_isa.specs.Bytes.{instr_bytes};
 
-use crate::names::{CondName, DevName, EventName};
+use crate::names::{ConditionName, DeviceName, EventName};
 use crate::numbers::put_name;
 use crate::parts::{put_condition, put_device, put_event, put_monitor, put_process, put_routine};
-use crate::raw::{RawImage, RawMon, RawProc, RawRoutine};
+use crate::raw::{RawImage, RawMonitor, RawProcess, RawRoutine};
 use image_format::{put_u16, put_u32};
 use machine_isa::{Instr, write_instr};
 use std::alloc::{AllocError, Global};
@@ -56,7 +56,7 @@ fn put_head(out: &mut Vec<u8>, image: &RawImage) -> Result<(), AllocError>
 }
 
 /// Puts the devices.
-fn put_devices(out: &mut Vec<u8>, devices: &[DevName]) -> Result<(), AllocError>
+fn put_devices(out: &mut Vec<u8>, devices: &[DeviceName]) -> Result<(), AllocError>
     requires { All (λ d. IsShort d.name) devices.now }
     ensures { OnOk result (out.new.items ≡ out.old.items ++ flat_map device_bytes devices.now) }
 {
@@ -78,7 +78,7 @@ fn put_events(out: &mut Vec<u8>, events: &[EventName]) -> Result<(), AllocError>
 }
 
 /// Puts the conditions.
-fn put_conditions(out: &mut Vec<u8>, conditions: &[CondName]) -> Result<(), AllocError>
+fn put_conditions(out: &mut Vec<u8>, conditions: &[ConditionName]) -> Result<(), AllocError>
     requires { All (λ c. IsShort c.name) conditions.now }
     ensures { OnOk result (out.new.items ≡ out.old.items ++
         flat_map condition_bytes conditions.now) }
@@ -90,7 +90,11 @@ fn put_conditions(out: &mut Vec<u8>, conditions: &[CondName]) -> Result<(), Allo
 }
 
 /// Puts each monitor after its name.
-fn put_monitors(out: &mut Vec<u8>, names: &[Name], monitors: &[RawMon]) -> Result<(), AllocError>
+fn put_monitors(
+    out: &mut Vec<u8>,
+    names: &[Name],
+    monitors: &[RawMonitor],
+) -> Result<(), AllocError>
     requires each { length names.now ≡ length monitors.now }
     requires short { All IsShort names.now }
     ensures { OnOk result (out.new.items ≡ out.old.items ++
@@ -114,7 +118,11 @@ fn put_routines(out: &mut Vec<u8>, routines: &[RawRoutine]) -> Result<(), AllocE
 }
 
 /// Puts each process after its name.
-fn put_processes(out: &mut Vec<u8>, names: &[Name], processes: &[RawProc]) -> Result<(), AllocError>
+fn put_processes(
+    out: &mut Vec<u8>,
+    names: &[Name],
+    processes: &[RawProcess],
+) -> Result<(), AllocError>
     requires each { length names.now ≡ length processes.now }
     requires short { All IsShort names.now }
     requires in_range { All IsProcessInRange (map process_of processes.now) }

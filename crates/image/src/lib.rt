@@ -3,17 +3,17 @@
 //! `specs/Raw.antt` says what an image is to the machine: the names of its parts, its declared
 //! numbers and its code; `specs/Bytes.antt` which bytes it has. `write_image` gives exactly these
 //! of every image whose counts fit their fields. The bytes of two images are spelled out in
-//! `image_law`.
+//! `known_images`.
 #![tactic(auto)]
 
 mod image;
-mod image_law;
+mod known_images;
 mod names;
 mod numbers;
 mod parts;
 mod raw;
 
 pub use image::write_image;
-pub use image_law::{a_put, a_tree, an_empty_program};
-pub use names::{CondName, DevName, EventName, ImageNames};
-pub use raw::{RawImage, RawMon, RawProc, RawRoutine};
+pub use known_images::{a_put, a_tree, an_empty_program};
+pub use names::{ConditionName, DeviceName, EventName, ImageNames};
+pub use raw::{RawImage, RawMonitor, RawProcess, RawRoutine};

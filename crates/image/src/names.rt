@@ -4,14 +4,14 @@ use syntax_tree::{List, Name};
 
 /// A condition, with the number of its monitor.
 #[derive(Debug, Drop)]
-pub struct CondName {
+pub struct ConditionName {
     pub name: Name,
     pub mon: u16,
 }
 
 /// A device, with its direction.
 #[derive(Debug, Drop)]
-pub struct DevName {
+pub struct DeviceName {
     pub name: Name,
     pub out: bool,
 }
@@ -29,7 +29,7 @@ pub struct EventName {
 pub struct ImageNames {
     pub processes: List<Name>,
     pub monitors: List<Name>,
-    pub conditions: List<CondName>,
-    pub devices: List<DevName>,
+    pub conditions: List<ConditionName>,
+    pub devices: List<DeviceName>,
     pub events: List<EventName>,
 }

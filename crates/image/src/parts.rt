@@ -6,15 +6,15 @@ ghost use Rattle.image.specs.InRange.{IsProcessInRange, IsShort};
 ghost use Rattle.image.specs.Raw.{monitor_of, process_of, routine_of};
 ghost use Rattle.image_format.specs.TreeBytes.{tree_bytes};
 
-use crate::names::{CondName, DevName, EventName};
+use crate::names::{ConditionName, DeviceName, EventName};
 use crate::numbers::{put_flag, put_name};
-use crate::raw::{RawMon, RawProc, RawRoutine};
+use crate::raw::{RawMonitor, RawProcess, RawRoutine};
 use image_format::{SegTree, put_u8, put_u16, put_u32};
 use std::alloc::AllocError;
 use syntax_tree::Name;
 
 /// Puts a device.
-pub fn put_device(out: &mut Vec<u8>, device: &DevName) -> Result<(), AllocError>
+pub fn put_device(out: &mut Vec<u8>, device: &DeviceName) -> Result<(), AllocError>
     requires { IsShort device.now.name }
     ensures { OnOk result (out.new.items ≡ out.old.items ++ device_bytes device.now) }
 {
@@ -33,7 +33,7 @@ pub fn put_event(out: &mut Vec<u8>, event: &EventName) -> Result<(), AllocError>
 }
 
 /// Puts a condition.
-pub fn put_condition(out: &mut Vec<u8>, condition: &CondName) -> Result<(), AllocError>
+pub fn put_condition(out: &mut Vec<u8>, condition: &ConditionName) -> Result<(), AllocError>
     requires { IsShort condition.now.name }
     ensures { OnOk result (out.new.items ≡ out.old.items ++ condition_bytes condition.now) }
 {
@@ -43,7 +43,7 @@ pub fn put_condition(out: &mut Vec<u8>, condition: &CondName) -> Result<(), Allo
 }
 
 /// Puts a monitor after its name.
-pub fn put_monitor(out: &mut Vec<u8>, name: &Name, monitor: &RawMon) -> Result<(), AllocError>
+pub fn put_monitor(out: &mut Vec<u8>, name: &Name, monitor: &RawMonitor) -> Result<(), AllocError>
     requires { IsShort name.now }
     ensures { OnOk result (out.new.items ≡ out.old.items ++
         monitor_bytes name.now (monitor_of monitor.now)) }
@@ -99,7 +99,7 @@ pub fn put_routine(out: &mut Vec<u8>, routine: &RawRoutine) -> Result<(), AllocE
 }
 
 /// Puts when a process is released, within what it has to end, and its rank.
-fn put_release(out: &mut Vec<u8>, process: &RawProc) -> Result<(), AllocError>
+fn put_release(out: &mut Vec<u8>, process: &RawProcess) -> Result<(), AllocError>
     ensures { OnOk result (out.new.items ≡ out.old.items ++
         release_bytes Second (process_of process.now)) }
 {
@@ -113,7 +113,7 @@ fn put_release(out: &mut Vec<u8>, process: &RawProc) -> Result<(), AllocError>
 }
 
 /// Puts what a process takes of time.
-fn put_time(out: &mut Vec<u8>, process: &RawProc) -> Result<(), AllocError>
+fn put_time(out: &mut Vec<u8>, process: &RawProcess) -> Result<(), AllocError>
     ensures { OnOk result (out.new.items ≡ out.old.items ++ time_bytes (process_of process.now)) }
 {
     put_u32(out, process.run)?;
@@ -125,7 +125,7 @@ fn put_time(out: &mut Vec<u8>, process: &RawProc) -> Result<(), AllocError>
 }
 
 /// Puts what a process takes of memory, and where its code stands.
-fn put_room(out: &mut Vec<u8>, process: &RawProc) -> Result<(), AllocError>
+fn put_room(out: &mut Vec<u8>, process: &RawProcess) -> Result<(), AllocError>
     ensures { OnOk result (out.new.items ≡ out.old.items ++ room_bytes (process_of process.now)) }
 {
     put_u32(out, process.words)?;
@@ -149,7 +149,7 @@ fn put_numbers(out: &mut Vec<u8>, numbers: &[u16]) -> Result<(), AllocError>
 }
 
 /// Puts the tree of the handler of a process that has one.
-fn put_handler(out: &mut Vec<u8>, process: &RawProc) -> Result<(), AllocError>
+fn put_handler(out: &mut Vec<u8>, process: &RawProcess) -> Result<(), AllocError>
     ensures { OnOk result (out.new.items ≡ out.old.items ++
         handler_bytes process.now.numbers (process_of process.now).handler_tree) }
 {
@@ -161,7 +161,7 @@ fn put_handler(out: &mut Vec<u8>, process: &RawProc) -> Result<(), AllocError>
 }
 
 /// Puts a process after its name.
-pub fn put_process(out: &mut Vec<u8>, name: &Name, process: &RawProc) -> Result<(), AllocError>
+pub fn put_process(out: &mut Vec<u8>, name: &Name, process: &RawProcess) -> Result<(), AllocError>
     requires named { IsShort name.now }
     requires in_range { IsProcessInRange (process_of process.now) }
     ensures { OnOk result (out.new.items ≡ out.old.items ++

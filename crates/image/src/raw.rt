@@ -10,7 +10,7 @@ use syntax_tree::{List, Name};
 /// A monitor: its words are those from `base` on, in the one area of all monitors. The ceiling is
 /// the highest rank that enters it, or 65535 where no process does.
 #[derive(Debug, Drop)]
-pub struct RawMon {
+pub struct RawMonitor {
     pub base: u32,
     pub words: u32,
     pub ceiling: u16,
@@ -40,7 +40,7 @@ pub struct RawRoutine {
 /// words; `start` and `handler` are addresses; `numbers` are those that its handler takes, and
 /// `handler_tree` is there exactly where these are.
 #[derive(Debug, Drop)]
-pub struct RawProc {
+pub struct RawProcess {
     pub kind: u8,
     pub frame: u32,
     pub deadline: u32,
@@ -69,9 +69,9 @@ pub struct RawImage {
     pub overhead: u16,
     pub program: Name,
     pub names: ImageNames,
-    pub monitors: List<RawMon>,
+    pub monitors: List<RawMonitor>,
     pub routines: List<RawRoutine>,
-    pub processes: List<RawProc>,
+    pub processes: List<RawProcess>,
     pub code: List<Instr>,
 }
 

@@ -4,7 +4,7 @@ use Rattle.std.specs.Prelude.{slice_get}
 use Rattle.std.specs.Result.{is_ok}
 use Rattle.std.proofs.lemmas.Bool.{cases_lt}
 use Rattle.std.proofs.lemmas.List.{drop_all}
-use Rattle.image_format.specs.declared.fault.Fault.{Fault}
+use Rattle.image_format.specs.declared.fault.ByteFault.{ByteFault}
 use Rattle.image_format.specs.Format.{Format, Read}
 use Rattle.image_bytes.specs.Places.{AreAt}
 
@@ -56,7 +56,7 @@ module _ {A : Type 0} (f : Format A) (bytes places : List ℕ) (xs : List A) (nu
   is_place = omega (arith, lt, as_many f bytes places xs are)
 
   -- which is within the bytes
-  pub is_within : (e : Fault) → f.read [] ≡ Err e → (at : ℕ) → slice_get places number ≡ Some at → at ≤ length bytes
+  pub is_within : (e : ByteFault) → f.read [] ≡ Err e → (at : ℕ) → slice_get places number ≡ Some at → at ≤ length bytes
   is_within e none at is = by (cases_lt (length bytes) at) where
     by : (length bytes < at) ⊎ (at ≤ length bytes) → at ≤ length bytes
     by (inl past) =
@@ -76,7 +76,7 @@ module _ {A : Type 0} (f : Format A) (bytes places : List ℕ) (xs : List A) (nu
       x.there ∙ ap (λ z. Some z) (same_thing x.thing y x.rest rest (f.read (drop x.at bytes)) x.is_read other)
 
   -- and reading does not fail
-  pub no_fault : (left : List ℕ) (e : Fault) → ((at : ℕ) → slice_get places number ≡ Some at → left ≡ drop at bytes) → f.read left ≡ Err e → ⊥
+  pub no_fault : (left : List ℕ) (e : ByteFault) → ((at : ℕ) → slice_get places number ≡ Some at → left ≡ drop at bytes) → f.read left ≡ Err e → ⊥
   no_fault left e here read =
       let x = found f bytes places xs number are lt in
       let other : f.read (drop x.at bytes) ≡ Err e = ap (λ (bytes : List ℕ). f.read bytes) (sym (here x.at x.place)) ∙ read in

@@ -1,13 +1,13 @@
 -- What follows of the fields that are read first, where all are read.
 use Rattle.std.proofs.Common.{◌≡◌, ◌-◌, ◌<◌, ℕ, suc, Bool, true, false, List, length, Result, Ok, Err, Option, Some, None, refl, sym, ap, ◌∙◌, subst, arith}
 use Rattle.std.specs.Result.{is_ok}
-use Rattle.image_format.specs.declared.fault.Fault.{Fault}
+use Rattle.image_format.specs.declared.fault.ByteFault.{ByteFault}
 use Rattle.image_format.specs.Format.{◌>>=◌, Format, Read, both}
 use Rattle.machine_semantics.specs.Trees.{Segs, Nil}
 use Rattle.image_bytes.specs.Fields.{Numbered, five_fields, handler_tree_fields, numbers_fields, owner_fields, process_fields, process_with, release_fields, routine_fields, routine_with, tree_fields, trees_fields}
 use Rattle.image_bytes.specs.Standing.{IsRead, read_or}
 
-well : {A B : Type 0} (r : Result A Fault) (g : A → B) → is_ok (r >>= λ x. Ok (g x)) ≡ true → is_ok r ≡ true
+well : {A B : Type 0} (r : Result A ByteFault) (g : A → B) → is_ok (r >>= λ x. Ok (g x)) ≡ true → is_ok r ≡ true
 well (Ok x) g h = refl
 well (Err e) g h = h
 
@@ -108,7 +108,7 @@ module _ (count : ℕ) (trees : List ℕ) (body : Segs) (after : List ℕ) (some
   handler_read : is_ok ((trees_fields count).read trees) ≡ true → is_ok ((handler_tree_fields (suc (count - 1))).read after) ≡ true
   handler_read h = later tree_fields (λ body. handler_tree_fields (suc (count - 1))) trees body after first (subst (λ n. is_ok ((trees_fields n).read trees) ≡ true) is_more h)
 
-  pub handler_there : (e : Fault) → tree_fields.read after ≡ Err e → is_ok ((trees_fields count).read trees) ≡ true → ⊥
+  pub handler_there : (e : ByteFault) → tree_fields.read after ≡ Err e → is_ok ((trees_fields count).read trees) ≡ true → ⊥
   handler_there e second h =
       let bad : false ≡ true = sym (ap (λ r. is_ok (some_read r)) second) ∙ handler_read h in
       cc

@@ -1,7 +1,7 @@
 -- Reading numbers one after the other, as a loop does that keeps only what is left.
 use Rattle.std.proofs.Common.{◌≡◌, ℕ, zero, suc, ◌-◌, ◌+◌, ◌≤◌, ◌<◌, List, [], ◌∷◌, length, true, false, Result, Ok, Err, refl, sym, ap, ◌∙◌, arith}
 use Rattle.std.specs.Result.{is_ok}
-use Rattle.image_format.specs.declared.fault.Fault.{Fault}
+use Rattle.image_format.specs.declared.fault.ByteFault.{ByteFault}
 use Rattle.image_format.specs.Format.{◌>>=◌, Read, u16}
 use Rattle.image_format.specs.Rows.{left_of}
 use Rattle.image_bytes.specs.Fields.{numbers_read}
@@ -16,7 +16,7 @@ more n (Ok x) = refl
 more n (Err e) = refl
 
 -- one more number was read
-pub goes_on : (count i : ℕ) (bytes : List ℕ) (n : ℕ) (after : List ℕ) (total : Result (List ℕ) Fault) → i < count → u16.read bytes ≡ Ok (n, after)
+pub goes_on : (count i : ℕ) (bytes : List ℕ) (n : ℕ) (after : List ℕ) (total : Result (List ℕ) ByteFault) → i < count → u16.read bytes ≡ Ok (n, after)
     → left_of (numbers_read (count - i) bytes) ≡ total → left_of (numbers_read (count - (i + 1)) after) ≡ total
 unfolding numbers_read
 goes_on count i bytes n after total lt h so_far =
@@ -24,7 +24,7 @@ goes_on count i bytes n after total lt h so_far =
     let one : left_of (numbers_read (count - i) bytes) ≡ left_of (numbers_read (count - (i + 1)) after) = rw (k, h) (more n (numbers_read (count - (i + 1)) after)) in
     sym one ∙ so_far
 
-broken : (r : Read (List ℕ)) (e : Fault) → left_of r ≡ Err e → r ≡ Err e
+broken : (r : Read (List ℕ)) (e : ByteFault) → left_of r ≡ Err e → r ≡ Err e
 broken (Ok x) e h = absurd cc
 broken (Err f) e h = cc
 
@@ -35,7 +35,7 @@ whole (Ok x) rest h = ap (λ (bytes : List ℕ). Ok (x.0, bytes)) (inner x.1 res
 whole (Err f) rest h = absurd cc
 
 -- the next one has a fault
-pub fails : (e : Fault) (count i : ℕ) (bytes : List ℕ) (total : Read (List ℕ)) → i < count → u16.read bytes ≡ Err e
+pub fails : (e : ByteFault) (count i : ℕ) (bytes : List ℕ) (total : Read (List ℕ)) → i < count → u16.read bytes ≡ Err e
     → left_of (numbers_read (count - i) bytes) ≡ left_of total → total ≡ Err e
 unfolding numbers_read
 fails e count i bytes total lt h so_far =
@@ -72,7 +72,7 @@ splits count bytes n after pos h well =
     record { rest_read = parts.0; numbers = ap (read_or []) one ∙ parts.1 }
 
 -- a first number with a fault is none
-pub never : (e : Fault) (count : ℕ) (bytes : List ℕ) → 0 < count → u16.read bytes ≡ Err e → is_ok (numbers_read count bytes) ≡ true → ⊥
+pub never : (e : ByteFault) (count : ℕ) (bytes : List ℕ) → 0 < count → u16.read bytes ≡ Err e → is_ok (numbers_read count bytes) ≡ true → ⊥
 unfolding numbers_read
 never e count bytes pos h well =
     let k : count ≡ suc (count - 1) = omega arith in

@@ -9,7 +9,7 @@ use Rattle.image.specs.declared.raw.RawImage.{RawImage}
 use Rattle.image_bytes.specs.Fields.{process_fields, routine_fields}
 use Rattle.image_bytes.specs.Standing.{read_or}
 use Rattle.image_bytes.specs.Places.{AreAt, AreInstrs, AreOf, instrs_at, things_at}
-use Rattle.image_bytes.specs.declared.places.Places.{Places}
+use Rattle.image_bytes.specs.declared.places.PartOffsets.{PartOffsets}
 use Rattle.image_reader.specs.Grammar.{monitor_format, or_end}
 use Rattle.machine_semantics.specs.Image.{Monitor, Process, Routine}
 use Rattle.machine_isa.specs.declared.instr.Instr.{Instr}
@@ -30,7 +30,7 @@ same_code bytes at (i ∷ is) are =
     ap (λ j. j ∷ instrs_at bytes (at + 13) (length is)) (ap (λ (xs : List ℕ). or_end (named_by xs)) are.0 ∙ ap or_end (named_by-instr_bytes i are.1)) ∙ ap (λ js. i ∷ js) (same_code bytes (at + 13) is are.2)
 
 -- an image of which the parts begin at places is read at them
-pub same_image : (bytes : List ℕ) (places : Places) (named : NamedImage) → named.image.conditions ≡ map (λ c. c.mon) named.names.conditions → named.image.devices ≡ map (λ d. d.out) named.names.devices
+pub same_image : (bytes : List ℕ) (places : PartOffsets) (named : NamedImage) → named.image.conditions ≡ map (λ c. c.mon) named.names.conditions → named.image.devices ≡ map (λ d. d.out) named.names.devices
     → AreOf bytes places named → image_at bytes named.image.over named.program named.names places ≡ named
 same_image bytes places named conditions devices are =
     ap (λ monitors. with_monitors monitors) (same_things _ monitor_format bytes places.monitors named.image.monitors are.monitors)
@@ -129,11 +129,11 @@ same_image bytes places named conditions devices are =
       }
 
 -- what is kept of an image is kept of what is read at its places
-pub record Stands (bytes : List ℕ) (places : Places) (named : NamedImage) : Type 0 where
+pub record Stands (bytes : List ℕ) (places : PartOffsets) (named : NamedImage) : Type 0 where
   pub same : image_at bytes named.image.over named.program named.names places ≡ named
   pub kept : AreKept bytes places (image_at bytes named.image.over named.program named.names places)
 
-pub stands : (bytes : List ℕ) (places : Places) (raw : RawImage) → IsInRange (named_of raw) → bytes ≡ bytes_of Second (named_of raw) → AreOf bytes places (named_of raw) → Stands bytes places (named_of raw)
+pub stands : (bytes : List ℕ) (places : PartOffsets) (raw : RawImage) → IsInRange (named_of raw) → bytes ≡ bytes_of Second (named_of raw) → AreOf bytes places (named_of raw) → Stands bytes places (named_of raw)
 stands bytes places raw written are begin =
     let same = same_image bytes places (named_of raw) refl refl begin in
     record { same = same; kept = subst (AreKept bytes places) (sym same) (record { written = written; bytes_are = are; begin = begin }) }

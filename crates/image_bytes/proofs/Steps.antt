@@ -3,8 +3,8 @@ use Rattle.std.proofs.Common.{◌≡◌, ◌<◌, ◌+◌, ◌++◌, ℕ, List, 
 use Rattle.std.specs.List.{flat_map}
 use Rattle.std.proofs.lemmas.List.{drop_more, take_more, map-append}
 use Rattle.image_format.specs.Numbers.{name_bytes}
-use Rattle.image.specs.declared.raw.RawMon.{RawMon}
-use Rattle.image.specs.declared.raw.RawProc.{RawProc}
+use Rattle.image.specs.declared.raw.RawMonitor.{RawMonitor}
+use Rattle.image.specs.declared.raw.RawProcess.{RawProcess}
 use Rattle.image.specs.declared.raw.RawRoutine.{RawRoutine}
 use Rattle.image.specs.Bytes.{Second, monitors_bytes, processes_bytes, routine_bytes}
 use Rattle.image.specs.Raw.{monitor_of, process_of, routine_of}
@@ -21,7 +21,7 @@ first_left xs i x d within is = drop_more xs i d within ∙ ap (λ y. y ∷ drop
 one_more_done : {A B : Type 0} (f : A → B) (xs : List A) (i : ℕ) (x d : A) → i < length xs → x ≡ get_or xs i d → map f (take (i + 1) xs) ≡ map f (take i xs) ++ f x ∷ []
 one_more_done f xs i x d within is = ap (map f) (take_more xs i d within ∙ ap (λ y. take i xs ++ y ∷ []) (sym is)) ∙ map-append f (take i xs) (x ∷ [])
 
-pub one_monitor_more : (names : List (List ℕ)) (ms : List RawMon) (i : ℕ) (name : List ℕ) (m d : RawMon) (start : ℕ) (written : List ℕ) (at : ℕ) (places new : List ℕ) (place : ℕ)
+pub one_monitor_more : (names : List (List ℕ)) (ms : List RawMonitor) (i : ℕ) (name : List ℕ) (m d : RawMonitor) (start : ℕ) (written : List ℕ) (at : ℕ) (places new : List ℕ) (place : ℕ)
     → i < length names → i < length ms → name ≡ get_or names i name → m ≡ get_or ms i d → MonitorIsRead (monitor_of m)
     → Placed monitor_format start written at (monitors_bytes (drop i names) (map monitor_of (drop i ms))) places (map monitor_of (take i ms)) → place ≡ at + length (name_bytes name)
     → new ≡ places ++ place ∷ []
@@ -46,7 +46,7 @@ one_routine_more rs i r start written at places new after within r_is read so_fa
     one_more_placed routine_fields start written at [] own left _ places new (map routine_of (take i rs)) _ (routine_of r) at after so_far more_is
     (one_more_done routine_of rs i r r within r_is) read (omega arith) after_is new_is
 
-pub one_process_more : (names : List (List ℕ)) (ps : List RawProc) (i : ℕ) (name : List ℕ) (p : RawProc) (start : ℕ) (written : List ℕ) (at : ℕ) (places new : List ℕ) (place after : ℕ)
+pub one_process_more : (names : List (List ℕ)) (ps : List RawProcess) (i : ℕ) (name : List ℕ) (p : RawProcess) (start : ℕ) (written : List ℕ) (at : ℕ) (places new : List ℕ) (place after : ℕ)
     → i < length names → i < length ps → name ≡ get_or names i name → p ≡ get_or ps i p → ProcessIsRead (process_of p)
     → Placed process_fields start written at (processes_bytes Second (drop i names) (map process_of (drop i ps))) places (map process_of (take i ps)) → place ≡ at + length (name_bytes name)
     → after ≡ place + length (numbered_bytes (process_of p)) → new ≡ places ++ place ∷ []

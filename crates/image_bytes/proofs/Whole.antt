@@ -4,10 +4,10 @@ use Rattle.std.specs.List.{flat_map}
 use Rattle.std.proofs.lemmas.Option.{slice_get-get_or}
 use Rattle.image_format.specs.Format.{Format}
 use Rattle.image_format.specs.Numbers.{name_bytes}
-use Rattle.image.specs.declared.names.CondName.{CondName}
+use Rattle.image.specs.declared.names.ConditionName.{ConditionName}
 use Rattle.image.specs.declared.raw.RawImage.{RawImage}
-use Rattle.image.specs.declared.raw.RawMon.{RawMon}
-use Rattle.image.specs.declared.raw.RawProc.{RawProc}
+use Rattle.image.specs.declared.raw.RawMonitor.{RawMonitor}
+use Rattle.image.specs.declared.raw.RawProcess.{RawProcess}
 use Rattle.image.specs.declared.raw.RawRoutine.{RawRoutine}
 use Rattle.image.specs.Bytes.{Second, bytes_of, condition_bytes, device_bytes, event_bytes, monitors_bytes, processes_bytes, routine_bytes}
 use Rattle.image.specs.Raw.{image_of, monitor_of, named_of, process_of, routine_of}
@@ -73,10 +73,10 @@ things_of f written things bytes rest at places xs ys same here among = subst (�
 
 -- monitors with their names, and processes with theirs
 abbrev pub Guarded : Type 0
-Guarded = List (List ℕ) × List RawMon
+Guarded = List (List ℕ) × List RawMonitor
 
 abbrev pub Released : Type 0
-Released = List (List ℕ) × List RawProc
+Released = List (List ℕ) × List RawProcess
 
 abbrev pub guarded_in : RawImage → Guarded
 guarded_in raw = (raw.names.monitors, raw.monitors)
@@ -104,7 +104,7 @@ pub past_monitors : (raw : RawImage) (bytes : List ℕ) (at after : ℕ) (x : Gu
     → Reached bytes after (conditions_on raw)
 past_monitors raw bytes at after x same = passed monitors_written bytes (conditions_on raw) at after x (guarded_in raw) same
 
-pub past_conditions : (raw : RawImage) (bytes : List ℕ) (at after : ℕ) (conditions : List CondName) → conditions ≡ raw.names.conditions → Reached bytes at (conditions_on raw)
+pub past_conditions : (raw : RawImage) (bytes : List ℕ) (at after : ℕ) (conditions : List ConditionName) → conditions ≡ raw.names.conditions → Reached bytes at (conditions_on raw)
     → after ≡ at + length (flat_map condition_bytes conditions) → Reached bytes after (routines_on raw)
 past_conditions raw bytes at after conditions same = passed (flat_map condition_bytes) bytes (routines_on raw) at after conditions raw.names.conditions same
 
@@ -118,7 +118,7 @@ past_processes raw bytes at after x same = passed processes_written bytes (code_
 
 -- ---- handlers
 
-pub all_handled : (raw : RawImage) (ps : List RawProc) → HasLimits (image_of raw) → ps ≡ raw.processes → All (λ p. HasHandler p p.handler_tree) (map process_of ps)
+pub all_handled : (raw : RawImage) (ps : List RawProcess) → HasLimits (image_of raw) → ps ≡ raw.processes → All (λ p. HasHandler p p.handler_tree) (map process_of ps)
 all_handled raw ps limits same =
     subst (λ qs. All (λ p. HasHandler p p.handler_tree) (map process_of qs)) (sym same)
     (λ k d within. (limits.processes k _ (slice_get-get_or (map process_of raw.processes) k d within)).handler)

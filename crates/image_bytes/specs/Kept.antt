@@ -6,7 +6,7 @@ use Rattle.image.specs.Named.{NamedImage}
 use Rattle.image.specs.declared.names.ImageNames.{ImageNames}
 use Rattle.image_bytes.specs.Fields.{process_fields, routine_fields}
 use Rattle.image_bytes.specs.Places.{AreOf, instrs_at, things_at}
-use Rattle.image_bytes.specs.declared.places.Places.{Places}
+use Rattle.image_bytes.specs.declared.places.PartOffsets.{PartOffsets}
 use Rattle.image_reader.specs.Grammar.{monitor_format}
 use Rattle.machine_semantics.specs.Image.{Monitor, Process, Routine}
 use Rattle.machine_semantics.specs.Trees.{Nil}
@@ -42,7 +42,7 @@ no_process = record {
 }
 
 -- the image whose monitors, routines, processes and code are read at their places
-abbrev pub image_at : (bytes : List ℕ) → (over : ℕ) → (program : List ℕ) → ImageNames → Places → NamedImage
+abbrev pub image_at : (bytes : List ℕ) → (over : ℕ) → (program : List ℕ) → ImageNames → PartOffsets → NamedImage
 image_at bytes over program names places = record {
   program = program;
   names = names;
@@ -59,7 +59,7 @@ image_at bytes over program names places = record {
 
 -- the bytes are those of the image, in version 2, whose counts fit their fields, and its parts begin
 -- at the places
-pub record AreKept (bytes : List ℕ) (places : Places) (named : NamedImage) : Type 0 where
+pub record AreKept (bytes : List ℕ) (places : PartOffsets) (named : NamedImage) : Type 0 where
   pub written : IsInRange named
   pub bytes_are : bytes ≡ bytes_of Second named
   pub begin : AreOf bytes places named

@@ -7,7 +7,7 @@ use Rattle.image_format.specs.Format.{Format}
 use Rattle.image.specs.Named.{NamedImage}
 use Rattle.image_bytes.specs.Fields.{process_fields, routine_fields}
 use Rattle.image_bytes.specs.Standing.{read_or}
-use Rattle.image_bytes.specs.declared.places.Places.{Places}
+use Rattle.image_bytes.specs.declared.places.PartOffsets.{PartOffsets}
 use Rattle.image_reader.specs.Grammar.{monitor_format, or_end}
 
 -- each thing is read where it begins
@@ -22,7 +22,7 @@ AreInstrs bytes at [] = Unit {0}
 AreInstrs bytes at (i ∷ is) = (take 13 (drop at bytes) ≡ instr_bytes i) × HasWords i × AreInstrs bytes (at + 13) is
 
 -- the parts of the image begin at these places
-pub record AreOf (bytes : List ℕ) (places : Places) (named : NamedImage) : Type 0 where
+pub record AreOf (bytes : List ℕ) (places : PartOffsets) (named : NamedImage) : Type 0 where
   pub monitors : AreAt monitor_format bytes places.monitors named.image.monitors
   pub routines : AreAt routine_fields bytes places.routines named.image.routines
   pub processes : AreAt process_fields bytes places.processes named.image.processes

@@ -7,7 +7,7 @@ use Rattle.image_format.specs.declared.view.SegBytes.{SegBytes}
 use Rattle.image_format.specs.Stands.{tree_in}
 use Rattle.image_bytes.specs.Fields.{counted_numbers, tree_fields, trees_fields}
 use Rattle.image_bytes.specs.declared.numbers.HandlerNumbers.{HandlerNumbers}
-use Rattle.image_bytes.specs.declared.reference.ProcRef.{ProcRef}
+use Rattle.image_bytes.specs.declared.reference.ProcessRef.{ProcessRef}
 use Rattle.image_bytes.specs.declared.reference.RoutineRef.{RoutineRef}
 
 -- what was read, where it was, and else the given
@@ -40,10 +40,10 @@ maybe_tree_in None = None
 maybe_tree_in (Some tree) = Some (tree_in tree)
 
 -- the trees of a process, as its bytes tell them
-abbrev pub trees_in : ProcRef → Segs × Option Segs
+abbrev pub trees_in : ProcessRef → Segs × Option Segs
 trees_in p = read_or (Nil, None) ((trees_fields p.numbers.count).read p.trees.now)
 
-abbrev pub process_in : ProcRef → Process
+abbrev pub process_in : ProcessRef → Process
 process_in p = record {
   kind = p.kind;
   frame = p.frame;

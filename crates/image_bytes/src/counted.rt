@@ -6,10 +6,10 @@ ghost use Rattle.image_bytes.specs.Fields.{counted_numbers, numbers_fields};
 ghost use Rattle.image_bytes.specs.Standing.{numbers_in};
 
 use crate::numbers::HandlerNumbers;
-use image_format::{Fault, u16_at};
+use image_format::{ByteFault, u16_at};
 
 /// So many numbers.
-fn counted_at(bytes: &[u8], count: u16) -> Result<(HandlerNumbers<'_>, &[u8]), Fault>
+fn counted_at(bytes: &[u8], count: u16) -> Result<(HandlerNumbers<'_>, &[u8]), ByteFault>
     ensures { GivesOrFault (λ x. (numbers_in x.0, x.1.now)) result
         ((counted_numbers count).read bytes.now) }
 {
@@ -21,7 +21,7 @@ fn counted_at(bytes: &[u8], count: u16) -> Result<(HandlerNumbers<'_>, &[u8]), F
 }
 
 /// How many numbers there are, and these.
-pub(crate) fn numbers_at(bytes: &[u8]) -> Result<(HandlerNumbers<'_>, &[u8]), Fault>
+pub(crate) fn numbers_at(bytes: &[u8]) -> Result<(HandlerNumbers<'_>, &[u8]), ByteFault>
     ensures { GivesOrFault (λ x. (numbers_in x.0, x.1.now)) result (numbers_fields.read bytes.now) }
 {
     let (count, rest) = u16_at(bytes)?;

@@ -11,7 +11,7 @@ ghost use Rattle.valid_image.specs.Valid.{HasLimits};
 use crate::code::code_has_words;
 use crate::lists::{monitors_from, processes_from, routines_from};
 use crate::names::{after_conditions, after_devices, after_events, after_name};
-use crate::places::Places;
+use crate::places::PartOffsets;
 use image::RawImage;
 use std::alloc::{AllocError, Global};
 
@@ -31,7 +31,7 @@ fn after_opening(raw: &RawImage) -> usize
 
 /// Where the parts of an image begin in the bytes that are written of it, which are fewer than
 /// 2^64. The places follow from the image. An error says that memory is short.
-pub fn places_of(alloc: Global, raw: &RawImage) -> Result<Places, AllocError>
+pub fn places_of(alloc: Global, raw: &RawImage) -> Result<PartOffsets, AllocError>
     requires limits { HasLimits (image_of raw.now) }
     requires written { IsInRange (named_of raw.now) }
     requires room { length (bytes_of Second (named_of raw.now)) < 2 ^ 64 }
@@ -55,7 +55,7 @@ pub fn places_of(alloc: Global, raw: &RawImage) -> Result<Places, AllocError>
         raw.processes.as_slice(),
     )?;
     code_has_words(raw.code.as_slice());
-    Ok(Places {
+    Ok(PartOffsets {
         monitors,
         routines,
         processes,

@@ -8,8 +8,8 @@ ghost use Rattle.image_bytes.specs.Standing.{process_in, routine_in};
 ghost use Rattle.valid_image.specs.Valid.{HasLimits};
 
 use crate::reading::{bytes_from, instr_bytes_at, monitor_at};
-use crate::{Places, ProcRef, RoutineRef, places_of, process_at, routine_at};
-use image::{ImageNames, RawImage, RawMon, write_image};
+use crate::{PartOffsets, ProcessRef, RoutineRef, places_of, process_at, routine_at};
+use image::{ImageNames, RawImage, RawMonitor, write_image};
 use machine_isa::{Instr, read_instr};
 use std::alloc::{AllocError, Global};
 use std::marker::Model;
@@ -22,7 +22,7 @@ pub struct ImageBytes {
     overhead: u16,
     program: Name,
     names: ImageNames,
-    places: Places,
+    places: PartOffsets,
 }
 
 impl Model for ImageBytes {
@@ -151,7 +151,7 @@ impl ImageBytes {
     }
 
     /// A process, by its number from 0.
-    pub fn process(&self, number: u16) -> ProcRef<'_>
+    pub fn process(&self, number: u16) -> ProcessRef<'_>
         requires { number < length self.now.image.processes }
         ensures { slice_get self.now.image.processes number ≡ Some (process_in result) }
     {
@@ -171,7 +171,7 @@ impl ImageBytes {
     }
 
     /// A monitor, by its number from 0.
-    pub fn monitor(&self, number: u16) -> RawMon
+    pub fn monitor(&self, number: u16) -> RawMonitor
         requires { number < length self.now.image.monitors }
         ensures { slice_get self.now.image.monitors number ≡ Some (monitor_of result) }
     {

@@ -1,6 +1,6 @@
 //! An image kept as its bytes: references to its parts, and their places.
 //!
-//! A reference (`RoutineRef`, `ProcRef`) holds the numbers of a part and borrows its trees;
+//! A reference (`RoutineRef`, `ProcessRef`) holds the numbers of a part and borrows its trees;
 //! `specs/Fields.antt` says which bytes these are, `specs/Standing.antt` which part a reference
 //! stands for. Ranges are not asked again, and reading never fails: whoever calls knows which part
 //! the bytes begin with (`specs/Reads.antt`).
@@ -34,9 +34,9 @@ pub use image_bytes_image::ImageBytes;
 pub use instrs::instr_has_words;
 pub use monitors::monitor_is_read;
 pub use numbers::HandlerNumbers;
-pub use places::Places;
+pub use places::PartOffsets;
 pub use process::process_at;
 pub use processes::process_is_read;
-pub use reference::{ProcRef, RoutineRef};
+pub use reference::{ProcessRef, RoutineRef};
 pub use routine::routine_at;
 pub use routines::routine_is_read;

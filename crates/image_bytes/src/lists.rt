@@ -13,7 +13,7 @@ ghost use Rattle.valid_image.specs.Valid.{HasHandler};
 use crate::names::after_name;
 use crate::parts::{after_process, after_routine};
 use crate::{monitor_is_read, process_is_read, routine_is_read};
-use image::{RawMon, RawProc, RawRoutine};
+use image::{RawMonitor, RawProcess, RawRoutine};
 use std::alloc::{AllocError, Global};
 use syntax_tree::{List, Name};
 
@@ -25,7 +25,7 @@ pub(crate) fn monitors_from(
     alloc: Global,
     start: usize,
     names: &[Name],
-    monitors: &[RawMon],
+    monitors: &[RawMonitor],
 ) -> Result<(List<usize>, usize), AllocError>
     requires each { length names.now ≡ length monitors.now }
     requires room { HasEnd start (monitors_bytes names.now (map monitor_of monitors.now)) }
@@ -74,7 +74,7 @@ pub(crate) fn processes_from(
     alloc: Global,
     start: usize,
     names: &[Name],
-    processes: &[RawProc],
+    processes: &[RawProcess],
 ) -> Result<(List<usize>, usize), AllocError>
     requires each { length names.now ≡ length processes.now }
     requires handlers { All (λ p. HasHandler p p.handler_tree) (map process_of processes.now) }

@@ -6,7 +6,7 @@ ghost use Rattle.image_format.specs.Numbers.{name_bytes};
 ghost use Rattle.image.specs.Bytes.{condition_bytes, device_bytes, event_bytes};
 ghost use Rattle.image_bytes.specs.Placing.{HasEnd};
 
-use image::{CondName, DevName, EventName};
+use image::{ConditionName, DeviceName, EventName};
 use syntax_tree::Name;
 
 /// The place after a name.
@@ -18,7 +18,7 @@ pub(crate) fn after_name(start: usize, name: &Name) -> usize
 }
 
 /// The place after the devices, each of which has one byte more than its name.
-pub(crate) fn after_devices(start: usize, devices: &[DevName]) -> usize
+pub(crate) fn after_devices(start: usize, devices: &[DeviceName]) -> usize
     requires { HasEnd start (flat_map device_bytes devices.now) }
     ensures { result ≡ start + length (flat_map device_bytes devices.now) }
 {
@@ -42,7 +42,7 @@ pub(crate) fn after_events(start: usize, events: &[EventName]) -> usize
 }
 
 /// The place after the conditions, each of which has two bytes more than its name.
-pub(crate) fn after_conditions(start: usize, conditions: &[CondName]) -> usize
+pub(crate) fn after_conditions(start: usize, conditions: &[ConditionName]) -> usize
     requires { HasEnd start (flat_map condition_bytes conditions.now) }
     ensures { result ≡ start + length (flat_map condition_bytes conditions.now) }
 {

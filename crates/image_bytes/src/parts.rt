@@ -7,7 +7,7 @@ ghost use Rattle.image.specs.Raw.{process_of, routine_of};
 ghost use Rattle.image_bytes.specs.Reads.{numbered_bytes};
 ghost use Rattle.image_bytes.specs.Placing.{HasEnd};
 
-use image::{RawProc, RawRoutine};
+use image::{RawProcess, RawRoutine};
 
 /// So many bytes of a routine stand before its tree.
 const ROUTINE_NUMBERS: usize = 30;
@@ -25,7 +25,7 @@ pub(crate) fn after_routine(start: usize, routine: &RawRoutine) -> usize
 
 /// How many bytes the tree of a handler has, which stands only where there are numbers that the
 /// handler takes.
-fn handler_len(process: &RawProc) -> usize
+fn handler_len(process: &RawProcess) -> usize
     ensures { result ≡
         length (handler_bytes process.now.numbers (process_of process.now).handler_tree) }
 {
@@ -36,7 +36,7 @@ fn handler_len(process: &RawProc) -> usize
 }
 
 /// The place after a process, from the place after its name.
-pub(crate) fn after_process(start: usize, process: &RawProc) -> usize
+pub(crate) fn after_process(start: usize, process: &RawProcess) -> usize
     requires { HasEnd start (numbered_bytes (process_of process.now)) }
     ensures { result ≡ start + length (numbered_bytes (process_of process.now)) }
 {

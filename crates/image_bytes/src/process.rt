@@ -8,11 +8,11 @@ ghost use Rattle.image_format.specs.Stands.{tree_in};
 
 use crate::counted::numbers_at;
 use crate::numbers::HandlerNumbers;
-use crate::reference::ProcRef;
+use crate::reference::ProcessRef;
 use crate::routine::{five_at, kept_tree_at};
-use image_format::{Fault, SegBytes, u8_at, u16_at, u32_at};
+use image_format::{ByteFault, SegBytes, u8_at, u16_at, u32_at};
 
-impl<'a> ProcRef<'a> {
+impl<'a> ProcessRef<'a> {
     /// The numbers that its handler takes.
     pub fn numbers(&self) -> HandlerNumbers<'a>
         ensures { numbers_in result ≡ (process_in self.now).numbers }
@@ -60,7 +60,7 @@ struct Release {
     rank: u16,
 }
 
-fn release_at(bytes: &[u8]) -> Result<(Release, &[u8]), Fault>
+fn release_at(bytes: &[u8]) -> Result<(Release, &[u8]), ByteFault>
     ensures { GivesOrFault (λ x. (
       (
         x.0.kind,
@@ -92,7 +92,7 @@ fn release_at(bytes: &[u8]) -> Result<(Release, &[u8]), Fault>
 }
 
 /// The process that the bytes begin with, after its name. Its trees are not gone over.
-pub fn process_at(bytes: &[u8]) -> ProcRef<'_>
+pub fn process_at(bytes: &[u8]) -> ProcessRef<'_>
     requires { IsOk (process_fields.read bytes.now) }
     ensures { IsRead process_fields bytes.now (process_in result) }
 {
@@ -108,7 +108,7 @@ pub fn process_at(bytes: &[u8]) -> ProcRef<'_>
     let Ok((numbers, trees)) = numbers_at(rest) else {
         unreachable!()
     };
-    ProcRef {
+    ProcessRef {
         kind: release.kind,
         frame: release.frame,
         deadline: release.deadline,

@@ -6,11 +6,11 @@ ghost use Rattle.image_bytes.specs.Reads.{FitsWhereThere, ProcessIsRead};
 ghost use Rattle.image_bytes.specs.Fields.{are_short, five_fields, release_fields};
 ghost use Rattle.valid_image.specs.Valid.{HasHandler};
 
-use image::RawProc;
+use image::RawProcess;
 use image_format::SegTree;
 
 /// When it is released, within what it has to end, and its rank.
-fn release_fits(process: &RawProc)
+fn release_fits(process: &RawProcess)
     ensures { release_fields.is (
       process.now.kind,
       (
@@ -31,7 +31,7 @@ fn release_fits(process: &RawProc)
 }
 
 /// What it takes of time.
-fn time_fits(process: &RawProc)
+fn time_fits(process: &RawProcess)
     ensures { five_fields.is (
       process.now.run,
       (process.now.susp, (process.now.waits, (process.now.block, process.now.bound))),
@@ -45,7 +45,7 @@ fn time_fits(process: &RawProc)
 }
 
 /// What it takes of memory, and where its body and its handler stand.
-fn room_fits(process: &RawProc)
+fn room_fits(process: &RawProcess)
     ensures { five_fields.is (
       process.now.words,
       (process.now.stack, (process.now.locals, (process.now.start, process.now.handler))),
@@ -75,7 +75,7 @@ fn handler_tree_fits(tree: &Option<SegTree>)
 }
 
 /// The bytes of a process are read as it is. The call does nothing.
-pub fn process_is_read(process: &RawProc)
+pub fn process_is_read(process: &RawProcess)
     requires handler { HasHandler (process_of process.now) process.now.handler_tree }
     requires few { length process.now.numbers < 2 ^ 16 }
     ensures { ProcessIsRead (process_of process.now) }

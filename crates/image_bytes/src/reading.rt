@@ -5,8 +5,8 @@ ghost use Rattle.image_format.specs.Gives.{GivesOrFault};
 ghost use Rattle.image.specs.Raw.{monitor_of};
 ghost use Rattle.image_reader.specs.Grammar.{monitor_format};
 
-use image::RawMon;
-use image_format::{Fault, u16_at, u32_at};
+use image::RawMonitor;
+use image_format::{ByteFault, u16_at, u32_at};
 
 /// The bytes from the place of the number on.
 pub(crate) fn bytes_from<'a>(bytes: &'a [u8], places: &[usize], number: u16) -> &'a [u8]
@@ -27,14 +27,14 @@ pub(crate) fn instr_bytes_at(bytes: &[u8], code: usize, address: u32) -> &[u8]
 }
 
 /// The monitor that the bytes begin with, after its name, and the bytes after it.
-pub(crate) fn monitor_at(bytes: &[u8]) -> Result<(RawMon, &[u8]), Fault>
+pub(crate) fn monitor_at(bytes: &[u8]) -> Result<(RawMonitor, &[u8]), ByteFault>
     ensures { GivesOrFault (λ x. (monitor_of x.0, x.1.now)) result (monitor_format.read bytes.now) }
 {
     let (base, rest) = u32_at(bytes)?;
     let (words, rest) = u32_at(rest)?;
     let (ceiling, rest) = u16_at(rest)?;
     Ok((
-        RawMon {
+        RawMonitor {
             base,
             words,
             ceiling,

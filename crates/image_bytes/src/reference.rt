@@ -31,7 +31,7 @@ pub struct RoutineRef<'a> {
 /// `susp`, `block` and `bound` are in ticks; an activation has to end within its deadline, at most
 /// the frame. `words` are its data words; `start` and `handler` are addresses.
 #[derive(Clone, Copy)]
-pub struct ProcRef<'a> {
+pub struct ProcessRef<'a> {
     pub kind: u8,
     pub frame: u32,
     pub deadline: u32,

@@ -7,7 +7,7 @@ ghost use Rattle.image_bytes.specs.Standing.{IsRead, routine_in};
 ghost use Rattle.image_format.specs.Stands.{tree_in};
 
 use crate::reference::RoutineRef;
-use image_format::{DEEPEST_KEPT, Fault, Limits, SegBytes, tree_at, u8_at, u16_at, u32_at};
+use image_format::{ByteFault, DEEPEST_KEPT, Limits, SegBytes, tree_at, u8_at, u16_at, u32_at};
 
 impl<'a> RoutineRef<'a> {
     /// The tree of its code.
@@ -32,14 +32,14 @@ struct Owner {
 }
 
 /// Whether a byte is 1.
-fn flag_at(bytes: &[u8]) -> Result<(bool, &[u8]), Fault>
+fn flag_at(bytes: &[u8]) -> Result<(bool, &[u8]), ByteFault>
     ensures { GivesOrFault (λ x. (x.0, x.1.now)) result (flag_field.read bytes.now) }
 {
     let (value, rest) = u8_at(bytes)?;
     Ok((value == 1, rest))
 }
 
-fn owner_at(bytes: &[u8]) -> Result<(Owner, &[u8]), Fault>
+fn owner_at(bytes: &[u8]) -> Result<(Owner, &[u8]), ByteFault>
     ensures { GivesOrFault (λ x. (
       (x.0.kind, (x.0.owner, (x.0.params, (x.0.locals, x.0.result)))),
       x.1.now,
@@ -72,7 +72,7 @@ pub(crate) struct Five {
     pub(crate) fifth: u32,
 }
 
-pub(crate) fn five_at(bytes: &[u8]) -> Result<(Five, &[u8]), Fault>
+pub(crate) fn five_at(bytes: &[u8]) -> Result<(Five, &[u8]), ByteFault>
     ensures { GivesOrFault (λ x. (
       (x.0.first, (x.0.second, (x.0.third, (x.0.fourth, x.0.fifth)))),
       x.1.now,
@@ -96,7 +96,7 @@ pub(crate) fn five_at(bytes: &[u8]) -> Result<(Five, &[u8]), Fault>
 }
 
 /// A tree whose numbers fit their fields.
-pub(crate) fn kept_tree_at(bytes: &[u8]) -> Result<(SegBytes<'_>, &[u8]), Fault>
+pub(crate) fn kept_tree_at(bytes: &[u8]) -> Result<(SegBytes<'_>, &[u8]), ByteFault>
     ensures { GivesOrFault (λ x. (tree_in x.0, x.1.now)) result (tree_fields.read bytes.now) }
 {
     tree_at(Limits::widest(), DEEPEST_KEPT, bytes)

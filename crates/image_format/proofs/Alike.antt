@@ -1,16 +1,16 @@
 -- Formats that write and read the same.
 use Rattle.std.proofs.Common.{◌≡◌, ◌<◌, ◌++◌, ℕ, List, length, take, Ok, Err, sym, ap, ◌∙◌, subst}
 use Rattle.std.specs.Prelude.{Result}
-use Rattle.image_format.specs.declared.fault.Fault.{Fault}
+use Rattle.image_format.specs.declared.fault.ByteFault.{ByteFault}
 use Rattle.image_format.specs.Format.{Format}
 use Rattle.image_format.specs.FormatLaw.{IsSound}
 
-abbrev pub okay : {A : Type 0} → A → Result A Fault
+abbrev pub okay : {A : Type 0} → A → Result A ByteFault
 okay x = Ok x
 
 pub same_ok : {A : Type 0} (x y : A) → okay x ≡ okay y → x ≡ y
 same_ok {A = A} x y h = ap value h where
-  value : Result A Fault → A
+  value : Result A ByteFault → A
   value (Ok z) = z
   value (Err e) = x
 

@@ -2,7 +2,7 @@
 use Rattle.std.proofs.Common.{◌≡◌, ℕ, suc, ◌-◌, ◌+◌, ◌≤◌, ◌<◌, List, true, false, Result, Ok, Err, refl, sym, ap, ◌∙◌, arith}
 use Rattle.std.specs.Result.{is_ok}
 use Rattle.machine_semantics.specs.Trees.{Seg, Segs, Nil, Cons}
-use Rattle.image_format.specs.declared.fault.Fault.{Fault}
+use Rattle.image_format.specs.declared.fault.ByteFault.{ByteFault}
 use Rattle.image_format.specs.Format.{◌>>=◌, Format, Read}
 use Rattle.image_format.specs.TreeFormat.{segs_read}
 use Rattle.image_format.specs.Rows.{left_of, row_in}
@@ -12,7 +12,7 @@ more s (Ok x) = refl
 more s (Err e) = refl
 
 -- one more segment was read
-pub goes_on : (f : Format Seg) (count i : ℕ) (bytes : List ℕ) (s : Seg) (after : List ℕ) (total : Result (List ℕ) Fault) → i < count → f.read bytes ≡ Ok (s, after)
+pub goes_on : (f : Format Seg) (count i : ℕ) (bytes : List ℕ) (s : Seg) (after : List ℕ) (total : Result (List ℕ) ByteFault) → i < count → f.read bytes ≡ Ok (s, after)
     → left_of (segs_read f (count - i) bytes) ≡ total → left_of (segs_read f (count - (i + 1)) after) ≡ total
 unfolding segs_read
 goes_on f count i bytes s after total lt h so_far =
@@ -20,7 +20,7 @@ goes_on f count i bytes s after total lt h so_far =
     let one : left_of (segs_read f (count - i) bytes) ≡ left_of (segs_read f (count - (i + 1)) after) = rw (k, h) (more s (segs_read f (count - (i + 1)) after)) in
     sym one ∙ so_far
 
-broken : (r : Read Segs) (e : Fault) → left_of r ≡ Err e → r ≡ Err e
+broken : (r : Read Segs) (e : ByteFault) → left_of r ≡ Err e → r ≡ Err e
 broken (Ok x) e h = absurd cc
 broken (Err f) e h = cc
 
@@ -31,7 +31,7 @@ whole (Ok x) rest h = ap (λ (bytes : List ℕ). Ok (x.0, bytes)) (inner x.1 res
 whole (Err f) rest h = absurd cc
 
 -- the next one has a fault
-pub fails : (f : Format Seg) (e : Fault) (count i : ℕ) (bytes : List ℕ) (total : Read Segs) → i < count → f.read bytes ≡ Err e
+pub fails : (f : Format Seg) (e : ByteFault) (count i : ℕ) (bytes : List ℕ) (total : Read Segs) → i < count → f.read bytes ≡ Err e
     → left_of (segs_read f (count - i) bytes) ≡ left_of total → total ≡ Err e
 unfolding segs_read
 fails f e count i bytes total lt h so_far =
@@ -72,7 +72,7 @@ splits f count bytes s after pos h well =
     record { rest_read = parts.0; tree = ap row_in one ∙ parts.1 }
 
 -- a first segment with a fault is none
-pub never : (f : Format Seg) (e : Fault) (count : ℕ) (bytes : List ℕ) → 0 < count → f.read bytes ≡ Err e → is_ok (segs_read f count bytes) ≡ true → ⊥
+pub never : (f : Format Seg) (e : ByteFault) (count : ℕ) (bytes : List ℕ) → 0 < count → f.read bytes ≡ Err e → is_ok (segs_read f count bytes) ≡ true → ⊥
 unfolding segs_read
 never f e count bytes pos h well =
     let k : count ≡ suc (count - 1) = omega arith in

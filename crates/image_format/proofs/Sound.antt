@@ -4,7 +4,7 @@ use Rattle.std.proofs.Common.{◌≡◌, ◌≤◌, ◌<◌, ◌⊎◌, inl, inr
 use Rattle.std.proofs.Math.Seq.{take-append-add, take-append_seam, drop-append_seam}
 use Rattle.std.proofs.lemmas.List.{take-append-le, take-append-drop, length-take-le}
 use Rattle.std.proofs.lemmas.Bool.{cases_lt, le-ltb, lt-ltb, and_parts}
-use Rattle.image_format.specs.declared.fault.Fault.{Fault}
+use Rattle.image_format.specs.declared.fault.ByteFault.{ByteFault}
 use Rattle.image_format.specs.Format.{Format, Read, ◌>>=◌, fault, field_at, given, is_fine, passed, checked, both, via, each, each_read, each_write, each_is}
 use Rattle.image_format.specs.FormatLaw.{AreBytes, IsSound}
 use Rattle.image_format.proofs.Booleans.{together}
@@ -22,12 +22,12 @@ bytes_before (b ∷ front) rest h = (h.0, bytes_before front rest h.1)
 
 -- ---- readings that went well
 
-pub record Came {A B : Type 0} (r : Result A Fault) (g : A → Result B Fault) (y : B) : Type 0 where
+pub record Came {A B : Type 0} (r : Result A ByteFault) (g : A → Result B ByteFault) (y : B) : Type 0 where
   pub x : A
   pub was : r ≡ Ok x
   pub then_is : g x ≡ Ok y
 
-pub came : {A B : Type 0} (r : Result A Fault) (g : A → Result B Fault) (y : B) → (r >>= g) ≡ Ok y → Came r g y
+pub came : {A B : Type 0} (r : Result A ByteFault) (g : A → Result B ByteFault) (y : B) → (r >>= g) ≡ Ok y → Came r g y
 came (Ok x) g y h = record { x = x; was = refl; then_is = h }
 came (Err e) g y h = cc
 

@@ -4,18 +4,18 @@
 use Rattle.std.specs.Prelude.{◌++◌, ◌^◌, ◌&&◌, ◌==◌, ℕ, zero, suc, Bool, true, false, List, [], ◌∷◌, length, take, drop, Result, Ok, Err, Option, Some, None, nat_lt, slice_index, if◌then◌else◌}
 use Rattle.std.specs.Int.{w16, w32, from_be_bytes}
 use Rattle.image_format.specs.Numbers as written
-use Rattle.image_format.specs.declared.fault.Fault.{Fault}
+use Rattle.image_format.specs.declared.fault.ByteFault.{ByteFault}
 
 -- a fault by its number, with how many bytes are left from its place on
-abbrev pub fault : (number left : ℕ) → Fault
+abbrev pub fault : (number left : ℕ) → ByteFault
 fault number left = record { number = number; left = left }
 
 -- what reading gives: the thing and the bytes left after it, or the first fault
 abbrev pub Read : Type 0 → Type 0
-Read A = Result (A × List ℕ) Fault
+Read A = Result (A × List ℕ) ByteFault
 
 infixl 10 ◌>>=◌
-abbrev pub ◌>>=◌ : {A B : Type 0} → Result A Fault → (A → Result B Fault) → Result B Fault
+abbrev pub ◌>>=◌ : {A B : Type 0} → Result A ByteFault → (A → Result B ByteFault) → Result B ByteFault
 (Ok x) >>= f = f x
 (Err e) >>= f = Err e
 

@@ -1,7 +1,7 @@
 -- Segments side by side, as bytes are read by the format of images.
 use Rattle.std.specs.Prelude.{ℕ, List, Ok, Err, Result}
 use Rattle.machine_semantics.specs.Trees.{Seg, Segs, Nil}
-use Rattle.image_format.specs.declared.fault.Fault.{Fault}
+use Rattle.image_format.specs.declared.fault.ByteFault.{ByteFault}
 use Rattle.image_format.specs.declared.limits.Limits.{Limits}
 use Rattle.image_format.specs.Format.{Format, Read}
 use Rattle.image_format.specs.TreeFormat.{seg_format, segs_read, tree_format, within_limits}
@@ -23,6 +23,6 @@ row_in (Ok x) = x.0
 row_in (Err e) = Nil
 
 -- the bytes left after what was read
-abbrev pub left_of : {A : Type 0} → Read A → Result (List ℕ) Fault
+abbrev pub left_of : {A : Type 0} → Read A → Result (List ℕ) ByteFault
 left_of (Ok x) = Ok x.1
 left_of (Err e) = Err e

@@ -7,7 +7,7 @@ use std::alloc::{AllocError, AllocFailed};
 
 /// What is wrong with bytes, and how many are left from its place on.
 #[derive(Clone, Copy, Debug, PartialEq, Eq)]
-pub struct Fault {
+pub struct ByteFault {
     pub number: u8,
     pub left: usize,
 }
@@ -16,7 +16,7 @@ pub struct Fault {
 #[derive(Debug, Drop)]
 pub enum ReadError {
     Memory,
-    Fault(Fault),
+    Fault(ByteFault),
 }
 
 impl From<AllocError> for ReadError {
@@ -35,10 +35,10 @@ impl<T: Drop> From<AllocFailed<T>> for ReadError {
     }
 }
 
-impl From<Fault> for ReadError {
+impl From<ByteFault> for ReadError {
     ghost from_gives = { λ fault e. e ≡ Wrong fault };
 
-    fn from(fault: Fault) -> ReadError {
+    fn from(fault: ByteFault) -> ReadError {
         ReadError::Fault(fault)
     }
 }

@@ -18,22 +18,22 @@
 mod at;
 mod bytes;
 mod fault;
-mod format_put;
 mod items;
 mod limits;
+mod put_numbers;
+mod put_trees;
 mod reading;
 pub mod refusal;
 mod seg;
-mod seg_bytes_put;
 mod segs;
 mod tree;
 mod view;
 
 pub use at::{u8_at, u16_at, u16_below, u32_at, u32_within};
-pub use fault::{Fault, ReadError};
-pub use format_put::{put_u8, put_u16, put_u32};
+pub use fault::{ByteFault, ReadError};
 pub use items::SegItems;
 pub use limits::Limits;
+pub use put_numbers::{put_u8, put_u16, put_u32};
 pub use reading::{DEEPEST, tree_at};
 pub use seg::{Arms, Inside, Seg, Segs, Turns};
 pub use tree::{DEEPEST_KEPT, SegTree};

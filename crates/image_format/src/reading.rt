@@ -7,7 +7,7 @@ ghost use Rattle.image_format.specs.Rows.{row_read, seg_within, tree_within};
 ghost use Rattle.image_format.specs.Stands.{inner_nesting, item_in, nesting, tree_in};
 
 use crate::view::{SegBytes, SegItem};
-use crate::{Fault, Limits, refusal, u8_at, u16_at, u16_below, u32_at, u32_within};
+use crate::{ByteFault, Limits, refusal, u8_at, u16_at, u16_below, u32_at, u32_within};
 
 /// How deep the trees of an image nest at most.
 pub const DEEPEST: u32 = 130;
@@ -21,7 +21,7 @@ fn tagged_at(
     tag: u8,
     left: usize,
     bytes: &[u8],
-) -> Result<(SegItem<'_>, &[u8]), Fault>
+) -> Result<(SegItem<'_>, &[u8]), ByteFault>
     ensures read { GivesOrFault (λ x. (item_in x.0, x.1.now)) result
         (tagged (within_limits limits) (tree_within limits depth) tag left bytes.now) }
     ensures nests { IfOk result (λ x. inner_nesting x.0 ≤ depth) }
@@ -52,7 +52,7 @@ fn tagged_at(
         }
         6 => Ok((SegItem::Wait, bytes)),
         7 => Ok((SegItem::Exit, bytes)),
-        _ => Err(Fault {
+        _ => Err(ByteFault {
             number: refusal::KIND,
             left,
         }),
@@ -66,7 +66,7 @@ pub(crate) fn item_at(
     limits: Limits,
     depth: u32,
     bytes: &[u8],
-) -> Result<(SegItem<'_>, &[u8]), Fault>
+) -> Result<(SegItem<'_>, &[u8]), ByteFault>
     ensures read { GivesOrFault (λ x. (item_in x.0, x.1.now)) result
         ((seg_within limits depth).read bytes.now) }
     ensures nests { IfOk result (λ x. inner_nesting x.0 ≤ depth) }
@@ -82,7 +82,7 @@ fn row_at(
     depth: u32,
     count: u32,
     bytes: &[u8],
-) -> Result<(SegBytes<'_>, &[u8]), Fault>
+) -> Result<(SegBytes<'_>, &[u8]), ByteFault>
     ensures read { GivesOrFault (λ x. (tree_in x.0, x.1.now)) result
         (row_read limits depth count bytes.now) }
     ensures nests { IfOk result (λ x. nesting x.0 ≡ depth) }
@@ -105,13 +105,13 @@ fn row_at(
 /// deep: the call calls itself once for each level of nesting.
 #[cycle(trees)]
 #[tactic(auto, unfolding(crate::specs::TreeFormat::tree_format))]
-pub fn tree_at(limits: Limits, depth: u32, bytes: &[u8]) -> Result<(SegBytes<'_>, &[u8]), Fault>
+pub fn tree_at(limits: Limits, depth: u32, bytes: &[u8]) -> Result<(SegBytes<'_>, &[u8]), ByteFault>
     ensures read { GivesOrFault (λ x. (tree_in x.0, x.1.now)) result
         ((tree_within limits depth).read bytes.now) }
     ensures nests { IfOk result (λ x. nesting x.0 + 1 ≡ depth) }
 {
     if depth == 0 {
-        return Err(Fault {
+        return Err(ByteFault {
             number: refusal::RANGE,
             left: bytes.len(),
         });

@@ -7,7 +7,7 @@ ghost use Rattle.image_format.specs.TreeFormat.{segs_read, tagged, within_limits
 ghost use Rattle.image_format.specs.Rows.{seg_within, tree_within};
 
 use crate::{
-    Fault, Limits, ReadError, Seg, Segs, refusal, u8_at, u16_at, u16_below, u32_at, u32_within,
+    ByteFault, Limits, ReadError, Seg, Segs, refusal, u8_at, u16_at, u16_below, u32_at, u32_within,
 };
 use std::alloc::Global;
 
@@ -51,7 +51,7 @@ fn tagged_at(
         }
         6 => Ok((Seg::Wait, bytes)),
         7 => Ok((Seg::Exit, bytes)),
-        _ => Err(ReadError::Fault(Fault {
+        _ => Err(ReadError::Fault(ByteFault {
             number: refusal::KIND,
             left,
         })),
@@ -109,7 +109,7 @@ pub(crate) fn tree_at(
         ((tree_within limits depth).read bytes.now) }
 {
     if depth == 0 {
-        return Err(ReadError::Fault(Fault {
+        return Err(ReadError::Fault(ByteFault {
             number: refusal::RANGE,
             left: bytes.len(),
         }));

@@ -9,8 +9,8 @@ ghost use Rattle.image_format.specs.Stands.{tree_in};
 ghost use Rattle.image_format.specs.Whole.{any_tree, deepest_kept};
 
 use crate::bytes::are_bytes;
+use crate::put_trees::put_tree;
 use crate::reading::tree_at;
-use crate::seg_bytes_put::put_tree;
 use crate::segs::tree_at as segs_at;
 use crate::view::SegBytes;
 use crate::{Limits, ReadError, Seg, Segs};

@@ -7,10 +7,10 @@ ghost use Rattle.loader_code.specs.Told.{told};
 
 use crate::shape::Shape;
 use loader::declared_fault;
-use loader_code::Shown;
+use loader_code::FaultNumbers;
 
 /// The first process whose declared bound does not meet the recurrence, or is above its deadline.
-pub(crate) fn bound_fault(shape: &Shape) -> Option<Shown>
+pub(crate) fn bound_fault(shape: &Shape) -> Option<FaultNumbers>
     ensures { told result ≡ first_of_bounds shape.now.image }
 {
     shape.has_no_fault_before_bounds();

@@ -14,11 +14,11 @@
 
 mod bounds;
 mod fault;
+mod load_shape;
 mod shape;
-mod shape_image;
-mod shape_load;
+mod valid_images;
 pub mod valid_read;
 
 pub use fault::{LoadFault, ValidFault};
 pub use shape::Shape;
-pub use shape_image::{Image, verify};
+pub use valid_images::{Image, verify};

@@ -11,8 +11,8 @@ ghost use Rattle.valid_image.specs.Tasks.{tasks_of};
 ghost use Rattle.loader.specs.Verified.{HasRanges, fault_before_bounds as first_before_bounds};
 
 use crate::fault::ValidFault;
-use image::{ImageNames, RawImage, RawMon};
-use image_bytes::{ImageBytes, ProcRef, RoutineRef};
+use image::{ImageNames, RawImage, RawMonitor};
+use image_bytes::{ImageBytes, ProcessRef, RoutineRef};
 use loader::{fault_before_bounds, task_set};
 use machine_isa::Instr;
 use sched_response::TaskSet;
@@ -141,7 +141,7 @@ impl Shape {
     }
 
     /// A process, by its number from 0: its numbers, and its trees as they stand in the bytes.
-    pub fn process(&self, process: u16) -> ProcRef<'_>
+    pub fn process(&self, process: u16) -> ProcessRef<'_>
         requires { process < length self.now.image.processes }
         ensures { slice_get self.now.image.processes process ≡ Some (process_in result) }
     {
@@ -157,7 +157,7 @@ impl Shape {
     }
 
     /// A monitor, by its number from 0.
-    pub fn monitor(&self, monitor: u16) -> RawMon
+    pub fn monitor(&self, monitor: u16) -> RawMonitor
         requires { monitor < length self.now.image.monitors }
         ensures { slice_get self.now.image.monitors monitor ≡ Some (monitor_of result) }
     {

@@ -14,5 +14,5 @@ pub fn every_valid_image_that_is_read_is_safe_and_in_time()
     ensures { EveryValidImageReadIsSafeAndInTime }
 {
     image_reader_law::images_read_are_in_their_ranges();
-    valid_image_law::valid_law::every_valid_image_is_safe_and_in_time();
+    valid_image_law::validity_law::every_valid_image_is_safe_and_in_time();
 }

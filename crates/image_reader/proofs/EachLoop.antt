@@ -1,6 +1,6 @@
 -- Reading things one after the other, as a loop does.
 use Rattle.std.proofs.Common.{◌≡◌, ℕ, suc, ◌-◌, ◌+◌, ◌≤◌, ◌<◌, List, [], ◌∷◌, ◌++◌, Ok, Err, refl, sym, ap, ◌∙◌, arith, append_assoc, append-nil}
-use Rattle.image_format.specs.declared.fault.Fault.{Fault}
+use Rattle.image_format.specs.declared.fault.ByteFault.{ByteFault}
 use Rattle.image_format.specs.declared.fault.ReadError.{ReadError}
 use Rattle.image_format.specs.declared.fault.ReadError.TheVariants as errors
 use Rattle.image_format.specs.Format.{◌>>=◌, Format, Read, each_read}
@@ -23,7 +23,7 @@ goes_on f front count i bytes x after total lt h so_far =
     rw (k, h) (regroup front x (each_read f (front ++ x ∷ []) (count - (i + 1)) after)) in
     sym one ∙ so_far
 
-pub fails : {A : Type 0} (f : List A → Format A) (x : Fault) (front : List A) (count i : ℕ) (bytes : List ℕ) (total : Read (List A)) → i < count → (f front).read bytes ≡ Err x
+pub fails : {A : Type 0} (f : List A → Format A) (x : ByteFault) (front : List A) (count i : ℕ) (bytes : List ℕ) (total : Read (List A)) → i < count → (f front).read bytes ≡ Err x
     → in_front front (each_read f front (count - i) bytes) ≡ total → total ≡ Err x
 unfolding each_read
 fails f x front count i bytes total lt h so_far =

@@ -4,8 +4,8 @@ use Rattle.std.specs.List.{list_any}
 use Rattle.std.specs.Cmp.Lexicographic.{pointwise}
 use Rattle.machine_isa.specs.declared.instr.Instr.{Instr}
 use Rattle.machine_semantics.specs.Image.{Monitor, Routine, Process}
-use Rattle.image.specs.declared.names.CondName.{CondName}
-use Rattle.image.specs.declared.names.DevName.{DevName}
+use Rattle.image.specs.declared.names.ConditionName.{ConditionName}
+use Rattle.image.specs.declared.names.DeviceName.{DeviceName}
 use Rattle.image.specs.declared.names.EventName.{EventName}
 use Rattle.image.specs.Bytes.{Version, First, Second}
 use Rattle.image.specs.Named.{NamedImage}
@@ -19,10 +19,10 @@ use Rattle.image_reader.specs.Grammar.{counts_format, name_format, device_format
 pub record Parts : Type 0 where
   pub over : ℕ
   pub program : List ℕ
-  pub devices : List DevName
+  pub devices : List DeviceName
   pub events : List (List ℕ)
   pub monitors : List (List ℕ × Monitor)
-  pub conditions : List CondName
+  pub conditions : List ConditionName
   pub routines : List Routine
   pub processes : List (List ℕ × Process)
   pub code : List Instr
@@ -101,7 +101,7 @@ code_format false count = record { write = λ code. []; is = λ code. false; rea
 
 -- the devices and the events, the monitors and the conditions; names are compared with all before
 -- them
-abbrev pub devices_format : Counts → (taken : List (List ℕ)) → Format (List DevName)
+abbrev pub devices_format : Counts → (taken : List (List ℕ)) → Format (List DeviceName)
 devices_format counts taken = each (λ earlier. device_format (taken ++ map (λ d. d.name) earlier)) [] counts.devices
 
 abbrev pub events_format : Counts → (taken : List (List ℕ)) → Format (List (List ℕ))
@@ -110,7 +110,7 @@ events_format counts taken = each (λ earlier. name_format (taken ++ earlier)) [
 abbrev pub monitors_format : Counts → (taken : List (List ℕ)) → Format (List (List ℕ × Monitor))
 monitors_format counts taken = each (λ earlier. named_monitor_format (taken ++ map (λ m. m.0) earlier)) [] counts.monitors
 
-abbrev pub conditions_format : Counts → (taken : List (List ℕ)) → Format (List CondName)
+abbrev pub conditions_format : Counts → (taken : List (List ℕ)) → Format (List ConditionName)
 conditions_format counts taken = each (condition_format taken counts.monitors) [] counts.conditions
 
 abbrev pub routines_format : Counts → Format (List Routine)
@@ -121,7 +121,7 @@ processes_format version counts taken =
     each (λ earlier. named_process_format version counts (taken ++ map (λ p. p.0) earlier) (used_by earlier)) [] counts.processes
 
 -- the names that come before the events, the monitors, and all that follows
-abbrev pub with_devices : (taken : List (List ℕ)) → List DevName → List (List ℕ)
+abbrev pub with_devices : (taken : List (List ℕ)) → List DeviceName → List (List ℕ)
 with_devices taken devices = taken ++ map (λ d. d.name) devices
 
 abbrev pub with_monitors : (taken : List (List ℕ)) → List (List ℕ × Monitor) → List (List ℕ)
@@ -133,13 +133,13 @@ work_format version counts taken =
     both (routines_format counts) (λ routines. both (processes_format version counts taken) (λ processes. code_format (all_used (used_by processes) 0 counts.events) counts.code))
 
 -- the monitors, the conditions, and all that follows
-abbrev pub guarded_format : Version → Counts → (taken : List (List ℕ)) → Format (List (List ℕ × Monitor) × (List CondName × (List Routine × (List (List ℕ × Process) × List Instr))))
+abbrev pub guarded_format : Version → Counts → (taken : List (List ℕ)) → Format (List (List ℕ × Monitor) × (List ConditionName × (List Routine × (List (List ℕ × Process) × List Instr))))
 guarded_format version counts taken =
     both (monitors_format counts taken) (λ monitors. both (conditions_format counts (with_monitors taken monitors)) (λ conditions. work_format version counts (with_monitors taken monitors)))
 
 -- all after the counts and the program's name
 abbrev pub named_format : Version → Counts → (program : List ℕ)
-    → Format (List DevName × (List (List ℕ) × (List (List ℕ × Monitor) × (List CondName × (List Routine × (List (List ℕ × Process) × List Instr))))))
+    → Format (List DeviceName × (List (List ℕ) × (List (List ℕ × Monitor) × (List ConditionName × (List Routine × (List (List ℕ × Process) × List Instr))))))
 named_format version counts program =
     both (devices_format counts (program ∷ [])) (λ devices. both (events_format counts (with_devices (program ∷ []) devices)) (λ events.
     guarded_format version counts (with_devices (program ∷ []) devices ++ events)))

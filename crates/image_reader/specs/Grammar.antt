@@ -13,8 +13,8 @@ use Rattle.machine_isa.specs.Numbered.{numbered}
 use Rattle.machine_semantics.specs.Image.{Monitor, Routine, Process}
 use Rattle.machine_semantics.specs.Trees.{Segs}
 use Rattle.image_format.specs.Numbers as written
-use Rattle.image.specs.declared.names.CondName.{CondName}
-use Rattle.image.specs.declared.names.DevName.{DevName}
+use Rattle.image.specs.declared.names.ConditionName.{ConditionName}
+use Rattle.image.specs.declared.names.DeviceName.{DeviceName}
 use Rattle.image.specs.Bytes.{Version, First, Second}
 use Rattle.image_reader.specs.declared.counts.Counts.{Counts}
 use Rattle.image_format.specs.Format.{Format, ◌>>=◌, field_at, u8, u16, u32, bytes_as_are, given, unless, checked, both, via, each}
@@ -44,7 +44,7 @@ flag_format number = record {
   read = λ bytes. (checked u8 (λ n. unless (nat_le n 1) number)).read bytes >>= λ x. Ok (x.0 == 1, x.1);
 }
 
-abbrev pub device_format : (taken : List (List ℕ)) → Format DevName
+abbrev pub device_format : (taken : List (List ℕ)) → Format DeviceName
 device_format taken = via (λ x. record { name = x.0; out = x.1 }) (λ d. (d.name, d.out)) (both (name_format taken) (λ name. flag_format 6))
 
 -- base and words may be any numbers, and so may the ceiling
@@ -55,12 +55,12 @@ abbrev pub named_monitor_format : (taken : List (List ℕ)) → Format (List ℕ
 named_monitor_format taken = both (name_format taken) (λ name. monitor_format)
 
 -- whether an earlier condition of the same monitor has the name
-abbrev pub is_again : (earlier : List CondName) → CondName → Bool
+abbrev pub is_again : (earlier : List ConditionName) → ConditionName → Bool
 is_again earlier c = list_any (λ e. nat_eq c.mon e.mon && pointwise nat_eq c.name e.name) earlier
 
 -- I5 where the name is taken, also by an earlier condition of the same monitor; I4 where there is
 -- no such monitor
-abbrev pub condition_format : (taken : List (List ℕ)) → (monitors : ℕ) → (earlier : List CondName) → Format CondName
+abbrev pub condition_format : (taken : List (List ℕ)) → (monitors : ℕ) → (earlier : List ConditionName) → Format ConditionName
 condition_format taken monitors earlier =
     checked (via (λ x. record { name = x.0; mon = x.1 }) (λ c. (c.name, c.mon)) (both (name_format taken) (λ name. u16_below monitors))) (λ c. unless (not (is_again earlier c)) 5)
 

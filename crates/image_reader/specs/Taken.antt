@@ -1,14 +1,14 @@
 -- Names and conditions that stand before others, as the code holds them.
 use Rattle.std.specs.Prelude.{◌≡◌, ℕ, true, false, List, Option, Some, None}
-use Rattle.image.specs.declared.names.CondName.{CondName}
+use Rattle.image.specs.declared.names.ConditionName.{ConditionName}
 use Rattle.image_reader.specs.Grammar.{has, is_again, wrong_name}
 
 -- a condition by its monitor and its name
-abbrev pub condition_in : ℕ × List ℕ → CondName
+abbrev pub condition_in : ℕ × List ℕ → ConditionName
 condition_in pair = record { name = pair.1; mon = pair.0 }
 
 -- the condition, where no earlier one is the same; else nothing
-abbrev pub Judges : (earlier : List CondName) → CondName → Option CondName → Type 0
+abbrev pub Judges : (earlier : List ConditionName) → ConditionName → Option ConditionName → Type 0
 Judges earlier condition None = is_again earlier condition ≡ true
 Judges earlier condition (Some same) = (same ≡ condition) × (is_again earlier condition ≡ false)
 

@@ -5,7 +5,7 @@ ghost use Rattle.image_format.specs.Gives.{Gives};
 ghost use Rattle.image_format.specs.TreeFormat.{u16_within as short_within};
 ghost use Rattle.image_reader.specs.Grammar.{cost, flag_format};
 
-use image_format::{Fault, ReadError, refusal, u8_at, u16_at, u32_within};
+use image_format::{ByteFault, ReadError, refusal, u8_at, u16_at, u32_within};
 
 /// The longest time that is told.
 const LONGEST_COST: u32 = 1_000_000_001;
@@ -18,7 +18,7 @@ pub fn u16_within(bytes: &[u8], low: u16, high: u16) -> Result<(u16, &[u8]), Rea
     if low <= number && number <= high {
         Ok((number, rest))
     } else {
-        Err(ReadError::Fault(Fault {
+        Err(ReadError::Fault(ByteFault {
             number: refusal::RANGE,
             left: bytes.len(),
         }))
@@ -40,7 +40,7 @@ pub fn flag_at(bytes: &[u8], number: u8) -> Result<(bool, &[u8]), ReadError>
     if value <= 1 {
         Ok((value == 1, rest))
     } else {
-        Err(ReadError::Fault(Fault {
+        Err(ReadError::Fault(ByteFault {
             number,
             left: bytes.len(),
         }))

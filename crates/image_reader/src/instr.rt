@@ -6,7 +6,7 @@ ghost use Rattle.image_format.specs.Format.{checked, u8 as one_byte, unless};
 ghost use Rattle.image_reader.specs.Grammar.{instr_format, operand, or_end, word};
 ghost use Rattle.machine_isa.specs.Numbered.{numbered};
 
-use image_format::{Fault, ReadError, refusal, u8_at};
+use image_format::{ByteFault, ReadError, refusal, u8_at};
 use machine_isa::{Instr, arity, instr_of};
 
 /// A signed number of four bytes, the highest first.
@@ -14,7 +14,7 @@ fn word_at(bytes: &[u8]) -> Result<(i32, &[u8]), ReadError>
     ensures { Gives (λ x. (x.0, x.1.now)) result (word.read bytes.now) }
 {
     if bytes.len() < 4 {
-        return Err(ReadError::Fault(Fault {
+        return Err(ReadError::Fault(ByteFault {
             number: refusal::ENDS,
             left: 0,
         }));
@@ -32,7 +32,7 @@ fn operand_at(bytes: &[u8], is_named: bool) -> Result<(i32, &[u8]), ReadError>
     if is_named || value == 0 {
         Ok((value, rest))
     } else {
-        Err(ReadError::Fault(Fault {
+        Err(ReadError::Fault(ByteFault {
             number: refusal::NOT_ZERO,
             left: bytes.len(),
         }))
@@ -48,7 +48,7 @@ fn number_at(bytes: &[u8]) -> Result<(u8, &[u8]), ReadError>
     if 1 <= number && number <= 48 {
         Ok((number, rest))
     } else {
-        Err(ReadError::Fault(Fault {
+        Err(ReadError::Fault(ByteFault {
             number: refusal::KIND,
             left: bytes.len(),
         }))

@@ -9,7 +9,6 @@
 mod counts;
 mod fault;
 mod fields;
-mod image_reading_image;
 mod instr;
 mod lists;
 mod named;
@@ -18,9 +17,10 @@ mod parts;
 mod process;
 mod taken;
 mod trees;
+mod whole_image;
 
 pub use fault::ImageFault;
-pub use image_reading_image::{Guarded, Named, Work, assemble, read_image};
 pub use instr::instr_or_end;
-pub use named::{Monitors, Processes};
+pub use named::{NamedMonitors, NamedProcesses};
 pub use names::is_plain_name;
+pub use whole_image::{Guarded, Named, Work, assemble, read_image};

@@ -11,8 +11,8 @@ use crate::counts::Counts;
 use crate::instr::instr_at;
 use crate::names::name_at;
 use crate::parts::{condition_at, device_at, routine_at};
-use crate::taken::{Earlier, Taken};
-use image::{CondName, DevName, RawRoutine};
+use crate::taken::{EarlierConditions, TakenNames};
+use image::{ConditionName, DeviceName, RawRoutine};
 use image_format::ReadError;
 use machine_isa::Instr;
 use std::alloc::Global;
@@ -23,8 +23,8 @@ pub fn devices_at<'a>(
     alloc: Global,
     bytes: &'a [u8],
     counts: &Counts,
-    taken: &mut Taken,
-) -> Result<(List<DevName>, &'a [u8]), ReadError>
+    taken: &mut TakenNames,
+) -> Result<(List<DeviceName>, &'a [u8]), ReadError>
     ensures read { Gives (λ x. (x.0, x.1.now)) result
         ((devices_format counts.now taken.old).read bytes.now) }
     ensures taken { IfOk result (λ x. taken.new ≡ taken.old ++ map (λ d. d.name) x.0) }
@@ -45,7 +45,7 @@ pub fn events_at<'a>(
     alloc: Global,
     bytes: &'a [u8],
     counts: &Counts,
-    taken: &mut Taken,
+    taken: &mut TakenNames,
 ) -> Result<(List<Name>, &'a [u8]), ReadError>
     ensures read { Gives (λ x. (x.0, x.1.now)) result
         ((events_format counts.now taken.old).read bytes.now) }
@@ -67,13 +67,13 @@ pub fn conditions_at<'a>(
     alloc: Global,
     bytes: &'a [u8],
     counts: &Counts,
-    taken: &Taken,
-) -> Result<(List<CondName>, &'a [u8]), ReadError>
+    taken: &TakenNames,
+) -> Result<(List<ConditionName>, &'a [u8]), ReadError>
     ensures { Gives (λ x. (x.0, x.1.now)) result
         ((conditions_format counts.now taken.now).read bytes.now) }
 {
     let mut conditions = List::new(alloc);
-    let mut earlier = Earlier::new(alloc);
+    let mut earlier = EarlierConditions::new(alloc);
     let mut rest = bytes;
     for _ in 0..counts.conditions {
         let (condition, after) = condition_at(alloc, rest, taken, counts.monitors, &earlier)?;

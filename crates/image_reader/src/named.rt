@@ -12,25 +12,25 @@ use crate::counts::Counts;
 use crate::names::name_at;
 use crate::parts::monitor_at;
 use crate::process::process_at;
-use crate::taken::Taken;
-use image::{RawMon, RawProc};
+use crate::taken::TakenNames;
+use image::{RawMonitor, RawProcess};
 use image_format::ReadError;
 use std::alloc::{AllocError, Global};
 use syntax_tree::{List, Name};
 
 /// Monitors, each with its name.
 #[derive(Drop)]
-pub struct Monitors {
+pub struct NamedMonitors {
     pub names: List<Name>,
-    pub things: List<RawMon>,
+    pub things: List<RawMonitor>,
 }
 
 /// A monitor after its name.
 fn named_monitor_at<'a>(
     alloc: Global,
     bytes: &'a [u8],
-    taken: &Taken,
-) -> Result<((Name, RawMon), &'a [u8]), ReadError>
+    taken: &TakenNames,
+) -> Result<((Name, RawMonitor), &'a [u8]), ReadError>
     ensures read { Gives (λ x. ((x.0.0, monitor_of x.0.1), x.1.now)) result
         ((named_monitor_format taken.now).read bytes.now) }
     ensures fresh { IfOk result (λ x. has taken.now x.0.0 ≡ false) }
@@ -45,8 +45,8 @@ pub fn monitors_at<'a>(
     alloc: Global,
     bytes: &'a [u8],
     counts: &Counts,
-    taken: &mut Taken,
-) -> Result<(Monitors, &'a [u8]), ReadError>
+    taken: &mut TakenNames,
+) -> Result<(NamedMonitors, &'a [u8]), ReadError>
     ensures read { Gives (λ x. (zip x.0.names (map monitor_of x.0.things), x.1.now)) result
         ((monitors_format counts.now taken.old).read bytes.now) }
     ensures taken { IfOk result (λ x. taken.new ≡
@@ -63,7 +63,7 @@ pub fn monitors_at<'a>(
         things.push(monitor)?;
         rest = after;
     }
-    Ok((Monitors { names, things }, rest))
+    Ok((NamedMonitors { names, things }, rest))
 }
 
 /// A process after its name.
@@ -72,9 +72,9 @@ fn named_process_at<'a>(
     bytes: &'a [u8],
     has_deadlines: bool,
     counts: &Counts,
-    taken: &Taken,
+    taken: &TakenNames,
     used: &[u16],
-) -> Result<((Name, RawProc), &'a [u8]), ReadError>
+) -> Result<((Name, RawProcess), &'a [u8]), ReadError>
     ensures read { Gives (λ x. ((x.0.0, process_of x.0.1), x.1.now)) result
         ((named_process_format (in_version has_deadlines) counts.now taken.now used.now).read
         bytes.now) }
@@ -86,7 +86,7 @@ fn named_process_at<'a>(
 }
 
 /// Notes the event that releases the process, where there is one.
-fn use_event(used: &mut List<u16>, process: &RawProc) -> Result<(), AllocError>
+fn use_event(used: &mut List<u16>, process: &RawProcess) -> Result<(), AllocError>
     ensures { OnOk result (used.new ≡ used.old ++ event_of (process_of process.now)) }
 {
     if process.kind != 0 {
@@ -97,9 +97,9 @@ fn use_event(used: &mut List<u16>, process: &RawProc) -> Result<(), AllocError>
 
 /// Processes, each with its name, and the events that release them.
 #[derive(Drop)]
-pub struct Processes {
+pub struct NamedProcesses {
     pub names: List<Name>,
-    pub things: List<RawProc>,
+    pub things: List<RawProcess>,
     pub used: List<u16>,
 }
 
@@ -109,8 +109,8 @@ pub fn processes_at<'a>(
     bytes: &'a [u8],
     has_deadlines: bool,
     counts: &Counts,
-    taken: &mut Taken,
-) -> Result<(Processes, &'a [u8]), ReadError>
+    taken: &mut TakenNames,
+) -> Result<(NamedProcesses, &'a [u8]), ReadError>
     ensures read { Gives (λ x. (zip x.0.names (map process_of x.0.things), x.1.now)) result
         ((processes_format (in_version has_deadlines) counts.now taken.old).read bytes.now) }
     ensures used { IfOk result (λ x. x.0.used ≡
@@ -137,7 +137,7 @@ pub fn processes_at<'a>(
         rest = after;
     }
     Ok((
-        Processes {
+        NamedProcesses {
             names,
             things,
             used,

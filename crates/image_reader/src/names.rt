@@ -9,8 +9,8 @@ ghost use Rattle.image_format.specs.TreeFormat.{within};
 ghost use Rattle.image_reader.specs.Grammar.{has, name_format};
 ghost use Rattle.image_reader.specs.Taken.{Names};
 
-use crate::taken::Taken;
-use image_format::{Fault, ReadError, refusal, u8_at};
+use crate::taken::TakenNames;
+use image_format::{ByteFault, ReadError, refusal, u8_at};
 use std::alloc::{AllocError, Global};
 use syntax::keyword_at;
 use syntax_tree::Name;
@@ -59,7 +59,7 @@ pub fn bytes_at(bytes: &[u8], size: usize) -> Result<(&[u8], &[u8]), ReadError>
     ensures { Gives (λ x. (x.0.now, x.1.now)) result ((bytes_as_are size).read bytes.now) }
 {
     if bytes.len() < size {
-        return Err(ReadError::Fault(Fault {
+        return Err(ReadError::Fault(ByteFault {
             number: refusal::ENDS,
             left: 0,
         }));
@@ -76,7 +76,7 @@ fn length_at(bytes: &[u8]) -> Result<(u8, &[u8]), ReadError>
     if length <= 63 {
         Ok((length, rest))
     } else {
-        Err(ReadError::Fault(Fault {
+        Err(ReadError::Fault(ByteFault {
             number: refusal::RANGE,
             left: bytes.len(),
         }))
@@ -91,7 +91,7 @@ pub fn is_plain_name(name: &[u8]) -> bool
 }
 
 /// The name of these bytes, where they are an identifier, no keyword, and not taken; else nothing.
-fn fresh_name(alloc: Global, bytes: &[u8], taken: &Taken) -> Result<Option<Name>, AllocError>
+fn fresh_name(alloc: Global, bytes: &[u8], taken: &TakenNames) -> Result<Option<Name>, AllocError>
     ensures { IfOk result (Names taken.now bytes.now) }
 {
     if !is_plain_name(bytes) {
@@ -108,7 +108,7 @@ fn fresh_name(alloc: Global, bytes: &[u8], taken: &Taken) -> Result<Option<Name>
 pub fn name_at<'a>(
     alloc: Global,
     bytes: &'a [u8],
-    taken: &Taken,
+    taken: &TakenNames,
 ) -> Result<(Name, &'a [u8]), ReadError>
     ensures read { Gives (λ x. (x.0, x.1.now)) result ((name_format taken.now).read bytes.now) }
     ensures fresh { IfOk result (λ x. has taken.now x.0 ≡ false) }
@@ -117,7 +117,7 @@ pub fn name_at<'a>(
     let (name, rest) = bytes_at(rest, usize::from(length))?;
     match fresh_name(alloc, name, taken)? {
         Some(name) => Ok((name, rest)),
-        None => Err(ReadError::Fault(Fault {
+        None => Err(ReadError::Fault(ByteFault {
             number: refusal::NAME,
             left: bytes.len(),
         })),

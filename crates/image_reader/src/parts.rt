@@ -9,10 +9,10 @@ ghost use Rattle.image_reader.specs.Grammar.{condition_format, cost, cost_format
 use crate::counts::Counts;
 use crate::fields::{cost_at, flag_at, u16_within};
 use crate::names::name_at;
-use crate::taken::{Earlier, Taken};
+use crate::taken::{EarlierConditions, TakenNames};
 use crate::trees::tree_at;
-use image::{CondName, DevName, RawMon, RawRoutine};
-use image_format::{Fault, ReadError, refusal, u8_at, u16_at, u16_below, u32_at, u32_within};
+use image::{ConditionName, DeviceName, RawMonitor, RawRoutine};
+use image_format::{ByteFault, ReadError, refusal, u8_at, u16_at, u16_below, u32_at, u32_within};
 use std::alloc::Global;
 
 /// How deep trees nest at most.
@@ -22,25 +22,25 @@ pub const DEEPEST: u32 = 130;
 pub fn device_at<'a>(
     alloc: Global,
     bytes: &'a [u8],
-    taken: &Taken,
-) -> Result<(DevName, &'a [u8]), ReadError>
+    taken: &TakenNames,
+) -> Result<(DeviceName, &'a [u8]), ReadError>
     ensures read { Gives (λ x. (x.0, x.1.now)) result ((device_format taken.now).read bytes.now) }
     ensures fresh { IfOk result (λ x. has taken.now x.0.name ≡ false) }
 {
     let (name, rest) = name_at(alloc, bytes, taken)?;
     let (out, rest) = flag_at(rest, 6)?;
-    Ok((DevName { name, out }, rest))
+    Ok((DeviceName { name, out }, rest))
 }
 
 /// A monitor, after its name.
-pub fn monitor_at(bytes: &[u8]) -> Result<(RawMon, &[u8]), ReadError>
+pub fn monitor_at(bytes: &[u8]) -> Result<(RawMonitor, &[u8]), ReadError>
     ensures { Gives (λ x. (monitor_of x.0, x.1.now)) result (monitor_format.read bytes.now) }
 {
     let (base, rest) = u32_at(bytes)?;
     let (words, rest) = u32_at(rest)?;
     let (ceiling, rest) = u16_at(rest)?;
     Ok((
-        RawMon {
+        RawMonitor {
             base,
             words,
             ceiling,
@@ -53,10 +53,10 @@ pub fn monitor_at(bytes: &[u8]) -> Result<(RawMon, &[u8]), ReadError>
 pub fn condition_at<'a>(
     alloc: Global,
     bytes: &'a [u8],
-    taken: &Taken,
+    taken: &TakenNames,
     monitors: u16,
-    earlier: &Earlier,
-) -> Result<(CondName, &'a [u8]), ReadError>
+    earlier: &EarlierConditions,
+) -> Result<(ConditionName, &'a [u8]), ReadError>
     ensures read { Gives (λ x. (x.0, x.1.now)) result
         ((condition_format taken.now monitors earlier.now).read bytes.now) }
     ensures new { IfOk result (λ x. is_again earlier.now x.0 ≡ false) }
@@ -65,7 +65,7 @@ pub fn condition_at<'a>(
     let (mon, rest) = u16_below(rest, u32::from(monitors))?;
     match earlier.unless_again(name, mon) {
         Some(condition) => Ok((condition, rest)),
-        None => Err(ReadError::Fault(Fault {
+        None => Err(ReadError::Fault(ByteFault {
             number: refusal::NAME,
             left: bytes.len(),
         })),
@@ -81,7 +81,7 @@ pub fn kind_at(bytes: &[u8], last: u8) -> Result<(u8, &[u8]), ReadError>
     if kind <= last {
         Ok((kind, rest))
     } else {
-        Err(ReadError::Fault(Fault {
+        Err(ReadError::Fault(ByteFault {
             number: refusal::KIND,
             left: bytes.len(),
         }))
@@ -112,7 +112,7 @@ fn owner_number_at<'a>(
     let (owner, rest) = u16_at(bytes)?;
     match owner_fault(counts, kind, owner) {
         None => Ok((owner, rest)),
-        Some(number) => Err(ReadError::Fault(Fault {
+        Some(number) => Err(ReadError::Fault(ByteFault {
             number,
             left: bytes.len(),
         })),
@@ -160,7 +160,7 @@ fn stay_at(bytes: &[u8], kind: u8) -> Result<(u32, &[u8]), ReadError>
     if kind == 2 || stay == 0 {
         Ok((stay, rest))
     } else {
-        Err(ReadError::Fault(Fault {
+        Err(ReadError::Fault(ByteFault {
             number: refusal::NOT_ZERO,
             left: bytes.len(),
         }))

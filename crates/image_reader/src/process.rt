@@ -13,8 +13,8 @@ use crate::counts::Counts;
 use crate::fields::cost_at;
 use crate::parts::{DEEPEST, kind_at};
 use crate::trees::tree_at;
-use image::RawProc;
-use image_format::{Fault, ReadError, SegTree, refusal, u16_at, u32_at, u32_within};
+use image::RawProcess;
+use image_format::{ByteFault, ReadError, SegTree, refusal, u16_at, u32_at, u32_within};
 use std::alloc::Global;
 use syntax_tree::List;
 
@@ -43,7 +43,7 @@ fn first_at(bytes: &[u8], kind: u8) -> Result<(u32, &[u8]), ReadError>
     if kind == 0 || first == 0 {
         Ok((first, rest))
     } else {
-        Err(ReadError::Fault(Fault {
+        Err(ReadError::Fault(ByteFault {
             number: refusal::NOT_ZERO,
             left: bytes.len(),
         }))
@@ -74,7 +74,7 @@ fn event_at<'a>(
     let (event, rest) = u16_at(bytes)?;
     match event_fault(events, used, kind, event) {
         None => Ok((event, rest)),
-        Some(number) => Err(ReadError::Fault(Fault {
+        Some(number) => Err(ReadError::Fault(ByteFault {
             number,
             left: bytes.len(),
         })),
@@ -197,7 +197,7 @@ fn handler_at(bytes: &[u8]) -> Result<((u32, u16), &[u8]), ReadError>
     if 0 < count || handler == 0 {
         Ok(((handler, count), rest))
     } else {
-        Err(ReadError::Fault(Fault {
+        Err(ReadError::Fault(ByteFault {
             number: refusal::NOT_ZERO,
             left: bytes.len(),
         }))
@@ -220,7 +220,7 @@ fn number_at(bytes: &[u8], last: u16) -> Result<(u16, &[u8]), ReadError>
     if last < number && may_be_taken(number) {
         Ok((number, rest))
     } else {
-        Err(ReadError::Fault(Fault {
+        Err(ReadError::Fault(ByteFault {
             number: refusal::HANDLER,
             left: bytes.len(),
         }))
@@ -267,7 +267,7 @@ pub fn process_at<'a>(
     has_deadlines: bool,
     counts: &Counts,
     used: &[u16],
-) -> Result<(RawProc, &'a [u8]), ReadError>
+) -> Result<(RawProcess, &'a [u8]), ReadError>
     ensures { Gives (λ x. (process_of x.0, x.1.now)) result
         ((process_format (in_version has_deadlines) counts.now used.now).read bytes.now) }
 {
@@ -279,7 +279,7 @@ pub fn process_at<'a>(
     let (body, rest) = tree_at(alloc, counts.monitors, DEEPEST, rest)?;
     let (handler_tree, rest) = handler_tree_at(alloc, rest, counts.monitors, count)?;
     Ok((
-        RawProc {
+        RawProcess {
             kind: release.kind,
             frame: release.frame,
             deadline: release.deadline,

@@ -4,7 +4,7 @@ ghost use Rattle.std.specs.Prelude.{◌≡◌, ◌++◌, ◌∷◌, [], false, O
 ghost use Rattle.image_reader.specs.Grammar.{has as is_among, is_again};
 ghost use Rattle.image_reader.specs.Taken.{Judges};
 
-use image::CondName;
+use image::ConditionName;
 use indexmap::IndexSet;
 use std::alloc::{AllocError, Global};
 use std::marker::Model;
@@ -12,11 +12,11 @@ use syntax_tree::Name;
 
 /// Names that no later part may have, in the order in which they were taken.
 #[derive(Drop)]
-pub struct Taken {
+pub struct TakenNames {
     names: IndexSet<Name>,
 }
 
-impl Model for Taken {
+impl Model for TakenNames {
     ghost use Rattle.std.specs.Prelude.{List, ℕ};
 
     ghost Value = { List (List ℕ) };
@@ -24,12 +24,12 @@ impl Model for Taken {
     ghost view = { λ t. t.names.keys };
 }
 
-impl Taken {
+impl TakenNames {
     /// No names.
-    pub fn new(alloc: Global) -> Taken
+    pub fn new(alloc: Global) -> TakenNames
         ensures { result ≡ [] }
     {
-        Taken {
+        TakenNames {
             names: IndexSet::new(alloc),
         }
     }
@@ -54,32 +54,32 @@ impl Taken {
 
 /// Conditions that stand before another, by monitor and name.
 #[derive(Drop)]
-pub struct Earlier {
+pub struct EarlierConditions {
     pairs: IndexSet<(u16, Name)>,
 }
 
-impl Model for Earlier {
+impl Model for EarlierConditions {
     ghost use Rattle.std.specs.Prelude.{List, map};
-    ghost use Rattle.image.specs.declared.names.CondName.{CondName};
+    ghost use Rattle.image.specs.declared.names.ConditionName.{ConditionName};
     ghost use Rattle.image_reader.specs.Taken.{condition_in};
 
-    ghost Value = { List CondName };
+    ghost Value = { List ConditionName };
 
     ghost view = { λ e. map condition_in e.pairs.keys };
 }
 
-impl Earlier {
+impl EarlierConditions {
     /// No conditions.
-    pub fn new(alloc: Global) -> Earlier
+    pub fn new(alloc: Global) -> EarlierConditions
         ensures { result ≡ [] }
     {
-        Earlier {
+        EarlierConditions {
             pairs: IndexSet::new(alloc),
         }
     }
 
     /// The condition of that name and that monitor, where none of these is one; else nothing.
-    pub fn unless_again(&self, name: Name, mon: u16) -> Option<CondName>
+    pub fn unless_again(&self, name: Name, mon: u16) -> Option<ConditionName>
         ensures { Judges self.now (record { name = name; mon = mon }) result }
     {
         let pair = (mon, name);
@@ -87,11 +87,11 @@ impl Earlier {
             return None;
         }
         let (mon, name) = pair;
-        Some(CondName { name, mon })
+        Some(ConditionName { name, mon })
     }
 
     /// Notes a condition that is none of these.
-    pub fn note(&mut self, alloc: Global, condition: &CondName) -> Result<(), AllocError>
+    pub fn note(&mut self, alloc: Global, condition: &ConditionName) -> Result<(), AllocError>
         requires { is_again self.old condition.now ≡ false }
         ensures { OnOk result (self.new ≡ self.old ++ condition.now ∷ []) }
     {

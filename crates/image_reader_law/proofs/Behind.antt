@@ -7,7 +7,7 @@ use Rattle.std.proofs.Math.Seq.{take-append_seam}
 use Rattle.machine_isa.specs.declared.instr.Instr.{Instr}
 use Rattle.image.specs.Bytes.{Version, First, Second, bytes_of}
 use Rattle.image_reader.specs.declared.counts.Counts.{Counts}
-use Rattle.image_format.specs.declared.fault.Fault.{Fault}
+use Rattle.image_format.specs.declared.fault.ByteFault.{ByteFault}
 use Rattle.image_format.specs.Format.{Format, fault, both}
 use Rattle.image_reader.specs.Grammar as g
 use Rattle.image_reader.specs.File as f
@@ -86,7 +86,7 @@ whole_is version p rest unused =
 
 -- ---- reading them, with more behind
 
-passes : (a : Sort) {B : Type 0} (f : Form a) (g : Thing a → Format B) → IsMade a f → (x : Thing a) → f.is x ≡ true → (rest : List ℕ) (e : Fault) → (g x).read rest ≡ Err e → (both f g).read (f.write x ++ rest) ≡ Err e
+passes : (a : Sort) {B : Type 0} (f : Form a) (g : Thing a → Format B) → IsMade a f → (x : Thing a) → f.is x ≡ true → (rest : List ℕ) (e : ByteFault) → (g x).read rest ≡ Err e → (both f g).read (f.write x ++ rest) ≡ Err e
 passes a f g made x in_range rest e h = goes_on (f.read (f.write x ++ rest)) (second_of g) (x, rest) e ((sound a f made).again x rest in_range) (stops ((g x).read rest) (λ y. Ok ((x, y.0), y.1)) e h)
 
 code_told : (is_used : Bool) (count : ℕ) (b : ℕ) (more : List ℕ) → is_used ≡ false → count ≡ 0 → (f.code_format is_used count).read (b ∷ more) ≡ Err (fault 3 (length (b ∷ more)))

@@ -3,7 +3,7 @@ use Rattle.std.proofs.Common.{◌≡◌, ◌⊎◌, inl, inr, ◌≤◌, ◌<◌
 use Rattle.std.specs.Prelude.{codes}
 use Rattle.std.proofs.lemmas.Bool.{eqb-false}
 use Rattle.image.specs.Bytes.{Version}
-use Rattle.image_format.specs.declared.fault.Fault.{Fault}
+use Rattle.image_format.specs.declared.fault.ByteFault.{ByteFault}
 use Rattle.image_format.specs.Format.{fault}
 use Rattle.image_reader.specs.File as f
 use Rattle.image_reader.specs.Answer.{HasFault}
@@ -21,7 +21,7 @@ use Rattle.image_reader_law.proofs.ImageFaultsWhole.{image_made}
 -- ---- by the format
 
 -- an event is of no process, there is no code, and there are more bytes
-pub record More (version : Version) (bytes : List ℕ) (e : Fault) : Type 0 where
+pub record More (version : Version) (bytes : List ℕ) (e : ByteFault) : Type 0 where
   pub unused : Unused version bytes e
   pub count : unused.counts.code ≡ 0
   pub b : ℕ
@@ -29,24 +29,24 @@ pub record More (version : Version) (bytes : List ℕ) (e : Fault) : Type 0 wher
   pub rest : unused.rest ≡ b ∷ more
   pub fault_is : fault 3 (length (b ∷ more)) ≡ e
 
-pub data Kind (bytes : List ℕ) (e : Fault) : Type 0 where
+pub data Kind (bytes : List ℕ) (e : ByteFault) : Type 0 where
   at_end : e.number ≡ 2 → e.left ≡ 0 → Kind bytes e
   letters : Letters bytes e → Kind bytes e
   versions : (rest : List ℕ) → bytes ≡ codes "RTEU" ++ rest → Other rest e → Kind bytes e
   inner : 4 ≤ e.number → e.number ≤ 8 → Kind bytes e
   trailing : (version : Version) (rest : List ℕ) → bytes ≡ codes "RTEU" ++ (f.version_format.write version ++ rest) → f.version_format.is version ≡ true → More version rest e → Kind bytes e
 
-pub number_of : {d e : Fault} → d ≡ e → d.number ≡ e.number
-number_of same = ap (λ (x : Fault). x.number) same
+pub number_of : {d e : ByteFault} → d ≡ e → d.number ≡ e.number
+number_of same = ap (λ (x : ByteFault). x.number) same
 
-pub left_of : {d e : Fault} → d ≡ e → d.left ≡ e.left
-left_of same = ap (λ (x : Fault). x.left) same
+pub left_of : {d e : ByteFault} → d ≡ e → d.left ≡ e.left
+left_of same = ap (λ (x : ByteFault). x.left) same
 
-inner_kind : (bytes : List ℕ) (e : Fault) → Inner e → Kind bytes e
+inner_kind : (bytes : List ℕ) (e : ByteFault) → Inner e → Kind bytes e
 inner_kind bytes e (inl end) = at_end end.0 end.1
 inner_kind bytes e (inr range) = inner range.0 range.1
 
-unused_kind : (bytes : List ℕ) (e : Fault) (version : Version) (rest : List ℕ) → bytes ≡ codes "RTEU" ++ (f.version_format.write version ++ rest) → f.version_format.is version ≡ true → Unused version rest e → Kind bytes e
+unused_kind : (bytes : List ℕ) (e : ByteFault) (version : Version) (rest : List ℕ) → bytes ≡ codes "RTEU" ++ (f.version_format.write version ++ rest) → f.version_format.is version ≡ true → Unused version rest e → Kind bytes e
 unused_kind bytes e version rest all in_range u = by u.counts.code u.rest refl refl (u.fault_is) where
   by : (count : ℕ) (left : List ℕ) → u.counts.code ≡ count → u.rest ≡ left → fault (f.unused_fault count left) (length left) ≡ e → Kind bytes e
   by zero [] code is h = inner (omega (arith, number_of h)) (omega (arith, number_of h))
@@ -54,7 +54,7 @@ unused_kind bytes e version rest all in_range u = by u.counts.code u.rest refl r
   by (suc n) [] code is h = at_end (sym (number_of h)) (sym (left_of h))
   by (suc n) (b ∷ bs) code is h = inner (omega (arith, number_of h)) (omega (arith, number_of h))
 
-pub kind : (bytes : List ℕ) (e : Fault) → AreBytes bytes → f.image_format.read bytes ≡ Err e → Kind bytes e
+pub kind : (bytes : List ℕ) (e : ByteFault) → AreBytes bytes → f.image_format.read bytes ≡ Err e → Kind bytes e
 kind bytes e are h = by (image_fails bytes e are h) where
   front : (fault 2 0 ≡ e) ⊎ Letters bytes e → Kind bytes e
   front (inl end) = at_end (sym (number_of end)) (sym (left_of end))

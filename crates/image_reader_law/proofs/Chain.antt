@@ -5,7 +5,7 @@ use Rattle.std.specs.Cmp.Lexicographic.{pointwise}
 use Rattle.std.proofs.lemmas.Bool.{and_parts as parts}
 use Rattle.image.specs.Bytes.{Version}
 use Rattle.image_reader.specs.declared.counts.Counts.{Counts}
-use Rattle.image_format.specs.declared.fault.Fault.{Fault}
+use Rattle.image_format.specs.declared.fault.ByteFault.{ByteFault}
 use Rattle.image_format.specs.Format.{Format, fault, bytes_as_are, is_fine, both}
 use Rattle.image_reader.specs.Grammar as g
 use Rattle.image_reader.specs.File as f
@@ -25,19 +25,19 @@ use Rattle.image_reader_law.proofs.ImageFaultsWhole.{Content, content, parts_wit
 -- ---- one after the other
 
 -- the first went well, and the second failed
-pub record Passed (a : Sort) {B : Type 0} (f : Form a) (g : Thing a → Format B) (bytes : List ℕ) (e : Fault) : Type 0 where
+pub record Passed (a : Sort) {B : Type 0} (f : Form a) (g : Thing a → Format B) (bytes : List ℕ) (e : ByteFault) : Type 0 where
   pub x : Thing a
   pub rest : List ℕ
   pub begins : Begins a f bytes x rest
   pub left_are : AreBytes rest
   pub then_is : (g x).read rest ≡ Err e
 
-second : (a : Sort) {B : Type 0} (f : Form a) (g : Thing a → Format B) → IsMade a f → (bytes : List ℕ) (e : Fault) → AreBytes bytes → (x : Thing a × List ℕ) → f.read bytes ≡ Ok x → second_of g x ≡ Err e → Passed a f g bytes e
+second : (a : Sort) {B : Type 0} (f : Form a) (g : Thing a → Format B) → IsMade a f → (bytes : List ℕ) (e : ByteFault) → AreBytes bytes → (x : Thing a × List ℕ) → f.read bytes ≡ Ok x → second_of g x ≡ Err e → Passed a f g bytes e
 second a f g made bytes e are x was is =
     let begins = read_begins a f made bytes are x was in
     record { x = x.0; rest = x.1; begins = begins; left_are = are_left a f bytes x.0 x.1 are begins; then_is = failed_only ((g x.0).read x.1) (λ y. ((x.0, y.0), y.1)) e is }
 
-passing : (a : Sort) {B : Type 0} (f : Form a) (g : Thing a → Format B) → Known a f → (bytes : List ℕ) (e : Fault) → AreBytes bytes → (both f g).read bytes ≡ Err e → Inner e ⊎ Passed a f g bytes e
+passing : (a : Sort) {B : Type 0} (f : Form a) (g : Thing a → Format B) → Known a f → (bytes : List ℕ) (e : ByteFault) → AreBytes bytes → (both f g).read bytes ≡ Err e → Inner e ⊎ Passed a f g bytes e
 passing a f g known bytes e are h = by (failed (f.read bytes) (second_of g) e h) where
   by : Failed (f.read bytes) (second_of g) e → Inner e ⊎ Passed a f g bytes e
   by (inl first) = inl (known.inner bytes e first)
@@ -59,7 +59,7 @@ pieces version counts p rest =
     ++ ((f.routines_format counts).write p.routines ++ ((f.processes_format version counts inner).write p.processes ++ rest))))))))
 
 -- all fields are in their ranges up to the code, but an event is of no process
-pub record Unused (version : Version) (bytes : List ℕ) (e : Fault) : Type 0 where
+pub record Unused (version : Version) (bytes : List ℕ) (e : ByteFault) : Type 0 where
   pub counts : Counts
   pub parts : f.Parts
   pub rest : List ℕ
@@ -70,7 +70,7 @@ pub record Unused (version : Version) (bytes : List ℕ) (e : Fault) : Type 0 wh
   pub fault_is : fault (f.unused_fault counts.code rest) (length rest) ≡ e
 
 -- the code of an image whose events are all used, or not
-code_fails : (is_used : Bool) (count : ℕ) (bytes : List ℕ) (e : Fault) → (f.code_format is_used count).read bytes ≡ Err e → Inner e ⊎ ((is_used ≡ false) × (fault (f.unused_fault count bytes) (length bytes) ≡ e))
+code_fails : (is_used : Bool) (count : ℕ) (bytes : List ℕ) (e : ByteFault) → (f.code_format is_used count).read bytes ≡ Err e → Inner e ⊎ ((is_used ≡ false) × (fault (f.unused_fault count bytes) (length bytes) ≡ e))
 code_fails true count bytes e h = inl ((w.all_code count).inner bytes e h)
 code_fails false count bytes e h = inr (refl, cc)
 
@@ -78,7 +78,7 @@ code_fails false count bytes e h = inr (refl, cc)
 onward : {a : Sort} {f : Form a} {bytes rest tail : List ℕ} {x : Thing a} → Begins a f bytes x rest → rest ≡ tail → bytes ≡ f.write x ++ tail
 onward {f = f} {x = x} begins same = begins.are ∙ ap (λ (more : List ℕ). f.write x ++ more) same
 
-content_fails : (version : Version) (bytes : List ℕ) (e : Fault) → AreBytes bytes → (content version).read bytes ≡ Err e → Inner e ⊎ Unused version bytes e
+content_fails : (version : Version) (bytes : List ℕ) (e : ByteFault) → AreBytes bytes → (content version).read bytes ≡ Err e → Inner e ⊎ Unused version bytes e
 content_fails version bytes e are h =
     on (passing natural (f.over_format version) (λ over. both g.counts_format (w.after_counts version)) (w.an_over version) bytes e are h) λ o.
     on (passing s.counts g.counts_format (w.after_counts version) some_counts o.rest e o.left_are o.then_is) λ c.
@@ -116,7 +116,7 @@ content_fails version bytes e are h =
 
 -- ---- the whole format
 
-pub data Failure (bytes : List ℕ) (e : Fault) : Type 0 where
+pub data Failure (bytes : List ℕ) (e : ByteFault) : Type 0 where
   in_letters : f.magic_format.read bytes ≡ Err e → Failure bytes e
   in_version : (rest : List ℕ) → AreBytes rest → bytes ≡ codes "RTEU" ++ rest → f.version_format.read rest ≡ Err e → Failure bytes e
   in_content : Inner e → Failure bytes e
@@ -125,11 +125,11 @@ pub data Failure (bytes : List ℕ) (e : Fault) : Type 0 where
 letters_are : (magic : List ℕ) → f.magic_format.is magic ≡ true → magic ≡ codes "RTEU"
 letters_are magic h = same_words magic (codes "RTEU") (fine_is (pointwise nat_eq magic (codes "RTEU")) 1 (parts ((bytes_as_are 4).is magic) (is_fine (w.magic_rule magic)) h).1)
 
-parts_fail : (bytes : List ℕ) (e : Fault) (version : Version) (rest : List ℕ) → bytes ≡ codes "RTEU" ++ (f.version_format.write version ++ rest) → f.version_format.is version ≡ true → Inner e ⊎ Unused version rest e → Failure bytes e
+parts_fail : (bytes : List ℕ) (e : ByteFault) (version : Version) (rest : List ℕ) → bytes ≡ codes "RTEU" ++ (f.version_format.write version ++ rest) → f.version_format.is version ≡ true → Inner e ⊎ Unused version rest e → Failure bytes e
 parts_fail bytes e version rest all in_range (inl inner) = in_content inner
 parts_fail bytes e version rest all in_range (inr unused) = no_process version rest all in_range unused
 
-behind_letters : (bytes : List ℕ) (e : Fault) (rest : List ℕ) → AreBytes rest → bytes ≡ codes "RTEU" ++ rest → w.after_magic.read rest ≡ Err e → Failure bytes e
+behind_letters : (bytes : List ℕ) (e : ByteFault) (rest : List ℕ) → AreBytes rest → bytes ≡ codes "RTEU" ++ rest → w.after_magic.read rest ≡ Err e → Failure bytes e
 behind_letters bytes e rest are all h = by (failed (f.version_format.read rest) (second_of f.parts_format) e h) where
   by : Failed (f.version_format.read rest) (second_of f.parts_format) e → Failure bytes e
   by (inl first) = in_version rest are all first
@@ -138,7 +138,7 @@ behind_letters bytes e rest are all h = by (failed (f.version_format.read rest) 
       parts_fail bytes e q.x q.rest (all ∙ ap (λ (more : List ℕ). codes "RTEU" ++ more) q.begins.are) q.begins.in_range
       (content_fails q.x q.rest e q.left_are (failed_only ((content q.x).read q.rest) (λ x. (parts_with x.0, x.1)) e q.then_is))
 
-pub image_fails : (bytes : List ℕ) (e : Fault) → AreBytes bytes → f.image_format.read bytes ≡ Err e → Failure bytes e
+pub image_fails : (bytes : List ℕ) (e : ByteFault) → AreBytes bytes → f.image_format.read bytes ≡ Err e → Failure bytes e
 image_fails bytes e are h = by (failed (f.magic_format.read bytes) (second_of (λ magic. w.after_magic)) e (failed_only ((both f.magic_format (λ magic. w.after_magic)).read bytes) (λ x. (x.0.1, x.1)) e h)) where
   by : Failed (f.magic_format.read bytes) (second_of (λ magic. w.after_magic)) e → Failure bytes e
   by (inl first) = in_letters first

@@ -5,7 +5,7 @@ use Rattle.std.specs.Int.{w16, from_be_bytes}
 use Rattle.std.specs.Cmp.Lexicographic.{pointwise}
 use Rattle.std.proofs.lemmas.Bool.{ltb-false, eqb-true}
 use Rattle.image_format.specs.Numbers as written
-use Rattle.image_format.specs.declared.fault.Fault.{Fault}
+use Rattle.image_format.specs.declared.fault.ByteFault.{ByteFault}
 use Rattle.image_format.specs.Format.{fault, field_at, u16, bytes_as_are, unless, checked, passed}
 use Rattle.image_reader.specs.File as f
 use Rattle.image_format.specs.FormatLaw.{AreBytes}
@@ -31,7 +31,7 @@ unless_is false number told h = (refl, cc)
 
 -- ---- letters
 
-pub record Letters (bytes : List ℕ) (e : Fault) : Type 0 where
+pub record Letters (bytes : List ℕ) (e : ByteFault) : Type 0 where
   pub there : 4 ≤ length bytes
   pub other : take 4 bytes ≡ codes "RTEU" → ⊥
   pub fault_is : fault 1 (length bytes) ≡ e
@@ -45,7 +45,7 @@ are_not magic other = by (pointwise nat_eq magic (codes "RTEU")) refl where
   by true same = absurd (other (same_words magic (codes "RTEU") same))
   by false same = refl
 
-pub letters_fail : (bytes : List ℕ) (e : Fault) → f.magic_format.read bytes ≡ Err e → (fault 2 0 ≡ e) ⊎ Letters bytes e
+pub letters_fail : (bytes : List ℕ) (e : ByteFault) → f.magic_format.read bytes ≡ Err e → (fault 2 0 ≡ e) ⊎ Letters bytes e
 letters_fail bytes e h = by (failed ((bytes_as_are 4).read bytes) (rule_of magic_rule (length bytes)) e h) where
   by : Failed ((bytes_as_are 4).read bytes) (rule_of magic_rule (length bytes)) e → (fault 2 0 ≡ e) ⊎ Letters bytes e
   by (inl first) = inl (short (list natural) (bytes_as_are 4) 4 (s.of_bytes 4) bytes e first).1
@@ -63,7 +63,7 @@ letters_told bytes there other =
 
 -- ---- the version
 
-pub record Other (rest : List ℕ) (e : Fault) : Type 0 where
+pub record Other (rest : List ℕ) (e : ByteFault) : Type 0 where
   pub there : 2 ≤ length rest
   pub not_first : take 2 rest ≡ 0 ∷ 1 ∷ [] → ⊥
   pub not_second : take 2 rest ≡ 0 ∷ 2 ∷ [] → ⊥
@@ -78,7 +78,7 @@ is_known n = n == 1 || n == 2
 known : (bytes : List ℕ) → is_known (value bytes) ≡ false → (same : List ℕ) → is_known (value same) ≡ true → bytes ≡ same → ⊥
 known bytes h same is e = let test : is_known (value bytes) ≡ is_known (value same) = ap (λ (b : List ℕ). is_known (value b)) e in cc
 
-pub version_fails : (rest : List ℕ) (e : Fault) → f.version_format.read rest ≡ Err e → (fault 2 0 ≡ e) ⊎ Other rest e
+pub version_fails : (rest : List ℕ) (e : ByteFault) → f.version_format.read rest ≡ Err e → (fault 2 0 ≡ e) ⊎ Other rest e
 version_fails rest e h = by (failed (u16.read rest) (rule_of version_rule (length rest)) e (failed_only ((checked u16 version_rule).read rest) (λ x. (f.version_of x.0, x.1)) e h)) where
   by : Failed (u16.read rest) (rule_of version_rule (length rest)) e → (fault 2 0 ≡ e) ⊎ Other rest e
   by (inl first) = inl (short natural u16 2 s.of_two rest e first).1

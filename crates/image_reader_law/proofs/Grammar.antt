@@ -4,7 +4,7 @@ use Rattle.std.specs.Prelude.{not, nat_lt, nat_le}
 use Rattle.std.proofs.lemmas.Bool.{eqb-true, and_parts}
 use Rattle.syntax.specs.Spellings.{is_identifier, keywords}
 use Rattle.machine_semantics.specs.Trees.{Segs}
-use Rattle.image.specs.declared.names.CondName.{CondName}
+use Rattle.image.specs.declared.names.ConditionName.{ConditionName}
 use Rattle.image_reader.specs.declared.counts.Counts.{Counts}
 use Rattle.image_format.specs.Format.{Format, u8, u16, u32, bytes_as_are, unless, checked, both, via}
 use Rattle.image_format.specs.TreeFormat.{in_image, within, u32_within, u16_within, u16_below, tree_format}
@@ -52,7 +52,7 @@ a_monitor =
 pub a_named_monitor : (taken : List (List ℕ)) → Known (pair (list natural) monitor) (g.named_monitor_format taken)
 a_named_monitor taken = k.two (list natural) monitor (g.name_format taken) g.monitor_format (a_name taken) a_monitor
 
-pub a_condition : (taken : List (List ℕ)) (monitors : ℕ) (earlier : List CondName) → Known condition (g.condition_format taken monitors earlier)
+pub a_condition : (taken : List (List ℕ)) (monitors : ℕ) (earlier : List ConditionName) → Known condition (g.condition_format taken monitors earlier)
 a_condition taken monitors earlier =
     k.a_test condition (via (λ (x : List ℕ × ℕ). record { name = x.0; mon = x.1 }) (λ c. (c.name, c.mon)) (both (g.name_format taken) (λ name. u16_below monitors))) (λ c. not (g.is_again earlier c)) 5 (omega arith) (omega arith)
     (k.a_view (pair (list natural) natural) condition (both (g.name_format taken) (λ name. u16_below monitors)) (λ (x : List ℕ × ℕ). record { name = x.0; mon = x.1 }) (λ c. (c.name, c.mon))

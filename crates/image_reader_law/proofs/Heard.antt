@@ -3,7 +3,7 @@ use Rattle.std.proofs.Common.{◌≡◌, inl, inr, ◌<◌, ◌==◌, ◌++◌, 
 use Rattle.std.specs.Prelude.{nat_le, nat_lt, slice_index, if◌then◌else◌}
 use Rattle.std.specs.Int.{w16, w32, cast_signed, from_be_bytes}
 use Rattle.std.proofs.lemmas.Bool.{ltb-true}
-use Rattle.image_format.specs.declared.fault.Fault.{Fault}
+use Rattle.image_format.specs.declared.fault.ByteFault.{ByteFault}
 use Rattle.image_format.specs.Format.{Read, fault, field_at, u8, unless, passed, checked, both, via, each, each_read}
 use Rattle.image_reader.specs.Grammar.{flag_format, some_format}
 use Rattle.image_format.specs.FormatLaw.{AreBytes}
@@ -14,11 +14,11 @@ use Rattle.image_reader_law.proofs.Failed.{Failed, failed, failed_only, second_o
 use Rattle.image_reader_law.proofs.Sound.{sound}
 
 abbrev pub Heard : (a : Sort) → Form a → Type 0
-Heard a f = (bytes : List ℕ) → AreBytes bytes → (e : Fault) → f.read bytes ≡ Err e → IsFault a f bytes e.number e.left
+Heard a f = (bytes : List ℕ) → AreBytes bytes → (e : ByteFault) → f.read bytes ≡ Err e → IsFault a f bytes e.number e.left
 
 -- the fault is that one
-pub at_fault : (a : Sort) (f : Form a) (bytes : List ℕ) (d e : Fault) → d ≡ e → IsFault a f bytes d.number d.left → IsFault a f bytes e.number e.left
-at_fault a f bytes d e same h = subst (λ (d : Fault). IsFault a f bytes d.number d.left) same h
+pub at_fault : (a : Sort) (f : Form a) (bytes : List ℕ) (d e : ByteFault) → d ≡ e → IsFault a f bytes d.number d.left → IsFault a f bytes e.number e.left
+at_fault a f bytes d e same h = subst (λ (d : ByteFault). IsFault a f bytes d.number d.left) same h
 
 -- what is read begins the bytes
 pub read_begins : (a : Sort) (f : Form a) → IsMade a f → (bytes : List ℕ) → AreBytes bytes → (x : Thing a × List ℕ) → f.read bytes ≡ Ok x → Begins a f bytes x.0 x.1
@@ -32,13 +32,13 @@ are_left a f bytes x rest are begins = bytes_after (f.write x) rest (subst AreBy
 abbrev pub field_of : {A : Type 0} → (is_short : Bool) → (size : ℕ) → (List ℕ → A) → List ℕ → Read A
 field_of is_short size value bytes = if is_short then Err (fault 2 0) else Ok (value (take size bytes), drop size bytes)
 
-ended : {A : Type 0} (size : ℕ) (value : List ℕ → A) (bytes : List ℕ) (e : Fault) → field_at size value bytes ≡ Err e → (length bytes < size) × (fault 2 0 ≡ e)
+ended : {A : Type 0} (size : ℕ) (value : List ℕ → A) (bytes : List ℕ) (e : ByteFault) → field_at size value bytes ≡ Err e → (length bytes < size) × (fault 2 0 ≡ e)
 ended size value bytes e h = by (nat_lt (length bytes) size) refl h where
   by : (b : Bool) → nat_lt (length bytes) size ≡ b → field_of b size value bytes ≡ Err e → (length bytes < size) × (fault 2 0 ≡ e)
   by true low is = (ltb-true (length bytes) size low, cc)
   by false low is = cc
 
-pub short : (a : Sort) (f : Form a) (size : ℕ) → IsField a f size → (bytes : List ℕ) (e : Fault) → f.read bytes ≡ Err e → (length bytes < size) × (fault 2 0 ≡ e)
+pub short : (a : Sort) (f : Form a) (size : ℕ) → IsField a f size → (bytes : List ℕ) (e : ByteFault) → f.read bytes ≡ Err e → (length bytes < size) × (fault 2 0 ≡ e)
 short a f size s.of_one bytes e h = ended 1 (λ b. slice_index b 0) bytes e h
 short a f size s.of_two bytes e h = ended 2 (from_be_bytes w16) bytes e h
 short a f size s.of_four bytes e h = ended 4 (from_be_bytes w32) bytes e h
@@ -50,7 +50,7 @@ field_heard a f size field bytes are e h = let low = short a f size field bytes 
 
 -- ---- rules
 
-pub wrong_is : {A : Type 0} (w : Option ℕ) (left : ℕ) (x : A × List ℕ) (e : Fault) → passed w left x ≡ Err e → (number : ℕ) × (w ≡ Some number) × (fault number left ≡ e)
+pub wrong_is : {A : Type 0} (w : Option ℕ) (left : ℕ) (x : A × List ℕ) (e : ByteFault) → passed w left x ≡ Err e → (number : ℕ) × (w ≡ Some number) × (fault number left ≡ e)
 wrong_is None left x e h = cc
 wrong_is (Some number) left x e h = (number, refl, cc)
 

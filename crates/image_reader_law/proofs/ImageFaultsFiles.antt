@@ -3,7 +3,7 @@ use Rattle.std.proofs.Common.{◌≡◌, inl, inr, ◌≤◌, ◌<◌, ◌-◌, 
 use Rattle.std.specs.Prelude.{nat_lt, if◌then◌else◌}
 use Rattle.std.proofs.lemmas.Bool.{le-ltb, lt-ltb, ltb-true, ltb-false}
 use Rattle.image.specs.Bytes.{Version}
-use Rattle.image_format.specs.declared.fault.Fault.{Fault}
+use Rattle.image_format.specs.declared.fault.ByteFault.{ByteFault}
 use Rattle.image_format.specs.Format.{Read, fault}
 use Rattle.image_reader.specs.File as f
 use Rattle.image_reader.specs.Answer.{HasFault}
@@ -19,19 +19,19 @@ use Rattle.image_reader_law.proofs.ImageFaultsWhole.{image_made}
 
 -- ---- what reading tells
 
-pub data FileFailure (bytes : List ℕ) (e : Fault) : Type 0 where
+pub data FileFailure (bytes : List ℕ) (e : ByteFault) : Type 0 where
   too_long : f.longest < length bytes → fault 9 (length bytes - f.longest) ≡ e → FileFailure bytes e
   by_format : length bytes ≤ f.longest → f.image_format.read bytes ≡ Err e → FileFailure bytes e
   behind : length bytes ≤ f.longest → (x : Version × f.Parts) (b : ℕ) (more : List ℕ) → f.image_format.read bytes ≡ Ok (x, b ∷ more) → fault 3 (length (b ∷ more)) ≡ e → FileFailure bytes e
 
-not_ended : (bytes : List ℕ) (e : Fault) (z : (Version × f.Parts) × List ℕ) → length bytes ≤ f.longest → f.image_format.read bytes ≡ Ok z → f.ended z ≡ Err e → FileFailure bytes e
+not_ended : (bytes : List ℕ) (e : ByteFault) (z : (Version × f.Parts) × List ℕ) → length bytes ≤ f.longest → f.image_format.read bytes ≡ Ok z → f.ended z ≡ Err e → FileFailure bytes e
 not_ended bytes e (x, []) few was is = cc
 not_ended bytes e (x, b ∷ more) few was is = behind few x b more was (cc)
 
 abbrev pub file_of : (is_long : Bool) → List ℕ → Read (Version × f.Parts)
 file_of is_long bytes = if is_long then Err (fault 9 (length bytes - f.longest)) else f.whole_read bytes
 
-pub file_failed : (bytes : List ℕ) (e : Fault) → f.read_file bytes ≡ Err e → FileFailure bytes e
+pub file_failed : (bytes : List ℕ) (e : ByteFault) → f.read_file bytes ≡ Err e → FileFailure bytes e
 unfolding f.read_file
 file_failed bytes e h = by (nat_lt f.longest (length bytes)) refl h where
   in_format : length bytes ≤ f.longest → Failed (f.image_format.read bytes) f.ended e → FileFailure bytes e
@@ -49,18 +49,18 @@ at_place bytes number offset n p same place h = subst (λ (m : ℕ). IsFileFault
 
 has : (bytes : List ℕ) (number left offset : ℕ) → AreBytes bytes → offset ≡ length bytes - left → FileFailure bytes (fault number left) → IsFileFault bytes number offset
 has bytes number left offset are place (too_long long same) =
-    let n : 9 ≡ number = ap (λ (d : Fault). d.number) same in
-    let l : length bytes - f.longest ≡ left = ap (λ (d : Fault). d.left) same in
+    let n : 9 ≡ number = ap (λ (d : ByteFault). d.number) same in
+    let l : length bytes - f.longest ≡ left = ap (λ (d : ByteFault). d.left) same in
     at_place bytes number offset 9 f.longest n (omega (arith, long, place, l)) (s.is_long long)
 has bytes number left offset are place (by_format few is) = at_place bytes number offset number (length bytes - left) refl (sym place) (s.in_image few (heard (pair s.version s.parts) f.image_format image_made bytes are (fault number left) is))
 has bytes number left offset are place (behind few x b more is same) =
-    let n : 3 ≡ number = ap (λ (d : Fault). d.number) same in
-    let l : length (b ∷ more) ≡ left = ap (λ (d : Fault). d.left) same in
+    let n : 3 ≡ number = ap (λ (d : ByteFault). d.number) same in
+    let l : length (b ∷ more) ≡ left = ap (λ (d : ByteFault). d.left) same in
     let begins = read_begins (pair s.version s.parts) f.image_format image_made bytes are (x, b ∷ more) is in
     let long : length bytes ≡ length (f.image_format.write x) + length (b ∷ more) = ap (λ (all : List ℕ). length all) begins.are ∙ length-append (f.image_format.write x) (b ∷ more) in
     at_place bytes number offset 3 (length (f.image_format.write x)) n (omega (arith, long, place, l)) (s.is_behind few begins)
 
-few_read : (bytes : List ℕ) (e : Fault) → length bytes ≤ f.longest → f.whole_read bytes ≡ Err e → f.read_file bytes ≡ Err e
+few_read : (bytes : List ℕ) (e : ByteFault) → length bytes ≤ f.longest → f.whole_read bytes ≡ Err e → f.read_file bytes ≡ Err e
 unfolding f.read_file
 few_read bytes e few h = rw (le-ltb f.longest (length bytes) few) h
 
@@ -91,6 +91,6 @@ one_fault bytes m n p q first second =
     let a = is_told bytes m p first in
     let b = is_told bytes n q second in
     let same : fault m a.left ≡ fault n b.left = (let both = sym a.is_read ∙ b.is_read in cc) in
-    let number : m ≡ n = ap (λ (d : Fault). d.number) same in
-    let left : a.left ≡ b.left = ap (λ (d : Fault). d.left) same in
+    let number : m ≡ n = ap (λ (d : ByteFault). d.number) same in
+    let left : a.left ≡ b.left = ap (λ (d : ByteFault). d.left) same in
     (number, a.place ∙ ap (λ k. length bytes - k) left ∙ sym b.place)

@@ -3,7 +3,7 @@ use Rattle.std.proofs.Common.{◌≡◌, inl, inr, ◌&&◌, ℕ, zero, suc, Boo
 use Rattle.std.specs.Prelude.{nat_le, nat_lt}
 use Rattle.std.proofs.lemmas.Bool.{lt-ltb, leb-true, and_parts}
 use Rattle.machine_semantics.specs.Trees.{Seg, Segs, Line, Fork, Rep, Call, Stay}
-use Rattle.image_format.specs.declared.fault.Fault.{Fault}
+use Rattle.image_format.specs.declared.fault.ByteFault.{ByteFault}
 use Rattle.image_format.specs.Format.{Format, Read, ◌>>=◌, fault, u8, u16, u32, unless, checked, both}
 use Rattle.image_format.specs.TreeFormat.{in_image, within, line_count, turns_count, u16_below, tagged, seg_read, seg_format, segs_read, row_format, too_deep, tree_format}
 use Rattle.image_format.specs.FormatLaw.{AreBytes}
@@ -41,14 +41,14 @@ module _ (monitors depth : ℕ) (sub_heard : Heard tree (tree_format (in_image m
   abbrev sub : Format Segs
   sub = tree_format (in_image monitors) depth
 
-  abbrev Told : List ℕ → Fault → Type 0
+  abbrev Told : List ℕ → ByteFault → Type 0
   Told bytes e = IsFault segment (seg_format (in_image monitors) sub) bytes e.number e.left
 
   -- in what follows the tag
-  behind : (tag : ℕ) (a : Sort) (f : Form a) (of : Thing a → Seg) (rest : List ℕ) (e : Fault) → Follows monitors sub tag a f → Heard a f → AreBytes rest → (f.read rest >>= seen of) ≡ Err e → Told (tag ∷ rest) e
+  behind : (tag : ℕ) (a : Sort) (f : Form a) (of : Thing a → Seg) (rest : List ℕ) (e : ByteFault) → Follows monitors sub tag a f → Heard a f → AreBytes rest → (f.read rest >>= seen of) ≡ Err e → Told (tag ∷ rest) e
   behind tag a f of rest e follows heard are h = s.in_segment follows (heard rest are e (failed_only (f.read rest) (λ x. (of x.0, x.1)) e h))
 
-  by_tag : (tag : ℕ) (rest : List ℕ) (e : Fault) → AreBytes rest → (nat_le 1 tag && nat_le tag 7) ≡ true → tagged (in_image monitors) sub tag (length (tag ∷ rest)) rest ≡ Err e → Told (tag ∷ rest) e
+  by_tag : (tag : ℕ) (rest : List ℕ) (e : ByteFault) → AreBytes rest → (nat_le 1 tag && nat_le tag 7) ≡ true → tagged (in_image monitors) sub tag (length (tag ∷ rest)) rest ≡ Err e → Told (tag ∷ rest) e
   by_tag zero rest e are is h = cc
   by_tag (suc zero) rest e are is h = behind 1 natural line_count (λ n. Line n) rest e s.a_line (u32_within_heard 1 65535) are h
   by_tag (suc (suc zero)) rest e are is h =
@@ -64,7 +64,7 @@ module _ (monitors depth : ℕ) (sub_heard : Heard tree (tree_format (in_image m
   by_tag (suc (suc (suc (suc (suc (suc (suc zero))))))) rest e are is h = cc
   by_tag (suc (suc (suc (suc (suc (suc (suc (suc n)))))))) rest e are is h = absurd (omega (arith, leb-true (suc (suc (suc (suc (suc (suc (suc (suc n)))))))) 7 (and_parts (nat_le 1 (suc (suc (suc (suc (suc (suc (suc (suc n))))))))) (nat_le (suc (suc (suc (suc (suc (suc (suc (suc n)))))))) 7) is).1))
 
-  at_tag : (tag : ℕ) (rest : List ℕ) (e : Fault) → AreBytes (tag ∷ rest) → tagged (in_image monitors) sub tag (length (tag ∷ rest)) rest ≡ Err e → Told (tag ∷ rest) e
+  at_tag : (tag : ℕ) (rest : List ℕ) (e : ByteFault) → AreBytes (tag ∷ rest) → tagged (in_image monitors) sub tag (length (tag ∷ rest)) rest ≡ Err e → Told (tag ∷ rest) e
   at_tag tag rest e are h = by (nat_le 1 tag && nat_le tag 7) refl where
     by : (b : Bool) → (nat_le 1 tag && nat_le tag 7) ≡ b → Told (tag ∷ rest) e
     by true is = by_tag tag rest e are.1 is h
@@ -88,7 +88,7 @@ module _ (monitors depth : ℕ) (sub_heard : Heard tree (tree_format (in_image m
   abbrev one : Format Seg
   one = seg_format (in_image monitors) (tree_format (in_image monitors) depth)
 
-  as_list : (bytes : List ℕ) (e : Fault) → (row_format one).read bytes ≡ Err e → (both u32 (segments one)).read bytes ≡ Err e
+  as_list : (bytes : List ℕ) (e : ByteFault) → (row_format one).read bytes ≡ Err e → (both u32 (segments one)).read bytes ≡ Err e
   as_list bytes e h = by (failed (u32.read bytes) (λ count. segs_read one count.0 count.1) e h) where
     by : Failed (u32.read bytes) (λ count. segs_read one count.0 count.1) e → (both u32 (segments one)).read bytes ≡ Err e
     by (inl first) = stops (u32.read bytes) (second_of (segments one)) e first

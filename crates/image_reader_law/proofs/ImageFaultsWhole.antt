@@ -6,8 +6,8 @@ use Rattle.std.proofs.lemmas.Bool.{eqb-true, and_parts}
 use Rattle.machine_isa.specs.declared.instr.Instr.{Instr}
 use Rattle.machine_semantics.specs.Image.{Monitor, Routine, Process}
 use Rattle.image.specs.Bytes.{Version, First, Second}
-use Rattle.image.specs.declared.names.CondName.{CondName}
-use Rattle.image.specs.declared.names.DevName.{DevName}
+use Rattle.image.specs.declared.names.ConditionName.{ConditionName}
+use Rattle.image.specs.declared.names.DeviceName.{DeviceName}
 use Rattle.image_reader.specs.declared.counts.Counts.{Counts}
 use Rattle.image_format.specs.Format.{Format, u16, bytes_as_are, unless, is_fine, checked, both}
 use Rattle.image_reader.specs.Grammar as g
@@ -62,10 +62,10 @@ abbrev pub Work : Type 0
 Work = List Routine × (List (List ℕ × Process) × List Instr)
 
 abbrev pub Guarded : Type 0
-Guarded = List (List ℕ × Monitor) × (List CondName × Work)
+Guarded = List (List ℕ × Monitor) × (List ConditionName × Work)
 
 abbrev pub Named : Type 0
-Named = List DevName × (List (List ℕ) × Guarded)
+Named = List DeviceName × (List (List ℕ) × Guarded)
 
 abbrev pub Content : Type 0
 Content = ℕ × (Counts × (List ℕ × Named))
@@ -95,13 +95,13 @@ module _ (version : Version) (counts : Counts) where
   abbrev pub with_processes : List (List ℕ) → Format (List (List ℕ × Process) × List Instr)
   with_processes taken = both (f.processes_format version counts taken) with_code
 
-  abbrev pub after_monitors : List (List ℕ) → List (List ℕ × Monitor) → Format (List CondName × Work)
+  abbrev pub after_monitors : List (List ℕ) → List (List ℕ × Monitor) → Format (List ConditionName × Work)
   after_monitors taken monitors = both (f.conditions_format counts (f.with_monitors taken monitors)) (λ conditions. f.work_format version counts (f.with_monitors taken monitors))
 
-  abbrev pub after_events : List (List ℕ) → List DevName → List (List ℕ) → Format Guarded
+  abbrev pub after_events : List (List ℕ) → List DeviceName → List (List ℕ) → Format Guarded
   after_events taken devices events = f.guarded_format version counts (f.with_devices taken devices ++ events)
 
-  abbrev pub after_devices : List (List ℕ) → List DevName → Format (List (List ℕ) × Guarded)
+  abbrev pub after_devices : List (List ℕ) → List DeviceName → Format (List (List ℕ) × Guarded)
   after_devices taken devices = both (f.events_format counts (f.with_devices taken devices)) (after_events taken devices)
 
   work_made : (taken : List (List ℕ)) → IsMade work_sort (f.work_format version counts taken)

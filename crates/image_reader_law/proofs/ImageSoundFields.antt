@@ -5,7 +5,7 @@ use Rattle.std.proofs.lemmas.Bool.{eqb-true, eq-eqb, and_parts}
 use Rattle.machine_semantics.specs.Image.{Process}
 use Rattle.machine_semantics.specs.Trees.{Segs}
 use Rattle.image.specs.Bytes.{Version, First, Second}
-use Rattle.image.specs.declared.names.CondName.{CondName}
+use Rattle.image.specs.declared.names.ConditionName.{ConditionName}
 use Rattle.image_reader.specs.declared.counts.Counts.{Counts}
 use Rattle.image_format.specs.Format.{Format, ◌>>=◌, fault, u8, u16, u32, bytes_as_are, unless, checked, both, via, each_is}
 use Rattle.image_format.specs.TreeFormat.{in_image, within, u32_within, u16_within, u16_below, tree_format}
@@ -59,7 +59,7 @@ monitor_sound =
 pub named_monitor_sound : (taken : List (List ℕ)) → IsSound (g.named_monitor_format taken)
 named_monitor_sound taken = pair_sound (g.name_format taken) g.monitor_format (name_sound taken) monitor_sound
 
-pub condition_sound : (taken : List (List ℕ)) (monitors : ℕ) (earlier : List CondName) → IsSound (g.condition_format taken monitors earlier)
+pub condition_sound : (taken : List (List ℕ)) (monitors : ℕ) (earlier : List ConditionName) → IsSound (g.condition_format taken monitors earlier)
 condition_sound taken monitors earlier =
     checked_sound (via (λ (x : List ℕ × ℕ). record { name = x.0; mon = x.1 }) (λ c. (c.name, c.mon)) (both (g.name_format taken) (λ name. u16_below monitors))) (λ c. unless (not (g.is_again earlier c)) 5)
     (via_sound (λ (x : List ℕ × ℕ). record { name = x.0; mon = x.1 }) (λ c. (c.name, c.mon)) (both (g.name_format taken) (λ name. u16_below monitors)) (λ x h. refl) (λ y h. refl)

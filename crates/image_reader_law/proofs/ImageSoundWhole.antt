@@ -12,8 +12,8 @@ use Rattle.image_format.specs.Numbers as written
 use Rattle.image_format.specs.TreeBytes.{tree_bytes}
 use Rattle.image.specs.Bytes.{Version, First, Second, bytes_of, version_bytes, counts_bytes, deadline_bytes, device_bytes, event_bytes, monitor_bytes, monitors_bytes, condition_bytes, routine_bytes, process_bytes, processes_bytes, handler_bytes}
 use Rattle.image.specs.Named.{NamedImage}
-use Rattle.image.specs.declared.names.CondName.{CondName}
-use Rattle.image.specs.declared.names.DevName.{DevName}
+use Rattle.image.specs.declared.names.ConditionName.{ConditionName}
+use Rattle.image.specs.declared.names.DeviceName.{DeviceName}
 use Rattle.image_reader.specs.declared.counts.Counts.{Counts}
 use Rattle.image_format.specs.Format.{Format, u16, bytes_as_are, is_fine, checked, both, each_write}
 use Rattle.image_format.specs.TreeFormat.{in_image, tree_format}
@@ -41,13 +41,13 @@ module _ (version : Version) (counts : Counts) where
   abbrev with_processes : List (List ℕ) → Format (List (List ℕ × Process) × List Instr)
   with_processes taken = both (f.processes_format version counts taken) with_code
 
-  abbrev after_monitors : List (List ℕ) → List (List ℕ × Monitor) → Format (List CondName × Work)
+  abbrev after_monitors : List (List ℕ) → List (List ℕ × Monitor) → Format (List ConditionName × Work)
   after_monitors taken monitors = both (f.conditions_format counts (f.with_monitors taken monitors)) (λ conditions. f.work_format version counts (f.with_monitors taken monitors))
 
-  abbrev after_events : List (List ℕ) → List DevName → List (List ℕ) → Format Guarded
+  abbrev after_events : List (List ℕ) → List DeviceName → List (List ℕ) → Format Guarded
   after_events taken devices events = f.guarded_format version counts (f.with_devices taken devices ++ events)
 
-  abbrev after_devices : List (List ℕ) → List DevName → Format (List (List ℕ) × Guarded)
+  abbrev after_devices : List (List ℕ) → List DeviceName → Format (List (List ℕ) × Guarded)
   after_devices taken devices = both (f.events_format counts (f.with_devices taken devices)) (after_events taken devices)
 
   work_sound : (taken : List (List ℕ)) → IsSound (f.work_format version counts taken)

@@ -3,7 +3,7 @@ use Rattle.std.proofs.Common.{◌≡◌, ◌⊎◌, inl, inr, ◌≤◌, ◌-◌
 use Rattle.std.specs.Prelude.{nat_lt}
 use Rattle.std.proofs.lemmas.List.{append-nil}
 use Rattle.image.specs.Bytes.{Version}
-use Rattle.image_format.specs.declared.fault.Fault.{Fault}
+use Rattle.image_format.specs.declared.fault.ByteFault.{ByteFault}
 use Rattle.image_reader.specs.File as f
 use Rattle.image_format.specs.FormatLaw.{AreBytes}
 use Rattle.image_format.proofs.Sound.{came}
@@ -38,6 +38,6 @@ image_read bytes y are h = by (nat_lt f.longest (length bytes)) refl h where
 
 pub either : EachFileIsAnImageOrHasAFault
 either bytes are = by (f.read_file bytes) refl where
-  by : (r : Result ((Version × f.Parts) × List ℕ) Fault) → f.read_file bytes ≡ r → IsImage bytes ⊎ ((number : ℕ) × (offset : ℕ) × IsFileFault bytes number offset)
+  by : (r : Result ((Version × f.Parts) × List ℕ) ByteFault) → f.read_file bytes ≡ r → IsImage bytes ⊎ ((number : ℕ) × (offset : ℕ) × IsFileFault bytes number offset)
   by (Ok y) is = inl (image_read bytes y are is)
   by (Err e) is = inr (e.number, length bytes - e.left, (told_exactly bytes e.number (length bytes - e.left) are).0 (record { left = e.left; is_read = is; place = refl }))

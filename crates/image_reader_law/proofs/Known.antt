@@ -1,7 +1,7 @@
 -- Formats of which it is known that they are put together of fields, and which numbers their faults have.
 use Rattle.std.proofs.Common.{◌≡◌, ◌⊎◌, inl, inr, ◌≤◌, ◌==◌, ◌&&◌, ◌++◌, ℕ, zero, suc, Bool, true, false, List, [], ◌∷◌, length, Err, Option, Some, subst, arith}
 use Rattle.std.specs.Prelude.{nat_le, nat_lt}
-use Rattle.image_format.specs.declared.fault.Fault.{Fault}
+use Rattle.image_format.specs.declared.fault.ByteFault.{ByteFault}
 use Rattle.image_format.specs.Format.{Format, fault, u8, u16, u32, given, unless, checked, both, via, each, each_read}
 use Rattle.image_format.specs.TreeFormat.{u16_below, u32_within, u16_within}
 use Rattle.image_reader.specs.Grammar.{flag_format, some_format}
@@ -11,20 +11,20 @@ use Rattle.image_reader_law.proofs.Failed.{Failed, failed, failed_only, second_o
 use Rattle.image_reader_law.proofs.Heard.{short, wrong_is}
 
 -- the end of the bytes, or a number from 4 to 8
-abbrev pub Inner : Fault → Type 0
+abbrev pub Inner : ByteFault → Type 0
 Inner e = ((e.number ≡ 2) × (e.left ≡ 0)) ⊎ ((4 ≤ e.number) × (e.number ≤ 8))
 
 abbrev pub Told : {A : Type 0} → Format A → Type 0
-Told f = (bytes : List ℕ) (e : Fault) → f.read bytes ≡ Err e → Inner e
+Told f = (bytes : List ℕ) (e : ByteFault) → f.read bytes ≡ Err e → Inner e
 
 pub record Known (a : Sort) (f : Form a) : Type 0 where
   pub made : IsMade a f
   pub inner : Told f
 
-is_end : (e : Fault) → fault 2 0 ≡ e → Inner e
+is_end : (e : ByteFault) → fault 2 0 ≡ e → Inner e
 is_end e same = inl (cc, cc)
 
-pub is_number : (number left : ℕ) (e : Fault) → 4 ≤ number → number ≤ 8 → fault number left ≡ e → Inner e
+pub is_number : (number left : ℕ) (e : ByteFault) → 4 ≤ number → number ≤ 8 → fault number left ≡ e → Inner e
 is_number number left e low high same = subst Inner same (inr (low, high))
 
 -- ---- fields and rules

@@ -9,8 +9,8 @@ use Rattle.machine_semantics.specs.Image.{Monitor, Routine, Process}
 use Rattle.image.specs.Bytes.{Version, First, Second}
 use Rattle.image.specs.Raw.{monitor_of}
 use Rattle.image.specs.Named.{NamedImage}
-use Rattle.image.specs.declared.names.CondName.{CondName}
-use Rattle.image.specs.declared.names.DevName.{DevName}
+use Rattle.image.specs.declared.names.ConditionName.{ConditionName}
+use Rattle.image.specs.declared.names.DeviceName.{DeviceName}
 use Rattle.image_reader.specs.declared.counts.Counts.{Counts}
 use Rattle.image_reader.specs.Answer.{parts_of}
 use Rattle.image_format.specs.Format.{Format, u8, u16, u32, fault, unless, checked, both}
@@ -276,13 +276,13 @@ counted bytes c rest is =
     record { some = few.0; few = few.1; monitors = (in_u16 0 64 p.rest s.x.1.0 m.rest m.one).1 })
 
 module _ (version : Version) (counts : Counts) where
-  abbrev after_monitors : List (List ℕ) → List (List ℕ × Monitor) → Format (List CondName × Work)
+  abbrev after_monitors : List (List ℕ) → List (List ℕ × Monitor) → Format (List ConditionName × Work)
   after_monitors taken monitors = both (f.conditions_format counts (f.with_monitors taken monitors)) (λ conditions. f.work_format version counts (f.with_monitors taken monitors))
 
-  abbrev after_events : List (List ℕ) → List DevName → List (List ℕ) → Format Guarded
+  abbrev after_events : List (List ℕ) → List DeviceName → List (List ℕ) → Format Guarded
   after_events taken devices events = f.guarded_format version counts (f.with_devices taken devices ++ events)
 
-  abbrev after_devices : List (List ℕ) → List DevName → Format (List (List ℕ) × Guarded)
+  abbrev after_devices : List (List ℕ) → List DeviceName → Format (List (List ℕ) × Guarded)
   after_devices taken devices = both (f.events_format counts (f.with_devices taken devices)) (after_events taken devices)
 
   guarded_limits : (taken : List (List ℕ)) (bytes : List ℕ) (x : Guarded) (rest : List ℕ) → (f.guarded_format version counts taken).read bytes ≡ Ok (x, rest) → GuardedLimits counts x

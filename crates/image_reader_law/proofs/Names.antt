@@ -10,10 +10,10 @@ use Rattle.machine_semantics.specs.Image.{Monitor, Process}
 use Rattle.image.specs.Bytes.{Version}
 use Rattle.image.specs.Raw.{monitor_of, process_of}
 use Rattle.image.specs.Named.{NamedImage}
-use Rattle.image.specs.declared.names.CondName.{CondName}
-use Rattle.image.specs.declared.names.DevName.{DevName}
+use Rattle.image.specs.declared.names.ConditionName.{ConditionName}
+use Rattle.image.specs.declared.names.DeviceName.{DeviceName}
 use Rattle.image.specs.declared.names.EventName.{EventName}
-use Rattle.image.specs.declared.raw.RawProc.{RawProc}
+use Rattle.image.specs.declared.raw.RawProcess.{RawProcess}
 use Rattle.image.specs.declared.raw.RawImage.{RawImage}
 use Rattle.image_reader.specs.declared.counts.Counts.{Counts}
 use Rattle.image_reader.specs.Answer.{Holds, parts_of}
@@ -72,7 +72,7 @@ record AreKnown (ps : f.Parts) : Type 0 where
   processes : AreProcesses (length ps.events) ps.processes
   monitors : Each (λ (m : List ℕ × Monitor). IsShort m.0) ps.monitors
   conditions : Each (IsPlaced (length ps.monitors)) ps.conditions
-  devices : Each (λ (d : DevName). IsShort d.name) ps.devices
+  devices : Each (λ (d : DeviceName). IsShort d.name) ps.devices
   few_conditions : length ps.conditions ≤ 256
   few_devices : length ps.devices ≤ 64
 
@@ -99,13 +99,13 @@ module _ (version : Version) (counts : Counts) (taken : List (List ℕ)) where
       λ k x at. (let o = ps k x at in process_known version counts (f.used_by (take k w.1.0)) (taken ++ map (λ p. p.0) (take k w.1.0)) o.bytes x o.rest o.was)
 
 module _ (version : Version) (counts : Counts) where
-  abbrev after_monitors : List (List ℕ) → List (List ℕ × Monitor) → Format (List CondName × Work)
+  abbrev after_monitors : List (List ℕ) → List (List ℕ × Monitor) → Format (List ConditionName × Work)
   after_monitors taken monitors = both (f.conditions_format counts (f.with_monitors taken monitors)) (λ conditions. f.work_format version counts (f.with_monitors taken monitors))
 
-  abbrev after_events : List (List ℕ) → List DevName → List (List ℕ) → Format Guarded
+  abbrev after_events : List (List ℕ) → List DeviceName → List (List ℕ) → Format Guarded
   after_events taken devices events = f.guarded_format version counts (f.with_devices taken devices ++ events)
 
-  abbrev after_devices : List (List ℕ) → List DevName → Format (List (List ℕ) × Guarded)
+  abbrev after_devices : List (List ℕ) → List DeviceName → Format (List (List ℕ) × Guarded)
   after_devices taken devices = both (f.events_format counts (f.with_devices taken devices)) (after_events taken devices)
 
   guarded_known : (taken : List (List ℕ)) (bytes : List ℕ) (x : Guarded) (rest : List ℕ) → (f.guarded_format version counts taken).read bytes ≡ Ok (x, rest) → GuardedKnown counts x
@@ -232,9 +232,9 @@ read_names bytes raw holds =
       sound = record {
         processes = subst (λ (names : List (List ℕ)). All IsShort names) (sym processes) (mapped IsShort (λ (x : List ℕ × Process). x.0) ps.processes (λ k x at. (l.processes k x at).short));
         monitors = subst (λ (names : List (List ℕ)). All IsShort names) (sym monitors) (mapped IsShort (λ (x : List ℕ × Monitor). x.0) ps.monitors l.monitors);
-        conditions = all_of (λ (c : CondName). IsShort c.name) raw.names.conditions (λ k c at. (l.conditions k c at).short);
-        placed = all_of (λ (c : CondName). c.mon < length raw.names.monitors) raw.names.conditions (λ k c at. (let placed = (l.conditions k c at).placed in omega (arith, placed, as_many)));
-        devices = all_of (λ (d : DevName). IsShort d.name) raw.names.devices l.devices;
+        conditions = all_of (λ (c : ConditionName). IsShort c.name) raw.names.conditions (λ k c at. (l.conditions k c at).short);
+        placed = all_of (λ (c : ConditionName). c.mon < length raw.names.monitors) raw.names.conditions (λ k c at. (let placed = (l.conditions k c at).placed in omega (arith, placed, as_many)));
+        devices = all_of (λ (d : DeviceName). IsShort d.name) raw.names.devices l.devices;
       };
       processes =
           ap length processes ∙ (length-map ps.processes (λ (x : List ℕ × Process). x.0)

@@ -13,8 +13,8 @@ use Rattle.machine_semantics.specs.Image.{Monitor, Routine, Process}
 use Rattle.machine_semantics.specs.Trees.{Segs, Nil}
 use Rattle.image_format.specs.TreeBytes.{segments}
 use Rattle.image.specs.Bytes.{Version, First, Second}
-use Rattle.image.specs.declared.names.CondName.{CondName}
-use Rattle.image.specs.declared.names.DevName.{DevName}
+use Rattle.image.specs.declared.names.ConditionName.{ConditionName}
+use Rattle.image.specs.declared.names.DeviceName.{DeviceName}
 use Rattle.image_reader.specs.declared.counts.Counts.{Counts}
 use Rattle.image_format.specs.Format.{Format, ◌>>=◌, u8, u16, u32, bytes_as_are, given, unless, checked, both, via, each, each_read}
 use Rattle.image_format.specs.TreeFormat.{in_image, within, u32_within, u16_within, u16_below, tree_format}
@@ -50,7 +50,7 @@ monitor_brings = via_brings (λ (x : ℕ × (ℕ × ℕ)). record { base = x.0; 
 pub named_monitor_brings : {n : ℕ} (taken : List (List ℕ)) → Brings n (g.named_monitor_format taken) (λ x. IsShortName x.0)
 named_monitor_brings taken = weaker (λ x. IsShortName x.0) (λ x h. h.0) (then_brings (name_brings taken) monitor_brings)
 
-pub condition_brings : {n : ℕ} (taken : List (List ℕ)) (monitors : ℕ) (earlier : List CondName) → Brings n (g.condition_format taken monitors earlier) (λ c. IsShortName c.name)
+pub condition_brings : {n : ℕ} (taken : List (List ℕ)) (monitors : ℕ) (earlier : List ConditionName) → Brings n (g.condition_format taken monitors earlier) (λ c. IsShortName c.name)
 condition_brings taken monitors earlier =
     checked_any (λ c. unless (not (g.is_again earlier c)) 5) (via_brings (λ (x : List ℕ × ℕ). record { name = x.0; mon = x.1 }) (λ c. (c.name, c.mon)) (λ c. IsShortName c.name) (λ x h. h.0)
     (then_brings (name_brings taken) (checked_any (λ k. unless (nat_lt k monitors) 4) u16_brings)))

@@ -3,8 +3,8 @@ use Rattle.std.proofs.Common.{◌≡◌, ◌≤◌, ◌<◌, ◌++◌, ℕ, zero
 use Rattle.std.specs.Prelude.{nat_le, nat_lt, not, if◌then◌else◌}
 use Rattle.std.proofs.lemmas.Bool.Decides.{nat_tests}
 use Rattle.image.specs.Bytes.{Version}
-use Rattle.image.specs.declared.names.CondName.{CondName}
-use Rattle.image.specs.declared.names.DevName.{DevName}
+use Rattle.image.specs.declared.names.ConditionName.{ConditionName}
+use Rattle.image.specs.declared.names.DeviceName.{DeviceName}
 use Rattle.image_reader.specs.declared.counts.Counts.{Counts}
 use Rattle.image_format.specs.Format.{Format, field_at, fault, u8, u16, u32, bytes_as_are, unless, checked, both, via}
 use Rattle.image_format.specs.TreeFormat.{in_image, within, u32_within, u16_within, u16_below, tree_format}
@@ -42,14 +42,14 @@ name_short taken bytes name rest is =
     let short : length s.x.1 ≤ 63 = omega (arith, low.1, long) in
     subst (λ (n : List ℕ). length n ≤ 63) s.seen short
 
-abbrev device_with : List ℕ × Bool → DevName
+abbrev device_with : List ℕ × Bool → DeviceName
 device_with x = record { name = x.0; out = x.1 }
 
-pub device_short : (taken : List (List ℕ)) (bytes : List ℕ) (d : DevName) (rest : List ℕ) → (g.device_format taken).read bytes ≡ Ok (d, rest) → IsShort d.name
+pub device_short : (taken : List (List ℕ)) (bytes : List ℕ) (d : DeviceName) (rest : List ℕ) → (g.device_format taken).read bytes ≡ Ok (d, rest) → IsShort d.name
 device_short taken bytes d rest is =
     let s = seen device_with (both (g.name_format taken) (λ name. g.flag_format 6)) bytes (d, rest) is in
     let n = two (g.name_format taken) (λ name. g.flag_format 6) bytes (s.x, rest) s.was in
-    subst (λ (y : DevName). length y.name ≤ 63) s.seen (name_short taken bytes s.x.0 n.rest n.one)
+    subst (λ (y : DeviceName). length y.name ≤ 63) s.seen (name_short taken bytes s.x.0 n.rest n.one)
 
 pub monitor_short : (taken : List (List ℕ)) (bytes : List ℕ) (m : List ℕ × Monitor) (rest : List ℕ) → (g.named_monitor_format taken).read bytes ≡ Ok (m, rest) → IsShort m.0
 monitor_short taken bytes m rest is =
@@ -57,20 +57,20 @@ monitor_short taken bytes m rest is =
     name_short taken bytes m.0 n.rest n.one
 
 -- a condition has a short name, and stands in a monitor that is there
-pub record IsPlaced (monitors : ℕ) (c : CondName) : Type 0 where
+pub record IsPlaced (monitors : ℕ) (c : ConditionName) : Type 0 where
   pub short : IsShort c.name
   pub placed : c.mon < monitors
 
-abbrev condition_with : List ℕ × ℕ → CondName
+abbrev condition_with : List ℕ × ℕ → ConditionName
 condition_with x = record { name = x.0; mon = x.1 }
 
-pub condition_placed : (taken : List (List ℕ)) (monitors : ℕ) (earlier : List CondName) (bytes : List ℕ) (c : CondName) (rest : List ℕ) → (g.condition_format taken monitors earlier).read bytes ≡ Ok (c, rest) → IsPlaced monitors c
+pub condition_placed : (taken : List (List ℕ)) (monitors : ℕ) (earlier : List ConditionName) (bytes : List ℕ) (c : ConditionName) (rest : List ℕ) → (g.condition_format taken monitors earlier).read bytes ≡ Ok (c, rest) → IsPlaced monitors c
 condition_placed taken monitors earlier bytes c rest is =
-    let k = kept (via condition_with (λ (c : CondName). (c.name, c.mon)) (both (g.name_format taken) (λ name. u16_below monitors))) (λ c. unless (not (g.is_again earlier c)) 5) bytes (c, rest) is in
+    let k = kept (via condition_with (λ (c : ConditionName). (c.name, c.mon)) (both (g.name_format taken) (λ name. u16_below monitors))) (λ c. unless (not (g.is_again earlier c)) 5) bytes (c, rest) is in
     let s = seen condition_with (both (g.name_format taken) (λ name. u16_below monitors)) bytes (c, rest) k.was in
     let n = two (g.name_format taken) (λ name. u16_below monitors) bytes (s.x, rest) s.was in
     let m = kept u16 (λ n. unless (nat_lt n monitors) 4) n.rest (s.x.1, rest) n.two in
-    subst (λ (y : CondName). IsPlaced monitors y) s.seen (record { short = name_short taken bytes s.x.0 n.rest n.one; placed = below s.x.1 monitors 4 m.fine })
+    subst (λ (y : ConditionName). IsPlaced monitors y) s.seen (record { short = name_short taken bytes s.x.0 n.rest n.one; placed = below s.x.1 monitors 4 m.fine })
 
 -- ---- the kind of a process
 

@@ -3,7 +3,7 @@ use Rattle.std.proofs.Common.{Bool, true, false, ◌≡◌, inl, inr, ◌&&◌, 
 use Rattle.std.specs.Prelude.{nat_le}
 use Rattle.std.proofs.lemmas.Bool.{le-ltb, ne_eqb}
 use Rattle.machine_semantics.specs.Trees.{Seg, Segs, Line, Fork, Rep, Call, Stay}
-use Rattle.image_format.specs.declared.fault.Fault.{Fault}
+use Rattle.image_format.specs.declared.fault.ByteFault.{ByteFault}
 use Rattle.image_format.specs.Format.{Format, Read, ◌>>=◌, fault, u8, u32, unless, passed, checked, both, each, each_read}
 use Rattle.image_format.specs.TreeFormat.{in_image, tagged, seg_read, segs_read, row_format}
 use Rattle.image_reader_law.specs.Faults as s
@@ -43,13 +43,13 @@ unknown monitors sub (suc (suc (suc (suc (suc (suc (suc zero))))))) left bytes h
 unknown monitors sub (suc (suc (suc (suc (suc (suc (suc (suc n)))))))) left bytes h =
     rw (other n 1 (omega arith), other n 2 (omega arith), other n 3 (omega arith), other n 4 (omega arith), other n 5 (omega arith), other n 6 (omega arith), other n 7 (omega arith)) refl
 
-no_tag : (monitors : ℕ) (sub : Format Segs) (left : ℕ) (x : ℕ × List ℕ) (e : Fault) → rule_of tag_rule left x ≡ Err e → tagged (in_image monitors) sub x.0 left x.1 ≡ Err e
+no_tag : (monitors : ℕ) (sub : Format Segs) (left : ℕ) (x : ℕ × List ℕ) (e : ByteFault) → rule_of tag_rule left x ≡ Err e → tagged (in_image monitors) sub x.0 left x.1 ≡ Err e
 no_tag monitors sub left x e h = by (nat_le 1 x.0 && nat_le x.0 7) refl h where
   by : (b : Bool) → (nat_le 1 x.0 && nat_le x.0 7) ≡ b → passed (unless b 6) left x ≡ Err e → tagged (in_image monitors) sub x.0 left x.1 ≡ Err e
   by true is told = cc
-  by false is told = let same : fault 6 left ≡ e = cc in unknown monitors sub x.0 left x.1 is ∙ ap (λ (d : Fault). Err d) same
+  by false is told = let same : fault 6 left ≡ e = cc in unknown monitors sub x.0 left x.1 is ∙ ap (λ (d : ByteFault). Err d) same
 
-bad_tag : (monitors : ℕ) (sub : Format Segs) (bytes : List ℕ) (e : Fault) → tag_format.read bytes ≡ Err e → seg_read (in_image monitors) sub bytes ≡ Err e
+bad_tag : (monitors : ℕ) (sub : Format Segs) (bytes : List ℕ) (e : ByteFault) → tag_format.read bytes ≡ Err e → seg_read (in_image monitors) sub bytes ≡ Err e
 unfolding seg_read
 bad_tag monitors sub bytes e h = by (failed (u8.read bytes) (rule_of tag_rule (length bytes)) e h) where
   by : Failed (u8.read bytes) (rule_of tag_rule (length bytes)) e → seg_read (in_image monitors) sub bytes ≡ Err e
@@ -57,7 +57,7 @@ bad_tag monitors sub bytes e h = by (failed (u8.read bytes) (rule_of tag_rule (l
   by (inr second) = goes_on (u8.read bytes) (λ t. tagged (in_image monitors) sub t.0 (length bytes) t.1) second.x e second.was (no_tag monitors sub (length bytes) second.x e second.then_is)
 
 -- what is wrong after a tag is told
-after_tag : (monitors : ℕ) (sub : Format Segs) (tag left : ℕ) (a : Sort) (f : Form a) (bytes : List ℕ) (e : Fault) → Follows monitors sub tag a f → f.read bytes ≡ Err e → tagged (in_image monitors) sub tag left bytes ≡ Err e
+after_tag : (monitors : ℕ) (sub : Format Segs) (tag left : ℕ) (a : Sort) (f : Form a) (bytes : List ℕ) (e : ByteFault) → Follows monitors sub tag a f → f.read bytes ≡ Err e → tagged (in_image monitors) sub tag left bytes ≡ Err e
 after_tag monitors sub tag left a f bytes e s.a_line h = ap (λ (r : Read ℕ). r >>= λ n. Ok (Line n.0, n.1)) h
 after_tag monitors sub tag left a f bytes e s.a_fork h = ap (λ (r : Read (Segs × Segs)). r >>= λ x. Ok (Fork x.0.0 x.0.1, x.1)) h
 after_tag monitors sub tag left a f bytes e s.a_loop h = ap (λ (r : Read (ℕ × Segs)). r >>= λ x. Ok (Rep x.0.0 x.0.1, x.1)) h
@@ -69,7 +69,7 @@ after_tag monitors sub tag left a f bytes e s.a_stay h = ap (λ (r : Read (ℕ �
 abbrev pub segments : Format Seg → ℕ → Format (List Seg)
 segments one count = each (λ earlier. one) [] count
 
-bad_row : (one : Format Seg) (bytes : List ℕ) (e : Fault) → (both u32 (λ count. each (λ earlier. one) [] count)).read bytes ≡ Err e → (row_format one).read bytes ≡ Err e
+bad_row : (one : Format Seg) (bytes : List ℕ) (e : ByteFault) → (both u32 (λ count. each (λ earlier. one) [] count)).read bytes ≡ Err e → (row_format one).read bytes ≡ Err e
 bad_row one bytes e h = by (failed (u32.read bytes) (second_of (segments one)) e h) where
   by : Failed (u32.read bytes) (second_of (segments one)) e → (row_format one).read bytes ≡ Err e
   by (inl first) = stops (u32.read bytes) (λ count. segs_read one count.0 count.1) e first

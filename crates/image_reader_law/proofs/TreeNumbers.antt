@@ -3,7 +3,7 @@ use Rattle.std.proofs.Common.{◌≡◌, inl, inr, ◌&&◌, ℕ, zero, suc, Boo
 use Rattle.std.specs.Prelude.{nat_le}
 use Rattle.std.proofs.lemmas.Bool.{leb-true, and_parts}
 use Rattle.machine_semantics.specs.Trees.{Seg, Segs, Line, Fork, Rep, Call, Stay, Cons}
-use Rattle.image_format.specs.declared.fault.Fault.{Fault}
+use Rattle.image_format.specs.declared.fault.ByteFault.{ByteFault}
 use Rattle.image_format.specs.Format.{Format, ◌>>=◌, u8, u16, u32, both}
 use Rattle.image_format.specs.TreeFormat.{in_image, line_count, turns_count, u16_below, tagged, seg_read, seg_format, segs_read, row_format, tree_format}
 use Rattle.image_reader_law.specs.Faults as s
@@ -15,10 +15,10 @@ use Rattle.image_reader_law.proofs.Known as k
 use Rattle.image_reader_law.proofs.Known.{Inner, Told, Known, is_number}
 
 module _ (monitors : ℕ) (sub : Format Segs) (sub_told : Told sub) where
-  behind : {A : Type 0} (f : Format A) (of : A → Seg) (rest : List ℕ) (e : Fault) → Told f → (f.read rest >>= seen of) ≡ Err e → Inner e
+  behind : {A : Type 0} (f : Format A) (of : A → Seg) (rest : List ℕ) (e : ByteFault) → Told f → (f.read rest >>= seen of) ≡ Err e → Inner e
   behind f of rest e told h = told rest e (failed_only (f.read rest) (λ x. (of x.0, x.1)) e h)
 
-  by_tag : (tag left : ℕ) (rest : List ℕ) (e : Fault) → (nat_le 1 tag && nat_le tag 7) ≡ true → tagged (in_image monitors) sub tag left rest ≡ Err e → Inner e
+  by_tag : (tag left : ℕ) (rest : List ℕ) (e : ByteFault) → (nat_le 1 tag && nat_le tag 7) ≡ true → tagged (in_image monitors) sub tag left rest ≡ Err e → Inner e
   by_tag zero left rest e is h = cc
   by_tag (suc zero) left rest e is h = behind line_count (λ n. Line n) rest e (k.u32_range 1 65535).inner h
   by_tag (suc (suc zero)) left rest e is h = behind (both sub (λ first. sub)) (λ x. Fork x.0 x.1) rest e (k.both_told sub (λ first. sub) sub_told (λ first. sub_told)) h
@@ -32,7 +32,7 @@ module _ (monitors : ℕ) (sub : Format Segs) (sub_told : Told sub) where
   by_tag (suc (suc (suc (suc (suc (suc (suc (suc n)))))))) left rest e is h =
       absurd (omega (arith, leb-true (suc (suc (suc (suc (suc (suc (suc (suc n)))))))) 7 (and_parts (nat_le 1 (suc (suc (suc (suc (suc (suc (suc (suc n))))))))) (nat_le (suc (suc (suc (suc (suc (suc (suc (suc n)))))))) 7) is).1))
 
-  at_tag : (tag left : ℕ) (rest : List ℕ) (e : Fault) → tagged (in_image monitors) sub tag left rest ≡ Err e → Inner e
+  at_tag : (tag left : ℕ) (rest : List ℕ) (e : ByteFault) → tagged (in_image monitors) sub tag left rest ≡ Err e → Inner e
   at_tag tag left rest e h = by (nat_le 1 tag && nat_le tag 7) refl where
     by : (b : Bool) → (nat_le 1 tag && nat_le tag 7) ≡ b → Inner e
     by true is = by_tag tag left rest e is h
@@ -45,11 +45,11 @@ module _ (monitors : ℕ) (sub : Format Segs) (sub_told : Told sub) where
     by (inl first) = k.byte.inner bytes e first
     by (inr r) = at_tag r.x.0 (length bytes) r.x.1 e r.then_is
 
-segments_told : (one : Format Seg) → Told one → (count : ℕ) (bytes : List ℕ) (e : Fault) → segs_read one count bytes ≡ Err e → Inner e
+segments_told : (one : Format Seg) → Told one → (count : ℕ) (bytes : List ℕ) (e : ByteFault) → segs_read one count bytes ≡ Err e → Inner e
 unfolding segs_read
 segments_told one told zero bytes e h = cc
 segments_told one told (suc n) bytes e h = by (segments_told one told n) (failed (one.read bytes) (rest_of one n) e h) where
-  by : ((more : List ℕ) (d : Fault) → segs_read one n more ≡ Err d → Inner d) → Failed (one.read bytes) (rest_of one n) e → Inner e
+  by : ((more : List ℕ) (d : ByteFault) → segs_read one n more ≡ Err d → Inner d) → Failed (one.read bytes) (rest_of one n) e → Inner e
   by more (inl first) = told bytes e first
   by more (inr r) = more r.x.1 e (failed_only (segs_read one n r.x.1) (λ rest. (Cons r.x.0 rest.0, rest.1)) e r.then_is)
 

@@ -14,8 +14,8 @@ use Rattle.image.specs.InRange.{IsShort, IsSmall, IsSmallHandler, IsProcessInRan
 use Rattle.image.specs.Named.{NamedImage}
 use Rattle.image.specs.Raw.{named_of}
 use Rattle.image.specs.declared.raw.RawImage.{RawImage}
-use Rattle.image.specs.declared.names.CondName.{CondName}
-use Rattle.image.specs.declared.names.DevName.{DevName}
+use Rattle.image.specs.declared.names.ConditionName.{ConditionName}
+use Rattle.image.specs.declared.names.DeviceName.{DeviceName}
 use Rattle.image.specs.declared.names.EventName.{EventName}
 use Rattle.image_reader.specs.declared.counts.Counts.{Counts}
 use Rattle.image_reader.specs.Answer.{Holds, parts_of}
@@ -42,10 +42,10 @@ module _ (n : ℕ) where
   WorkFits counts w = Each (λ (r : Routine). segments r.tree ≤ n) counts.routines w.0 × (Each IsFit counts.processes w.1.0 × (length w.1.1 ≡ counts.code))
 
   abbrev GuardedFits : Counts → Guarded → Type 0
-  GuardedFits counts x = Each (λ (m : List ℕ × Monitor). IsShortName m.0) counts.monitors x.0 × (Each (λ (c : CondName). IsShortName c.name) counts.conditions x.1.0 × WorkFits counts x.1.1)
+  GuardedFits counts x = Each (λ (m : List ℕ × Monitor). IsShortName m.0) counts.monitors x.0 × (Each (λ (c : ConditionName). IsShortName c.name) counts.conditions x.1.0 × WorkFits counts x.1.1)
 
   abbrev NamedFits : Counts → Named → Type 0
-  NamedFits counts x = Each (λ (d : DevName). IsShortName d.name) counts.devices x.0 × (Each IsShortName counts.events x.1.0 × GuardedFits counts x.1.1)
+  NamedFits counts x = Each (λ (d : DeviceName). IsShortName d.name) counts.devices x.0 × (Each IsShortName counts.events x.1.0 × GuardedFits counts x.1.1)
 
   abbrev ContentFits : Content → Type 0
   ContentFits x = Any x.0 × (AreFew x.1.0 × (IsShortName x.1.1.0 × NamedFits x.1.0 x.1.1.1))
@@ -68,21 +68,21 @@ module _ (n : ℕ) where
         then_brings (each_brings (λ earlier. g.routine_format counts) (λ r. segments r.tree ≤ n) (λ earlier. routine_brings counts) [] counts.routines)
         (both_brings with_code (λ ps code. length code ≡ counts.code) (processes_bring taken) (λ ps h. code_brings (f.all_used (f.used_by ps) 0 counts.events) counts.code))
 
-    abbrev after_monitors : List (List ℕ) → List (List ℕ × Monitor) → Format (List CondName × Work)
+    abbrev after_monitors : List (List ℕ) → List (List ℕ × Monitor) → Format (List ConditionName × Work)
     after_monitors taken monitors = both (f.conditions_format counts (f.with_monitors taken monitors)) (λ conditions. f.work_format version counts (f.with_monitors taken monitors))
 
     guarded_brings : (taken : List (List ℕ)) → Brings n (f.guarded_format version counts taken) (GuardedFits counts)
     guarded_brings taken =
-        both_brings (after_monitors taken) (λ ms x. Each (λ (c : CondName). IsShortName c.name) counts.conditions x.0 × WorkFits counts x.1)
+        both_brings (after_monitors taken) (λ ms x. Each (λ (c : ConditionName). IsShortName c.name) counts.conditions x.0 × WorkFits counts x.1)
         (each_brings (λ earlier. g.named_monitor_format (taken ++ map (λ m. m.0) earlier)) (λ m. IsShortName m.0) (λ earlier. named_monitor_brings (taken ++ map (λ m. m.0) earlier)) [] counts.monitors)
         (λ ms h. then_brings
         (each_brings (g.condition_format (f.with_monitors taken ms) counts.monitors) (λ c. IsShortName c.name) (condition_brings (f.with_monitors taken ms) counts.monitors) [] counts.conditions)
         (work_brings (f.with_monitors taken ms)))
 
-    abbrev after_events : List (List ℕ) → List DevName → List (List ℕ) → Format Guarded
+    abbrev after_events : List (List ℕ) → List DeviceName → List (List ℕ) → Format Guarded
     after_events taken devices events = f.guarded_format version counts (f.with_devices taken devices ++ events)
 
-    abbrev after_devices : List (List ℕ) → List DevName → Format (List (List ℕ) × Guarded)
+    abbrev after_devices : List (List ℕ) → List DeviceName → Format (List (List ℕ) × Guarded)
     after_devices taken devices = both (f.events_format counts (f.with_devices taken devices)) (after_events taken devices)
 
     named_brings : (program : List ℕ) → Brings n (f.named_format version counts program) (NamedFits counts)
@@ -121,10 +121,10 @@ module _ (n : ℕ) where
   -- what is known of the parts of a file
   record PartsFit (ps : f.Parts) : Type 0 where
     program : IsShortName ps.program
-    devices : All (λ (d : DevName). IsShortName d.name) ps.devices
+    devices : All (λ (d : DeviceName). IsShortName d.name) ps.devices
     events : All IsShortName ps.events
     monitors : All (λ (m : List ℕ × Monitor). IsShortName m.0) ps.monitors
-    conditions : All (λ (c : CondName). IsShortName c.name) ps.conditions
+    conditions : All (λ (c : ConditionName). IsShortName c.name) ps.conditions
     routines : All (λ (r : Routine). segments r.tree ≤ n) ps.routines
     processes : All IsFit ps.processes
     few : AreFew (f.counts_of ps)
@@ -212,8 +212,8 @@ module _ (ps : f.Parts) (h : PartsFit largest ps) where
     each_monitor = length-map ps.monitors (λ (x : List ℕ × Monitor). x.0) ∙ sym (length-map ps.monitors (λ (x : List ℕ × Monitor). x.1));
     processes = All-mapped (IsFit largest) IsShort (λ x. x.0) (λ x fit. short x.0 fit.0) ps.processes h.processes;
     monitors = All-mapped (λ (m : List ℕ × Monitor). IsShortName m.0) IsShort (λ x. x.0) (λ x fit. short x.0 fit) ps.monitors h.monitors;
-    conditions = All-weaker (λ (c : CondName). IsShortName c.name) (λ c. IsShort c.name) (λ c fit. short c.name fit) ps.conditions h.conditions;
-    devices = All-weaker (λ (d : DevName). IsShortName d.name) (λ d. IsShort d.name) (λ d fit. short d.name fit) ps.devices h.devices;
+    conditions = All-weaker (λ (c : ConditionName). IsShortName c.name) (λ c. IsShort c.name) (λ c fit. short c.name fit) ps.conditions h.conditions;
+    devices = All-weaker (λ (d : DeviceName). IsShortName d.name) (λ d. IsShort d.name) (λ d fit. short d.name fit) ps.devices h.devices;
     events = framed_short 0 ps.events (map (λ x. x.1) ps.processes) h.events;
   }
 

@@ -4,8 +4,8 @@ use Rattle.std.specs.Prelude.{◌≡◌, ◌≤◌, ◌<◌, ◌++◌, ◌&&◌,
 use Rattle.machine_isa.specs.declared.instr.Instr.{Instr}
 use Rattle.machine_semantics.specs.Image.{Monitor, Routine, Process}
 use Rattle.machine_semantics.specs.Trees.{Seg, Segs}
-use Rattle.image.specs.declared.names.CondName.{CondName}
-use Rattle.image.specs.declared.names.DevName.{DevName}
+use Rattle.image.specs.declared.names.ConditionName.{ConditionName}
+use Rattle.image.specs.declared.names.DeviceName.{DeviceName}
 use Rattle.image.specs.Bytes.{Version}
 use Rattle.image_reader.specs.declared.counts.Counts.{Counts}
 use Rattle.image_format.specs.Format.{Format, u8, u16, u32, bytes_as_are, given, unless, checked, both, via, each}
@@ -42,9 +42,9 @@ Thing integer = ℤ
 Thing truth = Bool
 Thing version = Version
 Thing counts = Counts
-Thing device = DevName
+Thing device = DeviceName
 Thing monitor = Monitor
-Thing condition = CondName
+Thing condition = ConditionName
 Thing segment = Seg
 Thing tree = Segs
 Thing routine = Routine

@@ -5,7 +5,7 @@ use Rattle.std.specs.Fmt.{digits}
 use Rattle.syntax_tree.specs.Placed.{stmts, no_stmts, put, get, Process, device, monitor, Prog, periodic, exprs, no_exprs}
 use Rattle.syntax.specs.Words as w
 use Rattle.syntax_printer.specs.Canonical.{Line, line_text, text_of, stmts_lines, process_lines, decl_lines, lines_of, canonical, end_line, process_words, var_lines, handler_lines}
-use Rattle.load.specs.declared.program.Drawn.{Drawn}
+use Rattle.load.specs.declared.program.DrawnProcess.{DrawnProcess}
 use Rattle.load.specs.Program.{Nowhere, of_number, of_name, to_name, int_variable, enter, drawn, frame, turns_of, pause_if, is_even, load_handler, load_monitor, process_name, load_process, processes_from, load_program, pause_text, process_text, program_text}
 
 pub text_of-append : (lines more : List Line) → text_of (lines ++ more) ≡ text_of lines ++ text_of more
@@ -14,7 +14,7 @@ text_of-append (line ∷ lines) more = ap (λ (t : List ℕ). line_text line ++ 
 
 -- ---- one process
 
-abbrev with_pause : Bool → (count number : ℕ) → Drawn → Process Nowhere
+abbrev with_pause : Bool → (count number : ℕ) → DrawnProcess → Process Nowhere
 with_pause even count number d = record {
   name = process_name number;
   place = tt;
@@ -28,23 +28,23 @@ with_pause even count number d = record {
   close_place = tt;
 }
 
-abbrev pub pieces : Bool → (count number : ℕ) → Drawn → List ℕ
+abbrev pub pieces : Bool → (count number : ℕ) → DrawnProcess → List ℕ
 pieces even count number d =
     (codes "process p" ++ decimal number) ++ ((codes " : periodic frame " ++ decimal (frame count d))
     ++ ((codes "\nvar x : int\nbegin\nget src x\nfor i : 1 .. " ++ decimal (1 + d.turns)) ++ ((codes " do\nx := x mod 97 + " ++ decimal d.addend)
     ++ (codes "\nend for\nm . add ( x )\n" ++ (pause_text even ++ ((codes "put dst x\nhandler ( 10 )\nput dst 0\nend p" ++ decimal number) ++ codes "\n"))))))
 
 -- its lines in three parts, with or without the pause between the last two
-opening_lines : (count number : ℕ) → Drawn → List Line
+opening_lines : (count number : ℕ) → DrawnProcess → List Line
 opening_lines count number d = process_words (load_process count number d) ∷ (var_lines (int_variable (codes "x")) ++ (w.BEGIN ∷ []) ∷ [])
 
-loop_lines : Drawn → List Line
+loop_lines : DrawnProcess → List Line
 loop_lines d = stmts_lines (stmts (get tt (codes "src") tt (to_name (codes "x"))) (stmts (turns_of d) (stmts (enter (codes "add") (exprs (of_name (codes "x")) no_exprs)) no_stmts)))
 
 closing_lines : (number : ℕ) → List Line
 closing_lines number = stmts_lines (stmts (put tt (codes "dst") tt (of_name (codes "x"))) no_stmts) ++ (handler_lines (Some load_handler) ++ end_line (process_name number) ∷ [])
 
-lines_split : (even : Bool) (count number : ℕ) (d : Drawn)
+lines_split : (even : Bool) (count number : ℕ) (d : DrawnProcess)
     → process_lines (with_pause even count number d) ≡ opening_lines count number d ++ (loop_lines d ++ (stmts_lines (pause_if even no_stmts) ++ closing_lines number))
 unfolding opening_lines loop_lines closing_lines
 lines_split true count number d = refl
@@ -70,7 +70,7 @@ zero_digits = refl
 one_line : (a n b f z v : List ℕ) → (a ++ (n ++ (b ++ (f ++ z)))) ++ v ≡ a ++ (n ++ (b ++ (f ++ (z ++ v))))
 one_line a n b f z v = simp append_assoc refl
 
-opening_text : (count number : ℕ) (d : Drawn)
+opening_text : (count number : ℕ) (d : DrawnProcess)
     → text_of (opening_lines count number d) ≡ codes "process p" ++ (decimal number ++ (codes " : periodic frame " ++ (decimal (frame count d) ++ codes "\nvar x : int\nbegin\n")))
 unfolding opening_lines
 opening_text count number d = one_line (codes "process p") (decimal number) (codes " : periodic frame ") (decimal (frame count d)) (codes "\n") (codes "var x : int\nbegin\n")
@@ -78,13 +78,13 @@ opening_text count number d = one_line (codes "process p") (decimal number) (cod
 two_lines : (a b t c d n e f : List ℕ) → a ++ ((b ++ (t ++ c)) ++ ((d ++ (n ++ e)) ++ f)) ≡ a ++ (b ++ (t ++ (c ++ (d ++ (n ++ (e ++ f))))))
 two_lines a b t c d n e f = simp append_assoc refl
 
-spelled_out : (d : Drawn)
+spelled_out : (d : DrawnProcess)
     → text_of (loop_lines d) ≡ codes "get src x\n" ++ ((codes "for i : 1 .. " ++ (decimal (1 + d.turns) ++ codes " do\n")) ++ ((codes "x := x mod 97 + " ++ (decimal d.addend ++ codes "\n")) ++ codes "end for\nm . add ( x )\n"))
 unfolding loop_lines
 spelled_out d = λ i. codes "get src x\n" ++ ((codes "for i : " ++ (one_digits i ++ (codes " .. " ++ (decimal (1 + d.turns) ++ codes " do\n"))))
     ++ ((codes "x := x mod " ++ (ninety_seven_digits i ++ (codes " + " ++ (decimal d.addend ++ codes "\n")))) ++ codes "end for\nm . add ( x )\n"))
 
-loop_text : (d : Drawn)
+loop_text : (d : DrawnProcess)
     → text_of (loop_lines d) ≡ codes "get src x\nfor i : 1 .. " ++ (decimal (1 + d.turns) ++ (codes " do\nx := x mod 97 + " ++ (decimal d.addend ++ codes "\nend for\nm . add ( x )\n")))
 loop_text d =
     spelled_out d ∙ two_lines (codes "get src x\n") (codes "for i : 1 .. ") (decimal (1 + d.turns)) (codes " do\n") (codes "x := x mod 97 + ") (decimal d.addend) (codes "\n") (codes "end for\nm . add ( x )\n")
@@ -100,7 +100,7 @@ regroup : (a n b f c_1 c_2 x d y e p g h : List ℕ)
     ≡ (a ++ n) ++ ((b ++ f) ++ (((c_1 ++ c_2) ++ x) ++ ((d ++ y) ++ (e ++ (p ++ ((g ++ n) ++ h))))))
 regroup a n b f c_1 c_2 x d y e p g h = simp append_assoc refl
 
-pieces-are : (even : Bool) (count number : ℕ) (d : Drawn) → text_of (process_lines (with_pause even count number d)) ≡ pieces even count number d
+pieces-are : (even : Bool) (count number : ℕ) (d : DrawnProcess) → text_of (process_lines (with_pause even count number d)) ≡ pieces even count number d
 unfolding pause_text
 pieces-are even count number d =
     let one = opening_lines count number d in
@@ -127,7 +127,7 @@ pause_of_odd number t odd =
     let no : (number % 2 == 0) ≡ false = ne_eqb (number % 2) 0 odd in
     sym (append-nil t) ∙ ap (λ b. t ++ pause_text b) (sym no)
 
-pub process-pieces : (count number : ℕ) (d : Drawn) → process_text count number d ≡ pieces (is_even number) count number d
+pub process-pieces : (count number : ℕ) (d : DrawnProcess) → process_text count number d ≡ pieces (is_even number) count number d
 unfolding process_text
 process-pieces count number d = pieces-are (is_even number) count number d
 

@@ -3,7 +3,7 @@ use Rattle.std.specs.Prelude.{ℕ, zero, suc, ◌+◌, ◌*◌, ◌%◌, ◌==�
 use Rattle.syntax_tree.specs.Plain.{Name, add, remainder}
 use Rattle.syntax_tree.specs.Placed.{Constant, literal_constant, int, scalar, Var, Expr, literal, variable, Exprs, no_exprs, exprs, no_operands, operand, row, Ref, whole, Stmt, assign, perform_entry, loop, get, put, wait, signal, Stmts, no_stmts, stmts, procedure, Routine, variable_member, condition_member, Monitor, periodic, Handler, Process, Decl, device, monitor, process, Prog}
 use Rattle.syntax_printer.specs.Canonical.{process_lines, stmts_lines, text_of, canonical}
-use Rattle.load.specs.declared.program.Drawn.{Drawn}
+use Rattle.load.specs.declared.program.DrawnProcess.{DrawnProcess}
 use Rattle.load.specs.Draws.{draw}
 
 -- trees without places
@@ -71,11 +71,11 @@ load_monitor = record {
 -- ---- the processes
 
 -- the three draws of the process of this number, from 0
-abbrev pub drawn : (key at : ℕ) → Drawn
+abbrev pub drawn : (key at : ℕ) → DrawnProcess
 drawn key at = record { frames = draw key (3 * at) 8; turns = draw key (3 * at + 1) 10; addend = draw key (3 * at + 2) 50 }
 
 -- in ticks, of a process among so many
-abbrev pub frame : (count : ℕ) → Drawn → ℕ
+abbrev pub frame : (count : ℕ) → DrawnProcess → ℕ
 frame count d = 1000 * count * (1 + d.frames)
 
 -- x := x mod 97 + g
@@ -84,7 +84,7 @@ turn addend = assign (to_name (codes "x"))
     (row (row (of_name (codes "x")) (operand remainder (literal tt 97) no_operands)) (operand add (literal tt addend) no_operands))
 
 -- the loop variable is i
-abbrev pub turns_of : Drawn → Stmt Nowhere
+abbrev pub turns_of : DrawnProcess → Stmt Nowhere
 turns_of d = loop tt (codes "i") tt (of_number 1) (of_number (1 + d.turns)) (stmts (turn d.addend) no_stmts)
 
 -- with a pause or without, and then others
@@ -95,7 +95,7 @@ pause_if true more = stmts (enter (codes "pause") no_exprs) more
 abbrev pub is_even : ℕ → Bool
 is_even number = number % 2 == 0
 
-abbrev pub load_body : (number : ℕ) → Drawn → Stmts Nowhere
+abbrev pub load_body : (number : ℕ) → DrawnProcess → Stmts Nowhere
 load_body number d =
     stmts (get tt (codes "src") tt (to_name (codes "x")))
     (stmts (turns_of d)
@@ -111,7 +111,7 @@ abbrev pub process_name : (number : ℕ) → Name
 process_name number = codes "p" ++ decimal number
 
 -- the process of this number, from 1, among so many
-abbrev pub load_process : (count number : ℕ) → Drawn → Process Nowhere
+abbrev pub load_process : (count number : ℕ) → DrawnProcess → Process Nowhere
 load_process count number d = record {
   name = process_name number;
   place = tt;
@@ -148,7 +148,7 @@ load_program key count = record {
 unfoldable pub pause_text : Bool → List ℕ
 pause_text even = text_of (stmts_lines (pause_if even no_stmts))
 
-unfoldable pub process_text : (count number : ℕ) → Drawn → List ℕ
+unfoldable pub process_text : (count number : ℕ) → DrawnProcess → List ℕ
 process_text count number d = text_of (process_lines (load_process count number d))
 
 unfoldable pub program_text : (key count : ℕ) → List ℕ

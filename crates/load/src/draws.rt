@@ -5,7 +5,7 @@ ghost use Rattle.load.specs.Draws.{below as below_of, next};
 
 /// A linear congruential generator.
 #[derive(Clone, Copy)]
-pub struct Draws {
+pub struct RandomGenerator {
     pub state: u64,
 }
 
@@ -15,7 +15,7 @@ const FACTOR: u64 = 6_364_136_223_846_793_005;
 /// What is added to it then.
 const ADDEND: u64 = 1_442_695_040_888_963_407;
 
-impl Draws {
+impl RandomGenerator {
     /// The next draw, below a bound that is not 0.
     #[tactic(auto, unfolding(crate::specs::Draws::next, crate::specs::Draws::below))]
     pub fn below(&mut self, bound: u64) -> u64

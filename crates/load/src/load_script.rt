@@ -5,7 +5,7 @@ ghost use Rattle.script.specs.Saying.{set, text_of};
 ghost use Rattle.load.specs.Draws.{next, state};
 ghost use Rattle.load.specs.Script.{script_text, value};
 
-use crate::draws::Draws;
+use crate::draws::RandomGenerator;
 use crate::words::add_number;
 use itoa::Buffer;
 use std::alloc::{AllocError, Global};
@@ -26,7 +26,7 @@ fn add_setting(text: &mut Text, tick: u64, value: i32) -> Result<(), AllocError>
 }
 
 /// The next value that the in device is set to.
-fn draw_value(draws: &mut Draws) -> i32
+fn draw_value(draws: &mut RandomGenerator) -> i32
     ensures state { draws.new.state ≡ next draws.old.state }
     ensures value { (key before : ℕ) → draws.old.state ≡ state key before →
         result ≡ value key before }
@@ -41,7 +41,7 @@ fn script_of(alloc: Global, key: u64, count: u64) -> Result<Text, AllocError>
     ensures { IfOk result (λ text. text ≡ script_text key count) }
 {
     let mut text = Text::new(alloc);
-    let mut draws = Draws { state: key };
+    let mut draws = RandomGenerator { state: key };
     for before in 0..SETTINGS {
         let value = draw_value(&mut draws);
         add_setting(&mut text, 1000 * count * before, value)?;

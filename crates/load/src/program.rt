@@ -4,7 +4,7 @@ ghost use Rattle.std.specs.Prelude.{◌≡◌, ◌<◌, ◌+◌, ◌*◌, ◌^�
 ghost use Rattle.load.specs.Draws.{state};
 ghost use Rattle.load.specs.Program.{drawn, is_even, pause_text, process_text, program_text};
 
-use crate::draws::Draws;
+use crate::draws::RandomGenerator;
 use crate::words::add_number;
 use std::alloc::{AllocError, Global};
 use syntax_tree::Text;
@@ -12,7 +12,7 @@ use syntax_tree::Text;
 /// What a process draws: how many of the shortest frames its own has beyond one, how many turns its
 /// loop has beyond one, and what a turn adds.
 #[derive(Clone, Copy)]
-pub struct Drawn {
+pub struct DrawnProcess {
     pub frames: u64,
     pub turns: u64,
     pub addend: u64,
@@ -24,7 +24,7 @@ const OPENING: &[u8] = b"program load\ndevice src : in\ndevice dst : out\nmonito
     entry procedure pause ( )\nbegin\nwait c noLongerThan 50 : 10\nend pause\nend m\n";
 
 /// The next three draws.
-fn draw_three(draws: &mut Draws) -> Drawn
+fn draw_three(draws: &mut RandomGenerator) -> DrawnProcess
     ensures state { (key before : ℕ) → draws.old.state ≡ state key (3 * before) →
         draws.new.state ≡ state key (3 * (before + 1)) }
     ensures drawn { (key before : ℕ) → draws.old.state ≡ state key (3 * before) →
@@ -35,7 +35,7 @@ fn draw_three(draws: &mut Draws) -> Drawn
     let frames = draws.below(8);
     let turns = draws.below(10);
     let addend = draws.below(50);
-    Drawn {
+    DrawnProcess {
         frames,
         turns,
         addend,
@@ -53,7 +53,12 @@ fn add_pause(text: &mut Text, number: u64) -> Result<(), AllocError>
 }
 
 /// Puts the process of this number, of so many, at the end of a text.
-fn add_process(text: &mut Text, count: u64, number: u64, drawn: Drawn) -> Result<(), AllocError>
+fn add_process(
+    text: &mut Text,
+    count: u64,
+    number: u64,
+    drawn: DrawnProcess,
+) -> Result<(), AllocError>
     requires count { count < 2 ^ 32 }
     requires frames { drawn.frames < 8 }
     requires turns { drawn.turns < 10 }
@@ -83,7 +88,7 @@ fn program_of(alloc: Global, key: u64, count: u64) -> Result<Text, AllocError>
     ensures { IfOk result (λ text. text ≡ program_text key count) }
 {
     let mut text = Text::from_bytes(alloc, OPENING)?;
-    let mut draws = Draws { state: key };
+    let mut draws = RandomGenerator { state: key };
     for before in 0..count {
         let drawn = draw_three(&mut draws);
         add_process(&mut text, count, before + 1, drawn)?;

@@ -4,7 +4,7 @@ use Rattle.checked_law.specs.Ready.{CheckedProgramsAreReady, IsReady}
 use Rattle.built_image.specs.Built.{IsBuilt}
 use Rattle.built_image.specs.Named.{names_of}
 use Rattle.codegen_law.specs.Whole.{MadeHasItsLength}
-use Rattle.syntax_tree.specs.Plain.{Prog}
+use Rattle.syntax_tree.specs.Plain.{Program}
 use Rattle.syntax_tree.specs.Placed.{plain}
 use Rattle.load.specs.Program.{load_program}
 use Rattle.load_text_law.specs.Lines.{HasDevice, IsScriptOfLoad}
@@ -23,6 +23,6 @@ has_script lines device keeps same key count some few n t =
 pub has_instructions : CheckedProgramsAreReady → MadeHasItsLength → KeepsLoadTree → IsSameProgram → HasLength → HasInstructions
 has_instructions ready made keeps same long key count some few n t =
     let program = same_program keeps same key count few t.tree t.written.program.tree in
-    let built = subst (λ (g : Prog). IsBuilt g 0 n) program t.built in
-    let of_load = subst (λ (g : Prog). IsReady g) program (ready t.tree t.written.program.checked) in
+    let built = subst (λ (g : Program). IsBuilt g 0 n) program t.built in
+    let of_load = subst (λ (g : Program). IsReady g) program (ready t.tree t.written.program.checked) in
     ap length built.shaped.code.code ∙ made (plain (load_program key count)) of_load.sound ∙ long key count

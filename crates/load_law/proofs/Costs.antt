@@ -7,7 +7,7 @@ use Rattle.valid_image.specs.Found.{amount}
 use Rattle.base.specs.declared.capped.Cost.{Cost}
 use Rattle.code_cost_spec.specs.Costs.{process_cost}
 use Rattle.code_cost_spec.specs.Levels.{process_names, calls_at, cost_of_process, stay_of_entry}
-use Rattle.load.specs.declared.program.Drawn.{Drawn}
+use Rattle.load.specs.declared.program.DrawnProcess.{DrawnProcess}
 use Rattle.load.specs.Program.{is_even, drawn}
 use Rattle.load_text_law.proofs.Lists.{load, process_of, there, add_text, pause_text, two_routines}
 use Rattle.load_text_law.proofs.Lengths.{names_seen, with_pause}
@@ -28,14 +28,14 @@ abbrev cost_with : Bool → (turns : ℕ) → Cost
 cost_with true turns = amount (132 + 30 * turns) 50 1
 cost_with false turns = amount (104 + 30 * turns) 0 0
 
-abbrev cost_of : (even : Bool) (key count k number : ℕ) → Drawn → Cost
+abbrev cost_of : (even : Bool) (key count k number : ℕ) → DrawnProcess → Cost
 cost_of even key count k number d = process_cost (load key count) (names_seen (load key count) k (Some (with_pause even count number d))) (calls_at 2 (load key count)) (with_pause even count number d)
 
 -- from 1 to this
 turns_are : (turns : ℕ) → up_to (pos (1 + turns) -ℤ pos 1) ≡ 1 + turns
 turns_are turns = ap (λ less. up_to (cond less (negsuc (1 - suc (1 + turns))) (pos (1 + turns - 1)))) (le-ltb (1 + turns) 1 (omega arith)) ∙ omega arith
 
-module _ (key count k number : ℕ) (d : Drawn) where
+module _ (key count k number : ℕ) (d : DrawnProcess) where
   runs : (even : Bool) → (cost_of even key count k number d).run ≡ (cost_with even d.turns).run
   unfolding calls_at
   runs true = omega (arith, turns_are d.turns)
@@ -57,7 +57,7 @@ pub record IsSmall (c : Cost) : Type 0 where
   pub susp : c.susp ≤ 50
   pub waits : c.waits ≤ 1
 
-small_with : (even : Bool) (key count k number : ℕ) (d : Drawn) → d.turns < 10 → IsSmall (cost_of even key count k number d)
+small_with : (even : Bool) (key count k number : ℕ) (d : DrawnProcess) → d.turns < 10 → IsSmall (cost_of even key count k number d)
 small_with true key count k number d few = record { run = omega (arith, runs key count k number d true, few); susp = omega (arith, suspended key count k number d true); waits = omega (arith, waits key count k number d true) }
 small_with false key count k number d few = record { run = omega (arith, runs key count k number d false, few); susp = omega (arith, suspended key count k number d false); waits = omega (arith, waits key count k number d false) }
 

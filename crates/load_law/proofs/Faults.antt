@@ -42,4 +42,4 @@ is_never_late time keeps same key count some few show report t =
     let l = t.late in
     let program = same_program keeps same key count few t.tree t.written.program.tree in
     l.unsolved (1000 * count)
-    (time key count some few l.image (subst (λ (g : plain_of.Prog). IsShaped g 0 l.image) program l.shaped) l.number l.process l.there)
+    (time key count some few l.image (subst (λ (g : plain_of.Program). IsShaped g 0 l.image) program l.shaped) l.number l.process l.there)

@@ -9,7 +9,7 @@ use Rattle.static_names.specs.declared.kind.Declared.{Declared}
 use Rattle.static_names.specs.Reach.{Site, through}
 use Rattle.static_names.specs.Occurrences.{Occurrence, declares, closes, used}
 use Rattle.static_declarations.specs.declared.sort.Sort.TheVariants as sort_is
-use Rattle.static_declarations.specs.declared.sort.Shape.TheVariants as shape_is
+use Rattle.static_declarations.specs.declared.sort.VarType.TheVariants as shape_is
 use Rattle.static_declarations.specs.Things.{Thing, device_thing, routine_thing, variable_thing}
 use Rattle.static_declarations.specs.Parts.{Part}
 use Rattle.static_types.specs.Types.{mistyped}

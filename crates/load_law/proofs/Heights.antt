@@ -11,7 +11,7 @@ use Rattle.code_spec.specs.Numbering.{Text, texts_from}
 use Rattle.code_cost_spec.specs.Heights.{stack_of}
 use Rattle.code_cost_spec.specs.Levels.{calls_at, stack_of_process}
 use Rattle.code_size.specs.Rules.{routine_stack}
-use Rattle.load.specs.declared.program.Drawn.{Drawn}
+use Rattle.load.specs.declared.program.DrawnProcess.{DrawnProcess}
 use Rattle.load.specs.Program.{is_even, drawn, add_entry, pause_entry, load_process, processes_from}
 use Rattle.load_text_law.proofs.Lengths.{with_pause}
 use Rattle.load_text_law.proofs.Lists.{no_texts, load}
@@ -19,7 +19,7 @@ use Rattle.load_text_law.proofs.Lists.{no_texts, load}
 -- ---- processes
 
 -- where calls are known to nest so deep
-with_is : (deep : ℕ) (even : Bool) (key count k number : ℕ) (d : Drawn)
+with_is : (deep : ℕ) (even : Bool) (key count k number : ℕ) (d : DrawnProcess)
     → stack_of (load key count) (by_process k) (calls_at deep (load key count)) (with_pause even count number d) ≤ 5
 unfolding calls_at
 with_is zero true key count k number d = omega arith
@@ -44,7 +44,7 @@ stacks_are key count at p there = stacks_from (routine_count (load key count)) k
 
 -- ---- routines
 
-abbrev pub IsLow : plain_of.Prog → Text → Type 0
+abbrev pub IsLow : plain_of.Program → Text → Type 0
 IsLow g t = routine_stack g t.owner t.routine ≤ 2
 
 add_low : (key count : ℕ) → IsLow (load key count) (record { owner = by_monitor 0; routine = plain_routine add_entry })

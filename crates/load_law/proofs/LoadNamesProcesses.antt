@@ -8,7 +8,7 @@ use Rattle.static_names.specs.declared.kind.Declared.{Declared}
 use Rattle.static_names.specs.declared.kind.Kind.TheVariants as kind_is
 use Rattle.static_names.specs.Reach.{Names, Site, inside}
 use Rattle.static_names.specs.Occurrences.{Occurrence, closes, declarations, var_name, routine_name, vars_names, routines_names, stmts_names, optional_names, handler_names, process_scope, process_inner, process_names}
-use Rattle.load.specs.declared.program.Drawn.{Drawn}
+use Rattle.load.specs.declared.program.DrawnProcess.{DrawnProcess}
 use Rattle.load.specs.Program.{of_name, int_variable, frame, load_body, load_handler, load_process, pause_if, is_even}
 use Rattle.load_text_law.proofs.Shapes.{one_of, none_of, some_there}
 use Rattle.load_law.proofs.Knowing.{free, known_as, Agrees, enter}
@@ -21,7 +21,7 @@ ends_right : (even : Bool) → stmts_right in_process (pause_if even (stmts (put
 ends_right true = refl
 ends_right false = refl
 
-body_right : (number : ℕ) (d : Drawn) → stmts_right in_process (load_body number d) ≡ true
+body_right : (number : ℕ) (d : DrawnProcess) → stmts_right in_process (load_body number d) ≡ true
 body_right number d = ends_right (is_even number)
 
 handler_fine : (here : Site) → Agrees in_process here → (h : Handler Place) → bare_handler h ≡ load_handler → (more : List Occurrence) → Fine more → Fine (handler_names here h more)
@@ -29,7 +29,7 @@ handler_fine here all h like more fine =
     numbers_fine here h.numbers 10 (stmts_names here h.body more) (ap (λ x. x.numbers) like)
     (stmts_fine in_process here all h.body more (ap (λ x. stmts_right in_process x.body) like) fine)
 
-module _ (count number : ℕ) (d : Drawn) (p : Process Place) (same : bare_process p ≡ load_process count number d) where
+module _ (count number : ℕ) (d : DrawnProcess) (p : Process Place) (same : bare_process p ≡ load_process count number d) where
   inner_fine : (here : Site) → Agrees in_process here → (more : List Occurrence) → Fine more → Fine (process_inner here p more)
   inner_fine here all more fine =
       let names : p.name ≡ _ = ap (λ x. x.name) same in

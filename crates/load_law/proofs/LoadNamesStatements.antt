@@ -9,8 +9,8 @@ use Rattle.syntax_tree.specs.Bare.{bare_constant, bare_expr, bare_exprs, bare_op
 use Rattle.static_names.specs.declared.kind.Declared.{Declared}
 use Rattle.static_names.specs.declared.kind.Kind.{Kind}
 use Rattle.static_names.specs.declared.kind.Kind.TheVariants as kind_is
-use Rattle.static_names.specs.declared.kind.Want.{Want}
-use Rattle.static_names.specs.declared.kind.Want.TheVariants as want_is
+use Rattle.static_names.specs.declared.kind.NameUse.{NameUse}
+use Rattle.static_names.specs.declared.kind.NameUse.TheVariants as want_is
 use Rattle.static_names.specs.Reach.{suits, Site, inside, through}
 use Rattle.static_names.specs.Occurrences.{Occurrence, used, uses, constant_names, expr_names, exprs_names, operands_names, ref_names, entry_names, loop_name, stmt_names, stmts_names}
 use Rattle.load_law.proofs.Knowing.{Fact, free, known_as, opens, Known, known, kind_of, is_entry, Holds, Agrees, enter}
@@ -21,7 +21,7 @@ Bare = Unit {0}
 
 -- ---- what is right
 
-abbrev use_right : Want → Option Fact → Bool
+abbrev use_right : NameUse → Option Fact → Bool
 use_right want None = false
 use_right want (Some free) = false
 use_right want (Some (known_as k)) = suits want k
@@ -75,11 +75,11 @@ abbrev mutual
 
 -- ---- none is refused
 
-suits_so : (want : Want) (o : Option Declared) (k : Kind) (name : Name) (place : Place) → kind_of o ≡ Some k → suits want k ≡ true → is_fine (used name place want o) ≡ true
+suits_so : (want : NameUse) (o : Option Declared) (k : Kind) (name : Name) (place : Place) → kind_of o ≡ Some k → suits want k ≡ true → is_fine (used name place want o) ≡ true
 suits_so want None k name place is fits = absurd cc
 suits_so want (Some d) k name place is fits = let kinds : d.kind ≡ k = cc in ap (suits want) kinds ∙ fits
 
-use_fine : (es : Known) (here : Site) → Agrees es here → (name : Name) (place : Place) (want : Want) → use_right want (known es name) ≡ true → is_fine (uses here name place want) ≡ true
+use_fine : (es : Known) (here : Site) → Agrees es here → (name : Name) (place : Place) (want : NameUse) → use_right want (known es name) ≡ true → is_fine (uses here name place want) ≡ true
 use_fine es here all name place want right = by (known es name) refl right
   where
     by : (o : Option Fact) → known es name ≡ o → use_right want o ≡ true → is_fine (uses here name place want) ≡ true

@@ -8,10 +8,10 @@ use Rattle.static_names.specs.declared.kind.Kind.TheVariants as kind_is
 use Rattle.static_names.specs.Reach.{Names, Reach, Site, inside}
 use Rattle.static_names.specs.Occurrences.{Occurrence, closes, loop_name, constant_names, stmts_names, process_scope, process_names, others, decl_name, decls_names}
 use Rattle.static_declarations.specs.declared.sort.Sort.TheVariants as sort_is
-use Rattle.static_declarations.specs.declared.sort.Shape.TheVariants as shape_is
+use Rattle.static_declarations.specs.declared.sort.VarType.TheVariants as shape_is
 use Rattle.static_declarations.specs.Things.{Thing, variable_thing, decl_things, decls_things}
 use Rattle.static_declarations.specs.Parts.{Part, stmts_parts, decl_parts, decls_parts}
-use Rattle.load.specs.declared.program.Drawn.{Drawn}
+use Rattle.load.specs.declared.program.DrawnProcess.{DrawnProcess}
 use Rattle.load.specs.Program.{Nowhere, drawn, is_even, pause_if, load_body, load_handler, load_process}
 use Rattle.load_text_law.proofs.Shapes.{AreLoad, no_more, one_more}
 use Rattle.load_law.proofs.Given.{Each, Found, Known, Good, IsNumber, IsDevice, IsEntry}
@@ -35,7 +35,7 @@ module _ (named : Place → Option Thing) (thing : Place → Thing) where
   last_fine here s true ss ok = ((refl, (0, (s.pause, tt))), ok)
   last_fine here s false ss ok = ok
 
-  body_fine : (here : Site) → Inside here → (number : ℕ) (d : Drawn) → AreFine named thing false here (load_body number d)
+  body_fine : (here : Site) → Inside here → (number : ℕ) (d : DrawnProcess) → AreFine named thing false here (load_body number d)
   body_fine here s number d = (
     (s.source, s.x),
     (
@@ -73,7 +73,7 @@ module _ (named : Place → Option Thing) (thing : Place → Thing) where
       }
 
   made_kept : (p : Process Place) (frame : Constant Place) (x : Place) (number : Constant Place) (h : Handler Place) → IsLiteral frame → IsLiteral number
-      → bare_stmts h.body ≡ load_handler.body → (at : ℕ) (d : Drawn) → bare_stmts p.body ≡ load_body at d → Keeps (made_process p frame x number h)
+      → bare_stmts h.body ≡ load_handler.body → (at : ℕ) (d : DrawnProcess) → bare_stmts p.body ≡ load_body at d → Keeps (made_process p frame x number h)
   made_kept p frame x number h frame_literal number_literal handler_like at d body_like outer s more things found known =
       let made = made_process p frame x number h in
       let here = inside (process_scope made) outer in
@@ -93,7 +93,7 @@ module _ (named : Place → Option Thing) (thing : Place → Thing) where
         known = known.1.1;
       }
 
-  process_kept : (p : Process Place) (count number : ℕ) (d : Drawn) → bare_process p ≡ load_process count number d → Keeps p
+  process_kept : (p : Process Place) (count number : ℕ) (d : DrawnProcess) → bare_process p ≡ load_process count number d → Keeps p
   process_kept p count number d same =
       let made = is_made p count number d same in
       subst Keeps (sym made.is)

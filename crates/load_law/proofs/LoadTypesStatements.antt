@@ -7,8 +7,8 @@ use Rattle.syntax_tree.specs.declared.place.Place.{Place}
 use Rattle.syntax_tree.specs.Bare.{bare_ref, bare_stmt, bare_stmts}
 use Rattle.static_names.specs.Reach.{Site, inside}
 use Rattle.static_names.specs.Occurrences.{Occurrence, loop_name, constant_names, stmt_names, stmts_names}
-use Rattle.static_declarations.specs.declared.home.Home.{Home}
-use Rattle.static_declarations.specs.declared.home.Home.TheVariants as home_is
+use Rattle.static_declarations.specs.declared.home.StmtContext.{StmtContext}
+use Rattle.static_declarations.specs.declared.home.StmtContext.TheVariants as home_is
 use Rattle.static_declarations.specs.declared.home.Where.{Where}
 use Rattle.static_declarations.specs.declared.sort.Sort.TheVariants as sort_is
 use Rattle.static_declarations.specs.Things.{Thing}
@@ -20,7 +20,7 @@ use Rattle.load_law.proofs.Given.{Each, Found, Good, IsNumber, IsDevice, IsEntry
 use Rattle.load_law.proofs.Terms.{IsLiteral, literal_bare, no_names, Numeric, NumericList, numeric_bare, numeric_list_bare, number_kept, list_kept}
 
 -- the texts of the load stand in an entry or in a process
-abbrev pub home_by : (in_entry : Bool) → Home
+abbrev pub home_by : (in_entry : Bool) → StmtContext
 home_by false = home_is.Free
 home_by true = home_is.Entry
 

@@ -4,7 +4,7 @@ use Rattle.syntax_tree.specs.Plain.{Name}
 use Rattle.syntax_tree.specs.Placed.{Constant, int, scalar, Var, Param, Routine, procedure, Member, variable_member, condition_member, Monitor, periodic, Handler, Process}
 use Rattle.syntax_tree.specs.declared.place.Place.{Place}
 use Rattle.syntax_tree.specs.Bare.{bare_constant, bare_scalar, bare_var, bare_param, bare_expr, bare_stmts, bare_routine, bare_member, bare_monitor, bare_handler, bare_process}
-use Rattle.load.specs.declared.program.Drawn.{Drawn}
+use Rattle.load.specs.declared.program.DrawnProcess.{DrawnProcess}
 use Rattle.load.specs.Program.{of_number, int_variable, add_entry, pause_entry, load_monitor, frame, load_handler, load_process}
 use Rattle.load_text_law.proofs.Shapes.{front_of, none_of, one_of, none_there, some_there}
 use Rattle.load_law.proofs.Terms.{IsLiteral, literal_bare}
@@ -52,7 +52,7 @@ pub record IsMade (p : Process Place) : Type 0 where
   pub handler_like : bare_stmts handler.body ≡ load_handler.body
   pub is : p ≡ made_process p frame x number handler
 
-pub is_made : (p : Process Place) (count number : ℕ) (d : Drawn) → bare_process p ≡ load_process count number d → IsMade p
+pub is_made : (p : Process Place) (count number : ℕ) (d : DrawnProcess) → bare_process p ≡ load_process count number d → IsMade p
 is_made p count number d same =
     let a = is_periodic p.activation (frame count d) (ap (λ x. x.activation) same) in
     let v = one_of bare_var p.vars (int_variable (codes "x")) (ap (λ x. x.vars) same) in

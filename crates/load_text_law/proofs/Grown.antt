@@ -8,7 +8,7 @@ use Rattle.syntax.specs.StmtGrammar.{IsStmt, AreStmts}
 use Rattle.syntax.specs.ExprGrammar.{Each}
 use Rattle.syntax.specs.Grammar.{MOST_LEVELS, IsMonitor, IsProcess, IsDecl, IsProg}
 use Rattle.syntax_reading.specs.TreeWords.{stmts_words, stmt_words, process_words, decl_words, each_words, optional_words, handler_words, monitor_words, prog_words}
-use Rattle.load.specs.declared.program.Drawn.{Drawn}
+use Rattle.load.specs.declared.program.DrawnProcess.{DrawnProcess}
 use Rattle.load.specs.Program.{Nowhere, of_name, to_name, enter, turn, turns_of, drawn, is_even, pause_if, load_handler, load_monitor, process_name, load_process, processes_from, load_program}
 
 -- a word at no place
@@ -41,10 +41,10 @@ two_five = omega arith
 turned : (addend : ℕ) (ws : List Word) → IsStmt 63 (turn addend) (toks (stmt_words (turn addend) ws)) (toks ws)
 turned addend ws = (_, refl, (_, (tt, refl), (1, two_five, tt, (_, (0, one_one, tt, (_, refl, (_, (refl, (tt, refl)), (_, refl, refl)))), (_, (refl, (tt, refl)), (_, refl, refl))))))
 
-looped : (d : Drawn) (ws : List Word) → IsStmt MOST_LEVELS (turns_of d) (toks (stmt_words (turns_of d) ws)) (toks ws)
+looped : (d : DrawnProcess) (ws : List Word) → IsStmt MOST_LEVELS (turns_of d) (toks (stmt_words (turns_of d) ws)) (toks ws)
 looped d ws = (_, refl, (_, refl, (_, (tt, refl), (_, (refl, refl), (_, (tt, refl), (_, (refl, refl), (_, (tt, refl), (_, (_, turned d.addend (w.END ∷ w.FOR ∷ ws), refl), (_, (tt, refl), (tt, refl))))))))))
 
-of_process : (count number : ℕ) (d : Drawn) (ws : List Word) → IsProcess (load_process count number d) (toks (process_words (load_process count number d) ws)) (toks ws)
+of_process : (count number : ℕ) (d : DrawnProcess) (ws : List Word) → IsProcess (load_process count number d) (toks (process_words (load_process count number d) ws)) (toks ws)
 of_process count number d ws =
     let behind = optional_words handler_words (Some load_handler) (w.END ∷ w.named (process_name number) ∷ ws) in
     let ends = stmts_words (pause_if (is_even number) last) behind in
@@ -71,10 +71,10 @@ bare_last true = refl
 bare_last false = refl
 
 -- the body with this end
-abbrev with_end : Drawn → Stmts Nowhere → Stmts Nowhere
+abbrev with_end : DrawnProcess → Stmts Nowhere → Stmts Nowhere
 with_end d ss = stmts (get tt (codes "src") tt (to_name (codes "x"))) (stmts (turns_of d) (stmts (enter (codes "add") (exprs (of_name (codes "x")) no_exprs)) ss))
 
-bare-process : (count number : ℕ) (d : Drawn) → bare_process (load_process count number d) ≡ load_process count number d
+bare-process : (count number : ℕ) (d : DrawnProcess) → bare_process (load_process count number d) ≡ load_process count number d
 bare-process count number d = let same = bare_last (is_even number) in λ i. record (load_process count number d) {
   body = with_end d (same i);
 }

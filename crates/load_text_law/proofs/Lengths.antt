@@ -10,7 +10,7 @@ use Rattle.code_spec.specs.Layout.{by_process, in_frame, in_process, in_area, pl
 use Rattle.code_cost_spec.specs.Names.{Names, view_of}
 use Rattle.code_cost_spec.specs.Lengths.{process_length}
 use Rattle.code_cost_spec.specs.Levels.{process_names, routines_length, processes_length, code_length}
-use Rattle.load.specs.declared.program.Drawn.{Drawn}
+use Rattle.load.specs.declared.program.DrawnProcess.{DrawnProcess}
 use Rattle.load.specs.Program.{Nowhere, of_name, to_name, enter, turns_of, pause_if, is_even, drawn, load_process}
 use Rattle.load_text_law.proofs.Lists.{load, process_of, list_from, all_processes, there, add_text, pause_text, all_routines}
 
@@ -22,22 +22,22 @@ bit true = 1
 bit false = 0
 
 -- the names that a process sees, where its number tells this process
-abbrev pub names_seen : plain_of.Prog → ℕ → Option plain_of.Process → Names
+abbrev pub names_seen : plain_of.Program → ℕ → Option plain_of.Process → Names
 names_seen g k p = record {
   owner = by_process k;
   view = λ x. option_map view_of (or_else (in_area in_frame (place_named x [])) (in_area in_process (place_named x (places_from g 0 (vars_of_process p)))));
 }
 
-abbrev pub body_with : Bool → Drawn → Stmts Nowhere
+abbrev pub body_with : Bool → DrawnProcess → Stmts Nowhere
 body_with even d =
     stmts (get tt (codes "src") tt (to_name (codes "x"))) (stmts (turns_of d) (stmts (enter (codes "add") (exprs (of_name (codes "x")) no_exprs))
     (pause_if even (stmts (put tt (codes "dst") tt (of_name (codes "x"))) no_stmts))))
 
 -- a process with a pause or without
-abbrev pub with_pause : Bool → (count number : ℕ) → Drawn → plain_of.Process
+abbrev pub with_pause : Bool → (count number : ℕ) → DrawnProcess → plain_of.Process
 with_pause even count number d = record (plain_process (load_process count number d)) { body = plain_stmts (body_with even d) }
 
-with_is : (even : Bool) (key count k number : ℕ) (d : Drawn) → process_length (load key count) (names_seen (load key count) k (Some (with_pause even count number d))) (with_pause even count number d) ≡ 24 + bit even
+with_is : (even : Bool) (key count k number : ℕ) (d : DrawnProcess) → process_length (load key count) (names_seen (load key count) k (Some (with_pause even count number d))) (with_pause even count number d) ≡ 24 + bit even
 unfolding bit
 with_is true key count k number d = refl
 with_is false key count k number d = refl

@@ -8,7 +8,7 @@ use Rattle.code_spec.specs.Layout.{by_monitor}
 use Rattle.code_spec.specs.Numbering.{Text, numbered, visit, visit_texts, texts_from}
 use Rattle.load.specs.Program.{add_entry, pause_entry, drawn, load_process, processes_from, load_program}
 
-abbrev pub load : (key count : ℕ) → plain_of.Prog
+abbrev pub load : (key count : ℕ) → plain_of.Program
 load key count = plain (load_program key count)
 
 abbrev pub process_of : (key count before : ℕ) → plain_of.Process
@@ -55,7 +55,7 @@ add_text = record { owner = by_monitor 0; routine = plain_routine add_entry }
 abbrev pub pause_text : Text
 pause_text = record { owner = by_monitor 0; routine = plain_routine pause_entry }
 
-visited : (g : plain_of.Prog) → visit_texts 2 g [] (add_text ∷ pause_text ∷ []) ≡ add_text ∷ pause_text ∷ []
+visited : (g : plain_of.Program) → visit_texts 2 g [] (add_text ∷ pause_text ∷ []) ≡ add_text ∷ pause_text ∷ []
 unfolding visit
 visited g = refl
 

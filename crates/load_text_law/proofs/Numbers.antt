@@ -11,11 +11,11 @@ use Rattle.base.specs.Words as words
 use Rattle.static_rule.specs.Parts.{FailsOf, FailsAmong}
 use Rattle.static_declarations.specs.declared.home.Where.{Where}
 use Rattle.static_declarations.specs.Parts.{Part, statement, looped, stmt_parts, stmts_parts, answer_parts, handler_parts, home_of, outside_loops, routine_parts, routines_parts, decls_parts, parts}
-use Rattle.static_declarations.specs.declared.home.Home.TheVariants as home_is
+use Rattle.static_declarations.specs.declared.home.StmtContext.TheVariants as home_is
 use Rattle.static_declarations.specs.Values.{value, constant_place, is_within, out_of}
 use Rattle.static_types.specs.Numbers.{crossed_loop, endless_loop, long_loop, bad_number, bad_limit}
 use Rattle.static_types.specs.Rules.{statement_rules, StatementFails}
-use Rattle.load.specs.declared.program.Drawn.{Drawn}
+use Rattle.load.specs.declared.program.DrawnProcess.{DrawnProcess}
 use Rattle.load.specs.Draws.{below, draw}
 use Rattle.load.specs.Program.{drawn, is_even, pause_if, add_entry, pause_entry, load_body, load_handler, load_process, load_program}
 use Rattle.load_text_law.proofs.Shapes.{some_there, none_there, none_of, HasShape, has_shape, AreLoad, no_more, one_more}
@@ -148,7 +148,7 @@ last_fine : (even : Bool) (ss : Stmts (Unit {0})) → stmts_fine ss ≡ true →
 last_fine true ss ok = ok
 last_fine false ss ok = ok
 
-body_fine : (number : ℕ) (d : Drawn) → d.turns < 10 → stmts_fine (load_body number d) ≡ true
+body_fine : (number : ℕ) (d : DrawnProcess) → d.turns < 10 → stmts_fine (load_body number d) ≡ true
 body_fine number d low =
     let a : nat_le 1 (1 + d.turns) ≡ true = le-leb 1 (1 + d.turns) (omega arith) in
     let b : nat_lt (1 + d.turns) 2147483647 ≡ true = lt-ltb (1 + d.turns) 2147483647 (omega arith) in
@@ -167,7 +167,7 @@ module _ (key count : ℕ) (g : Prog Place) (s : HasShape key count g.decls) whe
       stmts_kept g (outside_loops (home_of true r.kind r.place)) r.body (answer_parts r.place r.result r.value more) (as_load r.body body same ok)
       (subst (λ o. All (IsFine g) (answer_parts r.place o r.value more)) (sym none) all)
 
-  process_fine : (p : Process Place) (number : ℕ) (d : Drawn) → d.turns < 10 → bare_process p ≡ load_process count number d → (more : List Part)
+  process_fine : (p : Process Place) (number : ℕ) (d : DrawnProcess) → d.turns < 10 → bare_process p ≡ load_process count number d → (more : List Part)
       → All (IsFine g) more → All (IsFine g) (decls_parts (process p ∷ []) more)
   process_fine p number d low same more all =
       let there = some_there bare_handler p.handler load_handler (ap (λ x. x.handler) same) in

@@ -13,7 +13,7 @@ use Rattle.static_numbers.specs.Types.{decls_bounds, vars_bounds, routines_bound
 use Rattle.static_numbers.specs.Processes.{frame_of, deadline_of, bad_limit, bad_start, Handled, handled, handler_numbers, all_handled}
 use Rattle.static_numbers.specs.Counts.{words, vars_words, kind_words}
 use Rattle.static_numbers.specs.Rules.{process_rules, handler_rules}
-use Rattle.load.specs.declared.program.Drawn.{Drawn}
+use Rattle.load.specs.declared.program.DrawnProcess.{DrawnProcess}
 use Rattle.load.specs.Draws.{below, draw}
 use Rattle.load.specs.Program.{of_number, drawn, frame, load_handler, load_process}
 use Rattle.load_text_law.proofs.Shapes.{one_of, none_of, none_there, some_there, AreLoad, no_more, one_more}
@@ -38,14 +38,14 @@ few_frames : (key at : ℕ) → (drawn key at).frames < 8
 unfolding draw below
 few_frames key at = mod_below _ 8 (omega arith)
 
-frame_low : (count : ℕ) (d : Drawn) → 1 ≤ count → 1000 ≤ frame count d
+frame_low : (count : ℕ) (d : DrawnProcess) → 1 ≤ count → 1000 ≤ frame count d
 frame_low count d some =
     let least : 1 ≤ 1 + d.frames = omega arith in
     let e = mul-le-mul_left (1000 * count) least in
     omega (arith, e)
 
 module _ (g : Prog Place) (count : ℕ) (some : 1 ≤ count) (few : count ≤ 64) where
-  frame_kept : (p : Process Place) (number : ℕ) (d : Drawn) → d.frames < 8 → bare_process p ≡ load_process count number d → NoneOf (process_rules g) p
+  frame_kept : (p : Process Place) (number : ℕ) (d : DrawnProcess) → d.frames < 8 → bare_process p ≡ load_process count number d → NoneOf (process_rules g) p
   frame_kept p number d low same =
       let it = is_periodic p.activation (frame count d) (ap (λ x. x.activation) same) in
       let low_frame = frame_low count d some in
@@ -72,7 +72,7 @@ record HasTen (p : Process Place) : Type 0 where
   is : (more : List Handled) → handler_numbers p.handler more ≡ record { before = []; number = number } ∷ more
   like : bare_constant number ≡ of_number 10
 
-has_ten : (p : Process Place) (count number : ℕ) (d : Drawn) → bare_process p ≡ load_process count number d → HasTen p
+has_ten : (p : Process Place) (count number : ℕ) (d : DrawnProcess) → bare_process p ≡ load_process count number d → HasTen p
 has_ten p count number d same =
     let there = some_there bare_handler p.handler load_handler (ap (λ x. x.handler) same) in
     let one = one_of bare_constant there.one.numbers (of_number 10) (ap (λ h. h.numbers) there.like) in
@@ -88,7 +88,7 @@ number_kept g c like =
     (refl, (ap (λ z. if is_within 1 4 z || is_within 10 999 z then o else Some (constant_place c)) (is_worth g c 10 like), tt))
 
 -- a failure is one of the others
-of_others : (g : Prog Place) (p : Process Place) (count at : ℕ) (d : Drawn) → bare_process p ≡ load_process count at d → (more : List Handled) (number : ℕ) (place : Place)
+of_others : (g : Prog Place) (p : Process Place) (count at : ℕ) (d : DrawnProcess) → bare_process p ≡ load_process count at d → (more : List Handled) (number : ℕ) (place : Place)
     → FailsAmong (handler_rules g) (handler_numbers p.handler more) number place → FailsAmong (handler_rules g) more number place
 of_others g p count at d same more number place fails =
     let ten = has_ten p count at d same in
@@ -132,7 +132,7 @@ pub no_events : (ps : List (Process Place)) → events (decls ps) ≡ []
 no_events [] = refl
 no_events (p ∷ ps) = no_events ps
 
-no_own : (p : Process Place) (count number : ℕ) (d : Drawn) → bare_process p ≡ load_process count number d → p.routines ≡ []
+no_own : (p : Process Place) (count number : ℕ) (d : DrawnProcess) → bare_process p ≡ load_process count number d → p.routines ≡ []
 no_own p count number d same = none_of bare_routine p.routines (ap (λ x. x.routines) same)
 
 module _ (key count : ℕ) where

@@ -2,7 +2,7 @@
 use Rattle.std.proofs.Common.{◌<◌, ◌≤◌, ◌+◌, ◌-◌, ◌*◌, ◌^◌, ℕ, zero, suc, Bool, true, false, List, ◌++◌, codes, decimal, length, ap, length-append, arith}
 use Rattle.std.proofs.lemmas.Fmt.{length-decimal-le}
 use Rattle.syntax.specs.Tokens.{longest_text}
-use Rattle.load.specs.declared.program.Drawn.{Drawn}
+use Rattle.load.specs.declared.program.DrawnProcess.{DrawnProcess}
 use Rattle.load.specs.Program.{frame, drawn, is_even, pause_text, process_text, program_text}
 use Rattle.load.proofs.Pieces.{pieces, process-pieces, rest, rest-more, opening-is}
 use Rattle.load_text_law.proofs.Spelled.{IsDrawn, is_drawn, frame_low}
@@ -37,7 +37,7 @@ pause_short false = omega arith
 with_number : (a : List ℕ) (n k : ℕ) → 0 < k → n < 10 ^ k → n < 2 ^ 64 → length (a ++ decimal n) ≤ length a + k
 with_number a n k some low word = omega (arith, length-append a (decimal n), length-decimal-le k n some low word)
 
-process_short : (count number : ℕ) (d : Drawn) → count ≤ 64 → number ≤ 64 → IsDrawn d → length (process_text count number d) ≤ 181
+process_short : (count number : ℕ) (d : DrawnProcess) → count ≤ 64 → number ≤ 64 → IsDrawn d → length (process_text count number d) ≤ 181
 process_short count number d few within low =
     let ticks = frame_low count d few low.frames in
     let turns : 1 + d.turns < 10 ^ 2 = omega (arith, low.turns) in

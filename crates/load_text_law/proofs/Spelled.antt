@@ -6,14 +6,14 @@ use Rattle.syntax.specs.Words as w
 use Rattle.syntax.specs.Words.{Word, named, number}
 use Rattle.syntax_reading.specs.TreeWords.{stmts_words, stmt_words, process_words, decl_words, each_words, optional_words, handler_words, monitor_words, prog_words}
 use Rattle.syntax_printer.proofs.Spelled.{AreSpelled}
-use Rattle.load.specs.declared.program.Drawn.{Drawn}
+use Rattle.load.specs.declared.program.DrawnProcess.{DrawnProcess}
 use Rattle.load.specs.Program.{of_name, enter, frame, turns_of, drawn, is_even, pause_if, load_handler, load_monitor, process_name, load_process, processes_from, load_program}
 use Rattle.load_text_law.proofs.Drawing.{draw_below}
 use Rattle.load_text_law.proofs.Numerals.{number_spelled, name_spelled}
 use Rattle.load_text_law.proofs.Words as are
 
 -- what a process may draw
-pub record IsDrawn (d : Drawn) : Type 0 where
+pub record IsDrawn (d : DrawnProcess) : Type 0 where
   pub frames : d.frames < 8
   pub turns : d.turns < 10
   pub addend : d.addend < 50
@@ -21,7 +21,7 @@ pub record IsDrawn (d : Drawn) : Type 0 where
 pub is_drawn : (key at : ℕ) → IsDrawn (drawn key at)
 is_drawn key at = record { frames = draw_below key (3 * at) 8 (omega arith); turns = draw_below key (3 * at + 1) 10 (omega arith); addend = draw_below key (3 * at + 2) 50 (omega arith) }
 
-pub frame_low : (count : ℕ) (d : Drawn) → count ≤ 64 → d.frames < 8 → frame count d ≤ 512000
+pub frame_low : (count : ℕ) (d : DrawnProcess) → count ≤ 64 → d.frames < 8 → frame count d ≤ 512000
 frame_low count d few low =
     let most : 1 + d.frames ≤ 8 = omega arith in
     let e = mul-le-mul_left (1000 * count) most in
@@ -37,7 +37,7 @@ ending : (even : Bool) (ws : List Word) → AreSpelled ws → AreSpelled (stmts_
 ending true ws rest = (are.name_m, (are.word_dot, (are.name_pause, (are.word_left_paren, (are.word_right_paren, put_last ws rest)))))
 ending false ws rest = put_last ws rest
 
-looped : (d : Drawn) (ws : List Word) → IsDrawn d → AreSpelled ws → AreSpelled (stmt_words (turns_of d) ws)
+looped : (d : DrawnProcess) (ws : List Word) → IsDrawn d → AreSpelled ws → AreSpelled (stmt_words (turns_of d) ws)
 looped d ws low rest = (
   are.word_for,
   (
@@ -82,7 +82,7 @@ looped d ws low rest = (
   ),
 )
 
-of_process : (count at : ℕ) (d : Drawn) (ws : List Word) → count ≤ 64 → at ≤ 64 → IsDrawn d → AreSpelled ws → AreSpelled (process_words (load_process count at d) ws)
+of_process : (count at : ℕ) (d : DrawnProcess) (ws : List Word) → count ≤ 64 → at ≤ 64 → IsDrawn d → AreSpelled ws → AreSpelled (process_words (load_process count at d) ws)
 of_process count at d ws few within low rest =
     let name = name_spelled at within in
     let behind = optional_words handler_words (Some load_handler) (w.END ∷ named (process_name at) ∷ ws) in

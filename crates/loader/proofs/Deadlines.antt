@@ -4,8 +4,8 @@ use Rattle.std.specs.Prelude.{◌&&◌, ◌||◌, nat_eq, nat_lt, nat_le, cond, 
 use Rattle.std.proofs.lemmas.List.{length-map, drop_more, get_or_past}
 use Rattle.std.proofs.lemmas.Option.{slice_get-map, slice_get-get_or}
 use Rattle.image.specs.declared.raw.RawImage.{RawImage}
-use Rattle.image.specs.declared.raw.RawMon.{RawMon}
-use Rattle.image.specs.declared.raw.RawProc.{RawProc}
+use Rattle.image.specs.declared.raw.RawMonitor.{RawMonitor}
+use Rattle.image.specs.declared.raw.RawProcess.{RawProcess}
 use Rattle.image.specs.declared.raw.RawRoutine.{RawRoutine}
 use Rattle.machine_semantics.specs.Image.{Image}
 use Rattle.image.specs.Raw.{image_of, process_of, monitor_of, routine_of}
@@ -19,13 +19,13 @@ use Rattle.base.proofs.Lists.{map_get, one_more}
 use Rattle.valid_image.specs.Times.{deadline_of, deadline_at, outranks, ticks_of, blocking_stay, blocking_by, longest_blocking, enters, is_some}
 use Rattle.loader.specs.Stays.{AreStays, AreStaysOfRoutines, AreFirstStays, stay_in, blocking_at, blocking_of}
 
-process_is : (image : RawImage) (k : ℕ) (p : RawProc) → k < length image.processes → p ≡ get_or image.processes k p → slice_get (image_of image).processes k ≡ Some (process_of p)
+process_is : (image : RawImage) (k : ℕ) (p : RawProcess) → k < length image.processes → p ≡ get_or image.processes k p → slice_get (image_of image).processes k ≡ Some (process_of p)
 process_is image k p low is = map_get process_of image.processes k p (slice_get-get_or image.processes k p low ∙ ap (λ x. Some x) (sym is))
 
-deadline_is : (image : RawImage) (k : ℕ) (p : RawProc) → k < length image.processes → p ≡ get_or image.processes k p → deadline_at (image_of image) k ≡ p.deadline
+deadline_is : (image : RawImage) (k : ℕ) (p : RawProcess) → k < length image.processes → p ≡ get_or image.processes k p → deadline_at (image_of image) k ≡ p.deadline
 deadline_is image k p low is = ap (λ o. deadline_of o) (process_is image k p low is)
 
-pub outranks_is : (image : RawImage) (j k : ℕ) (p q : RawProc) → j < length image.processes → k < length image.processes → p ≡ get_or image.processes j p → q ≡ get_or image.processes k q
+pub outranks_is : (image : RawImage) (j k : ℕ) (p q : RawProcess) → j < length image.processes → k < length image.processes → p ≡ get_or image.processes j p → q ≡ get_or image.processes k q
     → outranks (image_of image) j k ≡ (nat_lt p.deadline q.deadline || (nat_eq p.deadline q.deadline && nat_lt j k))
 outranks_is image j k p q low_j low_k is_p is_q =
     ap (λ d. nat_lt d (deadline_at (image_of image) k) || (nat_eq d (deadline_at (image_of image) k) && nat_lt j k)) (deadline_is image j p low_j is_p)
@@ -38,13 +38,13 @@ stay_is image rows k m are low_k low_m =
     let row = are.each m (omega (arith, low_m, are.one_each)) in
     row.each k (omega (arith, low_k, row.one_each))
 
-monitor_there : (image : RawImage) (m : ℕ) (x : RawMon) → m < length image.monitors → x ≡ get_or image.monitors m x → slice_get (image_of image).monitors m ≡ Some (monitor_of x)
+monitor_there : (image : RawImage) (m : ℕ) (x : RawMonitor) → m < length image.monitors → x ≡ get_or image.monitors m x → slice_get (image_of image).monitors m ≡ Some (monitor_of x)
 monitor_there image m x low is = map_get monitor_of image.monitors m x (slice_get-get_or image.monitors m x low ∙ ap (λ y. Some y) (sym is))
 
-pub blocking_is : (image : RawImage) (rank k m : ℕ) (x : RawMon) → m < length image.monitors → x ≡ get_or image.monitors m x → blocking_at (image_of image) rank k m ≡ cond (nat_le x.ceiling rank) (ticks_of (stay_of_process (image_of image) k m)) 0
+pub blocking_is : (image : RawImage) (rank k m : ℕ) (x : RawMonitor) → m < length image.monitors → x ≡ get_or image.monitors m x → blocking_at (image_of image) rank k m ≡ cond (nat_le x.ceiling rank) (ticks_of (stay_of_process (image_of image) k m)) 0
 blocking_is image rank k m x low is = ap (λ o. blocking_stay (image_of image) rank k m o) (monitor_there image m x low is)
 
-pub blocked_is : (image : RawImage) (rank k : ℕ) (p : RawProc) → k < length image.processes → p ≡ get_or image.processes k p → blocking_of (image_of image) rank k ≡ cond (nat_lt rank p.rank) (longest_blocking (image_of image) rank k (length image.monitors)) 0
+pub blocked_is : (image : RawImage) (rank k : ℕ) (p : RawProcess) → k < length image.processes → p ≡ get_or image.processes k p → blocking_of (image_of image) rank k ≡ cond (nat_lt rank p.rank) (longest_blocking (image_of image) rank k (length image.monitors)) 0
 blocked_is image rank k p low is =
     ap (λ o. blocking_by (image_of image) rank k o) (process_is image k p low is)
     ∙ ap (λ n. cond (nat_lt rank p.rank) (longest_blocking (image_of image) rank k n) 0) (length-map image.monitors monitor_of)

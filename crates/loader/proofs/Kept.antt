@@ -18,18 +18,18 @@ use Rattle.valid_image.specs.Tables as tables
 use Rattle.valid_image.specs.Tables.{known, monitor_of, routine_found, found_or_nothing}
 use Rattle.loader_code.proofs.Searching.{none_here, none_left, of_element}
 use Rattle.valid_image_law.specs.Held.{hold, held_known}
-use Rattle.loader_trees.specs.declared.known.Known as code
-use Rattle.loader_trees.specs.declared.known.PartFound.{PartFound}
+use Rattle.loader_trees.specs.declared.known.RoutineCost as code
+use Rattle.loader_trees.specs.declared.known.PartCost.{PartCost}
 use Rattle.loader_trees.specs.Told.{found_of, known_of}
 use Rattle.loader_trees.specs.Whole.{stay_in}
-use Rattle.loader.specs.declared.parts.Parts.{Parts}
+use Rattle.loader.specs.declared.parts.CodeCosts.{CodeCosts}
 use Rattle.loader.specs.Found.{AreAlike}
 use Rattle.loader.specs.Parts.{IsKept, AreRoutines}
 use Rattle.loader.proofs.Rows.{table_length, row_is}
 use Rattle.loader.proofs.Alike.{routine_alike, needed}
 use Rattle.loader.proofs.Shaping.{Before, test_at, here, same_due, shape_some, both_true, piece_here, cases, pushed_before, pushed_last, row_of, row_held, rows_on}
 
-pub on : (raw : RawImage) (parts new : Parts) (r : ℕ) (x : RawRoutine) (part : PartFound) (row : code.Known) → Before raw parts r → slice_get raw.routines r ≡ Some x
+pub on : (raw : RawImage) (parts new : CodeCosts) (r : ℕ) (x : RawRoutine) (part : PartCost) (row : code.RoutineCost) → Before raw parts r → slice_get raw.routines r ≡ Some x
     → Some (found_of part.found) ≡ hold (guard (nat_eq x.start parts.end) (routine_found raw.code (map known_of parts.known) (routine_of x)))
     → part.found.next ≡ x.start + size x.tree → part.found.next < length raw.code
     → part.stay ≡ cap (stay_in (monitor_of (routine_of x)) (routine_found raw.code (map known_of parts.known) (routine_of x)))
@@ -49,7 +49,7 @@ on raw parts new r x part row before is some next within stays row-is known-is r
     record {
       due = omega (arith, end-is, next, piece_here raw r x is);
       within = omega (arith, end-is, within);
-      known_rows = (let P : List code.Known → Type 0 = λ ks. AreAlike (map known_of ks) (take (r + 1) (known (image_of raw))) in
+      known_rows = (let P : List code.RoutineCost → Type 0 = λ ks. AreAlike (map known_of ks) (take (r + 1) (known (image_of raw))) in
           subst P (sym known-is) (rows_on parts.known row (known (image_of raw)) r _ before.known_count before.known_rows here-row same-row));
       known_count = ap length known-is ∙ length-append parts.known (row ∷ []) ∙ ap (λ n. n + 1) before.known_count;
       count = ap length routines-is ∙ length-append parts.routines (part ∷ []) ∙ ap (λ n. n + 1) before.count;
@@ -69,7 +69,7 @@ on raw parts new r x part row before is some next within stays row-is known-is r
       rest = ap (λ n. first_of (test_at raw) n (r + 1)) fewer ∙ (sym (none_here (test_at raw) (length raw.routines - r) r (omega (arith, low)) none) ∙ before.rest);
     }
 
-pub all_kept : (raw : RawImage) (parts : Parts) (r : ℕ) → Before raw parts r → r ≡ length raw.routines → AreRoutines raw parts
+pub all_kept : (raw : RawImage) (parts : CodeCosts) (r : ℕ) → Before raw parts r → r ≡ length raw.routines → AreRoutines raw parts
 all_kept raw parts r before all = record {
   known_rows = λ j. elim (cases_lt j r) [
     | inl low ↦ before.known_rows j ∙ ap (option_map held_known) (take_get r j (known (image_of raw)) low)
@@ -81,5 +81,5 @@ all_kept raw parts r before all = record {
   kept = λ j x at. before.kept j x (omega (arith, slice_get_within raw.routines j x at, all)) at;
 }
 
-pub none_wrong : (raw : RawImage) (parts : Parts) (r : ℕ) → Before raw parts r → r ≡ length raw.routines → None ≡ first_in (routine_shape_fault (image_of raw)) (image_of raw).routines
+pub none_wrong : (raw : RawImage) (parts : CodeCosts) (r : ℕ) → Before raw parts r → r ≡ length raw.routines → None ≡ first_in (routine_shape_fault (image_of raw)) (image_of raw).routines
 none_wrong raw parts r before all = sym (none_left (test_at raw) (length raw.routines - r) r (omega (arith, all))) ∙ before.rest

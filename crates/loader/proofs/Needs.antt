@@ -7,7 +7,7 @@ use Rattle.base.proofs.Lists.{map_get}
 use Rattle.base.specs.Capped.{cap}
 use Rattle.base.specs.declared.capped.Cost.{Cost}
 use Rattle.image.specs.declared.raw.RawImage.{RawImage}
-use Rattle.image.specs.declared.raw.RawProc.{RawProc}
+use Rattle.image.specs.declared.raw.RawProcess.{RawProcess}
 use Rattle.image.specs.declared.raw.RawRoutine.{RawRoutine}
 use Rattle.image.specs.Raw.{image_of, process_of, routine_of}
 use Rattle.machine_semantics.specs.Image.{Routine, Process}
@@ -18,10 +18,10 @@ use Rattle.valid_image.specs.Tables.{known, routine_found, body_found, handler_f
 use Rattle.loader_code.proofs.Searching.{none_here, one_here, none_left, of_element}
 use Rattle.valid_image_law.specs.Held.{held, hold}
 use Rattle.valid_image_law.proofs.Holding.{product}
-use Rattle.loader_trees.specs.declared.known.PartFound.{PartFound}
+use Rattle.loader_trees.specs.declared.known.PartCost.{PartCost}
 use Rattle.loader_trees.specs.Told.{found_of, told_part}
-use Rattle.loader.specs.declared.parts.Parts.{Parts}
-use Rattle.loader.specs.declared.parts.ProcessFound.{ProcessFound}
+use Rattle.loader.specs.declared.parts.CodeCosts.{CodeCosts}
+use Rattle.loader.specs.declared.parts.ProcessCost.{ProcessCost}
 use Rattle.loader.specs.Costs.{routine_needs, process_needs, stack_needs}
 use Rattle.loader.specs.Found.{Two, two, told_process}
 use Rattle.loader.specs.Parts.{AreParts}
@@ -59,11 +59,11 @@ needs_same (Some g) f x stay n some is =
     ∙ ap (λ a. or_else (below x.run (cap (4 + g.cost.run))) (or_else (below x.susp (cap g.cost.susp)) (or_else (below x.waits a) (below x.stay stay)))) waits
     ∙ ap (λ a. or_else (below x.run (cap (4 + g.cost.run))) (or_else (below x.susp (cap g.cost.susp)) (or_else (below x.waits (cap g.cost.waits)) (below x.stay a)))) is
 
-stay_at : (o : Option PartFound) (part : PartFound) (n : ℕ) → o ≡ Some part → IfSome o (λ f. f.stay ≡ n) → part.stay ≡ n
+stay_at : (o : Option PartCost) (part : PartCost) (n : ℕ) → o ≡ Some part → IfSome o (λ f. f.stay ≡ n) → part.stay ≡ n
 stay_at None part n is stays = absurd cc
-stay_at (Some f) part n is stays = let same : f ≡ part = cc in ap (λ (g : PartFound). g.stay) (sym same) ∙ stays
+stay_at (Some f) part n is stays = let same : f ≡ part = cc in ap (λ (g : PartCost). g.stay) (sym same) ∙ stays
 
-pub routine_costs : (raw : RawImage) (parts : Parts) (r : ℕ) (x : RawRoutine) (part : PartFound) → AreParts raw parts → slice_get raw.routines r ≡ Some x → slice_get parts.routines r ≡ Some part
+pub routine_costs : (raw : RawImage) (parts : CodeCosts) (r : ℕ) (x : RawRoutine) (part : PartCost) → AreParts raw parts → slice_get raw.routines r ≡ Some x → slice_get parts.routines r ≡ Some part
     → of_some (routine_cost_fault (image_of raw) r) (slice_get (image_of raw).routines r) ≡ routine_needs (routine_of x) (found_of part.found) part.stay
 routine_costs raw parts r x part are at kept =
     let k = are.routines.kept r x at in
@@ -114,13 +114,13 @@ process_same over p a b f g first second =
     ∙ ap (λ n. or_else (below p.run (cap (with_dispatch over (longer 4 (plus a.cost b.cost))))) (or_else (below p.susp n) (below p.waits (cap (cap a.cost.waits + cap b.cost.waits))))) susp
     ∙ ap (λ n. or_else (below p.run (cap (with_dispatch over (longer 4 (plus a.cost b.cost))))) (or_else (below p.susp (cap (a.cost.susp + b.cost.susp))) (below p.waits n))) waits
 
-what_is_kept : (raw : RawImage) (parts : Parts) (k : ℕ) (p : RawProc) (found : ProcessFound) → AreParts raw parts → slice_get raw.processes k ≡ Some p → slice_get parts.processes k ≡ Some found
+what_is_kept : (raw : RawImage) (parts : CodeCosts) (k : ℕ) (p : RawProcess) (found : ProcessCost) → AreParts raw parts → slice_get raw.processes k ≡ Some p → slice_get parts.processes k ≡ Some found
     → (found_of found.body ≡ held (found_or_nothing (body_found (image_of raw) (process_of p)))) × (found_of found.handler ≡ held (found_or_nothing (handler_found (image_of raw) (process_of p) (process_of p).handler_tree)))
 what_is_kept raw parts k p found are at kept =
     both_found (body_found (image_of raw) (process_of p)) (handler_found (image_of raw) (process_of p) (process_of p).handler_tree) (record { body = found_of found.body; handler = found_of found.handler })
     (ap told_process (sym kept) ∙ are.processes.kept k p at)
 
-pub process_costs : (raw : RawImage) (parts : Parts) (k : ℕ) (p : RawProc) (found : ProcessFound) → AreParts raw parts → slice_get raw.processes k ≡ Some p → slice_get parts.processes k ≡ Some found
+pub process_costs : (raw : RawImage) (parts : CodeCosts) (k : ℕ) (p : RawProcess) (found : ProcessCost) → AreParts raw parts → slice_get raw.processes k ≡ Some p → slice_get parts.processes k ≡ Some found
     → of_some (λ q. process_cost_fault (image_of raw) q) (slice_get (image_of raw).processes k) ≡ process_needs raw.overhead (process_of p) (found_of found.body) (found_of found.handler)
 process_costs raw parts k p found are at kept =
     let w = what_is_kept raw parts k p found are at kept in
@@ -132,7 +132,7 @@ stack_same p a b f g first second =
     let depth : min (max (min a.depth 4097) (min b.depth 4097)) 4097 ≡ min (max a.depth b.depth) 4097 = omega arith in
     ap (λ x. stack_needs p x g) first ∙ ap (λ x. stack_needs p (held a) x) second ∙ ap (λ n. below p.stack (p.locals + n)) depth
 
-pub process_stacks : (raw : RawImage) (parts : Parts) (k : ℕ) (p : RawProc) (found : ProcessFound) → AreParts raw parts → slice_get raw.processes k ≡ Some p → slice_get parts.processes k ≡ Some found
+pub process_stacks : (raw : RawImage) (parts : CodeCosts) (k : ℕ) (p : RawProcess) (found : ProcessCost) → AreParts raw parts → slice_get raw.processes k ≡ Some p → slice_get parts.processes k ≡ Some found
     → of_some (λ q. below q.stack (needed_stack (image_of raw) q)) (slice_get (image_of raw).processes k) ≡ stack_needs (process_of p) (found_of found.body) (found_of found.handler)
 process_stacks raw parts k p found are at kept =
     let w = what_is_kept raw parts k p found are at kept in

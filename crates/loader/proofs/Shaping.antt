@@ -17,9 +17,9 @@ use Rattle.valid_image.specs.Shape.{is_found, routine_shape_fault}
 use Rattle.valid_image.specs.Tables.{count, known, routine_found, found_or_nothing}
 use Rattle.loader_code.proofs.Searching.{one_here, of_element}
 use Rattle.valid_image_law.specs.Held.{held, hold, held_known}
-use Rattle.loader_trees.specs.declared.known.Known as code
+use Rattle.loader_trees.specs.declared.known.RoutineCost as code
 use Rattle.loader_trees.specs.Told.{known_of}
-use Rattle.loader.specs.declared.parts.Parts.{Parts}
+use Rattle.loader.specs.declared.parts.CodeCosts.{CodeCosts}
 use Rattle.loader.specs.Found.{AreAlike}
 use Rattle.loader.specs.Parts.{IsKept}
 use Rattle.loader.proofs.Alike.{routine_alike}
@@ -28,7 +28,7 @@ abbrev pub test_at : RawImage → ℕ → Option Fault
 test_at raw r = of_some (routine_shape_fault (image_of raw) r) (slice_get (image_of raw).routines r)
 
 -- before routine r
-pub record Before (raw : RawImage) (parts : Parts) (r : ℕ) : Type 0 where
+pub record Before (raw : RawImage) (parts : CodeCosts) (r : ℕ) : Type 0 where
   pub due : parts.end ≡ due_start (pieces (image_of raw)) r
   pub within : parts.end ≤ length raw.code
   pub known_rows : AreAlike (map known_of parts.known) (take r (known (image_of raw)))
@@ -57,10 +57,10 @@ both_true true (Some g) f is some = refl
 pub here : (raw : RawImage) (r : ℕ) (x : RawRoutine) → slice_get raw.routines r ≡ Some x → slice_get (image_of raw).routines r ≡ Some (routine_of x)
 here raw r x is = map_get routine_of raw.routines r x is
 
-pub same_due : (raw : RawImage) (parts : Parts) (r start : ℕ) → Before raw parts r → nat_eq start parts.end ≡ nat_eq start (due_start (pieces (image_of raw)) r)
+pub same_due : (raw : RawImage) (parts : CodeCosts) (r start : ℕ) → Before raw parts r → nat_eq start parts.end ≡ nat_eq start (due_start (pieces (image_of raw)) r)
 same_due raw parts r start before = ap (λ n. nat_eq start n) before.due
 
-pub stops : (raw : RawImage) (parts : Parts) (r : ℕ) (x : RawRoutine) → Before raw parts r → r < length raw.routines → slice_get raw.routines r ≡ Some x
+pub stops : (raw : RawImage) (parts : CodeCosts) (r : ℕ) (x : RawRoutine) → Before raw parts r → r < length raw.routines → slice_get raw.routines r ≡ Some x
     → None ≡ hold (guard (nat_eq x.start parts.end) (routine_found raw.code (map known_of parts.known) (routine_of x)))
     → Some (record { a = x.start; b = 0 }) ≡ first_in (routine_shape_fault (image_of raw)) (image_of raw).routines
 stops raw parts r x before low is none =
@@ -104,7 +104,7 @@ row_held (Some g) f x some =
     let same : f ≡ held g = cc in
     ap (λ (k : Found). held_known (row_of x k.depth)) same ∙ (let e : min (min g.depth 4097) 4097 ≡ min g.depth 4097 = omega arith in ap (λ n. record { params = x.params; results = count x.result; locals = x.locals; depth = n; cost = amount (cap x.run) (cap x.susp) (cap x.waits) }) e)
 
-pub rows_on : (ks : List code.Known) (k : code.Known) (rows : List Known) (r : ℕ) (row : Known) → length ks ≡ r → AreAlike (map known_of ks) (take r rows) → slice_get rows r ≡ Some row → held_known (known_of k) ≡ held_known row
+pub rows_on : (ks : List code.RoutineCost) (k : code.RoutineCost) (rows : List Known) (r : ℕ) (row : Known) → length ks ≡ r → AreAlike (map known_of ks) (take r rows) → slice_get rows r ≡ Some row → held_known (known_of k) ≡ held_known row
     → AreAlike (map known_of (ks ++ k ∷ [])) (take (r + 1) rows)
 rows_on ks k rows r row long alike at same j = elim (cases j r) [
   | inl low ↦

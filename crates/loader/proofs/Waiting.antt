@@ -6,7 +6,7 @@ use Rattle.std.proofs.lemmas.List.{length-map, length-append}
 use Rattle.std.proofs.lemmas.Option.{slice_get-map, slice_get_past}
 use Rattle.base.proofs.Lists.{map_get, take_get, take_past}
 use Rattle.image.specs.declared.raw.RawImage.{RawImage}
-use Rattle.image.specs.declared.raw.RawProc.{RawProc}
+use Rattle.image.specs.declared.raw.RawProcess.{RawProcess}
 use Rattle.image.specs.declared.raw.RawRoutine.{RawRoutine}
 use Rattle.image.specs.Raw.{image_of, routine_of, process_of}
 use Rattle.machine_semantics.specs.Trees.{Seg, Segs, Line, Fork, Rep, Call, Stay, Wait, Exit, Nil, Cons}
@@ -88,7 +88,7 @@ right_same raw rows p (Some tree) same = ap (λ b. nat_eq p.handler (handler_sta
 abbrev pub handler_at : RawImage → ℕ → Option Fault
 handler_at raw k = of_some (λ (p : Process). unless (is_handler (image_of raw) p p.handler_tree) k 0) (slice_get (map process_of raw.processes) k)
 
-pub handler_tested : (raw : RawImage) (waits : List Bool) (k : ℕ) (p : RawProc) (b : Bool) → IsAlike (map bare waits) (rows_of raw) → slice_get raw.processes k ≡ Some p
+pub handler_tested : (raw : RawImage) (waits : List Bool) (k : ℕ) (p : RawProcess) (b : Bool) → IsAlike (map bare waits) (rows_of raw) → slice_get raw.processes k ≡ Some p
     → b ≡ is_right (map bare waits) (process_of p) (process_of p).handler_tree → handler_at raw k ≡ unless b k 0
 handler_tested raw waits k p b same at is =
     of_element (λ (q : Process). unless (is_handler (image_of raw) q q.handler_tree) k 0) _ (process_of p) (map_get process_of raw.processes k p at)

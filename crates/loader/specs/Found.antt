@@ -6,7 +6,7 @@ use Rattle.valid_image.specs.Found.{Known, Found}
 use Rattle.valid_image.specs.Tables.{nothing_found, part_found}
 use Rattle.valid_image_law.specs.Held.{held_known}
 use Rattle.loader_trees.specs.Told.{found_of}
-use Rattle.loader.specs.declared.parts.ProcessFound.{ProcessFound}
+use Rattle.loader.specs.declared.parts.ProcessCost.{ProcessCost}
 
 -- rows that are held alike
 abbrev pub AreAlike : List Known → List Known → Type 0
@@ -26,7 +26,7 @@ abbrev pub guard_two : Bool → Option Two → Option Two
 guard_two true x = x
 guard_two false x = None
 
-abbrev pub told_process : Option ProcessFound → Option Two
+abbrev pub told_process : Option ProcessCost → Option Two
 told_process None = None
 told_process (Some f) = Some (record { body = found_of f.body; handler = found_of f.handler })
 

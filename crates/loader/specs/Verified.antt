@@ -5,7 +5,7 @@ use Rattle.image.specs.declared.raw.RawImage.{RawImage}
 use Rattle.image.specs.Raw.{image_of}
 use Rattle.valid_image.specs.Fault.{or_else}
 use Rattle.valid_image.specs.Valid.{Shown, Operands, Shape, Handlers, Costs, Sizes, Ranks, HasLimits, IsValid, shown}
-use Rattle.loader.specs.declared.tests_in_order.Numbered.{Numbered}
+use Rattle.loader.specs.declared.parts_in_order.ValidityFault.{ValidityFault}
 
 -- an image whose numbers are in their ranges, and of which no part of validity has a fault
 pub record IsVerified (image : Image) : Type 0 where
@@ -18,7 +18,7 @@ pub record HasRanges (raw : RawImage) : Type 0 where
   pub monitors : length raw.monitors ≤ 64
 
 -- a fault as the code holds it
-abbrev pub shown_by : Option Numbered → Option Shown
+abbrev pub shown_by : Option ValidityFault → Option Shown
 shown_by None = None
 shown_by (Some n) = Some (record { number = n.number; a = n.a; b = n.b })
 

@@ -11,20 +11,20 @@ ghost use Rattle.loader_code.specs.Told.{told as shown};
 ghost use Rattle.loader.specs.Costs.{process_needs, routine_needs};
 ghost use Rattle.loader.specs.Parts.{AreParts};
 
-use crate::parts::{Parts, ProcessFound};
+use crate::parts::{CodeCosts, ProcessCost};
 use base::{Cost, OVER, cap_add};
-use image::{RawImage, RawProc, RawRoutine};
-use loader_code::Shown;
-use loader_trees::PartFound;
+use image::{RawImage, RawProcess, RawRoutine};
+use loader_code::FaultNumbers;
+use loader_trees::PartCost;
 
 /// A declared number below the one that is needed.
-pub fn below(declared: u64, needed: u64) -> Option<Shown>
+pub fn below(declared: u64, needed: u64) -> Option<FaultNumbers>
     ensures { shown result ≡ defined_below declared needed }
 {
     if needed <= declared {
         None
     } else {
-        Some(Shown {
+        Some(FaultNumbers {
             a: declared,
             b: needed,
         })
@@ -32,7 +32,10 @@ pub fn below(declared: u64, needed: u64) -> Option<Shown>
 }
 
 /// The first of two faults.
-pub fn first_fault(first: Option<Shown>, second: Option<Shown>) -> Option<Shown>
+pub fn first_fault(
+    first: Option<FaultNumbers>,
+    second: Option<FaultNumbers>,
+) -> Option<FaultNumbers>
     ensures { shown result ≡ or_else (shown first) (shown second) }
 {
     match first {
@@ -57,7 +60,7 @@ fn dispatches(over: u16, waits: u64) -> u64
 }
 
 /// What a routine declares that its code goes beyond.
-fn routine_fault(routine: &RawRoutine, part: &PartFound) -> Option<Shown>
+fn routine_fault(routine: &RawRoutine, part: &PartCost) -> Option<FaultNumbers>
     ensures { shown result ≡ routine_needs (routine_of routine.now)
         (found_of part.now.found) part.now.stay }
 {
@@ -82,7 +85,7 @@ fn process_run(over: u16, body: &Cost, handler: &Cost) -> u64
 }
 
 /// What a process declares that its code goes beyond, with its dispatches.
-fn process_fault(over: u16, process: &RawProc, found: &ProcessFound) -> Option<Shown>
+fn process_fault(over: u16, process: &RawProcess, found: &ProcessCost) -> Option<FaultNumbers>
     ensures { shown result ≡ process_needs over (process_of process.now) (found_of found.now.body)
         (found_of found.now.handler) }
 {
@@ -96,7 +99,7 @@ fn process_fault(over: u16, process: &RawProc, found: &ProcessFound) -> Option<S
     )
 }
 
-fn routines_fault(raw: &RawImage, parts: &Parts) -> Option<Shown>
+fn routines_fault(raw: &RawImage, parts: &CodeCosts) -> Option<FaultNumbers>
     requires { AreParts raw.now parts.now }
     ensures { shown result ≡ first_in (routine_cost_fault (image_of raw.now))
         (image_of raw.now).routines }
@@ -112,7 +115,7 @@ fn routines_fault(raw: &RawImage, parts: &Parts) -> Option<Shown>
     None
 }
 
-fn processes_fault(raw: &RawImage, parts: &Parts) -> Option<Shown>
+fn processes_fault(raw: &RawImage, parts: &CodeCosts) -> Option<FaultNumbers>
     requires { AreParts raw.now parts.now }
     ensures { shown result ≡ first_in (λ k p. process_cost_fault (image_of raw.now) p)
         (image_of raw.now).processes }
@@ -129,7 +132,7 @@ fn processes_fault(raw: &RawImage, parts: &Parts) -> Option<Shown>
 }
 
 /// The first declared run, suspension, waits or stay below what the code comes to.
-pub fn cost_fault(raw: &RawImage, parts: &Parts) -> Option<Shown>
+pub fn cost_fault(raw: &RawImage, parts: &CodeCosts) -> Option<FaultNumbers>
     requires { AreParts raw.now parts.now }
     ensures { shown result ≡ defined_fault (image_of raw.now) }
 {

@@ -9,9 +9,9 @@ ghost use Rattle.loader_code.specs.Told.{told as shown};
 ghost use Rattle.loader.specs.Waits.{AreWaits, bare};
 ghost use Rattle.loader.specs.Handlers.{is_right};
 
-use image::{RawImage, RawProc};
+use image::{RawImage, RawProcess};
 use image_format::{SegBytes, SegItem};
-use loader_code::Shown;
+use loader_code::FaultNumbers;
 use loader_trees::tree_end;
 use std::alloc::{AllocError, Global};
 use syntax_tree::List;
@@ -68,7 +68,7 @@ pub fn waits_table(alloc: Global, raw: &RawImage) -> Result<List<bool>, AllocErr
 }
 
 /// Whether the handler of a process is declared right behind the END of its body.
-fn follows_body(process: &RawProc) -> bool
+fn follows_body(process: &RawProcess) -> bool
     ensures { result ≡ nat_eq process.now.handler (handler_start (process_of process.now)) }
 {
     if process.handler < process.start {
@@ -85,7 +85,7 @@ fn follows_body(process: &RawProc) -> bool
 }
 
 /// Whether a handler, where there is one, is where it belongs and reaches no WAIT.
-fn is_handler(waits: &[bool], process: &RawProc) -> bool
+fn is_handler(waits: &[bool], process: &RawProcess) -> bool
     ensures { result ≡ is_right (map bare waits.now) (process_of process.now)
         process.now.handler_tree }
 {
@@ -97,13 +97,13 @@ fn is_handler(waits: &[bool], process: &RawProc) -> bool
 
 /// The first process whose handler does not stand right behind the END of its body, or reaches a
 /// WAIT.
-pub fn handler_fault(raw: &RawImage, waits: &[bool]) -> Option<Shown>
+pub fn handler_fault(raw: &RawImage, waits: &[bool]) -> Option<FaultNumbers>
     requires { AreWaits raw.now waits.now }
     ensures { shown result ≡ defined_fault (image_of raw.now) }
 {
     for (k, process) in raw.processes.as_slice().iter().enumerate() {
         if !is_handler(waits, process) {
-            return Some(Shown { a: k as u64, b: 0 });
+            return Some(FaultNumbers { a: k as u64, b: 0 });
         }
     }
     None

@@ -17,44 +17,44 @@ ghost use Rattle.loader.specs.Found.{guard_two, handler_in, told_process, two};
 ghost use Rattle.loader.specs.Parts.{AreParts, AreProcesses, AreRoutines};
 
 use base::Cost;
-use image::{RawImage, RawProc, RawRoutine};
+use image::{RawImage, RawProcess, RawRoutine};
 use image_format::SegTree;
-use loader_code::Shown;
-use loader_trees::{Found, Known, PartFound, part_found, routine_found};
+use loader_code::FaultNumbers;
+use loader_trees::{CodeCost, PartCost, RoutineCost, part_found, routine_found};
 use machine_isa::Instr;
 use std::alloc::{AllocError, Global};
 use syntax_tree::List;
 
 /// What the code of a process comes to.
 #[derive(Clone, Copy, Debug, PartialEq, Eq)]
-pub struct ProcessFound {
-    pub body: Found,
+pub struct ProcessCost {
+    pub body: CodeCost,
     /// Nothing where there is no handler.
-    pub handler: Found,
+    pub handler: CodeCost,
     /// The address behind the last END.
     pub end: usize,
 }
 
 /// What the code of each routine and each process comes to.
 #[derive(Debug, Drop)]
-pub struct Parts {
+pub struct CodeCosts {
     /// What those that call a routine know of it.
-    pub known: List<Known>,
-    pub routines: List<PartFound>,
-    pub processes: List<ProcessFound>,
+    pub known: List<RoutineCost>,
+    pub routines: List<PartCost>,
+    pub processes: List<ProcessCost>,
     /// The address behind all code that was gone through.
     pub end: usize,
 }
 
-impl Parts {
+impl CodeCosts {
     /// Of no code yet.
-    pub fn new(alloc: Global) -> Parts
+    pub fn new(alloc: Global) -> CodeCosts
         ensures known { result.known ≡ [] }
         ensures routines { result.routines ≡ [] }
         ensures processes { result.processes ≡ [] }
         ensures end { result.end ≡ 0 }
     {
-        Parts {
+        CodeCosts {
             known: List::new(alloc),
             routines: List::new(alloc),
             processes: List::new(alloc),
@@ -64,7 +64,7 @@ impl Parts {
 }
 
 /// What those that call a routine know of it.
-fn known_routine(routine: &RawRoutine, depth: u32) -> Known
+fn known_routine(routine: &RawRoutine, depth: u32) -> RoutineCost
     ensures { known_of result ≡ record {
       params = routine.now.params;
       results = count
@@ -75,7 +75,7 @@ fn known_routine(routine: &RawRoutine, depth: u32) -> Known
           routine.now.run routine.now.susp routine.now.waits;
     } }
 {
-    Known {
+    RoutineCost {
         params: routine.params,
         result: routine.result,
         locals: routine.locals,
@@ -91,10 +91,10 @@ fn known_routine(routine: &RawRoutine, depth: u32) -> Known
 /// The code of a routine, which has to start at an address.
 fn routine_due(
     code: &[Instr],
-    known: &[Known],
+    known: &[RoutineCost],
     routine: &RawRoutine,
     due: usize,
-) -> Option<PartFound>
+) -> Option<PartCost>
     requires { due ≤ length code.now }
     ensures value { told_part result ≡ hold (guard (nat_eq routine.now.start due)
         (defined_routine code.now (map known_of known.now) (routine_of routine.now))) }
@@ -114,10 +114,10 @@ fn routine_due(
 /// The code of a handler, where there is one, and the address behind its END.
 fn handler_found(
     code: &[Instr],
-    known: &[Known],
+    known: &[RoutineCost],
     tree: &Option<SegTree>,
     at: usize,
-) -> Option<Found>
+) -> Option<CodeCost>
     requires { at ≤ length code.now }
     ensures value { told result ≡ hold (handler_in code.now (map known_of known.now)
         tree.now at) }
@@ -125,10 +125,10 @@ fn handler_found(
     ensures within { IfSome result (λ f. f.next ≤ length code.now) }
 {
     match tree {
-        None => Some(Found::nothing(at, 0)),
+        None => Some(CodeCost::nothing(at, 0)),
         Some(tree) => {
             let found = part_found(code, known, tree, at)?;
-            Some(Found {
+            Some(CodeCost {
                 next: found.next + 1,
                 height: found.height,
                 cost: found.cost,
@@ -141,10 +141,10 @@ fn handler_found(
 /// The code of a process, which has to start at an address.
 fn process_due(
     code: &[Instr],
-    known: &[Known],
-    process: &RawProc,
+    known: &[RoutineCost],
+    process: &RawProcess,
     due: usize,
-) -> Option<ProcessFound>
+) -> Option<ProcessCost>
     requires { due ≤ length code.now }
     ensures value { told_process result ≡ guard_two (nat_eq process.now.start due)
         (two (hold (defined_part code.now (map known_of known.now)
@@ -160,7 +160,7 @@ fn process_due(
     }
     let body = part_found(code, known, &process.body, due)?;
     let handler = handler_found(code, known, &process.handler_tree, body.next + 1)?;
-    Some(ProcessFound {
+    Some(ProcessCost {
         body,
         handler,
         end: handler.next,
@@ -168,17 +168,17 @@ fn process_due(
 }
 
 /// The fault of code that starts at an address.
-fn wrong_from(start: u32) -> Shown
+fn wrong_from(start: u32) -> FaultNumbers
     ensures { shown (Some result) ≡ Some (record { a = start; b = 0 }) }
 {
-    Shown {
+    FaultNumbers {
         a: u64::from(start),
         b: 0,
     }
 }
 
 /// The first routine whose start or code is wrong. Keeps what the code of those before it comes to.
-fn routines_fault(raw: &RawImage, parts: &mut Parts) -> Result<Option<Shown>, AllocError>
+fn routines_fault(raw: &RawImage, parts: &mut CodeCosts) -> Result<Option<FaultNumbers>, AllocError>
     requires known { parts.old.known ≡ [] }
     requires routines { parts.old.routines ≡ [] }
     requires end { parts.old.end ≡ 0 }
@@ -208,7 +208,10 @@ fn routines_fault(raw: &RawImage, parts: &mut Parts) -> Result<Option<Shown>, Al
 }
 
 /// The first process whose start or code is wrong, likewise.
-fn processes_fault(raw: &RawImage, parts: &mut Parts) -> Result<Option<Shown>, AllocError>
+fn processes_fault(
+    raw: &RawImage,
+    parts: &mut CodeCosts,
+) -> Result<Option<FaultNumbers>, AllocError>
     requires routines { AreRoutines raw.now parts.old }
     requires processes { parts.old.processes ≡ [] }
     requires due { parts.old.end ≡ due_start (pieces (image_of raw.now)) (length raw.now.routines) }
@@ -238,7 +241,10 @@ fn processes_fault(raw: &RawImage, parts: &mut Parts) -> Result<Option<Shown>, A
 /// The first routine or process that does not start where the one before it ends, or whose code is
 /// not of its tree, or breaks a rule of heights; or the first address that none of them covers.
 /// Where there is none, the parts are kept.
-pub fn shape_fault(raw: &RawImage, parts: &mut Parts) -> Result<Option<Shown>, AllocError>
+pub fn shape_fault(
+    raw: &RawImage,
+    parts: &mut CodeCosts,
+) -> Result<Option<FaultNumbers>, AllocError>
     requires known { parts.old.known ≡ [] }
     requires routines { parts.old.routines ≡ [] }
     requires processes { parts.old.processes ≡ [] }
@@ -253,7 +259,7 @@ pub fn shape_fault(raw: &RawImage, parts: &mut Parts) -> Result<Option<Shown>, A
         return Ok(Some(fault));
     }
     if parts.end != raw.code.len() {
-        return Ok(Some(Shown {
+        return Ok(Some(FaultNumbers {
             a: parts.end as u64,
             b: 0,
         }));

@@ -7,19 +7,19 @@ ghost use Rattle.valid_image.specs.Times as defined;
 ghost use Rattle.loader_code.specs.Told.{told};
 ghost use Rattle.loader.specs.Stays.{AreStays};
 
-use crate::due::{ceiling_of, needed_block, rank_of};
-use crate::reached::Stays;
-use image::{RawImage, RawMon, RawProc};
-use loader_code::Shown;
+use crate::due_ranks::{ceiling_of, needed_block, rank_of};
+use crate::longest_stay::Stays;
+use image::{RawImage, RawMonitor, RawProcess};
+use loader_code::FaultNumbers;
 
 /// A declared number below the one that is needed.
-pub(crate) fn below(declared: u64, needed: u64) -> Option<Shown>
+pub(crate) fn below(declared: u64, needed: u64) -> Option<FaultNumbers>
     ensures { told result ≡ sizes.below declared needed }
 {
     if needed <= declared {
         None
     } else {
-        Some(Shown {
+        Some(FaultNumbers {
             a: declared,
             b: needed,
         })
@@ -27,13 +27,13 @@ pub(crate) fn below(declared: u64, needed: u64) -> Option<Shown>
 }
 
 /// A declared number other than the one that is due.
-fn other(declared: u64, due: u64) -> Option<Shown>
+fn other(declared: u64, due: u64) -> Option<FaultNumbers>
     ensures { told result ≡ sizes.other declared due }
 {
     if declared == due {
         None
     } else {
-        Some(Shown {
+        Some(FaultNumbers {
             a: declared,
             b: due,
         })
@@ -41,7 +41,7 @@ fn other(declared: u64, due: u64) -> Option<Shown>
 }
 
 /// The first process whose rank is not the due one.
-fn ranks_fault(image: &RawImage) -> Option<Shown>
+fn ranks_fault(image: &RawImage) -> Option<FaultNumbers>
     requires { length image.now.processes ≤ 64 }
     ensures { told result ≡ defined.ranks_fault (image_of image.now) }
 {
@@ -58,7 +58,7 @@ fn ranks_fault(image: &RawImage) -> Option<Shown>
 }
 
 /// The first monitor whose ceiling is not the due one.
-fn ceilings_fault(image: &RawImage, stays: &Stays) -> Option<Shown>
+fn ceilings_fault(image: &RawImage, stays: &Stays) -> Option<FaultNumbers>
     requires few { length image.now.processes ≤ 64 }
     requires stays { AreStays (image_of image.now) stays.now }
     ensures { told result ≡ defined.ceilings_fault (image_of image.now) }
@@ -75,7 +75,7 @@ fn ceilings_fault(image: &RawImage, stays: &Stays) -> Option<Shown>
 }
 
 /// The first process whose block is below the needed one.
-fn blocks_fault(image: &RawImage, stays: &Stays) -> Option<Shown>
+fn blocks_fault(image: &RawImage, stays: &Stays) -> Option<FaultNumbers>
     requires { AreStays (image_of image.now) stays.now }
     ensures { told result ≡ defined.blocks_fault (image_of image.now) }
 {
@@ -94,7 +94,7 @@ fn blocks_fault(image: &RawImage, stays: &Stays) -> Option<Shown>
 /// A rank or ceiling that is not the due one, or a block below the needed one, with the declared
 /// number and the other, and None exactly where there is none. Ranks come before ceilings, and
 /// these before blocks. Processes are at most 64.
-pub fn rank_fault(image: &RawImage, stays: &Stays) -> Option<Shown>
+pub fn rank_fault(image: &RawImage, stays: &Stays) -> Option<FaultNumbers>
     requires few { length image.now.processes ≤ 64 }
     requires stays { AreStays (image_of image.now) stays.now }
     ensures { told result ≡ defined.rank_fault (image_of image.now) }

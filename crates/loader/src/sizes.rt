@@ -10,13 +10,13 @@ ghost use Rattle.loader.specs.Costs.{stack_needs};
 ghost use Rattle.loader.specs.Parts.{AreParts};
 
 use crate::costs::{below, first_fault};
-use crate::parts::{Parts, ProcessFound};
-use image::{RawImage, RawMon, RawProc, RawRoutine};
-use loader_code::{Shown, base_fault};
+use crate::parts::{CodeCosts, ProcessCost};
+use image::{RawImage, RawMonitor, RawProcess, RawRoutine};
+use loader_code::{FaultNumbers, base_fault};
 use loader_trees::TOO_DEEP;
 
 /// The arguments of a routine are among its locals.
-fn params_fault(routines: &[RawRoutine]) -> Option<Shown>
+fn params_fault(routines: &[RawRoutine]) -> Option<FaultNumbers>
     ensures { shown result ≡ first_in (λ r x. defined_below x.locals x.params)
         (map routine_of routines.now) }
 {
@@ -30,7 +30,7 @@ fn params_fault(routines: &[RawRoutine]) -> Option<Shown>
 }
 
 /// The locals of a process and the depth of its code are within its stack.
-fn process_stack(process: &RawProc, found: &ProcessFound) -> Option<Shown>
+fn process_stack(process: &RawProcess, found: &ProcessCost) -> Option<FaultNumbers>
     ensures { shown result ≡ stack_needs (process_of process.now) (found_of found.now.body)
         (found_of found.now.handler) }
 {
@@ -41,7 +41,7 @@ fn process_stack(process: &RawProc, found: &ProcessFound) -> Option<Shown>
     )
 }
 
-fn stack_fault(raw: &RawImage, parts: &Parts) -> Option<Shown>
+fn stack_fault(raw: &RawImage, parts: &CodeCosts) -> Option<FaultNumbers>
     requires { AreParts raw.now parts.now }
     ensures { shown result ≡ defined_stack (image_of raw.now) }
 {
@@ -57,7 +57,7 @@ fn stack_fault(raw: &RawImage, parts: &Parts) -> Option<Shown>
 }
 
 /// The words of all monitors.
-fn monitor_words(monitors: &[RawMon]) -> u64
+fn monitor_words(monitors: &[RawMonitor]) -> u64
     requires { length monitors.now ≤ 65535 }
     ensures value { result ≡ sum_by (λ m. m.words) (map monitor_of monitors.now) }
     ensures small { result ≤ 4294967295 * 65535 }
@@ -70,7 +70,7 @@ fn monitor_words(monitors: &[RawMon]) -> u64
 }
 
 /// The words of all processes.
-fn process_words(processes: &[RawProc]) -> u64
+fn process_words(processes: &[RawProcess]) -> u64
     requires { length processes.now ≤ 65535 }
     ensures value { result ≡ sum_by (λ p. p.words) (map process_of processes.now) }
     ensures small { result ≤ 4294967295 * 65535 }
@@ -83,7 +83,7 @@ fn process_words(processes: &[RawProc]) -> u64
 }
 
 /// The words of all monitors and all processes are within their limit.
-fn words_fault(raw: &RawImage) -> Option<Shown>
+fn words_fault(raw: &RawImage) -> Option<FaultNumbers>
     requires monitors { length raw.now.monitors ≤ 65535 }
     requires processes { length raw.now.processes ≤ 65535 }
     ensures { shown result ≡ defined_words (image_of raw.now) }
@@ -97,7 +97,7 @@ fn words_fault(raw: &RawImage) -> Option<Shown>
 /// The first routine with fewer locals than parameters; else the first process whose stack is too
 /// small for its code; else the first monitor whose words do not stand right after those of the one
 /// before; else too many words over all.
-pub fn size_fault(raw: &RawImage, parts: &Parts) -> Option<Shown>
+pub fn size_fault(raw: &RawImage, parts: &CodeCosts) -> Option<FaultNumbers>
     requires parts { AreParts raw.now parts.now }
     requires monitors { length raw.now.monitors ≤ 65535 }
     requires processes { length raw.now.processes ≤ 65535 }

@@ -3,15 +3,15 @@ use Rattle.std.proofs.Common.{◌≡◌, ◌≤◌, ◌<◌, ◌+◌, ℕ, zero,
 use Rattle.std.specs.Prelude.{◌&&◌, cond, nat_eq, nat_lt, nat_le, option_map, slice_get, ℤ, pos, negsuc, ◌≤ℤ◌, ◌<ℤ◌}
 use Rattle.base.specs.Words.{is_word}
 use Rattle.machine_semantics.specs.Image.{Image}
-use Rattle.image.specs.declared.names.CondName.{CondName}
-use Rattle.image.specs.declared.names.DevName.{DevName}
+use Rattle.image.specs.declared.names.ConditionName.{ConditionName}
+use Rattle.image.specs.declared.names.DeviceName.{DeviceName}
 use Rattle.image.specs.declared.raw.RawRoutine.{RawRoutine}
 use Rattle.std.proofs.lemmas.Bool.Decides.{nat_tests}
 use Rattle.std.proofs.lemmas.Option.{slice_get-map}
 use Rattle.std.proofs.lemmas.Bool.{eq-eqb, ne_eqb}
 use Rattle.image.specs.declared.raw.RawImage.{RawImage}
-use Rattle.image.specs.declared.raw.RawMon.{RawMon}
-use Rattle.image.specs.declared.raw.RawProc.{RawProc}
+use Rattle.image.specs.declared.raw.RawMonitor.{RawMonitor}
+use Rattle.image.specs.declared.raw.RawProcess.{RawProcess}
 use Rattle.image.specs.Raw.{image_of, monitor_of, process_of, routine_of}
 use Rattle.valid_image.specs.Operands.{Area, Whose, no_words, in_area, is_between, own_words, monitor_words, words_of_process, words_of_monitor, ends_in, is_own_monitor, is_own_condition, is_same, is_device, goes, may_call, is_open_some, may_be_inside}
 use Rattle.loader_code.specs.Seen.{natural_of}
@@ -40,10 +40,10 @@ at_image v xs k o is = slice_get-map v xs k ∙ ap (λ x. option_map v x) (sym i
 pub not_own : (image : RawImage) (w : Whose) → (w.kind ≡ 1 → ⊥) → own_words (image_of image) w ≡ no_words
 not_own image w is_not = ap (λ b. cond b (words_of_process (slice_get (map process_of image.processes) w.owner)) no_words) (ne_eqb w.kind 1 is_not)
 
-own : (image : RawImage) (w : Whose) (o : Option RawProc) → w.kind ≡ 1 → o ≡ slice_get image.processes w.owner → own_words (image_of image) w ≡ words_of_process (option_map process_of o)
+own : (image : RawImage) (w : Whose) (o : Option RawProcess) → w.kind ≡ 1 → o ≡ slice_get image.processes w.owner → own_words (image_of image) w ≡ words_of_process (option_map process_of o)
 own image w o is at = ap (λ b. cond b (words_of_process (slice_get (map process_of image.processes) w.owner)) no_words) (eq-eqb w.kind 1 is) ∙ ap (λ x. words_of_process x) (at_image process_of image.processes w.owner o at)
 
-pub own_is : (image : RawImage) (w : Whose) (p : RawProc) → w.kind ≡ 1 → Some p ≡ slice_get image.processes w.owner → own_words (image_of image) w ≡ record { base = 0; words = p.words }
+pub own_is : (image : RawImage) (w : Whose) (p : RawProcess) → w.kind ≡ 1 → Some p ≡ slice_get image.processes w.owner → own_words (image_of image) w ≡ record { base = 0; words = p.words }
 own_is image w p is at = own image w (Some p) is at
 
 pub own_none : (image : RawImage) (w : Whose) → w.kind ≡ 1 → None ≡ slice_get image.processes w.owner → own_words (image_of image) w ≡ no_words
@@ -52,10 +52,10 @@ own_none image w is at = own image w None is at
 pub not_monitor : (image : RawImage) (w : Whose) → (w.kind ≡ 2 → ⊥) → monitor_words (image_of image) w ≡ no_words
 not_monitor image w is_not = ap (λ b. cond b (words_of_monitor (slice_get (map monitor_of image.monitors) w.owner)) no_words) (ne_eqb w.kind 2 is_not)
 
-monitors : (image : RawImage) (w : Whose) (o : Option RawMon) → w.kind ≡ 2 → o ≡ slice_get image.monitors w.owner → monitor_words (image_of image) w ≡ words_of_monitor (option_map monitor_of o)
+monitors : (image : RawImage) (w : Whose) (o : Option RawMonitor) → w.kind ≡ 2 → o ≡ slice_get image.monitors w.owner → monitor_words (image_of image) w ≡ words_of_monitor (option_map monitor_of o)
 monitors image w o is at = ap (λ b. cond b (words_of_monitor (slice_get (map monitor_of image.monitors) w.owner)) no_words) (eq-eqb w.kind 2 is) ∙ ap (λ x. words_of_monitor x) (at_image monitor_of image.monitors w.owner o at)
 
-pub monitor_is : (image : RawImage) (w : Whose) (m : RawMon) → w.kind ≡ 2 → Some m ≡ slice_get image.monitors w.owner → monitor_words (image_of image) w ≡ record { base = m.base; words = m.words }
+pub monitor_is : (image : RawImage) (w : Whose) (m : RawMonitor) → w.kind ≡ 2 → Some m ≡ slice_get image.monitors w.owner → monitor_words (image_of image) w ≡ record { base = m.base; words = m.words }
 monitor_is image w m is at = monitors image w (Some m) is at
 
 pub monitor_none : (image : RawImage) (w : Whose) → w.kind ≡ 2 → None ≡ slice_get image.monitors w.owner → monitor_words (image_of image) w ≡ no_words
@@ -104,7 +104,7 @@ pub own_condition_by : (image : Image) (w : Whose) (z : ℤ) → is_own_conditio
 own_condition_by image w (pos n) = refl
 own_condition_by image w (negsuc n) = refl
 
-pub condition_is : (image : RawImage) (c : ℕ) (o : Option CondName) → o ≡ slice_get image.names.conditions c → slice_get (image_of image).conditions c ≡ option_map (λ x. x.mon) o
+pub condition_is : (image : RawImage) (c : ℕ) (o : Option ConditionName) → o ≡ slice_get image.names.conditions c → slice_get (image_of image).conditions c ≡ option_map (λ x. x.mon) o
 condition_is image c o at = at_image (λ x. x.mon) image.names.conditions c o at
 
 abbrev device_some : Image → Bool → Option ℕ → Bool
@@ -115,7 +115,7 @@ pub device_by : (image : Image) (out : Bool) (z : ℤ) → is_device image out z
 device_by image out (pos n) = refl
 device_by image out (negsuc n) = refl
 
-pub device_is : (image : RawImage) (d : ℕ) (o : Option DevName) → o ≡ slice_get image.names.devices d → slice_get (image_of image).devices d ≡ option_map (λ x. x.out) o
+pub device_is : (image : RawImage) (d : ℕ) (o : Option DeviceName) → o ≡ slice_get image.names.devices d → slice_get (image_of image).devices d ≡ option_map (λ x. x.out) o
 device_is image d o at = at_image (λ x. x.out) image.names.devices d o at
 
 -- ---- calls

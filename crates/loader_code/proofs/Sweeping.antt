@@ -7,7 +7,7 @@ use Rattle.std.proofs.Math.ListN.{length-append}
 use Rattle.std.specs.Option.{option_or}
 use Rattle.machine_isa.specs.declared.instr.Instr.{Instr}
 use Rattle.image.specs.declared.raw.RawImage.{RawImage}
-use Rattle.image.specs.declared.raw.RawProc.{RawProc}
+use Rattle.image.specs.declared.raw.RawProcess.{RawProcess}
 use Rattle.image.specs.declared.raw.RawRoutine.{RawRoutine}
 use Rattle.image.specs.Raw.{image_of, routine_of, process_of}
 use Rattle.machine_semantics.specs.Image.{Image}
@@ -23,7 +23,7 @@ routine_starts : (rs : List RawRoutine) → map start_of (map piece_of_routine (
 routine_starts [] = refl
 routine_starts (r ∷ rs) = ap (λ xs. r.start ∷ xs) (routine_starts rs)
 
-process_starts : (ps : List RawProc) → map start_of (map piece_of_process (map process_of ps)) ≡ map (λ p. p.start) ps
+process_starts : (ps : List RawProcess) → map start_of (map piece_of_process (map process_of ps)) ≡ map (λ p. p.start) ps
 process_starts [] = refl
 process_starts (p ∷ ps) = ap (λ xs. p.start ∷ xs) (process_starts ps)
 

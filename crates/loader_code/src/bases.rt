@@ -11,25 +11,25 @@ ghost use Rattle.image.specs.Raw.{monitor_of};
 ghost use Rattle.valid_image.specs.Sizes.{base_fault as defined_fault};
 ghost use Rattle.loader_code.specs.Told.{told};
 
-use image::RawMon;
+use image::RawMonitor;
 
 /// The two numbers of a fault.
 #[derive(Clone, Copy, Debug, PartialEq, Eq)]
-pub struct Shown {
+pub struct FaultNumbers {
     pub a: u64,
     pub b: u64,
 }
 
 /// The first monitor whose words do not stand right after those of the one before, with its base
 /// and the base that is due.
-pub fn base_fault(monitors: &[RawMon]) -> Option<Shown>
+pub fn base_fault(monitors: &[RawMonitor]) -> Option<FaultNumbers>
     ensures { told result ≡ defined_fault (map monitor_of monitors.now) }
 {
     let mut due: u64 = 0;
     for m in 0..monitors.len() {
         let base = monitors[m].base as u64;
         if base != due {
-            return Some(Shown { a: base, b: due });
+            return Some(FaultNumbers { a: base, b: due });
         }
         due = base + monitors[m].words as u64;
     }

@@ -11,20 +11,25 @@ ghost use Rattle.loader_code.specs.Owned.{owned, AreOwned};
 use crate::bound::bounds;
 use crate::operand::bad_operand;
 use crate::words::Whose;
-use crate::{Shown, addresses_by_piece, calls_by_piece, of_piece};
-use image::{RawImage, RawProc, RawRoutine};
+use crate::{FaultNumbers, addresses_by_piece, calls_by_piece, of_piece};
+use image::{RawImage, RawProcess, RawRoutine};
 use std::alloc::{AllocError, Global};
 use syntax_tree::List;
 
 /// The fault of the instruction at the address, if there is one: the address and the operand, a
 /// negative one as its value plus 2^32.
-fn fault_here(image: &RawImage, bounds: &[bool], whose: Whose, address: usize) -> Option<Shown>
+fn fault_here(
+    image: &RawImage,
+    bounds: &[bool],
+    whose: Whose,
+    address: usize,
+) -> Option<FaultNumbers>
     requires { AreBounds (image_of image.now) bounds.now }
     ensures { told result ≡ fault_at (image_of image.now) (whose_of whose) address }
 {
     let instr = *image.code.get(address)?;
     let operand = bad_operand(image, bounds, whose, instr)?;
-    Some(Shown {
+    Some(FaultNumbers {
         a: address as u64,
         b: operand.cast_unsigned() as u64,
     })
@@ -36,7 +41,7 @@ fn fault_among(
     bounds: &[bool],
     whose: Whose,
     addresses: &[usize],
-) -> Option<Shown>
+) -> Option<FaultNumbers>
     requires { AreBounds (image_of image.now) bounds.now }
     ensures { told result ≡ first_at (fault_at (image_of image.now) (whose_of whose))
         addresses.now }
@@ -57,7 +62,7 @@ fn fault_in_piece(
     whose: Whose,
     addresses: &[List<usize>],
     piece: usize,
-) -> Option<Shown>
+) -> Option<FaultNumbers>
     requires bounds { AreBounds (image_of image.now) bounds.now }
     requires addresses { AreOwned (image_of image.now) addresses.now }
     requires piece { piece < length addresses.now }
@@ -67,7 +72,11 @@ fn fault_in_piece(
 }
 
 /// The first fault in the code of routines.
-fn routines_fault(image: &RawImage, bounds: &[bool], addresses: &[List<usize>]) -> Option<Shown>
+fn routines_fault(
+    image: &RawImage,
+    bounds: &[bool],
+    addresses: &[List<usize>],
+) -> Option<FaultNumbers>
     requires bounds { AreBounds (image_of image.now) bounds.now }
     requires addresses { AreOwned (image_of image.now) addresses.now }
     ensures { told result ≡ routines_operand_fault (image_of image.now) }
@@ -90,7 +99,11 @@ fn routines_fault(image: &RawImage, bounds: &[bool], addresses: &[List<usize>]) 
 }
 
 /// The first fault in the code of processes.
-fn processes_fault(image: &RawImage, bounds: &[bool], addresses: &[List<usize>]) -> Option<Shown>
+fn processes_fault(
+    image: &RawImage,
+    bounds: &[bool],
+    addresses: &[List<usize>],
+) -> Option<FaultNumbers>
     requires bounds { AreBounds (image_of image.now) bounds.now }
     requires addresses { AreOwned (image_of image.now) addresses.now }
     requires few { length image.now.processes ≤ 64 }
@@ -116,7 +129,7 @@ fn processes_fault(image: &RawImage, bounds: &[bool], addresses: &[List<usize>])
 
 /// The first instruction that breaks a rule of operands, with its address and the operand, and None
 /// exactly where no instruction breaks one; or that memory is short.
-pub fn operand_fault(alloc: Global, image: &RawImage) -> Result<Option<Shown>, AllocError>
+pub fn operand_fault(alloc: Global, image: &RawImage) -> Result<Option<FaultNumbers>, AllocError>
     requires { length image.now.processes ≤ 64 }
     ensures { IfOk result (λ found. told found ≡ defined_fault (image_of image.now)) }
 {

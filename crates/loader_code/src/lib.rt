@@ -17,7 +17,7 @@ mod operand;
 mod sweep;
 mod words;
 
-pub use bases::{Shown, base_fault};
+pub use bases::{FaultNumbers, base_fault};
 pub use calls::calls_by_piece;
 pub use fault::operand_fault;
 pub use sweep::{addresses_by_piece, of_piece};

@@ -6,7 +6,7 @@ ghost use Rattle.image.specs.Raw.{image_of};
 ghost use Rattle.valid_image.specs.Pieces.{pieces};
 ghost use Rattle.loader_code.specs.Owned.{start_of, AreMarks, AreOwned, IsBelow, IsGiven};
 
-use image::{RawImage, RawProc, RawRoutine};
+use image::{RawImage, RawProcess, RawRoutine};
 use std::alloc::{AllocError, Global};
 use syntax_tree::List;
 

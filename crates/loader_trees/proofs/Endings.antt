@@ -10,7 +10,7 @@ use Rattle.valid_image_law.specs.Held.{held, hold}
 use Rattle.valid_image_law.proofs.Holding.{holding_changes_nothing, hold_guard}
 use Rattle.loader_trees.specs.Steps.{stays_in}
 use Rattle.loader_trees.specs.Told.{found_of, told_part}
-use Rattle.loader_trees.specs.declared.known.PartFound.{PartFound}
+use Rattle.loader_trees.specs.declared.known.PartCost.{PartCost}
 use Rattle.base.specs.Capped.{cap}
 use Rattle.valid_image.specs.Tables.{found_or_nothing}
 
@@ -69,7 +69,7 @@ pub entry_stay : (code : List Instr) (known : List Known) (owner monitor : ℕ) 
 entry_stay code known owner monitor body at inside found stay one is whole =
     held_stay (nat_eq monitor owner && (is_enter owner (slice_get code at) && is_leave owner (slice_get code (at + 1 + size body)))) (founds code known None (Some owner) body (at + 1) 0) inside found stay one is whole
 
-pub part_stay : (r : Option PartFound) (code : List Instr) (known : List Known) (owner monitor : ℕ) (body : tree.Segs) (at : ℕ) (inside : Found)
+pub part_stay : (r : Option PartCost) (code : List Instr) (known : List Known) (owner monitor : ℕ) (body : tree.Segs) (at : ℕ) (inside : Found)
     → Some inside ≡ hold (founds code known None (Some owner) body (at + 1) 0) → IfSome r (λ f. f.stay ≡ cap (inside.cost.run + 3))
     → told_part r ≡ hold (entry code known owner (tree.Cons (tree.Stay monitor body) tree.Nil) at)
     → IfSome r (λ f. f.stay ≡ cap ((found_or_nothing (entry code known owner (tree.Cons (tree.Stay monitor body) tree.Nil) at)).cost.run - 5))

@@ -3,11 +3,11 @@ use Rattle.std.specs.Prelude.{◌+◌, ◌-◌, ◌&&◌, ℕ, cond, Option, Som
 use Rattle.machine_isa.specs.declared.instr.Instr.{Instr}
 use Rattle.machine_isa.specs.Operands.{takes, gives}
 use Rattle.machine_isa.specs.Ticks.{ticks}
-use Rattle.loader_trees.specs.declared.instructions.Effect.{Effect}
+use Rattle.loader_trees.specs.declared.instructions.StackEffect.{StackEffect}
 use Rattle.valid_image.specs.Found.{Found, amount, chain, guard, in_line}
 
 -- what an instruction of a Line takes and gives
-abbrev pub effect_of : Instr → Option Effect
+abbrev pub effect_of : Instr → Option StackEffect
 effect_of instr = cond (in_line instr) (Some (record { takes = takes instr; gives = gives instr })) None
 
 -- an instruction of a Line

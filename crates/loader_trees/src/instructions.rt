@@ -9,19 +9,19 @@ use machine_isa::Instr;
 
 /// How many operands a plain instruction takes from the stack, and how many it gives to it.
 #[derive(Clone, Copy, Debug, PartialEq, Eq)]
-pub struct Effect {
+pub struct StackEffect {
     pub takes: usize,
     pub gives: usize,
 }
 
-fn plain(takes: usize, gives: usize) -> Option<Effect>
+fn plain(takes: usize, gives: usize) -> Option<StackEffect>
     ensures { result ≡ Some (record { takes = takes; gives = gives }) }
 {
-    Some(Effect { takes, gives })
+    Some(StackEffect { takes, gives })
 }
 
 /// That of an instruction that may stand in a Line.
-pub fn effect_of(instr: Instr) -> Option<Effect>
+pub fn effect_of(instr: Instr) -> Option<StackEffect>
     ensures value { result ≡ defined_effect instr }
     ensures gives { IfSome result (λ e. e.gives ≤ 1) }
 {

@@ -7,7 +7,7 @@ pub const TOO_DEEP: u32 = 4_097;
 
 /// What is known of a routine that may be called.
 #[derive(Clone, Copy, Debug, PartialEq, Eq)]
-pub struct Known {
+pub struct RoutineCost {
     /// How many arguments it takes.
     pub params: u16,
     /// Whether it gives a value back.
@@ -22,7 +22,7 @@ pub struct Known {
 
 /// What a piece of code stands in.
 #[derive(Clone, Copy, Debug, PartialEq, Eq)]
-pub struct Around {
+pub struct CodeContext {
     /// The address behind the innermost loop.
     pub out: Option<usize>,
     /// The monitor that is held.
@@ -31,7 +31,7 @@ pub struct Around {
 
 /// What a piece of code comes to.
 #[derive(Clone, Copy, Debug, PartialEq, Eq)]
-pub struct Found {
+pub struct CodeCost {
     /// The address behind it.
     pub next: usize,
     /// The height after it, from the innermost loop's counter on.
@@ -44,8 +44,8 @@ pub struct Found {
 
 /// What the code of a whole part comes to.
 #[derive(Clone, Copy, Debug, PartialEq, Eq)]
-pub struct PartFound {
-    pub found: Found,
+pub struct PartCost {
+    pub found: CodeCost,
     /// The ticks from entering the monitor of an entry to leaving it, capped; 0 for other code.
     pub stay: u64,
 }

@@ -9,15 +9,15 @@
 //! over.
 #![tactic(auto)]
 
-mod found_trees;
-mod found_whole;
 mod instructions;
 mod known;
+mod part_cost;
 mod parts;
 mod seams;
 mod steps;
+mod tree_cost;
 
-pub use found_trees::tree_end;
-pub use found_whole::{depth_bytes, fits_bytes, worst_bytes};
-pub use known::{Found, Known, PartFound, TOO_DEEP};
+pub use known::{CodeCost, PartCost, RoutineCost, TOO_DEEP};
+pub use part_cost::{depth_bytes, fits_bytes, worst_bytes};
 pub use parts::{part_found, routine_found};
+pub use tree_cost::tree_end;

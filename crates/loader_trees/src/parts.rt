@@ -13,10 +13,10 @@ ghost use Rattle.valid_image.specs.Found.{entry, guard, is_end as ends, is_enter
 ghost use Rattle.valid_image.specs.Tables.{found_or_nothing, monitor_of as owner_of, part_found as defined_part, routine_found as defined_routine};
 ghost use Rattle.valid_image_law.specs.Held.{hold};
 
-use crate::found_trees::tree_found;
 use crate::instructions::{instr_at, results};
-use crate::known::{Around, Found, Known, PartFound};
+use crate::known::{CodeContext, CodeCost, PartCost, RoutineCost};
 use crate::seams::{is_end, is_enter, is_leave, is_return};
+use crate::tree_cost::tree_found;
 use base::{Cost, cap_add};
 use image::RawRoutine;
 use image_format::{SegBytes, SegItem, SegTree};
@@ -28,8 +28,8 @@ pub fn stayed(
     monitor: u16,
     enter: Instr,
     leave: Instr,
-    inside: &Found,
-) -> Option<PartFound>
+    inside: &CodeCost,
+) -> Option<PartCost>
     requires held { IsHeld inside.now }
     requires room { inside.now.next + 1 ≤ usize.MAX }
     ensures value { told_part result ≡ hold (guard
@@ -44,8 +44,8 @@ pub fn stayed(
     {
         return None;
     }
-    Some(PartFound {
-        found: Found {
+    Some(PartCost {
+        found: CodeCost {
             next: inside.next + 1,
             height: inside.height,
             cost: Cost {
@@ -62,12 +62,12 @@ pub fn stayed(
 /// The body of a Stay.
 fn stay_found(
     code: &[Instr],
-    known: &[Known],
+    known: &[RoutineCost],
     owner: u16,
     monitor: u16,
     body: SegBytes<'_>,
     at: usize,
-) -> Option<PartFound>
+) -> Option<PartCost>
     requires { at ≤ length code.now }
     ensures value { told_part result ≡ hold (entry code.now (map known_of known.now) owner
         (Cons (Stay monitor (tree_in body.entry)) Nil) at) }
@@ -78,7 +78,7 @@ fn stay_found(
         (Cons (Stay monitor (tree_in body.entry)) Nil) at)).cost.run - 5)) }
 {
     let enter = instr_at(code, at)?;
-    let around = Around {
+    let around = CodeContext {
         out: None,
         held: Some(owner),
     };
@@ -105,11 +105,11 @@ pub fn only_stay(tree: SegBytes<'_>) -> Option<(u16, SegBytes<'_>)>
 /// The code of an entry, which is one Stay.
 pub fn entry_found(
     code: &[Instr],
-    known: &[Known],
+    known: &[RoutineCost],
     owner: u16,
     tree: SegBytes<'_>,
     at: usize,
-) -> Option<PartFound>
+) -> Option<PartCost>
     requires { at ≤ length code.now }
     ensures value { told_part result ≡ hold (entry code.now (map known_of known.now) owner
         (tree_in tree.entry) at) }
@@ -125,11 +125,11 @@ pub fn entry_found(
 /// The code of a part: that of an entry where a monitor is named.
 pub fn part_tree_found(
     code: &[Instr],
-    known: &[Known],
+    known: &[RoutineCost],
     monitor: Option<u16>,
     tree: SegBytes<'_>,
     at: usize,
-) -> Option<PartFound>
+) -> Option<PartCost>
     requires { at ≤ length code.now }
     ensures value { told_part result ≡ hold (part_tree code.now (map known_of known.now) monitor
         (tree_in tree.entry) at) }
@@ -141,12 +141,12 @@ pub fn part_tree_found(
     match monitor {
         Some(owner) => entry_found(code, known, owner, tree, at),
         None => {
-            let around = Around {
+            let around = CodeContext {
                 out: None,
                 held: None,
             };
             let found = tree_found(code, known, around, tree, at, 0)?;
-            Some(PartFound { found, stay: 0 })
+            Some(PartCost { found, stay: 0 })
         }
     }
 }
@@ -171,7 +171,11 @@ fn monitor_of(routine: &RawRoutine) -> Option<u16>
 }
 
 /// The code of a routine up to its RET or RETV.
-pub fn routine_found(code: &[Instr], known: &[Known], routine: &RawRoutine) -> Option<PartFound>
+pub fn routine_found(
+    code: &[Instr],
+    known: &[RoutineCost],
+    routine: &RawRoutine,
+) -> Option<PartCost>
     requires { routine.now.start ≤ length code.now }
     ensures value { told_part result ≡ hold (defined_routine code.now (map known_of known.now)
         (routine_of routine.now)) }
@@ -200,7 +204,12 @@ pub fn routine_found(code: &[Instr], known: &[Known], routine: &RawRoutine) -> O
 }
 
 /// The code of the body or the handler of a process up to its END.
-pub fn part_found(code: &[Instr], known: &[Known], tree: &SegTree, at: usize) -> Option<Found>
+pub fn part_found(
+    code: &[Instr],
+    known: &[RoutineCost],
+    tree: &SegTree,
+    at: usize,
+) -> Option<CodeCost>
     requires { at ≤ length code.now }
     ensures value { told result ≡ hold (defined_part code.now (map known_of known.now)
         tree.now at) }
@@ -210,7 +219,7 @@ pub fn part_found(code: &[Instr], known: &[Known], tree: &SegTree, at: usize) ->
     if is_too_long(code, tree) {
         return None;
     }
-    let PartFound { found, .. } = part_tree_found(code, known, None, tree.view(), at)?;
+    let PartCost { found, .. } = part_tree_found(code, known, None, tree.view(), at)?;
     let last = instr_at(code, found.next)?;
     if !is_end(Some(last)) || found.height != 0 {
         return None;

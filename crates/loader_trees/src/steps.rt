@@ -7,8 +7,8 @@ ghost use Rattle.base.specs.Capped.{cap};
 ghost use Rattle.valid_image.specs.Found.{amount, arms, call, guard, is_call as calls, is_exit as exits, is_jump as jumps, is_jump_zero as jumps_at_zero, is_reenter as reenters, is_repeat as repeats, is_repeats as begins, limit_at as limits, loop as loops, wait};
 ghost use Rattle.valid_image_law.specs.Held.{before, held, hold};
 
-use crate::instructions::{Effect, effect_of, instr_at, results};
-use crate::known::{Found, Known, TOO_DEEP};
+use crate::instructions::{StackEffect, effect_of, instr_at, results};
+use crate::known::{CodeCost, RoutineCost, TOO_DEEP};
 use crate::seams::{
     is_call, is_exit, is_jump, is_jump_zero, is_reenter, is_repeat, is_repeats, limit_at,
 };
@@ -30,15 +30,15 @@ fn cap_times(turns: u32, ticks: u64) -> u64
     (u64::from(turns) * ticks).min(OVER)
 }
 
-impl Found {
+impl CodeCost {
     /// Nothing yet, at an address and a height.
-    pub fn nothing(at: usize, height: usize) -> Found
+    pub fn nothing(at: usize, height: usize) -> CodeCost
         ensures next { result.next ≡ at }
         ensures value { found_of result ≡ record
             { height = height; cost = amount 0 0 0; depth = 0 } }
         ensures held { IsHeld result }
     {
-        Found {
+        CodeCost {
             next: at,
             height,
             cost: Cost {
@@ -51,14 +51,14 @@ impl Found {
     }
 
     /// This piece of code and then another.
-    pub fn then(&self, later: &Found) -> Found
+    pub fn then(&self, later: &CodeCost) -> CodeCost
         requires first { IsHeld self.now }
         requires second { IsHeld later.now }
         ensures next { result.next ≡ later.now.next }
         ensures value { found_of result ≡ held (before (found_of self.now) (found_of later.now)) }
         ensures held { IsHeld result }
     {
-        Found {
+        CodeCost {
             next: later.next,
             height: later.height,
             cost: Cost {
@@ -72,15 +72,15 @@ impl Found {
 }
 
 /// One instruction of a Line.
-pub fn instr_found(code: &[Instr], at: usize, height: usize) -> Option<Found>
+pub fn instr_found(code: &[Instr], at: usize, height: usize) -> Option<CodeCost>
     requires { height ≤ at }
     ensures value { told result ≡ hold (step (slice_get code.now at) height) }
     ensures ends { IfSome result (EndsAt code.now (at + 1)) }
 {
     let instr = instr_at(code, at)?;
-    let Effect { takes, gives } = effect_of(instr)?;
+    let StackEffect { takes, gives } = effect_of(instr)?;
     let height = height.checked_sub(takes)? + gives;
-    Some(Found {
+    Some(CodeCost {
         next: at + 1,
         height,
         cost: Cost {
@@ -93,7 +93,12 @@ pub fn instr_found(code: &[Instr], at: usize, height: usize) -> Option<Found>
 }
 
 /// A choice: JZ, the first arm, JMP, the second arm.
-pub fn forked(jump_zero: Instr, jump: Instr, first: &Found, second: &Found) -> Option<Found>
+pub fn forked(
+    jump_zero: Instr,
+    jump: Instr,
+    first: &CodeCost,
+    second: &CodeCost,
+) -> Option<CodeCost>
     requires first_held { IsHeld first.now }
     requires second_held { IsHeld second.now }
     requires room { first.now.next < second.now.next }
@@ -108,7 +113,7 @@ pub fn forked(jump_zero: Instr, jump: Instr, first: &Found, second: &Found) -> O
     if first.height != second.height {
         return None;
     }
-    Some(Found {
+    Some(CodeCost {
         next: second.next,
         height: first.height,
         cost: Cost {
@@ -127,8 +132,8 @@ pub fn repeated(
     last: Instr,
     start: usize,
     height: usize,
-    turn: &Found,
-) -> Option<Found>
+    turn: &CodeCost,
+) -> Option<CodeCost>
     requires held { IsHeld turn.now }
     requires room { turn.now.next + 1 ≤ usize.MAX }
     ensures value { told result ≡ hold (guard
@@ -142,7 +147,7 @@ pub fn repeated(
     if turn.height != 0 {
         return None;
     }
-    Some(Found {
+    Some(CodeCost {
         next: turn.next + 1,
         height,
         cost: Cost {
@@ -156,12 +161,12 @@ pub fn repeated(
 
 /// The call of a routine, with what is known of it.
 pub fn called(
-    known: &[Known],
+    known: &[RoutineCost],
     routine: u16,
     instr: Instr,
     next: usize,
     height: usize,
-) -> Option<Found>
+) -> Option<CodeCost>
     requires { height + 1 ≤ next }
     ensures value { told result ≡ hold (guard (calls routine (Some instr))
         (call height (slice_get (map known_of known.now) routine))) }
@@ -174,7 +179,7 @@ pub fn called(
     let below = height.checked_sub(known.params as usize)?;
     let height = below + results(known.result);
     let inside = u64::from(depth_of(below)) + 2 + u64::from(known.locals) + u64::from(known.depth);
-    Some(Found {
+    Some(CodeCost {
         next,
         height,
         cost: Cost {
@@ -186,7 +191,7 @@ pub fn called(
     })
 }
 
-fn known_at(known: &[Known], routine: usize) -> Option<Known>
+fn known_at(known: &[RoutineCost], routine: usize) -> Option<RoutineCost>
     ensures { result ≡ slice_get known.now routine }
 {
     known.get(routine).copied()
@@ -199,7 +204,7 @@ pub fn waited(
     second: Instr,
     next: usize,
     height: usize,
-) -> Option<Found>
+) -> Option<CodeCost>
     ensures value { told result ≡ hold (guard (reenters monitor (Some second))
         (wait height (limits (Some first)))) }
     ensures ends { IfSome result (Reaches next height) }
@@ -208,7 +213,7 @@ pub fn waited(
         return None;
     }
     let limit = u64::from(limit_at(Some(first))?);
-    Some(Found {
+    Some(CodeCost {
         next,
         height,
         cost: Cost {
@@ -221,7 +226,7 @@ pub fn waited(
 }
 
 /// EXIT to the end of the innermost loop.
-pub fn exited(out: Option<usize>, instr: Instr, next: usize, height: usize) -> Option<Found>
+pub fn exited(out: Option<usize>, instr: Instr, next: usize, height: usize) -> Option<CodeCost>
     ensures value { told result ≡ hold (guard (nat_eq height 1 && exits out (Some instr))
         (Some (record { height = 0; cost = amount 3 0 0; depth = 0 }))) }
     ensures ends { IfSome result (Reaches next 0) }
@@ -229,7 +234,7 @@ pub fn exited(out: Option<usize>, instr: Instr, next: usize, height: usize) -> O
     if height != 1 || !is_exit(Some(instr), out) {
         return None;
     }
-    Some(Found {
+    Some(CodeCost {
         next,
         height: 0,
         cost: Cost {

@@ -34,7 +34,7 @@ time_out_idle image t j k p s idle = elim (cases_eq j k) [ inl same ↦ at_k sam
   past_k differ (Some (Ready job)) = idle
   past_k differ (Some (Waiting c due number job)) = by_due (nat_eq due t) where
     new : Thread
-    new = Ready (record (raised p number job) { burn = 2 * image.over })
+    new = Ready (record (raised p number job) { dispatch_ticks = 2 * image.over })
 
     by_due : (d : Bool) → slice_get (cond d (told t j (act.TimeOut c number) (record s { queues = slice_set s.queues c (without j (queue_of s.queues c)) }) new) (unchanged s)).state.threads k ≡ Some Idle
     by_due false = idle

@@ -34,7 +34,7 @@ module _ (e : Where) (ps : ℕ → Parts) (image_fits : ImageFits e ps) where
       absurd (let same : job ≡ new = (let both : Some (Ready job) ≡ Some (Ready new) = sym at ∙ now in cc) in let none : None ≡ Some m = sym outside ∙ ap (λ (x : Job). x.inside) same ∙ inside in cc)
 
   settle_enters : (t : ℕ) (s : State) (k m : ℕ) (p : Process) (job : Job) (left : Cost) (out : Outcome) → slice_get e.image.processes k ≡ Some p → slice_get s.threads k ≡ Some (Ready job)
-      → TickFits e p (ps k) job (owned_of (slice_get s.owned k)) s.shared left out → job.burn ≡ 0 → job.inside ≡ None
+      → TickFits e p (ps k) job (owned_of (slice_get s.owned k)) s.shared left out → job.dispatch_ticks ≡ 0 → job.inside ≡ None
       → Entered k m (part_of (ps k) job.handling) (settle e.image t k p job s out).state
   unfolding Entered
   settle_enters t s k m p job left out process at fits no_burn was = by out fits where
@@ -44,7 +44,7 @@ module _ (e : Where) (ps : ℕ → Parts) (image_fits : ImageFits e ps) where
     n : Part
     n = part_of (ps k) job.handling
 
-    put : (q : Own) (u : State) → Ticks e p (ps k) (part_of (ps k) job.handling) job.inside job.burn own s.shared left q → slice_get u.threads k ≡ Some (Ready q.job) → u.owned ≡ slice_set s.owned k q.owned → Entered k m n u
+    put : (q : Own) (u : State) → Ticks e p (ps k) (part_of (ps k) job.handling) job.inside job.dispatch_ticks own s.shared left q → slice_get u.threads k ≡ Some (Ready q.job) → u.owned ≡ slice_set s.owned k q.owned → Entered k m n u
     put q u g there words new now inside =
         let same : q.job ≡ new = (let both : Some (Ready q.job) ≡ Some (Ready new) = sym there ∙ now in cc) in
         let entered : q.job.inside ≡ Some m = ap (λ (x : Job). x.inside) same ∙ inside in (
@@ -55,7 +55,7 @@ module _ (e : Where) (ps : ℕ → Parts) (image_fits : ImageFits e ps) where
             process = process;
             there = there;
             inside = entered;
-            no_burn = omega (arith, g.burn, no_burn);
+            no_burn = omega (arith, g.dispatch_ticks, no_burn);
             short = g.begins m was entered;
             has = ready_elsewhere e p (ps k) q.job q.owned (owned_of (slice_get u.owned k)) q.shared u.shared g.after
                 (omega (arith, length_owned s.owned k k q.owned g.owned, g.owned, ap (λ (x : List (List ℤ)). length (owned_of (slice_get x k))) words)) g.fits;
@@ -97,8 +97,8 @@ module _ (e : Where) (ps : ℕ → Parts) (image_fits : ImageFits e ps) where
         (subst (λ (x : Option Process). Entered k m n (run_thread e.image t k s x (slice_get s.threads k)).state) (sym process)
         (subst (λ (x : Option Thread). Entered k m n (run_thread e.image t k s (Some ch.p) x).state) (sym now)
         (subst (λ (j : Job). Entered k m (part_of (ps k) j.handling) (run_thread e.image t k s (Some ch.p) (Some (Ready ch.job))).state) (sym same_job)
-        (by_burn process now (ap (λ (x : Job). x.inside) (sym same_job) ∙ was) ch.job.burn refl)))) where
-          by_burn : slice_get e.image.processes k ≡ Some ch.p → slice_get s.threads k ≡ Some (Ready ch.job) → ch.job.inside ≡ None → (b : ℕ) → ch.job.burn ≡ b
+        (by_burn process now (ap (λ (x : Job). x.inside) (sym same_job) ∙ was) ch.job.dispatch_ticks refl)))) where
+          by_burn : slice_get e.image.processes k ≡ Some ch.p → slice_get s.threads k ≡ Some (Ready ch.job) → ch.job.inside ≡ None → (b : ℕ) → ch.job.dispatch_ticks ≡ b
               → Entered k m (part_of (ps k) ch.job.handling) (settle e.image t k ch.p ch.job s (outcome e.image s ch.job (owned_of (slice_get s.owned k)) b)).state
           by_burn process now outside zero is =
               let f : ThreadFits e ch.p (ps k) (Ready ch.job) (owned_of (slice_get s.owned k)) s.shared = fits.threads k ch.p (Ready ch.job) process now in
@@ -107,8 +107,8 @@ module _ (e : Where) (ps : ℕ → Parts) (image_fits : ImageFits e ps) where
               (finds_free e ps s c ch (part_of (ps k) ch.job.handling) (owned_of (slice_get s.owned k)) fits (own_limit e ps image_fits ch.p (ps k) ch.job.handling (image_fits.processes k ch.p process))))
               is outside
           by_burn process now outside (suc b) is =
-              outside_still k m (part_of (ps k) ch.job.handling) (settle e.image t k ch.p ch.job s (outcome e.image s ch.job (owned_of (slice_get s.owned k)) (suc b))).state (record (ch.job) { burn = b })
-              (get_set s.threads k (Ready (record (ch.job) { burn = b })) (Ready ch.job) now) outside
+              outside_still k m (part_of (ps k) ch.job.handling) (settle e.image t k ch.p ch.job s (outcome e.image s ch.job (owned_of (slice_get s.owned k)) (suc b))).state (record (ch.job) { dispatch_ticks = b })
+              (get_set s.threads k (Ready (record (ch.job) { dispatch_ticks = b })) (Ready ch.job) now) outside
 
   begins : (script : Script) (t : ℕ) (s : State) (k m : ℕ) (job new : Job) → StateFits e ps s → slice_get (starts e.image script t s).state.threads k ≡ Some (Ready job) → job.inside ≡ None
       → slice_get (tick e.image script t s).state.threads k ≡ Some (Ready new) → new.inside ≡ Some m → StaysIn e ps (tick e.image script t s).state k m ((part_of (ps k) job.handling).stays m) × Reaches (within e (part_of (ps k) job.handling)) m

@@ -58,7 +58,7 @@ keeps_moves e own c n o st out room g = by_case out g where
     reaches = λ k was now. absurd (let same : p.job.inside ≡ o.job.inside = m.inside in cc);
     inside = inl m.inside;
     done = m.done;
-    burn = m.burn;
+    dispatch_ticks = m.dispatch_ticks;
     handling = m.handling;
     owned = m.owned;
     shared = m.shared;

@@ -34,7 +34,7 @@ module _ (e : Where) (ps : ℕ → Parts) (image_fits : ImageFits e ps) where
     by (Some (Ready job)) = fits
     by None = fits
     by (Some (Waiting c due number job)) = by_due (nat_eq due t) where
-      by_due : (d : Bool) → WordsFit e.image (cond d (told t k (act.TimeOut c number) (record s { queues = slice_set s.queues c (without k (queue_of s.queues c)) }) (Ready (record (raised p number job) { burn = 2 * e.image.over }))) (unchanged s)).state
+      by_due : (d : Bool) → WordsFit e.image (cond d (told t k (act.TimeOut c number) (record s { queues = slice_set s.queues c (without k (queue_of s.queues c)) }) (Ready (record (raised p number job) { dispatch_ticks = 2 * e.image.over }))) (unchanged s)).state
       by_due true = fits
       by_due false = fits
 
@@ -63,11 +63,11 @@ module _ (e : Where) (ps : ℕ → Parts) (image_fits : ImageFits e ps) where
         let process : slice_get e.image.processes c.place ≡ Some ch.p = ap (λ (x : ℕ). slice_get e.image.processes x) (sym at) ∙ ch.process in
         let ready : slice_get s.threads c.place ≡ Some (Ready ch.job) = ap (λ (x : ℕ). slice_get s.threads x) (sym at) ∙ ch.ready in
         let f : ThreadFits e ch.p (ps c.place) (Ready ch.job) (owned_of (slice_get s.owned c.place)) s.shared = state_fits.threads c.place ch.p (Ready ch.job) process ready in
-        let o : (l : Cost) × TickFits e ch.p (ps c.place) ch.job (owned_of (slice_get s.owned c.place)) s.shared l (outcome e.image s ch.job (owned_of (slice_get s.owned c.place)) ch.job.burn) =
-        outcome_fits e ps image_fits s c ch c.place refl process state_fits f.0 f.1 ch.job.burn refl in
+        let o : (l : Cost) × TickFits e ch.p (ps c.place) ch.job (owned_of (slice_get s.owned c.place)) s.shared l (outcome e.image s ch.job (owned_of (slice_get s.owned c.place)) ch.job.dispatch_ticks) =
+        outcome_fits e ps image_fits s c ch c.place refl process state_fits f.0 f.1 ch.job.dispatch_ticks refl in
         subst (λ (x : Option Process). WordsFit e.image (run_thread e.image t c.place s x (slice_get s.threads c.place)).state) (sym process)
         (subst (λ (x : Option Thread). WordsFit e.image (run_thread e.image t c.place s (Some ch.p) x).state) (sym ready)
-        (settle_words t c.place ch.p ch.job s o.0 (outcome e.image s ch.job (owned_of (slice_get s.owned c.place)) ch.job.burn) o.1 fits))
+        (settle_words t c.place ch.p ch.job s o.0 (outcome e.image s ch.job (owned_of (slice_get s.owned c.place)) ch.job.dispatch_ticks) o.1 fits))
 
   tick_words : (script : Script) (t : ℕ) (s : State) → StateFits e ps s → WordsFit e.image s → WordsFit e.image (tick e.image script t s).state
   unfolding tick

@@ -32,10 +32,10 @@ two_goes P o go ks is h =
 -- ---- what a plain instruction leaves
 
 given : (o : Own) (z : ℤ) (rest : List Operand) (ks : List Kind) → kinds rest ≡ ks → After o (Plain ∷ ks) (give z (holding rest o))
-given o z rest ks e = record { place = refl; done = refl; burn = refl; callers = refl; handling = refl; inside = refl; locals = refl; operands = ap (λ (xs : List Kind). Plain ∷ xs) e; owned = refl; shared = refl }
+given o z rest ks e = record { place = refl; done = refl; dispatch_ticks = refl; callers = refl; handling = refl; inside = refl; locals = refl; operands = ap (λ (xs : List Kind). Plain ∷ xs) e; owned = refl; shared = refl }
 
 taken : (o : Own) (rest : List Operand) (ks : List Kind) → kinds rest ≡ ks → After o ks (holding rest o)
-taken o rest ks e = record { place = refl; done = refl; burn = refl; callers = refl; handling = refl; inside = refl; locals = refl; operands = e; owned = refl; shared = refl }
+taken o rest ks e = record { place = refl; done = refl; dispatch_ticks = refl; callers = refl; handling = refl; inside = refl; locals = refl; operands = e; owned = refl; shared = refl }
 
 answered : (a : Answer) (o : Own) (rest : List Operand) (ks : List Kind) → kinds rest ≡ ks → GoesOn (After o (Plain ∷ ks)) (answer a (holding rest o))
 answered (word z) o rest ks e = given o z rest ks e
@@ -97,7 +97,7 @@ stored_mon : (image : Image) (s : State) (part : Part) (o : Own) (m : ℕ) (mon 
 stored_mon image s part o m mon z rest ks j sized inside there above below e =
     subst (λ b. GoesOn (After o ks) (cond b (store (word_at o.shared (pos j)) (set_shared (pos j) z (holding rest o))) Stuck)) (sym (reached image o.job.inside m mon j inside there above below))
     (stored (After o ks) o.shared j (set_shared (pos j) z (holding rest o)) (omega (arith, sized.shared m mon there))
-    (record { place = refl; done = refl; burn = refl; callers = refl; handling = refl; inside = refl; locals = refl; operands = e; owned = refl; shared = length-set o.shared j z }))
+    (record { place = refl; done = refl; dispatch_ticks = refl; callers = refl; handling = refl; inside = refl; locals = refl; operands = e; owned = refl; shared = length-set o.shared j z }))
 
 loaded_local : (part : Part) (o : Own) (rest : List Operand) (ks : List Kind) (j : ℕ) → IsIn part o → j < part.locals → kinds rest ≡ ks
     → GoesOn (After o (Plain ∷ ks)) (load (word_at o.job.locals (pos j)) (holding rest o))
@@ -107,7 +107,7 @@ stored_local : (part : Part) (o : Own) (z : ℤ) (rest : List Operand) (ks : Lis
     → GoesOn (After o ks) (store (word_at o.job.locals (pos j)) (set_local (pos j) z (holding rest o)))
 stored_local part o z rest ks j here h e =
     stored (After o ks) o.job.locals j (set_local (pos j) z (holding rest o)) (omega (arith, here.locals))
-    (record { place = refl; done = refl; burn = refl; callers = refl; handling = refl; inside = refl; locals = length-set o.job.locals j z; operands = e; owned = refl; shared = refl })
+    (record { place = refl; done = refl; dispatch_ticks = refl; callers = refl; handling = refl; inside = refl; locals = length-set o.job.locals j z; operands = e; owned = refl; shared = refl })
 
 loaded_own : (part : Part) (o : Own) (rest : List Operand) (ks : List Kind) (j : ℕ) → IsIn part o → j < part.owned → kinds rest ≡ ks
     → GoesOn (After o (Plain ∷ ks)) (load (word_at o.owned (pos j)) (holding rest o))
@@ -117,7 +117,7 @@ stored_own : (part : Part) (o : Own) (z : ℤ) (rest : List Operand) (ks : List 
     → GoesOn (After o ks) (store (word_at o.owned (pos j)) (set_own (pos j) z (holding rest o)))
 stored_own part o z rest ks j here h e =
     stored (After o ks) o.owned j (set_own (pos j) z (holding rest o)) (omega (arith, here.owned))
-    (record { place = refl; done = refl; burn = refl; callers = refl; handling = refl; inside = refl; locals = refl; operands = e; owned = length-set o.owned j z; shared = refl })
+    (record { place = refl; done = refl; dispatch_ticks = refl; callers = refl; handling = refl; inside = refl; locals = refl; operands = e; owned = length-set o.owned j z; shared = refl })
 
 -- ---- queues and devices
 

@@ -162,7 +162,7 @@ wake_once image ts qs c j js fits is = by (waiting_first c (slice_get ts j) (tim
   by (due, number, job, at, none) =
       subst (λ (x : Option Thread). QueuesFit (slice_set ts j (woken image x)) (slice_set qs c js)) (sym at)
       (change ts qs j c (Waiting c due number job) (woken image (Some (Waiting c due number job))) js fits at there
-      (λ i differ. sym (times_past i j js differ) ∙ ap (λ (x : List ℕ). times i x) (sym is)) none (λ d differ. only_there c d due number job (record job { burn = 2 * image.over }) differ))
+      (λ i differ. sym (times_past i j js differ) ∙ ap (λ (x : List ℕ). times i x) (sym is)) none (λ d differ. only_there c d due number job (record job { dispatch_ticks = 2 * image.over }) differ))
 
 wake_whole : (image : Image) (js : List ℕ) (ts : List Thread) (qs : List (List ℕ)) (c : ℕ) → QueuesFit ts qs → queue_of qs c ≡ js → QueuesFit (wake_all image js ts) (slice_set qs c [])
 wake_whole image [] ts qs c fits is = set_nothing ts qs c [] fits is
@@ -194,7 +194,7 @@ module _ (e : Where) (ps : ℕ → Parts) (image_fits : ImageFits e ps) where
     by None at = fits
     by (Some (Waiting c due number job)) at = by_due (nat_eq due t) where
       new : Job
-      new = record (raised p number job) { burn = 2 * e.image.over }
+      new = record (raised p number job) { dispatch_ticks = 2 * e.image.over }
 
       queues : List (List ℕ)
       queues = slice_set s.queues c (without k (queue_of s.queues c))
@@ -248,11 +248,11 @@ module _ (e : Where) (ps : ℕ → Parts) (image_fits : ImageFits e ps) where
         let process : slice_get e.image.processes c.place ≡ Some ch.p = ap (λ (x : ℕ). slice_get e.image.processes x) (sym at) ∙ ch.process in
         let ready : slice_get s.threads c.place ≡ Some (Ready ch.job) = ap (λ (x : ℕ). slice_get s.threads x) (sym at) ∙ ch.ready in
         let f : ThreadFits e ch.p (ps c.place) (Ready ch.job) (owned_of (slice_get s.owned c.place)) s.shared = state_fits.threads c.place ch.p (Ready ch.job) process ready in
-        let o : (l : Cost) × TickFits e ch.p (ps c.place) ch.job (owned_of (slice_get s.owned c.place)) s.shared l (outcome e.image s ch.job (owned_of (slice_get s.owned c.place)) ch.job.burn) =
-        outcome_fits e ps image_fits s c ch c.place refl process state_fits f.0 f.1 ch.job.burn refl in
+        let o : (l : Cost) × TickFits e ch.p (ps c.place) ch.job (owned_of (slice_get s.owned c.place)) s.shared l (outcome e.image s ch.job (owned_of (slice_get s.owned c.place)) ch.job.dispatch_ticks) =
+        outcome_fits e ps image_fits s c ch c.place refl process state_fits f.0 f.1 ch.job.dispatch_ticks refl in
         subst (λ (x : Option Process). AreQueued (run_thread e.image t c.place s x (slice_get s.threads c.place)).state) (sym process)
         (subst (λ (x : Option Thread). AreQueued (run_thread e.image t c.place s (Some ch.p) x).state) (sym ready)
-        (settle_queues t c.place ch.p ch.job s o.0 (outcome e.image s ch.job (owned_of (slice_get s.owned c.place)) ch.job.burn) ready state_fits.sized.queues o.1 fits))
+        (settle_queues t c.place ch.p ch.job s o.0 (outcome e.image s ch.job (owned_of (slice_get s.owned c.place)) ch.job.dispatch_ticks) ready state_fits.sized.queues o.1 fits))
 
 pub tick_keeps_queues : TickKeepsQueues
 unfolding tick

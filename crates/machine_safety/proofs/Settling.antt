@@ -23,7 +23,7 @@ set_past (y ∷ ys) zero x at = absurd cc
 set_past (y ∷ ys) (suc k) x at = ap (λ (zs : List _). y ∷ zs) (set_past ys k x at)
 
 -- a waiting process that is woken fits its trees
-pub woken_fits : (e : Where) (p : Process) (ps : Parts) (job : Job) (b : ℕ) (owned shared : List ℤ) (left : Cost) → WaitingFits e p ps job owned shared left → ReadyFits e p ps (record job { burn = b }) owned shared left
+pub woken_fits : (e : Where) (p : Process) (ps : Parts) (job : Job) (b : ℕ) (owned shared : List ℤ) (left : Cost) → WaitingFits e p ps job owned shared left → ReadyFits e p ps (record job { dispatch_ticks = b }) owned shared left
 woken_fits e p ps job b owned shared left w = record {
   cost = w.cost;
   fits = inr (comes_at e (part_of ps job.handling) job job.done b owned owned shared shared w.cost (omega arith) w.fits);
@@ -45,7 +45,7 @@ module _ (e : Where) (ps : ℕ → Parts) (image_fits : ImageFits e ps) where
     by_thread (Some (Waiting c due n job)) at =
         let q : (p : Process) × (slice_get e.image.processes j ≡ Some p) = process_of e ps s j (Waiting c due n job) fits at in
         let f : ThreadFits e q.0 (ps j) (Waiting c due n job) (owned_of (slice_get s.owned j)) s.shared = fits.threads j q.0 (Waiting c due n job) q.1 at in
-        thread_set e ps s j q.0 (Ready (record job { burn = 2 * e.image.over })) s.queues fits q.1 f.1.fits.outside
+        thread_set e ps s j q.0 (Ready (record job { dispatch_ticks = 2 * e.image.over })) s.queues fits q.1 f.1.fits.outside
         (f.0, woken_fits e q.0 (ps j) job (2 * e.image.over) (owned_of (slice_get s.owned j)) s.shared f.0 f.1) refl
 
   wake_first_keeps : (o : Option ℕ) (s : State) → StateFits e ps s → StateFits e ps (record s { threads = wake_first e.image o s.threads })
@@ -84,7 +84,7 @@ module _ (e : Where) (ps : ℕ → Parts) (image_fits : ImageFits e ps) where
     own : List ℤ
     own = owned_of (slice_get s.owned k)
 
-    put : (q : Own) (queues : List (List ℕ)) → Ticks e ch.p (ps k) (part_of (ps k) ch.job.handling) ch.job.inside ch.job.burn own s.shared left q → length queues ≡ length s.queues
+    put : (q : Own) (queues : List (List ℕ)) → Ticks e ch.p (ps k) (part_of (ps k) ch.job.handling) ch.job.inside ch.job.dispatch_ticks own s.shared left q → length queues ≡ length s.queues
         → StateFits e ps (record { threads = slice_set s.threads k (Ready q.job); owned = slice_set s.owned k q.owned; shared = q.shared; queues = queues; devices = s.devices })
     put q queues g same =
         state_set e ps s k ch.p (Ready q.job) q.owned q.shared queues s.devices fits process (stays_clear s c ch k place fits q.job g.inside) g.owned (g.after, g.fits) g.shared same refl
@@ -116,7 +116,7 @@ module _ (e : Where) (ps : ℕ → Parts) (image_fits : ImageFits e ps) where
 
   -- one tick of it: a burn tick, or one of its instruction
   pub outcome_fits : (s : State) (c : Candidate) (ch : Chosen e.image 0 e.image.processes s.threads c) (k : ℕ) → c.place ≡ k → slice_get e.image.processes k ≡ Some ch.p
-      → StateFits e ps s → (left : Cost) → ReadyFits e ch.p (ps k) ch.job (owned_of (slice_get s.owned k)) s.shared left → (n : ℕ) → ch.job.burn ≡ n
+      → StateFits e ps s → (left : Cost) → ReadyFits e ch.p (ps k) ch.job (owned_of (slice_get s.owned k)) s.shared left → (n : ℕ) → ch.job.dispatch_ticks ≡ n
       → (l : Cost) × TickFits e ch.p (ps k) ch.job (owned_of (slice_get s.owned k)) s.shared l (outcome e.image s ch.job (owned_of (slice_get s.owned k)) n)
   outcome_fits s c ch k place process fits left ready zero is = (
     left,
@@ -132,7 +132,7 @@ module _ (e : Where) (ps : ℕ → Parts) (image_fits : ImageFits e ps) where
       stays = λ m was now. omega arith;
       begins = λ m was now. absurd cc;
       reaches = λ m was now. absurd cc;
-      burn = omega (arith, is);
+      dispatch_ticks = omega (arith, is);
       inside = inl refl;
       owned = refl;
       shared = refl;
@@ -149,11 +149,11 @@ module _ (e : Where) (ps : ℕ → Parts) (image_fits : ImageFits e ps) where
         let process : slice_get e.image.processes c.place ≡ Some ch.p = ap (λ (x : ℕ). slice_get e.image.processes x) (sym at) ∙ ch.process in
         let ready : slice_get s.threads c.place ≡ Some (Ready ch.job) = ap (λ (x : ℕ). slice_get s.threads x) (sym at) ∙ ch.ready in
         let f : ThreadFits e ch.p (ps c.place) (Ready ch.job) (owned_of (slice_get s.owned c.place)) s.shared = fits.threads c.place ch.p (Ready ch.job) process ready in
-        let o : (l : Cost) × TickFits e ch.p (ps c.place) ch.job (owned_of (slice_get s.owned c.place)) s.shared l (outcome e.image s ch.job (owned_of (slice_get s.owned c.place)) ch.job.burn) =
-        outcome_fits s c ch c.place refl process fits f.0 f.1 ch.job.burn refl in
+        let o : (l : Cost) × TickFits e ch.p (ps c.place) ch.job (owned_of (slice_get s.owned c.place)) s.shared l (outcome e.image s ch.job (owned_of (slice_get s.owned c.place)) ch.job.dispatch_ticks) =
+        outcome_fits s c ch c.place refl process fits f.0 f.1 ch.job.dispatch_ticks refl in
         subst (λ (x : Option Process). ((run_thread e.image t c.place s x (slice_get s.threads c.place)).stuck ≡ false) × StateFits e ps (run_thread e.image t c.place s x (slice_get s.threads c.place)).state) (sym process)
         (subst (λ (x : Option Thread). ((run_thread e.image t c.place s (Some ch.p) x).stuck ≡ false) × StateFits e ps (run_thread e.image t c.place s (Some ch.p) x).state) (sym ready)
-        (settle_keeps t s c ch c.place refl process ready fits o.0 (outcome e.image s ch.job (owned_of (slice_get s.owned c.place)) ch.job.burn) o.1))
+        (settle_keeps t s c ch c.place refl process ready fits o.0 (outcome e.image s ch.job (owned_of (slice_get s.owned c.place)) ch.job.dispatch_ticks) o.1))
 
 pub every_tick_is_safe : EveryTickIsSafe
 unfolding tick

@@ -28,7 +28,7 @@ released_fits e p ps owned shared fits enough = record {
   waits = omega arith;
 }
 
-pub ready_burn : (e : Where) (p : Process) (ps : Parts) (job : Job) (b : ℕ) (owned shared : List ℤ) (left : Cost) → ReadyFits e p ps job owned shared left → ReadyFits e p ps (record job { burn = b }) owned shared left
+pub ready_burn : (e : Where) (p : Process) (ps : Parts) (job : Job) (b : ℕ) (owned shared : List ℤ) (left : Cost) → ReadyFits e p ps job owned shared left → ReadyFits e p ps (record job { dispatch_ticks = b }) owned shared left
 ready_burn e p ps job b owned shared left r =
     record { cost = r.cost; fits = fits_at e (part_of ps job.handling) job job.done b owned owned shared shared r.cost (omega arith) r.fits; early = r.early; ends = r.ends; run = r.run; susp = r.susp; waits = r.waits; leave = r.leave }
 
@@ -137,10 +137,10 @@ module _ (e : Where) (ps : ℕ → Parts) (image_fits : ImageFits e ps) where
       queues : List (List ℕ)
       queues = slice_set s.queues c (without k (queue_of s.queues c))
 
-      by_due : (d : Bool) → StateFits e ps (cond d (told t k (act.TimeOut c n) (record s { queues = queues }) (Ready (record (raised p n job) { burn = 2 * e.image.over }))) (unchanged s)).state
+      by_due : (d : Bool) → StateFits e ps (cond d (told t k (act.TimeOut c n) (record s { queues = queues }) (Ready (record (raised p n job) { dispatch_ticks = 2 * e.image.over }))) (unchanged s)).state
       by_due false = fits
       by_due true =
-          thread_set e ps s k p (Ready (record (raised p n job) { burn = 2 * e.image.over })) queues fits process refl (
+          thread_set e ps s k p (Ready (record (raised p n job) { dispatch_ticks = 2 * e.image.over })) queues fits process refl (
             left,
             ready_burn e p (ps k) (raised p n job) (2 * e.image.over) own s.shared left
                 (raise_fits e p (ps k) job own s.shared n left (image_fits.processes k p process) f.1.ends b.locals b.enough (omega arith)),

@@ -89,7 +89,7 @@ module _ (e : Where) (ps : ℕ → Parts) (image_fits : ImageFits e ps) where
       queues = slice_set s.queues c (without j (queue_of s.queues c))
 
       new : Thread
-      new = Ready (record (raised p number job) { burn = 2 * e.image.over })
+      new = Ready (record (raised p number job) { dispatch_ticks = 2 * e.image.over })
 
       by_due : (d : Bool) → StaysIn e ps (cond d (told t j (act.TimeOut c number) (record s { queues = queues }) new) (unchanged s)).state k m n
       by_due false = u.1
@@ -126,7 +126,7 @@ module _ (e : Where) (ps : ℕ → Parts) (image_fits : ImageFits e ps) where
     by_case Stuck = o
 
   run_other_stays : (t : ℕ) (s : State) (j k m n : ℕ) (p : Option Process) (th : Option Thread) → (j ≡ k → ⊥) → StaysIn e ps s k m n → StaysIn e ps (run_thread e.image t j s p th).state k m n
-  run_other_stays t s j k m n (Some p) (Some (Ready job)) differ o = other_stays t s j k m n p job (outcome e.image s job (owned_of (slice_get s.owned j)) job.burn) differ o
+  run_other_stays t s j k m n (Some p) (Some (Ready job)) differ o = other_stays t s j k m n p job (outcome e.image s job (owned_of (slice_get s.owned j)) job.dispatch_ticks) differ o
   run_other_stays t s j k m n (Some p) (Some Idle) differ o = o
   run_other_stays t s j k m n (Some p) (Some (Waiting c due number job)) differ o = o
   run_other_stays t s j k m n (Some p) None differ o = o
@@ -138,13 +138,13 @@ module _ (e : Where) (ps : ℕ → Parts) (image_fits : ImageFits e ps) where
 
   -- its own tick
   settle_stays : (t : ℕ) (s : State) (k m n : ℕ) (p : Process) (job : Job) (left : Cost) (out : Outcome) → slice_get e.image.processes k ≡ Some p → slice_get s.threads k ≡ Some (Ready job)
-      → TickFits e p (ps k) job (owned_of (slice_get s.owned k)) s.shared left out → job.burn ≡ 0 → job.inside ≡ Some m → left.leave ≤ n → Nearer k m n (settle e.image t k p job s out).state
+      → TickFits e p (ps k) job (owned_of (slice_get s.owned k)) s.shared left out → job.dispatch_ticks ≡ 0 → job.inside ≡ Some m → left.leave ≤ n → Nearer k m n (settle e.image t k p job s out).state
   unfolding Nearer
   settle_stays t s k m n p job left out process at fits no_burn was short = by_case out fits where
     own : List ℤ
     own = owned_of (slice_get s.owned k)
 
-    put : (q : Own) (u : State) → Ticks e p (ps k) (part_of (ps k) job.handling) job.inside job.burn own s.shared left q → slice_get u.threads k ≡ Some (Ready q.job) → u.owned ≡ slice_set s.owned k q.owned → Nearer k m n u
+    put : (q : Own) (u : State) → Ticks e p (ps k) (part_of (ps k) job.handling) job.inside job.dispatch_ticks own s.shared left q → slice_get u.threads k ≡ Some (Ready q.job) → u.owned ≡ slice_set s.owned k q.owned → Nearer k m n u
     put q u g there words new new_at inside =
         let same : q.job ≡ new = (let both : Some (Ready q.job) ≡ Some (Ready new) = sym there ∙ new_at in cc) in
         let still : q.job.inside ≡ Some m = ap (λ (x : Job). x.inside) same ∙ inside in
@@ -158,7 +158,7 @@ module _ (e : Where) (ps : ℕ → Parts) (image_fits : ImageFits e ps) where
             process = process;
             there = there;
             inside = still;
-            no_burn = omega (arith, g.burn, no_burn);
+            no_burn = omega (arith, g.dispatch_ticks, no_burn);
             short = omega (arith, less, short);
             has = ready_elsewhere e p (ps k) q.job q.owned (owned_of (slice_get u.owned k)) q.shared u.shared g.after
                 (omega (arith, length_owned s.owned k k q.owned g.owned, g.owned, ap (λ (x : List (List ℤ)). length (owned_of (slice_get x k))) words)) g.fits;
@@ -197,7 +197,7 @@ module _ (e : Where) (ps : ℕ → Parts) (image_fits : ImageFits e ps) where
         let own : List ℤ = owned_of (slice_get s.owned k) in
         let has : ReadyFits e ch.p (ps k) ch.job own s.shared o.left =
         subst (λ (x : Job). ReadyFits e ch.p (ps k) x own s.shared o.left) same_job (subst (λ (q : Process). ReadyFits e q (ps k) o.job own s.shared o.left) same_p o.has) in
-        let no_burn : ch.job.burn ≡ 0 = ap (λ (x : Job). x.burn) (sym same_job) ∙ o.no_burn in
+        let no_burn : ch.job.dispatch_ticks ≡ 0 = ap (λ (x : Job). x.dispatch_ticks) (sym same_job) ∙ o.no_burn in
         let was : ch.job.inside ≡ Some m = ap (λ (x : Job). x.inside) (sym same_job) ∙ o.inside in
         subst (λ (j : ℕ). Nearer k m n (run_thread e.image t j s (slice_get e.image.processes j) (slice_get s.threads j)).state) (sym same)
         (subst (λ (x : Option Process). Nearer k m n (run_thread e.image t k s x (slice_get s.threads k)).state) (sym process)

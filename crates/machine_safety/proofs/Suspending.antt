@@ -41,10 +41,10 @@ time_out_not_due image k t j p s not_due = by (slice_get s.threads j) where
   by (Some Idle) = not_due
   by (Some (Ready job)) = not_due
   by (Some (Waiting c due number job)) = by_due (nat_eq due t) where
-    by_due : (d : Bool) → NotDue k t (cond d (told t j (act.TimeOut c number) (record s { queues = slice_set s.queues c (without j (queue_of s.queues c)) }) (Ready (record (raised p number job) { burn = 2 * image.over }))) (unchanged s)).state
+    by_due : (d : Bool) → NotDue k t (cond d (told t j (act.TimeOut c number) (record s { queues = slice_set s.queues c (without j (queue_of s.queues c)) }) (Ready (record (raised p number job) { dispatch_ticks = 2 * image.over }))) (unchanged s)).state
     by_due false = not_due
-    by_due true = λ c' due' number' job' at is. elim (get_of_set s.threads j (Ready (record (raised p number job) { burn = 2 * image.over })) k (Waiting c' due' number' job') at) [
-      | inl new ↦ absurd (let both : Ready (record (raised p number job) { burn = 2 * image.over }) ≡ Waiting c' due' number' job' = new.1 in cc)
+    by_due true = λ c' due' number' job' at is. elim (get_of_set s.threads j (Ready (record (raised p number job) { dispatch_ticks = 2 * image.over })) k (Waiting c' due' number' job') at) [
+      | inl new ↦ absurd (let both : Ready (record (raised p number job) { dispatch_ticks = 2 * image.over }) ≡ Waiting c' due' number' job' = new.1 in cc)
       | inr old ↦ not_due c' due' number' job' old is
     ]
 
@@ -56,11 +56,11 @@ own_time_out image k t p s = by (slice_get s.threads k) refl where
   by (Some Idle) at = λ c due number job at' is. absurd cc
   by (Some (Ready job)) at = λ c due number job at' is. absurd cc
   by (Some (Waiting c due number job)) at = by_due (nat_eq due t) refl where
-    by_due : (d : Bool) → nat_eq due t ≡ d → NotDue k t (cond d (told t k (act.TimeOut c number) (record s { queues = slice_set s.queues c (without k (queue_of s.queues c)) }) (Ready (record (raised p number job) { burn = 2 * image.over }))) (unchanged s)).state
+    by_due : (d : Bool) → nat_eq due t ≡ d → NotDue k t (cond d (told t k (act.TimeOut c number) (record s { queues = slice_set s.queues c (without k (queue_of s.queues c)) }) (Ready (record (raised p number job) { dispatch_ticks = 2 * image.over }))) (unchanged s)).state
     by_due false not_now = λ c' due' number' job' at' is.
         absurd (let both : Some (Waiting c due number job) ≡ Some (Waiting c' due' number' job') = sym at ∙ at' in let same : due ≡ due' = cc in grind (arith, nat_tests, not_now, same, is))
     by_due true now = λ c' due' number' job' at' is.
-        absurd (let new : slice_get (slice_set s.threads k (Ready (record (raised p number job) { burn = 2 * image.over }))) k ≡ Some (Ready (record (raised p number job) { burn = 2 * image.over })) = get_set s.threads k (Ready (record (raised p number job) { burn = 2 * image.over })) (Waiting c due number job) at in cc)
+        absurd (let new : slice_get (slice_set s.threads k (Ready (record (raised p number job) { dispatch_ticks = 2 * image.over }))) k ≡ Some (Ready (record (raised p number job) { dispatch_ticks = 2 * image.over })) = get_set s.threads k (Ready (record (raised p number job) { dispatch_ticks = 2 * image.over })) (Waiting c due number job) at in cc)
 
 rank_not_due : (image : Image) (k t rank i : ℕ) (qs : List Process) (s : State) → NotDue k t s → NotDue k t (at_rank image t rank i qs s).state
 rank_not_due image k t rank i [] s not_due = not_due
@@ -152,7 +152,7 @@ settle_left image t s j k p job out th differ at = by out where
   by Stuck = record { thread = (th, at, inl refl); words = refl }
 
 pub run_left : (image : Image) (t : ℕ) (s : State) (j k : ℕ) (p : Option Process) (x : Option Thread) (th : Thread) → (j ≡ k → ⊥) → slice_get s.threads k ≡ Some th → Left image s (run_thread image t j s p x).state k th
-run_left image t s j k (Some p) (Some (Ready job)) th differ at = settle_left image t s j k p job (outcome image s job (owned_of (slice_get s.owned j)) job.burn) th differ at
+run_left image t s j k (Some p) (Some (Ready job)) th differ at = settle_left image t s j k p job (outcome image s job (owned_of (slice_get s.owned j)) job.dispatch_ticks) th differ at
 run_left image t s j k (Some p) (Some Idle) th differ at = record { thread = (th, at, inl refl); words = refl }
 run_left image t s j k (Some p) (Some (Waiting c due number job)) th differ at = record { thread = (th, at, inl refl); words = refl }
 run_left image t s j k (Some p) None th differ at = record { thread = (th, at, inl refl); words = refl }
@@ -199,7 +199,7 @@ module _ (e : Where) (ps : ℕ → Parts) (image_fits : ImageFits e ps) where
             omega (arith, suspension, later),
             elim woke.2 [
               | inl old ↦ suspends s u (t + 1) k (n - 1) w o.p (Waiting c due_at number job) o.left o.process (woke.1 ∙ ap (λ (x : Thread). Some x) old) words has (omega (arith, later)) (omega (arith, suspension, later)) waits
-              | inr new ↦ suspends s u (t + 1) k (n - 1) w o.p (Ready (record job { burn = 2 * e.image.over })) o.left o.process (woke.1 ∙ ap (λ (x : Thread). Some x) new) words
+              | inr new ↦ suspends s u (t + 1) k (n - 1) w o.p (Ready (record job { dispatch_ticks = 2 * e.image.over })) o.left o.process (woke.1 ∙ ap (λ (x : Thread). Some x) new) words
                   (woken_fits e o.p (ps k) job (2 * e.image.over) (owned_of (slice_get s.owned k)) s.shared o.left has) tt (omega (arith, suspension, later)) waits
             ],
           );
@@ -221,7 +221,7 @@ module _ (e : Where) (ps : ℕ → Parts) (image_fits : ImageFits e ps) where
     own : List ℤ
     own = owned_of (slice_get s.owned k)
 
-    put : (q : Own) (u : State) → Ticks e p (ps k) (part_of (ps k) job.handling) job.inside job.burn own s.shared left q → slice_get u.threads k ≡ Some (Ready q.job) → u.owned ≡ slice_set s.owned k q.owned → Spends e ps s u t k n w
+    put : (q : Own) (u : State) → Ticks e p (ps k) (part_of (ps k) job.handling) job.inside job.dispatch_ticks own s.shared left q → slice_get u.threads k ≡ Some (Ready q.job) → u.owned ≡ slice_set s.owned k q.owned → Spends e ps s u t k n w
     put q u g now words =
         quiet s u t k n w job (Ready q.job) at now refl
         (record {
@@ -301,16 +301,16 @@ module _ (e : Where) (ps : ℕ → Parts) (image_fits : ImageFits e ps) where
         subst (λ (j : ℕ). Spends e ps s (run_thread e.image t j s (slice_get e.image.processes j) (slice_get s.threads j)).state t k n w) (sym same)
         (subst (λ (x : Option Process). Spends e ps s (run_thread e.image t k s x (slice_get s.threads k)).state t k n w) (sym process)
         (subst (λ (x : Option Thread). Spends e ps s (run_thread e.image t k s (Some ch.p) x).state t k n w) (sym at)
-        (by_burn process at has susp waits ch.job.burn refl))) where
+        (by_burn process at has susp waits ch.job.dispatch_ticks refl))) where
           by_burn : slice_get e.image.processes k ≡ Some ch.p → slice_get s.threads k ≡ Some (Ready ch.job) → ReadyFits e ch.p (ps k) ch.job own s.shared o.left → o.left.susp ≤ n → o.left.waits ≤ w
-              → (b : ℕ) → ch.job.burn ≡ b → Spends e ps s (settle e.image t k ch.p ch.job s (outcome e.image s ch.job own b)).state t k n w
+              → (b : ℕ) → ch.job.dispatch_ticks ≡ b → Spends e ps s (settle e.image t k ch.p ch.job s (outcome e.image s ch.job own b)).state t k n w
           by_burn process at has susp waits zero is =
               settle_spends t s k n w ch.p ch.job o.left (outcome e.image s ch.job own zero) process at
               (tick_is_safe e (ps k) s ch.p ch.job own o.left image_fits.routines (image_fits.processes k ch.p process) fits.sized has
               (finds_free e ps s c ch (part_of (ps k) ch.job.handling) own fits (own_limit e ps image_fits ch.p (ps k) ch.job.handling (image_fits.processes k ch.p process))))
               susp waits
           by_burn process at has susp waits (suc b) is =
-              let new : Job = record (ch.job) { burn = b } in
+              let new : Job = record (ch.job) { dispatch_ticks = b } in
               let now : slice_get (slice_set s.threads k (Ready new)) k ≡ Some (Ready new) = get_set s.threads k (Ready new) (Ready ch.job) at in
               quiet s (settle e.image t k ch.p ch.job s (outcome e.image s ch.job own (suc b))).state t k n w ch.job (Ready new) at now refl
               (record {
@@ -387,9 +387,9 @@ module _ (e : Where) (ps : ℕ → Parts) (image_fits : ImageFits e ps) where
             queues = slice_set s.queues c (without j (queue_of s.queues c))
 
             new : Thread
-            new = Ready (record (raised p number job) { burn = 2 * e.image.over })
+            new = Ready (record (raised p number job) { dispatch_ticks = 2 * e.image.over })
 
-            raised_it : ReadyFits e o.p (ps k) (record (raised o.p number job) { burn = 2 * e.image.over }) own s.shared left
+            raised_it : ReadyFits e o.p (ps k) (record (raised o.p number job) { dispatch_ticks = 2 * e.image.over }) own s.shared left
             raised_it = ready_burn e o.p (ps k) (raised o.p number job) (2 * e.image.over) own s.shared left
                 (raise_fits e o.p (ps k) job own s.shared number left (image_fits.processes k o.p o.process) has.ends b.locals b.enough (omega arith))
 
@@ -402,7 +402,7 @@ module _ (e : Where) (ps : ℕ → Parts) (image_fits : ImageFits e ps) where
                 left = left;
                 process = o.process;
                 there = subst (λ (x : ℕ). slice_get (slice_set s.threads x new) k ≡ Some new) (sym same) (get_set s.threads k new (Waiting c due number job) at_k');
-                has = subst (λ (q : Process). ReadyFits e o.p (ps k) (record (raised q number job) { burn = 2 * e.image.over }) own s.shared left) (sym of_same) raised_it;
+                has = subst (λ (q : Process). ReadyFits e o.p (ps k) (record (raised q number job) { dispatch_ticks = 2 * e.image.over }) own s.shared left) (sym of_same) raised_it;
                 due = tt;
                 suspension = omega arith;
                 waits = omega arith;
@@ -419,7 +419,7 @@ module _ (e : Where) (ps : ℕ → Parts) (image_fits : ImageFits e ps) where
       queues = slice_set s.queues c (without j (queue_of s.queues c))
 
       new : Thread
-      new = Ready (record (raised p number job) { burn = 2 * e.image.over })
+      new = Ready (record (raised p number job) { dispatch_ticks = 2 * e.image.over })
 
       by_due : (d : Bool) → (o : Suspends e ps (cond d (told t j (act.TimeOut c number) (record s { queues = queues }) new) (unchanged s)).state now k n w) × IsBusy o.thread
       by_due false = u.1

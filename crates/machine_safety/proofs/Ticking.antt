@@ -113,10 +113,10 @@ is_own_part e p ps false fits = fits.body
 is_own_part e p ps true fits = fits.handler
 
 -- after a raise: in the handler, or at an END
-raise_by : (e : Where) (p : Process) (ps : Parts) (burn number : ℕ) (ls owned shared : List ℤ) (left : Cost) (h b : Bool) → (b ≡ true → (h ≡ false) × (lists p.numbers number ≡ true)) → ProcessFits e p ps
+raise_by : (e : Where) (p : Process) (ps : Parts) (dispatch_ticks number : ℕ) (ls owned shared : List ℤ) (left : Cost) (h b : Bool) → (b ≡ true → (h ≡ false) × (lists p.numbers number ≡ true)) → ProcessFits e p ps
     → At e (end_of p h) i.End → length ls ≡ (part_of ps h).locals → (part_of ps h).owned ≤ length owned → 4 + spare ps h ≤ left.run
-    → ReadyFits e p ps (record { place = cond b p.handler (end_of p h); done = 0; burn = burn; locals = ls; operands = []; callers = []; handling = cond b true h; inside = None }) owned shared left
-raise_by e p ps burn number ls owned shared left h true ok fits ends locals enough time =
+    → ReadyFits e p ps (record { place = cond b p.handler (end_of p h); done = 0; dispatch_ticks = dispatch_ticks; locals = ls; operands = []; callers = []; handling = cond b true h; inside = None }) owned shared left
+raise_by e p ps dispatch_ticks number ls owned shared left h true ok fits ends locals enough time =
     let listed : (h ≡ false) × (lists p.numbers number ≡ true) = ok refl in
     let handler : (tree : Segs) × HandlerFits e p ps tree = fits.handles number listed.1 in
     let own : IsOwn p (part_of ps h) = is_own_part e p ps h fits in
@@ -132,7 +132,7 @@ raise_by e p ps burn number ls owned shared left h true ok fits ends locals enou
       susp = omega (arith, fits.no_susp);
       waits = omega (arith, fits.no_waits);
     }
-raise_by e p ps burn number ls owned shared left h false ok fits ends locals enough time = record {
+raise_by e p ps dispatch_ticks number ls owned shared left h false ok fits ends locals enough time = record {
   cost = record { run = 4; susp = 0; waits = 0; leave = 4 };
   leave = λ k now. absurd cc;
   fits = inl (at_end e (part_of ps h) p _ (is_own_part e p ps h fits) ends refl refl refl locals enough);
@@ -151,12 +151,12 @@ pub raise_fits : (e : Where) (p : Process) (ps : Parts) (job : Job) (owned share
     → length (own_locals job.locals job.callers) ≡ (part_of ps job.handling).locals → (part_of ps job.handling).owned ≤ length owned
     → 4 + spare ps job.handling ≤ left.run → ReadyFits e p ps (raised p number job) owned shared left
 raise_fits e p ps job owned shared number left fits ends locals enough time =
-    raise_by e p ps job.burn number (own_locals job.locals job.callers) owned shared left job.handling (not job.handling && lists p.numbers number) (handled_only job.handling (lists p.numbers number)) fits ends locals enough time
+    raise_by e p ps job.dispatch_ticks number (own_locals job.locals job.callers) owned shared left job.handling (not job.handling && lists p.numbers number) (handled_only job.handling (lists p.numbers number)) fits ends locals enough time
 
 -- ---- the same at other words, and at another tick of the same instruction
 
 pub stands_at : (e : Where) (own : Part) (job : Job) (d b : ℕ) (owned owned' shared shared' : List ℤ) (c : Cost) → length owned ≤ length owned'
-    → Stands e own (own_of job owned shared) c → Stands e own (own_of (record job { done = d; burn = b }) owned' shared') c
+    → Stands e own (own_of job owned shared) c → Stands e own (own_of (record job { done = d; dispatch_ticks = b }) owned' shared') c
 stands_at e own job d b owned owned' shared shared' c longer st = record {
   part = st.part;
   path = st.path;
@@ -174,7 +174,7 @@ stands_at e own job d b owned owned' shared shared' c longer st = record {
 }
 
 pub comes_at : (e : Where) (own : Part) (job : Job) (d b : ℕ) (owned owned' shared shared' : List ℤ) (c : Cost) → length owned ≤ length owned'
-    → Comes e own (own_of job owned shared) c → Comes e own (own_of (record job { done = d; burn = b }) owned' shared') c
+    → Comes e own (own_of job owned shared) c → Comes e own (own_of (record job { done = d; dispatch_ticks = b }) owned' shared') c
 comes_at e own job d b owned owned' shared shared' c longer k =
     let r : Returning (within e k.part) k.path k.out k.height k.here (own_of job owned shared) = k.back in
     record {
@@ -207,7 +207,7 @@ comes_at e own job d b owned owned' shared shared' c longer k =
 
 pub fits_at : (e : Where) (own : Part) (job : Job) (d b : ℕ) (owned owned' shared shared' : List ℤ) (c : Cost) → length owned ≤ length owned'
     → (Stands e own (own_of job owned shared) c) ⊎ (Comes e own (own_of job owned shared) c)
-    → (Stands e own (own_of (record job { done = d; burn = b }) owned' shared') c) ⊎ (Comes e own (own_of (record job { done = d; burn = b }) owned' shared') c)
+    → (Stands e own (own_of (record job { done = d; dispatch_ticks = b }) owned' shared') c) ⊎ (Comes e own (own_of (record job { done = d; dispatch_ticks = b }) owned' shared') c)
 fits_at e own job d b owned owned' shared shared' c longer (inl st) = inl (stands_at e own job d b owned owned' shared shared' c longer st)
 fits_at e own job d b owned owned' shared shared' c longer (inr k) = inr (comes_at e own job d b owned owned' shared shared' c longer k)
 
@@ -230,7 +230,7 @@ last_tick e ps p job owned shared left n fits ready last early out keeps = by_ca
   own : Part
   own = part_of ps job.handling
 
-  again : (q : Own) → Less e own ready.cost n (own_of job owned shared) q → Ticks e p ps own job.inside job.burn owned shared left q
+  again : (q : Own) → Less e own ready.cost n (own_of job owned shared) q → Ticks e p ps own job.inside job.dispatch_ticks owned shared left q
   again q l =
       let after : Cost = record { run = l.cost.run + spare ps job.handling; susp = l.cost.susp; waits = l.cost.waits; leave = l.cost.leave } in
       record {
@@ -249,7 +249,7 @@ last_tick e ps p job owned shared left n fits ready last early out keeps = by_ca
         stays = λ k was now. omega (arith, l.stays k was now, ready.leave k was);
         begins = l.begins;
         reaches = l.reaches;
-        burn = omega (arith, l.burn);
+        dispatch_ticks = omega (arith, l.dispatch_ticks);
         inside = l.inside;
         owned = l.owned;
         shared = l.shared;
@@ -291,7 +291,7 @@ last_tick e ps p job owned shared left n fits ready last early out keeps = by_ca
         stays = λ k was now. absurd cc;
         begins = λ k was now. absurd cc;
         reaches = λ k was now. absurd cc;
-        burn = omega arith;
+        dispatch_ticks = omega arith;
         inside = inr (inl refl);
         owned = refl;
         shared = refl;
@@ -324,7 +324,7 @@ tick_is_safe e ps s p job owned left routines fits sized ready free = go routine
               after = record { run = left.run - 1; susp = left.susp; waits = left.waits; leave = left.leave - 1 };
               fits = record {
                 cost = ready.cost;
-                fits = fits_at e own job (job.done + 1) job.burn owned owned s.shared s.shared ready.cost (omega arith) ready.fits;
+                fits = fits_at e own job (job.done + 1) job.dispatch_ticks owned owned s.shared s.shared ready.cost (omega arith) ready.fits;
                 early = λ instr at. (let same : Some inst.0 ≡ Some instr = sym inst.1 ∙ at in let same' : inst.0 ≡ instr = cc in omega (arith, ap (λ (j : Instr). ticks j) same'));
                 ends = ready.ends;
                 run = omega (arith, ready.run);
@@ -336,7 +336,7 @@ tick_is_safe e ps s p job owned left routines fits sized ready free = go routine
               stays = λ k was now. omega (arith, ready.leave k was, inst.3 k was);
               begins = λ k was now. absurd cc;
               reaches = λ k was now. absurd cc;
-              burn = omega arith;
+              dispatch_ticks = omega arith;
               inside = inl refl;
               owned = refl;
               shared = refl;

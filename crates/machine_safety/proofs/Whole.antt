@@ -30,11 +30,11 @@ length_owned (v ∷ vs) (suc k) (suc j) w is = length_owned vs k j w is
 
 pub ready_elsewhere : (e : Where) (p : Process) (ps : Parts) (job : Job) (owned owned' shared shared' : List ℤ) (left : Cost) → length owned ≤ length owned' → ReadyFits e p ps job owned shared left → ReadyFits e p ps job owned' shared' left
 ready_elsewhere e p ps job owned owned' shared shared' left longer r =
-    record { cost = r.cost; fits = fits_at e (part_of ps job.handling) job job.done job.burn owned owned' shared shared' r.cost longer r.fits; early = r.early; ends = r.ends; run = r.run; susp = r.susp; waits = r.waits; leave = r.leave }
+    record { cost = r.cost; fits = fits_at e (part_of ps job.handling) job job.done job.dispatch_ticks owned owned' shared shared' r.cost longer r.fits; early = r.early; ends = r.ends; run = r.run; susp = r.susp; waits = r.waits; leave = r.leave }
 
 pub waiting_elsewhere : (e : Where) (p : Process) (ps : Parts) (job : Job) (owned owned' shared shared' : List ℤ) (left : Cost) → length owned ≤ length owned' → WaitingFits e p ps job owned shared left → WaitingFits e p ps job owned' shared' left
 waiting_elsewhere e p ps job owned owned' shared shared' left longer r =
-    record { cost = r.cost; fits = comes_at e (part_of ps job.handling) job job.done job.burn owned owned' shared shared' r.cost longer r.fits; fresh = r.fresh; ends = r.ends; run = r.run; susp = r.susp; waits = r.waits }
+    record { cost = r.cost; fits = comes_at e (part_of ps job.handling) job job.done job.dispatch_ticks owned owned' shared shared' r.cost longer r.fits; fresh = r.fresh; ends = r.ends; run = r.run; susp = r.susp; waits = r.waits }
 
 pub thread_elsewhere : (e : Where) (p : Process) (ps : Parts) (t : Thread) (owned owned' shared shared' : List ℤ) → length owned ≤ length owned' → ThreadFits e p ps t owned shared → ThreadFits e p ps t owned' shared'
 thread_elsewhere e p ps Idle owned owned' shared shared' longer f = omega (arith, f)

@@ -78,13 +78,13 @@ module _ (e : Where) (ps : ℕ → Parts) (image_fits : ImageFits e ps) where
         by_thread (Waiting c due number job) at has work =
             record {
               p = o.p;
-              thread = Ready (record job { burn = 2 * e.image.over });
+              thread = Ready (record job { dispatch_ticks = 2 * e.image.over });
               left = o.left;
               process = o.process;
               has = woken_fits e o.p (ps k) job (2 * e.image.over) (owned_of (slice_get s.owned k)) s.shared o.left has;
               work = omega (arith, work);
-              there = subst (λ (x : Option Thread). slice_get (slice_set s.threads k (woken e.image x)) k ≡ Some (Ready (record job { burn = 2 * e.image.over }))) (sym at)
-                  (get_set s.threads k (Ready (record job { burn = 2 * e.image.over })) (Waiting c due number job) at);
+              there = subst (λ (x : Option Thread). slice_get (slice_set s.threads k (woken e.image x)) k ≡ Some (Ready (record job { dispatch_ticks = 2 * e.image.over }))) (sym at)
+                  (get_set s.threads k (Ready (record job { dispatch_ticks = 2 * e.image.over })) (Waiting c due number job) at);
             }
 
   wake_first_owes : (f : Option ℕ) (k n : ℕ) (s : State) → Owes e ps s k n → Owes e ps (record s { threads = wake_first e.image f s.threads }) k n
@@ -147,9 +147,9 @@ module _ (e : Where) (ps : ℕ → Parts) (image_fits : ImageFits e ps) where
             queues = slice_set s.queues c (without j (queue_of s.queues c))
 
             new : Thread
-            new = Ready (record (raised p number job) { burn = 2 * e.image.over })
+            new = Ready (record (raised p number job) { dispatch_ticks = 2 * e.image.over })
 
-            raised_it : ReadyFits e u.1.0.p (ps k) (record (raised u.1.0.p number job) { burn = 2 * e.image.over }) own s.shared left
+            raised_it : ReadyFits e u.1.0.p (ps k) (record (raised u.1.0.p number job) { dispatch_ticks = 2 * e.image.over }) own s.shared left
             raised_it = ready_burn e u.1.0.p (ps k) (raised u.1.0.p number job) (2 * e.image.over) own s.shared left
                 (raise_fits e u.1.0.p (ps k) job own s.shared number left (image_fits.processes k u.1.0.p u.1.0.process) has.ends b.locals b.enough (omega arith))
 
@@ -162,7 +162,7 @@ module _ (e : Where) (ps : ℕ → Parts) (image_fits : ImageFits e ps) where
                 left = left;
                 process = u.1.0.process;
                 there = subst (λ (x : ℕ). slice_get (slice_set s.threads x new) k ≡ Some new) (sym same) (get_set s.threads k new (Waiting c due number job) at_k');
-                has = subst (λ (q : Process). ReadyFits e u.1.0.p (ps k) (record (raised q number job) { burn = 2 * e.image.over }) own s.shared left) (sym of_same) raised_it;
+                has = subst (λ (q : Process). ReadyFits e u.1.0.p (ps k) (record (raised q number job) { dispatch_ticks = 2 * e.image.over }) own s.shared left) (sym of_same) raised_it;
                 work = omega (arith, work, has.run, b.some, times_le (2 * e.image.over) 1 (u.1.0.left.waits + 1) (omega arith));
               },
               tt,
@@ -177,7 +177,7 @@ module _ (e : Where) (ps : ℕ → Parts) (image_fits : ImageFits e ps) where
       queues = slice_set s.queues c (without j (queue_of s.queues c))
 
       new : Thread
-      new = Ready (record (raised p number job) { burn = 2 * e.image.over })
+      new = Ready (record (raised p number job) { dispatch_ticks = 2 * e.image.over })
 
       by_due : (d : Bool) → (o : Owes e ps (cond d (told t j (act.TimeOut c number) (record s { queues = queues }) new) (unchanged s)).state k n) × IsBusy o.thread
       by_due false = u.1
@@ -204,7 +204,7 @@ module _ (e : Where) (ps : ℕ → Parts) (image_fits : ImageFits e ps) where
   }
 
   settle_owes : (t : ℕ) (s : State) (k n : ℕ) (p : Process) (job : Job) (left : Cost) (out : Outcome) → slice_get e.image.processes k ≡ Some p → slice_get s.threads k ≡ Some (Ready job)
-      → TickFits e p (ps k) job (owned_of (slice_get s.owned k)) s.shared left out → job.burn ≡ 0 → left.run + 2 * e.image.over * left.waits ≤ n
+      → TickFits e p (ps k) job (owned_of (slice_get s.owned k)) s.shared left out → job.dispatch_ticks ≡ 0 → left.run + 2 * e.image.over * left.waits ≤ n
       → (m : ℕ) × (n ≡ m + 1) × Owes e ps (settle e.image t k p job s out).state k m
   settle_owes t s k n p job left out process at fits no_burn work = by_case out fits where
     own : List ℤ
@@ -213,10 +213,10 @@ module _ (e : Where) (ps : ℕ → Parts) (image_fits : ImageFits e ps) where
     m : ℕ
     m = n - 1
 
-    put : (q : Own) (queues : List (List ℕ)) → Ticks e p (ps k) (part_of (ps k) job.handling) job.inside job.burn own s.shared left q
+    put : (q : Own) (queues : List (List ℕ)) → Ticks e p (ps k) (part_of (ps k) job.handling) job.inside job.dispatch_ticks own s.shared left q
         → Owes e ps (record { threads = slice_set s.threads k (Ready q.job); owned = slice_set s.owned k q.owned; shared = q.shared; queues = queues; devices = s.devices }) k m
     put q queues g = ran s k m p (Ready job) (Ready q.job) q.owned q.shared queues g.after process at (omega (arith, length_owned s.owned k k q.owned g.owned, g.owned)) g.fits
-        (omega (arith, g.less, g.burn, no_burn, work, times_le (2 * e.image.over) g.after.waits left.waits g.less.waits))
+        (omega (arith, g.less, g.dispatch_ticks, no_burn, work, times_le (2 * e.image.over) g.after.waits left.waits g.less.waits))
 
     by_case : (out : Outcome) → TickFits e p (ps k) job own s.shared left out → (m : ℕ) × (n ≡ m + 1) × Owes e ps (settle e.image t k p job s out).state k m
     by_case (Goes q) g = (m, omega (arith, g.less, work), put q s.queues g)
@@ -275,7 +275,7 @@ module _ (e : Where) (ps : ℕ → Parts) (image_fits : ImageFits e ps) where
     by_case Stuck = o
 
   run_other : (t : ℕ) (s : State) (j k n : ℕ) (p : Option Process) (th : Option Thread) → (j ≡ k → ⊥) → Owes e ps s k n → Owes e ps (run_thread e.image t j s p th).state k n
-  run_other t s j k n (Some p) (Some (Ready job)) differ o = settle_other t s j k n p job (outcome e.image s job (owned_of (slice_get s.owned j)) job.burn) differ o
+  run_other t s j k n (Some p) (Some (Ready job)) differ o = settle_other t s j k n p job (outcome e.image s job (owned_of (slice_get s.owned j)) job.dispatch_ticks) differ o
   run_other t s j k n (Some p) (Some Idle) differ o = o
   run_other t s j k n (Some p) (Some (Waiting c due number job)) differ o = o
   run_other t s j k n (Some p) None differ o = o
@@ -284,13 +284,13 @@ module _ (e : Where) (ps : ℕ → Parts) (image_fits : ImageFits e ps) where
   -- the tick of the process that is picked
   run_it : (t : ℕ) (s : State) (c : Candidate) (ch : Chosen e.image 0 e.image.processes s.threads c) (k n : ℕ) → c.place ≡ k → StateFits e ps s → (left : Cost)
       → slice_get e.image.processes k ≡ Some ch.p → slice_get s.threads k ≡ Some (Ready ch.job) → ReadyFits e ch.p (ps k) ch.job (owned_of (slice_get s.owned k)) s.shared left
-      → left.run + ch.job.burn + 2 * e.image.over * left.waits ≤ n
-      → (m : ℕ) × (n ≡ m + 1) × Owes e ps (settle e.image t k ch.p ch.job s (outcome e.image s ch.job (owned_of (slice_get s.owned k)) ch.job.burn)).state k m
-  run_it t s c ch k n place fits left process at ready work = by_burn ch.job.burn refl where
+      → left.run + ch.job.dispatch_ticks + 2 * e.image.over * left.waits ≤ n
+      → (m : ℕ) × (n ≡ m + 1) × Owes e ps (settle e.image t k ch.p ch.job s (outcome e.image s ch.job (owned_of (slice_get s.owned k)) ch.job.dispatch_ticks)).state k m
+  run_it t s c ch k n place fits left process at ready work = by_burn ch.job.dispatch_ticks refl where
     own : List ℤ
     own = owned_of (slice_get s.owned k)
 
-    by_burn : (b : ℕ) → ch.job.burn ≡ b → (m : ℕ) × (n ≡ m + 1) × Owes e ps (settle e.image t k ch.p ch.job s (outcome e.image s ch.job own b)).state k m
+    by_burn : (b : ℕ) → ch.job.dispatch_ticks ≡ b → (m : ℕ) × (n ≡ m + 1) × Owes e ps (settle e.image t k ch.p ch.job s (outcome e.image s ch.job own b)).state k m
     by_burn zero is =
         settle_owes t s k n ch.p ch.job left (outcome e.image s ch.job own zero) process at
         (tick_is_safe e (ps k) s ch.p ch.job own left image_fits.routines (image_fits.processes k ch.p process) fits.sized ready
@@ -299,7 +299,7 @@ module _ (e : Where) (ps : ℕ → Parts) (image_fits : ImageFits e ps) where
     by_burn (suc b) is = (
       n - 1,
       omega (arith, work, is),
-      ran s k (n - 1) ch.p (Ready ch.job) (Ready (record (ch.job) { burn = b })) own s.shared s.queues left process at (omega (arith, length_owned s.owned k k own refl))
+      ran s k (n - 1) ch.p (Ready ch.job) (Ready (record (ch.job) { dispatch_ticks = b })) own s.shared s.queues left process at (omega (arith, length_owned s.owned k k own refl))
           (ready_burn e ch.p (ps k) ch.job b own s.shared left ready) (omega (arith, work, is)),
     )
 

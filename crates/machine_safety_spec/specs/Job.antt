@@ -125,7 +125,7 @@ pub record Less (e : Where) (own : Part) (c : Cost) (n : ℕ) (o p : Own) : Type
   -- the part may enter the monitor that it enters
   pub reaches : (m : ℕ) → o.job.inside ≡ None → p.job.inside ≡ Some m → Reaches (within e own) m
   pub done : p.job.done ≡ 0
-  pub burn : p.job.burn ≡ o.job.burn
+  pub dispatch_ticks : p.job.dispatch_ticks ≡ o.job.dispatch_ticks
   pub handling : p.job.handling ≡ o.job.handling
   pub owned : length p.owned ≡ length o.owned
   pub shared : length p.shared ≡ length o.shared
@@ -140,7 +140,7 @@ pub record Pauses (e : Where) (own : Part) (c : Cost) (n condition limit : ℕ) 
   pub comes : Comes e own p cost
   pub less : Covers c (cost.run + n) (cost.susp + limit) (cost.waits + 1) 0
   pub done : p.job.done ≡ 0
-  pub burn : p.job.burn ≡ o.job.burn
+  pub dispatch_ticks : p.job.dispatch_ticks ≡ o.job.dispatch_ticks
   pub handling : p.job.handling ≡ o.job.handling
   pub owned : length p.owned ≡ length o.owned
   pub shared : length p.shared ≡ length o.shared

@@ -123,7 +123,7 @@ pub record Moved (e : Where) (path : List Step) (c : Cost) (n : ℕ) (o p : Own)
   pub same_held : held new_path ≡ held path
   pub less : Covers c (cost.run + n) cost.susp cost.waits (cost.leave + n)
   pub done : p.job.done ≡ 0
-  pub burn : p.job.burn ≡ o.job.burn
+  pub dispatch_ticks : p.job.dispatch_ticks ≡ o.job.dispatch_ticks
   pub callers : p.job.callers ≡ o.job.callers
   pub handling : p.job.handling ≡ o.job.handling
   pub inside : p.job.inside ≡ o.job.inside

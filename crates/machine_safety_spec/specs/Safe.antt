@@ -105,7 +105,7 @@ pub record Ticks (e : Where) (p : Process) (ps : Parts) (own : Part) (was : Opti
   pub less : Covers left (after.run + 1) after.susp after.waits 0
   pub inside : (q.job.inside ≡ was) ⊎ ((q.job.inside ≡ None) ⊎ (was ≡ None))
   pub stays : (m : ℕ) → was ≡ Some m → q.job.inside ≡ Some m → after.leave + 1 ≤ left.leave
-  pub burn : q.job.burn ≤ burnt
+  pub dispatch_ticks : q.job.dispatch_ticks ≤ burnt
   pub begins : (m : ℕ) → was ≡ None → q.job.inside ≡ Some m → after.leave ≤ own.stays m
   pub reaches : (m : ℕ) → was ≡ None → q.job.inside ≡ Some m → Reaches (within e own) m
   pub owned : length q.owned ≡ length before
@@ -123,12 +123,12 @@ pub record Pausing (e : Where) (p : Process) (ps : Parts) (before words : List �
 
 -- what a tick of the process comes to
 abbrev pub TickFits : Where → Process → Parts → Job → List ℤ → List ℤ → Cost → Outcome → Type 0
-TickFits e p ps job owned shared left (Goes q) = Ticks e p ps (part_of ps job.handling) job.inside job.burn owned shared left q
-TickFits e p ps job owned shared left (Does a q) = Ticks e p ps (part_of ps job.handling) job.inside job.burn owned shared left q
-TickFits e p ps job owned shared left (Signals c q) = Ticks e p ps (part_of ps job.handling) job.inside job.burn owned shared left q
-TickFits e p ps job owned shared left (Broadcasts c q) = Ticks e p ps (part_of ps job.handling) job.inside job.burn owned shared left q
+TickFits e p ps job owned shared left (Goes q) = Ticks e p ps (part_of ps job.handling) job.inside job.dispatch_ticks owned shared left q
+TickFits e p ps job owned shared left (Does a q) = Ticks e p ps (part_of ps job.handling) job.inside job.dispatch_ticks owned shared left q
+TickFits e p ps job owned shared left (Signals c q) = Ticks e p ps (part_of ps job.handling) job.inside job.dispatch_ticks owned shared left q
+TickFits e p ps job owned shared left (Broadcasts c q) = Ticks e p ps (part_of ps job.handling) job.inside job.dispatch_ticks owned shared left q
 TickFits e p ps job owned shared left (Waits c limit number q) = Pausing e p ps owned shared left c limit q
-TickFits e p ps job owned shared left (Raises number) = Ticks e p ps (part_of ps job.handling) job.inside job.burn owned shared left (own_of (raised p number job) owned shared)
+TickFits e p ps job owned shared left (Raises number) = Ticks e p ps (part_of ps job.handling) job.inside job.dispatch_ticks owned shared left (own_of (raised p number job) owned shared)
 TickFits e p ps job owned shared left Ends = 1 ≤ left.run
 TickFits e p ps job owned shared left Stuck = ⊥
 

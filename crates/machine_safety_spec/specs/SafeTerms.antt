@@ -22,7 +22,7 @@ GoesOn P Stuck = ⊥
 pub record After (o : Own) (ks : List Kind) (p : Own) : Type 0 where
   pub place : p.job.place ≡ o.job.place
   pub done : p.job.done ≡ o.job.done
-  pub burn : p.job.burn ≡ o.job.burn
+  pub dispatch_ticks : p.job.dispatch_ticks ≡ o.job.dispatch_ticks
   pub callers : p.job.callers ≡ o.job.callers
   pub handling : p.job.handling ≡ o.job.handling
   pub inside : p.job.inside ≡ o.job.inside

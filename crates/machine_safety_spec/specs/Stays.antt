@@ -17,7 +17,7 @@ pub record StaysIn (e : Where) (ps : ℕ → Parts) (s : State) (k m n : ℕ) : 
   pub process : slice_get e.image.processes k ≡ Some p
   pub there : slice_get s.threads k ≡ Some (Ready job)
   pub inside : job.inside ≡ Some m
-  pub no_burn : job.burn ≡ 0
+  pub no_burn : job.dispatch_ticks ≡ 0
   pub has : ReadyFits e p (ps k) job (owned_of (slice_get s.owned k)) s.shared left
   pub short : left.leave ≤ n
 

@@ -12,7 +12,7 @@ use Rattle.machine_safety_spec.specs.Whole.{StateFits}
 -- begun
 abbrev pub work_of : ℕ → Thread → Cost → ℕ
 work_of over Idle left = 0
-work_of over (Ready job) left = left.run + job.burn + 2 * over * left.waits
+work_of over (Ready job) left = left.run + job.dispatch_ticks + 2 * over * left.waits
 work_of over (Waiting condition due number job) left = left.run + 2 * over * (left.waits + 1)
 
 -- the process fits its trees with so much left to do

@@ -32,7 +32,7 @@ followed first go =
 -- an activation at the start of its process: locals that are 0, no operands, no calls, and a
 -- dispatch in and one out to burn
 abbrev pub released : Image → Process → Job
-released image p = record { place = p.start; done = 0; burn = 2 * image.over; locals = zeros p.locals; operands = []; callers = []; handling = false; inside = None }
+released image p = record { place = p.start; done = 0; dispatch_ticks = 2 * image.over; locals = zeros p.locals; operands = []; callers = []; handling = false; inside = None }
 
 -- the process begins an activation if it is idle; if it is not, that is an overrun, and nothing
 -- changes
@@ -100,7 +100,7 @@ queue_of (q ∷ qs) (suc c) = queue_of qs c
 abbrev pub time_out : Image → ℕ → ℕ → Process → State → Option Thread → Started
 time_out image t k p s (Some (Waiting c due e job)) =
     if nat_eq due t
-    then told t k (act.TimeOut c e) (record s { queues = slice_set s.queues c (without k (queue_of s.queues c)) }) (Ready (record (raised p e job) { burn = 2 * image.over }))
+    then told t k (act.TimeOut c e) (record s { queues = slice_set s.queues c (without k (queue_of s.queues c)) }) (Ready (record (raised p e job) { dispatch_ticks = 2 * image.over }))
     else unchanged s
 time_out image t k p s (Some (Ready job)) = unchanged s
 time_out image t k p s (Some Idle) = unchanged s

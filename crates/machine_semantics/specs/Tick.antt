@@ -66,7 +66,7 @@ pub record Ticked : Type 0 where
 
 -- a process that was taken out of a queue is ready, with a dispatch in and one out to burn
 abbrev pub woken : Image → Option Thread → Thread
-woken image (Some (Waiting condition due number job)) = Ready (record job { burn = 2 * image.over })
+woken image (Some (Waiting condition due number job)) = Ready (record job { dispatch_ticks = 2 * image.over })
 woken image (Some (Ready job)) = Ready job
 woken image (Some Idle) = Idle
 woken image None = Idle
@@ -136,7 +136,7 @@ outcome_at image s job owned (Some instr) =
 
 -- a tick of dispatch while there is one to burn, else a tick of its instruction
 abbrev pub outcome : Image → State → Job → List ℤ → ℕ → Outcome
-outcome image s job owned (suc n) = Goes (record { job = record job { burn = n }; owned = owned; shared = s.shared })
+outcome image s job owned (suc n) = Goes (record { job = record job { dispatch_ticks = n }; owned = owned; shared = s.shared })
 outcome image s job owned zero = outcome_at image s job owned (slice_get image.code job.place)
 
 -- the words that a process keeps
@@ -146,7 +146,7 @@ owned_of None = []
 
 -- one tick of process k, which is ready
 abbrev pub run_thread : Image → ℕ → ℕ → State → Option Process → Option Thread → Ticked
-run_thread image t k s (Some p) (Some (Ready job)) = settle image t k p job s (outcome image s job (owned_of (slice_get s.owned k)) job.burn)
+run_thread image t k s (Some p) (Some (Ready job)) = settle image t k p job s (outcome image s job (owned_of (slice_get s.owned k)) job.dispatch_ticks)
 run_thread image t k s p thread = record { state = s; events = []; stuck = false }
 
 -- one tick of the process that was picked; where none was, the tick is idle

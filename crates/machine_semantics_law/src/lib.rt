@@ -5,4 +5,4 @@
 #![tactic(auto)]
 
 pub mod log;
-pub mod machine_laws;
+pub mod small_images;

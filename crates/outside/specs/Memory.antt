@@ -1,7 +1,7 @@
 -- What the files and the sink in memory show: their calls, and the room of the sink.
 use Rattle.std.specs.Prelude.{ℕ, List, [], Option, unwrap_or}
-use Rattle.outside.specs.declared.memory.MemFiles.{MemFiles}
-use Rattle.outside.specs.declared.mem_sink.MemSink.{MemSink}
+use Rattle.outside.specs.declared.memory.MemoryFiles.{MemoryFiles}
+use Rattle.outside.specs.declared.mem_sink.MemorySink.{MemorySink}
 use Rattle.outside.specs.declared.sure.SureFiles.{SureFiles}
 use Rattle.outside.specs.declared.sure.SureSink.{SureSink}
 use Rattle.outside.specs.Calls.{Calls}
@@ -9,42 +9,42 @@ use Rattle.outside.specs.Kept.{count_of, held_in}
 use Rattle.outside.specs.Outside.{FilesState}
 
 -- what a name holds, if it is there
-abbrev pub held_of : MemFiles → List ℕ → Option (List ℕ)
+abbrev pub held_of : MemoryFiles → List ℕ → Option (List ℕ)
 held_of files name = held_in files.store name
 
 -- how many reads of a name have failed
-abbrev pub read_faults_of : MemFiles → List ℕ → ℕ
+abbrev pub read_faults_of : MemoryFiles → List ℕ → ℕ
 read_faults_of files name = count_of files.failed_reads.items name
 
 -- how many writes of a name have failed
-abbrev pub write_faults_of : MemFiles → List ℕ → ℕ
+abbrev pub write_faults_of : MemoryFiles → List ℕ → ℕ
 write_faults_of files name = count_of files.failed_writes.items name
 
-abbrev pub state_of : MemFiles → FilesState
+abbrev pub state_of : MemoryFiles → FilesState
 state_of files = record { held = held_of files; read_faults = read_faults_of files; write_faults = write_faults_of files }
 
 -- the reads of the files so far, and those that fail
-abbrev pub reads_of : MemFiles → Calls
+abbrev pub reads_of : MemoryFiles → Calls
 reads_of files = record { made = files.reads; failing = files.bad_reads.items }
 
 -- the writes of the files so far, and those that fail
-abbrev pub writes_of : MemFiles → Calls
+abbrev pub writes_of : MemoryFiles → Calls
 writes_of files = record { made = files.writes; failing = files.bad_writes.items }
 
 -- the puts of the sink so far, and those that fail
-abbrev pub puts_of : MemSink → Calls
+abbrev pub puts_of : MemorySink → Calls
 puts_of sink = record { made = sink.puts; failing = sink.bad_puts.items }
 
 -- the bytes that the sink has taken
-abbrev pub bytes_of : MemSink → List ℕ
+abbrev pub bytes_of : MemorySink → List ℕ
 bytes_of sink = sink.bytes.items
 
 -- how many puts of the sink have failed, up to the greatest u64
-abbrev pub faults_of : MemSink → ℕ
+abbrev pub faults_of : MemorySink → ℕ
 faults_of sink = sink.faults
 
 -- how many bytes the sink takes in all
-abbrev pub room_of : MemSink → ℕ
+abbrev pub room_of : MemorySink → ℕ
 room_of sink = sink.room
 
 -- what a name holds in files that never fail, if something was placed or written there

@@ -17,8 +17,8 @@ mod real;
 mod stdout;
 mod sure;
 
-pub use mem_sink::MemSink;
-pub use memory::MemFiles;
+pub use mem_sink::MemorySink;
+pub use memory::MemoryFiles;
 pub use outside::{Files, ReadFault, Sink, SinkFailed, WriteFault};
 pub use real::{RealFiles, RealSink};
 pub use stdout::Stdout;

@@ -11,7 +11,7 @@ use std::alloc::{AllocError, Global};
 /// Takes bytes up to its room. Puts are counted from 1, and one whose number stands in the list
 /// fails.
 #[derive(Drop)]
-pub struct MemSink {
+pub struct MemorySink {
     bytes: Vec<u8>,
     room: usize,
     bad_puts: Vec<u64>,
@@ -21,12 +21,12 @@ pub struct MemSink {
     ghost within: { vec_len bytes ≤ room },
 }
 
-impl MemSink {
+impl MemorySink {
     ghost use Rattle.outside.specs.Memory.{bytes_of, faults_of, puts_of, room_of};
 
     /// Nothing taken yet. It reserves its room once, and the list has the numbers of the puts that
     /// fail.
-    pub fn new(alloc: Global, room: usize, bad_puts: Vec<u64>) -> Result<MemSink, AllocError>
+    pub fn new(alloc: Global, room: usize, bad_puts: Vec<u64>) -> Result<MemorySink, AllocError>
         ensures bytes { IfOk result (λ sink. bytes_of sink ≡ []) }
         ensures room { IfOk result (λ sink. room_of sink ≡ room) }
         ensures puts { IfOk result (λ sink. puts_of sink ≡
@@ -34,7 +34,7 @@ impl MemSink {
         ensures faults { IfOk result (λ sink. faults_of sink ≡ 0) }
     {
         let bytes = Vec::with_capacity(alloc, room)?;
-        Ok(MemSink {
+        Ok(MemorySink {
             bytes,
             room,
             bad_puts,
@@ -58,7 +58,7 @@ impl MemSink {
     }
 }
 
-impl Sink for MemSink {
+impl Sink for MemorySink {
     ghost use Rattle.outside.specs.Memory.{bytes_of, faults_of, puts_of, room_of};
     ghost use Rattle.std.specs.Prelude.{Some};
 

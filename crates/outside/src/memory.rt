@@ -14,7 +14,7 @@ use std::collections::BTreeMap;
 /// Named files in memory. Reads and writes are counted apart, from 1, and one whose number stands
 /// in its list fails. A read of a missing name fails too.
 #[derive(Drop)]
-pub struct MemFiles {
+pub struct MemoryFiles {
     alloc: Global,
     store: BTreeMap<String, Vec<u8>>,
     bad_reads: Vec<u64>,
@@ -61,17 +61,17 @@ pub(crate) fn copy_within(alloc: Global, bytes: &[u8], most: usize) -> Result<Ve
     Vec::from_slice(alloc, bytes).map_err(|_| ReadFault::Memory)
 }
 
-impl MemFiles {
+impl MemoryFiles {
     /// No files yet. The lists have the numbers of the reads and of the writes that fail. It takes
     /// no memory.
-    pub fn new(alloc: Global, bad_reads: Vec<u64>, bad_writes: Vec<u64>) -> MemFiles
+    pub fn new(alloc: Global, bad_reads: Vec<u64>, bad_writes: Vec<u64>) -> MemoryFiles
         ensures empty { (name : List ℕ) → held_of result name ≡ None }
         ensures reads { reads_of result ≡ record { made = 0; failing = bad_reads.items } }
         ensures writes { writes_of result ≡ record { made = 0; failing = bad_writes.items } }
         ensures read_counts { (name : List ℕ) → read_faults_of result name ≡ 0 }
         ensures write_counts { (name : List ℕ) → write_faults_of result name ≡ 0 }
     {
-        MemFiles {
+        MemoryFiles {
             alloc,
             store: BTreeMap::new(alloc),
             bad_reads,
@@ -111,7 +111,7 @@ impl MemFiles {
     }
 }
 
-impl Files for MemFiles {
+impl Files for MemoryFiles {
     ghost use Rattle.std.specs.Prelude.{true};
 
     ghost tells = { true };

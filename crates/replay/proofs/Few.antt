@@ -8,7 +8,7 @@ use Rattle.event_log.specs.Line.{act_text, line_of, log_of, process_name}
 use Rattle.event_log.specs.Logs.{AreFew, IsLog}
 use Rattle.syntax_tree.specs.declared.place.Place.{Place}
 use Rattle.syntax_tree.specs.Placed.{Prog as Placed, plain}
-use Rattle.syntax_tree.specs.Plain.{Monitor, Name, Process, Prog}
+use Rattle.syntax_tree.specs.Plain.{Monitor, Name, Process, Program}
 use Rattle.source_semantics.specs.Names.{processes, monitors, event_in}
 use Rattle.wellformed.specs.WellFormed.{CountsFit}
 use Rattle.built_image.specs.Named.{names_of, named_event}
@@ -17,7 +17,7 @@ use Rattle.built_valid_law.proofs.Counts.{names_of_conditions, names_of_devices}
 
 -- ---- names
 
-module _ (g : Prog) (counts : CountsFit g) (names : ImageNames) (same : names ≡ names_of g) where
+module _ (g : Program) (counts : CountsFit g) (names : ImageNames) (same : names ≡ names_of g) where
   few_of : AreFew (names_of g)
   few_of = record {
     processes = let many = length-map (processes g) (λ (p : Process). p.name) in omega (arith, many, counts.few_processes);

@@ -16,7 +16,7 @@ use Rattle.source_semantics.specs.declared.verdict.Verdict.{Verdict}
 use Rattle.source_semantics.specs.declared.verdict.Verdict.TheVariants as verdict_is
 use Rattle.source_semantics.specs.Verdicts.{Judges}
 use Rattle.command_due.specs.ReplayDue.{IsJudged, misread, is_refused, is_run, log_fault_line, refused_line, run_line}
-use Rattle.command_answers.specs.declared.act.Act.{Act}
+use Rattle.command_answers.specs.declared.act.PreparedCall.{PreparedCall}
 use Rattle.command_answers.specs.declared.status.Status.TheVariants as status
 use Rattle.command_answers.specs.Acts.{outcome_of}
 use Rattle.command_answers.specs.Acting.{puts}
@@ -24,20 +24,20 @@ use Rattle.command_answers.proofs.Coming.{put_comes_to}
 use Rattle.replay.specs.Lines.{line_of, status_of}
 
 module _ (g : Prog Place) (names : ImageNames) (same : names ≡ names_of (plain g)) (lines : List ScriptLine) (end : ℕ) (P : List ℕ → Type 0) where
-  of_verdict : (log : List ℕ) (events : List Event) (verdict : Verdict) (act : Act) → IsLog names log events → Judges (plain g) (said lines end) (start (plain g)) events verdict
+  of_verdict : (log : List ℕ) (events : List Event) (verdict : Verdict) (act : PreparedCall) → IsLog names log events → Judges (plain g) (said lines end) (start (plain g)) events verdict
       → act ≡ puts (status_of verdict) (line_of verdict (length events)) → IsJudged g lines end log (outcome_of act)
   of_verdict log events verdict_is.Run act told run is =
       is_run events (subst (λ (n : ImageNames). IsLog n log events) same told) run (put_comes_to status.Done (run_line (length events)) act is)
   of_verdict log events (verdict_is.Refused line) act told stops is =
       is_refused events line (subst (λ (n : ImageNames). IsLog n log events) same told) stops (put_comes_to status.Log (refused_line line) act is)
 
-  pub judged_run : {E : Type 0} (events : List Event) (verdict : Verdict) (made : Result Act E) → ((log : List ℕ) → P log → IsLog names log events)
+  pub judged_run : {E : Type 0} (events : List Event) (verdict : Verdict) (made : Result PreparedCall E) → ((log : List ℕ) → P log → IsLog names log events)
       → Judges (plain g) (said lines end) (start (plain g)) events verdict → IfOk made (λ act. act ≡ puts (status_of verdict) (line_of verdict (length events)))
       → IfOk made (λ act. (log : List ℕ) → P log → IsJudged g lines end log (outcome_of act))
   judged_run events verdict (Ok act) told judges is = λ log p. of_verdict log events verdict act (told log p) judges is
   judged_run events verdict (Err e) told judges is = tt
 
-  pub judged_fault : {E : Type 0} (why : LogFault) (made : Result Act E) → ((log : List ℕ) → P log → (why ≡ log_fault.Memory) ⊎ IsFault names log why)
+  pub judged_fault : {E : Type 0} (why : LogFault) (made : Result PreparedCall E) → ((log : List ℕ) → P log → (why ≡ log_fault.Memory) ⊎ IsFault names log why)
       → IfOk made (λ act. act ≡ puts status.Log (log_fault_line why)) → IfOk made (λ act. why ≢ log_fault.Memory)
       → IfOk made (λ act. (log : List ℕ) → P log → IsJudged g lines end log (outcome_of act))
   judged_fault why (Ok act) fault is other = λ log p. elim (fault log p) [

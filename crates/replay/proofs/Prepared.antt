@@ -17,24 +17,24 @@ use Rattle.command_due.specs.Source.{IsWritten, fault_line}
 use Rattle.command_due.specs.Script.{script_fault_line}
 use Rattle.command_due.specs.CommandsDue.{Outcome, bad_script}
 use Rattle.compile.specs.Written.{ReadsWritten}
-use Rattle.compile.specs.declared.written.TextFault.{TextFault}
-use Rattle.compile.specs.declared.written.TextFault.TheVariants as text_fault
+use Rattle.compile.specs.declared.read_text.ProgramTextFault.{ProgramTextFault}
+use Rattle.compile.specs.declared.read_text.ProgramTextFault.TheVariants as text_fault
 use Rattle.command_due.specs.ReplayDue.{IsJudged, IsRecordedFor, IsReplayDue, replay_faulty, replay_bad_script, replay_judged}
-use Rattle.command_answers.specs.declared.act.Act.{Act}
+use Rattle.command_answers.specs.declared.act.PreparedCall.{PreparedCall}
 use Rattle.command_answers.specs.declared.status.Status.TheVariants as status
 use Rattle.command_answers.specs.Acts.{outcome_of}
-use Rattle.command_answers.specs.declared.unready.Unready.{Unready}
-use Rattle.command_answers.specs.declared.unready.Unready.TheVariants as unready
+use Rattle.command_answers.specs.declared.prepare_error.PrepareError.{PrepareError}
+use Rattle.command_answers.specs.declared.prepare_error.PrepareError.TheVariants as unready
 use Rattle.command_answers.specs.Acting.{IsQuiet, puts}
 use Rattle.command_answers.specs.Prepared.{Failed, Prepares, ReadsFailed}
 use Rattle.command_answers.proofs.Coming.{outcome_of_puts, put_comes_to}
 use Rattle.command_answers.proofs.Held.{acted, of_held, rose_since}
 use Rattle.replay.specs.Scripted.{IsReplayed, IsScriptFor, LaterFailed, judged, misspelled}
 
-pub faulty_replay : (why : TextFault) (number : ℕ) (place : Place) → why ≡ text_fault.Text number place → (text : List ℕ) (script log : Option (List ℕ)) → ReadsWritten text (Err why)
+pub faulty_replay : (why : ProgramTextFault) (number : ℕ) (place : Place) → why ≡ text_fault.Text number place → (text : List ℕ) (script log : Option (List ℕ)) → ReadsWritten text (Err why)
     → IsReplayDue (Some text) script log (outcome_of (puts status.Text (fault_line number place)))
 faulty_replay why number place is text script log answer =
-    replay_faulty text number place refl (subst (λ (w : TextFault). ReadsWritten text (Err w)) is answer) (outcome_of_puts status.Text (fault_line number place))
+    replay_faulty text number place refl (subst (λ (w : ProgramTextFault). ReadsWritten text (Err w)) is answer) (outcome_of_puts status.Text (fault_line number place))
 
 pub stops : (tells : Bool) (held script log : Option (List ℕ)) (P : List ℕ → Type 0) (outcome : Outcome) → OnTrue tells (IsSomeAnd held P)
     → ((text : List ℕ) → P text → IsReplayDue (Some text) script log outcome) → OnTrue tells (IsReplayDue held script log outcome)
@@ -63,7 +63,7 @@ module _ (tells : Bool) (g : Prog Place) (names : ImageNames) (same : names ≡ 
   on_log true None other later lines end outcome is right due stays = absurd is
   on_log false held other later lines end outcome is right due stays = tt
 
-  pub log_due : (lines : List ScriptLine) (end : ℕ) (result : Result Act Unready) → OnTrue tells (IsSomeAnd (before.held script) P)
+  pub log_due : (lines : List ScriptLine) (end : ℕ) (result : Result PreparedCall PrepareError) → OnTrue tells (IsSomeAnd (before.held script) P)
       → ((text : List ℕ) → P text → IsScript names text lines end) → AllStay before.held mid.held
       → IfOk result (λ act. OnTrue tells (IsSomeAnd (mid.held log) (λ text. IsJudged g lines end text (outcome_of act))))
       → IfOk result (λ act. OnTrue tells (IsReplayed g (before.held script) (before.held log) (outcome_of act)))
@@ -88,7 +88,7 @@ module _ (tells : Bool) (g : Prog Place) (names : ImageNames) (same : names ≡ 
   bad true None other why outcome is wrong right_fault comes = absurd is
   bad false held other why outcome is wrong right_fault comes = tt
 
-  pub script_bad : (why : ScriptFault) (act : Act) → OnTrue tells (IsSomeAnd (before.held script) P)
+  pub script_bad : (why : ScriptFault) (act : PreparedCall) → OnTrue tells (IsSomeAnd (before.held script) P)
       → ((text : List ℕ) → P text → (why ≡ fault.Memory) ⊎ IsFault names text why) → why ≢ fault.Memory → act ≡ puts status.Script (script_fault_line why)
       → OnTrue tells (IsReplayed g (before.held script) (before.held log) (outcome_of act))
   script_bad why act is wrong right_fault made =
@@ -132,7 +132,7 @@ module _ (tells : Bool) (program script log : List ℕ) (before mid now : FilesS
         recorded tells (before.held program) (mid.held script) (before.held script) g is written failed.1 (stays script),
       ))
 
-  pub replay_prepares : (g : Prog Place) (result : Result Act Unready) → OnTrue tells (IsSomeAnd (before.held program) P) → ((text : List ℕ) → P text → IsWritten text g)
+  pub replay_prepares : (g : Prog Place) (result : Result PreparedCall PrepareError) → OnTrue tells (IsSomeAnd (before.held program) P) → ((text : List ℕ) → P text → IsWritten text g)
       → AllStay before.held mid.held → NoneFell before.read_faults mid.read_faults
       → IfOk result (λ act. OnTrue tells (IsReplayed g (mid.held script) (mid.held log) (outcome_of act))) → IfOk result IsQuiet
       → (result ≡ Err unready.Unread → LaterFailed tells g mid now script log) → Prepares tells (call.replay program script log) before now result

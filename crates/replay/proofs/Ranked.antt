@@ -4,13 +4,13 @@ use Rattle.std.proofs.Common.{inl, inr, refl, sym, ap, ◌∙◌, arith}
 use Rattle.std.proofs.lemmas.Bool.Decides.{eqb_tells}
 use Rattle.std.proofs.lemmas.List.{length-map}
 use Rattle.base.proofs.Lists.{some_at}
-use Rattle.syntax_tree.specs.Plain.{Process, Prog}
+use Rattle.syntax_tree.specs.Plain.{Process, Program}
 use Rattle.source_semantics.specs.Names.{monitors, processes}
 use Rattle.source_semantics.specs.Ranks.{rank, ceiling, includes, least_rank, min_with, monitors_of}
 use Rattle.image.specs.Raw.{image_of, monitor_of, process_of}
 use Rattle.image.specs.declared.raw.RawImage.{RawImage}
-use Rattle.image.specs.declared.raw.RawMon.{RawMon}
-use Rattle.image.specs.declared.raw.RawProc.{RawProc}
+use Rattle.image.specs.declared.raw.RawMonitor.{RawMonitor}
+use Rattle.image.specs.declared.raw.RawProcess.{RawProcess}
 use Rattle.machine_semantics.specs.Image as image
 use Rattle.valid_image.specs.Times.{rank_of, ceiling_of}
 use Rattle.code_spec.specs.Compiled.{IsCodeOf}
@@ -47,7 +47,7 @@ by_use : (used : Bool) (r n : ℕ) (o : Option ℕ) → r ≤ n → IfSome o (λ
 by_use true r n o low rest = under r n o low
 by_use false r n o low rest = rest
 
-few_ranks : (g : Prog) (m k : ℕ) (ps : List Process) → IfSome (least_rank g m k ps) (λ r. r ≤ suc (length (processes g)))
+few_ranks : (g : Program) (m k : ℕ) (ps : List Process) → IfSome (least_rank g m k ps) (λ r. r ≤ suc (length (processes g)))
 few_ranks g m k [] = tt
 few_ranks g m k (p ∷ ps) =
     by_use (includes m (monitors_of g p)) (rank g k) (suc (length (processes g))) (least_rank g m (suc k) ps) (rank_most g k) (few_ranks g m (suc k) ps)
@@ -64,7 +64,7 @@ told_back (Some r) low = ap (λ b. cond b None (Some r)) (differs r low)
 
 -- ---- the image's
 
-module _ (g : Prog) (m : image.Image) (form : IsWellFormed g) (apart : NamesApart g) (is : IsCodeOf g m) (has : HasRanks m) (ranks : RanksAreOfTheMeaning) (ceilings : CeilingsAreOfTheMeaning) where
+module _ (g : Program) (m : image.Image) (form : IsWellFormed g) (apart : NamesApart g) (is : IsCodeOf g m) (has : HasRanks m) (ranks : RanksAreOfTheMeaning) (ceilings : CeilingsAreOfTheMeaning) where
   processes_many : length m.processes ≡ length (processes g)
   processes_many = as_many_processes g m.code 0 is.between (length m.code) (processes g) m.processes is.process_code
 
@@ -97,15 +97,15 @@ module _ (g : Prog) (m : image.Image) (form : IsWellFormed g) (apart : NamesApar
 
 -- ---- the raw image's
 
-ranks_seen : (ps : List RawProc) → map (λ (p : image.Process). p.rank) (map process_of ps) ≡ map (λ (p : RawProc). p.rank) ps
+ranks_seen : (ps : List RawProcess) → map (λ (p : image.Process). p.rank) (map process_of ps) ≡ map (λ (p : RawProcess). p.rank) ps
 ranks_seen [] = refl
 ranks_seen (p ∷ ps) = ap (λ (xs : List ℕ). p.rank ∷ xs) (ranks_seen ps)
 
-ceilings_seen : (ms : List RawMon) → map (λ (x : image.Monitor). ceiling_told x.ceiling) (map monitor_of ms) ≡ map (λ (x : RawMon). ceiling_told x.ceiling) ms
+ceilings_seen : (ms : List RawMonitor) → map (λ (x : image.Monitor). ceiling_told x.ceiling) (map monitor_of ms) ≡ map (λ (x : RawMonitor). ceiling_told x.ceiling) ms
 ceilings_seen [] = refl
 ceilings_seen (x ∷ ms) = ap (λ (xs : List (Option ℕ)). ceiling_told x.ceiling ∷ xs) (ceilings_seen ms)
 
-pub ranks_of_image : RanksAreOfTheMeaning → CeilingsAreOfTheMeaning → (g : Prog) (raw : RawImage) → IsWellFormed g → NamesApart g → IsCodeOf g (image_of raw) → HasRanks (image_of raw)
-    → (r : Ranks) → r.ranks.items ≡ map (λ (p : RawProc). p.rank) raw.processes → r.ceilings.items ≡ map (λ (x : RawMon). ceiling_told x.ceiling) raw.monitors → AreRanksOf g r
+pub ranks_of_image : RanksAreOfTheMeaning → CeilingsAreOfTheMeaning → (g : Program) (raw : RawImage) → IsWellFormed g → NamesApart g → IsCodeOf g (image_of raw) → HasRanks (image_of raw)
+    → (r : Ranks) → r.ranks.items ≡ map (λ (p : RawProcess). p.rank) raw.processes → r.ceilings.items ≡ map (λ (x : RawMonitor). ceiling_told x.ceiling) raw.monitors → AreRanksOf g r
 ranks_of_image ranks ceilings g raw form apart is has r one two =
     are_ranks g (image_of raw) form apart is has ranks ceilings r (one ∙ sym (ranks_seen raw.processes)) (two ∙ sym (ceilings_seen raw.monitors))

@@ -5,9 +5,9 @@ use Rattle.std.specs.List.{position_from}
 use Rattle.std.specs.Borrow.{Bor}
 use Rattle.syntax_tree.specs.Plain.{Member, variable_member, condition_member, Monitor, Process}
 use Rattle.syntax_tree.specs.Placed.{placed_process, plain_process}
-use Rattle.syntax_tree.specs.declared.decl.Proc as code_process
+use Rattle.syntax_tree.specs.declared.decl.Process as code_process
 
-abbrev pub seen_processes : List (Bor code_process.Proc) → List Process
+abbrev pub seen_processes : List (Bor code_process.Process) → List Process
 seen_processes ps = map (λ p. plain_process (placed_process p.now)) ps
 
 -- an empty queue for each condition among the members of a monitor

@@ -6,14 +6,14 @@ ghost use Rattle.source_semantics.specs.Config.{start as at_start};
 ghost use Rattle.replay_state.specs.View.{config_of};
 ghost use Rattle.replay_state.specs.Texts.{IsText};
 
-use crate::holds::free_holds;
+use crate::free_monitors::free_holds;
 use crate::jobs::idle_jobs;
 use crate::queues::empty_queues;
-use replay_state::{Config, Text};
+use replay_state::{Config, ProgramContext};
 use std::alloc::{AllocError, Global};
 
 /// The configuration of a program before its first event.
-pub fn first_config<'a>(alloc: Global, text: &Text<'a>) -> Result<Config<'a>, AllocError>
+pub fn first_config<'a>(alloc: Global, text: &ProgramContext<'a>) -> Result<Config<'a>, AllocError>
     requires { IsText text.now }
     ensures { IfOk result (λ config. config_of config ≡
         at_start (plain (placed text.now.declarations.now))) }

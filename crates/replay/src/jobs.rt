@@ -7,25 +7,25 @@ ghost use Rattle.replay_state.specs.View.{job_of, jobs_of};
 ghost use Rattle.replay.specs.Parts.{seen_processes};
 
 use replay_calls::add_fresh;
-use replay_state::{Doing, Job};
+use replay_state::{Activity, ProcessState};
 use static_declarations::Declarations;
 use std::alloc::{AllocError, Global};
-use syntax_tree::Proc;
+use syntax_tree::Process;
 
 /// An idle process, its variables being 0 or false.
 fn idle_job<'a>(
     alloc: Global,
     declarations: &Declarations<'_>,
-    process: &'a Proc,
-) -> Result<Job<'a>, AllocError>
+    process: &'a Process,
+) -> Result<ProcessState<'a>, AllocError>
     ensures { IfOk result (λ job. job_of job ≡ job_at_start (plain (placed declarations.now))
         (plain_process (placed_process process.now))) }
 {
     let mut vars = Vec::new(alloc);
     add_fresh(alloc, declarations, &mut vars, process.vars.as_slice())?;
-    Ok(Job {
+    Ok(ProcessState {
         vars,
-        doing: Doing::Idle,
+        doing: Activity::Idle,
         calls: Vec::new(alloc),
         handling: false,
     })
@@ -35,8 +35,8 @@ fn idle_job<'a>(
 pub fn idle_jobs<'a>(
     alloc: Global,
     declarations: &Declarations<'_>,
-    processes: &[&'a Proc],
-) -> Result<Vec<Job<'a>>, AllocError>
+    processes: &[&'a Process],
+) -> Result<Vec<ProcessState<'a>>, AllocError>
     ensures { IfOk result (λ jobs. jobs_of jobs.items ≡
         map (job_at_start (plain (placed declarations.now))) (seen_processes processes.now)) }
 {

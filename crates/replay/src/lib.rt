@@ -1,7 +1,7 @@
 //! The verdict on a log, and what is due of the command.
 //!
 //! `start` makes of a program what its events are judged by, and the configuration before the first
-//! event. `judge` of `replay_judging` judges the events in turn: the verdict of the meaning
+//! event. `judge` of `judge_events` judges the events in turn: the verdict of the meaning
 //! (`Judges` of `specs/Verdicts.antt` in `source_semantics`). Time is not asked.
 //!
 //! `prepare_replay` reads and judges the program first, the script where the program has no fault,
@@ -9,27 +9,27 @@
 #![tactic(auto)]
 
 mod configuration;
-mod holds;
+pub mod frames_pass_law;
+mod free_monitors;
 mod jobs;
+mod judge_events;
+mod judge_log;
 mod logs;
-pub mod meaning_laws;
 mod names;
 mod nesting;
 mod order;
-mod prepare_replay_judging;
 mod preparing;
 mod processes;
 mod queues;
 mod ranks;
-mod replay_judging;
 mod replaying;
 mod sources;
 mod starting;
 mod tables;
 mod timings;
 
+pub use judge_events::judge;
 pub use preparing::prepare_replay;
 pub use ranks::ranks_of;
-pub use replay_judging::judge;
 pub use replaying::replay;
 pub use starting::start;

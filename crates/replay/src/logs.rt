@@ -41,6 +41,6 @@ pub fn judge_log(
 {
     match content {
         Content::Bytes(text) => read_events(alloc, text.as_slice(), names),
-        Content::Long => Err(LogFault::Long),
+        Content::TooLong => Err(LogFault::Long),
     }
 }

@@ -3,7 +3,7 @@
 //! Calls are judged by calls of our own, one for each level, so a program that could come to more
 //! of them than the stack has room for is refused as one for which memory is wanting.
 
-use syntax_tree::{Decl, Expr, Handler, Op, Proc, Prog, Ref, Routine, Stmt};
+use syntax_tree::{Declaration, Expr, Handler, Op, Process, Program, Ref, Routine, Stmt};
 
 /// The levels of an expression.
 #[cycle(expr)]
@@ -111,24 +111,24 @@ fn of_handler(handler: &Option<Handler>) -> u64 {
 }
 
 /// The levels of a process: those of its routines, its body and its handler.
-fn of_process(process: &Proc) -> u64 {
+fn of_process(process: &Process) -> u64 {
     of_routines(process.routines.as_slice())
         .saturating_add(of_stmts(process.body.as_slice()))
         .saturating_add(of_handler(&process.handler))
 }
 
-fn of_decl(decl: &Decl) -> u64 {
+fn of_decl(decl: &Declaration) -> u64 {
     match decl {
-        Decl::Const { .. } | Decl::Device { .. } | Decl::Event { .. } => 0,
-        Decl::Routine(routine) => of_routine(routine),
-        Decl::Mon(monitor) => of_routines(monitor.entries.as_slice()),
-        Decl::Proc(process) => of_process(process),
+        Declaration::Const { .. } | Declaration::Device { .. } | Declaration::Event { .. } => 0,
+        Declaration::Routine(routine) => of_routine(routine),
+        Declaration::Monitor(monitor) => of_routines(monitor.entries.as_slice()),
+        Declaration::Process(process) => of_process(process),
     }
 }
 
 /// The levels of statements and expressions of all texts of a program together: no chain of calls
 /// stands on more, since no routine reaches itself.
-pub fn levels(program: &Prog) -> u64 {
+pub fn levels(program: &Program) -> u64 {
     let mut all: u64 = 0;
     for decl in program.decls.as_slice() {
         all = all.saturating_add(of_decl(decl));

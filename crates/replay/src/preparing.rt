@@ -12,10 +12,11 @@ ghost use Rattle.command_due.specs.ReplayDue.{IsJudged};
 ghost use Rattle.syntax_tree.specs.Placed.{placed};
 ghost use Rattle.command_words.specs.Calls as call;
 
-use crate::prepare_replay_judging::log_act;
+use crate::judge_log::log_act;
 use crate::sources::{Source, read_source, refuse_source};
 use command_answers::{
-    Act, LONGEST_LOG, LONGEST_PROGRAM, LONGEST_SCRIPT, Unready, judge_script, read, refuse_script,
+    LONGEST_LOG, LONGEST_PROGRAM, LONGEST_SCRIPT, PrepareError, PreparedCall, judge_script, read,
+    refuse_script,
 };
 use outside::Files;
 use script::Script;
@@ -28,7 +29,7 @@ fn log_on<'a, F: Files>(
     script: &Script,
     log: &str,
     files: &mut F,
-) -> Result<Act<'a>, Unready>
+) -> Result<PreparedCall<'a>, PrepareError>
     requires source { IsSource source.now }
     requires end { script.now.end < 2 ^ 61 }
     ensures due { IfOk result (λ act. OnTrue F.tells
@@ -46,7 +47,7 @@ fn log_on<'a, F: Files>(
     let content = read(files, log, LONGEST_LOG)?;
     match log_act(alloc, source, script, &content) {
         Ok(act) => Ok(act),
-        Err(_) => Err(Unready::Memory),
+        Err(_) => Err(PrepareError::Memory),
     }
 }
 
@@ -57,7 +58,7 @@ fn script_on<'a, F: Files>(
     script: &str,
     log: &str,
     files: &mut F,
-) -> Result<Act<'a>, Unready>
+) -> Result<PreparedCall<'a>, PrepareError>
     requires { IsSource source.now }
     ensures due { IfOk result (λ act. OnTrue F.tells (IsReplayed (placed source.now.program)
         ((F.state files.old).held script.now) ((F.state files.old).held log.now)
@@ -75,7 +76,7 @@ fn script_on<'a, F: Files>(
         Ok(lines) => log_on(alloc, source, &lines, log, files),
         Err(fault) => match refuse_script(alloc, &fault) {
             Ok(act) => Ok(act),
-            Err(_) => Err(Unready::Memory),
+            Err(_) => Err(PrepareError::Memory),
         },
     }
 }
@@ -88,7 +89,7 @@ pub fn prepare_replay<'a, F: Files>(
     script: &str,
     log: &str,
     files: &mut F,
-) -> Result<Act<'a>, Unready>
+) -> Result<PreparedCall<'a>, PrepareError>
     ensures prepared { Prepares F.tells (call.replay program.now script.now log.now)
         (F.state files.old) (F.state files.new) result }
     ensures files { AllStay (F.state files.old).held (F.state files.new).held }
@@ -101,7 +102,7 @@ pub fn prepare_replay<'a, F: Files>(
         Ok(source) => script_on(alloc, &source, script, log, files),
         Err(fault) => match refuse_source(alloc, fault) {
             Ok(act) => Ok(act),
-            Err(_) => Err(Unready::Memory),
+            Err(_) => Err(PrepareError::Memory),
         },
     }
 }

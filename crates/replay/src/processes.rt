@@ -1,28 +1,31 @@
 //! The processes of a program.
 
 ghost use Rattle.std.specs.Prelude.{◌≡◌, ◌++◌, ◌∷◌, IfOk, List, OnOk, filter_map, map};
-ghost use Rattle.syntax_tree.specs.Plain.{Decl as SpecDecl};
+ghost use Rattle.syntax_tree.specs.Plain.{Declaration as SpecDecl};
 ghost use Rattle.syntax_tree.specs.Placed.{placed_decl, plain_decl};
 ghost use Rattle.source_semantics.specs.Names.{process_in};
 ghost use Rattle.replay.specs.Parts.{seen_processes};
 
 use std::alloc::{AllocError, Global};
-use syntax_tree::{Decl, Proc};
+use syntax_tree::{Declaration, Process};
 
 /// Lists the process that a declaration declares, if it does.
-fn list_process<'a>(list: &mut Vec<&'a Proc>, decl: &'a Decl) -> Result<(), AllocError>
+fn list_process<'a>(list: &mut Vec<&'a Process>, decl: &'a Declaration) -> Result<(), AllocError>
     ensures { OnOk result ((rest : List SpecDecl) → seen_processes list.new.items ++
         filter_map process_in rest ≡ seen_processes list.old.items ++
         filter_map process_in (plain_decl (placed_decl decl.now) ∷ rest)) }
 {
-    if let Decl::Proc(process) = decl {
+    if let Declaration::Process(process) = decl {
         list.push(process)?;
     }
     Ok(())
 }
 
 /// The processes that these declarations declare, in the order of the text.
-pub fn process_list<'a>(alloc: Global, decls: &'a [Decl]) -> Result<Vec<&'a Proc>, AllocError>
+pub fn process_list<'a>(
+    alloc: Global,
+    decls: &'a [Declaration],
+) -> Result<Vec<&'a Process>, AllocError>
     ensures { IfOk result (λ list. seen_processes list.items ≡
         filter_map process_in (map plain_decl (map placed_decl decls.now))) }
 {

@@ -1,14 +1,14 @@
 //! Queues before anybody waits.
 
 ghost use Rattle.std.specs.Prelude.{◌≡◌, ◌++◌, ◌∷◌, IfOk, List, OnOk, filter_map, map};
-ghost use Rattle.syntax_tree.specs.Plain.{Decl as SpecDecl, Member as SpecMember};
+ghost use Rattle.syntax_tree.specs.Plain.{Declaration as SpecDecl, Member as SpecMember};
 ghost use Rattle.syntax_tree.specs.Placed.{placed_decl, placed_member, plain_decl, plain_member};
 ghost use Rattle.source_semantics.specs.Names.{monitor_in};
 ghost use Rattle.replay_state.specs.Queues.{queues_of};
 ghost use Rattle.replay.specs.Parts.{member_queues, monitor_queues};
 
 use std::alloc::{AllocError, Global};
-use syntax_tree::{Decl, Member};
+use syntax_tree::{Declaration, Member};
 
 /// Adds the queue of the condition that the member is, if it is one.
 fn add_queue(alloc: Global, queues: &mut Vec<Vec<usize>>, member: &Member) -> Result<(), AllocError>
@@ -38,19 +38,23 @@ fn add_queues(
 }
 
 /// Adds the queues of the monitor that a declaration declares, if it does.
-fn add_monitor(alloc: Global, queues: &mut Vec<Vec<usize>>, decl: &Decl) -> Result<(), AllocError>
+fn add_monitor(
+    alloc: Global,
+    queues: &mut Vec<Vec<usize>>,
+    decl: &Declaration,
+) -> Result<(), AllocError>
     ensures { OnOk result ((rest : List SpecDecl) → queues_of queues.new.items ++
         monitor_queues (filter_map monitor_in rest) ≡ queues_of queues.old.items ++
         monitor_queues (filter_map monitor_in (plain_decl (placed_decl decl.now) ∷ rest))) }
 {
-    if let Decl::Mon(monitor) = decl {
+    if let Declaration::Monitor(monitor) = decl {
         add_queues(alloc, queues, monitor.members.as_slice())?;
     }
     Ok(())
 }
 
 /// A queue for each condition of the monitors that these declarations declare, all of them empty.
-pub fn empty_queues(alloc: Global, decls: &[Decl]) -> Result<Vec<Vec<usize>>, AllocError>
+pub fn empty_queues(alloc: Global, decls: &[Declaration]) -> Result<Vec<Vec<usize>>, AllocError>
     ensures { IfOk result (λ queues. queues_of queues.items ≡
         monitor_queues (filter_map monitor_in (map plain_decl (map placed_decl decls.now)))) }
 {

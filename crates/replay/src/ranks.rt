@@ -3,7 +3,7 @@
 //! Ranks are by deadlines (Leung and Whitehead), a ceiling is the least rank of the processes that
 //! reach an entry of the monitor. `ranks_of` promises those of the source meaning
 //! (`AreRanksOf` of `replay_state::ranks`). They are read off the image of the program before its bounds,
-//! whose ranks and ceilings are those of the meaning (`codegen_ranks::made_ranks`).
+//! whose ranks and ceilings are those of the meaning (`codegen_ranks::ranks_and_ceilings`).
 //!
 //! Ranks and ceilings.
 
@@ -13,17 +13,17 @@ ghost use Rattle.command_due.specs.Source.{IsWritten};
 ghost use Rattle.replay.specs.Told.{ceiling_told};
 ghost use Rattle.syntax_tree.specs.Placed.{placed, plain};
 
-use checked_law::checked::checked_programs_are_ready;
-use checked_law::small::generated_code_is_code;
-use codegen_ranks::made_ranks::{ceilings_are_of_the_meaning, ranks_are_of_the_meaning};
+use checked_law::generated_within_limits::generated_code_is_code;
+use checked_law::premises_of_laws::checked_programs_are_ready;
+use codegen_ranks::ranks_and_ceilings::{ceilings_are_of_the_meaning, ranks_are_of_the_meaning};
 use compile::ranked;
-use image::{RawMon, RawProc};
+use image::{RawMonitor, RawProcess};
 use replay_state::Ranks;
 use static_semantics::Checked;
 use std::alloc::{AllocError, Global};
 
 /// The ranks of the processes of an image.
-fn rank_numbers(alloc: Global, processes: &[RawProc]) -> Result<Vec<u64>, AllocError>
+fn rank_numbers(alloc: Global, processes: &[RawProcess]) -> Result<Vec<u64>, AllocError>
     ensures { IfOk result (λ ranks. ranks.items ≡ map (λ p. p.rank) processes.now) }
 {
     let mut ranks = Vec::new(alloc);
@@ -45,7 +45,7 @@ fn ceiling(number: u16) -> Option<u64>
 }
 
 /// The ceilings of the monitors of an image.
-fn ceiling_numbers(alloc: Global, monitors: &[RawMon]) -> Result<Vec<Option<u64>>, AllocError>
+fn ceiling_numbers(alloc: Global, monitors: &[RawMonitor]) -> Result<Vec<Option<u64>>, AllocError>
     ensures { IfOk result (λ ceilings. ceilings.items ≡
         map (λ m. ceiling_told m.ceiling) monitors.now) }
 {

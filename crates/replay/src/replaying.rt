@@ -9,11 +9,11 @@ ghost use Rattle.source_semantics.specs.Config.{start as start_of};
 ghost use Rattle.syntax_tree.specs.Placed.{placed, plain};
 ghost use Rattle.source_semantics.specs.Verdicts.{Judges};
 
-use crate::meaning_laws::frames_pass;
+use crate::frames_pass_law::frames_pass;
 use crate::nesting::levels;
 use crate::{judge, ranks_of, start};
 use base::Event;
-use checked_law::checked::checked_programs_are_ready;
+use checked_law::premises_of_laws::checked_programs_are_ready;
 use replay_state::Ranks;
 use script::Script;
 use source_semantics::Verdict;

@@ -12,8 +12,8 @@ ghost use Rattle.command_due.specs.ReplayDue.{IsReplayDue};
 ghost use Rattle.syntax_tree.specs.Placed.{placed};
 
 use crate::names::program_names;
-use command_answers::{Act, Content, put_fault};
-use compile::{TextFault, read_written};
+use command_answers::{Content, PreparedCall, put_fault};
+use compile::{ProgramTextFault, read_written};
 use image::ImageNames;
 use static_rule::rule;
 use static_semantics::Checked;
@@ -32,7 +32,7 @@ pub struct Source {
 }
 
 /// The program of a text, with the text.
-fn read_text(alloc: Global, text: Vec<u8>) -> Result<Source, TextFault>
+fn read_text(alloc: Global, text: Vec<u8>) -> Result<Source, ProgramTextFault>
     ensures source { IfOk result IsSource }
     ensures text { IfOk result (λ source. source.text.items ≡ text.items) }
     ensures fault { IfErr result (λ why. ReadsWritten text.items (Err why)) }
@@ -44,7 +44,7 @@ fn read_text(alloc: Global, text: Vec<u8>) -> Result<Source, TextFault>
                 program,
                 names,
             }),
-            Err(_) => Err(TextFault::Memory),
+            Err(_) => Err(ProgramTextFault::Memory),
         },
         Err(fault) => Err(fault),
     }
@@ -55,7 +55,7 @@ fn read_text(alloc: Global, text: Vec<u8>) -> Result<Source, TextFault>
 /// # Errors
 ///
 /// As those of `read_written`; the fault of a text that is too long is 4, at its first byte.
-pub fn read_source(alloc: Global, content: Content) -> Result<Source, TextFault>
+pub fn read_source(alloc: Global, content: Content) -> Result<Source, ProgramTextFault>
     ensures source { IfOk result IsSource }
     ensures written { IfOk result (λ source. (text : List ℕ) →
         IsContent longest_text content text → IsWritten text (placed source.program)) }
@@ -64,7 +64,7 @@ pub fn read_source(alloc: Global, content: Content) -> Result<Source, TextFault>
 {
     match content {
         Content::Bytes(text) => read_text(alloc, text),
-        Content::Long => Err(TextFault::Text {
+        Content::TooLong => Err(ProgramTextFault::Text {
             number: rule::LONG_TEXT,
             place: START,
         }),
@@ -73,13 +73,16 @@ pub fn read_source(alloc: Global, content: Content) -> Result<Source, TextFault>
 
 /// The act for a text that is no program text, or whose program is too large: it puts the line of
 /// its fault.
-pub fn refuse_source<'a>(alloc: Global, fault: TextFault) -> Result<Act<'a>, AllocError>
+pub fn refuse_source<'a>(
+    alloc: Global,
+    fault: ProgramTextFault,
+) -> Result<PreparedCall<'a>, AllocError>
     ensures due { IfOk result (λ act. (text : List ℕ) (script log : Option (List ℕ)) →
         ReadsWritten text (Err fault) → IsReplayDue (Some text) script log (outcome_of act)) }
     ensures quiet { IfOk result IsQuiet }
 {
     match fault {
-        TextFault::Text { number, place } => put_fault(alloc, number, place),
-        TextFault::Memory => Err(AllocError),
+        ProgramTextFault::Text { number, place } => put_fault(alloc, number, place),
+        ProgramTextFault::Memory => Err(AllocError),
     }
 }

@@ -14,18 +14,21 @@ use crate::timings::process_timings;
 use replay_accept::Rules;
 use replay_due_events::Timetable;
 use replay_next::routine_count;
-use replay_state::{Ranks, Text};
+use replay_state::{ProgramContext, Ranks};
 use static_declarations::Declarations;
 use std::alloc::{AllocError, Global};
 
 /// The text of a program.
-fn text_of<'a>(alloc: Global, declarations: &'a Declarations<'a>) -> Result<Text<'a>, AllocError>
+fn text_of<'a>(
+    alloc: Global,
+    declarations: &'a Declarations<'a>,
+) -> Result<ProgramContext<'a>, AllocError>
     ensures text { IfOk result IsText }
     ensures program { IfOk result (λ t. plain (placed t.declarations.now) ≡
         plain (placed declarations.now)) }
 {
     let processes = process_list(alloc, declarations.program().decls.as_slice())?;
-    Ok(Text {
+    Ok(ProgramContext {
         declarations,
         processes,
         alloc,
@@ -33,7 +36,11 @@ fn text_of<'a>(alloc: Global, declarations: &'a Declarations<'a>) -> Result<Text
 }
 
 /// What the start events of a program go by.
-fn timetable_of(alloc: Global, text: &Text<'_>, ranks: &Ranks) -> Result<Timetable, AllocError>
+fn timetable_of(
+    alloc: Global,
+    text: &ProgramContext<'_>,
+    ranks: &Ranks,
+) -> Result<Timetable, AllocError>
     requires text { IsText text.now }
     requires ranks { AreRanksOf (plain (placed text.now.declarations.now)) ranks.now }
     ensures { IfOk result (IsTimetableOf (plain (placed text.now.declarations.now))) }

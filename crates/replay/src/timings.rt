@@ -12,16 +12,16 @@ use replay_state::count;
 use replay_values::equal;
 use static_declarations::Declarations;
 use std::alloc::{AllocError, Global};
-use syntax_tree::{Activation, Constant, Decl, Name, Proc};
+use syntax_tree::{Constant, Declaration, Name, Process, Trigger};
 
 /// The number of the event of that name.
-fn event_number(name: &Name, decls: &[Decl]) -> usize
+fn event_number(name: &Name, decls: &[Declaration]) -> usize
     ensures { result ≡ place_of name.now
         (filter_map event_in (map plain_decl (map placed_decl decls.now))) }
 {
     let mut number = 0;
     for decl in decls {
-        if let Decl::Event { name: own, .. } = decl {
+        if let Declaration::Event { name: own, .. } = decl {
             if equal(own, name) {
                 return number;
             }
@@ -43,16 +43,16 @@ fn first_release(declarations: &Declarations<'_>, told: &Option<Constant>) -> u3
 }
 
 /// How an activation is released.
-fn activation_timing(declarations: &Declarations<'_>, activation: &Activation) -> Timing
+fn activation_timing(declarations: &Declarations<'_>, activation: &Trigger) -> Timing
     ensures { result ≡ timing_of (plain (placed declarations.now))
         (plain_activation (placed_activation activation.now)) }
 {
     match activation {
-        Activation::Periodic { frame, first, .. } => Timing::Periodic {
+        Trigger::Periodic { frame, first, .. } => Timing::Periodic {
             frame: count(declarations, frame),
             first: first_release(declarations, first),
         },
-        Activation::AtEvent { event, .. } => Timing::AtEvent {
+        Trigger::AtEvent { event, .. } => Timing::AtEvent {
             event: event_number(event, declarations.program().decls.as_slice()),
         },
     }
@@ -62,7 +62,7 @@ fn activation_timing(declarations: &Declarations<'_>, activation: &Activation) -
 pub fn process_timings(
     alloc: Global,
     declarations: &Declarations<'_>,
-    processes: &[&Proc],
+    processes: &[&Process],
 ) -> Result<Vec<Timing>, AllocError>
     ensures { IfOk result (λ list. list.items ≡
         map (λ p. timing_of (plain (placed declarations.now)) p.activation)

@@ -4,7 +4,7 @@ use Rattle.std.proofs.Common.{refl, sym, ◌∙◌, ap, inl, inr, subst, arith}
 use Rattle.base.specs.declared.event.Event.{Event}
 use Rattle.base.specs.declared.event.Act.{Act}
 use Rattle.base.specs.declared.event.Act.TheVariants as act
-use Rattle.syntax_tree.specs.Plain.{Process, Prog}
+use Rattle.syntax_tree.specs.Plain.{Process, Program}
 use Rattle.source_semantics.specs.Names.{processes}
 use Rattle.source_semantics.specs.Config.{Config, Hold, Job, at_tick, changed, inside, job_doing, leave, queue, released_of, vacate, waiting, wake_all, with_holds, with_jobs, with_queues, woken}
 use Rattle.source_semantics.specs.Next.{Next}
@@ -58,14 +58,14 @@ like_left c k = by_case (inside c k)
     by_case None = like_itself c
     by_case (Some m) = like_holds c _ (changed_length _ m c.holds)
 
-like_on_job : (f : Process → Job → Job) (g : Prog) (k : ℕ) (c : Config) → IsLike c (on_job f g k c)
+like_on_job : (f : Process → Job → Job) (g : Program) (k : ℕ) (c : Config) → IsLike c (on_job f g k c)
 like_on_job f g k c = by_case (slice_get (processes g) k)
   where
     by_case : (o : Option Process) → IsLike c (on_text f o k c)
     by_case None = like_itself c
     by_case (Some p) = like_changed (f p) k c
 
-like_raised : (g : Prog) (k n : ℕ) (c : Config) → IsLike c (after_raise g k n c)
+like_raised : (g : Program) (k n : ℕ) (c : Config) → IsLike c (after_raise g k n c)
 like_raised g k n c = like_then c (leave c k) (after_raise g k n c) (like_left c k) (like_on_job (λ p j. job_after_raise g n p.handler j) g k (leave c k))
 
 like_saved : (c : Config) (k : ℕ) (n : Next) → IsLike c (saved c k n)
@@ -99,7 +99,7 @@ leave_queues c k = by_case (inside c k)
     by_case None = refl
     by_case (Some m) = refl
 
-like_effect : (g : Prog) (s : Script) (t k : ℕ) (a : Action) (c : Config) → IsLike c (effect g s t k a c).config
+like_effect : (g : Program) (s : Script) (t k : ℕ) (a : Action) (c : Config) → IsLike c (effect g s t k a c).config
 like_effect g s t k (gets d) c = like_changed _ k c
 like_effect g s t k (puts d v) c = like_itself c
 like_effect g s t k (enters m) c = like_holds c _ (changed_length _ m c.holds)
@@ -114,7 +114,7 @@ like_effect g s t k (asks_empty x) c = like_changed _ k c
 like_effect g s t k (raises n) c = like_raised g k n c
 like_effect g s t k ends c = like_changed _ k c
 
-like_started : (g : Prog) (t k : ℕ) (a : Act) (c : Config) → IsLike c (start_effect g t k a c)
+like_started : (g : Program) (t k : ℕ) (a : Act) (c : Config) → IsLike c (start_effect g t k a c)
 like_started g t k act.Release c = like_on_job (λ p j. released t p j) g k c
 like_started g t k (act.TimeOut x n) c =
     like_then c (with_queues c (changed (without k) x c.queues)) (start_effect g t k (act.TimeOut x n) c) (like_queues c _ (changed_length _ x c.queues)) (like_raised g k n (with_queues c (changed (without k) x c.queues)))
@@ -129,26 +129,26 @@ like_started g t k (act.Empty x b) c = like_itself c
 like_started g t k (act.Raise n) c = like_itself c
 like_started g t k act.End c = like_itself c
 
-like_acted : (g : Prog) (s : Script) (c : Config) (t k : ℕ) (n : Next) → IsLike (at_tick c t true) (acts g s c t k n).config
+like_acted : (g : Program) (s : Script) (c : Config) (t k : ℕ) (n : Next) → IsLike (at_tick c t true) (acts g s c t k n).config
 like_acted g s c t k n =
     like_then (at_tick c t true) (saved (at_tick c t true) k n) (acts g s c t k n).config (like_saved (at_tick c t true) k n)
     (like_effect g s t k n.action (saved (at_tick c t true) k n))
 
 -- a configuration of the program once more, at this tick
-pub record FitsAt (g : Prog) (t : ℕ) (c : Config) : Type 0 where
+pub record FitsAt (g : Program) (t : ℕ) (c : Config) : Type 0 where
   pub fits : Fits g c
   pub tick : c.tick ≡ t
 
-fits_like : (g : Prog) (b c : Config) → Fits g b → IsLike b c → FitsAt g b.tick c
+fits_like : (g : Program) (b c : Config) → Fits g b → IsLike b c → FitsAt g b.tick c
 fits_like g b c f p = record {
   fits = record { jobs = p.jobs ∙ f.jobs; holds = p.holds ∙ f.holds; queues = p.queues ∙ f.queues };
   tick = p.tick;
 }
 
-fits_at : (g : Prog) (c : Config) (t : ℕ) (b : Bool) → Fits g c → Fits g (at_tick c t b)
+fits_at : (g : Program) (c : Config) (t : ℕ) (b : Bool) → Fits g c → Fits g (at_tick c t b)
 fits_at g c t b f = record { jobs = f.jobs; holds = f.holds; queues = f.queues }
 
-pub step_fits : (g : Prog) (s : Script) (c : Config) (e : Event) (new : Config) → Step g s c e new → Fits g c → FitsAt g e.tick new
+pub step_fits : (g : Program) (s : Script) (c : Config) (e : Event) (new : Config) → Step g s c e new → Fits g c → FitsAt g e.tick new
 step_fits g s c e new step f = elim step.comes [
   | inl starts ↦ subst (FitsAt g e.tick) (sym starts.after) (fits_like g (at_tick c e.tick false) (after_start g c e) (fits_at g c e.tick false f) (like_started g e.tick e.proc e.act (at_tick c e.tick false)))
   | inr does ↦
@@ -158,18 +158,18 @@ step_fits g s c e new step f = elim step.comes [
 ]
 
 -- what is kept from event to event
-pub record Goes (g : Prog) (c : Config) : Type 0 where
+pub record Goes (g : Program) (c : Config) : Type 0 where
   pub fits : Fits g c
   pub tick : c.tick < 2 ^ 61
 
-pub goes_on : (g : Prog) (s : Script) (c : Config) (e : Event) (b : Bool) (new : Config) → Accepts g s c e b new → Goes g c → s.end_tick < 2 ^ 61 → Goes g new
+pub goes_on : (g : Program) (s : Script) (c : Config) (e : Event) (b : Bool) (new : Config) → Accepts g s c e b new → Goes g c → s.end_tick < 2 ^ 61 → Goes g new
 goes_on g s c e true new step k end =
     let at : FitsAt g e.tick new = step_fits g s c e new step k.fits in
     record { fits = at.fits; tick = omega (arith, at.tick, step.before_end, end) }
 goes_on g s c e false new w k end = subst (Goes g) (sym w.1) k
 
 -- also where memory was wanting
-pub goes_with : {E : Type 0} (g : Prog) (s : Script) (c : Config) (e : Event) (r : Result Bool E) (new : Config) → IfOk r (λ b. Accepts g s c e b new) → OnErr r (new ≡ c) → Goes g c → s.end_tick < 2 ^ 61
+pub goes_with : {E : Type 0} (g : Program) (s : Script) (c : Config) (e : Event) (r : Result Bool E) (new : Config) → IfOk r (λ b. Accepts g s c e b new) → OnErr r (new ≡ c) → Goes g c → s.end_tick < 2 ^ 61
     → Goes g new
 goes_with g s c e (Ok b) new accepts same k end = goes_on g s c e b new accepts k end
 goes_with g s c e (Err x) new accepts same k end = subst (Goes g) (sym same) k

@@ -5,7 +5,7 @@ use Rattle.std.proofs.lemmas.Option.{slice_get_within}
 use Rattle.std.proofs.lemmas.Bool.Decides.{Decides-and, Decides-at, Decides-eqb, Decides-like}
 use Rattle.base.specs.declared.event.Event.{Event}
 use Rattle.base.specs.declared.event.Act.{Act}
-use Rattle.syntax_tree.specs.Plain.{Prog}
+use Rattle.syntax_tree.specs.Plain.{Program}
 use Rattle.source_semantics.specs.Config.{Config}
 use Rattle.source_semantics.specs.Source.{MayStart, Starts, Step, after_start, before, is_empty, ready_from}
 use Rattle.source_semantics.specs.Starts.{NoneMissing, Script, due}
@@ -46,14 +46,14 @@ empty_is [] = (λ h. refl, λ h. refl)
 empty_is (k ∷ ks) = (λ h. absurd cc, λ h. absurd cc)
 
 -- a process is the one that is to act
-pub to_act : (g : Prog) (c : Config) (e : Event) (r : Bool) → c.acted && nat_eq c.tick e.tick ≡ false → IsReady c e.proc → r ≡ is_empty (before g c e.proc (ready_from 0 c.jobs))
+pub to_act : (g : Program) (c : Config) (e : Event) (r : Bool) → c.acted && nat_eq c.tick e.tick ≡ false → IsReady c e.proc → r ≡ is_empty (before g c e.proc (ready_from 0 c.jobs))
     → IsTrue r ↔ IsToAct g c e
 to_act g c e r nobody ready is = (
   λ h. record { nobody_acted = nobody; ready = ready; first = (empty_is (before g c e.proc (ready_from 0 c.jobs))).0 (sym is ∙ h) },
   λ t. is ∙ (empty_is (before g c e.proc (ready_from 0 c.jobs))).1 t.first,
 )
 
-module _ (g : Prog) (s : Script) (c : Config) (e : Event) where
+module _ (g : Program) (s : Script) (c : Config) (e : Event) where
   pub open_for : IsInTime g s c e → None ≡ first_in (due g s c e.tick) → IsOpen g s c e
   open_for time none = record { in_time = time; none_due = first_none (due g s c e.tick) none }
 
@@ -95,7 +95,7 @@ if_ok P Q (Ok x) f p = f x p
 if_ok P Q (Err e) f p = tt
 
 -- by the first start event that is missing
-pub in_time : (g : Prog) (s : Script) (c : Config) (e : Event) (b : Bool) → e.tick < s.end_tick → c.tick ≤ e.tick → NoneMissing g s c e.tick ↔ IsTrue b → IsTrue b ↔ IsInTime g s c e
+pub in_time : (g : Program) (s : Script) (c : Config) (e : Event) (b : Bool) → e.tick < s.end_tick → c.tick ≤ e.tick → NoneMissing g s c e.tick ↔ IsTrue b → IsTrue b ↔ IsInTime g s c e
 in_time g s c e b before reached is = (λ h. record { before_end = before; reached = reached; none_missing = is.1 h }, λ t. is.0 t.none_missing)
 
 -- a process that is ready is one of those that there are

@@ -2,7 +2,7 @@
 use Rattle.std.specs.Prelude.{◌≡◌, ℕ, ℤ, zero, suc, Bool, true, false, OnErr, Result, Ok, Err, List, [], ◌∷◌, Option, Some, None, length, option_map, slice_get, unwrap_or}
 use Rattle.std.proofs.Common.{refl, sym, ◌∙◌, ap}
 use Rattle.base.specs.declared.event.Act.TheVariants as act
-use Rattle.syntax_tree.specs.Plain.{Prog}
+use Rattle.syntax_tree.specs.Plain.{Program}
 use Rattle.source_semantics.specs.Config.{Config, Job, at_tick, changed, inside, job_calls, leave, queue, vacate, with_jobs, with_queues, woken}
 use Rattle.source_semantics.specs.Next.{Next, given}
 use Rattle.source_semantics.specs.Run.{Action, gets, puts, enters, leaves, waits, signals, broadcasts, asks_empty, raises, ends}
@@ -52,7 +52,7 @@ raised_handling c t k n =
     ap (λ js. option_map (λ (x : Job). x.handling) (slice_get js k)) (leave_jobs (saved (at_tick c t true) k n) k ∙ saved_jobs c t k n)
     ∙ handling_kept n k k c.jobs
 
-pub raised : (g : Prog) (c d : Config) (t k number : ℕ) (n : Next) (a : Option After) → IsPrepared g k number c a
+pub raised : (g : Program) (c d : Config) (t k number : ℕ) (n : Next) (a : Option After) → IsPrepared g k number c a
     → d ≡ after_put a k (leave (saved (at_tick c t true) k n) k) → d ≡ after_raise g k number (saved (at_tick c t true) k n)
 raised g c d t k number n a prepared is = is ∙ sym (prepared (leave (saved (at_tick c t true) k n) k) (raised_handling c t k n))
 
@@ -77,7 +77,7 @@ signal_told x [] c = refl
 signal_told x (k ∷ ks) c = refl
 
 -- what is told is the same before the next action is saved as after it
-pub told_saved : (g : Prog) (s : Script) (c : Config) (t k : ℕ) (n : Next) (a : Action) → (effect g s t k a c).act ≡ (effect g s t k a (saved (at_tick c t true) k n)).act
+pub told_saved : (g : Program) (s : Script) (c : Config) (t k : ℕ) (n : Next) (a : Action) → (effect g s t k a c).act ≡ (effect g s t k a (saved (at_tick c t true) k n)).act
 told_saved g s c t k n (gets d) = refl
 told_saved g s c t k n (puts d v) = refl
 told_saved g s c t k n (enters m) = refl
@@ -92,7 +92,7 @@ told_saved g s c t k n (asks_empty x) = ap (λ q. act.Empty x (is_empty (unwrap_
 told_saved g s c t k n (raises number) = refl
 told_saved g s c t k n ends = refl
 
-pub acted : (g : Prog) (s : Script) (c d : Config) (t k : ℕ) (n : Next) (a : Action) → n.action ≡ a → d ≡ (effect g s t k a (saved (at_tick c t true) k n)).config
+pub acted : (g : Program) (s : Script) (c d : Config) (t k : ℕ) (n : Next) (a : Action) → n.action ≡ a → d ≡ (effect g s t k a (saved (at_tick c t true) k n)).config
     → d ≡ (acts g s c t k n).config
 acted g s c d t k n a is after = after ∙ sym (ap (λ b. (effect g s t k b (saved (at_tick c t true) k n)).config) is)
 

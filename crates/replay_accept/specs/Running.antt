@@ -1,7 +1,7 @@
 -- A program that runs by its events: its tables and its configuration.
 use Rattle.std.specs.Prelude.{◌≡◌, ◌<◌, ◌^◌}
 use Rattle.syntax_tree.specs.Placed.{placed, plain}
-use Rattle.syntax_tree.specs.Plain.{Prog}
+use Rattle.syntax_tree.specs.Plain.{Program}
 use Rattle.source_semantics.specs.Names.{routine_count}
 use Rattle.replay_due_events.specs.NextDue.{FramesPass}
 use Rattle.replay_state.specs.Tables.{AreRanksOf, Fits}
@@ -11,7 +11,7 @@ use Rattle.replay_state.specs.Texts.{IsText}
 use Rattle.replay_accept.specs.declared.rules.Rules.{Rules}
 use Rattle.replay_accept.specs.declared.running.Running.{Running}
 
-abbrev pub program_of : Rules → Prog
+abbrev pub program_of : Rules → Program
 program_of r = plain (placed r.text.declarations.now)
 
 -- texts, timings, ranks and ceilings are those of the program, it has so many routines, and no

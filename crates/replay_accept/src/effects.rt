@@ -8,7 +8,7 @@ ghost use Rattle.replay_accept.specs.Effects.{broadcast as broadcasted};
 
 use crate::queue::{first, queue};
 use replay_state::{
-    Config, Doing, Job, Wait, drop_all, drop_first, queue_at, released, wake, wake_all,
+    Activity, Config, ProcessState, Wait, drop_all, drop_first, queue_at, released, wake, wake_all,
 };
 
 /// What a process waits for: on which condition, for how many ticks at most, and which exception a
@@ -21,7 +21,7 @@ pub struct Wanted {
 }
 
 /// The process waits for this since the tick.
-pub fn begin_wait(jobs: &mut Vec<Job<'_>>, process: usize, since: u64, on: Wanted)
+pub fn begin_wait(jobs: &mut Vec<ProcessState<'_>>, process: usize, since: u64, on: Wanted)
     ensures { jobs_of jobs.new.items ≡ changed
         (λ j. job_doing (waiting (released_of j.doing) on.condition since on.limit on.number) j)
         process (jobs_of jobs.old.items) }
@@ -29,7 +29,7 @@ pub fn begin_wait(jobs: &mut Vec<Job<'_>>, process: usize, since: u64, on: Wante
     if process < jobs.len() {
         let job = &mut jobs[process];
         let began = released(job.doing);
-        job.doing = Doing::Waiting(Wait {
+        job.doing = Activity::Waiting(Wait {
             released: began,
             condition: on.condition,
             since,

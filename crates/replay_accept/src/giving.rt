@@ -7,7 +7,7 @@ ghost use Rattle.source_semantics.specs.Config.{changed, job_calls};
 ghost use Rattle.replay_state.specs.View.{calls_of, item_of, jobs_of};
 ghost use Rattle.replay_accept.specs.Told.{awaited, first_awaited};
 
-use replay_state::{Call, Item, Job, Target};
+use replay_state::{Call, Item, ProcessState, Target};
 
 /// The variable that the item waits to store to.
 fn target_of<'a>(item: &Item<'a>) -> Option<Target<'a>>
@@ -55,7 +55,7 @@ fn give_calls(calls: &mut Vec<Call<'_>>, value: i64)
 }
 
 /// The process is given a value that it waits for.
-pub fn give(jobs: &mut Vec<Job<'_>>, process: usize, value: i64)
+pub fn give(jobs: &mut Vec<ProcessState<'_>>, process: usize, value: i64)
     ensures { jobs_of jobs.new.items ≡ changed (λ j. job_calls (given (Some value) j.calls) j)
         process (jobs_of jobs.old.items) }
 {

@@ -10,8 +10,8 @@
 //! wanting the configuration is as it was.
 #![tactic(auto)]
 
-mod accept_acting;
-mod acts_acting;
+mod act_events;
+mod as_defined;
 mod begin;
 mod device;
 mod effects;
@@ -21,9 +21,9 @@ mod queue;
 mod rules;
 mod running;
 mod saving;
+mod source_actions;
 mod starting;
 mod telling;
-mod told;
 
 pub use perform::{act, may_act};
 pub use rules::Rules;

@@ -7,12 +7,12 @@ ghost use Rattle.replay_state.specs.View.{action_of, config_of, next_of};
 ghost use Rattle.replay_due_events.specs.Timings.{script_of};
 ghost use Rattle.replay_state.specs.Texts.{IsText};
 
-use crate::acts_acting::{
-    ask_empty, broadcast_on, end, enter, get, leave, raise_in, signal_on, wait,
-};
 use crate::effects::Wanted;
 use crate::saving::save;
-use replay_state::{Action, Config, Next, Text};
+use crate::source_actions::{
+    ask_empty, broadcast_on, end, enter, get, leave, raise_in, signal_on, wait,
+};
+use replay_state::{Action, Config, NextAction, ProgramContext};
 use script::ScriptLine;
 use std::alloc::AllocError;
 
@@ -33,11 +33,11 @@ pub fn may_act(config: &Config<'_>, action: Action) -> bool
 /// leaves the configuration as it was.
 pub fn act<'a>(
     config: &mut Config<'a>,
-    text: &Text<'a>,
+    text: &ProgramContext<'a>,
     lines: &[ScriptLine],
     tick: u64,
     process: usize,
-    next: Next<'a>,
+    next: NextAction<'a>,
 ) -> Result<(), AllocError>
     requires { IsText text.now }
     ensures ok { OnOk result ((end : ℕ) → config_of config.new ≡

@@ -1,7 +1,7 @@
 //! What events are judged by.
 
 ghost use Rattle.std.specs.Prelude.{IsTrue, length, option_map, ℕ, ◌<◌, ◌^◌, ◌↔◌, ◌≡◌};
-ghost use Rattle.syntax_tree.specs.Plain.{Prog};
+ghost use Rattle.syntax_tree.specs.Plain.{Program};
 ghost use Rattle.source_semantics.specs.Source.{before, is_empty, ready_from};
 ghost use Rattle.source_semantics.specs.Starts.{NoneMissing, due};
 ghost use Rattle.replay_state.specs.Tables.{AreRanksOf, Fits};
@@ -10,14 +10,14 @@ ghost use Rattle.replay_due_events.specs.NextDue.{FramesPass};
 ghost use Rattle.replay_due_events.specs.Timings.{IsTimetableOf, event_of, first_in, script_of};
 
 use replay_due_events::{Start, Timetable, is_none_missing_before};
-use replay_state::{Config, Ranks, Text};
+use replay_state::{Config, ProgramContext, Ranks};
 use script::ScriptLine;
 
 /// What of a program events are judged by: its text, its timings, its ranks and ceilings, and how
 /// many routines it has.
 #[derive(Drop)]
 pub struct Rules<'a> {
-    pub text: Text<'a>,
+    pub text: ProgramContext<'a>,
     pub table: Timetable,
     pub ranks: Ranks,
     /// Calls are nested at most so deep.
@@ -32,7 +32,7 @@ impl<'a> Rules<'a> {
         lines: &[ScriptLine],
         until: u64,
     ) -> bool
-        ghost program: { Prog }
+        ghost program: { Program }
         requires table { IsTimetableOf program self.now.table }
         requires frames { FramesPass program }
         requires fits { Fits program (config_of config.now) }
@@ -50,7 +50,7 @@ impl<'a> Rules<'a> {
         lines: &[ScriptLine],
         tick: u64,
     ) -> Option<Start>
-        ghost program: { Prog }
+        ghost program: { Program }
         requires table { IsTimetableOf program self.now.table }
         requires frames { FramesPass program }
         ensures { (end : ℕ) → option_map (event_of tick) result ≡
@@ -61,7 +61,7 @@ impl<'a> Rules<'a> {
 
     /// Whether no ready process is taken before this one.
     pub(crate) fn is_first(&self, config: &Config<'_>, process: usize) -> bool
-        ghost program: { Prog }
+        ghost program: { Program }
         requires ranks { AreRanksOf program self.now.ranks }
         requires fits { Fits program (config_of config.now) }
         requires process { process < length (config_of config.now).jobs }

@@ -7,7 +7,7 @@ ghost use Rattle.replay_due_events.specs.Accepts.{Accepts, IsComplete};
 ghost use Rattle.replay_due_events.specs.Timings.{script_of};
 ghost use Rattle.replay_accept.specs.Running.{AreRules, Stands, program_of};
 
-use crate::accept_acting::act_by;
+use crate::act_events::act_by;
 use crate::begin::{Begun, begin};
 use crate::rules::Rules;
 use base::Event;

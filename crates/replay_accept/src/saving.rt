@@ -5,10 +5,15 @@ ghost use Rattle.source_semantics.specs.Config.{at_tick, changed, inside as insi
 ghost use Rattle.source_semantics.specs.Source.{save_hold as hold_saved, saved};
 ghost use Rattle.replay_state.specs.View.{calls_of, config_of, holds_of, jobs_of, next_of, vars_of};
 
-use replay_state::{Call, Config, Hold, Job, Next, Slot};
+use replay_state::{Call, Config, MonitorState, NextAction, ProcessState, Slot};
 
 /// The process has these variables and calls now.
-fn save_job<'a>(jobs: &mut Vec<Job<'a>>, process: usize, vars: Vec<Slot<'a>>, calls: Vec<Call<'a>>)
+fn save_job<'a>(
+    jobs: &mut Vec<ProcessState<'a>>,
+    process: usize,
+    vars: Vec<Slot<'a>>,
+    calls: Vec<Call<'a>>,
+)
     ensures { jobs_of jobs.new.items ≡ changed
         (λ j. record {
           vars = vars_of vars.entry.items;
@@ -25,7 +30,7 @@ fn save_job<'a>(jobs: &mut Vec<Job<'a>>, process: usize, vars: Vec<Slot<'a>>, ca
 }
 
 /// The monitor has these variables now.
-fn save_hold<'a>(holds: &mut Vec<Hold<'a>>, mon: usize, vars: Vec<Slot<'a>>)
+fn save_hold<'a>(holds: &mut Vec<MonitorState<'a>>, mon: usize, vars: Vec<Slot<'a>>)
     ensures { holds_of holds.new.items ≡ changed
         (λ h. record { vars = vars_of vars.entry.items; occupant = h.occupant })
         mon (holds_of holds.old.items) }
@@ -48,11 +53,11 @@ fn save_inside<'a>(config: &mut Config<'a>, process: usize, vars: Vec<Slot<'a>>)
 
 /// What the next action of the process leaves behind stands in the configuration, and somebody has
 /// acted at the tick.
-pub fn save<'a>(config: &mut Config<'a>, tick: u64, process: usize, next: Next<'a>)
+pub fn save<'a>(config: &mut Config<'a>, tick: u64, process: usize, next: NextAction<'a>)
     ensures { config_of config.new ≡ saved (at_tick (config_of config.old) tick true) process
         (next_of next.entry) }
 {
-    let Next {
+    let NextAction {
         action: _,
         calls,
         process: vars,

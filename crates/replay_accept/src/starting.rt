@@ -12,7 +12,7 @@ ghost use Rattle.replay_accept.specs.Running.{AreRules, program_of};
 use crate::rules::Rules;
 use base::{Act, Event};
 use replay_due_events::Start;
-use replay_state::{Config, Doing, Job, release, time_out};
+use replay_state::{Activity, Config, ProcessState, release, time_out};
 use std::alloc::AllocError;
 
 /// Whether the act is a release.
@@ -59,17 +59,17 @@ pub fn is_start(event: &Event, start: Start) -> bool
 }
 
 /// Whether the process is idle.
-fn is_idle(job: &Job<'_>) -> bool
+fn is_idle(job: &ProcessState<'_>) -> bool
     ensures { IsTrue result ↔ ((job_of job.now).doing ≡ idle) }
 {
     match job.doing {
-        Doing::Idle => true,
-        Doing::Active { .. } | Doing::Waiting(_) => false,
+        Activity::Idle => true,
+        Activity::Active { .. } | Activity::Waiting(_) => false,
     }
 }
 
 /// Whether there is such a process, and it is idle.
-fn may_release(jobs: &[Job<'_>], process: usize) -> bool
+fn may_release(jobs: &[ProcessState<'_>], process: usize) -> bool
     ensures { IsTrue result ↔ MayStart act_is.Release (slice_get (jobs_of jobs.now) process) }
 {
     match jobs.get(process) {

@@ -1,19 +1,19 @@
 //! The act that an action tells.
 
 ghost use Rattle.std.specs.Prelude.{IsTrue, ℕ, ◌↔◌, ◌≡◌};
-ghost use Rattle.syntax_tree.specs.Plain.{Prog};
+ghost use Rattle.syntax_tree.specs.Plain.{Program};
 ghost use Rattle.source_semantics.specs.Source.{acts, effect};
 ghost use Rattle.replay_state.specs.View.{action_of, config_of, next_of};
 ghost use Rattle.replay_due_events.specs.Timings.{script_of};
 
-use crate::device::device_value;
-use crate::queue::{first, is_nobody_in, queue};
-use crate::told::{
+use crate::as_defined::{
     is_asked, is_broadcast, is_end, is_enter, is_get, is_leave, is_put, is_raise, is_signal,
     is_wait,
 };
+use crate::device::device_value;
+use crate::queue::{first, is_nobody_in, queue};
 use base::Act;
-use replay_state::{Action, Config, Next};
+use replay_state::{Action, Config, NextAction};
 use script::ScriptLine;
 
 /// Whether the act is what the action tells at the tick, from this configuration.
@@ -24,7 +24,7 @@ fn is_told_by(
     action: Action,
     act: Act,
 ) -> bool
-    ensures { (g : Prog) (end k : ℕ) → IsTrue result ↔ (act ≡
+    ensures { (g : Program) (end k : ℕ) → IsTrue result ↔ (act ≡
         (effect g (script_of lines.now end) tick k (action_of action)
         (config_of config.now)).act) }
 {
@@ -51,10 +51,10 @@ pub fn is_told(
     config: &Config<'_>,
     lines: &[ScriptLine],
     tick: u64,
-    next: &Next<'_>,
+    next: &NextAction<'_>,
     act: Act,
 ) -> bool
-    ensures { (g : Prog) (end k : ℕ) → IsTrue result ↔ (act ≡
+    ensures { (g : Program) (end k : ℕ) → IsTrue result ↔ (act ≡
         (acts g (script_of lines.now end) (config_of config.now) tick k (next_of next.now)).act) }
 {
     is_told_by(config, lines, tick, next.action, act)

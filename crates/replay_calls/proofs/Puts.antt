@@ -6,8 +6,8 @@ use Rattle.syntax_tree.specs.Plain.{Name}
 use Rattle.source_semantics.specs.Store.{Held, Slot, Vars, in_range, slot_named, replaced, stored}
 use Rattle.source_semantics.specs.Run as run
 use Rattle.replay_calls.specs.Stores.{put, put_found, put_named, IsStored, accepted, store_run}
-use Rattle.replay_calls.specs.declared.storing.Stored.{Stored}
-use Rattle.replay_calls.specs.declared.storing.Stored.TheVariants as stored_is
+use Rattle.replay_calls.specs.declared.storing.StoreResult.{StoreResult}
+use Rattle.replay_calls.specs.declared.storing.StoreResult.TheVariants as stored_is
 
 abbrev after_put : run.Home → run.Memory → Name → Option Held → run.Run
 after_put h m x None = run.fails 3 m
@@ -68,12 +68,12 @@ kept_outer run.of_process m = refl
 kept_outer (run.of_monitor k) m = refl
 
 -- a store among the variables beside them
-pub beside_done : (h : run.Home) (m : run.Memory) (t : run.Target) (v : ℤ) (r : Stored) (new : Vars) → put_named t.name t.index v m.own ≡ None → IsStored (put_named t.name t.index v (run.outer h m)) (run.outer h m) r new
+pub beside_done : (h : run.Home) (m : run.Memory) (t : run.Target) (v : ℤ) (r : StoreResult) (new : Vars) → put_named t.name t.index v m.own ≡ None → IsStored (put_named t.name t.index v (run.outer h m)) (run.outer h m) r new
     → store_run (accepted r) (run.with_outer h m new) ≡ run.store_to h m t v
 beside_done h m t v stored_is.Absent new none told = ap (λ vs. run.goes (run.with_outer h m vs)) told.1 ∙ (ap run.goes (kept_outer h m) ∙ sym (absent_put h m t v none told.0))
 beside_done h m t v stored_is.Refused new none told = ap (λ vs. run.fails 3 (run.with_outer h m vs)) told.1 ∙ (ap (run.fails 3) (kept_outer h m) ∙ sym (beside_put h m t v None none told.0))
 beside_done h m t v stored_is.Done new none told = sym (beside_put h m t v (Some new) none told)
 
-pub beside_over : (h : run.Home) (m : run.Memory) (t : run.Target) (v : ℤ) (r : Stored) (own new : Vars) → put_named t.name t.index v m.own ≡ None → own ≡ m.own → IsStored (put_named t.name t.index v (run.outer h m)) (run.outer h m) r new
+pub beside_over : (h : run.Home) (m : run.Memory) (t : run.Target) (v : ℤ) (r : StoreResult) (own new : Vars) → put_named t.name t.index v m.own ≡ None → own ≡ m.own → IsStored (put_named t.name t.index v (run.outer h m)) (run.outer h m) r new
     → store_run (accepted r) (run.with_outer h (run.with_own m own) new) ≡ run.store_to h m t v
 beside_over h m t v r own new none same told = ap (λ o. store_run (accepted r) (run.with_outer h (run.with_own m o) new)) same ∙ beside_done h m t v r new none told

@@ -4,8 +4,8 @@ use Rattle.syntax_tree.specs.Plain.{Name}
 use Rattle.source_semantics.specs.Store.{Held, Slot, Vars, in_range, slot_named, replaced, stored}
 use Rattle.source_semantics.specs.Run as run
 use Rattle.replay_values.specs.Stores.{at_place, with_held}
-use Rattle.replay_calls.specs.declared.storing.Stored.{Stored}
-use Rattle.replay_calls.specs.declared.storing.Stored.TheVariants as stored_is
+use Rattle.replay_calls.specs.declared.storing.StoreResult.{StoreResult}
+use Rattle.replay_calls.specs.declared.storing.StoreResult.TheVariants as stored_is
 
 -- a change that may be refused was made, or nothing was changed
 abbrev pub IsTried : {A : Type 0} → Option A → (old : A) → Bool → (new : A) → Type 0
@@ -28,12 +28,12 @@ put_found x index v vs (Some s) = Some (option_map (λ h. replaced x h vs) (put 
 abbrev pub put_named : Name → Option ℤ → ℤ → Vars → Option (Option Vars)
 put_named x index v vs = put_found x index v vs (slot_named x vs)
 
-abbrev pub IsStored : Option (Option Vars) → (old : Vars) → Stored → (new : Vars) → Type 0
+abbrev pub IsStored : Option (Option Vars) → (old : Vars) → StoreResult → (new : Vars) → Type 0
 IsStored expected old stored_is.Absent new = (expected ≡ None) × (new ≡ old)
 IsStored expected old stored_is.Refused new = (expected ≡ Some None) × (new ≡ old)
 IsStored expected old stored_is.Done new = expected ≡ Some (Some new)
 
-abbrev pub tried : Bool → Stored
+abbrev pub tried : Bool → StoreResult
 tried true = stored_is.Done
 tried false = stored_is.Refused
 
@@ -44,7 +44,7 @@ IsStoredAt old at index v done new =
     → IsStored (put_named x index v old) old (tried done) new
 
 -- a store to no variable of the list is no fault
-abbrev pub accepted : Stored → Bool
+abbrev pub accepted : StoreResult → Bool
 accepted stored_is.Refused = false
 accepted _ = true
 

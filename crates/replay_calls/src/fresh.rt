@@ -10,20 +10,20 @@ ghost use Rattle.replay_values.specs.Seen.{answer_of};
 ghost use Rattle.replay_calls.specs.Reach.{in_front};
 
 use crate::storing::in_range;
-use replay_state::{Held, Range, Slot, Words};
+use replay_state::{Slot, SlotValue, Subrange, Words};
 use replay_values::Answer;
 use static_declarations::Declarations;
 use std::alloc::{AllocError, Global};
 use syntax_tree::{Param, Scalar, Type, Var};
 
 /// The range that values of a type keep to, if any.
-pub fn range_of(declarations: &Declarations<'_>, kind: &Scalar) -> Option<Range>
+pub fn range_of(declarations: &Declarations<'_>, kind: &Scalar) -> Option<Subrange>
     ensures { option_map seen_range result ≡ range_of_kind (plain (placed declarations.now))
         (plain_scalar (placed_scalar kind.now)) }
 {
     match kind {
         Scalar::Int | Scalar::Boolean => None,
-        Scalar::Subrange { low, high } => Some(Range {
+        Scalar::Subrange { low, high } => Some(Subrange {
             low: declarations.value(low),
             high: declarations.value(high),
         }),
@@ -31,7 +31,7 @@ pub fn range_of(declarations: &Declarations<'_>, kind: &Scalar) -> Option<Range>
 }
 
 /// The answer, where its value keeps to the range.
-pub fn checked(range: Option<Range>, answer: Answer) -> Answer
+pub fn checked(range: Option<Subrange>, answer: Answer) -> Answer
     ensures { answer_of result ≡ with_word (answer_of answer)
         (λ v. checked_in (option_map seen_range range) v) }
 {
@@ -62,23 +62,23 @@ fn fresh_held(
     alloc: Global,
     declarations: &Declarations<'_>,
     kind: &Type,
-) -> Result<Held, AllocError>
+) -> Result<SlotValue, AllocError>
     ensures { IfOk result (λ held. held_of held ≡ held_fresh (plain (placed declarations.now))
         (plain_kind (placed_kind kind.now))) }
 {
     match kind {
-        Type::Scalar(_) => Ok(Held::One(0)),
+        Type::Scalar(_) => Ok(SlotValue::One(0)),
         Type::Array { low, high, .. } => {
             let low = declarations.value(low);
             let count = word_count(low, declarations.value(high));
             let items = vec![in alloc; 0; count]?;
-            Ok(Held::Many(Words { low, items }))
+            Ok(SlotValue::Many(Words { low, items }))
         }
     }
 }
 
 /// The range that the values of a variable keep to, if any.
-fn kind_range(declarations: &Declarations<'_>, kind: &Type) -> Option<Range>
+fn kind_range(declarations: &Declarations<'_>, kind: &Type) -> Option<Subrange>
     ensures { option_map seen_range result ≡ range_of_type (plain (placed declarations.now))
         (plain_kind (placed_kind kind.now)) }
 {
@@ -125,7 +125,7 @@ pub fn add_fresh<'a>(
 
 /// The variable of a parameter, or the number of the exception of its argument.
 #[derive(Drop)]
-pub enum Bind<'a> {
+pub enum ArgumentResult<'a> {
     To(Slot<'a>),
     Raised(u32),
 }
@@ -135,7 +135,7 @@ pub fn param_variable<'a>(
     declarations: &Declarations<'_>,
     param: &'a Param,
     answer: Answer,
-) -> Bind<'a>
+) -> ArgumentResult<'a>
     ensures { (rest : Bound) → in_front result rest ≡ with_argument (plain (placed declarations.now))
         (plain_param (placed_param param.now)) (answer_of answer)
         (λ v. added (plain (placed declarations.now))
@@ -143,11 +143,11 @@ pub fn param_variable<'a>(
 {
     let range = range_of(declarations, &param.kind);
     match checked(range, answer) {
-        Answer::Raised(number) => Bind::Raised(number),
-        Answer::Word(word) => Bind::To(Slot {
+        Answer::Raised(number) => ArgumentResult::Raised(number),
+        Answer::Word(word) => ArgumentResult::To(Slot {
             name: &param.name,
             range,
-            held: Held::One(word),
+            held: SlotValue::One(word),
         }),
     }
 }

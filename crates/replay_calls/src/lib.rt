@@ -17,8 +17,8 @@ mod storing;
 mod turn;
 
 pub use answers::{joined, minus, opposite};
-pub use fresh::{Bind, add_fresh, checked, param_variable, range_of};
-pub use memory::{Area, Memory, lent};
+pub use fresh::{ArgumentResult, add_fresh, checked, param_variable, range_of};
+pub use memory::{CowSlots, Memory, lent};
 pub use names::{entry_named, home_in};
 pub use numbers::{condition_here, device_number, monitor_number};
 pub use reading::{element, name_value};

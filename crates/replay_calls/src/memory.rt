@@ -6,14 +6,14 @@ ghost use Rattle.replay_state.specs.View.{home_of, slot_of, vars_of};
 ghost use Rattle.replay_calls.specs.Reach.{area_of, memory_of};
 
 use crate::slots::{slot_named, slots_copied};
-use replay_state::{Home, Slot};
+use replay_state::{CallOwner, Slot};
 use std::alloc::{AllocError, Global};
 use std::mem;
 use syntax_tree::Name;
 
 /// Variables beside a call's own: lent, and a copy of them once something was stored to one.
 #[derive(Drop)]
-pub struct Area<'s, 'a> {
+pub struct CowSlots<'s, 'a> {
     pub lent: &'s [Slot<'a>],
     pub kept: Option<Vec<Slot<'a>>>,
 }
@@ -22,21 +22,21 @@ pub struct Area<'s, 'a> {
 #[derive(Drop)]
 pub struct Memory<'s, 'a> {
     pub own: Vec<Slot<'a>>,
-    pub process: Area<'s, 'a>,
-    pub monitor: Area<'s, 'a>,
+    pub process: CowSlots<'s, 'a>,
+    pub monitor: CowSlots<'s, 'a>,
 }
 
 /// Variables that are lent.
-pub fn lent<'s, 'a>(slots: &'s [Slot<'a>]) -> Area<'s, 'a>
+pub fn lent<'s, 'a>(slots: &'s [Slot<'a>]) -> CowSlots<'s, 'a>
     ensures { area_of result ≡ vars_of slots.now }
 {
-    Area {
+    CowSlots {
         lent: slots,
         kept: None,
     }
 }
 
-impl<'s, 'a> Area<'s, 'a> {
+impl<'s, 'a> CowSlots<'s, 'a> {
     /// The variables.
     pub fn as_slice(&self) -> &[Slot<'a>]
         ensures { vars_of result.now ≡ area_of self.now }
@@ -67,16 +67,16 @@ impl<'s, 'a> Area<'s, 'a> {
 
 impl<'s, 'a> Memory<'s, 'a> {
     /// The first variable of that name in reach.
-    pub fn slot_in(&self, home: Home, name: &Name) -> Option<&Slot<'a>>
+    pub fn slot_in(&self, home: CallOwner, name: &Name) -> Option<&Slot<'a>>
         ensures { option_map (λ s. slot_of s.now) result ≡
             slot_in_reach (home_of home) (memory_of self.now) name.now }
     {
         match slot_named(name, self.own.as_slice()) {
             Some(slot) => Some(slot),
             None => match home {
-                Home::Program => None,
-                Home::Process => slot_named(name, self.process.as_slice()),
-                Home::Monitor(_) => slot_named(name, self.monitor.as_slice()),
+                CallOwner::Program => None,
+                CallOwner::Process => slot_named(name, self.process.as_slice()),
+                CallOwner::Monitor(_) => slot_named(name, self.monitor.as_slice()),
             },
         }
     }

@@ -9,18 +9,18 @@ ghost use Rattle.replay_values.specs.Lookups.{found_of};
 ghost use Rattle.replay_values.specs.Seen as running;
 
 use crate::numbers::monitor_number;
-use replay_state::Home;
-use replay_values::{Found, Scope, equal};
-use syntax_tree::{Decl, Mon, Name, Routine};
+use replay_state::CallOwner;
+use replay_values::{EvalContext, ResolvedRoutine, equal};
+use syntax_tree::{Declaration, Monitor, Name, Routine};
 
 /// The same home.
-pub fn home_in(home: replay_values::Home) -> Home
+pub fn home_in(home: replay_values::RoutineHome) -> CallOwner
     ensures { home_of result ≡ running.home_of home }
 {
     match home {
-        replay_values::Home::Program => Home::Program,
-        replay_values::Home::Process => Home::Process,
-        replay_values::Home::Monitor(mon) => Home::Monitor(mon),
+        replay_values::RoutineHome::Program => CallOwner::Program,
+        replay_values::RoutineHome::Process => CallOwner::Process,
+        replay_values::RoutineHome::Monitor(mon) => CallOwner::Monitor(mon),
     }
 }
 
@@ -38,13 +38,13 @@ fn among<'a>(name: &Name, routines: &'a [Routine]) -> Option<&'a Routine>
 }
 
 /// The first monitor of that name.
-fn monitor_named<'a>(name: &Name, decls: &'a [Decl]) -> Option<&'a Mon>
+fn monitor_named<'a>(name: &Name, decls: &'a [Declaration]) -> Option<&'a Monitor>
     ensures { option_map (λ m. plain_monitor (placed_monitor m.now)) result ≡
         named (λ k. k.name) name.now (filter_map monitor_in
         (map plain_decl (map placed_decl decls.now))) }
 {
     for decl in decls {
-        if let Decl::Mon(monitor) = decl {
+        if let Declaration::Monitor(monitor) = decl {
             if equal(&monitor.name, name) {
                 return Some(monitor);
             }
@@ -54,7 +54,11 @@ fn monitor_named<'a>(name: &Name, decls: &'a [Decl]) -> Option<&'a Mon>
 }
 
 /// The entry of that name, of the monitor of that name.
-pub fn entry_named<'a>(scope: &Scope<'a>, mon: &Name, entry: &Name) -> Option<Found<'a>>
+pub fn entry_named<'a>(
+    scope: &EvalContext<'a>,
+    mon: &Name,
+    entry: &Name,
+) -> Option<ResolvedRoutine<'a>>
     ensures { option_map found_of result ≡
         named_entry (plain (placed scope.now.declarations.now)) mon.now entry.now }
 {
@@ -64,8 +68,8 @@ pub fn entry_named<'a>(scope: &Scope<'a>, mon: &Name, entry: &Name) -> Option<Fo
         None => None,
         Some(monitor) => match among(entry, monitor.entries.as_slice()) {
             None => None,
-            Some(routine) => Some(Found {
-                home: replay_values::Home::Monitor(number),
+            Some(routine) => Some(ResolvedRoutine {
+                home: replay_values::RoutineHome::Monitor(number),
                 routine,
             }),
         },

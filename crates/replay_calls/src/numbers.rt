@@ -6,19 +6,19 @@ ghost use Rattle.source_semantics.specs.Names.{condition_from, condition_in, dev
 ghost use Rattle.source_semantics.specs.Run.{condition_here as condition_at};
 ghost use Rattle.replay_calls.specs.Reach.{site_of};
 
-use replay_state::Home;
-use replay_values::{Scope, equal};
+use replay_state::CallOwner;
+use replay_values::{EvalContext, equal};
 use std::alloc::AllocError;
-use syntax_tree::{Decl, Member, Name};
+use syntax_tree::{Declaration, Member, Name};
 
 /// The number of the device of that name.
-pub fn device_number(name: &Name, decls: &[Decl]) -> usize
+pub fn device_number(name: &Name, decls: &[Declaration]) -> usize
     ensures { result ≡ place_of name.now
         (filter_map device_in (map plain_decl (map placed_decl decls.now))) }
 {
     let mut number = 0;
     for decl in decls {
-        if let Decl::Device { name: own, .. } = decl {
+        if let Declaration::Device { name: own, .. } = decl {
             if equal(own, name) {
                 return number;
             }
@@ -29,13 +29,13 @@ pub fn device_number(name: &Name, decls: &[Decl]) -> usize
 }
 
 /// The number of the monitor of that name.
-pub fn monitor_number(name: &Name, decls: &[Decl]) -> usize
+pub fn monitor_number(name: &Name, decls: &[Declaration]) -> usize
     ensures { result ≡ place_of name.now (map (λ m. m.name)
         (filter_map monitor_in (map plain_decl (map placed_decl decls.now)))) }
 {
     let mut number = 0;
     for decl in decls {
-        if let Decl::Mon(monitor) = decl {
+        if let Declaration::Monitor(monitor) = decl {
             if equal(&monitor.name, name) {
                 return number;
             }
@@ -78,14 +78,14 @@ fn condition_count(members: &[Member]) -> usize
 
 /// The number of a condition of the monitor of that number, the conditions being counted through
 /// all monitors; `None` where it is more than a number can tell.
-fn condition_number(mon: usize, name: &Name, decls: &[Decl]) -> Option<usize>
+fn condition_number(mon: usize, name: &Name, decls: &[Declaration]) -> Option<usize>
     ensures { IfSome result (λ n. n ≡ condition_from 0 mon name.now
         (filter_map monitor_in (map plain_decl (map placed_decl decls.now)))) }
 {
     let mut before: usize = 0;
     let mut left = mon;
     for decl in decls {
-        if let Decl::Mon(monitor) = decl {
+        if let Declaration::Monitor(monitor) = decl {
             let members = monitor.members.as_slice();
             if left == 0 {
                 return before.checked_add(place_among(name, members));
@@ -103,16 +103,16 @@ fn condition_number(mon: usize, name: &Name, decls: &[Decl]) -> Option<usize>
 /// The condition of that name in the monitor whose text this is. Where its number is more than a
 /// number can tell, there is not memory enough for the conditions.
 pub fn condition_here(
-    scope: &Scope<'_>,
-    home: Home,
+    scope: &EvalContext<'_>,
+    home: CallOwner,
     depth: usize,
     name: &Name,
 ) -> Result<usize, AllocError>
     ensures { IfOk result (λ n. n ≡ condition_at (site_of scope.now home depth) name.now) }
 {
     match home {
-        Home::Program | Home::Process => Ok(0),
-        Home::Monitor(mon) => {
+        CallOwner::Program | CallOwner::Process => Ok(0),
+        CallOwner::Monitor(mon) => {
             match condition_number(mon, name, scope.declarations.program().decls.as_slice()) {
                 None => Err(AllocError),
                 Some(number) => Ok(number),

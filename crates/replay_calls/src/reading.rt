@@ -9,27 +9,27 @@ ghost use Rattle.replay_values.specs.Seen.{answer_of};
 ghost use Rattle.replay_calls.specs.Reach.{memory_of, site_of};
 
 use crate::memory::Memory;
-use replay_state::{Held, Home};
-use replay_values::{Answer, Scope, place_at};
+use replay_state::{CallOwner, SlotValue};
+use replay_values::{Answer, EvalContext, place_at};
 use syntax_tree::Name;
 
 /// What a variable holds, 0 for a whole array.
-fn read(held: &Held) -> Answer
+fn read(held: &SlotValue) -> Answer
     ensures { answer_of result ≡ read_held (held_of held.now) }
 {
     match held {
-        Held::One(word) => Answer::Word(*word),
-        Held::Many(_) => Answer::Word(0),
+        SlotValue::One(word) => Answer::Word(*word),
+        SlotValue::Many(_) => Answer::Word(0),
     }
 }
 
 /// What an element of a variable holds.
-fn read_at(held: &Held, index: i64) -> Answer
+fn read_at(held: &SlotValue, index: i64) -> Answer
     ensures { answer_of result ≡ read_held_at (held_of held.now) index }
 {
     match held {
-        Held::One(word) => Answer::Word(*word),
-        Held::Many(words) => match place_at(words.low, words.items.as_slice(), index) {
+        SlotValue::One(word) => Answer::Word(*word),
+        SlotValue::Many(words) => match place_at(words.low, words.items.as_slice(), index) {
             None => Answer::Raised(3),
             Some(at) => Answer::Word(words.items[at]),
         },
@@ -38,8 +38,8 @@ fn read_at(held: &Held, index: i64) -> Answer
 
 /// What a name is worth: what the variable in reach holds, else the value of the constant.
 pub fn name_value(
-    scope: &Scope<'_>,
-    home: Home,
+    scope: &EvalContext<'_>,
+    home: CallOwner,
     depth: usize,
     memory: &Memory<'_, '_>,
     name: &Name,
@@ -54,7 +54,7 @@ pub fn name_value(
 }
 
 /// What the element at an index holds, where the index is no exception.
-pub fn element(home: Home, memory: &Memory<'_, '_>, name: &Name, index: Answer) -> Answer
+pub fn element(home: CallOwner, memory: &Memory<'_, '_>, name: &Name, index: Answer) -> Answer
     ensures { answer_of result ≡ with_word (answer_of index) (λ v. read_element
         (slot_in (home_of home) (memory_of memory.now) name.now) v) }
 {

@@ -5,7 +5,7 @@ ghost use Rattle.source_semantics.specs.Store.{slot_named as named_slot};
 ghost use Rattle.replay_state.specs.View.{held_of, slot_of, vars_of};
 ghost use Rattle.replay_values.specs.Stores.{IsPlace};
 
-use replay_state::{Held, Slot, Words};
+use replay_state::{Slot, SlotValue, Words};
 use replay_values::equal;
 use std::alloc::{AllocError, Global};
 use syntax_tree::Name;
@@ -35,14 +35,14 @@ pub fn place_named(name: &Name, slots: &[Slot<'_>]) -> Option<usize>
 }
 
 /// The same words once more.
-fn held_copied(alloc: Global, held: &Held) -> Result<Held, AllocError>
+fn held_copied(alloc: Global, held: &SlotValue) -> Result<SlotValue, AllocError>
     ensures { IfOk result (λ copy. held_of copy ≡ held_of held.now) }
 {
     match held {
-        Held::One(word) => Ok(Held::One(*word)),
-        Held::Many(words) => {
+        SlotValue::One(word) => Ok(SlotValue::One(*word)),
+        SlotValue::Many(words) => {
             let items = Vec::from_slice(alloc, words.items.as_slice())?;
-            Ok(Held::Many(Words {
+            Ok(SlotValue::Many(Words {
                 low: words.low,
                 items,
             }))

@@ -7,16 +7,16 @@ ghost use Rattle.replay_state.specs.View.{held_of, home_of, range_of, slot_of, t
 ghost use Rattle.replay_calls.specs.Reach.{area_of, memory_of};
 ghost use Rattle.replay_calls.specs.Stores.{IsStored, IsStoredAt, IsTried, accepted, put_named, put_slot, store_run};
 
-use crate::memory::{Area, Memory};
+use crate::memory::{CowSlots, Memory};
 use crate::slots::place_named;
-use replay_state::{Held, Home, Range, Slot, Target};
+use replay_state::{CallOwner, Slot, SlotValue, Subrange, Target};
 use replay_values::place_at;
 use std::alloc::{AllocError, Global};
 use syntax_tree::Name;
 
 /// What a store to one of a list of variables came to.
 #[derive(Clone, Copy, Debug)]
-pub enum Stored {
+pub enum StoreResult {
     /// None of them has that name.
     Absent,
     /// The value is out of its range, or the index out of its bounds.
@@ -25,7 +25,7 @@ pub enum Stored {
 }
 
 /// Whether a value keeps to the range, if there is one.
-pub fn in_range(range: Option<Range>, value: i64) -> bool
+pub fn in_range(range: Option<Subrange>, value: i64) -> bool
     ensures { result ≡ is_in_range (option_map range_of range) value }
 {
     match range {
@@ -35,16 +35,16 @@ pub fn in_range(range: Option<Range>, value: i64) -> bool
 }
 
 /// Stores a word, where the index is within its bounds.
-fn put_word(held: &mut Held, index: Option<i64>, value: i64) -> bool
+fn put_word(held: &mut SlotValue, index: Option<i64>, value: i64) -> bool
     ensures { IsTried (stored (held_of held.old) index value) (held_of held.old) result
         (held_of held.new) }
 {
     match held {
-        Held::One(word) => {
+        SlotValue::One(word) => {
             *word = value;
             true
         }
-        Held::Many(words) => match index {
+        SlotValue::Many(words) => match index {
             None => true,
             Some(index) => match place_at(words.low, words.items.as_slice(), index) {
                 None => false,
@@ -79,17 +79,17 @@ fn store_at(slots: &mut Vec<Slot<'_>>, at: usize, index: Option<i64>, value: i64
 }
 
 /// A store to the first variable of that name.
-fn store_in(slots: &mut Vec<Slot<'_>>, name: &Name, index: Option<i64>, value: i64) -> Stored
+fn store_in(slots: &mut Vec<Slot<'_>>, name: &Name, index: Option<i64>, value: i64) -> StoreResult
     ensures { IsStored (put_named name.now index value (vars_of slots.old.items))
         (vars_of slots.old.items) result (vars_of slots.new.items) }
 {
     match place_named(name, slots.as_slice()) {
-        None => Stored::Absent,
+        None => StoreResult::Absent,
         Some(at) => {
             if store_at(slots, at, index, value) {
-                Stored::Done
+                StoreResult::Done
             } else {
-                Stored::Refused
+                StoreResult::Refused
             }
         }
     }
@@ -98,11 +98,11 @@ fn store_in(slots: &mut Vec<Slot<'_>>, name: &Name, index: Option<i64>, value: i
 /// A store to the first variable of that name beside the call's own.
 fn store_beside<'a>(
     alloc: Global,
-    area: &mut Area<'_, 'a>,
+    area: &mut CowSlots<'_, 'a>,
     name: &Name,
     index: Option<i64>,
     value: i64,
-) -> Result<Stored, AllocError>
+) -> Result<StoreResult, AllocError>
     ensures { IfOk result (λ stored. IsStored (put_named name.now index value (area_of area.old))
         (area_of area.old) stored (area_of area.new)) }
 {
@@ -113,12 +113,12 @@ fn store_beside<'a>(
 }
 
 /// Whether what was to be stored is stored, or there is no such variable.
-fn is_accepted(stored: Stored) -> bool
+fn is_accepted(stored: StoreResult) -> bool
     ensures { result ≡ accepted stored }
 {
     match stored {
-        Stored::Refused => false,
-        Stored::Absent | Stored::Done => true,
+        StoreResult::Refused => false,
+        StoreResult::Absent | StoreResult::Done => true,
     }
 }
 
@@ -127,7 +127,7 @@ fn is_accepted(stored: Stored) -> bool
 pub fn store_to<'a>(
     alloc: Global,
     memory: &mut Memory<'_, 'a>,
-    home: Home,
+    home: CallOwner,
     target: Target<'a>,
     value: i64,
 ) -> Result<bool, AllocError>
@@ -135,16 +135,16 @@ pub fn store_to<'a>(
         store_in_reach (home_of home) (memory_of memory.old) (target_of target.entry) value) }
 {
     match store_in(&mut memory.own, target.name, target.index, value) {
-        Stored::Done => Ok(true),
-        Stored::Refused => Ok(false),
-        Stored::Absent => match home {
-            Home::Program => Ok(true),
-            Home::Process => {
+        StoreResult::Done => Ok(true),
+        StoreResult::Refused => Ok(false),
+        StoreResult::Absent => match home {
+            CallOwner::Program => Ok(true),
+            CallOwner::Process => {
                 let area = &mut memory.process;
                 let stored = store_beside(alloc, area, target.name, target.index, value)?;
                 Ok(is_accepted(stored))
             }
-            Home::Monitor(_) => {
+            CallOwner::Monitor(_) => {
                 let area = &mut memory.monitor;
                 let stored = store_beside(alloc, area, target.name, target.index, value)?;
                 Ok(is_accepted(stored))

@@ -5,7 +5,7 @@ ghost use Rattle.source_semantics.specs.Store.{up_to};
 ghost use Rattle.source_semantics.specs.Run as run_of;
 ghost use Rattle.replay_state.specs.View.{vars_of};
 
-use replay_state::{Held, Slot};
+use replay_state::{Slot, SlotValue};
 use std::alloc::AllocError;
 use syntax_tree::Name;
 
@@ -18,7 +18,7 @@ pub fn push_turn<'a>(own: &mut Vec<Slot<'a>>, name: &'a Name, value: i64) -> Res
     let slot = Slot {
         name,
         range: None,
-        held: Held::One(value),
+        held: SlotValue::One(value),
     };
     own.insert(0, slot)?;
     Ok(())

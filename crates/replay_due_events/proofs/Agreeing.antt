@@ -2,7 +2,7 @@
 use Rattle.std.specs.Prelude.{◌≡◌, ℕ, suc, ◌&&◌, Bool, true, false, cond, List, [], ◌∷◌, ◌++◌, Option, Some, None, map, slice_get, nat_eq}
 use Rattle.std.proofs.Common.{refl, sym, ◌∙◌, ap}
 use Rattle.base.specs.declared.event.Event.{Event}
-use Rattle.syntax_tree.specs.Plain.{Activation, periodic, at_event, Process, Prog}
+use Rattle.syntax_tree.specs.Plain.{Trigger, periodic, at_event, Process, Program}
 use Rattle.source_semantics.specs.Names.{processes}
 use Rattle.source_semantics.specs.Config.{Config, Job}
 use Rattle.source_semantics.specs.Ranks.{by_rank}
@@ -12,35 +12,35 @@ use Rattle.script.specs.declared.script.ScriptLine.TheVariants as line_is
 use Rattle.replay_due_events.specs.declared.timetable.Timing.{Timing}
 use Rattle.replay_due_events.specs.Timings.{clocked, expired, first_in, is_at, is_clocked, line_of, released_by, released_in, script_of, timing_of, timings}
 
-pub releases_agree : (g : Prog) (c : Config) (t e k : ℕ) (ps : List Process) → releases_by g c t e k ps ≡ released_by c.jobs t e k (map (λ p. timing_of g p.activation) ps)
+pub releases_agree : (g : Program) (c : Config) (t e k : ℕ) (ps : List Process) → releases_by g c t e k ps ≡ released_by c.jobs t e k (map (λ p. timing_of g p.activation) ps)
 releases_agree g c t e k [] = refl
 releases_agree g c t e k (p ∷ ps) =
     ap (λ xs. xs ++ releases_by g c t e (suc k) ps) (by_case p.activation)
     ∙ ap (λ xs. cond (is_at e (timing_of g p.activation)) (release_missing t k (slice_get c.jobs k)) [] ++ xs) (releases_agree g c t e (suc k) ps)
   where
-    by_case : (a : Activation) → cond (waits_for_event g e a) (release_missing t k (slice_get c.jobs k)) [] ≡ cond (is_at e (timing_of g a)) (release_missing t k (slice_get c.jobs k)) []
+    by_case : (a : Trigger) → cond (waits_for_event g e a) (release_missing t k (slice_get c.jobs k)) [] ≡ cond (is_at e (timing_of g a)) (release_missing t k (slice_get c.jobs k)) []
     by_case (periodic frame deadline first) = refl
     by_case (at_event name frame deadline) = refl
 
-pub lines_agree : (g : Prog) (c : Config) (t : ℕ) (ls : List ScriptLine) → event_releases g c t (map line_of ls) ≡ released_in c.jobs (timings g) t ls
+pub lines_agree : (g : Program) (c : Config) (t : ℕ) (ls : List ScriptLine) → event_releases g c t (map line_of ls) ≡ released_in c.jobs (timings g) t ls
 lines_agree g c t [] = refl
 lines_agree g c t (line_is.Set u d v ∷ ls) = lines_agree g c t ls
 lines_agree g c t (line_is.Occur u e ∷ ls) =
     ap (λ xs. cond (nat_eq u t) xs [] ++ event_releases g c t (map line_of ls)) (releases_agree g c t e 0 (processes g))
     ∙ ap (λ xs. cond (nat_eq u t) (released_by c.jobs t e 0 (timings g)) [] ++ xs) (lines_agree g c t ls)
 
-pub periodic_agree : (g : Prog) (c : Config) (t k : ℕ) (ps : List Process) → periodic_releases g c t k ps ≡ clocked c.jobs t k (map (λ p. timing_of g p.activation) ps)
+pub periodic_agree : (g : Program) (c : Config) (t k : ℕ) (ps : List Process) → periodic_releases g c t k ps ≡ clocked c.jobs t k (map (λ p. timing_of g p.activation) ps)
 periodic_agree g c t k [] = refl
 periodic_agree g c t k (p ∷ ps) =
     ap (λ xs. xs ++ periodic_releases g c t (suc k) ps) (by_case p.activation)
     ∙ ap (λ xs. cond (is_clocked t (timing_of g p.activation)) (release_missing t k (slice_get c.jobs k)) [] ++ xs) (periodic_agree g c t (suc k) ps)
   where
-    by_case : (a : Activation) → cond (is_due g t a) (release_missing t k (slice_get c.jobs k)) [] ≡ cond (is_clocked t (timing_of g a)) (release_missing t k (slice_get c.jobs k)) []
+    by_case : (a : Trigger) → cond (is_due g t a) (release_missing t k (slice_get c.jobs k)) [] ≡ cond (is_clocked t (timing_of g a)) (release_missing t k (slice_get c.jobs k)) []
     by_case (periodic frame deadline first) = refl
     by_case (at_event name frame deadline) = refl
 
 -- what is due, once nobody has acted at the tick
-pub due_open : (g : Prog) (c : Config) (ls : List ScriptLine) (end t : ℕ) → c.acted && nat_eq c.tick t ≡ false
+pub due_open : (g : Program) (c : Config) (ls : List ScriptLine) (end t : ℕ) → c.acted && nat_eq c.tick t ≡ false
     → due g (script_of ls end) c t ≡ released_in c.jobs (timings g) t ls ++ (clocked c.jobs t 0 (timings g) ++ expired c.jobs t (by_rank g))
 unfolding due
 due_open g c ls end t nobody =
@@ -48,7 +48,7 @@ due_open g c ls end t nobody =
     ∙ (ap (λ xs. xs ++ (periodic_releases g c t 0 (processes g) ++ time_outs g c t)) (lines_agree g c t ls)
     ∙ ap (λ xs. released_in c.jobs (timings g) t ls ++ (xs ++ time_outs g c t)) (periodic_agree g c t 0 (processes g)))
 
-pub due_acted : (g : Prog) (c : Config) (ls : List ScriptLine) (end t : ℕ) → c.acted && nat_eq c.tick t ≡ true → due g (script_of ls end) c t ≡ []
+pub due_acted : (g : Program) (c : Config) (ls : List ScriptLine) (end t : ℕ) → c.acted && nat_eq c.tick t ≡ true → due g (script_of ls end) c t ≡ []
 unfolding due
 due_acted g c ls end t acted = ap (λ b. cond b [] (event_releases g c t (map line_of ls) ++ (periodic_releases g c t 0 (processes g) ++ time_outs g c t))) acted
 
@@ -61,7 +61,7 @@ first_here [] ys e some = absurd cc
 first_here (x ∷ xs) ys e some = some
 
 -- the first that is due, found in a list for lists that are the same
-module _ (g : Prog) (c : Config) (ls : List ScriptLine) (end t : ℕ) (js : List Job) (xs : List Timing) (nobody : c.acted && nat_eq c.tick t ≡ false) (jobs : js ≡ c.jobs) (times : xs ≡ timings g) where
+module _ (g : Program) (c : Config) (ls : List ScriptLine) (end t : ℕ) (js : List Job) (xs : List Timing) (nobody : c.acted && nat_eq c.tick t ≡ false) (jobs : js ≡ c.jobs) (times : xs ≡ timings g) where
   listed : released_in js xs t ls ++ (clocked js t 0 xs ++ expired js t (by_rank g)) ≡ due g (script_of ls end) c t
   listed =
       ap (λ l. released_in l xs t ls ++ (clocked l t 0 xs ++ expired l t (by_rank g))) jobs

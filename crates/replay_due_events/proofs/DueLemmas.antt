@@ -6,7 +6,7 @@ use Rattle.std.proofs.lemmas.Bool.Decides.{nat_tests}
 use Rattle.base.proofs.Numbers.{itself}
 use Rattle.base.specs.declared.event.Event.{Event}
 use Rattle.base.specs.declared.event.Act.TheVariants as act
-use Rattle.syntax_tree.specs.Plain.{Activation, periodic, at_event, Process, Prog, Constant}
+use Rattle.syntax_tree.specs.Plain.{Trigger, periodic, at_event, Process, Program, Constant}
 use Rattle.source_semantics.specs.Names.{processes, count_value}
 use Rattle.source_semantics.specs.Config.{Doing, idle, active, waiting, Job, Config}
 use Rattle.source_semantics.specs.Ranks.{by_rank}
@@ -50,7 +50,7 @@ at_one r n from = by_case (nat_le from n) (is_empty (r n)) refl refl
         let low : from ≤ n = grind (arith, nat_tests) in
         rw (p, q) (low, (λ e. is_some (r n) q (sym here ∙ e)), (λ u l high. elsewhere u (λ e. absurd (omega (arith, high, e)))))
 
-lines_first : (g : Prog) (c : Config) (from : ℕ) (ls : List Line) → First (λ t. event_releases g c t ls) from (lines_due g c from ls)
+lines_first : (g : Program) (c : Config) (from : ℕ) (ls : List Line) → First (λ t. event_releases g c t ls) from (lines_due g c from ls)
 lines_first g c from [] = first_none from
 lines_first g c from (sets u d v ∷ ls) = lines_first g c from ls
 lines_first g c from (occurs u e ∷ ls) =
@@ -65,7 +65,7 @@ released_other n u (waiting r x since limit number) h apart = grind (arith, nat_
 some_release : (t k : ℕ) → release_of t k ∷ [] ≡ [] → ⊥
 some_release t k e = absurd cc
 
-periodic_first : (g : Prog) (frame : Constant) (deadline first : Option Constant) (k from : ℕ) (j : Option Job) → 0 < count_value g frame
+periodic_first : (g : Program) (frame : Constant) (deadline first : Option Constant) (k from : ℕ) (j : Option Job) → 0 < count_value g frame
     → First (λ t. cond (is_due g t (periodic frame deadline first)) (release_missing t k j) []) from (activation_due g from (periodic frame deadline first) j)
 periodic_first g frame deadline first k from None pos = λ u low. by_case u (falls (first_of g first) (count_value g frame) u)
   where
@@ -116,11 +116,11 @@ periodic_first g frame deadline first k from (Some j) pos = by_case (was_release
           ]),
         )
 
-activation_first : (g : Prog) (a : Activation) (k from : ℕ) (j : Option Job) → FramePasses g a → First (λ t. cond (is_due g t a) (release_missing t k j) []) from (activation_due g from a j)
+activation_first : (g : Program) (a : Trigger) (k from : ℕ) (j : Option Job) → FramePasses g a → First (λ t. cond (is_due g t a) (release_missing t k j) []) from (activation_due g from a j)
 activation_first g (periodic frame deadline first) k from j pos = periodic_first g frame deadline first k from j pos
 activation_first g (at_event e frame deadline) k from j pos = first_none from
 
-periodics_first : (g : Prog) (c : Config) (from k : ℕ) (ps : List Process) → All (λ p. FramePasses g p.activation) ps → First (λ t. periodic_releases g c t k ps) from (periodic_due g c from k ps)
+periodics_first : (g : Program) (c : Config) (from k : ℕ) (ps : List Process) → All (λ p. FramePasses g p.activation) ps → First (λ t. periodic_releases g c t k ps) from (periodic_due g c from k ps)
 periodics_first g c from k [] all = first_none from
 periodics_first g c from k (p ∷ ps) all =
     first_both (λ t. cond (is_due g t p.activation) (release_missing t k (slice_get c.jobs k)) []) (λ t. periodic_releases g c t (suc k) ps) from
@@ -149,10 +149,10 @@ waits_first c from (k ∷ ks) =
     (job_due from (slice_get c.jobs k)) (waits_due c from ks) (job_first k from (slice_get c.jobs k)) (waits_first c from ks)
 
 -- the events of a tick, whoever has acted in it
-abbrev all_due : Prog → Script → Config → ℕ → List Event
+abbrev all_due : Program → Script → Config → ℕ → List Event
 all_due g s c t = event_releases g c t s.lines ++ (periodic_releases g c t 0 (processes g) ++ time_outs g c t)
 
-all_first : (g : Prog) (s : Script) (c : Config) → FramesPass g → First (all_due g s c) (due_from c) (next_due g s c)
+all_first : (g : Program) (s : Script) (c : Config) → FramesPass g → First (all_due g s c) (due_from c) (next_due g s c)
 all_first g s c pass =
     first_both (λ t. event_releases g c t s.lines) (λ t. periodic_releases g c t 0 (processes g) ++ time_outs g c t) (due_from c)
     (lines_due g c (due_from c) s.lines) (sooner (periodic_due g c (due_from c) 0 (processes g)) (waits_due c (due_from c) (by_rank g)))
@@ -162,11 +162,11 @@ all_first g s c pass =
     (periodics_first g c (due_from c) 0 (processes g) pass) (waits_first c (due_from c) (by_rank g)))
 
 -- where somebody has acted in the tick reached, nothing is due in it
-acted_due : (g : Prog) (s : Script) (c : Config) → c.acted ≡ true → due g s c c.tick ≡ []
+acted_due : (g : Program) (s : Script) (c : Config) → c.acted ≡ true → due g s c c.tick ≡ []
 unfolding due
 acted_due g s c h = rw (h, itself c.tick) refl
 
-other_due : (g : Prog) (s : Script) (c : Config) (u : ℕ) → (c.tick ≡ u → ⊥) → due g s c u ≡ all_due g s c u
+other_due : (g : Program) (s : Script) (c : Config) (u : ℕ) → (c.tick ≡ u → ⊥) → due g s c u ≡ all_due g s c u
 unfolding due
 other_due g s c u apart = ap (λ b. cond (c.acted && b) [] (all_due g s c u)) (ne_eqb c.tick u apart) ∙ none c.acted
   where
@@ -174,11 +174,11 @@ other_due g s c u apart = ap (λ b. cond (c.acted && b) [] (all_due g s c u)) (n
     none true = refl
     none false = refl
 
-idle_due : (g : Prog) (s : Script) (c : Config) (u : ℕ) → c.acted ≡ false → due g s c u ≡ all_due g s c u
+idle_due : (g : Program) (s : Script) (c : Config) (u : ℕ) → c.acted ≡ false → due g s c u ≡ all_due g s c u
 unfolding due
 idle_due g s c u h = ap (λ b. cond (b && nat_eq c.tick u) [] (all_due g s c u)) h
 
-pub next_is : (g : Prog) (s : Script) (c : Config) → FramesPass g → IsNextDue g s c (next_due g s c)
+pub next_is : (g : Program) (s : Script) (c : Config) → FramesPass g → IsNextDue g s c (next_due g s c)
 next_is g s c pass = by_case c.acted refl
   where
     whole : First (all_due g s c) (due_from c) (next_due g s c)
@@ -196,7 +196,7 @@ next_is g s c pass = by_case c.acted refl
         first_same (all_due g s c) (due g s c) c.tick (next_due g s c) (λ u low. sym (idle_due g s c u e)) (subst (λ n. First (all_due g s c) n (next_due g s c)) starts whole)
 
 -- from the least tick to whether any is missing
-pub told_by : (g : Prog) (s : Script) (c : Config) (t : ℕ) (o : Option ℕ) → IsNextDue g s c o → NoneMissing g s c t ↔ (is_after t o ≡ true)
+pub told_by : (g : Program) (s : Script) (c : Config) (t : ℕ) (o : Option ℕ) → IsNextDue g s c o → NoneMissing g s c t ↔ (is_after t o ≡ true)
 told_by g s c t None h = ((λ n. refl), (λ e u low high. h u low))
 told_by g s c t (Some n) h = (
   (λ none. elim (cases_lt n t) [ inl lt ↦ absurd (h.1 (none n h.0 lt)) | inr ge ↦ is_low t n ge ]),
@@ -210,7 +210,7 @@ told_by g s c t (Some n) h = (
     under t n u e high = grind (arith, nat_tests)
 
 -- up to a tick, that tick included
-pub up_to_tick : (g : Prog) (s : Script) (c : Config) (t : ℕ) (o : Option ℕ) → IsNextDue g s c o → c.tick ≤ t → (NoneMissing g s c t × due g s c t ≡ []) ↔ (is_after (suc t) o ≡ true)
+pub up_to_tick : (g : Program) (s : Script) (c : Config) (t : ℕ) (o : Option ℕ) → IsNextDue g s c o → c.tick ≤ t → (NoneMissing g s c t × due g s c t ≡ []) ↔ (is_after (suc t) o ≡ true)
 up_to_tick g s c t o h reached =
     let told : NoneMissing g s c (suc t) ↔ (is_after (suc t) o ≡ true) = told_by g s c (suc t) o h in (
       (λ both. told.0 (λ u low high. elim (cases_lt u t) [ inl lt ↦ both.0 u low lt | inr ge ↦ let is : t ≡ u = omega (arith, ge, high) in subst (λ k. due g s c k ≡ []) is both.1 ])),

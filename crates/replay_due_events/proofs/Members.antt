@@ -4,7 +4,7 @@ use Rattle.std.specs.List.{position_or_len, prefix_len, cons_option}
 use Rattle.std.proofs.Common.{refl, sym, ◌∙◌, ap, inl, inr, arith, subst}
 use Rattle.std.proofs.lemmas.Bool.{cases_lt}
 use Rattle.std.proofs.lemmas.Bool.Decides.{nat_tests}
-use Rattle.syntax_tree.specs.Plain.{Prog, Process}
+use Rattle.syntax_tree.specs.Plain.{Program, Process}
 use Rattle.source_semantics.specs.Names.{processes, deadline_of}
 use Rattle.source_semantics.specs.Config.{Config}
 use Rattle.source_semantics.specs.Ranks.{numbers_from, deadlines, rank, by_rank}
@@ -139,16 +139,16 @@ position_is p n k low passes fails =
 
 -- ---- the processes in rank order
 
-deadline_there : (g : Prog) (ps : List Process) (k : ℕ) → k < length ps → (f : ℕ) × (slice_get (map (λ p. deadline_of g p.activation) ps) k ≡ Some f)
+deadline_there : (g : Program) (ps : List Process) (k : ℕ) → k < length ps → (f : ℕ) × (slice_get (map (λ p. deadline_of g p.activation) ps) k ≡ Some f)
 deadline_there g [] k low = absurd (omega (arith, low))
 deadline_there g (p ∷ ps) zero low = (deadline_of g p.activation, refl)
 deadline_there g (p ∷ ps) (suc k) low = deadline_there g ps k (omega (arith, low))
 
-deadlines_length : (g : Prog) (ps : List Process) → length (map (λ p. deadline_of g p.activation) ps) ≡ length ps
+deadlines_length : (g : Program) (ps : List Process) → length (map (λ p. deadline_of g p.activation) ps) ≡ length ps
 deadlines_length g [] = refl
 deadlines_length g (p ∷ ps) = ap suc (deadlines_length g ps)
 
-others_ranks : (g : Prog) (k j : ℕ) → k < length (processes g) → j < k → nat_eq (rank g j) (rank g k) ≡ false
+others_ranks : (g : Program) (k j : ℕ) → k < length (processes g) → j < k → nat_eq (rank g j) (rank g k) ≡ false
 others_ranks g k j low less = by_case (nat_eq (rank g j) (rank g k)) refl
   where
     by_case : (b : Bool) → nat_eq (rank g j) (rank g k) ≡ b → nat_eq (rank g j) (rank g k) ≡ false
@@ -159,7 +159,7 @@ others_ranks g k j low less = by_case (nat_eq (rank g j) (rank g k)) refl
         let same : rank g j ≡ rank g k = grind (arith, nat_tests) in
         absurd (ranks_apart (deadlines g) j k at_j.0 at_k.0 at_j.1 at_k.1 (λ s. absurd (omega (arith, s, less))) same)
 
-all_ranked : (g : Prog) (k : ℕ) → k < length (processes g) → Member k (by_rank g)
+all_ranked : (g : Program) (k : ℕ) → k < length (processes g) → Member k (by_rank g)
 all_ranked g k low =
     let at_k = deadline_there g (processes g) k low in
     let most : rank g k ≤ length (deadlines g) = rank_most (deadlines g) k at_k.0 at_k.1 in
@@ -175,12 +175,12 @@ all_ranked g k low =
     positive : (n k : ℕ) → n ≡ rank_in (deadlines g) k → 1 ≤ rank_in (deadlines g) k
     positive n k e = omega arith
 
-ranked_all : (g : Prog) (k : ℕ) → Member k (by_rank g) → Member k (numbers_from (length (processes g)) 0)
+ranked_all : (g : Program) (k : ℕ) → Member k (by_rank g) → Member k (numbers_from (length (processes g)) 0)
 ranked_all g k m =
     let r = came_from (λ r. position (λ i. nat_eq (rank g i) r) (numbers_from (length (processes g)) 0)) (numbers_from (length (processes g)) 1) k m in
     let low = position_below (λ i. nat_eq (rank g i) r.0) (numbers_from (length (processes g)) 0) k r.1 in
     numbers_member (length (processes g)) 0 k (omega arith) (omega (arith, low, numbers_length (length (processes g)) 0))
 
 -- the next time-out of the processes in rank order is that of the processes in textual order
-pub any_order : (g : Prog) (c : Config) (from : ℕ) → waits_due c from (by_rank g) ≡ waits_due c from (numbers_from (length (processes g)) 0)
+pub any_order : (g : Program) (c : Config) (from : ℕ) → waits_due c from (by_rank g) ≡ waits_due c from (numbers_from (length (processes g)) 0)
 any_order g c from = same_least c from (by_rank g) (numbers_from (length (processes g)) 0) (ranked_all g) (λ k m. let r = member_numbers (length (processes g)) 0 k m in all_ranked g k (omega (arith, r.1)))

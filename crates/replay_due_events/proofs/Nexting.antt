@@ -2,7 +2,7 @@
 use Rattle.std.specs.Prelude.{◌≡◌, ◌↔◌, ℕ, zero, suc, ◌+◌, ◌<◌, All, IsTrue, Bool, true, false, cond, not, ◌&&◌, List, [], ◌∷◌, Option, Some, None, map, min, nat_le, slice_get, length}
 use Rattle.std.proofs.Common.{refl, sym, ◌∙◌, ap, subst, arith, get_or}
 use Rattle.std.proofs.lemmas.Bool.Decides.{nat_tests}
-use Rattle.syntax_tree.specs.Plain.{Activation, periodic, at_event, Process, Prog}
+use Rattle.syntax_tree.specs.Plain.{Trigger, periodic, at_event, Process, Program}
 use Rattle.source_semantics.specs.Config.{Config, Job}
 use Rattle.source_semantics.specs.Ranks.{numbers_from}
 use Rattle.replay_due_events.specs.NextDue.{activation_due, doing_due, is_after, job_due, periodic_due, sooner, waits_due, due_from, lines_due, next_in_order, FramePasses, FramesPass, is_empty, line_due}
@@ -15,12 +15,12 @@ use Rattle.replay_due_events.specs.Timings.{FrameCounts, FramesCount, first_in, 
 use Rattle.replay_due_events.proofs.Agreeing.{releases_agree}
 use Rattle.replay_due_events.specs.Next.{jobs_due, timing_due, timings_due}
 
-timing_agrees : (g : Prog) (from : ℕ) (a : Activation) (j : Option Job) → activation_due g from a j ≡ timing_due from (timing_of g a) j
+timing_agrees : (g : Program) (from : ℕ) (a : Trigger) (j : Option Job) → activation_due g from a j ≡ timing_due from (timing_of g a) j
 timing_agrees g from (at_event e frame deadline) j = refl
 timing_agrees g from (periodic frame deadline first) None = refl
 timing_agrees g from (periodic frame deadline first) (Some j) = refl
 
-pub timings_agree : (g : Prog) (c : Config) (from k : ℕ) (ps : List Process) → periodic_due g c from k ps ≡ timings_due c.jobs from k (map (λ p. timing_of g p.activation) ps)
+pub timings_agree : (g : Program) (c : Config) (from k : ℕ) (ps : List Process) → periodic_due g c from k ps ≡ timings_due c.jobs from k (map (λ p. timing_of g p.activation) ps)
 timings_agree g c from k [] = refl
 timings_agree g c from k (p ∷ ps) =
     ap (λ o. sooner o (periodic_due g c from (suc k) ps)) (timing_agrees g from p.activation (slice_get c.jobs k))
@@ -64,7 +64,7 @@ some_full : (xs : List Event) (r : Event) → Some r ≡ first_in xs → is_empt
 some_full [] r e = absurd cc
 some_full (x ∷ xs) r e = refl
 
-module _ (g : Prog) (c : Config) (from until u e : ℕ) (js : List Job) (xs : List Timing) (jobs : js ≡ c.jobs) (times : xs ≡ timings g) where
+module _ (g : Program) (c : Config) (from until u e : ℕ) (js : List Job) (xs : List Timing) (jobs : js ≡ c.jobs) (times : xs ≡ timings g) where
   released : released_by js u e 0 xs ≡ releases_by g c u e 0 (processes g)
   released = ap (λ l. released_by l u e 0 xs) jobs ∙ (ap (λ l. released_by c.jobs u e 0 l) times ∙ sym (releases_agree g c u e 0 (processes g)))
 
@@ -82,7 +82,7 @@ module _ (g : Prog) (c : Config) (from until u e : ℕ) (js : List Job) (xs : Li
       let full : is_empty (releases_by g c u e 0 (processes g)) ≡ false = some_full (releases_by g c u e 0 (processes g)) r (some ∙ ap first_in released) in
       is ∙ (ap (λ x. is_after until (cond x (Some u) None)) (and_true (nat_le from u)) ∙ sym (ap (λ x. is_after until (cond (nat_le from u && not x) (Some u) None)) full))
 
-pub next_after : (g : Prog) (c : Config) (ls : List ScriptLine) (end until from : ℕ) (js : List Job) (xs : List Timing) (a b d : Bool)
+pub next_after : (g : Program) (c : Config) (ls : List ScriptLine) (end until from : ℕ) (js : List Job) (xs : List Timing) (a b d : Bool)
     → from ≡ due_from c → js ≡ c.jobs → xs ≡ timings g → length c.jobs ≡ length (processes g)
     → a ≡ is_after until (lines_due g c from (map line_of ls)) → b ≡ is_after until (timings_due js from 0 xs) → d ≡ is_after until (jobs_due from js)
     → a && (b && d) ≡ is_after until (next_in_order g (script_of ls end) c)
@@ -104,11 +104,11 @@ next_after g c ls end until from js xs a b d begins jobs times many by_lines by_
     ∙ (sym (ap (λ x. la && x) (after_sooner until (periodic_due g c (due_from c) 0 (processes g)) (waits_due c (due_from c) (numbers_from (length (processes g)) 0))))
     ∙ sym (after_sooner until (lines_due g c (due_from c) (map line_of ls)) (sooner (periodic_due g c (due_from c) 0 (processes g)) (waits_due c (due_from c) (numbers_from (length (processes g)) 0)))))))
 
-frame_counts : (g : Prog) (a : Activation) → FramePasses g a → FrameCounts (timing_of g a)
+frame_counts : (g : Program) (a : Trigger) → FramePasses g a → FrameCounts (timing_of g a)
 frame_counts g (periodic frame deadline first) passes = passes
 frame_counts g (at_event e frame deadline) passes = tt
 
-counts_from : (g : Prog) (ps : List Process) → All (λ p. FramePasses g p.activation) ps → FramesCount (map (λ p. timing_of g p.activation) ps)
+counts_from : (g : Program) (ps : List Process) → All (λ p. FramePasses g p.activation) ps → FramesCount (map (λ p. timing_of g p.activation) ps)
 counts_from g [] all = λ k d lt. absurd (omega (arith, lt))
 counts_from g (p ∷ ps) all = at (counts_from g ps (λ k d lt. all (suc k) d (omega (arith, lt))))
   where
@@ -117,7 +117,7 @@ counts_from g (p ∷ ps) all = at (counts_from g ps (λ k d lt. all (suc k) d (o
     at later zero d lt = frame_counts g p.activation (all 0 p (omega arith))
     at later (suc k) d lt = later k d (omega (arith, lt))
 
-pub frames_count : (g : Prog) (ts : List Timing) → ts ≡ timings g → FramesPass g → FramesCount ts
+pub frames_count : (g : Program) (ts : List Timing) → ts ≡ timings g → FramesPass g → FramesCount ts
 frames_count g ts e passes = subst FramesCount (sym e) (counts_from g (processes g) passes)
 
 pub told : (P : Type 0) (r x : Bool) → r ≡ x → P ↔ (x ≡ true) → P ↔ IsTrue r

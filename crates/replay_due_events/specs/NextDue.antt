@@ -2,7 +2,7 @@
 use Rattle.std.specs.Prelude.{◌≡◌, ℕ, suc, ◌+◌, ◌-◌, ◌*◌, ◌≤◌, ◌<◌, Bool, true, false, cond, ◌&&◌, not, List, [], ◌∷◌, Option, Some, None, nat_le, min, slice_get, All, length}
 use Rattle.std.specs.Int.{div_ceil}
 use Rattle.base.specs.declared.event.Event.{Event}
-use Rattle.syntax_tree.specs.Plain.{Activation, periodic, at_event, Process, Prog}
+use Rattle.syntax_tree.specs.Plain.{Trigger, periodic, at_event, Process, Program}
 use Rattle.source_semantics.specs.Names.{processes, count_value}
 use Rattle.source_semantics.specs.Config.{Doing, idle, active, waiting, Job, Config}
 use Rattle.source_semantics.specs.Ranks.{by_rank, numbers_from}
@@ -13,7 +13,7 @@ abbrev pub First : (ℕ → List Event) → ℕ → Option ℕ → Type 0
 First f from None = (u : ℕ) → from ≤ u → f u ≡ []
 First f from (Some n) = (from ≤ n) × (f n ≡ [] → ⊥) × ((u : ℕ) → from ≤ u → u < n → f u ≡ [])
 
-abbrev pub IsNextDue : Prog → Script → Config → Option ℕ → Type 0
+abbrev pub IsNextDue : Program → Script → Config → Option ℕ → Type 0
 IsNextDue g s c next = First (due g s c) c.tick next
 
 -- the sooner of two ticks, where there are any
@@ -32,11 +32,11 @@ is_empty [] = true
 is_empty (e ∷ es) = false
 
 -- a line's tick, where it releases somebody who has not been released in it
-abbrev pub line_due : Prog → Config → ℕ → Line → Option ℕ
+abbrev pub line_due : Program → Config → ℕ → Line → Option ℕ
 line_due g c from (sets u d v) = None
 line_due g c from (occurs u e) = cond (nat_le from u && not (is_empty (releases_by g c u e 0 (processes g)))) (Some u) None
 
-abbrev pub lines_due : Prog → Config → ℕ → List Line → Option ℕ
+abbrev pub lines_due : Program → Config → ℕ → List Line → Option ℕ
 lines_due g c from [] = None
 lines_due g c from (l ∷ ls) = sooner (line_due g c from l) (lines_due g c from ls)
 
@@ -48,13 +48,13 @@ release_from first frame from = first + div_ceil (from - first) frame * frame
 abbrev pub release_still : (frame n : ℕ) → Doing → ℕ
 release_still frame n d = cond (was_released_at n d) (n + frame) n
 
-abbrev pub activation_due : Prog → ℕ → Activation → Option Job → Option ℕ
+abbrev pub activation_due : Program → ℕ → Trigger → Option Job → Option ℕ
 activation_due g from (at_event e frame deadline) j = None
 activation_due g from (periodic frame deadline first) None = None
 activation_due g from (periodic frame deadline first) (Some j) = Some (release_still (count_value g frame) (release_from (first_of g first) (count_value g frame) from) j.doing)
 
 -- the next periodic release of those of the processes, the first of which is number k
-abbrev pub periodic_due : Prog → Config → ℕ → ℕ → List Process → Option ℕ
+abbrev pub periodic_due : Program → Config → ℕ → ℕ → List Process → Option ℕ
 periodic_due g c from k [] = None
 periodic_due g c from k (p ∷ ps) = sooner (activation_due g from p.activation (slice_get c.jobs k)) (periodic_due g c from (suc k) ps)
 
@@ -79,17 +79,17 @@ abbrev pub due_from : Config → ℕ
 due_from c = cond c.acted (suc c.tick) c.tick
 
 -- the tick at which a start event is missing next
-abbrev pub next_due : Prog → Script → Config → Option ℕ
+abbrev pub next_due : Program → Script → Config → Option ℕ
 next_due g s c = sooner (lines_due g c (due_from c) s.lines) (sooner (periodic_due g c (due_from c) 0 (processes g)) (waits_due c (due_from c) (by_rank g)))
 
 -- the same with the processes in textual order
-abbrev pub next_in_order : Prog → Script → Config → Option ℕ
+abbrev pub next_in_order : Program → Script → Config → Option ℕ
 next_in_order g s c = sooner (lines_due g c (due_from c) s.lines) (sooner (periodic_due g c (due_from c) 0 (processes g)) (waits_due c (due_from c) (numbers_from (length (processes g)) 0)))
 
-abbrev pub FramePasses : Prog → Activation → Type 0
+abbrev pub FramePasses : Program → Trigger → Type 0
 FramePasses g (periodic frame deadline first) = 0 < count_value g frame
 FramePasses g (at_event e frame deadline) = Unit {0}
 
 -- no periodic process has a frame of no ticks
-abbrev pub FramesPass : Prog → Type 0
+abbrev pub FramesPass : Program → Type 0
 FramesPass g = All (λ p. FramePasses g p.activation) (processes g)

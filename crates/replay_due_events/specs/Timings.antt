@@ -3,7 +3,7 @@
 use Rattle.std.specs.Prelude.{◌≡◌, ℕ, suc, ◌+◌, ◌-◌, ◌%◌, ◌<◌, Bool, false, cond, ◌&&◌, List, [], ◌∷◌, ◌++◌, Option, Some, None, nat_eq, nat_le, map, slice_get, flat_map, All}
 use Rattle.base.specs.declared.event.Event.{Event}
 use Rattle.base.specs.declared.event.Act.TheVariants as act
-use Rattle.syntax_tree.specs.Plain.{Activation, periodic, at_event, Prog}
+use Rattle.syntax_tree.specs.Plain.{Trigger, periodic, at_event, Program}
 use Rattle.source_semantics.specs.Names.{processes, event_number, count_value}
 use Rattle.source_semantics.specs.Config.{Job}
 use Rattle.source_semantics.specs.Ranks.{by_rank}
@@ -13,18 +13,18 @@ use Rattle.script.specs.declared.script.ScriptLine.TheVariants as line_is
 use Rattle.replay_due_events.specs.declared.timetable.Timing.{Timing}
 use Rattle.replay_due_events.specs.declared.timetable.Timing.TheVariants as timing_is
 use Rattle.replay_due_events.specs.declared.timetable.Timetable.{Timetable}
-use Rattle.replay_due_events.specs.declared.missing_due.Start.{Start}
-use Rattle.replay_due_events.specs.declared.missing_due.Start.TheVariants as start_is
+use Rattle.replay_due_events.specs.declared.due_starts.Start.{Start}
+use Rattle.replay_due_events.specs.declared.due_starts.Start.TheVariants as start_is
 
 -- how an activation is released
-abbrev pub timing_of : Prog → Activation → Timing
+abbrev pub timing_of : Program → Trigger → Timing
 timing_of g (periodic frame deadline first) = timing_is.Periodic (count_value g frame) (first_of g first)
 timing_of g (at_event e frame deadline) = timing_is.AtEvent (event_number g e)
 
-abbrev pub timings : Prog → List Timing
+abbrev pub timings : Program → List Timing
 timings g = map (λ p. timing_of g p.activation) (processes g)
 
-pub record IsTimetableOf (g : Prog) (t : Timetable) : Type 0 where
+pub record IsTimetableOf (g : Program) (t : Timetable) : Type 0 where
   pub timings : t.timings.items ≡ timings g
   pub by_rank : t.by_rank.items ≡ by_rank g
 

@@ -10,7 +10,7 @@ use Rattle.static_names.specs.declared.kind.Declared.{Declared}
 use Rattle.static_names.specs.Reach.{Names, first, same}
 use Rattle.static_names.specs.Occurrences.{declares, names, entries_at, closes, program_name, decl_name, member_name, entry_name, monitor_scope, monitor_inner}
 use Rattle.source_semantics.specs.Names.{condition_in, monitor_in, process_in}
-use Rattle.image.specs.declared.names.DevName.{DevName}
+use Rattle.image.specs.declared.names.DeviceName.{DeviceName}
 use Rattle.built_image.specs.Named.{named_device}
 use Rattle.static_semantics.specs.Places.{NamesFound}
 use Rattle.static_semantics.specs.Mirrors.{NamesListed, monitor_site, program_site}
@@ -88,7 +88,7 @@ monitors_are (routine r ∷ ds) = monitors_are ds
 monitors_are (monitor m ∷ ds) = ap (λ l. m.name ∷ l) (monitors_are ds)
 monitors_are (process p ∷ ds) = monitors_are ds
 
-devices_are : (ds : List (Decl Place)) → map (λ (d : DevName). d.name) (filter_map named_device (map plain_decl ds)) ≡ filter_map device_called ds
+devices_are : (ds : List (Decl Place)) → map (λ (d : DeviceName). d.name) (filter_map named_device (map plain_decl ds)) ≡ filter_map device_called ds
 devices_are [] = refl
 devices_are (constant n q c ∷ ds) = devices_are ds
 devices_are (device n q out ∷ ds) = ap (λ l. n ∷ l) (devices_are ds)
@@ -159,7 +159,7 @@ module _ (g : Prog Place) (found : NamesFound g) (listed : NamesListed g) where
   pub monitors_differ : Differing (map (λ (m : plain_of.Monitor). m.name) (filter_map monitor_in (map plain_decl g.decls)))
   monitors_differ = subst Differing (sym (monitors_are g.decls)) (picked_differ monitor_called monitor_picked g.decls declarations)
 
-  pub devices_differ : Differing (map (λ (d : DevName). d.name) (filter_map named_device (map plain_decl g.decls)))
+  pub devices_differ : Differing (map (λ (d : DeviceName). d.name) (filter_map named_device (map plain_decl g.decls)))
   devices_differ = subst Differing (sym (devices_are g.decls)) (picked_differ device_called device_picked g.decls declarations)
 
   pub conditions_differ : (m : Monitor Place) → In g.decls (monitor m) → Differing (filter_map condition_in (map plain_member m.members))

@@ -306,16 +306,16 @@ effect_fits image s i.End o there has set fits = tt
 
 -- ---- a tick of a process
 
-stepped_fits : (done burn place : ℕ) (job : Job) (owned shared : List ℤ) → JobFits job → Each Is32 owned → Each Is32 shared
-    → OwnFits (record { job = record job { place = place; done = done; burn = burn }; owned = owned; shared = shared })
-stepped_fits done burn place job owned shared fits own all = record {
+stepped_fits : (done dispatch_ticks place : ℕ) (job : Job) (owned shared : List ℤ) → JobFits job → Each Is32 owned → Each Is32 shared
+    → OwnFits (record { job = record job { place = place; done = done; dispatch_ticks = dispatch_ticks }; owned = owned; shared = shared })
+stepped_fits done dispatch_ticks place job owned shared fits own all = record {
   job = record { locals = fits.locals; operands = fits.operands; callers = fits.callers };
   owned = own;
   shared = all;
 }
 
-pub outcome_fits : (image : Image) (s : State) (job : Job) (owned : List ℤ) (burn : ℕ) → AreThere image → Each HasWords image.code → Each Is32 s.devices → JobFits job → Each Is32 owned → Each Is32 s.shared
-    → Fits (outcome image s job owned burn)
+pub outcome_fits : (image : Image) (s : State) (job : Job) (owned : List ℤ) (dispatch_ticks : ℕ) → AreThere image → Each HasWords image.code → Each Is32 s.devices → JobFits job → Each Is32 owned → Each Is32 s.shared
+    → Fits (outcome image s job owned dispatch_ticks)
 outcome_fits image s job owned (suc n) there has set fits own all = stepped_fits job.done n job.place job owned s.shared fits own all
 outcome_fits image s job owned zero there has set fits own all = by (slice_get image.code job.place) refl (get_each HasWords image.code job.place has) where
   by : (o : Option Instr) → slice_get image.code job.place ≡ o → Opt HasWords o → Fits (outcome_at image s job owned o)
@@ -323,6 +323,6 @@ outcome_fits image s job owned zero there has set fits own all = by (slice_get i
   by (Some instr) at words =
       either_fits (nat_lt (job.done + 1) (ticks instr)) (Goes (record { job = record job { done = job.done + 1 }; owned = owned; shared = s.shared }))
       (effect image s instr (record { job = at_next job; owned = owned; shared = s.shared }))
-      (stepped_fits (job.done + 1) job.burn job.place job owned s.shared fits own all)
+      (stepped_fits (job.done + 1) job.dispatch_ticks job.place job owned s.shared fits own all)
       (effect_fits image s instr (record { job = at_next job; owned = owned; shared = s.shared }) (there job.place instr at) words set
-      (stepped_fits 0 job.burn (job.place + 1) job owned s.shared fits own all))
+      (stepped_fits 0 job.dispatch_ticks (job.place + 1) job owned s.shared fits own all))

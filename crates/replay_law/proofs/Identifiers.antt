@@ -38,7 +38,7 @@ process_named p ts us (v1, t1, (v2, t2, more)) have = first p.name p.place v1 v2
 
 -- ---- declarations
 
-record DeclsAreNamed (ds : List plain_of.Decl) : Type 0 where
+record DeclsAreNamed (ds : List plain_of.Declaration) : Type 0 where
   processes : All (λ (p : plain_of.Process). IsIdentifier p.name) (filter_map process_in ds)
   monitors : All MonitorIsNamed (filter_map monitor_in ds)
   devices : All IsIdentifier (filter_map device_in ds)

@@ -6,12 +6,12 @@ use Rattle.std.proofs.lemmas.List.{length-map}
 use Rattle.std.proofs.lemmas.List.Elements.{All-nil, All-cons, All-head, All-tail, All-map, All-append, All-weaker}
 use Rattle.std.proofs.lemmas.Bool.{and_parts}
 use Rattle.syntax_tree.specs.Placed.{plain}
-use Rattle.syntax_tree.specs.Plain.{Name, Monitor, Process, Decl, constant, device, event, routine, monitor, process, Prog}
+use Rattle.syntax_tree.specs.Plain.{Name, Monitor, Process, Declaration, constant, device, event, routine, monitor, process, Program}
 use Rattle.source_semantics.specs.Names.{processes, monitors, conditions_of, device_in}
 use Rattle.syntax.specs.Spellings.{is_identifier, is_letter, is_word}
 use Rattle.text_fields.specs.Fields.{IsWord, Lacks}
-use Rattle.image.specs.declared.names.CondName.{CondName}
-use Rattle.image.specs.declared.names.DevName.{DevName}
+use Rattle.image.specs.declared.names.ConditionName.{ConditionName}
+use Rattle.image.specs.declared.names.DeviceName.{DeviceName}
 use Rattle.built_image.specs.Named.{named_conditions, named_device, names_of}
 use Rattle.event_log.specs.Logs.{AreWords}
 use Rattle.replay_law.specs.Words.{IsIdentifier, MonitorIsNamed, NamesAreIdentifiers, NamesOfTextsAreIdentifiers, NamesOfTextsAreWords}
@@ -43,10 +43,10 @@ identifier_is_word name is = by name is.0 where
 
 -- ---- the parts of a program
 
-abbrev ConditionIsWord : CondName → Type 0
+abbrev ConditionIsWord : ConditionName → Type 0
 ConditionIsWord c = IsWord c.name
 
-abbrev DeviceIsWord : DevName → Type 0
+abbrev DeviceIsWord : DeviceName → Type 0
 DeviceIsWord d = IsWord d.name
 
 conditions_are_words : (k : ℕ) (ms : List Monitor) → All MonitorIsNamed ms → All ConditionIsWord (named_conditions k ms)
@@ -56,7 +56,7 @@ conditions_are_words k (m ∷ ms) all =
     (All-map ConditionIsWord (named_in k) (conditions_of m) (All-weaker IsIdentifier IsWord identifier_is_word (conditions_of m) (All-head MonitorIsNamed m ms all).conditions))
     (conditions_are_words (suc k) ms (All-tail MonitorIsNamed m ms all))
 
-devices_are_words : (ds : List Decl) → All IsIdentifier (filter_map device_in ds) → All DeviceIsWord (filter_map named_device ds)
+devices_are_words : (ds : List Declaration) → All IsIdentifier (filter_map device_in ds) → All DeviceIsWord (filter_map named_device ds)
 devices_are_words [] all = All-nil DeviceIsWord
 devices_are_words (constant n c ∷ ds) all = devices_are_words ds all
 devices_are_words (device n o ∷ ds) all =
@@ -67,7 +67,7 @@ devices_are_words (routine r ∷ ds) all = devices_are_words ds all
 devices_are_words (monitor m ∷ ds) all = devices_are_words ds all
 devices_are_words (process p ∷ ds) all = devices_are_words ds all
 
-pub names_are_words : (g : Prog) → NamesAreIdentifiers g → AreWords (names_of g)
+pub names_are_words : (g : Program) → NamesAreIdentifiers g → AreWords (names_of g)
 names_are_words g all = record {
   processes = All-map IsWord (λ (p : Process). p.name) (processes g) (All-weaker (λ (p : Process). IsIdentifier p.name) (λ (p : Process). IsWord p.name) (λ p is. identifier_is_word p.name is) (processes g) all.of_processes);
   monitors = All-map IsWord (λ (m : Monitor). m.name) (monitors g) (All-weaker MonitorIsNamed (λ (m : Monitor). IsWord m.name) (λ m is. identifier_is_word m.name is.name) (monitors g) all.of_monitors);

@@ -10,7 +10,7 @@ use Rattle.source_semantics.specs.Names.{condition_in, conditions_of, monitor_in
 use Rattle.text_fields.specs.Fields.{IsWord}
 use Rattle.text_fields.proofs.Cuts.{cut_once}
 use Rattle.image.specs.declared.names.ImageNames.{ImageNames}
-use Rattle.image.specs.declared.names.CondName.{CondName}
+use Rattle.image.specs.declared.names.ConditionName.{ConditionName}
 use Rattle.built_image.specs.Named.{named_conditions}
 use Rattle.event_log.specs.Line.{condition_name, monitor_name, qualified}
 use Rattle.event_log.specs.Logs.{AreWords}
@@ -21,29 +21,29 @@ use Rattle.replay_law.proofs.Differing.{Differing}
 use Rattle.built_valid_law.proofs.Counts.{named_in}
 
 -- each has another monitor or another name than those behind it
-abbrev pub Apart : List CondName → Type 0
+abbrev pub Apart : List ConditionName → Type 0
 Apart [] = Unit {0}
-Apart (c ∷ cs) = ((d : CondName) → In cs d → c.mon ≡ d.mon → c.name ≡ d.name → ⊥) × Apart cs
+Apart (c ∷ cs) = ((d : ConditionName) → In cs d → c.mon ≡ d.mon → c.name ≡ d.name → ⊥) × Apart cs
 
-in_append : (xs ys : List CondName) (c : CondName) (P : Type 0) → In (xs ++ ys) c → (In xs c → P) → (In ys c → P) → P
+in_append : (xs ys : List ConditionName) (c : ConditionName) (P : Type 0) → In (xs ++ ys) c → (In xs c → P) → (In ys c → P) → P
 in_append [] ys c P i left right = right i
 in_append (x ∷ xs) ys c P (inl e) left right = left (inl e)
 in_append (x ∷ xs) ys c P (inr i) left right = in_append xs ys c P i (λ j. left (inr j)) right
 
 -- those of one monitor, and those of monitors from a later one on
-here_in : (k : ℕ) (ns : List Name) (c : CondName) → In (map (named_in k) ns) c → (c.mon ≡ k) × In ns c.name
+here_in : (k : ℕ) (ns : List Name) (c : ConditionName) → In (map (named_in k) ns) c → (c.mon ≡ k) × In ns c.name
 here_in k [] c i = absurd i
-here_in k (n ∷ ns) c (inl e) = (ap (λ (x : CondName). x.mon) (sym e), inl (ap (λ (x : CondName). x.name) e))
+here_in k (n ∷ ns) c (inl e) = (ap (λ (x : ConditionName). x.mon) (sym e), inl (ap (λ (x : ConditionName). x.name) e))
 here_in k (n ∷ ns) c (inr i) = let r = here_in k ns c i in (r.0, inr r.1)
 
-later_in : (k : ℕ) (ms : List plain_of.Monitor) (c : CondName) → In (named_conditions k ms) c → k ≤ c.mon
+later_in : (k : ℕ) (ms : List plain_of.Monitor) (c : ConditionName) → In (named_conditions k ms) c → k ≤ c.mon
 later_in k [] c i = absurd i
 later_in k (m ∷ ms) c i =
     in_append (map (named_in k) (conditions_of m)) (named_conditions (suc k) ms) c (k ≤ c.mon) i
     (λ j. let r = here_in k (conditions_of m) c j in let e = r.0 in omega (arith, e))
     (λ j. let r = later_in (suc k) ms c j in omega (arith, r))
 
-apart_append : (k : ℕ) (ns : List Name) (cs : List CondName) → Differing ns → Apart cs → ((c : CondName) → In cs c → suc k ≤ c.mon) → Apart (map (named_in k) ns ++ cs)
+apart_append : (k : ℕ) (ns : List Name) (cs : List ConditionName) → Differing ns → Apart cs → ((c : ConditionName) → In cs c → suc k ≤ c.mon) → Apart (map (named_in k) ns ++ cs)
 apart_append k [] cs differ apart later = apart
 apart_append k (n ∷ ns) cs differ apart later = (
   λ d i at same. in_append (map (named_in k) ns) cs d ⊥ i
@@ -67,40 +67,40 @@ conditions_apart k (process p ∷ ds) each = conditions_apart k ds (λ m i. each
 -- ---- by their places
 
 -- a condition stands at a place
-record StandsAt (names : ImageNames) (cs : List CondName) (k : ℕ) : Type 0 where
-  one : CondName
+record StandsAt (names : ImageNames) (cs : List ConditionName) (k : ℕ) : Type 0 where
+  one : ConditionName
   is : slice_get cs k ≡ Some one
   within : In cs one
   word : IsWord one.name
   placed : one.mon < length names.monitors
 
-stands_at : (names : ImageNames) (cs : List CondName) (k : ℕ) → k < length cs → All (λ (c : CondName). IsWord c.name) cs → All (λ (c : CondName). c.mon < length names.monitors) cs → StandsAt names cs k
+stands_at : (names : ImageNames) (cs : List ConditionName) (k : ℕ) → k < length cs → All (λ (c : ConditionName). IsWord c.name) cs → All (λ (c : ConditionName). c.mon < length names.monitors) cs → StandsAt names cs k
 stands_at names [] k low words placed = absurd (omega arith)
 stands_at names (c ∷ cs) zero low words placed = record {
   one = c;
   is = refl;
   within = inl refl;
-  word = All-head (λ (c : CondName). IsWord c.name) c cs words;
-  placed = All-head (λ (c : CondName). c.mon < length names.monitors) c cs placed;
+  word = All-head (λ (c : ConditionName). IsWord c.name) c cs words;
+  placed = All-head (λ (c : ConditionName). c.mon < length names.monitors) c cs placed;
 }
 stands_at names (c ∷ cs) (suc k) low words placed =
-    let s = stands_at names cs k (omega arith) (All-tail (λ (c : CondName). IsWord c.name) c cs words) (All-tail (λ (c : CondName). c.mon < length names.monitors) c cs placed) in
+    let s = stands_at names cs k (omega arith) (All-tail (λ (c : ConditionName). IsWord c.name) c cs words) (All-tail (λ (c : ConditionName). c.mon < length names.monitors) c cs placed) in
     record { one = s.one; is = s.is; within = inr s.within; word = s.word; placed = s.placed }
 
-found_in : (cs : List CondName) (k : ℕ) (c : CondName) → slice_get cs k ≡ Some c → In cs c
+found_in : (cs : List ConditionName) (k : ℕ) (c : ConditionName) → slice_get cs k ≡ Some c → In cs c
 found_in [] k c is = absurd cc
 found_in (x ∷ xs) zero c is = let same : x ≡ c = cc in inl same
 found_in (x ∷ xs) (suc k) c is = inr (found_in xs k c is)
 
-one_place : (cs : List CondName) → Apart cs → (i j : ℕ) (c d : CondName) → slice_get cs i ≡ Some c → slice_get cs j ≡ Some d → c.mon ≡ d.mon → c.name ≡ d.name → i ≡ j
+one_place : (cs : List ConditionName) → Apart cs → (i j : ℕ) (c d : ConditionName) → slice_get cs i ≡ Some c → slice_get cs j ≡ Some d → c.mon ≡ d.mon → c.name ≡ d.name → i ≡ j
 one_place [] apart i j c d at there mon name = absurd cc
 one_place (x ∷ xs) apart zero zero c d at there mon name = refl
 one_place (x ∷ xs) apart zero (suc j) c d at there mon name =
     let e : x ≡ c = cc in
-    absurd (apart.0 d (found_in xs j d there) (ap (λ (z : CondName). z.mon) e ∙ mon) (ap (λ (z : CondName). z.name) e ∙ name))
+    absurd (apart.0 d (found_in xs j d there) (ap (λ (z : ConditionName). z.mon) e ∙ mon) (ap (λ (z : ConditionName). z.name) e ∙ name))
 one_place (x ∷ xs) apart (suc i) zero c d at there mon name =
     let e : x ≡ d = cc in
-    absurd (apart.0 c (found_in xs i c at) (ap (λ (z : CondName). z.mon) e ∙ sym mon) (ap (λ (z : CondName). z.name) e ∙ sym name))
+    absurd (apart.0 c (found_in xs i c at) (ap (λ (z : ConditionName). z.mon) e ∙ sym mon) (ap (λ (z : ConditionName). z.name) e ∙ sym name))
 one_place (x ∷ xs) apart (suc i) (suc j) c d at there mon name = ap (λ n. suc n) (one_place xs apart.1 i j c d at there mon name)
 
 pub conditions_distinct : (names : ImageNames) → AreWords names → AreDistinct (length names.monitors) (monitor_name names) → Apart names.conditions → AreDistinct (length names.conditions) (condition_name names)

@@ -10,7 +10,7 @@ use Rattle.syntax_tree.specs.declared.place.Place.{Place}
 use Rattle.source_semantics.specs.Names.{processes}
 use Rattle.syntax.specs.Spellings.{is_identifier}
 use Rattle.static_names.specs.Resolved.{IsRead, IsNamed}
-use Rattle.image.specs.declared.names.DevName.{DevName}
+use Rattle.image.specs.declared.names.DeviceName.{DeviceName}
 use Rattle.image.specs.declared.names.ImageNames.{ImageNames}
 use Rattle.built_image.specs.Named.{names_of}
 use Rattle.event_log.specs.Line.{device_name}
@@ -26,11 +26,11 @@ use Rattle.replay_law.proofs.Qualified.{conditions_apart, conditions_distinct}
 no_dash : (name : Name) → IsIdentifier name → name ≢ codes "-"
 no_dash name is e = let clash : true ≡ false = sym is.0 ∙ ap is_identifier e in cc
 
-devices_distinct : (names : ImageNames) → Differing (map (λ (d : DevName). d.name) names.devices) → AreDistinct (length names.devices) (device_name names)
+devices_distinct : (names : ImageNames) → Differing (map (λ (d : DeviceName). d.name) names.devices) → AreDistinct (length names.devices) (device_name names)
 devices_distinct names differ i j low below e =
-    let many = length-map names.devices (λ (d : DevName). d.name) in
-    one_place (map (λ (d : DevName). d.name) names.devices) differ i j (omega (arith, low, many)) (omega (arith, below, many))
-    (sym (mapped_at (λ (d : DevName). d.name) names.devices i) ∙ (e ∙ mapped_at (λ (d : DevName). d.name) names.devices j))
+    let many = length-map names.devices (λ (d : DeviceName). d.name) in
+    one_place (map (λ (d : DeviceName). d.name) names.devices) differ i j (omega (arith, low, many)) (omega (arith, below, many))
+    (sym (mapped_at (λ (d : DeviceName). d.name) names.devices i) ∙ (e ∙ mapped_at (λ (d : DeviceName). d.name) names.devices j))
 
 pub names_of_programs_are_sound : ((g : Prog Place) → IsRead g → IsNamed g → NamesFound g) → ((g : Prog Place) → NamesListed g) → NamesOfTextsAreIdentifiers → NamesOfTextsAreWords → NamesOfProgramsAreSound
 names_of_programs_are_sound names_found names_listed identifiers texts text g is =

@@ -32,8 +32,8 @@ followed_good first go one rest =
     let two = rest first.state one.state in
     record { state = two.state; events = joined_each EventFits first.events (go first.state).events one.events two.events }
 
-pub raised_fits : (p : Process) (e burn : ℕ) (job : Job) → JobFits job → JobFits (record (raised p e job) { burn = burn })
-raised_fits p e burn job fits = record { locals = own_locals_each job.locals job.callers fits.locals fits.callers; operands = tt; callers = tt }
+pub raised_fits : (p : Process) (e dispatch_ticks : ℕ) (job : Job) → JobFits job → JobFits (record (raised p e job) { dispatch_ticks = dispatch_ticks })
+raised_fits p e dispatch_ticks job fits = record { locals = own_locals_each job.locals job.callers fits.locals fits.callers; operands = tt; callers = tt }
 
 module _ (image : Image) (t : ℕ) where
   told_good : (k : ℕ) (a : Act) (s : State) (new : Thread) → ActFits a → ThreadFits new → StateFits s → Good (told t k a s new)
@@ -85,9 +85,9 @@ module _ (image : Image) (t : ℕ) where
     by : (o : Option Thread) → Opt ThreadFits o → Good (time_out image t k p s o)
     by (Some (Waiting c due e job)) thread =
         either_good (nat_eq due t)
-        (told t k (act.TimeOut c e) (record s { queues = slice_set s.queues c (without k (queue_of s.queues c)) }) (Ready (record (raised p e job) { burn = 2 * image.over })))
+        (told t k (act.TimeOut c e) (record s { queues = slice_set s.queues c (without k (queue_of s.queues c)) }) (Ready (record (raised p e job) { dispatch_ticks = 2 * image.over })))
         (unchanged s)
-        (told_good k (act.TimeOut c e) (record s { queues = slice_set s.queues c (without k (queue_of s.queues c)) }) (Ready (record (raised p e job) { burn = 2 * image.over }))
+        (told_good k (act.TimeOut c e) (record s { queues = slice_set s.queues c (without k (queue_of s.queues c)) }) (Ready (record (raised p e job) { dispatch_ticks = 2 * image.over }))
         thread.0 (raised_fits p e (2 * image.over) job thread.1) (record { threads = fits.threads; owned = fits.owned; shared = fits.shared; devices = fits.devices }))
         (unchanged_good s fits)
     by (Some (Ready job)) thread = unchanged_good s fits

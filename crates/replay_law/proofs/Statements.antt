@@ -1,7 +1,7 @@
 -- What is made of statements.
 use Rattle.std.proofs.Common.{◌≡◌, ◌+◌, ◌-◌, ℕ, zero, suc, ℤ, pos, negsuc, Bool, true, false, cond, List, length, Option, Some, None, arith, refl}
 use Rattle.std.specs.Prelude.{slice_get, int_lt}
-use Rattle.syntax_tree.specs.Plain.{Name, Constant, Stmt, assign, assign_entry, assign_empty, perform, perform_entry, when, when_else, loop, exit_when, get, put, wait, signal, broadcast, except, assert, Stmts, no_stmts, stmts, Prog}
+use Rattle.syntax_tree.specs.Plain.{Name, Constant, Stmt, assign, assign_entry, assign_empty, perform, perform_entry, when, when_else, loop, exit_when, get, put, wait, signal, broadcast, except, assert, Stmts, no_stmts, stmts, Program}
 use Rattle.source_semantics.specs.Names.{constant_value, count_value, device_number}
 use Rattle.machine_isa.specs.declared.instr.Instr.{Instr}
 use Rattle.machine_isa.specs.declared.instr.Instr.TheVariants as i
@@ -88,13 +88,13 @@ aim_good p o good = aims_each (fit (pos (length o.code))) p (length o.code - p) 
 at_word : (n : ℕ) → IsWord (fit (pos n))
 at_word n = fit_word (pos n)
 
-worth_word : (g : Prog) (c : Constant) → IsWord (worth g c)
+worth_word : (g : Program) (c : Constant) → IsWord (worth g c)
 worth_word g c = fit_word (constant_value g c)
 
-count_word : (g : Prog) (c : Constant) → IsWord (count_told g c)
+count_word : (g : Program) (c : Constant) → IsWord (count_told g c)
 count_word g c = fit_word (pos (count_value g c))
 
-condition_word : (g : Prog) (c : Scope) (x : Name) → IsWord (condition_told g c x)
+condition_word : (g : Program) (c : Scope) (x : Name) → IsWord (condition_told g c x)
 condition_word g c x = fit_word (pos (condition_of g c.owner x))
 
 patched_good : (o : Out) (p : ℕ) (j : Instr) → Good o → HasWords j → Good (patched o p j)
@@ -151,7 +151,7 @@ asserting_good o good =
 -- ---- statements
 
 mutual
-  pub stmt_good : (g : Prog) (c : Scope) (s : Stmt) (o : Out) → Good o → Good (stmt_out g c s o)
+  pub stmt_good : (g : Program) (c : Scope) (s : Stmt) (o : Out) → Good o → Good (stmt_out g c s o)
   stmt_good g c (assign r e) o good = put_good g c r (expr_out g c e (index_out g c r o)) (expr_good g c e (index_out g c r o) (index_good g c r o good))
   stmt_good g c (put d e) o good =
       push_good (expr_out g c e o) (i.Out (fit (pos (device_number g d)))) (expr_good g c e o good) (one (fit (pos (device_number g d))) (at_word (device_number g d)))
@@ -194,6 +194,6 @@ mutual
   stmt_good g c (except n) o good = push_good o (i.Raise (count_told g n)) good (one (count_told g n) (count_word g n))
   stmt_good g c (assert e) o good = asserting_good (expr_out g c e o) (expr_good g c e o good)
 
-  pub stmts_good : (g : Prog) (c : Scope) (ss : Stmts) (o : Out) → Good o → Good (stmts_out g c ss o)
+  pub stmts_good : (g : Program) (c : Scope) (ss : Stmts) (o : Out) → Good o → Good (stmts_out g c ss o)
   stmts_good g c no_stmts o good = good
   stmts_good g c (stmts s ss) o good = stmts_good g c ss (stmt_out g c s o) (stmt_good g c s o good)

@@ -83,7 +83,7 @@ module _ (image : Image) where
       (standing_fits (with_own k o s) _ _ (set_each ThreadFits s.threads k (Waiting c (t + limit + 1) e o.job) (own.0, own.1.job) fits.threads) after)
   settled_good t k p job s (Raises e) short old fits low =
       tell_good t k (act.Raise e) _ low
-      (standing_fits s _ s.queues (set_each ThreadFits s.threads k (Ready (raised p e job)) (raised_fits p e job.burn job old) fits.threads) fits)
+      (standing_fits s _ s.queues (set_each ThreadFits s.threads k (Ready (raised p e job)) (raised_fits p e job.dispatch_ticks job old) fits.threads) fits)
   settled_good t k p job s Ends short old fits own = tell_good t k act.End _ tt (standing_fits s _ s.queues (set_each ThreadFits s.threads k Idle tt fits.threads) fits)
   settled_good t k p job s Stuck short old fits own = nothing_good s _ fits
 
@@ -96,8 +96,8 @@ module _ (image : Image) where
   ran_good t s (Some c) there has short fits = by (slice_get image.processes c.place) (slice_get s.threads c.place) (get_each ThreadFits s.threads c.place fits.threads) where
     by : (p : Option Process) (thread : Option Thread) → Opt ThreadFits thread → Good (run_thread image t c.place s p thread)
     by (Some p) (Some (Ready job)) old =
-        settled_good t c.place p job s (outcome image s job (owned_of (slice_get s.owned c.place)) job.burn) short old fits
-        (outcome_fits image s job (owned_of (slice_get s.owned c.place)) job.burn there has fits.devices old
+        settled_good t c.place p job s (outcome image s job (owned_of (slice_get s.owned c.place)) job.dispatch_ticks) short old fits
+        (outcome_fits image s job (owned_of (slice_get s.owned c.place)) job.dispatch_ticks there has fits.devices old
         (owned_each (slice_get s.owned c.place) (get_each (λ words. Each Is32 words) s.owned c.place fits.owned)) fits.shared)
     by (Some p) (Some Idle) old = nothing_good s _ fits
     by (Some p) (Some (Waiting condition due number job)) old = nothing_good s _ fits

@@ -27,7 +27,7 @@ AllNamed [] = Unit {0}
 AllNamed (t ∷ ts) = WordIsNamed t.word × AllNamed ts
 
 word_named : (bytes : List ℕ) (k : TokenKind) → HasKind bytes k → WordIsNamed (word_of k bytes)
-word_named bytes kind.Name h = h
+word_named bytes kind.Ident h = h
 word_named bytes (kind.Keyword n) h = tt
 word_named bytes (kind.Literal n) h = tt
 word_named bytes (kind.Sign n) h = tt

@@ -1,7 +1,7 @@
 -- Of one list of events one line is refused, or none is.
 use Rattle.std.proofs.Common.{◌≡◌, ◌++◌, ◌∙◌, ℕ, suc, List, [], ◌∷◌, length, refl, ap, sym, subst}
 use Rattle.base.specs.declared.event.Event.{Event}
-use Rattle.syntax_tree.specs.Plain.{Prog}
+use Rattle.syntax_tree.specs.Plain.{Program}
 use Rattle.source_semantics.specs.Config.{Config}
 use Rattle.source_semantics.specs.Starts.{Script}
 use Rattle.source_semantics.specs.Source.{RunFrom, Step}
@@ -9,9 +9,9 @@ use Rattle.source_semantics.specs.Verdicts.{Allowed, IsRefusedAt, Stops}
 
 -- steps are determined
 abbrev pub Determined : Type 0
-Determined = (g : Prog) (s : Script) (c : Config) (e : Event) (a b : Config) → Step g s c e a → Step g s c e b → a ≡ b
+Determined = (g : Program) (s : Script) (c : Config) (e : Event) (a b : Config) → Step g s c e a → Step g s c e b → a ≡ b
 
-module _ (determined : Determined) (g : Prog) (s : Script) where
+module _ (determined : Determined) (g : Program) (s : Script) where
   -- where the first event is another's too, it is allowed
   stops_at : (c : Config) (later more : List Event) (e : Event) (new : Config) → later ≡ e ∷ more → Step g s c e new → Stops g s c later → ⊥
   stops_at c later more e new is step stops = (subst (Stops g s c) is stops) new step

@@ -4,7 +4,7 @@ use Rattle.syntax.specs.declared.token.TokenKind.TheVariants as kind
 use Rattle.syntax.specs.Spellings.{HasKind}
 use Rattle.syntax_tree.specs.Placed as placed
 use Rattle.syntax_tree.specs.Placed.{plain}
-use Rattle.syntax_tree.specs.Plain.{Name, Monitor, Prog}
+use Rattle.syntax_tree.specs.Plain.{Name, Monitor, Program}
 use Rattle.syntax_tree.specs.declared.place.Place.{Place}
 use Rattle.source_semantics.specs.Names.{processes, monitors, conditions_of, device_in, event_in}
 use Rattle.front_end.specs.Source.{IsTreeOf}
@@ -13,7 +13,7 @@ use Rattle.event_log.specs.Logs.{AreWords}
 
 -- a name is what the token of a name spells
 abbrev pub IsIdentifier : Name → Type 0
-IsIdentifier name = HasKind name kind.Name
+IsIdentifier name = HasKind name kind.Ident
 
 -- the name of a monitor and those of its conditions
 pub record MonitorIsNamed (m : Monitor) : Type 0 where
@@ -21,7 +21,7 @@ pub record MonitorIsNamed (m : Monitor) : Type 0 where
   pub conditions : All IsIdentifier (conditions_of m)
 
 -- the names of a program, of its processes, monitors and conditions, devices and events
-pub record NamesAreIdentifiers (g : Prog) : Type 0 where
+pub record NamesAreIdentifiers (g : Program) : Type 0 where
   pub of_program : IsIdentifier g.name
   pub of_processes : All (λ p. IsIdentifier p.name) (processes g)
   pub of_monitors : All MonitorIsNamed (monitors g)

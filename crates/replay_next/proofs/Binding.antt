@@ -6,8 +6,8 @@ use Rattle.source_semantics.specs.Run as run
 use Rattle.replay_state.specs.View.{slot_of, vars_of}
 use Rattle.replay_state.specs.declared.variables.Slot as code_slot
 use Rattle.replay_calls.specs.Reach.{in_front}
-use Rattle.replay_calls.specs.declared.fresh.Bind as code_bind
-use Rattle.replay_calls.specs.declared.fresh.Bind.TheVariants as bind_is
+use Rattle.replay_calls.specs.declared.fresh.ArgumentResult as code_bind
+use Rattle.replay_calls.specs.declared.fresh.ArgumentResult.TheVariants as bind_is
 use Rattle.replay_next.proofs.CallRunsTurning.{in_front_all}
 
 vars_push : (ss : List code_slot.Slot) (s : code_slot.Slot) → vars_of (ss ++ s ∷ []) ≡ vars_of ss ++ slot_of s ∷ []
@@ -19,7 +19,7 @@ front_pushed vs s (run.bound ws) = ap run.bound (append_assoc vs (slot_of s ∷ 
 front_pushed vs s (run.unbound n) = refl
 
 -- the variables so far, a bound argument, those after it, all of them from there on, and in the end
-pub bind_goes : (old new : List code_slot.Slot) (s : code_slot.Slot) (d : code_bind.Bind) (after here : run.Bound) (w : run.Bound) → new ≡ old ++ s ∷ [] → d ≡ bind_is.To s → in_front d after ≡ here
+pub bind_goes : (old new : List code_slot.Slot) (s : code_slot.Slot) (d : code_bind.ArgumentResult) (after here : run.Bound) (w : run.Bound) → new ≡ old ++ s ∷ [] → d ≡ bind_is.To s → in_front d after ≡ here
     → in_front_all (vars_of old) here ≡ w → in_front_all (vars_of new) after ≡ w
 bind_goes old new s d after here w pushed is one whole =
     ap (λ l. in_front_all (vars_of l) after) pushed
@@ -27,7 +27,7 @@ bind_goes old new s d after here w pushed is one whole =
     ∙ (front_pushed (vars_of old) s after
     ∙ (ap (λ x. in_front_all (vars_of old) (in_front x after)) (sym is) ∙ (ap (in_front_all (vars_of old)) one ∙ whole))))
 
-pub bind_stops : (old : List code_slot.Slot) (n : ℕ) (d : code_bind.Bind) (after here : run.Bound) (w : run.Bound) → d ≡ bind_is.Raised n → in_front d after ≡ here → in_front_all (vars_of old) here ≡ w
+pub bind_stops : (old : List code_slot.Slot) (n : ℕ) (d : code_bind.ArgumentResult) (after here : run.Bound) (w : run.Bound) → d ≡ bind_is.Raised n → in_front d after ≡ here → in_front_all (vars_of old) here ≡ w
     → run.unbound n ≡ w
 bind_stops old n d after here w is one whole =
     ap (λ x. in_front_all (vars_of old) (in_front x after)) (sym is) ∙ (ap (in_front_all (vars_of old)) one ∙ whole)

@@ -2,7 +2,7 @@
 -- runs come to their end.
 use Rattle.std.specs.Prelude.{◌≡◌, ℕ, zero, suc, ◌+◌, ◌*◌, ◌-◌, ◌≤◌, ◌<◌, ◌≢◌, Bool, true, false, cond, List, [], ◌∷◌, Option, Some, None, slice_get, option_map, bytes_eq}
 use Rattle.std.proofs.Common.{refl, sym, ap, subst, arith}
-use Rattle.syntax_tree.specs.Plain.{Name, Expr, literal, truth, variable, element, call, minus, negation, paren, row, Exprs, no_exprs, exprs, Operands, no_operands, operand, Ref, whole, part, Stmt, assign, assign_entry, assign_empty, perform, perform_entry, when, when_else, loop, exit_when, get, put, wait, signal, broadcast, except, assert, Stmts, no_stmts, stmts, Answers, Routine, Process, Prog}
+use Rattle.syntax_tree.specs.Plain.{Name, Expr, literal, truth, variable, element, call, minus, negation, paren, row, Exprs, no_exprs, exprs, Operands, no_operands, operand, Ref, whole, part, Stmt, assign, assign_entry, assign_empty, perform, perform_entry, when, when_else, loop, exit_when, get, put, wait, signal, broadcast, except, assert, Stmts, no_stmts, stmts, Answers, Routine, Process, Program}
 use Rattle.syntax_tree.specs.Placed.{placed_expr, placed_exprs, placed_operands, placed_stmt, placed_stmts, plain_expr, plain_exprs, plain_operands, plain_stmt, plain_stmts}
 use Rattle.syntax_tree.specs.declared.expr.Op as code_op
 use Rattle.syntax_tree.specs.declared.expr.Expr as code_expr
@@ -69,11 +69,11 @@ routines_size [] = 0
 routines_size (r ∷ rs) = routine_size r + routines_size rs
 
 -- what the routines in reach of a process come to together
-abbrev pub weight : Prog → Process → ℕ
+abbrev pub weight : Program → Process → ℕ
 weight g p = routines_size p.routines + routines_size (routines g)
 
 -- the room that calls have which are nested at most so deep
-unfoldable pub room_in : Prog → Process → ℕ → ℕ
+unfoldable pub room_in : Program → Process → ℕ → ℕ
 room_in g p d = d * suc (suc (weight g p))
 
 -- ---- parts of lists
@@ -108,7 +108,7 @@ abbrev routine_or : Routine → Option Found → Routine
 routine_or r None = r
 routine_or r (Some f) = f.routine
 
-or_part : (g : Prog) (p : Process) (x : Name) (f : Found) (o u : Option Routine) → named entry_name x p.routines ≡ o → named entry_name x (routines g) ≡ u
+or_part : (g : Program) (p : Process) (x : Name) (f : Found) (o u : Option Routine) → named entry_name x p.routines ≡ o → named entry_name x (routines g) ≡ u
     → or_else (option_map (λ r. record { home = of_process; routine = r }) o) (option_map (λ r. record { home = of_program; routine = r }) u) ≡ Some f
     → routine_size f.routine ≤ weight g p
 or_part g p x f (Some r) u is also e =
@@ -122,11 +122,11 @@ or_part g p x f None (Some r) is also e =
 or_part g p x f None None is also e = absurd cc
 
 -- a routine that a name means is no larger than all together
-pub reached_part : (g : Prog) (p : Process) (x : Name) (f : Found) → routine_named g p x ≡ Some f → routine_size f.routine ≤ weight g p
+pub reached_part : (g : Program) (p : Process) (x : Name) (f : Found) → routine_named g p x ≡ Some f → routine_size f.routine ≤ weight g p
 reached_part g p x f h = or_part g p x f (named entry_name x p.routines) (named entry_name x (routines g)) refl refl h
 
 -- one call deeper there is room for a routine
-pub room_left : (g : Prog) (p : Process) (d n : ℕ) → d ≢ 0 → n ≤ suc (weight g p) → room_in g p (d - 1) + n < room_in g p d
+pub room_left : (g : Program) (p : Process) (d n : ℕ) → d ≢ 0 → n ≤ suc (weight g p) → room_in g p (d - 1) + n < room_in g p d
 unfolding room_in
 room_left g p zero n ne le = absurd (ne refl)
 room_left g p (suc d) n ne le =

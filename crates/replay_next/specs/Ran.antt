@@ -5,24 +5,24 @@ use Rattle.syntax_tree.specs.Plain.{Name, Ref, whole, part}
 use Rattle.base.specs.Words as w
 use Rattle.source_semantics.specs.Run as run
 use Rattle.replay_state.specs.View.{action_of, calls_of, item_of, target_of, vars_of}
-use Rattle.replay_values.specs.declared.lookup.Scope as code_scope
-use Rattle.replay_next.specs.declared.results.Ran as code_ran
-use Rattle.replay_next.specs.declared.results.Ran.TheVariants as ran_is
-use Rattle.replay_next.specs.declared.results.Bound as code_bound
-use Rattle.replay_next.specs.declared.results.Bound.TheVariants as bound_is
-use Rattle.replay_next.specs.declared.results.Aim as code_aim
-use Rattle.replay_next.specs.declared.results.Aim.TheVariants as aim_is
-use Rattle.replay_next.specs.declared.visible.Test as code_test
-use Rattle.replay_next.specs.declared.visible.Test.TheVariants as test_is
+use Rattle.replay_values.specs.declared.lookup.EvalContext as code_scope
+use Rattle.replay_next.specs.declared.results.RunResult as code_ran
+use Rattle.replay_next.specs.declared.results.RunResult.TheVariants as ran_is
+use Rattle.replay_next.specs.declared.results.ArgumentsResult as code_bound
+use Rattle.replay_next.specs.declared.results.ArgumentsResult.TheVariants as bound_is
+use Rattle.replay_next.specs.declared.results.TargetResult as code_aim
+use Rattle.replay_next.specs.declared.results.TargetResult.TheVariants as aim_is
+use Rattle.replay_next.specs.declared.visible.ConditionResult as code_test
+use Rattle.replay_next.specs.declared.visible.ConditionResult.TheVariants as test_is
 
 -- what statements come to, with the variables in reach after them
-abbrev pub ran_of : code_ran.Ran → run.Memory → run.Run
+abbrev pub ran_of : code_ran.RunResult → run.Memory → run.Run
 ran_of ran_is.Goes m = run.goes m
 ran_of ran_is.Exits m = run.exits m
 ran_of (ran_is.Fails n) m = run.fails n m
 ran_of (ran_is.Stops s) m = run.stops (action_of s.action) (calls_of s.inside.items) (map item_of s.rest.items) m
 
-abbrev pub bound_of : code_bound.Bound → run.Bound
+abbrev pub bound_of : code_bound.ArgumentsResult → run.Bound
 bound_of (bound_is.Params slots) = run.bound (vars_of slots.items)
 bound_of (bound_is.Unbound n) = run.unbound n
 
@@ -31,7 +31,7 @@ pub data Aimed : Type 0 where
   at : run.Target → Aimed
   off : (number : ℕ) → Aimed
 
-abbrev pub aimed_of : code_aim.Aim → Aimed
+abbrev pub aimed_of : code_aim.TargetResult → Aimed
 aimed_of (aim_is.At t) = at (target_of t)
 aimed_of (aim_is.Raised n) = off n
 
@@ -49,7 +49,7 @@ aim_in c m (whole x) = at (record { name = x; index = None })
 aim_in c m (part x i) = aimed_at x (run.value c m i)
 
 -- what a choice comes to
-abbrev pub tested_run : code_test.Test → run.Memory → run.Run → run.Run → run.Run
+abbrev pub tested_run : code_test.ConditionResult → run.Memory → run.Run → run.Run → run.Run
 tested_run test_is.Holds m first second = first
 tested_run test_is.Not m first second = second
 tested_run (test_is.Raised n) m first second = run.fails n m
@@ -64,5 +64,5 @@ listed None = []
 listed (Some i) = i ∷ []
 
 -- a routine that a name in the process's texts means
-abbrev pub IsReached : code_scope.Scope → run.Found → Type 0
+abbrev pub IsReached : code_scope.EvalContext → run.Found → Type 0
 IsReached s f = (x : Name) × (run.routine_named (plain (placed s.declarations.now)) (plain_process (placed_process s.process.now)) x ≡ Some f)

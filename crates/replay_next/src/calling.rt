@@ -8,24 +8,24 @@ ghost use Rattle.replay_values.specs.Lookups.{found_of};
 ghost use Rattle.replay_calls.specs.Reach.{memory_of, site_of};
 ghost use Rattle.replay_next.specs.Ran.{bound_of, ran_of, receiving};
 
-use crate::results::{Bound, Ran, Stop, stopped_in};
+use crate::results::{ArgumentsResult, RunResult, Stop, stopped_in};
 use replay_calls::{Memory, add_fresh, home_in};
-use replay_state::{Action, Answering, Call, Home, Item, Slot, Target};
-use replay_values::{Found, Scope};
+use replay_state::{Action, Call, CallOwner, Item, ResultExpr, Slot, Target};
+use replay_values::{EvalContext, ResolvedRoutine};
 use static_declarations::Declarations;
 use std::alloc::{AllocError, Global};
 use std::mem;
 use syntax_tree::Routine;
 
 /// The type and the expression of a routine's result, where it has one.
-pub fn answering<'a>(routine: &'a Routine) -> Option<Answering<'a>>
+pub fn answering<'a>(routine: &'a Routine) -> Option<ResultExpr<'a>>
     ensures { option_map answers_of result ≡ (plain_routine (placed_routine routine.now)).answers }
 {
     match &routine.result {
         None => None,
         Some(kind) => match &routine.value {
             None => None,
-            Some(value) => Some(Answering { kind, value }),
+            Some(value) => Some(ResultExpr { kind, value }),
         },
     }
 }
@@ -49,7 +49,7 @@ pub fn own_vars<'a>(
 /// The call of an entry before its first statement.
 fn entry_call<'a>(
     alloc: Global,
-    found: &Found<'a>,
+    found: &ResolvedRoutine<'a>,
     mon: usize,
     own: Vec<Slot<'a>>,
 ) -> Result<Call<'a>, AllocError>
@@ -71,21 +71,21 @@ fn entry_call<'a>(
 
 /// A call of an entry with these arguments; its answer, if any, is to be stored.
 pub fn entered<'a>(
-    scope: &Scope<'a>,
-    home: Home,
+    scope: &EvalContext<'a>,
+    home: CallOwner,
     depth: usize,
-    found: &Found<'a>,
+    found: &ResolvedRoutine<'a>,
     mon: usize,
-    bound: Bound<'a>,
+    bound: ArgumentsResult<'a>,
     target: Option<Target<'a>>,
-) -> Result<Ran<'a>, AllocError>
+) -> Result<RunResult<'a>, AllocError>
     ensures { IfOk result (λ ran. (m : run_of.Memory) → ran_of ran m ≡
         run_of.entered (site_of scope.now home depth) m (found_of found.now) mon
         (bound_of bound.entry) (receiving (option_map target_of target.entry))) }
 {
     match bound {
-        Bound::Unbound(number) => Ok(Ran::Fails(number)),
-        Bound::Params(params) => {
+        ArgumentsResult::Unbound(number) => Ok(RunResult::Fails(number)),
+        ArgumentsResult::Params(params) => {
             let own = own_vars(scope.alloc, scope.declarations, found.routine, params)?;
             let mut inside = Vec::new(scope.alloc);
             inside.push(entry_call(scope.alloc, found, mon, own)?)?;
@@ -93,7 +93,7 @@ pub fn entered<'a>(
             if let Some(target) = target {
                 rest.push(Item::Receive(target))?;
             }
-            Ok(Ran::Stops(Stop {
+            Ok(RunResult::Stops(Stop {
                 action: Action::Enters { mon },
                 inside,
                 rest,
@@ -105,19 +105,19 @@ pub fn entered<'a>(
 /// What a procedure came to as a part of its caller, whose variables come back.
 pub fn given_back<'a>(
     alloc: Global,
-    home: Home,
+    home: CallOwner,
     memory: &mut Memory<'_, 'a>,
     callers: Vec<Slot<'a>>,
-    ran: Ran<'a>,
-) -> Result<Ran<'a>, AllocError>
+    ran: RunResult<'a>,
+) -> Result<RunResult<'a>, AllocError>
     ensures { IfOk result (λ all. ran_of all (memory_of memory.new) ≡
         run_of.within_caller (home_of home) (vars_of callers.entry.items)
         (ran_of ran.entry (memory_of memory.old))) }
 {
     let own = mem::replace(&mut memory.own, callers);
     match ran {
-        Ran::Goes | Ran::Exits => Ok(Ran::Goes),
-        Ran::Fails(number) => Ok(Ran::Fails(number)),
-        Ran::Stops(stop) => stopped_in(alloc, stop, home, own),
+        RunResult::Goes | RunResult::Exits => Ok(RunResult::Goes),
+        RunResult::Fails(number) => Ok(RunResult::Fails(number)),
+        RunResult::Stops(stop) => stopped_in(alloc, stop, home, own),
     }
 }

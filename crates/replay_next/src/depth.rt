@@ -5,22 +5,22 @@ ghost use Rattle.syntax_tree.specs.Placed.{placed, placed_decl, plain, plain_dec
 ghost use Rattle.source_semantics.specs.Names.{routine_count as count_of, routines_in};
 
 use static_declarations::Declarations;
-use syntax_tree::Decl;
+use syntax_tree::Declaration;
 
 /// How many routines or entries a declaration has.
-fn routines_of(decl: &Decl) -> usize
+fn routines_of(decl: &Declaration) -> usize
     ensures { result ≡ routines_in (plain_decl (placed_decl decl.now)) }
 {
     match decl {
-        Decl::Routine(_) => 1,
-        Decl::Mon(monitor) => monitor.entries.len(),
-        Decl::Proc(process) => process.routines.len(),
-        Decl::Const { .. } | Decl::Device { .. } | Decl::Event { .. } => 0,
+        Declaration::Routine(_) => 1,
+        Declaration::Monitor(monitor) => monitor.entries.len(),
+        Declaration::Process(process) => process.routines.len(),
+        Declaration::Const { .. } | Declaration::Device { .. } | Declaration::Event { .. } => 0,
     }
 }
 
 /// How many routines and entries the declarations have.
-fn routines_among(decls: &[Decl]) -> Option<usize>
+fn routines_among(decls: &[Declaration]) -> Option<usize>
     ensures { IfSome result (λ n. n ≡ sum_by routines_in
         (map plain_decl (map placed_decl decls.now))) }
 {

@@ -18,8 +18,8 @@ mod runs;
 mod visible;
 
 pub use depth::routine_count;
-pub use items::Came;
+pub use items::ItemResult;
 pub use next::next_action;
-pub use results::{Aim, Ran, Stop, stops};
+pub use results::{RunResult, Stop, TargetResult, stops};
 pub use runs::{run_all, turns, value};
 pub use visible::assigned;

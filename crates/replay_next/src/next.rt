@@ -10,11 +10,13 @@ ghost use Rattle.source_semantics.specs.Source.{job_next};
 ghost use Rattle.replay_state.specs.View.{action_of, call_of, calls_of, config_of, holds_of, home_of, item_of, job_of, next_of, vars_of};
 ghost use Rattle.replay_calls.specs.Reach.{area_of};
 
-use crate::items::{Came, run_items};
-use crate::{Ran, Stop};
-use replay_calls::{Area, Memory, lent, slots_copied};
-use replay_state::{Action, Call, Config, Hold, Home, Item, Job, Next, Slot};
-use replay_values::Scope;
+use crate::items::{ItemResult, run_items};
+use crate::{RunResult, Stop};
+use replay_calls::{CowSlots, Memory, lent, slots_copied};
+use replay_state::{
+    Action, Call, CallOwner, Config, Item, MonitorState, NextAction, ProcessState, Slot,
+};
+use replay_values::EvalContext;
 use std::alloc::{AllocError, Global};
 
 /// An action after which these calls and variables remain.
@@ -22,9 +24,9 @@ fn acted<'a>(
     alloc: Global,
     action: Action,
     calls: Vec<Call<'a>>,
-    process: Area<'_, 'a>,
-    monitor: Area<'_, 'a>,
-) -> Result<Next<'a>, AllocError>
+    process: CowSlots<'_, 'a>,
+    monitor: CowSlots<'_, 'a>,
+) -> Result<NextAction<'a>, AllocError>
     ensures { IfOk result (λ next. next_of next ≡ record {
       action = action_of action;
       calls = calls_of calls.entry.items;
@@ -36,7 +38,7 @@ fn acted<'a>(
     let mut monitor = monitor;
     let process = process.take(alloc)?;
     let monitor = monitor.take(alloc)?;
-    Ok(Next {
+    Ok(NextAction {
         action,
         calls,
         process,
@@ -77,10 +79,10 @@ fn add_calls<'a>(
 fn stopped<'a>(
     alloc: Global,
     stop: Stop<'a>,
-    home: Home,
+    home: CallOwner,
     memory: Memory<'_, 'a>,
     around: &[Call<'a>],
-) -> Result<Next<'a>, AllocError>
+) -> Result<NextAction<'a>, AllocError>
     ensures { IfOk result (λ next. next_of next ≡ record {
       action = action_of stop.entry.action;
       calls = calls_of stop.entry.inside.items ++ record {
@@ -142,12 +144,12 @@ fn given_items<'a>(
 /// The next action from calls in progress, the innermost first, over these variables of the process
 /// and of the monitor that it is inside. Calls are nested at most as deep as there are routines.
 pub fn next_from<'a>(
-    scope: &Scope<'a>,
+    scope: &EvalContext<'a>,
     depth: usize,
     calls: &[Call<'a>],
     process: &[Slot<'a>],
     monitor: &[Slot<'a>],
-) -> Result<Next<'a>, AllocError>
+) -> Result<NextAction<'a>, AllocError>
     requires { depth ≡ routine_count (plain (placed scope.now.declarations.now)) }
     ensures { IfOk result (λ next. next_of next ≡ next_of_source.next_from
         (plain (placed scope.now.declarations.now))
@@ -165,15 +167,15 @@ pub fn next_from<'a>(
         memory.own = slots_copied(scope.alloc, call.own.as_slice())?;
         let items = given_items(scope.alloc, call.rest.as_slice(), given)?;
         match run_items(scope, call.home, depth, &mut memory, items.as_slice())? {
-            Came::Gives(value) => given = Some(value),
-            Came::Ran(ran) => match ran {
-                Ran::Goes | Ran::Exits => given = None,
-                Ran::Fails(number) => {
+            ItemResult::Gives(value) => given = Some(value),
+            ItemResult::Ran(ran) => match ran {
+                RunResult::Goes | RunResult::Exits => given = None,
+                RunResult::Fails(number) => {
                     let none = Vec::new(scope.alloc);
                     let action = Action::Raises { number };
                     return acted(scope.alloc, action, none, memory.process, memory.monitor);
                 }
-                Ran::Stops(stop) => {
+                RunResult::Stops(stop) => {
                     return stopped(scope.alloc, stop, call.home, memory, &calls[at + 1..]);
                 }
             },
@@ -190,7 +192,7 @@ pub fn next_from<'a>(
 }
 
 /// The variables of the monitor of that number.
-fn vars_held<'c, 'a>(holds: &'c [Hold<'a>], mon: usize) -> Option<&'c [Slot<'a>]>
+fn vars_held<'c, 'a>(holds: &'c [MonitorState<'a>], mon: usize) -> Option<&'c [Slot<'a>]>
     ensures { unwrap_or (option_map (λ s. vars_of s.now) result) [] ≡
         hold_vars (slice_get (holds_of holds.now) mon) }
 {
@@ -214,12 +216,12 @@ fn monitor_vars<'c, 'a>(config: &'c Config<'a>, process: usize) -> Option<&'c [S
 /// The next action of a process, of which this is the number and the job. The configuration stays
 /// as it is; the only error is want of memory.
 pub fn next_action<'a>(
-    scope: &Scope<'a>,
+    scope: &EvalContext<'a>,
     depth: usize,
     config: &Config<'a>,
     process: usize,
-    job: &Job<'a>,
-) -> Result<Next<'a>, AllocError>
+    job: &ProcessState<'a>,
+) -> Result<NextAction<'a>, AllocError>
     requires { depth ≡ routine_count (plain (placed scope.now.declarations.now)) }
     ensures { IfOk result (λ next. next_of next ≡ job_next (config_of config.now) process
         (plain_process (placed_process scope.now.process.now)) (job_of job.now)

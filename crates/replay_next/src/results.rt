@@ -6,7 +6,7 @@ ghost use Rattle.replay_state.specs.View.{action_of, calls_of, home_of, item_of,
 ghost use Rattle.replay_next.specs.Ran.{aimed_of, aimed_at as aimed, listed, ran_of, with_aimed};
 ghost use Rattle.replay_values.specs.Seen.{answer_of};
 
-use replay_state::{Action, Call, Home, Item, Slot, Target};
+use replay_state::{Action, Call, CallOwner, Item, Slot, Target};
 use replay_values::Answer;
 use std::alloc::{AllocError, Global};
 use syntax_tree::Name;
@@ -22,7 +22,7 @@ pub struct Stop<'a> {
 
 /// What statements come to.
 #[derive(Drop)]
-pub enum Ran<'a> {
+pub enum RunResult<'a> {
     Goes,
     /// An exit from the innermost loop.
     Exits,
@@ -33,14 +33,14 @@ pub enum Ran<'a> {
 
 /// Arguments as the variables of the parameters, or the number of the exception of one of them.
 #[derive(Drop)]
-pub enum Bound<'a> {
+pub enum ArgumentsResult<'a> {
     Params(Vec<Slot<'a>>),
     Unbound(u32),
 }
 
 /// A variable to be stored to, or the number of the exception of its index.
 #[derive(Clone, Copy)]
-pub enum Aim<'a> {
+pub enum TargetResult<'a> {
     At(Target<'a>),
     Raised(u32),
 }
@@ -50,7 +50,7 @@ pub fn stops<'a>(
     alloc: Global,
     action: Action,
     rest: Option<Item<'a>>,
-) -> Result<Ran<'a>, AllocError>
+) -> Result<RunResult<'a>, AllocError>
     ensures { IfOk result (λ ran. (m : run_of.Memory) → ran_of ran m ≡
         run_of.stops (action_of action) [] (listed (option_map item_of rest.entry)) m) }
 {
@@ -58,7 +58,7 @@ pub fn stops<'a>(
     if let Some(item) = rest {
         items.push(item)?;
     }
-    Ok(Ran::Stops(Stop {
+    Ok(RunResult::Stops(Stop {
         action,
         inside: Vec::new(alloc),
         rest: items,
@@ -66,7 +66,7 @@ pub fn stops<'a>(
 }
 
 /// A stop after which this remains besides.
-pub fn stopped_before<'a>(stop: Stop<'a>, item: Item<'a>) -> Result<Ran<'a>, AllocError>
+pub fn stopped_before<'a>(stop: Stop<'a>, item: Item<'a>) -> Result<RunResult<'a>, AllocError>
     ensures { IfOk result (λ ran. (m : run_of.Memory) → ran_of ran m ≡
         run_of.stops (action_of stop.entry.action) (calls_of stop.entry.inside.items)
         (map item_of stop.entry.rest.items ++ item_of item.entry ∷ []) m) }
@@ -77,7 +77,7 @@ pub fn stopped_before<'a>(stop: Stop<'a>, item: Item<'a>) -> Result<Ran<'a>, All
         mut rest,
     } = stop;
     rest.push(item)?;
-    Ok(Ran::Stops(Stop {
+    Ok(RunResult::Stops(Stop {
         action,
         inside,
         rest,
@@ -88,9 +88,9 @@ pub fn stopped_before<'a>(stop: Stop<'a>, item: Item<'a>) -> Result<Ran<'a>, All
 pub fn stopped_in<'a>(
     alloc: Global,
     stop: Stop<'a>,
-    home: Home,
+    home: CallOwner,
     own: Vec<Slot<'a>>,
-) -> Result<Ran<'a>, AllocError>
+) -> Result<RunResult<'a>, AllocError>
     ensures { IfOk result (λ ran. (m : run_of.Memory) → ran_of ran m ≡
         run_of.stops (action_of stop.entry.action) (calls_of stop.entry.inside.items ++
         record {
@@ -105,7 +105,7 @@ pub fn stopped_in<'a>(
         rest,
     } = stop;
     inside.push(Call { home, own, rest })?;
-    Ok(Ran::Stops(Stop {
+    Ok(RunResult::Stops(Stop {
         action,
         inside,
         rest: Vec::new(alloc),
@@ -113,12 +113,12 @@ pub fn stopped_in<'a>(
 }
 
 /// An element to be stored to, whose index is evaluated.
-pub fn aimed_at<'a>(name: &'a Name, index: Answer) -> Aim<'a>
+pub fn aimed_at<'a>(name: &'a Name, index: Answer) -> TargetResult<'a>
     ensures { aimed_of result ≡ aimed name.now (answer_of index) }
 {
     match index {
-        Answer::Raised(number) => Aim::Raised(number),
-        Answer::Word(at) => Aim::At(Target {
+        Answer::Raised(number) => TargetResult::Raised(number),
+        Answer::Word(at) => TargetResult::At(Target {
             name,
             index: Some(at),
         }),
@@ -126,13 +126,17 @@ pub fn aimed_at<'a>(name: &'a Name, index: Answer) -> Aim<'a>
 }
 
 /// A stop for a value that the variable is to have.
-pub fn asks<'a>(alloc: Global, aim: Aim<'a>, action: Action) -> Result<Ran<'a>, AllocError>
+pub fn asks<'a>(
+    alloc: Global,
+    aim: TargetResult<'a>,
+    action: Action,
+) -> Result<RunResult<'a>, AllocError>
     ensures { IfOk result (λ ran. (m : run_of.Memory) → ran_of ran m ≡
         with_aimed (aimed_of aim.entry) m (λ t. run_of.stops (action_of action) []
         (run_of.receive t ∷ []) m)) }
 {
     match aim {
-        Aim::Raised(number) => Ok(Ran::Fails(number)),
-        Aim::At(target) => stops(alloc, action, Some(Item::Receive(target))),
+        TargetResult::Raised(number) => Ok(RunResult::Fails(number)),
+        TargetResult::At(target) => stops(alloc, action, Some(Item::Receive(target))),
     }
 }

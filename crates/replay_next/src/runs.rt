@@ -13,15 +13,17 @@ ghost use Rattle.replay_calls.specs.Reach.{memory_of, site_of};
 ghost use Rattle.replay_next.specs.Ran.{IsReached, aim_in, aimed_of, bound_of, ran_of, receiving};
 
 use crate::calling::{answering, entered, given_back, own_vars};
-use crate::results::{Aim, Bound, Ran, aimed_at, asks, stopped_before, stops};
-use crate::visible::{Test, asserted, assigned, exited, puts, tested, waits};
-use replay_calls::{
-    Bind, Memory, checked, condition_here, device_number, drop_turn, element, entry_named, home_in,
-    joined, lent, minus, monitor_number, name_value, opposite, param_variable, push_turn, range_of,
-    turn_count,
+use crate::results::{
+    ArgumentsResult, RunResult, TargetResult, aimed_at, asks, stopped_before, stops,
 };
-use replay_state::{Action, Answering, Home, Item, Slot, Target, count};
-use replay_values::{Answer, Found, Scope, routine_named};
+use crate::visible::{ConditionResult, asserted, assigned, exited, puts, tested, waits};
+use replay_calls::{
+    ArgumentResult, Memory, checked, condition_here, device_number, drop_turn, element,
+    entry_named, home_in, joined, lent, minus, monitor_number, name_value, opposite,
+    param_variable, push_turn, range_of, turn_count,
+};
+use replay_state::{Action, CallOwner, Item, ResultExpr, Slot, Target, count};
+use replay_values::{Answer, EvalContext, ResolvedRoutine, routine_named};
 use std::alloc::AllocError;
 use std::mem;
 use syntax_tree::{Expr, Name, Op, Param, Ref, Stmt};
@@ -29,8 +31,8 @@ use syntax_tree::{Expr, Name, Op, Param, Ref, Stmt};
 /// What a row of operators comes to, of which the answer left of it is known.
 #[cycle(runs)]
 fn row<'a>(
-    scope: &Scope<'a>,
-    home: Home,
+    scope: &EvalContext<'a>,
+    home: CallOwner,
     depth: usize,
     memory: &Memory<'_, 'a>,
     first: Answer,
@@ -54,13 +56,13 @@ fn row<'a>(
 /// The arguments of a call as the variables of its parameters.
 #[cycle(runs)]
 fn arguments<'a>(
-    scope: &Scope<'a>,
-    home: Home,
+    scope: &EvalContext<'a>,
+    home: CallOwner,
     depth: usize,
     memory: &Memory<'_, 'a>,
     args: &[Expr],
     params: &'a [Param],
-) -> Result<Bound<'a>, AllocError>
+) -> Result<ArgumentsResult<'a>, AllocError>
     ensures { IfOk result (λ bound. bound_of bound ≡ run_of.arguments
         (site_of scope.now home depth) (memory_of memory.now)
         (plain_exprs (placed_exprs args.now)) (map plain_param (map placed_param params.now))) }
@@ -68,25 +70,25 @@ fn arguments<'a>(
     let mut own = Vec::new(scope.alloc);
     for at in 0..args.len() {
         if at >= params.len() {
-            return Ok(Bound::Params(own));
+            return Ok(ArgumentsResult::Params(own));
         }
         let answer = value(scope, home, depth, memory, &args[at])?;
         match param_variable(scope.declarations, &params[at], answer) {
-            Bind::Raised(number) => return Ok(Bound::Unbound(number)),
-            Bind::To(slot) => own.push(slot)?,
+            ArgumentResult::Raised(number) => return Ok(ArgumentsResult::Unbound(number)),
+            ArgumentResult::To(slot) => own.push(slot)?,
         }
     }
-    Ok(Bound::Params(own))
+    Ok(ArgumentsResult::Params(own))
 }
 
 /// The result of a function in the memory after its body.
 #[cycle(runs)]
 fn outcome<'a>(
-    scope: &Scope<'a>,
-    home: Home,
+    scope: &EvalContext<'a>,
+    home: CallOwner,
     depth: usize,
     memory: &Memory<'_, 'a>,
-    answers: Option<Answering<'a>>,
+    answers: Option<ResultExpr<'a>>,
 ) -> Result<Answer, AllocError>
     ensures { IfOk result (λ a. answer_of a ≡ answer_after (site_of scope.now home depth)
         (option_map answers_of answers.entry) (run_of.goes (memory_of memory.now))) }
@@ -104,11 +106,11 @@ fn outcome<'a>(
 /// is dropped.
 #[cycle(runs)]
 fn call_answer<'a>(
-    scope: &Scope<'a>,
-    home: Home,
+    scope: &EvalContext<'a>,
+    home: CallOwner,
     depth: usize,
     memory: &Memory<'_, 'a>,
-    found: &Found<'a>,
+    found: &ResolvedRoutine<'a>,
     own: Vec<Slot<'a>>,
 ) -> Result<Answer, AllocError>
     requires { IsReached scope.now (found_of found.now) }
@@ -128,18 +130,18 @@ fn call_answer<'a>(
     let its = home_in(found.home);
     let body = found.routine.body.as_slice();
     match run_all(scope, its, depth - 1, &mut inside, body)? {
-        Ran::Goes => outcome(scope, its, depth - 1, &inside, answering(found.routine)),
-        Ran::Fails(number) => Ok(Answer::Raised(number)),
-        Ran::Exits => Ok(Answer::Word(0)),
-        Ran::Stops(_) => Ok(Answer::Word(0)),
+        RunResult::Goes => outcome(scope, its, depth - 1, &inside, answering(found.routine)),
+        RunResult::Fails(number) => Ok(Answer::Raised(number)),
+        RunResult::Exits => Ok(Answer::Word(0)),
+        RunResult::Stops(_) => Ok(Answer::Word(0)),
     }
 }
 
 /// What a call of a function comes to.
 #[cycle(runs)]
 fn call<'a>(
-    scope: &Scope<'a>,
-    home: Home,
+    scope: &EvalContext<'a>,
+    home: CallOwner,
     depth: usize,
     memory: &Memory<'_, 'a>,
     name: &Name,
@@ -153,8 +155,8 @@ fn call<'a>(
         Some(found) => {
             let params = found.routine.params.as_slice();
             match arguments(scope, home, depth, memory, args, params)? {
-                Bound::Unbound(number) => Ok(Answer::Raised(number)),
-                Bound::Params(params) => {
+                ArgumentsResult::Unbound(number) => Ok(Answer::Raised(number)),
+                ArgumentsResult::Params(params) => {
                     let own = own_vars(scope.alloc, scope.declarations, found.routine, params)?;
                     call_answer(scope, home, depth, memory, &found, own)
                 }
@@ -166,8 +168,8 @@ fn call<'a>(
 /// The value of an expression, from left to right.
 #[cycle(runs)]
 pub fn value<'a>(
-    scope: &Scope<'a>,
-    home: Home,
+    scope: &EvalContext<'a>,
+    home: CallOwner,
     depth: usize,
     memory: &Memory<'_, 'a>,
     e: &Expr,
@@ -204,17 +206,17 @@ pub fn value<'a>(
 /// A variable to be stored to: its index is evaluated first.
 #[cycle(runs)]
 fn take_aim<'a>(
-    scope: &Scope<'a>,
-    home: Home,
+    scope: &EvalContext<'a>,
+    home: CallOwner,
     depth: usize,
     memory: &Memory<'_, 'a>,
     target: &'a Ref,
-) -> Result<Aim<'a>, AllocError>
+) -> Result<TargetResult<'a>, AllocError>
     ensures { IfOk result (λ aim. aimed_of aim ≡ aim_in (site_of scope.now home depth)
         (memory_of memory.now) (plain_ref (placed_ref target.now))) }
 {
     match &target.index {
-        None => Ok(Aim::At(Target {
+        None => Ok(TargetResult::At(Target {
             name: &target.name,
             index: None,
         })),
@@ -228,21 +230,21 @@ fn take_aim<'a>(
 /// A call of an entry; its answer, if any, is to be stored.
 #[cycle(runs)]
 fn enter<'a>(
-    scope: &Scope<'a>,
-    home: Home,
+    scope: &EvalContext<'a>,
+    home: CallOwner,
     depth: usize,
     memory: &Memory<'_, 'a>,
     mon: &Name,
     entry: &Name,
     args: &[Expr],
     target: Option<Target<'a>>,
-) -> Result<Ran<'a>, AllocError>
+) -> Result<RunResult<'a>, AllocError>
     ensures { IfOk result (λ ran. ran_of ran (memory_of memory.now) ≡
         run_of.enter_named (site_of scope.now home depth) (memory_of memory.now) mon.now entry.now
         (plain_exprs (placed_exprs args.now)) (receiving (option_map target_of target.entry))) }
 {
     match entry_named(scope, mon, entry) {
-        None => Ok(Ran::Goes),
+        None => Ok(RunResult::Goes),
         Some(found) => {
             let params = found.routine.params.as_slice();
             let bound = arguments(scope, home, depth, memory, args, params)?;
@@ -255,13 +257,13 @@ fn enter<'a>(
 /// A procedure with these variables of its own, as a part of its caller.
 #[cycle(runs)]
 fn run_routine<'a>(
-    scope: &Scope<'a>,
-    home: Home,
+    scope: &EvalContext<'a>,
+    home: CallOwner,
     depth: usize,
     memory: &mut Memory<'_, 'a>,
-    found: &Found<'a>,
+    found: &ResolvedRoutine<'a>,
     own: Vec<Slot<'a>>,
-) -> Result<Ran<'a>, AllocError>
+) -> Result<RunResult<'a>, AllocError>
     requires { IsReached scope.now (found_of found.now) }
     ensures { IfOk result (λ ran. ran_of ran (memory_of memory.new) ≡
         run_of.within_caller (found_of found.now).home (memory_of memory.old).own
@@ -269,7 +271,7 @@ fn run_routine<'a>(
         (run_of.with_own (memory_of memory.old) (vars_of own.entry.items)))) }
 {
     if depth == 0 {
-        return Ok(Ran::Goes);
+        return Ok(RunResult::Goes);
     }
     let its = home_in(found.home);
     let body = found.routine.body.as_slice();
@@ -281,24 +283,24 @@ fn run_routine<'a>(
 /// What a call of a procedure comes to.
 #[cycle(runs)]
 fn perform<'a>(
-    scope: &Scope<'a>,
-    home: Home,
+    scope: &EvalContext<'a>,
+    home: CallOwner,
     depth: usize,
     memory: &mut Memory<'_, 'a>,
     name: &Name,
     args: &[Expr],
-) -> Result<Ran<'a>, AllocError>
+) -> Result<RunResult<'a>, AllocError>
     ensures { IfOk result (λ ran. ran_of ran (memory_of memory.new) ≡
         run_of.perform_named (site_of scope.now home depth) (memory_of memory.old) name.now
         (plain_exprs (placed_exprs args.now))) }
 {
     match routine_named(scope, name) {
-        None => Ok(Ran::Goes),
+        None => Ok(RunResult::Goes),
         Some(found) => {
             let params = found.routine.params.as_slice();
             match arguments(scope, home, depth, memory, args, params)? {
-                Bound::Unbound(number) => Ok(Ran::Fails(number)),
-                Bound::Params(params) => {
+                ArgumentsResult::Unbound(number) => Ok(RunResult::Fails(number)),
+                ArgumentsResult::Params(params) => {
                     let own = own_vars(scope.alloc, scope.declarations, found.routine, params)?;
                     run_routine(scope, home, depth, memory, &found, own)
                 }
@@ -310,15 +312,15 @@ fn perform<'a>(
 /// A loop with so many turns left, and the value of its variable in the next.
 #[cycle(runs)]
 pub fn turns<'a>(
-    scope: &Scope<'a>,
-    home: Home,
+    scope: &EvalContext<'a>,
+    home: CallOwner,
     depth: usize,
     memory: &mut Memory<'_, 'a>,
     name: &'a Name,
     first: i64,
     count: u64,
     body: &'a [Stmt],
-) -> Result<Ran<'a>, AllocError>
+) -> Result<RunResult<'a>, AllocError>
     ensures { IfOk result (λ ran. ran_of ran (memory_of memory.new) ≡ run_of.turns
         (λ k. run_of.run_all (site_of scope.now home depth) k (plain_stmts (placed_stmts body.now)))
         name.now (plain_stmts (placed_stmts body.now)) count first (memory_of memory.old)) }
@@ -332,13 +334,13 @@ pub fn turns<'a>(
         left -= 1;
         push_turn(&mut memory.own, name, at)?;
         match run_all(scope, home, depth, memory, body)? {
-            Ran::Goes => drop_turn(&mut memory.own),
-            Ran::Exits => {
+            RunResult::Goes => drop_turn(&mut memory.own),
+            RunResult::Exits => {
                 drop_turn(&mut memory.own);
-                return Ok(Ran::Goes);
+                return Ok(RunResult::Goes);
             }
-            Ran::Fails(number) => return Ok(Ran::Fails(number)),
-            Ran::Stops(stop) => {
+            RunResult::Fails(number) => return Ok(RunResult::Fails(number)),
+            RunResult::Stops(stop) => {
                 let item = Item::TurnsLeft {
                     name,
                     value: next,
@@ -350,18 +352,18 @@ pub fn turns<'a>(
         }
         at = next;
     }
-    Ok(Ran::Goes)
+    Ok(RunResult::Goes)
 }
 
 /// What a statement comes to.
 #[cycle(runs)]
 fn run<'a>(
-    scope: &Scope<'a>,
-    home: Home,
+    scope: &EvalContext<'a>,
+    home: CallOwner,
     depth: usize,
     memory: &mut Memory<'_, 'a>,
     stmt: &'a Stmt,
-) -> Result<Ran<'a>, AllocError>
+) -> Result<RunResult<'a>, AllocError>
     ensures { IfOk result (λ ran. ran_of ran (memory_of memory.new) ≡
         run_of.run (site_of scope.now home depth) (memory_of memory.old)
         (plain_stmt (placed_stmt stmt.now))) }
@@ -380,8 +382,8 @@ fn run<'a>(
             args,
             ..
         } => match take_aim(scope, home, depth, memory, target)? {
-            Aim::Raised(number) => Ok(Ran::Fails(number)),
-            Aim::At(at) => {
+            TargetResult::Raised(number) => Ok(RunResult::Fails(number)),
+            TargetResult::At(at) => {
                 let args = args.as_slice();
                 enter(scope, home, depth, memory, mon, entry, args, Some(at))
             }
@@ -411,10 +413,10 @@ fn run<'a>(
         } => {
             let answer = value(scope, home, depth, memory, test)?;
             match tested(answer) {
-                Test::Raised(number) => Ok(Ran::Fails(number)),
-                Test::Holds => run_all(scope, home, depth, memory, first.as_slice()),
-                Test::Not => match second {
-                    None => Ok(Ran::Goes),
+                ConditionResult::Raised(number) => Ok(RunResult::Fails(number)),
+                ConditionResult::Holds => run_all(scope, home, depth, memory, first.as_slice()),
+                ConditionResult::Not => match second {
+                    None => Ok(RunResult::Goes),
                     Some(second) => run_all(scope, home, depth, memory, second.as_slice()),
                 },
             }
@@ -462,7 +464,7 @@ fn run<'a>(
             let condition = condition_here(scope, home, depth, cond)?;
             stops(scope.alloc, Action::Broadcasts { condition }, None)
         }
-        Stmt::Except { number, .. } => Ok(Ran::Fails(count(scope.declarations, number))),
+        Stmt::Except { number, .. } => Ok(RunResult::Fails(count(scope.declarations, number))),
         Stmt::Assert { test, .. } => {
             let answer = value(scope, home, depth, memory, test)?;
             Ok(asserted(answer))
@@ -473,23 +475,23 @@ fn run<'a>(
 /// What statements come to, in turn.
 #[cycle(runs)]
 pub fn run_all<'a>(
-    scope: &Scope<'a>,
-    home: Home,
+    scope: &EvalContext<'a>,
+    home: CallOwner,
     depth: usize,
     memory: &mut Memory<'_, 'a>,
     stmts: &'a [Stmt],
-) -> Result<Ran<'a>, AllocError>
+) -> Result<RunResult<'a>, AllocError>
     ensures { IfOk result (λ ran. ran_of ran (memory_of memory.new) ≡
         run_of.run_all (site_of scope.now home depth) (memory_of memory.old)
         (plain_stmts (placed_stmts stmts.now))) }
 {
     for at in 0..stmts.len() {
         match run(scope, home, depth, memory, &stmts[at])? {
-            Ran::Goes => {}
-            Ran::Stops(stop) => return stopped_before(stop, Item::DoAll(&stmts[at + 1..])),
-            Ran::Exits => return Ok(Ran::Exits),
-            Ran::Fails(number) => return Ok(Ran::Fails(number)),
+            RunResult::Goes => {}
+            RunResult::Stops(stop) => return stopped_before(stop, Item::DoAll(&stmts[at + 1..])),
+            RunResult::Exits => return Ok(RunResult::Exits),
+            RunResult::Fails(number) => return Ok(RunResult::Fails(number)),
         }
     }
-    Ok(Ran::Goes)
+    Ok(RunResult::Goes)
 }

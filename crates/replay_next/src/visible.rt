@@ -10,64 +10,68 @@ ghost use Rattle.replay_values.specs.Seen.{answer_of};
 ghost use Rattle.replay_calls.specs.Reach.{memory_of, site_of};
 ghost use Rattle.replay_next.specs.Ran.{aimed_of, ran_of, tested_run, with_aimed};
 
-use crate::results::{Aim, Ran, stops};
+use crate::results::{RunResult, TargetResult, stops};
 use replay_calls::{Memory, condition_here, store_to};
-use replay_state::{Action, Home, Item, count};
-use replay_values::{Answer, Scope, is_true};
+use replay_state::{Action, CallOwner, Item, count};
+use replay_values::{Answer, EvalContext, is_true};
 use std::alloc::{AllocError, Global};
 use syntax_tree::{Constant, Name};
 
 /// Whether a condition holds, or the number of its exception.
 #[derive(Clone, Copy)]
-pub enum Test {
+pub enum ConditionResult {
     Holds,
     Not,
     Raised(u32),
 }
 
 /// Whether the condition holds that has this value.
-pub fn tested(answer: Answer) -> Test
+pub fn tested(answer: Answer) -> ConditionResult
     ensures { (m : run_of.Memory) → (first : run_of.Run) → (second : run_of.Run) →
         tested_run result m first second ≡ run_of.with_value (answer_of answer) m
         (λ v. cond (is_truth v) first second) }
 {
     match answer {
-        Answer::Raised(number) => Test::Raised(number),
+        Answer::Raised(number) => ConditionResult::Raised(number),
         Answer::Word(word) => {
             if is_true(word) {
-                Test::Holds
+                ConditionResult::Holds
             } else {
-                Test::Not
+                ConditionResult::Not
             }
         }
     }
 }
 
 /// What a store came to: the exception of range and index, where it was refused.
-fn after_store<'a>(done: bool) -> Ran<'a>
+fn after_store<'a>(done: bool) -> RunResult<'a>
     ensures { (m : run_of.Memory) → ran_of result m ≡
         cond done (run_of.goes m) (run_of.fails 3 m) }
 {
-    if done { Ran::Goes } else { Ran::Fails(3) }
+    if done {
+        RunResult::Goes
+    } else {
+        RunResult::Fails(3)
+    }
 }
 
 /// An assignment to a variable.
 pub fn assigned<'a>(
     alloc: Global,
-    home: Home,
+    home: CallOwner,
     memory: &mut Memory<'_, 'a>,
-    aim: Aim<'a>,
+    aim: TargetResult<'a>,
     answer: Answer,
-) -> Result<Ran<'a>, AllocError>
+) -> Result<RunResult<'a>, AllocError>
     ensures { IfOk result (λ ran. ran_of ran (memory_of memory.new) ≡
         with_aimed (aimed_of aim.entry) (memory_of memory.old) (λ t.
         run_of.with_value (answer_of answer) (memory_of memory.old) (λ v.
         run_of.store_to (home_of home) (memory_of memory.old) t v))) }
 {
     match aim {
-        Aim::Raised(number) => Ok(Ran::Fails(number)),
-        Aim::At(target) => match answer {
-            Answer::Raised(number) => Ok(Ran::Fails(number)),
+        TargetResult::Raised(number) => Ok(RunResult::Fails(number)),
+        TargetResult::At(target) => match answer {
+            Answer::Raised(number) => Ok(RunResult::Fails(number)),
             Answer::Word(word) => {
                 let done = store_to(alloc, memory, home, target, word)?;
                 Ok(after_store(done))
@@ -77,54 +81,60 @@ pub fn assigned<'a>(
 }
 
 /// An exit from the innermost loop, where its condition holds.
-pub fn exited<'a>(answer: Answer) -> Ran<'a>
+pub fn exited<'a>(answer: Answer) -> RunResult<'a>
     ensures { (m : run_of.Memory) → ran_of result m ≡ run_of.with_value (answer_of answer) m
         (λ v. cond (is_truth v) (run_of.exits m) (run_of.goes m)) }
 {
     match answer {
-        Answer::Raised(number) => Ran::Fails(number),
-        Answer::Word(word) => { if is_true(word) { Ran::Exits } else { Ran::Goes } }
+        Answer::Raised(number) => RunResult::Fails(number),
+        Answer::Word(word) => {
+            if is_true(word) {
+                RunResult::Exits
+            } else {
+                RunResult::Goes
+            }
+        }
     }
 }
 
 /// An assertion.
-pub fn asserted<'a>(answer: Answer) -> Ran<'a>
+pub fn asserted<'a>(answer: Answer) -> RunResult<'a>
     ensures { (m : run_of.Memory) → ran_of result m ≡ run_of.with_value (answer_of answer) m
         (λ v. cond (is_truth v) (run_of.goes m) (run_of.fails 4 m)) }
 {
     match answer {
-        Answer::Raised(number) => Ran::Fails(number),
+        Answer::Raised(number) => RunResult::Fails(number),
         Answer::Word(word) => {
             if is_true(word) {
-                Ran::Goes
+                RunResult::Goes
             } else {
-                Ran::Fails(4)
+                RunResult::Fails(4)
             }
         }
     }
 }
 
 /// A value that is put to a device.
-pub fn puts<'a>(alloc: Global, dev: usize, answer: Answer) -> Result<Ran<'a>, AllocError>
+pub fn puts<'a>(alloc: Global, dev: usize, answer: Answer) -> Result<RunResult<'a>, AllocError>
     ensures { IfOk result (λ ran. (m : run_of.Memory) → ran_of ran m ≡
         run_of.with_value (answer_of answer) m
         (λ v. run_of.stops (run_of.puts dev v) [] [] m)) }
 {
     match answer {
-        Answer::Raised(number) => Ok(Ran::Fails(number)),
+        Answer::Raised(number) => Ok(RunResult::Fails(number)),
         Answer::Word(value) => stops(alloc, Action::Puts { dev, value }, None),
     }
 }
 
 /// A wait for a condition of the monitor whose text this is.
 pub fn waits<'a>(
-    scope: &Scope<'a>,
-    home: Home,
+    scope: &EvalContext<'a>,
+    home: CallOwner,
     depth: usize,
     condition: &Name,
     limit: &Constant,
     number: &Constant,
-) -> Result<Ran<'a>, AllocError>
+) -> Result<RunResult<'a>, AllocError>
     ensures { let g = plain (placed scope.now.declarations.now) in
         IfOk result (λ ran. (m : run_of.Memory) → ran_of ran m ≡ run_of.waits_here
         (site_of scope.now home depth) condition.now
@@ -132,8 +142,8 @@ pub fn waits<'a>(
         (count_value g (plain_constant (placed_constant number.now))) m) }
 {
     match home {
-        Home::Program | Home::Process => Ok(Ran::Goes),
-        Home::Monitor(mon) => {
+        CallOwner::Program | CallOwner::Process => Ok(RunResult::Goes),
+        CallOwner::Monitor(mon) => {
             let condition = condition_here(scope, home, depth, condition)?;
             let action = Action::Waits {
                 condition,

@@ -1,7 +1,7 @@
 -- What a process does after an exception.
 use Rattle.std.specs.Prelude.{◌≡◌, ℕ, zero, suc, List, [], ◌∷◌, Option, Some, None, map, option_map, slice_get}
 use Rattle.std.proofs.Common.{refl, sym, ◌∙◌, ap}
-use Rattle.syntax_tree.specs.Plain.{Process, Prog}
+use Rattle.syntax_tree.specs.Plain.{Process, Program}
 use Rattle.source_semantics.specs.Names.{processes}
 use Rattle.source_semantics.specs.Config.{Config, Job, changed, with_jobs}
 use Rattle.source_semantics.specs.Source.{job_after_raise, on_job, on_text}
@@ -17,14 +17,14 @@ changed_none f k [] none = refl
 changed_none f zero (x ∷ xs) none = absurd cc
 changed_none f (suc k) (x ∷ xs) none = ap (λ l. x ∷ l) (changed_none f k xs none)
 
-pub prepared_some : (g : Prog) (k n : ℕ) (c : Config) (p : Process) (j : Job) (a : After) → slice_get (processes g) k ≡ Some p → slice_get c.jobs k ≡ Some j → IsAfter g p n j.handling a
+pub prepared_some : (g : Program) (k n : ℕ) (c : Config) (p : Process) (j : Job) (a : After) → slice_get (processes g) k ≡ Some p → slice_get c.jobs k ≡ Some j → IsAfter g p n j.handling a
     → IsPrepared g k n c (Some a)
 prepared_some g k n c p j a text state is = λ d same.
     ap (λ o. on_text (λ q i. job_after_raise g n q.handler i) o k d) text
     ∙ ap (with_jobs d) (changed_alike (job_after_raise g n p.handler) (raised_job a) k d.jobs (λ i got.
     is i (let e : Some i.handling ≡ Some j.handling = sym (ap (option_map (λ (x : Job). x.handling)) got) ∙ (same ∙ ap (option_map (λ (x : Job). x.handling)) state) in cc)))
 
-pub prepared_no_job : (g : Prog) (k n : ℕ) (c : Config) → slice_get c.jobs k ≡ None → IsPrepared g k n c None
+pub prepared_no_job : (g : Program) (k n : ℕ) (c : Config) → slice_get c.jobs k ≡ None → IsPrepared g k n c None
 prepared_no_job g k n c none = λ d same. by_case (slice_get (processes g) k) d (nobody d (slice_get d.jobs k) refl same)
   where
     nobody : (d : Config) (o : Option Job) → slice_get d.jobs k ≡ o → handling_at k d ≡ handling_at k c → slice_get d.jobs k ≡ None

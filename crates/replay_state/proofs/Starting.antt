@@ -2,12 +2,12 @@
 use Rattle.std.specs.Prelude.{◌≡◌, ℕ, false, List, Some, option_map, slice_get}
 use Rattle.std.proofs.Common.{sym, ◌∙◌, ap}
 use Rattle.base.specs.declared.event.Act.TheVariants as act
-use Rattle.syntax_tree.specs.Plain.{Process, Prog}
+use Rattle.syntax_tree.specs.Plain.{Process, Program}
 use Rattle.source_semantics.specs.Names.{processes}
 use Rattle.source_semantics.specs.Config.{Config, Job, at_tick, changed, with_jobs}
 use Rattle.source_semantics.specs.Source.{after_start, on_text, released}
 
-pub begun : (g : Prog) (c : Config) (t k : ℕ) (p : Process) (js : List Job) → slice_get (processes g) k ≡ Some p → js ≡ changed (released t p) k c.jobs
+pub begun : (g : Program) (c : Config) (t k : ℕ) (p : Process) (js : List Job) → slice_get (processes g) k ≡ Some p → js ≡ changed (released t p) k c.jobs
     → with_jobs (at_tick c t false) js ≡ after_start g c (record { tick = t; proc = k; act = act.Release })
 begun g c t k p js text is =
     ap (with_jobs (at_tick c t false)) is

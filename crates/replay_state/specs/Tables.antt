@@ -1,18 +1,18 @@
 -- Ranks and ceilings of a program by number, and the configurations of a program.
 use Rattle.std.specs.Prelude.{◌≡◌, ℕ, ◌<◌, Option, None, length, slice_index, slice_index_or}
-use Rattle.syntax_tree.specs.Plain.{Prog}
+use Rattle.syntax_tree.specs.Plain.{Program}
 use Rattle.source_semantics.specs.Names.{processes, monitors, condition_count}
 use Rattle.source_semantics.specs.Config.{Config}
 use Rattle.source_semantics.specs.Ranks.{rank, ceiling}
 use Rattle.replay_state.specs.declared.ranks.Ranks.{Ranks}
 
 -- there are as many processes, monitors and queues as the program has
-pub record Fits (g : Prog) (c : Config) : Type 0 where
+pub record Fits (g : Program) (c : Config) : Type 0 where
   pub jobs : length c.jobs ≡ length (processes g)
   pub holds : length c.holds ≡ length (monitors g)
   pub queues : length c.queues ≡ condition_count (monitors g)
 
-pub record AreRanksOf (g : Prog) (r : Ranks) : Type 0 where
+pub record AreRanksOf (g : Program) (r : Ranks) : Type 0 where
   pub count : length r.ranks.items ≡ length (processes g)
   pub each : (k : ℕ) → k < length (processes g) → slice_index r.ranks.items k ≡ rank g k
   pub ceiling_count : length r.ceilings.items ≡ length (monitors g)

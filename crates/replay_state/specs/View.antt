@@ -6,30 +6,30 @@ use Rattle.source_semantics.specs.Store as store
 use Rattle.source_semantics.specs.Run as run
 use Rattle.source_semantics.specs.Next as next
 use Rattle.source_semantics.specs.Config as is
-use Rattle.replay_state.specs.declared.variables.Range as code_range
-use Rattle.replay_state.specs.declared.variables.Held as code_held
-use Rattle.replay_state.specs.declared.variables.Held.TheVariants as held_is
+use Rattle.replay_state.specs.declared.variables.Subrange as code_range
+use Rattle.replay_state.specs.declared.variables.SlotValue as code_held
+use Rattle.replay_state.specs.declared.variables.SlotValue.TheVariants as held_is
 use Rattle.replay_state.specs.declared.variables.Slot as code_slot
-use Rattle.replay_state.specs.declared.call.Home as code_home
-use Rattle.replay_state.specs.declared.call.Home.TheVariants as home_is
+use Rattle.replay_state.specs.declared.call.CallOwner as code_home
+use Rattle.replay_state.specs.declared.call.CallOwner.TheVariants as home_is
 use Rattle.replay_state.specs.declared.call.Target as code_target
-use Rattle.replay_state.specs.declared.call.Answering as code_answering
+use Rattle.replay_state.specs.declared.call.ResultExpr as code_answering
 use Rattle.replay_state.specs.declared.call.Item as code_item
 use Rattle.replay_state.specs.declared.call.Item.TheVariants as item_is
 use Rattle.replay_state.specs.declared.call.Call as code_call
 use Rattle.replay_state.specs.declared.call.Action as code_action
 use Rattle.replay_state.specs.declared.call.Action.TheVariants as action_is
-use Rattle.replay_state.specs.declared.call.Next as code_next
-use Rattle.replay_state.specs.declared.doing.Doing as code_doing
-use Rattle.replay_state.specs.declared.doing.Doing.TheVariants as doing_is
-use Rattle.replay_state.specs.declared.config.Job as code_job
-use Rattle.replay_state.specs.declared.config.Hold as code_hold
+use Rattle.replay_state.specs.declared.call.NextAction as code_next
+use Rattle.replay_state.specs.declared.doing.Activity as code_doing
+use Rattle.replay_state.specs.declared.doing.Activity.TheVariants as doing_is
+use Rattle.replay_state.specs.declared.config.ProcessState as code_job
+use Rattle.replay_state.specs.declared.config.MonitorState as code_hold
 use Rattle.replay_state.specs.declared.config.Config as code_config
 
-abbrev pub range_of : code_range.Range → store.Range
+abbrev pub range_of : code_range.Subrange → store.Range
 range_of r = record { low = r.low; high = r.high }
 
-abbrev pub held_of : code_held.Held → store.Held
+abbrev pub held_of : code_held.SlotValue → store.Held
 held_of (held_is.One v) = store.one v
 held_of (held_is.Many ws) = store.many ws.low ws.items.items
 
@@ -39,7 +39,7 @@ slot_of s = record { name = s.name.now; range = option_map range_of s.range; hel
 abbrev pub vars_of : List code_slot.Slot → store.Vars
 vars_of ss = map slot_of ss
 
-abbrev pub home_of : code_home.Home → run.Home
+abbrev pub home_of : code_home.CallOwner → run.Home
 home_of home_is.Program = run.of_program
 home_of home_is.Process = run.of_process
 home_of (home_is.Monitor m) = run.of_monitor m
@@ -47,7 +47,7 @@ home_of (home_is.Monitor m) = run.of_monitor m
 abbrev pub target_of : code_target.Target → run.Target
 target_of t = record { name = t.name.now; index = t.index }
 
-abbrev pub answers_of : code_answering.Answering → Answers
+abbrev pub answers_of : code_answering.ResultExpr → Answers
 answers_of a = record { kind = plain_scalar (placed_scalar a.kind.now); value = plain_expr (placed_expr a.value.now) }
 
 abbrev pub item_of : code_item.Item → run.Item
@@ -77,24 +77,24 @@ action_of (action_is.AsksEmpty x) = run.asks_empty x
 action_of (action_is.Raises n) = run.raises n
 action_of action_is.Ends = run.ends
 
-abbrev pub next_of : code_next.Next → next.Next
+abbrev pub next_of : code_next.NextAction → next.Next
 next_of n = record { action = action_of n.action; calls = calls_of n.calls.items; process = vars_of n.process.items; monitor = vars_of n.monitor.items }
 
-abbrev pub doing_of : code_doing.Doing → is.Doing
+abbrev pub doing_of : code_doing.Activity → is.Doing
 doing_of doing_is.Idle = is.idle
 doing_of (doing_is.Active released) = is.active released
 doing_of (doing_is.Waiting w) = is.waiting w.released w.condition w.since w.limit w.number
 
-abbrev pub job_of : code_job.Job → is.Job
+abbrev pub job_of : code_job.ProcessState → is.Job
 job_of j = record { vars = vars_of j.vars.items; doing = doing_of j.doing; calls = calls_of j.calls.items; handling = j.handling }
 
-abbrev pub hold_of : code_hold.Hold → is.Hold
+abbrev pub hold_of : code_hold.MonitorState → is.Hold
 hold_of h = record { vars = vars_of h.vars.items; occupant = h.occupant }
 
-abbrev pub jobs_of : List code_job.Job → List is.Job
+abbrev pub jobs_of : List code_job.ProcessState → List is.Job
 jobs_of js = map job_of js
 
-abbrev pub holds_of : List code_hold.Hold → List is.Hold
+abbrev pub holds_of : List code_hold.MonitorState → List is.Hold
 holds_of hs = map hold_of hs
 
 abbrev pub config_of : code_config.Config → is.Config

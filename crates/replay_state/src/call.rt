@@ -5,7 +5,7 @@ use syntax_tree::{Expr, Name, Scalar, Stmt};
 
 /// Whose text a call is in, which says which variables it names beside its own.
 #[derive(Clone, Copy)]
-pub enum Home {
+pub enum CallOwner {
     Program,
     Process,
     /// The monitor of this number.
@@ -21,7 +21,7 @@ pub struct Target<'a> {
 
 /// The type and the expression of a function's result.
 #[derive(Clone, Copy)]
-pub struct Answering<'a> {
+pub struct ResultExpr<'a> {
     pub kind: &'a Scalar,
     pub value: &'a Expr,
 }
@@ -50,7 +50,7 @@ pub enum Item<'a> {
     },
     /// The end of an entry: its answer, if any, and the monitor is left.
     LeaveWith {
-        answers: Option<Answering<'a>>,
+        answers: Option<ResultExpr<'a>>,
         mon: usize,
     },
     /// A value is given back.
@@ -60,7 +60,7 @@ pub enum Item<'a> {
 /// A call in progress: its variables, and what remains of it, the next first.
 #[derive(Drop)]
 pub struct Call<'a> {
-    pub home: Home,
+    pub home: CallOwner,
     pub own: Vec<Slot<'a>>,
     pub rest: Vec<Item<'a>>,
 }
@@ -104,7 +104,7 @@ pub enum Action {
 /// The next action of a process, its calls in progress after it, the innermost first, and the
 /// variables of the process and of the monitor that it is inside.
 #[derive(Drop)]
-pub struct Next<'a> {
+pub struct NextAction<'a> {
     pub action: Action,
     pub calls: Vec<Call<'a>>,
     pub process: Vec<Slot<'a>>,

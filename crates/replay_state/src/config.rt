@@ -1,22 +1,22 @@
 //! The configuration.
 
 use crate::call::Call;
-use crate::doing::Doing;
+use crate::doing::Activity;
 use crate::variables::Slot;
 
 /// A process: its variables, what it is doing, its calls in progress, the innermost first, and
 /// whether its handler runs.
 #[derive(Drop)]
-pub struct Job<'a> {
+pub struct ProcessState<'a> {
     pub vars: Vec<Slot<'a>>,
-    pub doing: Doing,
+    pub doing: Activity,
     pub calls: Vec<Call<'a>>,
     pub handling: bool,
 }
 
 /// A monitor: its variables, and the process inside it.
 #[derive(Drop)]
-pub struct Hold<'a> {
+pub struct MonitorState<'a> {
     pub vars: Vec<Slot<'a>>,
     pub occupant: Option<usize>,
 }
@@ -27,8 +27,8 @@ pub struct Hold<'a> {
 pub struct Config<'a> {
     pub tick: u64,
     pub acted: bool,
-    pub jobs: Vec<Job<'a>>,
-    pub holds: Vec<Hold<'a>>,
+    pub jobs: Vec<ProcessState<'a>>,
+    pub holds: Vec<MonitorState<'a>>,
     /// By condition the processes that wait, the first to be taken out first.
     pub queues: Vec<Vec<usize>>,
 }

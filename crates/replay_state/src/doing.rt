@@ -15,7 +15,7 @@ pub struct Wait {
 
 /// What a process is doing: nothing, its work since a release, or waiting.
 #[derive(Clone, Copy)]
-pub enum Doing {
+pub enum Activity {
     Idle,
     Active { released: u64 },
     Waiting(Wait),

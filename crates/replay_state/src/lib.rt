@@ -21,12 +21,12 @@ mod ranks;
 mod start;
 mod variables;
 
-pub use call::{Action, Answering, Call, Home, Item, Next, Target};
-pub use config::{Config, Hold, Job};
-pub use doing::{Doing, Wait};
+pub use call::{Action, Call, CallOwner, Item, NextAction, ResultExpr, Target};
+pub use config::{Config, MonitorState, ProcessState};
+pub use doing::{Activity, Wait};
 pub use moves::{beginning, set_doing, set_job};
 pub use queues::{drop_all, drop_first, join, queue_at, released, take_out, wake, wake_all};
-pub use raising::{After, Text, count, prepare, raise};
+pub use raising::{AfterException, ProgramContext, count, prepare, raise};
 pub use ranks::Ranks;
 pub use start::{release, time_out};
-pub use variables::{Held, Range, Slot, Words};
+pub use variables::{Slot, SlotValue, Subrange, Words};

@@ -7,14 +7,14 @@ ghost use Rattle.source_semantics.specs.Source.{call_of as call_before};
 ghost use Rattle.source_semantics.specs.Config.{changed, job_doing, occupied, is_process, inside as inside_of, enter as entered, leave as left};
 ghost use Rattle.replay_state.specs.View.{calls_of, config_of, doing_of, hold_of, holds_of, jobs_of};
 
-use crate::call::{Call, Home, Item};
-use crate::config::{Config, Hold, Job};
-use crate::doing::Doing;
+use crate::call::{Call, CallOwner, Item};
+use crate::config::{Config, MonitorState, ProcessState};
+use crate::doing::Activity;
 use std::alloc::{AllocError, Global};
 use syntax_tree::Stmt;
 
 /// The process does this now.
-pub fn set_doing(jobs: &mut Vec<Job<'_>>, process: usize, doing: Doing)
+pub fn set_doing(jobs: &mut Vec<ProcessState<'_>>, process: usize, doing: Activity)
     ensures { jobs_of jobs.new.items ≡ changed (job_doing (doing_of doing)) process
         (jobs_of jobs.old.items) }
 {
@@ -25,9 +25,9 @@ pub fn set_doing(jobs: &mut Vec<Job<'_>>, process: usize, doing: Doing)
 
 /// The process is doing this, has these calls in progress, and its handler runs or not.
 pub fn set_job<'a>(
-    jobs: &mut Vec<Job<'a>>,
+    jobs: &mut Vec<ProcessState<'a>>,
     process: usize,
-    doing: Doing,
+    doing: Activity,
     calls: Vec<Call<'a>>,
     handling: bool,
 )
@@ -57,7 +57,7 @@ pub fn beginning<'a>(alloc: Global, body: &'a [Stmt]) -> Result<Vec<Call<'a>>, A
     let own = Vec::new(alloc);
     let mut calls = Vec::new(alloc);
     calls.push(Call {
-        home: Home::Process,
+        home: CallOwner::Process,
         own,
         rest,
     })?;
@@ -65,7 +65,7 @@ pub fn beginning<'a>(alloc: Global, body: &'a [Stmt]) -> Result<Vec<Call<'a>>, A
 }
 
 /// This process is inside the monitor, or none.
-pub fn set_occupant(holds: &mut Vec<Hold<'_>>, mon: usize, occupant: Option<usize>)
+pub fn set_occupant(holds: &mut Vec<MonitorState<'_>>, mon: usize, occupant: Option<usize>)
     ensures { holds_of holds.new.items ≡ changed (occupied occupant) mon
         (holds_of holds.old.items) }
 {
@@ -75,7 +75,7 @@ pub fn set_occupant(holds: &mut Vec<Hold<'_>>, mon: usize, occupant: Option<usiz
 }
 
 /// Whether the process is inside the monitor.
-fn is_held_by(hold: &Hold<'_>, process: usize) -> bool
+fn is_held_by(hold: &MonitorState<'_>, process: usize) -> bool
     ensures { result ≡ is_process process (hold_of hold.now).occupant }
 {
     match hold.occupant {
@@ -85,7 +85,7 @@ fn is_held_by(hold: &Hold<'_>, process: usize) -> bool
 }
 
 /// The first monitor that the process is inside.
-fn first_held(holds: &[Hold<'_>], process: usize) -> Option<usize>
+fn first_held(holds: &[MonitorState<'_>], process: usize) -> Option<usize>
     ensures { result ≡ position_from (λ h. is_process process h.occupant) 0 (holds_of holds.now) }
 {
     for (mon, hold) in holds.iter().enumerate() {

@@ -7,7 +7,7 @@ ghost use Rattle.source_semantics.specs.Source.{without};
 ghost use Rattle.replay_state.specs.View.{doing_of, jobs_of};
 ghost use Rattle.replay_state.specs.Queues.{queues_of, tail_of};
 
-use crate::{Doing, Job};
+use crate::{Activity, ProcessState};
 use std::alloc::AllocError;
 
 /// The first place of the process in the queue.
@@ -89,29 +89,29 @@ pub fn queue_at(queues: &[Vec<usize>], condition: usize) -> &[usize]
 }
 
 /// Since when a process is at work, 0 where it is not.
-pub fn released(doing: Doing) -> u64
+pub fn released(doing: Activity) -> u64
     ensures { result ≡ released_of (doing_of doing) }
 {
     match doing {
-        Doing::Idle => 0,
-        Doing::Active { released } => released,
-        Doing::Waiting(wait) => wait.released,
+        Activity::Idle => 0,
+        Activity::Active { released } => released,
+        Activity::Waiting(wait) => wait.released,
     }
 }
 
 /// The process is ready again.
-pub fn wake(jobs: &mut Vec<Job<'_>>, process: usize)
+pub fn wake(jobs: &mut Vec<ProcessState<'_>>, process: usize)
     ensures { jobs_of jobs.new.items ≡ changed woken process (jobs_of jobs.old.items) }
 {
     if process < jobs.len() {
         let job = &mut jobs[process];
         let began = released(job.doing);
-        job.doing = Doing::Active { released: began };
+        job.doing = Activity::Active { released: began };
     }
 }
 
 /// The processes are ready again.
-pub fn wake_all(jobs: &mut Vec<Job<'_>>, processes: &[usize])
+pub fn wake_all(jobs: &mut Vec<ProcessState<'_>>, processes: &[usize])
     ensures { jobs_of jobs.new.items ≡ woken_all processes.now (jobs_of jobs.old.items) }
 {
     for process in processes {

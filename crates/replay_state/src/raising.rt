@@ -9,16 +9,16 @@ ghost use Rattle.replay_state.specs.View.{config_of, jobs_of};
 ghost use Rattle.replay_state.specs.Texts.{IsAfter, IsPrepared, IsText, after_of, after_put, raised_job};
 
 use crate::queues::released;
-use crate::{Call, Config, Doing, Job, beginning};
+use crate::{Activity, Call, Config, ProcessState, beginning};
 use static_declarations::Declarations;
 use std::alloc::{AllocError, Global};
-use syntax_tree::{Constant, Handler, Proc};
+use syntax_tree::{Constant, Handler, Process};
 
 /// The text of a program: its declarations, and its processes by number.
 #[derive(Drop)]
-pub struct Text<'a> {
+pub struct ProgramContext<'a> {
     pub declarations: &'a Declarations<'a>,
-    pub processes: Vec<&'a Proc>,
+    pub processes: Vec<&'a Process>,
     pub alloc: Global,
 }
 
@@ -46,7 +46,7 @@ fn is_listed(declarations: &Declarations<'_>, number: u32, constants: &[Constant
 
 /// What a process does after an exception: its handler's statements, or the end alone.
 #[derive(Drop)]
-pub struct After<'a> {
+pub struct AfterException<'a> {
     pub calls: Vec<Call<'a>>,
     pub handling: bool,
 }
@@ -61,28 +61,28 @@ fn begins(declarations: &Declarations<'_>, number: u32, handler: &Handler, handl
 
 /// What the process does after an exception of this number, where its handler runs already or not.
 fn what_follows<'a>(
-    text: &Text<'a>,
-    process: &'a Proc,
+    text: &ProgramContext<'a>,
+    process: &'a Process,
     number: u32,
     handling: bool,
-) -> Result<After<'a>, AllocError>
+) -> Result<AfterException<'a>, AllocError>
     ensures { IfOk result (λ a. IsAfter (plain (placed text.now.declarations.now))
         (plain_process (placed_process process.now)) number handling (after_of a)) }
 {
     match &process.handler {
-        None => Ok(After {
+        None => Ok(AfterException {
             calls: Vec::new(text.alloc),
             handling,
         }),
         Some(handler) => {
             if begins(text.declarations, number, handler, handling) {
                 let calls = beginning(text.alloc, handler.body.as_slice())?;
-                Ok(After {
+                Ok(AfterException {
                     calls,
                     handling: true,
                 })
             } else {
-                Ok(After {
+                Ok(AfterException {
                     calls: Vec::new(text.alloc),
                     handling,
                 })
@@ -94,10 +94,10 @@ fn what_follows<'a>(
 /// What the process of this number does after an exception; `None` where there is no such process.
 pub fn prepare<'a>(
     config: &Config<'a>,
-    text: &Text<'a>,
+    text: &ProgramContext<'a>,
     process: usize,
     number: u32,
-) -> Result<Option<After<'a>>, AllocError>
+) -> Result<Option<AfterException<'a>>, AllocError>
     requires { IsText text.now }
     ensures { IfOk result (λ after. IsPrepared
         (plain (placed text.now.declarations.now)) process number (config_of config.now)
@@ -116,22 +116,22 @@ pub fn prepare<'a>(
 }
 
 /// The process is at work with these calls, since its release.
-fn set_after<'a>(jobs: &mut Vec<Job<'a>>, process: usize, after: After<'a>)
+fn set_after<'a>(jobs: &mut Vec<ProcessState<'a>>, process: usize, after: AfterException<'a>)
     ensures { jobs_of jobs.new.items ≡ changed (raised_job (after_of after.entry)) process
         (jobs_of jobs.old.items) }
 {
-    let After { calls, handling } = after;
+    let AfterException { calls, handling } = after;
     if process < jobs.len() {
         let job = &mut jobs[process];
         let began = released(job.doing);
-        job.doing = Doing::Active { released: began };
+        job.doing = Activity::Active { released: began };
         job.calls = calls;
         job.handling = handling;
     }
 }
 
 /// The process leaves its monitor and its calls, and begins what it does after the exception.
-pub fn raise<'a>(config: &mut Config<'a>, process: usize, after: Option<After<'a>>)
+pub fn raise<'a>(config: &mut Config<'a>, process: usize, after: Option<AfterException<'a>>)
     ensures { config_of config.new ≡ after_put (option_map after_of after.entry) process
         (left (config_of config.old) process) }
 {

@@ -9,14 +9,14 @@
 //! Ranks and ceilings by number.
 
 ghost use Rattle.std.specs.Prelude.{◌≡◌, ◌<◌, length};
-ghost use Rattle.syntax_tree.specs.Plain.{Prog};
+ghost use Rattle.syntax_tree.specs.Plain.{Program};
 ghost use Rattle.source_semantics.specs.Config.{is_ready as is_at_work};
 ghost use Rattle.source_semantics.specs.Ranks.{active_rank as rank_now, comes_before as is_taken_before};
 ghost use Rattle.source_semantics.specs.Source.{before, is_empty, ready_from};
 ghost use Rattle.replay_state.specs.View.{config_of, doing_of};
 ghost use Rattle.replay_state.specs.Tables.{AreRanksOf, Fits};
 
-use crate::{Config, Doing};
+use crate::{Activity, Config};
 
 /// The ranks of a program's processes and the ceilings of its monitors, by number.
 #[derive(Drop)]
@@ -26,19 +26,19 @@ pub struct Ranks {
     pub ceilings: Vec<Option<u64>>,
 }
 
-fn is_ready(doing: Doing) -> bool
+fn is_ready(doing: Activity) -> bool
     ensures { result ≡ is_at_work (doing_of doing) }
 {
     match doing {
-        Doing::Active { .. } => true,
-        Doing::Idle | Doing::Waiting(_) => false,
+        Activity::Active { .. } => true,
+        Activity::Idle | Activity::Waiting(_) => false,
     }
 }
 
 impl Ranks {
     /// The ceiling of the monitor that the process is inside, else its rank.
     pub fn active_rank(&self, config: &Config<'_>, process: usize) -> u64
-        ghost program: { Prog }
+        ghost program: { Program }
         requires ranks { AreRanksOf program self.now }
         requires fits { Fits program (config_of config.now) }
         requires process { process < length config.now.jobs.items }
@@ -53,7 +53,7 @@ impl Ranks {
 
     /// Whether the process is taken before the other.
     pub fn comes_before(&self, config: &Config<'_>, process: usize, other: usize) -> bool
-        ghost program: { Prog }
+        ghost program: { Program }
         requires ranks { AreRanksOf program self.now }
         requires fits { Fits program (config_of config.now) }
         requires process { process < length config.now.jobs.items }
@@ -68,7 +68,7 @@ impl Ranks {
 
     /// Whether no ready process is taken before this one.
     pub fn is_first(&self, config: &Config<'_>, process: usize) -> bool
-        ghost program: { Prog }
+        ghost program: { Program }
         requires ranks { AreRanksOf program self.now }
         requires fits { Fits program (config_of config.now) }
         requires process { process < length config.now.jobs.items }

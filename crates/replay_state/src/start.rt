@@ -16,7 +16,7 @@ ghost use Rattle.source_semantics.specs.Source.{after_start};
 ghost use Rattle.replay_state.specs.View.{config_of};
 ghost use Rattle.replay_state.specs.Texts.{IsText};
 
-use crate::{Config, Doing, Text, beginning, prepare, raise, set_job, take_out};
+use crate::{Activity, Config, ProgramContext, beginning, prepare, raise, set_job, take_out};
 use std::alloc::AllocError;
 
 /// The tick is reached, and nobody has acted in it.
@@ -31,7 +31,7 @@ fn reach(config: &mut Config<'_>, tick: u64)
 /// it was.
 pub fn release<'a>(
     config: &mut Config<'a>,
-    text: &Text<'a>,
+    text: &ProgramContext<'a>,
     tick: u64,
     process: usize,
 ) -> Result<(), AllocError>
@@ -48,7 +48,7 @@ pub fn release<'a>(
         }
         Some(its) => {
             let calls = beginning(text.alloc, its.body.as_slice())?;
-            let doing = Doing::Active { released: tick };
+            let doing = Activity::Active { released: tick };
             reach(config, tick);
             set_job(&mut config.jobs, process, doing, calls, false);
             Ok(())
@@ -60,7 +60,7 @@ pub fn release<'a>(
 /// memory leaves the configuration as it was.
 pub fn time_out<'a>(
     config: &mut Config<'a>,
-    text: &Text<'a>,
+    text: &ProgramContext<'a>,
     tick: u64,
     process: usize,
     condition: usize,

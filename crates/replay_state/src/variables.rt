@@ -4,7 +4,7 @@ use syntax_tree::Name;
 
 /// The range of values of a subrange.
 #[derive(Clone, Copy)]
-pub struct Range {
+pub struct Subrange {
     pub low: i64,
     pub high: i64,
 }
@@ -18,7 +18,7 @@ pub struct Words {
 
 /// A word, or the words of an array.
 #[derive(Drop)]
-pub enum Held {
+pub enum SlotValue {
     One(i64),
     Many(Words),
 }
@@ -27,6 +27,6 @@ pub enum Held {
 #[derive(Drop)]
 pub struct Slot<'a> {
     pub name: &'a Name,
-    pub range: Option<Range>,
-    pub held: Held,
+    pub range: Option<Subrange>,
+    pub held: SlotValue,
 }

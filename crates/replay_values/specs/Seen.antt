@@ -2,12 +2,12 @@
 use Rattle.std.specs.Prelude.{Option, Some, None, ℤ}
 use Rattle.base.specs.Words as w
 use Rattle.source_semantics.specs.Run as run
-use Rattle.replay_values.specs.declared.lookup.Home as code_home
-use Rattle.replay_values.specs.declared.lookup.Home.TheVariants as home_is
+use Rattle.replay_values.specs.declared.lookup.RoutineHome as code_home
+use Rattle.replay_values.specs.declared.lookup.RoutineHome.TheVariants as home_is
 use Rattle.replay_values.specs.declared.words.Answer as code_answer
 use Rattle.replay_values.specs.declared.words.Answer.TheVariants as answer_is
 
-abbrev pub home_of : code_home.Home → run.Home
+abbrev pub home_of : code_home.RoutineHome → run.Home
 home_of home_is.Program = run.of_program
 home_of home_is.Process = run.of_process
 home_of (home_is.Monitor m) = run.of_monitor m

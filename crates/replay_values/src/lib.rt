@@ -9,6 +9,6 @@ mod lookup;
 mod places;
 mod words;
 
-pub use lookup::{Found, Home, Scope, equal, routine_named};
+pub use lookup::{EvalContext, ResolvedRoutine, RoutineHome, equal, routine_named};
 pub use places::place_at;
 pub use words::{Answer, is_true, negated, operated, truth};

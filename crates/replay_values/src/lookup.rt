@@ -8,11 +8,11 @@ ghost use Rattle.replay_values.specs.Lookups.{found_of};
 
 use static_declarations::Declarations;
 use std::alloc::Global;
-use syntax_tree::{Decl, Name, Proc, Routine};
+use syntax_tree::{Declaration, Name, Process, Routine};
 
 /// Whose text a call is in.
 #[derive(Clone, Copy, Debug)]
-pub enum Home {
+pub enum RoutineHome {
     Program,
     Process,
     Monitor(usize),
@@ -20,16 +20,16 @@ pub enum Home {
 
 /// A program and the process that runs.
 #[derive(Drop)]
-pub struct Scope<'a> {
+pub struct EvalContext<'a> {
     pub declarations: &'a Declarations<'a>,
-    pub process: &'a Proc,
+    pub process: &'a Process,
     pub alloc: Global,
 }
 
 /// A routine with the home that its text has.
 #[derive(Drop)]
-pub struct Found<'a> {
-    pub home: Home,
+pub struct ResolvedRoutine<'a> {
+    pub home: RoutineHome,
     pub routine: &'a Routine,
 }
 
@@ -54,13 +54,13 @@ fn among<'a>(name: &Name, routines: &'a [Routine]) -> Option<&'a Routine>
 }
 
 /// The first routine of that name that is declared.
-fn declared<'a>(name: &Name, decls: &'a [Decl]) -> Option<&'a Routine>
+fn declared<'a>(name: &Name, decls: &'a [Declaration]) -> Option<&'a Routine>
     ensures { option_map (λ r. plain_routine (placed_routine r.now)) result ≡
         named entry_name name.now (filter_map routine_in
         (map plain_decl (map placed_decl decls.now))) }
 {
     for decl in decls {
-        if let Decl::Routine(routine) = decl {
+        if let Declaration::Routine(routine) = decl {
             if equal(&routine.name, name) {
                 return Some(routine);
             }
@@ -70,19 +70,19 @@ fn declared<'a>(name: &Name, decls: &'a [Decl]) -> Option<&'a Routine>
 }
 
 /// The routine of that name, of the process or of the program.
-pub fn routine_named<'a>(scope: &Scope<'a>, name: &Name) -> Option<Found<'a>>
+pub fn routine_named<'a>(scope: &EvalContext<'a>, name: &Name) -> Option<ResolvedRoutine<'a>>
     ensures { option_map found_of result ≡ named_routine (plain (placed scope.now.declarations.now))
         (plain_process (placed_process scope.now.process.now)) name.now }
 {
     if let Some(routine) = among(name, scope.process.routines.as_slice()) {
-        return Some(Found {
-            home: Home::Process,
+        return Some(ResolvedRoutine {
+            home: RoutineHome::Process,
             routine,
         });
     }
     let routine = declared(name, scope.declarations.program().decls.as_slice())?;
-    Some(Found {
-        home: Home::Program,
+    Some(ResolvedRoutine {
+        home: RoutineHome::Program,
         routine,
     })
 }

@@ -2,7 +2,7 @@
 use Rattle.std.proofs.Common.{◌≡◌, ℕ, zero, suc, ◌+◌, ◌<◌, ◌≤◌, inl, inr, List, length, refl, arith, sym, subst}
 use Rattle.std.specs.Prelude.{Option, Some, None}
 use Rattle.std.proofs.lemmas.Bool.{cases_lt}
-use Rattle.sched_demand.specs.declared.tasks.DTask.{DTask}
+use Rattle.sched_demand.specs.declared.tasks.DemandTask.{DemandTask}
 use Rattle.sched_demand.specs.Demand.{task_at}
 use Rattle.sched_theorem.specs.Charges.{Charge, Execution, Blocking, Cost}
 use Rattle.sched_theorem.specs.Stretches.{Life, Acts, SomeActive, NoneActive, IsCharged, Trace, IsRun, AreCharged, IsStretch}
@@ -19,10 +19,10 @@ use Rattle.sched_demand.proofs.Rows.{InRow, due_of, row_after, IsLevel, due_leve
 use Rattle.sched_demand.proofs.Holding.{stay_at, short_stay, kept_stay, lost_stay}
 
 -- the lives of those that are due, by rank
-abbrev pub lives : List DTask → (ℕ → ℕ) → ℕ → (ℕ → Activation) → ℕ → Life
+abbrev pub lives : List DemandTask → (ℕ → ℕ) → ℕ → (ℕ → Activation) → ℕ → Life
 lives ts place due a j = due_life due (task_at ts j).deadline (a (place j))
 
-charge_of : (ts : List DTask) (rank place : ℕ → ℕ) (start ticks due level now : ℕ) (a b : ℕ → Activation) (inside inside_after : ℕ → Option Stay) (picked : Option ℕ) → AreRanks (length ts) rank place → IsLevel (length ts) (λ j. (task_at ts j).deadline) ticks level → start + ticks ≡ due → InRow (length ts) (deadline_at ts rank) start due a → AreStacked (length ts) rank (deadline_at ts rank) now a inside → Chooses (length ts) rank (deadline_at ts rank) inside a picked → Moves (length ts) picked a b → KeepsStays (length ts) picked inside inside_after → SomeActive (length ts) (lives ts place due a) → (c : Charge) × IsCharged (length ts) (lives ts place due a) (lives ts place due b) (stay_at (length ts) place inside level) (stay_at (length ts) place inside_after level) c
+charge_of : (ts : List DemandTask) (rank place : ℕ → ℕ) (start ticks due level now : ℕ) (a b : ℕ → Activation) (inside inside_after : ℕ → Option Stay) (picked : Option ℕ) → AreRanks (length ts) rank place → IsLevel (length ts) (λ j. (task_at ts j).deadline) ticks level → start + ticks ≡ due → InRow (length ts) (deadline_at ts rank) start due a → AreStacked (length ts) rank (deadline_at ts rank) now a inside → Chooses (length ts) rank (deadline_at ts rank) inside a picked → Moves (length ts) picked a b → KeepsStays (length ts) picked inside inside_after → SomeActive (length ts) (lives ts place due a) → (c : Charge) × IsCharged (length ts) (lives ts place due a) (lives ts place due b) (stay_at (length ts) place inside level) (stay_at (length ts) place inside_after level) c
 charge_of ts rank place start ticks due level now a b inside inside_after None are is here row stack chooses moves keeps busy =
     let some = due_of ts rank place due a are busy in
     absurd (chooses some.place some.of_these some.active)
@@ -57,13 +57,13 @@ charge_of ts rank place start ticks due level now a b inside inside_after (Some 
 -- ---- the last row
 
 -- a row of ticks up to the due tick, of those that are due
-pub record LastRow (ts : List DTask) (place : ℕ → ℕ) (due : ℕ) (r : Run) : Type 0 where
+pub record LastRow (ts : List DemandTask) (place : ℕ → ℕ) (due : ℕ) (r : Run) : Type 0 where
   pub start : ℕ
   pub ticks : ℕ
   pub here : start + ticks ≡ due
   pub stretch : IsStretch (length ts) (due_trace ts place due r) start ticks
 
-pub last_row : (ts : List DTask) (rank place : ℕ → ℕ) (end due : ℕ) (r : Run) → AreRanks (length ts) rank place → IsEarliest ts rank end r → due ≤ end → SomeActive (length ts) ((due_trace ts place due r).before due) → LastRow ts place due r
+pub last_row : (ts : List DemandTask) (rank place : ℕ → ℕ) (end due : ℕ) (r : Run) → AreRanks (length ts) rank place → IsEarliest ts rank end r → due ≤ end → SomeActive (length ts) ((due_trace ts place due r).before due) → LastRow ts place due r
 last_row ts rank place end zero r are run within late =
     absurd (let h = due_le zero (task_at ts late.0).deadline (r.before zero (place late.0)) in let z = run.idle_first (place late.0) (are.place_below late.0 late.1) in omega (arith, late.2))
 last_row ts rank place end (suc last) r are run within late =
@@ -76,7 +76,7 @@ last_row ts rank place end (suc last) r are run within late =
     record { start = b.start; ticks = suc b.ticks; here = omega (arith, b.here); stretch = b.stretch }
 
 -- somebody is due in each of its ticks
-pub busy_row : (ts : List DTask) (rank place : ℕ → ℕ) (end due : ℕ) (r : Run) → AreRanks (length ts) rank place → IsEarliest ts rank end r → due ≤ end → (l : LastRow ts place due r) → (x : ℕ) → x < l.ticks → SomeActive (length ts) ((due_trace ts place due r).after (l.start + x))
+pub busy_row : (ts : List DemandTask) (rank place : ℕ → ℕ) (end due : ℕ) (r : Run) → AreRanks (length ts) rank place → IsEarliest ts rank end r → due ≤ end → (l : LastRow ts place due r) → (x : ℕ) → x < l.ticks → SomeActive (length ts) ((due_trace ts place due r).after (l.start + x))
 busy_row ts rank place end due r are run within l x below = elim (cases_lt 0 x) [
   | inr none ↦ let e : l.start ≡ l.start + x = omega arith in let P : ℕ → Type 0 = λ k. SomeActive (length ts) ((due_trace ts place due r).after k) in subst P e l.stretch.busy
   | inl some ↦
@@ -84,7 +84,7 @@ busy_row ts rank place end due r are run within l x below = elim (cases_lt 0 x) 
       still_active (length ts) (cost_at ts) ((due_trace ts place due r).before (l.start + x)) ((due_trace ts place due r).after (l.start + x)) ((due_trace ts place due r).released (l.start + x)) (λ j low. of_due.opens (l.start + x) j (omega (arith, l.here)) low) (l.stretch.goes_on x some below)
 ]
 
-pub due_row : (ts : List DTask) (rank place : ℕ → ℕ) (end due : ℕ) (r : Run) → AreRanks (length ts) rank place → IsEarliest ts rank end r → due ≤ end → (l : LastRow ts place due r) → (i : ℕ) → i < l.ticks → InRow (length ts) (deadline_at ts rank) l.start due (r.after (l.start + i))
+pub due_row : (ts : List DemandTask) (rank place : ℕ → ℕ) (end due : ℕ) (r : Run) → AreRanks (length ts) rank place → IsEarliest ts rank end r → due ≤ end → (l : LastRow ts place due r) → (i : ℕ) → i < l.ticks → InRow (length ts) (deadline_at ts rank) l.start due (r.after (l.start + i))
 due_row ts rank place end due r are run within l i below =
     row_after ts rank place end due l.start r are run l.stretch.clear i (omega (arith, l.here)) (λ x less. due_of ts rank place due (r.after (l.start + x)) are (busy_row ts rank place end due r are run within l x (omega arith)))
 
@@ -117,10 +117,10 @@ shifted_stretch n t start ticks stretch =
     }
 
 -- what is left of the stay that holds the row up
-abbrev pub row_stay : List DTask → (ℕ → ℕ) → Run → (start level k : ℕ) → ℕ
+abbrev pub row_stay : List DemandTask → (ℕ → ℕ) → Run → (start level k : ℕ) → ℕ
 row_stay ts place r start level k = stay_at (length ts) place (r.inside (start + k)) level
 
-pub row_charged : (ts : List DTask) (rank place : ℕ → ℕ) (end due level : ℕ) (r : Run) → AreRanks (length ts) rank place → IsEarliest ts rank end r → due ≤ end → (l : LastRow ts place due r) → IsLevel (length ts) (λ j. (task_at ts j).deadline) l.ticks level → AreCharged (length ts) (task_at ts level).block l.ticks (shifted l.start (due_trace ts place due r)) (row_stay ts place r l.start level)
+pub row_charged : (ts : List DemandTask) (rank place : ℕ → ℕ) (end due level : ℕ) (r : Run) → AreRanks (length ts) rank place → IsEarliest ts rank end r → due ≤ end → (l : LastRow ts place due r) → IsLevel (length ts) (λ j. (task_at ts j).deadline) l.ticks level → AreCharged (length ts) (task_at ts level).block l.ticks (shifted l.start (due_trace ts place due r)) (row_stay ts place r l.start level)
 row_charged ts rank place end due level r are run within l is = record {
   stays = λ k low.
       let inside_end : l.start + k ≤ end = omega (arith, l.here) in

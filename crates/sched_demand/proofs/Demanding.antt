@@ -6,13 +6,13 @@ use Rattle.std.proofs.lemmas.Nat.{le-div, div_below}
 use Rattle.std.proofs.lemmas.List.{take_all}
 use Rattle.std.proofs.lemmas.List.Sums.{sum_by_more}
 use Rattle.std.proofs.Math.Nat.{mul-le-mul_right}
-use Rattle.sched_demand.specs.declared.tasks.DTask.{DTask}
+use Rattle.sched_demand.specs.declared.tasks.DemandTask.{DemandTask}
 use Rattle.sched_demand.specs.Demand.{task_at, IsTask, AreTasks, due_by, block_of, block_at, demand_at, IsPoint}
 use Rattle.sched_theorem.specs.Charges.{total}
 use Rattle.sched_theorem.proofs.Totals.{total_mono}
 use Rattle.sched_demand.proofs.Rows.{IsLevel}
 
-sum_upto : (f : DTask → ℕ) (ts : List DTask) (n : ℕ) → n ≤ length ts → sum_by f (take n ts) ≡ total n (λ j. f (task_at ts j))
+sum_upto : (f : DemandTask → ℕ) (ts : List DemandTask) (n : ℕ) → n ≤ length ts → sum_by f (take n ts) ≡ total n (λ j. f (task_at ts j))
 sum_upto f ts zero within = refl
 sum_upto f ts (suc n) within =
     let rest = sum_upto f ts n (omega arith) in
@@ -21,13 +21,13 @@ sum_upto f ts (suc n) within =
     ap (λ k. sum_by f (take k ts)) e ∙ more ∙ ap (λ k. k + f (task_at ts n)) rest
 
 -- a sum over the tasks is one over the ranks
-pub sum_is : (f : DTask → ℕ) (ts : List DTask) → sum_by f ts ≡ total (length ts) (λ j. f (task_at ts j))
+pub sum_is : (f : DemandTask → ℕ) (ts : List DemandTask) → sum_by f ts ≡ total (length ts) (λ j. f (task_at ts j))
 sum_is f ts = ap (sum_by f) (sym (take_all (length ts) ts (omega arith))) ∙ sum_upto f ts (length ts) (omega arith)
 
-pub is_task : (ts : List DTask) (j : ℕ) → AreTasks ts → j < length ts → IsTask (task_at ts j)
+pub is_task : (ts : List DemandTask) (j : ℕ) → AreTasks ts → j < length ts → IsTask (task_at ts j)
 is_task ts j are below = are.each j (record { frame = 0; deadline = 0; cost = 0; block = 0 }) below
 
-pub sorted : (ts : List DTask) (i j : ℕ) → AreTasks ts → i ≤ j → j < length ts → (task_at ts i).deadline ≤ (task_at ts j).deadline
+pub sorted : (ts : List DemandTask) (i j : ℕ) → AreTasks ts → i ≤ j → j < length ts → (task_at ts i).deadline ≤ (task_at ts j).deadline
 sorted ts i j are le below = are.ordered.ascending i j (record { frame = 0; deadline = 0; cost = 0; block = 0 }) le below
 
 -- ---- the level of a number of ticks
@@ -53,7 +53,7 @@ last_within (suc n) f ticks = elim (cases_lt ticks (f n)) [
   ]
 ]
 
-pub level_of : (ts : List DTask) (ticks j : ℕ) → AreTasks ts → j < length ts → (task_at ts j).deadline ≤ ticks → (level : ℕ) × IsLevel (length ts) (λ i. (task_at ts i).deadline) ticks level
+pub level_of : (ts : List DemandTask) (ticks j : ℕ) → AreTasks ts → j < length ts → (task_at ts j).deadline ≤ ticks → (level : ℕ) × IsLevel (length ts) (λ i. (task_at ts i).deadline) ticks level
 level_of ts ticks j are below soon = elim (last_within (length ts) (λ i. (task_at ts i).deadline) ticks) [
   | inl all ↦ absurd (let h = all j below in omega arith)
   | inr l ↦ (
@@ -67,7 +67,7 @@ level_of ts ticks j are below soon = elim (last_within (length ts) (λ i. (task_
 ]
 
 -- its block is the block of the demand
-block_is : (ts : List DTask) (ticks level n : ℕ) → level < n → (task_at ts level).deadline ≤ ticks → ((j : ℕ) → level < j → j < n → ticks < (task_at ts j).deadline) → block_of ts ticks n ≡ (task_at ts level).block
+block_is : (ts : List DemandTask) (ticks level n : ℕ) → level < n → (task_at ts level).deadline ≤ ticks → ((j : ℕ) → level < j → j < n → ticks < (task_at ts j).deadline) → block_of ts ticks n ≡ (task_at ts level).block
 block_is ts ticks level zero below within beyond = absurd (omega arith)
 block_is ts ticks level (suc n) below within beyond = elim (cases_lt level n) [
   | inl less ↦
@@ -79,16 +79,16 @@ block_is ts ticks level (suc n) below within beyond = elim (cases_lt level n) [
       ap (λ b. cond b (block_of ts ticks n) (task_at ts n).block) (le-ltb ticks (task_at ts n).deadline near) ∙ ap (λ i. (task_at ts i).block) (sym e)
 ]
 
-pub level_block : (ts : List DTask) (ticks level : ℕ) → IsLevel (length ts) (λ i. (task_at ts i).deadline) ticks level → block_at ts ticks ≡ (task_at ts level).block
+pub level_block : (ts : List DemandTask) (ticks level : ℕ) → IsLevel (length ts) (λ i. (task_at ts i).deadline) ticks level → block_at ts ticks ≡ (task_at ts level).block
 level_block ts ticks level is = block_is ts ticks level (length ts) is.of_these (is.within level (omega arith)) is.beyond
 
 -- ---- the last point
 
 -- how many are due, and the last of them
-pub due_none : (ticks : ℕ) (x : DTask) → ticks < x.deadline → due_by ticks x ≡ 0
+pub due_none : (ticks : ℕ) (x : DemandTask) → ticks < x.deadline → due_by ticks x ≡ 0
 due_none ticks x late = ap (λ b. cond b 0 ((ticks - x.deadline) / x.frame + 1)) (lt-ltb ticks x.deadline late)
 
-pub due_some : (ticks : ℕ) (x : DTask) → x.deadline ≤ ticks → due_by ticks x ≡ (ticks - x.deadline) / x.frame + 1
+pub due_some : (ticks : ℕ) (x : DemandTask) → x.deadline ≤ ticks → due_by ticks x ≡ (ticks - x.deadline) / x.frame + 1
 due_some ticks x soon = ap (λ b. cond b 0 ((ticks - x.deadline) / x.frame + 1)) (le-ltb ticks x.deadline soon)
 
 div_times : (a b : ℕ) → 0 < b → a / b * b ≤ a
@@ -98,7 +98,7 @@ div_times a b p = elim (cases_lt a (a / b * b)) [
 ]
 
 -- a point within some ticks, such that as many are due by it
-pub record LastPoint (ts : List DTask) (ticks n t : ℕ) : Type 0 where
+pub record LastPoint (ts : List DemandTask) (ticks n t : ℕ) : Type 0 where
   pub level : ℕ
   pub of_these : level < length ts
   pub turn : ℕ
@@ -106,10 +106,10 @@ pub record LastPoint (ts : List DTask) (ticks n t : ℕ) : Type 0 where
   pub within : t ≤ ticks
   pub all : (j m : ℕ) → j < n → (task_at ts j).deadline + m * (task_at ts j).frame ≤ ticks → (task_at ts j).deadline + m * (task_at ts j).frame ≤ t
 
-last_turn : (ts : List DTask) (ticks n m : ℕ) → 0 < (task_at ts n).frame → (task_at ts n).deadline + m * (task_at ts n).frame ≤ ticks → m ≤ (ticks - (task_at ts n).deadline) / (task_at ts n).frame
+last_turn : (ts : List DemandTask) (ticks n m : ℕ) → 0 < (task_at ts n).frame → (task_at ts n).deadline + m * (task_at ts n).frame ≤ ticks → m ≤ (ticks - (task_at ts n).deadline) / (task_at ts n).frame
 last_turn ts ticks n m pos h = le-div m (ticks - (task_at ts n).deadline) (task_at ts n).frame pos (omega arith)
 
-last_point : (ts : List DTask) (ticks n : ℕ) → AreTasks ts → n ≤ length ts → ((j : ℕ) → j < n → ticks < (task_at ts j).deadline) ⊎ ((t : ℕ) × LastPoint ts ticks n t)
+last_point : (ts : List DemandTask) (ticks n : ℕ) → AreTasks ts → n ≤ length ts → ((j : ℕ) → j < n → ticks < (task_at ts j).deadline) ⊎ ((t : ℕ) × LastPoint ts ticks n t)
 last_point ts ticks zero are within = inl (λ j below. absurd (omega arith))
 last_point ts ticks (suc n) are within = elim (cases_lt ticks (task_at ts n).deadline) [
   | inl far ↦ elim (last_point ts ticks n are (omega arith)) [
@@ -193,7 +193,7 @@ last_point ts ticks (suc n) are within = elim (cases_lt ticks (task_at ts n).dea
 ]
 
 -- as many are due by the last point
-due_kept : (ts : List DTask) (ticks t j : ℕ) → AreTasks ts → j < length ts → LastPoint ts ticks (length ts) t → due_by ticks (task_at ts j) ≤ due_by t (task_at ts j)
+due_kept : (ts : List DemandTask) (ticks t j : ℕ) → AreTasks ts → j < length ts → LastPoint ts ticks (length ts) t → due_by ticks (task_at ts j) ≤ due_by t (task_at ts j)
 due_kept ts ticks t j are below l =
     let x = is_task ts j are below in
     let pos : 0 < (task_at ts j).frame = omega (arith, x.frame_low) in
@@ -209,7 +209,7 @@ due_kept ts ticks t j are below l =
     ]
 
 -- so the demand by it is not less
-demand_kept : (ts : List DTask) (ticks t level : ℕ) → AreTasks ts → IsLevel (length ts) (λ i. (task_at ts i).deadline) ticks level → LastPoint ts ticks (length ts) t → demand_at ts ticks ≤ demand_at ts t
+demand_kept : (ts : List DemandTask) (ticks t level : ℕ) → AreTasks ts → IsLevel (length ts) (λ i. (task_at ts i).deadline) ticks level → LastPoint ts ticks (length ts) t → demand_at ts ticks ≤ demand_at ts t
 demand_kept ts ticks t level are is l =
     let more = total_mono (length ts) (λ j. due_by ticks (task_at ts j) * (task_at ts j).cost) (λ j. due_by t (task_at ts j) * (task_at ts j).cost) (λ j below. mul-le-mul_right (task_at ts j).cost (due_kept ts ticks t j are below l)) in
     let e = sum_is (λ x. due_by ticks x * x.cost) ts in
@@ -224,7 +224,7 @@ demand_kept ts ticks t level are is l =
     omega arith
 
 -- where the demand passes some ticks, it passes a point within them
-pub passes_at_point : (ts : List DTask) (reach ticks level : ℕ) → AreTasks ts → IsLevel (length ts) (λ i. (task_at ts i).deadline) ticks level → ticks ≤ reach → ticks < demand_at ts ticks → (t : ℕ) × IsPoint ts reach t × (t < demand_at ts t)
+pub passes_at_point : (ts : List DemandTask) (reach ticks level : ℕ) → AreTasks ts → IsLevel (length ts) (λ i. (task_at ts i).deadline) ticks level → ticks ≤ reach → ticks < demand_at ts ticks → (t : ℕ) × IsPoint ts reach t × (t < demand_at ts t)
 passes_at_point ts reach ticks level are is within more = elim (last_point ts ticks (length ts) are (omega arith)) [
   | inl all ↦ absurd (let h = all level is.of_these in let w = is.within level (omega arith) in omega arith)
   | inr l ↦

@@ -2,7 +2,7 @@
 use Rattle.std.proofs.Common.{◌≡◌, ℕ, zero, suc, ◌+◌, ◌*◌, ◌<◌, ◌≤◌, inl, inr, List, length, refl, arith, ap, sym, subst, ◌∙◌}
 use Rattle.std.specs.Prelude.{Bool, true, false, cond, nat_lt, Option, Some, None}
 use Rattle.std.proofs.lemmas.Bool.{cases_lt, cases_eq, lt-ltb, le-ltb, cases_Bool}
-use Rattle.sched_demand.specs.declared.tasks.DTask.{DTask}
+use Rattle.sched_demand.specs.declared.tasks.DemandTask.{DemandTask}
 use Rattle.sched_demand.specs.Demand.{task_at}
 use Rattle.sched_theorem.specs.Charges.{Cost}
 use Rattle.sched_theorem.specs.Stretches.{Life, Opens, Acts, Trace, IsRun, flag}
@@ -15,7 +15,7 @@ use Rattle.sched_demand.proofs.Stacking.{kept_by_releases, kept_by_choice, moves
 -- ---- an activation as far as it is due
 
 abbrev pub due_life : ℕ → ℕ → Activation → Life
-due_life due deadline a = record { run_left = cond (nat_lt due (a.release + deadline)) 0 a.left; susp_left = 0; waits_left = 0; waiting = 0 }
+due_life due deadline a = record { run_left = cond (nat_lt due (a.release + deadline)) 0 a.left; suspension_left = 0; waits_left = 0; waiting = 0 }
 
 abbrev pub due_cost : ℕ → Cost
 due_cost c = record { run = c; susp = 0; waits = 0 }
@@ -142,7 +142,7 @@ pub distinct : (n : ℕ) (rank place : ℕ → ℕ) → AreRanks n rank place �
 distinct n rank place are p q p_below q_below same = sym (are.back p p_below) ∙ ap place same ∙ are.back q q_below
 
 -- the stack stands before each tick, and after its start events
-pub stack_before : (ts : List DTask) (rank place : ℕ → ℕ) (end : ℕ) (r : Run) → AreRanks (length ts) rank place → IsEarliest ts rank end r → (k : ℕ) → k ≤ end → AreStacked (length ts) rank (deadline_at ts rank) k (r.before k) (r.inside k)
+pub stack_before : (ts : List DemandTask) (rank place : ℕ → ℕ) (end : ℕ) (r : Run) → AreRanks (length ts) rank place → IsEarliest ts rank end r → (k : ℕ) → k ≤ end → AreStacked (length ts) rank (deadline_at ts rank) k (r.before k) (r.inside k)
 stack_before ts rank place end r are run zero within = record {
   past = λ p below some. absurd (let z = run.idle_first p below in omega arith);
   begun = λ q s below is. absurd (let z = run.free_first q below in cc);
@@ -154,22 +154,22 @@ stack_before ts rank place end r are run (suc k) within =
     let opened = kept_by_releases (length ts) rank (deadline_at ts rank) k (λ p. (task_at ts (rank p)).cost) (r.released k) (r.before k) (r.after k) (r.inside k) was (λ p below. run.opens k p (omega arith) below) in
     kept_by_choice (length ts) rank (deadline_at ts rank) (suc k) (r.after k) (r.before (suc k)) (r.inside k) (r.inside (suc k)) (r.picked k) (distinct (length ts) rank place are) opened (run.chooses k (omega arith)) (moves_pass (length ts) (r.picked k) (r.after k) (r.before (suc k)) (run.acts k (omega arith))) (stays_keep (length ts) (r.picked k) (r.inside k) (r.inside (suc k)) (run.keeps k (omega arith))) (λ p s below is. run.active (suc k) p s within below is)
 
-pub stack_after : (ts : List DTask) (rank place : ℕ → ℕ) (end : ℕ) (r : Run) → AreRanks (length ts) rank place → IsEarliest ts rank end r → (k : ℕ) → k < end → AreStacked (length ts) rank (deadline_at ts rank) (suc k) (r.after k) (r.inside k)
+pub stack_after : (ts : List DemandTask) (rank place : ℕ → ℕ) (end : ℕ) (r : Run) → AreRanks (length ts) rank place → IsEarliest ts rank end r → (k : ℕ) → k < end → AreStacked (length ts) rank (deadline_at ts rank) (suc k) (r.after k) (r.inside k)
 stack_after ts rank place end r are run k within =
     kept_by_releases (length ts) rank (deadline_at ts rank) k (λ p. (task_at ts (rank p)).cost) (r.released k) (r.before k) (r.after k) (r.inside k) (stack_before ts rank place end r are run k (omega arith)) (λ p below. run.opens k p within below)
 
 -- the run of those that are due, by rank
-abbrev pub due_trace : List DTask → (place : ℕ → ℕ) → (due : ℕ) → Run → Trace
+abbrev pub due_trace : List DemandTask → (place : ℕ → ℕ) → (due : ℕ) → Run → Trace
 due_trace ts place due r = record {
   before = λ k j. due_life due (task_at ts j).deadline (r.before k (place j));
   after = λ k j. due_life due (task_at ts j).deadline (r.after k (place j));
   released = λ k j. due_release due (task_at ts j).deadline k (r.released k (place j));
 }
 
-abbrev pub cost_at : List DTask → ℕ → Cost
+abbrev pub cost_at : List DemandTask → ℕ → Cost
 cost_at ts j = due_cost (task_at ts j).cost
 
-pub due_run : (ts : List DTask) (rank place : ℕ → ℕ) (end due : ℕ) (r : Run) → AreRanks (length ts) rank place → IsEarliest ts rank end r → IsRun (length ts) (cost_at ts) end (due_trace ts place due r)
+pub due_run : (ts : List DemandTask) (rank place : ℕ → ℕ) (end due : ℕ) (r : Run) → AreRanks (length ts) rank place → IsEarliest ts rank end r → IsRun (length ts) (cost_at ts) end (due_trace ts place due r)
 due_run ts rank place end due r are run = record {
   whole = λ k j within below. record { no_susp = λ e. refl; no_waits = λ e. refl; no_waiting = λ e. refl };
   opens = λ k j within below.

@@ -2,7 +2,7 @@
 use Rattle.std.proofs.Common.{◌≡◌, ℕ, ◌+◌, ◌<◌, ◌≤◌, ◌⊎◌, inl, inr, List, length, refl, arith, ap, sym, subst, ◌∙◌}
 use Rattle.std.specs.Prelude.{Option, Some}
 use Rattle.std.proofs.lemmas.Bool.{cases_eq}
-use Rattle.sched_demand.specs.declared.tasks.DTask.{DTask}
+use Rattle.sched_demand.specs.declared.tasks.DemandTask.{DemandTask}
 use Rattle.sched_demand.specs.Demand.{task_at}
 use Rattle.sched_theorem.specs.Charges.{total}
 use Rattle.sched_theorem.specs.Dispatched.{Stay, TakesOne, KeepsStays}
@@ -33,7 +33,7 @@ one_stay n rank place inside level i j are apart less below = elim (held_cases l
   ]
 ]
 
-pub short_stay : (ts : List DTask) (rank place : ℕ → ℕ) (inside : ℕ → Option Stay) (ticks level : ℕ) → AreRanks (length ts) rank place → AreApart (length ts) rank inside → AreShort ts rank inside → IsLevel (length ts) (λ j. (task_at ts j).deadline) ticks level → stay_at (length ts) place inside level ≤ (task_at ts level).block
+pub short_stay : (ts : List DemandTask) (rank place : ℕ → ℕ) (inside : ℕ → Option Stay) (ticks level : ℕ) → AreRanks (length ts) rank place → AreApart (length ts) rank inside → AreShort ts rank inside → IsLevel (length ts) (λ j. (task_at ts j).deadline) ticks level → stay_at (length ts) place inside level ≤ (task_at ts level).block
 short_stay ts rank place inside ticks level are apart short is = total_lone (length ts) (task_at ts level).block (λ j. held level j (inside (place j)))
     (λ j below. elim (held_cases level j (inside (place j))) [
       | inr none ↦ omega arith

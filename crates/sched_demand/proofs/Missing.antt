@@ -3,7 +3,7 @@ use Rattle.std.proofs.Common.{◌≡◌, ℕ, zero, suc, ◌+◌, ◌-◌, ◌*�
 use Rattle.std.specs.Prelude.{true}
 use Rattle.std.specs.Int.{div_ceil}
 use Rattle.std.proofs.lemmas.Bool.{cases_lt}
-use Rattle.sched_demand.specs.declared.tasks.DTask.{DTask}
+use Rattle.sched_demand.specs.declared.tasks.DemandTask.{DemandTask}
 use Rattle.sched_demand.specs.Demand.{task_at, AreTasks, due_by, dbf, demand_at, asked, IsReach, IsPoint, IsFeasible}
 use Rattle.sched_theorem.specs.Charges.{total, claim, claims}
 use Rattle.sched_theorem.specs.Stretches.{SomeActive, Spaced}
@@ -20,7 +20,7 @@ use Rattle.sched_demand.proofs.Charging.{LastRow, last_row, busy_row, due_row, s
 use Rattle.sched_demand.proofs.Demanding.{sum_is, is_task, level_of, level_block, passes_at_point}
 
 -- the level of the last row
-row_level : (ts : List DTask) (rank place : ℕ → ℕ) (end due : ℕ) (r : Run) → AreTasks ts → AreRanks (length ts) rank place → IsEarliest ts rank end r → due ≤ end → (l : LastRow ts place due r) → (level : ℕ) × IsLevel (length ts) (λ i. (task_at ts i).deadline) l.ticks level
+row_level : (ts : List DemandTask) (rank place : ℕ → ℕ) (end due : ℕ) (r : Run) → AreTasks ts → AreRanks (length ts) rank place → IsEarliest ts rank end r → due ≤ end → (l : LastRow ts place due r) → (level : ℕ) × IsLevel (length ts) (λ i. (task_at ts i).deadline) l.ticks level
 row_level ts rank place end due r tasks are run within l =
     let some = due_of ts rank place due (r.after (l.start + 0)) are (busy_row ts rank place end due r are run within l 0 l.stretch.some) in
     let row = due_row ts rank place end due r are run within l 0 l.stretch.some in
@@ -28,7 +28,7 @@ row_level ts rank place end due r tasks are run within l =
     level_of ts l.ticks (rank some.place) tasks (are.rank_below some.place some.of_these) (omega (arith, l.here, some.soon))
 
 -- the releases of the last row that count stand a frame apart
-row_spaced : (ts : List DTask) (rank place : ℕ → ℕ) (end due : ℕ) (r : Run) → AreRanks (length ts) rank place → IsEarliest ts rank end r → due ≤ end → (l : LastRow ts place due r) → (j : ℕ) → j < length ts → Spaced (task_at ts j).frame l.ticks (λ k. (shifted l.start (due_trace ts place due r)).released k j)
+row_spaced : (ts : List DemandTask) (rank place : ℕ → ℕ) (end due : ℕ) (r : Run) → AreRanks (length ts) rank place → IsEarliest ts rank end r → due ≤ end → (l : LastRow ts place due r) → (j : ℕ) → j < length ts → Spaced (task_at ts j).frame l.ticks (λ k. (shifted l.start (due_trace ts place due r)).released k j)
 row_spaced ts rank place end due r are run within l j below k m less low is_k is_m =
     let a = released_due due (task_at ts j).deadline (l.start + k) (r.released (l.start + k) (place j)) is_k in
     let b = released_due due (task_at ts j).deadline (l.start + m) (r.released (l.start + m) (place j)) is_m in
@@ -36,7 +36,7 @@ row_spaced ts rank place end due r are run within l j below k m less low is_k is
     let h = run.spaced (place j) (are.place_below j below) (l.start + k) (l.start + m) (omega arith) (omega (arith, l.here)) a.0 b.0 in
     omega arith
 
-row_due_by : (ts : List DTask) (rank place : ℕ → ℕ) (end due : ℕ) (r : Run) → AreTasks ts → AreRanks (length ts) rank place → IsEarliest ts rank end r → due ≤ end → (l : LastRow ts place due r) → IsDueBy (length ts) (λ j. (task_at ts j).frame) (λ j. (task_at ts j).deadline) l.ticks l.ticks (shifted l.start (due_trace ts place due r))
+row_due_by : (ts : List DemandTask) (rank place : ℕ → ℕ) (end due : ℕ) (r : Run) → AreTasks ts → AreRanks (length ts) rank place → IsEarliest ts rank end r → due ≤ end → (l : LastRow ts place due r) → IsDueBy (length ts) (λ j. (task_at ts j).frame) (λ j. (task_at ts j).deadline) l.ticks l.ticks (shifted l.start (due_trace ts place due r))
 row_due_by ts rank place end due r tasks are run within l = record {
   framed = λ j below. let x = is_task ts j tasks below in omega (arith, x.frame_low);
   spaced = λ j below. row_spaced ts rank place end due r are run within l j below;
@@ -44,7 +44,7 @@ row_due_by ts rank place end due r tasks are run within l = record {
 }
 
 -- without waits and suspension an activation claims its cost
-claims_of : (ts : List DTask) (count : ℕ → ℕ) (most : ℕ) → claims (length ts) count (cost_at ts) most ≡ total (length ts) (λ j. count j * (task_at ts j).cost)
+claims_of : (ts : List DemandTask) (count : ℕ → ℕ) (most : ℕ) → claims (length ts) count (cost_at ts) most ≡ total (length ts) (λ j. count j * (task_at ts j).cost)
 claims_of ts count most = same (length ts)
   where
     one : (c m : ℕ) → c + 0 + 0 * m ≡ c
@@ -58,7 +58,7 @@ claims_of ts count most = same (length ts)
         omega arith
 
 -- the demand of the last row passes its length
-row_asks : (ts : List DTask) (rank place : ℕ → ℕ) (end due level : ℕ) (r : Run) → AreTasks ts → AreRanks (length ts) rank place → IsEarliest ts rank end r → due ≤ end → SomeActive (length ts) ((due_trace ts place due r).before due) → (l : LastRow ts place due r) → IsLevel (length ts) (λ i. (task_at ts i).deadline) l.ticks level → l.ticks < demand_at ts l.ticks
+row_asks : (ts : List DemandTask) (rank place : ℕ → ℕ) (end due level : ℕ) (r : Run) → AreTasks ts → AreRanks (length ts) rank place → IsEarliest ts rank end r → due ≤ end → SomeActive (length ts) ((due_trace ts place due r).before due) → (l : LastRow ts place due r) → IsLevel (length ts) (λ i. (task_at ts i).deadline) l.ticks level → l.ticks < demand_at ts l.ticks
 row_asks ts rank place end due level r tasks are run within late l is =
     let of_due = due_run ts rank place end due r are run in
     let own = shifted_run (length ts) (cost_at ts) end (due_trace ts place due r) l.start l.ticks of_due (omega (arith, l.here)) in
@@ -80,7 +80,7 @@ row_asks ts rank place end due level r tasks are run within late l is =
     ]
 
 -- and the last row is no longer than the reach
-row_short : (ts : List DTask) (rank place : ℕ → ℕ) (end due level reach : ℕ) (r : Run) → AreTasks ts → AreRanks (length ts) rank place → IsEarliest ts rank end r → due ≤ end → end ≤ 1000000000 → IsReach ts reach → (l : LastRow ts place due r) → IsLevel (length ts) (λ i. (task_at ts i).deadline) l.ticks level → l.ticks ≤ reach
+row_short : (ts : List DemandTask) (rank place : ℕ → ℕ) (end due level reach : ℕ) (r : Run) → AreTasks ts → AreRanks (length ts) rank place → IsEarliest ts rank end r → due ≤ end → end ≤ 1000000000 → IsReach ts reach → (l : LastRow ts place due r) → IsLevel (length ts) (λ i. (task_at ts i).deadline) l.ticks level → l.ticks ≤ reach
 row_short ts rank place end due level reach r tasks are run within short reaches l is = elim (cases_lt reach 1000000000) [
   | inr top ↦ omega (arith, l.here)
   | inl below_top ↦
@@ -97,7 +97,7 @@ row_short ts rank place end due level reach r tasks are run within short reaches
 ]
 
 -- a missed deadline passes the demand at a point
-pub missed_passes : (ts : List DTask) (rank place : ℕ → ℕ) (end due reach : ℕ) (r : Run) → AreTasks ts → AreRanks (length ts) rank place → IsEarliest ts rank end r → end ≤ 1000000000 → IsReach ts reach → due ≤ end → (p : ℕ) → p < length ts → 1 ≤ (r.before due p).left → (r.before due p).release + deadline_at ts rank p ≤ due → (t : ℕ) × IsPoint ts reach t × (t < demand_at ts t)
+pub missed_passes : (ts : List DemandTask) (rank place : ℕ → ℕ) (end due reach : ℕ) (r : Run) → AreTasks ts → AreRanks (length ts) rank place → IsEarliest ts rank end r → end ≤ 1000000000 → IsReach ts reach → due ≤ end → (p : ℕ) → p < length ts → 1 ≤ (r.before due p).left → (r.before due p).release + deadline_at ts rank p ≤ due → (t : ℕ) × IsPoint ts reach t × (t < demand_at ts t)
 missed_passes ts rank place end due reach r tasks are run short reaches within p below active missed =
     let back = are.back p below in
     let e = is_due due (deadline_at ts rank p) (r.before due p) missed in
@@ -110,10 +110,10 @@ missed_passes ts rank place end due reach r tasks are run short reaches within p
 -- ---- where none is missed
 
 -- no activation is there before the tick of its deadline
-abbrev pub NoneLate : List DTask → (ℕ → ℕ) → ℕ → Run → Type 0
+abbrev pub NoneLate : List DemandTask → (ℕ → ℕ) → ℕ → Run → Type 0
 NoneLate ts rank end r = (due p : ℕ) → due ≤ end → p < length ts → 1 ≤ (r.before due p).left → due < (r.before due p).release + deadline_at ts rank p
 
-pub none_late : (ts : List DTask) (rank place : ℕ → ℕ) (end reach : ℕ) (r : Run) → AreTasks ts → AreRanks (length ts) rank place → IsEarliest ts rank end r → end ≤ 1000000000 → IsReach ts reach → IsFeasible ts reach → NoneLate ts rank end r
+pub none_late : (ts : List DemandTask) (rank place : ℕ → ℕ) (end reach : ℕ) (r : Run) → AreTasks ts → AreRanks (length ts) rank place → IsEarliest ts rank end r → end ≤ 1000000000 → IsReach ts reach → IsFeasible ts reach → NoneLate ts rank end r
 none_late ts rank place end reach r tasks are run short reaches feasible due p within below active = elim (cases_lt due ((r.before due p).release + deadline_at ts rank p)) [
   | inl soon ↦ soon
   | inr late ↦
@@ -122,7 +122,7 @@ none_late ts rank place end reach r tasks are run short reaches feasible due p w
 ]
 
 -- an activation that is there was released when it says
-real : (ts : List DTask) (rank : ℕ → ℕ) (end : ℕ) (r : Run) → IsEarliest ts rank end r → (k p : ℕ) → k ≤ end → p < length ts → 1 ≤ (r.before k p).left → r.released (r.before k p).release p ≡ true
+real : (ts : List DemandTask) (rank : ℕ → ℕ) (end : ℕ) (r : Run) → IsEarliest ts rank end r → (k p : ℕ) → k ≤ end → p < length ts → 1 ≤ (r.before k p).left → r.released (r.before k p).release p ≡ true
 real ts rank end r run zero p within below active = absurd (let z = run.idle_first p below in omega arith)
 real ts rank end r run (suc k) p within below active =
     let m = moved (length ts) (r.picked k) (r.after k) (r.before (suc k)) (run.acts k (omega arith)) p below in
@@ -135,7 +135,7 @@ real ts rank end r run (suc k) p within below active =
       | inr new ↦ subst P (sym (same ∙ new.2)) new.0
     ]
 
-idle_at : (ts : List DTask) (rank place : ℕ → ℕ) (end : ℕ) (r : Run) → AreTasks ts → AreRanks (length ts) rank place → IsEarliest ts rank end r → NoneLate ts rank end r → (k p : ℕ) → p < length ts → k < end → r.released k p ≡ true → (r.before k p).left ≡ 0
+idle_at : (ts : List DemandTask) (rank place : ℕ → ℕ) (end : ℕ) (r : Run) → AreTasks ts → AreRanks (length ts) rank place → IsEarliest ts rank end r → NoneLate ts rank end r → (k p : ℕ) → p < length ts → k < end → r.released k p ≡ true → (r.before k p).left ≡ 0
 idle_at ts rank place end r tasks are run none k p below within is = elim (cases_lt 0 (r.before k p).left) [
   | inr idle ↦ omega arith
   | inl active ↦
@@ -160,7 +160,7 @@ record GoesOn (r : Run) (p release ticks : ℕ) : Type 0 where
   same : (r.before (suc (release + ticks)) p).release ≡ release
   active : (k : ℕ) → release < k → k ≤ suc (release + ticks) → 1 ≤ (r.before k p).left
 
-ended_or_not : (ts : List DTask) (rank : ℕ → ℕ) (end : ℕ) (r : Run) → IsEarliest ts rank end r → (p release : ℕ) → p < length ts → 1 ≤ (r.after release p).left → (r.after release p).release ≡ release → (ticks : ℕ) → release + ticks < end → FirstEnd r p release ticks ⊎ GoesOn r p release ticks
+ended_or_not : (ts : List DemandTask) (rank : ℕ → ℕ) (end : ℕ) (r : Run) → IsEarliest ts rank end r → (p release : ℕ) → p < length ts → 1 ≤ (r.after release p).left → (r.after release p).release ≡ release → (ticks : ℕ) → release + ticks < end → FirstEnd r p release ticks ⊎ GoesOn r p release ticks
 ended_or_not ts rank end r run p release below active since zero within =
     let e : release ≡ release + 0 = omega arith in
     let m = moved (length ts) (r.picked release) (r.after release) (r.before (suc release)) (run.acts release (omega arith)) p below in
@@ -209,7 +209,7 @@ ended_or_not ts rank end r run p release below active since (suc ticks) within =
       ]
 ]
 
-ends_at : (ts : List DTask) (rank place : ℕ → ℕ) (end : ℕ) (r : Run) → AreTasks ts → AreRanks (length ts) rank place → IsEarliest ts rank end r → NoneLate ts rank end r → (k p : ℕ) → p < length ts → k + deadline_at ts rank p ≤ end → r.released k p ≡ true → EndsWithin r p k (deadline_at ts rank p)
+ends_at : (ts : List DemandTask) (rank place : ℕ → ℕ) (end : ℕ) (r : Run) → AreTasks ts → AreRanks (length ts) rank place → IsEarliest ts rank end r → NoneLate ts rank end r → (k p : ℕ) → p < length ts → k + deadline_at ts rank p ≤ end → r.released k p ≡ true → EndsWithin r p k (deadline_at ts rank p)
 ends_at ts rank place end r tasks are run none k p below within is =
     let x = is_task ts (rank p) tasks (are.rank_below p below) in
     let pos : 10 ≤ deadline_at ts rank p = x.deadline_low in
@@ -224,7 +224,7 @@ ends_at ts rank place end r tasks are run none k p below within is =
     ]
 
 -- where the demand is met at each point, no deadline is missed
-pub meets : (ts : List DTask) (rank place : ℕ → ℕ) (end reach : ℕ) (r : Run) → AreTasks ts → AreRanks (length ts) rank place → IsEarliest ts rank end r → end ≤ 1000000000 → IsReach ts reach → IsFeasible ts reach → MeetsDeadlines ts rank end r
+pub meets : (ts : List DemandTask) (rank place : ℕ → ℕ) (end reach : ℕ) (r : Run) → AreTasks ts → AreRanks (length ts) rank place → IsEarliest ts rank end r → end ≤ 1000000000 → IsReach ts reach → IsFeasible ts reach → MeetsDeadlines ts rank end r
 meets ts rank place end reach r tasks are run short reaches feasible =
     let none = none_late ts rank place end reach r tasks are run short reaches feasible in
     record {

@@ -4,21 +4,21 @@ use Rattle.std.specs.Prelude.{nat_lt, nat_eq, ◌&&◌, ◌||◌}
 use Rattle.std.proofs.lemmas.Bool.Decides.{nat_tests}
 use Rattle.std.specs.List.{IsAllAdjacentAnswer}
 use Rattle.std.proofs.lemmas.List.Sorted.{IsNonDecreasingBy-from_default}
-use Rattle.sched_demand.specs.declared.tasks.DTask.{DTask}
+use Rattle.sched_demand.specs.declared.tasks.DemandTask.{DemandTask}
 use Rattle.sched_demand.specs.Demand.{task_at, AreOrdered}
 
-abbrev pub in_order : DTask → DTask → Bool
+abbrev pub in_order : DemandTask → DemandTask → Bool
 in_order x y = nat_lt x.deadline y.deadline || (nat_eq x.deadline y.deadline && nat_eq x.block y.block)
 
 -- two in order
-pub record InOrder (x y : DTask) : Type 0 where
+pub record InOrder (x y : DemandTask) : Type 0 where
   pub le : x.deadline ≤ y.deadline
   pub same : x.deadline ≡ y.deadline → x.block ≡ y.block
 
-ordered_two : (x y : DTask) → true ≡ in_order x y → InOrder x y
+ordered_two : (x y : DemandTask) → true ≡ in_order x y → InOrder x y
 ordered_two x y e = record { le = grind (arith, nat_tests, e); same = λ s. grind (arith, nat_tests, e, s) }
 
-chain : (ts : List DTask) → ((k : ℕ) → k + 1 < length ts → InOrder (task_at ts k) (task_at ts (k + 1))) → (i d : ℕ) → i + d < length ts → InOrder (task_at ts i) (task_at ts (i + d))
+chain : (ts : List DemandTask) → ((k : ℕ) → k + 1 < length ts → InOrder (task_at ts k) (task_at ts (k + 1))) → (i d : ℕ) → i + d < length ts → InOrder (task_at ts i) (task_at ts (i + d))
 chain ts near i zero below =
     let e : i ≡ i + 0 = omega arith in
     let P : ℕ → Type 0 = λ k. InOrder (task_at ts i) (task_at ts k) in
@@ -33,7 +33,7 @@ chain ts near i (suc d) below =
       same = λ s. was.same (omega (arith, was.le, next.le, s)) ∙ next.same (omega (arith, was.le, next.le, s));
     })
 
-pub ordered_from : (ts : List DTask) → ((k : ℕ) → k + 1 < length ts → InOrder (task_at ts k) (task_at ts (k + 1))) → AreOrdered ts
+pub ordered_from : (ts : List DemandTask) → ((k : ℕ) → k + 1 < length ts → InOrder (task_at ts k) (task_at ts (k + 1))) → AreOrdered ts
 ordered_from ts near = record {
   ascending = IsNonDecreasingBy-from_default (λ t. t.deadline) ts (record { frame = 0; deadline = 0; cost = 0; block = 0 }) (λ i j le below. (pair i j le below).le);
   one_block = λ i j i_below j_below same. or_other i j i_below j_below same;
@@ -59,7 +59,7 @@ ordered_from ts near = record {
           | inr h ↦ inr (omega arith)
         ]
 
-pub ordered_decides : (ts : List DTask) (r : Bool) → IsAllAdjacentAnswer (λ x y b. b ≡ in_order x y) ts r → IsTrue r ↔ AreOrdered ts
+pub ordered_decides : (ts : List DemandTask) (r : Bool) → IsAllAdjacentAnswer (λ x y b. b ≡ in_order x y) ts r → IsTrue r ↔ AreOrdered ts
 ordered_decides ts true h = (λ _. ordered_from ts (λ k below. ordered_two _ _ (h k (record { frame = 0; deadline = 0; cost = 0; block = 0 }) below)), λ _. refl)
 ordered_decides ts false (k, below, broken) = (
   λ h. cc,
@@ -70,5 +70,5 @@ ordered_decides ts false (k, below, broken) = (
       absurd (never (task_at ts k) (task_at ts (k + 1)) e le one),
 )
   where
-    never : (x y : DTask) → false ≡ in_order x y → x.deadline ≤ y.deadline → (x.deadline ≡ y.deadline → x.block ≡ y.block) → ⊥
+    never : (x y : DemandTask) → false ≡ in_order x y → x.deadline ≤ y.deadline → (x.deadline ≡ y.deadline → x.block ≡ y.block) → ⊥
     never x y e le one = grind (arith, nat_tests, e, le, one)

@@ -6,13 +6,13 @@ use Rattle.std.proofs.lemmas.Bool.{cases_lt}
 use Rattle.std.proofs.lemmas.Nat.{le-div, div_below}
 use Rattle.std.proofs.lemmas.List.Sums.{sum_by-cons}
 use Rattle.std.proofs.Math.Nat.{mul-le-mul_right}
-use Rattle.sched_demand.specs.declared.tasks.DTask.{DTask}
+use Rattle.sched_demand.specs.declared.tasks.DemandTask.{DemandTask}
 use Rattle.sched_demand.specs.Demand.{IsTask, AreTasks, due_by, asked, points, points_of, IsReach, NoneCovers, IsMost}
 use Rattle.sched_response.proofs.Rising.{div_ceil_mono}
 use Rattle.sched_demand.proofs.Demanding.{due_none, due_some}
 
 -- a sum of larger terms
-sum_mono : (f g : DTask → ℕ) (ts : List DTask) → All IsTask ts → ((x : DTask) → IsTask x → f x ≤ g x) → sum_by f ts ≤ sum_by g ts
+sum_mono : (f g : DemandTask → ℕ) (ts : List DemandTask) → All IsTask ts → ((x : DemandTask) → IsTask x → f x ≤ g x) → sum_by f ts ≤ sum_by g ts
 sum_mono f g [] all le = omega arith
 sum_mono f g (t ∷ ts) all le =
     let here = le t (all 0 t (omega arith)) in
@@ -21,10 +21,10 @@ sum_mono f g (t ∷ ts) all le =
     let h = sum_by-cons g t ts in
     omega arith
 
-pub asked_mono : (ts : List DTask) (r s : ℕ) → AreTasks ts → r ≤ s → asked ts r ≤ asked ts s
+pub asked_mono : (ts : List DemandTask) (r s : ℕ) → AreTasks ts → r ≤ s → asked ts r ≤ asked ts s
 asked_mono ts r s are le = sum_mono (λ x. div_ceil r x.frame * x.cost) (λ x. div_ceil s x.frame * x.cost) ts are.each (λ x is. mul-le-mul_right x.cost (div_ceil_mono r s x.frame (omega (arith, is.frame_low)) le))
 
-due_mono : (r s : ℕ) (x : DTask) → IsTask x → r ≤ s → due_by r x ≤ due_by s x
+due_mono : (r s : ℕ) (x : DemandTask) → IsTask x → r ≤ s → due_by r x ≤ due_by s x
 due_mono r s x is le = elim (cases_lt r x.deadline) [
   | inl late ↦ let e = due_none r x late in omega arith
   | inr soon ↦
@@ -46,11 +46,11 @@ due_mono r s x is le = elim (cases_lt r x.deadline) [
           omega arith)
     ]
 
-pub points_mono : (ts : List DTask) (r s : ℕ) → AreTasks ts → r ≤ s → points ts r ≤ points ts s
+pub points_mono : (ts : List DemandTask) (r s : ℕ) → AreTasks ts → r ≤ s → points ts r ≤ points ts s
 points_mono ts r s are le = sum_mono (points_of r) (points_of s) ts are.each (λ x is. due_mono r s x is le)
 
 -- from an iterate to the next
-pub none_up : (ts : List DTask) (block reach next : ℕ) → AreTasks ts → IsMost ts block → NoneCovers ts reach → next ≤ block + asked ts reach → NoneCovers ts next
+pub none_up : (ts : List DemandTask) (block reach next : ℕ) → AreTasks ts → IsMost ts block → NoneCovers ts reach → next ≤ block + asked ts reach → NoneCovers ts next
 none_up ts block reach next are most none low r above below covers = elim (cases_lt r reach) [
   | inl less ↦ none r above less covers
   | inr more ↦
@@ -60,14 +60,14 @@ none_up ts block reach next are most none low r above below covers = elim (cases
 ]
 
 -- an iterate is not above the reach
-pub reach_above : (ts : List DTask) (low reach : ℕ) → low ≤ 1000000000 → NoneCovers ts low → IsReach ts reach → low ≤ reach
+pub reach_above : (ts : List DemandTask) (low reach : ℕ) → low ≤ 1000000000 → NoneCovers ts low → IsReach ts reach → low ≤ reach
 reach_above ts low reach within none is = elim (cases_lt reach low) [
   | inr le ↦ le
   | inl lt ↦ absurd (none reach is.above lt (is.covers (omega arith)))
 ]
 
 -- there is one reach at most
-pub one_reach : (ts : List DTask) (r s : ℕ) → IsReach ts r → IsReach ts s → r ≡ s
+pub one_reach : (ts : List DemandTask) (r s : ℕ) → IsReach ts r → IsReach ts s → r ≡ s
 one_reach ts r s is_r is_s =
     let a = reach_above ts r s is_r.within is_r.least is_s in
     let b = reach_above ts s r is_s.within is_s.least is_r in

@@ -2,7 +2,7 @@
 use Rattle.std.proofs.Common.{◌≡◌, ℕ, zero, suc, ◌+◌, ◌<◌, ◌≤◌, inl, inr, List, length, arith, ap, sym, subst, ◌∙◌}
 use Rattle.std.specs.Prelude.{Bool, Option, Some, None}
 use Rattle.std.proofs.lemmas.Bool.{cases_lt, cases_eq}
-use Rattle.sched_demand.specs.declared.tasks.DTask.{DTask}
+use Rattle.sched_demand.specs.declared.tasks.DemandTask.{DemandTask}
 use Rattle.sched_demand.specs.Demand.{task_at}
 use Rattle.sched_theorem.specs.Stretches.{SomeActive, NoneActive}
 use Rattle.sched_theorem.specs.Dispatched.{Stay}
@@ -80,7 +80,7 @@ row_moved n rank deadline start due inside a b picked some chooses moves row = r
 }
 
 -- somebody is due by rank, and so by place
-pub due_of : (ts : List DTask) (rank place : ℕ → ℕ) (due : ℕ) (a : ℕ → Activation) → AreRanks (length ts) rank place → SomeActive (length ts) (λ j. due_life due (task_at ts j).deadline (a (place j))) → SomeDue (length ts) (deadline_at ts rank) due a
+pub due_of : (ts : List DemandTask) (rank place : ℕ → ℕ) (due : ℕ) (a : ℕ → Activation) → AreRanks (length ts) rank place → SomeActive (length ts) (λ j. due_life due (task_at ts j).deadline (a (place j))) → SomeDue (length ts) (deadline_at ts rank) due a
 due_of ts rank place due a are some =
     let parts = some_due due (task_at ts some.0).deadline (a (place some.0)) some.2 in
     let e : deadline_at ts rank (place some.0) ≡ (task_at ts some.0).deadline = ap (λ i. (task_at ts i).deadline) (are.there some.0 some.1) in
@@ -92,7 +92,7 @@ due_of ts rank place due a are some =
     }
 
 -- nobody is due before a tick: a row begins there
-row_first : (ts : List DTask) (rank place : ℕ → ℕ) (end due start : ℕ) (r : Run) → AreRanks (length ts) rank place → IsEarliest ts rank end r → start ≤ end → NoneActive (length ts) ((due_trace ts place due r).before start) → InRow (length ts) (deadline_at ts rank) start due (r.before start)
+row_first : (ts : List DemandTask) (rank place : ℕ → ℕ) (end due start : ℕ) (r : Run) → AreRanks (length ts) rank place → IsEarliest ts rank end r → start ≤ end → NoneActive (length ts) ((due_trace ts place due r).before start) → InRow (length ts) (deadline_at ts rank) start due (r.before start)
 row_first ts rank place end due start r are run within clear = record {
   soon = λ p below active is.
       let back = are.back p below in
@@ -105,7 +105,7 @@ row_first ts rank place end due start r are run within clear = record {
 }
 
 -- and goes on while somebody is
-pub row_before : (ts : List DTask) (rank place : ℕ → ℕ) (end due start : ℕ) (r : Run) → AreRanks (length ts) rank place → IsEarliest ts rank end r → NoneActive (length ts) ((due_trace ts place due r).before start) → (i : ℕ) → start + i ≤ end → ((x : ℕ) → x < i → SomeDue (length ts) (deadline_at ts rank) due (r.after (start + x))) → InRow (length ts) (deadline_at ts rank) start due (r.before (start + i))
+pub row_before : (ts : List DemandTask) (rank place : ℕ → ℕ) (end due start : ℕ) (r : Run) → AreRanks (length ts) rank place → IsEarliest ts rank end r → NoneActive (length ts) ((due_trace ts place due r).before start) → (i : ℕ) → start + i ≤ end → ((x : ℕ) → x < i → SomeDue (length ts) (deadline_at ts rank) due (r.after (start + x))) → InRow (length ts) (deadline_at ts rank) start due (r.before (start + i))
 row_before ts rank place end due start r are run clear zero within busy =
     let e : start ≡ start + 0 = omega arith in
     let P : ℕ → Type 0 = λ k. InRow (length ts) (deadline_at ts rank) start due (r.before k) in
@@ -119,7 +119,7 @@ row_before ts rank place end due start r are run clear (suc i) within busy =
     let P : ℕ → Type 0 = λ k. InRow (length ts) (deadline_at ts rank) start due (r.before k) in
     subst P e next
 
-pub row_after : (ts : List DTask) (rank place : ℕ → ℕ) (end due start : ℕ) (r : Run) → AreRanks (length ts) rank place → IsEarliest ts rank end r → NoneActive (length ts) ((due_trace ts place due r).before start) → (i : ℕ) → start + i < end → ((x : ℕ) → x < i → SomeDue (length ts) (deadline_at ts rank) due (r.after (start + x))) → InRow (length ts) (deadline_at ts rank) start due (r.after (start + i))
+pub row_after : (ts : List DemandTask) (rank place : ℕ → ℕ) (end due start : ℕ) (r : Run) → AreRanks (length ts) rank place → IsEarliest ts rank end r → NoneActive (length ts) ((due_trace ts place due r).before start) → (i : ℕ) → start + i < end → ((x : ℕ) → x < i → SomeDue (length ts) (deadline_at ts rank) due (r.after (start + x))) → InRow (length ts) (deadline_at ts rank) start due (r.after (start + i))
 row_after ts rank place end due start r are run clear i within busy =
     row_opened (length ts) (deadline_at ts rank) start due (start + i) (λ p. (task_at ts (rank p)).cost) (r.released (start + i)) (r.before (start + i)) (r.after (start + i)) (omega arith) (λ p below. run.opens (start + i) p within below) (row_before ts rank place end due start r are run clear i (omega arith) busy)
 
@@ -138,7 +138,7 @@ pub record IsLevel (n : ℕ) (deadline : ℕ → ℕ) (ticks level : ℕ) : Type
   pub within : (j : ℕ) → j ≤ level → deadline j ≤ ticks
   pub beyond : (j : ℕ) → level < j → j < n → ticks < deadline j
 
-pub due_level : (ts : List DTask) (rank : ℕ → ℕ) (start ticks due level : ℕ) (a : ℕ → Activation) (p : ℕ) → IsLevel (length ts) (λ j. (task_at ts j).deadline) ticks level → start + ticks ≡ due → InRow (length ts) (deadline_at ts rank) start due a → p < length ts → rank p < length ts → 1 ≤ (a p).left → (a p).release + deadline_at ts rank p ≤ due → rank p ≤ level
+pub due_level : (ts : List DemandTask) (rank : ℕ → ℕ) (start ticks due level : ℕ) (a : ℕ → Activation) (p : ℕ) → IsLevel (length ts) (λ j. (task_at ts j).deadline) ticks level → start + ticks ≡ due → InRow (length ts) (deadline_at ts rank) start due a → p < length ts → rank p < length ts → 1 ≤ (a p).left → (a p).release + deadline_at ts rank p ≤ due → rank p ≤ level
 due_level ts rank start ticks due level a p is here row below rank_below active soon = elim (cases_lt level (rank p)) [
   | inr le ↦ le
   | inl lt ↦
@@ -147,7 +147,7 @@ due_level ts rank start ticks due level a p is here row below rank_below active 
       absurd (omega arith)
 ]
 
-pub late_level : (ts : List DTask) (rank : ℕ → ℕ) (start ticks due level : ℕ) (a : ℕ → Activation) (p : ℕ) → IsLevel (length ts) (λ j. (task_at ts j).deadline) ticks level → start + ticks ≡ due → InRow (length ts) (deadline_at ts rank) start due a → p < length ts → IsBegun (a p) → due < (a p).release + deadline_at ts rank p → level < rank p
+pub late_level : (ts : List DemandTask) (rank : ℕ → ℕ) (start ticks due level : ℕ) (a : ℕ → Activation) (p : ℕ) → IsLevel (length ts) (λ j. (task_at ts j).deadline) ticks level → start + ticks ≡ due → InRow (length ts) (deadline_at ts rank) start due a → p < length ts → IsBegun (a p) → due < (a p).release + deadline_at ts rank p → level < rank p
 late_level ts rank start ticks due level a p is here row below begun late = elim (cases_lt level (rank p)) [
   | inl lt ↦ lt
   | inr le ↦
@@ -156,7 +156,7 @@ late_level ts rank start ticks due level a p is here row below begun late = elim
       absurd (omega arith)
 ]
 
-pub held_up : (ts : List DTask) (rank place : ℕ → ℕ) (start ticks due level now : ℕ) (a : ℕ → Activation) (inside : ℕ → Option Stay) (p : ℕ) → AreRanks (length ts) rank place → IsLevel (length ts) (λ j. (task_at ts j).deadline) ticks level → start + ticks ≡ due → InRow (length ts) (deadline_at ts rank) start due a → AreStacked (length ts) rank (deadline_at ts rank) now a inside → SomeDue (length ts) (deadline_at ts rank) due a → IsChosen (length ts) rank (deadline_at ts rank) inside a p → due < (a p).release + deadline_at ts rank p → HoldsUp rank level inside p
+pub held_up : (ts : List DemandTask) (rank place : ℕ → ℕ) (start ticks due level now : ℕ) (a : ℕ → Activation) (inside : ℕ → Option Stay) (p : ℕ) → AreRanks (length ts) rank place → IsLevel (length ts) (λ j. (task_at ts j).deadline) ticks level → start + ticks ≡ due → InRow (length ts) (deadline_at ts rank) start due a → AreStacked (length ts) rank (deadline_at ts rank) now a inside → SomeDue (length ts) (deadline_at ts rank) due a → IsChosen (length ts) rank (deadline_at ts rank) inside a p → due < (a p).release + deadline_at ts rank p → HoldsUp rank level inside p
 held_up ts rank place start ticks due level now a inside p are is here row stack some chosen late = elim chosen.choice [
   | inl taken ↦
       let other : p ≡ some.place → ⊥ = λ same. let h : (a p).release + deadline_at ts rank p ≤ due = subst (λ i. (a i).release + deadline_at ts rank i ≤ due) (sym same) some.soon in omega arith in

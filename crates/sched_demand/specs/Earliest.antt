@@ -1,7 +1,7 @@
 -- A run under earliest deadline first with ceilings, in facts of one tick each, but for the frames;
 -- and what it promises.
 use Rattle.std.specs.Prelude.{◌≡◌, ◌≤◌, ◌<◌, ◌+◌, ℕ, suc, Bool, true, List, length, Option, Some, None}
-use Rattle.sched_demand.specs.declared.tasks.DTask.{DTask}
+use Rattle.sched_demand.specs.declared.tasks.DemandTask.{DemandTask}
 use Rattle.sched_demand.specs.Demand.{task_at}
 use Rattle.sched_theorem.specs.Stretches.{Spaced}
 use Rattle.sched_theorem.specs.Dispatched.{Stay, KeepsStays}
@@ -17,16 +17,16 @@ pub record Run : Type 0 where
   pub inside : ℕ → ℕ → Option Stay
 
 -- the deadline of the process of a place, from its release on
-abbrev pub deadline_at : List DTask → (ℕ → ℕ) → ℕ → ℕ
+abbrev pub deadline_at : List DemandTask → (ℕ → ℕ) → ℕ → ℕ
 deadline_at ts rank p = (task_at ts (rank p)).deadline
 
 -- the stay of a process with a later deadline, in a monitor whose ceiling is the level's or a
 -- higher rank, is no longer than the level's block
-abbrev pub AreShort : List DTask → (ℕ → ℕ) → (ℕ → Option Stay) → Type 0
+abbrev pub AreShort : List DemandTask → (ℕ → ℕ) → (ℕ → Option Stay) → Type 0
 AreShort ts rank inside = (level p : ℕ) (s : Stay) → level < length ts → p < length ts → inside p ≡ Some s → (task_at ts level).deadline < (task_at ts (rank p)).deadline → s.ceiling ≤ level → s.left ≤ (task_at ts level).block
 
 -- a run by places, while the tasks stand in the order of ranks
-pub record IsEarliest (ts : List DTask) (rank : ℕ → ℕ) (end : ℕ) (r : Run) : Type 0 where
+pub record IsEarliest (ts : List DemandTask) (rank : ℕ → ℕ) (end : ℕ) (r : Run) : Type 0 where
   -- at first all are idle, and nobody is inside a monitor
   pub idle_first : (p : ℕ) → p < length ts → (r.before 0 p).left ≡ 0
   pub free_first : (p : ℕ) → p < length ts → r.inside 0 p ≡ None
@@ -57,6 +57,6 @@ pub record EndsWithin (r : Run) (p release bound : ℕ) : Type 0 where
 
 -- each release finds its process idle, and each activation ends by its deadline, where that is
 -- within the run
-pub record MeetsDeadlines (ts : List DTask) (rank : ℕ → ℕ) (end : ℕ) (r : Run) : Type 0 where
+pub record MeetsDeadlines (ts : List DemandTask) (rank : ℕ → ℕ) (end : ℕ) (r : Run) : Type 0 where
   pub idle : (k p : ℕ) → p < length ts → k < end → r.released k p ≡ true → (r.before k p).left ≡ 0
   pub ends : (k p : ℕ) → p < length ts → k + deadline_at ts rank p ≤ end → r.released k p ≡ true → EndsWithin r p k (deadline_at ts rank p)

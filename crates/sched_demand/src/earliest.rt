@@ -11,7 +11,7 @@
 
 ghost use Rattle.sched_theorem.specs.Dispatched.{Stay};
 ghost use Rattle.sched_theorem.specs.Placed.{AreRanks};
-ghost use Rattle.sched_demand.specs.declared.tasks.DTask.{DTask};
+ghost use Rattle.sched_demand.specs.declared.tasks.DemandTask.{DemandTask};
 ghost use Rattle.sched_demand.specs.Demand.{demand_at, AreTasks, IsFeasible, IsPoint, IsReach};
 ghost use Rattle.sched_demand.specs.Earliest.{deadline_at, IsEarliest, MeetsDeadlines, Run};
 ghost use Rattle.sched_demand.specs.Activations.{Activation, Chooses, IsChosen, KeepsCeilings, Passes, Starts};
@@ -65,7 +65,7 @@ pub fn stacked_are_apart()
 /// A missed deadline passes the demand at a point: an activation that is there at the tick of its
 /// deadline, or after it, shows a point at which the demand is not met.
 pub fn missed_deadlines_pass_a_point()
-    ensures { (ts : List DTask) (rank place : ℕ → ℕ) (end due reach p : ℕ) (r : Run)
+    ensures { (ts : List DemandTask) (rank place : ℕ → ℕ) (end due reach p : ℕ) (r : Run)
         → AreTasks ts
         → AreRanks (length ts) rank place
         → IsEarliest ts rank end r
@@ -80,7 +80,7 @@ pub fn missed_deadlines_pass_a_point()
 
 /// Where the demand is met at each point, no deadline is missed.
 pub fn feasible_runs_meet_deadlines()
-    ensures { (ts : List DTask) (rank place : ℕ → ℕ) (end reach : ℕ) (r : Run)
+    ensures { (ts : List DemandTask) (rank place : ℕ → ℕ) (end reach : ℕ) (r : Run)
         → AreTasks ts
         → AreRanks (length ts) rank place
         → IsEarliest ts rank end r

@@ -6,7 +6,7 @@ ghost use Rattle.sched_demand.specs.Reaching.{IsSpan};
 
 use crate::looking::look_at;
 use crate::reaching::{Span, find_span};
-use crate::tasks::{DTask, DemandSet};
+use crate::tasks::{DemandSet, DemandTask};
 use base::OVER;
 
 /// What the test answers.
@@ -31,7 +31,7 @@ pub enum Judgement {
 }
 
 /// Whether the demand is met at each point of the row, from the first on.
-fn judge_row(tasks: &[DTask], row: Span) -> Judgement
+fn judge_row(tasks: &[DemandTask], row: Span) -> Judgement
     requires tasks { AreTasks tasks.now }
     requires row { IsSpan tasks.now row }
     ensures { IsJudged tasks.now row.reach result }

@@ -15,4 +15,4 @@ mod reaching;
 mod tasks;
 
 pub use judging::{Judgement, judge};
-pub use tasks::{DTask, DemandSet};
+pub use tasks::{DemandSet, DemandTask};

@@ -3,11 +3,11 @@
 ghost use Rattle.std.specs.Prelude.{◌≡◌, ◌≤◌, length};
 ghost use Rattle.sched_demand.specs.Demand.{asked, demand_at, due_by, points, AreTasks, IsMost, IsNext, IsTask};
 
-use crate::tasks::DTask;
+use crate::tasks::DemandTask;
 
 /// How many activations of the task have their deadlines within so many ticks, where it is released
 /// from tick 0 on a frame apart.
-pub(crate) fn due(task: DTask, t: u64) -> u64
+pub(crate) fn due(task: DemandTask, t: u64) -> u64
     requires task { IsTask task }
     requires t { t ≤ 1000000000 }
     ensures value { result ≡ due_by t task }
@@ -30,7 +30,7 @@ pub(crate) struct Look {
 }
 
 /// The demand by a tick, and the next point after it.
-pub(crate) fn look_at(tasks: &[DTask], t: u64) -> Look
+pub(crate) fn look_at(tasks: &[DemandTask], t: u64) -> Look
     requires tasks { AreTasks tasks.now }
     requires t { t ≤ 1000000000 }
     ensures demand { result.demand ≡ demand_at tasks.now t }
@@ -58,7 +58,7 @@ pub(crate) fn look_at(tasks: &[DTask], t: u64) -> Look
 }
 
 /// How many points there are up to a tick, those of each task counted by themselves.
-pub(crate) fn count(tasks: &[DTask], reach: u64) -> u64
+pub(crate) fn count(tasks: &[DemandTask], reach: u64) -> u64
     requires tasks { AreTasks tasks.now }
     requires reach { reach ≤ 1000000000 }
     ensures { result ≡ points tasks.now reach }
@@ -71,7 +71,7 @@ pub(crate) fn count(tasks: &[DTask], reach: u64) -> u64
 }
 
 /// What the tasks ask for in so many ticks from a release of all of them.
-pub(crate) fn asked_in(tasks: &[DTask], r: u64) -> u64
+pub(crate) fn asked_in(tasks: &[DemandTask], r: u64) -> u64
     requires tasks { AreTasks tasks.now }
     requires above { 1 ≤ r }
     requires r { r ≤ 1000000000 }
@@ -86,7 +86,7 @@ pub(crate) fn asked_in(tasks: &[DTask], r: u64) -> u64
 }
 
 /// The largest block.
-pub(crate) fn most_block(tasks: &[DTask]) -> u64
+pub(crate) fn most_block(tasks: &[DemandTask]) -> u64
     requires tasks { AreTasks tasks.now }
     ensures most { IsMost tasks.now result }
     ensures range { result ≤ 1000000001 }

@@ -5,7 +5,7 @@ ghost use Rattle.sched_demand.specs.Demand.{points, AreTasks, IsReach};
 ghost use Rattle.sched_demand.specs.Reaching.{IsSpan};
 
 use crate::looking::{asked_in, count, most_block};
-use crate::tasks::DTask;
+use crate::tasks::DemandTask;
 
 /// A row that has to be tested.
 #[derive(Clone, Copy)]
@@ -18,7 +18,7 @@ pub(crate) struct Span {
 
 /// The row that has to be tested, iterated from below; None exactly where it has more than
 /// 1,000,000 points.
-pub(crate) fn find_span(tasks: &[DTask]) -> Option<Span>
+pub(crate) fn find_span(tasks: &[DemandTask]) -> Option<Span>
     requires { AreTasks tasks.now }
     ensures some { IfSome result (IsSpan tasks.now) }
     ensures none { IfNone result ((reach : ℕ) → IsReach tasks.now reach → 1000000 <

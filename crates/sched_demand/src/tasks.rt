@@ -11,7 +11,7 @@ use std::marker::Model;
 ///
 /// All are ticks. A number above 1,000,000,000 stands for all larger ones and is 1,000,000,001.
 #[derive(Clone, Copy, Debug, PartialEq, Eq)]
-pub struct DTask {
+pub struct DemandTask {
     /// The ticks from one release to the next, at least.
     pub frame: u64,
     /// The ticks from a release to the deadline of its activation.
@@ -26,15 +26,15 @@ pub struct DTask {
 /// 1 to 64 tasks in the order of their ranks, the highest first.
 #[derive(Drop)]
 pub struct DemandSet {
-    tasks: Vec<DTask>,
+    tasks: Vec<DemandTask>,
 }
 
 impl Model for DemandSet {
     ghost use Rattle.std.specs.Prelude.{List};
-    ghost use Rattle.sched_demand.specs.declared.tasks.DTask.{DTask};
+    ghost use Rattle.sched_demand.specs.declared.tasks.DemandTask.{DemandTask};
     ghost use Rattle.sched_demand.specs.Demand.{AreTasks};
 
-    ghost Value = { List DTask };
+    ghost Value = { List DemandTask };
 
     ghost view = { λ s. s.tasks.items };
 
@@ -47,7 +47,7 @@ impl DemandSet {
     /// None exactly where there are none or more than 64, a frame is outside 10 .. 1,000,000,000, a
     /// deadline is outside 10 .. its frame, deadlines descend, equal deadlines have different
     /// blocks, or another number is above 1,000,000,001.
-    pub fn new(tasks: Vec<DTask>) -> Option<DemandSet>
+    pub fn new(tasks: Vec<DemandTask>) -> Option<DemandSet>
         ensures { SomeIff result (AreTasks tasks.items) tasks.items }
     {
         if are_tasks(&tasks) {
@@ -58,7 +58,7 @@ impl DemandSet {
     }
 
     /// The tasks.
-    pub(crate) fn tasks(&self) -> &[DTask]
+    pub(crate) fn tasks(&self) -> &[DemandTask]
         ensures value { result.now ≡ self.now }
         ensures tasks { AreTasks self.now }
     {
@@ -67,7 +67,7 @@ impl DemandSet {
 }
 
 /// Whether each number of the task is in its range.
-fn is_task(task: &DTask) -> bool
+fn is_task(task: &DemandTask) -> bool
     ensures { IsTrue result ↔ IsTask task.now }
 {
     (10..=1_000_000_000).contains(&task.frame)
@@ -78,14 +78,14 @@ fn is_task(task: &DTask) -> bool
 }
 
 /// Whether the tasks can be a set.
-fn are_tasks(tasks: &[DTask]) -> bool
+fn are_tasks(tasks: &[DemandTask]) -> bool
     ensures { IsTrue result ↔ AreTasks tasks.now }
 {
     (1..=64).contains(&tasks.len()) && tasks.iter().all(is_task) && are_ordered(tasks)
 }
 
 /// Whether no deadline is above a later one, and equal deadlines have equal blocks.
-fn are_ordered(tasks: &[DTask]) -> bool
+fn are_ordered(tasks: &[DemandTask]) -> bool
     ensures { IsTrue result ↔ AreOrdered tasks.now }
 {
     tasks.is_sorted_by(|earlier, later| {

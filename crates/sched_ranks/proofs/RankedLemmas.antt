@@ -6,7 +6,7 @@ use Rattle.std.proofs.lemmas.Bool.Decides.{nat_tests}
 use Rattle.std.proofs.lemmas.Option.{slice_get-map, slice_get_within}
 use Rattle.std.proofs.lemmas.List.{length-map}
 use Rattle.base.proofs.Lists.{some_at, one_some}
-use Rattle.syntax_tree.specs.Plain.{Process, Prog}
+use Rattle.syntax_tree.specs.Plain.{Process, Program}
 use Rattle.source_semantics.specs.Names.{processes, deadline_of}
 use Rattle.source_semantics.specs.Ranks.{rank, higher, deadlines, ceiling, monitors_of, includes, least_rank, min_with}
 use Rattle.sched_response.specs.declared.uses.Use.{Use}
@@ -34,12 +34,12 @@ higher_counts k deadline b (f ∷ ds) p same =
     higher_counts k deadline (suc b) ds (λ j. p (suc j)) (λ j x at. (let y : b + suc j ≡ suc b + j = omega arith in subst (λ (n : ℕ). above x n deadline k ≡ p (suc j)) y (same (suc j) x at))) in
     omega (arith, first, rest, count_front p (length ds))
 
-deadline_is_at : (g : Prog) (us : List Use) → AreUses g us → (k : ℕ) → k < length us → slice_get (deadlines g) k ≡ Some (use_at us k).deadline
+deadline_is_at : (g : Program) (us : List Use) → AreUses g us → (k : ℕ) → k < length us → slice_get (deadlines g) k ≡ Some (use_at us k).deadline
 deadline_is_at g us uses k below =
     let p : (p : Process) × (slice_get (processes g) k ≡ Some p) = some_at (processes g) k (omega (arith, below, uses.many)) in
     slice_get-map (λ (x : Process). deadline_of g x.activation) (processes g) k ∙ ap (λ (o : Option Process). option_map (λ (x : Process). deadline_of g x.activation) o) p.1 ∙ ap (λ (n : ℕ). Some n) (sym (uses.each k p.0 p.1).deadline)
 
-counted_agree : (g : Prog) (us : List Use) (ranks : List ℕ) → AreUses g us → AreCounted us ranks → (k : ℕ) → k < length us → slice_index ranks k ≡ rank g k
+counted_agree : (g : Program) (us : List Use) (ranks : List ℕ) → AreUses g us → AreCounted us ranks → (k : ℕ) → k < length us → slice_index ranks k ≡ rank g k
 counted_agree g us ranks uses counted k below =
     let many : length (deadlines g) ≡ length us = length-map (processes g) (λ (x : Process). deadline_of g x.activation) ∙ sym uses.many in
     let first : 1 + count_below (λ other. outranks us other k) (length us) ≡ suc (count_below (λ other. outranks us other k) (length us)) = omega arith in
@@ -61,13 +61,13 @@ ranks_agree g us ranks uses are k below = counted_agree g us ranks uses (are_cou
 -- ---- ceilings
 
 -- the least rank of those from process b on that reach the monitor, or nobody does
-abbrev IsLeast : Prog → ℕ → ℕ → List Process → Option ℕ → Type 0
+abbrev IsLeast : Program → ℕ → ℕ → List Process → Option ℕ → Type 0
 IsLeast g m b ps None = (i : ℕ) (p : Process) → slice_get ps i ≡ Some p → includes m (monitors_of g p) ≡ false
 IsLeast g m b ps (Some r) =
     ((i : ℕ) × (p : Process) × (slice_get ps i ≡ Some p) × (includes m (monitors_of g p) ≡ true) × (rank g (b + i) ≡ r))
     × ((i : ℕ) (p : Process) → slice_get ps i ≡ Some p → includes m (monitors_of g p) ≡ true → r ≤ rank g (b + i))
 
-least_is : (g : Prog) (m b : ℕ) (ps : List Process) → IsLeast g m b ps (least_rank g m b ps)
+least_is : (g : Program) (m b : ℕ) (ps : List Process) → IsLeast g m b ps (least_rank g m b ps)
 least_is g m b [] = λ i p at. cc
 least_is g m b (p ∷ ps) = by (includes m (monitors_of g p)) refl (least_rank g m (suc b) ps) (least_is g m (suc b) ps) where
   shift : (i : ℕ) → rank g (suc b + i) ≡ rank g (b + suc i)

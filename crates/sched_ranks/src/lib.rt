@@ -4,4 +4,4 @@
 //! Nothing here can run.
 #![tactic(auto)]
 
-pub mod ranked;
+pub mod ranks_agree_law;

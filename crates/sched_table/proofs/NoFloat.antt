@@ -50,4 +50,4 @@ monitors_have (name ∷ names) (ceiling ∷ ceilings) (words ∷ others) = rw (m
 
 pub report : (names : ImageNames) (program : List ℕ) (table : Table) → has_float (report_data names program table) ≡ false
 unfolding report_data
-report names program table = rw (number_has table.code, monitors_have names.monitors table.ceilings table.mon_words, processes_have names.processes table.rows)
+report names program table = rw (number_has table.code, monitors_have names.monitors table.ceilings table.monitor_words, processes_have names.processes table.rows)

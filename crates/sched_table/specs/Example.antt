@@ -16,7 +16,7 @@ row_of frame rank run susp waits block bound words stack =
     record { frame = frame; deadline = frame; rank = rank; cost = record { run = run; susp = susp; waits = waits }; block = block; bound = bound; size = record { words = words; stack = stack } }
 
 abbrev put_table : Table
-put_table = record { rows = row_of 15 1 15 0 0 0 (Some 15) 0 1 ∷ []; ceilings = []; mon_words = []; code = 3 }
+put_table = record { rows = row_of 15 1 15 0 0 0 (Some 15) 0 1 ∷ []; ceilings = []; monitor_words = []; code = 3 }
 
 abbrev pub PutIsShown : Type 0
 PutIsShown = report_json (names_of (codes "p" ∷ []) []) (codes "a") put_table
@@ -31,7 +31,7 @@ mine_table = record {
       row_of 800 1 160 0 0 27 (Some 187) 1 4 ∷ row_of 1000 2 35 0 0 27 (Some 222) 1 2 ∷ row_of 2000 3 65 0 0 16 (Some 276) 1 3
       ∷ row_of 3000 4 60 900 1 16 (Some 1447) 1 3 ∷ row_of 10000 5 281 0 0 16 (Some 1888) 11 5 ∷ row_of 60000 6 50 0 0 0 (Some 1906) 0 4 ∷ [];
   ceilings = Some 1 ∷ Some 1 ∷ [];
-  mon_words = 2 ∷ 1 ∷ [];
+  monitor_words = 2 ∷ 1 ∷ [];
   code = 103;
 }
 
@@ -47,7 +47,7 @@ late_table = record {
       record { frame = 50; deadline = 20; rank = 1; cost = record { run = 15; susp = 0; waits = 0 }; block = 0; bound = Some 15; size = record { words = 0; stack = 1 } }
       ∷ row_of 60 2 1000000001 0 0 0 None 2 3 ∷ [];
   ceilings = None ∷ [];
-  mon_words = 4 ∷ [];
+  monitor_words = 4 ∷ [];
   code = 9;
 }
 

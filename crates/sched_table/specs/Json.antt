@@ -57,7 +57,7 @@ unfoldable pub report_data : ImageNames → List ℕ → Table → Data
 report_data names program table =
     object
     (member (codes "code") (number_data table.code)
-    (member (codes "monitors") (array (items_of (monitors_data names.monitors table.ceilings table.mon_words)))
+    (member (codes "monitors") (array (items_of (monitors_data names.monitors table.ceilings table.monitor_words)))
     (member (codes "processes") (array (items_of (processes_data names.processes table.rows)))
     (member (codes "program") (string program)
     (member (codes "timely") (boolean (is_none (late names.processes table.rows))) no_members)))))

@@ -8,7 +8,7 @@ use Rattle.sched_table.specs.declared.table.Table.{Table}
 pub record IsNamed (names : ImageNames) (table : Table) : Type 0 where
   pub processes : length names.processes ≡ length table.rows
   pub ceilings : length names.monitors ≡ length table.ceilings
-  pub words : length names.monitors ≡ length table.mon_words
+  pub words : length names.monitors ≡ length table.monitor_words
 
 -- a name, where there is no bound
 abbrev pub late_or : List ℕ → Option ℕ → Option (List ℕ) → Option (List ℕ)

@@ -57,5 +57,5 @@ verdict_text (Some name) = (codes "untimely " ++ name) ++ codes "\n"
 
 unfoldable pub report_text : ImageNames → List ℕ → Table → List ℕ
 report_text names program table =
-    (codes "program " ++ program) ++ (codes "\n" ++ (processes_text names.processes table.rows ++ (monitors_text names.monitors table.ceilings table.mon_words
+    (codes "program " ++ program) ++ (codes "\n" ++ (processes_text names.processes table.rows ++ (monitors_text names.monitors table.ceilings table.monitor_words
     ++ (with_number (codes "code ") table.code ++ (codes "\n" ++ verdict_text (late names.processes table.rows))))))

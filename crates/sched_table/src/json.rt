@@ -170,9 +170,9 @@ fn monitor_values(
 fn monitors_value(alloc: Global, names: &ImageNames, table: &Table) -> Result<Value, AllocError>
     requires { IsNamed names.now table.now }
     ensures { IfOk result (λ value. view value ≡ array (items_of
-        (json.monitors_data names.now.monitors table.now.ceilings table.now.mon_words))) }
+        (json.monitors_data names.now.monitors table.now.ceilings table.now.monitor_words))) }
 {
-    let (ceilings, words) = (table.ceilings.as_slice(), table.mon_words.as_slice());
+    let (ceilings, words) = (table.ceilings.as_slice(), table.monitor_words.as_slice());
     let values = monitor_values(alloc, names.monitors.as_slice(), ceilings, words)?;
     Ok(Value::Array(values))
 }

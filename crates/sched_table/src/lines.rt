@@ -197,7 +197,7 @@ pub fn report(
         &mut text,
         names.monitors.as_slice(),
         table.ceilings.as_slice(),
-        table.mon_words.as_slice(),
+        table.monitor_words.as_slice(),
     )?;
     add_number(&mut text, "code ", u64::from(table.code))?;
     text.extend(b"\n")?;

@@ -42,7 +42,7 @@ pub struct Table {
     /// The ceiling of each monitor, and none for a monitor that no process uses.
     pub ceilings: List<Option<u16>>,
     /// The words of each monitor; none are here before they are set.
-    pub mon_words: List<u32>,
+    pub monitor_words: List<u32>,
     /// The number of instructions, and 0 before it is set.
     pub code: u32,
 }
@@ -50,12 +50,12 @@ pub struct Table {
 impl Table {
     /// The table with the number of instructions and the words of each monitor.
     pub fn with_code(self, code: u32, words: List<u32>) -> Table
-        ensures { result ≡ record self { code = code; mon_words = words } }
+        ensures { result ≡ record self { code = code; monitor_words = words } }
     {
         Table {
             rows: self.rows,
             ceilings: self.ceilings,
-            mon_words: words,
+            monitor_words: words,
             code,
         }
     }

@@ -9,7 +9,7 @@ use Rattle.sched_theorem.proofs.Totals.{total_mono, total_less, total_add, total
 -- charges made and what is left are paid for; `ended` pieces have ended, each by a wait
 pub record Account (n : ℕ) (cost : ℕ → Cost) (most : ℕ) (count : ℕ → ℕ) (cs : List Charge) (lives : ℕ → Life) (stay ended : ℕ) : Type 0 where
   pub execution : ticks_of executes cs + total n (λ j. (lives j).run_left) ≤ total n (λ j. count j * (cost j).run)
-  pub suspension : ticks_of suspends cs + total n (λ j. (lives j).susp_left) ≤ total n (λ j. count j * (cost j).susp)
+  pub suspension : ticks_of suspends cs + total n (λ j. (lives j).suspension_left) ≤ total n (λ j. count j * (cost j).susp)
   pub waits : ended + total n (λ j. (lives j).waits_left) ≤ total n (λ j. count j * (cost j).waits)
   -- in a piece the stay that is left is paid for, and while somebody waits that of the next piece
   pub piece : ticks_of blocks cs + stay ≤ (1 + ended) * most
@@ -36,7 +36,7 @@ added (suc n) count gain most a b spent each paid =
 pub open_account : (n : ℕ) (cost : ℕ → Cost) (most : ℕ) (count : ℕ → ℕ) (cs : List Charge) (a b : ℕ → Life) (stay ended : ℕ) (released : ℕ → Bool) → ((j : ℕ) → j < n → Opens (released j) (cost j) (a j) (b j)) → Account n cost most count cs a stay ended → Account n cost most (λ j. count j + flag (released j)) cs b stay ended
 open_account n cost most count cs a b stay ended released opens account = record {
   execution = added n count (λ j. flag (released j)) (λ j. (cost j).run) (λ j. (a j).run_left) (λ j. (b j).run_left) _ (λ j below. (opens j below).run) account.execution;
-  suspension = added n count (λ j. flag (released j)) (λ j. (cost j).susp) (λ j. (a j).susp_left) (λ j. (b j).susp_left) _ (λ j below. (opens j below).susp) account.suspension;
+  suspension = added n count (λ j. flag (released j)) (λ j. (cost j).susp) (λ j. (a j).suspension_left) (λ j. (b j).suspension_left) _ (λ j below. (opens j below).susp) account.suspension;
   waits = added n count (λ j. flag (released j)) (λ j. (cost j).waits) (λ j. (a j).waits_left) (λ j. (b j).waits_left) _ (λ j below. (opens j below).waits) account.waits;
   piece = account.piece;
   waited = λ some.
@@ -47,14 +47,14 @@ open_account n cost most count cs a b stay ended released opens account = record
 -- what the acts of a tick leave, summed
 record Sums (n : ℕ) (a b : ℕ → Life) : Type 0 where
   run : total n (λ j. (b j).run_left) ≤ total n (λ j. (a j).run_left)
-  susp : total n (λ j. (b j).susp_left) + total n (λ j. (a j).waiting) ≤ total n (λ j. (a j).susp_left)
+  susp : total n (λ j. (b j).suspension_left) + total n (λ j. (a j).waiting) ≤ total n (λ j. (a j).suspension_left)
   waits : total n (λ j. (b j).waits_left) ≤ total n (λ j. (a j).waits_left)
   begins : total n (λ j. (b j).waits_left) + total n (λ j. (b j).waiting) ≤ total n (λ j. (a j).waits_left) + total n (λ j. (a j).waiting)
 
 sums : (n : ℕ) (a b : ℕ → Life) → ((j : ℕ) → j < n → Acts (a j) (b j)) → Sums n a b
 sums n a b acts =
-    let susp = total_mono n (λ j. (b j).susp_left + (a j).waiting) (λ j. (a j).susp_left) (λ j below. (acts j below).susp) in
-    let susp_parts = total_add n (λ j. (b j).susp_left) (λ j. (a j).waiting) in
+    let susp = total_mono n (λ j. (b j).suspension_left + (a j).waiting) (λ j. (a j).suspension_left) (λ j below. (acts j below).susp) in
+    let susp_parts = total_add n (λ j. (b j).suspension_left) (λ j. (a j).waiting) in
     let begins = total_mono n (λ j. (b j).waits_left + (b j).waiting) (λ j. (a j).waits_left + (a j).waiting) (λ j below. (acts j below).begins) in
     let before_parts = total_add n (λ j. (b j).waits_left) (λ j. (b j).waiting) in
     let after_parts = total_add n (λ j. (a j).waits_left) (λ j. (a j).waiting) in
@@ -77,7 +77,7 @@ record Step (ran susp blocked left_a left_b susp_a susp_b waits_a waits_b stay_a
 
 -- the charge of a tick, in numbers
 stepped : (n : ℕ) (c : Charge) (a b : ℕ → Life) (stay stay_after most : ℕ) → ((j : ℕ) → j < n → Acts (a j) (b j)) → stay_after ≤ most → IsCharged n a b stay stay_after c →
-    Step (executes c) (suspends c) (blocks c) (total n (λ j. (a j).run_left)) (total n (λ j. (b j).run_left)) (total n (λ j. (a j).susp_left)) (total n (λ j. (b j).susp_left)) (total n (λ j. (a j).waits_left)) (total n (λ j. (b j).waits_left)) stay stay_after (total n (λ j. (a j).waiting)) (total n (λ j. (b j).waiting)) most
+    Step (executes c) (suspends c) (blocks c) (total n (λ j. (a j).run_left)) (total n (λ j. (b j).run_left)) (total n (λ j. (a j).suspension_left)) (total n (λ j. (b j).suspension_left)) (total n (λ j. (a j).waits_left)) (total n (λ j. (b j).waits_left)) stay stay_after (total n (λ j. (a j).waiting)) (total n (λ j. (b j).waiting)) most
 stepped n (Execution rank) a b stay stay_after most acts short charged =
     let s = sums n a b acts in
     let falls = total_less n rank (λ j. (b j).run_left) (λ j. (a j).run_left) (λ j below. (acts j below).run) charged.of_these charged.falls in
@@ -121,7 +121,7 @@ pub act_account : (n : ℕ) (cost : ℕ → Cost) (most : ℕ) (count : ℕ → 
 act_account n cost most count cs c a b stay stay_after ended acts short charged account =
     let s = stepped n c a b stay stay_after most acts short charged in
     let execution : executes c + ticks_of executes cs + total n (λ j. (b j).run_left) ≤ total n (λ j. count j * (cost j).run) = omega (arith, account.execution, s.execution) in
-    let suspension : suspends c + ticks_of suspends cs + total n (λ j. (b j).susp_left) ≤ total n (λ j. count j * (cost j).susp) = omega (arith, account.suspension, s.suspension) in
+    let suspension : suspends c + ticks_of suspends cs + total n (λ j. (b j).suspension_left) ≤ total n (λ j. count j * (cost j).susp) = omega (arith, account.suspension, s.suspension) in
     let same : ended + total n (λ j. (b j).waits_left) ≤ total n (λ j. count j * (cost j).waits) = omega (arith, account.waits, s.waits) in
     elim (cases_lt 0 (total n (λ j. (a j).waiting))) [
       | inl some ↦
@@ -169,7 +169,7 @@ act_account n cost most count cs c a b stay stay_after ended acts short charged 
 first_account : (n : ℕ) (cost : ℕ → Cost) (most : ℕ) (lives : ℕ → Life) (stay : ℕ) → ((j : ℕ) → j < n → IsLife (lives j)) → NoneActive n lives → stay ≤ most → Account n cost most (λ j. 0) [] lives stay 0
 first_account n cost most lives stay whole clear short =
     let run = total_zero n (λ j. (lives j).run_left) clear in
-    let susp = total_zero n (λ j. (lives j).susp_left) (λ j below. (whole j below).no_susp (clear j below)) in
+    let susp = total_zero n (λ j. (lives j).suspension_left) (λ j below. (whole j below).no_susp (clear j below)) in
     let waits = total_zero n (λ j. (lives j).waits_left) (λ j below. (whole j below).no_waits (clear j below)) in
     let waiting = total_zero n (λ j. (lives j).waiting) (λ j below. (whole j below).no_waiting (clear j below)) in
     record {

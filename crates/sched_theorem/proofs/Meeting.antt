@@ -46,7 +46,7 @@ two P first second (suc (suc p)) below = absurd (omega arith)
 -- ---- what is left of an activation
 
 abbrev pub whole_ok : Life → Bool
-whole_ok a = implies (leb a.run_left 0) (leb a.susp_left 0 && (leb a.waits_left 0 && leb a.waiting 0))
+whole_ok a = implies (leb a.run_left 0) (leb a.suspension_left 0 && (leb a.waits_left 0 && leb a.waiting 0))
 
 is_life : (a : Life) → whole_ok a ≡ true → IsLife a
 is_life a ok = record {
@@ -55,9 +55,9 @@ is_life a ok = record {
   no_waiting = λ e. let h = (nothing e).2 in omega arith;
 }
   where
-    nothing : a.run_left ≡ 0 → (a.susp_left ≤ 0) × (a.waits_left ≤ 0) × (a.waiting ≤ 0)
+    nothing : a.run_left ≡ 0 → (a.suspension_left ≤ 0) × (a.waits_left ≤ 0) × (a.waiting ≤ 0)
     nothing e =
-        let first = and_le a.susp_left 0 (leb a.waits_left 0 && leb a.waiting 0) (implied (leb a.run_left 0) _ ok (le-leb a.run_left 0 (omega arith))) in
+        let first = and_le a.suspension_left 0 (leb a.waits_left 0 && leb a.waiting 0) (implied (leb a.run_left 0) _ ok (le-leb a.run_left 0 (omega arith))) in
         let second = and_le a.waits_left 0 (leb a.waiting 0) first.1 in
         (first.0, second.0, leb-true a.waiting 0 second.1)
 
@@ -65,12 +65,12 @@ abbrev pub goes_on_ok : Bool → Life → Life → Bool
 goes_on_ok released a b = implies (leb 1 a.run_left) (leb 1 b.run_left) && implies released (leb 1 b.run_left)
 
 abbrev pub opens_ok : Bool → Cost → Life → Life → Bool
-opens_ok released cost a b = leb b.run_left (a.run_left + flag released * cost.run) && (leb b.susp_left (a.susp_left + flag released * cost.susp) && (leb b.waits_left (a.waits_left + flag released * cost.waits) && (leb b.waiting a.waiting && goes_on_ok released a b)))
+opens_ok released cost a b = leb b.run_left (a.run_left + flag released * cost.run) && (leb b.suspension_left (a.suspension_left + flag released * cost.susp) && (leb b.waits_left (a.waits_left + flag released * cost.waits) && (leb b.waiting a.waiting && goes_on_ok released a b)))
 
 opens : (released : Bool) (cost : Cost) (a b : Life) → opens_ok released cost a b ≡ true → Opens released cost a b
 opens released cost a b ok =
-    let run = and_le b.run_left (a.run_left + flag released * cost.run) (leb b.susp_left (a.susp_left + flag released * cost.susp) && (leb b.waits_left (a.waits_left + flag released * cost.waits) && (leb b.waiting a.waiting && goes_on_ok released a b))) ok in
-    let susp = and_le b.susp_left (a.susp_left + flag released * cost.susp) (leb b.waits_left (a.waits_left + flag released * cost.waits) && (leb b.waiting a.waiting && goes_on_ok released a b)) run.1 in
+    let run = and_le b.run_left (a.run_left + flag released * cost.run) (leb b.suspension_left (a.suspension_left + flag released * cost.susp) && (leb b.waits_left (a.waits_left + flag released * cost.waits) && (leb b.waiting a.waiting && goes_on_ok released a b))) ok in
+    let susp = and_le b.suspension_left (a.suspension_left + flag released * cost.susp) (leb b.waits_left (a.waits_left + flag released * cost.waits) && (leb b.waiting a.waiting && goes_on_ok released a b)) run.1 in
     let waits = and_le b.waits_left (a.waits_left + flag released * cost.waits) (leb b.waiting a.waiting && goes_on_ok released a b) susp.1 in
     let waiting = and_le b.waiting a.waiting (goes_on_ok released a b) waits.1 in
     let active = and_parts (implies (leb 1 a.run_left) (leb 1 b.run_left)) (implies released (leb 1 b.run_left)) waiting.1 in
@@ -84,12 +84,12 @@ opens released cost a b ok =
     }
 
 abbrev pub acts_ok : Life → Life → Bool
-acts_ok a b = leb b.run_left a.run_left && (leb (b.susp_left + a.waiting) a.susp_left && (leb b.waits_left a.waits_left && leb (b.waits_left + b.waiting) (a.waits_left + a.waiting)))
+acts_ok a b = leb b.run_left a.run_left && (leb (b.suspension_left + a.waiting) a.suspension_left && (leb b.waits_left a.waits_left && leb (b.waits_left + b.waiting) (a.waits_left + a.waiting)))
 
 acts : (a b : Life) → acts_ok a b ≡ true → Acts a b
 acts a b ok =
-    let run = and_le b.run_left a.run_left (leb (b.susp_left + a.waiting) a.susp_left && (leb b.waits_left a.waits_left && leb (b.waits_left + b.waiting) (a.waits_left + a.waiting))) ok in
-    let susp = and_le (b.susp_left + a.waiting) a.susp_left (leb b.waits_left a.waits_left && leb (b.waits_left + b.waiting) (a.waits_left + a.waiting)) run.1 in
+    let run = and_le b.run_left a.run_left (leb (b.suspension_left + a.waiting) a.suspension_left && (leb b.waits_left a.waits_left && leb (b.waits_left + b.waiting) (a.waits_left + a.waiting))) ok in
+    let susp = and_le (b.suspension_left + a.waiting) a.suspension_left (leb b.waits_left a.waits_left && leb (b.waits_left + b.waiting) (a.waits_left + a.waiting)) run.1 in
     let waits = and_le b.waits_left a.waits_left (leb (b.waits_left + b.waiting) (a.waits_left + a.waiting)) susp.1 in
     record { run = run.0; susp = susp.0; waits = waits.0; begins = leb-true (b.waits_left + b.waiting) (a.waits_left + a.waiting) waits.1 }
 

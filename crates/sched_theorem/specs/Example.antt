@@ -1,6 +1,6 @@
 -- A run of two processes, given as data, as the timing argument sees it.
 use Rattle.std.specs.Prelude.{◌≡◌, ◌<◌, ◌+◌, ℕ, suc, true, false, List, [], slice_index_or, Option, Some, None}
-use Rattle.sched_theorem.specs.declared.example.Activation.{Activation}
+use Rattle.sched_theorem.specs.declared.example.RemainingWork.{RemainingWork}
 use Rattle.sched_theorem.specs.declared.example.Visit.{Visit}
 use Rattle.sched_theorem.specs.declared.example.Moment.{Moment}
 use Rattle.sched_theorem.specs.declared.example.Tick.{Tick}
@@ -10,8 +10,8 @@ use Rattle.sched_theorem.specs.Dispatched.{Stay, Dispatch, IsReady}
 use Rattle.sched_theorem.specs.Ranked.{EndsAt}
 
 -- no activation
-abbrev pub idle : Activation
-idle = record { run_left = 0; susp_left = 0; waits_left = 0; waiting = false }
+abbrev pub idle : RemainingWork
+idle = record { run_left = 0; suspension_left = 0; waits_left = 0; waiting = false }
 
 -- the process of a place; any other place has none
 abbrev pub moment_at : List Moment → ℕ → Moment
@@ -26,8 +26,8 @@ abbrev pub process_at : Run → ℕ → ℕ → Moment
 process_at r k p = moment_at (tick_at r k).processes p
 
 -- an activation as the timing argument sees it
-abbrev pub life_of : Activation → Life
-life_of a = record { run_left = a.run_left; susp_left = a.susp_left; waits_left = a.waits_left; waiting = flag a.waiting }
+abbrev pub life_of : RemainingWork → Life
+life_of a = record { run_left = a.run_left; suspension_left = a.suspension_left; waits_left = a.waits_left; waiting = flag a.waiting }
 
 -- a stay as the timing argument sees it
 abbrev pub stay_of : Option Visit → Option Stay

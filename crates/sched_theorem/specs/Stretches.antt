@@ -7,13 +7,13 @@ use Rattle.sched_theorem.specs.Charges.{Charge, Execution, Suspension, Blocking,
 -- suspension, waits that it may still begin; and 1 while it waits, else 0
 pub record Life : Type 0 where
   pub run_left : ℕ
-  pub susp_left : ℕ
+  pub suspension_left : ℕ
   pub waits_left : ℕ
   pub waiting : ℕ
 
 -- an idle process has nothing left
 pub record IsLife (a : Life) : Type 0 where
-  pub no_susp : a.run_left ≡ 0 → a.susp_left ≡ 0
+  pub no_susp : a.run_left ≡ 0 → a.suspension_left ≡ 0
   pub no_waits : a.run_left ≡ 0 → a.waits_left ≡ 0
   pub no_waiting : a.run_left ≡ 0 → a.waiting ≡ 0
 
@@ -26,7 +26,7 @@ flag false = 0
 -- at most the cost of an activation; a wait may end, and none begins; nobody ends
 pub record Opens (released : Bool) (cost : Cost) (a b : Life) : Type 0 where
   pub run : b.run_left ≤ a.run_left + flag released * cost.run
-  pub susp : b.susp_left ≤ a.susp_left + flag released * cost.susp
+  pub susp : b.suspension_left ≤ a.suspension_left + flag released * cost.susp
   pub waits : b.waits_left ≤ a.waits_left + flag released * cost.waits
   pub waiting : b.waiting ≤ a.waiting
   pub goes_on : 1 ≤ a.run_left → 1 ≤ b.run_left
@@ -36,7 +36,7 @@ pub record Opens (released : Bool) (cost : Cost) (a b : Life) : Type 0 where
 -- suspension fewer after it, and who begins to wait has a wait fewer
 pub record Acts (a b : Life) : Type 0 where
   pub run : b.run_left ≤ a.run_left
-  pub susp : b.susp_left + a.waiting ≤ a.susp_left
+  pub susp : b.suspension_left + a.waiting ≤ a.suspension_left
   pub waits : b.waits_left ≤ a.waits_left
   pub begins : b.waits_left + b.waiting ≤ a.waits_left + a.waiting
 

@@ -11,11 +11,11 @@ use sched_response::Task;
 
 /// What is left of an activation.
 #[derive(Clone, Copy, Debug, PartialEq, Eq)]
-pub struct Activation {
+pub struct RemainingWork {
     /// Ticks of execution: 0 exactly in an idle process.
     pub run_left: u8,
     /// Ticks of suspension.
-    pub susp_left: u8,
+    pub suspension_left: u8,
     /// How often it may still begin to wait.
     pub waits_left: u8,
     /// Whether it waits now.
@@ -37,9 +37,9 @@ pub struct Moment {
     /// Whether it is released in the tick.
     pub released: bool,
     /// Its activation before the start events of the tick.
-    pub before: Activation,
+    pub before: RemainingWork,
     /// Its activation after them.
-    pub after: Activation,
+    pub after: RemainingWork,
     /// Its stay in a monitor, if it is inside one.
     pub inside: Option<Visit>,
 }
@@ -95,7 +95,7 @@ const TASKS: [Task; 2] = [
 /// and waits.
 macro_rules! left {
     ($run:expr, $susp:expr, $waits:expr) => {
-        Activation { run_left: $run, susp_left: $susp, waits_left: $waits, waiting: false }
+        RemainingWork { run_left: $run, suspension_left: $susp, waits_left: $waits, waiting: false }
     };
 }
 
@@ -137,8 +137,8 @@ macro_rules! waits {
     ($($left:expr),+) => {
         Moment {
             released: false,
-            before: Activation { waiting: true, ..left!($($left),+) },
-            after: Activation { waiting: true, ..left!($($left),+) },
+            before: RemainingWork { waiting: true, ..left!($($left),+) },
+            after: RemainingWork { waiting: true, ..left!($($left),+) },
             inside: None,
         }
     };
@@ -149,7 +149,7 @@ macro_rules! times_out {
     ($($left:expr),+) => {
         Moment {
             released: false,
-            before: Activation { waiting: true, ..left!($($left),+) },
+            before: RemainingWork { waiting: true, ..left!($($left),+) },
             after: left!($($left),+),
             inside: None,
         }

@@ -168,7 +168,7 @@ time_out_here image t j k q s o is = by (slice_get s.threads j) refl where
   by (Some (Ready job)) at = is
   by (Some (Waiting c due number job)) at = by_due (nat_eq due t) where
     new : Job
-    new = record (raised q number job) { burn = 2 * image.over }
+    new = record (raised q number job) { dispatch_ticks = 2 * image.over }
 
     by_due : (d : Bool) → TimesOut o (slice_get (cond d (told t j (act.TimeOut c number) (record s { queues = slice_set s.queues c (without j (queue_of s.queues c)) }) (Ready new)) (unchanged s)).state.threads k)
     by_due false = is

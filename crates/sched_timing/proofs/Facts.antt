@@ -64,7 +64,7 @@ opening_waits image p due (Waiting c d number job) mid is = at_most (is_waiting 
   at_most false = omega arith
 
 opened_busy : (p : Process) (old mid : Thread) (a : Life) → IsBusy old → IsBusy mid
-    → opened (Some p) (Some old) (Some mid) a ≡ record { run_left = a.run_left; susp_left = a.susp_left; waits_left = a.waits_left; waiting = flag (is_waiting (Some mid)) }
+    → opened (Some p) (Some old) (Some mid) a ≡ record { run_left = a.run_left; suspension_left = a.suspension_left; waits_left = a.waits_left; waiting = flag (is_waiting (Some mid)) }
 opened_busy p Idle mid a busy busy' = absurd busy
 opened_busy p (Ready old) Idle a busy busy' = absurd busy'
 opened_busy p (Ready old) (Ready mid) a busy busy' = refl
@@ -77,10 +77,10 @@ opened_busy p (Waiting c' d' number' old) (Waiting c d number mid) a busy busy' 
 opens_busy : (image : Image) (p : Process) (due : Bool) (cost : Claim) (old mid : Thread) (a b : Life) → Opening image p due old mid → b ≡ opened (Some p) (Some old) (Some mid) a
     → 1 ≤ b.run_left → a.waiting ≡ flag (is_waiting (Some old)) → IsBusy old → Opens due cost a b
 opens_busy image p due cost old mid a b is of some waiting busy =
-    let whole : b ≡ record { run_left = a.run_left; susp_left = a.susp_left; waits_left = a.waits_left; waiting = flag (is_waiting (Some mid)) } = of ∙ opened_busy p old mid a busy (opening_busy image p due old mid is busy) in
+    let whole : b ≡ record { run_left = a.run_left; suspension_left = a.suspension_left; waits_left = a.waits_left; waiting = flag (is_waiting (Some mid)) } = of ∙ opened_busy p old mid a busy (opening_busy image p due old mid is busy) in
     record {
       run = omega (arith, ap (λ (l : Life). l.run_left) whole);
-      susp = omega (arith, ap (λ (l : Life). l.susp_left) whole);
+      susp = omega (arith, ap (λ (l : Life). l.suspension_left) whole);
       waits = omega (arith, ap (λ (l : Life). l.waits_left) whole);
       waiting = omega (arith, ap (λ (l : Life). l.waiting) whole, opening_waits image p due old mid is, waiting);
       goes_on = λ go. some;
@@ -93,7 +93,7 @@ opens_idle image p true cost mid a b is of run susp waits some none =
     let whole : b ≡ declared (Some p) = of ∙ ap (λ (th : Thread). opened (Some p) (Some Idle) (Some th) a) is in
     record {
       run = omega (arith, ap (λ (l : Life). l.run_left) whole, run);
-      susp = omega (arith, ap (λ (l : Life). l.susp_left) whole, susp);
+      susp = omega (arith, ap (λ (l : Life). l.suspension_left) whole, susp);
       waits = omega (arith, ap (λ (l : Life). l.waits_left) whole, waits);
       waiting = omega (arith, ap (λ (l : Life). l.waiting) whole);
       goes_on = λ go. absurd (omega (arith, go, ap (λ (l : Life). l.run_left) none));
@@ -103,7 +103,7 @@ opens_idle image p false cost mid a b is of run susp waits some none =
     let whole : b ≡ nothing_left = of ∙ ap (λ (th : Thread). opened (Some p) (Some Idle) (Some th) a) is in
     record {
       run = omega (arith, ap (λ (l : Life). l.run_left) whole);
-      susp = omega (arith, ap (λ (l : Life). l.susp_left) whole);
+      susp = omega (arith, ap (λ (l : Life). l.suspension_left) whole);
       waits = omega (arith, ap (λ (l : Life). l.waits_left) whole);
       waiting = omega (arith, ap (λ (l : Life). l.waiting) whole);
       goes_on = λ go. absurd (omega (arith, go, ap (λ (l : Life). l.run_left) none));
@@ -124,11 +124,11 @@ is_waiting_mid : (mid : Thread) (job : Job) → mid ≡ Ready job → is_waiting
 is_waiting_mid mid job is = ap (λ (th : Thread). is_waiting (Some th)) is
 
 -- the counts of a process that is not idle after the tick
-acts_busy : (was waits_before waits_after : Bool) (a b : Life) → a.waiting ≡ flag waits_before → (waits_before ≡ true → 1 ≤ a.susp_left) → (waits_before ≡ false → waits_after ≡ true → 1 ≤ a.waits_left)
-    → b ≡ record { run_left = a.run_left - flag was; susp_left = a.susp_left - flag waits_before; waits_left = a.waits_left - flag (not waits_before && waits_after); waiting = flag waits_after } → Acts a b
+acts_busy : (was waits_before waits_after : Bool) (a b : Life) → a.waiting ≡ flag waits_before → (waits_before ≡ true → 1 ≤ a.suspension_left) → (waits_before ≡ false → waits_after ≡ true → 1 ≤ a.waits_left)
+    → b ≡ record { run_left = a.run_left - flag was; suspension_left = a.suspension_left - flag waits_before; waits_left = a.waits_left - flag (not waits_before && waits_after); waiting = flag waits_after } → Acts a b
 acts_busy was true after a b waiting some_susp some_wait is = record {
   run = omega (arith, ap (λ (l : Life). l.run_left) is);
-  susp = omega (arith, ap (λ (l : Life). l.susp_left) is, waiting, some_susp refl);
+  susp = omega (arith, ap (λ (l : Life). l.suspension_left) is, waiting, some_susp refl);
   waits = omega (arith, ap (λ (l : Life). l.waits_left) is);
   begins = omega (arith, ap (λ (l : Life). l.waits_left) is, ap (λ (l : Life). l.waiting) is, waiting, at_most after);
 } where
@@ -137,13 +137,13 @@ acts_busy was true after a b waiting some_susp some_wait is = record {
   at_most false = omega arith
 acts_busy was false true a b waiting some_susp some_wait is = record {
   run = omega (arith, ap (λ (l : Life). l.run_left) is);
-  susp = omega (arith, ap (λ (l : Life). l.susp_left) is, waiting);
+  susp = omega (arith, ap (λ (l : Life). l.suspension_left) is, waiting);
   waits = omega (arith, ap (λ (l : Life). l.waits_left) is);
   begins = omega (arith, ap (λ (l : Life). l.waits_left) is, ap (λ (l : Life). l.waiting) is, waiting, some_wait refl refl);
 }
 acts_busy was false false a b waiting some_susp some_wait is = record {
   run = omega (arith, ap (λ (l : Life). l.run_left) is);
-  susp = omega (arith, ap (λ (l : Life). l.susp_left) is, waiting);
+  susp = omega (arith, ap (λ (l : Life). l.suspension_left) is, waiting);
   waits = omega (arith, ap (λ (l : Life). l.waits_left) is);
   begins = omega (arith, ap (λ (l : Life). l.waits_left) is, ap (λ (l : Life). l.waiting) is, waiting);
 }
@@ -151,14 +151,14 @@ acts_busy was false false a b waiting some_susp some_wait is = record {
 acts_idle : (a b : Life) → a.waiting ≡ 0 → b ≡ nothing_left → Acts a b
 acts_idle a b waiting is = record {
   run = omega (arith, ap (λ (l : Life). l.run_left) is);
-  susp = omega (arith, ap (λ (l : Life). l.susp_left) is, waiting);
+  susp = omega (arith, ap (λ (l : Life). l.suspension_left) is, waiting);
   waits = omega (arith, ap (λ (l : Life). l.waits_left) is);
   begins = omega (arith, ap (λ (l : Life). l.waits_left) is, ap (λ (l : Life). l.waiting) is);
 }
 
 spent_busy : (was : Bool) (mid new : Thread) (a : Life) → IsBusy new → spent was (Some mid) (Some new) a ≡ record {
   run_left = a.run_left - flag was;
-  susp_left = a.susp_left - flag (is_waiting (Some mid));
+  suspension_left = a.suspension_left - flag (is_waiting (Some mid));
   waits_left = a.waits_left - flag (not (is_waiting (Some mid)) && is_waiting (Some new));
   waiting = flag (is_waiting (Some new));
 }
@@ -208,7 +208,7 @@ module _ (e : Where) (ps : ℕ → Parts) (image_fits : ImageFits e ps) (thrifty
   pub whole : (t k : ℕ) (p : Process) → slice_get e.image.processes k ≡ Some p → IsLife (L t k)
   whole t k p process = elim (busy_or_idle x.old) [
     | inl idle ↦ (let none : L t k ≡ nothing_left = life_idle t k (x.at_old ∙ ap (λ (th : Thread). Some th) idle) in
-        record { no_susp = λ is. ap (λ (l : Life). l.susp_left) none; no_waits = λ is. ap (λ (l : Life). l.waits_left) none; no_waiting = λ is. ap (λ (l : Life). l.waiting) none })
+        record { no_susp = λ is. ap (λ (l : Life). l.suspension_left) none; no_waits = λ is. ap (λ (l : Life). l.waits_left) none; no_waiting = λ is. ap (λ (l : Life). l.waiting) none })
     | inr busy ↦ (let some : 1 ≤ (L t k).run_left = some_left e ps image_fits thrifty script t k p x.old process x.at_old busy in
         record { no_susp = λ is. absurd (omega (arith, is, some)); no_waits = λ is. absurd (omega (arith, is, some)); no_waiting = λ is. absurd (omega (arith, is, some)) })
   ] where
@@ -263,9 +263,9 @@ module _ (e : Where) (ps : ℕ → Parts) (image_fits : ImageFits e ps) (thrifty
         let m : Middle e ps image_fits thrifty script t k x.new (M t k) =
         middles e ps image_fits thrifty script t k p process x (holds e ps image_fits thrifty script t k p process) (busy_before e ps image_fits thrifty script t k p x busy) in
         acts_busy (runs e.image script t (state_at e.image script t) k) (is_waiting (Some x.mid)) (is_waiting (Some x.new)) (M t k) (L (suc t) k) (middle_waits t k p process x)
-        (λ waits. (let f : (l : ℕ) × ((M t k).susp_left ≡ l + 1) × Suspends e ps (tick e.image script t (state_at e.image script t)).state (t + 1) k l (M t k).waits_left =
+        (λ waits. (let f : (l : ℕ) × ((M t k).suspension_left ≡ l + 1) × Suspends e ps (tick e.image script t (state_at e.image script t)).state (t + 1) k l (M t k).waits_left =
         (m.spends busy).waited (ap (λ (o : Option Thread). is_waiting o) x.at_mid ∙ waits) in omega (arith, f.1)))
-        (λ waits_not waits. (let f : (l : ℕ) × ((M t k).waits_left ≡ l + 1) × Suspends e ps (tick e.image script t (state_at e.image script t)).state (t + 1) k (M t k).susp_left l =
+        (λ waits_not waits. (let f : (l : ℕ) × ((M t k).waits_left ≡ l + 1) × Suspends e ps (tick e.image script t (state_at e.image script t)).state (t + 1) k (M t k).suspension_left l =
         (m.spends busy).began (ap (λ (o : Option Thread). is_waiting o) x.at_mid ∙ waits_not) (ap (λ (o : Option Thread). is_waiting o) (ap (λ (s : State). slice_get s.threads k) (sym (next_state e.image script t)) ∙ x.at_new) ∙ waits) in omega (arith, f.1)))
         (next_is e ps image_fits thrifty script t k p x ∙ spent_busy (runs e.image script t (state_at e.image script t) k) x.mid x.new (M t k) busy)
   ] where

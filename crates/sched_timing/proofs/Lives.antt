@@ -92,13 +92,13 @@ module _ (e : Where) (ps : ℕ → Parts) (image_fits : ImageFits e ps) (thrifty
   -- what is left of process k before tick t covers what it owes
   pub record Holds (t k : ℕ) : Type 0 where
     pub owes : (th : Thread) → slice_get (at t).threads k ≡ Some th → IsBusy th → Owes e ps (at t) k (life t k).run_left
-    pub suspends : (th : Thread) → slice_get (at t).threads k ≡ Some th → IsBusy th → Suspends e ps (at t) t k (life t k).susp_left (life t k).waits_left
+    pub suspends : (th : Thread) → slice_get (at t).threads k ≡ Some th → IsBusy th → Suspends e ps (at t) t k (life t k).suspension_left (life t k).waits_left
 
   -- what is left of a process that is not idle after the start events
   pub record Middle (t k : ℕ) (new : Thread) (a : Life) : Type 0 where
     pub some : 1 ≤ a.run_left
     pub works : IsBusy new → Works e ps script t (at t) k a.run_left
-    pub spends : IsBusy new → Spends e ps (during e.image script t) (tick e.image script t (at t)).state t k a.susp_left a.waits_left
+    pub spends : IsBusy new → Spends e ps (during e.image script t) (tick e.image script t (at t)).state t k a.suspension_left a.waits_left
 
   -- what is left, in terms of the threads
   pub after_is : (t k : ℕ) (p : Process) → slice_get e.image.processes k ≡ Some p → (x : Threads e ps image_fits script t k p) → later_life t k ≡ opened (Some p) (Some x.old) (Some x.mid) (life t k)
@@ -139,10 +139,10 @@ module _ (e : Where) (ps : ℕ → Parts) (image_fits : ImageFits e ps) (thrifty
 
   -- a process that was not has what was left
   rest_works : (t k : ℕ) (old new : Thread) (waiting : ℕ) → slice_get (at t).threads k ≡ Some old → IsBusy old → Holds t k
-      → Middle t k new (record { run_left = (life t k).run_left; susp_left = (life t k).susp_left; waits_left = (life t k).waits_left; waiting = waiting })
+      → Middle t k new (record { run_left = (life t k).run_left; suspension_left = (life t k).suspension_left; waits_left = (life t k).waits_left; waiting = waiting })
   rest_works t k old new waiting at_old busy holds =
       let o : Owes e ps (at t) k (life t k).run_left = holds.owes old at_old busy in
-      let s : Suspends e ps (at t) t k (life t k).susp_left (life t k).waits_left = holds.suspends old at_old busy in
+      let s : Suspends e ps (at t) t k (life t k).suspension_left (life t k).waits_left = holds.suspends old at_old busy in
       let same : old ≡ o.thread = (let both : Some old ≡ Some o.thread = sym at_old ∙ o.there in cc) in
       let same_s : old ≡ s.thread = (let both : Some old ≡ Some s.thread = sym at_old ∙ s.there in cc) in
       let busy_o : IsBusy o.thread = subst IsBusy same busy in
@@ -151,7 +151,7 @@ module _ (e : Where) (ps : ℕ → Parts) (image_fits : ImageFits e ps) (thrifty
       record {
         some = owes_some e ps image_fits (at t) k (life t k).run_left o fits busy_o;
         works = λ busy_new. work_falls e ps script t (at t) k (life t k).run_left image_fits fits o busy_o;
-        spends = λ busy_new. suspension_falls e ps script t (at t) k (life t k).susp_left (life t k).waits_left image_fits thrifty.timed.ranked fits s busy_s;
+        spends = λ busy_new. suspension_falls e ps script t (at t) k (life t k).suspension_left (life t k).waits_left image_fits thrifty.timed.ranked fits s busy_s;
       }
 
   middle_of : (t k : ℕ) (p : Process) → slice_get e.image.processes k ≡ Some p → (x : Threads e ps image_fits script t k p) → Holds t k → (old mid : Thread) → slice_get (at t).threads k ≡ Some old → IsBusy mid
@@ -184,7 +184,7 @@ module _ (e : Where) (ps : ℕ → Parts) (image_fits : ImageFits e ps) (thrifty
   -- what is left of one that is not idle after the tick
   spent_busy : (was : Bool) (mid new : Thread) (a : Life) → IsBusy new → spent was (Some mid) (Some new) a ≡ record {
     run_left = a.run_left - flag was;
-    susp_left = a.susp_left - flag (is_waiting (Some mid));
+    suspension_left = a.suspension_left - flag (is_waiting (Some mid));
     waits_left = a.waits_left - flag (not (is_waiting (Some mid)) && is_waiting (Some new));
     waiting = flag (is_waiting (Some new));
   }
@@ -207,23 +207,23 @@ module _ (e : Where) (ps : ℕ → Parts) (image_fits : ImageFits e ps) (thrifty
     owes busy true is works = (let f : (m : ℕ) × (a.run_left ≡ m + 1) × Owes e ps u k m = works.0 is in owes_more e ps u k f.0 (a.run_left - 1) (omega (arith, f.1)) f.2)
     owes busy false is works = owes_more e ps u k a.run_left (a.run_left - 0) (omega arith) (works.1 is)
 
-    both : IsBusy x.new → Owes e ps (at (suc t)) k (life (suc t) k).run_left × Suspends e ps (at (suc t)) (suc t) k (life (suc t) k).susp_left (life (suc t) k).waits_left
+    both : IsBusy x.new → Owes e ps (at (suc t)) k (life (suc t) k).run_left × Suspends e ps (at (suc t)) (suc t) k (life (suc t) k).suspension_left (life (suc t) k).waits_left
     both busy =
         let m : Middle t k x.new a = middles t k p process x holds (busy_before t k p x busy) in
         let l : life (suc t) k ≡ spent (runs e.image script t (at t) k) (Some x.mid) (Some x.new) a = next_is t k p x in
-        let spends : Suspends e ps u (t + 1) k (a.susp_left - flag (is_waiting (Some x.mid))) (a.waits_left - flag (not (is_waiting (Some x.mid)) && is_waiting (Some x.new))) =
-        suspends_next e ps (during e.image script t) u t k a.susp_left a.waits_left (is_waiting (Some x.mid)) (is_waiting (Some x.new))
+        let spends : Suspends e ps u (t + 1) k (a.suspension_left - flag (is_waiting (Some x.mid))) (a.waits_left - flag (not (is_waiting (Some x.mid)) && is_waiting (Some x.new))) =
+        suspends_next e ps (during e.image script t) u t k a.suspension_left a.waits_left (is_waiting (Some x.mid)) (is_waiting (Some x.new))
         (ap (λ (o : Option Thread). is_waiting o) x.at_mid) (ap (λ (o : Option Thread). is_waiting o) (now t k x.new x.at_new)) (m.spends busy) in
         let later : t + 1 ≡ suc t = omega arith in
-        subst (λ (b : Life). Owes e ps (at (suc t)) k b.run_left × Suspends e ps (at (suc t)) (suc t) k b.susp_left b.waits_left)
+        subst (λ (b : Life). Owes e ps (at (suc t)) k b.run_left × Suspends e ps (at (suc t)) (suc t) k b.suspension_left b.waits_left)
         (sym (l ∙ spent_busy (runs e.image script t (at t) k) x.mid x.new a busy))
-        (subst (λ (v : State). Owes e ps v k (a.run_left - flag (runs e.image script t (at t) k)) × Suspends e ps v (suc t) k (a.susp_left - flag (is_waiting (Some x.mid))) (a.waits_left - flag (not (is_waiting (Some x.mid)) && is_waiting (Some x.new))))
+        (subst (λ (v : State). Owes e ps v k (a.run_left - flag (runs e.image script t (at t) k)) × Suspends e ps v (suc t) k (a.suspension_left - flag (is_waiting (Some x.mid))) (a.waits_left - flag (not (is_waiting (Some x.mid)) && is_waiting (Some x.new))))
         (sym (next_state e.image script t)) (
           owes busy (runs e.image script t (at t) k) refl (m.works busy),
-          subst (λ (n : ℕ). Suspends e ps u n k (a.susp_left - flag (is_waiting (Some x.mid))) (a.waits_left - flag (not (is_waiting (Some x.mid)) && is_waiting (Some x.new)))) later spends,
+          subst (λ (n : ℕ). Suspends e ps u n k (a.suspension_left - flag (is_waiting (Some x.mid))) (a.waits_left - flag (not (is_waiting (Some x.mid)) && is_waiting (Some x.new)))) later spends,
         ))
 
-    same : (th : Thread) → slice_get (at (suc t)).threads k ≡ Some th → IsBusy th → Owes e ps (at (suc t)) k (life (suc t) k).run_left × Suspends e ps (at (suc t)) (suc t) k (life (suc t) k).susp_left (life (suc t) k).waits_left
+    same : (th : Thread) → slice_get (at (suc t)).threads k ≡ Some th → IsBusy th → Owes e ps (at (suc t)) k (life (suc t) k).run_left × Suspends e ps (at (suc t)) (suc t) k (life (suc t) k).suspension_left (life (suc t) k).waits_left
     same th is busy = both (subst IsBusy (let two : Some th ≡ Some x.new = sym is ∙ x.at_new in let one : th ≡ x.new = cc in one) busy)
 
   -- at first all are idle

@@ -100,7 +100,7 @@ module _ (image : Image) (script : Script) (t : ℕ) where
   time_out_fair k p s (Some Idle) = tt
   time_out_fair k p s (Some (Ready job)) = tt
   time_out_fair k p s (Some (Waiting c due number job)) =
-      either_fair (nat_eq due t) (told t k (act.TimeOut c number) (record s { queues = slice_set s.queues c (without k (queue_of s.queues c)) }) (Ready (record (raised p number job) { burn = 2 * image.over }))) (unchanged s)
+      either_fair (nat_eq due t) (told t k (act.TimeOut c number) (record s { queues = slice_set s.queues c (without k (queue_of s.queues c)) }) (Ready (record (raised p number job) { dispatch_ticks = 2 * image.over }))) (unchanged s)
       (λ is. (record { tick = refl; due = λ q at release_it. absurd cc }, tt)) tt
 
   at_rank_fair : (rank i : ℕ) (qs : List Process) (s : State) → Fair (at_rank image t rank i qs s).events
@@ -145,7 +145,7 @@ settle_later image t k p job s Ends quiet = (record { tick = refl; quiet = refl 
 settle_later image t k p job s Stuck quiet = tt
 
 run_later : (image : Image) (t k : ℕ) (s : State) (p : Option Process) (th : Option Thread) → Each (IsLater t) (run_thread image t k s p th).events
-run_later image t k s (Some p) (Some (Ready job)) = settle_later image t k p job s (outcome image s job (owned_of (slice_get s.owned k)) job.burn) (outcome_quiet image s job (owned_of (slice_get s.owned k)) job.burn)
+run_later image t k s (Some p) (Some (Ready job)) = settle_later image t k p job s (outcome image s job (owned_of (slice_get s.owned k)) job.dispatch_ticks) (outcome_quiet image s job (owned_of (slice_get s.owned k)) job.dispatch_ticks)
 run_later image t k s (Some p) (Some Idle) = tt
 run_later image t k s (Some p) (Some (Waiting c due number job)) = tt
 run_later image t k s (Some p) None = tt

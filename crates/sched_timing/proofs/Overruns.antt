@@ -102,7 +102,7 @@ time_out_in_time image t k p s None = refl
 time_out_in_time image t k p s (Some Idle) = refl
 time_out_in_time image t k p s (Some (Ready job)) = refl
 time_out_in_time image t k p s (Some (Waiting c due number job)) = by (nat_eq due t) where
-  by : (d : Bool) → (cond d (told t k (act.TimeOut c number) (record s { queues = slice_set s.queues c (without k (queue_of s.queues c)) }) (Ready (record (raised p number job) { burn = 2 * image.over }))) (unchanged s)).overrun ≡ false
+  by : (d : Bool) → (cond d (told t k (act.TimeOut c number) (record s { queues = slice_set s.queues c (without k (queue_of s.queues c)) }) (Ready (record (raised p number job) { dispatch_ticks = 2 * image.over }))) (unchanged s)).overrun ≡ false
   by true = refl
   by false = refl
 

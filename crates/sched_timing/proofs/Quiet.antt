@@ -193,7 +193,7 @@ effect_quiet image s (i.Raise e) o = tt
 effect_quiet image s i.End o = tt
 
 -- a tick of a process tells no release
-pub outcome_quiet : (image : Image) (s : State) (job : Job) (owned : List ℤ) (burn : ℕ) → IsQuiet (outcome image s job owned burn)
+pub outcome_quiet : (image : Image) (s : State) (job : Job) (owned : List ℤ) (dispatch_ticks : ℕ) → IsQuiet (outcome image s job owned dispatch_ticks)
 outcome_quiet image s job owned (suc n) = tt
 outcome_quiet image s job owned zero = by (slice_get image.code job.place) where
   by : (x : Option Instr) → IsQuiet (outcome_at image s job owned x)

@@ -36,7 +36,7 @@ module _ (e : Where) (ps : ℕ → Parts) (image_fits : ImageFits e ps) where
     own : List ℤ
     own = owned_of (slice_get s.owned k)
 
-    put : (q : Own) (es : List Event) (ts : List Thread) → Ticks e p (ps k) (part_of (ps k) job.handling) job.inside job.burn own s.shared left q → slice_get ts k ≡ Some (Ready q.job) → Turn t k job (slice_get ts k) es
+    put : (q : Own) (es : List Event) (ts : List Thread) → Ticks e p (ps k) (part_of (ps k) job.handling) job.inside job.dispatch_ticks own s.shared left q → slice_get ts k ≡ Some (Ready q.job) → Turn t k job (slice_get ts k) es
     put q es ts g now = subst (λ (x : Option Thread). Turn t k job x es) (sym now) g.inside
 
     here : (new : Thread) (es : List Event) → Turn t k job (Some new) es → Turn t k job (slice_get (slice_set s.threads k new) k) es
@@ -78,12 +78,12 @@ module _ (e : Where) (ps : ℕ → Parts) (image_fits : ImageFits e ps) where
             subst (λ (j : ℕ). Turn t k ch.job (slice_get (run_thread e.image t j s (slice_get e.image.processes j) (slice_get s.threads j)).state.threads k) (run_thread e.image t j s (slice_get e.image.processes j) (slice_get s.threads j)).events) (sym same)
             (subst (λ (x : Option Process). Turn t k ch.job (slice_get (run_thread e.image t k s x (slice_get s.threads k)).state.threads k) (run_thread e.image t k s x (slice_get s.threads k)).events) (sym process)
             (subst (λ (x : Option Thread). Turn t k ch.job (slice_get (run_thread e.image t k s (Some ch.p) x).state.threads k) (run_thread e.image t k s (Some ch.p) x).events) (sym at)
-            (by_burn at f.0 f.1 ch.job.burn refl)));
+            (by_burn at f.0 f.1 ch.job.dispatch_ticks refl)));
       } where
         own : List ℤ
         own = owned_of (slice_get s.owned k)
 
-        by_burn : slice_get s.threads k ≡ Some (Ready ch.job) → (left : Cost) → ReadyFits e ch.p (ps k) ch.job own s.shared left → (b : ℕ) → ch.job.burn ≡ b
+        by_burn : slice_get s.threads k ≡ Some (Ready ch.job) → (left : Cost) → ReadyFits e ch.p (ps k) ch.job own s.shared left → (b : ℕ) → ch.job.dispatch_ticks ≡ b
             → Turn t k ch.job (slice_get (settle e.image t k ch.p ch.job s (outcome e.image s ch.job own b)).state.threads k) (settle e.image t k ch.p ch.job s (outcome e.image s ch.job own b)).events
         by_burn at left has zero is =
             let index : ch.index ≡ k = omega (arith, ch.place, same) in
@@ -92,7 +92,7 @@ module _ (e : Where) (ps : ℕ → Parts) (image_fits : ImageFits e ps) where
             (tick_is_safe e (ps k) s ch.p ch.job own left image_fits.routines (image_fits.processes k ch.p process) fits.sized has
             (finds_free e ps s c ch (part_of (ps k) ch.job.handling) own fits (own_limit e ps image_fits ch.p (ps k) ch.job.handling (image_fits.processes k ch.p process))))
         by_burn at left has (suc b) is =
-            subst (λ (x : Option Thread). Turn t k ch.job x (settle e.image t k ch.p ch.job s (outcome e.image s ch.job own (suc b))).events) (sym (get_set s.threads k (Ready (record (ch.job) { burn = b })) (Ready ch.job) at)) (inl refl)
+            subst (λ (x : Option Thread). Turn t k ch.job x (settle e.image t k ch.p ch.job s (outcome e.image s ch.job own (suc b))).events) (sym (get_set s.threads k (Ready (record (ch.job) { dispatch_ticks = b })) (Ready ch.job) at)) (inl refl)
 
   -- process k takes its turn where it runs, and is as it was, or taken out of a queue, where it does not
   pub record Passes (t k : ℕ) (s u : State) (es : List Event) (x : Option Candidate) : Type 0 where

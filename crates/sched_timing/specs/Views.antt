@@ -60,23 +60,23 @@ inside_of None = None
 -- ---- what is left of an activation
 
 abbrev pub nothing_left : Life
-nothing_left = record { run_left = 0; susp_left = 0; waits_left = 0; waiting = 0 }
+nothing_left = record { run_left = 0; suspension_left = 0; waits_left = 0; waiting = 0 }
 
 -- a whole activation, as it is declared
 abbrev pub declared : Option Process → Life
 declared None = nothing_left
-declared (Some p) = record { run_left = p.run; susp_left = p.susp; waits_left = p.waits; waiting = 0 }
+declared (Some p) = record { run_left = p.run; suspension_left = p.susp; waits_left = p.waits; waiting = 0 }
 
 -- after the start events: old is the thread before them, new after them
 abbrev pub opened : Option Process → (old new : Option Thread) → Life → Life
 opened p old new a = cond (is_idle new) nothing_left (cond (is_idle old) (declared p)
-    (record { run_left = a.run_left; susp_left = a.susp_left; waits_left = a.waits_left; waiting = flag (is_waiting new) }))
+    (record { run_left = a.run_left; suspension_left = a.suspension_left; waits_left = a.waits_left; waiting = flag (is_waiting new) }))
 
 -- after the rest of the tick, in which the process runs or does not
 abbrev pub spent : (ran : Bool) → (old new : Option Thread) → Life → Life
 spent ran old new a = cond (is_idle new) nothing_left (record {
   run_left = a.run_left - flag ran;
-  susp_left = a.susp_left - flag (is_waiting old);
+  suspension_left = a.suspension_left - flag (is_waiting old);
   waits_left = a.waits_left - flag (not (is_waiting old) && is_waiting new);
   waiting = flag (is_waiting new);
 })

@@ -5,13 +5,13 @@ use Rattle.std.specs.Borrow.{Bor}
 use Rattle.std.specs.Map.{lookup}
 use Rattle.text_fields.specs.Fields.{spaced}
 use Rattle.image.specs.declared.names.ImageNames.{ImageNames}
-use Rattle.image.specs.declared.names.DevName.{DevName}
+use Rattle.image.specs.declared.names.DeviceName.{DeviceName}
 use Rattle.script.specs.declared.line.Line.{Line}
 use Rattle.script.specs.declared.line.Line.TheVariants as line_is
 use Rattle.script.specs.declared.script.ScriptLine.{ScriptLine}
 use Rattle.script.specs.declared.script.ScriptLine.TheVariants.{Set, Occur}
-use Rattle.script.specs.declared.reader.Next.{Next}
-use Rattle.script.specs.declared.reader.Next.TheVariants as next_is
+use Rattle.script.specs.declared.reader.NextLine.{NextLine}
+use Rattle.script.specs.declared.reader.NextLine.TheVariants as next_is
 use Rattle.script.specs.Saying.{Said, set, event, end, IsInForm, spelled}
 use Rattle.script.specs.Scripts.{same_name, meaning, tick_of, IsBegun}
 use Rattle.script.specs.Faults.{last_tick, last_of, IsRight}
@@ -57,7 +57,7 @@ abbrev pub AddsNumber : (old new : List (Bor (List ℕ) × ℕ)) → List ℕ �
 AddsNumber old new name number = (q : List ℕ) → number_in new q ≡ or_else (number_in old q) (if same_name q name then Some number else None)
 
 -- an in device gets a number, unless its name has one
-abbrev pub AddsDevice : (old new : List (Bor (List ℕ) × ℕ)) → DevName → ℕ → Type 0
+abbrev pub AddsDevice : (old new : List (Bor (List ℕ) × ℕ)) → DeviceName → ℕ → Type 0
 AddsDevice old new device number = (q : List ℕ) → number_in new q ≡ or_else (number_in old q) (if same_name q device.name && not device.out then Some number else None)
 
 abbrev pub AreNumbers : List (Bor (List ℕ) × ℕ) → (List ℕ → Option ℕ) → Type 0
@@ -82,7 +82,7 @@ pub record IsPast (names : ImageNames) (lines : List ScriptLine) (last : Option 
   pub up_to_last : All (IsUpToLast occurred) lines
 
 -- the first line of the bytes is right after these lines, and this is what it means
-abbrev pub IsNext : ImageNames → List ScriptLine → List ℕ → Next → Type 0
+abbrev pub IsNext : ImageNames → List ScriptLine → List ℕ → NextLine → Type 0
 IsNext names lines bytes (next_is.Line line rest) = (said : Said) × IsRight names lines bytes said rest.now × (meaning names said ≡ Some line)
 IsNext names lines bytes (next_is.End tick rest) = IsRight names lines bytes (end tick) rest.now
 

@@ -10,22 +10,22 @@
 //! that it breaks.
 //!
 //! `read_script` gives the script, or that fault. A text is one script at most, and is none where
-//! it has a fault (`script_laws`).
+//! it has a fault (`one_answer_law`).
 #![tactic(auto)]
 
 mod fault;
 mod line;
 mod numbers;
+mod one_answer_law;
+mod one_script_law;
 mod past;
 mod read;
 mod reader;
 pub mod refusal;
 mod script;
-mod script_law;
-mod script_laws;
 
 pub use fault::ScriptFault;
+pub use one_answer_law::one_answer;
+pub use one_script_law::one_script;
 pub use read::read_script;
 pub use script::{Script, ScriptLine};
-pub use script_law::one_script;
-pub use script_laws::one_answer;

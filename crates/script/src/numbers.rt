@@ -4,22 +4,22 @@ ghost use Rattle.std.specs.Prelude.{◌≡◌, ◌≤◌, ◌^◌, length, IfOk,
 ghost use Rattle.script.specs.Reading.{AddsDevice, AddsNumber, AreNumbers, number_in};
 ghost use Rattle.script.specs.Scripts.{in_device, event_number};
 
-use image::{DevName, ImageNames};
+use image::{DeviceName, ImageNames};
 use indexmap::IndexMap;
 use std::alloc::{AllocError, Global};
 
 /// Numbers by name.
-pub type Numbers<'a> = IndexMap<&'a [u8], u16>;
+pub type SymbolNumbers<'a> = IndexMap<&'a [u8], u16>;
 
 /// The number of a name.
-pub fn find(numbers: &Numbers<'_>, name: &[u8]) -> Option<u16>
+pub fn find(numbers: &SymbolNumbers<'_>, name: &[u8]) -> Option<u16>
     ensures { result ≡ number_in numbers.now.entries name.now }
 {
     numbers.get(name).copied()
 }
 
 /// Gives the name a number, unless it has one.
-fn add<'a>(numbers: &mut Numbers<'a>, name: &'a [u8], number: u16) -> Result<(), AllocError>
+fn add<'a>(numbers: &mut SymbolNumbers<'a>, name: &'a [u8], number: u16) -> Result<(), AllocError>
     ensures { OnOk result (AddsNumber numbers.old.entries numbers.new.entries name.now number) }
 {
     if find(numbers, name).is_some() {
@@ -31,8 +31,8 @@ fn add<'a>(numbers: &mut Numbers<'a>, name: &'a [u8], number: u16) -> Result<(),
 
 /// Gives the name of an in device a number, unless it has one.
 fn add_device<'a>(
-    numbers: &mut Numbers<'a>,
-    device: &'a DevName,
+    numbers: &mut SymbolNumbers<'a>,
+    device: &'a DeviceName,
     number: u16,
 ) -> Result<(), AllocError>
     ensures { OnOk result
@@ -45,12 +45,15 @@ fn add_device<'a>(
 }
 
 /// The numbers of the in devices.
-pub fn device_numbers<'a>(alloc: Global, names: &'a ImageNames) -> Result<Numbers<'a>, AllocError>
+pub fn device_numbers<'a>(
+    alloc: Global,
+    names: &'a ImageNames,
+) -> Result<SymbolNumbers<'a>, AllocError>
     requires { length names.now.devices ≤ 2 ^ 16 }
     ensures { IfOk result (λ numbers. AreNumbers numbers.entries (in_device names.now)) }
 {
     let devices = names.devices.as_slice();
-    let mut numbers = Numbers::new(alloc);
+    let mut numbers = SymbolNumbers::new(alloc);
     for (k, device) in devices.iter().enumerate() {
         add_device(&mut numbers, device, k as u16)?;
     }
@@ -58,12 +61,15 @@ pub fn device_numbers<'a>(alloc: Global, names: &'a ImageNames) -> Result<Number
 }
 
 /// The numbers of the events.
-pub fn event_numbers<'a>(alloc: Global, names: &'a ImageNames) -> Result<Numbers<'a>, AllocError>
+pub fn event_numbers<'a>(
+    alloc: Global,
+    names: &'a ImageNames,
+) -> Result<SymbolNumbers<'a>, AllocError>
     requires { length names.now.events ≤ 2 ^ 16 }
     ensures { IfOk result (λ numbers. AreNumbers numbers.entries (event_number names.now)) }
 {
     let events = names.events.as_slice();
-    let mut numbers = Numbers::new(alloc);
+    let mut numbers = SymbolNumbers::new(alloc);
     for (k, event) in events.iter().enumerate() {
         add(&mut numbers, event.name.as_bytes(), k as u16)?;
     }

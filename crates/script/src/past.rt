@@ -7,7 +7,7 @@ ghost use Rattle.script.specs.Scripts.{event_number, frame_of as frame_in, in_de
 
 use crate::fault::Flaw;
 use crate::line::Line;
-use crate::numbers::{Numbers, find};
+use crate::numbers::{SymbolNumbers, find};
 use crate::script::ScriptLine;
 use image::ImageNames;
 use std::alloc::{AllocError, Global};
@@ -86,8 +86,8 @@ impl Past {
     pub fn judge(
         &self,
         names: &ImageNames,
-        devices: &Numbers<'_>,
-        events: &Numbers<'_>,
+        devices: &SymbolNumbers<'_>,
+        events: &SymbolNumbers<'_>,
         line: Line<'_>,
     ) -> Result<Option<ScriptLine>, Flaw>
         requires past { IsPast names.now self.now.lines self.now.last self.now.occurred.items }

@@ -7,9 +7,9 @@ ghost use Rattle.script.specs.Faults.{IsFault, IsFaultHere, IsFaultOfRest};
 ghost use Rattle.script.specs.Reading.{AreNumbers, IsNext, IsPast};
 
 use crate::fault::ScriptFault;
-use crate::numbers::{Numbers, device_numbers, event_numbers};
+use crate::numbers::{SymbolNumbers, device_numbers, event_numbers};
 use crate::past::Past;
-use crate::reader::{Next, bad, judge_next};
+use crate::reader::{NextLine, bad, judge_next};
 use crate::refusal;
 use crate::script::Script;
 use image::ImageNames;
@@ -24,8 +24,8 @@ const MOST_LINES: usize = 1_000_000;
 /// Whether the bytes after the line that says the end are none; else their fault.
 fn end_with(
     names: &ImageNames,
-    devices: &Numbers<'_>,
-    events: &Numbers<'_>,
+    devices: &SymbolNumbers<'_>,
+    events: &SymbolNumbers<'_>,
     past: &Past,
     bytes: &[u8],
     number: u32,
@@ -50,11 +50,11 @@ fn end_with(
 /// or its fault.
 fn next_within<'a>(
     names: &ImageNames,
-    devices: &Numbers<'_>,
-    events: &Numbers<'_>,
+    devices: &SymbolNumbers<'_>,
+    events: &SymbolNumbers<'_>,
     past: &Past,
     bytes: &'a [u8],
-) -> Result<Next<'a>, ScriptFault>
+) -> Result<NextLine<'a>, ScriptFault>
     requires some { 0 < length bytes.now }
     requires few { length past.now.lines ≤ most_lines }
     requires past { IsPast names.now past.now.lines past.now.last past.now.occurred.items }
@@ -79,8 +79,8 @@ fn next_within<'a>(
 /// Reads a text that is not too long, line by line.
 fn read_lines(
     names: &ImageNames,
-    devices: &Numbers<'_>,
-    events: &Numbers<'_>,
+    devices: &SymbolNumbers<'_>,
+    events: &SymbolNumbers<'_>,
     mut past: Past,
     text: &[u8],
 ) -> Result<Script, ScriptFault>
@@ -97,11 +97,11 @@ fn read_lines(
     while !rest.is_empty() {
         match next_within(names, devices, events, &past, rest) {
             Err(fault) => return Err(fault),
-            Ok(Next::Line { line, rest: after }) => {
+            Ok(NextLine::Line { line, rest: after }) => {
                 past.add(names, line)?;
                 rest = after;
             }
-            Ok(Next::End { tick, rest: after }) => {
+            Ok(NextLine::End { tick, rest: after }) => {
                 let number = past.lines.len() as u32 + 2;
                 if let Err(fault) = end_with(names, devices, events, &past, after, number) {
                     return Err(fault);

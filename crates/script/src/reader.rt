@@ -9,7 +9,7 @@ ghost use Rattle.script.specs.declared.fault.ScriptFault.TheVariants.{Bad};
 
 use crate::fault::{Flaw, ScriptFault};
 use crate::line::{Line, read_line};
-use crate::numbers::Numbers;
+use crate::numbers::SymbolNumbers;
 use crate::past::Past;
 use crate::refusal;
 use crate::script::ScriptLine;
@@ -25,7 +25,7 @@ struct First<'a> {
 
 /// What the first line of some bytes means, and the bytes after it.
 #[derive(Clone, Copy)]
-pub enum Next<'a> {
+pub enum NextLine<'a> {
     Line { line: ScriptLine, rest: &'a [u8] },
     End { tick: u64, rest: &'a [u8] },
 }
@@ -78,12 +78,12 @@ fn first_line(bytes: &[u8]) -> Option<First<'_>>
 /// What the first line of the bytes means after the lines read so far, or its fault.
 pub fn judge_next<'a>(
     names: &ImageNames,
-    devices: &Numbers<'_>,
-    events: &Numbers<'_>,
+    devices: &SymbolNumbers<'_>,
+    events: &SymbolNumbers<'_>,
     past: &Past,
     bytes: &'a [u8],
     number: u32,
-) -> Result<Next<'a>, ScriptFault>
+) -> Result<NextLine<'a>, ScriptFault>
     requires some { 0 < length bytes.now }
     requires past { IsPast names.now past.now.lines past.now.last past.now.occurred.items }
     requires devices { AreNumbers devices.now.entries (in_device names.now) }
@@ -96,9 +96,9 @@ pub fn judge_next<'a>(
         None => Err(bad(refusal::FORM, number)),
         Some(First { line, rest }) => match past.judge(names, devices, events, line) {
             Err(flaw) => Err(fault(number, flaw)),
-            Ok(Some(line)) => Ok(Next::Line { line, rest }),
+            Ok(Some(line)) => Ok(NextLine::Line { line, rest }),
             Ok(None) => match line {
-                Line::End { tick } => Ok(Next::End { tick, rest }),
+                Line::End { tick } => Ok(NextLine::End { tick, rest }),
                 _ => Err(bad(refusal::FORM, number)),
             },
         },

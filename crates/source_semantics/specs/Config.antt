@@ -1,6 +1,6 @@
 -- The configuration: what each process is doing, each monitor, and each condition's queue.
 use Rattle.std.specs.Prelude.{ℕ, zero, suc, Bool, true, false, List, [], ◌∷◌, Option, Some, None, map, slice_get, position, nat_eq, unwrap_or, replicate, filter_map}
-use Rattle.syntax_tree.specs.Plain.{Monitor, Process, Prog}
+use Rattle.syntax_tree.specs.Plain.{Monitor, Process, Program}
 use Rattle.source_semantics.specs.Names.{monitors, processes, condition_count, variable_in}
 use Rattle.source_semantics.specs.Store.{Vars, fresh}
 use Rattle.source_semantics.specs.Run.{Call}
@@ -32,15 +32,15 @@ pub record Config : Type 0 where
   pub holds : List Hold
   pub queues : List (List ℕ)
 
-abbrev pub idle_job : Prog → Process → Job
+abbrev pub idle_job : Program → Process → Job
 idle_job g p = record { vars = map (fresh g) p.vars; doing = idle; calls = []; handling = false }
 
-abbrev pub free_hold : Prog → Monitor → Hold
+abbrev pub free_hold : Program → Monitor → Hold
 free_hold g m = record { vars = map (fresh g) (filter_map variable_in m.members); occupant = None }
 
 -- At the start all processes are idle, all variables 0 or false, all monitors free and all queues
 -- empty.
-abbrev pub start : Prog → Config
+abbrev pub start : Program → Config
 start g = record {
   tick = 0;
   acted = false;

@@ -1,7 +1,7 @@
 -- How deep calls can be nested: each routine has a level, above that of each routine that its text
 -- calls.
 use Rattle.std.specs.Prelude.{◌≡◌, ℕ, ◌<◌, Option, Some, None}
-use Rattle.syntax_tree.specs.Plain.{Name, Expr, literal, truth, variable, element, call, minus, negation, paren, row, Exprs, no_exprs, exprs, Operands, no_operands, operand, Ref, whole, part, Stmt, assign, assign_entry, assign_empty, perform, perform_entry, when, when_else, loop, exit_when, get, put, wait, signal, broadcast, except, assert, Stmts, no_stmts, stmts, Answers, Process, Prog}
+use Rattle.syntax_tree.specs.Plain.{Name, Expr, literal, truth, variable, element, call, minus, negation, paren, row, Exprs, no_exprs, exprs, Operands, no_operands, operand, Ref, whole, part, Stmt, assign, assign_entry, assign_empty, perform, perform_entry, when, when_else, loop, exit_when, get, put, wait, signal, broadcast, except, assert, Stmts, no_stmts, stmts, Answers, Process, Program}
 use Rattle.source_semantics.specs.Names.{routine_count}
 use Rattle.source_semantics.specs.Run.{Found, Memory, Calls, routine_named}
 
@@ -60,12 +60,12 @@ AnswersBelow level n (Some a) = ExprBelow level n a.value
 
 -- the routines in reach of a process do not reach themselves: each calls those of lower levels
 -- alone
-pub record Levels (g : Prog) (p : Process) (level : Name → ℕ) : Type 0 where
+pub record Levels (g : Program) (p : Process) (level : Name → ℕ) : Type 0 where
   pub body : (f : Name) (r : Found) → routine_named g p f ≡ Some r → StmtsBelow level (level f) r.routine.body
   pub answers : (f : Name) (r : Found) → routine_named g p f ≡ Some r → AnswersBelow level (level f) r.routine.answers
   pub few : (f : Name) (r : Found) → routine_named g p f ≡ Some r → level f < routine_count g
 
 -- two ways of calling come to the same for the routines below a level
-pub record Agree (g : Prog) (p : Process) (level : Name → ℕ) (n : ℕ) (k l : Calls) : Type 0 where
+pub record Agree (g : Program) (p : Process) (level : Name → ℕ) (n : ℕ) (k l : Calls) : Type 0 where
   pub answer : (f : Name) (r : Found) → routine_named g p f ≡ Some r → level f < n → (m : Memory) → k.answer r m ≡ l.answer r m
   pub run : (f : Name) (r : Found) → routine_named g p f ≡ Some r → level f < n → (m : Memory) → k.run r m ≡ l.run r m

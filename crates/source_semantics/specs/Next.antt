@@ -1,6 +1,6 @@
 -- The next visible action of a process, from its calls in progress.
 use Rattle.std.specs.Prelude.{ℕ, zero, suc, List, [], ◌∷◌, ◌++◌, Option, Some, None, ℤ, pos}
-use Rattle.syntax_tree.specs.Plain.{Answers, Process, Prog}
+use Rattle.syntax_tree.specs.Plain.{Answers, Process, Program}
 use Rattle.base.specs.Words.{Answer, word, raised, with_word}
 use Rattle.source_semantics.specs.Names.{routine_count}
 use Rattle.source_semantics.specs.Store.{Vars, range_of, checked}
@@ -16,7 +16,7 @@ answer_after c a (answers v m) = word v
 answer_after c a (stops x inside rest m) = word (pos 0)
 
 -- what calls come to where they are nested at most so deep
-unfoldable pub calls_to : Prog → Process → ℕ → Calls
+unfoldable pub calls_to : Program → Process → ℕ → Calls
 calls_to g p zero = record { answer = λ f m. word (pos 0); run = λ f m. goes m }
 calls_to g p (suc n) = record {
   answer = λ f m. let c : Site = record { program = g; process = p; home = f.home; calls = calls_to g p n } in answer_after c f.routine.answers (run_all c m f.routine.body);
@@ -25,7 +25,7 @@ calls_to g p (suc n) = record {
 
 -- where a process's statements stand: calls are nested at most as deep as there are routines, since
 -- none reaches itself
-abbrev pub site : Prog → Process → Home → Site
+abbrev pub site : Program → Process → Home → Site
 site g p h = record { program = g; process = p; home = h; calls = calls_to g p (routine_count g) }
 
 -- an entry's answer is evaluated inside the monitor, and given to the caller after it is left
@@ -83,7 +83,7 @@ among h outer on (stops a inside rest m) =
     record { action = a; calls = inside ++ record { home = h; own = m.own; rest = rest } ∷ outer; process = m.process; monitor = m.monitor }
 
 -- the next action from calls in progress, of which the innermost is given a value or none
-abbrev pub next_from : Prog → Process → List Call → Option ℤ → Vars → Vars → Next
+abbrev pub next_from : Program → Process → List Call → Option ℤ → Vars → Vars → Next
 next_from g p [] v process monitor = record { action = ends; calls = []; process = process; monitor = monitor }
 next_from g p (call ∷ outer) v process monitor =
     among call.home outer (λ w m. next_from g p outer w m.process m.monitor)

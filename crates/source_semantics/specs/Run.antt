@@ -1,7 +1,7 @@
 -- The value of an expression, and what statements come to: silently to their end, or up to the next
 -- visible action.
 use Rattle.std.specs.Prelude.{ℕ, zero, suc, cond, not, List, [], ◌∷◌, ◌++◌, Option, Some, None, ℤ, pos, ◌-ℤ◌, ◌+ℤ◌, map, option_map}
-use Rattle.syntax_tree.specs.Plain.{Name, Param, Expr, literal, truth, variable, element, call, minus, negation, paren, row, Exprs, no_exprs, exprs, Operands, no_operands, operand, Ref, whole, part, Stmt, assign, assign_entry, assign_empty, perform, perform_entry, when, when_else, loop, exit_when, get, put, wait, signal, broadcast, except, assert, Stmts, no_stmts, stmts, Answers, Routine, Monitor, Process, Prog}
+use Rattle.syntax_tree.specs.Plain.{Name, Param, Expr, literal, truth, variable, element, call, minus, negation, paren, row, Exprs, no_exprs, exprs, Operands, no_operands, operand, Ref, whole, part, Stmt, assign, assign_entry, assign_empty, perform, perform_entry, when, when_else, loop, exit_when, get, put, wait, signal, broadcast, except, assert, Stmts, no_stmts, stmts, Answers, Routine, Monitor, Process, Program}
 use Rattle.base.specs.Words.{Answer, word, raised, with_word, negated, of_bool, is_true}
 use Rattle.source_semantics.specs.Operators.{operated}
 use Rattle.source_semantics.specs.Names.{named, constants, constant_value, count_value, routines, monitors, device_number, monitor_number, condition_number}
@@ -104,7 +104,7 @@ pub record Calls : Type 0 where
 -- where statements stand: the program, the process that runs, whose text it is, and what calls come
 -- to
 pub record Site : Type 0 where
-  pub program : Prog
+  pub program : Program
   pub process : Process
   pub home : Home
   pub calls : Calls
@@ -117,7 +117,7 @@ or_else (Some x) y = Some x
 or_else None y = y
 
 -- the routine of that name, of the process or of the program
-abbrev pub routine_named : Prog → Process → Name → Option Found
+abbrev pub routine_named : Program → Process → Name → Option Found
 routine_named g p f = or_else
     (option_map (λ r. record { home = of_process; routine = r }) (named entry_name f p.routines))
     (option_map (λ r. record { home = of_program; routine = r }) (named entry_name f (routines g)))
@@ -127,7 +127,7 @@ entry_of m e None = None
 entry_of m e (Some k) = option_map (λ r. record { home = of_monitor m; routine = r }) (named entry_name e k.entries)
 
 -- the entry of that name, of the monitor of that name
-abbrev pub entry_named : Prog → Name → Name → Option Found
+abbrev pub entry_named : Program → Name → Name → Option Found
 entry_named g m e = entry_of (monitor_number g m) e (named (λ k. k.name) m (monitors g))
 
 -- the variables in reach beside the call's own
@@ -166,16 +166,16 @@ pub data Bound : Type 0 where
   bound : Vars → Bound
   unbound : (number : ℕ) → Bound
 
-abbrev pub with_argument : Prog → Param → Answer → (ℤ → Bound) → Bound
+abbrev pub with_argument : Program → Param → Answer → (ℤ → Bound) → Bound
 with_argument g p (raised n) next = unbound n
 with_argument g p (word v) next = elim (checked (range_of g p.kind) v) [ word w ↦ next w | raised n ↦ unbound n ]
 
-abbrev pub added : Prog → Param → ℤ → Bound → Bound
+abbrev pub added : Program → Param → ℤ → Bound → Bound
 added g p v (unbound n) = unbound n
 added g p v (bound vs) = bound (record { name = p.name; range = range_of g p.kind; held = one v } ∷ vs)
 
 -- the parameters and then the other variables of a routine
-abbrev pub own_vars : Prog → Routine → Vars → Vars
+abbrev pub own_vars : Program → Routine → Vars → Vars
 own_vars g r params = params ++ map (fresh g) r.vars
 
 abbrev pub answer_of : Site → Memory → Found → Bound → Answer

@@ -3,7 +3,7 @@ use Rattle.std.specs.Prelude.{◌≡◌, ℕ, suc, ◌+◌, ◌≤◌, ◌<◌, 
 use Rattle.base.specs.declared.event.Event.{Event}
 use Rattle.base.specs.declared.event.Act.{Act}
 use Rattle.base.specs.declared.event.Act.TheVariants as act
-use Rattle.syntax_tree.specs.Plain.{Process, Prog, Handler, Constant, Stmts}
+use Rattle.syntax_tree.specs.Plain.{Process, Program, Handler, Constant, Stmts}
 use Rattle.source_semantics.specs.Names.{processes, count_value}
 use Rattle.base.specs.Words.{of_bool}
 use Rattle.source_semantics.specs.Store.{Vars}
@@ -21,13 +21,13 @@ abbrev pub released : ℕ → Process → Job → Job
 released t p j = record { vars = j.vars; doing = active t; calls = call_of p.body ∷ []; handling = false }
 
 -- one of the constants is the number
-abbrev pub lists : Prog → ℕ → List Constant → Bool
+abbrev pub lists : Program → ℕ → List Constant → Bool
 lists g n [] = false
 lists g n (c ∷ cs) = cond (nat_eq (count_value g c) n) true (lists g n cs)
 
 -- what remains after a raise: the handler where it lists the number and does not run yet, else the
 -- end alone
-abbrev pub job_after_raise : Prog → ℕ → Option Handler → Job → Job
+abbrev pub job_after_raise : Program → ℕ → Option Handler → Job → Job
 job_after_raise g n None j = record { vars = j.vars; doing = active (released_of j.doing); calls = []; handling = j.handling }
 job_after_raise g n (Some h) j =
     cond (lists g n h.numbers && not j.handling)
@@ -39,11 +39,11 @@ on_text f None k c = c
 on_text f (Some p) k c = with_jobs c (changed (f p) k c.jobs)
 
 -- the job of process k is changed, by its text
-abbrev pub on_job : (Process → Job → Job) → Prog → ℕ → Config → Config
+abbrev pub on_job : (Process → Job → Job) → Program → ℕ → Config → Config
 on_job f g k c = on_text f (slice_get (processes g) k) k c
 
 -- the process after an exception: its calls are dropped, and the monitor is left
-abbrev pub after_raise : Prog → ℕ → ℕ → Config → Config
+abbrev pub after_raise : Program → ℕ → ℕ → Config → Config
 after_raise g k n c = on_job (λ p j. job_after_raise g n p.handler j) g k (leave c k)
 
 -- a queue without process k
@@ -52,12 +52,12 @@ without k [] = []
 without k (i ∷ is) = cond (nat_eq i k) is (i ∷ without k is)
 
 -- the configuration after a start event
-abbrev pub start_effect : Prog → ℕ → ℕ → Act → Config → Config
+abbrev pub start_effect : Program → ℕ → ℕ → Act → Config → Config
 start_effect g t k act.Release c = on_job (λ p j. released t p j) g k c
 start_effect g t k (act.TimeOut x n) c = after_raise g k n (with_queues c (changed (without k) x c.queues))
 start_effect g t k _ c = c
 
-abbrev pub after_start : Prog → Config → Event → Config
+abbrev pub after_start : Program → Config → Event → Config
 after_start g c e = start_effect g e.tick e.proc e.act (at_tick c e.tick false)
 
 -- a release finds its process idle
@@ -98,7 +98,7 @@ signalled x [] c = record { act = act.Signal x None; config = c }
 signalled x (k ∷ ks) c = record { act = act.Signal x (Some k); config = with_queues (with_jobs c (changed woken k c.jobs)) (changed (λ q. ks) x c.queues) }
 
 -- the effect of an action of process k at tick t
-abbrev pub effect : Prog → Script → ℕ → ℕ → Action → Config → Effect
+abbrev pub effect : Program → Script → ℕ → ℕ → Action → Config → Effect
 effect g s t k (gets d) c = record { act = act.Get d (device_value s t d); config = give_to k (device_value s t d) c }
 effect g s t k (puts d v) c = record { act = act.Put d v; config = c }
 effect g s t k (enters m) c = record { act = act.Enter m; config = enter c k m }
@@ -117,10 +117,10 @@ effect g s t k (raises n) c = record { act = act.Raise n; config = after_raise g
 effect g s t k ends c = record { act = act.End; config = with_jobs c (changed (job_doing idle) k c.jobs) }
 
 -- the next action of process k, whose text and state these are
-abbrev pub job_next : Config → ℕ → Process → Job → Prog → Next
+abbrev pub job_next : Config → ℕ → Process → Job → Program → Next
 job_next c k p j g = next_from g p j.calls None j.vars (vars_of c (inside c k))
 
-abbrev pub acts : Prog → Script → Config → ℕ → ℕ → Next → Effect
+abbrev pub acts : Program → Script → Config → ℕ → ℕ → Next → Effect
 acts g s c t k n = effect g s t k n.action (saved (at_tick c t true) k n)
 
 -- job j is the same or has been woken
@@ -143,23 +143,23 @@ ready_from k [] = []
 ready_from k (j ∷ js) = cond (is_ready j.doing) (k ∷ ready_from (suc k) js) (ready_from (suc k) js)
 
 -- of these processes, those that are taken before process k
-abbrev pub before : Prog → Config → ℕ → List ℕ → List ℕ
+abbrev pub before : Program → Config → ℕ → List ℕ → List ℕ
 before g c k [] = []
 before g c k (j ∷ js) = cond (comes_before g c j k) (j ∷ before g c k js) (before g c k js)
 
 -- no ready process is taken before process k
-abbrev pub IsFirst : Prog → Config → ℕ → Type 0
+abbrev pub IsFirst : Program → Config → ℕ → Type 0
 IsFirst g c k = before g c k (ready_from 0 c.jobs) ≡ []
 
 -- the event is the first start event still due
-pub record Starts (g : Prog) (s : Script) (c : Config) (e : Event) (new : Config) : Type 0 where
+pub record Starts (g : Program) (s : Script) (c : Config) (e : Event) (new : Config) : Type 0 where
   pub later : List Event
   pub first : due g s c e.tick ≡ e ∷ later
   pub may_start : MayStart e.act (slice_get c.jobs e.proc)
   pub after : new ≡ after_start g c e
 
 -- the event is the next action of the process that is to act
-pub record Acts (g : Prog) (s : Script) (c : Config) (e : Event) (new : Config) : Type 0 where
+pub record Acts (g : Program) (s : Script) (c : Config) (e : Event) (new : Config) : Type 0 where
   pub none_due : due g s c e.tick ≡ []
   pub nobody_acted : c.acted && nat_eq c.tick e.tick ≡ false
   pub process : Process
@@ -173,7 +173,7 @@ pub record Acts (g : Prog) (s : Script) (c : Config) (e : Event) (new : Config) 
   pub after : new ≡ (acts g s c e.tick e.proc (job_next c e.proc process job g)).config
 
 -- The event is allowed next, and new is the configuration after it.
-pub record Step (g : Prog) (s : Script) (c : Config) (e : Event) (new : Config) : Type 0 where
+pub record Step (g : Program) (s : Script) (c : Config) (e : Event) (new : Config) : Type 0 where
   pub before_end : e.tick < s.end_tick
   pub reached : c.tick ≤ e.tick
   pub none_missing : NoneMissing g s c e.tick
@@ -181,11 +181,11 @@ pub record Step (g : Prog) (s : Script) (c : Config) (e : Event) (new : Config) 
 
 -- Each event is allowed in turn, and at the end no start event due before the script's end is
 -- missing.
-abbrev pub RunFrom : Prog → Script → Config → List Event → Type 0
+abbrev pub RunFrom : Program → Script → Config → List Event → Type 0
 RunFrom g s c [] = NoneMissing g s c s.end_tick
 RunFrom g s c (e ∷ es) = (new : Config) × Step g s c e new × RunFrom g s new es
 
-abbrev pub IsSourceRun : Prog → Script → List Event → Type 0
+abbrev pub IsSourceRun : Program → Script → List Event → Type 0
 IsSourceRun g s es = RunFrom g s (start g) es
 
 -- the event is an end of process k

@@ -2,7 +2,7 @@
 use Rattle.std.specs.Prelude.{◌≡◌, ℕ, suc, ◌+◌, ◌-◌, ◌%◌, ◌≤◌, ◌<◌, Bool, false, cond, ◌&&◌, List, [], ◌∷◌, ◌++◌, Option, Some, None, ℤ, pos, nat_eq, nat_le, slice_get, flat_map}
 use Rattle.base.specs.declared.event.Event.{Event}
 use Rattle.base.specs.declared.event.Act.TheVariants as act
-use Rattle.syntax_tree.specs.Plain.{Activation, periodic, at_event, Process, Prog, Constant}
+use Rattle.syntax_tree.specs.Plain.{Trigger, periodic, at_event, Process, Program, Constant}
 use Rattle.source_semantics.specs.Names.{processes, event_number, count_value}
 use Rattle.source_semantics.specs.Config.{Doing, idle, active, waiting, Job, Config}
 use Rattle.source_semantics.specs.Ranks.{by_rank}
@@ -40,32 +40,32 @@ abbrev pub release_missing : ℕ → ℕ → Option Job → List Event
 release_missing t k None = []
 release_missing t k (Some j) = cond (was_released_at t j.doing) [] (release_of t k ∷ [])
 
-abbrev pub waits_for_event : Prog → ℕ → Activation → Bool
+abbrev pub waits_for_event : Program → ℕ → Trigger → Bool
 waits_for_event g e (at_event name frame deadline) = nat_eq (event_number g name) e
 waits_for_event g e (periodic frame deadline first) = false
 
 -- the releases by event e that have not come, of the processes from number k on
-abbrev pub releases_by : Prog → Config → ℕ → ℕ → ℕ → List Process → List Event
+abbrev pub releases_by : Program → Config → ℕ → ℕ → ℕ → List Process → List Event
 releases_by g c t e k [] = []
 releases_by g c t e k (p ∷ ps) = cond (waits_for_event g e p.activation) (release_missing t k (slice_get c.jobs k)) [] ++ releases_by g c t e (suc k) ps
 
 -- the releases by the events of a tick, in script order
-abbrev pub event_releases : Prog → Config → ℕ → List Line → List Event
+abbrev pub event_releases : Program → Config → ℕ → List Line → List Event
 event_releases g c t [] = []
 event_releases g c t (sets u d v ∷ ls) = event_releases g c t ls
 event_releases g c t (occurs u e ∷ ls) = cond (nat_eq u t) (releases_by g c t e 0 (processes g)) [] ++ event_releases g c t ls
 
-abbrev pub first_of : Prog → Option Constant → ℕ
+abbrev pub first_of : Program → Option Constant → ℕ
 first_of g None = 0
 first_of g (Some f) = count_value g f
 
 -- a periodic process is due at its first activation and each frame after it
-abbrev pub is_due : Prog → ℕ → Activation → Bool
+abbrev pub is_due : Program → ℕ → Trigger → Bool
 is_due g t (periodic frame deadline first) = nat_le (first_of g first) t && nat_eq ((t - first_of g first) % count_value g frame) 0
 is_due g t (at_event name frame deadline) = false
 
 -- the periodic releases at a tick, in textual order
-abbrev pub periodic_releases : Prog → Config → ℕ → ℕ → List Process → List Event
+abbrev pub periodic_releases : Program → Config → ℕ → ℕ → List Process → List Event
 periodic_releases g c t k [] = []
 periodic_releases g c t k (p ∷ ps) = cond (is_due g t p.activation) (release_missing t k (slice_get c.jobs k)) [] ++ periodic_releases g c t (suc k) ps
 
@@ -79,14 +79,14 @@ time_out t k None = []
 time_out t k (Some j) = doing_time_out t k j.doing
 
 -- the time-outs at a tick, in rank order
-abbrev pub time_outs : Prog → Config → ℕ → List Event
+abbrev pub time_outs : Program → Config → ℕ → List Event
 time_outs g c t = flat_map (λ k. time_out t k (slice_get c.jobs k)) (by_rank g)
 
 -- The start events due at a tick that have not come, in order. Once somebody has acted in the tick,
 -- all have come.
-unfoldable pub due : Prog → Script → Config → ℕ → List Event
+unfoldable pub due : Program → Script → Config → ℕ → List Event
 due g s c t = cond (c.acted && nat_eq c.tick t) [] (event_releases g c t s.lines ++ (periodic_releases g c t 0 (processes g) ++ time_outs g c t))
 
 -- no start event due before the tick is missing
-abbrev pub NoneMissing : Prog → Script → Config → ℕ → Type 0
+abbrev pub NoneMissing : Program → Script → Config → ℕ → Type 0
 NoneMissing g s c t = (u : ℕ) → c.tick ≤ u → u < t → due g s c u ≡ []

@@ -1,6 +1,6 @@
 -- Variables by name, with the range and the bounds of their declaration.
 use Rattle.std.specs.Prelude.{ℕ, suc, Bool, true, cond, ◌&&◌, List, [], ◌∷◌, Option, Some, None, ℤ, pos, negsuc, ◌-ℤ◌, int_le, replicate, slice_get, slice_set, length, nat_lt, bytes_eq, option_map}
-use Rattle.syntax_tree.specs.Plain.{Name, Scalar, int, boolean, subrange, Kind, scalar, array, Var, Prog}
+use Rattle.syntax_tree.specs.Plain.{Name, Scalar, int, boolean, subrange, Kind, scalar, array, Var, Program}
 use Rattle.source_semantics.specs.Names.{named, constant_value}
 use Rattle.base.specs.Words.{Answer, word, raised}
 
@@ -22,7 +22,7 @@ pub record Slot : Type 0 where
 abbrev pub Vars : Type 0
 Vars = List Slot
 
-abbrev pub range_of : Prog → Scalar → Option Range
+abbrev pub range_of : Program → Scalar → Option Range
 range_of g int = None
 range_of g boolean = None
 range_of g (subrange low high) = Some (record { low = constant_value g low; high = constant_value g high })
@@ -40,15 +40,15 @@ up_to (pos n) = suc n
 up_to (negsuc n) = 0
 
 -- a variable as it starts: 0 or false in each word
-abbrev pub fresh_held : Prog → Kind → Held
+abbrev pub fresh_held : Program → Kind → Held
 fresh_held g (scalar k) = one (pos 0)
 fresh_held g (array low high k) = many (constant_value g low) (replicate (up_to (constant_value g high -ℤ constant_value g low)) (pos 0))
 
-abbrev pub kind_range : Prog → Kind → Option Range
+abbrev pub kind_range : Program → Kind → Option Range
 kind_range g (scalar k) = range_of g k
 kind_range g (array low high k) = range_of g k
 
-abbrev pub fresh : Prog → Var → Slot
+abbrev pub fresh : Program → Var → Slot
 fresh g v = record { name = v.name; range = kind_range g v.kind; held = fresh_held g v.kind }
 
 abbrev pub slot_named : Name → Vars → Option Slot

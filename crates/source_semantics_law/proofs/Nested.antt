@@ -2,14 +2,14 @@
 use Rattle.std.specs.Prelude.{◌≡◌, ℕ, zero, suc, ◌+◌, ◌<◌, ◌≤◌, cond, List, [], ◌∷◌, Option, Some, None, ℤ}
 use Rattle.std.proofs.Common.{refl, ◌∙◌, ap, subst, arith}
 use Rattle.std.proofs.Math.Path.{fun_ext}
-use Rattle.syntax_tree.specs.Plain.{Name, Param, Expr, literal, truth, variable, element, call, minus, negation, paren, row, Exprs, no_exprs, exprs, Operands, no_operands, operand, Ref, whole, part, Stmt, assign, assign_entry, assign_empty, perform, perform_entry, when, when_else, loop, exit_when, get, put, wait, signal, broadcast, except, assert, Stmts, no_stmts, stmts, Answers, Process, Prog}
+use Rattle.syntax_tree.specs.Plain.{Name, Param, Expr, literal, truth, variable, element, call, minus, negation, paren, row, Exprs, no_exprs, exprs, Operands, no_operands, operand, Ref, whole, part, Stmt, assign, assign_entry, assign_empty, perform, perform_entry, when, when_else, loop, exit_when, get, put, wait, signal, broadcast, except, assert, Stmts, no_stmts, stmts, Answers, Process, Program}
 use Rattle.base.specs.Words.{Answer, with_word, is_true}
 use Rattle.source_semantics.specs.Names.{routine_count, monitor_number}
 use Rattle.source_semantics.specs.Run.{Home, Memory, Target, Item, do_all, Run, goes, exits, fails, answers, stops, followed, Found, Calls, Site, routine_named, entry_named, value, row_value, arguments, Bound, bound, unbound, with_argument, added, answer_of, called, with_value, with_target, turns, entered, performed, run, run_all, within_caller, own_vars, with_own, enter_named, perform_named, enter_found, perform_found}
 use Rattle.source_semantics.specs.Next.{answer_after, calls_to}
 use Rattle.source_semantics.specs.Nesting.{ExprBelow, ExprsBelow, OperandsBelow, RefBelow, StmtBelow, StmtsBelow, AnswersBelow, Levels, Agree}
 
-abbrev at_site : Prog → Process → Home → Calls → Site
+abbrev at_site : Program → Process → Home → Calls → Site
 at_site g p h k = record { program = g; process = p; home = h; calls = k }
 
 word_same : {a b : Answer} {f f' : ℤ → Answer} → a ≡ b → ((v : ℤ) → f v ≡ f' v) → with_word a f ≡ with_word b f'
@@ -18,7 +18,7 @@ word_same {a} {b} {f} {f'} p q = ap (λ x. with_word x f) p ∙ ap (λ x. with_w
 value_then : (m : Memory) {a b : Answer} {f f' : ℤ → Run} → a ≡ b → ((v : ℤ) → f v ≡ f' v) → with_value a m f ≡ with_value b m f'
 value_then m {a} {b} {f} {f'} p q = ap (λ x. with_value x m f) p ∙ ap (λ x. with_value b m x) (fun_ext q)
 
-argument_same : (g : Prog) (q : Param) {a b : Answer} {f f' : ℤ → Bound} → a ≡ b → ((v : ℤ) → f v ≡ f' v) → with_argument g q a f ≡ with_argument g q b f'
+argument_same : (g : Program) (q : Param) {a b : Answer} {f f' : ℤ → Bound} → a ≡ b → ((v : ℤ) → f v ≡ f' v) → with_argument g q a f ≡ with_argument g q b f'
 argument_same g q {a} {b} {f} {f'} p e = ap (λ x. with_argument g q x f) p ∙ ap (λ x. with_argument g q b x) (fun_ext e)
 
 follows_same : {r s : Run} {f f' : Memory → Run} (out : Memory → Run) (rest : List Item) → r ≡ s → ((m : Memory) → f m ≡ f' m) → followed r f out rest ≡ followed s f' out rest
@@ -27,7 +27,7 @@ follows_same {r} {s} {f} {f'} out rest p q = ap (λ x. followed x f out rest) p 
 turns_same : {b b' : Memory → Run} (i : Name) (ss : Stmts) → ((m : Memory) → b m ≡ b' m) → (n : ℕ) (v : ℤ) (m : Memory) → turns b i ss n v m ≡ turns b' i ss n v m
 turns_same {b} {b'} i ss e n v m = ap (λ x. turns x i ss n v m) (fun_ext e)
 
-module _ (g : Prog) (p : Process) (h : Home) (level : Name → ℕ) (n : ℕ) (k l : Calls) (agree : Agree g p level n k l) where
+module _ (g : Program) (p : Process) (h : Home) (level : Name → ℕ) (n : ℕ) (k l : Calls) (agree : Agree g p level n k l) where
   called_same : (m : Memory) (f : Name) {args args' : List Param → Bound} (o : Option Found) → routine_named g p f ≡ o → level f < n → ((ps : List Param) → args ps ≡ args' ps)
       → called (at_site g p h k) m o args ≡ called (at_site g p h l) m o args'
   called_same m f None is below e = refl
@@ -115,7 +115,7 @@ module _ (g : Prog) (p : Process) (h : Home) (level : Name → ℕ) (n : ℕ) (k
 
 -- the answer of a function
 
-answer_same : (g : Prog) (p : Process) (h : Home) (level : Name → ℕ) (n : ℕ) (k l : Calls) → Agree g p level n k l → (a : Option Answers) → AnswersBelow level n a → (r : Run)
+answer_same : (g : Program) (p : Process) (h : Home) (level : Name → ℕ) (n : ℕ) (k l : Calls) → Agree g p level n k l → (a : Option Answers) → AnswersBelow level n a → (r : Run)
     → answer_after (at_site g p h k) a r ≡ answer_after (at_site g p h l) a r
 answer_same g p h level n k l agree None b (goes m) = refl
 answer_same g p h level n k l agree (Some a) b (goes m) = word_same (value_same g p h level n k l agree m a.value b) (λ v. refl)
@@ -177,7 +177,7 @@ answers_up : (level : Name → ℕ) (n q : ℕ) → n ≤ q → (a : Option Answ
 answers_up level n q le None b = tt
 answers_up level n q le (Some a) b = expr_up level n q le a.value b
 
-one_more : (g : Prog) (p : Process) (level : Name → ℕ) → Levels g p level → (n q : ℕ) → Agree g p level n (calls_to g p n) (calls_to g p q)
+one_more : (g : Program) (p : Process) (level : Name → ℕ) → Levels g p level → (n q : ℕ) → Agree g p level n (calls_to g p n) (calls_to g p q)
     → Agree g p level (suc n) (calls_to g p (suc n)) (calls_to g p (suc q))
 unfolding calls_to
 one_more g p level ok n q agree = record {
@@ -191,7 +191,7 @@ one_more g p level ok n q agree = record {
 }
 
 -- calls of routines below a level come to the same at every greater depth
-same_deeper : (g : Prog) (p : Process) (level : Name → ℕ) → Levels g p level → (n q : ℕ) → Agree g p level n (calls_to g p n) (calls_to g p (n + q))
+same_deeper : (g : Program) (p : Process) (level : Name → ℕ) → Levels g p level → (n q : ℕ) → Agree g p level n (calls_to g p n) (calls_to g p (n + q))
 same_deeper g p level ok zero q = record { answer = λ f r is below m. absurd (omega arith); run = λ f r is below m. absurd (omega arith) }
 same_deeper g p level ok (suc n) q = subst (λ d. Agree g p level (suc n) (calls_to g p (suc n)) (calls_to g p d)) (add_suc n q) (one_more g p level ok n (n + q) (same_deeper g p level ok n q))
   where
@@ -199,5 +199,5 @@ same_deeper g p level ok (suc n) q = subst (λ d. Agree g p level (suc n) (calls
     add_suc a b = omega arith
 
 -- A value does not depend on the depth, once that is the number of routines.
-pub always_defined : (g : Prog) (p : Process) (level : Name → ℕ) → Levels g p level → (q : ℕ) → Agree g p level (routine_count g) (calls_to g p (routine_count g)) (calls_to g p (routine_count g + q))
+pub always_defined : (g : Program) (p : Process) (level : Name → ℕ) → Levels g p level → (q : ℕ) → Agree g p level (routine_count g) (calls_to g p (routine_count g)) (calls_to g p (routine_count g + q))
 always_defined g p level ok q = same_deeper g p level ok (routine_count g) q

@@ -1,7 +1,7 @@
 -- An action of a process leaves every other process as it is, but for waking it.
 use Rattle.std.specs.Prelude.{◌≡◌, ℕ, zero, suc, true, List, [], ◌∷◌, Option, Some, None, slice_get}
 use Rattle.std.proofs.Common.{refl, sym, ◌∙◌, ap, inl, inr}
-use Rattle.syntax_tree.specs.Plain.{Prog, Process}
+use Rattle.syntax_tree.specs.Plain.{Program, Process}
 use Rattle.source_semantics.specs.Names.{processes}
 use Rattle.source_semantics.specs.Store.{Vars}
 use Rattle.source_semantics.specs.Run.{Action, gets, puts, enters, leaves, waits, signals, broadcasts, asks_empty, raises, ends}
@@ -59,7 +59,7 @@ signal_stays : (x j : ℕ) (q : List ℕ) (c : Config) → Stays j c.jobs (signa
 signal_stays x j [] c = same j c.jobs c.jobs refl
 signal_stays x j (k ∷ ks) c = woken_one k j c.jobs
 
-effect_stays : (g : Prog) (s : Script) (t k : ℕ) (a : Action) (c : Config) (j : ℕ) → (j ≡ k → ⊥) → Stays j c.jobs (effect g s t k a c).config.jobs
+effect_stays : (g : Program) (s : Script) (t k : ℕ) (a : Action) (c : Config) (j : ℕ) → (j ≡ k → ⊥) → Stays j c.jobs (effect g s t k a c).config.jobs
 effect_stays g s t k (gets d) c j apart = apart_stays _ k j c.jobs apart
 effect_stays g s t k (puts d v) c j apart = same j c.jobs c.jobs refl
 effect_stays g s t k (enters m) c j apart = same j c.jobs c.jobs refl
@@ -73,7 +73,7 @@ effect_stays g s t k (raises n) c j apart =
 effect_stays g s t k ends c j apart = apart_stays _ k j c.jobs apart
 
 -- What process k does leaves every other process as it is, but for waking it.
-pub others_stay : (g : Prog) (s : Script) (c : Config) (t k : ℕ) (n : Next) (j : ℕ) → (j ≡ k → ⊥) → Stays j c.jobs (acts g s c t k n).config.jobs
+pub others_stay : (g : Program) (s : Script) (c : Config) (t k : ℕ) (n : Next) (j : ℕ) → (j ≡ k → ⊥) → Stays j c.jobs (acts g s c t k n).config.jobs
 others_stay g s c t k n j apart =
     let d : Config = at_tick c t true in
     stays_on j c.jobs (saved d k n).jobs _

@@ -7,7 +7,7 @@ use Rattle.std.proofs.lemmas.Bool.{and_parts, eqb-true, not-true}
 use Rattle.base.specs.declared.event.Event.{Event}
 use Rattle.base.specs.declared.event.Act.{Act}
 use Rattle.base.specs.declared.event.Act.TheVariants as act
-use Rattle.syntax_tree.specs.Plain.{Prog, Process}
+use Rattle.syntax_tree.specs.Plain.{Program, Process}
 use Rattle.source_semantics.specs.Names.{processes}
 use Rattle.source_semantics.specs.Config.{Config, Job, Doing, idle, active, waiting, is_ready, start}
 use Rattle.source_semantics.specs.Starts.{Script, due, NoneMissing}
@@ -23,7 +23,7 @@ abbrev pub empty : {A : Type 0} → List A → Bool
 empty [] = true
 empty (x ∷ xs) = false
 
-abbrev pub none_from : Prog → Script → Config → ℕ → ℕ → Bool
+abbrev pub none_from : Program → Script → Config → ℕ → ℕ → Bool
 none_from g s c u zero = true
 none_from g s c u (suc n) = empty (due g s c u) && none_from g s c (suc u) n
 
@@ -42,22 +42,22 @@ pub record Played : Type 0 where
   pub allowed : Bool
   pub config : Config
 
-abbrev pub played_start : Prog → Script → Config → ℕ → List Event → Played
+abbrev pub played_start : Program → Script → Config → ℕ → List Event → Played
 played_start g s c t [] = record { event = record { tick = 0; proc = 0; act = act.Release }; allowed = false; config = c }
 played_start g s c t (e ∷ later) = record { event = e; allowed = nat_eq e.tick t && can_start e.act (slice_get c.jobs e.proc); config = after_start g c e }
 
-abbrev pub played_next : Prog → Script → Config → ℕ → ℕ → Job → Next → Played
+abbrev pub played_next : Program → Script → Config → ℕ → ℕ → Job → Next → Played
 played_next g s c t k j n = record {
   event = record { tick = t; proc = k; act = (acts g s c t k n).act };
   allowed = is_ready j.doing && (empty (before g c k (ready_from 0 c.jobs)) && may_act c n.action);
   config = (acts g s c t k n).config;
 }
 
-abbrev pub played_act : Prog → Script → Config → ℕ → ℕ → Option Process → Option Job → Played
+abbrev pub played_act : Program → Script → Config → ℕ → ℕ → Option Process → Option Job → Played
 played_act g s c t k (Some p) (Some j) = played_next g s c t k j (job_next c k p j g)
 played_act g s c t k _ _ = record { event = record { tick = 0; proc = 0; act = act.Release }; allowed = false; config = c }
 
-abbrev pub played : Prog → Script → Config → Choice → Played
+abbrev pub played : Program → Script → Config → Choice → Played
 played g s c (begins t) = played_start g s c t (due g s c t)
 played g s c (acts_at t k) =
     let p : Played = played_act g s c t k (slice_get (processes g) k) (slice_get c.jobs k) in
@@ -67,7 +67,7 @@ abbrev pub tick_of : Choice → ℕ
 tick_of (begins t) = t
 tick_of (acts_at t k) = t
 
-abbrev pub in_time : Prog → Script → Config → ℕ → Bool
+abbrev pub in_time : Program → Script → Config → ℕ → Bool
 in_time g s c t = nat_lt t s.end_tick && (nat_le c.tick t && none_from g s c c.tick (t - c.tick))
 
 abbrev pub continued : Bool → Event → Option (List Event) → Option (List Event)
@@ -76,7 +76,7 @@ continued true e None = None
 continued true e (Some es) = Some (e ∷ es)
 
 -- the events that choices lead to, where each is allowed and none is missing at the end
-abbrev pub play : Prog → Script → Config → List Choice → Option (List Event)
+abbrev pub play : Program → Script → Config → List Choice → Option (List Event)
 play g s c [] = cond (none_from g s c c.tick (s.end_tick - c.tick)) (Some []) None
 play g s c (x ∷ xs) =
     let p : Played = played g s c x in
@@ -86,7 +86,7 @@ of_empty : {A : Type 0} (xs : List A) → empty xs ≡ true → xs ≡ []
 of_empty [] h = refl
 of_empty (x ∷ xs) h = absurd cc
 
-none_missing : (g : Prog) (s : Script) (c : Config) (n u : ℕ) → none_from g s c u n ≡ true → (v : ℕ) → u ≤ v → v < u + n → due g s c v ≡ []
+none_missing : (g : Program) (s : Script) (c : Config) (n u : ℕ) → none_from g s c u n ≡ true → (v : ℕ) → u ≤ v → v < u + n → due g s c v ≡ []
 none_missing g s c zero u h v low high = absurd (omega arith)
 none_missing g s c (suc n) u h v low high =
     let parts : (empty (due g s c u) ≡ true) × (none_from g s c (suc u) n ≡ true) = and_parts (empty (due g s c u)) (none_from g s c (suc u) n) h in
@@ -95,7 +95,7 @@ none_missing g s c (suc n) u h v low high =
       | inr above ↦ none_missing g s c n (suc u) parts.1 v above (omega arith)
     ]
 
-in_time_facts : (g : Prog) (s : Script) (c : Config) (t : ℕ) → in_time g s c t ≡ true → (t < s.end_tick) × (c.tick ≤ t) × NoneMissing g s c t
+in_time_facts : (g : Program) (s : Script) (c : Config) (t : ℕ) → in_time g s c t ≡ true → (t < s.end_tick) × (c.tick ≤ t) × NoneMissing g s c t
 in_time_facts g s c t h =
     let first : (nat_lt t s.end_tick ≡ true) × (nat_le c.tick t && none_from g s c c.tick (t - c.tick) ≡ true) = and_parts _ _ h in
     let second : (nat_le c.tick t ≡ true) × (none_from g s c c.tick (t - c.tick) ≡ true) = and_parts _ _ first.1 in
@@ -123,14 +123,14 @@ may (act.Empty x b) j h = tt
 may (act.Raise n) j h = tt
 may act.End j h = tt
 
-starts_of : (g : Prog) (s : Script) (c : Config) (t : ℕ) (es : List Event) → due g s c t ≡ es → (played_start g s c t es).allowed ≡ true
+starts_of : (g : Program) (s : Script) (c : Config) (t : ℕ) (es : List Event) → due g s c t ≡ es → (played_start g s c t es).allowed ≡ true
     → Starts g s c (played_start g s c t es).event (played_start g s c t es).config
 starts_of g s c t [] is h = absurd cc
 starts_of g s c t (e ∷ later) is h =
     let parts : (nat_eq e.tick t ≡ true) × (can_start e.act (slice_get c.jobs e.proc) ≡ true) = and_parts _ _ h in
     record { later = later; first = subst (λ u. due g s c u ≡ e ∷ later) (sym (eqb-true e.tick t parts.0)) is; may_start = may e.act (slice_get c.jobs e.proc) parts.1; after = refl }
 
-acts_of : (g : Prog) (s : Script) (c : Config) (t k : ℕ) (p : Option Process) (j : Option Job) → slice_get (processes g) k ≡ p → slice_get c.jobs k ≡ j
+acts_of : (g : Program) (s : Script) (c : Config) (t k : ℕ) (p : Option Process) (j : Option Job) → slice_get (processes g) k ≡ p → slice_get c.jobs k ≡ j
     → due g s c t ≡ [] → c.acted && nat_eq c.tick t ≡ false → (played_act g s c t k p j).allowed ≡ true
     → Acts g s c (played_act g s c t k p j).event (played_act g s c t k p j).config
 acts_of g s c t k (Some p) (Some j) text state none nobody h =
@@ -152,16 +152,16 @@ acts_of g s c t k (Some p) (Some j) text state none nobody h =
 acts_of g s c t k None j text state none nobody h = absurd cc
 acts_of g s c t k (Some p) None text state none nobody h = absurd cc
 
-start_tick : (g : Prog) (s : Script) (c : Config) (t : ℕ) (es : List Event) → (played_start g s c t es).allowed ≡ true → (played_start g s c t es).event.tick ≡ t
+start_tick : (g : Program) (s : Script) (c : Config) (t : ℕ) (es : List Event) → (played_start g s c t es).allowed ≡ true → (played_start g s c t es).event.tick ≡ t
 start_tick g s c t [] h = absurd cc
 start_tick g s c t (e ∷ later) h = eqb-true e.tick t (and_parts (nat_eq e.tick t) (can_start e.act (slice_get c.jobs e.proc)) h).0
 
-act_tick : (g : Prog) (s : Script) (c : Config) (t k : ℕ) (p : Option Process) (j : Option Job) → (played_act g s c t k p j).allowed ≡ true → (played_act g s c t k p j).event.tick ≡ t
+act_tick : (g : Program) (s : Script) (c : Config) (t k : ℕ) (p : Option Process) (j : Option Job) → (played_act g s c t k p j).allowed ≡ true → (played_act g s c t k p j).event.tick ≡ t
 act_tick g s c t k (Some p) (Some j) h = refl
 act_tick g s c t k None j h = absurd cc
 act_tick g s c t k (Some p) None h = absurd cc
 
-step_of : (g : Prog) (s : Script) (c : Config) (x : Choice) → (played g s c x).allowed ≡ true → in_time g s c (tick_of x) ≡ true
+step_of : (g : Program) (s : Script) (c : Config) (x : Choice) → (played g s c x).allowed ≡ true → in_time g s c (tick_of x) ≡ true
     → Step g s c (played g s c x).event (played g s c x).config
 step_of g s c (begins t) h timely =
     let facts : (t < s.end_tick) × (c.tick ≤ t) × NoneMissing g s c t = in_time_facts g s c t timely in
@@ -196,7 +196,7 @@ went_on true e None es h = absurd cc
 went_on true e (Some later) es h = (later, refl, refl, cc)
 
 -- Where the choices can be played, their events are a run.
-pub sound : (g : Prog) (s : Script) (xs : List Choice) (c : Config) (es : List Event) → play g s c xs ≡ Some es → RunFrom g s c es
+pub sound : (g : Program) (s : Script) (xs : List Choice) (c : Config) (es : List Event) → play g s c xs ≡ Some es → RunFrom g s c es
 sound g s [] c es h =
     let parts : (none_from g s c c.tick (s.end_tick - c.tick) ≡ true) × (es ≡ []) = ended _ es h in
     subst (λ l. RunFrom g s c l) (sym parts.1) (λ u low high. none_missing g s c (s.end_tick - c.tick) c.tick parts.0 u low (omega arith))
@@ -207,5 +207,5 @@ sound g s (x ∷ xs) c es h =
     let ok : (p.allowed ≡ true) × (in_time g s c (tick_of x) ≡ true) = and_parts _ _ facts.1 in
     subst (λ l. RunFrom g s c l) (sym facts.3) (p.config, step_of g s c x ok.0 ok.1, sound g s xs p.config facts.0 facts.2)
 
-pub is_run : (g : Prog) (s : Script) (xs : List Choice) (es : List Event) → play g s (start g) xs ≡ Some es → IsSourceRun g s es
+pub is_run : (g : Program) (s : Script) (xs : List Choice) (es : List Event) → play g s (start g) xs ≡ Some es → IsSourceRun g s es
 is_run g s xs es h = sound g s xs (start g) es h

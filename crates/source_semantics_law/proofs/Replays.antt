@@ -6,7 +6,7 @@ use Rattle.base.proofs.Numbers.{itself}
 use Rattle.base.specs.declared.event.Event.{Event}
 use Rattle.base.specs.declared.event.Act.{Act}
 use Rattle.base.specs.declared.event.Act.TheVariants as act
-use Rattle.syntax_tree.specs.Plain.{Prog}
+use Rattle.syntax_tree.specs.Plain.{Program}
 use Rattle.source_semantics.specs.Names.{processes}
 use Rattle.source_semantics.specs.Config.{Config, Job, start}
 use Rattle.source_semantics.specs.Starts.{Script, due, NoneMissing}
@@ -18,19 +18,19 @@ abbrev pub chosen : Event → List Event → Choice
 chosen e [] = acts_at e.tick e.proc
 chosen e (d ∷ ds) = begins e.tick
 
-abbrev pub replay : Prog → Script → Config → List Event → Option (List Event)
+abbrev pub replay : Program → Script → Config → List Event → Option (List Event)
 replay g s c [] = cond (none_from g s c c.tick (s.end_tick - c.tick)) (Some []) None
 replay g s c (e ∷ es) =
     let x : Choice = chosen e (due g s c e.tick) in
     let p : Played = played g s c x in
     continued (p.allowed && in_time g s c (tick_of x)) p.event (replay g s p.config es)
 
-none_is : (g : Prog) (s : Script) (c : Config) (n u : ℕ) → ((v : ℕ) → u ≤ v → v < u + n → due g s c v ≡ []) → none_from g s c u n ≡ true
+none_is : (g : Program) (s : Script) (c : Config) (n u : ℕ) → ((v : ℕ) → u ≤ v → v < u + n → due g s c v ≡ []) → none_from g s c u n ≡ true
 none_is g s c zero u none = refl
 none_is g s c (suc n) u none =
     ap (λ l. empty l && none_from g s c (suc u) n) (none u (omega arith) (omega arith)) ∙ none_is g s c n (suc u) (λ v low high. none v (omega arith) (omega arith))
 
-timely : (g : Prog) (s : Script) (c : Config) (t : ℕ) → t < s.end_tick → c.tick ≤ t → NoneMissing g s c t → in_time g s c t ≡ true
+timely : (g : Program) (s : Script) (c : Config) (t : ℕ) → t < s.end_tick → c.tick ≤ t → NoneMissing g s c t → in_time g s c t ≡ true
 timely g s c t below reached none =
     let a : nat_lt t s.end_tick ≡ true = grind (arith, nat_tests) in
     let b : nat_le c.tick t ≡ true = grind (arith, nat_tests) in
@@ -52,13 +52,13 @@ can (act.Raise n) j h = refl
 can act.End j h = refl
 
 -- what the choice of an allowed event comes to
-record Replayed (g : Prog) (s : Script) (c : Config) (e : Event) (new : Config) : Type 0 where
+record Replayed (g : Program) (s : Script) (c : Config) (e : Event) (new : Config) : Type 0 where
   tick : tick_of (chosen e (due g s c e.tick)) ≡ e.tick
   allowed : (played g s c (chosen e (due g s c e.tick))).allowed ≡ true
   event : (played g s c (chosen e (due g s c e.tick))).event ≡ e
   config : (played g s c (chosen e (due g s c e.tick))).config ≡ new
 
-start_replayed : (g : Prog) (s : Script) (c : Config) (e : Event) (new : Config) → Starts g s c e new → Replayed g s c e new
+start_replayed : (g : Program) (s : Script) (c : Config) (e : Event) (new : Config) → Starts g s c e new → Replayed g s c e new
 start_replayed g s c e new h =
     let as_begins : chosen e (due g s c e.tick) ≡ begins e.tick = ap (chosen e) h.first in
     let ok : nat_eq e.tick e.tick && can_start e.act (slice_get c.jobs e.proc) ≡ true = rw (itself e.tick, can e.act (slice_get c.jobs e.proc) h.may_start) refl in
@@ -69,7 +69,7 @@ start_replayed g s c e new h =
       config = ap (λ x. (played g s c x).config) as_begins ∙ (ap (λ l. (played_start g s c e.tick l).config) h.first ∙ sym h.after);
     }
 
-act_replayed : (g : Prog) (s : Script) (c : Config) (e : Event) (new : Config) → Acts g s c e new → Replayed g s c e new
+act_replayed : (g : Program) (s : Script) (c : Config) (e : Event) (new : Config) → Acts g s c e new → Replayed g s c e new
 act_replayed g s c e new h =
     let as_act : chosen e (due g s c e.tick) ≡ acts_at e.tick e.proc = ap (chosen e) h.none_due in
     let found : played_act g s c e.tick e.proc (slice_get (processes g) e.proc) (slice_get c.jobs e.proc) ≡ played_next g s c e.tick e.proc h.job (job_next c e.proc h.process h.job g) =
@@ -88,10 +88,10 @@ act_replayed g s c e new h =
       config = ap (λ x. (played g s c x).config) as_act ∙ (ap (λ p. p.config) found ∙ sym h.after);
     }
 
-replayed : (g : Prog) (s : Script) (c : Config) (e : Event) (new : Config) → Step g s c e new → Replayed g s c e new
+replayed : (g : Program) (s : Script) (c : Config) (e : Event) (new : Config) → Step g s c e new → Replayed g s c e new
 replayed g s c e new h = elim h.comes [ inl a ↦ start_replayed g s c e new a | inr a ↦ act_replayed g s c e new a ]
 
-pub complete : (g : Prog) (s : Script) (es : List Event) (c : Config) → RunFrom g s c es → replay g s c es ≡ Some es
+pub complete : (g : Program) (s : Script) (es : List Event) (c : Config) → RunFrom g s c es → replay g s c es ≡ Some es
 complete g s [] c h = ap (λ b. cond b (Some []) None) (none_is g s c (s.end_tick - c.tick) c.tick (λ v low high. h v low (omega arith)))
 complete g s (e ∷ es) c h =
     let x : Choice = chosen e (due g s c e.tick) in
@@ -104,9 +104,9 @@ complete g s (e ∷ es) c h =
     ∙ ap (continued true e) (complete g s es h.0 h.2))))
 
 -- Where the events cannot be played, they are no run.
-pub no_run : (g : Prog) (s : Script) (es : List Event) → replay g s (start g) es ≡ None → IsSourceRun g s es → ⊥
+pub no_run : (g : Program) (s : Script) (es : List Event) → replay g s (start g) es ≡ None → IsSourceRun g s es → ⊥
 no_run g s es none h = let e : replay g s (start g) es ≡ Some es = complete g s es (start g) h in absurd cc
 
 -- Where other events are played in their place, they are no run either.
-pub other_run : (g : Prog) (s : Script) (es others : List Event) → replay g s (start g) es ≡ Some others → (others ≡ es → ⊥) → IsSourceRun g s es → ⊥
+pub other_run : (g : Program) (s : Script) (es others : List Event) → replay g s (start g) es ≡ Some others → (others ≡ es → ⊥) → IsSourceRun g s es → ⊥
 other_run g s es others is differ h = let e : replay g s (start g) es ≡ Some es = complete g s es (start g) h in differ cc

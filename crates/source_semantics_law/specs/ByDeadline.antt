@@ -3,12 +3,12 @@
 use Rattle.std.specs.Prelude.{List, None, Some, [], codes, false, pos, true, ◌∷◌}
 use Rattle.base.specs.declared.event.Event.{Event}
 use Rattle.base.specs.declared.event.Act.TheVariants as act
-use Rattle.syntax_tree.specs.Plain.{Prog, device, literal, literal_constant, no_stmts, periodic, process, put, stmts}
+use Rattle.syntax_tree.specs.Plain.{Program, device, literal, literal_constant, no_stmts, periodic, process, put, stmts}
 use Rattle.source_semantics.specs.Starts.{Script}
 use Rattle.source_semantics_law.specs.Example.{at}
 
 -- p has the shorter frame, q the shorter deadline
-abbrev pub by_deadline : Prog
+abbrev pub by_deadline : Program
 by_deadline = record {
   name = codes "a";
   decls =

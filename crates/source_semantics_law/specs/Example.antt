@@ -3,14 +3,14 @@ use Rattle.std.specs.Prelude.{List, None, Some, [], codes, false, negsuc, pos, t
 use Rattle.base.specs.declared.event.Event.{Event}
 use Rattle.base.specs.declared.event.Act.{Act}
 use Rattle.base.specs.declared.event.Act.TheVariants as act
-use Rattle.syntax_tree.specs.Plain.{Prog, add, and, array, assert, assign, assign_empty, assign_entry, at_event, boolean, broadcast, call, condition_member, constant, device, div, element, equal, event, except, exit_when, exprs, get, greater, int, less, literal, literal_constant, loop, minus, monitor, mul, named_constant, negation, no_exprs, no_operands, no_stmts, operand, paren, part, perform, perform_entry, periodic, process, put, routine, row, scalar, signal, stmts, sub, subrange, truth, variable, variable_member, wait, when, whole}
+use Rattle.syntax_tree.specs.Plain.{Program, add, and, array, assert, assign, assign_empty, assign_entry, at_event, boolean, broadcast, call, condition_member, constant, device, div, element, equal, event, except, exit_when, exprs, get, greater, int, less, literal, literal_constant, loop, minus, monitor, mul, named_constant, negation, no_exprs, no_operands, no_stmts, operand, paren, part, perform, perform_entry, periodic, process, put, routine, row, scalar, signal, stmts, sub, subrange, truth, variable, variable_member, wait, when, whole}
 use Rattle.source_semantics.specs.Starts.{Script, occurs, sets}
 
 abbrev pub at : ℕ → ℕ → Act → Event
 at t k a = record { tick = t; proc = k; act = a }
 
 -- one process that puts
-abbrev pub one_put : Prog
+abbrev pub one_put : Program
 one_put = record {
   name = codes "a";
   decls =
@@ -30,7 +30,7 @@ one_put_log =
     ∷ []
 
 -- three processes, of which two enter a monitor, with first activations
-abbrev pub three_ranks : Prog
+abbrev pub three_ranks : Program
 three_ranks = record {
   name = codes "c";
   decls =
@@ -61,7 +61,7 @@ three_ranks_log =
     ∷ []
 
 -- a wait that is signalled at its last tick
-abbrev pub signalled_wait : Prog
+abbrev pub signalled_wait : Program
 signalled_wait = record {
   name = codes "d";
   decls =
@@ -91,7 +91,7 @@ signalled_wait_log =
     ∷ []
 
 -- the same wait, signalled too late
-abbrev pub late_signal : Prog
+abbrev pub late_signal : Program
 late_signal = record {
   name = codes "d";
   decls =
@@ -121,7 +121,7 @@ late_signal_log =
     ∷ []
 
 -- an exception inside a monitor, which nobody handles
-abbrev pub raise_inside : Prog
+abbrev pub raise_inside : Program
 raise_inside = record {
   name = codes "a";
   decls =
@@ -147,7 +147,7 @@ raise_inside_log =
     ∷ []
 
 -- a value outside its subrange, and its handler
-abbrev pub handled_range : Prog
+abbrev pub handled_range : Program
 handled_range = record {
   name = codes "b";
   decls =
@@ -168,7 +168,7 @@ handled_range_log =
     ∷ []
 
 -- a sum that is no word
-abbrev pub overflow : Prog
+abbrev pub overflow : Program
 overflow = record {
   name = codes "a";
   decls =
@@ -187,7 +187,7 @@ overflow_log =
     ∷ []
 
 -- a quotient that is no word
-abbrev pub least_word : Prog
+abbrev pub least_word : Program
 least_word = record {
   name = codes "a";
   decls =
@@ -206,7 +206,7 @@ least_word_log =
     ∷ []
 
 -- a process that events release
-abbrev pub by_event : Prog
+abbrev pub by_event : Program
 by_event = record {
   name = codes "a";
   decls =
@@ -231,7 +231,7 @@ by_event_log =
 
 -- a function with a loop and an exit, a procedure that acts inside a loop, an array, a constant and
 -- an assertion
-abbrev pub loop_and_function : Prog
+abbrev pub loop_and_function : Program
 loop_and_function = record {
   name = codes "f";
   decls =
@@ -262,7 +262,7 @@ loop_and_function_log =
     ∷ []
 
 -- the mine pump control
-abbrev pub mine : Prog
+abbrev pub mine : Program
 mine = record {
   name = codes "mine";
   decls =
@@ -304,7 +304,7 @@ mine_log =
     ∷ []
 
 -- a wait of a hundred and fifty ticks beside two users of another monitor
-abbrev pub long_wait : Prog
+abbrev pub long_wait : Program
 long_wait = record {
   name = codes "g";
   decls =
@@ -356,7 +356,7 @@ long_wait_log =
     ∷ []
 
 -- the mine pump control with an event, low air, and a fetch that is woken by a store
-abbrev pub mine_woken : Prog
+abbrev pub mine_woken : Program
 mine_woken = record {
   name = codes "mine";
   decls =
@@ -419,7 +419,7 @@ mine_woken_log =
     ∷ []
 
 -- two waits in one queue, signalled in turn, and a loop with an exit around entry calls
-abbrev pub two_waiters : Prog
+abbrev pub two_waiters : Program
 two_waiters = record {
   name = codes "w";
   decls =

@@ -4,5 +4,5 @@
 //! depend on the depth of calls. Each worked log of `logs` is a run of its program, or is none.
 #![tactic(auto)]
 
+pub mod determinism;
 pub mod logs;
-pub mod source_laws;

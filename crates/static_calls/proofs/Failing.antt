@@ -7,7 +7,7 @@ use Rattle.std.proofs.lemmas.Bool.{or_cases}
 use Rattle.base.proofs.Members.{front_or_behind, behind}
 use Rattle.syntax_tree.specs.Placed.{Routine, Handler, Process, Prog}
 use Rattle.syntax_tree.specs.declared.place.Place.{Place}
-use Rattle.static_rule.specs.declared.broken.Broken.{Broken}
+use Rattle.static_rule.specs.declared.violation.Violation.{Violation}
 use Rattle.static_rule.specs.First.{IsFirstOf, Either, sooner}
 use Rattle.static_rule.specs.Parts.{FailsAmong, noted}
 use Rattle.static_rule.proofs.Soonest.{both, same, noted-is-first}
@@ -126,13 +126,13 @@ module _ (g : Prog Place) (calls : Graph) (made : HasEdges calls (edges_of (decl
     fails-either m p (inr w) = inr (one-among (processes g.decls) m p (handler-from m p w.0 w.1))
 
     -- the sooner of the first failures of each rule is the first
-    pub first-fails : (round : Option Broken) → IsFirstOf (OneComesBack keys calls (routines g.decls)) round → IsFirstOf (ReachFails g) (sooner round (noted (handler_rule (declared_in g) keys marks ∷ []) None (processes g.decls)))
+    pub first-fails : (round : Option Violation) → IsFirstOf (OneComesBack keys calls (routines g.decls)) round → IsFirstOf (ReachFails g) (sooner round (noted (handler_rule (declared_in g) keys marks ∷ []) None (processes g.decls)))
     first-fails round h =
         same (Either (OneComesBack keys calls (routines g.decls)) (FailsAmong (handler_rule (declared_in g) keys marks ∷ []) (processes g.decls))) (ReachFails g) (sooner round (noted (handler_rule (declared_in g) keys marks ∷ []) None (processes g.decls))) either-fails fails-either
         (both (OneComesBack keys calls (routines g.decls)) (FailsAmong (handler_rule (declared_in g) keys marks ∷ []) (processes g.decls)) round (noted (handler_rule (declared_in g) keys marks ∷ []) None (processes g.decls)) h (noted-is-first (handler_rule (declared_in g) keys marks ∷ []) (processes g.decls)))
 
 -- what the tables of a program give is its first failure
-pub first-of-tables : (g : Prog Place) (rs : List (Routine Place)) (ps : List (Process Place)) (ks : List Key) (calls cycles : Graph) (marks : List Bool) (round waiting : Option Broken)
+pub first-of-tables : (g : Prog Place) (rs : List (Routine Place)) (ps : List (Process Place)) (ks : List Key) (calls cycles : Graph) (marks : List Bool) (round waiting : Option Violation)
     → rs ≡ routines g.decls → ps ≡ processes g.decls → ks ≡ places rs
     → HasEdges calls (edges_of (declared_in g) ks rs [])
     → ((n : ℕ) → (marked marks n ≡ true → ReachesOne calls (waiters ks rs []) n) × (ReachesOne calls (waiters ks rs []) n → marked marks n ≡ true))

@@ -4,7 +4,7 @@ use Rattle.std.specs.Prelude.{Contains}
 use Rattle.std.proofs.lemmas.List.Elements.{Contains-append_left, Contains-append_right, Contains-push_cases}
 use Rattle.syntax_tree.specs.Placed.{Routine}
 use Rattle.syntax_tree.specs.declared.place.Place.{Place}
-use Rattle.static_rule.specs.declared.broken.Broken.{Broken}
+use Rattle.static_rule.specs.declared.violation.Violation.{Violation}
 use Rattle.static_rule.specs.First.{Before, IsFirst, IsFirstOf, Either, comes_before, sooner}
 use Rattle.static_rule.proofs.Soonest.{both, same}
 use Rattle.static_names.specs.Findings.{Key}
@@ -12,7 +12,7 @@ use Rattle.static_calls.specs.Graph.{Graph}
 use Rattle.static_calls.specs.Tables.{ComesBack, OneComesBack}
 
 -- the sooner of two failures is one of them
-pub sooner-cases : (b : Broken) (first : Option Broken) → (sooner (Some b) first ≡ Some b) ⊎ (sooner (Some b) first ≡ first)
+pub sooner-cases : (b : Violation) (first : Option Violation) → (sooner (Some b) first ≡ Some b) ⊎ (sooner (Some b) first ≡ first)
 sooner-cases b None = inl refl
 sooner-cases b (Some c) = by (comes_before b c)
   where
@@ -21,7 +21,7 @@ sooner-cases b (Some c) = by (comes_before b c)
     by false = inr refl
 
 module _ (keys : List Key) (g : Graph) (rs : List (Routine Place)) (r : Routine Place) where
-  abbrev pub broken : Broken
+  abbrev pub broken : Violation
   broken = record { number = 31; place = r.place }
 
   to : (m : ℕ) (p : Place) → Either (OneComesBack keys g (r ∷ [])) (OneComesBack keys g rs) m p → OneComesBack keys g (rs ++ r ∷ []) m p
@@ -60,17 +60,17 @@ module _ (keys : List Key) (g : Graph) (rs : List (Routine Place)) (r : Routine 
           by (inr (inl left)) = let e : r.place.col ≡ p.col = ap (λ (q : Place). q.col) there in let l = left.1 in omega arith
           by (inr (inr less)) = let e = o.is_rule in let l = less.1 in omega arith
 
-  beside : (first : Option Broken) → ComesBack keys g r → IsFirstOf (OneComesBack keys g rs) first → IsFirstOf (Either (OneComesBack keys g (r ∷ [])) (OneComesBack keys g rs)) (sooner (Some broken) first)
+  beside : (first : Option Violation) → ComesBack keys g r → IsFirstOf (OneComesBack keys g rs) first → IsFirstOf (Either (OneComesBack keys g (r ∷ [])) (OneComesBack keys g rs)) (sooner (Some broken) first)
   beside first back h = both (OneComesBack keys g (r ∷ [])) (OneComesBack keys g rs) (Some broken) first (last-first back) h
 
   -- one more comes back, and first
-  pub one-more : (first : Option Broken) → ComesBack keys g r → sooner (Some broken) first ≡ Some broken → IsFirstOf (OneComesBack keys g rs) first → IsFirstOf (OneComesBack keys g (rs ++ r ∷ [])) (Some broken)
+  pub one-more : (first : Option Violation) → ComesBack keys g r → sooner (Some broken) first ≡ Some broken → IsFirstOf (OneComesBack keys g rs) first → IsFirstOf (OneComesBack keys g (rs ++ r ∷ [])) (Some broken)
   one-more first comes e h =
       same (Either (OneComesBack keys g (r ∷ [])) (OneComesBack keys g rs)) (OneComesBack keys g (rs ++ r ∷ [])) (Some broken) to back
       (subst (IsFirstOf (Either (OneComesBack keys g (r ∷ [])) (OneComesBack keys g rs))) e (beside first comes h))
 
   -- one more does not come back
-  pub none-more : (first : Option Broken) → ¬ ComesBack keys g r → IsFirstOf (OneComesBack keys g rs) first → IsFirstOf (OneComesBack keys g (rs ++ r ∷ [])) first
+  pub none-more : (first : Option Violation) → ¬ ComesBack keys g r → IsFirstOf (OneComesBack keys g rs) first → IsFirstOf (OneComesBack keys g (rs ++ r ∷ [])) first
   none-more first never h = same (OneComesBack keys g rs) (OneComesBack keys g (rs ++ r ∷ [])) first (λ m p o. to m p (inr o)) (λ m p o. by m p (back m p o)) h
     where
       by : (m : ℕ) (p : Place) → Either (OneComesBack keys g (r ∷ [])) (OneComesBack keys g rs) m p → OneComesBack keys g rs m p
@@ -78,7 +78,7 @@ module _ (keys : List Key) (g : Graph) (rs : List (Routine Place)) (r : Routine 
       by m p (inr before) = before
 
   -- whether one more comes back or not, it is not the first
-  pub later-more : (first : Option Broken) → sooner (Some broken) first ≡ first → IsFirstOf (OneComesBack keys g rs) first → IsFirstOf (OneComesBack keys g (rs ++ r ∷ [])) first
+  pub later-more : (first : Option Violation) → sooner (Some broken) first ≡ first → IsFirstOf (OneComesBack keys g rs) first → IsFirstOf (OneComesBack keys g (rs ++ r ∷ [])) first
   later-more None e h = absurd (cc)
   later-more (Some c) e h = record { broken = to c.number c.place (inr h.broken); none_before = λ m p o. by m p (back m p o) }
     where
@@ -89,7 +89,7 @@ module _ (keys : List Key) (g : Graph) (rs : List (Routine Place)) (r : Routine 
       by m p (inr before) = h.none_before m p before
 
   -- it is not the first, if it comes back
-  pub not-first-more : (first : Option Broken) → ¬ (sooner (Some broken) first ≡ Some broken) → IsFirstOf (OneComesBack keys g rs) first → IsFirstOf (OneComesBack keys g (rs ++ r ∷ [])) first
+  pub not-first-more : (first : Option Violation) → ¬ (sooner (Some broken) first ≡ Some broken) → IsFirstOf (OneComesBack keys g rs) first → IsFirstOf (OneComesBack keys g (rs ++ r ∷ [])) first
   not-first-more first later h = by (sooner-cases broken first)
     where
       by : (sooner (Some broken) first ≡ Some broken) ⊎ (sooner (Some broken) first ≡ first) → IsFirstOf (OneComesBack keys g (rs ++ r ∷ [])) first

@@ -6,7 +6,7 @@ use Rattle.indexmap.specs.IndexSet.{insert_all}
 use Rattle.syntax_tree.specs.Placed.{Stmts, Routine, placed_routine, Handler, Process, placed_process, Prog}
 use Rattle.syntax_tree.specs.declared.place.Place.{Place}
 use Rattle.syntax_tree.specs.declared.decl.Routine as code_routine
-use Rattle.syntax_tree.specs.declared.decl.Proc as code_process
+use Rattle.syntax_tree.specs.declared.decl.Process as code_process
 use Rattle.static_names.specs.Occurrences.{names, declared_at}
 use Rattle.static_names.specs.Findings.{Key, same_key, key_of}
 use Rattle.static_rule.specs.Parts.{Rule}
@@ -21,7 +21,7 @@ declared_in g = declared_at (names g)
 abbrev pub seen_routines : List (Bor code_routine.Routine) → List (Routine Place)
 seen_routines rs = map (λ r. placed_routine r.now) rs
 
-abbrev pub seen_processes : List (Bor code_process.Proc) → List (Process Place)
+abbrev pub seen_processes : List (Bor code_process.Process) → List (Process Place)
 seen_processes ps = map (λ p. placed_process p.now) ps
 
 -- the places of the routines, each once

@@ -8,15 +8,15 @@ ghost use Rattle.static_calls.specs.Tables.{declared_in, seen_processes, is_mark
 
 use crate::calls::calls_of;
 use crate::is_marked;
-use crate::numbers::{Numbers, number};
+use crate::numbers::{RoutineIndex, number};
 use crate::waits::stmts_wait;
 use static_declarations::Declarations;
-use static_rule::{Broken, blame, rule};
+use static_rule::{Violation, blame, rule};
 use std::alloc::{AllocError, Global};
-use syntax_tree::{Handler, Place, Proc, Stmt};
+use syntax_tree::{Handler, Place, Process, Stmt};
 
 /// Whether the routines whose names stand at a place are marked.
-fn is_marked_at(numbers: &Numbers, marks: &[bool], place: Place) -> bool
+fn is_marked_at(numbers: &RoutineIndex, marks: &[bool], place: Place) -> bool
     ensures { result ≡ is_marked_place numbers.now.keys marks.now place }
 {
     match number(numbers, place) {
@@ -26,7 +26,7 @@ fn is_marked_at(numbers: &Numbers, marks: &[bool], place: Place) -> bool
 }
 
 /// Whether one of the routines is marked.
-fn any_marked(numbers: &Numbers, marks: &[bool], calls: &[Place]) -> bool
+fn any_marked(numbers: &RoutineIndex, marks: &[bool], calls: &[Place]) -> bool
     ensures { result ≡ list_any (is_marked_place numbers.now.keys marks.now) calls.now }
 {
     calls
@@ -38,7 +38,7 @@ fn any_marked(numbers: &Numbers, marks: &[bool], calls: &[Place]) -> bool
 fn come_to_wait(
     alloc: Global,
     declarations: &Declarations<'_>,
-    numbers: &Numbers,
+    numbers: &RoutineIndex,
     marks: &[bool],
     list: &[Stmt],
 ) -> Result<bool, AllocError>
@@ -57,7 +57,7 @@ fn come_to_wait(
 fn handler_fault(
     alloc: Global,
     declarations: &Declarations<'_>,
-    numbers: &Numbers,
+    numbers: &RoutineIndex,
     marks: &[bool],
     place: Place,
     handler: &Option<Handler>,
@@ -80,10 +80,10 @@ fn handler_fault(
 pub fn first_waiting(
     alloc: Global,
     declarations: &Declarations<'_>,
-    numbers: &Numbers,
+    numbers: &RoutineIndex,
     marks: &[bool],
-    processes: &[&Proc],
-) -> Result<Option<Broken>, AllocError>
+    processes: &[&Process],
+) -> Result<Option<Violation>, AllocError>
     ensures { IfOk result (λ first. first ≡ noted
         (handler_rule (declared_in (placed declarations.now)) numbers.now.keys marks.now ∷ []) None
         (seen_processes processes.now)) }

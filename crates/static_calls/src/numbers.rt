@@ -14,10 +14,10 @@ use std::alloc::{AllocError, Global};
 use syntax_tree::{Place, Routine};
 
 /// Places of routines, each by line and column. The number of a routine is its index.
-pub type Numbers = IndexSet<(u32, u32)>;
+pub type RoutineIndex = IndexSet<(u32, u32)>;
 
 /// Gives the routines whose names stand at a place a number, unless they have one.
-fn add(numbers: &mut Numbers, place: Place) -> Result<(), AllocError>
+fn add(numbers: &mut RoutineIndex, place: Place) -> Result<(), AllocError>
     ensures { OnOk result (numbers.new.keys ≡ insert_key same_key numbers.old.keys (key_of place)) }
 {
     numbers.insert((place.line, place.col))?;
@@ -25,10 +25,10 @@ fn add(numbers: &mut Numbers, place: Place) -> Result<(), AllocError>
 }
 
 /// Gives each routine a number; routines of one place have one number.
-pub fn numbers(alloc: Global, routines: &[&Routine]) -> Result<Numbers, AllocError>
+pub fn numbers(alloc: Global, routines: &[&Routine]) -> Result<RoutineIndex, AllocError>
     ensures { IfOk result (λ numbers. numbers.keys ≡ places (seen_routines routines.now)) }
 {
-    let mut numbers = Numbers::new(alloc);
+    let mut numbers = RoutineIndex::new(alloc);
     for routine in routines {
         add(&mut numbers, routine.place)?;
     }
@@ -36,7 +36,7 @@ pub fn numbers(alloc: Global, routines: &[&Routine]) -> Result<Numbers, AllocErr
 }
 
 /// The number of the routines whose names stand at a place.
-pub fn number(numbers: &Numbers, place: Place) -> Option<usize>
+pub fn number(numbers: &RoutineIndex, place: Place) -> Option<usize>
     ensures number { result ≡ number_of numbers.now.keys place }
     ensures within { IfSome result (λ n. n < length numbers.now.keys) }
 {
@@ -46,7 +46,7 @@ pub fn number(numbers: &Numbers, place: Place) -> Option<usize>
 /// Adds the edge from a number to that of a callee, if it has one.
 fn add_edge(
     edges: &mut Vec<(usize, usize)>,
-    numbers: &Numbers,
+    numbers: &RoutineIndex,
     from: usize,
     callee: Place,
 ) -> Result<(), AllocError>
@@ -62,7 +62,7 @@ fn add_edge(
 /// Adds the edges from a number to those of the callees.
 fn add_edges(
     edges: &mut Vec<(usize, usize)>,
-    numbers: &Numbers,
+    numbers: &RoutineIndex,
     from: usize,
     calls: &[Place],
 ) -> Result<(), AllocError>
@@ -80,7 +80,7 @@ fn add_routine(
     alloc: Global,
     edges: &mut Vec<(usize, usize)>,
     declarations: &Declarations<'_>,
-    numbers: &Numbers,
+    numbers: &RoutineIndex,
     routine: &Routine,
 ) -> Result<(), AllocError>
     ensures { OnOk result ((more : List (ℕ × ℕ)) → edges.new.items ++ more ≡ edges.old.items ++
@@ -98,7 +98,7 @@ fn add_routine(
 pub fn edges(
     alloc: Global,
     declarations: &Declarations<'_>,
-    numbers: &Numbers,
+    numbers: &RoutineIndex,
     routines: &[&Routine],
 ) -> Result<Vec<(usize, usize)>, AllocError>
     ensures { IfOk result (λ edges. edges.items ≡
@@ -115,7 +115,7 @@ pub fn edges(
 /// The numbers of the routines that wait.
 pub fn waiters(
     alloc: Global,
-    numbers: &Numbers,
+    numbers: &RoutineIndex,
     routines: &[&Routine],
 ) -> Result<Vec<usize>, AllocError>
     ensures { IfOk result (λ waiters. waiters.items ≡

@@ -7,15 +7,15 @@ ghost use Rattle.static_rule.specs.First.{IsFirstOf, sooner as sooner_of};
 ghost use Rattle.static_calls.specs.Tables.{seen_routines, ComesBack, OneComesBack};
 
 use crate::Cycles;
-use crate::numbers::{Numbers, number};
-use static_rule::{Broken, rule, sooner};
+use crate::numbers::{RoutineIndex, number};
+use static_rule::{Violation, rule, sooner};
 use std::alloc::{AllocError, Global};
 use syntax_tree::Routine;
 
 /// Whether a routine reaches itself.
 fn comes_back(
     alloc: Global,
-    numbers: &Numbers,
+    numbers: &RoutineIndex,
     cycles: &Cycles,
     routine: &Routine,
 ) -> Result<bool, AllocError>
@@ -30,7 +30,7 @@ fn comes_back(
 }
 
 /// Whether a failure comes first, beside one that is known.
-fn comes_first(broken: Broken, first: Option<Broken>) -> bool
+fn comes_first(broken: Violation, first: Option<Violation>) -> bool
     ensures { IsTrue result ↔ (sooner_of (Some broken) first ≡ Some broken) }
 {
     sooner(Some(broken), first) == Some(broken)
@@ -40,18 +40,18 @@ fn comes_first(broken: Broken, first: Option<Broken>) -> bool
 /// whose place comes later than that of the first is not asked.
 fn next_round(
     alloc: Global,
-    numbers: &Numbers,
+    numbers: &RoutineIndex,
     cycles: &Cycles,
-    first: Option<Broken>,
+    first: Option<Violation>,
     routine: &Routine,
-) -> Result<Option<Broken>, AllocError>
+) -> Result<Option<Violation>, AllocError>
     requires { length cycles.now ≡ length numbers.now.keys }
     ensures { IfOk result (λ next. (rs : List (SpecRoutine SpecPlace)) →
         IsFirstOf (OneComesBack numbers.now.keys cycles.now rs) first →
         IsFirstOf (OneComesBack numbers.now.keys cycles.now (rs ++ placed_routine routine.now ∷ []))
         next) }
 {
-    let broken = Broken {
+    let broken = Violation {
         number: rule::RECURSION,
         place: routine.place,
     };
@@ -68,10 +68,10 @@ fn next_round(
 /// The first routine that reaches itself.
 pub fn first_round(
     alloc: Global,
-    numbers: &Numbers,
+    numbers: &RoutineIndex,
     cycles: &Cycles,
     routines: &[&Routine],
-) -> Result<Option<Broken>, AllocError>
+) -> Result<Option<Violation>, AllocError>
     requires { length cycles.now ≡ length numbers.now.keys }
     ensures { IfOk result (λ first. IsFirstOf
         (OneComesBack numbers.now.keys cycles.now (seen_routines routines.now)) first) }

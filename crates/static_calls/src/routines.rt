@@ -7,7 +7,7 @@ ghost use Rattle.syntax_tree.specs.Parts.{routines as routines_of, processes as 
 ghost use Rattle.static_calls.specs.Tables.{seen_routines, seen_processes};
 
 use std::alloc::{AllocError, Global};
-use syntax_tree::{Decl, Proc, Routine};
+use syntax_tree::{Declaration, Process, Routine};
 
 /// Lists routines behind those before.
 fn list_all<'a>(list: &mut Vec<&'a Routine>, routines: &'a [Routine]) -> Result<(), AllocError>
@@ -21,22 +21,24 @@ fn list_all<'a>(list: &mut Vec<&'a Routine>, routines: &'a [Routine]) -> Result<
 }
 
 /// Lists the routines of a declaration.
-fn list_decl<'a>(list: &mut Vec<&'a Routine>, decl: &'a Decl) -> Result<(), AllocError>
+fn list_decl<'a>(list: &mut Vec<&'a Routine>, decl: &'a Declaration) -> Result<(), AllocError>
     ensures { OnOk result ((rest : List (SpecDecl SpecPlace)) → seen_routines list.new.items ++
         routines_of rest ≡ seen_routines list.old.items ++
         routines_of (placed_decl decl.now ∷ rest)) }
 {
     match decl {
-        Decl::Const { .. } | Decl::Device { .. } | Decl::Event { .. } => Ok(()),
-        Decl::Routine(routine) => {
+        Declaration::Const { .. } | Declaration::Device { .. } | Declaration::Event { .. } => Ok(
+            (),
+        ),
+        Declaration::Routine(routine) => {
             list.push(routine)?;
             Ok(())
         }
-        Decl::Mon(monitor) => {
+        Declaration::Monitor(monitor) => {
             list_all(list, monitor.entries.as_slice())?;
             Ok(())
         }
-        Decl::Proc(process) => {
+        Declaration::Process(process) => {
             list_all(list, process.routines.as_slice())?;
             Ok(())
         }
@@ -44,7 +46,7 @@ fn list_decl<'a>(list: &mut Vec<&'a Routine>, decl: &'a Decl) -> Result<(), Allo
 }
 
 /// All routines and entries, in the order of the text.
-pub fn routines<'a>(alloc: Global, decls: &'a [Decl]) -> Result<Vec<&'a Routine>, AllocError>
+pub fn routines<'a>(alloc: Global, decls: &'a [Declaration]) -> Result<Vec<&'a Routine>, AllocError>
     ensures { IfOk result (λ list. seen_routines list.items ≡
         routines_of (map placed_decl decls.now)) }
 {
@@ -56,19 +58,22 @@ pub fn routines<'a>(alloc: Global, decls: &'a [Decl]) -> Result<Vec<&'a Routine>
 }
 
 /// Lists the process that a declaration declares, if it does.
-fn list_process<'a>(list: &mut Vec<&'a Proc>, decl: &'a Decl) -> Result<(), AllocError>
+fn list_process<'a>(list: &mut Vec<&'a Process>, decl: &'a Declaration) -> Result<(), AllocError>
     ensures { OnOk result ((rest : List (SpecDecl SpecPlace)) → seen_processes list.new.items ++
         processes_of rest ≡ seen_processes list.old.items ++
         processes_of (placed_decl decl.now ∷ rest)) }
 {
-    if let Decl::Proc(process) = decl {
+    if let Declaration::Process(process) = decl {
         list.push(process)?;
     }
     Ok(())
 }
 
 /// All processes, in the order of the text.
-pub fn processes<'a>(alloc: Global, decls: &'a [Decl]) -> Result<Vec<&'a Proc>, AllocError>
+pub fn processes<'a>(
+    alloc: Global,
+    decls: &'a [Declaration],
+) -> Result<Vec<&'a Process>, AllocError>
     ensures { IfOk result (λ list. seen_processes list.items ≡
         processes_of (map placed_decl decls.now)) }
 {

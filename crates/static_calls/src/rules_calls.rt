@@ -16,7 +16,7 @@ use crate::rounds::first_round;
 use crate::routines::{processes, routines};
 use crate::rules_calls_graph::{call_graph, coming_to_wait};
 use static_declarations::Declarations;
-use static_rule::{Broken, sooner};
+use static_rule::{Violation, sooner};
 use std::alloc::{AllocError, Global};
 
 /// The first failure of the rules 31 and 35: a routine reaches itself by calls, at its name; a
@@ -24,7 +24,7 @@ use std::alloc::{AllocError, Global};
 pub fn first_broken(
     alloc: Global,
     declarations: &Declarations<'_>,
-) -> Result<Option<Broken>, AllocError>
+) -> Result<Option<Violation>, AllocError>
     ensures { IfOk result (λ first. IsFirstOf (ReachFails (placed declarations.now)) first) }
 {
     let decls = declarations.program().decls.as_slice();

@@ -6,7 +6,7 @@ ghost use Rattle.static_calls.specs.Graph.{HasEdges, ReachesOne, marked};
 ghost use Rattle.static_calls.specs.Tables.{declared_in, seen_routines, edges_of, waiters as waiters_of};
 
 use crate::Graph;
-use crate::numbers::{Numbers, edges, waiters};
+use crate::numbers::{RoutineIndex, edges, waiters};
 use static_declarations::Declarations;
 use std::alloc::{AllocError, Global};
 use syntax_tree::Routine;
@@ -15,7 +15,7 @@ use syntax_tree::Routine;
 pub fn call_graph(
     alloc: Global,
     declarations: &Declarations<'_>,
-    numbers: &Numbers,
+    numbers: &RoutineIndex,
     routines: &[&Routine],
 ) -> Result<Graph, AllocError>
     ensures size { IfOk result (λ g. length g ≡ length numbers.now.keys) }
@@ -32,7 +32,7 @@ pub fn call_graph(
 pub fn coming_to_wait(
     alloc: Global,
     graph: &Graph,
-    numbers: &Numbers,
+    numbers: &RoutineIndex,
     routines: &[&Routine],
 ) -> Result<Vec<bool>, AllocError>
     requires { length graph.now ≡ length numbers.now.keys }

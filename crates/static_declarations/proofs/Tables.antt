@@ -4,7 +4,7 @@ use Rattle.std.specs.Prelude.{ℤ, pos, option_map, unwrap_or, find, bytes_eq}
 use Rattle.std.specs.Borrow.{Bor}
 use Rattle.std.specs.Map.{lookup}
 use Rattle.std.proofs.lemmas.Cmp.{nat_list_eq_equiv}
-use Rattle.syntax_tree.specs.Plain.{Name, Constant, literal_constant, named_constant, Decl, constant, device, event, routine, monitor, process, Prog}
+use Rattle.syntax_tree.specs.Plain.{Name, Constant, literal_constant, named_constant, Declaration, constant, device, event, routine, monitor, process, Program}
 use Rattle.source_semantics.specs.Names.{value_among, constant_among, constants_from, constants, constant_value}
 use Rattle.syntax_tree.specs.declared.place.Place.{Place}
 use Rattle.syntax_tree.specs.Parts.{same_place}
@@ -12,7 +12,7 @@ use Rattle.static_names.specs.Reach.{same}
 use Rattle.static_names.specs.Findings.{Key, same_key, key_of}
 use Rattle.static_names.proofs.Notes.{key_equiv}
 use Rattle.static_declarations.specs.declared.values.Number.{Number}
-use Rattle.static_declarations.specs.declared.thing.Thing as code_thing
+use Rattle.static_declarations.specs.declared.thing.Entity as code_thing
 use Rattle.static_declarations.specs.Seen.{seen, known_things, number_value, kept_worth, amount, with_constant, with_decls, no_worth}
 
 worth-put : (b : Bool) (v : Number) (was : Option Number) → unwrap_or (option_map number_value (cond b (Some v) was)) (pos 0) ≡ (if b then number_value v else unwrap_or (option_map number_value was) (pos 0))
@@ -29,12 +29,12 @@ kept-put k v old new puts = λ i n. at n i
         ap (λ r. unwrap_or (option_map number_value r) (pos 0)) (puts q ∙ ap (λ b. cond b (Some v) (lookup (λ x. same n x.now) old)) (nat_list_eq_equiv.symm k.now n))
         ∙ worth-put (same n k.now) v (lookup (λ x. same n x.now) old)
 
-thing-put : (b : Bool) (v : code_thing.Thing) (was : Option code_thing.Thing) → option_map seen (cond b (Some v) was) ≡ (if b then Some (seen v) else option_map seen was)
+thing-put : (b : Bool) (v : code_thing.Entity) (was : Option code_thing.Entity) → option_map seen (cond b (Some v) was) ≡ (if b then Some (seen v) else option_map seen was)
 thing-put true v was = refl
 thing-put false v was = refl
 
 -- a declaration kept at a place
-pub things-put : (p : Place) (v : code_thing.Thing) (old new : List (Key × code_thing.Thing)) → ((q : Key) → lookup (same_key q) new ≡ cond (same_key (key_of p) q) (Some v) (lookup (same_key q) old))
+pub things-put : (p : Place) (v : code_thing.Entity) (old new : List (Key × code_thing.Entity)) → ((q : Key) → lookup (same_key q) new ≡ cond (same_key (key_of p) q) (Some v) (lookup (same_key q) old))
     → known_things new ≡ (λ q. if same_place q p then Some (seen v) else known_things old q)
 things-put p v old new puts = λ i q. at q i
   where
@@ -58,7 +58,7 @@ amount-among known (literal_constant minus n) = refl
 amount-among known (named_constant minus name) = refl
 
 -- the values that are kept are those of the meaning
-worth-from : (known : List (Name × ℤ)) (ds : List Decl) → with_decls (value_among known) ds ≡ value_among (constants_from known ds)
+worth-from : (known : List (Name × ℤ)) (ds : List Declaration) → with_decls (value_among known) ds ≡ value_among (constants_from known ds)
 worth-from known [] = refl
 worth-from known (constant n c ∷ ds) = ap (λ v. with_decls (with_constant (value_among known) n v) ds) (amount-among known c) ∙ ap (λ w. with_decls w ds) (with-value known n (constant_among known c)) ∙ worth-from ((n, constant_among known c) ∷ known) ds
 worth-from known (device n is_out ∷ ds) = worth-from known ds
@@ -67,8 +67,8 @@ worth-from known (routine r ∷ ds) = worth-from known ds
 worth-from known (monitor m ∷ ds) = worth-from known ds
 worth-from known (process p ∷ ds) = worth-from known ds
 
-pub amount-value : (g : Prog) (c : Constant) → amount (with_decls no_worth g.decls) c ≡ constant_value g c
+pub amount-value : (g : Program) (c : Constant) → amount (with_decls no_worth g.decls) c ≡ constant_value g c
 amount-value g c = ap (λ w. amount w c) (worth-from [] g.decls) ∙ amount-among (constants g) c
 
-pub worth-value : (g : Prog) (n : Name) → with_decls no_worth g.decls n ≡ value_among (constants g) n
+pub worth-value : (g : Program) (n : Name) → with_decls no_worth g.decls n ≡ value_among (constants g) n
 worth-value g n = ap (λ w. w n) (worth-from [] g.decls)

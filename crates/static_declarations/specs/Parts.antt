@@ -2,8 +2,8 @@
 use Rattle.std.specs.Prelude.{Bool, true, false, List, [], ◌∷◌, Option, Some, None}
 use Rattle.syntax_tree.specs.Placed.{Scalar, Expr, Ref, whole, part, Stmt, assign, assign_entry, assign_empty, perform, perform_entry, when, when_else, loop, exit_when, get, put, wait, signal, broadcast, except, assert, Stmts, no_stmts, stmts, RoutineKind, procedure, function, Routine, Handler, Decl, constant, device, event, routine, monitor, process, Prog}
 use Rattle.syntax_tree.specs.declared.place.Place.{Place}
-use Rattle.static_declarations.specs.declared.home.Home.{Home}
-use Rattle.static_declarations.specs.declared.home.Home.TheVariants as home_is
+use Rattle.static_declarations.specs.declared.home.StmtContext.{StmtContext}
+use Rattle.static_declarations.specs.declared.home.StmtContext.TheVariants as home_is
 use Rattle.static_declarations.specs.declared.home.Where.{Where}
 
 -- a statement, or the result of a function: its type and its expression, at the function's name
@@ -63,12 +63,12 @@ abbrev mutual
   stmts_parts here (stmts s ss) more = stmt_parts here s (stmts_parts here ss more)
 
 -- a function that is no entry is known by the place of its name
-abbrev pub home_of : (is_entry : Bool) → RoutineKind → Place → Home
+abbrev pub home_of : (is_entry : Bool) → RoutineKind → Place → StmtContext
 home_of true kind place = home_is.Entry
 home_of false procedure place = home_is.Free
 home_of false function place = home_is.Function place
 
-abbrev pub outside_loops : Home → Where
+abbrev pub outside_loops : StmtContext → Where
 outside_loops home = record { home = home; in_loop = false }
 
 abbrev pub answer_parts : Place → Option (Scalar Place) → Option (Expr Place) → List Part → List Part

@@ -6,8 +6,8 @@ use Rattle.syntax_tree.specs.Parts.{same_place}
 use Rattle.static_names.specs.Occurrences.{names, declared_at}
 use Rattle.static_declarations.specs.declared.sort.Sort.{Sort}
 use Rattle.static_declarations.specs.declared.sort.Sort.TheVariants as sort_is
-use Rattle.static_declarations.specs.declared.sort.Shape.{Shape}
-use Rattle.static_declarations.specs.declared.sort.Shape.TheVariants as shape_is
+use Rattle.static_declarations.specs.declared.sort.VarType.{VarType}
+use Rattle.static_declarations.specs.declared.sort.VarType.TheVariants as shape_is
 
 -- whole numbers and subranges are numbers
 abbrev pub sort_of : {P : Type 0} → Scalar P → Sort
@@ -16,7 +16,7 @@ sort_of boolean = sort_is.Truth
 sort_of (subrange low high) = sort_is.Number
 
 -- a variable holds one word, or is an array of words
-abbrev pub shape_of : {P : Type 0} → Kind P → Shape
+abbrev pub shape_of : {P : Type 0} → Kind P → VarType
 shape_of (scalar s) = shape_is.One (sort_of s)
 shape_of (array low high s) = shape_is.Many (sort_of s)
 
@@ -27,7 +27,7 @@ pub data Thing : Type 0 where
   constant_thing : Thing
   device_thing : (is_out : Bool) → Thing
   routine_thing : (is_entry : Bool) → Routine Place → Thing
-  variable_thing : (owner : Option Place) → Shape → Thing
+  variable_thing : (owner : Option Place) → VarType → Thing
   loop_thing : Thing
   other_thing : Thing
 

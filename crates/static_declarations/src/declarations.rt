@@ -8,28 +8,28 @@ ghost use Rattle.static_declarations.specs.Values.{value, out_of as out_of_limit
 ghost use Rattle.static_names.specs.Occurrences.{names, declared_at};
 ghost use Rattle.static_declarations.specs.Seen.{seen};
 
-use crate::thing::Thing;
-use crate::things::{Things, things};
+use crate::thing::Entity;
+use crate::things::{Entities, things};
 use crate::values::{Values, named, value_of, values};
-use static_names::Named;
+use static_names::ResolvedProgram;
 use std::alloc::{AllocError, Global};
 use std::marker::Model;
-use syntax_tree::{Constant, Name, Place, Prog};
+use syntax_tree::{Constant, Name, Place, Program};
 
 /// The declarations of a program whose names are resolved.
 #[derive(Drop)]
 pub struct Declarations<'a> {
-    named: &'a Named,
+    named: &'a ResolvedProgram,
     values: Values<'a>,
-    things: Things<'a>,
+    things: Entities<'a>,
 }
 
 impl<'a> Model for Declarations<'a> {
     ghost use Rattle.std.specs.Prelude.{◌≡◌, [], ◌∷◌, map};
     ghost use Rattle.std.specs.Coded.{codes};
     ghost use Rattle.syntax_tree.specs.Placed.{placed, placed_decl, plain_decl};
-    ghost use Rattle.syntax_tree.specs.declared.decl.Prog.{Prog as Tree};
-    ghost use Rattle.syntax_tree.specs.contracts.decl.Prog as tree;
+    ghost use Rattle.syntax_tree.specs.declared.decl.Program.{Program as Tree};
+    ghost use Rattle.syntax_tree.specs.contracts.decl.Program as tree;
     ghost use Rattle.static_declarations.specs.Things.{learn, decls_things, other_thing};
     ghost use Rattle.static_declarations.specs.Seen.{IsKept};
 
@@ -44,7 +44,7 @@ impl<'a> Model for Declarations<'a> {
 
 impl<'a> Declarations<'a> {
     /// Goes once through the declarations of the program.
-    pub fn new(alloc: Global, named: &'a Named) -> Result<Declarations<'a>, AllocError>
+    pub fn new(alloc: Global, named: &'a ResolvedProgram) -> Result<Declarations<'a>, AllocError>
         ensures { IfOk result (λ d. d ≡ named.now) }
     {
         let program = named.prog();
@@ -57,20 +57,20 @@ impl<'a> Declarations<'a> {
         })
     }
 
-    pub fn program(&self) -> &'a Prog
+    pub fn program(&self) -> &'a Program
         ensures { result.now ≡ self.now }
     {
         self.named.prog()
     }
 
     /// What the name that is used at a place is declared as; `None` where no name is used there.
-    pub fn named(&self, at: Place) -> Option<Thing<'a>>
+    pub fn named(&self, at: Place) -> Option<Entity<'a>>
         ensures { option_map seen result ≡ named_at (placed self.now) at }
     {
         let declared = self.named.found(&at)?;
         match self.things.get(&(declared.line, declared.col)) {
             Some(thing) => Some(*thing),
-            None => Some(Thing::Loop),
+            None => Some(Entity::Loop),
         }
     }
 

@@ -14,6 +14,6 @@ mod things;
 pub mod values;
 
 pub use declarations::Declarations;
-pub use home::{Home, Where};
-pub use sort::{Shape, Sort, sort_of};
-pub use thing::Thing;
+pub use home::{StmtContext, Where};
+pub use sort::{Sort, VarType, sort_of};
+pub use thing::Entity;

@@ -15,7 +15,7 @@ pub enum Sort {
 
 /// What a variable holds: one word, or an array of words.
 #[derive(Clone, Copy, Debug, PartialEq, Eq)]
-pub enum Shape {
+pub enum VarType {
     One(Sort),
     Many(Sort),
 }
@@ -31,11 +31,11 @@ pub fn sort_of(kind: &Scalar) -> Sort
 }
 
 /// The shape of a variable of the type.
-pub fn shape_of(kind: &Type) -> Shape
+pub fn shape_of(kind: &Type) -> VarType
     ensures { result ≡ shape_of_kind (placed_kind kind.now) }
 {
     match kind {
-        Type::Scalar(kind) => Shape::One(sort_of(kind)),
-        Type::Array { element, .. } => Shape::Many(sort_of(element)),
+        Type::Scalar(kind) => VarType::One(sort_of(kind)),
+        Type::Array { element, .. } => VarType::Many(sort_of(element)),
     }
 }

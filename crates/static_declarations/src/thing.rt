@@ -1,11 +1,11 @@
 //! What a name is declared as.
 
-use crate::sort::Shape;
+use crate::sort::VarType;
 use syntax_tree::{Place, Routine};
 
 /// What a name is declared as.
 #[derive(Clone, Copy)]
-pub enum Thing<'a> {
+pub enum Entity<'a> {
     Constant,
     Device {
         is_out: bool,
@@ -19,7 +19,7 @@ pub enum Thing<'a> {
     /// to; a variable of a monitor or process has none.
     Variable {
         owner: Option<Place>,
-        shape: Shape,
+        shape: VarType,
     },
     /// The variable of a loop.
     Loop,

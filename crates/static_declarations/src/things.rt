@@ -6,18 +6,18 @@ ghost use Rattle.syntax_tree.specs.declared.place.Place.{Place as SpecPlace};
 ghost use Rattle.static_declarations.specs.Things.{Thing as SpecThing, learn, vars_things, params_things, routine_things, routines_things, member_things, members_things, decl_things, decls_things, other_thing};
 ghost use Rattle.static_declarations.specs.Seen.{seen, known_things, Declared, nothing};
 
-use crate::sort::{Shape, shape_of, sort_of};
-use crate::thing::Thing;
+use crate::sort::{VarType, shape_of, sort_of};
+use crate::thing::Entity;
 use static_names::PlaceMap;
 use std::alloc::{AllocError, Global};
 use std::hash::BuildHasherDefault;
-use syntax_tree::{Decl, Member, Param, Place, Prog, Routine, Var};
+use syntax_tree::{Declaration, Member, Param, Place, Program, Routine, Var};
 
 /// What stands declared at each place, by line and column.
-pub type Things<'a> = PlaceMap<Thing<'a>>;
+pub type Entities<'a> = PlaceMap<Entity<'a>>;
 
 /// Keeps one more declaration.
-fn keep<'a>(things: &mut Things<'a>, place: Place, thing: Thing<'a>) -> Result<(), AllocError>
+fn keep<'a>(things: &mut Entities<'a>, place: Place, thing: Entity<'a>) -> Result<(), AllocError>
     ensures { OnOk result ((more : List Declared) → learn (known_things things.new.entries) more ≡
         learn (known_things things.old.entries) ((place, seen thing.entry) ∷ more)) }
 {
@@ -26,7 +26,7 @@ fn keep<'a>(things: &mut Things<'a>, place: Place, thing: Thing<'a>) -> Result<(
 }
 
 fn vars<'a>(
-    things: &mut Things<'a>,
+    things: &mut Entities<'a>,
     owner: Option<Place>,
     list: &'a [Var],
 ) -> Result<(), AllocError>
@@ -36,13 +36,13 @@ fn vars<'a>(
 {
     for var in list {
         let shape = shape_of(&var.kind);
-        keep(things, var.place, Thing::Variable { owner, shape })?;
+        keep(things, var.place, Entity::Variable { owner, shape })?;
     }
     Ok(())
 }
 
 fn params<'a>(
-    things: &mut Things<'a>,
+    things: &mut Entities<'a>,
     owner: Option<Place>,
     list: &'a [Param],
 ) -> Result<(), AllocError>
@@ -51,15 +51,15 @@ fn params<'a>(
         (params_things owner (map placed_param list.now) more)) }
 {
     for param in list {
-        let shape = Shape::One(sort_of(&param.kind));
-        keep(things, param.place, Thing::Variable { owner, shape })?;
+        let shape = VarType::One(sort_of(&param.kind));
+        keep(things, param.place, Entity::Variable { owner, shape })?;
     }
     Ok(())
 }
 
 /// A routine, its parameters and its variables.
 fn routine<'a>(
-    things: &mut Things<'a>,
+    things: &mut Entities<'a>,
     is_entry: bool,
     routine: &'a Routine,
 ) -> Result<(), AllocError>
@@ -67,14 +67,14 @@ fn routine<'a>(
         learn (known_things things.old.entries)
         (routine_things is_entry (placed_routine routine.now) more)) }
 {
-    keep(things, routine.place, Thing::Routine { is_entry, routine })?;
+    keep(things, routine.place, Entity::Routine { is_entry, routine })?;
     params(things, Some(routine.place), routine.params.as_slice())?;
     vars(things, Some(routine.place), routine.vars.as_slice())?;
     Ok(())
 }
 
 fn routines<'a>(
-    things: &mut Things<'a>,
+    things: &mut Entities<'a>,
     is_entry: bool,
     list: &'a [Routine],
 ) -> Result<(), AllocError>
@@ -88,23 +88,23 @@ fn routines<'a>(
     Ok(())
 }
 
-fn member<'a>(things: &mut Things<'a>, member: &'a Member) -> Result<(), AllocError>
+fn member<'a>(things: &mut Entities<'a>, member: &'a Member) -> Result<(), AllocError>
     ensures { OnOk result ((more : List Declared) → learn (known_things things.new.entries) more ≡
         learn (known_things things.old.entries) (member_things (placed_member member.now) more)) }
 {
     match member {
         Member::Var(var) => {
             let shape = shape_of(&var.kind);
-            keep(things, var.place, Thing::Variable { owner: None, shape })?;
+            keep(things, var.place, Entity::Variable { owner: None, shape })?;
         }
         Member::Condition { place, .. } => {
-            keep(things, *place, Thing::Other)?;
+            keep(things, *place, Entity::Other)?;
         }
     }
     Ok(())
 }
 
-fn members<'a>(things: &mut Things<'a>, list: &'a [Member]) -> Result<(), AllocError>
+fn members<'a>(things: &mut Entities<'a>, list: &'a [Member]) -> Result<(), AllocError>
     ensures { OnOk result ((more : List Declared) → learn (known_things things.new.entries) more ≡
         learn (known_things things.old.entries)
         (members_things (map placed_member list.now) more)) }
@@ -115,24 +115,24 @@ fn members<'a>(things: &mut Things<'a>, list: &'a [Member]) -> Result<(), AllocE
     Ok(())
 }
 
-fn decl<'a>(things: &mut Things<'a>, decl: &'a Decl) -> Result<(), AllocError>
+fn decl<'a>(things: &mut Entities<'a>, decl: &'a Declaration) -> Result<(), AllocError>
     ensures { OnOk result ((more : List Declared) → learn (known_things things.new.entries) more ≡
         learn (known_things things.old.entries) (decl_things (placed_decl decl.now) more)) }
 {
     match decl {
-        Decl::Const { place, .. } => keep(things, *place, Thing::Constant)?,
-        Decl::Device { place, is_out, .. } => {
-            keep(things, *place, Thing::Device { is_out: *is_out })?;
+        Declaration::Const { place, .. } => keep(things, *place, Entity::Constant)?,
+        Declaration::Device { place, is_out, .. } => {
+            keep(things, *place, Entity::Device { is_out: *is_out })?;
         }
-        Decl::Event { place, .. } => keep(things, *place, Thing::Other)?,
-        Decl::Routine(one) => routine(things, false, one)?,
-        Decl::Mon(monitor) => {
-            keep(things, monitor.place, Thing::Other)?;
+        Declaration::Event { place, .. } => keep(things, *place, Entity::Other)?,
+        Declaration::Routine(one) => routine(things, false, one)?,
+        Declaration::Monitor(monitor) => {
+            keep(things, monitor.place, Entity::Other)?;
             members(things, monitor.members.as_slice())?;
             routines(things, true, monitor.entries.as_slice())?;
         }
-        Decl::Proc(process) => {
-            keep(things, process.place, Thing::Other)?;
+        Declaration::Process(process) => {
+            keep(things, process.place, Entity::Other)?;
             vars(things, None, process.vars.as_slice())?;
             routines(things, false, process.routines.as_slice())?;
         }
@@ -141,7 +141,7 @@ fn decl<'a>(things: &mut Things<'a>, decl: &'a Decl) -> Result<(), AllocError>
 }
 
 /// All that stands declared outside of statements, in declarations.
-fn decls<'a>(things: &mut Things<'a>, list: &'a [Decl]) -> Result<(), AllocError>
+fn decls<'a>(things: &mut Entities<'a>, list: &'a [Declaration]) -> Result<(), AllocError>
     ensures { OnOk result ((more : List Declared) → learn (known_things things.new.entries) more ≡
         learn (known_things things.old.entries) (decls_things (map placed_decl list.now) more)) }
 {
@@ -152,14 +152,14 @@ fn decls<'a>(things: &mut Things<'a>, list: &'a [Decl]) -> Result<(), AllocError
 }
 
 /// All that a program declares outside of statements, its own name included.
-pub fn things<'a>(alloc: Global, program: &'a Prog) -> Result<Things<'a>, AllocError>
+pub fn things<'a>(alloc: Global, program: &'a Program) -> Result<Entities<'a>, AllocError>
     ensures { IfOk result (λ things. known_things things.entries ≡
         learn nothing (decls_things (map placed_decl program.now.decls)
         ((program.now.place, other_thing) ∷ []))) }
 {
     let most = program.decls.len().saturating_add(1);
-    let mut things = Things::with_capacity_and_hasher(alloc, most, BuildHasherDefault::new())?;
+    let mut things = Entities::with_capacity_and_hasher(alloc, most, BuildHasherDefault::new())?;
     decls(&mut things, program.decls.as_slice())?;
-    keep(&mut things, program.place, Thing::Other)?;
+    keep(&mut things, program.place, Entity::Other)?;
     Ok(things)
 }

@@ -7,7 +7,7 @@ ghost use Rattle.static_declarations.specs.Seen.{number_value, kept_worth, amoun
 
 use indexmap::IndexMap;
 use std::alloc::{AllocError, Global};
-use syntax_tree::{Constant, Decl, Value};
+use syntax_tree::{Constant, Declaration, Value};
 
 /// A number by its sign and its size. Zero has either sign.
 #[derive(Clone, Copy, Debug)]
@@ -74,11 +74,11 @@ fn keep<'a>(values: &mut Values<'a>, name: &'a [u8], number: Number) -> Result<(
 }
 
 /// One more declaration.
-fn next<'a>(values: &mut Values<'a>, decl: &'a Decl) -> Result<(), AllocError>
+fn next<'a>(values: &mut Values<'a>, decl: &'a Declaration) -> Result<(), AllocError>
     ensures { OnOk result (kept_worth values.new.entries ≡
         with_decl (kept_worth values.old.entries) (plain_decl (placed_decl decl.now))) }
 {
-    if let Decl::Const { name, value, .. } = decl {
+    if let Declaration::Const { name, value, .. } = decl {
         let number = value_of(values, value);
         keep(values, name.as_bytes(), number)?;
     }
@@ -86,7 +86,7 @@ fn next<'a>(values: &mut Values<'a>, decl: &'a Decl) -> Result<(), AllocError>
 }
 
 /// The constants of declarations, each with its value, which names those before it alone.
-pub fn values<'a>(alloc: Global, decls: &'a [Decl]) -> Result<Values<'a>, AllocError>
+pub fn values<'a>(alloc: Global, decls: &'a [Declaration]) -> Result<Values<'a>, AllocError>
     ensures { IfOk result (λ values. kept_worth values.entries ≡
         with_decls no_worth (map plain_decl (map placed_decl decls.now))) }
 {

@@ -2,7 +2,7 @@
 use Rattle.std.proofs.Common.{◌≡◌, ℕ, List, [], ◌∷◌, Option, Some, None, Bool, true, false, not, if◌then◌else◌, ◌⊎◌, inl, inr, refl, ap, sym, ◌∙◌, true≢false}
 use Rattle.syntax_tree.specs.Placed.{Prog}
 use Rattle.syntax_tree.specs.declared.place.Place.{Place}
-use Rattle.static_rule.specs.declared.broken.Broken.{Broken}
+use Rattle.static_rule.specs.declared.violation.Violation.{Violation}
 use Rattle.static_names.specs.Reach.{same, suits, or_else}
 use Rattle.static_names.specs.Occurrences.{Occurrence, declares, closes, used, names, declared_at}
 use Rattle.static_names.specs.Rules.{Among, place_of, undeclared, shadows, misused, misclosed, Fails, IsUse, NamesAt, UsedAt}
@@ -92,7 +92,7 @@ breaks-standing (o ∷ os) m p (inr rest) = by (breaks-standing os m p rest)
     by (inr (inr (inl w))) = inr (inr (inl (w.0, inr w.1)))
     by (inr (inr (inr w))) = inr (inr (inr (w.0, inr w.1)))
 
-pub first-fault : (g : Prog Place) (f : Found) (b : Broken) → f ≡ noted nothing (names g) → f.first ≡ Some b → IsFirst (Fails g) b
+pub first-fault : (g : Prog Place) (f : Found) (b : Violation) → f ≡ noted nothing (names g) → f.first ≡ Some b → IsFirst (Fails g) b
 first-fault g f b is e = record {
   broken = by least.from;
   none_before = λ m p h. not-before m p b (least.least m p (fails-breaks g m p h));

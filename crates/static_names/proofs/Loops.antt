@@ -3,7 +3,7 @@ use Rattle.std.proofs.Common.{◌≡◌, ◌-◌, List, [], ◌∷◌, ◌++◌,
 use Rattle.syntax_tree.specs.Plain.{Name}
 use Rattle.static_names.specs.declared.kind.Declared.{Declared}
 use Rattle.static_names.specs.declared.scope.Local.{Local}
-use Rattle.static_names.specs.declared.around.Around.{Around}
+use Rattle.static_names.specs.declared.scope_chain.ScopeChain.{ScopeChain}
 use Rattle.static_names.specs.Reach.{same, or_else, within, inside}
 use Rattle.static_names.specs.Seen.{in_loops, meaning_in, outer_site, site}
 
@@ -11,7 +11,7 @@ pub in_loops-end : (name : Name) (ls : List Local) (l : Local) (o : Option Decla
 in_loops-end name [] l o = refl
 in_loops-end name (x ∷ ls) l o = in_loops-end name ls l (or_else (if same name x.name.now then Some x.declared else None) o)
 
-pub site-enter : (a : Around) (ls : List Local) (l : Local) → site a (ls ++ l ∷ []) ≡ inside ((l.name.now, l.declared) ∷ []) (site a ls)
+pub site-enter : (a : ScopeChain) (ls : List Local) (l : Local) → site a (ls ++ l ∷ []) ≡ inside ((l.name.now, l.declared) ∷ []) (site a ls)
 site-enter a ls l = λ i. record {
   means = λ name. in_loops-end name ls l (within (meaning_in a.locals) (outer_site a.outer).means name) i;
   members = (outer_site a.outer).members;

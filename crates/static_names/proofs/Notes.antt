@@ -7,7 +7,7 @@ use Rattle.std.proofs.lemmas.Bool.{and_parts, eqb-true}
 use Rattle.std.proofs.lemmas.Option.{same_Some, none-some}
 use Rattle.indexmap.specs.IndexMap.{insert_entry}
 use Rattle.syntax_tree.specs.declared.place.Place.{Place}
-use Rattle.static_rule.specs.declared.broken.Broken.{Broken}
+use Rattle.static_rule.specs.declared.violation.Violation.{Violation}
 use Rattle.static_rule.specs.First.{comes_before, sooner}
 use Rattle.static_rule.proofs.Soonest.{NotBefore, not_before-refl, not_before-trans, before-false, before-true}
 use Rattle.syntax_tree.specs.Parts.{same_place}
@@ -18,14 +18,14 @@ use Rattle.static_names.specs.Findings.{Key, same_key, key_of, Found, blame, tie
 
 -- ---- the sooner of two faults
 
-record Picks (n : Broken) (x : Option Broken) : Type 0 where
-  pick : Broken
+record Picks (n : Violation) (x : Option Violation) : Type 0 where
+  pick : Violation
   is : sooner (Some n) x ≡ Some pick
   source : (n ≡ pick) ⊎ (x ≡ Some pick)
   new : NotBefore n pick
-  old : (c : Broken) → x ≡ Some c → NotBefore c pick
+  old : (c : Violation) → x ≡ Some c → NotBefore c pick
 
-picks : (n : Broken) (x : Option Broken) → Picks n x
+picks : (n : Violation) (x : Option Violation) → Picks n x
 picks n None = record { pick = n; is = refl; source = inl refl; new = not_before-refl n; old = λ c e. absurd (none-some c e) }
 picks n (Some y) = by (comes_before n y) refl
   where
@@ -53,7 +53,7 @@ fault_of (closes name place opening) = if same name opening then None else Some 
 fault_of (used name place want None) = Some 20
 fault_of (used name place want (Some d)) = if suits want d.kind then None else Some 22
 
-abbrev pub after : Option ℕ → Place → Option Broken → Option Broken
+abbrev pub after : Option ℕ → Place → Option Violation → Option Violation
 after None place first = first
 after (Some m) place first = sooner (Some (record { number = m; place = place })) first
 
@@ -76,21 +76,21 @@ abbrev pub Breaks : ℕ → Place → Occurrence → Type 0
 Breaks m p o = (fault_of o ≡ Some m) × (place_of o ≡ p)
 
 -- no name breaks a rule
-pub record Clean (x : Option Broken) (os : List Occurrence) : Type 0 where
+pub record Clean (x : Option Violation) (os : List Occurrence) : Type 0 where
   pub start : x ≡ None
   pub clean : (m : ℕ) (p : Place) → Among (Breaks m p) os → ⊥
 
 -- the rule is broken there, and none before it
-pub record Least (x : Option Broken) (os : List Occurrence) (b : Broken) : Type 0 where
+pub record Least (x : Option Violation) (os : List Occurrence) (b : Violation) : Type 0 where
   pub from : (x ≡ Some b) ⊎ Among (Breaks b.number b.place) os
-  pub start : (c : Broken) → x ≡ Some c → NotBefore c b
+  pub start : (c : Violation) → x ≡ Some c → NotBefore c b
   pub least : (m : ℕ) (p : Place) → Among (Breaks m p) os → NotBefore (record { number = m; place = p }) b
 
-abbrev pub Outcome : Option Broken → List Occurrence → Option Broken → Type 0
+abbrev pub Outcome : Option Violation → List Occurrence → Option Violation → Type 0
 Outcome x os None = Clean x os
 Outcome x os (Some b) = Least x os b
 
-extend : (o : Occurrence) (os : List Occurrence) (x : Option Broken) (w : Option ℕ) → fault_of o ≡ w → (r : Option Broken) → Outcome (after w (place_of o) x) os r → Outcome x (o ∷ os) r
+extend : (o : Occurrence) (os : List Occurrence) (x : Option Violation) (w : Option ℕ) → fault_of o ≡ w → (r : Option Violation) → Outcome (after w (place_of o) x) os r → Outcome x (o ∷ os) r
 extend o os x None e None h = record { start = h.start; clean = none }
   where
     none : (m : ℕ) (p : Place) → Among (Breaks m p) (o ∷ os) → ⊥
@@ -108,13 +108,13 @@ extend o os x None e (Some b) h = record { from = source h.from; start = h.start
 extend o os x (Some m) e None h = let s = picks (record { number = m; place = place_of o }) x in absurd (none-some s.pick (sym h.start ∙ s.is))
 extend o os x (Some m) e (Some b) h = record { from = source h.from; start = start; least = least }
   where
-    fault : Broken
+    fault : Violation
     fault = record { number = m; place = place_of o }
 
     s : Picks fault x
     s = picks fault x
 
-    picked : (n : Broken) → NotBefore n s.pick → NotBefore n b
+    picked : (n : Violation) → NotBefore n s.pick → NotBefore n b
     picked n l = not_before-trans n s.pick b l (h.start s.pick s.is)
 
     chosen : (s.pick ≡ b) → (fault ≡ s.pick) ⊎ (x ≡ Some s.pick) → (x ≡ Some b) ⊎ Among (Breaks b.number b.place) (o ∷ os)
@@ -125,14 +125,14 @@ extend o os x (Some m) e (Some b) h = record { from = source h.from; start = sta
     source (inl i) = chosen (same_Some s.pick b (sym s.is ∙ i)) s.source
     source (inr a) = inr (inr a)
 
-    start : (c : Broken) → x ≡ Some c → NotBefore c b
+    start : (c : Violation) → x ≡ Some c → NotBefore c b
     start c i = picked c (s.old c i)
 
     least : (n : ℕ) (p : Place) → Among (Breaks n p) (o ∷ os) → NotBefore (record { number = n; place = p }) b
     least n p (inl i) = subst (λ y. NotBefore y b) (λ j. record { number = same_Some m n (sym e ∙ i.0) j; place = i.1 j }) (picked fault s.new)
     least n p (inr rest) = h.least n p rest
 
-pub first_of_all : (os : List Occurrence) (f : Found) (r : Option Broken) → (noted f os).first ≡ r → Outcome f.first os r
+pub first_of_all : (os : List Occurrence) (f : Found) (r : Option Violation) → (noted f os).first ≡ r → Outcome f.first os r
 first_of_all [] f None e = record { start = e; clean = λ m p a. a }
 first_of_all [] f (Some b) e = record { from = inl e; start = λ c i. subst (λ y. NotBefore y b) (same_Some b c (sym e ∙ i)) (not_before-refl b); least = λ m p a. absurd a }
 first_of_all (o ∷ os) f r e = extend o os f.first (fault_of o) refl r (subst (λ x. Outcome x os r) (note-first f o) (first_of_all os (note f o) r e))

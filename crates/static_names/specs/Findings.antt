@@ -3,10 +3,10 @@
 use Rattle.std.specs.Prelude.{ℕ, Bool, ◌&&◌, List, [], ◌∷◌, Option, Some, None, if◌then◌else◌, nat_eq}
 use Rattle.indexmap.specs.IndexMap.{insert_entry}
 use Rattle.syntax_tree.specs.declared.place.Place.{Place}
-use Rattle.static_rule.specs.declared.broken.Broken.{Broken}
+use Rattle.static_rule.specs.declared.violation.Violation.{Violation}
 use Rattle.static_rule.specs.First.{sooner}
 use Rattle.static_names.specs.declared.kind.Declared.{Declared}
-use Rattle.static_names.specs.declared.kind.Want.{Want}
+use Rattle.static_names.specs.declared.kind.NameUse.{NameUse}
 use Rattle.static_names.specs.Reach.{same, suits}
 use Rattle.static_names.specs.Occurrences.{Occurrence, declares, closes, used}
 
@@ -20,7 +20,7 @@ abbrev pub key_of : Place → Key
 key_of p = (p.line, p.col)
 
 pub record Found : Type 0 where
-  pub first : Option Broken
+  pub first : Option Violation
   pub ties : List (Key × Place)
 
 abbrev pub blame : Found → ℕ → Place → Found
@@ -29,7 +29,7 @@ blame f number place = record f { first = sooner (Some (record { number = number
 abbrev pub tie : Found → Place → Place → Found
 tie f place declared = record f { ties = insert_entry same_key f.ties (key_of place) declared }
 
-abbrev pub note_use : Found → Place → Want → Option Declared → Found
+abbrev pub note_use : Found → Place → NameUse → Option Declared → Found
 note_use f place want None = blame f 20 place
 note_use f place want (Some d) = if suits want d.kind then tie f place d.place else blame f 22 place
 

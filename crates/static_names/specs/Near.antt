@@ -1,6 +1,6 @@
 -- How places are hashed.
 use Rattle.std.specs.Prelude.{ℕ, ◌+◌, ◌*◌, ◌/◌, ◌%◌, ◌^◌, List, length, if◌then◌else◌, nat_eq, slice_index_or}
-use Rattle.static_names.specs.declared.near.NearHasher.{NearHasher}
+use Rattle.static_names.specs.declared.near_places.NearHasher.{NearHasher}
 
 -- four bytes as a number, the lowest first
 abbrev pub number_of : List ℕ → ℕ

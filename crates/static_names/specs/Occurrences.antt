@@ -7,8 +7,8 @@ use Rattle.syntax_tree.specs.Placed.{Constant, literal_constant, named_constant,
 use Rattle.syntax_tree.specs.declared.place.Place.{Place}
 use Rattle.static_names.specs.declared.kind.Declared.{Declared}
 use Rattle.static_names.specs.declared.kind.Kind.TheVariants as kind_is
-use Rattle.static_names.specs.declared.kind.Want.{Want}
-use Rattle.static_names.specs.declared.kind.Want.TheVariants as want_is
+use Rattle.static_names.specs.declared.kind.NameUse.{NameUse}
+use Rattle.static_names.specs.declared.kind.NameUse.TheVariants as want_is
 use Rattle.syntax_tree.specs.Parts.{same_place}
 use Rattle.static_names.specs.Reach.{Names, Reach, first, or_else, Site, inside, inside_monitor, through}
 
@@ -18,7 +18,7 @@ use Rattle.static_names.specs.Reach.{Names, Reach, first, or_else, Site, inside,
 pub data Occurrence : Type 0 where
   declares : Name → Place → (taken : Bool) → Occurrence
   closes : Name → Place → (opening : Name) → Occurrence
-  used : Name → Place → Want → (means : Option Declared) → Occurrence
+  used : Name → Place → NameUse → (means : Option Declared) → Occurrence
 
 -- where a name that is used at the place is declared, as far as these names tell; a later one
 -- counts before an earlier one
@@ -30,7 +30,7 @@ declared_at (used name q want None ∷ os) p = declared_at os p
 declared_at (used name q want (Some d) ∷ os) p = or_else (declared_at os p) (if same_place q p then Some d.place else None)
 
 -- a name that is used where it stands
-abbrev pub uses : Site → Name → Place → Want → Occurrence
+abbrev pub uses : Site → Name → Place → NameUse → Occurrence
 uses here name place want = used name place want (here.means name)
 
 -- the names of one scope, those before it in the scope being `earlier`: each is taken where it is

@@ -7,8 +7,8 @@ use Rattle.syntax_tree.specs.Parts.{same_place}
 use Rattle.static_names.specs.declared.kind.Declared.{Declared}
 use Rattle.static_names.specs.declared.kind.Kind.{Kind}
 use Rattle.static_names.specs.declared.kind.Kind.TheVariants as kind_is
-use Rattle.static_names.specs.declared.kind.Want.{Want}
-use Rattle.static_names.specs.declared.kind.Want.TheVariants as want_is
+use Rattle.static_names.specs.declared.kind.NameUse.{NameUse}
+use Rattle.static_names.specs.declared.kind.NameUse.TheVariants as want_is
 
 abbrev pub same : Name → Name → Bool
 same = pointwise nat_eq
@@ -77,7 +77,7 @@ abbrev pub through : Site → Name → Reach
 through here monitor = members_of here (here.means monitor)
 
 -- what a name may be declared as, where it is used so
-abbrev pub suits : Want → Kind → Bool
+abbrev pub suits : NameUse → Kind → Bool
 suits want_is.Constant kind_is.Constant = true
 suits want_is.Value kind_is.Constant = true
 suits want_is.Value kind_is.Variable = true

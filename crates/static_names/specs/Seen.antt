@@ -10,9 +10,9 @@ use Rattle.syntax_tree.specs.Placed as tree
 use Rattle.syntax_tree.specs.declared.place.Place.{Place}
 use Rattle.static_names.specs.declared.kind.Declared.{Declared}
 use Rattle.static_names.specs.declared.scope.Local.{Local}
-use Rattle.static_names.specs.declared.around.Top.{Top}
-use Rattle.static_names.specs.declared.around.Outer.{Outer}
-use Rattle.static_names.specs.declared.around.Around.{Around}
+use Rattle.static_names.specs.declared.scope_chain.TopScope.{TopScope}
+use Rattle.static_names.specs.declared.scope_chain.OuterScopes.{OuterScopes}
+use Rattle.static_names.specs.declared.scope_chain.ScopeChain.{ScopeChain}
 use Rattle.syntax_tree.specs.Parts.{same_place}
 use Rattle.static_names.specs.Reach.{same, Names, Reach, nowhere, first, or_else, within, Site}
 use Rattle.static_names.specs.Findings.{Found, noted}
@@ -85,23 +85,23 @@ member_meaning None inner entries place = entries place
 member_meaning (Some m) inner entries place = if same_place place m then inner else entries place
 
 -- what is in reach at the top, around routines, and inside a routine or a process
-abbrev pub top_site : Top → Site
+abbrev pub top_site : TopScope → Site
 top_site t = record { means = meaning t.program.now.entries; members = entry_meaning t.entries.now.entries }
 
-abbrev pub outer_site : Outer → Site
+abbrev pub outer_site : OuterScopes → Site
 outer_site o = record {
   means = within (meaning_in o.members) (top_site o.top).means;
   members = member_meaning o.monitor (meaning_in o.members) (top_site o.top).members;
 }
 
-abbrev pub site : Around → List Local → Site
+abbrev pub site : ScopeChain → List Local → Site
 site a loops = record {
   means = λ name. in_loops name loops (within (meaning_in a.locals) (outer_site a.outer).means name);
   members = (outer_site a.outer).members;
 }
 
 abbrev pub AroundValue : Type 0
-AroundValue = Around
+AroundValue = ScopeChain
 
 -- With what is noted in f and the scope s, the names ds are to be declared; with g and t, es are
 -- left of them.

@@ -5,18 +5,18 @@ ghost use Rattle.syntax_tree.specs.Placed.{placed_param, placed_var, placed_memb
 ghost use Rattle.static_names.specs.Occurrences.{param_name, var_name, member_name, routine_name as name_of_routine, entry_name as name_of_entry, routine_scope, monitor_scope, process_scope};
 ghost use Rattle.static_names.specs.Seen.{meaning, top_site, outer_site, Scoped};
 
-use crate::around::{Outer, Top};
 use crate::findings::Findings;
 use crate::kind::{Declared, Kind};
 use crate::scope::{Scope, add_unless, find};
+use crate::scope_chain::{OuterScopes, TopScope};
 use std::alloc::AllocError;
-use syntax_tree::{Member, Mon, Name, Param, Proc, Routine, Var};
+use syntax_tree::{Member, Monitor, Name, Param, Process, Routine, Var};
 
 /// Declares a name in a scope.
 fn declare<'a>(
     findings: &mut Findings,
     scope: &mut Scope<'a>,
-    outer: &Outer<'_, 'a>,
+    outer: &OuterScopes<'_, 'a>,
     name: &'a Name,
     declared: Declared,
 ) -> Result<(), AllocError>
@@ -34,7 +34,7 @@ fn declare<'a>(
 fn params<'a>(
     findings: &mut Findings,
     scope: &mut Scope<'a>,
-    outer: &Outer<'_, 'a>,
+    outer: &OuterScopes<'_, 'a>,
     list: &'a [Param],
 ) -> Result<(), AllocError>
     ensures { OnOk result (Scoped (outer_site outer.now).means findings.old
@@ -54,7 +54,7 @@ fn params<'a>(
 fn vars<'a>(
     findings: &mut Findings,
     scope: &mut Scope<'a>,
-    outer: &Outer<'_, 'a>,
+    outer: &OuterScopes<'_, 'a>,
     list: &'a [Var],
 ) -> Result<(), AllocError>
     ensures { OnOk result (Scoped (outer_site outer.now).means findings.old
@@ -74,7 +74,7 @@ fn vars<'a>(
 fn member<'a>(
     findings: &mut Findings,
     scope: &mut Scope<'a>,
-    outer: &Outer<'_, 'a>,
+    outer: &OuterScopes<'_, 'a>,
     member: &'a Member,
 ) -> Result<(), AllocError>
     ensures { OnOk result (Scoped (outer_site outer.now).means findings.old
@@ -103,7 +103,7 @@ fn member<'a>(
 fn members<'a>(
     findings: &mut Findings,
     scope: &mut Scope<'a>,
-    outer: &Outer<'_, 'a>,
+    outer: &OuterScopes<'_, 'a>,
     list: &'a [Member],
 ) -> Result<(), AllocError>
     ensures { OnOk result (Scoped (outer_site outer.now).means findings.old
@@ -119,7 +119,7 @@ fn members<'a>(
 fn entries<'a>(
     findings: &mut Findings,
     scope: &mut Scope<'a>,
-    outer: &Outer<'_, 'a>,
+    outer: &OuterScopes<'_, 'a>,
     list: &'a [Routine],
 ) -> Result<(), AllocError>
     ensures { OnOk result (Scoped (outer_site outer.now).means findings.old
@@ -139,7 +139,7 @@ fn entries<'a>(
 fn routines<'a>(
     findings: &mut Findings,
     scope: &mut Scope<'a>,
-    outer: &Outer<'_, 'a>,
+    outer: &OuterScopes<'_, 'a>,
     list: &'a [Routine],
 ) -> Result<(), AllocError>
     ensures { OnOk result (Scoped (outer_site outer.now).means findings.old
@@ -160,7 +160,7 @@ fn routines<'a>(
 pub fn routine<'a>(
     findings: &mut Findings,
     scope: &mut Scope<'a>,
-    outer: &Outer<'_, 'a>,
+    outer: &OuterScopes<'_, 'a>,
     routine: &'a Routine,
 ) -> Result<(), AllocError>
     ensures { OnOk result (Scoped (outer_site outer.now).means findings.old
@@ -176,8 +176,8 @@ pub fn routine<'a>(
 pub fn monitor<'a>(
     findings: &mut Findings,
     scope: &mut Scope<'a>,
-    top: &Top<'_, 'a>,
-    monitor: &'a Mon,
+    top: &TopScope<'_, 'a>,
+    monitor: &'a Monitor,
 ) -> Result<(), AllocError>
     ensures { OnOk result (Scoped (top_site top.now).means findings.old (meaning scope.old.entries)
         (monitor_scope (placed_monitor monitor.now)) findings.new (meaning scope.new.entries) []) }
@@ -192,8 +192,8 @@ pub fn monitor<'a>(
 pub fn process<'a>(
     findings: &mut Findings,
     scope: &mut Scope<'a>,
-    top: &Top<'_, 'a>,
-    process: &'a Proc,
+    top: &TopScope<'_, 'a>,
+    process: &'a Process,
 ) -> Result<(), AllocError>
     ensures { OnOk result (Scoped (top_site top.now).means findings.old (meaning scope.old.entries)
         (process_scope (placed_process process.now)) findings.new (meaning scope.new.entries) []) }

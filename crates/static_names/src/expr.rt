@@ -6,16 +6,16 @@ ghost use Rattle.static_names.specs.Occurrences.{Occurrence, constant_names, sca
 ghost use Rattle.static_names.specs.Findings.{noted};
 ghost use Rattle.static_names.specs.Seen.{site};
 
-use crate::around::Around;
 use crate::findings::Findings;
-use crate::kind::Want;
+use crate::kind::NameUse;
 use crate::scope::Local;
+use crate::scope_chain::ScopeChain;
 use std::alloc::AllocError;
 use syntax_tree::{Constant, Expr, Ref, Scalar, Type, Value};
 
 pub fn constant<'a>(
     findings: &mut Findings,
-    around: &Around<'_, 'a>,
+    around: &ScopeChain<'_, 'a>,
     loops: &[Local<'a>],
     constant: &Constant,
 ) -> Result<(), AllocError>
@@ -24,14 +24,20 @@ pub fn constant<'a>(
         (placed_constant constant.now) more)) }
 {
     if let Value::Name(name) = &constant.value {
-        around.use_name(findings, loops, name, constant.value_place, Want::Constant)?;
+        around.use_name(
+            findings,
+            loops,
+            name,
+            constant.value_place,
+            NameUse::Constant,
+        )?;
     }
     Ok(())
 }
 
 pub fn scalar<'a>(
     findings: &mut Findings,
-    around: &Around<'_, 'a>,
+    around: &ScopeChain<'_, 'a>,
     loops: &[Local<'a>],
     kind: &Scalar,
 ) -> Result<(), AllocError>
@@ -48,7 +54,7 @@ pub fn scalar<'a>(
 
 pub fn kind<'a>(
     findings: &mut Findings,
-    around: &Around<'_, 'a>,
+    around: &ScopeChain<'_, 'a>,
     loops: &[Local<'a>],
     kind: &Type,
 ) -> Result<(), AllocError>
@@ -68,7 +74,7 @@ pub fn kind<'a>(
 
 pub fn expr<'a>(
     findings: &mut Findings,
-    around: &Around<'_, 'a>,
+    around: &ScopeChain<'_, 'a>,
     loops: &[Local<'a>],
     e: &Expr,
 ) -> Result<(), AllocError>
@@ -78,16 +84,16 @@ pub fn expr<'a>(
     match e {
         Expr::Literal { .. } | Expr::True { .. } | Expr::False { .. } => Ok(()),
         Expr::Variable { place, name } => {
-            around.use_name(findings, loops, name, *place, Want::Value)?;
+            around.use_name(findings, loops, name, *place, NameUse::Value)?;
             Ok(())
         }
         Expr::Element { place, name, index } => {
-            around.use_name(findings, loops, name, *place, Want::Value)?;
+            around.use_name(findings, loops, name, *place, NameUse::Value)?;
             expr(findings, around, loops, index)?;
             Ok(())
         }
         Expr::Call { place, name, args } => {
-            around.use_name(findings, loops, name, *place, Want::Routine)?;
+            around.use_name(findings, loops, name, *place, NameUse::Routine)?;
             for arg in args.as_slice() {
                 expr(findings, around, loops, arg)?;
             }
@@ -113,7 +119,7 @@ pub fn expr<'a>(
 
 pub fn exprs<'a>(
     findings: &mut Findings,
-    around: &Around<'_, 'a>,
+    around: &ScopeChain<'_, 'a>,
     loops: &[Local<'a>],
     list: &[Expr],
 ) -> Result<(), AllocError>
@@ -129,14 +135,14 @@ pub fn exprs<'a>(
 /// What is assigned to.
 pub fn target<'a>(
     findings: &mut Findings,
-    around: &Around<'_, 'a>,
+    around: &ScopeChain<'_, 'a>,
     loops: &[Local<'a>],
     target: &Ref,
 ) -> Result<(), AllocError>
     ensures { OnOk result ((more : List Occurrence) → noted findings.new more ≡
         noted findings.old (ref_names (site around.now loops.now) (placed_ref target.now) more)) }
 {
-    around.use_name(findings, loops, &target.name, target.place, Want::Target)?;
+    around.use_name(findings, loops, &target.name, target.place, NameUse::Target)?;
     if let Some(index) = &target.index {
         expr(findings, around, loops, index)?;
     }

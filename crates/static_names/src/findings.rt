@@ -4,9 +4,9 @@ ghost use Rattle.std.specs.Prelude.{◌≡◌, OnOk, [], None};
 ghost use Rattle.static_names.specs.Occurrences.{closes};
 ghost use Rattle.static_names.specs.Findings.{blame as blamed, tie as tied, note, note_use, note_declaration};
 
-use crate::kind::{Declared, Want, suits};
-use crate::near::PlaceMap;
-use static_rule::{Broken, rule};
+use crate::kind::{Declared, NameUse, suits};
+use crate::near_places::PlaceMap;
+use static_rule::{Violation, rule};
 use std::alloc::{AllocError, Global};
 use std::hash::BuildHasherDefault;
 use std::marker::Model;
@@ -15,7 +15,7 @@ use syntax_tree::{Name, Place};
 /// The first rule that fails, and for the place of each use that of the declaration.
 #[derive(Drop)]
 pub struct Findings {
-    pub first: Option<Broken>,
+    pub first: Option<Violation>,
     pub ties: PlaceMap<Place>,
 }
 
@@ -55,7 +55,7 @@ impl Findings {
     pub fn use_name(
         &mut self,
         place: Place,
-        want: Want,
+        want: NameUse,
         means: Option<Declared>,
     ) -> Result<(), AllocError>
         ensures { OnOk result (self.new ≡ note_use self.old place want means) }

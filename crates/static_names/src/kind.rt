@@ -23,7 +23,7 @@ pub enum Kind {
 
 /// What a name is used as. `Value` is a name in an expression, `Target` one that is assigned to.
 #[derive(Clone, Copy)]
-pub enum Want {
+pub enum NameUse {
     Constant,
     Value,
     Target,
@@ -43,18 +43,18 @@ pub struct Declared {
 }
 
 /// Whether a name that is declared so may be used so.
-pub fn suits(want: Want, kind: Kind) -> bool
+pub fn suits(want: NameUse, kind: Kind) -> bool
     ensures { result ≡ suits_by want kind }
 {
     match want {
-        Want::Constant => matches!(kind, Kind::Constant),
-        Want::Value => matches!(kind, Kind::Constant | Kind::Variable | Kind::LoopVariable),
-        Want::Target => matches!(kind, Kind::Variable),
-        Want::Routine => matches!(kind, Kind::Routine | Kind::Entry),
-        Want::Entry => matches!(kind, Kind::Entry),
-        Want::Device => matches!(kind, Kind::Device),
-        Want::Event => matches!(kind, Kind::Event),
-        Want::Monitor => matches!(kind, Kind::Monitor),
-        Want::Condition => matches!(kind, Kind::Condition),
+        NameUse::Constant => matches!(kind, Kind::Constant),
+        NameUse::Value => matches!(kind, Kind::Constant | Kind::Variable | Kind::LoopVariable),
+        NameUse::Target => matches!(kind, Kind::Variable),
+        NameUse::Routine => matches!(kind, Kind::Routine | Kind::Entry),
+        NameUse::Entry => matches!(kind, Kind::Entry),
+        NameUse::Device => matches!(kind, Kind::Device),
+        NameUse::Event => matches!(kind, Kind::Event),
+        NameUse::Monitor => matches!(kind, Kind::Monitor),
+        NameUse::Condition => matches!(kind, Kind::Condition),
     }
 }

@@ -3,7 +3,7 @@
 //! `specs/Reach.antt` says what a name means at a place, `specs/Occurrences.antt` lists the names
 //! of a program with what each does there, and `specs/Rules.antt` says where each rule fails.
 //! `name` answers `Ok` exactly where none fails at any place, else the one that fails first;
-//! `Named::found` tells for each use where its name is declared.
+//! `ResolvedProgram::found` tells for each use where its name is declared.
 //!
 //! A name of the program reaches everywhere, a constant only behind its declaration; a name of a
 //! monitor in that monitor, its entries outside only behind the monitor's name and a full stop; a
@@ -11,17 +11,17 @@
 //! a loop variable in the body of its loop.
 #![tactic(auto)]
 
-mod around;
 mod declare;
 mod expr;
 mod findings;
 mod kind;
 mod named;
-mod near;
+mod near_places;
 mod part;
 mod program;
 mod scope;
+mod scope_chain;
 mod stmt;
 
-pub use named::{NameFault, Named, name};
-pub use near::{NearHasher, PlaceMap};
+pub use named::{NameFault, ResolvedProgram, name};
+pub use near_places::{NearHasher, PlaceMap};

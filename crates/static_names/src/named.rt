@@ -6,11 +6,11 @@ ghost use Rattle.static_names.specs.Occurrences.{names as names_of, declared_at}
 ghost use Rattle.static_names.specs.Rules.{NamesAt, UsedAt};
 ghost use Rattle.static_names.specs.Resolved.{IsRead, IsNamed, IsFault};
 
-use crate::near::PlaceMap;
+use crate::near_places::PlaceMap;
 use crate::program::findings;
 use std::alloc::Global;
 use std::marker::Model;
-use syntax_tree::{Place, Prog};
+use syntax_tree::{Place, Program};
 use thiserror::Error;
 
 /// Why a program was refused. A rule prints as its number and its place.
@@ -28,16 +28,16 @@ pub enum NameFault {
 
 /// A program of which no rule for names fails, with where each used name is declared.
 #[derive(Drop)]
-pub struct Named {
-    prog: Prog,
+pub struct ResolvedProgram {
+    prog: Program,
     ties: PlaceMap<Place>,
 }
 
-impl Model for Named {
+impl Model for ResolvedProgram {
     ghost use Rattle.std.specs.Coded.{codes};
     ghost use Rattle.syntax_tree.specs.Placed.{placed};
-    ghost use Rattle.syntax_tree.specs.declared.decl.Prog.{Prog as Tree};
-    ghost use Rattle.syntax_tree.specs.contracts.decl.Prog as tree;
+    ghost use Rattle.syntax_tree.specs.declared.decl.Program.{Program as Tree};
+    ghost use Rattle.syntax_tree.specs.contracts.decl.Program as tree;
     ghost use Rattle.static_names.specs.Resolved.{IsResolved};
 
     ghost Value = { Tree };
@@ -53,7 +53,7 @@ impl Model for Named {
 /// fails first, by place and then by number.
 ///
 /// The tree is that of some text's tokens, as `parse` promises.
-pub fn name(alloc: Global, p: Prog) -> Result<Named, NameFault>
+pub fn name(alloc: Global, p: Program) -> Result<ResolvedProgram, NameFault>
     requires read { IsRead (placed p) }
     ensures same { IfOk result (λ n. n ≡ p) }
     ensures named { IfOk result (λ n. IsNamed (placed n)) }
@@ -68,14 +68,14 @@ pub fn name(alloc: Global, p: Prog) -> Result<Named, NameFault>
             number: broken.number,
             place: broken.place,
         }),
-        None => Ok(Named {
+        None => Ok(ResolvedProgram {
             prog: p,
             ties: found.ties,
         }),
     }
 }
 
-impl Named {
+impl ResolvedProgram {
     /// Where the name that is used at a place is declared; `None` exactly where no use stands at
     /// that place.
     pub fn found(&self, at: &Place) -> Option<Place>
@@ -86,7 +86,7 @@ impl Named {
         self.ties.get(&(at.line, at.col)).copied()
     }
 
-    pub fn prog(&self) -> &Prog
+    pub fn prog(&self) -> &Program
         ensures tree { result.now ≡ self.now }
         ensures read { IsRead (placed self.now) }
         ensures named { IsNamed (placed self.now) }

@@ -6,21 +6,22 @@ ghost use Rattle.static_names.specs.Occurrences.{Occurrence, constant_names, con
 ghost use Rattle.static_names.specs.Findings.{noted};
 ghost use Rattle.static_names.specs.Seen.{site, outer_site, top_site};
 
-use crate::around::{Around, Outer, Top};
 use crate::declare;
 use crate::expr::{constant, expr, kind, scalar};
 use crate::findings::Findings;
-use crate::kind::Want;
+use crate::kind::NameUse;
 use crate::scope::Scope;
+use crate::scope_chain::{OuterScopes, ScopeChain, TopScope};
 use crate::stmt::stmts;
 use std::alloc::{AllocError, Global};
 use syntax_tree::{
-    Activation, Constant, Decl, Expr, Handler, Member, Mon, Param, Proc, Routine, Scalar, Var,
+    Constant, Declaration, Expr, Handler, Member, Monitor, Param, Process, Routine, Scalar,
+    Trigger, Var,
 };
 
 fn params<'a>(
     findings: &mut Findings,
-    around: &Around<'_, 'a>,
+    around: &ScopeChain<'_, 'a>,
     list: &[Param],
 ) -> Result<(), AllocError>
     ensures { OnOk result ((more : List Occurrence) → noted findings.new more ≡
@@ -34,7 +35,7 @@ fn params<'a>(
 
 fn vars<'a>(
     findings: &mut Findings,
-    around: &Around<'_, 'a>,
+    around: &ScopeChain<'_, 'a>,
     list: &[Var],
 ) -> Result<(), AllocError>
     ensures { OnOk result ((more : List Occurrence) → noted findings.new more ≡
@@ -48,7 +49,7 @@ fn vars<'a>(
 
 fn member<'a>(
     findings: &mut Findings,
-    around: &Around<'_, 'a>,
+    around: &ScopeChain<'_, 'a>,
     member: &Member,
 ) -> Result<(), AllocError>
     ensures { OnOk result ((more : List Occurrence) → noted findings.new more ≡
@@ -62,7 +63,7 @@ fn member<'a>(
 
 fn members<'a>(
     findings: &mut Findings,
-    around: &Around<'_, 'a>,
+    around: &ScopeChain<'_, 'a>,
     list: &[Member],
 ) -> Result<(), AllocError>
     ensures { OnOk result ((more : List Occurrence) → noted findings.new more ≡
@@ -76,7 +77,7 @@ fn members<'a>(
 
 fn constants<'a>(
     findings: &mut Findings,
-    around: &Around<'_, 'a>,
+    around: &ScopeChain<'_, 'a>,
     list: &[Constant],
 ) -> Result<(), AllocError>
     ensures { OnOk result ((more : List Occurrence) → noted findings.new more ≡
@@ -92,7 +93,7 @@ fn constants<'a>(
 /// The type of a result.
 fn result<'a>(
     findings: &mut Findings,
-    around: &Around<'_, 'a>,
+    around: &ScopeChain<'_, 'a>,
     kind: &Option<Scalar>,
 ) -> Result<(), AllocError>
     ensures { OnOk result ((more : List Occurrence) → noted findings.new more ≡
@@ -108,7 +109,7 @@ fn result<'a>(
 /// The expression of a result.
 fn value<'a>(
     findings: &mut Findings,
-    around: &Around<'_, 'a>,
+    around: &ScopeChain<'_, 'a>,
     value: &Option<Expr>,
 ) -> Result<(), AllocError>
     ensures { OnOk result ((more : List Occurrence) → noted findings.new more ≡
@@ -125,7 +126,7 @@ fn value<'a>(
 fn routine_parts<'a>(
     alloc: Global,
     findings: &mut Findings,
-    around: &Around<'_, 'a>,
+    around: &ScopeChain<'_, 'a>,
     routine: &'a Routine,
 ) -> Result<(), AllocError>
     ensures { OnOk result ((more : List Occurrence) → noted findings.new more ≡
@@ -144,7 +145,7 @@ fn routine_parts<'a>(
 fn routine<'a>(
     alloc: Global,
     findings: &mut Findings,
-    outer: &Outer<'_, 'a>,
+    outer: &OuterScopes<'_, 'a>,
     routine: &'a Routine,
 ) -> Result<(), AllocError>
     ensures { OnOk result ((more : List Occurrence) → noted findings.new more ≡
@@ -153,7 +154,7 @@ fn routine<'a>(
 {
     let mut locals = Scope::new(alloc);
     declare::routine(findings, &mut locals, outer, routine)?;
-    let around = Around {
+    let around = ScopeChain {
         outer: *outer,
         locals: Some(&locals),
     };
@@ -164,7 +165,7 @@ fn routine<'a>(
 fn routines<'a>(
     alloc: Global,
     findings: &mut Findings,
-    outer: &Outer<'_, 'a>,
+    outer: &OuterScopes<'_, 'a>,
     list: &'a [Routine],
 ) -> Result<(), AllocError>
     ensures { OnOk result ((more : List Occurrence) → noted findings.new more ≡
@@ -181,8 +182,8 @@ fn routines<'a>(
 fn monitor_parts<'a>(
     alloc: Global,
     findings: &mut Findings,
-    outer: &Outer<'_, 'a>,
-    monitor: &'a Mon,
+    outer: &OuterScopes<'_, 'a>,
+    monitor: &'a Monitor,
 ) -> Result<(), AllocError>
     ensures { OnOk result ((more : List Occurrence) → noted findings.new more ≡
         noted findings.old (monitor_inner (outer_site outer.now)
@@ -198,15 +199,15 @@ fn monitor_parts<'a>(
 fn monitor<'a>(
     alloc: Global,
     findings: &mut Findings,
-    top: &Top<'_, 'a>,
-    monitor: &'a Mon,
+    top: &TopScope<'_, 'a>,
+    monitor: &'a Monitor,
 ) -> Result<(), AllocError>
     ensures { OnOk result ((more : List Occurrence) → noted findings.new more ≡
         noted findings.old (monitor_names (top_site top.now) (placed_monitor monitor.now) more)) }
 {
     let mut names = Scope::new(alloc);
     declare::monitor(findings, &mut names, top, monitor)?;
-    let inside = Outer {
+    let inside = OuterScopes {
         top: *top,
         members: Some(&names),
         monitor: Some(monitor.place),
@@ -218,7 +219,7 @@ fn monitor<'a>(
 /// A deadline or a first activation.
 fn limit<'a>(
     findings: &mut Findings,
-    around: &Around<'_, 'a>,
+    around: &ScopeChain<'_, 'a>,
     limit: &Option<Constant>,
 ) -> Result<(), AllocError>
     ensures { OnOk result ((more : List Occurrence) → noted findings.new more ≡
@@ -233,15 +234,15 @@ fn limit<'a>(
 
 fn activation<'a>(
     findings: &mut Findings,
-    around: &Around<'_, 'a>,
-    activation: &Activation,
+    around: &ScopeChain<'_, 'a>,
+    activation: &Trigger,
 ) -> Result<(), AllocError>
     ensures { OnOk result ((more : List Occurrence) → noted findings.new more ≡
         noted findings.old (activation_names (site around.now [])
         (placed_activation activation.now) more)) }
 {
     match activation {
-        Activation::Periodic {
+        Trigger::Periodic {
             frame,
             deadline,
             first,
@@ -250,13 +251,13 @@ fn activation<'a>(
             limit(findings, around, deadline)?;
             limit(findings, around, first)?;
         }
-        Activation::AtEvent {
+        Trigger::AtEvent {
             event,
             event_place,
             frame,
             deadline,
         } => {
-            around.use_name(findings, &[], event, *event_place, Want::Event)?;
+            around.use_name(findings, &[], event, *event_place, NameUse::Event)?;
             constant(findings, around, &[], frame)?;
             limit(findings, around, deadline)?;
         }
@@ -267,7 +268,7 @@ fn activation<'a>(
 fn handler<'a>(
     alloc: Global,
     findings: &mut Findings,
-    around: &Around<'_, 'a>,
+    around: &ScopeChain<'_, 'a>,
     handler: &'a Option<Handler>,
 ) -> Result<(), AllocError>
     ensures { OnOk result ((more : List Occurrence) → noted findings.new more ≡
@@ -286,8 +287,8 @@ fn handler<'a>(
 fn process_parts<'a>(
     alloc: Global,
     findings: &mut Findings,
-    outer: &Outer<'_, 'a>,
-    process: &'a Proc,
+    outer: &OuterScopes<'_, 'a>,
+    process: &'a Process,
 ) -> Result<(), AllocError>
     ensures { OnOk result ((more : List Occurrence) → noted findings.new more ≡
         noted findings.old (process_inner (outer_site outer.now)
@@ -307,15 +308,15 @@ fn process_parts<'a>(
 fn process<'a>(
     alloc: Global,
     findings: &mut Findings,
-    top: &Top<'_, 'a>,
-    process: &'a Proc,
+    top: &TopScope<'_, 'a>,
+    process: &'a Process,
 ) -> Result<(), AllocError>
     ensures { OnOk result ((more : List Occurrence) → noted findings.new more ≡
         noted findings.old (process_names (top_site top.now) (placed_process process.now) more)) }
 {
     let mut names = Scope::new(alloc);
     declare::process(findings, &mut names, top, process)?;
-    let inside = Outer {
+    let inside = OuterScopes {
         top: *top,
         members: Some(&names),
         monitor: None,
@@ -328,28 +329,28 @@ fn process<'a>(
 pub fn decl<'a>(
     alloc: Global,
     findings: &mut Findings,
-    top: &Top<'_, 'a>,
-    decl: &'a Decl,
+    top: &TopScope<'_, 'a>,
+    decl: &'a Declaration,
 ) -> Result<(), AllocError>
     ensures { OnOk result ((more : List Occurrence) → noted findings.new more ≡
         noted findings.old (inner_names (top_site top.now) (placed_decl decl.now) more)) }
 {
     match decl {
-        Decl::Const { value, .. } => {
+        Declaration::Const { value, .. } => {
             let around = top.outside().around();
             constant(findings, &around, &[], value)?;
             Ok(())
         }
-        Decl::Device { .. } | Decl::Event { .. } => Ok(()),
-        Decl::Routine(one) => {
+        Declaration::Device { .. } | Declaration::Event { .. } => Ok(()),
+        Declaration::Routine(one) => {
             routine(alloc, findings, &top.outside(), one)?;
             Ok(())
         }
-        Decl::Mon(one) => {
+        Declaration::Monitor(one) => {
             monitor(alloc, findings, top, one)?;
             Ok(())
         }
-        Decl::Proc(one) => {
+        Declaration::Process(one) => {
             process(alloc, findings, top, one)?;
             Ok(())
         }

@@ -11,52 +11,53 @@ ghost use Rattle.static_names.specs.Reach.{first};
 ghost use Rattle.static_names.specs.Findings.{noted};
 ghost use Rattle.static_names.specs.Seen.{meaning, add as added, add_all, entry_meaning, add_entries, add_monitors, put, IsNext, nothing};
 
-use crate::around::Top;
 use crate::findings::Findings;
 use crate::kind::{Declared, Kind};
 use crate::part::decl;
 use crate::scope::{Entries, Scope, add, add_entry, add_unless, find};
+use crate::scope_chain::TopScope;
 use std::alloc::{AllocError, Global};
-use syntax_tree::{Decl, Name, Place, Prog, Routine};
+use syntax_tree::{Declaration, Name, Place, Program, Routine};
 
 /// Where a declaration has its name.
-fn place_of(decl: &Decl) -> Place
+fn place_of(decl: &Declaration) -> Place
     ensures { result ≡ (decl_name (placed_decl decl.now)).1.place }
 {
     match decl {
-        Decl::Const { place, .. } | Decl::Device { place, .. } | Decl::Event { place, .. } =>
-            *place,
-        Decl::Routine(routine) => routine.place,
-        Decl::Mon(monitor) => monitor.place,
-        Decl::Proc(process) => process.place,
+        Declaration::Const { place, .. }
+        | Declaration::Device { place, .. }
+        | Declaration::Event { place, .. } => *place,
+        Declaration::Routine(routine) => routine.place,
+        Declaration::Monitor(monitor) => monitor.place,
+        Declaration::Process(process) => process.place,
     }
 }
 
 /// What a declaration declares its name as.
-fn kind_of(decl: &Decl) -> Kind
+fn kind_of(decl: &Declaration) -> Kind
     ensures { result ≡ (decl_name (placed_decl decl.now)).1.kind }
 {
     match decl {
-        Decl::Const { .. } => Kind::Constant,
-        Decl::Device { .. } => Kind::Device,
-        Decl::Event { .. } => Kind::Event,
-        Decl::Routine(_) => Kind::Routine,
-        Decl::Mon(_) => Kind::Monitor,
-        Decl::Proc(_) => Kind::Process,
+        Declaration::Const { .. } => Kind::Constant,
+        Declaration::Device { .. } => Kind::Device,
+        Declaration::Event { .. } => Kind::Event,
+        Declaration::Routine(_) => Kind::Routine,
+        Declaration::Monitor(_) => Kind::Monitor,
+        Declaration::Process(_) => Kind::Process,
     }
 }
 
 /// The name that a declaration declares.
-fn name_of(decl: &Decl) -> &[u8]
+fn name_of(decl: &Declaration) -> &[u8]
     ensures { result.now ≡ (decl_name (placed_decl decl.now)).0 }
 {
     match decl {
-        Decl::Const { name, .. } | Decl::Device { name, .. } | Decl::Event { name, .. } => {
-            name.as_bytes()
-        }
-        Decl::Routine(routine) => routine.name.as_bytes(),
-        Decl::Mon(monitor) => monitor.name.as_bytes(),
-        Decl::Proc(process) => process.name.as_bytes(),
+        Declaration::Const { name, .. }
+        | Declaration::Device { name, .. }
+        | Declaration::Event { name, .. } => { name.as_bytes() }
+        Declaration::Routine(routine) => routine.name.as_bytes(),
+        Declaration::Monitor(monitor) => monitor.name.as_bytes(),
+        Declaration::Process(process) => process.name.as_bytes(),
     }
 }
 
@@ -70,7 +71,7 @@ fn set<'a>(scope: &mut Scope<'a>, name: &'a [u8], declared: Declared) -> Result<
 }
 
 /// Declares what is no constant.
-fn other<'a>(scope: &mut Scope<'a>, decl: &'a Decl) -> Result<(), AllocError>
+fn other<'a>(scope: &mut Scope<'a>, decl: &'a Declaration) -> Result<(), AllocError>
     ensures { OnOk result (meaning scope.new.entries ≡
         add_all (meaning scope.old.entries) (others_of (placed_decl decl.now ∷ []))) }
 {
@@ -79,27 +80,27 @@ fn other<'a>(scope: &mut Scope<'a>, decl: &'a Decl) -> Result<(), AllocError>
         kind: kind_of(decl),
     };
     match decl {
-        Decl::Const { .. } => Ok(()),
-        Decl::Device { name, .. } | Decl::Event { name, .. } => {
+        Declaration::Const { .. } => Ok(()),
+        Declaration::Device { name, .. } | Declaration::Event { name, .. } => {
             add(scope, name.as_bytes(), declared)?;
             Ok(())
         }
-        Decl::Routine(routine) => {
+        Declaration::Routine(routine) => {
             add(scope, routine.name.as_bytes(), declared)?;
             Ok(())
         }
-        Decl::Mon(monitor) => {
+        Declaration::Monitor(monitor) => {
             add(scope, monitor.name.as_bytes(), declared)?;
             Ok(())
         }
-        Decl::Proc(process) => {
+        Declaration::Process(process) => {
             add(scope, process.name.as_bytes(), declared)?;
             Ok(())
         }
     }
 }
 
-fn others<'a>(scope: &mut Scope<'a>, list: &'a [Decl]) -> Result<(), AllocError>
+fn others<'a>(scope: &mut Scope<'a>, list: &'a [Declaration]) -> Result<(), AllocError>
     ensures { OnOk result (meaning scope.new.entries ≡
         add_all (meaning scope.old.entries) (others_of (map placed_decl list.now))) }
 {
@@ -130,17 +131,17 @@ fn entries<'a>(
 }
 
 /// The entries of a declaration, where it is a monitor.
-fn monitor<'a>(all: &mut Entries<'a>, decl: &'a Decl) -> Result<(), AllocError>
+fn monitor<'a>(all: &mut Entries<'a>, decl: &'a Declaration) -> Result<(), AllocError>
     ensures { OnOk result (entry_meaning all.new.entries ≡
         add_monitors (entry_meaning all.old.entries) (placed_decl decl.now ∷ [])) }
 {
-    if let Decl::Mon(monitor) = decl {
+    if let Declaration::Monitor(monitor) = decl {
         entries(all, monitor.place, monitor.entries.as_slice())?;
     }
     Ok(())
 }
 
-fn monitors<'a>(all: &mut Entries<'a>, list: &'a [Decl]) -> Result<(), AllocError>
+fn monitors<'a>(all: &mut Entries<'a>, list: &'a [Declaration]) -> Result<(), AllocError>
     ensures { OnOk result (entry_meaning all.new.entries ≡
         add_monitors (entry_meaning all.old.entries) (map placed_decl list.now)) }
 {
@@ -152,7 +153,7 @@ fn monitors<'a>(all: &mut Entries<'a>, list: &'a [Decl]) -> Result<(), AllocErro
 
 /// A constant reaches from here on, before what is declared later, unless its name is taken by what
 /// is declared before.
-fn reveal<'a>(taken: bool, program: &mut Scope<'a>, decl: &'a Decl) -> Result<(), AllocError>
+fn reveal<'a>(taken: bool, program: &mut Scope<'a>, decl: &'a Declaration) -> Result<(), AllocError>
     ensures { OnOk result ((seen : List (Bor PlainName × SpecDeclared))
         (rest : List (PlacedDecl SpecPlace)) →
         taken ≡ is_some (meaning seen (decl_name (placed_decl decl.now)).0) →
@@ -161,7 +162,7 @@ fn reveal<'a>(taken: bool, program: &mut Scope<'a>, decl: &'a Decl) -> Result<()
         meaning program.new.entries ≡ add_all
         (added (meaning seen) (decl_name (placed_decl decl.now))) (others_of rest)) }
 {
-    if let Decl::Const { name, place, .. } = decl {
+    if let Declaration::Const { name, place, .. } = decl {
         if taken {
             return Ok(());
         }
@@ -182,7 +183,7 @@ fn next<'a>(
     program: &mut Scope<'a>,
     seen: &mut Scope<'a>,
     entries: &Entries<'a>,
-    one: &'a Decl,
+    one: &'a Declaration,
 ) -> Result<(), AllocError>
     ensures { OnOk result ((rest : List (PlacedDecl SpecPlace)) →
         IsNext (entry_meaning entries.now.entries) findings.old (meaning program.old.entries)
@@ -195,7 +196,7 @@ fn next<'a>(
     };
     let taken = find(seen, name_of(one)).is_some();
     findings.declare(declared.place, taken);
-    decl(alloc, findings, &Top { program, entries }, one)?;
+    decl(alloc, findings, &TopScope { program, entries }, one)?;
     reveal(taken, program, one)?;
     add_unless(taken, seen, name_of(one), declared)?;
     Ok(())
@@ -207,7 +208,7 @@ fn decls<'a>(
     program: &mut Scope<'a>,
     seen: &mut Scope<'a>,
     entries: &Entries<'a>,
-    list: &'a [Decl],
+    list: &'a [Declaration],
 ) -> Result<(), AllocError>
     ensures { OnOk result (IsNext (entry_meaning entries.now.entries) findings.old
         (meaning program.old.entries) (meaning seen.old.entries)
@@ -224,7 +225,7 @@ fn decls<'a>(
 fn start<'a>(
     names: &mut Scope<'a>,
     seen: &mut Scope<'a>,
-    program: &'a Prog,
+    program: &'a Program,
 ) -> Result<(), AllocError>
     ensures names { OnOk result (meaning names.new.entries ≡
         add_all (added (meaning names.old.entries) (program_name (placed program.now)))
@@ -247,7 +248,7 @@ fn body<'a>(
     alloc: Global,
     findings: &mut Findings,
     entries: &Entries<'a>,
-    program: &'a Prog,
+    program: &'a Program,
 ) -> Result<(), AllocError>
     ensures { let g = placed program.now in OnOk result
         ((more : List Occurrence) → noted findings.new more ≡
@@ -270,7 +271,7 @@ fn body<'a>(
 }
 
 /// The names of all declarations.
-fn whole(alloc: Global, findings: &mut Findings, program: &Prog) -> Result<(), AllocError>
+fn whole(alloc: Global, findings: &mut Findings, program: &Program) -> Result<(), AllocError>
     ensures { let g = placed program.now in OnOk result
         ((more : List Occurrence) → noted findings.new more ≡
         noted findings.old (decls_names (λ place. first (entries_at g.decls place))
@@ -283,7 +284,7 @@ fn whole(alloc: Global, findings: &mut Findings, program: &Prog) -> Result<(), A
 }
 
 /// What is found of all names of a program.
-pub fn findings(alloc: Global, program: &Prog) -> Result<Findings, AllocError>
+pub fn findings(alloc: Global, program: &Program) -> Result<Findings, AllocError>
     ensures { IfOk result (λ f. f ≡ noted nothing (names_of (placed program.now))) }
 {
     let mut findings = Findings::new(alloc);

@@ -2,17 +2,17 @@
 
 ghost use Rattle.std.specs.Prelude.{◌≡◌, OnOk, List, [], ◌∷◌, take, length, ◌-◌};
 ghost use Rattle.syntax_tree.specs.Placed.{placed_constant, placed_exprs, placed_ref, placed_stmt, placed_stmts};
-ghost use Rattle.static_names.specs.declared.kind.Want.TheVariants.{Condition};
+ghost use Rattle.static_names.specs.declared.kind.NameUse.TheVariants.{Condition};
 ghost use Rattle.static_names.specs.Reach.{inside};
 ghost use Rattle.static_names.specs.Occurrences.{Occurrence, uses, declarations, loop_name, constant_names, exprs_names, ref_names, entry_names, stmt_names, stmts_names};
 ghost use Rattle.static_names.specs.Findings.{noted};
 ghost use Rattle.static_names.specs.Seen.{site, AroundValue, names_if, is_assignment, is_call, is_transfer, is_condition, is_check, is_plain};
 
-use crate::around::Around;
 use crate::expr::{constant, expr, exprs, target};
 use crate::findings::Findings;
-use crate::kind::{Declared, Kind, Want};
+use crate::kind::{Declared, Kind, NameUse};
 use crate::scope::Local;
+use crate::scope_chain::ScopeChain;
 use std::alloc::AllocError;
 use syntax_tree::{Constant, Expr, Name, Place, Ref, Stmt};
 
@@ -42,7 +42,7 @@ fn leave(loops: &mut Vec<Local<'_>>)
 /// The variable and the bounds of a loop.
 fn loop_head<'a>(
     findings: &mut Findings,
-    around: &Around<'_, 'a>,
+    around: &ScopeChain<'_, 'a>,
     loops: &[Local<'a>],
     variable: (&Name, Place),
     bounds: (&Constant, &Constant),
@@ -64,7 +64,7 @@ fn loop_head<'a>(
 /// A call of an entry.
 fn call_entry<'a>(
     findings: &mut Findings,
-    around: &Around<'_, 'a>,
+    around: &ScopeChain<'_, 'a>,
     loops: &[Local<'a>],
     monitor: (&Name, Place),
     entry: (&Name, Place),
@@ -83,7 +83,7 @@ fn call_entry<'a>(
 /// An assignment of whether nobody waits for a condition.
 fn assign_empty<'a>(
     findings: &mut Findings,
-    around: &Around<'_, 'a>,
+    around: &ScopeChain<'_, 'a>,
     loops: &[Local<'a>],
     to: &Ref,
     cond: (&Name, Place),
@@ -94,14 +94,14 @@ fn assign_empty<'a>(
         (uses here cond.entry.0.now cond.entry.1 Condition ∷ more))) }
 {
     target(findings, around, loops, to)?;
-    around.use_name(findings, loops, cond.0, cond.1, Want::Condition)?;
+    around.use_name(findings, loops, cond.0, cond.1, NameUse::Condition)?;
     Ok(())
 }
 
 /// An assignment.
 fn assignment<'a>(
     findings: &mut Findings,
-    around: &Around<'_, 'a>,
+    around: &ScopeChain<'_, 'a>,
     loops: &[Local<'a>],
     s: &Stmt,
 ) -> Result<(), AllocError>
@@ -149,7 +149,7 @@ fn assignment<'a>(
 /// A call of a procedure or an entry.
 fn call<'a>(
     findings: &mut Findings,
-    around: &Around<'_, 'a>,
+    around: &ScopeChain<'_, 'a>,
     loops: &[Local<'a>],
     s: &Stmt,
 ) -> Result<(), AllocError>
@@ -159,7 +159,7 @@ fn call<'a>(
 {
     match s {
         Stmt::Call { place, name, args } => {
-            around.use_name(findings, loops, name, *place, Want::Routine)?;
+            around.use_name(findings, loops, name, *place, NameUse::Routine)?;
             exprs(findings, around, loops, args.as_slice())?;
             Ok(())
         }
@@ -187,7 +187,7 @@ fn call<'a>(
 /// A `get` or a `put`.
 fn transfer<'a>(
     findings: &mut Findings,
-    around: &Around<'_, 'a>,
+    around: &ScopeChain<'_, 'a>,
     loops: &[Local<'a>],
     s: &Stmt,
 ) -> Result<(), AllocError>
@@ -202,7 +202,7 @@ fn transfer<'a>(
             target: to,
             ..
         } => {
-            around.use_name(findings, loops, device, *device_place, Want::Device)?;
+            around.use_name(findings, loops, device, *device_place, NameUse::Device)?;
             target(findings, around, loops, to)?;
             Ok(())
         }
@@ -212,7 +212,7 @@ fn transfer<'a>(
             value,
             ..
         } => {
-            around.use_name(findings, loops, device, *device_place, Want::Device)?;
+            around.use_name(findings, loops, device, *device_place, NameUse::Device)?;
             expr(findings, around, loops, value)?;
             Ok(())
         }
@@ -223,7 +223,7 @@ fn transfer<'a>(
 /// A statement about a condition.
 fn condition<'a>(
     findings: &mut Findings,
-    around: &Around<'_, 'a>,
+    around: &ScopeChain<'_, 'a>,
     loops: &[Local<'a>],
     s: &Stmt,
 ) -> Result<(), AllocError>
@@ -239,7 +239,7 @@ fn condition<'a>(
             number,
             ..
         } => {
-            around.use_name(findings, loops, cond, *cond_place, Want::Condition)?;
+            around.use_name(findings, loops, cond, *cond_place, NameUse::Condition)?;
             constant(findings, around, loops, limit)?;
             constant(findings, around, loops, number)?;
             Ok(())
@@ -254,7 +254,7 @@ fn condition<'a>(
             cond_place,
             ..
         } => {
-            around.use_name(findings, loops, cond, *cond_place, Want::Condition)?;
+            around.use_name(findings, loops, cond, *cond_place, NameUse::Condition)?;
             Ok(())
         }
         _ => Ok(()),
@@ -264,7 +264,7 @@ fn condition<'a>(
 /// An `exit`, an `except` or an `assert`.
 fn check<'a>(
     findings: &mut Findings,
-    around: &Around<'_, 'a>,
+    around: &ScopeChain<'_, 'a>,
     loops: &[Local<'a>],
     s: &Stmt,
 ) -> Result<(), AllocError>
@@ -288,7 +288,7 @@ fn check<'a>(
 /// A statement in which no others stand.
 fn plain<'a>(
     findings: &mut Findings,
-    around: &Around<'_, 'a>,
+    around: &ScopeChain<'_, 'a>,
     loops: &[Local<'a>],
     s: &Stmt,
 ) -> Result<(), AllocError>
@@ -324,7 +324,7 @@ fn plain<'a>(
 #[cycle(stmt)]
 pub fn stmts<'a>(
     findings: &mut Findings,
-    around: &Around<'_, 'a>,
+    around: &ScopeChain<'_, 'a>,
     loops: &mut Vec<Local<'a>>,
     list: &'a [Stmt],
 ) -> Result<(), AllocError>
@@ -342,7 +342,7 @@ pub fn stmts<'a>(
 #[cycle(stmt)]
 pub fn stmt<'a>(
     findings: &mut Findings,
-    around: &Around<'_, 'a>,
+    around: &ScopeChain<'_, 'a>,
     loops: &mut Vec<Local<'a>>,
     s: &'a Stmt,
 ) -> Result<(), AllocError>

@@ -5,7 +5,7 @@ use Rattle.std.specs.List.{list_any}
 use Rattle.std.specs.Map.{lookup}
 use Rattle.syntax_tree.specs.Placed.{Constant, placed_constant}
 use Rattle.syntax_tree.specs.declared.place.Place.{Place}
-use Rattle.static_rule.specs.declared.broken.Broken.{Broken}
+use Rattle.static_rule.specs.declared.violation.Violation.{Violation}
 use Rattle.static_rule.specs.Parts.{Rule, noted}
 use Rattle.static_names.specs.Findings.{Key, same_key, key_of}
 use Rattle.static_declarations.specs.Values.{Worth}
@@ -14,7 +14,7 @@ use Rattle.static_numbers.specs.Types.{Bounds}
 use Rattle.static_numbers.specs.Processes.{has_value}
 
 -- the first failure changes from one to the other, where the rules are tried on a part of the tree
-abbrev pub Tries : {X : Type 0} → List (Rule X) → Option Broken → (List X → List X) → Option Broken → Type 0
+abbrev pub Tries : {X : Type 0} → List (Rule X) → Option Violation → (List X → List X) → Option Violation → Type 0
 Tries {X} rules old part new = (more : List X) → noted rules new more ≡ noted rules old (part more)
 
 abbrev pub bounds_of : code_bounds.Bounds → Bounds

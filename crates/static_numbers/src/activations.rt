@@ -11,8 +11,8 @@ ghost use Rattle.static_numbers.specs.Processes.{frame_of, deadline_of, bad_limi
 ghost use Rattle.static_numbers.specs.Rules.{process_rules};
 
 use static_declarations::Declarations;
-use static_rule::{Broken, blame, rule};
-use syntax_tree::{Activation, Constant, Decl, Place, Proc};
+use static_rule::{Violation, blame, rule};
+use syntax_tree::{Constant, Declaration, Place, Process, Trigger};
 
 /// A frame, and a deadline, has at least so many ticks.
 const LEAST_TICKS: u32 = 10;
@@ -20,19 +20,19 @@ const LEAST_TICKS: u32 = 10;
 /// A frame has at most so many ticks, and a first activation is at most so many ticks late.
 const MOST_TICKS: u32 = 1_000_000_000;
 
-fn frame(activation: &Activation) -> &Constant
+fn frame(activation: &Trigger) -> &Constant
     ensures { placed_constant result.now ≡ frame_of (placed_activation activation.now) }
 {
     match activation {
-        Activation::Periodic { frame, .. } | Activation::AtEvent { frame, .. } => frame,
+        Trigger::Periodic { frame, .. } | Trigger::AtEvent { frame, .. } => frame,
     }
 }
 
-fn deadline(activation: &Activation) -> &Option<Constant>
+fn deadline(activation: &Trigger) -> &Option<Constant>
     ensures { optional placed_constant result.now ≡ deadline_of (placed_activation activation.now) }
 {
     match activation {
-        Activation::Periodic { deadline, .. } | Activation::AtEvent { deadline, .. } => deadline,
+        Trigger::Periodic { deadline, .. } | Trigger::AtEvent { deadline, .. } => deadline,
     }
 }
 
@@ -55,21 +55,21 @@ fn bad_deadline(
 }
 
 /// The place of a first activation that is outside its limits.
-fn bad_start(declarations: &Declarations<'_>, activation: &Activation) -> Option<Place>
+fn bad_start(declarations: &Declarations<'_>, activation: &Trigger) -> Option<Place>
     ensures { result ≡ bad_start_of (value (placed declarations.now))
         (placed_activation activation.now) }
 {
     match activation {
-        Activation::Periodic {
+        Trigger::Periodic {
             first: Some(start),
             ..
         } => declarations.out_of(0, MOST_TICKS, start),
-        Activation::Periodic { first: None, .. } | Activation::AtEvent { .. } => None,
+        Trigger::Periodic { first: None, .. } | Trigger::AtEvent { .. } => None,
     }
 }
 
 /// Tries the rules on a process.
-fn process(first: &mut Option<Broken>, declarations: &Declarations<'_>, process: &Proc)
+fn process(first: &mut Option<Violation>, declarations: &Declarations<'_>, process: &Process)
     ensures { first.new ≡ note (process_rules (placed declarations.now)) first.old
         (placed_process process.now) }
 {
@@ -92,18 +92,18 @@ fn process(first: &mut Option<Broken>, declarations: &Declarations<'_>, process:
     );
 }
 
-fn decl(first: &mut Option<Broken>, declarations: &Declarations<'_>, decl: &Decl)
+fn decl(first: &mut Option<Violation>, declarations: &Declarations<'_>, decl: &Declaration)
     ensures { let rules = process_rules (placed declarations.now) in
         (rest : List (SpecDecl SpecPlace)) → noted rules first.new (processes rest) ≡
         noted rules first.old (processes (placed_decl decl.now ∷ rest)) }
 {
-    if let Decl::Proc(one) = decl {
+    if let Declaration::Process(one) = decl {
         process(first, declarations, one);
     }
 }
 
 /// The rule for frames, deadlines and first activations that fails first, if any does.
-pub fn first_broken(declarations: &Declarations<'_>) -> Option<Broken>
+pub fn first_broken(declarations: &Declarations<'_>) -> Option<Violation>
     ensures { let g = placed declarations.now in IsFirstOf
         (FailsAmong (process_rules g) (processes g.decls)) result }
 {

@@ -10,8 +10,8 @@ ghost use Rattle.static_numbers.specs.Rules.{bounds_rules};
 ghost use Rattle.static_numbers.specs.Seen.{Tries, bounds_of};
 
 use static_declarations::Declarations;
-use static_rule::{Broken, blame, rule};
-use syntax_tree::{Constant, Decl, Member, Param, Place, Routine, Scalar, Type, Var};
+use static_rule::{Violation, blame, rule};
+use syntax_tree::{Constant, Declaration, Member, Param, Place, Routine, Scalar, Type, Var};
 
 /// An array has at most so many elements.
 const LONGEST: i64 = 65_536;
@@ -49,7 +49,7 @@ fn too_long(declarations: &Declarations<'_>, bounds: &Bounds<'_>) -> Option<Plac
 }
 
 /// Tries the rules on two bounds.
-fn pair(first: &mut Option<Broken>, declarations: &Declarations<'_>, bounds: &Bounds<'_>)
+fn pair(first: &mut Option<Violation>, declarations: &Declarations<'_>, bounds: &Bounds<'_>)
     ensures { first.new ≡ note (bounds_rules (placed declarations.now)) first.old
         (bounds_of bounds.now) }
 {
@@ -57,7 +57,7 @@ fn pair(first: &mut Option<Broken>, declarations: &Declarations<'_>, bounds: &Bo
     blame(first, rule::LONG_ARRAY, too_long(declarations, bounds));
 }
 
-fn scalar(first: &mut Option<Broken>, declarations: &Declarations<'_>, kind: &Scalar)
+fn scalar(first: &mut Option<Violation>, declarations: &Declarations<'_>, kind: &Scalar)
     ensures { Tries (bounds_rules (placed declarations.now)) first.old
         (scalar_bounds (placed_scalar kind.now)) first.new }
 {
@@ -71,7 +71,7 @@ fn scalar(first: &mut Option<Broken>, declarations: &Declarations<'_>, kind: &Sc
     }
 }
 
-fn kind(first: &mut Option<Broken>, declarations: &Declarations<'_>, kind: &Type)
+fn kind(first: &mut Option<Violation>, declarations: &Declarations<'_>, kind: &Type)
     ensures { Tries (bounds_rules (placed declarations.now)) first.old
         (kind_bounds (placed_kind kind.now)) first.new }
 {
@@ -89,7 +89,7 @@ fn kind(first: &mut Option<Broken>, declarations: &Declarations<'_>, kind: &Type
     }
 }
 
-fn vars(first: &mut Option<Broken>, declarations: &Declarations<'_>, list: &[Var])
+fn vars(first: &mut Option<Violation>, declarations: &Declarations<'_>, list: &[Var])
     ensures { Tries (bounds_rules (placed declarations.now)) first.old
         (vars_bounds (map placed_var list.now)) first.new }
 {
@@ -98,7 +98,7 @@ fn vars(first: &mut Option<Broken>, declarations: &Declarations<'_>, list: &[Var
     }
 }
 
-fn params(first: &mut Option<Broken>, declarations: &Declarations<'_>, list: &[Param])
+fn params(first: &mut Option<Violation>, declarations: &Declarations<'_>, list: &[Param])
     ensures { Tries (bounds_rules (placed declarations.now)) first.old
         (params_bounds (map placed_param list.now)) first.new }
 {
@@ -108,7 +108,7 @@ fn params(first: &mut Option<Broken>, declarations: &Declarations<'_>, list: &[P
 }
 
 /// The type of a result.
-fn result(first: &mut Option<Broken>, declarations: &Declarations<'_>, kind: &Option<Scalar>)
+fn result(first: &mut Option<Violation>, declarations: &Declarations<'_>, kind: &Option<Scalar>)
     ensures { Tries (bounds_rules (placed declarations.now)) first.old
         (result_bounds (optional placed_scalar kind.now)) first.new }
 {
@@ -117,7 +117,7 @@ fn result(first: &mut Option<Broken>, declarations: &Declarations<'_>, kind: &Op
     }
 }
 
-fn routine(first: &mut Option<Broken>, declarations: &Declarations<'_>, routine: &Routine)
+fn routine(first: &mut Option<Violation>, declarations: &Declarations<'_>, routine: &Routine)
     ensures { Tries (bounds_rules (placed declarations.now)) first.old
         (routine_bounds (placed_routine routine.now)) first.new }
 {
@@ -126,7 +126,7 @@ fn routine(first: &mut Option<Broken>, declarations: &Declarations<'_>, routine:
     vars(first, declarations, routine.vars.as_slice());
 }
 
-fn routines(first: &mut Option<Broken>, declarations: &Declarations<'_>, list: &[Routine])
+fn routines(first: &mut Option<Violation>, declarations: &Declarations<'_>, list: &[Routine])
     ensures { Tries (bounds_rules (placed declarations.now)) first.old
         (routines_bounds (map placed_routine list.now)) first.new }
 {
@@ -135,7 +135,7 @@ fn routines(first: &mut Option<Broken>, declarations: &Declarations<'_>, list: &
     }
 }
 
-fn member(first: &mut Option<Broken>, declarations: &Declarations<'_>, member: &Member)
+fn member(first: &mut Option<Violation>, declarations: &Declarations<'_>, member: &Member)
     ensures { Tries (bounds_rules (placed declarations.now)) first.old
         (member_bounds (placed_member member.now)) first.new }
 {
@@ -144,7 +144,7 @@ fn member(first: &mut Option<Broken>, declarations: &Declarations<'_>, member: &
     }
 }
 
-fn members(first: &mut Option<Broken>, declarations: &Declarations<'_>, list: &[Member])
+fn members(first: &mut Option<Violation>, declarations: &Declarations<'_>, list: &[Member])
     ensures { Tries (bounds_rules (placed declarations.now)) first.old
         (members_bounds (map placed_member list.now)) first.new }
 {
@@ -153,25 +153,25 @@ fn members(first: &mut Option<Broken>, declarations: &Declarations<'_>, list: &[
     }
 }
 
-fn decl(first: &mut Option<Broken>, declarations: &Declarations<'_>, decl: &Decl)
+fn decl(first: &mut Option<Violation>, declarations: &Declarations<'_>, decl: &Declaration)
     ensures { Tries (bounds_rules (placed declarations.now)) first.old
         (decl_bounds (placed_decl decl.now)) first.new }
 {
     match decl {
-        Decl::Const { .. } | Decl::Device { .. } | Decl::Event { .. } => {}
-        Decl::Routine(one) => routine(first, declarations, one),
-        Decl::Mon(monitor) => {
+        Declaration::Const { .. } | Declaration::Device { .. } | Declaration::Event { .. } => {}
+        Declaration::Routine(one) => routine(first, declarations, one),
+        Declaration::Monitor(monitor) => {
             members(first, declarations, monitor.members.as_slice());
             routines(first, declarations, monitor.entries.as_slice());
         }
-        Decl::Proc(process) => {
+        Declaration::Process(process) => {
             vars(first, declarations, process.vars.as_slice());
             routines(first, declarations, process.routines.as_slice());
         }
     }
 }
 
-fn decls(first: &mut Option<Broken>, declarations: &Declarations<'_>, list: &[Decl])
+fn decls(first: &mut Option<Violation>, declarations: &Declarations<'_>, list: &[Declaration])
     ensures { Tries (bounds_rules (placed declarations.now)) first.old
         (decls_bounds (map placed_decl list.now)) first.new }
 {
@@ -181,7 +181,7 @@ fn decls(first: &mut Option<Broken>, declarations: &Declarations<'_>, list: &[De
 }
 
 /// The rule for bounds of types that fails first, if any does.
-pub fn first_broken(declarations: &Declarations<'_>) -> Option<Broken>
+pub fn first_broken(declarations: &Declarations<'_>) -> Option<Violation>
     ensures { let g = placed declarations.now in IsFirstOf
         (FailsAmong (bounds_rules g) (decls_bounds g.decls [])) result }
 {

@@ -8,10 +8,10 @@ ghost use Rattle.static_numbers.specs.Counts.{at_none, one_too_many as one_too_m
 ghost use Rattle.static_numbers.specs.Places.{places_of};
 ghost use Rattle.static_numbers.specs.Rules.{count_rules};
 
-use crate::places::Places;
+use crate::places::NamePlaces;
 use crate::words::too_many;
 use static_declarations::Declarations;
-use static_rule::{Broken, blame, rule};
+use static_rule::{Violation, blame, rule};
 use std::alloc::{AllocError, Global};
 use syntax_tree::Place;
 
@@ -38,7 +38,7 @@ fn one_too_many(most: usize, places: &[Place]) -> Option<Place>
 }
 
 /// Tries the rules, the places of all things being known.
-fn tried(declarations: &Declarations<'_>, places: &Places) -> Option<Broken>
+fn tried(declarations: &Declarations<'_>, places: &NamePlaces) -> Option<Violation>
     ensures { let g = placed declarations.now in places.now ≡ places_of g → result ≡
         note (count_rules g) None g }
 {
@@ -89,10 +89,10 @@ fn tried(declarations: &Declarations<'_>, places: &Places) -> Option<Broken>
 pub fn first_broken(
     alloc: Global,
     declarations: &Declarations<'_>,
-) -> Result<Option<Broken>, AllocError>
+) -> Result<Option<Violation>, AllocError>
     ensures { let g = placed declarations.now in IfOk result
         (IsFirstOf (FailsAmong (count_rules g) (g ∷ []))) }
 {
-    let places = Places::of(alloc, declarations.program())?;
+    let places = NamePlaces::of(alloc, declarations.program())?;
     Ok(tried(declarations, &places))
 }

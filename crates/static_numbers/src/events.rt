@@ -13,9 +13,9 @@ ghost use Rattle.static_numbers.specs.Seen.{held, known_uses};
 
 use indexmap::IndexMap;
 use static_declarations::Declarations;
-use static_rule::{Broken, blame, rule};
+use static_rule::{Violation, blame, rule};
 use std::alloc::{AllocError, Global};
-use syntax_tree::{Activation, Decl, Place, Proc};
+use syntax_tree::{Declaration, Place, Process, Trigger};
 
 /// How many processes each event activates, by the line and column of its name.
 type Uses = IndexMap<(u32, u32), u64>;
@@ -45,7 +45,7 @@ fn note_use(uses: &mut Uses, event: Place) -> Result<(), AllocError>
 fn process(
     uses: &mut Uses,
     declarations: &Declarations<'_>,
-    process: &Proc,
+    process: &Process,
 ) -> Result<(), AllocError>
     ensures { let declared = declared_at (names (placed declarations.now)) in OnOk result
         ((e : SpecPlace) (rest : List (SpecProcess SpecPlace)) →
@@ -53,7 +53,7 @@ fn process(
         held (known_uses uses.old.entries e +
         users declared e (placed_process process.now ∷ rest))) }
 {
-    if let Activation::AtEvent { event_place, .. } = &process.activation {
+    if let Trigger::AtEvent { event_place, .. } = &process.activation {
         if let Some(event) = declarations.declared(*event_place) {
             note_use(uses, event)?;
         }
@@ -61,14 +61,18 @@ fn process(
     Ok(())
 }
 
-fn decl(uses: &mut Uses, declarations: &Declarations<'_>, decl: &Decl) -> Result<(), AllocError>
+fn decl(
+    uses: &mut Uses,
+    declarations: &Declarations<'_>,
+    decl: &Declaration,
+) -> Result<(), AllocError>
     ensures { let declared = declared_at (names (placed declarations.now)) in OnOk result
         ((e : SpecPlace) (rest : List (SpecDecl SpecPlace)) →
         held (known_uses uses.new.entries e + users declared e (processes rest)) ≡
         held (known_uses uses.old.entries e +
         users declared e (processes (placed_decl decl.now ∷ rest)))) }
 {
-    if let Decl::Proc(one) = decl {
+    if let Declaration::Process(one) = decl {
         process(uses, declarations, one)?;
     }
     Ok(())
@@ -99,13 +103,13 @@ fn misused(uses: &Uses, event: Place) -> Option<Place>
 }
 
 /// Tries the rule on a declaration, the uses of all events being known.
-fn event(first: &mut Option<Broken>, uses: &Uses, decl: &Decl)
+fn event(first: &mut Option<Violation>, uses: &Uses, decl: &Declaration)
     ensures { (g : SpecProg SpecPlace) → ((e : SpecPlace) → held (known_uses uses.now.entries e) ≡
         held (users (declared_at (names g)) e (processes g.decls))) →
         (rest : List (SpecDecl SpecPlace)) → noted (event_rules g) first.new (events rest) ≡
         noted (event_rules g) first.old (events (placed_decl decl.now ∷ rest)) }
 {
-    if let Decl::Event { place, .. } = decl {
+    if let Declaration::Event { place, .. } = decl {
         blame(first, rule::EVENT_USE, misused(uses, *place));
     }
 }
@@ -114,7 +118,7 @@ fn event(first: &mut Option<Broken>, uses: &Uses, decl: &Decl)
 pub fn first_broken(
     alloc: Global,
     declarations: &Declarations<'_>,
-) -> Result<Option<Broken>, AllocError>
+) -> Result<Option<Violation>, AllocError>
     ensures { let g = placed declarations.now in IfOk result
         (IsFirstOf (FailsAmong (event_rules g) (events g.decls))) }
 {

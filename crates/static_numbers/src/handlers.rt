@@ -13,9 +13,9 @@ ghost use Rattle.static_numbers.specs.Seen.{Tries, HasValues};
 
 use indexmap::IndexSet;
 use static_declarations::Declarations;
-use static_rule::{Broken, blame, rule};
+use static_rule::{Violation, blame, rule};
 use std::alloc::{AllocError, Global};
-use syntax_tree::{Constant, Decl, Handler, Place};
+use syntax_tree::{Constant, Declaration, Handler, Place};
 
 /// The values of numbers.
 type Values = IndexSet<i64>;
@@ -63,7 +63,7 @@ fn repeated(
 
 /// Tries the rules on a number, the values of those before it being known.
 fn number(
-    first: &mut Option<Broken>,
+    first: &mut Option<Violation>,
     declarations: &Declarations<'_>,
     values: &mut Values,
     number: &Constant,
@@ -87,7 +87,7 @@ fn number(
 
 fn numbers(
     alloc: Global,
-    first: &mut Option<Broken>,
+    first: &mut Option<Violation>,
     declarations: &Declarations<'_>,
     list: &[Constant],
 ) -> Result<(), AllocError>
@@ -103,7 +103,7 @@ fn numbers(
 
 fn handler(
     alloc: Global,
-    first: &mut Option<Broken>,
+    first: &mut Option<Violation>,
     declarations: &Declarations<'_>,
     handler: &Option<Handler>,
 ) -> Result<(), AllocError>
@@ -118,15 +118,15 @@ fn handler(
 
 fn decl(
     alloc: Global,
-    first: &mut Option<Broken>,
+    first: &mut Option<Violation>,
     declarations: &Declarations<'_>,
-    decl: &Decl,
+    decl: &Declaration,
 ) -> Result<(), AllocError>
     ensures { let rules = handler_rules (placed declarations.now) in OnOk result
         ((rest : List (SpecDecl SpecPlace)) → noted rules first.new (all_handled (processes rest)) ≡
         noted rules first.old (all_handled (processes (placed_decl decl.now ∷ rest)))) }
 {
-    if let Decl::Proc(process) = decl {
+    if let Declaration::Process(process) = decl {
         handler(alloc, first, declarations, &process.handler)?;
     }
     Ok(())
@@ -136,7 +136,7 @@ fn decl(
 pub fn first_broken(
     alloc: Global,
     declarations: &Declarations<'_>,
-) -> Result<Option<Broken>, AllocError>
+) -> Result<Option<Violation>, AllocError>
     ensures { let g = placed declarations.now in IfOk result
         (IsFirstOf (FailsAmong (handler_rules g) (all_handled (processes g.decls)))) }
 {

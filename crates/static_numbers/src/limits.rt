@@ -7,7 +7,7 @@ ghost use Rattle.static_numbers.specs.Rules.{LimitFails};
 
 use crate::{activations, bounds, counts, events, handlers};
 use static_declarations::Declarations;
-use static_rule::{Broken, sooner};
+use static_rule::{Violation, sooner};
 use std::alloc::{AllocError, Global};
 
 /// The rule for declarations that fails first, by place and then by number; `None` exactly where
@@ -21,7 +21,7 @@ use std::alloc::{AllocError, Global};
 pub fn first_broken(
     alloc: Global,
     declarations: &Declarations<'_>,
-) -> Result<Option<Broken>, AllocError>
+) -> Result<Option<Violation>, AllocError>
     ensures { IfOk result (λ first. IsFirstOf (LimitFails (placed declarations.now)) first) }
 {
     let bounds = bounds::first_broken(declarations);

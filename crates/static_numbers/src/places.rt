@@ -8,12 +8,12 @@ ghost use Rattle.static_numbers.specs.Places.{with_decls, places_of};
 
 use std::alloc::{AllocError, Global};
 use std::marker::Model;
-use syntax_tree::{Decl, Member, Place, Prog, Routine};
+use syntax_tree::{Declaration, Member, Place, Program, Routine};
 
 /// The places of the names of things, by kind, each in the order of the text. Entries are among the
 /// routines.
 #[derive(Drop)]
-pub struct Places {
+pub struct NamePlaces {
     pub processes: Vec<Place>,
     pub monitors: Vec<Place>,
     pub devices: Vec<Place>,
@@ -22,7 +22,7 @@ pub struct Places {
     pub routines: Vec<Place>,
 }
 
-impl Model for Places {
+impl Model for NamePlaces {
     ghost use Rattle.static_numbers.specs.Places.{Places as Lists};
 
     ghost Value = { Lists };
@@ -52,8 +52,8 @@ fn routines(routines: &mut Vec<Place>, list: &[Routine]) -> Result<(), AllocErro
     Ok(())
 }
 
-impl Places {
-    fn new(alloc: Global) -> Places
+impl NamePlaces {
+    fn new(alloc: Global) -> NamePlaces
         ensures { result ≡ record {
           processes = [];
           monitors = [];
@@ -63,7 +63,7 @@ impl Places {
           routines = [];
         } }
     {
-        Places {
+        NamePlaces {
             processes: Vec::new(alloc),
             monitors: Vec::new(alloc),
             devices: Vec::new(alloc),
@@ -73,21 +73,21 @@ impl Places {
         }
     }
 
-    fn decl(&mut self, decl: &Decl) -> Result<(), AllocError>
+    fn decl(&mut self, decl: &Declaration) -> Result<(), AllocError>
         ensures { OnOk result ((rest : List (SpecDecl SpecPlace)) → with_decls self.new rest ≡
             with_decls self.old (placed_decl decl.now ∷ rest)) }
     {
         match decl {
-            Decl::Const { .. } => {}
-            Decl::Device { place, .. } => self.devices.push(*place)?,
-            Decl::Event { place, .. } => self.events.push(*place)?,
-            Decl::Routine(routine) => self.routines.push(routine.place)?,
-            Decl::Mon(monitor) => {
+            Declaration::Const { .. } => {}
+            Declaration::Device { place, .. } => self.devices.push(*place)?,
+            Declaration::Event { place, .. } => self.events.push(*place)?,
+            Declaration::Routine(routine) => self.routines.push(routine.place)?,
+            Declaration::Monitor(monitor) => {
                 self.monitors.push(monitor.place)?;
                 members(&mut self.conditions, monitor.members.as_slice())?;
                 routines(&mut self.routines, monitor.entries.as_slice())?;
             }
-            Decl::Proc(process) => {
+            Declaration::Process(process) => {
                 self.processes.push(process.place)?;
                 routines(&mut self.routines, process.routines.as_slice())?;
             }
@@ -96,10 +96,10 @@ impl Places {
     }
 
     /// Goes once through the declarations of a program.
-    pub fn of(alloc: Global, program: &Prog) -> Result<Places, AllocError>
+    pub fn of(alloc: Global, program: &Program) -> Result<NamePlaces, AllocError>
         ensures { IfOk result (λ places. places ≡ places_of (placed program.now)) }
     {
-        let mut places = Places::new(alloc);
+        let mut places = NamePlaces::new(alloc);
         for one in program.decls.as_slice() {
             places.decl(one)?;
         }

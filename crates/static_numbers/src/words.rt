@@ -8,7 +8,7 @@ ghost use Rattle.static_numbers.specs.Counts.{kind_words, vars_words, members_wo
 ghost use Rattle.static_numbers.specs.Seen.{held};
 
 use static_declarations::Declarations;
-use syntax_tree::{Decl, Member, Place, Type, Var};
+use syntax_tree::{Declaration, Member, Place, Type, Var};
 
 /// The variables of processes and monitors have at most so many words.
 const MOST_WORDS: u64 = 1_048_576;
@@ -60,19 +60,22 @@ fn of_members(declarations: &Declarations<'_>, list: &[Member]) -> u64
     words
 }
 
-fn of_decl(declarations: &Declarations<'_>, decl: &Decl) -> u64
+fn of_decl(declarations: &Declarations<'_>, decl: &Declaration) -> u64
     ensures { (rest : List (SpecDecl SpecPlace)) →
         held (result + words_of (value (placed declarations.now)) rest) ≡
         held (words_of (value (placed declarations.now)) (placed_decl decl.now ∷ rest)) }
 {
     match decl {
-        Decl::Const { .. } | Decl::Device { .. } | Decl::Event { .. } | Decl::Routine(_) => 0,
-        Decl::Mon(monitor) => of_members(declarations, monitor.members.as_slice()),
-        Decl::Proc(process) => of_vars(declarations, process.vars.as_slice()),
+        Declaration::Const { .. }
+        | Declaration::Device { .. }
+        | Declaration::Event { .. }
+        | Declaration::Routine(_) => 0,
+        Declaration::Monitor(monitor) => of_members(declarations, monitor.members.as_slice()),
+        Declaration::Process(process) => of_vars(declarations, process.vars.as_slice()),
     }
 }
 
-fn of_decls(declarations: &Declarations<'_>, list: &[Decl]) -> u64
+fn of_decls(declarations: &Declarations<'_>, list: &[Declaration]) -> u64
     ensures { result ≡ held (words_of (value (placed declarations.now))
         (map placed_decl list.now)) }
 {

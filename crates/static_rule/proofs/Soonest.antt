@@ -3,18 +3,18 @@ use Rattle.std.proofs.Common.{◌≡◌, ◌<◌, ◌≤◌, ℕ, List, [], ◌�
 use Rattle.std.proofs.lemmas.Bool.Decides.{nat_tests}
 use Rattle.std.proofs.lemmas.Option.{same_Some, none-some}
 use Rattle.syntax_tree.specs.declared.place.Place.{Place}
-use Rattle.static_rule.specs.declared.broken.Broken.{Broken}
+use Rattle.static_rule.specs.declared.violation.Violation.{Violation}
 use Rattle.static_rule.specs.First.{Before, IsFirst, IsFirstOf, Either, comes_before, sooner}
 use Rattle.static_rule.specs.Parts.{Rule, FailsOf, FailsAmong, blame, note, noted}
 
 -- the first comes after the second, or is the same
-abbrev pub NotBefore : Broken → Broken → Type 0
+abbrev pub NotBefore : Violation → Violation → Type 0
 NotBefore x y = (y.place.line < x.place.line) ⊎ ((y.place.line ≡ x.place.line) × ((y.place.col < x.place.col) ⊎ ((y.place.col ≡ x.place.col) × (y.number ≤ x.number))))
 
-pub not_before-refl : (x : Broken) → NotBefore x x
+pub not_before-refl : (x : Violation) → NotBefore x x
 not_before-refl x = inr (refl, inr (refl, omega arith))
 
-pub not_before-trans : (x y z : Broken) → NotBefore x y → NotBefore y z → NotBefore x z
+pub not_before-trans : (x y z : Violation) → NotBefore x y → NotBefore y z → NotBefore x z
 not_before-trans x y z (inl a) (inl b) = inl (omega arith)
 not_before-trans x y z (inl a) (inr b) = inl (let e = b.0 in omega arith)
 not_before-trans x y z (inr a) (inl b) = inl (let e = a.0 in omega arith)
@@ -26,14 +26,14 @@ not_before-trans x y z (inr a) (inr b) = inr (b.0 ∙ a.0, columns a.1 b.1)
     columns (inr c) (inl d) = inl (let e = c.0 in omega arith)
     columns (inr c) (inr d) = inr (d.0 ∙ c.0, omega arith)
 
-pub before-false : (x y : Broken) → comes_before x y ≡ false → NotBefore x y
+pub before-false : (x y : Violation) → comes_before x y ≡ false → NotBefore x y
 before-false x y h = grind (arith, nat_tests)
 
-pub before-true : (x y : Broken) → comes_before x y ≡ true → NotBefore y x
+pub before-true : (x y : Violation) → comes_before x y ≡ true → NotBefore y x
 before-true x y h = grind (arith, nat_tests)
 
 -- what does not come before is not before
-pub not-before : (m : ℕ) (p : Place) (b : Broken) → NotBefore (record { number = m; place = p }) b → ¬ Before m p b.number b.place
+pub not-before : (m : ℕ) (p : Place) (b : Violation) → NotBefore (record { number = m; place = p }) b → ¬ Before m p b.number b.place
 not-before m p b (inl a) (inl d) = omega arith
 not-before m p b (inl a) (inr (inl d)) = let e = d.0 in omega arith
 not-before m p b (inl a) (inr (inr d)) = let e : p.line ≡ b.place.line = ap (λ q. q.line) d.0 in omega arith
@@ -44,7 +44,7 @@ not-before m p b (inr (e, inr a)) (inr (inl d)) = let f = d.1 in let h = a.0 in 
 not-before m p b (inr (e, inr a)) (inr (inr d)) = let f = d.1 in let h = a.1 in omega arith
 
 -- and the other way about
-after : (m : ℕ) (p : Place) (b : Broken) → ¬ Before m p b.number b.place → NotBefore (record { number = m; place = p }) b
+after : (m : ℕ) (p : Place) (b : Violation) → ¬ Before m p b.number b.place → NotBefore (record { number = m; place = p }) b
 after m p b h = by (comes_before (record { number = m; place = p }) b) refl
   where
     by : (t : Bool) → comes_before (record { number = m; place = p }) b ≡ t → NotBefore (record { number = m; place = p }) b
@@ -60,18 +60,18 @@ after m p b h = by (comes_before (record { number = m; place = p }) b) refl
             lines (inr (l, inr c)) = inr (inr ((λ i. record { line = l i; col = c.0 i }), c.1))
 
 -- it fails, and nothing that fails comes before it
-record Least (fails : ℕ → Place → Type 0) (b : Broken) : Type 0 where
+record Least (fails : ℕ → Place → Type 0) (b : Violation) : Type 0 where
   from : fails b.number b.place
   least : (m : ℕ) (p : Place) → fails m p → NotBefore (record { number = m; place = p }) b
 
-least-is : (fails : ℕ → Place → Type 0) (b : Broken) → Least fails b → IsFirst fails b
+least-is : (fails : ℕ → Place → Type 0) (b : Violation) → Least fails b → IsFirst fails b
 least-is fails b l = record { broken = l.from; none_before = λ m p h. not-before m p b (l.least m p h) }
 
-is-least : (fails : ℕ → Place → Type 0) (b : Broken) → IsFirst fails b → Least fails b
+is-least : (fails : ℕ → Place → Type 0) (b : Violation) → IsFirst fails b → Least fails b
 is-least fails b f = record { from = f.broken; least = λ m p h. after m p b (f.none_before m p h) }
 
 -- the first of the failures of two rules
-pub both : (f g : ℕ → Place → Type 0) (x y : Option Broken) → IsFirstOf f x → IsFirstOf g y → IsFirstOf (Either f g) (sooner x y)
+pub both : (f g : ℕ → Place → Type 0) (x y : Option Violation) → IsFirstOf f x → IsFirstOf g y → IsFirstOf (Either f g) (sooner x y)
 both f g None None h k = none
   where
     none : (m : ℕ) (p : Place) → ¬ Either f g m p
@@ -108,11 +108,11 @@ both f g (Some b) (Some c) h k = by (comes_before b c) refl
         least m p (inr a) = r.least m p a
 
 -- failures that are the same have the same first
-pub same : (f g : ℕ → Place → Type 0) (x : Option Broken) → ((m : ℕ) (p : Place) → f m p → g m p) → ((m : ℕ) (p : Place) → g m p → f m p) → IsFirstOf f x → IsFirstOf g x
+pub same : (f g : ℕ → Place → Type 0) (x : Option Violation) → ((m : ℕ) (p : Place) → f m p → g m p) → ((m : ℕ) (p : Place) → g m p → f m p) → IsFirstOf f x → IsFirstOf g x
 same f g None to back h = λ m p a. h m p (back m p a)
 same f g (Some b) to back h = record { broken = to b.number b.place h.broken; none_before = λ m p a. h.none_before m p (back m p a) }
 
-blamed : {X : Type 0} (f : ℕ → Place → Type 0) (r : Rule X) (x : X) (first : Option Broken) → IsFirstOf f first → IsFirstOf (Either (λ n p. (r.number ≡ n) × (r.fails x ≡ Some p)) f) (blame first r.number (r.fails x))
+blamed : {X : Type 0} (f : ℕ → Place → Type 0) (r : Rule X) (x : X) (first : Option Violation) → IsFirstOf f first → IsFirstOf (Either (λ n p. (r.number ≡ n) × (r.fails x ≡ Some p)) f) (blame first r.number (r.fails x))
 blamed f r x first h = by (r.fails x) refl
   where
     by : (w : Option Place) → r.fails x ≡ w → IsFirstOf (Either (λ n p. (r.number ≡ n) × (r.fails x ≡ Some p)) f) (blame first r.number w)
@@ -130,7 +130,7 @@ blamed f r x first h = by (r.fails x) refl
             least m p a = subst (λ b. NotBefore b (record { number = r.number; place = q })) (λ i. record { number = a.0 i; place = same_Some q p (sym e ∙ a.1) i }) (not_before-refl (record { number = r.number; place = q }))
 
 -- all rules tried on one part
-rules : {X : Type 0} (f : ℕ → Place → Type 0) (rs : List (Rule X)) (x : X) (first : Option Broken) → IsFirstOf f first → IsFirstOf (Either (FailsOf rs x) f) (note rs first x)
+rules : {X : Type 0} (f : ℕ → Place → Type 0) (rs : List (Rule X)) (x : X) (first : Option Violation) → IsFirstOf f first → IsFirstOf (Either (FailsOf rs x) f) (note rs first x)
 rules f [] x first h = same f (Either (FailsOf [] x) f) first (λ m p a. inr a) back h
   where
     back : (m : ℕ) (p : Place) → Either (FailsOf [] x) f m p → f m p
@@ -150,7 +150,7 @@ rules f (r ∷ rs) x first h =
     back m p (inl (inr a)) = inl a
     back m p (inr a) = inr (inr a)
 
-parts : {X : Type 0} (f : ℕ → Place → Type 0) (rs : List (Rule X)) (xs : List X) (first : Option Broken) → IsFirstOf f first → IsFirstOf (Either (FailsAmong rs xs) f) (noted rs first xs)
+parts : {X : Type 0} (f : ℕ → Place → Type 0) (rs : List (Rule X)) (xs : List X) (first : Option Violation) → IsFirstOf f first → IsFirstOf (Either (FailsAmong rs xs) f) (noted rs first xs)
 parts f rs [] first h = same f (Either (FailsAmong rs []) f) first (λ m p a. inr a) back h
   where
     back : (m : ℕ) (p : Place) → Either (FailsAmong rs []) f m p → f m p

@@ -11,7 +11,7 @@
 //! through the parts once finds the first failure (`noted`, `sooner`; `proofs/Soonest.antt`).
 #![tactic(auto)]
 
-mod broken;
 pub mod rule;
+mod violation;
 
-pub use broken::{Broken, blame, sooner};
+pub use violation::{Violation, blame, sooner};

@@ -4,8 +4,8 @@ use Rattle.syntax_tree.specs.Plain.{Name}
 use Rattle.syntax_tree.specs.Placed.{Prog, plain}
 use Rattle.syntax_tree.specs.declared.place.Place.{Place}
 use Rattle.static_names.specs.Occurrences.{Occurrence, names}
-use Rattle.static_declarations.specs.declared.home.Home.{Home}
-use Rattle.static_declarations.specs.declared.home.Home.TheVariants as home_is
+use Rattle.static_declarations.specs.declared.home.StmtContext.{StmtContext}
+use Rattle.static_declarations.specs.declared.home.StmtContext.TheVariants as home_is
 use Rattle.static_declarations.specs.declared.home.Where.{Where}
 use Rattle.static_declarations.specs.Parts.{Part, parts}
 use Rattle.static_types.specs.Rules.{StatementFails}
@@ -28,7 +28,7 @@ pub record IsKept (g : Prog Place) : Type 0 where
 
 -- what a text stands in, by the rules and by the meaning; the place is that of the name of its
 -- routine
-abbrev pub IsHome : Home → Option Place → Here → Type 0
+abbrev pub IsHome : StmtContext → Option Place → Here → Type 0
 IsHome home_is.Free at c = (is_monitor c.home ≡ false) × (c.is_function ≡ false)
 IsHome home_is.Entry at c = (is_monitor c.home ≡ true) × (c.is_function ≡ false)
 IsHome (home_is.Function own) at c = (is_monitor c.home ≡ false) × (c.is_function ≡ true) × (at ≡ Some own)

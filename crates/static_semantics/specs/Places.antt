@@ -4,7 +4,7 @@ use Rattle.syntax_tree.specs.Plain.{Name}
 use Rattle.syntax_tree.specs.Placed.{Prog}
 use Rattle.syntax_tree.specs.declared.place.Place.{Place}
 use Rattle.static_names.specs.declared.kind.Declared.{Declared}
-use Rattle.static_names.specs.declared.kind.Want.{Want}
+use Rattle.static_names.specs.declared.kind.NameUse.{NameUse}
 use Rattle.syntax_tree.specs.Parts.{same_place}
 use Rattle.static_names.specs.Reach.{suits}
 use Rattle.static_names.specs.Occurrences.{Occurrence, declares, used, names, declared_at}
@@ -19,7 +19,7 @@ abbrev pub StandApart : Prog Place → Type 0
 StandApart g = (q : Place) → count_at q (names g) ≤ 1
 
 -- where and as what a name is declared that is used at a place
-pub record IsFound (g : Prog Place) (place : Place) (want : Want) (means : Option Declared) : Type 0 where
+pub record IsFound (g : Prog Place) (place : Place) (want : NameUse) (means : Option Declared) : Type 0 where
   pub declared : Declared
   pub meant : means ≡ Some declared
   pub suited : suits want declared.kind ≡ true
@@ -28,5 +28,5 @@ pub record IsFound (g : Prog Place) (place : Place) (want : Want) (means : Optio
 -- each use has its declaration, which is of the kind that the use asks for, and no declared name is
 -- in reach before
 pub record NamesFound (g : Prog Place) : Type 0 where
-  pub uses : (name : Name) (place : Place) (want : Want) (means : Option Declared) → Contains (names g) (used name place want means) → IsFound g place want means
+  pub uses : (name : Name) (place : Place) (want : NameUse) (means : Option Declared) → Contains (names g) (used name place want means) → IsFound g place want means
   pub free : (name : Name) (place : Place) (taken : Bool) → Contains (names g) (declares name place taken) → taken ≡ false

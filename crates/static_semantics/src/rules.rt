@@ -16,11 +16,11 @@ ghost use Rattle.static_names.specs.Rules.{NamesAt, UsedAt};
 ghost use Rattle.static_semantics.specs.Static.{Fails, IsChecked, IsFault};
 
 use static_declarations::Declarations;
-use static_names::Named;
-use static_rule::{Broken, sooner};
+use static_names::ResolvedProgram;
+use static_rule::{Violation, sooner};
 use std::alloc::{AllocError, Global};
 use std::marker::Model;
-use syntax_tree::{Place, Prog};
+use syntax_tree::{Place, Program};
 use thiserror::Error;
 
 /// Why a program was refused. A rule prints as its number and its place.
@@ -38,14 +38,14 @@ pub enum RuleFault {
 /// `wellformed_law` it is well formed, as the meaning of programs takes it for granted.
 #[derive(Drop)]
 pub struct Checked {
-    named: Named,
+    named: ResolvedProgram,
 }
 
 impl Model for Checked {
     ghost use Rattle.std.specs.Coded.{codes};
     ghost use Rattle.syntax_tree.specs.Placed.{placed};
-    ghost use Rattle.syntax_tree.specs.declared.decl.Prog.{Prog as Tree};
-    ghost use Rattle.syntax_tree.specs.contracts.decl.Prog as tree;
+    ghost use Rattle.syntax_tree.specs.declared.decl.Program.{Program as Tree};
+    ghost use Rattle.syntax_tree.specs.contracts.decl.Program as tree;
     ghost use Rattle.static_semantics.specs.Static.{IsChecked};
 
     ghost Value = { Tree };
@@ -58,7 +58,7 @@ impl Model for Checked {
 }
 
 /// The static rule that fails first, if any does.
-fn first_broken(alloc: Global, named: &Named) -> Result<Option<Broken>, AllocError>
+fn first_broken(alloc: Global, named: &ResolvedProgram) -> Result<Option<Violation>, AllocError>
     ensures { IfOk result (λ first. IsFirstOf (Fails (placed named.now)) first) }
 {
     let declarations = Declarations::new(alloc, named)?;
@@ -70,7 +70,7 @@ fn first_broken(alloc: Global, named: &Named) -> Result<Option<Broken>, AllocErr
 
 /// Tries the static rules: `Ok` exactly where none fails at any place, else the rule that fails
 /// first, by place and then by number.
-pub fn check(alloc: Global, named: Named) -> Result<Checked, RuleFault>
+pub fn check(alloc: Global, named: ResolvedProgram) -> Result<Checked, RuleFault>
     ensures same { IfOk result (λ c. c ≡ named) }
     ensures checked { IfOk result (λ c. IsChecked (placed c)) }
     ensures fault { IfErr result (λ f. IsFault (placed named) f) }
@@ -87,7 +87,7 @@ pub fn check(alloc: Global, named: Named) -> Result<Checked, RuleFault>
 
 impl Checked {
     /// The program's tree.
-    pub fn prog(&self) -> &Prog
+    pub fn prog(&self) -> &Program
         ensures tree { result.now ≡ self.now }
         ensures checked { IsChecked (placed self.now) }
     {
@@ -95,7 +95,7 @@ impl Checked {
     }
 
     /// The program with its names resolved.
-    pub fn named(&self) -> &Named
+    pub fn named(&self) -> &ResolvedProgram
         ensures { result.now ≡ self.now }
     {
         &self.named

@@ -4,8 +4,8 @@ use Rattle.std.specs.Prelude.{Bool, true, false, not, ◌||◌, Option, Some, No
 use Rattle.syntax_tree.specs.Placed.{Expr, literal, truth, variable, element, call, minus, negation, paren, row, Exprs, no_exprs, exprs, Operands, no_operands, operand, Ref, whole, part, Stmt, assign, assign_entry, assign_empty, perform, perform_entry, when, when_else, loop, exit_when, get, put, wait, signal, broadcast, except, assert, RoutineKind, procedure, function}
 use Rattle.syntax_tree.specs.declared.place.Place.{Place}
 use Rattle.syntax_tree.specs.Parts.{same_place}
-use Rattle.static_declarations.specs.declared.home.Home.{Home}
-use Rattle.static_declarations.specs.declared.home.Home.TheVariants as home_is
+use Rattle.static_declarations.specs.declared.home.StmtContext.{StmtContext}
+use Rattle.static_declarations.specs.declared.home.StmtContext.TheVariants as home_is
 use Rattle.static_declarations.specs.Things.{Thing, device_thing, routine_thing, variable_thing}
 use Rattle.static_declarations.specs.declared.home.Where.{Where}
 use Rattle.static_types.specs.Sorts.{Named}
@@ -60,7 +60,7 @@ is_at place None = false
 is_at place (Some p) = same_place p place
 
 -- the function, if it stands in one that is no entry, assigns to a variable that is not its own
-abbrev pub is_foreign : Home → Option Thing → Bool
+abbrev pub is_foreign : StmtContext → Option Thing → Bool
 is_foreign (home_is.Function own) (Some (variable_thing owner shape)) = not (is_at own owner)
 is_foreign _ _ = false
 
@@ -68,21 +68,21 @@ abbrev pub target_place : Ref Place → Place
 target_place (whole p name) = p
 target_place (part p name i) = p
 
-abbrev pub target_strays : Named → Home → Ref Place → Bool
+abbrev pub target_strays : Named → StmtContext → Ref Place → Bool
 target_strays named home r = is_foreign home (named (target_place r)) || ref_strays named r
 
-abbrev pub in_entry : Home → Bool
+abbrev pub in_entry : StmtContext → Bool
 in_entry home_is.Free = false
 in_entry home_is.Entry = true
 in_entry (home_is.Function own) = false
 
-abbrev pub in_function : Home → Bool
+abbrev pub in_function : StmtContext → Bool
 in_function home_is.Free = false
 in_function home_is.Entry = false
 in_function (home_is.Function own) = true
 
 -- neither an entry nor a function may call entries and procedures
-abbrev pub calls_nothing : Home → Bool
+abbrev pub calls_nothing : StmtContext → Bool
 calls_nothing home = in_entry home || in_function home
 
 -- the statement, or an expression of it, stands where it may not; its inner statements are left

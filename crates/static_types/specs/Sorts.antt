@@ -4,7 +4,7 @@ use Rattle.syntax_tree.specs.Placed.{Param, Expr, literal, truth, variable, elem
 use Rattle.syntax_tree.specs.declared.place.Place.{Place}
 use Rattle.static_declarations.specs.declared.sort.Sort.{Sort}
 use Rattle.static_declarations.specs.declared.sort.Sort.TheVariants as sort_is
-use Rattle.static_declarations.specs.declared.sort.Shape.TheVariants as shape_is
+use Rattle.static_declarations.specs.declared.sort.VarType.TheVariants as shape_is
 use Rattle.static_declarations.specs.Sorts.{fits, gives, takes}
 use Rattle.static_declarations.specs.Things.{Thing, constant_thing, routine_thing, variable_thing, loop_thing, sort_of}
 

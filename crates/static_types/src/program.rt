@@ -9,24 +9,24 @@ ghost use Rattle.static_types.specs.Rules.{statement_rules, StatementFails};
 
 use crate::rules::try_answer;
 use crate::walk::stmts;
-use static_declarations::{Declarations, Home, Where};
-use static_rule::Broken;
-use syntax_tree::{Decl, Handler, Routine, RoutineKind};
+use static_declarations::{Declarations, StmtContext, Where};
+use static_rule::Violation;
+use syntax_tree::{Declaration, Handler, Routine, RoutineKind};
 
 /// What the statements of a routine stand in. A function that is no entry is known by the place of
 /// its name.
-fn home_of(is_entry: bool, routine: &Routine) -> Home
+fn home_of(is_entry: bool, routine: &Routine) -> StmtContext
     ensures { let r = placed_routine routine.now in result ≡
         home_of_routine is_entry r.kind r.place }
 {
     match (is_entry, routine.kind) {
-        (true, _) => Home::Entry,
-        (false, RoutineKind::Procedure) => Home::Free,
-        (false, RoutineKind::Function) => Home::Function(routine.place),
+        (true, _) => StmtContext::Entry,
+        (false, RoutineKind::Procedure) => StmtContext::Free,
+        (false, RoutineKind::Function) => StmtContext::Function(routine.place),
     }
 }
 
-fn outside_loops(home: Home) -> Where
+fn outside_loops(home: StmtContext) -> Where
     ensures { result ≡ standing_in home }
 {
     Where {
@@ -37,7 +37,7 @@ fn outside_loops(home: Home) -> Where
 
 /// The statements of a routine, and its result where it is a function.
 fn routine(
-    first: &mut Option<Broken>,
+    first: &mut Option<Violation>,
     declarations: &Declarations<'_>,
     is_entry: bool,
     routine: &Routine,
@@ -54,7 +54,7 @@ fn routine(
 }
 
 fn routines(
-    first: &mut Option<Broken>,
+    first: &mut Option<Violation>,
     declarations: &Declarations<'_>,
     is_entry: bool,
     list: &[Routine],
@@ -68,7 +68,11 @@ fn routines(
     }
 }
 
-fn handler(first: &mut Option<Broken>, declarations: &Declarations<'_>, handler: &Option<Handler>)
+fn handler(
+    first: &mut Option<Violation>,
+    declarations: &Declarations<'_>,
+    handler: &Option<Handler>,
+)
     ensures { let rules = statement_rules (placed declarations.now) in (more : List Part) →
         noted rules first.new more ≡ noted rules first.old
         (handler_parts (optional placed_handler handler.now) more) }
@@ -77,27 +81,32 @@ fn handler(first: &mut Option<Broken>, declarations: &Declarations<'_>, handler:
         stmts(
             first,
             declarations,
-            outside_loops(Home::Free),
+            outside_loops(StmtContext::Free),
             handler.body.as_slice(),
         );
     }
 }
 
-fn decl(first: &mut Option<Broken>, declarations: &Declarations<'_>, decl: &Decl)
+fn decl(first: &mut Option<Violation>, declarations: &Declarations<'_>, decl: &Declaration)
     ensures { let rules = statement_rules (placed declarations.now) in (more : List Part) →
         noted rules first.new more ≡ noted rules first.old
         (decl_parts (placed_decl decl.now) more) }
 {
     match decl {
-        Decl::Const { .. } | Decl::Device { .. } | Decl::Event { .. } => {}
-        Decl::Routine(one) => routine(first, declarations, false, one),
-        Decl::Mon(monitor) => routines(first, declarations, true, monitor.entries.as_slice()),
-        Decl::Proc(process) => {
+        Declaration::Const { .. } | Declaration::Device { .. } | Declaration::Event { .. } => {}
+        Declaration::Routine(one) => routine(first, declarations, false, one),
+        Declaration::Monitor(monitor) => routines(
+            first,
+            declarations,
+            true,
+            monitor.entries.as_slice(),
+        ),
+        Declaration::Process(process) => {
             routines(first, declarations, false, process.routines.as_slice());
             stmts(
                 first,
                 declarations,
-                outside_loops(Home::Free),
+                outside_loops(StmtContext::Free),
                 process.body.as_slice(),
             );
             handler(first, declarations, &process.handler);
@@ -105,7 +114,7 @@ fn decl(first: &mut Option<Broken>, declarations: &Declarations<'_>, decl: &Decl
     }
 }
 
-fn decls(first: &mut Option<Broken>, declarations: &Declarations<'_>, list: &[Decl])
+fn decls(first: &mut Option<Violation>, declarations: &Declarations<'_>, list: &[Declaration])
     ensures { let rules = statement_rules (placed declarations.now) in (more : List Part) →
         noted rules first.new more ≡ noted rules first.old
         (decls_parts (map placed_decl list.now) more) }
@@ -116,7 +125,7 @@ fn decls(first: &mut Option<Broken>, declarations: &Declarations<'_>, list: &[De
 }
 
 /// The rule for statements that fails first, by place and then by number; `None` where none fails.
-pub fn first_broken(declarations: &Declarations<'_>) -> Option<Broken>
+pub fn first_broken(declarations: &Declarations<'_>) -> Option<Violation>
     ensures { IsFirstOf (StatementFails (placed declarations.now)) result }
 {
     let mut first = None;

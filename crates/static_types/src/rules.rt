@@ -16,7 +16,7 @@ use crate::conduct::{
 };
 use crate::types::{answer_agrees, stmt_agrees};
 use static_declarations::{Declarations, Where};
-use static_rule::{Broken, blame, rule};
+use static_rule::{Violation, blame, rule};
 use syntax_tree::{Expr, Place, Scalar, Stmt};
 
 /// The place of a statement, which is that of its first token.
@@ -68,7 +68,12 @@ fn misplaced(declarations: &Declarations<'_>, here: Where, s: &Stmt) -> Option<P
 
 /// Tries the rules on a statement, the statements in it aside.
 #[tactic(auto, unfolding(crate::specs::Rules::statement_rules))]
-pub fn try_stmt(first: &mut Option<Broken>, declarations: &Declarations<'_>, here: Where, s: &Stmt)
+pub fn try_stmt(
+    first: &mut Option<Violation>,
+    declarations: &Declarations<'_>,
+    here: Where,
+    s: &Stmt,
+)
     ensures { first.new ≡ note (statement_rules (placed declarations.now)) first.old
         (statement here (placed_stmt s.now)) }
 {
@@ -85,7 +90,7 @@ pub fn try_stmt(first: &mut Option<Broken>, declarations: &Declarations<'_>, her
 /// Tries the rules on the result of a function, by the place of its name.
 #[tactic(auto, unfolding(crate::specs::Rules::statement_rules))]
 pub fn try_answer(
-    first: &mut Option<Broken>,
+    first: &mut Option<Violation>,
     declarations: &Declarations<'_>,
     name: Place,
     kind: &Scalar,

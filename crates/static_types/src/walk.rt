@@ -8,13 +8,13 @@ ghost use Rattle.static_types.specs.Rules.{statement_rules};
 
 use crate::rules::try_stmt;
 use static_declarations::{Declarations, Where};
-use static_rule::Broken;
+use static_rule::Violation;
 use syntax_tree::Stmt;
 
 /// Tries the rules on each statement of a list and those in it.
 #[cycle(stmt)]
 pub fn stmts(
-    first: &mut Option<Broken>,
+    first: &mut Option<Violation>,
     declarations: &Declarations<'_>,
     here: Where,
     list: &[Stmt],
@@ -30,7 +30,7 @@ pub fn stmts(
 
 /// Tries the rules on a statement and those in it.
 #[cycle(stmt)]
-fn stmt(first: &mut Option<Broken>, declarations: &Declarations<'_>, here: Where, s: &Stmt)
+fn stmt(first: &mut Option<Violation>, declarations: &Declarations<'_>, here: Where, s: &Stmt)
     ensures { let rules = statement_rules (placed declarations.now) in (more : List Part) →
         noted rules first.new more ≡ noted rules first.old
         (stmt_parts here (placed_stmt s.now) more) }

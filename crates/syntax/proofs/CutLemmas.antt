@@ -4,7 +4,7 @@ use Rattle.std.proofs.lemmas.Bool.{cases_lt}
 use Rattle.std.proofs.Math.Seq.{drop-length}
 use Rattle.syntax.specs.declared.token.Token.{Token}
 use Rattle.syntax.specs.declared.token.TokenKind.{TokenKind}
-use Rattle.syntax.specs.declared.token.TokenKind.TheVariants.{Name, Keyword, Literal, Sign}
+use Rattle.syntax.specs.declared.token.TokenKind.TheVariants.{Ident, Keyword, Literal, Sign}
 use Rattle.syntax.specs.Spellings.{signs, keywords, is_identifier, is_number, decimal, longest_name, greatest_literal, HasKind}
 use Rattle.syntax.specs.Tokens.{is_blank, is_percent, line_after, col_after, Begins, BeginsWithBlank, BeginsWithComment, IsLongest, StandsIn, bytes_of, Piece, blank, comment, token, IsCut, tokens_among}
 use Rattle.syntax.specs.Faults.{BeginsNothing, BeginsWithLargeLiteral, BeginsWithLongName}
@@ -70,13 +70,13 @@ stuck_at_spelling text at n longest kindless = record {
 }
 
 large_kindless : (w : List ℕ) → is_number w ≡ true → greatest_literal < decimal w → (kind : TokenKind) → HasKind w kind → ⊥
-large_kindless w number large Name has = identifier_no_number w has.0 number
+large_kindless w number large Ident has = identifier_no_number w has.0 number
 large_kindless w number large (Keyword at) has = identifier_no_number w (keyword_identifier w (Contains-from keywords at w has)) number
 large_kindless w number large (Literal v) has = omega (arith, has.1, has.2)
 large_kindless w number large (Sign at) has = number_no_sign w number (Contains-from signs at w has)
 
 long_kindless : (w : List ℕ) → is_identifier w ≡ true → longest_name < length w → (kind : TokenKind) → HasKind w kind → ⊥
-long_kindless w identifier long Name has = omega (arith, has.2)
+long_kindless w identifier long Ident has = omega (arith, has.2)
 long_kindless w identifier long (Keyword at) has = omega (arith, keywords_short w (Contains-from keywords at w has))
 long_kindless w identifier long (Literal v) has = identifier_no_number w identifier has.0
 long_kindless w identifier long (Sign at) has = identifier_no_sign w identifier (Contains-from signs at w has)

@@ -4,7 +4,7 @@ use Rattle.std.proofs.lemmas.Bool.{leb-true, and_parts, or_cases}
 use Rattle.std.specs.Cmp.Lexicographic.{pointwise, nat_list_eq_equiv}
 use Rattle.std.specs.List.{list_all, list_any}
 use Rattle.syntax.specs.declared.token.TokenKind.{TokenKind}
-use Rattle.syntax.specs.declared.token.TokenKind.TheVariants.{Name, Keyword, Literal, Sign}
+use Rattle.syntax.specs.declared.token.TokenKind.TheVariants.{Ident, Keyword, Literal, Sign}
 use Rattle.syntax.specs.Spellings.{signs, keywords, is_letter, is_digit, is_word, is_identifier, is_number, Spells, HasKind}
 use Rattle.syntax.specs.Tokens.{is_blank, is_percent, Begins}
 use Rattle.syntax.proofs.SpellLemmas.{listed, Contains-from, sign_begins, keyword_identifier, letter_no_digit, nothing_spells_nothing}
@@ -109,19 +109,19 @@ pub keywords_short : (w : List ℕ) → Contains keywords w → length w ≤ 63
 keywords_short w is = leb-true (length w) 63 (listed (λ v. nat_le (length v) 63) keywords w refl is)
 
 pub one_kind : (w : List ℕ) (k l : TokenKind) → HasKind w k → HasKind w l → k ≡ l
-one_kind w Name Name a b = refl
-one_kind w Name (Keyword at) a b = absurd (a.1 (Contains-from keywords at w b))
-one_kind w Name (Literal v) a b = absurd (identifier_no_number w a.0 b.0)
-one_kind w Name (Sign at) a b = absurd (identifier_no_sign w a.0 (Contains-from signs at w b))
-one_kind w (Keyword at) Name a b = absurd (b.1 (Contains-from keywords at w a))
+one_kind w Ident Ident a b = refl
+one_kind w Ident (Keyword at) a b = absurd (a.1 (Contains-from keywords at w b))
+one_kind w Ident (Literal v) a b = absurd (identifier_no_number w a.0 b.0)
+one_kind w Ident (Sign at) a b = absurd (identifier_no_sign w a.0 (Contains-from signs at w b))
+one_kind w (Keyword at) Ident a b = absurd (b.1 (Contains-from keywords at w a))
 one_kind w (Keyword at) (Keyword also) a b = ap Keyword (one_place keywords at also w refl a b)
 one_kind w (Keyword at) (Literal v) a b = absurd (identifier_no_number w (keyword_identifier w (Contains-from keywords at w a)) b.0)
 one_kind w (Keyword at) (Sign also) a b = absurd (identifier_no_sign w (keyword_identifier w (Contains-from keywords at w a)) (Contains-from signs also w b))
-one_kind w (Literal v) Name a b = absurd (identifier_no_number w b.0 a.0)
+one_kind w (Literal v) Ident a b = absurd (identifier_no_number w b.0 a.0)
 one_kind w (Literal v) (Keyword at) a b = absurd (identifier_no_number w (keyword_identifier w (Contains-from keywords at w b)) a.0)
 one_kind w (Literal v) (Literal u) a b = ap Literal (a.1 ∙ sym b.1)
 one_kind w (Literal v) (Sign at) a b = absurd (number_no_sign w a.0 (Contains-from signs at w b))
-one_kind w (Sign at) Name a b = absurd (identifier_no_sign w b.0 (Contains-from signs at w a))
+one_kind w (Sign at) Ident a b = absurd (identifier_no_sign w b.0 (Contains-from signs at w a))
 one_kind w (Sign at) (Keyword also) a b = absurd (identifier_no_sign w (keyword_identifier w (Contains-from keywords also w b)) (Contains-from signs at w a))
 one_kind w (Sign at) (Literal v) a b = absurd (number_no_sign w b.0 (Contains-from signs at w a))
 one_kind w (Sign at) (Sign also) a b = ap Sign (one_place signs at also w refl a b)

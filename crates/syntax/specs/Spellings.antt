@@ -2,7 +2,7 @@
 use Rattle.std.specs.Prelude.{◌≡◌, ℕ, ◌+◌, ◌-◌, ◌*◌, ◌≤◌, Bool, false, ◌||◌, ◌&&◌, ◌==◌, nat_le, List, [], ◌∷◌, length, fold, codes, Some, slice_get, Contains, IsTrue, ◌⊎◌}
 use Rattle.std.specs.List.{list_all}
 use Rattle.syntax.specs.declared.token.TokenKind.{TokenKind}
-use Rattle.syntax.specs.declared.token.TokenKind.TheVariants.{Name, Keyword, Literal, Sign}
+use Rattle.syntax.specs.declared.token.TokenKind.TheVariants.{Ident, Keyword, Literal, Sign}
 
 -- the keywords; a keyword's number is its place in this list, from 0
 abbrev pub keywords : List (List ℕ)
@@ -63,7 +63,7 @@ Spells w = IsTrue (is_identifier w) ⊎ IsTrue (is_number w) ⊎ Contains signs 
 
 -- the kind of a token that is spelled so, within the limits
 abbrev pub HasKind : List ℕ → TokenKind → Type 0
-HasKind w Name = IsTrue (is_identifier w) × (¬ Contains keywords w) × (length w ≤ longest_name)
+HasKind w Ident = IsTrue (is_identifier w) × (¬ Contains keywords w) × (length w ≤ longest_name)
 HasKind w (Keyword at) = slice_get keywords at ≡ Some w
 HasKind w (Literal value) = IsTrue (is_number w) × (value ≡ decimal w) × (value ≤ greatest_literal)
 HasKind w (Sign at) = slice_get signs at ≡ Some w

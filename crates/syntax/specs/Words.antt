@@ -24,7 +24,7 @@ pub record Tok (P : Type 0) : Type 0 where
 
 -- the word of a token of this kind and these bytes
 abbrev pub word_of : TokenKind → List ℕ → Word
-word_of kind.Name bytes = named bytes
+word_of kind.Ident bytes = named bytes
 word_of (kind.Keyword at) bytes = keyword at
 word_of (kind.Literal value) bytes = number value
 word_of (kind.Sign at) bytes = sign at

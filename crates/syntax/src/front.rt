@@ -117,7 +117,7 @@ fn word(bytes: &[u8]) -> Result<Front, Cause>
     }
     let kind = match keyword_at(&bytes[..len]) {
         Some(at) => TokenKind::Keyword { at },
-        None => TokenKind::Name,
+        None => TokenKind::Ident,
     };
     Ok(Front::Token { kind, len })
 }

@@ -11,13 +11,13 @@
 
 mod fault;
 mod front;
-mod lex_law;
 mod lexer;
 mod table;
 mod token;
+mod token_laws;
 
 pub use fault::LexFault;
-pub use lex_law::{one_fault, one_list, tokens_in_order};
 pub use lexer::lex;
 pub use table::{keyword_at, keyword_spelling, sign_spelling};
 pub use token::{Token, TokenKind, Tokens, keyword, sign};
+pub use token_laws::{one_fault, one_list, tokens_in_order};

@@ -8,7 +8,7 @@ use syntax_tree::{List, Place};
 #[derive(Clone, Copy, Debug, PartialEq, Eq)]
 pub enum TokenKind {
     /// An identifier that is no keyword.
-    Name,
+    Ident,
     /// The keyword at this place of the list of keywords, from 0; `keyword` names the places.
     Keyword { at: u8 },
     /// A decimal literal, at most 2147483647.

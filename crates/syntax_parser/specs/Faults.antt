@@ -6,8 +6,8 @@ use Rattle.syntax.specs.declared.token.Tokens.{Tokens}
 use Rattle.syntax.specs.Words.{toks_of}
 use Rattle.syntax.specs.Opening.{OpensProg}
 use Rattle.syntax_reading.specs.Beginning.{BeginsProg, Stop}
-use Rattle.syntax_parser.specs.declared.fault.SynFault.{SynFault}
-use Rattle.syntax_parser.specs.declared.fault.SynFault.TheVariants.{Syntax, Nesting, Memory}
+use Rattle.syntax_parser.specs.declared.fault.SyntaxFault.{SyntaxFault}
+use Rattle.syntax_parser.specs.declared.fault.SyntaxFault.TheVariants.{Syntax, Nesting, Memory}
 
 -- the place of the token
 abbrev pub place : Token → Place
@@ -17,7 +17,7 @@ place t = record { line = t.line; col = t.col }
 abbrev pub IsPlaceIn : Tokens → Place → Type 0
 IsPlaceIn toks p = ((at : ℕ) × (t : Token) × (slice_get toks.list at ≡ Some t) × (p ≡ place t)) ⊎ (p ≡ toks.end)
 
-abbrev pub StandsIn : Tokens → SynFault → Type 0
+abbrev pub StandsIn : Tokens → SyntaxFault → Type 0
 StandsIn toks (Syntax p) = IsPlaceIn toks p
 StandsIn toks (Nesting p) = IsPlaceIn toks p
 StandsIn toks Memory = Unit {0}

@@ -15,7 +15,7 @@ use Rattle.syntax_parser.specs.declared.fault.Refusal.TheVariants as refusal
 
 -- the kind of a token of this word
 abbrev pub kind_of : Word → TokenKind
-kind_of (named n) = kind.Name
+kind_of (named n) = kind.Ident
 kind_of (number n) = kind.Literal n
 kind_of (keyword at) = kind.Keyword at
 kind_of (sign at) = kind.Sign at

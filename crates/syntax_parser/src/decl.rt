@@ -10,18 +10,18 @@ use crate::fault::Refusal;
 use crate::parser::Parser;
 use std::alloc::Global;
 use syntax::{keyword, sign};
-use syntax_tree::{Decl, List, Prog};
+use syntax_tree::{Declaration, List, Program};
 
 impl Parser<'_> {
     #[tactic(auto, unfolding(syntax_reading::specs::Reading::const_decl))]
-    fn const_decl(&mut self, alloc: Global) -> Result<Decl, Refusal>
+    fn const_decl(&mut self, alloc: Global) -> Result<Declaration, Refusal>
         ensures { Reads placed_decl (reading.const_decl self.old) result self.new }
     {
         self.expect_keyword(keyword::CONST)?;
         let (name, place) = self.name(alloc)?;
         self.expect_sign(sign::ASSIGN)?;
         let value = self.constant(alloc)?;
-        Ok(Decl::Const { name, place, value })
+        Ok(Declaration::Const { name, place, value })
     }
 
     /// Whether a device is an out device.
@@ -38,14 +38,14 @@ impl Parser<'_> {
     }
 
     #[tactic(auto, unfolding(syntax_reading::specs::Reading::device_decl))]
-    fn device_decl(&mut self, alloc: Global) -> Result<Decl, Refusal>
+    fn device_decl(&mut self, alloc: Global) -> Result<Declaration, Refusal>
         ensures { Reads placed_decl (reading.device_decl self.old) result self.new }
     {
         self.expect_keyword(keyword::DEVICE)?;
         let (name, place) = self.name(alloc)?;
         self.expect_sign(sign::COLON)?;
         let is_out = self.is_out_device()?;
-        Ok(Decl::Device {
+        Ok(Declaration::Device {
             name,
             place,
             is_out,
@@ -53,16 +53,16 @@ impl Parser<'_> {
     }
 
     #[tactic(auto, unfolding(syntax_reading::specs::Reading::event_decl))]
-    fn event_decl(&mut self, alloc: Global) -> Result<Decl, Refusal>
+    fn event_decl(&mut self, alloc: Global) -> Result<Declaration, Refusal>
         ensures { Reads placed_decl (reading.event_decl self.old) result self.new }
     {
         self.expect_keyword(keyword::EVENT)?;
         let (name, place) = self.name(alloc)?;
-        Ok(Decl::Event { name, place })
+        Ok(Declaration::Event { name, place })
     }
 
     #[tactic(auto, unfolding(syntax_reading::specs::Reading::decl))]
-    fn decl(&mut self, alloc: Global) -> Result<Decl, Refusal>
+    fn decl(&mut self, alloc: Global) -> Result<Declaration, Refusal>
         ensures { Reads placed_decl (reading.decl MOST_LEVELS self.old) result self.new }
     {
         if self.is_keyword(keyword::CONST) {
@@ -76,14 +76,14 @@ impl Parser<'_> {
         }
         if self.is_keyword(keyword::MONITOR) {
             let monitor = self.monitor(alloc)?;
-            return Ok(Decl::Mon(monitor));
+            return Ok(Declaration::Monitor(monitor));
         }
         if self.is_keyword(keyword::PROCESS) {
             let process = self.process(alloc)?;
-            return Ok(Decl::Proc(process));
+            return Ok(Declaration::Process(process));
         }
         let routine = self.routine(alloc)?;
-        Ok(Decl::Routine(routine))
+        Ok(Declaration::Routine(routine))
     }
 
     fn is_decl(&self) -> bool
@@ -99,7 +99,7 @@ impl Parser<'_> {
 
     /// As many declarations as there are.
     #[tactic(auto, unfolding(syntax_reading::specs::Reading::decls, syntax_reading::specs::ExprReading::many))]
-    fn decls(&mut self, alloc: Global) -> Result<List<Decl>, Refusal>
+    fn decls(&mut self, alloc: Global) -> Result<List<Declaration>, Refusal>
         ensures { Reads (map placed_decl) (reading.decls MOST_LEVELS self.old) result self.new }
     {
         let mut decls = List::new(alloc);
@@ -115,14 +115,14 @@ impl Parser<'_> {
     }
 
     #[tactic(auto, unfolding(syntax_reading::specs::Reading::prog))]
-    pub(crate) fn prog(&mut self, alloc: Global) -> Result<Prog, Refusal>
+    pub(crate) fn prog(&mut self, alloc: Global) -> Result<Program, Refusal>
         ensures { Reads placed (reading.prog MOST_LEVELS self.old) result self.new }
     {
         self.expect_keyword(keyword::PROGRAM)?;
         let (name, place) = self.name(alloc)?;
         let decls = self.decls(alloc)?;
         let (close, close_place) = self.close(alloc)?;
-        Ok(Prog {
+        Ok(Program {
             name,
             place,
             decls,

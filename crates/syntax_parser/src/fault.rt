@@ -6,7 +6,7 @@ use thiserror::Error;
 
 /// Why a text was refused.
 #[derive(Debug, Drop, Error)]
-pub enum SynFault {
+pub enum SyntaxFault {
     /// The first token with which the tokens read no longer begin a program, or the text's end.
     #[error("E10 {}:{}", .0.line, .0.col)]
     Syntax(Place),

@@ -17,6 +17,6 @@ mod routine;
 mod stmt;
 mod types;
 
-pub use fault::SynFault;
+pub use fault::SyntaxFault;
 pub use opening::{one_opening, one_place};
 pub use program::parse;

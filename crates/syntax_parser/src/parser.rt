@@ -86,7 +86,7 @@ impl Parser<'_> {
         ensures { result ≡ reading.is_name self.now }
     {
         match self.kind() {
-            Some(TokenKind::Name) => true,
+            Some(TokenKind::Ident) => true,
             _ => false,
         }
     }
@@ -145,7 +145,7 @@ impl Parser<'_> {
     {
         match self.toks.first() {
             Some(token) => match token.kind {
-                TokenKind::Name => bytes_of(self.text, token) == b"deadline".as_slice(),
+                TokenKind::Ident => bytes_of(self.text, token) == b"deadline".as_slice(),
                 _ => false,
             },
             None => false,

@@ -12,7 +12,7 @@ use crate::fault::Refusal;
 use crate::parser::Parser;
 use std::alloc::Global;
 use syntax::{keyword, sign};
-use syntax_tree::{Activation, Constant, Handler, List, Proc};
+use syntax_tree::{Constant, Handler, List, Process, Trigger};
 
 impl Parser<'_> {
     /// The first activation, where it is said.
@@ -44,7 +44,7 @@ impl Parser<'_> {
     }
 
     #[tactic(auto, unfolding(syntax_reading::specs::Reading::activation))]
-    fn activation(&mut self, alloc: Global) -> Result<Activation, Refusal>
+    fn activation(&mut self, alloc: Global) -> Result<Trigger, Refusal>
         ensures { Reads placed_activation (reading.activation self.old) result self.new }
     {
         if self.is_keyword(keyword::PERIODIC) {
@@ -53,7 +53,7 @@ impl Parser<'_> {
             let frame = self.constant(alloc)?;
             let deadline = self.deadline(alloc)?;
             let first = self.first(alloc)?;
-            return Ok(Activation::Periodic {
+            return Ok(Trigger::Periodic {
                 frame,
                 deadline,
                 first,
@@ -64,7 +64,7 @@ impl Parser<'_> {
         self.expect_keyword(keyword::FRAME)?;
         let frame = self.constant(alloc)?;
         let deadline = self.deadline(alloc)?;
-        Ok(Activation::AtEvent {
+        Ok(Trigger::AtEvent {
             event,
             event_place,
             frame,
@@ -139,7 +139,7 @@ impl Parser<'_> {
     }
 
     #[tactic(auto, unfolding(syntax_reading::specs::Reading::process_decl))]
-    pub(crate) fn process(&mut self, alloc: Global) -> Result<Proc, Refusal>
+    pub(crate) fn process(&mut self, alloc: Global) -> Result<Process, Refusal>
         ensures { Reads placed_process (reading.process_decl MOST_LEVELS self.old) result self.new }
     {
         self.expect_keyword(keyword::PROCESS)?;
@@ -151,7 +151,7 @@ impl Parser<'_> {
         let body = self.block(alloc)?;
         let handler = self.handler(alloc)?;
         let (close, close_place) = self.close(alloc)?;
-        Ok(Proc {
+        Ok(Process {
             name,
             place,
             activation,

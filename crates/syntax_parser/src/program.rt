@@ -10,15 +10,15 @@ ghost use Rattle.syntax_reading.specs.Reading as reading;
 ghost use Rattle.syntax_parser.specs.Reads.{Gives};
 ghost use Rattle.syntax_parser.specs.Faults.{place, IsPlaceIn, StandsIn, OpensAt, StopsAt};
 
-use crate::fault::{Refusal, SynFault};
+use crate::fault::{Refusal, SyntaxFault};
 use crate::parser::Parser;
 use std::alloc::Global;
 use syntax::{Token, Tokens};
-use syntax_tree::{Place, Prog};
+use syntax_tree::{Place, Program};
 
 /// The program that all the tokens are.
 #[tactic(auto, unfolding(syntax_reading::specs::Reading::whole))]
-fn read(alloc: Global, text: &[u8], toks: &[Token]) -> Result<Prog, Refusal>
+fn read(alloc: Global, text: &[u8], toks: &[Token]) -> Result<Program, Refusal>
     ensures { Gives placed (reading.whole MOST_LEVELS (toks_of text.now toks.now)) result }
 {
     let mut parser = Parser { text, toks };
@@ -59,7 +59,7 @@ fn place_of(tokens: &Tokens, left: usize) -> Place
 /// opens level 65, at the first that does; else `Syntax`, at the first token with which the tokens
 /// read no longer begin a program, or at the text's end. `Memory` where there is not enough memory
 /// for the tree.
-pub fn parse(alloc: Global, text: &[u8], tokens: &Tokens) -> Result<Prog, SynFault>
+pub fn parse(alloc: Global, text: &[u8], tokens: &Tokens) -> Result<Program, SyntaxFault>
     // What is read has these tokens.
     ensures found { IfOk result (λ g. tree text.now tokens.now.list (placed g)) }
     // What has these tokens is read, unless memory runs out.
@@ -80,8 +80,8 @@ pub fn parse(alloc: Global, text: &[u8], tokens: &Tokens) -> Result<Prog, SynFau
 {
     match read(alloc, text, tokens.as_slice()) {
         Ok(prog) => Ok(prog),
-        Err(Refusal::Memory) => Err(SynFault::Memory),
-        Err(Refusal::Syntax { left }) => Err(SynFault::Syntax(place_of(tokens, left))),
-        Err(Refusal::Nesting { left }) => Err(SynFault::Nesting(place_of(tokens, left))),
+        Err(Refusal::Memory) => Err(SyntaxFault::Memory),
+        Err(Refusal::Syntax { left }) => Err(SyntaxFault::Syntax(place_of(tokens, left))),
+        Err(Refusal::Nesting { left }) => Err(SyntaxFault::Nesting(place_of(tokens, left))),
     }
 }

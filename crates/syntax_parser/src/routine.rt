@@ -10,7 +10,7 @@ use crate::fault::Refusal;
 use crate::parser::Parser;
 use std::alloc::Global;
 use syntax::{keyword, sign};
-use syntax_tree::{Expr, List, Member, Mon, Name, Place, Routine, RoutineKind, Scalar, Stmt};
+use syntax_tree::{Expr, List, Member, Monitor, Name, Place, Routine, RoutineKind, Scalar, Stmt};
 
 impl Parser<'_> {
     /// Statements behind their `begin`.
@@ -189,7 +189,7 @@ impl Parser<'_> {
     }
 
     #[tactic(auto, unfolding(syntax_reading::specs::Reading::monitor_decl))]
-    pub(crate) fn monitor(&mut self, alloc: Global) -> Result<Mon, Refusal>
+    pub(crate) fn monitor(&mut self, alloc: Global) -> Result<Monitor, Refusal>
         ensures { Reads placed_monitor (reading.monitor_decl MOST_LEVELS self.old) result self.new }
     {
         self.expect_keyword(keyword::MONITOR)?;
@@ -197,7 +197,7 @@ impl Parser<'_> {
         let members = self.members(alloc)?;
         let entries = self.entries(alloc)?;
         let (close, close_place) = self.close(alloc)?;
-        Ok(Mon {
+        Ok(Monitor {
             name,
             place,
             members,

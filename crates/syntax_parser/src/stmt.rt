@@ -38,7 +38,7 @@ impl Parser<'_> {
         ensures { result ≡ reading.begins self.now }
     {
         match self.kind() {
-            Some(TokenKind::Name) => true,
+            Some(TokenKind::Ident) => true,
             Some(TokenKind::Keyword { at }) => begins_stmt(at),
             _ => false,
         }

@@ -64,7 +64,7 @@ take_past (c ∷ w) b rest zero below = absurd (omega arith)
 take_past (c ∷ w) b rest (suc m) below = let it = take_past w b rest m (omega arith) in record { more = it.more; same = ap (λ u. c ∷ u) it.same }
 
 spells_of : (w : List ℕ) (k : TokenKind) → HasKind w k → Spells w
-spells_of w kind.Name has = inl has.0
+spells_of w kind.Ident has = inl has.0
 spells_of w (kind.Keyword at) has = inl (keyword_identifier w (Contains-from keywords at w has))
 spells_of w (kind.Literal v) has = inr (inl has.0)
 spells_of w (kind.Sign at) has = inr (inr (Contains-from signs at w has))

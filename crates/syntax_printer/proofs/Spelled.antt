@@ -16,7 +16,7 @@ use Rattle.syntax_printer.proofs.Lexed.{Item, spelled, alone, item_text, item_wo
 -- ---- words
 
 abbrev pub kind_of : Word → TokenKind
-kind_of (named n) = kind.Name
+kind_of (named n) = kind.Ident
 kind_of (number n) = kind.Literal n
 kind_of (keyword at) = kind.Keyword at
 kind_of (sign at) = kind.Sign at
@@ -72,7 +72,7 @@ decimal_reads = decimal_by_steps Reads
 -- ---- the words of tokens
 
 token_spelled : (bytes : List ℕ) (k : TokenKind) → HasKind bytes k → IsSpelled (word_of k bytes)
-token_spelled bytes kind.Name has = has
+token_spelled bytes kind.Ident has = has
 token_spelled bytes (kind.Keyword at) has = has ∙ sym (ap (λ o. Some (unwrap_or o [])) has)
 token_spelled bytes (kind.Literal v) has = let it = decimal_reads v (omega (arith, has.2)) in (it.are, it.value, has.2)
 token_spelled bytes (kind.Sign at) has = has ∙ sym (ap (λ o. Some (unwrap_or o [])) has)

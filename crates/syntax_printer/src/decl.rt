@@ -12,8 +12,8 @@ use crate::page::Page;
 use std::alloc::AllocError;
 use syntax::{keyword, sign};
 use syntax_tree::{
-    Activation, Constant, Decl, Expr, Handler, Member, Mon, Name, Param, Proc, Prog, Routine,
-    RoutineKind, Scalar, Type, Var,
+    Constant, Declaration, Expr, Handler, Member, Monitor, Name, Param, Process, Program, Routine,
+    RoutineKind, Scalar, Trigger, Type, Var,
 };
 
 /// The keyword of a device's direction.
@@ -242,7 +242,7 @@ impl Page {
     }
 
     #[tactic(auto, using(crate::proofs::Steps::put_lines_append))]
-    fn monitor(&mut self, monitor: &Mon) -> Result<(), AllocError>
+    fn monitor(&mut self, monitor: &Monitor) -> Result<(), AllocError>
         ensures { OnOk result (self.new ≡ put_lines self.old
             (monitor_lines (placed_monitor monitor.now))) }
     {
@@ -291,12 +291,12 @@ impl Page {
     }
 
     #[tactic(auto, using(crate::proofs::Steps::puts_append))]
-    fn activation(&mut self, activation: &Activation) -> Result<(), AllocError>
+    fn activation(&mut self, activation: &Trigger) -> Result<(), AllocError>
         ensures { OnOk result (self.new ≡ puts self.old
             (activation_words (placed_activation activation.now))) }
     {
         match activation {
-            Activation::Periodic {
+            Trigger::Periodic {
                 frame,
                 deadline,
                 first,
@@ -305,7 +305,7 @@ impl Page {
                 self.times(frame, deadline)?;
                 self.first(first)
             }
-            Activation::AtEvent {
+            Trigger::AtEvent {
                 event,
                 frame,
                 deadline,
@@ -360,7 +360,7 @@ impl Page {
     }
 
     /// The line that begins a process.
-    fn process_line(&mut self, process: &Proc) -> Result<(), AllocError>
+    fn process_line(&mut self, process: &Process) -> Result<(), AllocError>
         ensures { OnOk result (self.new ≡ ended
             (puts self.old (process_words (placed_process process.now)))) }
     {
@@ -372,7 +372,7 @@ impl Page {
     }
 
     #[tactic(auto, using(crate::proofs::Steps::put_lines_append))]
-    fn process(&mut self, process: &Proc) -> Result<(), AllocError>
+    fn process(&mut self, process: &Process) -> Result<(), AllocError>
         ensures { OnOk result (self.new ≡ put_lines self.old
             (process_lines (placed_process process.now))) }
     {
@@ -385,31 +385,31 @@ impl Page {
         self.end_name(&process.close)
     }
 
-    fn decl(&mut self, decl: &Decl) -> Result<(), AllocError>
+    fn decl(&mut self, decl: &Declaration) -> Result<(), AllocError>
         ensures { OnOk result (self.new ≡ put_lines self.old (decl_lines (placed_decl decl.now))) }
     {
         match decl {
-            Decl::Const { name, value, .. } => {
+            Declaration::Const { name, value, .. } => {
                 self.keyword(keyword::CONST)?;
                 self.name(name)?;
                 self.sign(sign::ASSIGN)?;
                 self.constant(value)?;
                 self.end_line()
             }
-            Decl::Device { name, is_out, .. } => {
+            Declaration::Device { name, is_out, .. } => {
                 self.keyword(keyword::DEVICE)?;
                 self.name(name)?;
                 self.sign(sign::COLON)?;
                 self.keyword_line(way(*is_out))
             }
-            Decl::Event { name, .. } => self.named_line(keyword::EVENT, name),
-            Decl::Routine(routine) => self.routine(routine),
-            Decl::Mon(monitor) => self.monitor(monitor),
-            Decl::Proc(process) => self.process(process),
+            Declaration::Event { name, .. } => self.named_line(keyword::EVENT, name),
+            Declaration::Routine(routine) => self.routine(routine),
+            Declaration::Monitor(monitor) => self.monitor(monitor),
+            Declaration::Process(process) => self.process(process),
         }
     }
 
-    fn decls(&mut self, decls: &[Decl]) -> Result<(), AllocError>
+    fn decls(&mut self, decls: &[Declaration]) -> Result<(), AllocError>
         ensures { OnOk result (self.new ≡ put_lines self.old
             (lines_of decl_lines (map placed_decl decls.now))) }
     {
@@ -421,7 +421,7 @@ impl Page {
 
     /// The whole program.
     #[tactic(auto, using(crate::proofs::Steps::put_lines_append))]
-    pub fn prog(&mut self, prog: &Prog) -> Result<(), AllocError>
+    pub fn prog(&mut self, prog: &Program) -> Result<(), AllocError>
         ensures { OnOk result (self.new ≡ put_lines self.old (program_lines (placed prog.now))) }
     {
         self.named_line(keyword::PROGRAM, &prog.name)?;

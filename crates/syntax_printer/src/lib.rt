@@ -10,9 +10,9 @@
 mod decl;
 mod expr;
 mod page;
-mod print_law;
 mod program;
+mod read_back_law;
 mod stmt;
 
-pub use print_law::{reads_back, tokens_are_spelled};
 pub use program::print;
+pub use read_back_law::{reads_back, tokens_are_spelled};

@@ -7,7 +7,7 @@ ghost use Rattle.syntax_printer.specs.Canonical.{canonical};
 
 use crate::page::Page;
 use std::alloc::{AllocError, Global};
-use syntax_tree::{Prog, Text};
+use syntax_tree::{Program, Text};
 
 /// The canonical text of the program: a line for each of the program's first line, each `const`,
 /// `device`, `event`, `var` and `condition`, each header, `begin`, `handler`, simple statement,
@@ -16,7 +16,7 @@ use syntax_tree::{Prog, Text};
 /// # Errors
 ///
 /// Only where there is not enough memory for the text.
-pub fn print(alloc: Global, prog: &Prog) -> Result<Text, AllocError>
+pub fn print(alloc: Global, prog: &Program) -> Result<Text, AllocError>
     ensures { IfOk result (λ text. text ≡ canonical (bare (placed prog.now))) }
 {
     let mut page = Page {

@@ -26,14 +26,14 @@ use Rattle.syntax_tree.specs.declared.decl.RoutineKind.TheVariants as kind_is
 use Rattle.syntax_tree.specs.declared.decl.Routine as code_routine
 use Rattle.syntax_tree.specs.declared.decl.Member as code_member
 use Rattle.syntax_tree.specs.declared.decl.Member.TheVariants as member_is
-use Rattle.syntax_tree.specs.declared.decl.Mon as code_mon
-use Rattle.syntax_tree.specs.declared.decl.Activation as code_activation
-use Rattle.syntax_tree.specs.declared.decl.Activation.TheVariants as activation_is
+use Rattle.syntax_tree.specs.declared.decl.Monitor as code_mon
+use Rattle.syntax_tree.specs.declared.decl.Trigger as code_activation
+use Rattle.syntax_tree.specs.declared.decl.Trigger.TheVariants as activation_is
 use Rattle.syntax_tree.specs.declared.decl.Handler as code_handler
-use Rattle.syntax_tree.specs.declared.decl.Proc as code_proc
-use Rattle.syntax_tree.specs.declared.decl.Decl as code_decl
-use Rattle.syntax_tree.specs.declared.decl.Decl.TheVariants as decl_is
-use Rattle.syntax_tree.specs.declared.decl.Prog as code_prog
+use Rattle.syntax_tree.specs.declared.decl.Process as code_proc
+use Rattle.syntax_tree.specs.declared.decl.Declaration as code_decl
+use Rattle.syntax_tree.specs.declared.decl.Declaration.TheVariants as decl_is
+use Rattle.syntax_tree.specs.declared.decl.Program as code_prog
 
 -- a literal or the name of a constant, with or without a minus; the places are those of the first
 -- token and of the literal or name
@@ -267,7 +267,7 @@ plain_member (condition_member n p) = plain_of.condition_member n
 abbrev pub plain_monitor : {P : Type 0} → Monitor P → plain_of.Monitor
 plain_monitor m = record { name = m.name; members = map plain_member m.members; entries = map plain_routine m.entries }
 
-abbrev pub plain_activation : {P : Type 0} → Activation P → plain_of.Activation
+abbrev pub plain_activation : {P : Type 0} → Activation P → plain_of.Trigger
 plain_activation (periodic frame deadline first) = plain_of.periodic (plain_constant frame) (optional plain_constant deadline) (optional plain_constant first)
 plain_activation (at_event e p frame deadline) = plain_of.at_event e (plain_constant frame) (optional plain_constant deadline)
 
@@ -284,7 +284,7 @@ plain_process p = record {
   handler = optional plain_handler p.handler;
 }
 
-abbrev pub plain_decl : {P : Type 0} → Decl P → plain_of.Decl
+abbrev pub plain_decl : {P : Type 0} → Decl P → plain_of.Declaration
 plain_decl (constant n p c) = plain_of.constant n (plain_constant c)
 plain_decl (device n p is_out) = plain_of.device n is_out
 plain_decl (event n p) = plain_of.event n
@@ -293,7 +293,7 @@ plain_decl (monitor m) = plain_of.monitor (plain_monitor m)
 plain_decl (process p) = plain_of.process (plain_process p)
 
 -- the program without places and closing names
-abbrev pub plain : {P : Type 0} → Prog P → plain_of.Prog
+abbrev pub plain : {P : Type 0} → Prog P → plain_of.Program
 plain g = record { name = g.name; decls = map plain_decl g.decls }
 
 -- ---- the trees of the code
@@ -426,7 +426,7 @@ abbrev pub placed_member : code_member.Member → Member Place
 placed_member (member_is.Var v) = variable_member (placed_var v)
 placed_member (member_is.Condition n p) = condition_member n p
 
-abbrev pub placed_monitor : code_mon.Mon → Monitor Place
+abbrev pub placed_monitor : code_mon.Monitor → Monitor Place
 placed_monitor m = record {
   name = m.name;
   place = m.place;
@@ -436,7 +436,7 @@ placed_monitor m = record {
   close_place = m.close_place;
 }
 
-abbrev pub placed_activation : code_activation.Activation → Activation Place
+abbrev pub placed_activation : code_activation.Trigger → Activation Place
 placed_activation (activation_is.Periodic frame deadline first) =
     periodic (placed_constant frame) (optional placed_constant deadline) (optional placed_constant first)
 placed_activation (activation_is.AtEvent e p frame deadline) = at_event e p (placed_constant frame) (optional placed_constant deadline)
@@ -444,7 +444,7 @@ placed_activation (activation_is.AtEvent e p frame deadline) = at_event e p (pla
 abbrev pub placed_handler : code_handler.Handler → Handler Place
 placed_handler h = record { numbers = map placed_constant h.numbers; body = placed_stmts h.body }
 
-abbrev pub placed_process : code_proc.Proc → Process Place
+abbrev pub placed_process : code_proc.Process → Process Place
 placed_process p = record {
   name = p.name;
   place = p.place;
@@ -457,14 +457,14 @@ placed_process p = record {
   close_place = p.close_place;
 }
 
-abbrev pub placed_decl : code_decl.Decl → Decl Place
+abbrev pub placed_decl : code_decl.Declaration → Decl Place
 placed_decl (decl_is.Const n p c) = constant n p (placed_constant c)
 placed_decl (decl_is.Device n p is_out) = device n p is_out
 placed_decl (decl_is.Event n p) = event n p
 placed_decl (decl_is.Routine r) = routine (placed_routine r)
-placed_decl (decl_is.Mon m) = monitor (placed_monitor m)
-placed_decl (decl_is.Proc p) = process (placed_process p)
+placed_decl (decl_is.Monitor m) = monitor (placed_monitor m)
+placed_decl (decl_is.Process p) = process (placed_process p)
 
 -- what contracts see of the code's tree
-abbrev pub placed : code_prog.Prog → Prog Place
+abbrev pub placed : code_prog.Program → Prog Place
 placed g = record { name = g.name; place = g.place; decls = map placed_decl g.decls; close = g.close; close_place = g.close_place }

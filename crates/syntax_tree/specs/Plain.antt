@@ -114,9 +114,9 @@ pub record Monitor : Type 0 where
   pub members : List Member
   pub entries : List Routine
 
-pub data Activation : Type 0 where
-  periodic : (frame : Constant) → (deadline : Option Constant) → (first : Option Constant) → Activation
-  at_event : (event : Name) → (frame : Constant) → (deadline : Option Constant) → Activation
+pub data Trigger : Type 0 where
+  periodic : (frame : Constant) → (deadline : Option Constant) → (first : Option Constant) → Trigger
+  at_event : (event : Name) → (frame : Constant) → (deadline : Option Constant) → Trigger
 
 pub record Handler : Type 0 where
   pub numbers : List Constant
@@ -124,20 +124,20 @@ pub record Handler : Type 0 where
 
 pub record Process : Type 0 where
   pub name : Name
-  pub activation : Activation
+  pub activation : Trigger
   pub vars : List Var
   pub routines : List Routine
   pub body : Stmts
   pub handler : Option Handler
 
-pub data Decl : Type 0 where
-  constant : Name → Constant → Decl
-  device : Name → (is_out : Bool) → Decl
-  event : Name → Decl
-  routine : Routine → Decl
-  monitor : Monitor → Decl
-  process : Process → Decl
+pub data Declaration : Type 0 where
+  constant : Name → Constant → Declaration
+  device : Name → (is_out : Bool) → Declaration
+  event : Name → Declaration
+  routine : Routine → Declaration
+  monitor : Monitor → Declaration
+  process : Process → Declaration
 
-pub record Prog : Type 0 where
+pub record Program : Type 0 where
   pub name : Name
-  pub decls : List Decl
+  pub decls : List Declaration

@@ -73,7 +73,7 @@ pub enum Member {
 
 /// A monitor, with its variables and conditions in the order of the text.
 #[derive(Debug, Drop)]
-pub struct Mon {
+pub struct Monitor {
     pub name: Name,
     pub place: Place,
     pub members: List<Member>,
@@ -85,7 +85,7 @@ pub struct Mon {
 /// When a process is released, and by when an activation has to end: within its deadline, which is
 /// its frame where none is told.
 #[derive(Debug, Drop)]
-pub enum Activation {
+pub enum Trigger {
     Periodic {
         frame: Constant,
         deadline: Option<Constant>,
@@ -107,10 +107,10 @@ pub struct Handler {
 }
 
 #[derive(Debug, Drop)]
-pub struct Proc {
+pub struct Process {
     pub name: Name,
     pub place: Place,
-    pub activation: Activation,
+    pub activation: Trigger,
     pub vars: List<Var>,
     pub routines: List<Routine>,
     pub body: List<Stmt>,
@@ -121,7 +121,7 @@ pub struct Proc {
 
 /// A declaration of a program. Its place is that of its name.
 #[derive(Debug, Drop)]
-pub enum Decl {
+pub enum Declaration {
     Const {
         name: Name,
         place: Place,
@@ -137,16 +137,16 @@ pub enum Decl {
         place: Place,
     },
     Routine(Routine),
-    Mon(Mon),
-    Proc(Proc),
+    Monitor(Monitor),
+    Process(Process),
 }
 
 /// A program: its name, its declarations in the order of the text, and its closing name.
 #[derive(Debug, Drop)]
-pub struct Prog {
+pub struct Program {
     pub name: Name,
     pub place: Place,
-    pub decls: List<Decl>,
+    pub decls: List<Declaration>,
     pub close: Name,
     pub close_place: Place,
 }

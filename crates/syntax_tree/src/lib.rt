@@ -22,8 +22,8 @@ mod stmt;
 mod text;
 
 pub use decl::{
-    Activation, Decl, Handler, Member, Mon, Param, Proc, Prog, Routine, RoutineKind, Scalar, Type,
-    Var,
+    Declaration, Handler, Member, Monitor, Param, Process, Program, Routine, RoutineKind, Scalar,
+    Trigger, Type, Var,
 };
 pub use expr::{Constant, Expr, Op, Value};
 pub use list::List;

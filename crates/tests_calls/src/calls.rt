@@ -1,7 +1,7 @@
 //! Calls of the top over files and a sink in memory.
 
 use command::rte;
-use outside::{MemFiles, MemSink};
+use outside::{MemoryFiles, MemorySink};
 use std::alloc::Global;
 use std::test::Fail;
 
@@ -11,7 +11,7 @@ const ROOM: usize = 1_048_576;
 /// What a call came to: its status, the bytes and the pieces that it put, and what P, S, I and J
 /// hold.
 #[derive(Drop)]
-pub struct Outcome {
+pub struct CallResult {
     pub status: u8,
     pub put: Vec<u8>,
     pub puts: u64,
@@ -53,7 +53,7 @@ pub fn call(
     line: &str,
     program: &[u8],
     script: Option<&str>,
-) -> Result<Outcome, Fail> {
+) -> Result<CallResult, Fail> {
     call_with(alloc, line, program, script, NO_FAILURES)
 }
 
@@ -64,7 +64,7 @@ pub fn call_with(
     program: &[u8],
     script: Option<&str>,
     failures: Failures,
-) -> Result<Outcome, Fail> {
+) -> Result<CallResult, Fail> {
     let mut files = failing(alloc, failures)?;
     files.place("P", program)?;
     if let Some(text) = script {
@@ -79,7 +79,7 @@ pub fn call_on_image(
     line: &str,
     image: &[u8],
     script: &str,
-) -> Result<Outcome, Fail> {
+) -> Result<CallResult, Fail> {
     let mut files = failing(alloc, NO_FAILURES)?;
     files.place("I", image)?;
     files.place("S", script.as_bytes())?;
@@ -96,7 +96,7 @@ pub fn call_beside(
     name: &str,
     bytes: &[u8],
     failures: Failures,
-) -> Result<Outcome, Fail> {
+) -> Result<CallResult, Fail> {
     let mut files = failing(alloc, failures)?;
     files.place("P", program.as_bytes())?;
     files.place("S", script.as_bytes())?;
@@ -104,14 +104,14 @@ pub fn call_beside(
     made_call(alloc, line, files, failures)
 }
 
-fn failing(alloc: Global, failures: Failures) -> Result<MemFiles, Fail> {
+fn failing(alloc: Global, failures: Failures) -> Result<MemoryFiles, Fail> {
     let reads = vec![in alloc; failures.read]?;
     let writes = vec![in alloc; failures.write]?;
-    Ok(MemFiles::new(alloc, reads, writes))
+    Ok(MemoryFiles::new(alloc, reads, writes))
 }
 
 /// What the file of this name holds.
-fn held(alloc: Global, files: &MemFiles, name: &str) -> Result<Option<Vec<u8>>, Fail> {
+fn held(alloc: Global, files: &MemoryFiles, name: &str) -> Result<Option<Vec<u8>>, Fail> {
     match files.held(name) {
         Some(bytes) => Ok(Some(Vec::from_slice(alloc, bytes)?)),
         None => Ok(None),
@@ -121,13 +121,13 @@ fn held(alloc: Global, files: &MemFiles, name: &str) -> Result<Option<Vec<u8>>, 
 fn made_call(
     alloc: Global,
     line: &str,
-    mut files: MemFiles,
+    mut files: MemoryFiles,
     failures: Failures,
-) -> Result<Outcome, Fail> {
+) -> Result<CallResult, Fail> {
     let words = words_of(alloc, line)?;
-    let mut out = MemSink::new(alloc, ROOM, vec![in alloc; failures.put]?)?;
+    let mut out = MemorySink::new(alloc, ROOM, vec![in alloc; failures.put]?)?;
     let status = rte(alloc, words.as_slice(), &mut files, &mut out);
-    Ok(Outcome {
+    Ok(CallResult {
         status: status.code(),
         put: Vec::from_slice(alloc, out.bytes())?,
         puts: out.puts(),

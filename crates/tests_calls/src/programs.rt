@@ -1,7 +1,7 @@
 //! Worked programs: reports, logs and bounds that were found by hand.
 
 /// A program with a script, and what `go` puts: all of it, or the log behind the report.
-pub struct Row {
+pub struct GoCase {
     pub line: &'static str,
     pub program: &'static str,
     pub script: &'static str,
@@ -16,8 +16,8 @@ pub enum Put {
     Report(&'static str),
 }
 
-pub const ROWS: &[Row] = &[
-    Row {
+pub const ROWS: &[GoCase] = &[
+    GoCase {
         line: "go P I S",
         program: "program b device a : out process p1 : periodic frame 20 begin put a 1 end p1 process p2 : periodic frame 60 begin put a 2 end p2 end b",
         script: "end 60",
@@ -26,7 +26,7 @@ pub const ROWS: &[Row] = &[
             "program b|process p1 frame 20 rank 1 cost 15 suspend 0 waits 0 block 0 bound 15 data 0 stack 1|process p2 frame 60 rank 2 cost 15 suspend 0 waits 0 block 0 bound 60 data 0 stack 1|code 6|timely|0 p1 release|0 p2 release|10 p1 put a 1|14 p1 end|20 p1 release|30 p1 put a 1|34 p1 end|40 p1 release|50 p1 put a 1|54 p1 end|55 p2 put a 2|59 p2 end",
         ),
     },
-    Row {
+    GoCase {
         line: "go P I S",
         program: "program b device a : out process p1 : periodic frame 20 begin put a 1 end p1 process p2 : periodic frame 59 begin put a 2 end p2 end b",
         script: "end 60",
@@ -35,7 +35,7 @@ pub const ROWS: &[Row] = &[
             "program b|process p1 frame 20 rank 1 cost 15 suspend 0 waits 0 block 0 bound 15 data 0 stack 1|process p2 frame 59 rank 2 cost 15 suspend 0 waits 0 block 0 bound none data 0 stack 1|code 6|untimely p2",
         ),
     },
-    Row {
+    GoCase {
         line: "go P I S",
         program: "program b device a : out process p : periodic frame 30 begin put a 1 end p process q : periodic frame 30 begin put a 2 end q end b",
         script: "end 30",
@@ -44,7 +44,7 @@ pub const ROWS: &[Row] = &[
             "program b|process p frame 30 rank 1 cost 15 suspend 0 waits 0 block 0 bound 15 data 0 stack 1|process q frame 30 rank 2 cost 15 suspend 0 waits 0 block 0 bound 30 data 0 stack 1|code 6|timely|0 p release|0 q release|10 p put a 1|14 p end|25 q put a 2|29 q end",
         ),
     },
-    Row {
+    GoCase {
         line: "go P I S",
         program: "program c device a : out monitor m var n : int entry procedure e() begin n := n + 1 end e end m process l : periodic frame 200 begin m.e() end l process u : periodic frame 100 first activation atTime 12 begin m.e() end u process h : periodic frame 90 first activation atTime 14 begin put a 1 end h end c",
         script: "end 90",
@@ -53,7 +53,7 @@ pub const ROWS: &[Row] = &[
             "0 l release|10 l enter m|12 u release|14 h release|24 h put a 1|28 h end|37 l leave m|48 u enter m|60 u leave m|68 u end|76 l end",
         ),
     },
-    Row {
+    GoCase {
         line: "go P I S",
         program: "program d device a : out monitor m condition c entry procedure w() begin wait c noLongerThan 30 : 10 end w entry procedure s() begin signal c end s end m process p : periodic frame 200 begin m.w() handler (10) put a 1 end p process q : periodic frame 300 first activation atTime 31 begin m.s() end q end d",
         script: "end 100",
@@ -62,7 +62,7 @@ pub const ROWS: &[Row] = &[
             "0 p release|10 p enter m|16 p wait m c|31 q release|41 q enter m|46 q signal m c p|49 q leave m|53 p enter m|56 p leave m|64 p end|72 q end",
         ),
     },
-    Row {
+    GoCase {
         line: "go P I S",
         program: "program d device a : out monitor m condition c entry procedure w() begin wait c noLongerThan 30 : 10 end w entry procedure s() begin signal c end s end m process p : periodic frame 200 begin m.w() handler (10) put a 1 end p process q : periodic frame 300 first activation atTime 32 begin m.s() end q end d",
         script: "end 100",
@@ -71,7 +71,7 @@ pub const ROWS: &[Row] = &[
             "0 p release|10 p enter m|16 p wait m c|32 q release|42 q enter m|47 p timeout m c 10|47 q signal m c -|50 q leave m|61 p put a 1|65 p end|73 q end",
         ),
     },
-    Row {
+    GoCase {
         line: "go P I S 3",
         program: "program d device a : out monitor m condition c entry procedure w() begin wait c noLongerThan 30 : 10 end w entry procedure s() begin signal c end s end m process p : periodic frame 200 begin m.w() handler (10) put a 1 end p process q : periodic frame 300 first activation atTime 31 begin m.s() end q end d",
         script: "end 100",
@@ -80,7 +80,7 @@ pub const ROWS: &[Row] = &[
             "0 p release|16 p enter m|22 p wait m c|31 q release|47 q enter m|52 q signal m c p|55 q leave m|65 p enter m|68 p leave m|76 p end|84 q end",
         ),
     },
-    Row {
+    GoCase {
         line: "go P I S",
         program: "program g monitor m var n : int entry procedure e() begin n := n + 1 end e end m monitor k condition c entry procedure w() begin wait c noLongerThan 150 : 10 end w end k process a : periodic frame 60 begin m.e() end a process b : periodic frame 800 begin k.w() end b process l : periodic frame 900 begin for i : 1 .. 5 do m.e() end for end l end g",
         script: "end 278",
@@ -89,28 +89,28 @@ pub const ROWS: &[Row] = &[
             "0 a release|0 b release|0 l release|10 a enter m|22 a leave m|30 a end|41 b enter k|47 b wait k c|60 a release|70 a enter m|82 a leave m|90 a end|94 l enter m|106 l leave m|120 a release|130 a enter m|142 a leave m|150 a end|162 l enter m|174 l leave m|180 a release|190 a enter m|198 b timeout k c 10|202 a leave m|210 a end|214 b end|234 l enter m|240 a release|246 l leave m|257 a enter m|269 a leave m|277 a end",
         ),
     },
-    Row {
+    GoCase {
         line: "go P I S",
         program: "program a process p : periodic frame 10 var x : int begin x := 2147483647 + 1 end p end a",
         script: "end 10",
         status: 0,
         put: Put::Log("0 p release|3 p raise 1|7 p end"),
     },
-    Row {
+    GoCase {
         line: "go P I S",
         program: "program a process p : periodic frame 30 var x : int begin x := (-2147483647 - 1) div (-1) end p end a",
         script: "end 30",
         status: 0,
         put: Put::Log("0 p release|20 p raise 1|24 p end"),
     },
-    Row {
+    GoCase {
         line: "go P I S",
         program: "program a process p : periodic frame 10 var x : int begin x := 2147483648 end p end a",
         script: "end 10",
         status: 2,
         put: Put::All("E2 1:64"),
     },
-    Row {
+    GoCase {
         line: "go P I S",
         program: "program a monitor m entry procedure r() begin except 12 end r entry procedure e() begin end e end m process p : periodic frame 100 begin m.r() end p process q : periodic frame 200 begin m.e() end q end a",
         script: "end 50",
@@ -119,7 +119,7 @@ pub const ROWS: &[Row] = &[
             "0 p release|0 q release|10 p enter m|14 p raise 12|18 p end|29 q enter m|32 q leave m|40 q end",
         ),
     },
-    Row {
+    GoCase {
         line: "check P",
         program: "program a process p : periodic frame 1000000000 begin for i : 1 .. 1000000 do for j : 1 .. 1000000 do end for end for end p end a",
         script: "end 1",
@@ -128,7 +128,7 @@ pub const ROWS: &[Row] = &[
             "program a|process p frame 1000000000 rank 1 cost over suspend 0 waits 0 block 0 bound none data 0 stack 6|code 17|untimely p",
         ),
     },
-    Row {
+    GoCase {
         line: "go P I S",
         program: "program a device valve : out event e process p : atEvent e frame 15 begin put valve 7 end p end a",
         script: "0 event e|15 event e|end 30",
@@ -137,28 +137,28 @@ pub const ROWS: &[Row] = &[
             "0 p release|10 p put valve 7|14 p end|15 p release|25 p put valve 7|29 p end",
         ),
     },
-    Row {
+    GoCase {
         line: "go P I S",
         program: "program a device valve : out event e process p : atEvent e frame 15 begin put valve 7 end p end a",
         script: "0 event e|14 event e|end 30",
         status: 5,
         put: Put::All("S4 2 0 14"),
     },
-    Row {
+    GoCase {
         line: "go P I S",
         program: "program a device valve : out event e process p : atEvent e frame 15 begin put valve 7 end p end a",
         script: "30 event e|end 30",
         status: 5,
         put: Put::All("S3 2"),
     },
-    Row {
+    GoCase {
         line: "go P I S",
         program: "program b device a : out process p : periodic frame 30 var x : 0 .. 9 begin x := 10 handler (3) put a 1 end p end b",
         script: "end 30",
         status: 0,
         put: Put::Log("0 p release|3 p raise 3|14 p put a 1|18 p end"),
     },
-    Row {
+    GoCase {
         line: "go P I S 1",
         program: "program a device valve : out process p : periodic frame 17 begin put valve 7 end p end a",
         script: "end 17",
@@ -167,14 +167,14 @@ pub const ROWS: &[Row] = &[
             "program a|process p frame 17 rank 1 cost 17 suspend 0 waits 0 block 0 bound 17 data 0 stack 1|code 3|timely|0 p release|12 p put valve 7|16 p end",
         ),
     },
-    Row {
+    GoCase {
         line: "check P",
         program: "program a procedure f() var t : array 1 .. 4097 of int begin end f process p : periodic frame 30 begin f() end p end a",
         script: "end 1",
         status: 2,
         put: Put::All("E47 1:21"),
     },
-    Row {
+    GoCase {
         line: "go P I S",
         program: "program b device a : out process p : periodic frame 100 begin put a 1 end p process q : periodic frame 200 deadline 20 begin put a 2 end q end b",
         script: "end 60",
@@ -183,7 +183,7 @@ pub const ROWS: &[Row] = &[
             "program b|process p frame 100 rank 2 cost 15 suspend 0 waits 0 block 0 bound 30 data 0 stack 1|process q frame 200 deadline 20 rank 1 cost 15 suspend 0 waits 0 block 0 bound 15 data 0 stack 1|code 6|timely|0 p release|0 q release|10 q put a 2|14 q end|25 p put a 1|29 p end",
         ),
     },
-    Row {
+    GoCase {
         line: "check P",
         program: "program b device a : out process p : periodic frame 100 begin put a 1 end p process q : periodic frame 200 deadline 14 begin put a 2 end q end b",
         script: "end 60",
@@ -192,42 +192,42 @@ pub const ROWS: &[Row] = &[
             "program b|process p frame 100 rank 2 cost 15 suspend 0 waits 0 block 0 bound 30 data 0 stack 1|process q frame 200 deadline 14 rank 1 cost 15 suspend 0 waits 0 block 0 bound none data 0 stack 1|code 6|untimely q",
         ),
     },
-    Row {
+    GoCase {
         line: "slack P",
         program: "program a device valve : out process p : periodic frame 20 begin put valve 7 end p end a",
         script: "end 1",
         status: 0,
         put: Put::All("slack p 5 bounds 20 fails p"),
     },
-    Row {
+    GoCase {
         line: "slack P 1",
         program: "program a device valve : out process p : periodic frame 20 begin put valve 7 end p end a",
         script: "end 1",
         status: 0,
         put: Put::All("slack p 3 bounds 20 fails p"),
     },
-    Row {
+    GoCase {
         line: "slack P",
         program: "program b device a : out process p1 : periodic frame 20 begin put a 1 end p1 process p2 : periodic frame 60 begin put a 2 end p2 end b",
         script: "end 1",
         status: 0,
         put: Put::All("slack p1 0 bounds 15 60 fails p2|slack p2 0 bounds 15 60 fails p2"),
     },
-    Row {
+    GoCase {
         line: "slack P 0",
         program: "program b device a : out process p1 : periodic frame 20 begin put a 1 end p1 process p2 : periodic frame 100 begin put a 2 end p2 end b",
         script: "end 1",
         status: 0,
         put: Put::All("slack p1 2 bounds 17 100 fails p2|slack p2 10 bounds 15 100 fails p2"),
     },
-    Row {
+    GoCase {
         line: "slack P",
         program: "program b device a : out process p : periodic frame 100 begin put a 1 end p process q : periodic frame 200 deadline 20 begin put a 2 end q end b",
         script: "end 1",
         status: 0,
         put: Put::All("slack p 70 bounds 100 15 fails p|slack q 5 bounds 35 20 fails q"),
     },
-    Row {
+    GoCase {
         line: "slack P",
         program: "program b device a : out process p1 : periodic frame 20 begin put a 1 end p1 process p2 : periodic frame 59 begin put a 2 end p2 end b",
         script: "end 1",
@@ -236,21 +236,21 @@ pub const ROWS: &[Row] = &[
             "program b|process p1 frame 20 rank 1 cost 15 suspend 0 waits 0 block 0 bound 15 data 0 stack 1|process p2 frame 59 rank 2 cost 15 suspend 0 waits 0 block 0 bound none data 0 stack 1|code 6|untimely p2",
         ),
     },
-    Row {
+    GoCase {
         line: "slack P",
         program: "program a process p : periodic frame 10 var x : int begin x := 2147483648 end p end a",
         script: "end 1",
         status: 2,
         put: Put::All("E2 1:64"),
     },
-    Row {
+    GoCase {
         line: "check P",
         program: MINE,
         script: "end 1",
         status: 0,
         put: Put::Report(MINE_REPORT),
     },
-    Row {
+    GoCase {
         line: "go P I S",
         program: MINE,
         script: "0 set methane 40|0 set air 50|end 88",

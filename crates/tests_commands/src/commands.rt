@@ -2,7 +2,7 @@
 
 use std::alloc::Global;
 use std::test::Fail;
-use tests_calls::{Failures, NO_FAILURES, Outcome, VALVE, call, call_with};
+use tests_calls::{CallResult, Failures, NO_FAILURES, VALVE, call, call_with};
 
 /// The valve with a comment and other blanks, and numbers with leading zeros.
 const COMMENTED: &str =
@@ -69,7 +69,7 @@ fn goes_whole(rt: HostRuntime) -> Result<(), Fail> {
         (VALVE, "end 15", 5, "S1 1\n", "", 1),
     ];
     for (program, script, want, report, log, pieces) in rows {
-        let Outcome {
+        let CallResult {
             status,
             put,
             puts,
@@ -119,7 +119,7 @@ fn checks_and_prints(rt: HostRuntime) -> Result<(), Fail> {
         ("go P I S 01", VALVE, 1, "usage\n"),
     ];
     for (line, program, want, text) in rows {
-        let Outcome {
+        let CallResult {
             status,
             put,
             puts,
@@ -166,7 +166,7 @@ fn fails_at_each_step(rt: HostRuntime) -> Result<(), Fail> {
         ),
     ];
     for (what, failures, want, text, stores) in rows {
-        let Outcome {
+        let CallResult {
             status,
             put,
             image,

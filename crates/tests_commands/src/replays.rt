@@ -2,7 +2,7 @@
 
 use std::alloc::Global;
 use std::test::Fail;
-use tests_calls::{NO_FAILURES, Outcome, ROWS, VALVE, call, call_beside, call_on_image, lines};
+use tests_calls::{CallResult, NO_FAILURES, ROWS, VALVE, call, call_beside, call_on_image, lines};
 
 /// A script and a log of the program that opens a valve, both with their lines parted by bars, and
 /// what is answered and put.
@@ -77,7 +77,7 @@ const RECORDED: &[Recorded] = &[
 ];
 
 /// The call of `replay P S L`, where L holds the log.
-fn replayed(alloc: Global, program: &str, script: &str, log: &[u8]) -> Result<Outcome, Fail> {
+fn replayed(alloc: Global, program: &str, script: &str, log: &[u8]) -> Result<CallResult, Fail> {
     call_beside(
         alloc,
         "replay P S L",

@@ -1,7 +1,7 @@
 //! The machine at a stop.
 
 use std::test::Fail;
-use tests_calls::{Outcome, VALVE, call, call_on_image, lines};
+use tests_calls::{CallResult, VALVE, call, call_on_image, lines};
 
 /// A counter in a monitor, and a process that holds two others up. Its code begins with ENTER, LDM,
 /// PUSH, ADD, STM, LEAVE and RET of the entry; CALL and END of l are at 7, those of u at 9.
@@ -131,9 +131,9 @@ fn stops_are_told(rt: HostRuntime) -> Result<(), Fail> {
     let alloc = rt.alloc();
     for stop in STOPS {
         let watch = stop.watch;
-        let Outcome { image, .. } = call(alloc, stop.compile, stop.program.as_bytes(), None)?;
+        let CallResult { image, .. } = call(alloc, stop.compile, stop.program.as_bytes(), None)?;
         let image = image.ok_or("no image")?;
-        let Outcome {
+        let CallResult {
             status,
             put,
             puts,

@@ -3,7 +3,7 @@
 use std::alloc::Global;
 use std::process::Abort;
 use std::test::Fail;
-use tests_calls::{IDLE_FIRST, IDLE_SECOND, Outcome, call_on_image, with_byte};
+use tests_calls::{CallResult, IDLE_FIRST, IDLE_SECOND, call_on_image, with_byte};
 
 const SCRIPT: &str = "end 10\n";
 
@@ -94,7 +94,7 @@ const SECOND_CHANGED: &[Changed] = &[
 fn refuses<R: Abort>(rt: &R, alloc: Global, image: &[u8], fault: &str) -> Result<(), Fail> {
     let line = format!(in alloc; "{fault}\n")?;
     for words in ["run I S", "migrate I J"] {
-        let Outcome {
+        let CallResult {
             status,
             put,
             puts,
@@ -151,7 +151,7 @@ fn cut_after_each_byte(rt: HostRuntime) -> Result<(), Fail> {
     for &(digits, length) in WHOLE {
         let image = hex::decode(alloc, digits)?;
         assert_eq!(rt; image.len(), length);
-        let Outcome { status, put, .. } = call_on_image(
+        let CallResult { status, put, .. } = call_on_image(
             alloc,
             "run I S",
             image.as_slice(),
@@ -349,7 +349,7 @@ const NESTS: &[(Nest, &str)] = &[
 fn loops_in_one_another(rt: HostRuntime) -> Result<(), Fail> {
     let alloc = rt.alloc();
     let deepest = nest_image(alloc, DEEPEST)?;
-    let Outcome { status, put, .. } = call_on_image(
+    let CallResult { status, put, .. } = call_on_image(
         alloc,
         "run I S",
         deepest.as_slice(),
@@ -376,7 +376,7 @@ fn longer_than_an_image_may_be(rt: HostRuntime) -> Result<(), Fail> {
         image.push(0x52)?;
     }
     for fault in ["I1 0\n", "I9 8388608\n"] {
-        let Outcome { status, put, .. } = call_on_image(
+        let CallResult { status, put, .. } = call_on_image(
             alloc,
             "run I S",
             image.as_slice(),

@@ -3,7 +3,7 @@
 use std::alloc::Global;
 use std::test::Fail;
 use tests_calls::{
-    Failures, IDLE_SECOND, Outcome, ROWS, VALVE_SECOND, call, call_beside, call_on_image, lines,
+    CallResult, Failures, IDLE_SECOND, ROWS, VALVE_SECOND, call, call_beside, call_on_image, lines,
     with_byte,
 };
 
@@ -26,13 +26,13 @@ fn is(file: &Option<Vec<u8>>, bytes: &[u8]) -> bool {
 }
 
 /// A call of `asm P I`, where P holds the text.
-fn assembled(alloc: Global, text: &[u8]) -> Result<Outcome, Fail> {
+fn assembled(alloc: Global, text: &[u8]) -> Result<CallResult, Fail> {
     call(alloc, "asm P I", text, None)
 }
 
 /// The text that `dis` stores of the image.
 fn told(alloc: Global, image: &[u8]) -> Result<Vec<u8>, Fail> {
-    let Outcome {
+    let CallResult {
         status,
         puts,
         migrated,
@@ -96,7 +96,7 @@ const FAULTY: &[(&str, &str, &str)] = &[
 ];
 
 /// The smallest text with other words in the place of some.
-fn refused(alloc: Global, right: &str, wrong: &str) -> Result<Outcome, Fail> {
+fn refused(alloc: Global, right: &str, wrong: &str) -> Result<CallResult, Fail> {
     let text = IDLE_TEXT.replace(alloc, right, wrong)?;
     assembled(alloc, text.as_bytes())
 }
@@ -148,7 +148,7 @@ fn worked_images_are_told_and_assembled(rt: HostRuntime) -> Result<(), Fail> {
         if row.status == 0 && row.line.starts_with("go") {
             let program = row.program;
             let script = lines(alloc, row.script)?;
-            let Outcome { image, .. } = call(
+            let CallResult { image, .. } = call(
                 alloc,
                 row.line,
                 program.as_bytes(),

@@ -2,11 +2,11 @@
 
 use std::alloc::Global;
 use std::test::Fail;
-use tests_calls::{IDLE_FIRST, IDLE_SECOND, Outcome, VALVE, call, call_on_image, with_byte};
+use tests_calls::{CallResult, IDLE_FIRST, IDLE_SECOND, VALVE, call, call_on_image, with_byte};
 
 /// The image of a program text with an overhead.
 fn image_of(alloc: Global, line: &str, program: &str) -> Result<Vec<u8>, Fail> {
-    let Outcome { image, .. } = call(alloc, line, program.as_bytes(), Some("end 0\n"))?;
+    let CallResult { image, .. } = call(alloc, line, program.as_bytes(), Some("end 0\n"))?;
     Ok(image.ok_or("no image")?)
 }
 
@@ -21,7 +21,7 @@ fn runs_stored_images(rt: HostRuntime) -> Result<(), Fail> {
     for (place, byte, want, text) in rows {
         let image = image_of(alloc, "go P I S", VALVE)?;
         let image = with_byte(alloc, image.as_slice(), *place, *byte)?;
-        let Outcome { status, put, .. } = call_on_image(
+        let CallResult { status, put, .. } = call_on_image(
             alloc,
             "run I S",
             image.as_slice(),
@@ -57,7 +57,7 @@ fn an_overhead_is_part_of_the_image(rt: HostRuntime) -> Result<(), Fail> {
         "program a device valve : out process p : periodic frame 17 begin put valve 7 end p end a";
     let image = image_of(alloc, "compile P I 1", program)?;
     let image = with_byte(alloc, image.as_slice(), 7, 2)?;
-    let Outcome { status, put, .. } = call_on_image(
+    let CallResult { status, put, .. } = call_on_image(
         alloc,
         "run I S",
         image.as_slice(),
@@ -74,7 +74,7 @@ fn migrates_the_first_version(rt: HostRuntime) -> Result<(), Fail> {
     let first = hex::decode(alloc, IDLE_FIRST)?;
     let second = hex::decode(alloc, IDLE_SECOND)?;
     assert_eq!(rt; first.len(), 98);
-    let Outcome {
+    let CallResult {
         status,
         puts,
         migrated,
@@ -90,7 +90,7 @@ fn migrates_the_first_version(rt: HostRuntime) -> Result<(), Fail> {
 fn runs_the_first_version(rt: HostRuntime) -> Result<(), Fail> {
     let alloc = rt.alloc();
     let first = hex::decode(alloc, IDLE_FIRST)?;
-    let Outcome { status, put, .. } = call_on_image(
+    let CallResult { status, put, .. } = call_on_image(
         alloc,
         "run I S",
         first.as_slice(),

@@ -2,7 +2,7 @@
 
 use edf_admission::{AdmittedRun, EdfFault, EdfImage, images_of_files_can_be_run};
 use image_loaded::Shape;
-use outside::MemSink;
+use outside::MemorySink;
 use sched_demand::Judgement;
 use script::read_script;
 use std::alloc::Global;
@@ -27,7 +27,7 @@ const LOG: &str =
     "0 p release\n0 q release\n10 p put a 1\n14 p end\n25 q put a 2\n30 p release\n36 q put a 3\n40 q end\n51 p put a 1\n52 q release\n55 p end\n";
 
 /// Puts the log of the image that the bytes are, over the script.
-fn put_log(alloc: Global, bytes: &[u8], text: &[u8], out: &mut MemSink) -> Result<(), Fail> {
+fn put_log(alloc: Global, bytes: &[u8], text: &[u8], out: &mut MemorySink) -> Result<(), Fail> {
     let shape = Shape::load(alloc, Vec::from_slice(alloc, bytes)?)?;
     let image = EdfImage::admit(alloc, shape)?;
     let script = read_script(alloc, text, image.shape().names())?;
@@ -40,7 +40,7 @@ fn put_log(alloc: Global, bytes: &[u8], text: &[u8], out: &mut MemSink) -> Resul
 #[test]
 fn runs_an_image_of_two_processes(rt: HostRuntime) -> Result<(), Fail> {
     let alloc = rt.alloc();
-    let mut out = MemSink::new(alloc, 1000, Vec::new(alloc))?;
+    let mut out = MemorySink::new(alloc, 1000, Vec::new(alloc))?;
     put_log(alloc, TWO, b"end 60\n", &mut out)?;
     assert!(rt; out.bytes() == LOG.as_bytes());
     Ok(())

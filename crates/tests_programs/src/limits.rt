@@ -2,7 +2,7 @@
 
 use std::alloc::Global;
 use std::test::Fail;
-use tests_calls::{Outcome, call, lines};
+use tests_calls::{CallResult, call, lines};
 
 /// So many processes that do nothing, all released at tick 0.
 fn idle_processes(alloc: Global, count: u64, frame: u64) -> Result<String, Fail> {
@@ -55,7 +55,7 @@ fn all_released_at_one_tick(rt: HostRuntime) -> Result<(), Fail> {
         let line = format!(in alloc; "{} p{k} end\n", 4 * k + 3)?;
         want.push_str(line.as_str())?;
     }
-    let Outcome {
+    let CallResult {
         status,
         put,
         puts,
@@ -75,7 +75,7 @@ fn one_tick_less_or_one_process_more(rt: HostRuntime) -> Result<(), Fail> {
     let rows = [(64, 255, 3, late.as_str()), (65, 256, 2, "E40 1:3007\n")];
     for (count, frame, want, text) in rows {
         let program = idle_processes(alloc, count, frame)?;
-        let Outcome { status, put, .. } = call(
+        let CallResult { status, put, .. } = call(
             alloc,
             "go P I S",
             program.as_bytes(),
@@ -123,7 +123,7 @@ fn all_events_at_one_tick(rt: HostRuntime) -> Result<(), Fail> {
         )?;
         want.push_str(lines.as_str())?;
     }
-    let Outcome {
+    let CallResult {
         status,
         put,
         puts,
@@ -245,7 +245,7 @@ fn chains_of_routines(rt: HostRuntime) -> Result<(), Fail> {
         };
         for order in [Order::CalledFirst, Order::CallerFirst] {
             let program = chain_text(alloc, order, row.routines, row.calls, row.frame)?;
-            let Outcome { status, put, .. } = call(
+            let CallResult { status, put, .. } = call(
                 alloc,
                 "go P I S",
                 program.as_bytes(),
@@ -267,7 +267,7 @@ fn chains_that_are_too_long(rt: HostRuntime) -> Result<(), Fail> {
     let alloc = rt.alloc();
     for &(routines, calls, fault) in TOO_LONG {
         let program = chain_text(alloc, Order::CalledFirst, routines, calls, 1_000_000_000)?;
-        let Outcome { status, put, .. } = call(alloc, "check P", program.as_bytes(), None)?;
+        let CallResult { status, put, .. } = call(alloc, "check P", program.as_bytes(), None)?;
         assert_eq!(rt; String::from_utf8(put)?.as_str(), fault, "{routines}");
         assert_eq!(rt; status, 2, "{routines}");
     }
@@ -315,7 +315,7 @@ fn loops_of_a_million_turns(rt: HostRuntime) -> Result<(), Fail> {
     let alloc = rt.alloc();
     for &(depth, want, bars) in LOOPS {
         let program = nested_loops(alloc, depth)?;
-        let Outcome { status, put, .. } = call(
+        let CallResult { status, put, .. } = call(
             alloc,
             "go P I S",
             program.as_bytes(),

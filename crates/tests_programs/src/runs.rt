@@ -2,7 +2,7 @@
 
 use std::alloc::Global;
 use std::test::Fail;
-use tests_calls::{Outcome, call};
+use tests_calls::{CallResult, call};
 
 const IDLE: &str = "program a process p : periodic frame 10 begin end p end a";
 
@@ -23,7 +23,7 @@ fn hexadecimal(alloc: Global, bytes: &[u8]) -> Result<String, Fail> {
 #[test]
 fn stores_the_image(rt: HostRuntime) -> Result<(), Fail> {
     let alloc = rt.alloc();
-    let Outcome { image, .. } = call(alloc, "go P I S", IDLE.as_bytes(), Some("end 10\n"))?;
+    let CallResult { image, .. } = call(alloc, "go P I S", IDLE.as_bytes(), Some("end 10\n"))?;
     let bytes = image.ok_or("no image")?;
     let want = IDLE_IMAGE.replace(alloc, " ", "")?;
     assert_eq!(rt; bytes.len(), 104);
@@ -64,7 +64,7 @@ fn logs_each_event_of_a_long_run(rt: HostRuntime) -> Result<(), Fail> {
         "program a device d : out process p : periodic frame {FRAME} begin{body} end p end a"
     )?;
     let script = format!(in alloc; "end {}\n", ACTIVATIONS * FRAME)?;
-    let Outcome {
+    let CallResult {
         status,
         put,
         puts,

@@ -5,7 +5,7 @@ ghost use Rattle.event_log.specs.Logs.{AreFew};
 
 use base::{Act, Event};
 use event_log::{LogFault, read_log};
-use image::{DevName, EventName, ImageNames};
+use image::{DeviceName, EventName, ImageNames};
 use script::{Script, ScriptFault, ScriptLine, read_script};
 use std::alloc::{AllocError, Global};
 use std::process::Abort;
@@ -13,14 +13,14 @@ use std::test::Fail;
 use syntax_tree::{List, Name};
 
 /// An out device and an in device.
-fn some_devices(alloc: Global) -> Result<List<DevName>, AllocError>
+fn some_devices(alloc: Global) -> Result<List<DeviceName>, AllocError>
     ensures { IfOk result (λ devices. length devices ≡ 2) }
 {
     let mut devices = List::new(alloc);
     let name = Name::new(alloc, b"valve")?;
-    devices.push(DevName { name, out: true })?;
+    devices.push(DeviceName { name, out: true })?;
     let name = Name::new(alloc, b"gauge")?;
-    devices.push(DevName { name, out: false })?;
+    devices.push(DeviceName { name, out: false })?;
     Ok(devices)
 }
 

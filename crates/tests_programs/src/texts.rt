@@ -5,7 +5,7 @@
 use std::alloc::Global;
 use std::process::Abort;
 use std::test::Fail;
-use tests_calls::{Outcome, call};
+use tests_calls::{CallResult, call};
 
 /// What stands before and behind the text of a row.
 struct Around {
@@ -448,7 +448,7 @@ fn answers(
     let after = around.after;
     for (answer, part) in rows {
         let text = format!(in alloc; "{before}{part}{after}")?;
-        let Outcome {
+        let CallResult {
             status,
             put,
             puts,

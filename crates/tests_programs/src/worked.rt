@@ -2,7 +2,7 @@
 
 use std::alloc::Global;
 use std::test::Fail;
-use tests_calls::{MINE, MINE_LOG, MINE_REPORT, Outcome, Put, ROWS, call, lines};
+use tests_calls::{CallResult, MINE, MINE_LOG, MINE_REPORT, Put, ROWS, call, lines};
 
 /// What is put behind the report of a timely program.
 fn behind_report(put: &str) -> &str {
@@ -18,7 +18,7 @@ fn worked_programs(rt: HostRuntime) -> Result<(), Fail> {
     for row in ROWS {
         let program = row.program;
         let script = lines(alloc, row.script)?;
-        let Outcome { status, put, .. } = call(
+        let CallResult { status, put, .. } = call(
             alloc,
             row.line,
             program.as_bytes(),
@@ -40,7 +40,7 @@ fn worked_programs(rt: HostRuntime) -> Result<(), Fail> {
 fn the_mine_goes_on(rt: HostRuntime) -> Result<(), Fail> {
     let alloc = rt.alloc();
     let script = "0 set methane 40\n0 set air 50\nend 1000000\n";
-    let Outcome { status, put, .. } = call(alloc, "go P I S", MINE.as_bytes(), Some(script))?;
+    let CallResult { status, put, .. } = call(alloc, "go P I S", MINE.as_bytes(), Some(script))?;
     let log = lines(alloc, MINE_LOG)?;
     let report = lines(alloc, MINE_REPORT)?;
     assert_eq!(rt; status, 0);
@@ -73,7 +73,7 @@ fn as_long_as_may_be(rt: HostRuntime) -> Result<(), Fail> {
     ];
     for (puts, want, bars) in rows {
         let program = many_puts(alloc, puts)?;
-        let Outcome { status, put, .. } = call(alloc, "check P", program.as_bytes(), None)?;
+        let CallResult { status, put, .. } = call(alloc, "check P", program.as_bytes(), None)?;
         assert_eq!(rt; status, want, "{puts}");
         assert!(rt; put.as_slice() == lines(alloc, bars)?.as_bytes(), "{puts}");
     }

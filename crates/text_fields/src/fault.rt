@@ -1,36 +1,36 @@
 //! Why a text was refused.
 
 ghost use Rattle.std.specs.Prelude.{◌≡◌};
-ghost use Rattle.text_fields.specs.declared.fault.ReadError.TheVariants.{Memory};
+ghost use Rattle.text_fields.specs.declared.fault.FieldError.TheVariants.{Memory};
 
 use std::alloc::{AllocError, AllocFailed};
 
 /// What is wrong with a line, and how many bytes of the text are left from its beginning on.
 #[derive(Clone, Copy, Debug, PartialEq, Eq)]
-pub struct Fault {
+pub struct FieldFault {
     pub number: u8,
     pub left: usize,
 }
 
 /// Why a part was not read.
 #[derive(Debug, Drop)]
-pub enum ReadError {
+pub enum FieldError {
     Memory,
-    Fault(Fault),
+    Fault(FieldFault),
 }
 
-impl From<AllocError> for ReadError {
+impl From<AllocError> for FieldError {
     ghost from_gives = { λ _ e. e ≡ Memory };
 
-    fn from(_e: AllocError) -> ReadError {
-        ReadError::Memory
+    fn from(_e: AllocError) -> FieldError {
+        FieldError::Memory
     }
 }
 
-impl<T: Drop> From<AllocFailed<T>> for ReadError {
+impl<T: Drop> From<AllocFailed<T>> for FieldError {
     ghost from_gives = { λ _ e. e ≡ Memory };
 
-    fn from(_e: AllocFailed<T>) -> ReadError {
-        ReadError::Memory
+    fn from(_e: AllocFailed<T>) -> FieldError {
+        FieldError::Memory
     }
 }

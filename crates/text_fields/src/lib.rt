@@ -9,15 +9,15 @@
 //! a number out of range at the end of its line. Nothing here takes memory.
 #![tactic(auto)]
 
-mod at;
 mod cut;
 mod fault;
 pub mod fields_number;
+mod line_cursor;
 pub mod numbers;
 pub mod refusal;
 
-pub use at::{At, begins_with, end_line, note, skip};
 pub use cut::{Cut, cut_at, is_same, is_word};
-pub use fault::{Fault, ReadError};
+pub use fault::{FieldError, FieldFault};
 pub use fields_number::unsigned;
+pub use line_cursor::{LineCursor, begins_with, end_line, note, skip};
 pub use numbers::{field, is_digit, is_numeral, numeral, short_field};

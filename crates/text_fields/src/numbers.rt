@@ -4,8 +4,8 @@ ghost use Rattle.std.specs.Prelude.{◌≡◌, ◌≤◌, length, IfOk};
 ghost use Rattle.text_fields.specs.Front.{Gives, front};
 ghost use Rattle.text_fields.specs.LineFields.{digits_len as digits_front, field_read, is_digit as digit_test, is_numeral as numeral_test, negative as negative_of, number_read, numeral_read, positive as positive_of, ranged as ranged_of, signed_read, small, value};
 
-use crate::at::{At, begins_with, note, skip};
-use crate::fault::{Fault, ReadError};
+use crate::fault::{FieldError, FieldFault};
+use crate::line_cursor::{LineCursor, begins_with, note, skip};
 use crate::refusal;
 
 /// Whether the byte is a digit.
@@ -50,18 +50,18 @@ fn small_value(digits: &[u8]) -> Option<u32>
 
 /// A number of any size; None stands for one that has more than 32 bits.
 #[tactic(auto, unfolding(crate::specs::LineFields::numeral_read))]
-pub fn numeral(at: At<'_>) -> Result<(Option<u32>, At<'_>), ReadError>
+pub fn numeral(at: LineCursor<'_>) -> Result<(Option<u32>, LineCursor<'_>), FieldError>
     ensures { Gives (λ x. (x.0, front x.1)) result (numeral_read (front at.entry)) }
 {
     let len = digits_len(at.rest);
     let (digits, rest) = at.rest.split_at(len);
     if !is_numeral(digits) {
-        return Err(ReadError::Fault(Fault {
+        return Err(FieldError::Fault(FieldFault {
             number: refusal::FORM,
             left: at.start,
         }));
     }
-    let after = At {
+    let after = LineCursor {
         rest,
         start: at.start,
         is_fine: at.is_fine,
@@ -70,7 +70,7 @@ pub fn numeral(at: At<'_>) -> Result<(Option<u32>, At<'_>), ReadError>
 }
 
 /// A number in its range; one that is not is noted, and 0 stands for it.
-fn ranged(number: Option<u32>, low: u32, high: u32, at: At<'_>) -> (u32, At<'_>)
+fn ranged(number: Option<u32>, low: u32, high: u32, at: LineCursor<'_>) -> (u32, LineCursor<'_>)
     ensures value { (result.0, front result.1) ≡ ranged_of low high number (front at.entry) }
     ensures within { result.0 ≤ high }
 {
@@ -88,7 +88,7 @@ fn ranged(number: Option<u32>, low: u32, high: u32, at: At<'_>) -> (u32, At<'_>)
 
 /// A number within a range.
 #[tactic(auto, unfolding(crate::specs::LineFields::number_read))]
-pub fn number(at: At<'_>, low: u32, high: u32) -> Result<(u32, At<'_>), ReadError>
+pub fn number(at: LineCursor<'_>, low: u32, high: u32) -> Result<(u32, LineCursor<'_>), FieldError>
     ensures read { Gives (λ x. (x.0, front x.1)) result (number_read low high (front at.entry)) }
     ensures within { IfOk result (λ x. x.0 ≤ high) }
 {
@@ -98,7 +98,12 @@ pub fn number(at: At<'_>, low: u32, high: u32) -> Result<(u32, At<'_>), ReadErro
 
 /// A number within a range behind these bytes.
 #[tactic(auto, unfolding(crate::specs::LineFields::field_read))]
-pub fn field<'a>(at: At<'a>, label: &[u8], low: u32, high: u32) -> Result<(u32, At<'a>), ReadError>
+pub fn field<'a>(
+    at: LineCursor<'a>,
+    label: &[u8],
+    low: u32,
+    high: u32,
+) -> Result<(u32, LineCursor<'a>), FieldError>
     ensures read { Gives (λ x. (x.0, front x.1)) result
         (field_read label.now low high (front at.entry)) }
     ensures within { IfOk result (λ x. x.0 ≤ high) }
@@ -109,11 +114,11 @@ pub fn field<'a>(at: At<'a>, label: &[u8], low: u32, high: u32) -> Result<(u32, 
 
 /// A number of 16 bits within a range behind these bytes.
 pub fn short_field<'a>(
-    at: At<'a>,
+    at: LineCursor<'a>,
     label: &[u8],
     low: u16,
     high: u16,
-) -> Result<(u16, At<'a>), ReadError>
+) -> Result<(u16, LineCursor<'a>), FieldError>
     ensures { Gives (λ x. (x.0, front x.1)) result
         (field_read label.now low high (front at.entry)) }
 {
@@ -122,12 +127,12 @@ pub fn short_field<'a>(
 }
 
 /// A number below zero; 0 has no sign.
-fn negative(number: Option<u32>, at: At<'_>) -> Result<(i32, At<'_>), ReadError>
+fn negative(number: Option<u32>, at: LineCursor<'_>) -> Result<(i32, LineCursor<'_>), FieldError>
     ensures { Gives (λ x. (x.0, front x.1)) result (negative_of number (front at.entry)) }
 {
     match number {
         None => Ok((0, note(at, false))),
-        Some(0) => Err(ReadError::Fault(Fault {
+        Some(0) => Err(FieldError::Fault(FieldFault {
             number: refusal::FORM,
             left: at.start,
         })),
@@ -142,7 +147,7 @@ fn negative(number: Option<u32>, at: At<'_>) -> Result<(i32, At<'_>), ReadError>
 }
 
 /// A number that is not below zero.
-fn positive(number: Option<u32>, at: At<'_>) -> (i32, At<'_>)
+fn positive(number: Option<u32>, at: LineCursor<'_>) -> (i32, LineCursor<'_>)
     ensures { (result.0, front result.1) ≡ positive_of number (front at.entry) }
 {
     match number {
@@ -159,7 +164,7 @@ fn positive(number: Option<u32>, at: At<'_>) -> (i32, At<'_>)
 
 /// A number of 32 bits, with `-` where it is below zero.
 #[tactic(auto, unfolding(crate::specs::LineFields::signed_read))]
-pub fn signed(at: At<'_>) -> Result<(i32, At<'_>), ReadError>
+pub fn signed(at: LineCursor<'_>) -> Result<(i32, LineCursor<'_>), FieldError>
     ensures { Gives (λ x. (x.0, front x.1)) result (signed_read (front at.entry)) }
 {
     if begins_with(at.rest, b"-") {

@@ -2,12 +2,12 @@
 
 ghost use Rattle.std.specs.Prelude.{◌≡◌, ◌+◌, ◌∷◌, List, Some};
 ghost use Rattle.vm_dispatch.specs.Pick.{entry_of, foremost_from, joined, key, place_of};
-ghost use Rattle.vm_dispatch.specs.declared.choice.Standing.{Standing};
+ghost use Rattle.vm_dispatch.specs.declared.choice.Contender.{Contender};
 
 /// How a process stands in the choice: whether it is ready, its active rank, and whether it is
 /// inside a monitor.
 #[derive(Clone, Copy, Debug, PartialEq, Eq)]
-pub struct Standing {
+pub struct Contender {
     pub ready: bool,
     pub active: u16,
     pub inside: bool,
@@ -15,14 +15,14 @@ pub struct Standing {
 
 /// The foremost of the ready processes that were looked at: its place, and what it is chosen by.
 #[derive(Clone, Copy)]
-pub struct Found {
+pub struct Best {
     place: usize,
     key: u32,
 }
 
 /// What a process is chosen by: a lesser number comes before.
 #[inline(always)]
-fn key_of(standing: &Standing) -> u32
+fn key_of(standing: &Contender) -> u32
     ensures { result ≡ key standing.now }
 {
     2 * u32::from(standing.active) + u32::from(!standing.inside)
@@ -30,7 +30,7 @@ fn key_of(standing: &Standing) -> u32
 
 /// The one that comes before; of two alike the first.
 #[inline(always)]
-fn sooner_of(best: Option<Found>, next: Found) -> Option<Found>
+fn sooner_of(best: Option<Best>, next: Best) -> Option<Best>
     ensures { entry_of result ≡ joined (entry_of best) (entry_of (Some next)) }
 {
     match best {
@@ -49,14 +49,14 @@ fn sooner_of(best: Option<Found>, next: Found) -> Option<Found>
 /// the ready one with the least active rank, one inside a monitor before one outside, then the
 /// least place. `None` exactly where none is ready so far.
 #[inline(always)]
-pub fn foremost_with(best: Option<Found>, place: usize, standing: &Standing) -> Option<Found>
-    ensures { (rest : List Standing) → joined (entry_of result) (foremost_from (place + 1) rest) ≡
+pub fn foremost_with(best: Option<Best>, place: usize, standing: &Contender) -> Option<Best>
+    ensures { (rest : List Contender) → joined (entry_of result) (foremost_from (place + 1) rest) ≡
         joined (entry_of best) (foremost_from place (standing.now ∷ rest)) }
 {
     if !standing.ready {
         return best;
     }
-    let next = Found {
+    let next = Best {
         place,
         key: key_of(standing),
     };
@@ -64,7 +64,7 @@ pub fn foremost_with(best: Option<Found>, place: usize, standing: &Standing) -> 
 }
 
 /// The place of the foremost, if there is one.
-pub fn place_found(best: Option<Found>) -> Option<usize>
+pub fn place_found(best: Option<Best>) -> Option<usize>
     ensures { result ≡ place_of (entry_of best) }
 {
     match best {

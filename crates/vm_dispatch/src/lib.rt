@@ -7,7 +7,7 @@
 //!
 //! `specs/Pick.antt` says which of the ready processes is foremost: of the least active rank, one
 //! inside a monitor before one outside, then of the least place. `specs/Due.antt` sees due ticks as
-//! optional ticks by slot, with the least of them; `OrderDue` keeps the slots in a binary heap with
+//! optional ticks by slot, with the least of them; `DueHeap` keeps the slots in a binary heap with
 //! the place of each (`specs/Heap.antt`), and shows it. Nothing takes memory but `new`.
 #![tactic(auto)]
 
@@ -15,6 +15,6 @@ mod choice;
 mod due;
 mod order;
 
-pub use choice::{Found, Standing, foremost_with, place_found};
+pub use choice::{Best, Contender, foremost_with, place_found};
 pub use due::Due;
-pub use order::OrderDue;
+pub use order::DueHeap;

@@ -8,7 +8,7 @@ use Rattle.machine_semantics.specs.State.{Operand, Value, State}
 use Rattle.machine_semantics.specs.Effect.{Own, Outcome, Goes, effect, word_at, load, store, set_own, is_reached, element, one, two}
 use Rattle.vm_instructions.specs.Frames.{Frames, with_operands}
 use Rattle.vm_instructions.specs.Steps.{Does, DoesOwned, LoadsShared, StoresShared, ReachesMon, ReachesMonFirst, ReachesMonLast, with_frames, with_owned, is_inside_array, HasWord, Reaches, ReachesFirst, ReachesLast, comes_to}
-use Rattle.vm_instructions.specs.declared.came.Came.TheVariants as came
+use Rattle.vm_instructions.specs.declared.step_result.StepResult.TheVariants as came
 
 -- and is within
 pub within : (words : List ℤ) (z : ℤ) (n : ℕ) → HasWord words z → z ≡ pos n → n < length words

@@ -26,6 +26,6 @@ fetched image room budget n o r can is =
     let f : Fetched image room budget n o can.instr = record { at = can.at; safe = can.safe } in
     subst (λ (x : Instr). Fetched image room budget n o x) same f
 
-pub follows : (image : Image) (first o next : Own) (n m : ℕ) (r : Instr) → Leads image first n o → IsAt image o r → ((s : State) → effect image s r (next_own o) ≡ Goes next) → next.job.inside ≡ o.job.inside → next.job.burn ≡ o.job.burn → m ≡ n + (ticks r - o.job.done)
+pub follows : (image : Image) (first o next : Own) (n m : ℕ) (r : Instr) → Leads image first n o → IsAt image o r → ((s : State) → effect image s r (next_own o) ≡ Goes next) → next.job.inside ≡ o.job.inside → next.job.dispatch_ticks ≡ o.job.dispatch_ticks → m ≡ n + (ticks r - o.job.done)
     → Leads image first m next
-follows image first o next n m r leads at is inside burn time = Follows leads r next (record { at = at; goes = is; inside = inside; burn = burn }) m time
+follows image first o next n m r leads at is inside dispatch_ticks time = Follows leads r next (record { at = at; goes = is; inside = inside; dispatch_ticks = dispatch_ticks }) m time

@@ -9,10 +9,10 @@ use Rattle.machine_semantics.specs.Image.{Image, Routine}
 use Rattle.machine_semantics.specs.State.{Caller, Operand, Value, Counter, State, stack_of, zeros, stack_below}
 use Rattle.machine_semantics.specs.Effect.{Own, Outcome, Goes, Raises, Stuck, effect, load, store, word_at, take_one, one, element, set_own, set_local, set_shared, load_mon, store_mon, holding, is_reached, arguments, called, call, routine}
 use Rattle.vm_instructions.specs.Frames.{Frames, used}
-use Rattle.vm_instructions.specs.declared.calls.Routine.{Routine as Called}
+use Rattle.vm_instructions.specs.declared.calls.RoutineHeader.{RoutineHeader as Called}
 use Rattle.vm_instructions.specs.Steps.{HasRoutine, HasWord, IsRoutine, ReachesFirst, ReachesLast, ReachesMonFirst, ReachesMonLast, is_inside_array}
 use Rattle.vm_stretch.specs.Silent.{IsWithin, is_silent, nowhere}
-use Rattle.vm_instructions.specs.declared.job.Job.{Job as Kept}
+use Rattle.vm_instructions.specs.declared.activation.Activation.{Activation as Kept}
 use Rattle.vm_instructions.specs.Silent.{IsCalled, IsOf, IsSafe, own_of}
 
 -- it is one that nobody sees

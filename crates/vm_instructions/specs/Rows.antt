@@ -6,8 +6,8 @@ use Rattle.machine_semantics.specs.Image.{Image}
 use Rattle.machine_semantics.specs.State.{State}
 use Rattle.machine_semantics.specs.Effect.{Own, Raises, effect}
 use Rattle.vm_stretch.specs.Silent.{IsAt, Leads, is_silent, next_own}
-use Rattle.vm_instructions.specs.declared.row.Halt.{Halt}
-use Rattle.vm_instructions.specs.declared.row.Halt.TheVariants as halt
+use Rattle.vm_instructions.specs.declared.burst.Halt.{Halt}
+use Rattle.vm_instructions.specs.declared.burst.Halt.TheVariants as halt
 use Rattle.vm_instructions.specs.Silent.{RaisesAs}
 
 -- so many ticks of the instruction that it is at

@@ -5,16 +5,16 @@ use Rattle.machine_semantics.specs.Image.{Image, Process, Routine, end_of}
 use Rattle.machine_semantics.specs.State.{Job, State}
 use Rattle.machine_semantics.specs.Effect.{Own, Outcome, Goes, Raises, effect}
 use Rattle.machine_semantics.specs.Starts.{raised, released}
-use Rattle.vm_instructions.specs.declared.calls.Routine.{Routine as Called}
-use Rattle.vm_instructions.specs.declared.came.Came.{Came}
-use Rattle.vm_instructions.specs.declared.came.Came.TheVariants as came
+use Rattle.vm_instructions.specs.declared.calls.RoutineHeader.{RoutineHeader as Called}
+use Rattle.vm_instructions.specs.declared.step_result.StepResult.{StepResult}
+use Rattle.vm_instructions.specs.declared.step_result.StepResult.TheVariants as came
 use Rattle.vm_stretch.specs.Silent.{IsWithin, is_silent, nowhere}
-use Rattle.vm_instructions.specs.declared.job.Job.{Job as Kept}
-use Rattle.vm_instructions.specs.declared.job.Ends.{Ends}
+use Rattle.vm_instructions.specs.declared.activation.Activation.{Activation as Kept}
+use Rattle.vm_instructions.specs.declared.activation.Ends.{Ends}
 
 -- the activation as the machine's meaning has it
 abbrev pub job_of : Kept → Job
-job_of j = record { place = j.place; done = j.done; burn = j.burn; locals = j.frames.locals; operands = j.frames.operands; callers = j.frames.callers; handling = j.handling; inside = j.inside }
+job_of j = record { place = j.place; done = j.done; dispatch_ticks = j.dispatch_ticks; locals = j.frames.locals; operands = j.frames.operands; callers = j.frames.callers; handling = j.handling; inside = j.inside }
 
 -- the activation with the words of its process and those of all monitors
 abbrev pub own_of : Kept → List ℤ → List ℤ → Own
@@ -41,14 +41,14 @@ abbrev pub RaisesAs : Own → Own → Type 0
 RaisesAs old new = ((p : Process) (e : ℕ) → raised p e new.job ≡ raised p e old.job) × (new.owned ≡ old.owned) × (new.shared ≡ old.shared)
 
 -- the instruction is done, or was not touched
-abbrev pub HasDone : Image → Instr → Own → Came → Own → Type 0
+abbrev pub HasDone : Image → Instr → Own → StepResult → Own → Type 0
 HasDone image instr old came.Done new = (s : State) → effect image s instr old ≡ Goes new
 HasDone image instr old (came.Raises n) new = ((s : State) → effect image s instr old ≡ Raises n) × RaisesAs old new
 HasDone image instr old came.Seen new = (new ≡ old) × (is_silent instr ≡ false)
 
 -- the activation is that of a release
 abbrev pub IsReleased : ℕ → ℕ → ℕ → Kept → Type 0
-IsReleased start locals burn new = (image : Image) (p : Process) → p.start ≡ start → p.locals ≡ locals → 2 * image.over ≡ burn → job_of new ≡ released image p
+IsReleased start locals dispatch_ticks new = (image : Image) (p : Process) → p.start ≡ start → p.locals ≡ locals → 2 * image.over ≡ dispatch_ticks → job_of new ≡ released image p
 
 -- the activation is that after a raise
 abbrev pub IsRaised : List ℕ → ℕ → Ends → Kept → Kept → Type 0

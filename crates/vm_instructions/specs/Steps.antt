@@ -3,42 +3,42 @@ use Rattle.std.specs.Prelude.{◌≡◌, ◌<◌, ◌&&◌, ◌+ℤ◌, ◌-ℤ�
 use Rattle.machine_isa.specs.declared.instr.Instr.{Instr}
 use Rattle.machine_isa.specs.declared.instr.Instr.TheVariants as i
 use Rattle.machine_semantics.specs.Image.{Image, Routine}
-use Rattle.vm_instructions.specs.declared.calls.Routine.{Routine as Called}
+use Rattle.vm_instructions.specs.declared.calls.RoutineHeader.{RoutineHeader as Called}
 use Rattle.machine_semantics.specs.State.{Operand, Value, Counter, Job, State}
 use Rattle.base.specs.Words.{is_zero}
 use Rattle.machine_semantics.specs.Effect.{Own, Outcome, Goes, Raises, Stuck, effect, is_reached, routine}
 use Rattle.vm_instructions.specs.Frames.{Frames, IsCounterFirst, with_operands}
-use Rattle.vm_instructions.specs.declared.came.Came.{Came}
-use Rattle.vm_instructions.specs.declared.came.Came.TheVariants as came
+use Rattle.vm_instructions.specs.declared.step_result.StepResult.{StepResult}
+use Rattle.vm_instructions.specs.declared.step_result.StepResult.TheVariants as came
 
 -- with these frames
 abbrev pub with_frames : Frames → Own → Own
 with_frames f o = record o { job = record (o.job) { locals = f.locals; operands = f.operands; callers = f.callers } }
 
 -- the outcome that leaves this
-abbrev pub comes_to : Came → Own → Outcome
+abbrev pub comes_to : StepResult → Own → Outcome
 comes_to came.Done o = Goes o
 comes_to (came.Raises number) o = Raises number
 comes_to came.Seen o = Stuck
 
 -- the effect of the instruction on these frames, whatever else the process has, is this
-abbrev pub Does : Instr → Frames → Came → Frames → Type 0
+abbrev pub Does : Instr → Frames → StepResult → Frames → Type 0
 Does instr old result new = (image : Image) (s : State) (o : Own) → effect image s instr (with_frames old o) ≡ comes_to result (with_frames new o)
 
 -- what the instruction keeps of the frames where it raises; and what the stack has room for
-abbrev pub Keeps : Came → Frames → Frames → Type 0
+abbrev pub Keeps : StepResult → Frames → Frames → Type 0
 Keeps came.Done old new = new.room ≡ old.room
 Keeps (came.Raises n) old new = (new.room ≡ old.room) × (new.locals ≡ old.locals) × (new.callers ≡ old.callers)
 Keeps came.Seen old new = ⊥
 
 -- no word is changed where the instruction raises
-abbrev pub KeepsWords : Came → List ℤ → List ℤ → Type 0
+abbrev pub KeepsWords : StepResult → List ℤ → List ℤ → Type 0
 KeepsWords came.Done old new = Unit {0}
 KeepsWords (came.Raises n) old new = new ≡ old
 KeepsWords came.Seen old new = ⊥
 
 -- the number is given, or the exception raised
-abbrev pub Answers : Result ℤ ℕ → Frames → Came → Frames → Type 0
+abbrev pub Answers : Result ℤ ℕ → Frames → StepResult → Frames → Type 0
 Answers (Ok z) old result new = (result ≡ came.Done) × (new ≡ with_operands (Value z ∷ old.operands) old)
 Answers (Err n) old result new = (result ≡ came.Raises n) × (new ≡ old)
 
@@ -56,13 +56,13 @@ abbrev pub with_shared : List ℤ → Own → Own
 with_shared words o = record o { shared = words }
 
 -- the effect on these frames and these words of the process
-abbrev pub DoesOwned : Instr → Frames → List ℤ → Came → Frames → List ℤ → Type 0
+abbrev pub DoesOwned : Instr → Frames → List ℤ → StepResult → Frames → List ℤ → Type 0
 DoesOwned instr old words result new words_new =
     (image : Image) (s : State) (o : Own) → effect image s instr (with_owned words (with_frames old o)) ≡ comes_to result (with_owned words_new (with_frames new o))
 
 -- the effect on these frames and these words of monitors, where the process is inside the monitor
 -- of the word
-abbrev pub DoesShared : ℤ → Instr → Frames → List ℤ → Came → Frames → List ℤ → Type 0
+abbrev pub DoesShared : ℤ → Instr → Frames → List ℤ → StepResult → Frames → List ℤ → Type 0
 DoesShared w instr old words result new words_new =
     (image : Image) (s : State) (o : Own) → is_reached image o.job.inside w ≡ true → effect image s instr (with_shared words (with_frames old o)) ≡ comes_to result (with_shared words_new (with_frames new o))
 
@@ -103,7 +103,7 @@ abbrev pub at_place : ℕ → Own → Own
 at_place place o = record o { job = record (o.job) { place = place } }
 
 -- the effect on these frames at this place
-abbrev pub DoesAt : Instr → Frames → ℕ → Came → Frames → ℕ → Type 0
+abbrev pub DoesAt : Instr → Frames → ℕ → StepResult → Frames → ℕ → Type 0
 DoesAt instr old place result new place_new =
     (image : Image) (s : State) (o : Own) → effect image s instr (at_place place (with_frames old o)) ≡ comes_to result (at_place place_new (with_frames new o))
 
@@ -143,7 +143,7 @@ pub record IsRoutine (image : Image) (number : ℤ) (r : Called) : Type 0 where
   pub start : whole.start ≡ r.start
 
 -- the effect of a call of the routine on these frames at this place
-abbrev pub DoesCall : ℤ → Called → Frames → ℕ → Came → Frames → ℕ → Type 0
+abbrev pub DoesCall : ℤ → Called → Frames → ℕ → StepResult → Frames → ℕ → Type 0
 DoesCall number r old place result new place_new =
     (image : Image) (s : State) (o : Own) → IsRoutine image number r → effect image s (i.Call number) (at_place place (with_frames old o)) ≡ comes_to result (at_place place_new (with_frames new o))
 
@@ -163,10 +163,10 @@ ReachesMonFirst image inside w low len _ = ⊥
 
 -- the effect on these frames and these words of monitors, where the process is inside the monitor
 -- of the element
-abbrev pub LoadsShared : ℤ → ℤ → ℤ → Frames → List ℤ → Came → Frames → Type 0
+abbrev pub LoadsShared : ℤ → ℤ → ℤ → Frames → List ℤ → StepResult → Frames → Type 0
 LoadsShared w low len old words result new =
     (image : Image) (s : State) (o : Own) → ReachesMonLast image o.job.inside w low len old.operands → effect image s (i.LoadMonAt w low len) (with_shared words (with_frames old o)) ≡ comes_to result (with_shared words (with_frames new o))
 
-abbrev pub StoresShared : ℤ → ℤ → ℤ → Frames → List ℤ → Came → Frames → List ℤ → Type 0
+abbrev pub StoresShared : ℤ → ℤ → ℤ → Frames → List ℤ → StepResult → Frames → List ℤ → Type 0
 StoresShared w low len old words result new words_new =
     (image : Image) (s : State) (o : Own) → ReachesMonFirst image o.job.inside w low len old.operands → effect image s (i.StoreMonAt w low len) (with_shared words (with_frames old o)) ≡ comes_to result (with_shared words_new (with_frames new o))

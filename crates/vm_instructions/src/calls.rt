@@ -7,18 +7,23 @@ ghost use Rattle.machine_semantics.specs.Effect.{arguments};
 ghost use Rattle.vm_instructions.specs.Steps.{DoesAt, DoesCall, Keeps};
 
 use crate::Frames;
-use crate::came::Came;
+use crate::step_result::StepResult;
 
 /// What a call needs to know of a routine.
 #[derive(Clone, Copy)]
-pub struct Routine {
+pub struct RoutineHeader {
     pub params: usize,
     pub locals: usize,
     pub start: usize,
 }
 
 #[inline(always)]
-pub fn call(frames: &mut Frames, place: &mut usize, number: i32, routine: Routine) -> Came
+pub fn call(
+    frames: &mut Frames,
+    place: &mut usize,
+    number: i32,
+    routine: RoutineHeader,
+) -> StepResult
     requires taken { IsSome (arguments routine.params frames.old.operands []) }
     requires order { routine.params ≤ routine.locals }
     requires room { used frames.old + 2 + routine.locals ≤ frames.old.room + routine.params }
@@ -27,21 +32,21 @@ pub fn call(frames: &mut Frames, place: &mut usize, number: i32, routine: Routin
 {
     frames.call(*place, routine.params, routine.locals);
     *place = routine.start;
-    Came::Done
+    StepResult::Done
 }
 
 #[inline(always)]
-pub fn ret(frames: &mut Frames, place: &mut usize) -> Came
+pub fn ret(frames: &mut Frames, place: &mut usize) -> StepResult
     requires { 0 < length frames.old.callers }
     ensures does { DoesAt i.Return frames.old place.old result frames.new place.new }
     ensures keeps { Keeps result frames.old frames.new }
 {
     *place = frames.back();
-    Came::Done
+    StepResult::Done
 }
 
 #[inline(always)]
-pub fn ret_value(frames: &mut Frames, place: &mut usize) -> Came
+pub fn ret_value(frames: &mut Frames, place: &mut usize) -> StepResult
     requires first { IsValueFirst frames.old.operands }
     requires called { 0 < length frames.old.callers }
     ensures does { DoesAt i.ReturnValue frames.old place.old result frames.new place.new }
@@ -50,5 +55,5 @@ pub fn ret_value(frames: &mut Frames, place: &mut usize) -> Came
     let x = frames.take();
     *place = frames.back();
     frames.give(x);
-    Came::Done
+    StepResult::Done
 }

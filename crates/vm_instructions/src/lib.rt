@@ -2,23 +2,23 @@
 //!
 //! `frames` keeps the frames of a process: operands in one row, locals in another, a mark for each
 //! call in progress (`specs/Frames.antt`). `step` does an instruction on operands, words, jumps,
-//! loops and calls (`specs/Steps.antt`). `row` runs a process over many of them at once
+//! loops and calls (`specs/Steps.antt`). `burst` runs a process over many of them at once
 //! (`specs/Rows.antt`). Each is equal to the effect that the meaning gives.
 #![tactic(auto)]
 
+mod activation;
+mod burst;
 pub mod calls;
-mod came;
 mod frames;
-mod job;
 pub mod jumps;
 mod operand;
 pub mod operands;
-mod row;
 pub mod step;
+mod step_result;
 pub mod words;
 
-pub use came::Came;
+pub use activation::{Activation, Ends};
+pub use burst::{Halt, run};
 pub use frames::Frames;
-pub use job::{Ends, Job};
 pub use operand::Operand;
-pub use row::{Halt, run};
+pub use step_result::StepResult;

@@ -8,48 +8,48 @@ ghost use Rattle.base.specs.Words.{of_bool};
 ghost use Rattle.vm_instructions.specs.Steps.{Answers, Does, Keeps};
 
 use crate::Frames;
-use crate::came::Came;
+use crate::step_result::StepResult;
 use base::{add32, div32, mod32, mul32, neg32, sub32};
 
 /// Gives a number, or raises.
 #[inline(always)]
-fn answer(frames: &mut Frames, answer: Result<i32, u16>) -> Came
+fn answer(frames: &mut Frames, answer: Result<i32, u16>) -> StepResult
     requires { used frames.old < frames.old.room }
     ensures { Answers answer frames.old result frames.new }
 {
     match answer {
         Ok(value) => {
             frames.give(value);
-            Came::Done
+            StepResult::Done
         }
-        Err(number) => Came::Raises(number),
+        Err(number) => StepResult::Raises(number),
     }
 }
 
 /// Gives 1 or 0.
 #[inline(always)]
-fn truth(frames: &mut Frames, holds: bool) -> Came
+fn truth(frames: &mut Frames, holds: bool) -> StepResult
     requires { used frames.old < frames.old.room }
     ensures result { result ≡ Came.Done }
     ensures given { frames.new ≡ with_operands
         (Value (of_bool holds) ∷ frames.old.operands) frames.old }
 {
     frames.give(i32::from(holds));
-    Came::Done
+    StepResult::Done
 }
 
 #[inline(always)]
-pub fn push(frames: &mut Frames, value: i32) -> Came
+pub fn push(frames: &mut Frames, value: i32) -> StepResult
     requires { used frames.old < frames.old.room }
     ensures does { Does (i.Push value) frames.old result frames.new }
     ensures keeps { Keeps result frames.old frames.new }
 {
     frames.give(value);
-    Came::Done
+    StepResult::Done
 }
 
 #[inline(always)]
-pub fn add(frames: &mut Frames) -> Came
+pub fn add(frames: &mut Frames) -> StepResult
     requires { AreTwoFirst frames.old.operands }
     ensures does { Does i.Add frames.old result frames.new }
     ensures keeps { Keeps result frames.old frames.new }
@@ -59,7 +59,7 @@ pub fn add(frames: &mut Frames) -> Came
 }
 
 #[inline(always)]
-pub fn sub(frames: &mut Frames) -> Came
+pub fn sub(frames: &mut Frames) -> StepResult
     requires { AreTwoFirst frames.old.operands }
     ensures does { Does i.Sub frames.old result frames.new }
     ensures keeps { Keeps result frames.old frames.new }
@@ -69,7 +69,7 @@ pub fn sub(frames: &mut Frames) -> Came
 }
 
 #[inline(always)]
-pub fn rem(frames: &mut Frames) -> Came
+pub fn rem(frames: &mut Frames) -> StepResult
     requires { AreTwoFirst frames.old.operands }
     ensures does { Does i.Mod frames.old result frames.new }
     ensures keeps { Keeps result frames.old frames.new }
@@ -79,7 +79,7 @@ pub fn rem(frames: &mut Frames) -> Came
 }
 
 #[inline(always)]
-pub fn lt(frames: &mut Frames) -> Came
+pub fn lt(frames: &mut Frames) -> StepResult
     requires { AreTwoFirst frames.old.operands }
     ensures does { Does i.Lt frames.old result frames.new }
     ensures keeps { Keeps result frames.old frames.new }
@@ -89,21 +89,21 @@ pub fn lt(frames: &mut Frames) -> Came
 }
 
 #[inline(always)]
-pub fn range(frames: &mut Frames, low: i32, high: i32) -> Came
+pub fn range(frames: &mut Frames, low: i32, high: i32) -> StepResult
     requires { IsValueFirst frames.old.operands }
     ensures does { Does (i.Range low high) frames.old result frames.new }
     ensures keeps { Keeps result frames.old frames.new }
 {
     let x = frames.take();
     if x < low || x > high {
-        return Came::Raises(3);
+        return StepResult::Raises(3);
     }
     frames.give(x);
-    Came::Done
+    StepResult::Done
 }
 
 #[inline(always)]
-pub fn neg(frames: &mut Frames) -> Came
+pub fn neg(frames: &mut Frames) -> StepResult
     requires { IsValueFirst frames.old.operands }
     ensures does { Does i.Neg frames.old result frames.new }
     ensures keeps { Keeps result frames.old frames.new }
@@ -113,7 +113,7 @@ pub fn neg(frames: &mut Frames) -> Came
 }
 
 #[inline(always)]
-pub fn not(frames: &mut Frames) -> Came
+pub fn not(frames: &mut Frames) -> StepResult
     requires { IsValueFirst frames.old.operands }
     ensures does { Does i.Not frames.old result frames.new }
     ensures keeps { Keeps result frames.old frames.new }
@@ -123,7 +123,7 @@ pub fn not(frames: &mut Frames) -> Came
 }
 
 #[inline(always)]
-pub fn and(frames: &mut Frames) -> Came
+pub fn and(frames: &mut Frames) -> StepResult
     requires { AreTwoFirst frames.old.operands }
     ensures does { Does i.And frames.old result frames.new }
     ensures keeps { Keeps result frames.old frames.new }
@@ -133,7 +133,7 @@ pub fn and(frames: &mut Frames) -> Came
 }
 
 #[inline(always)]
-pub fn or(frames: &mut Frames) -> Came
+pub fn or(frames: &mut Frames) -> StepResult
     requires { AreTwoFirst frames.old.operands }
     ensures does { Does i.Or frames.old result frames.new }
     ensures keeps { Keeps result frames.old frames.new }
@@ -143,7 +143,7 @@ pub fn or(frames: &mut Frames) -> Came
 }
 
 #[inline(always)]
-pub fn mul(frames: &mut Frames) -> Came
+pub fn mul(frames: &mut Frames) -> StepResult
     requires { AreTwoFirst frames.old.operands }
     ensures does { Does i.Mul frames.old result frames.new }
     ensures keeps { Keeps result frames.old frames.new }
@@ -153,7 +153,7 @@ pub fn mul(frames: &mut Frames) -> Came
 }
 
 #[inline(always)]
-pub fn div(frames: &mut Frames) -> Came
+pub fn div(frames: &mut Frames) -> StepResult
     requires { AreTwoFirst frames.old.operands }
     ensures does { Does i.Div frames.old result frames.new }
     ensures keeps { Keeps result frames.old frames.new }
@@ -163,7 +163,7 @@ pub fn div(frames: &mut Frames) -> Came
 }
 
 #[inline(always)]
-pub fn eq(frames: &mut Frames) -> Came
+pub fn eq(frames: &mut Frames) -> StepResult
     requires { AreTwoFirst frames.old.operands }
     ensures does { Does i.Eq frames.old result frames.new }
     ensures keeps { Keeps result frames.old frames.new }
@@ -173,7 +173,7 @@ pub fn eq(frames: &mut Frames) -> Came
 }
 
 #[inline(always)]
-pub fn ne(frames: &mut Frames) -> Came
+pub fn ne(frames: &mut Frames) -> StepResult
     requires { AreTwoFirst frames.old.operands }
     ensures does { Does i.Ne frames.old result frames.new }
     ensures keeps { Keeps result frames.old frames.new }
@@ -183,7 +183,7 @@ pub fn ne(frames: &mut Frames) -> Came
 }
 
 #[inline(always)]
-pub fn le(frames: &mut Frames) -> Came
+pub fn le(frames: &mut Frames) -> StepResult
     requires { AreTwoFirst frames.old.operands }
     ensures does { Does i.Le frames.old result frames.new }
     ensures keeps { Keeps result frames.old frames.new }
@@ -193,7 +193,7 @@ pub fn le(frames: &mut Frames) -> Came
 }
 
 #[inline(always)]
-pub fn gt(frames: &mut Frames) -> Came
+pub fn gt(frames: &mut Frames) -> StepResult
     requires { AreTwoFirst frames.old.operands }
     ensures does { Does i.Gt frames.old result frames.new }
     ensures keeps { Keeps result frames.old frames.new }
@@ -203,7 +203,7 @@ pub fn gt(frames: &mut Frames) -> Came
 }
 
 #[inline(always)]
-pub fn ge(frames: &mut Frames) -> Came
+pub fn ge(frames: &mut Frames) -> StepResult
     requires { AreTwoFirst frames.old.operands }
     ensures does { Does i.Ge frames.old result frames.new }
     ensures keeps { Keeps result frames.old frames.new }

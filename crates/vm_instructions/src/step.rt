@@ -5,14 +5,14 @@ ghost use Rattle.vm_instructions.specs.Silent.{HasDone, IsOf, IsSafe, own_of};
 ghost use Rattle.vm_instructions.specs.Steps.{IsPlace, HasRoutine};
 ghost use Rattle.machine_semantics.specs.Image.{Image};
 
-use crate::calls::Routine;
-use crate::job::Job;
-use crate::{Came, calls, jumps, operands, words};
+use crate::activation::Activation;
+use crate::calls::RoutineHeader;
+use crate::{StepResult, calls, jumps, operands, words};
 use machine_isa::Instr;
 
 /// The routine with this number.
 #[inline(always)]
-fn routine_at(routines: &[Routine], number: i32) -> Routine
+fn routine_at(routines: &[RoutineHeader], number: i32) -> RoutineHeader
     requires { HasRoutine routines.now number }
     ensures { slice_get routines.now (unsigned_abs number) ≡ Some result }
 {
@@ -23,12 +23,12 @@ fn routine_at(routines: &[Routine], number: i32) -> Routine
 #[inline(always)]
 pub fn step(
     code: &[Instr],
-    routines: &[Routine],
-    job: &mut Job,
+    routines: &[RoutineHeader],
+    job: &mut Activation,
     owned: &mut [i32],
     shared: &mut [i32],
     instr: Instr,
-) -> Came
+) -> StepResult
     ghost image: { Image }
     requires image { IsOf image code.now routines.now }
     requires safe { IsSafe image instr (own_of job.old owned.old shared.old) job.old.frames.room }
@@ -36,7 +36,7 @@ pub fn step(
         (own_of job.new owned.new shared.new) }
     ensures room { job.new.frames.room ≡ job.old.frames.room }
     ensures inside { job.new.inside ≡ job.old.inside }
-    ensures burn { job.new.burn ≡ job.old.burn }
+    ensures dispatch_ticks { job.new.dispatch_ticks ≡ job.old.dispatch_ticks }
 {
     match instr {
         Instr::Push { value } => operands::push(&mut job.frames, value),
@@ -125,6 +125,6 @@ pub fn step(
         | Instr::In { .. }
         | Instr::Out { .. }
         | Instr::Raise { .. }
-        | Instr::End => Came::Seen,
+        | Instr::End => StepResult::Seen,
     }
 }

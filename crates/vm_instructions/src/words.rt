@@ -6,7 +6,7 @@ ghost use Rattle.vm_instructions.specs.Frames.{AreTwoFirst, IsValueFirst, used};
 ghost use Rattle.vm_instructions.specs.Steps.{Does, DoesOwned, DoesShared, HasWord, IsElement, IsOffset, Keeps, KeepsWords, LoadsShared, ReachesFirst, ReachesLast, ReachesPlace, StoresShared};
 
 use crate::Frames;
-use crate::came::Came;
+use crate::step_result::StepResult;
 
 /// How far an index is from the first, if it is inside.
 #[inline(always)]
@@ -53,7 +53,7 @@ fn read(words: &[i32], place: usize) -> i32
 }
 
 #[inline(always)]
-pub fn load_local(frames: &mut Frames, word: i32) -> Came
+pub fn load_local(frames: &mut Frames, word: i32) -> StepResult
     requires room { used frames.old < frames.old.room }
     requires word { HasWord frames.old.locals word }
     ensures does { Does (i.LoadLocal word) frames.old result frames.new }
@@ -61,11 +61,11 @@ pub fn load_local(frames: &mut Frames, word: i32) -> Came
 {
     let x = frames.local(word as usize);
     frames.give(x);
-    Came::Done
+    StepResult::Done
 }
 
 #[inline(always)]
-pub fn store_local(frames: &mut Frames, word: i32) -> Came
+pub fn store_local(frames: &mut Frames, word: i32) -> StepResult
     requires first { IsValueFirst frames.old.operands }
     requires word { HasWord frames.old.locals word }
     ensures does { Does (i.StoreLocal word) frames.old result frames.new }
@@ -73,11 +73,11 @@ pub fn store_local(frames: &mut Frames, word: i32) -> Came
 {
     let x = frames.take();
     frames.set_local(word as usize, x);
-    Came::Done
+    StepResult::Done
 }
 
 #[inline(always)]
-pub fn load_own(frames: &mut Frames, owned: &[i32], word: i32) -> Came
+pub fn load_own(frames: &mut Frames, owned: &[i32], word: i32) -> StepResult
     requires room { used frames.old < frames.old.room }
     requires word { HasWord owned.now word }
     ensures does { DoesOwned (i.LoadOwn word) frames.old owned.now result frames.new owned.now }
@@ -85,11 +85,11 @@ pub fn load_own(frames: &mut Frames, owned: &[i32], word: i32) -> Came
 {
     let x = owned[word as usize];
     frames.give(x);
-    Came::Done
+    StepResult::Done
 }
 
 #[inline(always)]
-pub fn store_own(frames: &mut Frames, owned: &mut [i32], word: i32) -> Came
+pub fn store_own(frames: &mut Frames, owned: &mut [i32], word: i32) -> StepResult
     requires first { IsValueFirst frames.old.operands }
     requires word { HasWord owned.old word }
     ensures does { DoesOwned (i.StoreOwn word) frames.old owned.old result frames.new owned.new }
@@ -98,11 +98,11 @@ pub fn store_own(frames: &mut Frames, owned: &mut [i32], word: i32) -> Came
 {
     let x = frames.take();
     owned[word as usize] = x;
-    Came::Done
+    StepResult::Done
 }
 
 #[inline(always)]
-pub fn load_own_at(frames: &mut Frames, owned: &[i32], word: i32, low: i32, len: i32) -> Came
+pub fn load_own_at(frames: &mut Frames, owned: &[i32], word: i32, low: i32, len: i32) -> StepResult
     requires first { IsValueFirst frames.old.operands }
     requires word { ReachesLast owned.now word low len frames.old.operands }
     ensures does { DoesOwned (i.LoadOwnAt word low len) frames.old owned.now result frames.new
@@ -113,14 +113,20 @@ pub fn load_own_at(frames: &mut Frames, owned: &[i32], word: i32, low: i32, len:
     match element(word, low, len, index) {
         Some(at) => {
             frames.give(read(owned, at));
-            Came::Done
+            StepResult::Done
         }
-        None => Came::Raises(3),
+        None => StepResult::Raises(3),
     }
 }
 
 #[inline(always)]
-pub fn store_own_at(frames: &mut Frames, owned: &mut [i32], word: i32, low: i32, len: i32) -> Came
+pub fn store_own_at(
+    frames: &mut Frames,
+    owned: &mut [i32],
+    word: i32,
+    low: i32,
+    len: i32,
+) -> StepResult
     requires first { AreTwoFirst frames.old.operands }
     requires word { ReachesFirst owned.old word low len frames.old.operands }
     ensures does { DoesOwned (i.StoreOwnAt word low len) frames.old owned.old result frames.new
@@ -132,14 +138,14 @@ pub fn store_own_at(frames: &mut Frames, owned: &mut [i32], word: i32, low: i32,
     match element(word, low, len, index) {
         Some(at) => {
             owned[at] = x;
-            Came::Done
+            StepResult::Done
         }
-        None => Came::Raises(3),
+        None => StepResult::Raises(3),
     }
 }
 
 #[inline(always)]
-pub fn load_mon(frames: &mut Frames, shared: &[i32], word: i32) -> Came
+pub fn load_mon(frames: &mut Frames, shared: &[i32], word: i32) -> StepResult
     requires room { used frames.old < frames.old.room }
     requires word { HasWord shared.now word }
     ensures does { DoesShared word (i.LoadMon word) frames.old shared.now result frames.new
@@ -148,11 +154,11 @@ pub fn load_mon(frames: &mut Frames, shared: &[i32], word: i32) -> Came
 {
     let x = shared[word as usize];
     frames.give(x);
-    Came::Done
+    StepResult::Done
 }
 
 #[inline(always)]
-pub fn store_mon(frames: &mut Frames, shared: &mut [i32], word: i32) -> Came
+pub fn store_mon(frames: &mut Frames, shared: &mut [i32], word: i32) -> StepResult
     requires first { IsValueFirst frames.old.operands }
     requires word { HasWord shared.old word }
     ensures does { DoesShared word (i.StoreMon word) frames.old shared.old result frames.new
@@ -162,11 +168,11 @@ pub fn store_mon(frames: &mut Frames, shared: &mut [i32], word: i32) -> Came
 {
     let x = frames.take();
     shared[word as usize] = x;
-    Came::Done
+    StepResult::Done
 }
 
 #[inline(always)]
-pub fn load_local_at(frames: &mut Frames, word: i32, low: i32, len: i32) -> Came
+pub fn load_local_at(frames: &mut Frames, word: i32, low: i32, len: i32) -> StepResult
     requires first { IsValueFirst frames.old.operands }
     requires word { ReachesLast frames.old.locals word low len frames.old.operands }
     ensures does { Does (i.LoadLocalAt word low len) frames.old result frames.new }
@@ -177,14 +183,14 @@ pub fn load_local_at(frames: &mut Frames, word: i32, low: i32, len: i32) -> Came
         Some(at) => {
             let x = frames.local(at);
             frames.give(x);
-            Came::Done
+            StepResult::Done
         }
-        None => Came::Raises(3),
+        None => StepResult::Raises(3),
     }
 }
 
 #[inline(always)]
-pub fn store_local_at(frames: &mut Frames, word: i32, low: i32, len: i32) -> Came
+pub fn store_local_at(frames: &mut Frames, word: i32, low: i32, len: i32) -> StepResult
     requires first { AreTwoFirst frames.old.operands }
     requires word { ReachesFirst frames.old.locals word low len frames.old.operands }
     ensures does { Does (i.StoreLocalAt word low len) frames.old result frames.new }
@@ -194,14 +200,14 @@ pub fn store_local_at(frames: &mut Frames, word: i32, low: i32, len: i32) -> Cam
     match element(word, low, len, index) {
         Some(at) => {
             frames.set_local(at, x);
-            Came::Done
+            StepResult::Done
         }
-        None => Came::Raises(3),
+        None => StepResult::Raises(3),
     }
 }
 
 #[inline(always)]
-pub fn load_mon_at(frames: &mut Frames, shared: &[i32], word: i32, low: i32, len: i32) -> Came
+pub fn load_mon_at(frames: &mut Frames, shared: &[i32], word: i32, low: i32, len: i32) -> StepResult
     requires first { IsValueFirst frames.old.operands }
     requires word { ReachesLast shared.now word low len frames.old.operands }
     ensures does { LoadsShared word low len frames.old shared.now result frames.new }
@@ -211,14 +217,20 @@ pub fn load_mon_at(frames: &mut Frames, shared: &[i32], word: i32, low: i32, len
     match element(word, low, len, index) {
         Some(at) => {
             frames.give(read(shared, at));
-            Came::Done
+            StepResult::Done
         }
-        None => Came::Raises(3),
+        None => StepResult::Raises(3),
     }
 }
 
 #[inline(always)]
-pub fn store_mon_at(frames: &mut Frames, shared: &mut [i32], word: i32, low: i32, len: i32) -> Came
+pub fn store_mon_at(
+    frames: &mut Frames,
+    shared: &mut [i32],
+    word: i32,
+    low: i32,
+    len: i32,
+) -> StepResult
     requires first { AreTwoFirst frames.old.operands }
     requires word { ReachesFirst shared.old word low len frames.old.operands }
     ensures does { StoresShared word low len frames.old shared.old result frames.new shared.new }
@@ -229,8 +241,8 @@ pub fn store_mon_at(frames: &mut Frames, shared: &mut [i32], word: i32, low: i32
     match element(word, low, len, index) {
         Some(at) => {
             shared[at] = x;
-            Came::Done
+            StepResult::Done
         }
-        None => Came::Raises(3),
+        None => StepResult::Raises(3),
     }
 }

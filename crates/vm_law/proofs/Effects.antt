@@ -222,7 +222,7 @@ module _ (names : ImageNames) where
 
     -- ---- a tick of a process
 
-    pub outcome_shows : (s : State) (job : Job) (owned : List ℤ) (burn : ℕ) → AreThere image → Shows (outcome image s job owned burn)
+    pub outcome_shows : (s : State) (job : Job) (owned : List ℤ) (dispatch_ticks : ℕ) → AreThere image → Shows (outcome image s job owned dispatch_ticks)
     outcome_shows s job owned (suc n) all = tt
     outcome_shows s job owned zero all = by (slice_get image.code job.place) refl where
       by : (o : Option Instr) → slice_get image.code job.place ≡ o → Shows (outcome_at image s job owned o)

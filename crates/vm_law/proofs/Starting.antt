@@ -96,9 +96,9 @@ module _ (names : ImageNames) where
       by : (o : Option Thread) → slice_get s.threads k ≡ o → Good (time_out image t k p s o)
       by (Some (Waiting c due e job)) at =
           either_good (nat_eq due t)
-          (told t k (act.TimeOut c e) (record s { queues = slice_set s.queues c (without k (queue_of s.queues c)) }) (Ready (record (raised p e job) { burn = 2 * image.over })))
+          (told t k (act.TimeOut c e) (record s { queues = slice_set s.queues c (without k (queue_of s.queues c)) }) (Ready (record (raised p e job) { dispatch_ticks = 2 * image.over })))
           (unchanged s)
-          (told_good k (act.TimeOut c e) (record s { queues = slice_set s.queues c (without k (queue_of s.queues c)) }) s.threads (record (raised p e job) { burn = 2 * image.over }) low (waits k c due e job at) waits refl)
+          (told_good k (act.TimeOut c e) (record s { queues = slice_set s.queues c (without k (queue_of s.queues c)) }) s.threads (record (raised p e job) { dispatch_ticks = 2 * image.over }) low (waits k c due e job at) waits refl)
           (unchanged_good s waits)
       by (Some (Ready job)) at = unchanged_good s waits
       by (Some Idle) at = unchanged_good s waits

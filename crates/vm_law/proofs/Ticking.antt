@@ -73,8 +73,8 @@ module _ (names : ImageNames) (image : Image) (named : AreNamesOf names image) (
   ran_lines s (Some c) queued = by (slice_get image.processes c.place) (slice_get s.threads c.place) refl where
     by : (p : Option Process) (thread : Option Thread) → slice_get image.processes c.place ≡ p → All (AreIn names) (run_thread image t c.place s p thread).events
     by (Some p) (Some (Ready job)) at =
-        settled_lines c.place p job s (outcome image s job (owned_of (slice_get s.owned c.place)) job.burn) (slice_get_within image.processes c.place p at) queued
-        (outcome_shows names image named s job (owned_of (slice_get s.owned c.place)) job.burn all)
+        settled_lines c.place p job s (outcome image s job (owned_of (slice_get s.owned c.place)) job.dispatch_ticks) (slice_get_within image.processes c.place p at) queued
+        (outcome_shows names image named s job (owned_of (slice_get s.owned c.place)) job.dispatch_ticks all)
     by (Some p) (Some Idle) at = All-nil (AreIn names)
     by (Some p) (Some (Waiting condition due number job)) at = All-nil (AreIn names)
     by (Some p) None at = All-nil (AreIn names)

@@ -5,7 +5,7 @@ use Rattle.std.proofs.lemmas.List.{map_more, take_more}
 use Rattle.std.proofs.lemmas.Option.{get_or_from_slice_get, slice_get_within}
 use Rattle.machine_semantics.specs.Image.{Monitor, Process as Whole}
 use Rattle.machine_semantics.specs.Run.{words_of}
-use Rattle.vm_state.specs.declared.plan.Process.{Process}
+use Rattle.vm_state.specs.declared.decoded_image.DecodedProcess.{DecodedProcess}
 use Rattle.vm_state.specs.Plan.{AreProcesses, IsProcess}
 
 -- the first elements, and one more
@@ -27,11 +27,11 @@ words_grown xs i x at = ap words_of (take_grown xs i x at) ∙ words_append (tak
 
 -- ---- processes
 
-pub are_append : (ws : List Whole) (ps : List Process) (w : Whole) (p : Process) → AreProcesses ws ps → IsProcess w p → AreProcesses (ws ++ w ∷ []) (ps ++ p ∷ [])
+pub are_append : (ws : List Whole) (ps : List DecodedProcess) (w : Whole) (p : DecodedProcess) → AreProcesses ws ps → IsProcess w p → AreProcesses (ws ++ w ∷ []) (ps ++ p ∷ [])
 are_append [] [] w p are is = (is, tt)
 are_append [] (q ∷ ps) w p are is = absurd are
 are_append (v ∷ ws) [] w p are is = absurd are
 are_append (v ∷ ws) (q ∷ ps) w p are is = (are.0, are_append ws ps w p are.1 is)
 
-pub are_grown : (ws : List Whole) (i : ℕ) (w : Whole) (ps : List Process) (p : Process) → slice_get ws i ≡ Some w → AreProcesses (take i ws) ps → IsProcess w p → AreProcesses (take (i + 1) ws) (ps ++ p ∷ [])
+pub are_grown : (ws : List Whole) (i : ℕ) (w : Whole) (ps : List DecodedProcess) (p : DecodedProcess) → slice_get ws i ≡ Some w → AreProcesses (take i ws) ps → IsProcess w p → AreProcesses (take (i + 1) ws) (ps ++ p ∷ [])
 are_grown ws i w ps p at are is = subst (λ (vs : List Whole). AreProcesses vs (ps ++ p ∷ [])) (sym (take_grown ws i w at)) (are_append (take i ws) ps w p are is)

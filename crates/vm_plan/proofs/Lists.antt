@@ -1,12 +1,12 @@
 -- Lists that grow by one.
 use Rattle.std.proofs.Common.{◌≡◌, ◌+◌, ◌++◌, ℕ, zero, suc, List, [], ◌∷◌, map, take, Some, arith, ap, sym, subst, ◌∙◌}
 use Rattle.std.specs.Prelude.{slice_get}
-use Rattle.image.specs.declared.raw.RawMon.{RawMon}
-use Rattle.image.specs.declared.raw.RawProc.{RawProc}
+use Rattle.image.specs.declared.raw.RawMonitor.{RawMonitor}
+use Rattle.image.specs.declared.raw.RawProcess.{RawProcess}
 use Rattle.image.specs.Raw.{monitor_of, process_of}
 use Rattle.machine_semantics.specs.Image.{Process as Whole}
 use Rattle.machine_semantics.specs.Run.{words_of}
-use Rattle.vm_state.specs.declared.plan.Process.{Process}
+use Rattle.vm_state.specs.declared.decoded_image.DecodedProcess.{DecodedProcess}
 use Rattle.vm_state.specs.Plan.{AreProcesses, IsProcess}
 use Rattle.vm_plan.proofs.Growing.{map_grown, words_append, are_append}
 
@@ -18,15 +18,15 @@ grown_suc (y ∷ ys) (suc i) x at = ap (λ (zs : List _). y ∷ zs) (grown_suc y
 
 -- ---- words
 
-pub words_grown : (xs : List RawMon) (i : ℕ) (x : RawMon) (sum : ℕ) → slice_get xs i ≡ Some x → sum ≡ words_of (map monitor_of (take i xs)) → sum + x.words ≡ words_of (map monitor_of (take (i + 1) xs))
+pub words_grown : (xs : List RawMonitor) (i : ℕ) (x : RawMonitor) (sum : ℕ) → slice_get xs i ≡ Some x → sum ≡ words_of (map monitor_of (take i xs)) → sum + x.words ≡ words_of (map monitor_of (take (i + 1) xs))
 words_grown xs i x sum at is =
     let all : words_of (map monitor_of (take (i + 1) xs)) ≡ words_of (map monitor_of (take i xs)) + x.words = ap words_of (map_grown monitor_of xs i x at) ∙ words_append (map monitor_of (take i xs)) (monitor_of x) in
     omega (arith, all, is)
 
 -- ---- processes
 
-pub are_grown : (xs : List RawProc) (i : ℕ) (x : RawProc) (ps qs : List Process) (p : Process) → slice_get xs i ≡ Some x → AreProcesses (map process_of (take i xs)) ps → IsProcess (process_of x) p → qs ≡ ps ++ p ∷ []
+pub are_grown : (xs : List RawProcess) (i : ℕ) (x : RawProcess) (ps qs : List DecodedProcess) (p : DecodedProcess) → slice_get xs i ≡ Some x → AreProcesses (map process_of (take i xs)) ps → IsProcess (process_of x) p → qs ≡ ps ++ p ∷ []
     → AreProcesses (map process_of (take (i + 1) xs)) qs
 are_grown xs i x ps qs p at are is pushed =
-    subst (λ (rs : List Process). AreProcesses (map process_of (take (i + 1) xs)) rs) (sym pushed)
+    subst (λ (rs : List DecodedProcess). AreProcesses (map process_of (take (i + 1) xs)) rs) (sym pushed)
     (subst (λ (ws : List Whole). AreProcesses ws (ps ++ p ∷ [])) (sym (map_grown process_of xs i x at)) (are_append (map process_of (take i xs)) ps (process_of x) p are is))

@@ -6,7 +6,7 @@ use Rattle.std.proofs.lemmas.Option.{get_or_from_slice_get, slice_get-map, slice
 use Rattle.machine_semantics.specs.Image.{Image, Routine}
 use Rattle.vm_plan.specs.HasPlan.{HasPlan}
 use Rattle.vm_instructions.specs.Silent.{IsCalled}
-use Rattle.vm_instructions.specs.declared.calls.Routine.{Routine as Called}
+use Rattle.vm_instructions.specs.declared.calls.RoutineHeader.{RoutineHeader as Called}
 use Rattle.vm_plan.specs.Called.{called_of}
 
 -- the parameters of a routine stand among its locals

@@ -6,8 +6,8 @@ use Rattle.std.proofs.lemmas.List.{length-map}
 use Rattle.std.proofs.lemmas.List.Elements.{All-map}
 use Rattle.std.proofs.lemmas.Option.{slice_get_within}
 use Rattle.base.proofs.Lists.{one_of, all_of}
-use Rattle.image.specs.declared.names.CondName.{CondName}
-use Rattle.image.specs.declared.names.DevName.{DevName}
+use Rattle.image.specs.declared.names.ConditionName.{ConditionName}
+use Rattle.image.specs.declared.names.DeviceName.{DeviceName}
 use Rattle.image.specs.declared.raw.RawImage.{RawImage}
 use Rattle.image.specs.Raw.{image_of, monitor_of, process_of}
 use Rattle.image_reader.specs.Answer.{Holds}
@@ -95,8 +95,8 @@ has_plan bytes raw holds valid =
     let named : IsNamed raw = read_names bytes raw holds in
     let m : MeetsPremises image = valid_meets_premises image limits valid in
     let monitors : length image.monitors ≤ 64 = omega (arith, read_monitors bytes raw holds, length-map raw.monitors monitor_of) in
-    let conditions : length image.conditions ≤ 256 = omega (arith, named.conditions, length-map raw.names.conditions (λ (c : CondName). c.mon)) in
-    let devices : length image.devices ≤ 64 = omega (arith, named.devices, length-map raw.names.devices (λ (d : DevName). d.out)) in
+    let conditions : length image.conditions ≤ 256 = omega (arith, named.conditions, length-map raw.names.conditions (λ (c : ConditionName). c.mon)) in
+    let devices : length image.devices ≤ 64 = omega (arith, named.devices, length-map raw.names.devices (λ (d : DeviceName). d.out)) in
     let kinds : All (λ (p : Process). p.kind ≤ 1) image.processes = All-map (λ (p : Process). p.kind ≤ 1) process_of raw.processes named.kinds in
     record {
       numbers = λ n instr at. has_numbers image monitors conditions devices instr (valid_operands_are_there image limits valid n instr at);
@@ -119,8 +119,8 @@ are_names raw named = record {
   sound = named.sound;
   processes = named.processes ∙ sym (length-map raw.processes process_of);
   monitors = named.monitors ∙ sym (length-map raw.monitors monitor_of);
-  conditions = sym (length-map raw.names.conditions (λ (c : CondName). c.mon));
-  devices = sym (length-map raw.names.devices (λ (d : DevName). d.out));
+  conditions = sym (length-map raw.names.conditions (λ (c : ConditionName). c.mon));
+  devices = sym (length-map raw.names.devices (λ (d : DeviceName). d.out));
 }
 
 pub valid_images_read_are_ready : ValidImagesReadAreReady

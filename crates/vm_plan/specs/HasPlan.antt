@@ -5,7 +5,7 @@ use Rattle.machine_isa.specs.declared.instr.Instr.{Instr}
 use Rattle.machine_semantics.specs.Trees.{Segs, size}
 use Rattle.machine_semantics.specs.Image.{Image, Process, Routine, end_of}
 use Rattle.vm_state.specs.Plan.{HasNumbers}
-use Rattle.vm_instructions.specs.declared.calls.Routine.{Routine as Called}
+use Rattle.vm_instructions.specs.declared.calls.RoutineHeader.{RoutineHeader as Called}
 
 -- the tree of a handler, if there is one, ends in code of so many instructions
 abbrev pub HandlerEnds : ℕ → ℕ → Option Segs → Type 0

@@ -6,13 +6,13 @@
 //! image.
 //!
 //! `specs/HasPlan.antt` says what is asked of the image. Every valid image that a file holds has
-//! such a plan (`plan_laws`).
+//! such a plan (`runnable_images`).
 #![tactic(auto)]
 
 pub mod plan;
 mod plan_bytes_parts;
 pub mod plan_bytes_plan;
 mod plan_bytes_process;
-pub mod plan_laws;
 mod plan_parts;
 mod plan_process;
+pub mod runnable_images;

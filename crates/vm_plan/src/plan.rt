@@ -9,14 +9,14 @@ use crate::plan_parts::{ceilings, conditions, routines, words};
 use crate::plan_process::processes;
 use image::RawImage;
 use std::alloc::{AllocError, Global};
-use vm_state::Plan;
+use vm_state::DecodedImage;
 
 /// The plan of the image; an error says that memory is short.
-pub fn plan_of(alloc: Global, raw: &RawImage) -> Result<Plan, AllocError>
+pub fn plan_of(alloc: Global, raw: &RawImage) -> Result<DecodedImage, AllocError>
     requires { HasPlan (image_of raw.now) }
     ensures { IfOk result (λ plan. IsOf (image_of raw.now) plan) }
 {
-    Ok(Plan {
+    Ok(DecodedImage {
         code: Vec::from_slice(alloc, raw.code.as_slice())?,
         routines: routines(alloc, raw.routines.as_slice())?,
         processes: processes(alloc, raw.processes.as_slice(), raw.code.len())?,
@@ -24,6 +24,6 @@ pub fn plan_of(alloc: Global, raw: &RawImage) -> Result<Plan, AllocError>
         ceilings: ceilings(alloc, raw.monitors.as_slice())?,
         shared: words(raw.monitors.as_slice()),
         devices: raw.names.devices.len(),
-        burn: 2 * u32::from(raw.overhead),
+        dispatch_ticks: 2 * u32::from(raw.overhead),
     })
 }

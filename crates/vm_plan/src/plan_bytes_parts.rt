@@ -7,7 +7,7 @@ ghost use Rattle.vm_plan.specs.Called.{called_of};
 use image_bytes::ImageBytes;
 use machine_isa::Instr;
 use std::alloc::{AllocError, Global};
-use vm_instructions::calls::Routine;
+use vm_instructions::calls::RoutineHeader;
 
 /// The code.
 pub(crate) fn instructions(alloc: Global, image: &ImageBytes) -> Result<Vec<Instr>, AllocError>
@@ -21,13 +21,13 @@ pub(crate) fn instructions(alloc: Global, image: &ImageBytes) -> Result<Vec<Inst
 }
 
 /// What a call needs to know of each routine.
-pub(crate) fn routines(alloc: Global, image: &ImageBytes) -> Result<Vec<Routine>, AllocError>
+pub(crate) fn routines(alloc: Global, image: &ImageBytes) -> Result<Vec<RoutineHeader>, AllocError>
     ensures { IfOk result (λ called. called.items ≡ map called_of image.now.image.routines) }
 {
     let mut called = Vec::with_capacity(alloc, usize::from(image.routines()))?;
     for number in 0..image.routines() {
         let routine = image.routine(number);
-        called.push(Routine {
+        called.push(RoutineHeader {
             params: usize::from(routine.params),
             locals: routine.locals as usize,
             start: routine.start as usize,

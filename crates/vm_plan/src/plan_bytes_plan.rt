@@ -8,14 +8,14 @@ use crate::plan_bytes_parts::{ceilings, conditions, devices, instructions, routi
 use crate::plan_bytes_process::processes;
 use image_bytes::ImageBytes;
 use std::alloc::{AllocError, Global};
-use vm_state::Plan;
+use vm_state::DecodedImage;
 
 /// The plan of the image; an error says that memory is short.
-pub fn plan_of(alloc: Global, image: &ImageBytes) -> Result<Plan, AllocError>
+pub fn plan_of(alloc: Global, image: &ImageBytes) -> Result<DecodedImage, AllocError>
     requires { HasPlan image.now.image }
     ensures { IfOk result (λ plan. IsOf image.now.image plan) }
 {
-    Ok(Plan {
+    Ok(DecodedImage {
         code: instructions(alloc, image)?,
         routines: routines(alloc, image)?,
         processes: processes(alloc, image)?,
@@ -23,6 +23,6 @@ pub fn plan_of(alloc: Global, image: &ImageBytes) -> Result<Plan, AllocError>
         ceilings: ceilings(alloc, image)?,
         shared: words(image),
         devices: devices(image),
-        burn: 2 * u32::from(image.overhead()),
+        dispatch_ticks: 2 * u32::from(image.overhead()),
     })
 }

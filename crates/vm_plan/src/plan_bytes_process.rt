@@ -6,14 +6,14 @@ ghost use Rattle.machine_semantics.specs.Image.{end_of};
 ghost use Rattle.vm_state.specs.Plan.{AreProcesses, IsProcess, IsRelease};
 ghost use Rattle.vm_plan.specs.HasPlan.{CanRun, HandlerEnds};
 
-use image_bytes::{ImageBytes, ProcRef};
+use image_bytes::{ImageBytes, ProcessRef};
 use loader_trees::tree_end;
 use std::alloc::{AllocError, Global};
 use vm_instructions::Ends;
-use vm_state::{Process, Release};
+use vm_state::{DecodedProcess, Release};
 
 /// When a process is released.
-fn release(process: &ProcRef<'_>) -> Release
+fn release(process: &ProcessRef<'_>) -> Release
     requires kind { process.now.kind ≤ 1 }
     requires frame { 0 < process.now.frame }
     ensures { IsRelease (process_in process.now) result }
@@ -31,7 +31,7 @@ fn release(process: &ProcRef<'_>) -> Release
 }
 
 /// The address of the END of the body, in code of so many instructions.
-fn body_end(process: &ProcRef<'_>, code: usize) -> usize
+fn body_end(process: &ProcessRef<'_>, code: usize) -> usize
     requires { end_of (process_in process.now) false ≤ code }
     ensures { result ≡ end_of (process_in process.now) false }
 {
@@ -42,7 +42,7 @@ fn body_end(process: &ProcRef<'_>, code: usize) -> usize
 }
 
 /// The address of the END of the handler; without a handler its declared address.
-fn handler_end(process: &ProcRef<'_>, code: usize) -> usize
+fn handler_end(process: &ProcessRef<'_>, code: usize) -> usize
     requires { HandlerEnds code (process_in process.now).handler (process_in process.now).handler_tree }
     ensures { result ≡ end_of (process_in process.now) true }
 {
@@ -57,18 +57,22 @@ fn handler_end(process: &ProcRef<'_>, code: usize) -> usize
 }
 
 /// The numbers that the handler takes, in order.
-fn handler_numbers(alloc: Global, process: &ProcRef<'_>) -> Result<Vec<u16>, AllocError>
+fn handler_numbers(alloc: Global, process: &ProcessRef<'_>) -> Result<Vec<u16>, AllocError>
     ensures { IfOk result (λ numbers. numbers.items ≡ (process_in process.now).numbers) }
 {
     process.numbers().collect(alloc)
 }
 
 /// What a run needs of a process.
-fn process_of(alloc: Global, process: &ProcRef<'_>, code: usize) -> Result<Process, AllocError>
+fn process_of(
+    alloc: Global,
+    process: &ProcessRef<'_>,
+    code: usize,
+) -> Result<DecodedProcess, AllocError>
     requires { CanRun code (process_in process.now) }
     ensures { IfOk result (λ kept. IsProcess (process_in process.now) kept) }
 {
-    Ok(Process {
+    Ok(DecodedProcess {
         release: release(process),
         rank: process.rank,
         start: process.start as usize,
@@ -85,7 +89,10 @@ fn process_of(alloc: Global, process: &ProcRef<'_>, code: usize) -> Result<Proce
 }
 
 /// What a run needs of each process.
-pub(crate) fn processes(alloc: Global, image: &ImageBytes) -> Result<Vec<Process>, AllocError>
+pub(crate) fn processes(
+    alloc: Global,
+    image: &ImageBytes,
+) -> Result<Vec<DecodedProcess>, AllocError>
     requires { All (λ process. CanRun (length image.now.image.code) process) image.now.image.processes }
     ensures { IfOk result (λ processes. AreProcesses image.now.image.processes processes.items) }
 {

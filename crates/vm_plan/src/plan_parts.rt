@@ -5,17 +5,20 @@ ghost use Rattle.image.specs.Raw.{monitor_of};
 ghost use Rattle.machine_semantics.specs.Run.{words_of};
 ghost use Rattle.vm_plan.specs.HasPlan.{called_of};
 
-use image::{CondName, RawMon, RawRoutine};
+use image::{ConditionName, RawMonitor, RawRoutine};
 use std::alloc::{AllocError, Global};
-use vm_instructions::calls::Routine;
+use vm_instructions::calls::RoutineHeader;
 
 /// What a call needs to know of each routine.
-pub(crate) fn routines(alloc: Global, routines: &[RawRoutine]) -> Result<Vec<Routine>, AllocError>
+pub(crate) fn routines(
+    alloc: Global,
+    routines: &[RawRoutine],
+) -> Result<Vec<RoutineHeader>, AllocError>
     ensures { IfOk result (λ called. called.items ≡ map called_of routines.now) }
 {
     let mut called = Vec::with_capacity(alloc, routines.len())?;
     for routine in routines {
-        called.push(Routine {
+        called.push(RoutineHeader {
             params: usize::from(routine.params),
             locals: routine.locals as usize,
             start: routine.start as usize,
@@ -25,7 +28,7 @@ pub(crate) fn routines(alloc: Global, routines: &[RawRoutine]) -> Result<Vec<Rou
 }
 
 /// By condition its monitor.
-pub(crate) fn conditions(alloc: Global, names: &[CondName]) -> Result<Vec<u16>, AllocError>
+pub(crate) fn conditions(alloc: Global, names: &[ConditionName]) -> Result<Vec<u16>, AllocError>
     ensures { IfOk result (λ monitors. monitors.items ≡ map (λ name. name.mon) names.now) }
 {
     let mut monitors = Vec::with_capacity(alloc, names.len())?;
@@ -36,7 +39,7 @@ pub(crate) fn conditions(alloc: Global, names: &[CondName]) -> Result<Vec<u16>, 
 }
 
 /// By monitor its ceiling.
-pub(crate) fn ceilings(alloc: Global, monitors: &[RawMon]) -> Result<Vec<u16>, AllocError>
+pub(crate) fn ceilings(alloc: Global, monitors: &[RawMonitor]) -> Result<Vec<u16>, AllocError>
     ensures { IfOk result (λ ceilings. ceilings.items ≡ map (λ m. m.ceiling) monitors.now) }
 {
     let mut ceilings = Vec::with_capacity(alloc, monitors.len())?;
@@ -47,7 +50,7 @@ pub(crate) fn ceilings(alloc: Global, monitors: &[RawMon]) -> Result<Vec<u16>, A
 }
 
 /// The words of all monitors.
-pub(crate) fn words(monitors: &[RawMon]) -> usize
+pub(crate) fn words(monitors: &[RawMonitor]) -> usize
     requires { length monitors.now ≤ 64 }
     ensures { result ≡ words_of (map monitor_of monitors.now) }
 {

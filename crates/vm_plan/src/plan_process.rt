@@ -6,14 +6,14 @@ ghost use Rattle.machine_semantics.specs.Image.{end_of};
 ghost use Rattle.vm_state.specs.Plan.{AreProcesses, IsProcess, IsRelease};
 ghost use Rattle.vm_plan.specs.HasPlan.{CanRun, HandlerEnds};
 
-use image::RawProc;
+use image::RawProcess;
 use loader_trees::tree_end;
 use std::alloc::{AllocError, Global};
 use vm_instructions::Ends;
-use vm_state::{Process, Release};
+use vm_state::{DecodedProcess, Release};
 
 /// When a process is released.
-fn release(raw: &RawProc) -> Release
+fn release(raw: &RawProcess) -> Release
     requires kind { raw.now.kind ≤ 1 }
     requires frame { 0 < raw.now.frame }
     ensures { IsRelease (process_of raw.now) result }
@@ -29,7 +29,7 @@ fn release(raw: &RawProc) -> Release
 }
 
 /// The address of the END of the body, in code of so many instructions.
-fn body_end(raw: &RawProc, code: usize) -> usize
+fn body_end(raw: &RawProcess, code: usize) -> usize
     requires { end_of (process_of raw.now) false ≤ code }
     ensures { result ≡ end_of (process_of raw.now) false }
 {
@@ -40,7 +40,7 @@ fn body_end(raw: &RawProc, code: usize) -> usize
 }
 
 /// The address of the END of the handler; without a handler its declared address.
-fn handler_end(raw: &RawProc, code: usize) -> usize
+fn handler_end(raw: &RawProcess, code: usize) -> usize
     requires { HandlerEnds code (process_of raw.now).handler (process_of raw.now).handler_tree }
     ensures { result ≡ end_of (process_of raw.now) true }
 {
@@ -55,11 +55,11 @@ fn handler_end(raw: &RawProc, code: usize) -> usize
 }
 
 /// What a run needs of a process.
-fn process(alloc: Global, raw: &RawProc, code: usize) -> Result<Process, AllocError>
+fn process(alloc: Global, raw: &RawProcess, code: usize) -> Result<DecodedProcess, AllocError>
     requires { CanRun code (process_of raw.now) }
     ensures { IfOk result (λ process. IsProcess (process_of raw.now) process) }
 {
-    Ok(Process {
+    Ok(DecodedProcess {
         release: release(raw),
         rank: raw.rank,
         start: raw.start as usize,
@@ -78,9 +78,9 @@ fn process(alloc: Global, raw: &RawProc, code: usize) -> Result<Process, AllocEr
 /// What a run needs of each process.
 pub(crate) fn processes(
     alloc: Global,
-    raws: &[RawProc],
+    raws: &[RawProcess],
     code: usize,
-) -> Result<Vec<Process>, AllocError>
+) -> Result<Vec<DecodedProcess>, AllocError>
     requires { All (λ raw. CanRun code (process_of raw)) raws.now }
     ensures { IfOk result (λ processes. AreProcesses (map process_of raws.now) processes.items) }
 {

@@ -12,8 +12,8 @@ use Rattle.vm_stretch.specs.StartLawsDue.{moved_on}
 use Rattle.vm_stretch.specs.Steps.{AreLeft, release_of}
 use Rattle.vm_stretch.proofs.Leading.{left_same}
 use Rattle.vm_stretch.proofs.Lists.{same_or_not}
-use Rattle.vm_state.specs.declared.plan.Release.{Release}
-use Rattle.vm_state.specs.declared.plan.Release.TheVariants as release
+use Rattle.vm_state.specs.declared.decoded_image.Release.{Release}
+use Rattle.vm_state.specs.declared.decoded_image.Release.TheVariants as release
 use Rattle.vm_state.specs.Plan.{IsRelease}
 use Rattle.vm_releases.specs.Begin.{MovedAt, MovedBelow, clock_at, clock_of, release_at}
 

@@ -14,8 +14,8 @@ use Rattle.machine_semantics.specs.Run.{at_start}
 use Rattle.vm_stretch.specs.StretchDue.{AreInOrder, first_tick, time_out_of}
 use Rattle.vm_stretch.specs.StartLawsDue.{HasDue, IsReleaseFrom}
 use Rattle.vm_stretch.proofs.Lists.{same_or_not}
-use Rattle.vm_state.specs.declared.plan.Release.{Release}
-use Rattle.vm_state.specs.declared.plan.Release.TheVariants as release
+use Rattle.vm_state.specs.declared.decoded_image.Release.{Release}
+use Rattle.vm_state.specs.declared.decoded_image.Release.TheVariants as release
 use Rattle.vm_state.specs.Plan.{IsRelease}
 use Rattle.vm_releases.specs.Begin.{AreFirst, first_release}
 

@@ -10,11 +10,11 @@ use Rattle.machine_semantics.specs.State.{State}
 use Rattle.machine_semantics.specs.Starts.{Started, followed, lines, periodic, starts, time_outs}
 use Rattle.vm_stretch.specs.Quiet.{line_tick}
 use Rattle.vm_stretch.specs.StretchDue.{HasSlots, IsNextRelease, first_tick}
-use Rattle.vm_state.specs.declared.threads.Cell.{Cell}
+use Rattle.vm_state.specs.declared.threads.ControlBlock.{ControlBlock}
 use Rattle.vm_state.specs.Threads.{threads_of}
-use Rattle.vm_state.specs.declared.plan.Process.{Process}
-use Rattle.vm_state.specs.declared.plan.Release.{Release}
-use Rattle.vm_state.specs.declared.plan.Release.TheVariants as release
+use Rattle.vm_state.specs.declared.decoded_image.DecodedProcess.{DecodedProcess}
+use Rattle.vm_state.specs.declared.decoded_image.Release.{Release}
+use Rattle.vm_state.specs.declared.decoded_image.Release.TheVariants as release
 use Rattle.vm_state.specs.Plan.{AreProcesses, IsRelease}
 use Rattle.vm_stretch.specs.StartLawsDue.{AreDone, HasDue, moved_on}
 use Rattle.vm_stretch.specs.Steps.{HasStarted, HasWaits}
@@ -133,13 +133,13 @@ has_frame : (w : Whole) (r : Release) → IsRelease w r → w.kind ≡ 0 → 0 <
 has_frame w (release.Periodic first frame) of kind = let some : 0 < frame = of.3 in omega (arith, some, of.2)
 has_frame w (release.Event event) of kind = absurd (omega (arith, of.0, kind))
 
-pub has_frames : (ws : List Whole) (ps : List Process) (k : ℕ) (w : Whole) → AreProcesses ws ps → slice_get ws k ≡ Some w → w.kind ≡ 0 → 0 < w.frame
+pub has_frames : (ws : List Whole) (ps : List DecodedProcess) (k : ℕ) (w : Whole) → AreProcesses ws ps → slice_get ws k ≡ Some w → w.kind ≡ 0 → 0 < w.frame
 has_frames [] ps k w are at = absurd cc
 has_frames (v ∷ ws) [] k w are at = absurd are
 has_frames (v ∷ ws) (p ∷ ps) zero w are at = let same : v ≡ w = cc in subst (λ (x : Whole). x.kind ≡ 0 → 0 < x.frame) same (has_frame v p.release are.0.release)
 has_frames (v ∷ ws) (p ∷ ps) (suc k) w are at = has_frames ws ps k w are.1 at
 
-pub slots_again : (image : Image) (script : Script) (t done done' : ℕ) (s s' : State) (ps : List Process) (slots set moved slots' : List (Option ℕ)) → AreProcesses image.processes ps → HasDue image script t done s slots
+pub slots_again : (image : Image) (script : Script) (t done done' : ℕ) (s s' : State) (ps : List DecodedProcess) (slots set moved slots' : List (Option ℕ)) → AreProcesses image.processes ps → HasDue image script t done s slots
     → set ≡ slice_set slots (2 * length image.processes) (first_tick (drop done' script.lines)) → MovedBelow image t (length image.processes) set moved → WaitsAlone (length image.processes) moved slots' → HasWaits (length image.processes) s' slots'
     → AreDone t done' script.lines → length s'.threads ≡ length image.processes → HasSlots image script t done' s' slots'
 slots_again image script t done done' s s' ps slots set moved slots' are has is below alone waits lines_are threads = record {
@@ -162,6 +162,6 @@ slots_again image script t done done' s s' ps slots set moved slots' are has is 
   threads = λ k x at. (let within = slice_get_within s'.threads k x at in omega (arith, within, threads));
 }
 
-pub threads_count : (cs : List Cell) → length (threads_of cs) ≡ length cs
+pub threads_count : (cs : List ControlBlock) → length (threads_of cs) ≡ length cs
 threads_count [] = refl
 threads_count (c ∷ cs) = ap suc (threads_count cs)

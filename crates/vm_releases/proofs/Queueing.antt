@@ -60,8 +60,8 @@ time_out_keeps image t k p s have = by (slice_get s.threads k) where
   by (Some Idle) = have
   by (Some (Ready job)) = have
   by (Some (Waiting c due e job)) =
-      either (nat_eq due t) (told t k (act.TimeOut c e) (record s { queues = slice_set s.queues c (without k (queue_of s.queues c)) }) (Ready (record (raised p e job) { burn = 2 * image.over }))) (unchanged s)
-      (ready_keeps s k (record (raised p e job) { burn = 2 * image.over }) (slice_set s.queues c (without k (queue_of s.queues c))) have (length-set s.queues c (without k (queue_of s.queues c)))) have
+      either (nat_eq due t) (told t k (act.TimeOut c e) (record s { queues = slice_set s.queues c (without k (queue_of s.queues c)) }) (Ready (record (raised p e job) { dispatch_ticks = 2 * image.over }))) (unchanged s)
+      (ready_keeps s k (record (raised p e job) { dispatch_ticks = 2 * image.over }) (slice_set s.queues c (without k (queue_of s.queues c))) have (length-set s.queues c (without k (queue_of s.queues c)))) have
 
 -- no other process changes at a time-out
 pub time_out_others : (image : Image) (t k j : ℕ) (p : Process) (s : State) → k ≢ j → slice_get (time_out image t k p s (slice_get s.threads k)).state.threads j ≡ slice_get s.threads j
@@ -71,6 +71,6 @@ time_out_others image t k j p s differ = by (slice_get s.threads k) where
   by (Some Idle) = refl
   by (Some (Ready job)) = refl
   by (Some (Waiting c due e job)) = by_due (nat_eq due t) where
-    by_due : (d : Bool) → slice_get (cond d (told t k (act.TimeOut c e) (record s { queues = slice_set s.queues c (without k (queue_of s.queues c)) }) (Ready (record (raised p e job) { burn = 2 * image.over }))) (unchanged s)).state.threads j ≡ slice_get s.threads j
-    by_due true = get_other s.threads k j (Ready (record (raised p e job) { burn = 2 * image.over })) differ
+    by_due : (d : Bool) → slice_get (cond d (told t k (act.TimeOut c e) (record s { queues = slice_set s.queues c (without k (queue_of s.queues c)) }) (Ready (record (raised p e job) { dispatch_ticks = 2 * image.over }))) (unchanged s)).state.threads j ≡ slice_get s.threads j
+    by_due true = get_other s.threads k j (Ready (record (raised p e job) { dispatch_ticks = 2 * image.over })) differ
     by_due false = refl

@@ -11,15 +11,15 @@ ghost use Rattle.vm_state.specs.Plan.{IsOf};
 ghost use Rattle.vm_releases.specs.Begin.{HaveQueues, MovedAt, MovedBelow, NextFits, TellAt, TellReleases, WaitsAlone, clock_at, expiry_at};
 ghost use Rattle.vm_releases.specs.Order.{IsOrderOf};
 
-use crate::order::Order;
+use crate::order::StartOrder;
 use crate::release::release;
 use crate::time_out::time_out;
-use vm_dispatch::{Due, OrderDue};
-use vm_state::{Board, Fired, Plan, Release};
+use vm_dispatch::{Due, DueHeap};
+use vm_state::{DecodedImage, EventBuffer, MachineState, Release};
 
 /// Whether the slot is due at the tick.
 #[inline(always)]
-fn is_due(slots: &OrderDue, slot: usize, tick: u64) -> bool
+fn is_due(slots: &DueHeap, slot: usize, tick: u64) -> bool
     requires { slot < length slots.now }
     ensures yes { result ≡ true → slice_index_or slots.now slot None ≡ Some tick }
     ensures no { result ≡ false → slice_index_or slots.now slot None ≢ Some tick }
@@ -29,10 +29,10 @@ fn is_due(slots: &OrderDue, slot: usize, tick: u64) -> bool
 
 /// Releases the process at this place by the clock, if its slot is due.
 fn clock(
-    plan: &Plan,
-    slots: &mut OrderDue,
-    board: &mut Board,
-    fired: &mut Fired,
+    plan: &DecodedImage,
+    slots: &mut DueHeap,
+    board: &mut MachineState,
+    fired: &mut EventBuffer,
     place: usize,
     tick: u64,
 )
@@ -61,10 +61,10 @@ fn clock(
 
 /// Releases the processes that the clock brings at the tick.
 pub(crate) fn do_releases(
-    plan: &Plan,
-    slots: &mut OrderDue,
-    board: &mut Board,
-    fired: &mut Fired,
+    plan: &DecodedImage,
+    slots: &mut DueHeap,
+    board: &mut MachineState,
+    fired: &mut EventBuffer,
     tick: u64,
 )
     ghost image: { Image }
@@ -88,10 +88,10 @@ pub(crate) fn do_releases(
 
 /// Ends the wait of the process at this place, if its slot is due.
 fn expire(
-    plan: &Plan,
-    slots: &mut OrderDue,
-    board: &mut Board,
-    fired: &mut Fired,
+    plan: &DecodedImage,
+    slots: &mut DueHeap,
+    board: &mut MachineState,
+    fired: &mut EventBuffer,
     place: usize,
     tick: u64,
 )
@@ -120,11 +120,11 @@ fn expire(
 
 /// Ends the waits whose time has come, in the order of ranks.
 pub(crate) fn do_time_outs(
-    plan: &Plan,
-    order: &Order,
-    slots: &mut OrderDue,
-    board: &mut Board,
-    fired: &mut Fired,
+    plan: &DecodedImage,
+    order: &StartOrder,
+    slots: &mut DueHeap,
+    board: &mut MachineState,
+    fired: &mut EventBuffer,
     tick: u64,
 )
     ghost image: { Image }

@@ -12,10 +12,10 @@ ghost use Rattle.vm_stretch.specs.Quiet.{line_tick};
 ghost use Rattle.vm_releases.specs.Begin.{AreToCome, line_of, lines_of};
 ghost use Rattle.vm_releases.specs.Order.{IsOrderOf};
 
-use crate::order::Order;
+use crate::order::StartOrder;
 use crate::release::release_row;
 use script::ScriptLine;
-use vm_state::{Board, Fired, Plan};
+use vm_state::{DecodedImage, EventBuffer, MachineState};
 
 /// The tick of a line.
 #[inline(always)]
@@ -38,11 +38,11 @@ fn set_device(devices: &mut Vec<i32>, device: usize, value: i32)
 
 /// What a line says comes at its tick: a device is set, or an event occurs.
 fn do_line(
-    plan: &Plan,
-    order: &Order,
+    plan: &DecodedImage,
+    order: &StartOrder,
     said: &ScriptLine,
-    board: &mut Board,
-    fired: &mut Fired,
+    board: &mut MachineState,
+    fired: &mut EventBuffer,
     tick: u64,
 )
     ghost image: { Image }
@@ -73,12 +73,12 @@ fn do_line(
 
 /// Does the lines of the tick, and counts them as done.
 pub(crate) fn do_lines(
-    plan: &Plan,
-    order: &Order,
+    plan: &DecodedImage,
+    order: &StartOrder,
     script: &[ScriptLine],
     done: &mut usize,
-    board: &mut Board,
-    fired: &mut Fired,
+    board: &mut MachineState,
+    fired: &mut EventBuffer,
     tick: u64,
 )
     ghost image: { Image }

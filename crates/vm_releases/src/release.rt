@@ -12,22 +12,31 @@ ghost use Rattle.vm_stretch.specs.Steps.{HasStarted, releases};
 ghost use Rattle.vm_releases.specs.Begin.{AreBelow, release_at};
 
 use base::Act;
-use vm_state::{Board, Cell, Fired, Plan, Process, Stand, tell};
+use vm_state::{
+    ControlBlock, DecodedImage, DecodedProcess, EventBuffer, MachineState, SchedulingState, tell,
+};
 
 /// An activation begins.
-fn release_cell(cell: &mut Cell, process: &Process, burn: u32)
+fn release_cell(cell: &mut ControlBlock, process: &DecodedProcess, dispatch_ticks: u32)
     requires { process.now.locals ≤ cell.old.job.frames.room }
     ensures released { (image : Image) (whole : Whole) → whole.start ≡ process.now.start →
-        whole.locals ≡ process.now.locals → 2 * image.over ≡ burn →
+        whole.locals ≡ process.now.locals → 2 * image.over ≡ dispatch_ticks →
         thread_of cell.new ≡ Ready (released image whole) }
     ensures room { cell.new.job.frames.room ≡ cell.old.job.frames.room }
 {
-    cell.stand = Stand::Ready;
-    cell.job.release(process.start, process.locals, burn);
+    cell.stand = SchedulingState::Ready;
+    cell.job
+        .release(process.start, process.locals, dispatch_ticks);
 }
 
 /// Releases a process that is idle.
-pub(crate) fn release(plan: &Plan, board: &mut Board, fired: &mut Fired, place: usize, tick: u64)
+pub(crate) fn release(
+    plan: &DecodedImage,
+    board: &mut MachineState,
+    fired: &mut EventBuffer,
+    place: usize,
+    tick: u64,
+)
     ghost image: { Image }
     requires plan { IsOf image plan.now }
     requires board { IsBoardOf image board.old }
@@ -38,12 +47,22 @@ pub(crate) fn release(plan: &Plan, board: &mut Board, fired: &mut Fired, place: 
         (state_of board.new) fired.new.items }
     ensures board { IsBoardOf image board.new }
 {
-    release_cell(&mut board.cells[place], &plan.processes[place], plan.burn);
+    release_cell(
+        &mut board.cells[place],
+        &plan.processes[place],
+        plan.dispatch_ticks,
+    );
     tell(fired, tick, place as u16, Act::Release);
 }
 
 /// Releases processes one after another.
-pub(crate) fn release_row(plan: &Plan, row: &[u16], board: &mut Board, fired: &mut Fired, tick: u64)
+pub(crate) fn release_row(
+    plan: &DecodedImage,
+    row: &[u16],
+    board: &mut MachineState,
+    fired: &mut EventBuffer,
+    tick: u64,
+)
     ghost image: { Image }
     requires plan { IsOf image plan.now }
     requires board { IsBoardOf image board.old }

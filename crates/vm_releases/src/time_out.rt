@@ -11,7 +11,9 @@ ghost use Rattle.vm_releases.specs.Begin.{HaveQueues, IsExpired, expiry_at};
 ghost use Rattle.vm_releases.specs.Expired.{IsTimedOut};
 
 use base::Act;
-use vm_state::{Board, Cell, Fired, Plan, Process, Stand, tell};
+use vm_state::{
+    ControlBlock, DecodedImage, DecodedProcess, EventBuffer, MachineState, SchedulingState, tell,
+};
 
 /// What a process waited for, and the number that is raised.
 #[derive(Clone, Copy)]
@@ -21,11 +23,15 @@ pub(crate) struct Wait {
 }
 
 /// The wait of the process ends: its number is raised.
-fn time_out_cell(cell: &mut Cell, process: &Process, burn: u32) -> Option<Wait>
-    ensures timed_out { IsTimedOut process.now burn cell.old result cell.new }
+fn time_out_cell(
+    cell: &mut ControlBlock,
+    process: &DecodedProcess,
+    dispatch_ticks: u32,
+) -> Option<Wait>
+    ensures timed_out { IsTimedOut process.now dispatch_ticks cell.old result cell.new }
     ensures room { cell.new.job.frames.room ≡ cell.old.job.frames.room }
 {
-    let Stand::Waiting {
+    let SchedulingState::Waiting {
         condition,
         number,
         ..
@@ -33,15 +39,21 @@ fn time_out_cell(cell: &mut Cell, process: &Process, burn: u32) -> Option<Wait>
     else {
         return None;
     };
-    cell.stand = Stand::Ready;
+    cell.stand = SchedulingState::Ready;
     cell.job
         .raise(process.numbers.as_slice(), number, process.ends);
-    cell.job.burn = burn;
+    cell.job.dispatch_ticks = dispatch_ticks;
     Some(Wait { condition, number })
 }
 
 /// Ends the wait of a process, whose time has come.
-pub(crate) fn time_out(plan: &Plan, board: &mut Board, fired: &mut Fired, place: usize, tick: u64)
+pub(crate) fn time_out(
+    plan: &DecodedImage,
+    board: &mut MachineState,
+    fired: &mut EventBuffer,
+    place: usize,
+    tick: u64,
+)
     ghost image: { Image }
     requires plan { IsOf image plan.now }
     requires board { IsBoardOf image board.old }
@@ -53,7 +65,11 @@ pub(crate) fn time_out(plan: &Plan, board: &mut Board, fired: &mut Fired, place:
         (state_of board.new) fired.new.items }
     ensures board { IsBoardOf image board.new }
 {
-    let waited = time_out_cell(&mut board.cells[place], &plan.processes[place], plan.burn);
+    let waited = time_out_cell(
+        &mut board.cells[place],
+        &plan.processes[place],
+        plan.dispatch_ticks,
+    );
     if let Some(Wait { condition, number }) = waited {
         board.queues.leave(usize::from(condition), place as u16);
         let act = Act::TimeOut {

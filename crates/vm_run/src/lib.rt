@@ -6,8 +6,8 @@
 //! memory. `put_all` puts the lines of some events alone.
 #![tactic(auto)]
 
-mod put;
+mod put_log;
 mod to_end;
 
-pub use put::put_all;
+pub use put_log::put_all;
 pub use to_end::run;

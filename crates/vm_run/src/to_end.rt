@@ -10,20 +10,20 @@ ghost use Rattle.vm_releases.specs.Begin.{script_of};
 ghost use Rattle.vm_state.specs.Plan.{IsOf};
 ghost use Rattle.vm_run.specs.Coming.{coming, log_to_come};
 
-use crate::put::put_all;
-use event_log::Line;
+use crate::put_log::put_all;
+use event_log::LineBuffer;
 use image::ImageNames;
 use outside::{Sink, SinkFailed};
 use script::Script;
 use vm_runner::Machine;
-use vm_state::Plan;
+use vm_state::DecodedImage;
 
 /// Runs from the machine's tick to the end of the script, and puts the line of each event in the
 /// log, one put a line. After a failed put nothing more is put; the machine then stands after the
 /// turns whose lines it was putting. It takes no memory.
 pub fn run<O: Sink>(
     machine: &mut Machine,
-    plan: &Plan,
+    plan: &DecodedImage,
     script: &Script,
     names: &ImageNames,
     out: &mut O,
@@ -45,7 +45,7 @@ pub fn run<O: Sink>(
     ensures stands { StandsIn image (script_of script.now) machine.new }
 {
     let end = script.end();
-    let mut text = Line::new();
+    let mut text = LineBuffer::new();
     while machine.tick() < end {
         machine.advance_row(plan, script);
         put_all(&mut text, names, machine.events(), out)?;

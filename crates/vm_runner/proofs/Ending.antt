@@ -38,8 +38,8 @@ none_at_once image t k p job s words m (Some instr) below =
     let test : nat_lt (job.done + m) (ticks instr) ≡ true = (let low : job.done + m < ticks instr = omega (arith, below) in grind (arith, nat_tests, low)) in
     rw test refl
 
-none_yet : (image : Image) (t k : ℕ) (p : Process) (job : Job) (s : State) (words : List ℤ) (m : ℕ) → m < left image job → is_some_at_queue (settle image t k p job s (outcomes image s job words m job.burn)).events ≡ false
-none_yet image t k p job s words m below = by job.burn below where
+none_yet : (image : Image) (t k : ℕ) (p : Process) (job : Job) (s : State) (words : List ℤ) (m : ℕ) → m < left image job → is_some_at_queue (settle image t k p job s (outcomes image s job words m job.dispatch_ticks)).events ≡ false
+none_yet image t k p job s words m below = by job.dispatch_ticks below where
   by : (b : ℕ) → m < left_of b job.done (slice_get image.code job.place) → is_some_at_queue (settle image t k p job s (outcomes image s job words m b)).events ≡ false
   by (suc b) low = refl
   by zero low = none_at_once image t k p job s words m (slice_get image.code job.place) low

@@ -48,7 +48,7 @@ is_ready image s k is =
 
 -- of what is early some is left
 pub some_left : (image : Image) (job : Job) → IsEarly image job → 1 ≤ left image job
-some_left image job early = by job.burn (slice_get image.code job.place) refl where
+some_left image job early = by job.dispatch_ticks (slice_get image.code job.place) refl where
   by : (b : ℕ) (o : Option Instr) → slice_get image.code job.place ≡ o → 1 ≤ left_of b job.done o
   by (suc b) o at = omega arith
   by zero None at = omega arith
@@ -74,7 +74,7 @@ may_turn run t n who is some fits quiet = record {
 
 -- the turn of process k
 pub settled : (run : Run) (t n k : ℕ) (can : CanPass run.image n k (begun run.image run.script t)) → place_of (pick run.image (begun run.image run.script t).threads) ≡ Some k
-    → turn_of run t n ≡ settle run.image (t + (n - 1)) k can.p can.job (begun run.image run.script t) (outcomes run.image (begun run.image run.script t) can.job (owned_of (slice_get (begun run.image run.script t).owned k)) n can.job.burn)
+    → turn_of run t n ≡ settle run.image (t + (n - 1)) k can.p can.job (begun run.image run.script t) (outcomes run.image (begun run.image run.script t) can.job (owned_of (slice_get (begun run.image run.script t).owned k)) n can.job.dispatch_ticks)
 settled run t n k can is =
     let s : State = begun run.image run.script t in
     turn_is run t n (Some k) is
@@ -90,7 +90,7 @@ pub keeps_waits : (run : Run) (t n k : ℕ) → IsSafeRun run.image run.script �
 keeps_waits run t n k safe it is =
     let s : State = begun run.image run.script t in
     let can : CanPass run.image n k s = turn_can_pass run.image run.script t n k safe it is in
-    let out = outcomes run.image s can.job (owned_of (slice_get s.owned k)) n can.job.burn in
+    let out = outcomes run.image s can.job (owned_of (slice_get s.owned k)) n can.job.dispatch_ticks in
     let all = settled run t n k can is in
     let last : t + n ≤ (t + (n - 1)) + 1 = (let some = it.some in omega (arith, some)) in
     record {

@@ -15,8 +15,8 @@ use Rattle.machine_semantics.specs.Starts.{Started, starts}
 use Rattle.machine_semantics.specs.Effect.{Own, Outcome, Goes, Raises, Stuck, effect}
 use Rattle.machine_semantics.specs.Tick.{Ticked, at_next, owned_of, pick, settle}
 use Rattle.machine_semantics.specs.Run.{events_from, state_at}
-use Rattle.vm_instructions.specs.declared.row.Halt.{Halt}
-use Rattle.vm_instructions.specs.declared.row.Halt.TheVariants as halt
+use Rattle.vm_instructions.specs.declared.burst.Halt.{Halt}
+use Rattle.vm_instructions.specs.declared.burst.Halt.TheVariants as halt
 use Rattle.vm_instructions.specs.Rows.{Ended, Runs, Spends, stays}
 use Rattle.vm_instructions.specs.Silent.{RaisesAs}
 use Rattle.vm_stretch.specs.StretchDue.{time_out_of}
@@ -30,7 +30,7 @@ use Rattle.vm_stretch.proofs.Rowing.{row_is_safe, row_is_turn, row_keeps_events,
 use Rattle.vm_stretch.proofs.Runs.{turn_stays_in_run}
 use Rattle.vm_turn.specs.Own.{CanCome}
 use Rattle.vm_turn.specs.Rows.{CanEnd, CanRun, EndsIn, HasRun, IsSeenAt, effect_of, outcome_of, own_at}
-use Rattle.vm_state.specs.declared.board.Board.{Board}
+use Rattle.vm_state.specs.declared.machine_state.MachineState.{MachineState}
 use Rattle.vm_state.specs.Board.{IsBoardOf, rows_of, state_of}
 use Rattle.vm_turn.proofs.Safely.{Found, picked, can_of}
 use Rattle.vm_stretch.proofs.Lists.{same_or_not}
@@ -63,7 +63,7 @@ moved_alone k o new s owned shared =
 
 -- what so many ticks of the process come to in the state where it stands so
 abbrev pub comes : Image → State → ℕ → ℕ → Own → Outcome
-comes image s k m o = outcomes image (with_process k o s) o.job o.owned m o.job.burn
+comes image s k m o = outcomes image (with_process k o s) o.job o.owned m o.job.dispatch_ticks
 
 -- where a row ended: some ticks of one more instruction are the last of it, and what code does at its end is what they come to
 pub record RowEnds (image : Image) (s : State) (k : ℕ) (p : Process) (first : Own) (passed : ℕ) (h : Halt) (new : Own) : Type 0 where
@@ -222,7 +222,7 @@ within_budget image first budget (halt.Sees rest) new runs = runs.2
 pub record RowStarts (run : Run) (t most k : ℕ) : Type 0 where
   pub job : Job
   pub is : IsPicked run.image run.script t most k (own_at k job (begun run.image run.script t))
-  pub burnt : job.burn ≡ 0
+  pub burnt : job.dispatch_ticks ≡ 0
 
 starts_here : (run : Run) (t most k : ℕ) → let s : State = begun run.image run.script t in place_of (pick run.image s.threads) ≡ Some k → length s.owned ≡ length run.image.processes → AreQuiet run.image run.script t most s → BurnsNothing s k → RowStarts run t most k
 starts_here run t most k at words quiet burnt =
@@ -253,7 +253,7 @@ row_starts run t most k s is at words quiet burnt =
     (subst (λ (x : State). AreQuiet run.image run.script t most x) is quiet) (subst (λ (x : State). BurnsNothing x k) is burnt)
 
 -- each process has its row of words
-pub words_count : (image : Image) (b : Board) → IsBoardOf image b → length (state_of b).owned ≡ length image.processes
+pub words_count : (image : Image) (b : MachineState) → IsBoardOf image b → length (state_of b).owned ≡ length image.processes
 words_count image b board = count b.owned.items ∙ board.owned where
   count : (vs : List (Vec ℤ)) → length (rows_of vs) ≡ length vs
   count [] = refl
@@ -331,7 +331,7 @@ passes_as image u k m p first o s process ready owned =
     let words : owned_of (slice_get w.owned k) ≡ o.owned = ap (λ (x : Option (List ℤ)). owned_of x) (get_set s.owned k o.owned first.owned owned) in
     ap (λ (x : Option Process). pass_thread image u m k w x (slice_get w.threads k)) process
     ∙ ap (λ (x : Option Thread). pass_thread image u m k w (Some p) x) there
-    ∙ ap (λ (ws : List ℤ). settle image (u + (m - 1)) k p o.job w (outcomes image w o.job ws m o.job.burn)) words
+    ∙ ap (λ (ws : List ℤ). settle image (u + (m - 1)) k p o.job w (outcomes image w o.job ws m o.job.dispatch_ticks)) words
 
 pub seen_at : (image : Image) (first : Own) (budget : ℕ) (h : Halt) (new : Own) → Runs image first budget h new → IsSeenAt image h new.job.place
 seen_at image first budget halt.Spent new runs = tt

@@ -34,7 +34,7 @@ use Rattle.vm_runner.proofs.Passing.{IsReady, IsTurn, fits_in, idle_turn, is_rea
 -- the activation after m ticks at once of what it is at, where it had so many to burn
 abbrev later : ℕ → Job → ℕ → Job
 later m job zero = record job { done = job.done + m }
-later m job (suc b) = record job { burn = suc b - m }
+later m job (suc b) = record job { dispatch_ticks = suc b - m }
 
 same_inside : (m : ℕ) (job : Job) (b : ℕ) → (later m job b).inside ≡ job.inside
 same_inside m job zero = refl
@@ -56,7 +56,7 @@ goes_within image s job words m zero some below = by (slice_get image.code job.p
       rw test refl
 
 -- whether it completes its instruction then in one tick
-completes_later : (image : Image) (job : Job) (m b : ℕ) → job.burn ≡ b → m < left_of b job.done (slice_get image.code job.place) → completes image (later m job b) (later m job b).burn ≡ completes_within image (m + 1) job b
+completes_later : (image : Image) (job : Job) (m b : ℕ) → job.dispatch_ticks ≡ b → m < left_of b job.done (slice_get image.code job.place) → completes image (later m job b) (later m job b).dispatch_ticks ≡ completes_within image (m + 1) job b
 completes_later image job m (suc b) is below =
     let burning : suc b - m ≡ suc (b - m) = omega (arith, below) in
     ap (λ (x : ℕ). completes image (later m job (suc b)) x) burning
@@ -108,7 +108,7 @@ start run t = begun run.image run.script t
 
 module _ (run : Run) (safe : IsSafeRun run.image run.script) (t k : ℕ) (job : Job) (is : place_of (pick run.image (start run t).threads) ≡ Some k) (ready : slice_get (start run t).threads k ≡ Some (Ready job)) (most : ℕ) (quiet : AreQuiet run.image run.script t most (start run t)) where
   -- after fewer ticks than are left all is as it was, but for the activation
-  stays : (m : ℕ) → 1 ≤ m → m ≤ most → m < left run.image job → state_at run.image run.script (t + m) ≡ moved k (later m job job.burn) (start run t)
+  stays : (m : ℕ) → 1 ≤ m → m ≤ most → m < left run.image job → state_at run.image run.script (t + m) ≡ moved k (later m job job.dispatch_ticks) (start run t)
   stays m some less below =
       let s : State = start run t in
       let it : IsTurn run t m = picked_turn run t m most k s refl is some less (fits_in run.image m k s job ready (omega (arith, below))) quiet in
@@ -118,46 +118,46 @@ module _ (run : Run) (safe : IsSafeRun run.image run.script) (t k : ℕ) (job : 
       let words : List ℤ = owned_of (slice_get s.owned k) in
       (turn_stays_in_run run.image run.script safe.unstuck t m it).1
       ∙ ap (λ (x : Ticked). x.state) (settled run t m k can is)
-      ∙ ap (λ (x : Job). (settle run.image (t + (m - 1)) k can.p x s (outcomes run.image s x words m x.burn)).state) same
-      ∙ ap (λ (o : Outcome). (settle run.image (t + (m - 1)) k can.p job s o).state) (goes_within run.image s job words m job.burn some below)
-      ∙ ap (λ (ws : List (List ℤ)). record (moved k (later m job job.burn) s) { owned = ws }) (set_owned s.owned k)
+      ∙ ap (λ (x : Job). (settle run.image (t + (m - 1)) k can.p x s (outcomes run.image s x words m x.dispatch_ticks)).state) same
+      ∙ ap (λ (o : Outcome). (settle run.image (t + (m - 1)) k can.p job s o).state) (goes_within run.image s job words m job.dispatch_ticks some below)
+      ∙ ap (λ (ws : List (List ℤ)). record (moved k (later m job job.dispatch_ticks) s) { owned = ws }) (set_owned s.owned k)
 
   -- the start events of a tick between change nothing
-  begins : (m : ℕ) → 1 ≤ m → m < most → m < left run.image job → begun run.image run.script (t + m) ≡ moved k (later m job job.burn) (start run t)
+  begins : (m : ℕ) → 1 ≤ m → m < most → m < left run.image job → begun run.image run.script (t + m) ≡ moved k (later m job job.dispatch_ticks) (start run t)
   begins m some less below =
-      let after : State = moved k (later m job job.burn) (start run t) in
-      let calm : IsQuiet run.image run.script (t + m) after = quiet_same run.image run.script (t + m) (start run t) k (later m job job.burn) (quiet (t + m) (omega (arith, some)) (omega (arith, less))) in
+      let after : State = moved k (later m job job.dispatch_ticks) (start run t) in
+      let calm : IsQuiet run.image run.script (t + m) after = quiet_same run.image run.script (t + m) (start run t) k (later m job job.dispatch_ticks) (quiet (t + m) (omega (arith, some)) (omega (arith, less))) in
       ap (λ (x : State). (starts run.image run.script (t + m) x).state) (stays m some (omega (arith, less)) below)
       ∙ ap (λ (x : Started). x.state) (quiet_starts_nothing run.image run.script (t + m) after calm)
 
   -- what a tick of the turn completes
-  in_tick : (m : ℕ) → m < most → m < left run.image job → completed_at run.image run.script (t + m) ≡ told k job (completes_within run.image (m + 1) job job.burn)
+  in_tick : (m : ℕ) → m < most → m < left run.image job → completed_at run.image run.script (t + m) ≡ told k job (completes_within run.image (m + 1) job job.dispatch_ticks)
   in_tick zero less below =
       let here : t + 0 ≡ t = omega arith in
       ap (λ (u : ℕ). completed_at run.image run.script u) here
       ∙ ap (λ (o : Option ℕ). completed_picked run.image (start run t) o) is
       ∙ ap (λ (o : Option Thread). completed_by run.image k o) ready
-      ∙ ap (λ (b : Bool). told k job b) (completes_now run.image job job.burn)
+      ∙ ap (λ (b : Bool). told k job b) (completes_now run.image job job.dispatch_ticks)
   in_tick (suc m) less below =
-      let new : Job = later (suc m) job job.burn in
+      let new : Job = later (suc m) job job.dispatch_ticks in
       let after : State = moved k new (start run t) in
-      let picked : place_of (pick run.image after.threads) ≡ Some k = ap (λ (c : Option Candidate). place_of c) (pick_same run.image (start run t).threads k job new ready (same_inside (suc m) job job.burn)) ∙ is in
+      let picked : place_of (pick run.image after.threads) ≡ Some k = ap (λ (c : Option Candidate). place_of c) (pick_same run.image (start run t).threads k job new ready (same_inside (suc m) job job.dispatch_ticks)) ∙ is in
       let there : slice_get after.threads k ≡ Some (Ready new) = get_set (start run t).threads k (Ready new) (Ready job) ready in
       ap (λ (x : State). completed_in run.image x) (begins (suc m) (omega arith) less below)
       ∙ ap (λ (o : Option ℕ). completed_picked run.image after o) picked
       ∙ ap (λ (o : Option Thread). completed_by run.image k o) there
-      ∙ ap (λ (n : ℕ). cond (completes run.image new new.burn) (Some (record { process = k; at = n })) None) (same_place (suc m) job job.burn)
-      ∙ ap (λ (b : Bool). told k job b) (completes_later run.image job (suc m) job.burn refl below)
+      ∙ ap (λ (n : ℕ). cond (completes run.image new new.dispatch_ticks) (Some (record { process = k; at = n })) None) (same_place (suc m) job job.dispatch_ticks)
+      ∙ ap (λ (b : Bool). told k job b) (completes_later run.image job (suc m) job.dispatch_ticks refl below)
 
   -- the last tick completes what all at once do
-  picked_last : (n : ℕ) → 1 ≤ n → n ≡ min most (left run.image job) → last_completed run.image run.script (t + n) ≡ told k job (completes_within run.image most job job.burn)
+  picked_last : (n : ℕ) → 1 ≤ n → n ≡ min most (left run.image job) → last_completed run.image run.script (t + n) ≡ told k job (completes_within run.image most job job.dispatch_ticks)
   picked_last n some same =
       let before : t + n ≡ suc (t + (n - 1)) = omega (arith, some) in
       let count : (n - 1) + 1 ≡ min most (left run.image job) = omega (arith, some, same) in
       ap (λ (u : ℕ). last_completed run.image run.script u) before
       ∙ in_tick (n - 1) (omega (arith, some, same)) (omega (arith, some, same))
-      ∙ ap (λ (x : ℕ). told k job (completes_within run.image x job job.burn)) count
-      ∙ ap (λ (b : Bool). told k job b) (all_within run.image job most job.burn)
+      ∙ ap (λ (x : ℕ). told k job (completes_within run.image x job job.dispatch_ticks)) count
+      ∙ ap (λ (b : Bool). told k job b) (all_within run.image job most job.dispatch_ticks)
 
   -- those before complete nothing
   picked_sole : (n : ℕ) → n ≡ min most (left run.image job) → NoneBetween run.image run.script t (t + n)
@@ -167,7 +167,7 @@ module _ (run : Run) (safe : IsSafeRun run.image run.script) (t k : ℕ) (job : 
       let below : m + 1 < left run.image job = omega (arith, low, high, same) in
       ap (λ (x : ℕ). last_completed run.image run.script x) before
       ∙ in_tick m (omega (arith, low, high, same)) (omega (arith, below))
-      ∙ ap (λ (b : Bool). told k job b) (none_yet run.image job (m + 1) job.burn below)
+      ∙ ap (λ (b : Bool). told k job b) (none_yet run.image job (m + 1) job.dispatch_ticks below)
 
 -- ---- nobody
 

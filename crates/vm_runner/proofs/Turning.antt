@@ -14,7 +14,7 @@ use Rattle.machine_semantics.specs.Run.{at_start, events_from, state_at}
 use Rattle.vm_stretch.specs.StretchDue.{HasSlots, NoneBefore, time_out_of}
 use Rattle.vm_stretch.specs.Steps.{HasWaits}
 use Rattle.vm_stretch.proofs.Lists.{same_or_not}
-use Rattle.vm_state.specs.declared.threads.Cell.{Cell}
+use Rattle.vm_state.specs.declared.threads.ControlBlock.{ControlBlock}
 use Rattle.vm_state.specs.Threads.{thread_of, threads_of}
 use Rattle.vm_releases.specs.Begin.{WaitsAlone}
 use Rattle.vm_runner.specs.Turn.{HasPassed, Run}
@@ -81,7 +81,7 @@ pub record OneNoted (n m : ℕ) (threads : List Thread) (start slots : List (Opt
   pub waits : AreNoted n m threads slots
   pub others : WaitsAlone n start slots
 
-pub note_one : (n place : ℕ) (cs : List Cell) (cell : Cell) (start slots new : List (Option ℕ)) (due : Option ℕ) → place < n → place < length cs → cell ≡ get_or cs place cell → due ≡ time_out_of (Some (thread_of cell)) → length start ≡ 2 * n + 1
+pub note_one : (n place : ℕ) (cs : List ControlBlock) (cell : ControlBlock) (start slots new : List (Option ℕ)) (due : Option ℕ) → place < n → place < length cs → cell ≡ get_or cs place cell → due ≡ time_out_of (Some (thread_of cell)) → length start ≡ 2 * n + 1
     → WaitsAlone n start slots → AreNoted n place (threads_of cs) slots → new ≡ slice_set slots (n + place) due → OneNoted n (place + 1) (threads_of cs) start new
 note_one n place cs cell start slots new due below within at due_is count alone noted is =
     let there = some_at slots (n + place) (omega (arith, alone.count, count, below)) in

@@ -5,8 +5,8 @@ use Rattle.machine_semantics.specs.Image.{Image, Script}
 use Rattle.machine_semantics.specs.Starts.{starts}
 use Rattle.machine_semantics.specs.State.{Job, Ready, State}
 use Rattle.machine_semantics.specs.Run.{events_from, state_at}
-use Rattle.vm_instructions.specs.declared.row.Halt.{Halt}
-use Rattle.vm_instructions.specs.declared.row.Halt.TheVariants as halt
+use Rattle.vm_instructions.specs.declared.burst.Halt.{Halt}
+use Rattle.vm_instructions.specs.declared.burst.Halt.TheVariants as halt
 use Rattle.vm_stretch.specs.StretchDue.{time_out_of}
 use Rattle.vm_stretch.specs.RowLaws.{begun}
 use Rattle.vm_turn.specs.Own.{IsEarly}
@@ -36,7 +36,7 @@ AreEarly image s = (k : ℕ) (job : Job) → slice_get s.threads k ≡ Some (Rea
 
 -- process k, where it is ready, has no tick of dispatch to burn
 abbrev pub BurnsNothing : State → ℕ → Type 0
-BurnsNothing s k = (job : Job) → slice_get s.threads k ≡ Some (Ready job) → job.burn ≡ 0
+BurnsNothing s k = (job : Job) → slice_get s.threads k ≡ Some (Ready job) → job.dispatch_ticks ≡ 0
 
 -- the ticks that a row left of those that it had
 abbrev pub unspent : Halt → ℕ

@@ -8,16 +8,16 @@ ghost use Rattle.vm_runner.specs.Completing.{TellsOf, TellsWithin, completed_wit
 
 use crate::turn::Reach;
 use machine_isa::{Instr, ticks};
-use vm_instructions::Job;
-use vm_state::{Board, Plan};
+use vm_instructions::Activation;
+use vm_state::{DecodedImage, MachineState};
 use vm_stretch::Completed;
 use vm_turn::choose;
 
 /// Whether an activation completes its instruction in so many ticks at once: it burns none of them.
-fn completes(code: &[Instr], job: &Job, most: u64) -> bool
+fn completes(code: &[Instr], job: &Activation, most: u64) -> bool
     ensures { TellsWithin code.now job.now most result }
 {
-    if job.burn > 0 || job.place >= code.len() {
+    if job.dispatch_ticks > 0 || job.place >= code.len() {
         return false;
     }
     let left = ticks(&code[job.place]).saturating_sub(job.done);
@@ -25,7 +25,12 @@ fn completes(code: &[Instr], job: &Job, most: u64) -> bool
 }
 
 /// The instruction that a process, which is ready, completes in so many ticks at once.
-fn completed_of(plan: &Plan, board: &Board, who: usize, most: u64) -> Option<Completed>
+fn completed_of(
+    plan: &DecodedImage,
+    board: &MachineState,
+    who: usize,
+    most: u64,
+) -> Option<Completed>
     requires place { who < vec_len board.now.cells }
     requires few { vec_len board.now.cells ≤ 64 }
     ensures { TellsOf plan.now.code.items board.now who most result }
@@ -41,7 +46,7 @@ fn completed_of(plan: &Plan, board: &Board, who: usize, most: u64) -> Option<Com
 }
 
 /// The instruction that the process which is picked completes in so many ticks at once.
-fn completed_within(plan: &Plan, board: &Board, most: u64) -> Option<Completed>
+fn completed_within(plan: &DecodedImage, board: &MachineState, most: u64) -> Option<Completed>
     ghost image: { Image }
     requires plan { IsOf image plan.now }
     requires board { IsBoardOf image board.now }
@@ -56,7 +61,12 @@ fn completed_within(plan: &Plan, board: &Board, most: u64) -> Option<Completed>
 /// The instruction that a turn completes, in which nothing starts for so many ticks; of a row it is
 /// not told.
 #[inline(always)]
-pub(crate) fn completing(plan: &Plan, board: &Board, most: u64, reach: Reach) -> Option<Completed>
+pub(crate) fn completing(
+    plan: &DecodedImage,
+    board: &MachineState,
+    most: u64,
+    reach: Reach,
+) -> Option<Completed>
     ghost image: { Image }
     requires plan { IsOf image plan.now }
     requires board { IsBoardOf image board.now }

@@ -18,4 +18,4 @@ mod span;
 mod turn;
 mod waits;
 
-pub use machine::{Machine, Turn};
+pub use machine::{Machine, Progress};

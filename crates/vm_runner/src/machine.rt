@@ -19,13 +19,13 @@ use crate::turn::{Reach, take_turn};
 use base::Event;
 use script::Script;
 use std::alloc::{AllocError, Global};
-use vm_releases::Agenda;
-use vm_state::{Board, Fired, MOST, Plan};
+use vm_releases::Timers;
+use vm_state::{DecodedImage, EventBuffer, MOST, MachineState};
 use vm_stretch::Completed;
 
 /// What a call of `advance` or `advance_row` came to.
 #[derive(Clone, Copy, Debug, PartialEq, Eq)]
-pub enum Turn {
+pub enum Progress {
     /// Ticks passed, in which events fell.
     Events,
     /// Ticks passed, in which none fell.
@@ -38,15 +38,15 @@ pub enum Turn {
 #[derive(Drop)]
 pub struct Machine {
     tick: u64,
-    board: Board,
-    agenda: Agenda,
-    fired: Fired,
+    board: MachineState,
+    agenda: Timers,
+    fired: EventBuffer,
 }
 
 impl Machine {
     /// A machine before tick 0 of the run. It takes all the memory that the run needs; an error
     /// says that memory is short.
-    pub fn new(alloc: Global, plan: &Plan, script: &Script) -> Result<Machine, AllocError>
+    pub fn new(alloc: Global, plan: &DecodedImage, script: &Script) -> Result<Machine, AllocError>
         ghost image: { Image }
         requires plan { IsOf image plan.now }
         requires runnable { IsRunnable image (script_of script.now) }
@@ -55,16 +55,22 @@ impl Machine {
     {
         Ok(Machine {
             tick: 0,
-            board: Board::new(alloc, plan)?,
-            agenda: Agenda::new(alloc, plan, script)?,
-            fired: Fired::new(),
+            board: MachineState::new(alloc, plan)?,
+            agenda: Timers::new(alloc, plan, script)?,
+            fired: EventBuffer::new(),
         })
     }
 
     /// The start events of the tick, and then ticks at once, up to the limit at most, as far as the
     /// call goes. After a turn it tells the instruction whose effect came in the last tick.
     #[inline(always)]
-    fn step(&mut self, plan: &Plan, script: &Script, limit: u64, reach: Reach) -> Option<Completed>
+    fn step(
+        &mut self,
+        plan: &DecodedImage,
+        script: &Script,
+        limit: u64,
+        reach: Reach,
+    ) -> Option<Completed>
         ghost run: { Run }
         requires plan { IsOf run.image plan.now }
         requires script { run.script ≡ script_of script.now }
@@ -115,7 +121,7 @@ impl Machine {
     /// One row more, from a tick at which nothing is due, up to the limit at most: what falls in it
     /// stands after the events before.
     #[inline(always)]
-    fn row_on(&mut self, plan: &Plan, limit: u64)
+    fn row_on(&mut self, plan: &DecodedImage, limit: u64)
         ghost run: { Run }
         requires plan { IsOf run.image plan.now }
         requires runnable { IsRunnable run.image run.script }
@@ -144,7 +150,7 @@ impl Machine {
 
     /// The start events of the tick and a row, and then rows, up to the limit at most, while
     /// nothing is due and there is room for one more event.
-    fn rows(&mut self, plan: &Plan, script: &Script, limit: u64)
+    fn rows(&mut self, plan: &DecodedImage, script: &Script, limit: u64)
         ghost run: { Run }
         requires plan { IsOf run.image plan.now }
         requires script { run.script ≡ script_of script.now }
@@ -165,21 +171,21 @@ impl Machine {
 
     /// What a call came to in which ticks passed.
     #[inline(always)]
-    fn came_to(&self) -> Turn
+    fn came_to(&self) -> Progress
         ensures passed { result ≢ Turn.Done }
         ensures quiet { result ≡ Turn.Quiet → self.now.fired.items ≡ [] }
         ensures events { result ≡ Turn.Events → self.now.fired.items ≢ [] }
     {
         if self.fired.is_empty() {
-            Turn::Quiet
+            Progress::Quiet
         } else {
-            Turn::Events
+            Progress::Events
         }
     }
 
     /// One turn, up to the limit at most; `Done` where the limit is reached.
     #[inline(always)]
-    fn go_on(&mut self, plan: &Plan, script: &Script, limit: u64) -> Turn
+    fn go_on(&mut self, plan: &DecodedImage, script: &Script, limit: u64) -> Progress
         ghost image: { Image }
         requires plan { IsOf image plan.now }
         requires runnable { IsRunnable image (script_of script.now) }
@@ -197,7 +203,7 @@ impl Machine {
             IsTurnEnd image (script_of script.now) limit self.old.tick self.new.tick }
     {
         if self.tick >= limit {
-            return Turn::Done;
+            return Progress::Done;
         }
         let _ = self.step(plan, script, limit, Reach::Turn);
         self.came_to()
@@ -207,7 +213,7 @@ impl Machine {
     /// after it that is the end of the script, or is due (a start event, a time-out or a line of
     /// the script falls on it), or before which the process that is picked has the last tick of its
     /// burn or of its instruction.
-    pub fn advance(&mut self, plan: &Plan, script: &Script) -> Turn
+    pub fn advance(&mut self, plan: &DecodedImage, script: &Script) -> Progress
         ghost image: { Image }
         requires plan { IsOf image plan.now }
         requires runnable { IsRunnable image (script_of script.now) }
@@ -227,7 +233,7 @@ impl Machine {
     }
 
     /// As `advance`, except that the turn ends at the limit at the latest, which is above the tick.
-    pub fn advance_to(&mut self, plan: &Plan, script: &Script, limit: u64) -> Turn
+    pub fn advance_to(&mut self, plan: &DecodedImage, script: &Script, limit: u64) -> Progress
         ghost image: { Image }
         requires plan { IsOf image plan.now }
         requires runnable { IsRunnable image (script_of script.now) }
@@ -249,7 +255,7 @@ impl Machine {
 
     /// Turns at once: the processes that are picked run on over instructions and events, up to the
     /// next tick at which something is due, or while there is room for another event.
-    pub fn advance_row(&mut self, plan: &Plan, script: &Script) -> Turn
+    pub fn advance_row(&mut self, plan: &DecodedImage, script: &Script) -> Progress
         ghost image: { Image }
         requires plan { IsOf image plan.now }
         requires runnable { IsRunnable image (script_of script.now) }
@@ -265,7 +271,7 @@ impl Machine {
     {
         let end = script.end();
         if self.tick >= end {
-            return Turn::Done;
+            return Progress::Done;
         }
         self.rows(plan, script, end);
         self.came_to()
@@ -274,7 +280,7 @@ impl Machine {
     /// One turn, up to the limit at most, which is above the tick and no later than the end: the
     /// instruction whose effect came in its last tick, if there was one. In the ticks before none
     /// has its effect.
-    pub fn follow(&mut self, plan: &Plan, script: &Script, limit: u64) -> Option<Completed>
+    pub fn follow(&mut self, plan: &DecodedImage, script: &Script, limit: u64) -> Option<Completed>
         ghost image: { Image }
         requires plan { IsOf image plan.now }
         requires runnable { IsRunnable image (script_of script.now) }
@@ -293,7 +299,7 @@ impl Machine {
     }
 
     /// Where all processes stand before the tick that comes next.
-    pub fn board(&self) -> &Board
+    pub fn board(&self) -> &MachineState
         ensures { result.now ≡ self.now.board }
     {
         &self.board

@@ -16,8 +16,8 @@ ghost use Rattle.vm_runner.specs.Turn.{AreEarly, BurnsNothing, HasPassed, Run, u
 
 use crate::waits::note_waits;
 use vm_instructions::Halt;
-use vm_releases::Agenda;
-use vm_state::{Board, Fired, Plan};
+use vm_releases::Timers;
+use vm_state::{DecodedImage, EventBuffer, MachineState};
 use vm_turn::{choose, end_row, left, pass, run_row};
 
 /// How far a call goes.
@@ -30,7 +30,7 @@ pub(crate) enum Reach {
 }
 
 /// The ticks left of what the process that is picked is at, or as many as are asked for.
-fn ticks_left(plan: &Plan, board: &Board, who: usize, most: u64) -> u32
+fn ticks_left(plan: &DecodedImage, board: &MachineState, who: usize, most: u64) -> u32
     ghost image: { Image }
     requires plan { IsOf image plan.now }
     requires board { IsBoardOf image board.now }
@@ -47,12 +47,12 @@ fn ticks_left(plan: &Plan, board: &Board, who: usize, most: u64) -> u32
 
 /// Ticks at once of what the process that is picked is at, so many at most: how many passed.
 fn pass_one(
-    plan: &Plan,
-    board: &mut Board,
+    plan: &DecodedImage,
+    board: &mut MachineState,
     who: usize,
     tick: u64,
     most: u64,
-    fired: &mut Fired,
+    fired: &mut EventBuffer,
 ) -> u64
     ghost run: { Run }
     requires plan { IsOf run.image plan.now }
@@ -90,12 +90,12 @@ fn unspent(halt: Halt) -> u64
 /// A row of instructions of the process that is picked, so many ticks at most: how many passed.
 #[inline(always)]
 fn pass_row(
-    plan: &Plan,
-    board: &mut Board,
+    plan: &DecodedImage,
+    board: &mut MachineState,
     who: usize,
     tick: u64,
     most: u64,
-    fired: &mut Fired,
+    fired: &mut EventBuffer,
 ) -> u64
     ghost run: { Run }
     requires plan { IsOf run.image plan.now }
@@ -121,22 +121,22 @@ fn pass_row(
 
 /// Whether a process has ticks of dispatch to burn.
 #[inline(always)]
-fn burns(board: &Board, who: usize) -> bool
+fn burns(board: &MachineState, who: usize) -> bool
     requires { who < vec_len board.now.cells }
     ensures { result ≡ false → BurnsNothing (state_of board.now) who }
 {
-    board.cells[who].job.burn > 0
+    board.cells[who].job.dispatch_ticks > 0
 }
 
 /// Ticks of the process that is picked, so many at most: how many passed.
 #[inline(always)]
 fn pass_picked(
-    plan: &Plan,
-    board: &mut Board,
+    plan: &DecodedImage,
+    board: &mut MachineState,
     who: usize,
     tick: u64,
     most: u64,
-    fired: &mut Fired,
+    fired: &mut EventBuffer,
 ) -> u64
     ghost run: { Run }
     requires plan { IsOf run.image plan.now }
@@ -162,12 +162,12 @@ fn pass_picked(
 /// Ticks of the process that is picked, so many at most, as far as the call goes: how many passed.
 #[inline(always)]
 fn pass_ticks(
-    plan: &Plan,
-    board: &mut Board,
+    plan: &DecodedImage,
+    board: &mut MachineState,
     who: usize,
     tick: u64,
     most: u64,
-    fired: &mut Fired,
+    fired: &mut EventBuffer,
     reach: Reach,
 ) -> u64
     ghost run: { Run }
@@ -196,10 +196,10 @@ fn pass_ticks(
 /// A turn of so many ticks at most: how many it took.
 #[inline(always)]
 pub(crate) fn take_turn(
-    plan: &Plan,
-    board: &mut Board,
-    agenda: &mut Agenda,
-    fired: &mut Fired,
+    plan: &DecodedImage,
+    board: &mut MachineState,
+    agenda: &mut Timers,
+    fired: &mut EventBuffer,
     tick: u64,
     most: u64,
     reach: Reach,

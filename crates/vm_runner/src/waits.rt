@@ -11,21 +11,21 @@ ghost use Rattle.vm_stretch.specs.StretchDue.{time_out_of};
 ghost use Rattle.vm_runner.specs.Waits.{is_at_queue, is_some_at_queue};
 
 use base::{Act, Event};
-use vm_releases::Agenda;
-use vm_state::{Board, Cell, Plan, Stand};
+use vm_releases::Timers;
+use vm_state::{ControlBlock, DecodedImage, MachineState, SchedulingState};
 
 /// The tick at which the wait of a process times out; `None` where it does not wait.
-fn time_out(cell: &Cell) -> Option<u64>
+fn time_out(cell: &ControlBlock) -> Option<u64>
     ensures { result ≡ time_out_of (Some (thread_of cell.now)) }
 {
     match cell.stand {
-        Stand::Waiting { due, .. } => Some(due),
+        SchedulingState::Waiting { due, .. } => Some(due),
         _ => None,
     }
 }
 
 /// Notes when the wait of each process times out.
-fn note_all(plan: &Plan, board: &Board, agenda: &mut Agenda)
+fn note_all(plan: &DecodedImage, board: &MachineState, agenda: &mut Timers)
     ghost image: { Image }
     requires plan { IsOf image plan.now }
     requires board { IsBoardOf image board.now }
@@ -66,7 +66,12 @@ fn is_some_at_queue(events: &[Event]) -> bool
 
 /// Notes when waits time out, where the events may have changed that.
 #[inline(always)]
-pub(crate) fn note_waits(plan: &Plan, board: &Board, agenda: &mut Agenda, events: &[Event])
+pub(crate) fn note_waits(
+    plan: &DecodedImage,
+    board: &MachineState,
+    agenda: &mut Timers,
+    events: &[Event],
+)
     ghost image: { Image }
     requires plan { IsOf image plan.now }
     requires board { IsBoardOf image board.now }

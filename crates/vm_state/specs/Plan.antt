@@ -6,10 +6,10 @@ use Rattle.machine_semantics.specs.Image.{Image, Monitor, Process as Whole, end_
 use Rattle.machine_semantics.specs.Run.{words_of}
 use Rattle.vm_state.specs.Seen.{IsLimit, IsSmall}
 use Rattle.vm_instructions.specs.Silent.{IsOf as HasCode}
-use Rattle.vm_state.specs.declared.plan.Release.{Release}
-use Rattle.vm_state.specs.declared.plan.Release.TheVariants as release
-use Rattle.vm_state.specs.declared.plan.Process.{Process}
-use Rattle.vm_state.specs.declared.plan.Plan.{Plan}
+use Rattle.vm_state.specs.declared.decoded_image.Release.{Release}
+use Rattle.vm_state.specs.declared.decoded_image.Release.TheVariants as release
+use Rattle.vm_state.specs.declared.decoded_image.DecodedProcess.{DecodedProcess}
+use Rattle.vm_state.specs.declared.decoded_image.DecodedImage.{DecodedImage}
 
 -- the process is released so
 abbrev pub IsRelease : Whole → Release → Type 0
@@ -17,7 +17,7 @@ IsRelease whole (release.Periodic first frame) = (whole.kind ≡ 0) × (whole.fi
 IsRelease whole (release.Event event) = (whole.kind ≡ 1) × (whole.event ≡ event)
 
 -- what a run needs to know of a process is what the image has
-pub record IsProcess (whole : Whole) (p : Process) : Type 0 where
+pub record IsProcess (whole : Whole) (p : DecodedProcess) : Type 0 where
   pub release : IsRelease whole p.release
   pub rank : whole.rank ≡ p.rank
   pub start : whole.start ≡ p.start
@@ -31,7 +31,7 @@ pub record IsProcess (whole : Whole) (p : Process) : Type 0 where
   pub fits : p.locals ≤ p.stack
 
 -- one by one they are
-abbrev pub AreProcesses : List Whole → List Process → Type 0
+abbrev pub AreProcesses : List Whole → List DecodedProcess → Type 0
 AreProcesses [] [] = Unit {0}
 AreProcesses (w ∷ ws) (p ∷ ps) = IsProcess w p × AreProcesses ws ps
 AreProcesses _ _ = ⊥
@@ -51,7 +51,7 @@ HasNumbers (i.Raise number) = IsSmall number
 HasNumbers _ = Unit {0}
 
 -- The plan is the image's.
-pub record IsOf (image : Image) (plan : Plan) : Type 0 where
+pub record IsOf (image : Image) (plan : DecodedImage) : Type 0 where
   pub code : HasCode image plan.code.items plan.routines.items
   pub numbers : (n : ℕ) (instr : Instr) → slice_get image.code n ≡ Some instr → HasNumbers instr
   pub processes : AreProcesses image.processes plan.processes.items
@@ -60,4 +60,4 @@ pub record IsOf (image : Image) (plan : Plan) : Type 0 where
   pub ceilings : map (λ (m : Monitor). m.ceiling) image.monitors ≡ plan.ceilings.items
   pub shared : words_of image.monitors ≡ plan.shared
   pub devices : length image.devices ≡ plan.devices
-  pub burn : 2 * image.over ≡ plan.burn
+  pub dispatch_ticks : 2 * image.over ≡ plan.dispatch_ticks

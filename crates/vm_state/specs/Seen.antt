@@ -7,7 +7,7 @@ use Rattle.machine_semantics.specs.State.{State, is_free}
 use Rattle.machine_semantics.specs.Effect.{Own, Does, Waits, effect, monitor_of}
 use Rattle.vm_instructions.specs.Frames.{Frames}
 use Rattle.vm_instructions.specs.Steps.{HasWord, with_frames}
-use Rattle.vm_state.specs.declared.seen.Waited.{Waited}
+use Rattle.vm_state.specs.declared.visible_effects.WaitRequest.{WaitRequest}
 
 -- a number of 16 bits
 abbrev pub IsSmall : ℤ → Type 0
@@ -40,7 +40,7 @@ DoesEnter monitor old act new =
 abbrev pub DoesLeave : ℤ → Option ℕ → Act → Option ℕ → Type 0
 DoesLeave monitor old act new = (image : Image) (s : State) (o : Own) → effect image s (i.Leave monitor) (with_inside old o) ≡ Does act (with_inside new o)
 
-abbrev pub DoesWait : ℤ → ℤ → ℤ → Option ℕ → Waited → Option ℕ → Type 0
+abbrev pub DoesWait : ℤ → ℤ → ℤ → Option ℕ → WaitRequest → Option ℕ → Type 0
 DoesWait condition limit number old w new =
     (image : Image) (s : State) (o : Own) (m : ℕ) → monitor_of image condition ≡ Some m → old ≡ Some m
     → effect image s (i.Wait condition limit number) (with_inside old o) ≡ Waits w.condition w.limit w.number (with_inside new o)

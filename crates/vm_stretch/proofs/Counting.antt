@@ -89,8 +89,8 @@ time_out_counts image t k p s = by (slice_get s.threads k) refl where
   by (Some Idle) at = counts_none s
   by (Some (Ready job)) at = counts_none s
   by (Some (Waiting c due e job)) at =
-      let now : Started = told t k (act.TimeOut c e) (record s { queues = slice_set s.queues c (without k (queue_of s.queues c)) }) (Ready (record (raised p e job) { burn = 2 * image.over })) in
-      counts_either (nat_eq due t) s now (omega (arith, unready_set s.threads k (Waiting c due e job) (record (raised p e job) { burn = 2 * image.over }) at tt))
+      let now : Started = told t k (act.TimeOut c e) (record s { queues = slice_set s.queues c (without k (queue_of s.queues c)) }) (Ready (record (raised p e job) { dispatch_ticks = 2 * image.over })) in
+      counts_either (nat_eq due t) s now (omega (arith, unready_set s.threads k (Waiting c due e job) (record (raised p e job) { dispatch_ticks = 2 * image.over }) at tt))
 
 at_rank_counts : (image : Image) (t rank k : ℕ) (ps : List Process) (s : State) → Counts s (at_rank image t rank k ps s)
 at_rank_counts image t rank k [] s = counts_none s

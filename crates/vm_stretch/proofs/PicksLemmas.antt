@@ -7,7 +7,7 @@ use Rattle.machine_semantics.specs.Image.{Image, Process}
 use Rattle.machine_semantics.specs.State.{Job, Thread, Idle, Ready, Waiting}
 use Rattle.machine_semantics.specs.Tick.{Candidate, active_rank, first_of_two, is_before, least, outside, pick}
 use Rattle.vm_stretch.specs.Stretch.{place_of}
-use Rattle.vm_dispatch.specs.declared.choice.Standing.{Standing}
+use Rattle.vm_dispatch.specs.declared.choice.Contender.{Contender}
 use Rattle.vm_dispatch.specs.Pick.{Entry, foremost, foremost_from, key, sooner, place_of as entry_place, outside as out_of}
 use Rattle.vm_stretch.specs.Picks.{AreStanding, PickIsForemost, Stands, is_inside_one}
 
@@ -52,7 +52,7 @@ outside_small : (o : Option ℕ) → outside o ≤ 1
 outside_small None = omega arith
 outside_small (Some m) = omega arith
 
-all_match : (image : Image) (k : ℕ) (ps : List Process) (ts : List Thread) (all : List Standing) → AreStanding image ps ts all → Matches (least image k ps ts) (foremost_from k all)
+all_match : (image : Image) (k : ℕ) (ps : List Process) (ts : List Thread) (all : List Contender) → AreStanding image ps ts all → Matches (least image k ps ts) (foremost_from k all)
 all_match image k [] [] [] stand = tt
 all_match image k (p ∷ ps) (Ready job ∷ ts) (s ∷ ss) stand =
     let here : Stands image p (Ready job) s = stand.0 in

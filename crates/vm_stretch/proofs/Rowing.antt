@@ -50,7 +50,7 @@ passes_to image t k m p first o instr s process ready owned at time =
     let there : slice_get w.threads k ≡ Some (Ready o.job) = get_set s.threads k (Ready o.job) (Ready first.job) ready in
     let words : owned_of (slice_get w.owned k) ≡ o.owned = ap (λ (x : Option (List ℤ)). owned_of x) (get_set s.owned k o.owned first.owned owned) in
     let last : nat_lt (o.job.done + m) (ticks instr) ≡ false = let early = at.early in grind (arith, nat_tests) in
-    let out : outcomes image w o.job (owned_of (slice_get w.owned k)) m o.job.burn ≡ effect image w instr (next_own o) =
+    let out : outcomes image w o.job (owned_of (slice_get w.owned k)) m o.job.dispatch_ticks ≡ effect image w instr (next_own o) =
     ap (λ (b : ℕ). outcomes image w o.job (owned_of (slice_get w.owned k)) m b) at.burnt
     ∙ ap (λ (x : Option Instr). outcome_at_once image w o.job (owned_of (slice_get w.owned k)) m x) at.here
     ∙ ap (λ (b : Bool). cond b (Goes (record { job = record (o.job) { done = o.job.done + m }; owned = owned_of (slice_get w.owned k); shared = w.shared })) (effect image w instr (record { job = at_next o.job; owned = owned_of (slice_get w.owned k); shared = w.shared }))) last
@@ -175,9 +175,9 @@ row_keeps_events image script t budget k first is n o leads some within = (led i
 
 -- ---- what a run that is never stuck promises
 
-pub burn_same : (image : Image) (first : Own) (n : ℕ) (o : Own) → Leads image first n o → o.job.burn ≡ first.job.burn
+pub burn_same : (image : Image) (first : Own) (n : ℕ) (o : Own) → Leads image first n o → o.job.dispatch_ticks ≡ first.job.dispatch_ticks
 burn_same image first n o Begins = refl
-burn_same image first n o (Follows before instr next step m time) = step.burn ∙ burn_same image first _ _ before
+burn_same image first n o (Follows before instr next step m time) = step.dispatch_ticks ∙ burn_same image first _ _ before
 
 -- the outcome of the last tick is within the stack, where it was not stuck, and the state after it is
 pub within_of : (image : Image) (u k : ℕ) (p : Process) (job : Job) (w after : State) (out : Outcome) → (settle image u k p job w out).stuck ≡ false → after ≡ (settle image u k p job w out).state
@@ -205,7 +205,7 @@ row_is_safe image script t budget k first is burnt never n o leads within =
     let was : Led image script t budget k n o = led image script t budget k first is n o leads in
     let stood : begun image script u ≡ w = was.at_start within in
     let inside : o.job.inside ≡ first.job.inside = inside_same image first n o leads in
-    let burn : o.job.burn ≡ 0 = burn_same image first n o leads ∙ burnt in
+    let dispatch_ticks : o.job.dispatch_ticks ≡ 0 = burn_same image first n o leads ∙ burnt in
     let picked : place_of (pick image w.threads) ≡ Some k = ap (λ (c : Option Candidate). place_of c) (pick_same image s.threads k first.job o.job is.ready inside) ∙ is.picked in
     let there : slice_get w.threads k ≡ Some (Ready o.job) = get_set s.threads k (Ready o.job) (Ready first.job) is.ready in
     let free : (pass image u 1 w (Some k)).stuck ≡ false =
@@ -213,11 +213,11 @@ row_is_safe image script t budget k first is burnt never n o leads within =
     let settled : pass image u 1 w (Some k) ≡ settle image (u + (1 - 1)) k is.p o.job w (outcome_at_once image w o.job (owned_of (slice_get w.owned k)) 1 (slice_get image.code o.job.place)) =
     ap (λ (x : Option Process). pass_thread image u 1 k w x (slice_get w.threads k)) is.process
     ∙ ap (λ (x : Option Thread). pass_thread image u 1 k w (Some is.p) x) there
-    ∙ ap (λ (b : ℕ). settle image (u + (1 - 1)) k is.p o.job w (outcomes image w o.job (owned_of (slice_get w.owned k)) 1 b)) burn in
+    ∙ ap (λ (b : ℕ). settle image (u + (1 - 1)) k is.p o.job w (outcomes image w o.job (owned_of (slice_get w.owned k)) 1 b)) dispatch_ticks in
     let found : (instr : Instr) × (slice_get image.code o.job.place ≡ Some instr) =
     there_is image (u + (1 - 1)) k is.p o.job w (owned_of (slice_get w.owned k)) (slice_get image.code o.job.place) (ap (λ (x : Ticked). x.stuck) (sym settled) ∙ free) in
     let at : IsAt image o found.0 = record {
-      burnt = burn;
+      burnt = dispatch_ticks;
       here = found.1;
       early = never.early u k o.job found.0 (ap (λ (x : State). slice_get x.threads k) stood ∙ there) found.1;
     } in

@@ -18,8 +18,8 @@ use Rattle.vm_stretch.proofs.StretchMoving.{moved, set_owned, effect_same, pick_
 
 -- ---- one tick
 
-one_outcome : (image : Image) (s : State) (job : Job) (owned : List ℤ) (burn : ℕ) → outcome image s job owned burn ≡ outcomes image s job owned 1 burn
-one_outcome image s job owned (suc b) = let e : b ≡ suc b - 1 = omega arith in ap (λ (x : ℕ). Goes (record { job = record job { burn = x }; owned = owned; shared = s.shared })) e
+one_outcome : (image : Image) (s : State) (job : Job) (owned : List ℤ) (dispatch_ticks : ℕ) → outcome image s job owned dispatch_ticks ≡ outcomes image s job owned 1 dispatch_ticks
+one_outcome image s job owned (suc b) = let e : b ≡ suc b - 1 = omega arith in ap (λ (x : ℕ). Goes (record { job = record job { dispatch_ticks = x }; owned = owned; shared = s.shared })) e
 one_outcome image s job owned zero = at (slice_get image.code job.place) where
   at : (instr : Option Instr) → outcome_at image s job owned instr ≡ outcome_at_once image s job owned 1 instr
   at None = refl
@@ -32,8 +32,8 @@ one_thread image t k s (Some p) (Some Idle) = refl
 one_thread image t k s (Some p) (Some (Waiting c due e job)) = refl
 one_thread image t k s (Some p) (Some (Ready job)) =
     let e : t ≡ t + (1 - 1) = omega arith in
-    ap (λ (u : ℕ). settle image u k p job s (outcome image s job (owned_of (slice_get s.owned k)) job.burn)) e
-    ∙ ap (λ (o : Outcome). settle image (t + (1 - 1)) k p job s o) (one_outcome image s job (owned_of (slice_get s.owned k)) job.burn)
+    ap (λ (u : ℕ). settle image u k p job s (outcome image s job (owned_of (slice_get s.owned k)) job.dispatch_ticks)) e
+    ∙ ap (λ (o : Outcome). settle image (t + (1 - 1)) k p job s o) (one_outcome image s job (owned_of (slice_get s.owned k)) job.dispatch_ticks)
 
 pub one_tick : (image : Image) (t : ℕ) (s : State) (c : Option Candidate) → run_picked image t s c ≡ pass image t 1 s (place_of c)
 one_tick image t s None = refl
@@ -81,14 +81,14 @@ not_stuck Stuck h = absurd cc
 record Steps (image : Image) (n k : ℕ) (s : State) (job : Job) (owned : List ℤ) : Type 0 where
   pub new : Job
   pub inside : new.inside ≡ job.inside
-  pub one : outcomes image s job owned 1 job.burn ≡ Goes (record { job = new; owned = owned; shared = s.shared })
+  pub one : outcomes image s job owned 1 job.dispatch_ticks ≡ Goes (record { job = new; owned = owned; shared = s.shared })
   pub fits : n ≤ left image new
-  pub both : outcomes image (moved k new s) new owned n new.burn ≡ outcomes image s job owned (suc n) job.burn
-  pub raises : (p : Process) (e : ℕ) → outcomes image s job owned (suc n) job.burn ≡ Raises e → raised p e new ≡ raised p e job
+  pub both : outcomes image (moved k new s) new owned n new.dispatch_ticks ≡ outcomes image s job owned (suc n) job.dispatch_ticks
+  pub raises : (p : Process) (e : ℕ) → outcomes image s job owned (suc n) job.dispatch_ticks ≡ Raises e → raised p e new ≡ raised p e job
 
 -- an activation by its parts
 abbrev activation : ℕ → ℕ → ℕ → List ℤ → List Operand → List Caller → Bool → Option ℕ → Job
-activation place done burn locals operands callers handling inside = record { place = place; done = done; burn = burn; locals = locals; operands = operands; callers = callers; handling = handling; inside = inside }
+activation place done dispatch_ticks locals operands callers handling inside = record { place = place; done = done; dispatch_ticks = dispatch_ticks; locals = locals; operands = operands; callers = callers; handling = handling; inside = inside }
 
 within : (image : Image) (s : State) (job : Job) (owned : List ℤ) (instr : Instr) → job.done + 1 < ticks instr
     → outcome_at_once image s job owned 1 (Some instr) ≡ Goes (record { job = record job { done = job.done + 1 }; owned = owned; shared = s.shared })
@@ -119,9 +119,9 @@ steps_at image n k s place done locals operands callers handling inside owned (S
       raises = λ p e _. refl;
     }
 
-steps : (image : Image) (n k : ℕ) (s : State) (place done burn : ℕ) (locals : List ℤ) (operands : List Operand) (callers : List Caller) (handling : Bool) (inside : Option ℕ) (owned : List ℤ)
-    → slice_get s.threads k ≡ Some (Ready (activation place done burn locals operands callers handling inside)) → 1 ≤ n → suc n ≤ left image (activation place done burn locals operands callers handling inside)
-    → Steps image n k s (activation place done burn locals operands callers handling inside) owned
+steps : (image : Image) (n k : ℕ) (s : State) (place done dispatch_ticks : ℕ) (locals : List ℤ) (operands : List Operand) (callers : List Caller) (handling : Bool) (inside : Option ℕ) (owned : List ℤ)
+    → slice_get s.threads k ≡ Some (Ready (activation place done dispatch_ticks locals operands callers handling inside)) → 1 ≤ n → suc n ≤ left image (activation place done dispatch_ticks locals operands callers handling inside)
+    → Steps image n k s (activation place done dispatch_ticks locals operands callers handling inside) owned
 steps image n k s place done zero locals operands callers handling inside owned at some fits = steps_at image n k s place done locals operands callers handling inside owned (slice_get image.code place) at some fits refl
 steps image n k s place done (suc zero) locals operands callers handling inside owned at some fits = absurd (omega arith)
 steps image n k s place done (suc (suc b)) locals operands callers handling inside owned at some fits =
@@ -129,9 +129,9 @@ steps image n k s place done (suc (suc b)) locals operands callers handling insi
     record {
       new = activation place done (suc b) locals operands callers handling inside;
       inside = refl;
-      one = let e : suc (suc b) - 1 ≡ suc b = omega arith in ap (λ (x : ℕ). Goes (record { job = record job { burn = x }; owned = owned; shared = s.shared })) e;
+      one = let e : suc (suc b) - 1 ≡ suc b = omega arith in ap (λ (x : ℕ). Goes (record { job = record job { dispatch_ticks = x }; owned = owned; shared = s.shared })) e;
       fits = omega arith;
-      both = let e : suc b - n ≡ suc (suc b) - (suc n) = omega arith in ap (λ (x : ℕ). Goes (record { job = record job { burn = x }; owned = owned; shared = s.shared })) e;
+      both = let e : suc b - n ≡ suc (suc b) - (suc n) = omega arith in ap (λ (x : ℕ). Goes (record { job = record job { dispatch_ticks = x }; owned = owned; shared = s.shared })) e;
       raises = λ p e is. cc;
     }
 
@@ -153,16 +153,16 @@ ready_goes_on : (image : Image) (script : Script) (t n k : ℕ) (s : State) (p :
     → Goes_on image script t n s (Some k)
 ready_goes_on image script t n k s p job at_p at_t some fits =
     let owned : List ℤ = owned_of (slice_get s.owned k) in
-    let st : Steps image n k s job owned = steps image n k s job.place job.done job.burn job.locals job.operands job.callers job.handling job.inside owned at_t some fits in
+    let st : Steps image n k s job owned = steps image n k s job.place job.done job.dispatch_ticks job.locals job.operands job.callers job.handling job.inside owned at_t some fits in
     let next : State = moved k st.new s in
     let there : slice_get next.threads k ≡ Some (Ready st.new) = get_set s.threads k (Ready st.new) (Ready job) at_t in
-    let passes : (m u : ℕ) → pass image u m s (Some k) ≡ settle image (u + (m - 1)) k p job s (outcomes image s job owned m job.burn) = λ m u. rw (at_p, at_t) refl in
-    let after : (m u : ℕ) → pass image u m next (Some k) ≡ settle image (u + (m - 1)) k p st.new next (outcomes image next st.new owned m st.new.burn) = λ m u. rw (at_p, there) refl in
-    let out : Outcome = outcomes image s job owned (suc n) job.burn in
+    let passes : (m u : ℕ) → pass image u m s (Some k) ≡ settle image (u + (m - 1)) k p job s (outcomes image s job owned m job.dispatch_ticks) = λ m u. rw (at_p, at_t) refl in
+    let after : (m u : ℕ) → pass image u m next (Some k) ≡ settle image (u + (m - 1)) k p st.new next (outcomes image next st.new owned m st.new.dispatch_ticks) = λ m u. rw (at_p, there) refl in
+    let out : Outcome = outcomes image s job owned (suc n) job.dispatch_ticks in
     let time : t + 1 + (n - 1) ≡ t + (suc n - 1) = omega arith in
     let right : pass image t (suc n) s (Some k) ≡ settle image (t + (suc n - 1)) k p job s out = passes (suc n) t in
     let left_side : pass image (t + 1) n next (Some k) ≡ settle image (t + (suc n - 1)) k p st.new next out =
-    after n (t + 1) ∙ ap (λ (u : ℕ). settle image u k p st.new next (outcomes image next st.new owned n st.new.burn)) time ∙ ap (λ (o : Outcome). settle image (t + (suc n - 1)) k p st.new next o) st.both in
+    after n (t + 1) ∙ ap (λ (u : ℕ). settle image u k p st.new next (outcomes image next st.new owned n st.new.dispatch_ticks)) time ∙ ap (λ (o : Outcome). settle image (t + (suc n - 1)) k p st.new next o) st.both in
     let flags : (pass image (t + 1) n next (Some k)).stuck ≡ stuck_of out = ap (λ (x : Ticked). x.stuck) left_side ∙ settled_stuck image (t + (suc n - 1)) k p st.new next out in
     let flags_right : (pass image t (suc n) s (Some k)).stuck ≡ stuck_of out = ap (λ (x : Ticked). x.stuck) right ∙ settled_stuck image (t + (suc n - 1)) k p job s out in
     record {

@@ -107,7 +107,7 @@ over_stays t a b (inr now) not_due is = not_due now.0
 
 -- the thread of a process whose time has come
 abbrev woken_at : Image → Process → ℕ → Job → Thread
-woken_at image p e job = Ready (record (raised p e job) { burn = 2 * image.over })
+woken_at image p e job = Ready (record (raised p e job) { dispatch_ticks = 2 * image.over })
 
 abbrev timed_out : Image → ℕ → ℕ → Process → State → ℕ → ℕ → Job → Started
 timed_out image t j p s c e job = told t j (act.TimeOut c e) (record s { queues = slice_set s.queues c (without j (queue_of s.queues c)) }) (woken_at image p e job)

@@ -17,12 +17,12 @@ is_last_next done None = false
 
 -- the activation does the last tick of its instruction next: it has no ticks of dispatch to burn
 abbrev pub completes : Image → Job → ℕ → Bool
-completes image job (suc burn) = false
+completes image job (suc dispatch_ticks) = false
 completes image job zero = is_last_next job.done (slice_get image.code job.place)
 
 -- the instruction that process k, which stands so, completes if it runs for a tick
 abbrev pub completed_by : Image → ℕ → Option Thread → Option Completed
-completed_by image k (Some (Ready job)) = if completes image job job.burn then Some (record { process = k; at = job.place }) else None
+completed_by image k (Some (Ready job)) = if completes image job job.dispatch_ticks then Some (record { process = k; at = job.place }) else None
 completed_by image k (Some (Waiting condition due number job)) = None
 completed_by image k (Some Idle) = None
 completed_by image k None = None

@@ -59,7 +59,7 @@ pub record IsSafeRun (image : Image) (script : Script) : Type 0 where
 
 -- The law: in such a run a process that is picked can take each of its ticks.
 abbrev pub RowIsSafe : Type 0
-RowIsSafe = (image : Image) (script : Script) (t budget k : ℕ) (first : Own) (is : IsPicked image script t budget k first) → first.job.burn ≡ 0 → IsSafeRun image script → IsSafeFor image is.p.stack first budget
+RowIsSafe = (image : Image) (script : Script) (t budget k : ℕ) (first : Own) (is : IsPicked image script t budget k first) → first.job.dispatch_ticks ≡ 0 → IsSafeRun image script → IsSafeFor image is.p.stack first budget
 
 -- The law: where ticks have led it on, up to as many more as are left of what it is at are a turn,
 -- whatever they come to: they stay within the instruction, or have its effect.

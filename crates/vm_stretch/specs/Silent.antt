@@ -40,7 +40,7 @@ IsWithin room _ = Unit {0}
 
 -- the process, with nothing to burn, is at the instruction, which has ticks left
 pub record IsAt (image : Image) (o : Own) (instr : Instr) : Type 0 where
-  pub burnt : o.job.burn ≡ 0
+  pub burnt : o.job.dispatch_ticks ≡ 0
   pub here : slice_get image.code o.job.place ≡ Some instr
   pub early : o.job.done < ticks instr
 
@@ -49,7 +49,7 @@ pub record GoesTo (image : Image) (o : Own) (instr : Instr) (next : Own) : Type 
   pub at : IsAt image o instr
   pub goes : (s : State) → effect image s instr (next_own o) ≡ Goes next
   pub inside : next.job.inside ≡ o.job.inside
-  pub burn : next.job.burn ≡ o.job.burn
+  pub dispatch_ticks : next.job.dispatch_ticks ≡ o.job.dispatch_ticks
 
 -- so many ticks lead from the first to this, and nobody sees it
 pub data Leads (image : Image) (first : Own) : ℕ → Own → Type 0 where

@@ -20,7 +20,7 @@ left_of (suc n) done at = suc n
 left_of zero done at = left_at done at
 
 abbrev pub left : Image → Job → ℕ
-left image job = left_of job.burn job.done (slice_get image.code job.place)
+left image job = left_of job.dispatch_ticks job.done (slice_get image.code job.place)
 
 -- n ticks of its instruction, whose effect comes in the last of its ticks
 abbrev pub outcome_at_once : Image → State → Job → List ℤ → ℕ → Option Instr → Outcome
@@ -32,12 +32,12 @@ outcome_at_once image s job owned n (Some instr) =
 
 -- n ticks of dispatch while there are some to burn, else n ticks of its instruction
 abbrev pub outcomes : Image → State → Job → List ℤ → ℕ → ℕ → Outcome
-outcomes image s job owned n (suc b) = Goes (record { job = record job { burn = suc b - n }; owned = owned; shared = s.shared })
+outcomes image s job owned n (suc b) = Goes (record { job = record job { dispatch_ticks = suc b - n }; owned = owned; shared = s.shared })
 outcomes image s job owned n zero = outcome_at_once image s job owned n (slice_get image.code job.place)
 
 -- n ticks of process k, which is ready, from tick t on
 abbrev pub pass_thread : Image → ℕ → ℕ → ℕ → State → Option Process → Option Thread → Ticked
-pass_thread image t n k s (Some p) (Some (Ready job)) = settle image (t + (n - 1)) k p job s (outcomes image s job (owned_of (slice_get s.owned k)) n job.burn)
+pass_thread image t n k s (Some p) (Some (Ready job)) = settle image (t + (n - 1)) k p job s (outcomes image s job (owned_of (slice_get s.owned k)) n job.dispatch_ticks)
 pass_thread image t n k s p thread = record { state = s; events = []; stuck = false }
 
 -- n ticks from tick t on, whose start events are done, with this process in place of the pick;

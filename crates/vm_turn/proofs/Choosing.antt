@@ -2,7 +2,7 @@
 use Rattle.std.proofs.Common.{◌≡◌, ◌≤◌, ◌<◌, ◌+◌, ℕ, zero, suc, true, false, List, [], ◌∷◌, Option, Some, None, length, drop, refl, arith, ap, sym, subst, ◌∙◌}
 use Rattle.std.specs.Prelude.{slice_get}
 use Rattle.std.proofs.lemmas.List.{drop_all}
-use Rattle.vm_dispatch.specs.declared.choice.Standing.{Standing}
+use Rattle.vm_dispatch.specs.declared.choice.Contender.{Contender}
 use Rattle.vm_dispatch.specs.Pick.{Entry, foremost, foremost_from, joined, place_of as entry_place}
 use Rattle.machine_semantics.specs.Image.{Image, Process}
 use Rattle.machine_semantics.specs.State.{Job, Thread, Idle, Ready, Waiting}
@@ -10,20 +10,20 @@ use Rattle.machine_semantics.specs.Tick.{active_rank, pick}
 use Rattle.vm_stretch.specs.Stretch.{place_of}
 use Rattle.vm_stretch.specs.Picks.{AreStanding, Stands, is_inside_one}
 use Rattle.vm_stretch.proofs.PicksLemmas.{pick_is_foremost}
-use Rattle.vm_state.specs.declared.threads.Cell.{Cell}
+use Rattle.vm_state.specs.declared.threads.ControlBlock.{ControlBlock}
 use Rattle.vm_state.specs.Threads.{thread_of, threads_of}
-use Rattle.vm_state.specs.declared.plan.Process.{Process as Known}
-use Rattle.vm_state.specs.declared.plan.Plan.{Plan}
+use Rattle.vm_state.specs.declared.decoded_image.DecodedProcess.{DecodedProcess as Known}
+use Rattle.vm_state.specs.declared.decoded_image.DecodedImage.{DecodedImage}
 use Rattle.vm_state.specs.Plan.{AreProcesses, IsOf, IsProcess}
 use Rattle.vm_turn.specs.Chosen.{StandsIn}
 
 -- how a process stands, and how all do
-abbrev standing : Image → Process → Thread → Standing
+abbrev standing : Image → Process → Thread → Contender
 standing image p (Ready job) = record { ready = true; active = active_rank image p job.inside; inside = is_inside_one job.inside }
 standing image p Idle = record { ready = false; active = 0; inside = false }
 standing image p (Waiting c due e job) = record { ready = false; active = 0; inside = false }
 
-abbrev pub standings : Image → List Process → List Thread → List Standing
+abbrev pub standings : Image → List Process → List Thread → List Contender
 standings image [] ts = []
 standings image (p ∷ ps) [] = []
 standings image (p ∷ ps) (t ∷ ts) = standing image p t ∷ standings image ps ts
@@ -45,13 +45,13 @@ count image (p ∷ ps) [] = omega arith
 count image (p ∷ ps) (t ∷ ts) = let rest = count image ps ts in omega (arith, rest)
 
 -- two ways to say how a process stands are alike in the choice
-alike : (image : Image) (p : Process) (t : Thread) (s : Standing) (place : ℕ) (rest : List Standing) → Stands image p t s → foremost_from place (standing image p t ∷ rest) ≡ foremost_from place (s ∷ rest)
+alike : (image : Image) (p : Process) (t : Thread) (s : Contender) (place : ℕ) (rest : List Contender) → Stands image p t s → foremost_from place (standing image p t ∷ rest) ≡ foremost_from place (s ∷ rest)
 alike image p (Ready job) s place rest is = rw (is.0, is.1, is.2) refl
 alike image p Idle s place rest is = rw is refl
 alike image p (Waiting c due e job) s place rest is = rw is refl
 
 -- the rest of them from place k on begins with process k
-pub next_stands : (image : Image) (plan : Plan) (ws : List Process) (ps : List Known) (cs : List Cell) (k place : ℕ) (known : Known) (cell : Cell) (s : Standing) → IsOf image plan → AreProcesses ws ps → slice_get ps k ≡ Some known → slice_get cs k ≡ Some cell → StandsIn plan known cell s
+pub next_stands : (image : Image) (plan : DecodedImage) (ws : List Process) (ps : List Known) (cs : List ControlBlock) (k place : ℕ) (known : Known) (cell : ControlBlock) (s : Contender) → IsOf image plan → AreProcesses ws ps → slice_get ps k ≡ Some known → slice_get cs k ≡ Some cell → StandsIn plan known cell s
     → foremost_from place (drop k (standings image ws (threads_of cs))) ≡ foremost_from place (s ∷ drop (k + 1) (standings image ws (threads_of cs)))
 next_stands image plan [] [] cs k place known cell s is are at_p at_c stand = absurd cc
 next_stands image plan [] (p ∷ ps) cs k place known cell s is are at_p at_c stand = absurd are
@@ -61,7 +61,7 @@ next_stands image plan (w ∷ ws) (p ∷ ps) (c ∷ cs) zero place known cell s 
     let same_p : p ≡ known = cc in
     let same_c : c ≡ cell = cc in
     let here : IsProcess w known = subst (λ (x : Known). IsProcess w x) same_p are.0 in
-    ap (λ (x : Cell). foremost_from place (standing image w (thread_of x) ∷ standings image ws (threads_of cs))) same_c
+    ap (λ (x : ControlBlock). foremost_from place (standing image w (thread_of x) ∷ standings image ws (threads_of cs))) same_c
     ∙ alike image w (thread_of cell) s place (standings image ws (threads_of cs)) (stand image w is here)
 next_stands image plan (w ∷ ws) (p ∷ ps) (c ∷ cs) (suc k) place known cell s is are at_p at_c stand =
     let e : suc k + 1 ≡ suc (k + 1) = omega arith in
@@ -76,14 +76,14 @@ joined_none (Some e) = refl
 pub found : (image : Image) (ts : List Thread) (k : ℕ) (best : Option Entry) → length image.processes ≡ length ts → length ts ≤ k
     → foremost_from 0 (standings image image.processes ts) ≡ joined best (foremost_from k (drop k (standings image image.processes ts))) → entry_place best ≡ place_of (pick image ts)
 found image ts k best same over is =
-    let all : List Standing = standings image image.processes ts in
+    let all : List Contender = standings image image.processes ts in
     let none : drop k all ≡ [] = drop_all k all (let few = count image image.processes ts in omega (arith, few, over)) in
-    let last : foremost_from 0 all ≡ best = is ∙ ap (λ (xs : List Standing). joined best (foremost_from k xs)) none ∙ joined_none best in
+    let last : foremost_from 0 all ≡ best = is ∙ ap (λ (xs : List Contender). joined best (foremost_from k xs)) none ∙ joined_none best in
     ap (λ (o : Option Entry). entry_place o) (sym last) ∙ sym (pick_is_foremost image ts all (all_stand image image.processes ts same))
 
 -- one more is looked at
-pub one_more : (image : Image) (plan : Plan) (cs : List Cell) (k : ℕ) (known : Known) (cell : Cell) (s : Standing) (best new : Option Entry) → IsOf image plan → slice_get plan.processes.items k ≡ Some known → slice_get cs k ≡ Some cell → StandsIn plan known cell s
-    → ((rest : List Standing) → joined new (foremost_from (k + 1) rest) ≡ joined best (foremost_from k (s ∷ rest)))
+pub one_more : (image : Image) (plan : DecodedImage) (cs : List ControlBlock) (k : ℕ) (known : Known) (cell : ControlBlock) (s : Contender) (best new : Option Entry) → IsOf image plan → slice_get plan.processes.items k ≡ Some known → slice_get cs k ≡ Some cell → StandsIn plan known cell s
+    → ((rest : List Contender) → joined new (foremost_from (k + 1) rest) ≡ joined best (foremost_from k (s ∷ rest)))
     → foremost_from 0 (standings image image.processes (threads_of cs)) ≡ joined best (foremost_from k (drop k (standings image image.processes (threads_of cs))))
     → foremost_from 0 (standings image image.processes (threads_of cs)) ≡ joined new (foremost_from (k + 1) (drop (k + 1) (standings image image.processes (threads_of cs))))
 one_more image plan cs k known cell s best new is at_p at_c stand step before =

@@ -79,7 +79,7 @@ turn_can_pass image script t n k safe it picks =
     let ready : slice_get s.threads k ≡ Some (Ready f.job) = subst (λ (m : ℕ). slice_get s.threads m ≡ Some (Ready f.job)) same f.ready in
     let u : ℕ = t + (n - 1) in
     let stays = turn_stays_in_run image script safe.unstuck t n it in
-    let all : turn image script t n (state_at image script t) ≡ settle image u k f.p f.job s (outcomes image s f.job (owned_of (slice_get s.owned k)) n f.job.burn) =
+    let all : turn image script t n (state_at image script t) ≡ settle image u k f.p f.job s (outcomes image s f.job (owned_of (slice_get s.owned k)) n f.job.dispatch_ticks) =
     ap (λ (c : Option ℕ). pass image t n s c) picks
     ∙ ap (λ (x : Option Process). pass_thread image t n k s x (slice_get s.threads k)) process
     ∙ ap (λ (x : Option Thread). pass_thread image t n k s (Some f.p) x) ready in
@@ -91,6 +91,6 @@ turn_can_pass image script t n k safe it picks =
       some = it.some;
       fits = fits_of image n k s f.job picks ready it.fits;
       early = λ instr at. safe.early t k f.job instr ready at;
-      can = can_of image u k f.p f.job s (outcomes image s f.job (owned_of (slice_get s.owned k)) n f.job.burn) (ap (λ (x : Ticked). x.stuck) (sym all) ∙ stays.0)
+      can = can_of image u k f.p f.job s (outcomes image s f.job (owned_of (slice_get s.owned k)) n f.job.dispatch_ticks) (ap (λ (x : Ticked). x.stuck) (sym all) ∙ stays.0)
           (λ th at_th. safe.stack (t + n) k f.p th process (ap (λ (w : State). slice_get w.threads k) (stays.1 ∙ ap (λ (x : Ticked). x.state) all) ∙ at_th)) ready;
     }

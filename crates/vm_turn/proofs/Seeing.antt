@@ -9,10 +9,10 @@ use Rattle.machine_semantics.specs.Image.{Image}
 use Rattle.machine_semantics.specs.State.{Operand, Value, Counter, State, is_free, is_inside}
 use Rattle.machine_semantics.specs.Effect.{Own, Outcome, Does, Waits, effect, enter, enters, wait, waits, monitor_of, queue, signal, broadcast, put, take_one, holding, word_at}
 use Rattle.vm_instructions.specs.Frames.{Frames, IsValueFirst}
-use Rattle.vm_state.specs.declared.seen.Waited.{Waited}
+use Rattle.vm_state.specs.declared.visible_effects.WaitRequest.{WaitRequest}
 use Rattle.vm_state.specs.Seen.{DoesEmpty, DoesEnter, DoesGet, DoesLeave, DoesPut, DoesWait, with_inside}
 use Rattle.vm_instructions.specs.Steps.{HasWord}
-use Rattle.vm_instructions.specs.declared.job.Job.{Job as Kept}
+use Rattle.vm_instructions.specs.declared.activation.Activation.{Activation as Kept}
 use Rattle.vm_instructions.specs.Silent.{own_of}
 use Rattle.vm_turn.specs.Own.{CanCome}
 
@@ -110,7 +110,7 @@ pub leave_comes : (image : Image) (s : State) (given : Instr) (m : ℤ) (job : K
 leave_comes image s given m job owned shared act inside is does =
     subst (λ (x : Instr). effect image s x (own_of job owned shared) ≡ Does act (own_of (record job { inside = inside }) owned shared)) (sym is) (does image s (own_of job owned shared))
 
-pub wait_comes : (image : Image) (s : State) (given : Instr) (c limit number : ℤ) (job : Kept) (owned shared : List ℤ) (w : Waited) (inside : Option ℕ) → given ≡ i.Wait c limit number → DoesWait c limit number job.inside w inside
+pub wait_comes : (image : Image) (s : State) (given : Instr) (c limit number : ℤ) (job : Kept) (owned shared : List ℤ) (w : WaitRequest) (inside : Option ℕ) → given ≡ i.Wait c limit number → DoesWait c limit number job.inside w inside
     → CanCome job.frames.room (effect image s given (own_of job owned shared)) → effect image s given (own_of job owned shared) ≡ Waits w.condition w.limit w.number (own_of (record job { inside = inside }) owned shared)
 wait_comes image s given c limit number job owned shared w inside is does =
     let o : Own = own_of job owned shared in
@@ -139,7 +139,7 @@ waits_is image c limit number o room can = by (monitor_of image c) can where
 
 -- ---- the condition is one that there is
 
-pub wait_among : (image : Image) (s : State) (given : Instr) (c limit number : ℤ) (job : Kept) (owned shared : List ℤ) (w : Waited) (inside : Option ℕ) (n : ℕ) → given ≡ i.Wait c limit number → DoesWait c limit number job.inside w inside
+pub wait_among : (image : Image) (s : State) (given : Instr) (c limit number : ℤ) (job : Kept) (owned shared : List ℤ) (w : WaitRequest) (inside : Option ℕ) (n : ℕ) → given ≡ i.Wait c limit number → DoesWait c limit number job.inside w inside
     → length image.conditions ≡ n → CanCome job.frames.room (effect image s given (own_of job owned shared)) → w.condition < n
 wait_among image s given c limit number job owned shared w inside n is does count =
     let o : Own = own_of job owned shared in

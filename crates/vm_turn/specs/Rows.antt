@@ -7,13 +7,13 @@ use Rattle.machine_semantics.specs.State.{Job, Ready, State}
 use Rattle.machine_semantics.specs.Effect.{Own, Outcome, Goes, Raises, Stuck, effect}
 use Rattle.machine_semantics.specs.Tick.{owned_of, settle}
 use Rattle.vm_stretch.specs.Silent.{IsSafeFor, is_silent, with_process}
-use Rattle.vm_instructions.specs.declared.row.Halt.{Halt}
-use Rattle.vm_instructions.specs.declared.row.Halt.TheVariants as halt
+use Rattle.vm_instructions.specs.declared.burst.Halt.{Halt}
+use Rattle.vm_instructions.specs.declared.burst.Halt.TheVariants as halt
 use Rattle.vm_instructions.specs.Rows.{Runs}
 use Rattle.vm_instructions.specs.Silent.{job_of, own_of}
-use Rattle.vm_state.specs.declared.threads.Cell.{Cell}
+use Rattle.vm_state.specs.declared.threads.ControlBlock.{ControlBlock}
 use Rattle.vm_state.specs.Threads.{thread_of}
-use Rattle.vm_state.specs.declared.plan.Process.{Process as Known}
+use Rattle.vm_state.specs.declared.decoded_image.DecodedProcess.{DecodedProcess as Known}
 use Rattle.vm_state.specs.Plan.{IsProcess}
 use Rattle.vm_turn.specs.declared.outcome.Outcome.{Outcome as Come}
 use Rattle.vm_turn.specs.Own.{Around, CanCome}
@@ -63,7 +63,7 @@ pub record CanEnd (image : Image) (k : ℕ) (s : State) (h : Halt) : Type 0 wher
 
 -- the last tick t of a row of process k, which stands so, comes to what is left to do in the state
 -- where it stands anew
-abbrev pub EndsAs : Around → (t k : ℕ) → Known → Cell → Halt → Come → Cell → Type 0
+abbrev pub EndsAs : Around → (t k : ℕ) → Known → ControlBlock → Halt → Come → ControlBlock → Type 0
 EndsAs at t k known old h come new =
     (whole : Process) → IsProcess whole known → at.owned ≡ owned_of (slice_get at.state.owned k) → at.shared ≡ at.state.shared
     → settle at.image t k whole (job_of old.job) at.state (outcome_of at.image at.state h (own_of old.job at.owned at.shared)) ≡ after at.image t k come (with_thread k (thread_of new) at.owned at.shared at.state)

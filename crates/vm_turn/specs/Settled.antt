@@ -5,13 +5,13 @@ use Rattle.machine_semantics.specs.Image.{Image, Process}
 use Rattle.machine_semantics.specs.State.{Job, Thread, Idle, Ready, Waiting, State}
 use Rattle.machine_semantics.specs.Starts.{queue_of, raised}
 use Rattle.machine_semantics.specs.Tick.{Ticked, first, owned_of, rest, settle, tell, wake_all, wake_first}
-use Rattle.vm_state.specs.declared.threads.Cell.{Cell}
-use Rattle.vm_state.specs.declared.threads.Stand.TheVariants as stand
+use Rattle.vm_state.specs.declared.threads.ControlBlock.{ControlBlock}
+use Rattle.vm_state.specs.declared.threads.SchedulingState.TheVariants as stand
 use Rattle.vm_state.specs.Threads.{AreBelow, thread_of}
 use Rattle.vm_instructions.specs.Silent.{job_of}
 use Rattle.vm_stretch.specs.Stretch.{left, outcomes}
-use Rattle.vm_state.specs.declared.plan.Process.{Process as Kept}
-use Rattle.vm_state.specs.declared.board.Board.{Board}
+use Rattle.vm_state.specs.declared.decoded_image.DecodedProcess.{DecodedProcess as Kept}
+use Rattle.vm_state.specs.declared.machine_state.MachineState.{MachineState}
 use Rattle.vm_state.specs.Plan.{IsProcess}
 use Rattle.vm_state.specs.Board.{state_of}
 use Rattle.vm_turn.specs.declared.outcome.Outcome.{Outcome as Come}
@@ -34,7 +34,7 @@ after image t k (come.Raises e) s = tell t k (act.Raise e) s
 after image t k come.Ends s = tell t k act.End s
 
 -- the process stands as the outcome at tick t leaves it
-abbrev pub StandsAfter : ℕ → Kept → Come → Cell → Cell → Type 0
+abbrev pub StandsAfter : ℕ → Kept → Come → ControlBlock → ControlBlock → Type 0
 StandsAfter t p (come.Waits w) old new = thread_of new ≡ Waiting w.condition (t + w.limit + 1) w.number (job_of old.job)
 StandsAfter t p (come.Raises e) old new = (whole : Process) → IsProcess whole p → old.stand ≡ stand.Ready → thread_of new ≡ Ready (raised whole e (job_of old.job))
 StandsAfter t p come.Ends old new = thread_of new ≡ Idle
@@ -42,10 +42,10 @@ StandsAfter t p _ old new = new ≡ old
 
 -- so many ticks of process k, which stands so, come to what is left to do in the state where it
 -- stands anew
-abbrev pub SettlesAs : Around → (n t k : ℕ) → Kept → Cell → Come → Cell → List ℤ → List ℤ → Type 0
+abbrev pub SettlesAs : Around → (n t k : ℕ) → Kept → ControlBlock → Come → ControlBlock → List ℤ → List ℤ → Type 0
 SettlesAs at n t k p old come new owned shared =
     (whole : Process) → IsProcess whole p → at.owned ≡ owned_of (slice_get at.state.owned k) → at.shared ≡ at.state.shared
-    → settle at.image t k whole (job_of old.job) at.state (outcomes at.image at.state (job_of old.job) at.owned n old.job.burn) ≡ after at.image t k come (with_thread k (thread_of new) owned shared at.state)
+    → settle at.image t k whole (job_of old.job) at.state (outcomes at.image at.state (job_of old.job) at.owned n old.job.dispatch_ticks) ≡ after at.image t k come (with_thread k (thread_of new) owned shared at.state)
 
 -- Process k is ready, and can take n ticks at once: they are no more than are left of what it is
 -- at, some are left, and they are not stuck and stay within its stack.
@@ -57,14 +57,14 @@ pub record CanPass (image : Image) (n k : ℕ) (s : State) : Type 0 where
   pub some : 1 ≤ n
   pub fits : n ≤ left image job
   pub early : IsEarly image job
-  pub can : CanCome p.stack (outcomes image s job (owned_of (slice_get s.owned k)) n job.burn)
+  pub can : CanCome p.stack (outcomes image s job (owned_of (slice_get s.owned k)) n job.dispatch_ticks)
 
 -- each queue has numbers of processes alone, and room for one more
 abbrev pub HaveRoom : ℕ → List (List ℕ) → Type 0
 HaveRoom n queues = (c : ℕ) → c < length queues → AreBelow n (queue_of queues c) × (length (queue_of queues c) < 64)
 
 -- around process k there is the state of the board
-pub record IsAround (at : Around) (k : ℕ) (b : Board) : Type 0 where
+pub record IsAround (at : Around) (k : ℕ) (b : MachineState) : Type 0 where
   pub state : at.state ≡ state_of b
   pub owned : at.owned ≡ owned_of (slice_get at.state.owned k)
   pub shared : at.shared ≡ at.state.shared
@@ -74,4 +74,4 @@ pub record IsAround (at : Around) (k : ℕ) (b : Board) : Type 0 where
 abbrev pub HasTurned : Image → (t n k : ℕ) → State → Come → State → Type 0
 HasTurned image t n k old come new =
     (p : Process) (job : Job) → slice_get image.processes k ≡ Some p → slice_get old.threads k ≡ Some (Ready job)
-    → settle image t k p job old (outcomes image old job (owned_of (slice_get old.owned k)) n job.burn) ≡ after image t k come new
+    → settle image t k p job old (outcomes image old job (owned_of (slice_get old.owned k)) n job.dispatch_ticks) ≡ after image t k come new

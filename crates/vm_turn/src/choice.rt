@@ -4,17 +4,17 @@ ghost use Rattle.std.specs.Prelude.{◌≡◌, ◌<◌, length, vec_len};
 ghost use Rattle.vm_turn.specs.Chosen.{IsCeiling, IsLeft, IsLeftOf, IsPick, StandsIn};
 
 use machine_isa::{Instr, ticks};
-use vm_dispatch::{Standing, foremost_with, place_found};
-use vm_instructions::Job;
-use vm_state::{Board, Cell, Plan, Process, Stand};
+use vm_dispatch::{Contender, foremost_with, place_found};
+use vm_instructions::Activation;
+use vm_state::{ControlBlock, DecodedImage, DecodedProcess, MachineState, SchedulingState};
 
 /// The ticks left of what an activation is at: of its burn, where it has one, else of its
 /// instruction.
-fn left_of(code: &[Instr], job: &Job) -> u32
+fn left_of(code: &[Instr], job: &Activation) -> u32
     ensures { IsLeftOf code.now job.now result }
 {
-    if job.burn > 0 {
-        return job.burn;
+    if job.dispatch_ticks > 0 {
+        return job.dispatch_ticks;
     }
     if job.place >= code.len() {
         return 1;
@@ -23,7 +23,7 @@ fn left_of(code: &[Instr], job: &Job) -> u32
 }
 
 /// The ticks left of what a process that is ready is at.
-pub fn left(plan: &Plan, board: &Board, who: usize) -> u32
+pub fn left(plan: &DecodedImage, board: &MachineState, who: usize) -> u32
     requires { who < vec_len board.now.cells }
     ensures { IsLeft plan.now board.now who result }
 {
@@ -44,17 +44,17 @@ fn ceiling_of(ceilings: &[u16], monitor: u16) -> u16
 
 /// How a process stands in the choice.
 #[inline(always)]
-fn standing_of(plan: &Plan, process: &Process, cell: &Cell) -> Standing
+fn standing_of(plan: &DecodedImage, process: &DecodedProcess, cell: &ControlBlock) -> Contender
     ensures { StandsIn plan.now process.now cell.now result }
 {
-    let ready = matches!(cell.stand, Stand::Ready);
+    let ready = matches!(cell.stand, SchedulingState::Ready);
     match cell.job.inside {
-        Some(monitor) => Standing {
+        Some(monitor) => Contender {
             ready,
             active: ceiling_of(&plan.ceilings, monitor),
             inside: true,
         },
-        None => Standing {
+        None => Contender {
             ready,
             active: process.rank,
             inside: false,
@@ -64,7 +64,7 @@ fn standing_of(plan: &Plan, process: &Process, cell: &Cell) -> Standing
 
 /// The process that is picked: the one of the least active rank of those that are ready, of two
 /// alike one inside a monitor before one outside, then the first; `None` where none is ready.
-pub fn choose(plan: &Plan, board: &Board) -> Option<usize>
+pub fn choose(plan: &DecodedImage, board: &MachineState) -> Option<usize>
     requires { vec_len board.now.cells ≡ vec_len plan.now.processes }
     ensures { IsPick plan.now board.now result }
 {

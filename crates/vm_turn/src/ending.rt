@@ -1,7 +1,7 @@
 //! The last tick of a row.
 
 ghost use Rattle.std.specs.Prelude.{◌≡◌, ◌<◌, ◌≤◌, ◌^◌, ℕ, length};
-ghost use Rattle.vm_state.specs.declared.threads.Stand.TheVariants as stand;
+ghost use Rattle.vm_state.specs.declared.threads.SchedulingState.TheVariants as stand;
 ghost use Rattle.vm_instructions.specs.Silent.{own_of};
 ghost use Rattle.vm_state.specs.Plan.{IsOf};
 ghost use Rattle.vm_turn.specs.Own.{Around, CanCome, ComesAs, IsAmong};
@@ -10,13 +10,19 @@ ghost use Rattle.vm_turn.specs.Rows.{EndsAs, IsSeenAt, outcome_of};
 use crate::cell::stand_after;
 use crate::outcome::Outcome;
 use crate::own::fetch;
-use crate::seen::see;
-use vm_instructions::{Halt, Job};
-use vm_state::{Cell, Plan, Process, Queues};
+use crate::visible_steps::see;
+use vm_instructions::{Activation, Halt};
+use vm_state::{ControlBlock, DecodedImage, DecodedProcess, Queues};
 
 /// What the row comes to in its last tick, as far as the process's own goes.
 #[inline(always)]
-fn end_own(plan: &Plan, job: &mut Job, queues: &Queues, devices: &[i32], halt: Halt) -> Outcome
+fn end_own(
+    plan: &DecodedImage,
+    job: &mut Activation,
+    queues: &Queues,
+    devices: &[i32],
+    halt: Halt,
+) -> Outcome
     ghost at: { Around }
     requires plan { IsOf at.image plan.now }
     requires queues { at.state.queues ≡ queues.now }
@@ -43,9 +49,9 @@ fn end_own(plan: &Plan, job: &mut Job, queues: &Queues, devices: &[i32], halt: H
 /// The last tick of a row, up to where its process stands anew.
 #[inline(always)]
 pub fn end_cell(
-    plan: &Plan,
-    process: &Process,
-    cell: &mut Cell,
+    plan: &DecodedImage,
+    process: &DecodedProcess,
+    cell: &mut ControlBlock,
     queues: &Queues,
     devices: &[i32],
     halt: Halt,

@@ -13,9 +13,9 @@ mod ending;
 mod outcome;
 mod own;
 mod rows;
-mod seen;
-pub mod settle;
 mod turn;
+pub mod turn_law;
+mod visible_steps;
 
 pub use choice::{choose, left};
 pub use outcome::Outcome;

@@ -1,7 +1,7 @@
 //! What a turn comes to.
 
 use base::Act;
-use vm_state::Waited;
+use vm_state::WaitRequest;
 
 /// What the ticks of a process come to.
 #[derive(Clone, Copy)]
@@ -15,7 +15,7 @@ pub enum Outcome {
     /// Takes all processes out of the condition's queue.
     Broadcasts { condition: u16 },
     /// Has left the monitor, and waits.
-    Waits(Waited),
+    Waits(WaitRequest),
     /// Raises an exception.
     Raises(u16),
     /// The activation is over.

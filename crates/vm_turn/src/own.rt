@@ -9,16 +9,16 @@ ghost use Rattle.vm_stretch.specs.Stretch.{left, outcomes};
 ghost use Rattle.vm_turn.specs.Own.{Around, CanCome, ComesAs, IsAmong, IsEarly};
 
 use crate::outcome::Outcome;
-use crate::seen::see;
+use crate::visible_steps::see;
 use machine_isa::{Instr, ticks as ticks_of};
 use vm_instructions::step::step;
-use vm_instructions::{Came, Job};
-use vm_state::{Cell, Plan, Queues};
+use vm_instructions::{Activation, StepResult};
+use vm_state::{ControlBlock, DecodedImage, Queues};
 
 /// The effect of an instruction, as far as its own process goes, which stands at the next already.
 fn effect_of(
-    plan: &Plan,
-    job: &mut Job,
+    plan: &DecodedImage,
+    job: &mut Activation,
     owned: &mut [i32],
     shared: &mut [i32],
     queues: &Queues,
@@ -41,9 +41,9 @@ fn effect_of(
     ensures room { job.new.frames.room ≡ job.old.frames.room }
 {
     match step(&plan.code, &plan.routines, job, owned, shared, instr) {
-        Came::Done => Outcome::Goes,
-        Came::Raises(number) => Outcome::Raises(number),
-        Came::Seen => see(job, queues, devices, instr),
+        StepResult::Done => Outcome::Goes,
+        StepResult::Raises(number) => Outcome::Raises(number),
+        StepResult::Seen => see(job, queues, devices, instr),
     }
 }
 
@@ -59,8 +59,8 @@ pub fn fetch(code: &[Instr], place: usize) -> Instr
 /// So many ticks of a process at once, which has no fewer left of its burn, or where it burns none
 /// of its instruction.
 pub fn pass_own(
-    plan: &Plan,
-    job: &mut Job,
+    plan: &DecodedImage,
+    job: &mut Activation,
     owned: &mut [i32],
     shared: &mut [i32],
     queues: &Queues,
@@ -78,15 +78,15 @@ pub fn pass_own(
     requires fits { ticks ≤ left at.image (job_of job.old) }
     requires early { IsEarly at.image (job_of job.old) }
     requires can { CanCome job.old.frames.room
-        (outcomes at.image at.state (job_of job.old) at.owned ticks job.old.burn) }
+        (outcomes at.image at.state (job_of job.old) at.owned ticks job.old.dispatch_ticks) }
     ensures comes { ComesAs (outcomes at.image at.state
-        (job_of job.old) at.owned ticks job.old.burn) (own_of job.old at.owned at.shared) result
+        (job_of job.old) at.owned ticks job.old.dispatch_ticks) (own_of job.old at.owned at.shared) result
         (own_of job.new owned.new shared.new) }
     ensures among { IsAmong (length queues.now) result }
     ensures room { job.new.frames.room ≡ job.old.frames.room }
 {
-    if job.burn > 0 {
-        job.burn -= ticks;
+    if job.dispatch_ticks > 0 {
+        job.dispatch_ticks -= ticks;
         return Outcome::Goes;
     }
     let instr = fetch(&plan.code, job.place);

@@ -17,13 +17,13 @@ use crate::ending::end_cell;
 use crate::outcome::Outcome;
 use crate::turn::tell_after;
 use vm_instructions::{Halt, run};
-use vm_state::{Board, Cell, Fired, Plan};
+use vm_state::{ControlBlock, DecodedImage, EventBuffer, MachineState};
 
 /// Runs a process for so many ticks, up to an instruction that others see or an exception.
 #[inline(always)]
 fn run_cell(
-    plan: &Plan,
-    cell: &mut Cell,
+    plan: &DecodedImage,
+    cell: &mut ControlBlock,
     owned: &mut [i32],
     shared: &mut [i32],
     budget: u64,
@@ -50,7 +50,7 @@ fn run_cell(
 /// Runs a process that is picked, and that burns no ticks, for so many ticks, up to an instruction
 /// that others see or an exception; all else stays as it was.
 #[inline(always)]
-pub fn run_row(plan: &Plan, board: &mut Board, who: usize, budget: u64) -> Halt
+pub fn run_row(plan: &DecodedImage, board: &mut MachineState, who: usize, budget: u64) -> Halt
     ghost image: { Image }
     requires plan { IsOf image plan.now }
     requires board { IsBoardOf image board.old }
@@ -67,7 +67,13 @@ pub fn run_row(plan: &Plan, board: &mut Board, who: usize, budget: u64) -> Halt
 
 /// The last tick of a row, up to where its process stands anew.
 #[inline(always)]
-fn end_turn(plan: &Plan, board: &mut Board, who: usize, halt: Halt, tick: u64) -> Outcome
+fn end_turn(
+    plan: &DecodedImage,
+    board: &mut MachineState,
+    who: usize,
+    halt: Halt,
+    tick: u64,
+) -> Outcome
     ghost at: { Around }
     requires plan { IsOf at.image plan.now }
     requires board { IsBoardOf at.image board.old }
@@ -97,7 +103,14 @@ fn end_turn(plan: &Plan, board: &mut Board, who: usize, halt: Halt, tick: u64) -
 /// Does what a row halted at, in the last of the ticks that passed: the instruction that others
 /// see, or the raise.
 #[inline(always)]
-pub fn end_row(plan: &Plan, board: &mut Board, who: usize, halt: Halt, tick: u64, fired: &mut Fired)
+pub fn end_row(
+    plan: &DecodedImage,
+    board: &mut MachineState,
+    who: usize,
+    halt: Halt,
+    tick: u64,
+    fired: &mut EventBuffer,
+)
     ghost image: { Image }
     requires plan { IsOf image plan.now }
     requires board { IsBoardOf image board.old }

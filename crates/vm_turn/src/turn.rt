@@ -13,10 +13,10 @@ ghost use Rattle.vm_turn.specs.Settled.{CanPass, HasTurned, HaveRoom, IsAround, 
 use crate::cell::pass_cell;
 use crate::outcome::Outcome;
 use base::Act;
-use vm_state::{Board, Fired, Plan, broadcast, signal, tell};
+use vm_state::{DecodedImage, EventBuffer, MachineState, broadcast, signal, tell};
 
 /// So many ticks of a process at once, the last of them this tick, up to where it stands anew.
-fn turn(plan: &Plan, board: &mut Board, who: usize, ticks: u32, tick: u64) -> Outcome
+fn turn(plan: &DecodedImage, board: &mut MachineState, who: usize, ticks: u32, tick: u64) -> Outcome
     ghost at: { Around }
     requires plan { IsOf at.image plan.now }
     requires board { IsBoardOf at.image board.old }
@@ -50,12 +50,12 @@ fn turn(plan: &Plan, board: &mut Board, who: usize, ticks: u32, tick: u64) -> Ou
 /// queue, and tells its event at the tick.
 #[inline(always)]
 pub fn tell_after(
-    plan: &Plan,
-    board: &mut Board,
+    plan: &DecodedImage,
+    board: &mut MachineState,
     who: u16,
     outcome: Outcome,
     tick: u64,
-    fired: &mut Fired,
+    fired: &mut EventBuffer,
 )
     ghost image: { Image }
     requires plan { IsOf image plan.now }
@@ -77,7 +77,7 @@ pub fn tell_after(
                 &mut board.cells,
                 &mut board.queues,
                 usize::from(condition),
-                plan.burn,
+                plan.dispatch_ticks,
             );
             let act = Act::Signal {
                 cond: condition,
@@ -90,7 +90,7 @@ pub fn tell_after(
                 &mut board.cells,
                 &mut board.queues,
                 usize::from(condition),
-                plan.burn,
+                plan.dispatch_ticks,
             );
             let act = Act::Broadcast {
                 cond: condition,
@@ -113,7 +113,14 @@ pub fn tell_after(
 /// So many ticks at once from a tick on, whose start events are done, of the process that is
 /// picked, which has no fewer left of what it is at: the state after them, and their event, if
 /// they have one, which falls at the last of them.
-pub fn pass(plan: &Plan, board: &mut Board, who: usize, tick: u64, ticks: u32, fired: &mut Fired)
+pub fn pass(
+    plan: &DecodedImage,
+    board: &mut MachineState,
+    who: usize,
+    tick: u64,
+    ticks: u32,
+    fired: &mut EventBuffer,
+)
     ghost image: { Image }
     requires plan { IsOf image plan.now }
     requires board { IsBoardOf image board.old }

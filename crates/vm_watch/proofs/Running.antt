@@ -2,7 +2,7 @@
 use Rattle.std.proofs.Common.{◌≡◌, ◌≤◌, ◌-◌, ℕ, List, [], ◌∷◌, map, length, refl, arith, ap, subst, ◌∙◌}
 use Rattle.std.specs.Prelude.{All}
 use Rattle.std.proofs.lemmas.List.Elements.{All-drop}
-use Rattle.command_answers.specs.declared.act.Run.{Run}
+use Rattle.command_answers.specs.declared.act.PreparedRun.{PreparedRun}
 use Rattle.command_answers.specs.Acts.{CanRunByRanks}
 use Rattle.command_due.specs.Script.{line_said, run_of}
 use Rattle.base.specs.declared.event.Event.{Event}
@@ -42,7 +42,7 @@ same_script script =
 
 -- ---- the machine
 
-pub is_runnable : (run : Run) → CanRunByRanks run → IsRunnable (image_of run.image) (script_of run.script)
+pub is_runnable : (run : PreparedRun) → CanRunByRanks run → IsRunnable (image_of run.image) (script_of run.script)
 is_runnable run can = valid_runs_are_runnable (image_of run.image) (script_of run.script) can.limits can.valid can.script.frames can.script.order (let end = can.script.end in omega (arith, end))
 
 -- ---- the lines
@@ -60,7 +60,7 @@ from_start image script t =
     ap (λ (n : ℕ). events_from image script n 0 (state_at image script 0)) all
 
 -- the last events before a tick have lines
-pub recent_lines : (run : Run) (t : ℕ) → CanRunByRanks run → t ≤ run.script.end → All (AreIn run.image.names) (recent (events_before (image_of run.image) (script_of run.script) t))
+pub recent_lines : (run : PreparedRun) (t : ℕ) → CanRunByRanks run → t ≤ run.script.end → All (AreIn run.image.names) (recent (events_before (image_of run.image) (script_of run.script) t))
 recent_lines run t can within =
     let image : Image = image_of run.image in
     let script : Script = script_of run.script in

@@ -8,7 +8,7 @@ use Rattle.vm_runner.specs.Ends.{IsTurnEnd}
 use Rattle.command_due.specs.Stops.{HasEffect, IsStop}
 use Rattle.vm_stretch.specs.declared.completed.Completed.{Completed}
 use Rattle.vm_stretch.specs.Completed.{completed_at, last_completed}
-use Rattle.command_words.specs.declared.stop.Stop.TheVariants.{Effect}
+use Rattle.command_words.specs.declared.stop.Breakpoint.TheVariants.{Effect}
 
 -- what was completed, if anything, stands at the address
 abbrev pub IsAt : (address : ℕ) → Option Completed → Type 0

@@ -5,8 +5,8 @@ use Rattle.std.proofs.lemmas.Option.{slice_get-get_or, slice_get-map}
 use Rattle.base.specs.declared.event.Event.{Event}
 use Rattle.image.specs.declared.names.ImageNames.{ImageNames}
 use Rattle.image.specs.declared.raw.RawImage.{RawImage}
-use Rattle.image.specs.declared.raw.RawMon.{RawMon}
-use Rattle.image.specs.declared.raw.RawProc.{RawProc}
+use Rattle.image.specs.declared.raw.RawMonitor.{RawMonitor}
+use Rattle.image.specs.declared.raw.RawProcess.{RawProcess}
 use Rattle.image.specs.Named.{NamedImage}
 use Rattle.image.specs.Raw.{image_of, monitor_of, process_of}
 use Rattle.vm_watch.specs.Inspect.{HasItsWords}
@@ -19,22 +19,22 @@ use Rattle.vm_stretch.specs.declared.view.View.{View}
 use Rattle.vm_stretch.specs.View.{monitor_words, occupant, process_words, view_of}
 
 -- a process has as many words as stand in the file
-pub process_declared : (raw : RawImage) (items : List RawProc) (image : Image) (s : State) (k : ℕ) (d : RawProc) → image ≡ image_of raw → HasItsWords image s → k < length raw.processes → items ≡ raw.processes → length (process_words s k) ≡ (get_or items k d).words
+pub process_declared : (raw : RawImage) (items : List RawProcess) (image : Image) (s : State) (k : ℕ) (d : RawProcess) → image ≡ image_of raw → HasItsWords image s → k < length raw.processes → items ≡ raw.processes → length (process_words s k) ≡ (get_or items k d).words
 process_declared raw items image s k d same has below are =
     has.processes k (process_of (get_or raw.processes k d))
     (ap (λ (x : Image). slice_get x.processes k) same
     ∙ (slice_get-map process_of raw.processes k
-    ∙ ap (λ (o : Option RawProc). option_map process_of o) (slice_get-get_or raw.processes k d below)))
-    ∙ ap (λ (ps : List RawProc). (get_or ps k d).words) (sym are)
+    ∙ ap (λ (o : Option RawProcess). option_map process_of o) (slice_get-get_or raw.processes k d below)))
+    ∙ ap (λ (ps : List RawProcess). (get_or ps k d).words) (sym are)
 
 -- and so has a monitor
-pub monitor_declared : (raw : RawImage) (items : List RawMon) (image : Image) (s : State) (m : ℕ) (d : RawMon) → image ≡ image_of raw → HasItsWords image s → m < length raw.monitors → items ≡ raw.monitors → length (monitor_words image s m) ≡ (get_or items m d).words
+pub monitor_declared : (raw : RawImage) (items : List RawMonitor) (image : Image) (s : State) (m : ℕ) (d : RawMonitor) → image ≡ image_of raw → HasItsWords image s → m < length raw.monitors → items ≡ raw.monitors → length (monitor_words image s m) ≡ (get_or items m d).words
 monitor_declared raw items image s m d same has below are =
     has.monitors m (monitor_of (get_or raw.monitors m d))
     (ap (λ (y : Image). slice_get y.monitors m) same
     ∙ (slice_get-map monitor_of raw.monitors m
-    ∙ ap (λ (o : Option RawMon). option_map monitor_of o) (slice_get-get_or raw.monitors m d below)))
-    ∙ ap (λ (ms : List RawMon). (get_or ms m d).words) (sym are)
+    ∙ ap (λ (o : Option RawMonitor). option_map monitor_of o) (slice_get-get_or raw.monitors m d below)))
+    ∙ ap (λ (ms : List RawMonitor). (get_or ms m d).words) (sym are)
 
 pub process_told : (names : ImageNames) (image : Image) (s : State) (k : ℕ) (view : View) (words : List ℤ) → view ≡ view_of image s k → words ≡ take 16 (process_words s k) → told_process names k view words ≡ process_line names image s k
 process_told names image s k view words seen first =

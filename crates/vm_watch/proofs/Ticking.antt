@@ -26,8 +26,8 @@ other_tick image s job owned instr early =
     rw test refl
 
 module _ (image : Image) (s : State) (job : Job) (owned : List ℤ) (instr : Instr) (there : slice_get image.code job.place ≡ Some instr) where
-  has_effect : (burn : ℕ) → job.burn ≡ burn → completes image job burn ≡ true → HasEffect image s job owned
-  has_effect (suc burn) is yes_it_does = absurd cc
+  has_effect : (dispatch_ticks : ℕ) → job.dispatch_ticks ≡ dispatch_ticks → completes image job dispatch_ticks ≡ true → HasEffect image s job owned
+  has_effect (suc dispatch_ticks) is yes_it_does = absurd cc
   has_effect zero is yes_it_does = record {
     instr = instr;
     there = there;
@@ -37,9 +37,9 @@ module _ (image : Image) (s : State) (job : Job) (owned : List ℤ) (instr : Ins
         ∙ last_tick image s job owned instr (sym (ap (λ (o : Option Instr). is_last_next job.done o) there) ∙ yes_it_does);
   }
 
-  stays_at : (burn : ℕ) → job.burn ≡ burn → completes image job burn ≡ false → StaysAt image s job owned
-  stays_at (suc burn) is not_yet = record {
-    own = record { job = record job { burn = burn }; owned = owned; shared = s.shared };
+  stays_at : (dispatch_ticks : ℕ) → job.dispatch_ticks ≡ dispatch_ticks → completes image job dispatch_ticks ≡ false → StaysAt image s job owned
+  stays_at (suc dispatch_ticks) is not_yet = record {
+    own = record { job = record job { dispatch_ticks = dispatch_ticks }; owned = owned; shared = s.shared };
     goes = ap (λ (b : ℕ). outcome image s job owned b) is;
     place = refl;
   }
@@ -54,6 +54,6 @@ module _ (image : Image) (s : State) (job : Job) (owned : List ℤ) (instr : Ins
 
 pub completed_has_effect : CompletedHasEffect
 completed_has_effect image s job owned some = by (slice_get image.code job.place) refl some where
-  by : (o : Option Instr) → slice_get image.code job.place ≡ o → IsSome o → (completes image job job.burn ≡ true → HasEffect image s job owned) × (completes image job job.burn ≡ false → StaysAt image s job owned)
+  by : (o : Option Instr) → slice_get image.code job.place ≡ o → IsSome o → (completes image job job.dispatch_ticks ≡ true → HasEffect image s job owned) × (completes image job job.dispatch_ticks ≡ false → StaysAt image s job owned)
   by None there none = absurd (let differ : false ≡ true = none in cc)
-  by (Some instr) there _ = (has_effect image s job owned instr there job.burn refl, stays_at image s job owned instr there job.burn refl)
+  by (Some instr) there _ = (has_effect image s job owned instr there job.dispatch_ticks refl, stays_at image s job owned instr there job.dispatch_ticks refl)

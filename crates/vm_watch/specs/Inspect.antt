@@ -34,16 +34,16 @@ OccupantIsInside = (s : State) (m : ℕ) → ((k : ℕ) → occupant s m ≡ Som
 pub record HasEffect (image : Image) (s : State) (job : Job) (owned : List ℤ) : Type 0 where
   pub instr : Instr
   pub there : slice_get image.code job.place ≡ Some instr
-  pub effect : outcome image s job owned job.burn ≡ effect image s instr (record { job = at_next job; owned = owned; shared = s.shared })
+  pub effect : outcome image s job owned job.dispatch_ticks ≡ effect image s instr (record { job = at_next job; owned = owned; shared = s.shared })
 
 -- the tick of the activation leaves it at its instruction, and nobody sees it
 pub record StaysAt (image : Image) (s : State) (job : Job) (owned : List ℤ) : Type 0 where
   pub own : Own
-  pub goes : outcome image s job owned job.burn ≡ Goes own
+  pub goes : outcome image s job owned job.dispatch_ticks ≡ Goes own
   pub place : own.job.place ≡ job.place
 
 -- The law: where an activation that is at an instruction completes it in its next tick, that tick
 -- has the instruction's effect; where it does not, it stays at it.
 abbrev pub CompletedHasEffect : Type 0
 CompletedHasEffect = (image : Image) (s : State) (job : Job) (owned : List ℤ) → IsSome (slice_get image.code job.place)
-    → (completes image job job.burn ≡ true → HasEffect image s job owned) × (completes image job job.burn ≡ false → StaysAt image s job owned)
+    → (completes image job job.dispatch_ticks ≡ true → HasEffect image s job owned) × (completes image job job.dispatch_ticks ≡ false → StaysAt image s job owned)

@@ -12,11 +12,11 @@ ghost use Rattle.vm_watch.specs.Follows.{Follows};
 
 use base::Event;
 use circular_buffer::HeapCircularBuffer;
-use command_words::Stop;
+use command_words::Breakpoint;
 use script::Script;
 use std::alloc::{AllocError, Global};
 use vm_runner::Machine;
-use vm_state::Plan;
+use vm_state::DecodedImage;
 use vm_stretch::Completed;
 
 /// How many events are shown at most.
@@ -41,7 +41,11 @@ fn is_at(completed: Option<Completed>, address: u32) -> bool
 
 impl Course {
     /// The run before tick 0; an error says that memory is short.
-    pub(crate) fn new(alloc: Global, plan: &Plan, script: &Script) -> Result<Course, AllocError>
+    pub(crate) fn new(
+        alloc: Global,
+        plan: &DecodedImage,
+        script: &Script,
+    ) -> Result<Course, AllocError>
         ghost image: { Image }
         requires plan { IsOf image plan.now }
         requires runnable { IsRunnable image (script_of script.now) }
@@ -54,7 +58,7 @@ impl Course {
     }
 
     /// One turn, up to the limit at most: the instruction whose effect came in its last tick.
-    fn turn(&mut self, plan: &Plan, script: &Script, limit: u64) -> Option<Completed>
+    fn turn(&mut self, plan: &DecodedImage, script: &Script, limit: u64) -> Option<Completed>
         ghost image: { Image }
         requires plan { IsOf image plan.now }
         requires runnable { IsRunnable image (script_of script.now) }
@@ -75,7 +79,7 @@ impl Course {
     }
 
     /// Runs up to a tick, which is not below the machine's.
-    pub(crate) fn go_to(&mut self, plan: &Plan, script: &Script, tick: u64)
+    pub(crate) fn go_to(&mut self, plan: &DecodedImage, script: &Script, tick: u64)
         ghost image: { Image }
         requires plan { IsOf image plan.now }
         requires runnable { IsRunnable image (script_of script.now) }
@@ -92,7 +96,7 @@ impl Course {
 
     /// Runs from the start until the instruction at the address has had its first effect, or to the
     /// end.
-    pub(crate) fn go_past(&mut self, plan: &Plan, script: &Script, address: u32)
+    pub(crate) fn go_past(&mut self, plan: &DecodedImage, script: &Script, address: u32)
         ghost image: { Image }
         requires plan { IsOf image plan.now }
         requires runnable { IsRunnable image (script_of script.now) }
@@ -112,7 +116,7 @@ impl Course {
     }
 
     /// Runs from the start to where it stops.
-    pub(crate) fn run(&mut self, plan: &Plan, script: &Script, stop: Stop)
+    pub(crate) fn run(&mut self, plan: &DecodedImage, script: &Script, stop: Breakpoint)
         ghost image: { Image }
         requires plan { IsOf image plan.now }
         requires runnable { IsRunnable image (script_of script.now) }
@@ -122,8 +126,8 @@ impl Course {
         ensures stop { IsStop image (script_of script.now) stop self.new.machine.tick }
     {
         match stop {
-            Stop::Tick(tick) => self.go_to(plan, script, tick.min(script.end())),
-            Stop::Effect(address) => self.go_past(plan, script, address),
+            Breakpoint::Tick(tick) => self.go_to(plan, script, tick.min(script.end())),
+            Breakpoint::Effect(address) => self.go_past(plan, script, address),
         }
     }
 }

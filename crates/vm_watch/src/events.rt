@@ -6,7 +6,7 @@ ghost use Rattle.event_log.specs.Line.{line_of, log_of};
 ghost use Rattle.command_due.specs.Text.{recent_text};
 
 use base::Event;
-use event_log::{Line, write_line};
+use event_log::{LineBuffer, write_line};
 use image::ImageNames;
 use itoa::Buffer;
 use std::alloc::AllocError;
@@ -33,7 +33,7 @@ pub fn put_tick(text: &mut Text, tick: u64) -> Result<(), AllocError>
 /// Puts the line of an event, which is written over the line before.
 fn put_event(
     text: &mut Text,
-    line: &mut Line,
+    line: &mut LineBuffer,
     names: &ImageNames,
     event: &Event,
 ) -> Result<(), AllocError>
@@ -49,7 +49,7 @@ fn put_log(text: &mut Text, names: &ImageNames, events: &[Event]) -> Result<(), 
     requires { All (AreIn names.now) events.now }
     ensures { OnOk result (text.new ≡ text.old ++ log_of names.now events.now) }
 {
-    let mut line = Line::new();
+    let mut line = LineBuffer::new();
     for event in events {
         put_event(text, &mut line, names, event)?;
     }

@@ -13,27 +13,28 @@ ghost use Rattle.vm_stretch.specs.View.{monitor_words, occupant as occupant_of};
 
 use image::RawImage;
 use vm_runner::Machine;
-use vm_state::{Board, Cell, Stand};
+use vm_state::{ControlBlock, MachineState, SchedulingState};
 
 /// Whether a process is inside a monitor.
-fn is_inside(cell: &Cell, monitor: u16) -> bool
+fn is_inside(cell: &ControlBlock, monitor: u16) -> bool
     ensures { result ≡ thread_inside monitor (thread_of cell.now) }
 {
     match cell.stand {
-        Stand::Idle => false,
-        Stand::Ready | Stand::Waiting { .. } => cell.job.inside == Some(monitor),
+        SchedulingState::Idle => false,
+        SchedulingState::Ready | SchedulingState::Waiting { .. } => cell.job.inside
+            == Some(monitor),
     }
 }
 
 /// The first of the processes that is inside a monitor.
-fn first_inside(cells: &[Cell], monitor: u16) -> Option<usize>
+fn first_inside(cells: &[ControlBlock], monitor: u16) -> Option<usize>
     ensures { result ≡ position (λ cell. thread_inside monitor (thread_of cell)) cells.now }
 {
     cells.iter().position(|cell| is_inside(cell, monitor))
 }
 
 /// The process of the board that is inside a monitor.
-fn occupant_on(board: &Board, monitor: u16) -> Option<usize>
+fn occupant_on(board: &MachineState, monitor: u16) -> Option<usize>
     ensures { result ≡ occupant_of (state_of board.now) monitor }
 {
     first_inside(&board.cells, monitor)
@@ -52,7 +53,7 @@ pub fn occupant(machine: &Machine, monitor: u16) -> Option<usize>
 }
 
 /// A word of a monitor on the board.
-fn monitor_word_on(image: &RawImage, board: &Board, monitor: usize, word: usize) -> i32
+fn monitor_word_on(image: &RawImage, board: &MachineState, monitor: usize, word: usize) -> i32
     requires { word <
         length (monitor_words (image_of image.now) (state_of board.now) monitor) }
     ensures { slice_get

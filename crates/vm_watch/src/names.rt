@@ -3,7 +3,7 @@
 ghost use Rattle.std.specs.Prelude.{◌≡◌, ◌++◌, [], OnOk, Some, slice_get, unwrap_or};
 ghost use Rattle.event_log.specs.Line.{condition_name, monitor_name, process_name, qualified};
 
-use image::{CondName, ImageNames};
+use image::{ConditionName, ImageNames};
 use std::alloc::AllocError;
 use syntax_tree::{Name, Text};
 
@@ -35,7 +35,7 @@ pub(crate) fn monitor_of(names: &ImageNames, number: usize) -> &[u8]
 fn put_qualified(
     text: &mut Text,
     names: &ImageNames,
-    condition: &CondName,
+    condition: &ConditionName,
 ) -> Result<(), AllocError>
     ensures { OnOk result (text.new ≡ text.old ++ qualified names.now (Some condition.now)) }
 {

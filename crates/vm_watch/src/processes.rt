@@ -10,12 +10,12 @@ ghost use Rattle.vm_state.specs.Plan.{IsOf};
 ghost use Rattle.vm_stretch.specs.View.{process_words, view_of};
 
 use vm_runner::Machine;
-use vm_state::{Board, Plan, Stand};
+use vm_state::{DecodedImage, MachineState, SchedulingState};
 use vm_stretch::View;
 use vm_turn::left;
 
 /// How a process of the board stands.
-fn view_on(plan: &Plan, board: &Board, process: usize) -> View
+fn view_on(plan: &DecodedImage, board: &MachineState, process: usize) -> View
     ghost image: { Image }
     requires plan { IsOf image plan.now }
     requires process { process < vec_len board.now.cells }
@@ -23,18 +23,18 @@ fn view_on(plan: &Plan, board: &Board, process: usize) -> View
 {
     let cell = &board.cells[process];
     match cell.stand {
-        Stand::Idle => View::Idle,
-        Stand::Ready => View::Ready {
+        SchedulingState::Idle => View::Idle,
+        SchedulingState::Ready => View::Ready {
             at: cell.job.place,
             left: left(plan, board, process),
             inside: cell.job.inside,
         },
-        Stand::Waiting { condition, due, .. } => View::Waiting { condition, due },
+        SchedulingState::Waiting { condition, due, .. } => View::Waiting { condition, due },
     }
 }
 
 /// How a process stands.
-pub fn view(plan: &Plan, machine: &Machine, process: usize) -> View
+pub fn view(plan: &DecodedImage, machine: &Machine, process: usize) -> View
     ghost run: { Run }
     requires plan { IsOf run.image plan.now }
     requires stands { StandsIn run.image run.script machine.now }
@@ -46,7 +46,7 @@ pub fn view(plan: &Plan, machine: &Machine, process: usize) -> View
 }
 
 /// A word of a process of the board.
-fn word_on(board: &Board, process: usize, word: usize) -> i32
+fn word_on(board: &MachineState, process: usize, word: usize) -> i32
     requires { word < length (process_words (state_of board.now) process) }
     ensures { slice_get (process_words (state_of board.now) process) word ≡ Some result }
 {

@@ -17,7 +17,7 @@ use image::RawImage;
 use std::alloc::{AllocError, Global};
 use syntax_tree::Text;
 use vm_runner::Machine;
-use vm_state::Plan;
+use vm_state::DecodedImage;
 
 /// How many words are shown at most.
 const SHOWN_WORDS: usize = 16;
@@ -89,7 +89,7 @@ fn put_one_process(
     alloc: Global,
     text: &mut Text,
     image: &RawImage,
-    plan: &Plan,
+    plan: &DecodedImage,
     machine: &Machine,
     process: usize,
 ) -> Result<(), AllocError>
@@ -136,7 +136,7 @@ fn put_processes(
     alloc: Global,
     text: &mut Text,
     image: &RawImage,
-    plan: &Plan,
+    plan: &DecodedImage,
     machine: &Machine,
 ) -> Result<(), AllocError>
     ghost run: { Run }
@@ -181,7 +181,7 @@ pub(crate) fn put_state(
     alloc: Global,
     text: &mut Text,
     image: &RawImage,
-    plan: &Plan,
+    plan: &DecodedImage,
     machine: &Machine,
 ) -> Result<(), AllocError>
     ghost run: { Run }

@@ -17,16 +17,21 @@ use crate::course::Course;
 use crate::inspect::words_are_declared;
 use crate::told::put_state;
 use crate::{put_recent, put_tick};
-use command_words::Stop;
+use command_words::Breakpoint;
 use image::RawImage;
 use script::Script;
 use std::alloc::{AllocError, Global};
 use syntax_tree::Text;
 use vm_plan::plan::plan_of;
-use vm_state::Plan;
+use vm_state::DecodedImage;
 
 /// The lines that tell where a run stands.
-fn tell(alloc: Global, image: &RawImage, plan: &Plan, course: &Course) -> Result<Text, AllocError>
+fn tell(
+    alloc: Global,
+    image: &RawImage,
+    plan: &DecodedImage,
+    course: &Course,
+) -> Result<Text, AllocError>
     ghost run: { Run }
     requires image { run.image ≡ image_of image.now }
     requires plan { IsOf run.image plan.now }
@@ -50,9 +55,9 @@ fn tell(alloc: Global, image: &RawImage, plan: &Plan, course: &Course) -> Result
 fn watch_by(
     alloc: Global,
     image: &RawImage,
-    plan: &Plan,
+    plan: &DecodedImage,
     script: &Script,
-    stop: Stop,
+    stop: Breakpoint,
 ) -> Result<Text, AllocError>
     ghost run: { Run }
     requires image { run.image ≡ image_of image.now }
@@ -75,7 +80,7 @@ pub fn watch(
     alloc: Global,
     image: &RawImage,
     script: &Script,
-    stop: Stop,
+    stop: Breakpoint,
 ) -> Result<Text, AllocError>
     requires { CanRunByRanks (by_ranks image.now script.now) }
     ensures { IfOk result (λ text.

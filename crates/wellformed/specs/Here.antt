@@ -1,7 +1,7 @@
 -- Where a text stands, and what a name stands for there. Names are looked for as the meaning of
 -- programs looks for them.
 use Rattle.std.specs.Prelude.{Bool, true, false, not, ◌||◌, List, [], ◌∷◌, ◌++◌, Option, Some, None, ℤ, map, filter_map, slice_get, is_some, bytes_eq, if◌then◌else◌}
-use Rattle.syntax_tree.specs.Plain.{Name, Scalar, int, boolean, subrange, Kind, scalar, array, Var, Param, Routine, Monitor, Process, Prog}
+use Rattle.syntax_tree.specs.Plain.{Name, Scalar, int, boolean, subrange, Kind, scalar, array, Var, Param, Routine, Monitor, Process, Program}
 use Rattle.static_declarations.specs.declared.sort.Sort.{Sort}
 use Rattle.static_declarations.specs.declared.sort.Sort.TheVariants as sort_is
 use Rattle.source_semantics.specs.Names.{named, constants, monitors, variable_in, conditions_of}
@@ -11,7 +11,7 @@ use Rattle.source_semantics.specs.Run.{Home, of_program, of_process, of_monitor}
 -- entry, the variables of the loops around it, innermost first, and the parameters and variables of
 -- its routine
 pub record Here : Type 0 where
-  pub program : Prog
+  pub program : Program
   pub process : Process
   pub home : Home
   pub is_function : Bool
@@ -32,7 +32,7 @@ monitor_vars None = []
 monitor_vars (Some m) = filter_map variable_in m.members
 
 -- the variables in reach beside the routine's own
-abbrev pub outer_vars : Prog → Process → Home → List Var
+abbrev pub outer_vars : Program → Process → Home → List Var
 outer_vars g p of_program = []
 outer_vars g p of_process = p.vars
 outer_vars g p (of_monitor k) = monitor_vars (slice_get (monitors g) k)
@@ -42,7 +42,7 @@ monitor_conditions None = []
 monitor_conditions (Some m) = conditions_of m
 
 -- the conditions of the monitor whose text it is
-abbrev pub conditions_here : Prog → Home → List Name
+abbrev pub conditions_here : Program → Home → List Name
 conditions_here g of_program = []
 conditions_here g of_process = []
 conditions_here g (of_monitor k) = monitor_conditions (slice_get (monitors g) k)
@@ -137,9 +137,9 @@ is_function_at of_program r = is_some r.answers
 is_function_at of_process r = is_some r.answers
 is_function_at (of_monitor k) r = false
 
-abbrev pub in_routine : Prog → Process → Home → Routine → Here
+abbrev pub in_routine : Program → Process → Home → Routine → Here
 in_routine g p home r = record { program = g; process = p; home = home; is_function = is_function_at home r; turns = []; own = own_of r }
 
 -- the body and the handler of a process
-abbrev pub in_process : Prog → Process → Here
+abbrev pub in_process : Program → Process → Here
 in_process g p = record { program = g; process = p; home = of_process; is_function = false; turns = []; own = [] }

@@ -1,7 +1,7 @@
 -- Statements that are well formed where they stand.
 use Rattle.std.specs.Prelude.{◌≡◌, ℕ, Bool, true, false, not, ◌||◌, List, [], ◌∷◌, Some, None, ℤ, pos, ◌+ℤ◌, int_le, int_lt, IsSome, Contains}
 use Rattle.base.specs.Words.{is_word, within}
-use Rattle.syntax_tree.specs.Plain.{Name, Constant, literal_constant, named_constant, Stmt, assign, assign_entry, assign_empty, perform, perform_entry, when, when_else, loop, exit_when, get, put, wait, signal, broadcast, except, assert, Stmts, no_stmts, stmts, device, Prog}
+use Rattle.syntax_tree.specs.Plain.{Name, Constant, literal_constant, named_constant, Stmt, assign, assign_entry, assign_empty, perform, perform_entry, when, when_else, loop, exit_when, get, put, wait, signal, broadcast, except, assert, Stmts, no_stmts, stmts, device, Program}
 use Rattle.static_declarations.specs.declared.sort.Sort.{Sort}
 use Rattle.static_declarations.specs.declared.sort.Sort.TheVariants as sort_is
 use Rattle.source_semantics.specs.Names.{named, constants, constant_among}
@@ -20,12 +20,12 @@ pub record IsConstant (known : List (Name × ℤ)) (c : Constant) : Type 0 where
   pub word : is_word (constant_among known c) ≡ true
 
 -- a constant of the program from low to high
-pub record IsWithin (g : Prog) (low high : ℕ) (c : Constant) : Type 0 where
+pub record IsWithin (g : Program) (low high : ℕ) (c : Constant) : Type 0 where
   pub constant : IsConstant (constants g) c
   pub limits : within (pos low) (pos high) (constant_among (constants g) c) ≡ true
 
 -- the bounds of a loop: at most 1,000,000 turns, and behind the last the variable is still a word
-pub record AreTurns (g : Prog) (low high : Constant) : Type 0 where
+pub record AreTurns (g : Program) (low high : Constant) : Type 0 where
   pub low_constant : IsConstant (constants g) low
   pub high_constant : IsConstant (constants g) high
   pub order : int_le (constant_among (constants g) low) (constant_among (constants g) high) ≡ true

@@ -7,7 +7,7 @@ use Rattle.syntax_tree.specs.Placed.{Scalar, Expr, Exprs, RoutineKind, procedure
 use Rattle.syntax_tree.specs.declared.place.Place.{Place}
 use Rattle.static_names.specs.declared.kind.Kind.{Kind as NameKind}
 use Rattle.static_names.specs.declared.kind.Kind.TheVariants as kind_is
-use Rattle.static_names.specs.declared.kind.Want.TheVariants as want_is
+use Rattle.static_names.specs.declared.kind.NameUse.TheVariants as want_is
 use Rattle.static_names.specs.Reach.{Site, suits, through}
 use Rattle.static_names.specs.Occurrences.{Occurrence, used, uses, names, declared_at, exprs_names}
 use Rattle.static_declarations.specs.declared.sort.Sort.{Sort}

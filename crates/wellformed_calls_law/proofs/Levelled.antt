@@ -8,7 +8,7 @@ use Rattle.syntax_tree.specs.Parts.{program_routines, routines}
 use Rattle.syntax_tree.specs.declared.place.Place.{Place}
 use Rattle.static_names.specs.declared.kind.Kind.{Kind}
 use Rattle.static_names.specs.declared.kind.Kind.TheVariants as kind_is
-use Rattle.static_names.specs.declared.kind.Want.TheVariants as want_is
+use Rattle.static_names.specs.declared.kind.NameUse.TheVariants as want_is
 use Rattle.static_names.specs.Reach.{suits, Site, inside}
 use Rattle.static_names.specs.Occurrences.{names, declared_at, routine_scope}
 use Rattle.source_semantics.specs.Names.{routine_count}

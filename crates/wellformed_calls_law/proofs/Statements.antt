@@ -5,11 +5,11 @@ use Rattle.syntax_tree.specs.Plain.{Name}
 use Rattle.syntax_tree.specs.Plain as plain_of
 use Rattle.syntax_tree.specs.Placed.{Constant, Expr, Exprs, Ref, Stmt, assign, assign_entry, assign_empty, perform, perform_entry, when, when_else, loop, exit_when, get, put, wait, signal, broadcast, except, assert, Stmts, no_stmts, stmts, Process, Prog, plain_ref, plain_expr, plain_constant, plain_stmt, plain_stmts}
 use Rattle.syntax_tree.specs.declared.place.Place.{Place}
-use Rattle.static_names.specs.declared.kind.Want.TheVariants as want_is
+use Rattle.static_names.specs.declared.kind.NameUse.TheVariants as want_is
 use Rattle.static_names.specs.Reach.{Site, inside}
 use Rattle.static_names.specs.Occurrences.{Occurrence, uses, names, constant_names, expr_names, exprs_names, ref_names, entry_names, loop_name, stmt_names, stmts_names}
-use Rattle.static_declarations.specs.declared.home.Home.{Home}
-use Rattle.static_declarations.specs.declared.home.Home.TheVariants as home_is
+use Rattle.static_declarations.specs.declared.home.StmtContext.{StmtContext}
+use Rattle.static_declarations.specs.declared.home.StmtContext.TheVariants as home_is
 use Rattle.static_declarations.specs.declared.sort.Sort.{Sort}
 use Rattle.static_declarations.specs.declared.sort.Sort.TheVariants as sort_is
 use Rattle.static_declarations.specs.Things.{loop_thing, thing_at, named_at}
@@ -40,12 +40,12 @@ use Rattle.wellformed_calls_law.proofs.Calls.{IsCalled, condition_stands, device
 
 -- ---- what a text stands in
 
-calls_freely : (home : Home) (at : Option Place) (c : Here) → IsHome home at c → calls_nothing home ≡ false → may_call c ≡ true
+calls_freely : (home : StmtContext) (at : Option Place) (c : Here) → IsHome home at c → calls_nothing home ≡ false → may_call c ≡ true
 calls_freely home_is.Free at c is e = ap (λ b. not (b || c.is_function)) is.0 ∙ ap not is.1
 calls_freely home_is.Entry at c is e = absurd (cc)
 calls_freely (home_is.Function own) at c is e = absurd (cc)
 
-no_function : (home : Home) (at : Option Place) (c : Here) → IsHome home at c → in_function home ≡ false → c.is_function ≡ false
+no_function : (home : StmtContext) (at : Option Place) (c : Here) → IsHome home at c → in_function home ≡ false → c.is_function ≡ false
 no_function home_is.Free at c is e = is.1
 no_function home_is.Entry at c is e = is.1
 no_function (home_is.Function own) at c is e = absurd (cc)
@@ -53,7 +53,7 @@ no_function (home_is.Function own) at c is e = absurd (cc)
 in_loop_placed : (w : Where) (at : Option Place) (c : Here) (i : Name) → IsPlaced w at c → IsPlaced (looped w) at (in_loop i c)
 in_loop_placed w at c i placed = record { home = by w.home placed.home; loops = refl }
   where
-    by : (home : Home) → IsHome home at c → IsHome home at (in_loop i c)
+    by : (home : StmtContext) → IsHome home at c → IsHome home at (in_loop i c)
     by home_is.Free is = is
     by home_is.Entry is = is
     by (home_is.Function own) is = is
@@ -168,7 +168,7 @@ module _ (g : Prog Place) (p : Process Place) (at : Option Place) (site : Site) 
   -- a constant within its limits
   limits_fit : (low high : ℕ) (k : Constant Place) (more : List Occurrence) → ConstantWritten k → AreNames g (constant_names site k more) → out_of (value g) low high k ≡ None → IsWithin c.program low high (plain_constant k)
   limits_fit low high k more written names e =
-      subst (λ (o : plain_of.Prog). IsWithin o low high (plain_constant k)) (sym m.program) (is_within_limits g low high k (constant_fits g p at site c k more kept m written names) e)
+      subst (λ (o : plain_of.Program). IsWithin o low high (plain_constant k)) (sym m.program) (is_within_limits g low high k (constant_fits g p at site c k more kept m written names) e)
 
   wait_fits : (q0 : Place) (x : Name) (q : Place) (limit number : Constant Place) (more : List Occurrence) → KeepsRules g (statement w (wait q0 x q limit number)) → ConstantWritten limit → ConstantWritten number
       → AreNames g (uses site x q want_is.Condition ∷ constant_names site limit (constant_names site number more)) → Fits c (plain_stmt (wait q0 x q limit number))
@@ -185,7 +185,7 @@ module _ (g : Prog Place) (p : Process Place) (at : Option Place) (site : Site) 
       let body = stmts_names (inside (loop_name x q ∷ []) site) a more in
       let l = constant_fits g p at site c low (constant_names site high body) kept m written_l names in
       let h = constant_fits g p at site c high body kept m written_h (constant_rest g site low (constant_names site high body) names) in
-      subst (λ (o : plain_of.Prog). AreTurns o (plain_constant low) (plain_constant high)) (sym m.program) (are_turns g w q0 x q low high a k l h)
+      subst (λ (o : plain_of.Program). AreTurns o (plain_constant low) (plain_constant high)) (sym m.program) (are_turns g w q0 x q low high a k l h)
 
 -- ---- all statements
 

@@ -6,10 +6,10 @@ use Rattle.syntax_tree.specs.Plain.{Name}
 use Rattle.syntax_tree.specs.Placed.{Kind, Ref, whole, part, Process, Prog, plain_kind, plain_ref}
 use Rattle.syntax_tree.specs.declared.place.Place.{Place}
 use Rattle.static_names.specs.Reach.{Site}
-use Rattle.static_names.specs.declared.kind.Want.TheVariants as want_is
+use Rattle.static_names.specs.declared.kind.NameUse.TheVariants as want_is
 use Rattle.static_names.specs.Occurrences.{Occurrence, uses, expr_names, ref_names}
-use Rattle.static_declarations.specs.declared.home.Home.{Home}
-use Rattle.static_declarations.specs.declared.home.Home.TheVariants as home_is
+use Rattle.static_declarations.specs.declared.home.StmtContext.{StmtContext}
+use Rattle.static_declarations.specs.declared.home.StmtContext.TheVariants as home_is
 use Rattle.static_declarations.specs.declared.sort.Sort.{Sort}
 use Rattle.static_declarations.specs.declared.sort.Sort.TheVariants as sort_is
 use Rattle.static_declarations.specs.Things.{Thing, variable_thing, shape_of, thing_at, named_at}
@@ -26,12 +26,12 @@ use Rattle.wellformed_calls_law.proofs.Uses.{word_of, element_of, more_names, va
 use Rattle.wellformed_calls_law.proofs.Expressions.{is_of_fits}
 
 -- in a function, a variable that is none of its own is foreign
-no_function : (home : Home) (at : Option Place) (c : Here) (o : Option Thing) (k : Kind Place) → IsHome home at c → o ≡ Some (variable_thing None (shape_of k)) → is_foreign home o ≡ false → c.is_function ≡ false
+no_function : (home : StmtContext) (at : Option Place) (c : Here) (o : Option Thing) (k : Kind Place) → IsHome home at c → o ≡ Some (variable_thing None (shape_of k)) → is_foreign home o ≡ false → c.is_function ≡ false
 no_function home_is.Free at c o k in_home is h = in_home.1
 no_function home_is.Entry at c o k in_home is h = in_home.1
 no_function (home_is.Function own) at c o k in_home is h = absurd (true≢false (sym (ap (is_foreign (home_is.Function own)) is) ∙ h))
 
-assignable : (g : Prog Place) (home : Home) (at : Option Place) (c : Here) (x : Name) (place : Place) (o : Option Thing) → o ≡ Some (thing_at g place) → IsHome home at c → IsVariable g c at x place → is_foreign home o ≡ false
+assignable : (g : Prog Place) (home : StmtContext) (at : Option Place) (c : Here) (x : Name) (place : Place) (o : Option Thing) → o ≡ Some (thing_at g place) → IsHome home at c → IsVariable g c at x place → is_foreign home o ≡ false
     → is_assignable c.is_function (meant c x) ≡ true
 assignable g home at c x place o is in_home v h = by v.stands
   where
@@ -41,7 +41,7 @@ assignable g home at c x place o is in_home v h = by v.stands
     by (inl s) = ap (is_assignable c.is_function) s.1
     by (inr s) = ap (is_assignable c.is_function) s.1 ∙ ap not (no_function home at c o v.kind in_home (is ∙ ap Some s.0) h)
 
-pub target_fits : (g : Prog Place) (p : Process Place) (at : Option Place) (site : Site) (c : Here) (home : Home) (r : Ref Place) (more : List Occurrence) → IsKept g → Mirrors g p at site c
+pub target_fits : (g : Prog Place) (p : Process Place) (at : Option Place) (site : Site) (c : Here) (home : StmtContext) (r : Ref Place) (more : List Occurrence) → IsKept g → Mirrors g p at site c
     → IsHome home at c → RefWritten r → AreNames g (ref_names site r more) → target_agrees (named_at g) r ≡ true → target_strays (named_at g) home r ≡ false
     → (s : Sort) × (target_sort (named_at g) r ≡ Some s) × IsTarget c s (plain_ref r)
 target_fits g p at site c home (whole q x) more kept mirrors in_home written are agree stray =

@@ -8,8 +8,8 @@ use Rattle.syntax_tree.specs.declared.place.Place.{Place}
 use Rattle.static_names.specs.declared.kind.Declared.{Declared}
 use Rattle.static_names.specs.declared.kind.Kind.{Kind as NameKind}
 use Rattle.static_names.specs.declared.kind.Kind.TheVariants as kind_is
-use Rattle.static_names.specs.declared.kind.Want.{Want}
-use Rattle.static_names.specs.declared.kind.Want.TheVariants as want_is
+use Rattle.static_names.specs.declared.kind.NameUse.{NameUse}
+use Rattle.static_names.specs.declared.kind.NameUse.TheVariants as want_is
 use Rattle.static_names.specs.Reach.{Site, suits}
 use Rattle.static_names.specs.Occurrences.{Occurrence, used}
 use Rattle.static_declarations.specs.declared.sort.Sort.{Sort}
@@ -39,10 +39,10 @@ sorts_same (subrange low high) = refl
 pub more_names : (g : Prog Place) (o : Occurrence) (more : List Occurrence) → AreNames g (o ∷ more) → AreNames g more
 more_names g o more are x h = are x (behind o more x h)
 
-pub used_found : (g : Prog Place) (x : Name) (q : Place) (want : Want) (means : Option Declared) (more : List Occurrence) → IsKept g → AreNames g (used x q want means ∷ more) → IsFound g q want means
+pub used_found : (g : Prog Place) (x : Name) (q : Place) (want : NameUse) (means : Option Declared) (more : List Occurrence) → IsKept g → AreNames g (used x q want means ∷ more) → IsFound g q want means
 used_found g x q want means more kept are = kept.names.uses x q want means (are (used x q want means) (at_front (used x q want means) more))
 
-pub named_thing : (g : Prog Place) (q : Place) (want : Want) (means : Option Declared) (f : IsFound g q want means) → named_at g q ≡ Some (thing_at g f.declared.place)
+pub named_thing : (g : Prog Place) (q : Place) (want : NameUse) (means : Option Declared) (f : IsFound g q want means) → named_at g q ≡ Some (thing_at g f.declared.place)
 named_thing g q want means f = ap (option_map (thing_at g)) f.found
 
 -- ---- values

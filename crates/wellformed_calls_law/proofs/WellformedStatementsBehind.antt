@@ -4,7 +4,7 @@ use Rattle.base.proofs.Members.{at_front, behind}
 use Rattle.syntax_tree.specs.Plain.{Name}
 use Rattle.syntax_tree.specs.Placed.{Constant, Stmt, assign, assign_entry, assign_empty, perform, perform_entry, when, when_else, loop, exit_when, get, put, wait, signal, broadcast, except, assert, Stmts, no_stmts, stmts, Prog}
 use Rattle.syntax_tree.specs.declared.place.Place.{Place}
-use Rattle.static_names.specs.declared.kind.Want.TheVariants as want_is
+use Rattle.static_names.specs.declared.kind.NameUse.TheVariants as want_is
 use Rattle.static_names.specs.Reach.{Site, inside, through}
 use Rattle.static_names.specs.Occurrences.{Occurrence, declares, used, uses, names, constant_names, expr_names, exprs_names, ref_names, entry_names, loop_name, stmt_names, stmts_names}
 use Rattle.static_declarations.specs.declared.home.Where.{Where}

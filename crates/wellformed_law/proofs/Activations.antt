@@ -13,12 +13,12 @@ use Rattle.syntax_tree.specs.Placed.{Constant, Activation, periodic, at_event, H
 use Rattle.syntax_tree.specs.declared.place.Place.{Place}
 use Rattle.static_names.specs.declared.kind.Kind.{Kind as NameKind}
 use Rattle.static_names.specs.declared.kind.Kind.TheVariants as kind_is
-use Rattle.static_names.specs.declared.kind.Want.TheVariants as want_is
+use Rattle.static_names.specs.declared.kind.NameUse.TheVariants as want_is
 use Rattle.static_names.specs.Reach.{Site, suits}
 use Rattle.static_names.specs.Occurrences.{Occurrence, used, names, declared_at, constant_names, constants_names, stmts_names, optional_names, activation_names, handler_names, process_scope, var_name, routine_name}
 use Rattle.static_declarations.specs.Values.{Worth, value, constant_place, is_within, out_of}
 use Rattle.static_declarations.specs.Parts.{handler_parts, outside_loops, parts}
-use Rattle.static_declarations.specs.declared.home.Home.TheVariants as home_is
+use Rattle.static_declarations.specs.declared.home.StmtContext.TheVariants as home_is
 use Rattle.syntax_tree.specs.Parts.{processes}
 use Rattle.static_numbers.specs.Processes.{frame_of, deadline_of, bad_limit, bad_start, Handled, handled, handler_numbers, all_handled, has_value}
 use Rattle.source_semantics.specs.Names.{constants}

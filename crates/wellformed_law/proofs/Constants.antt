@@ -13,7 +13,7 @@ use Rattle.syntax_tree.specs.declared.place.Place.{Place}
 use Rattle.static_names.specs.declared.kind.Declared.{Declared}
 use Rattle.static_names.specs.declared.kind.Kind.{Kind as NameKind}
 use Rattle.static_names.specs.declared.kind.Kind.TheVariants as kind_is
-use Rattle.static_names.specs.declared.kind.Want.TheVariants as want_is
+use Rattle.static_names.specs.declared.kind.NameUse.TheVariants as want_is
 use Rattle.static_names.specs.Reach.{Names, Site, suits, inside, inside_monitor}
 use Rattle.static_names.specs.Occurrences.{constant_names}
 use Rattle.source_semantics.specs.Names.{named, signed, value_among, constant_among, constants_from, constants}

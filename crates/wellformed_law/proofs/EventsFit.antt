@@ -58,7 +58,7 @@ event_of ds e (constant m p k) h w = absurd (cc)
 event_of ds e (device m p is_out) h w = absurd (cc)
 event_of ds e (event m p) h w = record { place = p; listed = subst (λ x. Contains ds (event x p)) (ap name_of w) h }
   where
-    name_of : plain_of.Decl → Name
+    name_of : plain_of.Declaration → Name
     name_of (plain_of.event x) = x
     name_of _ = e
 event_of ds e (routine r) h w = absurd (cc)

@@ -11,7 +11,7 @@ use Rattle.static_names.specs.declared.kind.Kind.TheVariants as kind_is
 use Rattle.static_names.specs.Reach.{Site, inside}
 use Rattle.static_names.specs.Occurrences.{Occurrence, closes, names, activation_names, vars_names, routines_names, stmts_names, optional_names, handler_names, routine_scope, process_scope, process_inner, monitor_scope, monitor_inner, var_name, routine_name, member_name, entry_name}
 use Rattle.static_declarations.specs.Parts.{parts, stmts_parts, handler_parts, outside_loops}
-use Rattle.static_declarations.specs.declared.home.Home.TheVariants as home_is
+use Rattle.static_declarations.specs.declared.home.StmtContext.TheVariants as home_is
 use Rattle.static_numbers.specs.Types.{Bounds, decls_bounds, decl_bounds, routines_bounds}
 use Rattle.static_numbers.specs.Processes.{handler_numbers, all_handled}
 use Rattle.source_semantics.specs.Names.{constants, routine_in, monitor_in, process_in}

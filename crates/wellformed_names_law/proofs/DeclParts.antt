@@ -6,7 +6,7 @@ use Rattle.syntax.specs.Words as w
 use Rattle.syntax.specs.Words.{Word, named, Tok}
 use Rattle.syntax.specs.ExprGrammar.{a, ◌▷◌, Each, Listed, SomeListed, IsConstant}
 use Rattle.syntax.specs.Grammar.{MOST_LEVELS, IsScalar, IsKind, IsVar, IsParam, kind_word, IsResult, IsValue, IsRoutine, IsMember, IsEntry, IsMonitor, IsDeadline, IsFirst, IsActivation, IsHandler, IsProcess, way_word, IsDecl, IsProg}
-use Rattle.static_names.specs.declared.kind.Want.TheVariants as want_is
+use Rattle.static_names.specs.declared.kind.NameUse.TheVariants as want_is
 use Rattle.syntax_tree.specs.Parts.{same_place}
 use Rattle.static_names.specs.Reach.{Names, Reach, first, Site, inside, inside_monitor}
 use Rattle.static_names.specs.Occurrences.{Occurrence, declares, closes, uses, declarations, constant_names, constants_names, scalar_names, kind_names, expr_names, var_name, param_name, routine_name, entry_name, member_name, vars_names, params_names, member_inner, members_names, optional_names, routine_scope, routine_inner, routine_names, routines_names, monitor_scope, monitor_inner, monitor_names, activation_names, handler_names, process_scope, process_inner, process_names, decl_name, others, entries_at, inner_names, decls_names, program_name, names}

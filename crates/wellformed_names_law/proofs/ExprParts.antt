@@ -7,7 +7,7 @@ use Rattle.syntax.specs.Words as w
 use Rattle.syntax.specs.Words.{Word, named, number, Tok}
 use Rattle.syntax.specs.ExprGrammar.{Unsigned, IsConstant, op_word, OfLevel, IsExpr, AreOperands, AreArgs, AreMoreArgs, InParens}
 use Rattle.syntax.specs.StmtGrammar.{IsRef, IsStmt, AreStmts}
-use Rattle.static_names.specs.declared.kind.Want.TheVariants as want_is
+use Rattle.static_names.specs.declared.kind.NameUse.TheVariants as want_is
 use Rattle.syntax_tree.specs.Parts.{same_place}
 use Rattle.static_names.specs.Reach.{Site, inside, through}
 use Rattle.static_names.specs.Occurrences.{declares, used, uses, constant_names, expr_names, exprs_names, operands_names, ref_names, loop_name, stmt_names, stmts_names}

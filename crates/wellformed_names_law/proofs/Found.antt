@@ -5,7 +5,7 @@ use Rattle.syntax_tree.specs.Plain.{Name}
 use Rattle.syntax_tree.specs.Placed.{Prog}
 use Rattle.syntax_tree.specs.declared.place.Place.{Place}
 use Rattle.static_names.specs.declared.kind.Declared.{Declared}
-use Rattle.static_names.specs.declared.kind.Want.{Want}
+use Rattle.static_names.specs.declared.kind.NameUse.{NameUse}
 use Rattle.syntax_tree.specs.Parts.{same_place}
 use Rattle.static_names.specs.Reach.{suits, or_else}
 use Rattle.static_names.specs.Occurrences.{Occurrence, declares, closes, used, names, declared_at}
@@ -36,7 +36,7 @@ sole true x d n is none h = ap (λ y. or_else y (Some d)) (none (omega arith))
 sole false x d n is none h = absurd (true≢false (sym is))
 
 -- where a use is the only name at its place, the place has the declaration of that use
-declared-there : (os : List Occurrence) (name : Name) (p : Place) (want : Want) (d : Declared) → Among (λ x. x ≡ used name p want (Some d)) os → standing p os ≤ 1 → declared_at os p ≡ Some d.place
+declared-there : (os : List Occurrence) (name : Name) (p : Place) (want : NameUse) (d : Declared) → Among (λ x. x ≡ used name p want (Some d)) os → standing p os ≤ 1 → declared_at os p ≡ Some d.place
 declared-there [] name p want d a h = elim a [ ]
 declared-there (x ∷ os) name p want d (inl e) h =
     subst (λ y. standing p (y ∷ os) ≤ 1 → declared_at (y ∷ os) p ≡ Some d.place) (sym e)
@@ -67,7 +67,7 @@ is-false : (b : Bool) → ¬ (b ≡ true) → b ≡ false
 is-false true h = absurd (h refl)
 is-false false h = refl
 
-found : (g : Prog Place) → StandApart g → IsNamed g → (name : Name) (place : Place) (want : Want) (means : Option Declared) → Contains (names g) (used name place want means) → IsFound g place want means
+found : (g : Prog Place) → StandApart g → IsNamed g → (name : Name) (place : Place) (want : NameUse) (means : Option Declared) → Contains (names g) (used name place want means) → IsFound g place want means
 found g apart named name place want None at = absurd (named 20 place (inl (refl, stands undeclared g (used name place want None) at refl)))
 found g apart named name place want (Some d) at = record {
   declared = d;

@@ -28,7 +28,7 @@ AllFit [] = Unit {0}
 AllFit (t ∷ ts) = Fits t.word × AllFit ts
 
 fits : (bytes : List ℕ) (k : TokenKind) → HasKind bytes k → Fits (word_of k bytes)
-fits bytes kind.Name h = tt
+fits bytes kind.Ident h = tt
 fits bytes (kind.Keyword n) h = tt
 fits bytes (kind.Literal n) h = h.2
 fits bytes (kind.Sign n) h = tt

@@ -31,7 +31,7 @@ text_at g p home f own = record { program = plain g; process = plain_process p; 
 abbrev pub known_name : Name × ℤ → Name
 known_name k = k.0
 
-known-kept : (ds : List plain_of.Decl) (known : List (Name × ℤ)) (x : Name) → is_some (named known_name x known) ≡ true → is_some (named known_name x (constants_from known ds)) ≡ true
+known-kept : (ds : List plain_of.Declaration) (known : List (Name × ℤ)) (x : Name) → is_some (named known_name x known) ≡ true → is_some (named known_name x (constants_from known ds)) ≡ true
 known-kept [] known x e = e
 known-kept (plain_of.constant n c ∷ ds) known x e = known-kept ds ((n, constant_among known c) ∷ known) x (by (bytes_eq n x))
   where
@@ -45,7 +45,7 @@ known-kept (plain_of.monitor m ∷ ds) known x e = known-kept ds known x e
 known-kept (plain_of.process q ∷ ds) known x e = known-kept ds known x e
 
 -- a declared constant is known
-constant-known : (ds : List plain_of.Decl) (known : List (Name × ℤ)) (x : Name) (k : plain_of.Constant) → In ds (plain_of.constant x k) → is_some (named known_name x (constants_from known ds)) ≡ true
+constant-known : (ds : List plain_of.Declaration) (known : List (Name × ℤ)) (x : Name) (k : plain_of.Constant) → In ds (plain_of.constant x k) → is_some (named known_name x (constants_from known ds)) ≡ true
 constant-known [] known x k i = absurd i
 constant-known (c ∷ ds) known x k (inl e) = subst (λ d. is_some (named known_name x (constants_from known (d ∷ ds))) ≡ true) (sym e)
     (known-kept ds ((x, constant_among known k) ∷ known) x (ap (λ b. is_some (cond b (Some (x, constant_among known k)) (named known_name x known))) (same-refl x)))

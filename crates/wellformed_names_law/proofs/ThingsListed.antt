@@ -2,7 +2,7 @@
 use Rattle.std.proofs.Common.{◌≡◌, inl, inr, Bool, true, false, List, [], ◌∷◌, Option, Some, None, refl, ap, sym, subst}
 use Rattle.syntax_tree.specs.Placed.{Var, Param, Routine, Member, variable_member, condition_member, Monitor, Process, Decl, constant, device, event, routine, monitor, process, Prog}
 use Rattle.syntax_tree.specs.declared.place.Place.{Place}
-use Rattle.static_declarations.specs.declared.sort.Shape.TheVariants as shape_is
+use Rattle.static_declarations.specs.declared.sort.VarType.TheVariants as shape_is
 use Rattle.static_declarations.specs.Things.{Thing, routine_thing, variable_thing, sort_of, shape_of, vars_things, params_things, routine_things, routines_things, member_things, members_things, decl_things, decls_things, thing_at}
 use Rattle.static_semantics.specs.Things.{ThingsKnown}
 use Rattle.wellformed_names_law.proofs.Members.{In, in-contains, Ends, ends-same, ends-cons, ends-two, ends-in}

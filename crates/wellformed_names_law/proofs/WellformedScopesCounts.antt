@@ -6,7 +6,7 @@ use Rattle.syntax_tree.specs.declared.place.Place.{Place}
 use Rattle.syntax_tree.specs.Parts.{same_place}
 use Rattle.static_names.specs.Reach.{Names, Reach, Site, first, inside, inside_monitor}
 use Rattle.static_names.specs.Occurrences.{Occurrence, declares, closes, used, declarations, constant_names, constants_names, scalar_names, kind_names, expr_names, exprs_names, operands_names, ref_names, entry_names, loop_name, stmt_names, stmts_names, var_name, param_name, routine_name, entry_name, member_name, vars_names, params_names, member_inner, members_names, optional_names, routine_scope, routine_inner, routine_names, routines_names, monitor_scope, monitor_inner, monitor_names, activation_names, handler_names, process_scope, process_inner, process_names, decl_name, others, entries_at, inner_names, decls_names, program_name, names}
-use Rattle.static_declarations.specs.declared.home.Home.TheVariants as home_is
+use Rattle.static_declarations.specs.declared.home.StmtContext.TheVariants as home_is
 use Rattle.static_declarations.specs.Things.{Thing, other_thing, vars_things, params_things, routine_things, routines_things, members_things, decl_things, decls_things}
 use Rattle.static_declarations.specs.declared.home.Where.{Where}
 use Rattle.static_declarations.specs.Parts.{Part, statement, answer, looped, stmt_parts, stmts_parts, home_of, outside_loops, answer_parts, routine_parts, routines_parts, handler_parts, decl_parts, decls_parts, parts}

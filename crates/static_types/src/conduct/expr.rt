@@ -5,7 +5,7 @@ ghost use Rattle.syntax_tree.specs.Placed.{placed, placed_expr, placed_exprs, pl
 ghost use Rattle.static_declarations.specs.Things.{named_at};
 ghost use Rattle.static_types.specs.Conduct.{is_barred as names_barred, strays as expr_strays, exprs_stray as some_stray, operands_stray as operands_do_stray};
 
-use static_declarations::{Declarations, Thing};
+use static_declarations::{Declarations, Entity};
 use syntax_tree::{Expr, Op, Place, RoutineKind};
 
 /// Whether the name is that of a routine that an expression may not call: a procedure, or an entry
@@ -14,7 +14,7 @@ fn is_barred(declarations: &Declarations<'_>, place: Place) -> bool
     ensures { result ≡ names_barred (named_at (placed declarations.now) place) }
 {
     match declarations.named(place) {
-        Some(Thing::Routine { is_entry, routine }) => {
+        Some(Entity::Routine { is_entry, routine }) => {
             is_entry || routine.kind == RoutineKind::Procedure
         }
         _ => false,

@@ -8,7 +8,7 @@ ghost use Rattle.static_declarations.specs.Parts.{statement};
 ghost use Rattle.static_types.specs.Conduct.{is_function as names_function, is_procedure as names_procedure, is_foreign as names_foreign, ref_strays as index_strays, target_strays as ref_is_astray, calls_nothing as is_silent, stmt_strays as is_astray, is_device as names_device, misdirected as misdirected_at};
 
 use crate::conduct::expr::{exprs_stray, strays};
-use static_declarations::{Declarations, Home, Thing, Where};
+use static_declarations::{Declarations, Entity, StmtContext, Where};
 use syntax_tree::{Place, Ref, RoutineKind, Stmt};
 
 /// Whether the name is that of a function, be it an entry or not.
@@ -16,7 +16,7 @@ fn is_function(declarations: &Declarations<'_>, place: Place) -> bool
     ensures { result ≡ names_function (named_at (placed declarations.now) place) }
 {
     match declarations.named(place) {
-        Some(Thing::Routine { routine, .. }) => routine.kind == RoutineKind::Function,
+        Some(Entity::Routine { routine, .. }) => routine.kind == RoutineKind::Function,
         _ => false,
     }
 }
@@ -26,7 +26,7 @@ fn is_procedure(declarations: &Declarations<'_>, place: Place) -> bool
     ensures { result ≡ names_procedure (named_at (placed declarations.now) place) }
 {
     match declarations.named(place) {
-        Some(Thing::Routine { routine, .. }) => routine.kind == RoutineKind::Procedure,
+        Some(Entity::Routine { routine, .. }) => routine.kind == RoutineKind::Procedure,
         _ => false,
     }
 }
@@ -36,26 +36,26 @@ fn is_device(declarations: &Declarations<'_>, wants_out: bool, place: Place) -> 
     ensures { result ≡ names_device wants_out (named_at (placed declarations.now) place) }
 {
     match declarations.named(place) {
-        Some(Thing::Device { is_out }) => is_out == wants_out,
+        Some(Entity::Device { is_out }) => is_out == wants_out,
         _ => false,
     }
 }
 
 /// Whether a function that is no entry assigns to a variable that is not its own.
-fn is_foreign(declarations: &Declarations<'_>, home: Home, place: Place) -> bool
+fn is_foreign(declarations: &Declarations<'_>, home: StmtContext, place: Place) -> bool
     ensures { result ≡ names_foreign home (named_at (placed declarations.now) place) }
 {
-    let Home::Function(own) = home else {
+    let StmtContext::Function(own) = home else {
         return false;
     };
     match declarations.named(place) {
-        Some(Thing::Variable { owner, .. }) => owner != Some(own),
+        Some(Entity::Variable { owner, .. }) => owner != Some(own),
         _ => false,
     }
 }
 
 /// Whether an assignment there may not be, or its index may not.
-fn target_strays(declarations: &Declarations<'_>, home: Home, target: &Ref) -> bool
+fn target_strays(declarations: &Declarations<'_>, home: StmtContext, target: &Ref) -> bool
     ensures { result ≡ ref_is_astray (named_at (placed declarations.now)) home
         (placed_ref target.now) }
 {
@@ -69,12 +69,12 @@ fn target_strays(declarations: &Declarations<'_>, home: Home, target: &Ref) -> b
 }
 
 /// Whether entries and procedures may not be called: in an entry, and in a function.
-fn calls_nothing(home: Home) -> bool
+fn calls_nothing(home: StmtContext) -> bool
     ensures { result ≡ is_silent home }
 {
     match home {
-        Home::Free => false,
-        Home::Entry | Home::Function(_) => true,
+        StmtContext::Free => false,
+        StmtContext::Entry | StmtContext::Function(_) => true,
     }
 }
 
@@ -100,7 +100,7 @@ pub fn stmt_strays(declarations: &Declarations<'_>, here: Where, s: &Stmt) -> bo
                 || exprs_stray(declarations, args.as_slice())
         }
         Stmt::AssignEmpty { target, .. } => {
-            home != Home::Entry || target_strays(declarations, home, target)
+            home != StmtContext::Entry || target_strays(declarations, home, target)
         }
         Stmt::Call {
             place: routine,
@@ -119,12 +119,13 @@ pub fn stmt_strays(declarations: &Declarations<'_>, here: Where, s: &Stmt) -> bo
         Stmt::If { test, .. } | Stmt::Assert { test, .. } => strays(declarations, test),
         Stmt::ExitWhen { test, .. } => !here.in_loop || strays(declarations, test),
         Stmt::Get { target, .. } => {
-            matches!(home, Home::Function(_)) || target_strays(declarations, home, target)
+            matches!(home, StmtContext::Function(_)) || target_strays(declarations, home, target)
         }
         Stmt::Put { value, .. } => {
-            matches!(home, Home::Function(_)) || strays(declarations, value)
+            matches!(home, StmtContext::Function(_)) || strays(declarations, value)
         }
-        Stmt::Wait { .. } | Stmt::Signal { .. } | Stmt::Broadcast { .. } => home != Home::Entry,
+        Stmt::Wait { .. } | Stmt::Signal { .. } | Stmt::Broadcast { .. } => home
+            != StmtContext::Entry,
         Stmt::For { .. } | Stmt::Except { .. } => false,
     }
 }

@@ -7,7 +7,7 @@ ghost use Rattle.static_types.specs.Sorts.{judged, row_judged, asked as params_a
 ghost use Rattle.static_types.specs.Types.{is_of as has_the_sort};
 
 use crate::types::sorts::{answer_sort, element_sort, fits, gives, takes, word};
-use static_declarations::{Declarations, Sort, Thing, sort_of};
+use static_declarations::{Declarations, Entity, Sort, sort_of};
 use syntax_tree::{Expr, Op, Param, Place};
 
 /// The parameters of a routine that is called.
@@ -16,7 +16,7 @@ pub fn asked<'a>(declarations: &Declarations<'a>, place: Place) -> Option<&'a [P
         params_asked (named_at (placed declarations.now) place) }
 {
     match declarations.named(place)? {
-        Thing::Routine { routine, .. } => Some(routine.params.as_slice()),
+        Entity::Routine { routine, .. } => Some(routine.params.as_slice()),
         _ => None,
     }
 }

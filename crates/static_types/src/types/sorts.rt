@@ -6,7 +6,7 @@ ghost use Rattle.static_declarations.specs.Things.{named_at};
 ghost use Rattle.static_declarations.specs.Sorts.{fits as is_fit, alike as is_alike, gives as sort_given, takes as is_taken};
 ghost use Rattle.static_types.specs.Sorts.{word_sort as sort_of_word, element_sort as sort_of_element, answer_sort as sort_of_answer, is_array as names_array};
 
-use static_declarations::{Declarations, Shape, Sort, Thing, sort_of};
+use static_declarations::{Declarations, Entity, Sort, VarType, sort_of};
 use syntax_tree::{Op, Place};
 
 /// Whether a value of the sort may stand where `want` is asked for. What has no sort of its own
@@ -37,16 +37,16 @@ pub fn word(declarations: &Declarations<'_>, place: Place) -> Option<Option<Sort
         (if names_array thing then None else Some (sort_of_word thing)) }
 {
     match declarations.named(place) {
-        Some(Thing::Constant | Thing::Loop) => Some(Some(Sort::Number)),
+        Some(Entity::Constant | Entity::Loop) => Some(Some(Sort::Number)),
         Some(
-            Thing::Variable {
-                shape: Shape::One(sort),
+            Entity::Variable {
+                shape: VarType::One(sort),
                 ..
             },
         ) => Some(Some(sort)),
         Some(
-            Thing::Variable {
-                shape: Shape::Many(_),
+            Entity::Variable {
+                shape: VarType::Many(_),
                 ..
             },
         ) => None,
@@ -61,8 +61,8 @@ pub fn element_sort(declarations: &Declarations<'_>, place: Place) -> Option<Sor
         result }
 {
     match declarations.named(place)? {
-        Thing::Variable {
-            shape: Shape::Many(sort),
+        Entity::Variable {
+            shape: VarType::Many(sort),
             ..
         } => Some(sort),
         _ => None,
@@ -74,7 +74,7 @@ pub fn answer_sort(declarations: &Declarations<'_>, place: Place) -> Option<Sort
     ensures { result ≡ sort_of_answer (named_at (placed declarations.now) place) }
 {
     match declarations.named(place)? {
-        Thing::Routine { routine, .. } => Some(sort_of(routine.result.as_ref()?)),
+        Entity::Routine { routine, .. } => Some(sort_of(routine.result.as_ref()?)),
         _ => None,
     }
 }

@@ -2,8 +2,8 @@ use Rattle.std.proofs.Common.{[], ℕ, Bool, false, List, Err, ap, sym, ◌∙�
 use Rattle.std.specs.Prelude.{not}
 use Rattle.std.proofs.lemmas.Result.{err_from_is_err_and}
 use Rattle.machine_isa.specs.declared.instr.Instr.{Instr}
-use Rattle.text_fields.specs.declared.fault.ReadError.{ReadError}
-use Rattle.text_fields.specs.declared.fault.ReadError.TheVariants as errors
+use Rattle.text_fields.specs.declared.fault.FieldError.{FieldError}
+use Rattle.text_fields.specs.declared.fault.FieldError.TheVariants as errors
 use Rattle.text_fields.specs.Front.{Fails, Front, Read, front}
 use Rattle.asm_lines.specs.Instrs.{instr_read}
 use Rattle.assembler.specs.Sections.{code_read, is_end, rows_read}
@@ -11,7 +11,7 @@ use Rattle.assembler.specs.Refusal.{Refuses}
 use Rattle.assembler.proofs.RowLoop.{ends, fails, full, goes_on, overfull}
 use Rattle.assembler.proofs.code.code_at.Goals as goal
 
-refused : (e : ReadError) (s : Front) → Refuses e s → Fails e (code_read false s)
+refused : (e : FieldError) (s : Front) → Refuses e s → Fails e (code_read false s)
 unfolding code_read
 refused errors.Memory s h = tt
 refused (errors.Fault f) s h = ap (λ x. Err x) (sym h)

@@ -1,12 +1,12 @@
 use Rattle.std.proofs.Common.{ℕ, List, sym, subst, ap, ◌∙◌}
-use Rattle.syntax_tree.specs.declared.decl.Prog.{Prog}
+use Rattle.syntax_tree.specs.declared.decl.Program.{Program}
 use Rattle.syntax_tree.specs.Placed.{placed}
 use Rattle.syntax_tree.specs.Bare.{bare}
 use Rattle.syntax_printer.specs.Canonical.{canonical}
 use Rattle.command_due.specs.CommandsDue.{IsPrintDue}
 use Rattle.command_due.specs.Source.{fault_line}
 use Rattle.syntax.specs.Tokens.{longest_text}
-use Rattle.command_answers.specs.declared.act.Act.{Act}
+use Rattle.command_answers.specs.declared.act.PreparedCall.{PreparedCall}
 use Rattle.command_answers.specs.declared.status.Status.TheVariants as status
 use Rattle.command_answers.specs.Acts.{outcome_of}
 use Rattle.command_answers.specs.Acting.{puts}
@@ -17,8 +17,8 @@ use Rattle.command_programs.proofs.programs.print_act.Goals as goal
 
 pub returns-in_ok-print-in-Ok-clause-due : goal.returns-in_ok-print-in-Ok-clause-due
 returns-in_ok-print-in-Ok-clause-due c =
-    λ text is. subst (λ (act : Act). IsPrintDue text (outcome_of act))
-    (sym (c.put.ensures ∙ ap (puts status.Done) (c.in_ok-print-in-Ok.ensures ∙ ap (λ (p : Prog). canonical (bare (placed p))) c.prog.ensures.tree)))
+    λ text is. subst (λ (act : PreparedCall). IsPrintDue text (outcome_of act))
+    (sym (c.put.ensures ∙ ap (puts status.Done) (c.in_ok-print-in-Ok.ensures ∙ ap (λ (p : Program). canonical (bare (placed p))) c.prog.ensures.tree)))
     (written_print text (placed c.in-Ok.program) (c.in-Ok.ensures text is))
 
 pub returns-in-Err-Text-clause-due : goal.returns-in-Err-Text-clause-due

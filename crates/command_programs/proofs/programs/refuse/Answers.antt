@@ -2,7 +2,7 @@ use Rattle.std.proofs.Common.{ℕ, List, Err, sym, subst, ap, ◌∙◌}
 use Rattle.command_due.specs.CommandsDue.{IsRefused}
 use Rattle.command_due.specs.Source.{fault_line}
 use Rattle.compile.specs.Compile.{Compiles}
-use Rattle.command_answers.specs.declared.act.Act.{Act}
+use Rattle.command_answers.specs.declared.act.PreparedCall.{PreparedCall}
 use Rattle.command_answers.specs.declared.status.Status.TheVariants as status
 use Rattle.command_answers.specs.Acts.{outcome_of}
 use Rattle.command_answers.specs.Acting.{puts}
@@ -19,6 +19,6 @@ returns-in-Text-clause-due c =
 
 pub returns-in_ok-text-in-Untimely-clause-due : goal.returns-in_ok-text-in-Untimely-clause-due
 returns-in_ok-text-in-Untimely-clause-due c =
-    λ over text answer. subst (λ (act : Act). IsRefused (shown c.args.format) over text (outcome_of act))
+    λ over text answer. subst (λ (act : PreparedCall). IsRefused (shown c.args.format) over text (outcome_of act))
     (sym (c.put.ensures ∙ ap (puts status.Late) c.in_ok-text-in-Untimely.ensures))
     (late_text (shown c.args.format) c.args.fault c.in-Untimely.late c.in-Untimely.is over text answer)

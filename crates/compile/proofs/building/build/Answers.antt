@@ -1,6 +1,6 @@
 use Rattle.std.proofs.Common.{◌≡◌, true, false, subst}
 use Rattle.syntax_tree.specs.Placed.{placed}
-use Rattle.syntax_tree.specs.declared.decl.Prog.{Prog as Tree}
+use Rattle.syntax_tree.specs.declared.decl.Program.{Program as Tree}
 use Rattle.compile.specs.Build.{IsBuiltOf, IsLateOf}
 use Rattle.compile.proofs.Answered.{is_built, is_late}
 use Rattle.compile.proofs.building.build.Goals as goal

@@ -1,12 +1,12 @@
 use Rattle.std.proofs.Common.{◌++◌, ap, arith, drop, map, refl}
 use Rattle.image.specs.Raw.{routine_of}
-use Rattle.code_cost.specs.declared.measure.Known.{Known}
+use Rattle.code_cost.specs.declared.measure.RoutineMeasure.{RoutineMeasure}
 use Rattle.code_names.specs.Texts.{texts_of}
 use Rattle.compile_image.specs.Told.{routines_told}
 use Rattle.compile_image.proofs.Rows.{row-at, routines-more, rows-left, told-all}
 use Rattle.compile_image.proofs.routines.raw_routines.Goals as goal
 
-abbrev nothing : Known
+abbrev nothing : RoutineMeasure
 nothing = record { cost = record { run = 0; susp = 0; waits = 0 }; stay = 0; height = 0; words = 0; length = 0 }
 
 pub loop-number-init : goal.loop-number-init

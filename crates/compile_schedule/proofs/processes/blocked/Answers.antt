@@ -1,5 +1,5 @@
 use Rattle.std.proofs.Common.{◌<◌, ◌≤◌, ◌∙◌, List, length, get_or, ap, subst, refl}
-use Rattle.image.specs.declared.raw.RawProc.{RawProc}
+use Rattle.image.specs.declared.raw.RawProcess.{RawProcess}
 use Rattle.image.specs.Raw.{image_of}
 use Rattle.compile_schedule.proofs.Filling.{none_blocked, one_blocked, all_blocked}
 use Rattle.compile_schedule.proofs.processes.blocked.Goals as goal
@@ -12,10 +12,10 @@ loop-number-preserved c =
     let p = c.index-processes-number.result in
     let k = c.loop-number.number in
     one_blocked (image_of c.args.image.now) c.args.image.now.processes c.loop-number.all c.push.new.self k (record { rank = p.rank; block = c.needed_block-block.result; bound = p.deadline }) p c.in_ok-timed.timed
-    (subst (λ (ps : List RawProc). k < length ps) c.as_slice-processes.ensures c.loop-number-test.true)
-    (c.index-processes-number.is ∙ ap (λ (ps : List RawProc). get_or ps k p) c.as_slice-processes.ensures) c.loop-number.invariant c.in_ok-push.ensures.ok c.in_ok-timed.ensures refl c.needed_block-block.ensures refl
+    (subst (λ (ps : List RawProcess). k < length ps) c.as_slice-processes.ensures c.loop-number-test.true)
+    (c.index-processes-number.is ∙ ap (λ (ps : List RawProcess). get_or ps k p) c.as_slice-processes.ensures) c.loop-number.invariant c.in_ok-push.ensures.ok c.in_ok-timed.ensures refl c.needed_block-block.ensures refl
 
 pub returns : goal.returns
 returns c =
     all_blocked (image_of c.args.image.now) c.args.image.now.processes c.loop-number.all c.loop-number.number
-    (subst (λ (ps : List RawProc). length ps ≤ c.loop-number.number) c.as_slice-processes.ensures c.loop-number-test.false) c.loop-number.invariant
+    (subst (λ (ps : List RawProcess). length ps ≤ c.loop-number.number) c.as_slice-processes.ensures c.loop-number-test.false) c.loop-number.invariant

@@ -1,5 +1,5 @@
 use Rattle.std.proofs.Common.{List, sym, subst}
-use Rattle.sched_demand.specs.declared.tasks.DTask.{DTask}
+use Rattle.sched_demand.specs.declared.tasks.DemandTask.{DemandTask}
 use Rattle.sched_demand.specs.Demand.{AreTasks}
 use Rattle.loader.proofs.Order.{ranks_none}
 use Rattle.command_due.specs.Tasks.{AreDemands}
@@ -21,7 +21,7 @@ unreachable-requires c =
 pub returns-clause-tasks : goal.returns-clause-tasks
 returns-clause-tasks c =
     let m = c.args.shape.now.image in
-    subst (λ (ts : List DTask). AreDemands m ts) (sym c.in-Some.ensures.1) (are_demands m (ranks_none m c.has_no_fault_before_bounds.ensures.valid) _ c.in_ok-tasks.ensures)
+    subst (λ (ts : List DemandTask). AreDemands m ts) (sym c.in-Some.ensures.1) (are_demands m (ranks_none m c.has_no_fault_before_bounds.ensures.valid) _ c.in_ok-tasks.ensures)
 
 pub returns-clause-valid : goal.returns-clause-valid
 returns-clause-valid c =

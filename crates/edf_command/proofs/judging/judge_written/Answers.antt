@@ -1,5 +1,5 @@
 use Rattle.std.proofs.Common.{refl, subst}
-use Rattle.syntax_tree.specs.declared.decl.Prog.{Prog}
+use Rattle.syntax_tree.specs.declared.decl.Program.{Program}
 use Rattle.syntax_tree.specs.Placed.{placed}
 use Rattle.command_due.specs.Waits.{IsFirstWait}
 use Rattle.edf_command.specs.Judged.{waits}
@@ -7,4 +7,4 @@ use Rattle.edf_command.proofs.judging.judge_written.Goals as goal
 
 pub returns-in-Some-clause-fault : goal.returns-in-Some-clause-fault
 returns-in-Some-clause-fault c =
-    waits (placed c.args.program.now) c.requires (subst (λ (p : Prog). IsFirstWait (placed p) c.in-Some.place) c.prog.ensures.tree c.in-Some.ensures) refl
+    waits (placed c.args.program.now) c.requires (subst (λ (p : Program). IsFirstWait (placed p) c.in-Some.place) c.prog.ensures.tree c.in-Some.ensures) refl

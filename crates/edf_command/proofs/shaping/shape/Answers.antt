@@ -1,7 +1,7 @@
 use Rattle.std.proofs.Common.{subst}
 use Rattle.std.specs.Prelude.{IfErr, IfOk}
 use Rattle.syntax_tree.specs.Placed.{placed}
-use Rattle.syntax_tree.specs.declared.decl.Prog.{Prog as Tree}
+use Rattle.syntax_tree.specs.declared.decl.Program.{Program as Tree}
 use Rattle.edf_command.specs.Steps.{IsEdfShape, IsSizeFault}
 use Rattle.edf_command.proofs.shaping.shape.Goals as goal
 

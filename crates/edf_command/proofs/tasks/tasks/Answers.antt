@@ -2,7 +2,7 @@ use Rattle.std.proofs.Common.{◌≡◌, ◌<◌, ◌+◌, ◌∙◌, ℕ, suc, 
 use Rattle.std.specs.Prelude.{slice_get}
 use Rattle.machine_semantics.specs.Image.{Process}
 use Rattle.image.specs.Raw.{image_of, process_of}
-use Rattle.image.specs.declared.raw.RawProc.{RawProc}
+use Rattle.image.specs.declared.raw.RawProcess.{RawProcess}
 use Rattle.sched_response.specs.declared.tasks.Task.{Task}
 use Rattle.valid_image.specs.Tasks.{task_of, with_rank}
 use Rattle.edf_command.specs.Listed.{demand_of}
@@ -13,8 +13,8 @@ pub loop-level-preserved : goal.loop-level-preserved
 loop-level-preserved c =
     let image = image_of c.args.image.now in
     let level = c.loop-level.level in
-    let same : map process_of c.as_slice-processes.result.now ≡ image.processes = ap (λ (ps : List RawProc). map process_of ps) c.as_slice-processes.ensures in
-    let low : level < length c.args.image.now.processes = omega (arith, c.loop-level-test.true, ap (λ (ps : List RawProc). length ps) c.as_slice-processes.ensures) in
+    let same : map process_of c.as_slice-processes.result.now ≡ image.processes = ap (λ (ps : List RawProcess). map process_of ps) c.as_slice-processes.ensures in
+    let low : level < length c.args.image.now.processes = omega (arith, c.loop-level-test.true, ap (λ (ps : List RawProcess). length ps) c.as_slice-processes.ensures) in
     let next : level + 1 ≡ suc level = omega arith in
     one_more_task image level (length c.args.image.now.processes) c.loop-level.all.items c.push.new.self.items c.task_with_block.result low c.loop-level.invariant c.in_ok-push.ensures.items
     (c.task_with_block.ensures

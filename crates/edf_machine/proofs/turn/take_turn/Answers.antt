@@ -5,7 +5,7 @@ use Rattle.vm_state.specs.Board.{state_of}
 use Rattle.edf_semantics.specs.Choice.{Mark, choose}
 use Rattle.edf_semantics.specs.Run.{begin_some, state_at}
 use Rattle.edf_machine.specs.Marks.{AreMarks}
-use Rattle.edf_machine.specs.declared.marks.Mark.{Mark as Kept}
+use Rattle.edf_machine.specs.declared.marks.DeadlineState.{DeadlineState as Kept}
 use Rattle.edf_semantics.specs.Turn.{chosen, marked}
 use Rattle.edf_machine.proofs.Passing.{idle_passes, is_ready}
 use Rattle.edf_machine.proofs.turn.take_turn.Goals as goal

@@ -1,7 +1,7 @@
 use Rattle.std.proofs.Common.{ℕ, ◌<◌, get_or}
 use Rattle.text_fields.specs.Fields.{IsWord}
-use Rattle.image.specs.declared.names.CondName.{CondName}
+use Rattle.image.specs.declared.names.ConditionName.{ConditionName}
 use Rattle.event_log.proofs.words.are_conditions.Given as goal
 
 abbrev pub invariant-loop-condition : goal.invariant-loop-condition
-invariant-loop-condition l = (i : ℕ) (d : CondName) → i < l.condition-index → IsWord (get_or l.list i d).name
+invariant-loop-condition l = (i : ℕ) (d : ConditionName) → i < l.condition-index → IsWord (get_or l.list i d).name

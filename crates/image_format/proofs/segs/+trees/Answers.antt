@@ -2,7 +2,7 @@ use Rattle.std.proofs.Common.{◌≡◌, ◌<◌, ◌-◌, ℕ, suc, List, Resul
 use Rattle.std.proofs.lemmas.Result.{err_from_is_err_and}
 use Rattle.machine_semantics.specs.Trees.{Seg, Nil, Cons}
 use Rattle.image_format.specs.View.{view, views}
-use Rattle.image_format.specs.declared.fault.Fault.{Fault}
+use Rattle.image_format.specs.declared.fault.ByteFault.{ByteFault}
 use Rattle.image_format.specs.declared.limits.Limits.{Limits}
 use Rattle.image_format.specs.Format.{◌>>=◌, Format, u32}
 use Rattle.image_format.specs.TreeFormat.{seg_format, segs_read, tree_format, within_limits}
@@ -33,7 +33,7 @@ deeper : (limits : Limits) (depth count : ℕ) (bytes rest : List ℕ) → 0 < d
 unfolding tree_format
 deeper limits depth count bytes rest pos number =
     let k : depth ≡ suc (depth - 1) = omega arith in
-    ap (λ d. (tree_format (within_limits limits) d).read bytes) k ∙ ap (λ (r : Result (ℕ × List ℕ) Fault). r >>= λ n. segs_read (seg_format (within_limits limits) (tree_format (within_limits limits) (depth - 1))) n.0 n.1) number
+    ap (λ d. (tree_format (within_limits limits) d).read bytes) k ∙ ap (λ (r : Result (ℕ × List ℕ) ByteFault). r >>= λ n. segs_read (seg_format (within_limits limits) (tree_format (within_limits limits) (depth - 1))) n.0 n.1) number
 
 pub tree_at-returns : goal.tree_at-returns
 tree_at-returns t c = rw (deeper c.args.limits c.args.depth c.in_ok-count.count c.args.bytes.now c.in_ok-count.rest.now (omega (arith, c.if-depth-eq0.false)) c.in_ok-count.ensures) c.segs_at.ensures

@@ -4,13 +4,13 @@ use Rattle.std.proofs.lemmas.List.{map_push}
 use Rattle.image_format.specs.Format.{Format, each_read}
 use Rattle.image_format.specs.Gives.{Fails}
 use Rattle.image_reader.proofs.EachLoop.{ends, goes_on, is_done}
-use Rattle.image.specs.declared.names.DevName.{DevName}
+use Rattle.image.specs.declared.names.DeviceName.{DeviceName}
 use Rattle.image_reader.specs.Grammar.{device_format}
 use Rattle.image_reader.proofs.lists.devices_at.Goals as goal
 
 pub returns-in_err-device-clause-read : goal.returns-in_err-device-clause-read
 returns-in_err-device-clause-read c =
-    let f : List DevName → Format DevName = λ earlier. device_format (c.args.taken.now ++ map (λ d. d.name) earlier) in
+    let f : List DeviceName → Format DeviceName = λ earlier. device_format (c.args.taken.now ++ map (λ d. d.name) earlier) in
     let p = err_from_is_err_and c.from_residual.result c.from_residual.ensures.1 in
     let e = c.in_err-device.field-0.0 in
     let failed : Fails e ((f c.loop.devices).read c.loop.rest.now) = subst (λ ns. Fails e ((device_format ns).read c.loop.rest.now)) c.loop.invariant.taken c.in_err-device.ensures.read in
@@ -18,7 +18,7 @@ returns-in_err-device-clause-read c =
 
 pub loop-preserved : goal.loop-preserved
 loop-preserved c =
-    let f : List DevName → Format DevName = λ earlier. device_format (c.args.taken.now ++ map (λ d. d.name) earlier) in
+    let f : List DeviceName → Format DeviceName = λ earlier. device_format (c.args.taken.now ++ map (λ d. d.name) earlier) in
     let x = c.in_ok-device.device in
     let read : (f c.loop.devices).read c.loop.rest.now ≡ Ok (x, c.in_ok-device.after.now) =
     subst (λ ns. (device_format ns).read c.loop.rest.now ≡ Ok (x, c.in_ok-device.after.now)) c.loop.invariant.taken c.in_ok-device.ensures.read in
@@ -29,5 +29,5 @@ loop-preserved c =
 
 pub returns-clause-read : goal.returns-clause-read
 returns-clause-read c =
-    let f : List DevName → Format DevName = λ earlier. device_format (c.args.taken.now ++ map (λ d. d.name) earlier) in
+    let f : List DeviceName → Format DeviceName = λ earlier. device_format (c.args.taken.now ++ map (λ d. d.name) earlier) in
     is_done f c.loop.devices c.args.counts.now.devices c.loop.counter c.loop.rest.now (each_read f [] c.args.counts.now.devices c.args.bytes.now) c.loop-test.false c.loop.invariant.so_far

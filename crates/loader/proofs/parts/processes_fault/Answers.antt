@@ -3,7 +3,7 @@ use Rattle.std.specs.Prelude.{nat_eq, slice_get, option_map}
 use Rattle.std.proofs.lemmas.Option.{slice_get_read}
 use Rattle.image.specs.Raw.{process_of}
 use Rattle.machine_isa.specs.declared.instr.Instr.{Instr}
-use Rattle.loader_trees.specs.declared.known.Known as code
+use Rattle.loader_trees.specs.declared.known.RoutineCost as code
 use Rattle.loader_trees.specs.Told.{known_of}
 use Rattle.valid_image.specs.Tables.{handler_start, part_found}
 use Rattle.valid_image_law.specs.Held.{hold}
@@ -24,7 +24,7 @@ returns-in-None-clause-fault c =
     let within : k < length c.as_slice-process-items.result.now = omega arith in
     let low : k < length raw.processes = omega (arith, within, ap length items) in
     let is : slice_get raw.processes k ≡ Some p = ap (λ xs. slice_get xs k) (sym items) ∙ slice_get_read c.as_slice-process-items.result.now _ k p refl within c.process-item.is in
-    let of = λ (instrs : List Instr) (ks : List code.Known). guard_two (nat_eq p.start parts.end) (two (hold (part_found instrs (map known_of ks) p.body p.start)) (hold (handler_in instrs (map known_of ks) p.handler_tree (handler_start (process_of p))))) in
+    let of = λ (instrs : List Instr) (ks : List code.RoutineCost). guard_two (nat_eq p.start parts.end) (two (hold (part_found instrs (map known_of ks) p.body p.start)) (hold (handler_in instrs (map known_of ks) p.handler_tree (handler_start (process_of p))))) in
     let none : None ≡ guard_two (nat_eq p.start parts.end) (coded raw parts p) =
     c.in-None.ensures.value ∙ ap (λ code. of code c.as_slice-in-loop-process.result.now) c.as_slice.ensures ∙ ap (λ ks. of raw.code ks) c.as_slice-in-loop-process.ensures in
     c.wrong_from.ensures ∙ process_stops raw parts k p c.loop-process.invariant low is none
@@ -39,7 +39,7 @@ loop-process-preserved c =
     let items = c.as_slice-process-items.ensures in
     let within : k < length c.as_slice-process-items.result.now = omega arith in
     let is : slice_get raw.processes k ≡ Some p = ap (λ xs. slice_get xs k) (sym items) ∙ slice_get_read c.as_slice-process-items.result.now _ k p refl within c.process-item.is in
-    let of = λ (instrs : List Instr) (ks : List code.Known). guard_two (nat_eq p.start parts.end) (two (hold (part_found instrs (map known_of ks) p.body p.start)) (hold (handler_in instrs (map known_of ks) p.handler_tree (handler_start (process_of p))))) in
+    let of = λ (instrs : List Instr) (ks : List code.RoutineCost). guard_two (nat_eq p.start parts.end) (two (hold (part_found instrs (map known_of ks) p.body p.start)) (hold (handler_in instrs (map known_of ks) p.handler_tree (handler_start (process_of p))))) in
     let some : told_process (Some found) ≡ guard_two (nat_eq p.start parts.end) (coded raw parts p) =
     c.in-Some.ensures.value ∙ ap (λ code. of code c.as_slice-in-loop-process.result.now) c.as_slice.ensures ∙ ap (λ ks. of raw.code ks) c.as_slice-in-loop-process.ensures in
     let inside : found.end ≤ length raw.code = omega (arith, c.in-Some.ensures.within, ap length c.as_slice.ensures) in

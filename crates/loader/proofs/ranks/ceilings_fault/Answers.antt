@@ -1,15 +1,15 @@
 use Rattle.std.proofs.Common.{◌∙◌, ap, ℕ, List, get_or}
-use Rattle.image.specs.declared.raw.RawMon.{RawMon}
+use Rattle.image.specs.declared.raw.RawMonitor.{RawMonitor}
 use Rattle.loader_code.proofs.Seeking.{any_default, stops_in, goes_on_in}
 use Rattle.image.specs.Raw.{image_of, monitor_of}
 use Rattle.valid_image.specs.Sizes.{other}
 use Rattle.valid_image.specs.Times.{ceiling_of}
 use Rattle.loader.proofs.ranks.ceilings_fault.Goals as goal
 
-abbrev nothing : RawMon
+abbrev nothing : RawMonitor
 nothing = record { base = 0; words = 0; ceiling = 0 }
 
-abbrev here : List RawMon → ℕ → RawMon
+abbrev here : List RawMonitor → ℕ → RawMonitor
 here ms m = get_or ms m nothing
 
 pub returns-in-Some : goal.returns-in-Some

@@ -2,7 +2,7 @@ use Rattle.std.proofs.Common.{◌≡◌, sym, subst}
 use Rattle.std.specs.Prelude.{◌↔◌, IsTrue}
 use Rattle.base.specs.declared.event.Act.TheVariants as act_is
 use Rattle.replay_due_events.specs.Timings.{event_of}
-use Rattle.replay_due_events.specs.declared.missing_due.Start.{Start}
+use Rattle.replay_due_events.specs.declared.due_starts.Start.{Start}
 use Rattle.replay_accept.proofs.Judging.{is_by}
 use Rattle.replay_accept.proofs.starting.is_start.Goals as goal
 

@@ -5,9 +5,9 @@ use Rattle.source_semantics.specs.Run.{followed, stops}
 use Rattle.replay_state.specs.View.{action_of, calls_of, item_of}
 use Rattle.replay_state.specs.declared.call.Item.{Item}
 use Rattle.replay_calls.specs.Reach.{memory_of, site_of}
-use Rattle.replay_next.specs.declared.results.Ran.TheVariants as ran_is
-use Rattle.replay_next.specs.declared.items.Came.{Came}
-use Rattle.replay_next.specs.declared.items.Came.TheVariants as came_is
+use Rattle.replay_next.specs.declared.results.RunResult.TheVariants as ran_is
+use Rattle.replay_next.specs.declared.items.ItemResult.{ItemResult}
+use Rattle.replay_next.specs.declared.items.ItemResult.TheVariants as came_is
 use Rattle.replay_next.specs.Came.{came_of}
 use Rattle.replay_next.proofs.NextTurning.{item_turned}
 use Rattle.replay_next.proofs.items.run_items.Goals as goal
@@ -25,6 +25,6 @@ returns-in-Stops c =
     let stop = c.in-Stops.stop in
     c.in_ok-came-in-Stops.ensures after
     ∙ (ap (λ (l : List Item). stops (action_of stop.action) (calls_of stop.inside.items) (map item_of stop.rest.items ++ map item_of l) after) (take_rest xs (at + 1))
-    ∙ (sym (ap (λ (w : Came). followed (came_of w after) (λ k. run_items site k rest) (λ k. leave_loop site k rest) rest) same)
+    ∙ (sym (ap (λ (w : ItemResult). followed (came_of w after) (λ k. run_items site k rest) (λ k. leave_loop site k rest) rest) same)
     ∙ item_turned site (memory_of c.loop-at.memory) c.loop-at.leaving xs at c.index-items-at.result (came_of c.in_ok-value.field-0 after) whole
     below c.index-items-at.is c.in_ok-value.ensures c.loop-at.invariant))

@@ -17,7 +17,7 @@ use Rattle.replay_next.proofs.CallArms as calls
 use Rattle.replay_next.proofs.Binding.{bind_goes, bind_stops}
 use Rattle.replay_next.proofs.Oks.{ok_at, ok_told}
 use Rattle.replay_next.proofs.CallRunsTurning.{in_front_all}
-use Rattle.replay_next.specs.declared.results.Ran.{Ran}
+use Rattle.replay_next.specs.declared.results.RunResult.{RunResult}
 use Rattle.syntax_tree.specs.declared.stmt.Stmt.{Stmt}
 use Rattle.replay_next.proofs.Sizes.{answers_size}
 use Rattle.replay_next.proofs.runs.+runs.Answers.OfStmts as of_stmts
@@ -257,7 +257,7 @@ run_all-loop-at-preserved t c =
     let l = c.loop-at in
     let ss = c.args.stmts.now in
     let m2 = memory_of c.run.new.memory in
-    let after = λ (y : Ran). run.followed (ran_of y m2) (λ k. lists.all_from s k (drop (l.at + 1) ss)) (λ k. run.exits k) (run.do_all (plain_stmts (placed_stmts (drop (l.at + 1) ss))) ∷ []) in
+    let after = λ (y : RunResult). run.followed (ran_of y m2) (λ k. lists.all_from s k (drop (l.at + 1) ss)) (λ k. run.exits k) (run.do_all (plain_stmts (placed_stmts (drop (l.at + 1) ss))) ∷ []) in
     let got = lists.at_place ss l.at c.index-stmts-at.result c.loop-at-test.true c.index-stmts-at.is in
     sym (ap after c.in-Goes.is) ∙ (lists.one_stmt s (memory_of l.memory) ss l.at c.index-stmts-at.result (ran_of c.in_ok-run.field-0 m2) got c.in_ok-run.ensures ∙ l.invariant)
 
@@ -267,7 +267,7 @@ run_all-returns-in-Exits t c =
     let l = c.loop-at in
     let ss = c.args.stmts.now in
     let m2 = memory_of c.run.new.memory in
-    let after = λ (y : Ran). run.followed (ran_of y m2) (λ k. lists.all_from s k (drop (l.at + 1) ss)) (λ k. run.exits k) (run.do_all (plain_stmts (placed_stmts (drop (l.at + 1) ss))) ∷ []) in
+    let after = λ (y : RunResult). run.followed (ran_of y m2) (λ k. lists.all_from s k (drop (l.at + 1) ss)) (λ k. run.exits k) (run.do_all (plain_stmts (placed_stmts (drop (l.at + 1) ss))) ∷ []) in
     let got = lists.at_place ss l.at c.index-stmts-at.result c.loop-at-test.true c.index-stmts-at.is in
     sym (ap after c.in-Exits.is) ∙ (lists.one_stmt s (memory_of l.memory) ss l.at c.index-stmts-at.result (ran_of c.in_ok-run.field-0 m2) got c.in_ok-run.ensures ∙ l.invariant)
 
@@ -277,7 +277,7 @@ run_all-returns-in-Fails t c =
     let l = c.loop-at in
     let ss = c.args.stmts.now in
     let m2 = memory_of c.run.new.memory in
-    let after = λ (y : Ran). run.followed (ran_of y m2) (λ k. lists.all_from s k (drop (l.at + 1) ss)) (λ k. run.exits k) (run.do_all (plain_stmts (placed_stmts (drop (l.at + 1) ss))) ∷ []) in
+    let after = λ (y : RunResult). run.followed (ran_of y m2) (λ k. lists.all_from s k (drop (l.at + 1) ss)) (λ k. run.exits k) (run.do_all (plain_stmts (placed_stmts (drop (l.at + 1) ss))) ∷ []) in
     let got = lists.at_place ss l.at c.index-stmts-at.result c.loop-at-test.true c.index-stmts-at.is in
     sym (ap after c.in-Fails.is) ∙ (lists.one_stmt s (memory_of l.memory) ss l.at c.index-stmts-at.result (ran_of c.in_ok-run.field-0 m2) got c.in_ok-run.ensures ∙ l.invariant)
 
@@ -290,7 +290,7 @@ run_all-returns-in-Stops t c =
     let ss = c.args.stmts.now in
     let m2 = memory_of c.run.new.memory in
     let st = c.in-Stops.stop in
-    let after = λ (y : Ran). run.followed (ran_of y m2) (λ k. lists.all_from s k (drop (l.at + 1) ss)) (λ k. run.exits k) (run.do_all (plain_stmts (placed_stmts (drop (l.at + 1) ss))) ∷ []) in
+    let after = λ (y : RunResult). run.followed (ran_of y m2) (λ k. lists.all_from s k (drop (l.at + 1) ss)) (λ k. run.exits k) (run.do_all (plain_stmts (placed_stmts (drop (l.at + 1) ss))) ∷ []) in
     let got = lists.at_place ss l.at c.index-stmts-at.result c.loop-at-test.true c.index-stmts-at.is in
     let told = sym (ap after c.in-Stops.is) ∙ (lists.one_stmt s (memory_of l.memory) ss l.at c.index-stmts-at.result (ran_of c.in_ok-run.field-0 m2) got c.in_ok-run.ensures ∙ l.invariant) in
     let stop = λ (xs : List Stmt) (k : run.Memory). run.stops (action_of st.action) (calls_of st.inside.items) (map item_of st.rest.items ++ run.do_all (plain_stmts (placed_stmts xs)) ∷ []) k in

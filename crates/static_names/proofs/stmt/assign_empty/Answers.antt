@@ -1,5 +1,5 @@
 use Rattle.std.proofs.Common.{◌∷◌, ap, ◌∙◌}
-use Rattle.static_names.specs.declared.kind.Want.TheVariants.{Condition}
+use Rattle.static_names.specs.declared.kind.NameUse.TheVariants.{Condition}
 use Rattle.static_names.specs.Occurrences.{uses}
 use Rattle.static_names.specs.Findings.{noted}
 use Rattle.static_names.specs.Seen.{site}

@@ -1,17 +1,17 @@
 use Rattle.std.proofs.Common.{◌≡◌, Option, None, subst}
 use Rattle.syntax_tree.specs.Placed.{placed}
-use Rattle.syntax_tree.specs.declared.decl.Prog.{Prog}
-use Rattle.static_rule.specs.declared.broken.Broken.{Broken}
+use Rattle.syntax_tree.specs.declared.decl.Program.{Program}
+use Rattle.static_rule.specs.declared.violation.Violation.{Violation}
 use Rattle.static_rule.specs.First.{IsFirstOf}
 use Rattle.static_names.specs.Resolved.{IsRead, IsNamed}
 use Rattle.static_semantics.specs.Static.{Fails, IsChecked}
 use Rattle.static_semantics.proofs.rules.check.Goals as goal
 
 -- a program that was read, whose names are in order, and of which no static rule fails
-keeps : (p q : Prog) (first : Option Broken) → p ≡ q → IsRead (placed p) → IsNamed (placed p) → IsFirstOf (Fails (placed q)) first → first ≡ None → IsChecked (placed q)
+keeps : (p q : Program) (first : Option Violation) → p ≡ q → IsRead (placed p) → IsNamed (placed p) → IsFirstOf (Fails (placed q)) first → first ≡ None → IsChecked (placed q)
 keeps p q first same read named fails none =
-    let R : Prog → Type 0 = λ t. IsRead (placed t) in
-    let N : Prog → Type 0 = λ t. IsNamed (placed t) in
+    let R : Program → Type 0 = λ t. IsRead (placed t) in
+    let N : Program → Type 0 = λ t. IsNamed (placed t) in
     record {
       read = subst R same read;
       named = subst N same named;

@@ -1,12 +1,12 @@
 use Rattle.std.proofs.Common.{◌≡◌, ℕ, Option, refl, ap, ◌∙◌}
 use Rattle.syntax_tree.specs.declared.place.Place.{Place}
-use Rattle.static_rule.specs.declared.broken.Broken.{Broken}
+use Rattle.static_rule.specs.declared.violation.Violation.{Violation}
 use Rattle.static_rule.specs.Parts.{blame}
 use Rattle.static_types.specs.Rules.{statement_rules}
 use Rattle.static_types.proofs.rules.try_stmt.Goals as goal
 
 -- one more rule is tried
-tried : (number : ℕ) {before known now : Option Broken} {place fails : Option Place} → now ≡ blame before number place → place ≡ fails → before ≡ known → now ≡ blame known number fails
+tried : (number : ℕ) {before known now : Option Violation} {place fails : Option Place} → now ≡ blame before number place → place ≡ fails → before ≡ known → now ≡ blame known number fails
 tried number {place = place} {fails = fails} blamed fault same = blamed ∙ ap (λ f. blame f number place) same ∙ ap (blame _ number) fault
 
 pub returns : goal.returns

@@ -7,7 +7,7 @@ use Rattle.syntax_reading.specs.Reading.{whole}
 use Rattle.syntax_reading.proofs.Sound.{whole_sound}
 use Rattle.syntax_reading.proofs.Again.{one_tree}
 use Rattle.syntax_parser.specs.declared.fault.Refusal.TheVariants as refusal
-use Rattle.syntax_parser.specs.declared.fault.SynFault.TheVariants as fault
+use Rattle.syntax_parser.specs.declared.fault.SyntaxFault.TheVariants as fault
 use Rattle.syntax_parser.specs.Reads.{Gives}
 use Rattle.syntax_reading.proofs.Stops.{fault-stops}
 use Rattle.syntax_parser.proofs.Refusals.{no_tree, opening, stopped}

@@ -15,5 +15,5 @@ returns c = record {
   ceilings = sym c.in_ok-ceilings.ensures;
   shared = sym c.words.ensures;
   devices = sym c.devices.ensures;
-  burn = omega (arith, c.overhead.ensures, c.from.ensures);
+  dispatch_ticks = omega (arith, c.overhead.ensures, c.from.ensures);
 }

@@ -18,7 +18,7 @@ returns-clause-started g c =
     let p = planned g.image.processes c.args.plan.now.processes.items c.args.place c.index.result.now c.requires.0.processes c.requires.1.1.0 c.index.ensures in
     let count = cells_count g.image c.args.board.now.cells.items c.requires.1.0.rooms in
     let there = thread_at c.args.board.now.cells.items c.args.place c.index_mut.result.now (omega (arith, count, c.requires.1.1.0)) c.index_mut.ensures.value in
-    let new = c.release_cell.ensures.released g.image p.whole p.is.start p.is.locals c.requires.0.burn in
+    let new = c.release_cell.ensures.released g.image p.whole p.is.start p.is.locals c.requires.0.dispatch_ticks in
     released_is g.image c.args.tick c.args.place p.whole (state_of c.args.board.now) c.args.fired.now.items _ _ _ p.there there c.requires.1.1.1.0
     (threads_are c.args.board.now.cells.items c.args.place c.release_cell.new.cell _ new) c.tell.ensures.events
 

@@ -16,7 +16,7 @@ pub leave-requires : goal.leave-requires
 leave-requires g c =
     let count = cells_count g.image c.args.board.now.cells.items c.requires.1.0.rooms in
     let there = thread_at c.args.board.now.cells.items c.args.place c.index_mut.result.now (omega (arith, count, c.requires.1.1.0)) c.index_mut.ensures.value in
-    let has = wait_has_queue c.index.result.now c.args.plan.now.burn c.args.place (state_of c.args.board.now) (thread_of c.index_mut.result.now) (thread_of c.time_out_cell-waited.new.cell) c.in-Some.field-0
+    let has = wait_has_queue c.index.result.now c.args.plan.now.dispatch_ticks c.args.place (state_of c.args.board.now) (thread_of c.index_mut.result.now) (thread_of c.time_out_cell-waited.new.cell) c.in-Some.field-0
     c.requires.1.1.1.0 there c.in-Some.ensures.timed_out in
     omega (arith, has, c.from.ensures)
 
@@ -27,8 +27,8 @@ returns-in-Some-clause-started g c =
     let count = cells_count g.image c.args.board.now.cells.items c.requires.1.0.rooms in
     let there = thread_at c.args.board.now.cells.items c.args.place c.index_mut.result.now (omega (arith, count, c.requires.1.1.0)) c.index_mut.ensures.value in
     let left = c.leave.ensures ∙ ap (λ (n : ℕ). slice_set c.args.board.now.queues n (without c.args.place (queue_of c.args.board.now.queues n))) c.from.ensures in
-    expired_is g.image c.args.tick c.args.place c.args.plan.now.burn p.whole c.index.result.now s c.args.fired.now.items _ _ _ (thread_of c.index_mut.result.now) (thread_of c.time_out_cell-waited.new.cell) c.in-Some.field-0
-    p.there p.is c.requires.0.burn there c.requires.1.1.1.1.0 c.in-Some.ensures.timed_out (threads_are c.args.board.now.cells.items c.args.place c.time_out_cell-waited.new.cell _ refl) left c.tell.ensures.events
+    expired_is g.image c.args.tick c.args.place c.args.plan.now.dispatch_ticks p.whole c.index.result.now s c.args.fired.now.items _ _ _ (thread_of c.index_mut.result.now) (thread_of c.time_out_cell-waited.new.cell) c.in-Some.field-0
+    p.there p.is c.requires.0.dispatch_ticks there c.requires.1.1.1.1.0 c.in-Some.ensures.timed_out (threads_are c.args.board.now.cells.items c.args.place c.time_out_cell-waited.new.cell _ refl) left c.tell.ensures.events
 
 pub returns-in-Some-clause-board : goal.returns-in-Some-clause-board
 returns-in-Some-clause-board g c = record {
@@ -42,12 +42,12 @@ pub returns-in_default-clause-started : goal.returns-in_default-clause-started
 returns-in_default-clause-started g c =
     let count = cells_count g.image c.args.board.now.cells.items c.requires.1.0.rooms in
     let there = thread_at c.args.board.now.cells.items c.args.place c.index_mut.result.now (omega (arith, count, c.requires.1.1.0)) c.index_mut.ensures.value in
-    absurd (did_wait c.index.result.now c.args.plan.now.burn c.args.tick c.args.place (state_of c.args.board.now) (thread_of c.index_mut.result.now) (thread_of c.time_out_cell-waited.new.cell) None
+    absurd (did_wait c.index.result.now c.args.plan.now.dispatch_ticks c.args.tick c.args.place (state_of c.args.board.now) (thread_of c.index_mut.result.now) (thread_of c.time_out_cell-waited.new.cell) None
     (λ w is. none-some w is) there c.requires.1.1.1.1.0 c.in_default.ensures.timed_out)
 
 pub returns-in_default-clause-board : goal.returns-in_default-clause-board
 returns-in_default-clause-board g c =
     let count = cells_count g.image c.args.board.now.cells.items c.requires.1.0.rooms in
     let there = thread_at c.args.board.now.cells.items c.args.place c.index_mut.result.now (omega (arith, count, c.requires.1.1.0)) c.index_mut.ensures.value in
-    absurd (did_wait c.index.result.now c.args.plan.now.burn c.args.tick c.args.place (state_of c.args.board.now) (thread_of c.index_mut.result.now) (thread_of c.time_out_cell-waited.new.cell) None
+    absurd (did_wait c.index.result.now c.args.plan.now.dispatch_ticks c.args.tick c.args.place (state_of c.args.board.now) (thread_of c.index_mut.result.now) (thread_of c.time_out_cell-waited.new.cell) None
     (λ w is. none-some w is) there c.requires.1.1.1.1.0 c.in_default.ensures.timed_out)

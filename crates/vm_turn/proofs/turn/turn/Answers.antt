@@ -4,7 +4,7 @@ use Rattle.std.specs.Prelude.{ℤ}
 use Rattle.vm_state.proofs.Items.{items_are}
 use Rattle.std.specs.Vec.{with_item, with_items}
 use Rattle.machine_semantics.specs.State.{State}
-use Rattle.vm_state.specs.declared.board.Board.{Board}
+use Rattle.vm_state.specs.declared.machine_state.MachineState.{MachineState}
 use Rattle.vm_turn.proofs.Turning.{keeps, needs, placed, process_is, read_at, stands_anew, turned, words_are}
 use Rattle.vm_turn.proofs.turn.turn.Goals as goal
 
@@ -57,7 +57,7 @@ returns-clause-turned g c p job at_p at_job =
     let cell = read_at c.args.board.now.cells.items c.args.who c.index_mut-cell.result.now at.cell c.index_mut-cell.ensures.value in
     let known = read_at c.args.plan.now.processes.items c.args.who c.index-process.result.now at.process c.index-process.ensures in
     let row = with_items c.index_mut-owned.result.now c.pass_cell.new.owned in
-    let new : Board = record { cells = with_item c.args.board.now.cells c.args.who c.pass_cell.new.cell; owned = with_item c.args.board.now.owned c.args.who row; shared = with_items c.args.board.now.shared c.pass_cell.new.shared; queues = c.args.board.now.queues; devices = c.args.board.now.devices } in
+    let new : MachineState = record { cells = with_item c.args.board.now.cells c.args.who c.pass_cell.new.cell; owned = with_item c.args.board.now.owned c.args.who row; shared = with_items c.args.board.now.shared c.pass_cell.new.shared; queues = c.args.board.now.queues; devices = c.args.board.now.devices } in
     turned g.at c.args.tick c.args.ticks c.args.who c.index-process.result.now c.args.board.now new c.pass_cell.result c.index_mut-cell.result.now c.pass_cell.new.cell c.pass_cell.new.owned c.pass_cell.new.shared p job
     (c.pass_cell.ensures.settles c.args.who) (process_is g.at.image.processes c.args.plan.now.processes.items c.args.who p c.index-process.result.now c.requires.0.processes at_p known) c.requires.1.1.0 at_job cell
     (stands_anew c.args.board.now new c.args.who c.pass_cell.new.cell row c.pass_cell.new.owned c.pass_cell.new.shared refl refl
@@ -69,5 +69,5 @@ pub returns-clause-kept : goal.returns-clause-kept
 returns-clause-kept g c =
     let at = placed g.at.image c.args.plan.now c.args.board.now c.args.who c.args.ticks c.requires.0 c.requires.1.0 c.requires.1.1.1.0 in
     let row = with_items c.index_mut-owned.result.now c.pass_cell.new.owned in
-    let new : Board = record { cells = with_item c.args.board.now.cells c.args.who c.pass_cell.new.cell; owned = with_item c.args.board.now.owned c.args.who row; shared = with_items c.args.board.now.shared c.pass_cell.new.shared; queues = c.args.board.now.queues; devices = c.args.board.now.devices } in
+    let new : MachineState = record { cells = with_item c.args.board.now.cells c.args.who c.pass_cell.new.cell; owned = with_item c.args.board.now.owned c.args.who row; shared = with_items c.args.board.now.shared c.pass_cell.new.shared; queues = c.args.board.now.queues; devices = c.args.board.now.devices } in
     keeps g.at.image c.args.board.now new c.args.who c.index_mut-cell.result.now c.pass_cell.new.cell row c.requires.1.0 at.cell c.index_mut-cell.ensures.value c.pass_cell.ensures.room refl refl refl refl

@@ -1,7 +1,7 @@
 use Rattle.std.proofs.Common.{◌≡◌, ◌≤◌, ◌∙◌, List, length, arith, ap, sym, subst}
 use Rattle.std.specs.Prelude.{All}
 use Rattle.std.proofs.lemmas.List.{length-map}
-use Rattle.command_answers.specs.declared.act.Run.{Run as Ran}
+use Rattle.command_answers.specs.declared.act.PreparedRun.{PreparedRun as Ran}
 use Rattle.command_answers.specs.Acts.{by_ranks}
 use Rattle.base.specs.declared.event.Event.{Event}
 use Rattle.image.specs.Raw.{image_of, monitor_of, named_of}

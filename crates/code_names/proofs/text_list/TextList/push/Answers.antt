@@ -1,13 +1,13 @@
 use Rattle.std.proofs.Common.{◌≡◌, ◌∙◌, sym, ap, subst, List, ◌∷◌, [], take, length}
 use Rattle.std.proofs.Math.Seq.{take-append_seam}
 use Rattle.code_names.specs.Texts.{texts_of, HasFirsts, with_first, first_text, text_index, owner_of}
-use Rattle.code_names.specs.declared.text.Text.{Text}
+use Rattle.code_names.specs.declared.text.Body.{Body}
 use Rattle.code_names.proofs.NumberingTable.{firsts-pushed}
 use Rattle.code_names.proofs.text_list.TextList.push.Goals as goal
 
 pub invariant_of-self-in-Ok : goal.invariant_of-self-in-Ok
 invariant_of-self-in-Ok c =
-    let P : List Text → Type 0 = λ ts. HasFirsts c.keep.new.first.entries (texts_of ts) in
+    let P : List Body → Type 0 = λ ts. HasFirsts c.keep.new.first.entries (texts_of ts) in
     let old = first_text c.self.inside.first.entries in
     subst P (sym c.in_ok-push.ensures.items)
     (firsts-pushed c.self.inside.first.entries c.keep.new.first.entries c.self.inside.texts.items c.args.text c.self.invariant

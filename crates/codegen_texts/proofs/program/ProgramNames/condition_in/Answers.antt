@@ -2,7 +2,7 @@ use Rattle.std.proofs.Common.{◌≡◌, ◌∙◌, ap, subst, to_z, of_z, w32, 
 use Rattle.std.proofs.lemmas.Int.{to_z-of_z}
 use Rattle.std.specs.Prelude.{pos, slice_get}
 use Rattle.syntax_tree.specs.Placed.{placed, plain}
-use Rattle.syntax_tree.specs.declared.decl.Prog.{Prog}
+use Rattle.syntax_tree.specs.declared.decl.Program.{Program}
 use Rattle.source_semantics.specs.Names.{monitors}
 use Rattle.code_spec.specs.Emits.{condition_of}
 use Rattle.code_spec.specs.Layout.{by_monitor}
@@ -13,7 +13,7 @@ use Rattle.codegen_texts.proofs.program.ProgramNames.condition_in.Goals as goal
 
 pub returns : goal.returns
 returns c =
-    let P : Prog → Type 0 = λ t. to_z w32 (of_z w32 c.condition_number.result) ≡ fit (pos (condition_of (plain (placed t)) (by_monitor c.args.number) c.args.name.now)) in
+    let P : Program → Type 0 = λ t. to_z w32 (of_z w32 c.condition_number.result) ≡ fit (pos (condition_of (plain (placed t)) (by_monitor c.args.number) c.args.name.now)) in
     let ms = monitors (plain (placed c.self.inside.tables)) in
     subst P c.self.view_is
     (to_z-of_z w32 c.condition_number.result (search rules) ∙ c.condition_number.ensures

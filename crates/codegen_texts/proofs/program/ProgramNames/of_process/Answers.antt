@@ -1,7 +1,7 @@
 use Rattle.std.proofs.Common.{◌≡◌, ◌∙◌, ap, subst}
 use Rattle.std.specs.Prelude.{slice_get}
 use Rattle.syntax_tree.specs.Placed.{placed, plain}
-use Rattle.syntax_tree.specs.declared.decl.Prog.{Prog}
+use Rattle.syntax_tree.specs.declared.decl.Program.{Program}
 use Rattle.source_semantics.specs.Names.{processes}
 use Rattle.code_spec.specs.Layout.{by_process, outer_spot}
 use Rattle.codegen_spec.specs.Told.{told_spot}
@@ -12,7 +12,7 @@ use Rattle.codegen_texts.proofs.program.ProgramNames.of_process.Goals as goal
 
 pub returns : goal.returns
 returns c = λ x.
-    let P : Prog → Type 0 = λ t. outer_in c.get.result x ≡ told_spot (outer_spot (plain (placed t)) (by_process c.args.number) x) in
+    let P : Program → Type 0 = λ t. outer_in c.get.result x ≡ told_spot (outer_spot (plain (placed t)) (by_process c.args.number) x) in
     let g = plain (placed c.self.inside.tables) in
     subst P c.self.view_is
     (outer-copied c.get.result x ∙ ap (λ o. spot_some o x) (got-at c.get.result c.deref.result.now c.args.number c.get.ensures.lookup.3 c.get.ensures.lookup.1)

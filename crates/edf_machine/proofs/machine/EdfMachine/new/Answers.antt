@@ -6,7 +6,7 @@ use Rattle.vm_state.specs.Board.{state_of}
 use Rattle.edf_semantics.specs.Choice.{Mark}
 use Rattle.edf_semantics.specs.Run.{Marked, state_at}
 use Rattle.edf_machine.specs.Marks.{AreMarks, first_kept}
-use Rattle.edf_machine.specs.declared.marks.Mark.{Mark as Kept}
+use Rattle.edf_machine.specs.declared.marks.DeadlineState.{DeadlineState as Kept}
 use Rattle.edf_machine.proofs.Marking.{first_are}
 use Rattle.edf_machine.proofs.Stepping.{at_start_is}
 use Rattle.edf_machine.proofs.machine.EdfMachine.new.Goals as goal

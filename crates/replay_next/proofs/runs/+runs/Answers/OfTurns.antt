@@ -12,7 +12,7 @@ use Rattle.replay_next.specs.Ran.{ran_of}
 use Rattle.replay_next.proofs.Parts as parts
 use Rattle.replay_next.proofs.Oks.{ok_at, ok_told}
 use Rattle.replay_next.proofs.CallRunsTurning.{after_turn, turn_none, turn_over, turns_of}
-use Rattle.replay_next.specs.declared.results.Ran.{Ran}
+use Rattle.replay_next.specs.declared.results.RunResult.{RunResult}
 use Rattle.replay_next.proofs.Rooms.{answers_room, body_room}
 use Rattle.replay_next.proofs.Sizes.{answers_size, stmts_size}
 use Rattle.replay_next.proofs.Deeper as deeper
@@ -46,7 +46,7 @@ turns-returns-in-Exits t c =
     let m = memory_of l.memory in
     let m2 = memory_of c.run_all.new.memory in
     let m1 = run.with_own m (vars_of c.push_turn.new.own.items) in
-    let after = λ (y : Ran). after_turn s x ss (l.left - 1) u (ran_of y m2) in
+    let after = λ (y : RunResult). after_turn s x ss (l.left - 1) u (ran_of y m2) in
     let same : u ≡ c.in-Some.next = to_z-of_z w64 c.in-Some.next (search rules) in
     let next : c.in-Some.next ≡ v +ℤ pos 1 = let h = c.in-Some.ensures in cc in
     let whole = turn_over s x ss l.left v u m m1 (ran_of c.in_ok-run_all.field-0 m2) _ c.turns-test.true (c.in_ok-push_turn.ensures m) c.in_ok-run_all.ensures (same ∙ next) l.invariant in
@@ -65,7 +65,7 @@ turns-returns-in-Fails t c =
     let m = memory_of l.memory in
     let m2 = memory_of c.run_all.new.memory in
     let m1 = run.with_own m (vars_of c.push_turn.new.own.items) in
-    let after = λ (y : Ran). after_turn s x ss (l.left - 1) u (ran_of y m2) in
+    let after = λ (y : RunResult). after_turn s x ss (l.left - 1) u (ran_of y m2) in
     let same : u ≡ c.in-Some.next = to_z-of_z w64 c.in-Some.next (search rules) in
     let next : c.in-Some.next ≡ v +ℤ pos 1 = let h = c.in-Some.ensures in cc in
     let whole = turn_over s x ss l.left v u m m1 (ran_of c.in_ok-run_all.field-0 m2) _ c.turns-test.true (c.in_ok-push_turn.ensures m) c.in_ok-run_all.ensures (same ∙ next) l.invariant in
@@ -84,7 +84,7 @@ turns-turns-preserved t c =
     let m = memory_of l.memory in
     let m2 = memory_of c.run_all.new.memory in
     let m1 = run.with_own m (vars_of c.push_turn.new.own.items) in
-    let after = λ (y : Ran). after_turn s x ss (l.left - 1) u (ran_of y m2) in
+    let after = λ (y : RunResult). after_turn s x ss (l.left - 1) u (ran_of y m2) in
     let same : u ≡ c.in-Some.next = to_z-of_z w64 c.in-Some.next (search rules) in
     let next : c.in-Some.next ≡ v +ℤ pos 1 = let h = c.in-Some.ensures in cc in
     let whole = turn_over s x ss l.left v u m m1 (ran_of c.in_ok-run_all.field-0 m2) _ c.turns-test.true (c.in_ok-push_turn.ensures m) c.in_ok-run_all.ensures (same ∙ next) l.invariant in
@@ -101,7 +101,7 @@ turns-returns-in-Stops t c =
     let m = memory_of l.memory in
     let m2 = memory_of c.run_all.new.memory in
     let m1 = run.with_own m (vars_of c.push_turn.new.own.items) in
-    let after = λ (y : Ran). after_turn s x ss (l.left - 1) u (ran_of y m2) in
+    let after = λ (y : RunResult). after_turn s x ss (l.left - 1) u (ran_of y m2) in
     let same : u ≡ c.in-Some.next = to_z-of_z w64 c.in-Some.next (search rules) in
     let next : c.in-Some.next ≡ v +ℤ pos 1 = let h = c.in-Some.ensures in cc in
     let whole = turn_over s x ss l.left v u m m1 (ran_of c.in_ok-run_all.field-0 m2) _ c.turns-test.true (c.in_ok-push_turn.ensures m) c.in_ok-run_all.ensures (same ∙ next) l.invariant in
@@ -161,7 +161,7 @@ call_answer-returns-in-Goes t c =
     let b = plain_stmts (placed_stmts c.as_slice-body.result.now) in
     let body : b ≡ f.routine.body = ap (λ l. plain_stmts (placed_stmts l)) c.as_slice-body.ensures in
     let o = option_map answers_of c.answering.result in
-    let told = deeper.call_ran g p c.args.depth f its (run.with_own m vs) m1 o b (run.goes m2) c.if-depth-eq0.false c.home_in-its.ensures c.answering.ensures body same (sym (ap (λ (y : Ran). ran_of y m2) c.in-Goes.is) ∙ c.in_ok-run_all.ensures) in
+    let told = deeper.call_ran g p c.args.depth f its (run.with_own m vs) m1 o b (run.goes m2) c.if-depth-eq0.false c.home_in-its.ensures c.answering.ensures body same (sym (ap (λ (y : RunResult). ran_of y m2) c.in-Goes.is) ∙ c.in_ok-run_all.ensures) in
     ok_told c.outcome.result answer_of _ _ told c.outcome.ensures
 
 pub call_answer-returns-in-Fails : goal.call_answer-returns-in-Fails
@@ -177,7 +177,7 @@ call_answer-returns-in-Fails t c =
     let same = deeper.inside_same m vs (area_of c.lent.result) (area_of c.lent-2.result) (c.lent.ensures ∙ c.as_slice-process.ensures) (c.lent-2.ensures ∙ c.as_slice-monitor.ensures) in
     let b = plain_stmts (placed_stmts c.as_slice-body.result.now) in
     let body : b ≡ f.routine.body = ap (λ l. plain_stmts (placed_stmts l)) c.as_slice-body.ensures in
-    deeper.call_fails g p c.args.depth f its (run.with_own m vs) m1 m2 b c.in-Fails.number c.if-depth-eq0.false c.home_in-its.ensures body same (sym (ap (λ (y : Ran). ran_of y m2) c.in-Fails.is) ∙ c.in_ok-run_all.ensures)
+    deeper.call_fails g p c.args.depth f its (run.with_own m vs) m1 m2 b c.in-Fails.number c.if-depth-eq0.false c.home_in-its.ensures body same (sym (ap (λ (y : RunResult). ran_of y m2) c.in-Fails.is) ∙ c.in_ok-run_all.ensures)
 
 pub call_answer-returns-in-Exits : goal.call_answer-returns-in-Exits
 call_answer-returns-in-Exits t c =
@@ -192,7 +192,7 @@ call_answer-returns-in-Exits t c =
     let same = deeper.inside_same m vs (area_of c.lent.result) (area_of c.lent-2.result) (c.lent.ensures ∙ c.as_slice-process.ensures) (c.lent-2.ensures ∙ c.as_slice-monitor.ensures) in
     let b = plain_stmts (placed_stmts c.as_slice-body.result.now) in
     let body : b ≡ f.routine.body = ap (λ l. plain_stmts (placed_stmts l)) c.as_slice-body.ensures in
-    deeper.call_exits g p c.args.depth f its (run.with_own m vs) m1 m2 b c.if-depth-eq0.false c.home_in-its.ensures body same (sym (ap (λ (y : Ran). ran_of y m2) c.in-Exits.is) ∙ c.in_ok-run_all.ensures)
+    deeper.call_exits g p c.args.depth f its (run.with_own m vs) m1 m2 b c.if-depth-eq0.false c.home_in-its.ensures body same (sym (ap (λ (y : RunResult). ran_of y m2) c.in-Exits.is) ∙ c.in_ok-run_all.ensures)
 
 pub call_answer-returns : goal.call_answer-returns
 call_answer-returns t c =
@@ -208,7 +208,7 @@ call_answer-returns t c =
     let b = plain_stmts (placed_stmts c.as_slice-body.result.now) in
     let body : b ≡ f.routine.body = ap (λ l. plain_stmts (placed_stmts l)) c.as_slice-body.ensures in
     let st = c.in-Stops.field-0 in
-    deeper.call_stops g p c.args.depth f its (run.with_own m vs) m1 m2 b (action_of st.action) (calls_of st.inside.items) (map item_of st.rest.items) c.if-depth-eq0.false c.home_in-its.ensures body same (sym (ap (λ (y : Ran). ran_of y m2) c.in-Stops.is) ∙ c.in_ok-run_all.ensures)
+    deeper.call_stops g p c.args.depth f its (run.with_own m vs) m1 m2 b (action_of st.action) (calls_of st.inside.items) (map item_of st.rest.items) c.if-depth-eq0.false c.home_in-its.ensures body same (sym (ap (λ (y : RunResult). ran_of y m2) c.in-Stops.is) ∙ c.in_ok-run_all.ensures)
 
 pub run_routine-returns-then-depth-eq0 : goal.run_routine-returns-then-depth-eq0
 run_routine-returns-then-depth-eq0 t c =

@@ -1,7 +1,7 @@
 use Rattle.std.proofs.Common.{◌+◌, arith, subst, sym}
 use Rattle.vm_stretch.proofs.StartLawsMoving.{slots_are_due}
 use Rattle.vm_releases.specs.Order.{IsOrderOf}
-use Rattle.vm_releases.specs.declared.order.Order.{Order}
+use Rattle.vm_releases.specs.declared.order.StartOrder.{StartOrder}
 use Rattle.vm_state.specs.Board.{state_of}
 use Rattle.vm_runner.proofs.Calm.{is_calm, told_on}
 use Rattle.vm_runner.proofs.machine.Machine.row_on.Goals as goal
@@ -37,7 +37,7 @@ returns-clause-stands g c =
       board = e.board;
       due = slots_are_due g.run.image g.run.script t (t + n) c.take_turn-ticks.new.agenda.done (state_of c.take_turn-ticks.new.board) c.take_turn-ticks.new.agenda.slots e.slots (omega (arith, some)) e.clear;
       done = omega (arith, e.done, stands.done);
-      order = subst (λ (o : Order). IsOrderOf g.run.image o) (sym e.order) stands.order;
+      order = subst (λ (o : StartOrder). IsOrderOf g.run.image o) (sym e.order) stands.order;
     }
 
 pub returns-clause-events : goal.returns-clause-events

@@ -11,7 +11,7 @@ use Rattle.vm_stretch.specs.StretchDue.{HasSlots}
 use Rattle.vm_stretch.specs.RowLaws.{begun}
 use Rattle.vm_releases.specs.Begin.{script_of}
 use Rattle.vm_releases.specs.Order.{IsOrderOf}
-use Rattle.vm_releases.specs.declared.order.Order.{Order}
+use Rattle.vm_releases.specs.declared.order.StartOrder.{StartOrder}
 use Rattle.vm_releases.proofs.Boards.{cells_count}
 use Rattle.vm_releases.proofs.Joining.{threads_count}
 use Rattle.vm_releases.proofs.Saying.{as_many_lines}
@@ -116,7 +116,7 @@ returns-clause-stands g c =
       board = e.board;
       due = slots_are_due image g.run.script t (t + n) c.take_turn-ticks.new.agenda.done s c.take_turn-ticks.new.agenda.slots e.slots (omega (arith, some)) e.clear;
       done = omega (arith, e.done, c.begin.ensures.within, many);
-      order = subst (λ (o : Order). IsOrderOf image o) (sym e.order) c.begin.ensures.order;
+      order = subst (λ (o : StartOrder). IsOrderOf image o) (sym e.order) c.begin.ensures.order;
     }
 
 pub returns-clause-events : goal.returns-clause-events

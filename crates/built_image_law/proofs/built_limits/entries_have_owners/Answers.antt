@@ -1,5 +1,0 @@
-use Rattle.built_image_law.proofs.Owners.{entries_have_owners}
-use Rattle.built_image_law.proofs.built_limits.entries_have_owners.Goals as goal
-
-pub returns : goal.returns
-returns c = entries_have_owners

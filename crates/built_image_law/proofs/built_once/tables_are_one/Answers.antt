@@ -1,5 +1,0 @@
-use Rattle.built_image_law.proofs.BuiltOnceTables.{tables_are_one}
-use Rattle.built_image_law.proofs.built_once.tables_are_one.Goals as goal
-
-pub returns : goal.returns
-returns c = tables_are_one c.shapes_agree.ensures

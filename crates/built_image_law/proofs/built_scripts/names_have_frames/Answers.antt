@@ -1,5 +1,0 @@
-use Rattle.built_image_law.proofs.Frames.{names_have_frames}
-use Rattle.built_image_law.proofs.built_scripts.names_have_frames.Goals as goal
-
-pub returns : goal.returns
-returns c = names_have_frames

@@ -1,5 +1,0 @@
-use Rattle.built_image_law.proofs.Bounded.{built_images_have_the_table}
-use Rattle.built_image_law.proofs.filled.built_images_have_the_table.Goals as goal
-
-pub returns : goal.returns
-returns c = built_images_have_the_table

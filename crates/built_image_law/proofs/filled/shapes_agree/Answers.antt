@@ -1,5 +1,0 @@
-use Rattle.built_image_law.proofs.Agreeing.{shapes_agree}
-use Rattle.built_image_law.proofs.filled.shapes_agree.Goals as goal
-
-pub returns : goal.returns
-returns c = shapes_agree

@@ -1,5 +1,0 @@
-use Rattle.built_image_law.proofs.Shapes.{shapes_leave_bounds_aside}
-use Rattle.built_image_law.proofs.filled.shapes_leave_bounds_aside.Goals as goal
-
-pub returns : goal.returns
-returns c = shapes_leave_bounds_aside

@@ -1,5 +1,0 @@
-use Rattle.built_image_law.proofs.Timely.{timely_where_all_are_there}
-use Rattle.built_image_law.proofs.filled.timely_where_all_are_there.Goals as goal
-
-pub returns : goal.returns
-returns c = timely_where_all_are_there

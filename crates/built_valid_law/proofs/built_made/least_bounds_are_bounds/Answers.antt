@@ -1,5 +1,0 @@
-use Rattle.built_valid_law.proofs.Bounds.{least_bounds_are_bounds}
-use Rattle.built_valid_law.proofs.built_made.least_bounds_are_bounds.Goals as goal
-
-pub returns : goal.returns
-returns c = least_bounds_are_bounds

@@ -1,5 +1,0 @@
-use Rattle.code_correct.proofs.HeadlineLemmas.{programs_run_right_and_in_time}
-use Rattle.code_correct.proofs.headline.programs_run_right_and_in_time.Goals as goal
-
-pub returns : goal.returns
-returns c = programs_run_right_and_in_time

@@ -1,5 +1,0 @@
-use Rattle.code_correct.proofs.HeadlineLemmas.{runs_are_right_and_in_time}
-use Rattle.code_correct.proofs.headline.runs_are_right_and_in_time.Goals as goal
-
-pub returns : goal.returns
-returns c = runs_are_right_and_in_time

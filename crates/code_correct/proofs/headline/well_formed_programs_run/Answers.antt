@@ -1,5 +1,0 @@
-use Rattle.code_correct.proofs.HeadlineLemmas.{well_formed_programs_run}
-use Rattle.code_correct.proofs.headline.well_formed_programs_run.Goals as goal
-
-pub returns : goal.returns
-returns c = well_formed_programs_run

@@ -1,5 +1,0 @@
-use Rattle.code_lifting.proofs.Runs.{runs_are_source_runs}
-use Rattle.code_lifting.proofs.compiled.runs_are_source_runs.Goals as goal
-
-pub returns : goal.returns
-returns c = runs_are_source_runs

@@ -1,5 +1,0 @@
-use Rattle.code_measures.proofs.Parts.{processes_are_measured}
-use Rattle.code_measures.proofs.measured.processes_are_measured.Goals as goal
-
-pub returns : goal.returns
-returns c = processes_are_measured

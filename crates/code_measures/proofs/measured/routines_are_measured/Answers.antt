@@ -1,5 +1,0 @@
-use Rattle.code_measures.proofs.Parts.{routines_are_measured}
-use Rattle.code_measures.proofs.measured.routines_are_measured.Goals as goal
-
-pub returns : goal.returns
-returns c = routines_are_measured

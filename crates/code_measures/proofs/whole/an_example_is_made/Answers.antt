@@ -1,5 +1,0 @@
-use Rattle.code_measures.proofs.Meeting.{meeting_is_made}
-use Rattle.code_measures.proofs.whole.an_example_is_made.Goals as goal
-
-pub returns : goal.returns
-returns c = meeting_is_made

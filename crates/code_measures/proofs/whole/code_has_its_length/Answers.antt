@@ -1,5 +1,0 @@
-use Rattle.code_measures.proofs.WholeLength.{code_has_its_length}
-use Rattle.code_measures.proofs.whole.code_has_its_length.Goals as goal
-
-pub returns : goal.returns
-returns c = code_has_its_length

@@ -1,5 +1,0 @@
-use Rattle.code_measures.proofs.Valid.{made_images_are_valid}
-use Rattle.code_measures.proofs.whole.made_images_are_valid.Goals as goal
-
-pub returns : goal.returns
-returns c = made_images_are_valid

@@ -1,5 +1,0 @@
-use Rattle.code_measures.proofs.Valid.{six_parts}
-use Rattle.code_measures.proofs.whole.made_images_keep_six_parts.Goals as goal
-
-pub returns : goal.returns
-returns c = six_parts

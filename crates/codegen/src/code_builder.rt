@@ -1,0 +1,159 @@
+//! What the generator has made so far.
+
+ghost use Rattle.std.specs.Prelude.{◌≡◌, [], pos, length, OnOk, IfOk};
+ghost use Rattle.machine_isa.specs.declared.instr.Instr.TheVariants as i;
+ghost use Rattle.codegen_spec.specs.Told.{fit as fitting};
+ghost use Rattle.codegen_spec.specs.Parts.{opened, part_of};
+ghost use Rattle.codegen_spec.specs.Made.{aim as aim_of, aim_one as aim_one_of, aimed, aims, begun, closed, counted, joined, line_of, patched, push as pushed};
+
+use codegen_spec::Part;
+use image_format::{Seg, Segs};
+use machine_isa::Instr;
+use std::alloc::{AllocError, Global};
+use std::marker::Model;
+
+/// The code so far, the segments that are closed, where the line began that is still open, and the
+/// word of the frame for the next loop.
+#[derive(Drop)]
+pub struct CodeBuilder {
+    pub alloc: Global,
+    pub code: Vec<Instr>,
+    pub segs: Segs,
+    pub from: usize,
+    pub word: usize,
+}
+
+impl Model for CodeBuilder {
+    ghost use Rattle.codegen_spec.specs.Made.{Out as Made};
+    ghost use Rattle.std.specs.Coded.{codes};
+    ghost use Rattle.image_format.specs.contracts.seg.Seg as seg;
+
+    ghost Value = { Made };
+
+    ghost coded = { Prim.hlevel (codes, seg.the_row.coded) };
+
+    ghost view = { λ o. record { code = o.code.items; segs = o.segs; from = o.from; word = o.word } };
+}
+
+/// A number as it fits into an operand.
+pub fn fit(number: usize) -> i32
+    ensures { result ≡ fitting (pos number) }
+{
+    if number > 2_147_483_647 {
+        2_147_483_647
+    } else {
+        number as i32
+    }
+}
+
+impl CodeBuilder {
+    pub fn new(alloc: Global, word: usize) -> CodeBuilder
+        ensures { result ≡ record { code = []; segs = []; from = 0; word = word } }
+    {
+        CodeBuilder {
+            alloc,
+            code: Vec::new(alloc),
+            segs: Segs::new(alloc),
+            from: 0,
+            word,
+        }
+    }
+
+    /// One more instruction of the open line.
+    pub fn push(&mut self, instr: Instr) -> Result<(), AllocError>
+        ensures { OnOk result (self.new ≡ pushed self.old instr) }
+    {
+        self.code.push(instr)?;
+        Ok(())
+    }
+
+    pub fn patch(&mut self, at: usize, instr: Instr)
+        ensures { self.new ≡ patched self.old at instr }
+    {
+        if at < self.code.len() {
+            self.code[at] = instr;
+        }
+    }
+
+    /// The word for a loop's variable is taken.
+    pub fn count(&mut self) -> Result<(), AllocError>
+        ensures { OnOk result (self.new ≡ counted self.old) }
+    {
+        match self.word.checked_add(1) {
+            Some(word) => {
+                self.word = word;
+                Ok(())
+            }
+            None => Err(AllocError),
+        }
+    }
+
+    /// Takes the segments, with the open line; a part of the code with segments of its own begins.
+    pub fn take(&mut self) -> Result<Segs, AllocError>
+        ensures out { OnOk result (self.new ≡ begun self.old) }
+        ensures segs { IfOk result (λ segs. segs ≡ closed self.old) }
+    {
+        let mut segs = std::mem::replace(&mut self.segs, Segs::new(self.alloc));
+        let count = self.code.len().saturating_sub(self.from);
+        if count > 0 {
+            segs.push(Seg::Line(u32::try_from(count).unwrap_or(u32::MAX)))?;
+        }
+        self.from = self.code.len();
+        Ok(segs)
+    }
+
+    /// A part of the code with segments of its own begins.
+    pub fn begin(&mut self)
+        ensures { self.new ≡ begun self.old }
+    {
+        self.segs = Segs::new(self.alloc);
+        self.from = self.code.len();
+    }
+
+    /// A segment behind those that were taken, where the code stands now.
+    pub fn join(&mut self, before: Segs, seg: Seg) -> Result<(), AllocError>
+        ensures { OnOk result (self.new ≡ joined self.old before seg) }
+    {
+        self.segs = before;
+        self.segs.push(seg)?;
+        self.from = self.code.len();
+        Ok(())
+    }
+
+    /// The address of the next instruction.
+    pub fn address(&self) -> usize
+        ensures { result ≡ length self.now.code }
+    {
+        self.code.len()
+    }
+
+    /// The instructions so far.
+    pub fn as_slice(&self) -> &[Instr]
+        ensures { result.now ≡ self.now.code }
+    {
+        self.code.as_slice()
+    }
+
+    /// A part of the program begins; its first loop has its variable at this word of the frame.
+    pub fn begin_part(&mut self, word: usize)
+        ensures { self.new ≡ opened word self.old.code }
+    {
+        self.begin();
+        self.word = word;
+    }
+
+    /// A part of the program ends, which began at an address; its last instruction stands outside
+    /// its tree.
+    pub fn end_part(&mut self, start: usize, last: Instr) -> Result<Part, AllocError>
+        ensures out { OnOk result (self.new ≡ pushed (begun self.old) last) }
+        ensures part { IfOk result (λ part. part ≡ part_of start self.old (pushed self.old last)) }
+    {
+        let tree = self.take()?;
+        self.push(last)?;
+        Ok(Part {
+            start,
+            end: self.address(),
+            tree,
+        })
+    }
+}

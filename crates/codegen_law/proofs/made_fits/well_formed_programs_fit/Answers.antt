@@ -1,5 +1,0 @@
-use Rattle.codegen_law.proofs.Whole.{well_formed_fits}
-use Rattle.codegen_law.proofs.made_fits.well_formed_programs_fit.Goals as goal
-
-pub returns : goal.returns
-returns c = well_formed_fits

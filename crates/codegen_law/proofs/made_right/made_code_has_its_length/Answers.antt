@@ -1,5 +1,0 @@
-use Rattle.codegen_law.proofs.Alone.{made_has_its_length}
-use Rattle.codegen_law.proofs.made_right.made_code_has_its_length.Goals as goal
-
-pub returns : goal.returns
-returns c = made_has_its_length

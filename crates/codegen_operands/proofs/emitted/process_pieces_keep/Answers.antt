@@ -1,5 +1,0 @@
-use Rattle.codegen_operands.proofs.EmittedLemmas.{process_pieces_keep}
-use Rattle.codegen_operands.proofs.emitted.process_pieces_keep.Goals as goal
-
-pub returns : goal.returns
-returns c = process_pieces_keep

@@ -1,0 +1,23 @@
+//! Why nothing was prepared.
+
+use std::alloc::AllocError;
+
+/// Why nothing was prepared.
+#[derive(Clone, Copy, Debug, PartialEq, Eq)]
+pub enum PrepareError {
+    /// A read failed.
+    Unread,
+    /// There was not enough memory.
+    Memory,
+}
+
+impl From<AllocError> for PrepareError {
+    ghost use Rattle.std.specs.Prelude.{◌≡◌};
+    ghost use Rattle.command_answers.specs.declared.prepare_error.PrepareError.TheVariants as unready;
+
+    ghost from_gives = { λ _ made. made ≡ unready.Memory };
+
+    fn from(_: AllocError) -> PrepareError {
+        PrepareError::Memory
+    }
+}

@@ -1,5 +1,0 @@
-use Rattle.command_due_law.proofs.Spares.{slack_texts_are_one}
-use Rattle.command_due_law.proofs.due_once.slack_texts_are_one.Goals as goal
-
-pub returns : goal.returns
-returns c = slack_texts_are_one

@@ -1,5 +1,0 @@
-use Rattle.command_due_law.proofs.Texts.{written_once}
-use Rattle.command_due_law.proofs.due_once.written_once.Goals as goal
-
-pub returns : goal.returns
-returns c = written_once c.one_program.ensures

@@ -1,0 +1,7 @@
+use Rattle.command_due_law.proofs.Commands.{go_is_one}
+use Rattle.command_due_law.proofs.one_answer.go_is_one.Goals as goal
+
+pub returns : goal.returns
+returns c =
+    go_is_one c.refusals_are_one.ensures c.timely_texts_are_not_refused.ensures c.timely_texts_have_one_image.ensures
+    c.one_script.ensures.text c.one_answer.ensures.script c.one_answer.ensures.fault

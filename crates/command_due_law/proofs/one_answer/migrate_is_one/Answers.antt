@@ -1,0 +1,5 @@
+use Rattle.command_due_law.proofs.Commands.{migrate_is_one}
+use Rattle.command_due_law.proofs.one_answer.migrate_is_one.Goals as goal
+
+pub returns : goal.returns
+returns c = migrate_is_one c.images_held_are_one.ensures c.image_files_are_not_refused.ensures c.image_refusals_are_one.ensures

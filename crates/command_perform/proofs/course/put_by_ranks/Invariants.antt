@@ -1,4 +1,0 @@
-use Rattle.command_perform.proofs.course.put_by_ranks.Given as goal
-
-abbrev pub ghost-run : goal.ghost-run
-ghost-run g a = g.image

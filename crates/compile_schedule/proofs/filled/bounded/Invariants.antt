@@ -1,5 +1,0 @@
-use Rattle.compile_schedule.proofs.Growing.{BoundedSoFar}
-use Rattle.compile_schedule.proofs.filled.bounded.Given as goal
-
-abbrev pub invariant-loop-number : goal.invariant-loop-number
-invariant-loop-number l = BoundedSoFar l.bounds l.processes l.number l.all

@@ -1,5 +1,0 @@
-use Rattle.edf_semantics.proofs.Keeping.{every_run_is_safe}
-use Rattle.edf_semantics.proofs.edf.every_run_is_safe.Goals as goal
-
-pub returns : goal.returns
-returns c = every_run_is_safe

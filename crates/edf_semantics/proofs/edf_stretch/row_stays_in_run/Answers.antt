@@ -1,5 +1,0 @@
-use Rattle.edf_semantics.proofs.Rowing.{row_stays_in_run}
-use Rattle.edf_semantics.proofs.edf_stretch.row_stays_in_run.Goals as goal
-
-pub returns : goal.returns
-returns c = row_stays_in_run

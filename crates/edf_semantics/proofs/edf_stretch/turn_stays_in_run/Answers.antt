@@ -1,5 +1,0 @@
-use Rattle.edf_semantics.proofs.Turning.{turn_stays_in_run}
-use Rattle.edf_semantics.proofs.edf_stretch.turn_stays_in_run.Goals as goal
-
-pub returns : goal.returns
-returns c = turn_stays_in_run

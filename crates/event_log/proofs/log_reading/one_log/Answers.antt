@@ -1,8 +1,0 @@
-use Rattle.event_log.proofs.Once.{line_once, log_once}
-use Rattle.event_log.proofs.log_reading.one_log.Goals as goal
-
-pub returns-clause-line : goal.returns-clause-line
-returns-clause-line c = line_once
-
-pub returns-clause-text : goal.returns-clause-text
-returns-clause-text c = log_once

@@ -1,5 +1,0 @@
-use Rattle.examples_law.proofs.GeneratedLemmas.{example_is_generated}
-use Rattle.examples_law.proofs.generated.an_example_is_generated.Goals as goal
-
-pub returns : goal.returns
-returns c = example_is_generated

@@ -1,5 +1,0 @@
-use Rattle.examples_law.proofs.Nested.{callees_first}
-use Rattle.examples_law.proofs.mine.callees_come_first.Goals as goal
-
-pub returns : goal.returns
-returns c = callees_first

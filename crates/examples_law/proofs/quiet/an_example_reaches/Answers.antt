@@ -1,5 +1,0 @@
-use Rattle.examples_law.proofs.QuietExample.{example_reaches}
-use Rattle.examples_law.proofs.quiet.an_example_reaches.Goals as goal
-
-pub returns : goal.returns
-returns c = example_reaches

@@ -1,5 +1,0 @@
-use Rattle.image_reader_law.proofs.ImageFaultsFiles.{one_fault}
-use Rattle.image_reader_law.proofs.image_faults.each_file_has_one_fault.Goals as goal
-
-pub returns : goal.returns
-returns c = one_fault

@@ -1,5 +1,0 @@
-use Rattle.image_reader_law.proofs.ImageFaultsFiles.{told_exactly}
-use Rattle.image_reader_law.proofs.image_faults.faults_are_told_exactly.Goals as goal
-
-pub returns : goal.returns
-returns c = told_exactly

@@ -1,5 +1,0 @@
-use Rattle.image_reader_law.proofs.Behind.{three}
-use Rattle.image_reader_law.proofs.image_faults.more_bytes_are_i3.Goals as goal
-
-pub returns : goal.returns
-returns c = three

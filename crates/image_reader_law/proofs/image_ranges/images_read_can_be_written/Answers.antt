@@ -1,5 +1,0 @@
-use Rattle.image_reader_law.proofs.Written.{read_can_be_written}
-use Rattle.image_reader_law.proofs.image_ranges.images_read_can_be_written.Goals as goal
-
-pub returns : goal.returns
-returns c = read_can_be_written

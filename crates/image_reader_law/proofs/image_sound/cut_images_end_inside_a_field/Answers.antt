@@ -1,5 +1,0 @@
-use Rattle.image_reader_law.proofs.ImageSoundFiles.{cut_ends}
-use Rattle.image_reader_law.proofs.image_sound.cut_images_end_inside_a_field.Goals as goal
-
-pub returns : goal.returns
-returns c = cut_ends

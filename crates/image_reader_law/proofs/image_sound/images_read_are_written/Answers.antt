@@ -1,5 +1,0 @@
-use Rattle.image_reader_law.proofs.ImageSoundFiles.{read_are_written}
-use Rattle.image_reader_law.proofs.image_sound.images_read_are_written.Goals as goal
-
-pub returns : goal.returns
-returns c = read_are_written

@@ -1,5 +1,0 @@
-use Rattle.image_reader_law.proofs.Names.{read_names}
-use Rattle.image_reader_law.proofs.read_names.images_read_are_named.Goals as goal
-
-pub returns : goal.returns
-returns c = read_names

@@ -1,5 +1,0 @@
-use Rattle.load_law.proofs.LightJoined.{respond}
-use Rattle.load_law.proofs.light.light_images_respond.Goals as goal
-
-pub returns : goal.returns
-returns c = respond

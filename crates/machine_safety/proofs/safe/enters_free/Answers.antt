@@ -1,5 +1,0 @@
-use Rattle.machine_safety.proofs.Entering.{enters_free}
-use Rattle.machine_safety.proofs.safe.enters_free.Goals as goal
-
-pub returns : goal.returns
-returns c = enters_free

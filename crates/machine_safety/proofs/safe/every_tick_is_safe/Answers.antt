@@ -1,5 +1,0 @@
-use Rattle.machine_safety.proofs.Settling.{every_tick_is_safe}
-use Rattle.machine_safety.proofs.safe.every_tick_is_safe.Goals as goal
-
-pub returns : goal.returns
-returns c = every_tick_is_safe

@@ -1,5 +1,0 @@
-use Rattle.machine_safety.proofs.Working.{release_owes}
-use Rattle.machine_safety.proofs.safe.release_owes.Goals as goal
-
-pub returns : goal.returns
-returns c = release_owes

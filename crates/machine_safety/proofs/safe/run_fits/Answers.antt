@@ -1,5 +1,0 @@
-use Rattle.machine_safety.proofs.Running.{state_fits}
-use Rattle.machine_safety.proofs.safe.run_fits.Goals as goal
-
-pub returns : goal.returns
-returns c = state_fits

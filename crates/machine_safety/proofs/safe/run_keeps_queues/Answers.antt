@@ -1,5 +1,0 @@
-use Rattle.machine_safety.proofs.Queueing.{run_keeps_queues}
-use Rattle.machine_safety.proofs.safe.run_keeps_queues.Goals as goal
-
-pub returns : goal.returns
-returns c = run_keeps_queues

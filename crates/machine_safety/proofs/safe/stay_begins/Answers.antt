@@ -1,5 +1,0 @@
-use Rattle.machine_safety.proofs.Entering.{stay_begins}
-use Rattle.machine_safety.proofs.safe.stay_begins.Goals as goal
-
-pub returns : goal.returns
-returns c = stay_begins

@@ -1,5 +1,0 @@
-use Rattle.machine_safety.proofs.Ticking.{tick_is_safe}
-use Rattle.machine_safety.proofs.safe.tick_is_safe.Goals as goal
-
-pub returns : goal.returns
-returns c = tick_is_safe

@@ -1,5 +1,0 @@
-use Rattle.machine_safety.proofs.Queueing.{tick_keeps_queues}
-use Rattle.machine_safety.proofs.safe.tick_keeps_queues.Goals as goal
-
-pub returns : goal.returns
-returns c = tick_keeps_queues

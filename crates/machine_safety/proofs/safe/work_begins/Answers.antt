@@ -1,5 +1,0 @@
-use Rattle.machine_safety.proofs.Beginning.{work_begins}
-use Rattle.machine_safety.proofs.safe.work_begins.Goals as goal
-
-pub returns : goal.returns
-returns c = work_begins

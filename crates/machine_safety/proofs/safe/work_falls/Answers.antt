@@ -1,5 +1,0 @@
-use Rattle.machine_safety.proofs.Working.{work_falls}
-use Rattle.machine_safety.proofs.safe.work_falls.Goals as goal
-
-pub returns : goal.returns
-returns c = work_falls

@@ -1,0 +1,13 @@
+use Rattle.std.proofs.Common.{◌≡◌, take}
+use Rattle.replay_accept.specs.Running.{Stands, program_of}
+use Rattle.replay_state.specs.View.{config_of}
+use Rattle.replay_due_events.specs.Timings.{script_of}
+use Rattle.source_semantics.specs.Verdicts.{Allowed}
+use Rattle.replay.proofs.judge_events.judge.Given as goal
+
+abbrev pub invariant-loop-at : goal.invariant-loop-at
+invariant-loop-at l = record {
+  stands : Stands l.running;
+  rules : l.running.rules ≡ l.initial.running.rules;
+  allowed : Allowed (program_of l.initial.running.rules) (script_of l.script.lines l.script.end) (config_of l.initial.running.config) (take l.at l.events) (config_of l.running.config);
+}

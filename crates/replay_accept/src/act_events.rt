@@ -1,0 +1,145 @@
+//! Events, judged as acts.
+
+ghost use Rattle.std.specs.Prelude.{IfOk, IsTrue, OnErr, Some, option_map, ◌↔◌, ◌≡◌};
+ghost use Rattle.source_semantics.specs.Config.{is_ready as is_at_work};
+ghost use Rattle.replay_state.specs.Tables.{Fits};
+ghost use Rattle.replay_state.specs.View.{config_of, doing_of, next_of};
+ghost use Rattle.replay_due_events.specs.Accepts.{Accepts};
+ghost use Rattle.replay_due_events.specs.Timings.{script_of};
+ghost use Rattle.replay_accept.specs.Judged.{IsNextOf, IsOpen, IsReady, IsToAct};
+ghost use Rattle.replay_accept.specs.Running.{AreRules, program_of};
+
+use crate::rules::Rules;
+use crate::{act, is_told, may_act};
+use base::Event;
+use replay_due_events::has_acted;
+use replay_next::next_action;
+use replay_state::{Activity, Config, NextAction};
+use replay_values::EvalContext;
+use script::Script;
+use std::alloc::AllocError;
+
+/// Whether it is work since a release.
+fn is_work(doing: Activity) -> bool
+    ensures { result ≡ is_at_work (doing_of doing) }
+{
+    match doing {
+        Activity::Active { .. } => true,
+        Activity::Idle | Activity::Waiting(_) => false,
+    }
+}
+
+/// Whether there is such a process, and it is ready.
+fn is_ready(config: &Config<'_>, process: usize) -> bool
+    ensures { IsTrue result ↔ IsReady (config_of config.now) process }
+{
+    match config.jobs.get(process) {
+        None => false,
+        Some(job) => is_work(job.doing),
+    }
+}
+
+/// Whether the event's process is the one that is to act at its tick.
+fn is_to_act(rules: &Rules<'_>, config: &Config<'_>, event: &Event) -> bool
+    requires rules { AreRules rules.now }
+    requires fits { Fits (program_of rules.now) (config_of config.now) }
+    ensures { IsTrue result ↔ IsToAct (program_of rules.now) (config_of config.now) event.now }
+{
+    let process = usize::from(event.proc);
+    if has_acted(config, event.tick) {
+        false
+    } else if is_ready(config, process) {
+        rules.is_first(config, process)
+    } else {
+        false
+    }
+}
+
+/// The next action of the process; `None` where there is no such process.
+fn next_of_process<'a>(
+    rules: &Rules<'a>,
+    config: &Config<'a>,
+    process: usize,
+) -> Result<Option<NextAction<'a>>, AllocError>
+    requires { AreRules rules.now }
+    ensures { IfOk result (λ next. IsNextOf (program_of rules.now) (config_of config.now) process
+        (option_map next_of next)) }
+{
+    let text = &rules.text;
+    match text.processes.get(process) {
+        None => Ok(None),
+        Some(its) => match config.jobs.get(process) {
+            None => Ok(None),
+            Some(job) => {
+                let scope = EvalContext {
+                    declarations: text.declarations,
+                    process: its,
+                    alloc: text.alloc,
+                };
+                let next = next_action(&scope, rules.routines, config, process, job)?;
+                Ok(Some(next))
+            }
+        },
+    }
+}
+
+/// Whether the event is what the next action of its process tells, where no start event is due up
+/// to its tick; then the process acts. Want of memory leaves the configuration as it was.
+pub fn act_by<'a>(
+    rules: &Rules<'a>,
+    config: &mut Config<'a>,
+    script: &Script,
+    event: &Event,
+) -> Result<bool, AllocError>
+    requires rules { AreRules rules.now }
+    requires fits { Fits (program_of rules.now) (config_of config.old) }
+    requires opened { IsOpen (program_of rules.now) (script_of script.now.lines script.now.end)
+        (config_of config.old) event.now }
+    ensures accepts { IfOk result (λ acts. Accepts (program_of rules.now)
+        (script_of script.now.lines script.now.end) (config_of config.old) event.now acts
+        (config_of config.new)) }
+    ensures err { OnErr result (config_of config.new ≡ config_of config.old) }
+{
+    if is_to_act(rules, config, event) {
+        let process = usize::from(event.proc);
+        match next_of_process(rules, config, process)? {
+            None => Ok(false),
+            Some(next) => act_next(rules, config, script, event, next),
+        }
+    } else {
+        Ok(false)
+    }
+}
+
+/// The same of the process that is to act, whose next action this is.
+fn act_next<'a>(
+    rules: &Rules<'a>,
+    config: &mut Config<'a>,
+    script: &Script,
+    event: &Event,
+    next: NextAction<'a>,
+) -> Result<bool, AllocError>
+    requires rules { AreRules rules.now }
+    requires opened { IsOpen (program_of rules.now) (script_of script.now.lines script.now.end)
+        (config_of config.old) event.now }
+    requires acts { IsToAct (program_of rules.now) (config_of config.old) event.now }
+    requires next { IsNextOf (program_of rules.now) (config_of config.old) event.now.proc
+        (Some (next_of next)) }
+    ensures accepts { IfOk result (λ acts. Accepts (program_of rules.now)
+        (script_of script.now.lines script.now.end) (config_of config.old) event.now acts
+        (config_of config.new)) }
+    ensures err { OnErr result (config_of config.new ≡ config_of config.old) }
+{
+    let lines = script.lines().as_slice();
+    if may_act(config, next.action) {
+        if is_told(config, lines, event.tick, &next, event.act) {
+            let process = usize::from(event.proc);
+            act(config, &rules.text, lines, event.tick, process, next)?;
+            Ok(true)
+        } else {
+            Ok(false)
+        }
+    } else {
+        Ok(false)
+    }
+}

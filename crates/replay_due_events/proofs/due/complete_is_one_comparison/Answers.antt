@@ -1,6 +1,0 @@
-use Rattle.replay_due_events.specs.NextDue.{next_due}
-use Rattle.replay_due_events.proofs.DueLemmas.{next_is, told_by}
-use Rattle.replay_due_events.proofs.due.complete_is_one_comparison.Goals as goal
-
-pub returns : goal.returns
-returns c = λ g s d pass. told_by g s d s.end_tick (next_due g s d) (next_is g s d pass)

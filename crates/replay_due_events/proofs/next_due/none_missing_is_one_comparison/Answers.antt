@@ -1,0 +1,6 @@
+use Rattle.replay_due_events.specs.NextDue.{next_due}
+use Rattle.replay_due_events.proofs.DueLemmas.{next_is, told_by}
+use Rattle.replay_due_events.proofs.next_due.none_missing_is_one_comparison.Goals as goal
+
+pub returns : goal.returns
+returns c = λ g s d t pass. told_by g s d t (next_due g s d) (next_is g s d pass)

@@ -1,5 +1,0 @@
-use Rattle.replay_law.proofs.Ticking.{valid_runs_fit}
-use Rattle.replay_law.proofs.run_words.valid_runs_fit.Goals as goal
-
-pub returns : goal.returns
-returns c = valid_runs_fit c.valid_operands_are_there.ensures c.valid_meets_premises.ensures

@@ -1,5 +1,0 @@
-use Rattle.replay_law.proofs.Named.{names_of_texts_are_words}
-use Rattle.replay_law.proofs.word_names.names_of_texts_are_words.Goals as goal
-
-pub returns : goal.returns
-returns c = names_of_texts_are_words c.names_of_texts_are_identifiers.ensures

@@ -1,8 +1,0 @@
-use Rattle.syntax.proofs.LawLemmas.{tokens_or_fault, one_fault}
-use Rattle.syntax.proofs.lex_law.one_fault.Goals as goal
-
-pub returns-clause-apart : goal.returns-clause-apart
-returns-clause-apart c = tokens_or_fault
-
-pub returns-clause-one : goal.returns-clause-one
-returns-clause-one c = one_fault

@@ -1,5 +1,0 @@
-use Rattle.syntax.proofs.LawLemmas.{stand_in_order}
-use Rattle.syntax.proofs.lex_law.tokens_in_order.Goals as goal
-
-pub returns : goal.returns
-returns c = stand_in_order

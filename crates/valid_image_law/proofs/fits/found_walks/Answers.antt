@@ -1,5 +1,0 @@
-use Rattle.valid_image_law.proofs.Walks.{found_walks}
-use Rattle.valid_image_law.proofs.fits.found_walks.Goals as goal
-
-pub returns : goal.returns
-returns c = found_walks

@@ -1,5 +1,0 @@
-use Rattle.valid_image_law.proofs.Holding.{holding_changes_nothing}
-use Rattle.valid_image_law.proofs.valid_held.holding_changes_nothing.Goals as goal
-
-pub returns : goal.returns
-returns c = holding_changes_nothing

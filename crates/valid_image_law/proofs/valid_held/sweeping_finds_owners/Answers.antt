@@ -1,5 +1,0 @@
-use Rattle.valid_image_law.proofs.Sweeping.{sweeping_finds_owners}
-use Rattle.valid_image_law.proofs.valid_held.sweeping_finds_owners.Goals as goal
-
-pub returns : goal.returns
-returns c = sweeping_finds_owners

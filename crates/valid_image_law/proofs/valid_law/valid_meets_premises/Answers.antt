@@ -1,5 +1,0 @@
-use Rattle.valid_image_law.proofs.Whole.{valid_meets_premises}
-use Rattle.valid_image_law.proofs.valid_law.valid_meets_premises.Goals as goal
-
-pub returns : goal.returns
-returns c = valid_meets_premises

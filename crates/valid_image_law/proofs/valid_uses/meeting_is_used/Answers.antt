@@ -1,5 +1,0 @@
-use Rattle.valid_image_law.proofs.Used.{meeting_is_used}
-use Rattle.valid_image_law.proofs.valid_uses.meeting_is_used.Goals as goal
-
-pub returns : goal.returns
-returns c = meeting_is_used

@@ -1,5 +1,0 @@
-use Rattle.valid_image_law.proofs.Agreeing.{uses_agree}
-use Rattle.valid_image_law.proofs.valid_uses.uses_agree.Goals as goal
-
-pub returns : goal.returns
-returns c = uses_agree

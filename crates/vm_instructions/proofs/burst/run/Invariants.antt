@@ -1,0 +1,17 @@
+use Rattle.std.proofs.Common.{◌≡◌, ◌≤◌, ◌-◌}
+use Rattle.vm_instructions.specs.Silent.{own_of}
+use Rattle.vm_stretch.specs.Silent.{Leads}
+use Rattle.vm_instructions.proofs.burst.run.Given as goal
+
+abbrev pub invariant-loop-left : goal.invariant-loop-left
+invariant-loop-left g l = record {
+  within : l.left ≤ l.budget;
+  room : l.job.frames.room ≡ l.fn.job.frames.room;
+  leads : Leads g.image (own_of l.fn.job l.fn.owned l.fn.shared) (l.budget - l.left) (own_of l.job l.owned l.shared);
+}
+
+abbrev pub decreases-loop-left : goal.decreases-loop-left
+decreases-loop-left g l = l.left
+
+abbrev pub ghost-step : goal.ghost-step
+ghost-step g a = g.image

@@ -1,5 +1,0 @@
-use Rattle.vm_law.proofs.Ticking.{valid_runs_have_lines}
-use Rattle.vm_law.proofs.logged.valid_runs_have_lines.Goals as goal
-
-pub returns : goal.returns
-returns c = valid_runs_have_lines

@@ -1,5 +1,0 @@
-use Rattle.vm_law.proofs.There.{valid_operands_are_there}
-use Rattle.vm_law.proofs.named.valid_operands_are_there.Goals as goal
-
-pub returns : goal.returns
-returns c = valid_operands_are_there

@@ -1,5 +1,0 @@
-use Rattle.vm_law.proofs.Runnable.{valid_runs_are_runnable}
-use Rattle.vm_law.proofs.runner_laws.valid_runs_are_runnable.Goals as goal
-
-pub returns : goal.returns
-returns c = valid_runs_are_runnable

@@ -1,5 +1,0 @@
-use Rattle.vm_law.proofs.Valid.{valid_runs_are_safe}
-use Rattle.vm_law.proofs.safe_run.valid_runs_are_safe.Goals as goal
-
-pub returns : goal.returns
-returns c = valid_runs_are_safe

@@ -1,8 +1,0 @@
-use Rattle.vm_law.proofs.Suiting.{scripts_for_images_read_suit, scripts_suit}
-use Rattle.vm_law.proofs.script_suits.scripts_suit.Goals as goal
-
-pub returns-clause-framed : goal.returns-clause-framed
-returns-clause-framed c = scripts_suit
-
-pub returns-clause-held : goal.returns-clause-held
-returns-clause-held c = scripts_for_images_read_suit

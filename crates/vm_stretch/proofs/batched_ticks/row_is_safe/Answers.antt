@@ -1,0 +1,5 @@
+use Rattle.vm_stretch.proofs.Rowing.{row_is_safe}
+use Rattle.vm_stretch.proofs.batched_ticks.row_is_safe.Goals as goal
+
+pub returns : goal.returns
+returns c = row_is_safe

@@ -1,5 +1,0 @@
-use Rattle.vm_stretch.proofs.PicksLemmas.{pick_is_foremost}
-use Rattle.vm_stretch.proofs.picks.pick_is_foremost.Goals as goal
-
-pub returns : goal.returns
-returns c = pick_is_foremost

@@ -1,5 +1,0 @@
-use Rattle.vm_stretch.proofs.StartLawsMoving.{moved_are_slots}
-use Rattle.vm_stretch.proofs.start_laws.moved_are_slots.Goals as goal
-
-pub returns : goal.returns
-returns c = moved_are_slots

@@ -1,5 +1,0 @@
-use Rattle.vm_stretch.proofs.StartLawsMoving.{slots_are_due}
-use Rattle.vm_stretch.proofs.start_laws.slots_are_due.Goals as goal
-
-pub returns : goal.returns
-returns c = slots_are_due

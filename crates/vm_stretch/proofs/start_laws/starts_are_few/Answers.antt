@@ -1,5 +1,0 @@
-use Rattle.vm_stretch.proofs.Counting.{starts_are_few}
-use Rattle.vm_stretch.proofs.start_laws.starts_are_few.Goals as goal
-
-pub returns : goal.returns
-returns c = starts_are_few

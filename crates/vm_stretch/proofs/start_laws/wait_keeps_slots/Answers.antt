@@ -1,5 +1,0 @@
-use Rattle.vm_stretch.proofs.Setting.{wait_keeps_slots}
-use Rattle.vm_stretch.proofs.start_laws.wait_keeps_slots.Goals as goal
-
-pub returns : goal.returns
-returns c = wait_keeps_slots

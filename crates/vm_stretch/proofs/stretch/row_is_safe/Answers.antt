@@ -1,5 +1,0 @@
-use Rattle.vm_stretch.proofs.Rowing.{row_is_safe}
-use Rattle.vm_stretch.proofs.stretch.row_is_safe.Goals as goal
-
-pub returns : goal.returns
-returns c = row_is_safe

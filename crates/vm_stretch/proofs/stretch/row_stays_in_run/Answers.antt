@@ -1,5 +1,0 @@
-use Rattle.vm_stretch.proofs.Rowing.{row_stays_in_run}
-use Rattle.vm_stretch.proofs.stretch.row_stays_in_run.Goals as goal
-
-pub returns : goal.returns
-returns c = row_stays_in_run

@@ -1,5 +1,0 @@
-use Rattle.vm_stretch.proofs.Rowing.{silent_anywhere}
-use Rattle.vm_stretch.proofs.stretch.silent_anywhere.Goals as goal
-
-pub returns : goal.returns
-returns c = silent_anywhere

@@ -1,5 +1,0 @@
-use Rattle.vm_stretch.proofs.Runs.{turn_keeps_events}
-use Rattle.vm_stretch.proofs.stretch.turn_keeps_events.Goals as goal
-
-pub returns : goal.returns
-returns c = turn_keeps_events

@@ -1,5 +1,0 @@
-use Rattle.vm_turn.proofs.Safely.{turn_can_pass}
-use Rattle.vm_turn.proofs.settle.turn_can_pass.Goals as goal
-
-pub returns : goal.returns
-returns c = turn_can_pass
