@@ -35,7 +35,7 @@ use Rattle.command_due.specs.ReplayDue.{IsRecorded, IsJudged, misread as misread
 use Rattle.sched_demand.specs.declared.judging.Judgement.TheVariants as judgement
 use Rattle.command_due.specs.EdfDue.{IsEdfDue, edf_faulty, edf_waits, edf_unfit, edf_bad_script, edf_ran, edf_log}
 use Rattle.command_due.specs.Report.{edf_report}
-use Rattle.command_due_law.specs.Word.{FeasibleTextsKeepTheirWord}
+use Rattle.edf_correct.specs.FeasibleTexts.{FeasibleTextsKeepTheirWord}
 use Rattle.command_due.specs.Runs.{KeepsItsWord, BuiltImagesAreFaithful, IsAccepted}
 use Rattle.command_answers.specs.Files.{IsDue, target_of}
 use Rattle.command_answers.specs.Went.{IsWhole, Stores, Went}

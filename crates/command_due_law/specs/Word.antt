@@ -1,18 +1,8 @@
--- What is promised of texts whose demand is met.
+-- What the test says of a text.
 use Rattle.std.specs.Prelude.{◌≡◌, ℕ, List}
-use Rattle.syntax_tree.specs.Placed.{plain}
 use Rattle.image.specs.Named.{NamedImage}
-use Rattle.script.specs.declared.script.ScriptLine.{ScriptLine}
-use Rattle.script.specs.Scripts.{IsScript}
-use Rattle.command_due.specs.Script.{said}
 use Rattle.sched_demand.specs.declared.judging.Judgement.{Judgement}
-use Rattle.command_due.specs.EdfDue.{IsFeasibleText, IsJudgedText}
-use Rattle.command_answers.specs.Runs.{IsEdfRun}
-
--- The law: every run of the image of such a text, over a script for its names, is as promised.
-abbrev pub FeasibleTextsKeepTheirWord : Type 0
-FeasibleTextsKeepTheirWord = (text : List ℕ) (n : NamedImage) (points : ℕ) (is : IsFeasibleText text n points) (script : List ℕ) (lines : List ScriptLine) (end : ℕ)
-    → IsScript n.names script lines end → IsEdfRun (plain is.tree) n.image (said lines end)
+use Rattle.command_due.specs.EdfDue.{IsJudgedText}
 
 -- The law: the test says one thing of a text.
 abbrev pub AnswersOfTextsAreOne : Type 0

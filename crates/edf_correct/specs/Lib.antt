@@ -1,1 +1,2 @@
 pub mod EdfLaws
+pub mod FeasibleTexts

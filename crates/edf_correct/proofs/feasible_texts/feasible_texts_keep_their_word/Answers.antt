@@ -1,6 +1,6 @@
 use Rattle.syntax_tree.specs.Placed.{plain}
-use Rattle.command_due_law.proofs.Words.{plain_has_no_wait}
-use Rattle.command_due_law.proofs.edf_promise.feasible_texts_keep_their_word.Goals as goal
+use Rattle.edf_correct.proofs.WaitFreeText.{plain_has_no_wait}
+use Rattle.edf_correct.proofs.feasible_texts.feasible_texts_keep_their_word.Goals as goal
 
 pub returns : goal.returns
 returns c = λ text n points is script lines end written.
