@@ -83,7 +83,7 @@ impl<'a> ProgramNames<'a> {
     /// The variables of a process, if there is one of that number.
     fn of_process(&self, number: usize) -> Option<&VarLocations<'a>>
         ensures { (x : SpecName) → outer_in result x ≡
-            told_spot (outer_spot (plain (placed self.now)) (owner_of (Owner.Process number)) x) }
+            told_spot (outer_spot (plain (placed self.now)) (owner_of (RoutineOwner.Process number)) x) }
     {
         self.outer.processes.get(number)
     }
@@ -91,7 +91,7 @@ impl<'a> ProgramNames<'a> {
     /// The variables of a monitor, if there is one of that number.
     fn of_monitor(&self, number: usize) -> Option<&VarLocations<'a>>
         ensures { (x : SpecName) → outer_in result x ≡
-            told_spot (outer_spot (plain (placed self.now)) (owner_of (Owner.Monitor number)) x) }
+            told_spot (outer_spot (plain (placed self.now)) (owner_of (RoutineOwner.Monitor number)) x) }
     {
         self.outer.monitors.get(number)
     }
@@ -111,7 +111,7 @@ impl<'a> ProgramNames<'a> {
     /// The number of a condition that a text of the monitor of that number names.
     fn condition_in(&self, number: usize, name: &Name) -> i32
         ensures { result ≡ fit (pos (condition_of (plain (placed self.now))
-            (owner_of (Owner.Monitor number)) name.now)) }
+            (owner_of (RoutineOwner.Monitor number)) name.now)) }
     {
         condition_number(&self.conditions, number, name)
     }

@@ -40,7 +40,7 @@ pub enum Content {
 pub fn read<F: Files>(files: &mut F, name: &str, most: usize) -> Result<Content, PrepareError>
     ensures content { IfOk result (λ content.
         OnTrue F.tells (IsSomeAnd ((F.state files.old).held name.now) (IsContent most content))) }
-    ensures unread { result ≡ Err Unready.Unread →
+    ensures unread { result ≡ Err PrepareError.Unread →
         Rose ((F.state files.old).read_faults name.now) ((F.state files.new).read_faults name.now) }
     ensures files { AllStay (F.state files.old).held (F.state files.new).held }
     ensures read_counts { NoneFell (F.state files.old).read_faults (F.state files.new).read_faults }

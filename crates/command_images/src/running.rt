@@ -70,7 +70,7 @@ fn run_on<'a, F: Files>(
         (IsSomeAnd ((F.state files.old).held script.now)
         (λ text. IsRawRunDue raw text (outcome_of act)))) }
     ensures done { IfOk result (CanBeDone None) }
-    ensures unread { result ≡ Err Unready.Unread →
+    ensures unread { result ≡ Err PrepareError.Unread →
         Rose ((F.state files.old).read_faults script.now)
         ((F.state files.new).read_faults script.now) }
     ensures files { AllStay (F.state files.old).held (F.state files.new).held }

@@ -70,7 +70,7 @@ fn watch_on<'a, F: Files>(
         (IsSomeAnd ((F.state files.old).held script.now)
         (λ text. IsSeenDue stop raw.now text (outcome_of act)))) }
     ensures quiet { IfOk result IsQuiet }
-    ensures unread { result ≡ Err Unready.Unread →
+    ensures unread { result ≡ Err PrepareError.Unread →
         Rose ((F.state files.old).read_faults script.now)
         ((F.state files.new).read_faults script.now) }
     ensures files { AllStay (F.state files.old).held (F.state files.new).held }

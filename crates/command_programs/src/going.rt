@@ -83,7 +83,7 @@ fn go_on<'a, F: Files>(
         (IsSomeAnd ((F.state files.old).held script.now)
         (λ text. IsBuiltRunDue built text (outcome_of act)))) }
     ensures done { IfOk result (CanBeDone (Some image.now)) }
-    ensures unread { result ≡ Err Unready.Unread →
+    ensures unread { result ≡ Err PrepareError.Unread →
         Rose ((F.state files.old).read_faults script.now)
         ((F.state files.new).read_faults script.now) }
     ensures files { AllStay (F.state files.old).held (F.state files.new).held }

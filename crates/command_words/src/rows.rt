@@ -211,7 +211,7 @@ fn numeral(word: &[u8], most: u64) -> Option<u64>
 
 /// Before which tick the word says to stop.
 fn before_tick(word: &[u8]) -> Option<Breakpoint>
-    ensures { result ≡ option_map Stop.Tick (number_up_to 1000000000 word.now) }
+    ensures { result ≡ option_map Breakpoint.Tick (number_up_to 1000000000 word.now) }
 {
     match numeral(word, GREATEST_TICK) {
         Some(tick) => Some(Breakpoint::Tick(tick)),
@@ -221,7 +221,7 @@ fn before_tick(word: &[u8]) -> Option<Breakpoint>
 
 /// After whose effect the word says to stop.
 fn after_effect(word: &[u8]) -> Option<Breakpoint>
-    ensures { result ≡ option_map Stop.Effect (number_up_to 65534 word.now) }
+    ensures { result ≡ option_map Breakpoint.Effect (number_up_to 65534 word.now) }
 {
     match numeral(word, GREATEST_ADDRESS) {
         Some(address) => Some(Breakpoint::Effect(address as u32)),

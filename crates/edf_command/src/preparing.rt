@@ -30,7 +30,7 @@ fn run_on<'a, F: Files>(
         (IsSomeAnd ((F.state files.old).held script.now) (λ text.
         IsScriptDue (named_of subject.image) subject.answer text (outcome_of act)))) }
     ensures done { IfOk result (CanBeDone None) }
-    ensures unread { result ≡ Err Unready.Unread →
+    ensures unread { result ≡ Err PrepareError.Unread →
         Failed (F.state files.old) (F.state files.new) script.now }
     ensures files { AllStay (F.state files.old).held (F.state files.new).held }
     ensures read_counts { NoneFell (F.state files.old).read_faults (F.state files.new).read_faults }
@@ -55,7 +55,7 @@ fn judged_on<'a, F: Files>(
     ensures due { IfOk result (λ act. OnTrue F.tells (IsSubjectDue (named_of subject.image)
         subject.answer ((F.state files.old).held script.now) (outcome_of act))) }
     ensures done { IfOk result (CanBeDone None) }
-    ensures unread { result ≡ Err Unready.Unread →
+    ensures unread { result ≡ Err PrepareError.Unread →
         Failed (F.state files.old) (F.state files.new) script.now × IsMet subject.answer }
     ensures files { AllStay (F.state files.old).held (F.state files.new).held }
     ensures read_counts { NoneFell (F.state files.old).read_faults (F.state files.new).read_faults }

@@ -185,14 +185,14 @@ impl EdfMachine {
         requires plan { IsOf image plan.now }
         requires runnable { IsRunnable image (script_of script.now) }
         requires stands { StandsIn image (script_of script.now) self.old }
-        ensures done { (result ≡ Turn.Done) ↔ (self.old.tick ≡ script.now.end) }
-        ensures stays { result ≡ Turn.Done → self.new ≡ self.old }
-        ensures passed { result ≢ Turn.Done → self.old.tick < self.new.tick }
+        ensures done { (result ≡ Progress.Done) ↔ (self.old.tick ≡ script.now.end) }
+        ensures stays { result ≡ Progress.Done → self.new ≡ self.old }
+        ensures passed { result ≢ Progress.Done → self.old.tick < self.new.tick }
         ensures stands { StandsIn image (script_of script.now) self.new }
-        ensures fell { result ≢ Turn.Done → self.new.fired.items ≡
+        ensures fell { result ≢ Progress.Done → self.new.fired.items ≡
             events_between image (script_of script.now) self.old.tick self.new.tick }
-        ensures quiet { result ≡ Turn.Quiet → self.new.fired.items ≡ [] }
-        ensures events { result ≡ Turn.Events → self.new.fired.items ≢ [] }
+        ensures quiet { result ≡ Progress.Quiet → self.new.fired.items ≡ [] }
+        ensures events { result ≡ Progress.Events → self.new.fired.items ≢ [] }
     {
         if self.tick >= script.end() {
             return Progress::Done;

@@ -37,7 +37,7 @@ fn log_on<'a, F: Files>(
         IsJudged (placed source.now.program) script.now.lines script.now.end other
         (outcome_of act)))) }
     ensures quiet { IfOk result IsQuiet }
-    ensures unread { result ≡ Err Unready.Unread →
+    ensures unread { result ≡ Err PrepareError.Unread →
         Failed (F.state files.old) (F.state files.new) log.now }
     ensures files { AllStay (F.state files.old).held (F.state files.new).held }
     ensures read_counts { NoneFell (F.state files.old).read_faults (F.state files.new).read_faults }
@@ -64,7 +64,7 @@ fn script_on<'a, F: Files>(
         ((F.state files.old).held script.now) ((F.state files.old).held log.now)
         (outcome_of act))) }
     ensures quiet { IfOk result IsQuiet }
-    ensures unread { result ≡ Err Unready.Unread → LaterFailed F.tells (placed source.now.program)
+    ensures unread { result ≡ Err PrepareError.Unread → LaterFailed F.tells (placed source.now.program)
         (F.state files.old) (F.state files.new) script.now log.now }
     ensures files { AllStay (F.state files.old).held (F.state files.new).held }
     ensures read_counts { NoneFell (F.state files.old).read_faults (F.state files.new).read_faults }

@@ -64,19 +64,19 @@ pub fn parse(alloc: Global, text: &[u8], tokens: &Tokens) -> Result<Program, Syn
     ensures found { IfOk result (λ g. tree text.now tokens.now.list (placed g)) }
     // What has these tokens is read, unless memory runs out.
     ensures only { (g : SpecProg SpecPlace) → tree text.now tokens.now.list g →
-        MatchResult result (λ p. placed p ≡ g) (λ f. f ≡ SynFault.Memory) }
+        MatchResult result (λ p. placed p ≡ g) (λ f. f ≡ SyntaxFault.Memory) }
     // A fault stands at a token or at the end.
     ensures place { IfErr result (λ f. StandsIn tokens.now f) }
     // A fault of the grammar stands at the token with which the tokens read no longer begin a
     // program, or at the text's end.
-    ensures syntax { (p : SpecPlace) → result ≡ Err (SynFault.Syntax p) →
+    ensures syntax { (p : SpecPlace) → result ≡ Err (SyntaxFault.Syntax p) →
         StopsAt text.now tokens.now p }
     // A fault of nesting stands at the token that opens level 65.
-    ensures nesting { (p : SpecPlace) → result ≡ Err (SynFault.Nesting p) →
+    ensures nesting { (p : SpecPlace) → result ≡ Err (SyntaxFault.Nesting p) →
         OpensAt text.now tokens.now.list p }
     // Where a token opens level 65 it is the fault, unless memory runs out.
     ensures too_deep { (p : SpecPlace) → OpensAt text.now tokens.now.list p →
-        (result ≡ Err (SynFault.Nesting p)) ⊎ (result ≡ Err SynFault.Memory) }
+        (result ≡ Err (SyntaxFault.Nesting p)) ⊎ (result ≡ Err SyntaxFault.Memory) }
 {
     match read(alloc, text, tokens.as_slice()) {
         Ok(prog) => Ok(prog),

@@ -30,7 +30,7 @@ fn answer(frames: &mut Frames, answer: Result<i32, u16>) -> StepResult
 #[inline(always)]
 fn truth(frames: &mut Frames, holds: bool) -> StepResult
     requires { used frames.old < frames.old.room }
-    ensures result { result ≡ Came.Done }
+    ensures result { result ≡ StepResult.Done }
     ensures given { frames.new ≡ with_operands
         (Value (of_bool holds) ∷ frames.old.operands) frames.old }
 {

@@ -172,9 +172,9 @@ impl Machine {
     /// What a call came to in which ticks passed.
     #[inline(always)]
     fn came_to(&self) -> Progress
-        ensures passed { result ≢ Turn.Done }
-        ensures quiet { result ≡ Turn.Quiet → self.now.fired.items ≡ [] }
-        ensures events { result ≡ Turn.Events → self.now.fired.items ≢ [] }
+        ensures passed { result ≢ Progress.Done }
+        ensures quiet { result ≡ Progress.Quiet → self.now.fired.items ≡ [] }
+        ensures events { result ≡ Progress.Events → self.now.fired.items ≢ [] }
     {
         if self.fired.is_empty() {
             Progress::Quiet
@@ -191,15 +191,15 @@ impl Machine {
         requires runnable { IsRunnable image (script_of script.now) }
         requires stands { StandsIn image (script_of script.now) self.old }
         requires limit { limit ≤ script.now.end }
-        ensures done { (result ≡ Turn.Done) ↔ (limit ≤ self.old.tick) }
-        ensures stays { result ≡ Turn.Done → self.new ≡ self.old }
-        ensures passed { result ≢ Turn.Done → self.old.tick < self.new.tick }
+        ensures done { (result ≡ Progress.Done) ↔ (limit ≤ self.old.tick) }
+        ensures stays { result ≡ Progress.Done → self.new ≡ self.old }
+        ensures passed { result ≢ Progress.Done → self.old.tick < self.new.tick }
         ensures stands { StandsIn image (script_of script.now) self.new }
-        ensures fell { result ≢ Turn.Done → self.new.fired.items ≡
+        ensures fell { result ≢ Progress.Done → self.new.fired.items ≡
             events_between image (script_of script.now) self.old.tick self.new.tick }
-        ensures quiet { result ≡ Turn.Quiet → self.new.fired.items ≡ [] }
-        ensures events { result ≡ Turn.Events → self.new.fired.items ≢ [] }
-        ensures ends { result ≢ Turn.Done →
+        ensures quiet { result ≡ Progress.Quiet → self.new.fired.items ≡ [] }
+        ensures events { result ≡ Progress.Events → self.new.fired.items ≢ [] }
+        ensures ends { result ≢ Progress.Done →
             IsTurnEnd image (script_of script.now) limit self.old.tick self.new.tick }
     {
         if self.tick >= limit {
@@ -218,15 +218,15 @@ impl Machine {
         requires plan { IsOf image plan.now }
         requires runnable { IsRunnable image (script_of script.now) }
         requires stands { StandsIn image (script_of script.now) self.old }
-        ensures done { (result ≡ Turn.Done) ↔ (self.old.tick ≡ script.now.end) }
-        ensures stays { result ≡ Turn.Done → self.new ≡ self.old }
-        ensures passed { result ≢ Turn.Done → self.old.tick < self.new.tick }
+        ensures done { (result ≡ Progress.Done) ↔ (self.old.tick ≡ script.now.end) }
+        ensures stays { result ≡ Progress.Done → self.new ≡ self.old }
+        ensures passed { result ≢ Progress.Done → self.old.tick < self.new.tick }
         ensures stands { StandsIn image (script_of script.now) self.new }
-        ensures fell { result ≢ Turn.Done → self.new.fired.items ≡
+        ensures fell { result ≢ Progress.Done → self.new.fired.items ≡
             events_between image (script_of script.now) self.old.tick self.new.tick }
-        ensures quiet { result ≡ Turn.Quiet → self.new.fired.items ≡ [] }
-        ensures events { result ≡ Turn.Events → self.new.fired.items ≢ [] }
-        ensures ends { result ≢ Turn.Done →
+        ensures quiet { result ≡ Progress.Quiet → self.new.fired.items ≡ [] }
+        ensures events { result ≡ Progress.Events → self.new.fired.items ≢ [] }
+        ensures ends { result ≢ Progress.Done →
             IsTurnEnd image (script_of script.now) script.now.end self.old.tick self.new.tick }
     {
         self.go_on(plan, script, script.end())
@@ -239,15 +239,15 @@ impl Machine {
         requires runnable { IsRunnable image (script_of script.now) }
         requires stands { StandsIn image (script_of script.now) self.old }
         requires limit { self.old.tick < limit }
-        ensures done { (result ≡ Turn.Done) ↔ (self.old.tick ≡ script.now.end) }
-        ensures stays { result ≡ Turn.Done → self.new ≡ self.old }
-        ensures passed { result ≢ Turn.Done → self.old.tick < self.new.tick }
+        ensures done { (result ≡ Progress.Done) ↔ (self.old.tick ≡ script.now.end) }
+        ensures stays { result ≡ Progress.Done → self.new ≡ self.old }
+        ensures passed { result ≢ Progress.Done → self.old.tick < self.new.tick }
         ensures stands { StandsIn image (script_of script.now) self.new }
-        ensures fell { result ≢ Turn.Done → self.new.fired.items ≡
+        ensures fell { result ≢ Progress.Done → self.new.fired.items ≡
             events_between image (script_of script.now) self.old.tick self.new.tick }
-        ensures quiet { result ≡ Turn.Quiet → self.new.fired.items ≡ [] }
-        ensures events { result ≡ Turn.Events → self.new.fired.items ≢ [] }
-        ensures ends { result ≢ Turn.Done → IsTurnEnd image (script_of script.now)
+        ensures quiet { result ≡ Progress.Quiet → self.new.fired.items ≡ [] }
+        ensures events { result ≡ Progress.Events → self.new.fired.items ≢ [] }
+        ensures ends { result ≢ Progress.Done → IsTurnEnd image (script_of script.now)
             (min limit script.now.end) self.old.tick self.new.tick }
     {
         self.go_on(plan, script, limit.min(script.end()))
@@ -260,14 +260,14 @@ impl Machine {
         requires plan { IsOf image plan.now }
         requires runnable { IsRunnable image (script_of script.now) }
         requires stands { StandsIn image (script_of script.now) self.old }
-        ensures done { (result ≡ Turn.Done) ↔ (self.old.tick ≡ script.now.end) }
-        ensures stays { result ≡ Turn.Done → self.new ≡ self.old }
-        ensures passed { result ≢ Turn.Done → self.old.tick < self.new.tick }
+        ensures done { (result ≡ Progress.Done) ↔ (self.old.tick ≡ script.now.end) }
+        ensures stays { result ≡ Progress.Done → self.new ≡ self.old }
+        ensures passed { result ≢ Progress.Done → self.old.tick < self.new.tick }
         ensures stands { StandsIn image (script_of script.now) self.new }
-        ensures fell { result ≢ Turn.Done → self.new.fired.items ≡
+        ensures fell { result ≢ Progress.Done → self.new.fired.items ≡
             events_between image (script_of script.now) self.old.tick self.new.tick }
-        ensures quiet { result ≡ Turn.Quiet → self.new.fired.items ≡ [] }
-        ensures events { result ≡ Turn.Events → self.new.fired.items ≢ [] }
+        ensures quiet { result ≡ Progress.Quiet → self.new.fired.items ≡ [] }
+        ensures events { result ≡ Progress.Events → self.new.fired.items ≢ [] }
     {
         let end = script.end();
         if self.tick >= end {

@@ -103,7 +103,7 @@ impl Course {
         requires follows { Follows image (script_of script.now) self.old }
         requires start { self.old.machine.tick ≡ 0 }
         ensures follows { Follows image (script_of script.now) self.new }
-        ensures stop { IsStop image (script_of script.now) (Stop.Effect address)
+        ensures stop { IsStop image (script_of script.now) (Breakpoint.Effect address)
             self.new.machine.tick }
     {
         let end = script.end();
