@@ -1,19 +1,12 @@
-//! Tests of the commands: words, calls, devices that fail.
+//! Tests of the commands: words and worked calls.
 //!
-//! Each command through the top call: words, worked calls, each device call failing in turn, and
-//! words that name one file.
+//! Each command through the top call over files and a sink in memory.
 #![tactic(auto)]
 
 #[cfg(test)]
 mod commands;
 #[cfg(test)]
-mod devices;
-#[cfg(test)]
 mod earliest;
-#[cfg(test)]
-mod loads;
-#[cfg(test)]
-mod replays;
 #[cfg(test)]
 mod stops;
 #[cfg(test)]

@@ -1,4 +1,4 @@
-//! Tests of images: stored, run, told, changed, cut, hostile.
+//! Tests of images: stored, run, told, changed.
 //!
 //! Through the top call; and through the loader the worked images with single bytes changed
 //! (`changed_bytes`), and the parts of a loaded image (`references`).
@@ -6,8 +6,6 @@
 
 #[cfg(test)]
 mod changed_bytes;
-#[cfg(test)]
-mod hostile;
 #[cfg(test)]
 mod image_texts;
 #[cfg(test)]

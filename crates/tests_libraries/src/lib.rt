@@ -11,6 +11,8 @@ mod loads;
 #[cfg(test)]
 mod numbers;
 #[cfg(test)]
+mod scripts;
+#[cfg(test)]
 mod system;
 #[cfg(test)]
 mod trees;
