@@ -1,7 +1,7 @@
 //! All texts of a program.
 
 ghost use Rattle.std.specs.Prelude.{◌≡◌, ◌<◌, Some, length, slice_get};
-ghost use Rattle.syntax_tree.specs.Plain.{Process};
+ghost use Rattle.syntax_tree.specs.Plain.{Process as PlainProcess};
 ghost use Rattle.syntax_tree.specs.Placed.{placed, placed_process, placed_routine, plain, plain_process, plain_routine};
 ghost use Rattle.source_semantics.specs.Names.{processes as processes_of};
 ghost use Rattle.code_spec.specs.Layout.{routine_vars_words};
@@ -57,11 +57,11 @@ impl<'a, N: Lookup> Texts<'a, N> {
 
     fn process_text(&self, number: usize) -> &ProcessText<'a, N>
         requires { number < length (processes_of (plain (placed self.now))) }
-        ensures process { (p : Process) → slice_get
+        ensures process { (p : PlainProcess) → slice_get
             (processes_of (plain (placed self.now))) number ≡ Some p →
             plain_process (placed_process result.now.process.now) ≡ p }
         ensures program { N.program result.now.names ≡ plain (placed self.now) }
-        ensures scope { (p : Process) → slice_get (processes_of (plain (placed self.now))) number ≡
+        ensures scope { (p : PlainProcess) → slice_get (processes_of (plain (placed self.now))) number ≡
             Some p → N.scope result.now.names ≡ process_scope (plain (placed self.now)) number p }
     {
         &self.processes[number]

@@ -9,4 +9,4 @@ use Rattle.static_numbers.proofs.events.decl.Goals as goal
 pub returns-in_ok-process : goal.returns-in_ok-process
 returns-in_ok-process c e rest =
     c.in_ok-process.ensures e (processes rest)
-    ∙ ap (λ d. held (known_uses c.args.uses.now.entries e + users (declared_at (names (placed c.args.declarations.now))) e (processes (placed_decl d ∷ rest)))) (sym c.in-Proc.is)
+    ∙ ap (λ d. held (known_uses c.args.uses.now.entries e + users (declared_at (names (placed c.args.declarations.now))) e (processes (placed_decl d ∷ rest)))) (sym c.in-Process.is)
