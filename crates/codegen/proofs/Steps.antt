@@ -1,5 +1,5 @@
 -- Loops that make the code of each part of a list.
-use Rattle.std.proofs.Common.{◌≡◌, ◌<◌, ◌+◌, ◌-◌, min, ℕ, zero, suc, ℤ, arith, List, [], ◌∷◌, refl, length, drop, get_or, slice_get, Option, Result, Ok, Err, OnOk, sym, ap, ◌∙◌}
+use Rattle.std.proofs.Common.{◌≡◌, ◌<◌, ◌+◌, ◌-◌, min, ℕ, zero, suc, ℤ, arith, List, [], ◌∷◌, ◌++◌, refl, length, drop, get_or, slice_get, Option, Result, Ok, Err, OnOk, sym, ap, ◌∙◌}
 use Rattle.std.proofs.lemmas.List.{drop_more}
 use Rattle.syntax_tree.specs.Plain.{Exprs, Name, Program, call}
 use Rattle.syntax_tree.specs.Placed.{placed_exprs, plain_exprs}
@@ -7,9 +7,10 @@ use Rattle.syntax_tree.specs.declared.expr.Expr.{Expr}
 use Rattle.code_spec.specs.Numbering.{routine_in}
 use Rattle.machine_isa.specs.declared.instr.Instr.{Instr}
 use Rattle.code_spec.specs.Layout.{Scope}
+use Rattle.codegen_spec.specs.declared.var_location.Loop.{Loop}
 use Rattle.codegen_spec.specs.declared.var_location.ValueRange.{ValueRange}
 use Rattle.codegen_spec.specs.declared.var_location.Callee.{Callee}
-use Rattle.codegen_spec.specs.Told.{told_callee, within}
+use Rattle.codegen_spec.specs.Told.{inside, told_callee, within}
 use Rattle.codegen_spec.specs.Made.{Out, aims, aim_one, args_out, call_out, expr_out}
 
 -- one turn of a loop that makes the code of the parts of a list
@@ -56,3 +57,13 @@ pub aims_turned : (to : ℤ) (at end : ℕ) (code : List Instr) → at < end →
 aims_turned to at end code within =
     let e : end - at ≡ suc (end - (at + 1)) = omega arith in
     ap (λ n. aims to at n code) e
+
+-- one loop more, inside all others
+pub inside_more : (ls : List Loop) (l : Loop) (c : Scope) → inside (ls ++ l ∷ []) c ≡ within (inside ls c) l.name l.word
+inside_more [] l c = refl
+inside_more (k ∷ ls) l c = inside_more ls l (within c k.name k.word)
+
+-- a loop around a statement changes nothing of whose text it is
+pub inside_owner : (ls : List Loop) (c : Scope) → (inside ls c).owner ≡ c.owner
+inside_owner [] c = refl
+inside_owner (l ∷ ls) c = inside_owner ls (within c l.name l.word)
