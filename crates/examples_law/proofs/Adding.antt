@@ -5,7 +5,7 @@ use Rattle.std.proofs.lemmas.Bool.{cases_Bool}
 use Rattle.base.proofs.Lists.{one_some}
 use Rattle.syntax_tree.specs.Plain.{Name}
 use Rattle.syntax_tree.specs.Plain as tree
-use Rattle.source_semantics.specs.Names.{processes, monitors, routine_count}
+use Rattle.source_semantics.specs.Names.{processes, monitors, named, routine_count}
 use Rattle.source_semantics.specs.Run.{routine_named}
 use Rattle.source_semantics.specs.Ranks.{reached, rank, ceiling}
 use Rattle.source_semantics_law.specs.Example.{three_ranks}
@@ -25,7 +25,7 @@ use Rattle.examples_law.specs.Headline.{flat}
 use Rattle.code_correct.specs.Headline.{IsProper}
 use Rattle.examples_law.specs.Adding.{adding, AddingIsImage, AddingIsRight, LowCeilingIsNone}
 use Rattle.code_correct.proofs.HeadlineLemmas.{proper_code_is_right}
-use Rattle.examples_law.proofs.MeetingProper.{nth_monitor, nth_routine, none_found, entries_found}
+use Rattle.examples_law.proofs.MeetingProper.{nth_monitor, nth_routine, none_found}
 use Rattle.code_lifting.proofs.MeetingRight.{nth_text}
 
 code_is : IsCodeOf adding.program adding.image
@@ -173,6 +173,10 @@ module _ (p : Process) where
   }
 
 -- ---- names
+
+entries_found : AllFound m.entries
+entries_found zero r at = subst (λ (x : tree.Routine). named (λ k. k.name) x.name m.entries ≡ Some x) (one_some refl at) refl
+entries_found (suc j) r at = absurd cc
 
 names_differ : NamesDiffer three_ranks
 names_differ = record { program = none_found; process = of_process; monitor = of_monitor } where
