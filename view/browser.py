@@ -39,6 +39,7 @@ class Browser:
         target = self.call("Target.createTarget", url="about:blank")["targetId"]
         self.session = self.call("Target.attachToTarget", targetId=target, flatten=True)["sessionId"]
         self.call("Page.enable")
+        self.call("Performance.enable", timeDomain="threadTicks")
         self.version = self.call("Browser.getVersion")["product"]
 
     def call(self, method, **params):
@@ -118,6 +119,11 @@ class Browser:
         for part in (0.3, 0.6, 1):
             self.point(x + (to_x - x) * part, y + (to_y - y) * part, button="left", buttons=1)
         self.point(to_x, to_y, "mouseReleased", button="left", clickCount=1)
+
+    def busy(self):
+        """Milliseconds of the processor that the page's thread has used; other work of the machine does not count."""
+        it = {one["name"]: one["value"] for one in self.call("Performance.getMetrics")["metrics"]}
+        return 1000 * it["TaskDuration"]
 
     def painted(self):
         self.ask("new Promise((done) => requestAnimationFrame(() => requestAnimationFrame(() => done(1))))")
@@ -242,6 +248,8 @@ def table_and_svg(page, shots):
     same(page.ask("by('told').textContent.split('\\n')[0]"), "away: released at 2200, ended with tick 2264", "a click on the greatest response goes there")
     page.ask("document.querySelectorAll('#table tr')[3].cells[12].children[0].click(); 1")
     holds(page.ask("by('histogram').textContent.includes('responses of watch') && by('histogram').offsetHeight > 60"), "the histogram comes on demand")
+    page.painted()
+    holds(page.ask("canvas.height === canvas.clientHeight"), "the canvas is painted anew when it gets another height")
     page.shot(shots, "5-table-histogram")
     page.ask("window.saved = ''; URL.createObjectURL = (blob) => { blob.text().then((it) => { saved = it; }); return 'blob:x'; };"
              "HTMLAnchorElement.prototype.click = function () { window.named = this.download; }; by('save').click(); 1")
@@ -269,7 +277,7 @@ def narrow_dark_edf(page, shots):
         with open(path, "w", encoding="utf-8") as it:
             it.write(shown_by("edf/README.md", "rte edf edf/two.rte edf/two.script"))
         page.choose(path)
-        same(page.ask("by('said').textContent"), "e, feasible, 12 events, the last at tick 55, earliest deadline first", "a log of edf")
+        same(page.ask("by('said').textContent"), "e, feasible, 11 events, the last at tick 55, earliest deadline first", "a log of edf")
         page.shot(shots, "9-edf")
         wrong = os.path.join(folder, "wrong.txt")
         with open(wrong, "w", encoding="utf-8") as it:
@@ -282,9 +290,11 @@ def narrow_dark_edf(page, shots):
 
 def million(page, shots, log):
     page.load()
-    times = [page.choose(log) for _ in range(3)]
+    for _ in range(3):
+        before = page.busy()
+        took = page.choose(log)
+        print(f"from the choice to the picture: {took:.0f} ms, of the page's thread {page.busy() - before:.0f}")
     print(page.ask("by('said').textContent"))
-    print("from the choice to the picture, ms:", ", ".join(f"{it:.0f}" for it in times))
     page.shot(shots, "11-long-whole")
     frames = """(() => {
       const all = [];
@@ -295,12 +305,14 @@ def million(page, shots, log):
       all.sort((p, q) => p - q);
       return [all[0], all[30], all[59]].map((it) => it.toFixed(1)).join(" / ");
     })()"""
-    print("frames of the whole run, ms, least / middle / greatest:", page.ask(frames % "fitted(model, canvas.clientWidth, canvas.clientHeight)"))
-    print("frames of a thousandth and less, ms:", page.ask(frames % "moved(model, { ...view, scale: Math.min(40, 1000 * view.width / model.end * Math.pow(1.1, n)) }, model.end * n / 60, 0)"))
-    page.ask("look(moved(model, { ...view, scale: view.width / 60000 }, 6000000, 0)); 1")
-    page.shot(shots, "12-long-some")
-    page.ask("look(moved(model, { ...view, scale: view.width / 3000 }, 6000000, 0)); 1")
-    page.shot(shots, "13-long-near")
+    for what, place in (("the whole run", "fitted(model, canvas.clientWidth, canvas.clientHeight)"),
+                        ("a thousandth of it and less", "moved(model, { ...view, scale: Math.min(40, 1000 * view.width / model.end * Math.pow(1.1, n)) }, model.end * n / 60, 0)")):
+        before = page.busy()
+        times = page.ask(frames % place)
+        print(f"60 frames of {what}, ms: {times} (least / middle / greatest); of the page's thread {(page.busy() - before) / 60:.1f} each")
+    for name, ticks in (("12-long-some", 60000), ("13-long-near", 3000)):
+        page.ask(f"look(moved(model, {{ ...view, scale: view.width / {ticks} }}, 6000000, 0)); 1")
+        page.shot(shots, name)
 
 
 def main():
