@@ -25,7 +25,7 @@ impl Sink for Log {
             return Ok(());
         }
         self.faults = self.faults.saturating_add(1);
-        Err(SinkFailed)
+        Err(SinkFailed { taken: 0 })
     }
 }
 

@@ -6,7 +6,7 @@ use Rattle.machine_semantics.specs.Trees.{Seg, Line, Fork, Rep, Call, Stay, Wait
 use Rattle.image_format.specs.Numbers as written
 use Rattle.image_format.specs.TreeBytes.{row, seg_bytes, segs_bytes, tree_bytes}
 use Rattle.image_format.specs.Format.{Format, Read, ◌>>=◌, fault, given, u8, u16, u32, unless, both, via, each, each_read, each_write, each_is}
-use Rattle.image_format.specs.TreeFormat.{SegNumbers, image_limits, in_image, within_limits, within, tagged, seg_read, seg_is, seg_format, segs_read, segs_is, row_format, too_deep, tree_format}
+use Rattle.image_format.specs.TreeFormat.{SegNumbers, image_limits, in_image, within_limits, within, tagged, seg_read, seg_is, seg_format, segs_read, segs_is, row_format, no_tree, too_deep, tree_format}
 use Rattle.image_format.specs.declared.limits.Limits.{Limits}
 use Rattle.image_format.specs.FormatLaw.{AreBytes, IsSound}
 use Rattle.image_format.proofs.Sound.{came, bytes_after, checked_sound, both_sound, via_sound, given_sound, each_sound}
@@ -262,8 +262,13 @@ module _ (numbers : SegNumbers) (are_sound : AreSound numbers) (sub : Format Seg
         alike listed (row_format (seg_format numbers sub)) (λ tree. ap (λ (more : List ℕ). written.u32 (row tree) ++ more) (each_write_is [] tree)) (λ tree. ap (λ b. nat_lt (row tree) (2 ^ 32) && b) (each_is_is [] tree))
         (λ bytes. read_is (u32.read bytes)) listed_sound
 
+-- the bytes of a tree that nests too deep are read as none
+never_read : (count : Read ℕ) (left : ℕ) (z : Segs × List ℕ) → (count >>= λ n. no_tree left) ≡ Ok z → ⊥
+never_read (Ok count) left z h = cc
+never_read (Err e) left z h = cc
+
 too_deep_sound : IsSound too_deep
-too_deep_sound = record { back = λ bytes z are h. cc; again = λ x rest h. cc; cut = λ x n h low. cc }
+too_deep_sound = record { back = λ bytes z are h. absurd (never_read (u32.read bytes) (length bytes) z h); again = λ x rest h. cc; cut = λ x n h low. cc }
 
 pub tree_write_is : (numbers : SegNumbers) (depth : ℕ) (tree : Segs) → (tree_format numbers depth).write tree ≡ tree_bytes tree
 unfolding tree_format

@@ -95,9 +95,12 @@ row_format one = record {
   read = λ bytes. u32.read bytes >>= λ count. segs_read one count.0 count.1;
 }
 
--- no tree: trees nest too deep; I4, at the count
+-- no tree: trees nest too deep; I4, at the count, where the bytes do not end inside it
+abbrev pub no_tree : (left : ℕ) → Read Segs
+no_tree left = Err (fault 4 left)
+
 abbrev pub too_deep : Format Segs
-too_deep = record { write = tree_bytes; is = λ tree. false; read = λ bytes. Err (fault 4 (length bytes)) }
+too_deep = record { write = tree_bytes; is = λ tree. false; read = λ bytes. u32.read bytes >>= λ count. no_tree (length bytes) }
 
 -- a tree that nests at most so deep
 unfoldable pub tree_format : SegNumbers → (depth : ℕ) → Format Segs

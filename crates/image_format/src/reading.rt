@@ -110,12 +110,12 @@ pub fn tree_at(limits: Limits, depth: u32, bytes: &[u8]) -> Result<(SegBytes<'_>
         ((tree_within limits depth).read bytes.now) }
     ensures nests { IfOk result (λ x. nesting x.0 + 1 ≡ depth) }
 {
+    let (count, rest) = u32_at(bytes)?;
     if depth == 0 {
         return Err(ByteFault {
             number: refusal::RANGE,
             left: bytes.len(),
         });
     }
-    let (count, rest) = u32_at(bytes)?;
     row_at(limits, depth - 1, count, rest)
 }

@@ -108,12 +108,12 @@ pub(crate) fn tree_at(
     ensures { Gives (λ x. (views x.0, x.1.now)) result
         ((tree_within limits depth).read bytes.now) }
 {
+    let (count, rest) = u32_at(bytes)?;
     if depth == 0 {
         return Err(ReadError::Fault(ByteFault {
             number: refusal::RANGE,
             left: bytes.len(),
         }));
     }
-    let (count, rest) = u32_at(bytes)?;
     segs_at(alloc, limits, depth - 1, count, rest)
 }

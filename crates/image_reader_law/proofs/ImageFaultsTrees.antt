@@ -5,13 +5,13 @@ use Rattle.std.proofs.lemmas.Bool.{lt-ltb, leb-true, and_parts}
 use Rattle.machine_semantics.specs.Trees.{Seg, Segs, Line, Fork, Rep, Call, Stay}
 use Rattle.image_format.specs.declared.fault.ByteFault.{ByteFault}
 use Rattle.image_format.specs.Format.{Format, Read, ◌>>=◌, fault, u8, u16, u32, unless, checked, both}
-use Rattle.image_format.specs.TreeFormat.{in_image, within, line_count, turns_count, u16_below, tagged, seg_read, seg_format, segs_read, row_format, too_deep, tree_format}
+use Rattle.image_format.specs.TreeFormat.{in_image, within, line_count, turns_count, u16_below, tagged, seg_read, seg_format, segs_read, row_format, no_tree, too_deep, tree_format}
 use Rattle.image_format.specs.FormatLaw.{AreBytes}
 use Rattle.image_format.proofs.SoundFields.{u8_sound}
 use Rattle.image_reader_law.specs.Faults as s
 use Rattle.image_reader_law.specs.Faults.{Sort, Thing, Form, IsMade, IsFault, Follows, tag_format, pair, natural, list, segment, tree}
 use Rattle.image_reader_law.proofs.Failed.{Failed, failed, failed_only, stops, goes_on, second_of, list_fails}
-use Rattle.image_reader_law.proofs.Heard.{Heard, at_fault, field_heard, rule_heard, pair_heard, list_heard}
+use Rattle.image_reader_law.proofs.Heard.{Heard, at_fault, field_heard, read_begins, rule_heard, pair_heard, list_heard}
 use Rattle.image_reader_law.proofs.Told.{tag_rule, segments, unknown}
 
 -- ---- tags
@@ -102,7 +102,12 @@ module _ (monitors depth : ℕ) (sub_heard : Heard tree (tree_format (in_image m
       (λ count. list_heard segment (λ earlier. one) (λ earlier. s.a_segment monitors depth) (λ earlier. segment_heard monitors depth sub_heard) [] count) bytes are e (as_list bytes e h))
 
 deep_heard : Heard tree too_deep
-deep_heard bytes are e h = at_fault tree too_deep bytes (fault 4 (length bytes)) e (cc) (s.is_deep bytes)
+deep_heard bytes are e h = by (failed (u32.read bytes) (λ count. no_tree (length bytes)) e h) where
+  by : Failed (u32.read bytes) (λ count. no_tree (length bytes)) e → IsFault tree too_deep bytes e.number e.left
+  by (inl first) = s.in_count (field_heard natural u32 4 s.of_four bytes are e first)
+  by (inr second) =
+      at_fault tree too_deep bytes (fault 4 (length bytes)) e second.then_is
+      (s.is_deep (read_begins natural u32 (s.a_field s.of_four) bytes are second.x second.was))
 
 pub tree_heard : (monitors depth : ℕ) → Heard tree (tree_format (in_image monitors) depth)
 unfolding tree_format

@@ -5,7 +5,7 @@ use Rattle.std.proofs.lemmas.Bool.{le-ltb, ne_eqb}
 use Rattle.machine_semantics.specs.Trees.{Seg, Segs, Line, Fork, Rep, Call, Stay}
 use Rattle.image_format.specs.declared.fault.ByteFault.{ByteFault}
 use Rattle.image_format.specs.Format.{Format, Read, ◌>>=◌, fault, u8, u32, unless, passed, checked, both, each, each_read}
-use Rattle.image_format.specs.TreeFormat.{in_image, tagged, seg_read, segs_read, row_format}
+use Rattle.image_format.specs.TreeFormat.{in_image, tagged, seg_read, segs_read, row_format, no_tree}
 use Rattle.image_reader_law.specs.Faults as s
 use Rattle.image_reader_law.specs.Faults.{Sort, Thing, Form, Begins, Follows, IsFault, tag_format, pair, natural, list, segment}
 use Rattle.image_reader_law.proofs.Failed.{stops, goes_on, Failed, failed, failed_only, second_of, rule_of, list_of, row_fails}
@@ -103,5 +103,7 @@ told a f bytes number left (s.in_segment {monitors = monitors} {sub = sub} {tag 
     goes_on (u8.read (tag ∷ rest)) (λ t. tagged (in_image monitors) sub t.0 (length (tag ∷ rest)) t.1) (tag, rest) (fault number left) (one_byte tag rest)
     (after_tag monitors sub tag (length (tag ∷ rest)) b inner rest (fault number left) follows (told b inner rest number left h))
 told a f bytes number left (s.in_row one h) = bad_row one bytes (fault number left) (told (pair natural (list segment)) (both u32 (λ count. each (λ earlier. one) [] count)) bytes number left h)
-told a f bytes number left (s.is_deep bytes') = refl
+told a f bytes number left (s.in_count h) = stops (u32.read bytes) (λ count. no_tree (length bytes)) (fault number left) (told natural u32 bytes number left h)
+told a f bytes number left (s.is_deep {rest = rest} {count = count} begins) =
+    goes_on (u32.read bytes) (λ count. no_tree (length bytes)) (count, rest) (fault 4 (length bytes)) (begins_read natural u32 bytes count rest begins) refl
 told a f bytes number left (s.no_process count bytes') = refl

@@ -173,8 +173,12 @@ pub data IsFault : (a : Sort) → Form a → List ℕ → (number left : ℕ) �
   in_row : (one : Format Seg) {bytes : List ℕ} {number left : ℕ}
       → IsFault (pair natural (list segment)) (both u32 (λ count. each (λ earlier. one) [] count)) bytes number left
       → IsFault tree (row_format one) bytes number left
-  -- it nests too deep: at the count
-  is_deep : (bytes : List ℕ) → IsFault tree too_deep bytes 4 (length bytes)
+  -- of a tree that nests too deep: in the count
+  in_count : {bytes : List ℕ} {number left : ℕ}
+      → IsFault natural u32 bytes number left → IsFault tree too_deep bytes number left
+  -- it nests too deep: at the count, where that is whole
+  is_deep : {bytes rest : List ℕ} {count : ℕ}
+      → Begins natural u32 bytes count rest → IsFault tree too_deep bytes 4 (length bytes)
   -- of an image: an event is of no process; where the code begins
   no_process : (count : ℕ) (bytes : List ℕ)
       → IsFault (list instruction) (code_format false count) bytes (unused_fault count bytes) (length bytes)

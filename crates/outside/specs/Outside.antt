@@ -1,7 +1,7 @@
 -- What a call on the outside promises, of the counts of faults and of the bytes.
-use Rattle.std.specs.Prelude.{◌≡◌, ◌≢◌, ◌≤◌, ◌+◌, ◌-◌, ◌^◌, ℕ, List, [], ◌++◌, min, Bool, true, false, Option, Some, None}
+use Rattle.std.specs.Prelude.{◌≡◌, ◌≢◌, ◌≤◌, ◌+◌, ◌-◌, ◌^◌, ℕ, List, [], ◌++◌, take, drop, min, Bool, true, false, Option, Some, None}
 use Rattle.std.proofs.Common.{refl, sym, ap, subst, ◌∙◌, append_assoc}
-use Rattle.std.proofs.lemmas.List.{append-nil}
+use Rattle.std.proofs.lemmas.List.{append-nil, take-append-drop}
 
 -- what files hold by name, and how many reads and writes of each name have failed
 pub record FilesState : Type 0 where
@@ -64,6 +64,11 @@ Appends None now piece = now ≡ None
 abbrev pub AppendsFront : Option (List ℕ) → Option (List ℕ) → List ℕ → Type 0
 AppendsFront before now piece = (front : List ℕ) × (rest : List ℕ) × (piece ≡ front ++ rest) × Appends before now front
 
+-- what has been taken, where it is told, and then these bytes
+abbrev pub with_more : Option (List ℕ) → List ℕ → Option (List ℕ)
+with_more (Some taken) more = Some (taken ++ more)
+with_more None more = None
+
 -- one piece and then another is both in a row
 pub Appends-append : (a b c : Option (List ℕ)) (x y : List ℕ) → Appends a b x → Appends b c y → Appends a c (x ++ y)
 Appends-append (Some before) b c x y first then =
@@ -79,6 +84,15 @@ AppendsFront-append a b c x y first (front, rest, cut, then) =
 -- a front of the first piece is a front of both
 pub AppendsFront-more : (a b : Option (List ℕ)) (x y : List ℕ) → AppendsFront a b x → AppendsFront a b (x ++ y)
 AppendsFront-more a b x y (front, rest, cut, first) = (front, rest ++ y, ap (λ t. t ++ y) cut ∙ append_assoc front rest y, first)
+
+-- where first bytes of the piece were taken, a front was
+pub AppendsFront-take : (a b : Option (List ℕ)) (count : ℕ) (x : List ℕ) → Appends a b (take count x) → AppendsFront a b x
+AppendsFront-take a b count x h = (take count x, drop count x, sym (take-append-drop count x), h)
+
+-- what was taken, and nothing more
+pub with_more-nothing : (a : Option (List ℕ)) → with_more a [] ≡ a
+with_more-nothing (Some taken) = ap Some (append-nil taken)
+with_more-nothing None = refl
 
 pub Appends-nothing : (a : Option (List ℕ)) → Appends a a []
 Appends-nothing (Some before) = ap Some (sym (append-nil before))

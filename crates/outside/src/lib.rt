@@ -5,21 +5,21 @@
 //! whatever stands above can tell its own answers from those of the outside. Files and a sink in
 //! memory fail as they are told, or never.
 //!
-//! `RealFiles`, `RealSink` and `Stdout` are the trusted edge: they promise nothing of content.
-//! `Stdout` keeps what is put back until there is enough of it; a write that fails is answered by
-//! the put, or the `flush`, that made it, so the caller flushes at the end.
+//! `Buffered` lets pieces wait before they go to any sink below, and loses none: a write that fails
+//! is answered by the put, or the `finish`, that made it, so the caller finishes at the end.
+//! `RealFiles` and `RealSink` are the trusted edge: they promise nothing of content.
 #![tactic(auto)]
 
+mod buffered;
 mod mem_sink;
 mod memory;
 mod outside;
 mod real;
-mod stdout;
 mod sure;
 
+pub use buffered::Buffered;
 pub use mem_sink::MemorySink;
 pub use memory::MemoryFiles;
 pub use outside::{Files, ReadFault, Sink, SinkFailed, WriteFault};
 pub use real::{RealFiles, RealSink};
-pub use stdout::Stdout;
 pub use sure::{SureFiles, SureSink};

@@ -1,6 +1,6 @@
 //! A sink in memory, with puts that fail as told.
 
-ghost use Rattle.std.specs.Prelude.{◌≡◌, ◌≤◌, ◌<◌, ◌+◌, ◌++◌, [], length, vec_len, vec_capacity, IfOk, IsOk, IsErr, OnOk, OnErr};
+ghost use Rattle.std.specs.Prelude.{◌≡◌, ◌≤◌, ◌<◌, ◌+◌, ◌++◌, [], length, vec_len, vec_capacity, IfOk, IfErr, IsOk, IsErr, OnOk, OnErr};
 ghost use Rattle.std.specs.Bool.{OnTrue, OnFalse};
 ghost use Rattle.outside.specs.Calls.{next, next_fails};
 ghost use Rattle.outside.specs.Outside.{next_count};
@@ -72,6 +72,7 @@ impl Sink for MemorySink {
             length (bytes_of self.old) + length piece.now ≤ room_of self.old → IsOk result) }
         ensures taken { OnOk result (bytes_of self.new ≡ bytes_of self.old ++ piece.now) }
         ensures nothing { OnErr result (bytes_of self.new ≡ bytes_of self.old) }
+        ensures untaken { IfErr result (λ failed. failed.taken ≡ 0) }
         ensures room { room_of self.new ≡ room_of self.old }
         ensures puts { puts_of self.new ≡ next (puts_of self.old) }
         ensures failed { OnErr result (faults_of self.new ≡ next_count (faults_of self.old)) }
@@ -85,6 +86,6 @@ impl Sink for MemorySink {
             return Ok(());
         }
         self.faults = self.faults.saturating_add(1);
-        Err(SinkFailed)
+        Err(SinkFailed { taken: 0 })
     }
 }

@@ -1,6 +1,6 @@
 //! What files and sinks are to the code above.
 
-ghost use Rattle.std.specs.Prelude.{◌≡◌, ◌≤◌, ◌<◌, ◌⊎◌, ℕ, Bool, List, Option, Some, length, vec_len, IfOk, IsSomeAnd, OnOk, OnErr};
+ghost use Rattle.std.specs.Prelude.{◌≡◌, ◌≤◌, ◌<◌, ◌⊎◌, ℕ, Bool, List, Option, Some, length, take, vec_len, IfOk, IfErr, IsSomeAnd, OnOk, OnErr};
 ghost use Rattle.std.specs.Bool.{OnTrue};
 ghost use Rattle.outside.specs.Outside.{FilesState, SinkState, Rose, NoneFell, AllStay, OthersStay, Appends, AppendsFront};
 
@@ -32,7 +32,10 @@ pub enum WriteFault {
 /// A piece was not taken whole.
 #[derive(Clone, Copy, Debug, PartialEq, Eq, Error)]
 #[error("the output could not be written")]
-pub struct SinkFailed;
+pub struct SinkFailed {
+    /// How many first bytes of the piece were taken.
+    pub taken: usize,
+}
 
 /// Named files.
 ///
@@ -95,6 +98,9 @@ pub trait Sink {
             (state self.new).taken piece.now) }
         ensures front { OnErr result (AppendsFront (state self.old).taken
             (state self.new).taken piece.now) }
+        ensures most { IfErr result (λ failed. failed.taken ≤ length piece.now) }
+        ensures part { IfErr result (λ failed. Appends (state self.old).taken
+            (state self.new).taken (take failed.taken piece.now)) }
         ensures failed { OnErr result (Rose (state self.old).faults (state self.new).faults) }
         ensures count { (state self.old).faults ≤ (state self.new).faults }
         ensures quiet { OnOk result ((state self.new).faults ≡ (state self.old).faults) };

@@ -1,12 +1,15 @@
 //! The trusted edge: std's files and standard output. They tell nothing of content.
 
-ghost use Rattle.std.specs.Prelude.{◌≡◌, ◌≤◌, ◌<◌, ℕ, List, vec_len, IfOk, OnOk, OnErr};
+ghost use Rattle.std.specs.Prelude.{◌≡◌, ◌≤◌, ◌<◌, ℕ, List, length, vec_len, IfOk, OnOk, OnErr};
 ghost use Rattle.outside.specs.Outside.{next_count};
 
 use crate::outside::{Files, ReadFault, Sink, SinkFailed, WriteFault};
 use std::alloc::Global;
-use std::io::Read;
+use std::io::{ErrorKind, Read};
 use std::{fs, rt};
+
+/// So often writes that were interrupted are tried again.
+const RETRIES: usize = 1_000_000;
 
 /// The files of the system, by the runtime that main lends. One number is both counts of faults of
 /// every name, and each Err raises it until it stands at the greatest u64.
@@ -133,18 +136,37 @@ impl<'a, P: Print> RealSink<'a, P> {
     }
 }
 
+/// Writes the bytes, up to the first that cannot be written, and answers how many it wrote. A write
+/// that was interrupted is tried again.
+fn write_up_to<P: Print>(rt: &P, bytes: &[u8]) -> usize
+    ensures { result ≤ length bytes.now }
+{
+    let mut written = 0;
+    for _ in 0..bytes.len().saturating_add(RETRIES) {
+        if written == bytes.len() {
+            break;
+        }
+        match rt.write_some(&bytes[written..]) {
+            Ok(0) => break,
+            Ok(count) => written += count,
+            Err(error) if error.kind() == ErrorKind::Interrupted => {}
+            Err(_) => break,
+        }
+    }
+    written
+}
+
 impl<'a, P: Print> Sink for RealSink<'a, P> {
     ghost use Rattle.std.specs.Prelude.{None};
 
     ghost state = { λ s. record { taken = None; faults = s.faults } };
 
     fn put(&mut self, piece: &[u8]) -> Result<(), SinkFailed> {
-        match self.rt.write_all(piece) {
-            Ok(()) => Ok(()),
-            Err(_) => {
-                self.faults = self.faults.saturating_add(1);
-                Err(SinkFailed)
-            }
+        let taken = write_up_to(self.rt, piece);
+        if taken == piece.len() {
+            return Ok(());
         }
+        self.faults = self.faults.saturating_add(1);
+        Err(SinkFailed { taken })
     }
 }

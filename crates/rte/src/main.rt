@@ -1,16 +1,16 @@
 //! `main`: the command over the system's files and standard output.
 //!
-//! It lends these to `command::rte`, passes it the words after the program's name, flushes, and
-//! ends with the status.
+//! It lends these to `command::rte`, behind a buffer, passes it the words after the program's name,
+//! writes what waits, and ends with the status.
 #![tactic(auto)]
 
 use command::{rte, system_words};
 use command_answers::Status;
-use outside::{RealFiles, Stdout};
+use outside::{Buffered, RealFiles, RealSink};
 use std::process::ExitCode;
 
 fn main(rt: HostRuntime) -> ExitCode {
-    let mut out = Stdout::new(rt.alloc(), &rt);
+    let mut out = Buffered::new(rt.alloc(), RealSink::new(&rt));
     let status = match system_words(&rt) {
         Ok(words) => rte(
             rt.alloc(),
@@ -20,7 +20,7 @@ fn main(rt: HostRuntime) -> ExitCode {
         ),
         Err(_) => Status::Memory,
     };
-    let status = match out.flush() {
+    let status = match out.finish().0 {
         Ok(()) => status,
         Err(_) => Status::Unwritten,
     };

@@ -2,4 +2,5 @@ pub mod Plain
 pub mod Placed
 pub mod Bare
 pub mod Parts
+pub mod NameBytes
 pub mod formers

@@ -1,8 +1,7 @@
 //! Identifiers.
 
-ghost use Rattle.std.specs.Prelude.{◌≡◌, IfOk};
+ghost use Rattle.std.specs.Prelude.{◌≡◌, ◌≤◌, length, take, IfOk};
 
-use smallvec::SmallVec;
 use std::alloc::{AllocError, Global};
 use std::hash::{Hash, Hasher};
 use std::marker::Model;
@@ -10,18 +9,51 @@ use std::marker::Model;
 /// So many bytes of an identifier stand in its name, and need no allocation.
 const SHORT: usize = 15;
 
+/// At most 15 bytes, kept where they stand.
+#[derive(Clone, Copy, Debug)]
+struct ShortBytes {
+    len: usize,
+    room: [u8; SHORT],
+    ghost within: { len ≤ 15 },
+}
+
+impl ShortBytes {
+    fn new(bytes: &[u8]) -> ShortBytes
+        requires short { length bytes.now ≤ 15 }
+        ensures { take result.len result.room ≡ bytes.now }
+    {
+        let len = bytes.len();
+        let mut room = [0; SHORT];
+        room[..len].copy_from_slice(bytes);
+        ShortBytes { len, room }
+    }
+
+    fn as_slice(&self) -> &[u8]
+        ensures { result.now ≡ take self.now.len self.now.room }
+    {
+        &self.room[..self.len]
+    }
+}
+
+#[derive(Debug, Drop)]
+enum Bytes {
+    Short(ShortBytes),
+    Long(Vec<u8>),
+}
+
 /// The bytes of an identifier.
 #[derive(Debug, Drop)]
 pub struct Name {
-    bytes: SmallVec<u8, SHORT>,
+    bytes: Bytes,
 }
 
 impl Model for Name {
     ghost use Rattle.std.specs.Prelude.{List, ℕ};
+    ghost use Rattle.syntax_tree.specs.NameBytes.{bytes_of};
 
     ghost Value = { List ℕ };
 
-    ghost view = { λ n. n.bytes.items };
+    ghost view = { λ n. bytes_of n.bytes };
 }
 
 impl PartialEq for Name {
@@ -35,7 +67,7 @@ impl PartialEq for Name {
     ghost laws = { Prim.search (comparing, rules) };
 
     fn eq(&self, other: &Name) -> bool {
-        self.bytes == other.bytes
+        self.as_bytes() == other.as_bytes()
     }
 }
 
@@ -50,15 +82,23 @@ impl Name {
     pub fn new(alloc: Global, bytes: &[u8]) -> Result<Name, AllocError>
         ensures { IfOk result (λ n. n ≡ bytes.now) }
     {
-        Ok(Name {
-            bytes: SmallVec::from_slice(alloc, bytes)?,
-        })
+        let bytes = if bytes.len() <= SHORT {
+            Bytes::Short(ShortBytes::new(bytes))
+        } else {
+            let mut long = Vec::with_capacity(alloc, bytes.len())?;
+            long.extend_from_slice(bytes)?;
+            Bytes::Long(long)
+        };
+        Ok(Name { bytes })
     }
 
     pub fn as_bytes(&self) -> &[u8]
         ensures { result.now ≡ self.now }
     {
-        self.bytes.as_slice()
+        match &self.bytes {
+            Bytes::Short(short) => short.as_slice(),
+            Bytes::Long(long) => long.as_slice(),
+        }
     }
 }
 
@@ -72,6 +112,6 @@ impl Hash for Name {
     ghost respects_eq = { Prim.search (hashing, rules) };
 
     fn hash<H: Hasher>(&self, state: &mut H) {
-        self.bytes.hash(state);
+        self.as_bytes().hash(state);
     }
 }

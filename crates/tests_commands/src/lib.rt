@@ -1,10 +1,13 @@
-//! Tests of the commands: words and worked calls.
+//! Tests of the commands: words, worked calls, and each device call failing in turn.
 //!
-//! Each command through the top call over files and a sink in memory.
+//! Each command through the top call over files and a sink in memory; `devices` has calls whose
+//! words name one file too.
 #![tactic(auto)]
 
 #[cfg(test)]
 mod commands;
+#[cfg(test)]
+mod devices;
 #[cfg(test)]
 mod earliest;
 #[cfg(test)]

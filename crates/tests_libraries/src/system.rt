@@ -1,16 +1,17 @@
 //! The calls that reach the system.
 
-use outside::{Files, ReadFault, RealFiles, RealSink, Sink, Stdout, WriteFault};
+use outside::{Buffered, Files, ReadFault, RealFiles, RealSink, Sink, WriteFault};
 use std::fs;
 use std::test::Fail;
 
 #[test]
 fn puts_wait_and_are_written(rt: HostRuntime) -> Result<(), Fail> {
-    let mut out = Stdout::new(rt.alloc(), &rt);
+    let mut out = Buffered::new(rt.alloc(), RealSink::new(&rt));
     out.put(b"one ")?;
     out.put(b"two\n")?;
-    out.flush()?;
-    RealSink::new(&rt).put(b"three\n")?;
+    let (written, mut sink) = out.finish();
+    written?;
+    sink.put(b"three\n")?;
     Ok(())
 }
 
