@@ -173,39 +173,45 @@ fn cut_after_each_byte(rt: HostRuntime) -> Result<(), Fail> {
 const UP_TO_TREE: &str =
     "5254455500010001000000000000000000000000000101610170000000000a0000000000000001000000040000000000000000000000000000000400000000000000000000000000000000000000000000";
 
-/// What stands there: a front, then a part so many times, and the line that is put. A loop opens a
-/// tree with 9 bytes (a count, its tag, its turns), a fork with 5, a stay with 7, where there is no
-/// monitor. At most 130 trees are open inside one another. A wait has its tag alone.
-const TREES: &[(&str, &str, usize, &str)] = &[
-    ("", "000000010300000001", 129, "I2 1242"),
-    ("", "000000010300000001", 131, "I4 1251"),
-    ("", "000000010300000001", 4_000, "I4 1251"),
-    ("", "0000000102", 129, "I2 726"),
-    ("", "0000000102", 131, "I4 731"),
-    ("", "0000000102", 4_000, "I4 731"),
-    ("", "00000001050000", 1, "I4 86"),
-    ("", "00000001050000", 4_000, "I4 86"),
-    ("ffffffff", "06", 0, "I2 85"),
-    ("ffffffff", "06", 10_000, "I2 10085"),
-    ("ffffffff", "07", 10_000, "I2 10085"),
-    ("ffffffff", "040000", 4_000, "I2 12085"),
-    ("ffffffff", "0100000001", 4_000, "I2 20085"),
-    ("ffffffff", "0100000000", 4_000, "I4 86"),
-    ("ffffffff", "010000ffff", 4_000, "I2 20085"),
-    ("ffffffff", "0100010000", 4_000, "I4 86"),
-    ("ffffffff", "020000000000000000", 4_000, "I2 36085"),
-    ("ffffffff", "0200000000", 4_000, "I6 94"),
-    ("ffffffff", "08", 4_000, "I6 85"),
-    ("ffffffff", "00", 4_000, "I6 85"),
-    ("00000001", "03000f424000000000", 1, "I2 94"),
-    ("00000001", "03000f424100000000", 1, "I4 86"),
-    ("00000001", "030000000000000000", 1, "I4 86"),
+/// What stands there: a front, then a part so many times, then a tail, and the line that is put. A
+/// loop opens a tree with 9 bytes (a count, its tag, its turns), a fork with 5, a stay with 7, where
+/// there is no monitor. At most 130 trees are open inside one another, and one more is refused at
+/// its count, where the bytes do not end inside that. A wait has its tag alone.
+const TREES: &[(&str, &str, usize, &str, &str)] = &[
+    ("", "000000010300000001", 129, "", "I2 1242"),
+    ("", "000000010300000001", 130, "", "I2 1251"),
+    ("", "000000010300000001", 130, "00", "I2 1252"),
+    ("", "000000010300000001", 130, "0000", "I2 1253"),
+    ("", "000000010300000001", 130, "000000", "I2 1254"),
+    ("", "000000010300000001", 130, "00000000", "I4 1251"),
+    ("", "000000010300000001", 131, "", "I4 1251"),
+    ("", "000000010300000001", 4_000, "", "I4 1251"),
+    ("", "0000000102", 129, "", "I2 726"),
+    ("", "0000000102", 131, "", "I4 731"),
+    ("", "0000000102", 4_000, "", "I4 731"),
+    ("", "00000001050000", 1, "", "I4 86"),
+    ("", "00000001050000", 4_000, "", "I4 86"),
+    ("ffffffff", "06", 0, "", "I2 85"),
+    ("ffffffff", "06", 10_000, "", "I2 10085"),
+    ("ffffffff", "07", 10_000, "", "I2 10085"),
+    ("ffffffff", "040000", 4_000, "", "I2 12085"),
+    ("ffffffff", "0100000001", 4_000, "", "I2 20085"),
+    ("ffffffff", "0100000000", 4_000, "", "I4 86"),
+    ("ffffffff", "010000ffff", 4_000, "", "I2 20085"),
+    ("ffffffff", "0100010000", 4_000, "", "I4 86"),
+    ("ffffffff", "020000000000000000", 4_000, "", "I2 36085"),
+    ("ffffffff", "0200000000", 4_000, "", "I6 94"),
+    ("ffffffff", "08", 4_000, "", "I6 85"),
+    ("ffffffff", "00", 4_000, "", "I6 85"),
+    ("00000001", "03000f424000000000", 1, "", "I2 94"),
+    ("00000001", "03000f424100000000", 1, "", "I4 86"),
+    ("00000001", "030000000000000000", 1, "", "I4 86"),
 ];
 
 #[test]
 fn deep_and_wide_trees(rt: HostRuntime) -> Result<(), Fail> {
     let alloc = rt.alloc();
-    for &(front, part, times, fault) in TREES {
+    for &(front, part, times, tail, fault) in TREES {
         let mut image = hex::decode(alloc, UP_TO_TREE)?;
         assert_eq!(rt; image.len(), 81);
         image.extend_from_slice(hex::decode(alloc, front)?.as_slice())?;
@@ -213,6 +219,7 @@ fn deep_and_wide_trees(rt: HostRuntime) -> Result<(), Fail> {
         for _ in 0..times {
             image.extend_from_slice(bytes.as_slice())?;
         }
+        image.extend_from_slice(hex::decode(alloc, tail)?.as_slice())?;
         refuses(&rt, alloc, image.as_slice(), fault)?;
     }
     Ok(())
