@@ -6,7 +6,7 @@ use Rattle.std.proofs.lemmas.Bool.Decides.{nat_tests}
 use Rattle.machine_semantics.specs.Trees.{Seg, Line, Fork, Rep, Call, Stay, Wait, Exit, Segs, Nil, Cons}
 use Rattle.image_format.specs.TreeBytes.{inner, segments}
 use Rattle.image_format.specs.Format.{Format, Read, ◌>>=◌, fault, field_at, u8, u16, u32, unless, checked, both}
-use Rattle.image_format.specs.TreeFormat.{in_image, line_count, turns_count, u16_below, within, tagged, seg_read, seg_format, segs_read, row_format, tree_format}
+use Rattle.image_format.specs.TreeFormat.{in_image, line_count, turns_count, u16_below, within, tagged, seg_read, seg_format, segs_read, row_format, no_tree, tree_format}
 use Rattle.image_format.proofs.Sound.{came}
 use Rattle.image_reader_law.proofs.Readings.{kept, two}
 use Rattle.image_reader_law.proofs.Brings.{Brings}
@@ -119,7 +119,10 @@ module _ (monitors : ℕ) (sub : Format Segs) (small : AreSmall sub) where
 
 pub trees_are_small : (monitors depth : ℕ) → AreSmall (tree_format (in_image monitors) depth)
 unfolding tree_format
-trees_are_small monitors zero bytes z is = absurd cc
+trees_are_small monitors zero bytes z is =
+    let a = came (u32.read bytes) (λ count. no_tree (length bytes)) z is in
+    let wrong = a.then_is in
+    absurd cc
 trees_are_small monitors (suc depth) bytes z is = of_row monitors (tree_format (in_image monitors) depth) (trees_are_small monitors depth) bytes z is
 
 -- of at most n bytes

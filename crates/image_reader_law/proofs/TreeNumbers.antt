@@ -5,7 +5,7 @@ use Rattle.std.proofs.lemmas.Bool.{leb-true, and_parts}
 use Rattle.machine_semantics.specs.Trees.{Seg, Segs, Line, Fork, Rep, Call, Stay, Cons}
 use Rattle.image_format.specs.declared.fault.ByteFault.{ByteFault}
 use Rattle.image_format.specs.Format.{Format, ◌>>=◌, u8, u16, u32, both}
-use Rattle.image_format.specs.TreeFormat.{in_image, line_count, turns_count, u16_below, tagged, seg_read, seg_format, segs_read, row_format, tree_format}
+use Rattle.image_format.specs.TreeFormat.{in_image, line_count, turns_count, u16_below, tagged, seg_read, seg_format, segs_read, row_format, no_tree, too_deep, tree_format}
 use Rattle.image_reader_law.specs.Faults as s
 use Rattle.image_reader_law.specs.Faults.{tree}
 use Rattle.image_reader_law.proofs.Failed.{Failed, failed, failed_only, rest_of}
@@ -59,9 +59,15 @@ row_told one told bytes e h = by (failed (u32.read bytes) (λ count. segs_read o
   by (inl first) = k.whole.inner bytes e first
   by (inr r) = segments_told one told r.x.0 r.x.1 e r.then_is
 
+deep_told : Told too_deep
+deep_told bytes e h = by (failed (u32.read bytes) (λ count. no_tree (length bytes)) e h) where
+  by : Failed (u32.read bytes) (λ count. no_tree (length bytes)) e → Inner e
+  by (inl first) = k.whole.inner bytes e first
+  by (inr r) = let same = r.then_is in is_number 4 (length bytes) e (omega arith) (omega arith) (cc)
+
 tree_told : (monitors depth : ℕ) → Told (tree_format (in_image monitors) depth)
 unfolding tree_format
-tree_told monitors zero = λ bytes e h. is_number 4 (length bytes) e (omega arith) (omega arith) (cc)
+tree_told monitors zero = deep_told
 tree_told monitors (suc depth) = row_told (seg_format (in_image monitors) (tree_format (in_image monitors) depth)) (segment_told monitors (tree_format (in_image monitors) depth) (tree_told monitors depth))
 
 pub a_tree : (monitors depth : ℕ) → Known tree (tree_format (in_image monitors) depth)
