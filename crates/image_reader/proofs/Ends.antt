@@ -1,5 +1,5 @@
 -- The ends of reading: which events are used, and what a whole file gives.
-use Rattle.std.proofs.Common.{◌≡◌, ◌<◌, ◌≤◌, ◌+◌, ◌-◌, ◌&&◌, ℕ, suc, Bool, true, List, [], length, Ok, refl, sym, ap, ◌∙◌, arith}
+use Rattle.std.proofs.Common.{◌≡◌, ◌<◌, ◌≤◌, ◌+◌, ◌-◌, ◌&&◌, ℕ, suc, Bool, true, false, List, [], length, Ok, refl, sym, ap, ◌∙◌, arith}
 use Rattle.std.specs.Prelude.{nat_eq}
 use Rattle.std.specs.List.{list_any}
 use Rattle.std.proofs.lemmas.Bool.{le-ltb, lt-ltb}
@@ -13,6 +13,12 @@ pub one_more_used : (used : List ℕ) (i events : ℕ) (total : Bool) → i < ev
 one_more_used used i events total lt used_here so_far =
     let k : events - i ≡ suc (events - (i + 1)) = omega arith in
     let one : all_used used i (events - i) ≡ all_used used (i + 1) (events - (i + 1)) = ap (all_used used i) k ∙ ap (λ b. b && all_used used (i + 1) (events - (i + 1))) used_here in
+    sym one ∙ so_far
+
+pub one_unused : (used : List ℕ) (i events : ℕ) (total : Bool) → i < events → list_any (λ e. nat_eq e i) used ≡ false → all_used used i (events - i) ≡ total → false ≡ total
+one_unused used i events total lt unused_here so_far =
+    let k : events - i ≡ suc (events - (i + 1)) = omega arith in
+    let one : all_used used i (events - i) ≡ false = ap (all_used used i) k ∙ ap (λ b. b && all_used used (i + 1) (events - (i + 1))) unused_here in
     sym one ∙ so_far
 
 pub too_long : (bytes : List ℕ) → 8388608 < length bytes → HasFault bytes 9 8388608

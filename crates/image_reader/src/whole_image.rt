@@ -65,7 +65,6 @@ fn overhead_at(bytes: &[u8], has_deadlines: bool) -> Result<(u16, &[u8]), ReadEr
 }
 
 /// Whether each event is used.
-#[tactic(auto, using(crate::proofs::Ends::one_more_used))]
 fn are_used(used: &[u16], events: u16) -> bool
     ensures { result ≡ all_used used.now 0 events }
 {

@@ -1,0 +1,8 @@
+use Rattle.std.proofs.Common.{refl}
+use Rattle.image_reader.proofs.whole_image.overhead_at.Goals as goal
+
+pub returns-then-has_deadlines : goal.returns-then-has_deadlines
+returns-then-has_deadlines c = rw c.if-has_deadlines.true c.u16_within.ensures
+
+pub returns-else-has_deadlines : goal.returns-else-has_deadlines
+returns-else-has_deadlines c = rw c.if-has_deadlines.false refl
