@@ -7,3 +7,4 @@ pub mod Numbering
 pub mod CallEdges
 pub mod Linking
 pub mod Failing
+pub mod Walks

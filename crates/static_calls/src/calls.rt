@@ -33,10 +33,7 @@ fn expr(calls: &mut Vec<Place>, declarations: &Declarations<'_>, e: &Expr) -> Re
         Expr::Literal { .. } | Expr::True { .. } | Expr::False { .. } | Expr::Variable { .. } => Ok(
             (),
         ),
-        Expr::Element { index, .. } => {
-            expr(calls, declarations, index)?;
-            Ok(())
-        }
+        Expr::Element { index, .. } => expr(calls, declarations, index),
         Expr::Call { place, args, .. } => {
             call(calls, declarations, *place)?;
             for arg in args.as_slice() {
@@ -44,14 +41,12 @@ fn expr(calls: &mut Vec<Place>, declarations: &Declarations<'_>, e: &Expr) -> Re
             }
             Ok(())
         }
-        Expr::Minus { operand, .. } | Expr::Not { operand, .. } => {
-            expr(calls, declarations, operand)?;
-            Ok(())
-        }
-        Expr::Paren { inner, .. } => {
-            expr(calls, declarations, inner)?;
-            Ok(())
-        }
+        Expr::Minus { operand, .. } | Expr::Not { operand, .. } => expr(
+            calls,
+            declarations,
+            operand,
+        ),
+        Expr::Paren { inner, .. } => expr(calls, declarations, inner),
         Expr::Chain { first, rest } => {
             expr(calls, declarations, first)?;
             for pair in rest.as_slice() {

@@ -24,15 +24,14 @@ fn enter(turns: &mut [usize], node: usize, turn: usize) -> bool {
     false
 }
 
-/// Walks on from a node, in depth, to the nodes that were not entered before.
-fn walk_from(
-    alloc: Global,
+/// Walks on from a node, in depth, to the nodes that were not entered before. The path is empty.
+fn walk_along(
     graph: &Graph,
     walk: &mut Walk,
+    path: &mut Vec<(usize, usize)>,
     start: usize,
     turn: usize,
 ) -> Result<(), AllocError> {
-    let mut path = Vec::new(alloc);
     if enter(walk.turns.as_mut_slice(), start, turn) {
         path.push((start, 0))?;
     }
@@ -51,6 +50,18 @@ fn walk_from(
         }
     }
     Ok(())
+}
+
+/// Walks on from a node, in depth, to the nodes that were not entered before.
+fn walk_from(
+    alloc: Global,
+    graph: &Graph,
+    walk: &mut Walk,
+    start: usize,
+    turn: usize,
+) -> Result<(), AllocError> {
+    let mut path = Vec::new(alloc);
+    walk_along(graph, walk, &mut path, start, turn)
 }
 
 /// Walks from one start after the other.

@@ -1,4 +1,5 @@
 pub mod Scopes
+pub mod Steps
 pub mod Walks
 pub mod Loops
 pub mod Scoping

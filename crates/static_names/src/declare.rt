@@ -27,8 +27,7 @@ fn declare<'a>(
     let here = find(scope, name.as_bytes()).is_some();
     let taken = here || outer.means(name.as_bytes()).is_some();
     findings.declare(declared.place, taken);
-    add_unless(here, scope, name.as_bytes(), declared)?;
-    Ok(())
+    add_unless(here, scope, name.as_bytes(), declared)
 }
 
 fn params<'a>(
@@ -168,8 +167,7 @@ pub fn routine<'a>(
         (meaning scope.new.entries) []) }
 {
     params(findings, scope, outer, routine.params.as_slice())?;
-    vars(findings, scope, outer, routine.vars.as_slice())?;
-    Ok(())
+    vars(findings, scope, outer, routine.vars.as_slice())
 }
 
 /// The variables, conditions and entries of a monitor.
@@ -184,8 +182,7 @@ pub fn monitor<'a>(
 {
     let outer = top.outside();
     members(findings, scope, &outer, monitor.members.as_slice())?;
-    entries(findings, scope, &outer, monitor.entries.as_slice())?;
-    Ok(())
+    entries(findings, scope, &outer, monitor.entries.as_slice())
 }
 
 /// The variables and routines of a process.
@@ -200,6 +197,5 @@ pub fn process<'a>(
 {
     let outer = top.outside();
     vars(findings, scope, &outer, process.vars.as_slice())?;
-    routines(findings, scope, &outer, process.routines.as_slice())?;
-    Ok(())
+    routines(findings, scope, &outer, process.routines.as_slice())
 }

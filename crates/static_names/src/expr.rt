@@ -83,14 +83,16 @@ pub fn expr<'a>(
 {
     match e {
         Expr::Literal { .. } | Expr::True { .. } | Expr::False { .. } => Ok(()),
-        Expr::Variable { place, name } => {
-            around.use_name(findings, loops, name, *place, NameUse::Value)?;
-            Ok(())
-        }
+        Expr::Variable { place, name } => around.use_name(
+            findings,
+            loops,
+            name,
+            *place,
+            NameUse::Value,
+        ),
         Expr::Element { place, name, index } => {
             around.use_name(findings, loops, name, *place, NameUse::Value)?;
-            expr(findings, around, loops, index)?;
-            Ok(())
+            expr(findings, around, loops, index)
         }
         Expr::Call { place, name, args } => {
             around.use_name(findings, loops, name, *place, NameUse::Routine)?;
@@ -99,14 +101,10 @@ pub fn expr<'a>(
             }
             Ok(())
         }
-        Expr::Minus { operand, .. } | Expr::Not { operand, .. } => {
-            expr(findings, around, loops, operand)?;
-            Ok(())
-        }
-        Expr::Paren { inner, .. } => {
-            expr(findings, around, loops, inner)?;
-            Ok(())
-        }
+        Expr::Minus { operand, .. } | Expr::Not { operand, .. } => expr(
+            findings, around, loops, operand,
+        ),
+        Expr::Paren { inner, .. } => expr(findings, around, loops, inner),
         Expr::Chain { first, rest } => {
             expr(findings, around, loops, first)?;
             for pair in rest.as_slice() {

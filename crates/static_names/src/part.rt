@@ -142,6 +142,27 @@ fn routine_parts<'a>(
     Ok(())
 }
 
+/// A routine, its scope being empty.
+fn routine_with<'a>(
+    alloc: Global,
+    findings: &mut Findings,
+    outer: &OuterScopes<'_, 'a>,
+    locals: &mut Scope<'a>,
+    routine: &'a Routine,
+) -> Result<(), AllocError>
+    requires { locals.old.entries ≡ [] }
+    ensures { OnOk result ((more : List Occurrence) → noted findings.new more ≡
+        noted findings.old (routine_names (outer_site outer.now)
+        (placed_routine routine.now) more)) }
+{
+    declare::routine(findings, locals, outer, routine)?;
+    let around = ScopeChain {
+        outer: *outer,
+        locals: Some(&*locals),
+    };
+    routine_parts(alloc, findings, &around, routine)
+}
+
 fn routine<'a>(
     alloc: Global,
     findings: &mut Findings,
@@ -153,13 +174,7 @@ fn routine<'a>(
         (placed_routine routine.now) more)) }
 {
     let mut locals = Scope::new(alloc);
-    declare::routine(findings, &mut locals, outer, routine)?;
-    let around = ScopeChain {
-        outer: *outer,
-        locals: Some(&locals),
-    };
-    routine_parts(alloc, findings, &around, routine)?;
-    Ok(())
+    routine_with(alloc, findings, outer, &mut locals, routine)
 }
 
 fn routines<'a>(
@@ -196,6 +211,27 @@ fn monitor_parts<'a>(
     Ok(())
 }
 
+/// A monitor, its scope being empty.
+fn monitor_with<'a>(
+    alloc: Global,
+    findings: &mut Findings,
+    top: &TopScope<'_, 'a>,
+    names: &mut Scope<'a>,
+    monitor: &'a Monitor,
+) -> Result<(), AllocError>
+    requires { names.old.entries ≡ [] }
+    ensures { OnOk result ((more : List Occurrence) → noted findings.new more ≡
+        noted findings.old (monitor_names (top_site top.now) (placed_monitor monitor.now) more)) }
+{
+    declare::monitor(findings, names, top, monitor)?;
+    let inside = OuterScopes {
+        top: *top,
+        members: Some(&*names),
+        monitor: Some(monitor.place),
+    };
+    monitor_parts(alloc, findings, &inside, monitor)
+}
+
 fn monitor<'a>(
     alloc: Global,
     findings: &mut Findings,
@@ -206,14 +242,7 @@ fn monitor<'a>(
         noted findings.old (monitor_names (top_site top.now) (placed_monitor monitor.now) more)) }
 {
     let mut names = Scope::new(alloc);
-    declare::monitor(findings, &mut names, top, monitor)?;
-    let inside = OuterScopes {
-        top: *top,
-        members: Some(&names),
-        monitor: Some(monitor.place),
-    };
-    monitor_parts(alloc, findings, &inside, monitor)?;
-    Ok(())
+    monitor_with(alloc, findings, top, &mut names, monitor)
 }
 
 /// A deadline or a first activation.
@@ -305,6 +334,27 @@ fn process_parts<'a>(
     Ok(())
 }
 
+/// A process, its scope being empty.
+fn process_with<'a>(
+    alloc: Global,
+    findings: &mut Findings,
+    top: &TopScope<'_, 'a>,
+    names: &mut Scope<'a>,
+    process: &'a Process,
+) -> Result<(), AllocError>
+    requires { names.old.entries ≡ [] }
+    ensures { OnOk result ((more : List Occurrence) → noted findings.new more ≡
+        noted findings.old (process_names (top_site top.now) (placed_process process.now) more)) }
+{
+    declare::process(findings, names, top, process)?;
+    let inside = OuterScopes {
+        top: *top,
+        members: Some(&*names),
+        monitor: None,
+    };
+    process_parts(alloc, findings, &inside, process)
+}
+
 fn process<'a>(
     alloc: Global,
     findings: &mut Findings,
@@ -315,14 +365,7 @@ fn process<'a>(
         noted findings.old (process_names (top_site top.now) (placed_process process.now) more)) }
 {
     let mut names = Scope::new(alloc);
-    declare::process(findings, &mut names, top, process)?;
-    let inside = OuterScopes {
-        top: *top,
-        members: Some(&names),
-        monitor: None,
-    };
-    process_parts(alloc, findings, &inside, process)?;
-    Ok(())
+    process_with(alloc, findings, top, &mut names, process)
 }
 
 /// The names in a declaration, its own aside.
@@ -338,21 +381,11 @@ pub fn decl<'a>(
     match decl {
         Declaration::Const { value, .. } => {
             let around = top.outside().around();
-            constant(findings, &around, &[], value)?;
-            Ok(())
+            constant(findings, &around, &[], value)
         }
         Declaration::Device { .. } | Declaration::Event { .. } => Ok(()),
-        Declaration::Routine(one) => {
-            routine(alloc, findings, &top.outside(), one)?;
-            Ok(())
-        }
-        Declaration::Monitor(one) => {
-            monitor(alloc, findings, top, one)?;
-            Ok(())
-        }
-        Declaration::Process(one) => {
-            process(alloc, findings, top, one)?;
-            Ok(())
-        }
+        Declaration::Routine(one) => routine(alloc, findings, &top.outside(), one),
+        Declaration::Monitor(one) => monitor(alloc, findings, top, one),
+        Declaration::Process(one) => process(alloc, findings, top, one),
     }
 }

@@ -81,22 +81,14 @@ fn other<'a>(scope: &mut Scope<'a>, decl: &'a Declaration) -> Result<(), AllocEr
     };
     match decl {
         Declaration::Const { .. } => Ok(()),
-        Declaration::Device { name, .. } | Declaration::Event { name, .. } => {
-            add(scope, name.as_bytes(), declared)?;
-            Ok(())
-        }
-        Declaration::Routine(routine) => {
-            add(scope, routine.name.as_bytes(), declared)?;
-            Ok(())
-        }
-        Declaration::Monitor(monitor) => {
-            add(scope, monitor.name.as_bytes(), declared)?;
-            Ok(())
-        }
-        Declaration::Process(process) => {
-            add(scope, process.name.as_bytes(), declared)?;
-            Ok(())
-        }
+        Declaration::Device { name, .. } | Declaration::Event { name, .. } => add(
+            scope,
+            name.as_bytes(),
+            declared,
+        ),
+        Declaration::Routine(routine) => add(scope, routine.name.as_bytes(), declared),
+        Declaration::Monitor(monitor) => add(scope, monitor.name.as_bytes(), declared),
+        Declaration::Process(process) => add(scope, process.name.as_bytes(), declared),
     }
 }
 
@@ -198,8 +190,7 @@ fn next<'a>(
     findings.declare(declared.place, taken);
     decl(alloc, findings, &TopScope { program, entries }, one)?;
     reveal(taken, program, one)?;
-    add_unless(taken, seen, name_of(one), declared)?;
-    Ok(())
+    add_unless(taken, seen, name_of(one), declared)
 }
 
 fn decls<'a>(
@@ -239,8 +230,34 @@ fn start<'a>(
     };
     add(seen, program.name.as_bytes(), own)?;
     add(names, program.name.as_bytes(), own)?;
-    others(names, program.decls.as_slice())?;
-    Ok(())
+    others(names, program.decls.as_slice())
+}
+
+/// The names of all declarations, the entries being known, and the maps of names being empty.
+fn body_with<'a>(
+    alloc: Global,
+    findings: &mut Findings,
+    names: &mut Scope<'a>,
+    seen: &mut Scope<'a>,
+    entries: &Entries<'a>,
+    program: &'a Program,
+) -> Result<(), AllocError>
+    requires names { names.old.entries ≡ [] }
+    requires seen { seen.old.entries ≡ [] }
+    ensures { let g = placed program.now in OnOk result
+        ((more : List Occurrence) → noted findings.new more ≡
+        noted findings.old (decls_names (entry_meaning entries.now.entries)
+        (program_name g ∷ []) g.decls more)) }
+{
+    start(names, seen, program)?;
+    decls(
+        alloc,
+        findings,
+        names,
+        seen,
+        entries,
+        program.decls.as_slice(),
+    )
 }
 
 /// The names of all declarations, the entries being known.
@@ -258,16 +275,7 @@ fn body<'a>(
     let most = program.decls.len().saturating_add(1);
     let mut names = Scope::with_capacity(alloc, most)?;
     let mut seen = Scope::with_capacity(alloc, most)?;
-    start(&mut names, &mut seen, program)?;
-    decls(
-        alloc,
-        findings,
-        &mut names,
-        &mut seen,
-        entries,
-        program.decls.as_slice(),
-    )?;
-    Ok(())
+    body_with(alloc, findings, &mut names, &mut seen, entries, program)
 }
 
 /// The names of all declarations.
@@ -279,8 +287,7 @@ fn whole(alloc: Global, findings: &mut Findings, program: &Program) -> Result<()
 {
     let mut entries = Entries::new(alloc);
     monitors(&mut entries, program.decls.as_slice())?;
-    body(alloc, findings, &entries, program)?;
-    Ok(())
+    body(alloc, findings, &entries, program)
 }
 
 /// What is found of all names of a program.

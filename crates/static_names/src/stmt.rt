@@ -57,8 +57,7 @@ fn loop_head<'a>(
     let taken = around.means(loops, variable.0.as_bytes()).is_some();
     findings.declare(variable.1, taken);
     constant(findings, around, loops, bounds.0)?;
-    constant(findings, around, loops, bounds.1)?;
-    Ok(())
+    constant(findings, around, loops, bounds.1)
 }
 
 /// A call of an entry.
@@ -76,8 +75,7 @@ fn call_entry<'a>(
         entry.entry.1 (exprs_names here (placed_exprs args.now) more))) }
 {
     around.use_entry(findings, loops, monitor, entry)?;
-    exprs(findings, around, loops, args)?;
-    Ok(())
+    exprs(findings, around, loops, args)
 }
 
 /// An assignment of whether nobody waits for a condition.
@@ -94,8 +92,7 @@ fn assign_empty<'a>(
         (uses here cond.entry.0.now cond.entry.1 Condition ∷ more))) }
 {
     target(findings, around, loops, to)?;
-    around.use_name(findings, loops, cond.0, cond.1, NameUse::Condition)?;
-    Ok(())
+    around.use_name(findings, loops, cond.0, cond.1, NameUse::Condition)
 }
 
 /// An assignment.
@@ -112,8 +109,7 @@ fn assignment<'a>(
     match s {
         Stmt::Assign { target: to, value } => {
             target(findings, around, loops, to)?;
-            expr(findings, around, loops, value)?;
-            Ok(())
+            expr(findings, around, loops, value)
         }
         Stmt::AssignEntry {
             target: to,
@@ -138,10 +134,7 @@ fn assignment<'a>(
             target: to,
             cond,
             cond_place,
-        } => {
-            assign_empty(findings, around, loops, to, (cond, *cond_place))?;
-            Ok(())
-        }
+        } => assign_empty(findings, around, loops, to, (cond, *cond_place)),
         _ => Ok(()),
     }
 }
@@ -160,8 +153,7 @@ fn call<'a>(
     match s {
         Stmt::Call { place, name, args } => {
             around.use_name(findings, loops, name, *place, NameUse::Routine)?;
-            exprs(findings, around, loops, args.as_slice())?;
-            Ok(())
+            exprs(findings, around, loops, args.as_slice())
         }
         Stmt::CallEntry {
             place,
@@ -177,8 +169,7 @@ fn call<'a>(
                 (mon, *place),
                 (entry, *entry_place),
                 args.as_slice(),
-            )?;
-            Ok(())
+            )
         }
         _ => Ok(()),
     }
@@ -203,8 +194,7 @@ fn transfer<'a>(
             ..
         } => {
             around.use_name(findings, loops, device, *device_place, NameUse::Device)?;
-            target(findings, around, loops, to)?;
-            Ok(())
+            target(findings, around, loops, to)
         }
         Stmt::Put {
             device,
@@ -213,8 +203,7 @@ fn transfer<'a>(
             ..
         } => {
             around.use_name(findings, loops, device, *device_place, NameUse::Device)?;
-            expr(findings, around, loops, value)?;
-            Ok(())
+            expr(findings, around, loops, value)
         }
         _ => Ok(()),
     }
@@ -241,8 +230,7 @@ fn condition<'a>(
         } => {
             around.use_name(findings, loops, cond, *cond_place, NameUse::Condition)?;
             constant(findings, around, loops, limit)?;
-            constant(findings, around, loops, number)?;
-            Ok(())
+            constant(findings, around, loops, number)
         }
         Stmt::Signal {
             cond,
@@ -253,10 +241,7 @@ fn condition<'a>(
             cond,
             cond_place,
             ..
-        } => {
-            around.use_name(findings, loops, cond, *cond_place, NameUse::Condition)?;
-            Ok(())
-        }
+        } => around.use_name(findings, loops, cond, *cond_place, NameUse::Condition),
         _ => Ok(()),
     }
 }
@@ -273,14 +258,10 @@ fn check<'a>(
         (placed_stmt s.now) more)) }
 {
     match s {
-        Stmt::Except { number, .. } => {
-            constant(findings, around, loops, number)?;
-            Ok(())
-        }
-        Stmt::ExitWhen { test, .. } | Stmt::Assert { test, .. } => {
-            expr(findings, around, loops, test)?;
-            Ok(())
-        }
+        Stmt::Except { number, .. } => constant(findings, around, loops, number),
+        Stmt::ExitWhen { test, .. } | Stmt::Assert { test, .. } => expr(
+            findings, around, loops, test,
+        ),
         _ => Ok(()),
     }
 }
@@ -297,26 +278,17 @@ fn plain<'a>(
         (placed_stmt s.now) more)) }
 {
     match s {
-        Stmt::Assign { .. } | Stmt::AssignEntry { .. } | Stmt::AssignEmpty { .. } => {
-            assignment(findings, around, loops, s)?;
-            Ok(())
-        }
-        Stmt::Call { .. } | Stmt::CallEntry { .. } => {
-            call(findings, around, loops, s)?;
-            Ok(())
-        }
-        Stmt::Get { .. } | Stmt::Put { .. } => {
-            transfer(findings, around, loops, s)?;
-            Ok(())
-        }
-        Stmt::Wait { .. } | Stmt::Signal { .. } | Stmt::Broadcast { .. } => {
-            condition(findings, around, loops, s)?;
-            Ok(())
-        }
-        Stmt::Except { .. } | Stmt::ExitWhen { .. } | Stmt::Assert { .. } => {
-            check(findings, around, loops, s)?;
-            Ok(())
-        }
+        Stmt::Assign { .. } | Stmt::AssignEntry { .. } | Stmt::AssignEmpty { .. } => assignment(
+            findings, around, loops, s,
+        ),
+        Stmt::Call { .. } | Stmt::CallEntry { .. } => call(findings, around, loops, s),
+        Stmt::Get { .. } | Stmt::Put { .. } => transfer(findings, around, loops, s),
+        Stmt::Wait { .. } | Stmt::Signal { .. } | Stmt::Broadcast { .. } => condition(
+            findings, around, loops, s,
+        ),
+        Stmt::Except { .. } | Stmt::ExitWhen { .. } | Stmt::Assert { .. } => check(
+            findings, around, loops, s,
+        ),
         Stmt::If { .. } | Stmt::For { .. } => Ok(()),
     }
 }
