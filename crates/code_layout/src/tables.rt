@@ -77,9 +77,9 @@ impl<'a> Tables<'a> {
     pub fn new(alloc: Global, program: &'a Program) -> Result<Tables<'a>, AllocError>
         ensures { IfOk result (λ t. t ≡ program.now) }
     {
-        let numbering = Numbering::new(alloc, program)?;
-        let values = ConstantValues::new(alloc, program)?;
         let devices = device_names(alloc, program.decls.as_slice())?;
+        let values = ConstantValues::new(alloc, program)?;
+        let numbering = Numbering::new(alloc, program)?;
         Ok(Tables {
             numbering,
             values,

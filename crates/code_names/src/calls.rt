@@ -1,12 +1,12 @@
 //! What routines call, by name, in the order in which the names stand.
 
 ghost use Rattle.std.specs.Prelude.{◌≡◌, OnOk, IfOk, List, ◌∷◌, ◌++◌};
-ghost use Rattle.syntax_tree.specs.Placed.{optional, placed_expr, placed_exprs, placed_ref, placed_routine, placed_scalar, placed_stmt, placed_stmts, plain_answers, plain_expr, plain_exprs, plain_ref, plain_routine, plain_stmt, plain_stmts};
+ghost use Rattle.syntax_tree.specs.Placed.{optional, placed_expr, placed_exprs, placed_operands, placed_ref, placed_routine, placed_scalar, placed_stmt, placed_stmts, plain_answers, plain_expr, plain_exprs, plain_operands, plain_ref, plain_routine, plain_stmt, plain_stmts};
 ghost use Rattle.code_spec.specs.Numbering.{Called as SpecCalled, routine_calls as calls_of};
-ghost use Rattle.code_names.specs.Calls.{called_of, calls_told, expr_called, exprs_called, ref_called, stmt_called, stmts_called, answers_called};
+ghost use Rattle.code_names.specs.Calls.{called_of, calls_told, expr_called, exprs_called, ref_called, row_called, stmt_called, stmts_called, answers_called};
 
 use std::alloc::{AllocError, Global};
-use syntax_tree::{Expr, Name, Ref, Routine, Scalar, Stmt};
+use syntax_tree::{Expr, Name, Op, Ref, Routine, Scalar, Stmt};
 
 /// What a call names: a routine, or an entry of a monitor.
 #[derive(Clone, Copy)]
@@ -23,43 +23,7 @@ fn call<'a>(calls: &mut Vec<Called<'a>>, called: Called<'a>) -> Result<(), Alloc
     Ok(())
 }
 
-fn expr<'a>(calls: &mut Vec<Called<'a>>, e: &'a Expr) -> Result<(), AllocError>
-    ensures { OnOk result ((more : List SpecCalled) → calls_told calls.new.items ++ more ≡
-        calls_told calls.old.items ++ expr_called (plain_expr (placed_expr e.now)) more) }
-{
-    match e {
-        Expr::Literal { .. } | Expr::True { .. } | Expr::False { .. } | Expr::Variable { .. } => Ok(
-            (),
-        ),
-        Expr::Element { index, .. } => {
-            expr(calls, index)?;
-            Ok(())
-        }
-        Expr::Call { name, args, .. } => {
-            call(calls, Called::Routine(name))?;
-            for arg in args.as_slice() {
-                expr(calls, arg)?;
-            }
-            Ok(())
-        }
-        Expr::Minus { operand, .. } | Expr::Not { operand, .. } => {
-            expr(calls, operand)?;
-            Ok(())
-        }
-        Expr::Paren { inner, .. } => {
-            expr(calls, inner)?;
-            Ok(())
-        }
-        Expr::Chain { first, rest } => {
-            expr(calls, first)?;
-            for pair in rest.as_slice() {
-                expr(calls, &pair.1)?;
-            }
-            Ok(())
-        }
-    }
-}
-
+#[cycle(expr)]
 fn exprs<'a>(calls: &mut Vec<Called<'a>>, list: &'a [Expr]) -> Result<(), AllocError>
     ensures { OnOk result ((more : List SpecCalled) → calls_told calls.new.items ++ more ≡
         calls_told calls.old.items ++ exprs_called (plain_exprs (placed_exprs list.now)) more) }
@@ -68,6 +32,41 @@ fn exprs<'a>(calls: &mut Vec<Called<'a>>, list: &'a [Expr]) -> Result<(), AllocE
         expr(calls, e)?;
     }
     Ok(())
+}
+
+/// The right operands of a row of operators.
+#[cycle(expr)]
+fn operands<'a>(calls: &mut Vec<Called<'a>>, list: &'a [(Op, Expr)]) -> Result<(), AllocError>
+    ensures { OnOk result ((more : List SpecCalled) → calls_told calls.new.items ++ more ≡
+        calls_told calls.old.items ++ row_called (plain_operands (placed_operands list.now)) more) }
+{
+    for operand in list {
+        expr(calls, &operand.1)?;
+    }
+    Ok(())
+}
+
+#[cycle(expr)]
+fn expr<'a>(calls: &mut Vec<Called<'a>>, e: &'a Expr) -> Result<(), AllocError>
+    ensures { OnOk result ((more : List SpecCalled) → calls_told calls.new.items ++ more ≡
+        calls_told calls.old.items ++ expr_called (plain_expr (placed_expr e.now)) more) }
+{
+    match e {
+        Expr::Literal { .. } | Expr::True { .. } | Expr::False { .. } | Expr::Variable { .. } => Ok(
+            (),
+        ),
+        Expr::Element { index, .. } => expr(calls, index),
+        Expr::Call { name, args, .. } => {
+            call(calls, Called::Routine(name))?;
+            exprs(calls, args.as_slice())
+        }
+        Expr::Minus { operand, .. } | Expr::Not { operand, .. } => expr(calls, operand),
+        Expr::Paren { inner, .. } => expr(calls, inner),
+        Expr::Chain { first, rest } => {
+            expr(calls, first)?;
+            operands(calls, rest.as_slice())
+        }
+    }
 }
 
 /// A call with its arguments.
@@ -121,10 +120,10 @@ fn stmt<'a>(calls: &mut Vec<Called<'a>>, s: &'a Stmt) -> Result<(), AllocError>
         } => {
             expr(calls, test)?;
             stmts(calls, first.as_slice())?;
-            if let Some(second) = second {
-                stmts(calls, second.as_slice())?;
+            match second {
+                Some(second) => stmts(calls, second.as_slice()),
+                None => Ok(()),
             }
-            Ok(())
         }
         Stmt::For { body, .. } => stmts(calls, body.as_slice()),
         Stmt::Assign { target: to, value } => {

@@ -3,3 +3,4 @@ pub mod Got
 pub mod Shared
 pub mod Lists
 pub mod Told
+pub mod Turns

@@ -1,13 +1,13 @@
 //! Conditions, counted through all monitors.
 
 ghost use Rattle.std.specs.Prelude.{◌≡◌, ◌+◌, IfOk, OnOk, List, ◌∷◌, ◌++◌, filter_map, pos, slice_get};
-ghost use Rattle.syntax_tree.specs.Plain.{Member as SpecMember};
+ghost use Rattle.syntax_tree.specs.Plain.{Member as SpecMember, Monitor as SpecMonitor};
 ghost use Rattle.syntax_tree.specs.Placed.{placed, placed_member, placed_monitor, plain, plain_member, plain_monitor};
 ghost use Rattle.source_semantics.specs.Names.{condition_count, condition_in, conditions_of, monitors as monitors_in, place_of};
 ghost use Rattle.code_names.specs.First.{names_of};
 ghost use Rattle.codegen_spec.specs.Told.{fit};
 ghost use Rattle.code_names.specs.Parts.{seen_monitors};
-ghost use Rattle.codegen_texts.specs.Shared.{conditions_from, number_among};
+ghost use Rattle.codegen_texts.specs.Shared.{conditions_from, count_from, number_among};
 
 use code_layout::{Tables, fit_word, number};
 use code_names::NameList;
@@ -53,6 +53,31 @@ fn own_conditions<'a>(alloc: Global, monitor: &'a Monitor) -> Result<NameList<'a
     Ok(list)
 }
 
+/// Lists the conditions of a monitor behind those before. Where they are more than a number can
+/// tell, there is not memory enough for them.
+fn list_monitor<'a>(
+    alloc: Global,
+    all: &mut Conditions<'a>,
+    monitor: &'a Monitor,
+) -> Result<(), AllocError>
+    ensures lists { OnOk result ((rest : List SpecMonitor) → all.new.lists.items ++
+        conditions_from all.new.count rest ≡ all.old.lists.items ++
+        conditions_from all.old.count (plain_monitor (placed_monitor monitor.now) ∷ rest)) }
+    ensures count { OnOk result ((rest : List SpecMonitor) → count_from all.new.count rest ≡
+        count_from all.old.count (plain_monitor (placed_monitor monitor.now) ∷ rest)) }
+{
+    let names = own_conditions(alloc, monitor)?;
+    let Some(next) = all.count.checked_add(names.len()) else {
+        return Err(AllocError);
+    };
+    all.lists.push(MonitorConditions {
+        first: all.count,
+        names,
+    })?;
+    all.count = next;
+    Ok(())
+}
+
 /// The conditions of the monitors. Where they are more than a number can tell, there is not memory
 /// enough for them.
 fn numbered_conditions<'a>(
@@ -63,20 +88,14 @@ fn numbered_conditions<'a>(
         conditions_from 0 (seen_monitors monitors.now)) }
     ensures count { IfOk result (λ all. all.count ≡ condition_count (seen_monitors monitors.now)) }
 {
-    let mut lists = Vec::new(alloc);
-    let mut count: usize = 0;
+    let mut all = Conditions {
+        lists: Vec::new(alloc),
+        count: 0,
+    };
     for monitor in monitors {
-        let names = own_conditions(alloc, monitor)?;
-        let Some(next) = count.checked_add(names.len()) else {
-            return Err(AllocError);
-        };
-        lists.push(MonitorConditions {
-            first: count,
-            names,
-        })?;
-        count = next;
+        list_monitor(alloc, &mut all, monitor)?;
     }
-    Ok(Conditions { lists, count })
+    Ok(all)
 }
 
 /// The conditions of the monitors of a program. Where they are more than a number can tell, there

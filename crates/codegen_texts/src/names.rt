@@ -68,6 +68,13 @@ impl<'p, 'a> Names<'p, 'a> {
         })
     }
 
+    /// What the texts of the program share.
+    fn shared(&self) -> &'p ProgramNames<'a>
+        ensures { result.now ≡ self.now.program.now }
+    {
+        self.program
+    }
+
     /// Whose text it is.
     fn whose(&self) -> RoutineOwner
         ensures { owner_of result ≡ (scope_of self.now).owner }
@@ -87,20 +94,20 @@ impl<'p, 'a> Lookup for Names<'p, 'a> {
     ghost scope = { λ names. scope_of names };
 
     fn variable(&self, loops: &[Loop], name: &Name) -> Option<VarLocation> {
-        let outer = self.program.outer(self.whose());
+        let outer = self.shared().outer(self.whose());
         variable(&self.own, outer, loops, name)
     }
 
     fn constant(&self, name: &Name) -> i32 {
-        self.program.tables().constant(name)
+        self.shared().tables().constant(name)
     }
 
     fn value(&self, constant: &Constant) -> i32 {
-        self.program.tables().value(constant)
+        self.shared().tables().value(constant)
     }
 
     fn device(&self, name: &Name) -> i32 {
-        self.program.tables().device(name)
+        self.shared().tables().device(name)
     }
 
     fn owner(&self) -> ToldOwner {
@@ -108,14 +115,14 @@ impl<'p, 'a> Lookup for Names<'p, 'a> {
     }
 
     fn condition(&self, name: &Name) -> i32 {
-        self.program.condition(self.whose(), name)
+        self.shared().condition(self.whose(), name)
     }
 
     fn routine(&self, name: &Name) -> Option<&Callee> {
-        self.program.routine(self.whose(), name)
+        self.shared().routine(self.whose(), name)
     }
 
     fn entry(&self, monitor: &Name, name: &Name) -> Option<&Callee> {
-        self.program.entry(monitor, name)
+        self.shared().entry(monitor, name)
     }
 }

@@ -12,7 +12,7 @@ ghost use Rattle.code_names.proofs.NameListTable.{get_some};
 ghost use Rattle.code_names.specs.Parts.{all_texts};
 ghost use Rattle.code_names.specs.Texts.{owner_of, text_of, text_index};
 ghost use Rattle.code_layout.specs.LookupTables.{outer_in};
-ghost use Rattle.codegen_texts.specs.Shared.{callees_told};
+ghost use Rattle.codegen_texts.specs.Shared.{AreNames, callees_told};
 
 use crate::callees::callees;
 use crate::conditions::{Conditions, condition_number, program_conditions};
@@ -49,20 +49,41 @@ impl<'a> Model for ProgramNames<'a> {
     ghost invariant = { λ n. AreNames n.tables n.callees.items n.outer.processes.items n.outer.monitors.items n.conditions.lists.items n.conditions.count };
 }
 
+/// What the texts of a program share beside its tables.
+#[derive(Drop)]
+struct SharedNames<'a> {
+    callees: Vec<Callee>,
+    outer: OuterLocations<'a>,
+    conditions: Conditions<'a>,
+}
+
+/// What the texts share beside these tables.
+fn shared_names<'a>(alloc: Global, tables: &Tables<'a>) -> Result<SharedNames<'a>, AllocError>
+    ensures { IfOk result (λ s. AreNames tables.now s.callees.items s.outer.processes.items
+        s.outer.monitors.items s.conditions.lists.items s.conditions.count) }
+{
+    let callees = callees(alloc, tables)?;
+    let conditions = program_conditions(alloc, tables)?;
+    let outer = outer_spots(alloc, tables)?;
+    Ok(SharedNames {
+        callees,
+        outer,
+        conditions,
+    })
+}
+
 impl<'a> ProgramNames<'a> {
     /// Goes once through the text of the program.
     pub fn new(alloc: Global, program: &'a Program) -> Result<ProgramNames<'a>, AllocError>
         ensures { IfOk result (λ n. n ≡ program.now) }
     {
         let tables = Tables::new(alloc, program)?;
-        let outer = outer_spots(alloc, &tables)?;
-        let conditions = program_conditions(alloc, &tables)?;
-        let callees = callees(alloc, &tables)?;
+        let shared = shared_names(alloc, &tables)?;
         Ok(ProgramNames {
             tables,
-            callees,
-            outer,
-            conditions,
+            callees: shared.callees,
+            outer: shared.outer,
+            conditions: shared.conditions,
         })
     }
 

@@ -5,6 +5,6 @@ use Rattle.codegen_texts.proofs.conditions.numbered_conditions.Given as goal
 
 abbrev pub invariant-loop-monitor : goal.invariant-loop-monitor
 invariant-loop-monitor l = record {
-  lists : l.lists.items ++ conditions_from l.count (seen_monitors (drop l.monitor-index l.monitors)) ≡ conditions_from 0 (seen_monitors l.monitors);
-  count : count_from l.count (seen_monitors (drop l.monitor-index l.monitors)) ≡ count_from 0 (seen_monitors l.monitors);
+  lists : l.all.lists.items ++ conditions_from l.all.count (seen_monitors (drop l.monitor-index l.monitors)) ≡ conditions_from 0 (seen_monitors l.monitors);
+  count : count_from l.all.count (seen_monitors (drop l.monitor-index l.monitors)) ≡ count_from 0 (seen_monitors l.monitors);
 }

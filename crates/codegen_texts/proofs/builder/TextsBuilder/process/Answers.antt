@@ -18,3 +18,6 @@ invariant_of-self-2 g c =
           c.in_ok-push.ensures.items c.self.invariant.processes_are (process_there p _ t next)
           (λ i. record { process = t; program = program i; scope = scope i });
     }
+
+pub invariant_of-self : goal.invariant_of-self
+invariant_of-self g c = rw c.in_err-push.ensures.items c.self.invariant

@@ -20,3 +20,6 @@ invariant_of-self-2 g c =
           (λ i. record { routine = t.routine; words = words i; program = program i; scope = scope i });
       processes_are = c.self.invariant.processes_are;
     }
+
+pub invariant_of-self : goal.invariant_of-self
+invariant_of-self g c = rw c.in_err-push.ensures.items c.self.invariant
