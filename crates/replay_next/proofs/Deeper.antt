@@ -55,32 +55,17 @@ call_ran g p d f h m m1 o b r ne home answers body same ran =
     ∙ (ap (λ k. answer_after (site_in g p f.home (d - 1)) f.routine.answers (run_all (site_in g p f.home (d - 1)) k f.routine.body)) same
     ∙ answer_deeper g p d f m ne))))
 
-after_fails : (c : Site) (o : Option Answers) (n : ℕ) (m : Memory) → raised n ≡ answer_after c o (fails n m)
+pub after_fails : (c : Site) (o : Option Answers) (n : ℕ) (m : Memory) → raised n ≡ answer_after c o (fails n m)
 after_fails c None n m = refl
 after_fails c (Some a) n m = refl
 
-after_exits : (c : Site) (o : Option Answers) (m : Memory) → word (pos 0) ≡ answer_after c o (exits m)
+pub after_exits : (c : Site) (o : Option Answers) (m : Memory) → word (pos 0) ≡ answer_after c o (exits m)
 after_exits c None m = refl
 after_exits c (Some a) m = refl
 
-after_stops : (c : Site) (o : Option Answers) (x : Action) (i : List Call) (rest : List Item) (m : Memory) → word (pos 0) ≡ answer_after c o (stops x i rest m)
+pub after_stops : (c : Site) (o : Option Answers) (x : Action) (i : List Call) (rest : List Item) (m : Memory) → word (pos 0) ≡ answer_after c o (stops x i rest m)
 after_stops c None x i rest m = refl
 after_stops c (Some a) x i rest m = refl
-
-pub call_fails : (g : Program) (p : Process) (d : ℕ) (f : Found) (h : Home) (m m1 m2 : Memory) (b : Stmts) (n : ℕ)
-    → d ≢ 0 → h ≡ f.home → b ≡ f.routine.body → m1 ≡ m → fails n m2 ≡ run_all (site_in g p h (d - 1)) m1 b → raised n ≡ (calls_to g p d).answer f m
-call_fails g p d f h m m1 m2 b n ne home body same ran =
-    after_fails (site_in g p h (d - 1)) f.routine.answers n m2 ∙ call_ran g p d f h m m1 f.routine.answers b (fails n m2) ne home refl body same ran
-
-pub call_exits : (g : Program) (p : Process) (d : ℕ) (f : Found) (h : Home) (m m1 m2 : Memory) (b : Stmts)
-    → d ≢ 0 → h ≡ f.home → b ≡ f.routine.body → m1 ≡ m → exits m2 ≡ run_all (site_in g p h (d - 1)) m1 b → word (pos 0) ≡ (calls_to g p d).answer f m
-call_exits g p d f h m m1 m2 b ne home body same ran =
-    after_exits (site_in g p h (d - 1)) f.routine.answers m2 ∙ call_ran g p d f h m m1 f.routine.answers b (exits m2) ne home refl body same ran
-
-pub call_stops : (g : Program) (p : Process) (d : ℕ) (f : Found) (h : Home) (m m1 m2 : Memory) (b : Stmts) (x : Action) (i : List Call) (rest : List Item)
-    → d ≢ 0 → h ≡ f.home → b ≡ f.routine.body → m1 ≡ m → stops x i rest m2 ≡ run_all (site_in g p h (d - 1)) m1 b → word (pos 0) ≡ (calls_to g p d).answer f m
-call_stops g p d f h m m1 m2 b x i rest ne home body same ran =
-    after_stops (site_in g p h (d - 1)) f.routine.answers x i rest m2 ∙ call_ran g p d f h m m1 f.routine.answers b (stops x i rest m2) ne home refl body same ran
 
 pub run_ran : (g : Program) (p : Process) (d : ℕ) (f : Found) (h : Home) (m m1 : Memory) (b : Stmts) (r : Run)
     → d ≢ 0 → h ≡ f.home → b ≡ f.routine.body → m1 ≡ m → r ≡ run_all (site_in g p h (d - 1)) m1 b → r ≡ (calls_to g p d).run f m

@@ -1,21 +1,31 @@
 //! Routines that are called.
 
-ghost use Rattle.std.specs.Prelude.{◌≡◌, IfOk, option_map};
+ghost use Rattle.std.specs.Prelude.{◌≡◌, IfOk, Option, option_map, unwrap_or};
 ghost use Rattle.syntax_tree.specs.Placed.{placed, placed_routine, plain, plain_routine};
+ghost use Rattle.syntax_tree.specs.Plain.{Answers};
+ghost use Rattle.source_semantics.specs.Next.{answer_after};
 ghost use Rattle.source_semantics.specs.Run as run_of;
 ghost use Rattle.replay_state.specs.View.{answers_of, call_of, home_of, target_of, vars_of};
 ghost use Rattle.replay_values.specs.Lookups.{found_of};
+ghost use Rattle.replay_values.specs.Seen.{answer_of};
 ghost use Rattle.replay_calls.specs.Reach.{memory_of, site_of};
 ghost use Rattle.replay_next.specs.Ran.{bound_of, ran_of, receiving};
 
 use crate::results::{ArgumentsResult, RunResult, Stop, stopped_in};
 use replay_calls::{Memory, add_fresh, home_in};
 use replay_state::{Action, Call, CallOwner, Item, ResultExpr, Slot, Target};
-use replay_values::{EvalContext, ResolvedRoutine};
+use replay_values::{Answer, EvalContext, ResolvedRoutine};
 use static_declarations::Declarations;
 use std::alloc::{AllocError, Global};
 use std::mem;
-use syntax_tree::Routine;
+use syntax_tree::{List, Routine, Stmt};
+
+/// The statements of a list.
+pub fn statements(list: &List<Stmt>) -> &[Stmt]
+    ensures { result.now ≡ list.now }
+{
+    list.as_slice()
+}
 
 /// The type and the expression of a routine's result, where it has one.
 pub fn answering<'a>(routine: &'a Routine) -> Option<ResultExpr<'a>>
@@ -57,7 +67,7 @@ fn entry_call<'a>(
         run_of.entry_call (found_of found.now) mon (vars_of own.entry.items)) }
 {
     let mut rest = Vec::new(alloc);
-    rest.push(Item::DoAll(found.routine.body.as_slice()))?;
+    rest.push(Item::DoAll(statements(&found.routine.body)))?;
     rest.push(Item::LeaveWith {
         answers: answering(found.routine),
         mon,
@@ -99,6 +109,20 @@ pub fn entered<'a>(
                 rest,
             }))
         }
+    }
+}
+
+/// The answer of a function whose body came to this; `None` where its result is evaluated.
+pub fn answered(ran: RunResult<'_>) -> Option<Answer>
+    ensures { (c : run_of.Site) → (o : Option Answers) → (m : run_of.Memory) →
+        answer_after c o (ran_of ran.entry m) ≡
+        unwrap_or (option_map answer_of result) (answer_after c o (run_of.goes m)) }
+{
+    match ran {
+        RunResult::Goes => None,
+        RunResult::Fails(number) => Some(Answer::Raised(number)),
+        RunResult::Exits => Some(Answer::Word(0)),
+        RunResult::Stops(_) => Some(Answer::Word(0)),
     }
 }
 

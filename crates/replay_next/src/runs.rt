@@ -12,15 +12,16 @@ ghost use Rattle.replay_values.specs.Seen.{answer_of};
 ghost use Rattle.replay_calls.specs.Reach.{memory_of, site_of};
 ghost use Rattle.replay_next.specs.Ran.{IsReached, aim_in, aimed_of, bound_of, ran_of, receiving};
 
-use crate::calling::{answering, entered, given_back, own_vars};
+use crate::calling::{answered, answering, entered, given_back, own_vars, statements};
 use crate::results::{
     ArgumentsResult, RunResult, TargetResult, aimed_at, asks, stopped_before, stops,
 };
-use crate::visible::{ConditionResult, asserted, assigned, exited, puts, tested, waits};
+use crate::visible::{
+    ConditionResult, asserted, assigned, device_here, exited, monitor_here, puts, tested, waits,
+};
 use replay_calls::{
-    ArgumentResult, Memory, checked, condition_here, device_number, drop_turn, element,
-    entry_named, home_in, joined, lent, minus, monitor_number, name_value, opposite,
-    param_variable, push_turn, range_of, turn_count,
+    ArgumentResult, Memory, checked, condition_here, drop_turn, element, entry_named, home_in,
+    joined, lent, minus, name_value, opposite, param_variable, push_turn, range_of, turn_count,
 };
 use replay_state::{Action, CallOwner, Item, ResultExpr, Slot, Target, count};
 use replay_values::{Answer, EvalContext, ResolvedRoutine, routine_named};
@@ -128,12 +129,11 @@ fn call_answer<'a>(
         monitor: lent(monitor),
     };
     let its = home_in(found.home);
-    let body = found.routine.body.as_slice();
-    match run_all(scope, its, depth - 1, &mut inside, body)? {
-        RunResult::Goes => outcome(scope, its, depth - 1, &inside, answering(found.routine)),
-        RunResult::Fails(number) => Ok(Answer::Raised(number)),
-        RunResult::Exits => Ok(Answer::Word(0)),
-        RunResult::Stops(_) => Ok(Answer::Word(0)),
+    let body = statements(&found.routine.body);
+    let ran = run_all(scope, its, depth - 1, &mut inside, body)?;
+    match answered(ran) {
+        None => outcome(scope, its, depth - 1, &inside, answering(found.routine)),
+        Some(answer) => Ok(answer),
     }
 }
 
@@ -248,7 +248,7 @@ fn enter<'a>(
         Some(found) => {
             let params = found.routine.params.as_slice();
             let bound = arguments(scope, home, depth, memory, args, params)?;
-            let number = monitor_number(mon, scope.declarations.program().decls.as_slice());
+            let number = monitor_here(scope, mon);
             entered(scope, home, depth, &found, number, bound, target)
         }
     }
@@ -274,7 +274,7 @@ fn run_routine<'a>(
         return Ok(RunResult::Goes);
     }
     let its = home_in(found.home);
-    let body = found.routine.body.as_slice();
+    let body = statements(&found.routine.body);
     let callers = mem::replace(&mut memory.own, own);
     let ran = run_all(scope, its, depth - 1, memory, body)?;
     given_back(scope.alloc, its, memory, callers, ran)
@@ -368,7 +368,6 @@ fn run<'a>(
         run_of.run (site_of scope.now home depth) (memory_of memory.old)
         (plain_stmt (placed_stmt stmt.now))) }
 {
-    let decls = scope.declarations.program().decls.as_slice();
     match stmt {
         Stmt::Assign { target, value: e } => {
             let aim = take_aim(scope, home, depth, memory, target)?;
@@ -414,10 +413,10 @@ fn run<'a>(
             let answer = value(scope, home, depth, memory, test)?;
             match tested(answer) {
                 ConditionResult::Raised(number) => Ok(RunResult::Fails(number)),
-                ConditionResult::Holds => run_all(scope, home, depth, memory, first.as_slice()),
+                ConditionResult::Holds => run_all(scope, home, depth, memory, statements(first)),
                 ConditionResult::Not => match second {
                     None => Ok(RunResult::Goes),
-                    Some(second) => run_all(scope, home, depth, memory, second.as_slice()),
+                    Some(second) => run_all(scope, home, depth, memory, statements(second)),
                 },
             }
         }
@@ -430,7 +429,7 @@ fn run<'a>(
         } => {
             let from = scope.declarations.value(low);
             let count = turn_count(from, scope.declarations.value(high));
-            let body = body.as_slice();
+            let body = statements(body);
             turns(scope, home, depth, memory, name, from, count, body)
         }
         Stmt::ExitWhen { test, .. } => {
@@ -439,7 +438,7 @@ fn run<'a>(
         }
         Stmt::Get { device, target, .. } => {
             let aim = take_aim(scope, home, depth, memory, target)?;
-            let dev = device_number(device, decls);
+            let dev = device_here(scope, device);
             asks(scope.alloc, aim, Action::Gets { dev })
         }
         Stmt::Put {
@@ -448,7 +447,7 @@ fn run<'a>(
             ..
         } => {
             let answer = value(scope, home, depth, memory, e)?;
-            puts(scope.alloc, device_number(device, decls), answer)
+            puts(scope.alloc, device_here(scope, device), answer)
         }
         Stmt::Wait {
             cond,

@@ -3,7 +3,7 @@
 ghost use Rattle.std.specs.Prelude.{◌≡◌, [], IfOk, cond};
 ghost use Rattle.base.specs.Words.{is_true as is_truth};
 ghost use Rattle.syntax_tree.specs.Placed.{placed, placed_constant, plain, plain_constant};
-ghost use Rattle.source_semantics.specs.Names.{count_value};
+ghost use Rattle.source_semantics.specs.Names.{count_value, device_number as number_of_device, monitor_number as number_of_monitor};
 ghost use Rattle.source_semantics.specs.Run as run_of;
 ghost use Rattle.replay_state.specs.View.{home_of};
 ghost use Rattle.replay_values.specs.Seen.{answer_of};
@@ -11,7 +11,7 @@ ghost use Rattle.replay_calls.specs.Reach.{memory_of, site_of};
 ghost use Rattle.replay_next.specs.Ran.{aimed_of, ran_of, tested_run, with_aimed};
 
 use crate::results::{RunResult, TargetResult, stops};
-use replay_calls::{Memory, condition_here, store_to};
+use replay_calls::{Memory, condition_here, device_number, monitor_number, store_to};
 use replay_state::{Action, CallOwner, Item, count};
 use replay_values::{Answer, EvalContext, is_true};
 use std::alloc::{AllocError, Global};
@@ -112,6 +112,20 @@ pub fn asserted<'a>(answer: Answer) -> RunResult<'a>
             }
         }
     }
+}
+
+/// The number of the device of that name.
+pub fn device_here(scope: &EvalContext<'_>, device: &Name) -> usize
+    ensures { result ≡ number_of_device (plain (placed scope.now.declarations.now)) device.now }
+{
+    device_number(device, scope.declarations.program().decls.as_slice())
+}
+
+/// The number of the monitor of that name.
+pub fn monitor_here(scope: &EvalContext<'_>, mon: &Name) -> usize
+    ensures { result ≡ number_of_monitor (plain (placed scope.now.declarations.now)) mon.now }
+{
+    monitor_number(mon, scope.declarations.program().decls.as_slice())
 }
 
 /// A value that is put to a device.

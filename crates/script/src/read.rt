@@ -116,6 +116,43 @@ fn read_lines(
     Err(bad(refusal::END, past.lines.len() as u32 + 1))
 }
 
+/// Reads a text that is not too long from its first line on.
+fn read_from_start(
+    alloc: Global,
+    names: &ImageNames,
+    devices: &SymbolNumbers<'_>,
+    events: &SymbolNumbers<'_>,
+    text: &[u8],
+) -> Result<Script, ScriptFault>
+    requires short { length text.now ≤ longest_text }
+    requires devices { AreNumbers devices.now.entries (in_device names.now) }
+    requires events { AreNumbers events.now.entries (event_number names.now) }
+    ensures script { IfOk result (λ script.
+        IsScript names.now text.now script.lines script.end) }
+    ensures fault { IfErr result (λ fault. (fault ≡ Memory) ⊎ IsFault names.now text.now fault) }
+{
+    let past = Past::new(alloc, names)?;
+    read_lines(names, devices, events, past, text)
+}
+
+/// Reads a text that is not too long, for these numbers of devices.
+fn read_for(
+    alloc: Global,
+    names: &ImageNames,
+    devices: &SymbolNumbers<'_>,
+    text: &[u8],
+) -> Result<Script, ScriptFault>
+    requires short { length text.now ≤ longest_text }
+    requires devices { AreNumbers devices.now.entries (in_device names.now) }
+    requires events { length names.now.events ≤ 2 ^ 16 }
+    ensures script { IfOk result (λ script.
+        IsScript names.now text.now script.lines script.end) }
+    ensures fault { IfErr result (λ fault. (fault ≡ Memory) ⊎ IsFault names.now text.now fault) }
+{
+    let events = event_numbers(alloc, names)?;
+    read_from_start(alloc, names, devices, &events, text)
+}
+
 /// The script that the text is, for these names. Devices and events are found by their names.
 ///
 /// It is a script where its lines are those of one that respects the frames, the last says an end
@@ -134,7 +171,5 @@ pub fn read_script(alloc: Global, text: &[u8], names: &ImageNames) -> Result<Scr
         return Err(bad(refusal::LONG, 0));
     }
     let devices = device_numbers(alloc, names)?;
-    let events = event_numbers(alloc, names)?;
-    let past = Past::new(alloc, names)?;
-    read_lines(names, &devices, &events, past, text)
+    read_for(alloc, names, &devices, text)
 }

@@ -461,14 +461,8 @@ run_routine-run_all-requires = of_turns.run_routine-run_all-requires
 pub call_answer-returns-then-depth-eq0 : goal.call_answer-returns-then-depth-eq0
 call_answer-returns-then-depth-eq0 = of_turns.call_answer-returns-then-depth-eq0
 
-pub call_answer-returns-in-Goes : goal.call_answer-returns-in-Goes
-call_answer-returns-in-Goes = of_turns.call_answer-returns-in-Goes
-
-pub call_answer-returns-in-Fails : goal.call_answer-returns-in-Fails
-call_answer-returns-in-Fails = of_turns.call_answer-returns-in-Fails
-
-pub call_answer-returns-in-Exits : goal.call_answer-returns-in-Exits
-call_answer-returns-in-Exits = of_turns.call_answer-returns-in-Exits
+pub call_answer-returns-in-None : goal.call_answer-returns-in-None
+call_answer-returns-in-None = of_turns.call_answer-returns-in-None
 
 pub call_answer-returns : goal.call_answer-returns
 call_answer-returns = of_turns.call_answer-returns

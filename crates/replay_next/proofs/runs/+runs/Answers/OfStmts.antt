@@ -19,19 +19,19 @@ use Rattle.replay_next.proofs.runs.+runs.Goals as goal
 pub run-run_all-requires : goal.run-run_all-requires
 run-run_all-requires t c =
     let i = c.in-If in
-    let smaller = parts.in_if_first c.args.stmt.now i.place i.test i.first c.as_slice-in-Holds.result.now i.second i.is c.as_slice-in-Holds.ensures in
+    let smaller = parts.in_if_first c.args.stmt.now i.place i.test i.first c.statements.result.now i.second i.is c.statements.ensures in
     omega (arith, smaller)
 
 pub run-run_all-requires-in-Some : goal.run-run_all-requires-in-Some
 run-run_all-requires-in-Some t c =
     let i = c.in-If in
-    let smaller = parts.in_if_second c.args.stmt.now i.place i.test i.first c.in-Some.second c.as_slice-in-Some.result.now i.second i.is c.in-Some.is c.as_slice-in-Some.ensures in
+    let smaller = parts.in_if_second c.args.stmt.now i.place i.test i.first c.in-Some.second c.statements-in-Some.result.now i.second i.is c.in-Some.is c.statements-in-Some.ensures in
     omega (arith, smaller)
 
 pub run-turns-requires : goal.run-turns-requires
 run-turns-requires t c =
     let i = c.in-For in
-    let smaller = parts.in_for c.args.stmt.now i.place i.name i.name_place i.low i.high i.body c.as_slice-body.result.now i.is c.as_slice-body.ensures in
+    let smaller = parts.in_for c.args.stmt.now i.place i.name i.name_place i.low i.high i.body c.statements-body.result.now i.is c.statements-body.ensures in
     omega (arith, smaller)
 
 pub run-returns-in_ok-answer-in-Assign : goal.run-returns-in_ok-answer-in-Assign
@@ -114,7 +114,7 @@ run-returns-in-Holds t c =
     let second = run.run_all s m (stmts.others i.second) in
     let told = c.tested.ensures m first second ∙ stmts.run_if s m stmt i.place i.test i.first i.second (answer_of c.in_ok-answer-in-If.answer) i.is c.in_ok-answer-in-If.ensures in
     ok_told c.run_all.result (λ r. ran_of r (memory_of c.run_all.new.memory)) _ _
-    (ap (lists.all_from s m) c.as_slice-in-Holds.ensures ∙ (sym (ap (λ x. tested_run x m first second) c.in-Holds.is) ∙ told)) c.run_all.ensures
+    (ap (lists.all_from s m) c.statements.ensures ∙ (sym (ap (λ x. tested_run x m first second) c.in-Holds.is) ∙ told)) c.run_all.ensures
 
 pub run-returns-in-None : goal.run-returns-in-None
 run-returns-in-None t c =
@@ -137,7 +137,7 @@ run-returns-in-Some t c =
     let second = run.run_all s m (stmts.others i.second) in
     let told = c.tested.ensures m first second ∙ stmts.run_if s m stmt i.place i.test i.first i.second (answer_of c.in_ok-answer-in-If.answer) i.is c.in_ok-answer-in-If.ensures in
     ok_told c.run_all-in-Some.result (λ r. ran_of r (memory_of c.run_all-in-Some.new.memory)) _ _
-    (ap (lists.all_from s m) c.as_slice-in-Some.ensures ∙ (sym (ap (λ o. run.run_all s m (stmts.others o)) c.in-Some.is) ∙ (sym (ap (λ x. tested_run x m first second) c.in-Not.is) ∙ told))) c.run_all-in-Some.ensures
+    (ap (lists.all_from s m) c.statements-in-Some.ensures ∙ (sym (ap (λ o. run.run_all s m (stmts.others o)) c.in-Some.is) ∙ (sym (ap (λ x. tested_run x m first second) c.in-Not.is) ∙ told))) c.run_all-in-Some.ensures
 
 pub run-returns-in_ok-answer-in-ExitWhen : goal.run-returns-in_ok-answer-in-ExitWhen
 run-returns-in_ok-answer-in-ExitWhen t c =
@@ -162,8 +162,8 @@ run-returns-in_ok-aim-in-Get t c =
     let stmt = c.args.stmt.now in
     let i = c.in-Get in
     let a = aimed_of c.in_ok-aim-in-Get.aim in
-    let n = c.device_number-dev.result in
-    let known : n ≡ device_number s.program i.device = search rules in
+    let n = c.device_here-dev.result in
+    let known : n ≡ device_number s.program i.device = c.device_here-dev.ensures in
     ok_at c.asks-in-Get.result ran_of (λ k. with_aimed a k (λ g. run.stops (run.gets n) [] (run.receive g ∷ []) k)) m _
     (stmts.run_get s m stmt i.device i.device_place i.place i.target a n i.is c.in_ok-aim-in-Get.ensures known) c.asks-in-Get.ensures
 
@@ -174,8 +174,8 @@ run-returns-in_ok-answer-in-Put t c =
     let stmt = c.args.stmt.now in
     let i = c.in-Put in
     let w = answer_of c.in_ok-answer-in-Put.answer in
-    let n = c.device_number.result in
-    let known : n ≡ device_number s.program i.device = search rules in
+    let n = c.device_here.result in
+    let known : n ≡ device_number s.program i.device = c.device_here.ensures in
     ok_at c.puts.result ran_of (λ k. run.with_value w k (λ v. run.stops (run.puts n v) [] [] k)) m _
     (stmts.run_put s m stmt i.place i.device i.device_place i.e w n i.is c.in_ok-answer-in-Put.ensures known) c.puts.ensures
 
@@ -230,7 +230,7 @@ run-returns-in-For t c =
     let low_same : from ≡ c.value-from.result = to_z-of_z w64 c.value-from.result (search rules) in
     let high_same : to_z w64 (of_z w64 c.value-in-For.result) ≡ c.value-in-For.result = to_z-of_z w64 c.value-in-For.result (search rules) in
     let count = c.turn_count-count.ensures ∙ ap₂ (λ a b. run.turn_count s a b) (low_same ∙ low) (high_same ∙ high) in
-    let told = ap (λ b. run.turns (λ k. run.run_all s k (plain_stmts (placed_stmts b))) i.name (plain_stmts (placed_stmts b)) c.turn_count-count.result from m) c.as_slice-body.ensures
+    let told = ap (λ b. run.turns (λ k. run.run_all s k (plain_stmts (placed_stmts b))) i.name (plain_stmts (placed_stmts b)) c.turn_count-count.result from m) c.statements-body.ensures
     ∙ (ap₂ (λ n v. run.turns (λ k. run.run_all s k ss) i.name ss n v m) count (low_same ∙ low) ∙ stmts.run_for s m c.args.stmt.now i.place i.name i.name_place i.low i.high i.body i.is) in
     ok_told c.turns.result (λ r. ran_of r (memory_of c.turns.new.memory)) _ _ told c.turns.ensures
 

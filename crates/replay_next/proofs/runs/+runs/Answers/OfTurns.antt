@@ -1,12 +1,14 @@
 -- Answers of turns of a loop, and of what goes one call deeper.
-use Rattle.std.specs.Prelude.{option_map, [], ◌∷◌, ◌++◌, ◌-◌, ◌≢◌}
-use Rattle.std.proofs.Common.{◌≡◌, ◌∙◌, ap, sym, rules, arith, map, to_z, of_z, w64, pos, ◌+ℤ◌}
+use Rattle.std.specs.Prelude.{option_map, [], ◌∷◌, ◌++◌, ◌-◌, ◌≢◌, Option, unwrap_or}
+use Rattle.std.proofs.Common.{◌≡◌, ◌∙◌, ap, refl, sym, rules, arith, map, to_z, of_z, w64, pos, ◌+ℤ◌}
 use Rattle.std.proofs.lemmas.Int.{to_z-of_z}
 use Rattle.syntax_tree.specs.Placed.{placed, placed_process, placed_stmts, plain, plain_process, plain_stmts}
 use Rattle.source_semantics.specs.Run as run
+use Rattle.source_semantics.specs.Next.{answer_after}
 use Rattle.replay_state.specs.View.{action_of, answers_of, calls_of, home_of, item_of, vars_of}
 use Rattle.replay_values.specs.Lookups.{found_of}
 use Rattle.replay_values.specs.Seen.{answer_of}
+use Rattle.replay_values.specs.declared.words.Answer.{Answer}
 use Rattle.replay_calls.specs.Reach.{area_of, memory_of, site_of}
 use Rattle.replay_next.specs.Ran.{ran_of}
 use Rattle.replay_next.proofs.Parts as parts
@@ -117,7 +119,7 @@ call_answer-run_all-requires t c =
     let f = found_of c.args.found.now in
     let deep : c.args.depth ≢ 0 = c.if-depth-eq0.false in
     let less = body_room c.args.scope.now f c.args.depth deep c.requires in
-    let same : parts.stmts_left c.as_slice-body.result.now ≡ stmts_size f.routine.body = ap parts.stmts_left c.as_slice-body.ensures in
+    let same : parts.stmts_left c.statements-body.result.now ≡ stmts_size f.routine.body = ap parts.stmts_left c.statements-body.ensures in
     omega (arith, less, same)
 
 pub call_answer-outcome-requires : goal.call_answer-outcome-requires
@@ -133,7 +135,7 @@ run_routine-run_all-requires t c =
     let f = found_of c.args.found.now in
     let deep : c.args.depth ≢ 0 = c.if-depth-eq0.false in
     let less = body_room c.args.scope.now f c.args.depth deep c.requires in
-    let same : parts.stmts_left c.as_slice-body.result.now ≡ stmts_size f.routine.body = ap parts.stmts_left c.as_slice-body.ensures in
+    let same : parts.stmts_left c.statements-body.result.now ≡ stmts_size f.routine.body = ap parts.stmts_left c.statements-body.ensures in
     omega (arith, less, same)
 
 -- ---- one call deeper
@@ -147,8 +149,8 @@ call_answer-returns-then-depth-eq0 t c =
     let vs = vars_of c.args.own.items in
     deeper.answer_none g p c.args.depth f (run.with_own m vs) c.if-depth-eq0.true
 
-pub call_answer-returns-in-Goes : goal.call_answer-returns-in-Goes
-call_answer-returns-in-Goes t c =
+pub call_answer-returns-in-None : goal.call_answer-returns-in-None
+call_answer-returns-in-None t c =
     let g = plain (placed c.args.scope.now.declarations.now) in
     let p = plain_process (placed_process c.args.scope.now.process.now) in
     let f = found_of c.args.found.now in
@@ -158,41 +160,15 @@ call_answer-returns-in-Goes t c =
     let m1 = deeper.inside vs (area_of c.lent.result) (area_of c.lent-2.result) in
     let m2 = memory_of c.run_all.new.memory in
     let same = deeper.inside_same m vs (area_of c.lent.result) (area_of c.lent-2.result) (c.lent.ensures ∙ c.as_slice-process.ensures) (c.lent-2.ensures ∙ c.as_slice-monitor.ensures) in
-    let b = plain_stmts (placed_stmts c.as_slice-body.result.now) in
-    let body : b ≡ f.routine.body = ap (λ l. plain_stmts (placed_stmts l)) c.as_slice-body.ensures in
+    let b = plain_stmts (placed_stmts c.statements-body.result.now) in
+    let body : b ≡ f.routine.body = ap (λ l. plain_stmts (placed_stmts l)) c.statements-body.ensures in
+    let site = deeper.site_in g p its (c.args.depth - 1) in
+    let r = ran_of c.in_ok-ran.ran m2 in
     let o = option_map answers_of c.answering.result in
-    let told = deeper.call_ran g p c.args.depth f its (run.with_own m vs) m1 o b (run.goes m2) c.if-depth-eq0.false c.home_in-its.ensures c.answering.ensures body same (sym (ap (λ (y : RunResult). ran_of y m2) c.in-Goes.is) ∙ c.in_ok-run_all.ensures) in
+    let whole = deeper.call_ran g p c.args.depth f its (run.with_own m vs) m1 o b r c.if-depth-eq0.false c.home_in-its.ensures c.answering.ensures body same c.in_ok-ran.ensures in
+    let goes = answer_after site o (run.goes m2) in
+    let told = sym (ap (λ (a : Option Answer). unwrap_or (option_map answer_of a) goes) c.in-None.is) ∙ (sym (c.answered.ensures site o m2) ∙ whole) in
     ok_told c.outcome.result answer_of _ _ told c.outcome.ensures
-
-pub call_answer-returns-in-Fails : goal.call_answer-returns-in-Fails
-call_answer-returns-in-Fails t c =
-    let g = plain (placed c.args.scope.now.declarations.now) in
-    let p = plain_process (placed_process c.args.scope.now.process.now) in
-    let f = found_of c.args.found.now in
-    let m = memory_of c.args.memory.now in
-    let vs = vars_of c.args.own.items in
-    let its = home_of c.home_in-its.result in
-    let m1 = deeper.inside vs (area_of c.lent.result) (area_of c.lent-2.result) in
-    let m2 = memory_of c.run_all.new.memory in
-    let same = deeper.inside_same m vs (area_of c.lent.result) (area_of c.lent-2.result) (c.lent.ensures ∙ c.as_slice-process.ensures) (c.lent-2.ensures ∙ c.as_slice-monitor.ensures) in
-    let b = plain_stmts (placed_stmts c.as_slice-body.result.now) in
-    let body : b ≡ f.routine.body = ap (λ l. plain_stmts (placed_stmts l)) c.as_slice-body.ensures in
-    deeper.call_fails g p c.args.depth f its (run.with_own m vs) m1 m2 b c.in-Fails.number c.if-depth-eq0.false c.home_in-its.ensures body same (sym (ap (λ (y : RunResult). ran_of y m2) c.in-Fails.is) ∙ c.in_ok-run_all.ensures)
-
-pub call_answer-returns-in-Exits : goal.call_answer-returns-in-Exits
-call_answer-returns-in-Exits t c =
-    let g = plain (placed c.args.scope.now.declarations.now) in
-    let p = plain_process (placed_process c.args.scope.now.process.now) in
-    let f = found_of c.args.found.now in
-    let m = memory_of c.args.memory.now in
-    let vs = vars_of c.args.own.items in
-    let its = home_of c.home_in-its.result in
-    let m1 = deeper.inside vs (area_of c.lent.result) (area_of c.lent-2.result) in
-    let m2 = memory_of c.run_all.new.memory in
-    let same = deeper.inside_same m vs (area_of c.lent.result) (area_of c.lent-2.result) (c.lent.ensures ∙ c.as_slice-process.ensures) (c.lent-2.ensures ∙ c.as_slice-monitor.ensures) in
-    let b = plain_stmts (placed_stmts c.as_slice-body.result.now) in
-    let body : b ≡ f.routine.body = ap (λ l. plain_stmts (placed_stmts l)) c.as_slice-body.ensures in
-    deeper.call_exits g p c.args.depth f its (run.with_own m vs) m1 m2 b c.if-depth-eq0.false c.home_in-its.ensures body same (sym (ap (λ (y : RunResult). ran_of y m2) c.in-Exits.is) ∙ c.in_ok-run_all.ensures)
 
 pub call_answer-returns : goal.call_answer-returns
 call_answer-returns t c =
@@ -205,10 +181,14 @@ call_answer-returns t c =
     let m1 = deeper.inside vs (area_of c.lent.result) (area_of c.lent-2.result) in
     let m2 = memory_of c.run_all.new.memory in
     let same = deeper.inside_same m vs (area_of c.lent.result) (area_of c.lent-2.result) (c.lent.ensures ∙ c.as_slice-process.ensures) (c.lent-2.ensures ∙ c.as_slice-monitor.ensures) in
-    let b = plain_stmts (placed_stmts c.as_slice-body.result.now) in
-    let body : b ≡ f.routine.body = ap (λ l. plain_stmts (placed_stmts l)) c.as_slice-body.ensures in
-    let st = c.in-Stops.field-0 in
-    deeper.call_stops g p c.args.depth f its (run.with_own m vs) m1 m2 b (action_of st.action) (calls_of st.inside.items) (map item_of st.rest.items) c.if-depth-eq0.false c.home_in-its.ensures body same (sym (ap (λ (y : RunResult). ran_of y m2) c.in-Stops.is) ∙ c.in_ok-run_all.ensures)
+    let b = plain_stmts (placed_stmts c.statements-body.result.now) in
+    let body : b ≡ f.routine.body = ap (λ l. plain_stmts (placed_stmts l)) c.statements-body.ensures in
+    let site = deeper.site_in g p its (c.args.depth - 1) in
+    let r = ran_of c.in_ok-ran.ran m2 in
+    let o = f.routine.answers in
+    let whole = deeper.call_ran g p c.args.depth f its (run.with_own m vs) m1 o b r c.if-depth-eq0.false c.home_in-its.ensures refl body same c.in_ok-ran.ensures in
+    let goes = answer_after site o (run.goes m2) in
+    sym (ap (λ (a : Option Answer). unwrap_or (option_map answer_of a) goes) c.in-Some.is) ∙ (sym (c.answered.ensures site o m2) ∙ whole)
 
 pub run_routine-returns-then-depth-eq0 : goal.run_routine-returns-then-depth-eq0
 run_routine-returns-then-depth-eq0 t c =
@@ -231,7 +211,7 @@ run_routine-returns t c =
     let m2 = memory_of c.run_all.new.memory in
     let same = ap (λ (own : Vec code_slot.Slot). deeper.inside (vars_of own.items) m.process m.monitor) c.replace-callers.ensures.after in
     let back = ap (λ (own : Vec code_slot.Slot). vars_of own.items) c.replace-callers.ensures.value in
-    let b = plain_stmts (placed_stmts c.as_slice-body.result.now) in
-    let body : b ≡ f.routine.body = ap (λ l. plain_stmts (placed_stmts l)) c.as_slice-body.ensures in
+    let b = plain_stmts (placed_stmts c.statements-body.result.now) in
+    let body : b ≡ f.routine.body = ap (λ l. plain_stmts (placed_stmts l)) c.statements-body.ensures in
     let told = deeper.part_ran g p c.args.depth f its m m1 (vars_of c.replace-callers.result.items) vs b (ran_of c.in_ok-ran.ran m2) c.if-depth-eq0.false c.home_in-its.ensures body same back c.in_ok-ran.ensures in
     ok_told c.given_back.result (λ r. ran_of r (memory_of c.given_back.new.memory)) _ _ told c.given_back.ensures
