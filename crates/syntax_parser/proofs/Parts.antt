@@ -51,20 +51,20 @@ routine_parts depth ts = simp in_turn
 pub process_parts : {P : Type 0} (depth : ℕ) (ts : List (Tok P))
     → reading.process_decl depth ts
     ≡ (expect w.PROCESS ts >>= λ c. name c.1 >>= λ n. expect w.COLON n.1 >>= λ c. reading.activation c.1 >>= λ a.
-    parts.process_code depth a.1 >>= λ b. parts.process_end depth b.1 >>= λ e.
+    parts.process_rest depth a.1 >>= λ r.
     Ok (
       record {
         name = n.0.0;
         place = n.0.1;
         activation = a.0;
-        vars = b.0.vars;
-        routines = b.0.routines;
-        body = stmts_of b.0.body;
-        handler = e.0.handler;
-        close = e.0.close;
-        close_place = e.0.close_place;
+        vars = r.0.0.vars;
+        routines = r.0.0.routines;
+        body = stmts_of r.0.0.body;
+        handler = r.0.1.handler;
+        close = r.0.1.close;
+        close_place = r.0.1.close_place;
       },
-      e.1,
+      r.1,
     ))
-unfolding reading.process_decl parts.process_code parts.process_end
+unfolding reading.process_decl parts.process_rest parts.process_code parts.process_end
 process_parts depth ts = simp in_turn

@@ -1,5 +1,5 @@
 -- Parts of the longer forms, each as reading gives it.
-use Rattle.std.specs.Prelude.{ℕ, List, ◌∷◌, map, Option, Ok, Box}
+use Rattle.std.specs.Prelude.{ℕ, List, map, Option, Ok, Box}
 use Rattle.std.specs.Global.{Global}
 use Rattle.syntax_tree.specs.declared.place.Place.{Place}
 use Rattle.syntax_tree.specs.Plain.{Name}
@@ -90,3 +90,21 @@ process_end depth ts =
 
 abbrev pub placed_process_end : code_process_end.ProcessEnd → ProcessEnd Place
 placed_process_end e = record { handler = optional placed_handler e.handler; close = e.close; close_place = e.close_place }
+
+-- of a process, all behind its activation
+unfoldable pub process_rest : {P : Type 0} → ℕ → Parse P (ProcessCode P × ProcessEnd P)
+process_rest depth ts = process_code depth ts >>= λ c. process_end depth c.1 >>= λ e. Ok ((c.0, e.0), e.1)
+
+abbrev pub placed_process_rest : code_process_code.ProcessCode × code_process_end.ProcessEnd → ProcessCode Place × ProcessEnd Place
+placed_process_rest r = (placed_process_code r.0, placed_process_end r.1)
+
+-- the two forms of an activation
+unfoldable pub periodic : {P : Type 0} → Parse P (tree.Activation P)
+periodic ts =
+    expect w.PERIODIC ts >>= λ c. expect w.FRAME c.1 >>= λ c. constant c.1 >>= λ frame. reading.deadline frame.1 >>= λ d.
+    reading.first d.1 >>= λ f. Ok (tree.periodic frame.0 d.0 f.0, f.1)
+
+unfoldable pub at_event : {P : Type 0} → Parse P (tree.Activation P)
+at_event ts =
+    expect w.AT_EVENT ts >>= λ c. name c.1 >>= λ n. expect w.FRAME n.1 >>= λ c. constant c.1 >>= λ frame. reading.deadline frame.1 >>= λ d.
+    Ok (tree.at_event n.0.0 n.0.1 frame.0 d.0, d.1)

@@ -6,7 +6,7 @@ ghost use Rattle.syntax.specs.Words.{COMMA};
 ghost use Rattle.syntax.specs.Grammar.{MOST_LEVELS};
 ghost use Rattle.syntax_reading.specs.ExprReading.{many, is_at, behind_comma, listed, constant as constant_at};
 ghost use Rattle.syntax_reading.specs.Reading as reading;
-ghost use Rattle.syntax_parser.specs.Parts.{process_code, placed_process_code, process_end, placed_process_end};
+ghost use Rattle.syntax_parser.specs.Parts.{process_code, placed_process_code, process_end, placed_process_end, process_rest, placed_process_rest, periodic, at_event};
 ghost use Rattle.syntax_parser.specs.Reads.{Reads, with_front};
 
 use crate::fault::{Refusal, tri};
@@ -59,22 +59,28 @@ impl Parser<'_> {
         Ok(None)
     }
 
-    #[tactic(auto, unfolding(syntax_reading::specs::Reading::activation))]
-    fn activation(&mut self, alloc: Global) -> Result<Trigger, Refusal>
-        ensures { Reads placed_activation (reading.activation self.old) result self.new }
+    /// An activation at each frame.
+    #[tactic(auto, unfolding(crate::specs::Parts::periodic))]
+    fn periodic(&mut self, alloc: Global) -> Result<Trigger, Refusal>
+        ensures { Reads placed_activation (periodic self.old) result self.new }
     {
-        if self.is_keyword(keyword::PERIODIC) {
-            tri!(self.expect_keyword(keyword::PERIODIC));
-            tri!(self.expect_keyword(keyword::FRAME));
-            let frame = tri!(self.constant(alloc));
-            let deadline = tri!(self.deadline(alloc));
-            let first = tri!(self.first(alloc));
-            return Ok(Trigger::Periodic {
-                frame,
-                deadline,
-                first,
-            });
-        }
+        tri!(self.expect_keyword(keyword::PERIODIC));
+        tri!(self.expect_keyword(keyword::FRAME));
+        let frame = tri!(self.constant(alloc));
+        let deadline = tri!(self.deadline(alloc));
+        let first = tri!(self.first(alloc));
+        Ok(Trigger::Periodic {
+            frame,
+            deadline,
+            first,
+        })
+    }
+
+    /// An activation at an event.
+    #[tactic(auto, unfolding(crate::specs::Parts::at_event))]
+    fn at_event(&mut self, alloc: Global) -> Result<Trigger, Refusal>
+        ensures { Reads placed_activation (at_event self.old) result self.new }
+    {
         tri!(self.expect_keyword(keyword::AT_EVENT));
         let (event, event_place) = tri!(self.name(alloc));
         tri!(self.expect_keyword(keyword::FRAME));
@@ -86,6 +92,16 @@ impl Parser<'_> {
             frame,
             deadline,
         })
+    }
+
+    #[tactic(auto, unfolding(syntax_reading::specs::Reading::activation, crate::specs::Parts::periodic, crate::specs::Parts::at_event))]
+    fn activation(&mut self, alloc: Global) -> Result<Trigger, Refusal>
+        ensures { Reads placed_activation (reading.activation self.old) result self.new }
+    {
+        if self.is_keyword(keyword::PERIODIC) {
+            return self.periodic(alloc);
+        }
+        self.at_event(alloc)
     }
 
     /// The numbers of a handler in their parentheses.
@@ -181,6 +197,15 @@ impl Parser<'_> {
         })
     }
 
+    #[tactic(auto, unfolding(crate::specs::Parts::process_rest))]
+    fn process_rest(&mut self, alloc: Global) -> Result<(ProcessCode, ProcessEnd), Refusal>
+        ensures { Reads placed_process_rest (process_rest MOST_LEVELS self.old) result self.new }
+    {
+        let code = tri!(self.process_code(alloc));
+        let end = tri!(self.process_end(alloc));
+        Ok((code, end))
+    }
+
     #[tactic(auto, using(crate::proofs::Parts::process_parts))]
     pub(crate) fn process(&mut self, alloc: Global) -> Result<Process, Refusal>
         ensures { Reads placed_process (reading.process_decl MOST_LEVELS self.old) result self.new }
@@ -189,8 +214,7 @@ impl Parser<'_> {
         let (name, place) = tri!(self.name(alloc));
         tri!(self.expect_sign(sign::COLON));
         let activation = tri!(self.activation(alloc));
-        let code = tri!(self.process_code(alloc));
-        let end = tri!(self.process_end(alloc));
+        let (code, end) = tri!(self.process_rest(alloc));
         Ok(Process {
             name,
             place,

@@ -104,7 +104,8 @@ impl Parser<'_> {
 
     #[tactic(auto, unfolding(crate::specs::Parts::routine_end))]
     fn routine_end(&mut self, alloc: Global, kind: RoutineKind) -> Result<RoutineEnd, Refusal>
-        ensures { Reads placed_routine_end (routine_end MOST_LEVELS (placed_routine_kind kind) self.old) result self.new }
+        ensures { Reads placed_routine_end
+            (routine_end MOST_LEVELS (placed_routine_kind kind) self.old) result self.new }
     {
         let vars = tri!(self.vars(alloc));
         let body = tri!(self.block(alloc));
