@@ -1,13 +1,11 @@
 -- Two ends of a list that have one length are one.
-use Rattle.std.proofs.Common.{◌≡◌, ℕ, List, [], ◌∷◌, ◌++◌, ◌+◌, length, Result, Ok, Err, inl, inr, refl, ap, sym, ◌∙◌, arith}
+use Rattle.std.proofs.Common.{◌≡◌, ℕ, List, [], ◌∷◌, ◌++◌, ◌+◌, length, Result, Err, inl, inr, ap, sym, ◌∙◌, arith}
 use Rattle.std.proofs.lemmas.Grind.{common_steps}
 use Rattle.syntax_tree.specs.declared.place.Place.{Place}
 use Rattle.syntax_tree.specs.Placed.{Prog}
 use Rattle.syntax.specs.declared.token.Token.{Token}
 use Rattle.syntax.specs.declared.token.Tokens.{Tokens}
-use Rattle.syntax.specs.Words.{toks_of}
 use Rattle.syntax_reading.specs.ExprReading.{Fault, nesting}
-use Rattle.syntax_reading.specs.Reading.{whole}
 use Rattle.syntax_parser.specs.Faults.{OpensAt, StopsAt, place}
 use Rattle.syntax_reading.proofs.Stops.{one-stop, no-end}
 use Rattle.syntax_parser.proofs.Refusals.{stopped}

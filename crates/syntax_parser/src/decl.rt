@@ -6,7 +6,7 @@ ghost use Rattle.syntax.specs.Grammar.{MOST_LEVELS};
 ghost use Rattle.syntax_reading.specs.Reading as reading;
 ghost use Rattle.syntax_parser.specs.Reads.{Reads};
 
-use crate::fault::Refusal;
+use crate::fault::{Refusal, tri};
 use crate::parser::Parser;
 use std::alloc::Global;
 use syntax::{keyword, sign};
@@ -17,10 +17,10 @@ impl Parser<'_> {
     fn const_decl(&mut self, alloc: Global) -> Result<Declaration, Refusal>
         ensures { Reads placed_decl (reading.const_decl self.old) result self.new }
     {
-        self.expect_keyword(keyword::CONST)?;
-        let (name, place) = self.name(alloc)?;
-        self.expect_sign(sign::ASSIGN)?;
-        let value = self.constant(alloc)?;
+        tri!(self.expect_keyword(keyword::CONST));
+        let (name, place) = tri!(self.name(alloc));
+        tri!(self.expect_sign(sign::ASSIGN));
+        let value = tri!(self.constant(alloc));
         Ok(Declaration::Const { name, place, value })
     }
 
@@ -30,10 +30,10 @@ impl Parser<'_> {
         ensures { Reads (λ b. b) (reading.way self.old) result self.new }
     {
         if self.is_keyword(keyword::OUT) {
-            self.expect_keyword(keyword::OUT)?;
+            tri!(self.expect_keyword(keyword::OUT));
             return Ok(true);
         }
-        self.expect_keyword(keyword::IN)?;
+        tri!(self.expect_keyword(keyword::IN));
         Ok(false)
     }
 
@@ -41,10 +41,10 @@ impl Parser<'_> {
     fn device_decl(&mut self, alloc: Global) -> Result<Declaration, Refusal>
         ensures { Reads placed_decl (reading.device_decl self.old) result self.new }
     {
-        self.expect_keyword(keyword::DEVICE)?;
-        let (name, place) = self.name(alloc)?;
-        self.expect_sign(sign::COLON)?;
-        let is_out = self.is_out_device()?;
+        tri!(self.expect_keyword(keyword::DEVICE));
+        let (name, place) = tri!(self.name(alloc));
+        tri!(self.expect_sign(sign::COLON));
+        let is_out = tri!(self.is_out_device());
         Ok(Declaration::Device {
             name,
             place,
@@ -56,8 +56,8 @@ impl Parser<'_> {
     fn event_decl(&mut self, alloc: Global) -> Result<Declaration, Refusal>
         ensures { Reads placed_decl (reading.event_decl self.old) result self.new }
     {
-        self.expect_keyword(keyword::EVENT)?;
-        let (name, place) = self.name(alloc)?;
+        tri!(self.expect_keyword(keyword::EVENT));
+        let (name, place) = tri!(self.name(alloc));
         Ok(Declaration::Event { name, place })
     }
 
@@ -75,14 +75,14 @@ impl Parser<'_> {
             return self.event_decl(alloc);
         }
         if self.is_keyword(keyword::MONITOR) {
-            let monitor = self.monitor(alloc)?;
+            let monitor = tri!(self.monitor(alloc));
             return Ok(Declaration::Monitor(monitor));
         }
         if self.is_keyword(keyword::PROCESS) {
-            let process = self.process(alloc)?;
+            let process = tri!(self.process(alloc));
             return Ok(Declaration::Process(process));
         }
-        let routine = self.routine(alloc)?;
+        let routine = tri!(self.routine(alloc));
         Ok(Declaration::Routine(routine))
     }
 
@@ -108,7 +108,7 @@ impl Parser<'_> {
             if !self.is_decl() {
                 return Ok(decls);
             }
-            let decl = self.decl(alloc)?;
+            let decl = tri!(self.decl(alloc));
             decls.push(decl)?;
         }
         Ok(decls)
@@ -118,10 +118,10 @@ impl Parser<'_> {
     pub(crate) fn prog(&mut self, alloc: Global) -> Result<Program, Refusal>
         ensures { Reads placed (reading.prog MOST_LEVELS self.old) result self.new }
     {
-        self.expect_keyword(keyword::PROGRAM)?;
-        let (name, place) = self.name(alloc)?;
-        let decls = self.decls(alloc)?;
-        let (close, close_place) = self.close(alloc)?;
+        tri!(self.expect_keyword(keyword::PROGRAM));
+        let (name, place) = tri!(self.name(alloc));
+        let decls = tri!(self.decls(alloc));
+        let (close, close_place) = tri!(self.close(alloc));
         Ok(Program {
             name,
             place,

@@ -7,7 +7,7 @@ ghost use Rattle.syntax.specs.ExprGrammar.{height as height_in};
 ghost use Rattle.syntax_reading.specs.ExprReading as reading;
 ghost use Rattle.syntax_parser.specs.Reads.{Reads, row_from, with_front, placed_op, placed_pair, op_of_kind};
 
-use crate::fault::Refusal;
+use crate::fault::{Refusal, tri};
 use crate::parser::Parser;
 use std::alloc::Global;
 use syntax::{TokenKind, keyword, sign};
@@ -97,7 +97,7 @@ impl Parser<'_> {
         ensures { Reads placed_constant (reading.signless place true self.old) result self.new }
     {
         if self.is_literal() {
-            let (value, value_place) = self.numeral()?;
+            let (value, value_place) = tri!(self.numeral());
             return Ok(Constant {
                 place,
                 minus: true,
@@ -105,7 +105,7 @@ impl Parser<'_> {
                 value_place,
             });
         }
-        let (name, value_place) = self.name(alloc)?;
+        let (name, value_place) = tri!(self.name(alloc));
         Ok(Constant {
             place,
             minus: true,
@@ -120,7 +120,7 @@ impl Parser<'_> {
         ensures { Reads placed_constant (reading.unsigned self.old) result self.new }
     {
         if self.is_literal() {
-            let (value, place) = self.numeral()?;
+            let (value, place) = tri!(self.numeral());
             return Ok(Constant {
                 place,
                 minus: false,
@@ -128,7 +128,7 @@ impl Parser<'_> {
                 value_place: place,
             });
         }
-        let (name, place) = self.name(alloc)?;
+        let (name, place) = tri!(self.name(alloc));
         Ok(Constant {
             place,
             minus: false,
@@ -142,10 +142,18 @@ impl Parser<'_> {
         ensures { Reads placed_constant (reading.constant self.old) result self.new }
     {
         if self.is_sign(sign::MINUS) {
-            let place = self.expect_sign(sign::MINUS)?;
+            let place = tri!(self.expect_sign(sign::MINUS));
             return self.signless(alloc, place);
         }
         self.unsigned(alloc)
+    }
+
+    /// A constant in a box.
+    pub(crate) fn boxed_constant(&mut self, alloc: Global) -> Result<Box<Constant>, Refusal>
+        ensures { Reads (λ b. placed_constant b.value) (reading.constant self.old) result self.new }
+    {
+        let constant = tri!(self.constant(alloc));
+        Ok(Box::new(alloc, constant)?)
     }
 
     /// An expression of at most this height, with `depth` levels of nesting left: a factor, and for
@@ -157,10 +165,10 @@ impl Parser<'_> {
         ensures { Reads placed_expr (reading.level (reading.factor depth) height self.old) result
             self.new }
     {
-        let mut expr = self.factor(alloc, depth)?;
+        let mut expr = tri!(self.factor(alloc, depth));
         for below in 0..height {
             if self.has_op(below + 1) {
-                expr = self.row(alloc, depth, below + 1, expr)?;
+                expr = tri!(self.row(alloc, depth, below + 1, expr));
             }
         }
         Ok(expr)
@@ -175,7 +183,7 @@ impl Parser<'_> {
             (reading.level (reading.factor depth) (height - 1)) (placed_expr first) self.old) result
             self.new }
     {
-        let rest = self.operands(alloc, depth, height)?;
+        let rest = tri!(self.operands(alloc, depth, height));
         if rest.is_empty() {
             return Ok(first);
         }
@@ -204,7 +212,7 @@ impl Parser<'_> {
             if !self.has_op(height) {
                 return Ok(rest);
             }
-            let operand = self.operand(alloc, depth, height)?;
+            let operand = tri!(self.operand(alloc, depth, height));
             rest.push(operand)?;
         }
         Ok(rest)
@@ -222,7 +230,7 @@ impl Parser<'_> {
         match self.op_at(height) {
             Some(op) => {
                 self.next();
-                let right = self.level(alloc, depth, height - 1)?;
+                let right = tri!(self.level(alloc, depth, height - 1));
                 Ok((op, right))
             }
             None => Err(Refusal::Syntax { left: self.left() }),
@@ -235,7 +243,7 @@ impl Parser<'_> {
         ensures { Reads placed_expr (reading.factor depth self.old) result self.new }
     {
         if self.is_name() {
-            let (name, place) = self.name(alloc)?;
+            let (name, place) = tri!(self.name(alloc));
             return self.named_factor(alloc, depth, name, place);
         }
         if self.is_sign(sign::LEFT_PAREN) {
@@ -256,14 +264,14 @@ impl Parser<'_> {
         ensures { Reads placed_expr (reading.simple_factor self.old) result self.new }
     {
         if self.is_literal() {
-            let (value, place) = self.numeral()?;
+            let (value, place) = tri!(self.numeral());
             return Ok(Expr::Literal { place, value });
         }
         if self.is_keyword(keyword::TRUE) {
-            let place = self.expect_keyword(keyword::TRUE)?;
+            let place = tri!(self.expect_keyword(keyword::TRUE));
             return Ok(Expr::True { place });
         }
-        let place = self.expect_keyword(keyword::FALSE)?;
+        let place = tri!(self.expect_keyword(keyword::FALSE));
         Ok(Expr::False { place })
     }
 
@@ -281,7 +289,7 @@ impl Parser<'_> {
             (name, place) self.old) result self.new }
     {
         if self.is_sign(sign::LEFT_BRACKET) {
-            let index = self.index(alloc, depth)?;
+            let index = tri!(self.index(alloc, depth));
             return Ok(Expr::Element {
                 place,
                 name,
@@ -289,7 +297,7 @@ impl Parser<'_> {
             });
         }
         if self.is_sign(sign::LEFT_PAREN) {
-            let args = self.args(alloc, depth)?;
+            let args = tri!(self.args(alloc, depth));
             return Ok(Expr::Call { place, name, args });
         }
         Ok(Expr::Variable { place, name })
@@ -301,10 +309,10 @@ impl Parser<'_> {
     pub(crate) fn index(&mut self, alloc: Global, depth: usize) -> Result<Expr, Refusal>
         ensures { Reads placed_expr (reading.index (reading.inner depth) self.old) result self.new }
     {
-        let inside = self.deeper(depth)?;
-        self.expect_sign(sign::LEFT_BRACKET)?;
-        let index = self.level(alloc, inside, 5)?;
-        self.expect_sign(sign::RIGHT_BRACKET)?;
+        let inside = tri!(self.deeper(depth));
+        tri!(self.expect_sign(sign::LEFT_BRACKET));
+        let index = tri!(self.level(alloc, inside, 5));
+        tri!(self.expect_sign(sign::RIGHT_BRACKET));
         Ok(index)
     }
 
@@ -315,10 +323,10 @@ impl Parser<'_> {
         ensures { Reads (map placed_expr) (reading.args (reading.inner depth) self.old) result
             self.new }
     {
-        let inside = self.deeper(depth)?;
-        self.expect_sign(sign::LEFT_PAREN)?;
-        let args = self.some_args(alloc, inside)?;
-        self.expect_sign(sign::RIGHT_PAREN)?;
+        let inside = tri!(self.deeper(depth));
+        tri!(self.expect_sign(sign::LEFT_PAREN));
+        let args = tri!(self.some_args(alloc, inside));
+        tri!(self.expect_sign(sign::RIGHT_PAREN));
         Ok(args)
     }
 
@@ -332,7 +340,7 @@ impl Parser<'_> {
         if self.is_sign(sign::RIGHT_PAREN) {
             return Ok(args);
         }
-        let first = self.level(alloc, depth, 5)?;
+        let first = tri!(self.level(alloc, depth, 5));
         args.push(first)?;
         self.more_args(alloc, depth, args)
     }
@@ -355,7 +363,7 @@ impl Parser<'_> {
             if !self.is_sign(sign::COMMA) {
                 return Ok(args);
             }
-            let more = self.more_arg(alloc, depth)?;
+            let more = tri!(self.more_arg(alloc, depth));
             args.push(more)?;
         }
         Ok(args)
@@ -368,7 +376,7 @@ impl Parser<'_> {
         ensures { Reads placed_expr (reading.behind_comma (reading.expr depth) self.old) result
             self.new }
     {
-        self.expect_sign(sign::COMMA)?;
+        tri!(self.expect_sign(sign::COMMA));
         self.level(alloc, depth, 5)
     }
 
@@ -378,9 +386,9 @@ impl Parser<'_> {
         ensures { Reads placed_expr (reading.minus_factor (reading.inner depth) self.old) result
             self.new }
     {
-        let inside = self.deeper(depth)?;
-        let place = self.expect_sign(sign::MINUS)?;
-        let operand = self.factor(alloc, inside)?;
+        let inside = tri!(self.deeper(depth));
+        let place = tri!(self.expect_sign(sign::MINUS));
+        let operand = tri!(self.factor(alloc, inside));
         Ok(Expr::Minus {
             place,
             operand: Box::new(alloc, operand)?,
@@ -393,9 +401,9 @@ impl Parser<'_> {
         ensures { Reads placed_expr (reading.negation_factor (reading.inner depth) self.old) result
             self.new }
     {
-        let inside = self.deeper(depth)?;
-        let place = self.expect_keyword(keyword::NOT)?;
-        let operand = self.factor(alloc, inside)?;
+        let inside = tri!(self.deeper(depth));
+        let place = tri!(self.expect_keyword(keyword::NOT));
+        let operand = tri!(self.factor(alloc, inside));
         Ok(Expr::Not {
             place,
             operand: Box::new(alloc, operand)?,
@@ -409,10 +417,10 @@ impl Parser<'_> {
         ensures { Reads placed_expr (reading.paren_factor (reading.inner depth) self.old) result
             self.new }
     {
-        let inside = self.deeper(depth)?;
-        let place = self.expect_sign(sign::LEFT_PAREN)?;
-        let inner = self.level(alloc, inside, 5)?;
-        self.expect_sign(sign::RIGHT_PAREN)?;
+        let inside = tri!(self.deeper(depth));
+        let place = tri!(self.expect_sign(sign::LEFT_PAREN));
+        let inner = tri!(self.level(alloc, inside, 5));
+        tri!(self.expect_sign(sign::RIGHT_PAREN));
         Ok(Expr::Paren {
             place,
             inner: Box::new(alloc, inner)?,

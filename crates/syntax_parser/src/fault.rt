@@ -26,6 +26,19 @@ pub enum Refusal {
     Nesting { left: usize },
 }
 
+/// What was read; a refusal returns from the function. It is `?` with no conversion of the refusal,
+/// which spares the proof of each function that reads the steps of one.
+macro_rules! tri {
+    ($read:expr) => {
+        match $read {
+            Ok(it) => it,
+            Err(refusal) => return Err(refusal),
+        }
+    };
+}
+
+pub(crate) use tri;
+
 impl From<AllocError> for Refusal {
     ghost use Rattle.std.specs.Prelude.{◌≡◌};
     ghost use Rattle.syntax_parser.specs.declared.fault.Refusal.TheVariants.{Memory};

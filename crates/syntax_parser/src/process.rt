@@ -6,13 +6,29 @@ ghost use Rattle.syntax.specs.Words.{COMMA};
 ghost use Rattle.syntax.specs.Grammar.{MOST_LEVELS};
 ghost use Rattle.syntax_reading.specs.ExprReading.{many, is_at, behind_comma, listed, constant as constant_at};
 ghost use Rattle.syntax_reading.specs.Reading as reading;
+ghost use Rattle.syntax_parser.specs.Parts.{process_code, placed_process_code, process_end, placed_process_end, process_rest, placed_process_rest, periodic, at_event};
 ghost use Rattle.syntax_parser.specs.Reads.{Reads, with_front};
 
-use crate::fault::Refusal;
+use crate::fault::{Refusal, tri};
 use crate::parser::Parser;
 use std::alloc::Global;
 use syntax::{keyword, sign};
-use syntax_tree::{Constant, Handler, List, Process, Trigger};
+use syntax_tree::{Constant, Handler, List, Name, Place, Process, Routine, Stmt, Trigger, Var};
+
+#[derive(Drop)]
+struct ProcessCode {
+    vars: List<Var>,
+    routines: List<Routine>,
+    body: List<Stmt>,
+}
+
+/// What stands behind the body of a process.
+#[derive(Drop)]
+struct ProcessEnd {
+    handler: Option<Handler>,
+    close: Name,
+    close_place: Place,
+}
 
 impl Parser<'_> {
     /// The first activation, where it is said.
@@ -21,10 +37,10 @@ impl Parser<'_> {
         ensures { Reads (optional placed_constant) (reading.first self.old) result self.new }
     {
         if self.is_keyword(keyword::FIRST) {
-            self.expect_keyword(keyword::FIRST)?;
-            self.expect_keyword(keyword::ACTIVATION)?;
-            self.expect_keyword(keyword::AT_TIME)?;
-            let first = self.constant(alloc)?;
+            tri!(self.expect_keyword(keyword::FIRST));
+            tri!(self.expect_keyword(keyword::ACTIVATION));
+            tri!(self.expect_keyword(keyword::AT_TIME));
+            let first = tri!(self.constant(alloc));
             return Ok(Some(first));
         }
         Ok(None)
@@ -36,34 +52,40 @@ impl Parser<'_> {
         ensures { Reads (optional placed_constant) (reading.deadline self.old) result self.new }
     {
         if self.is_deadline() {
-            self.expect_deadline()?;
-            let deadline = self.constant(alloc)?;
+            tri!(self.expect_deadline());
+            let deadline = tri!(self.constant(alloc));
             return Ok(Some(deadline));
         }
         Ok(None)
     }
 
-    #[tactic(auto, unfolding(syntax_reading::specs::Reading::activation))]
-    fn activation(&mut self, alloc: Global) -> Result<Trigger, Refusal>
-        ensures { Reads placed_activation (reading.activation self.old) result self.new }
+    /// An activation at each frame.
+    #[tactic(auto, unfolding(crate::specs::Parts::periodic))]
+    fn periodic(&mut self, alloc: Global) -> Result<Trigger, Refusal>
+        ensures { Reads placed_activation (periodic self.old) result self.new }
     {
-        if self.is_keyword(keyword::PERIODIC) {
-            self.expect_keyword(keyword::PERIODIC)?;
-            self.expect_keyword(keyword::FRAME)?;
-            let frame = self.constant(alloc)?;
-            let deadline = self.deadline(alloc)?;
-            let first = self.first(alloc)?;
-            return Ok(Trigger::Periodic {
-                frame,
-                deadline,
-                first,
-            });
-        }
-        self.expect_keyword(keyword::AT_EVENT)?;
-        let (event, event_place) = self.name(alloc)?;
-        self.expect_keyword(keyword::FRAME)?;
-        let frame = self.constant(alloc)?;
-        let deadline = self.deadline(alloc)?;
+        tri!(self.expect_keyword(keyword::PERIODIC));
+        tri!(self.expect_keyword(keyword::FRAME));
+        let frame = tri!(self.constant(alloc));
+        let deadline = tri!(self.deadline(alloc));
+        let first = tri!(self.first(alloc));
+        Ok(Trigger::Periodic {
+            frame,
+            deadline,
+            first,
+        })
+    }
+
+    /// An activation at an event.
+    #[tactic(auto, unfolding(crate::specs::Parts::at_event))]
+    fn at_event(&mut self, alloc: Global) -> Result<Trigger, Refusal>
+        ensures { Reads placed_activation (at_event self.old) result self.new }
+    {
+        tri!(self.expect_keyword(keyword::AT_EVENT));
+        let (event, event_place) = tri!(self.name(alloc));
+        tri!(self.expect_keyword(keyword::FRAME));
+        let frame = tri!(self.constant(alloc));
+        let deadline = tri!(self.deadline(alloc));
         Ok(Trigger::AtEvent {
             event,
             event_place,
@@ -72,14 +94,24 @@ impl Parser<'_> {
         })
     }
 
+    #[tactic(auto, unfolding(syntax_reading::specs::Reading::activation, crate::specs::Parts::periodic, crate::specs::Parts::at_event))]
+    fn activation(&mut self, alloc: Global) -> Result<Trigger, Refusal>
+        ensures { Reads placed_activation (reading.activation self.old) result self.new }
+    {
+        if self.is_keyword(keyword::PERIODIC) {
+            return self.periodic(alloc);
+        }
+        self.at_event(alloc)
+    }
+
     /// The numbers of a handler in their parentheses.
     #[tactic(auto, unfolding(syntax_reading::specs::Reading::numbers))]
     fn numbers(&mut self, alloc: Global) -> Result<List<Constant>, Refusal>
         ensures { Reads (map placed_constant) (reading.numbers self.old) result self.new }
     {
-        self.expect_sign(sign::LEFT_PAREN)?;
-        let numbers = self.listed_numbers(alloc)?;
-        self.expect_sign(sign::RIGHT_PAREN)?;
+        tri!(self.expect_sign(sign::LEFT_PAREN));
+        let numbers = tri!(self.listed_numbers(alloc));
+        tri!(self.expect_sign(sign::RIGHT_PAREN));
         Ok(numbers)
     }
 
@@ -88,7 +120,7 @@ impl Parser<'_> {
         ensures { Reads (map placed_constant) (listed constant_at self.old) result self.new }
     {
         let mut numbers = List::new(alloc);
-        let first = self.constant(alloc)?;
+        let first = tri!(self.constant(alloc));
         numbers.push(first)?;
         self.more_numbers(alloc, numbers)
     }
@@ -109,7 +141,7 @@ impl Parser<'_> {
             if !self.is_sign(sign::COMMA) {
                 return Ok(numbers);
             }
-            let more = self.next_constant(alloc)?;
+            let more = tri!(self.next_constant(alloc));
             numbers.push(more)?;
         }
         Ok(numbers)
@@ -119,7 +151,7 @@ impl Parser<'_> {
     fn next_constant(&mut self, alloc: Global) -> Result<Constant, Refusal>
         ensures { Reads placed_constant (behind_comma constant_at self.old) result self.new }
     {
-        self.expect_sign(sign::COMMA)?;
+        tri!(self.expect_sign(sign::COMMA));
         self.constant(alloc)
     }
 
@@ -130,37 +162,69 @@ impl Parser<'_> {
             (reading.handler MOST_LEVELS self.old) result self.new }
     {
         if self.is_keyword(keyword::HANDLER) {
-            self.expect_keyword(keyword::HANDLER)?;
-            let numbers = self.numbers(alloc)?;
-            let body = self.stmts(alloc, 64)?;
+            tri!(self.expect_keyword(keyword::HANDLER));
+            let numbers = tri!(self.numbers(alloc));
+            let body = tri!(self.stmts(alloc, 64));
             return Ok(Some(Handler { numbers, body }));
         }
         Ok(None)
     }
 
-    #[tactic(auto, unfolding(syntax_reading::specs::Reading::process_decl))]
+    #[tactic(auto, unfolding(crate::specs::Parts::process_code))]
+    fn process_code(&mut self, alloc: Global) -> Result<ProcessCode, Refusal>
+        ensures { Reads placed_process_code (process_code MOST_LEVELS self.old) result self.new }
+    {
+        let vars = tri!(self.vars(alloc));
+        let routines = tri!(self.routines(alloc));
+        let body = tri!(self.block(alloc));
+        Ok(ProcessCode {
+            vars,
+            routines,
+            body,
+        })
+    }
+
+    #[tactic(auto, unfolding(crate::specs::Parts::process_end))]
+    fn process_end(&mut self, alloc: Global) -> Result<ProcessEnd, Refusal>
+        ensures { Reads placed_process_end (process_end MOST_LEVELS self.old) result self.new }
+    {
+        let handler = tri!(self.handler(alloc));
+        let (close, close_place) = tri!(self.close(alloc));
+        Ok(ProcessEnd {
+            handler,
+            close,
+            close_place,
+        })
+    }
+
+    #[tactic(auto, unfolding(crate::specs::Parts::process_rest))]
+    fn process_rest(&mut self, alloc: Global) -> Result<(ProcessCode, ProcessEnd), Refusal>
+        ensures { Reads placed_process_rest (process_rest MOST_LEVELS self.old) result self.new }
+    {
+        let code = tri!(self.process_code(alloc));
+        let end = tri!(self.process_end(alloc));
+        Ok((code, end))
+    }
+
+    #[tactic(auto, using(crate::proofs::Parts::process_parts))]
     pub(crate) fn process(&mut self, alloc: Global) -> Result<Process, Refusal>
         ensures { Reads placed_process (reading.process_decl MOST_LEVELS self.old) result self.new }
     {
-        self.expect_keyword(keyword::PROCESS)?;
-        let (name, place) = self.name(alloc)?;
-        self.expect_sign(sign::COLON)?;
-        let activation = self.activation(alloc)?;
-        let vars = self.vars(alloc)?;
-        let routines = self.routines(alloc)?;
-        let body = self.block(alloc)?;
-        let handler = self.handler(alloc)?;
-        let (close, close_place) = self.close(alloc)?;
+        tri!(self.expect_keyword(keyword::PROCESS));
+        let (name, place) = tri!(self.name(alloc));
+        tri!(self.expect_sign(sign::COLON));
+        let activation = tri!(self.activation(alloc));
+        let (code, end) = tri!(self.process_rest(alloc));
         Ok(Process {
             name,
             place,
             activation,
-            vars,
-            routines,
-            body,
-            handler,
-            close,
-            close_place,
+            vars: code.vars,
+            routines: code.routines,
+            body: code.body,
+            handler: end.handler,
+            close: end.close,
+            close_place: end.close_place,
         })
     }
 }

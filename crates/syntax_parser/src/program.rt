@@ -10,7 +10,7 @@ ghost use Rattle.syntax_reading.specs.Reading as reading;
 ghost use Rattle.syntax_parser.specs.Reads.{Gives};
 ghost use Rattle.syntax_parser.specs.Faults.{place, IsPlaceIn, StandsIn, OpensAt, StopsAt};
 
-use crate::fault::{Refusal, SyntaxFault};
+use crate::fault::{Refusal, SyntaxFault, tri};
 use crate::parser::Parser;
 use std::alloc::Global;
 use syntax::{Token, Tokens};
@@ -22,7 +22,7 @@ fn read(alloc: Global, text: &[u8], toks: &[Token]) -> Result<Program, Refusal>
     ensures { Gives placed (reading.whole MOST_LEVELS (toks_of text.now toks.now)) result }
 {
     let mut parser = Parser { text, toks };
-    let prog = parser.prog(alloc)?;
+    let prog = tri!(parser.prog(alloc));
     if parser.left() == 0 {
         return Ok(prog);
     }

@@ -5,12 +5,25 @@ ghost use Rattle.syntax_tree.specs.Placed.{placed_expr, placed_scalar, placed_st
 ghost use Rattle.syntax.specs.Grammar.{MOST_LEVELS};
 ghost use Rattle.syntax_reading.specs.Reading as reading;
 ghost use Rattle.syntax_parser.specs.Reads.{Reads};
+ghost use Rattle.syntax_parser.specs.Parts.{signature, placed_signature, routine_end, placed_routine_end};
 
-use crate::fault::Refusal;
+use crate::fault::{Refusal, tri};
 use crate::parser::Parser;
 use std::alloc::Global;
 use syntax::{keyword, sign};
-use syntax_tree::{Expr, List, Member, Monitor, Name, Place, Routine, RoutineKind, Scalar, Stmt};
+use syntax_tree::{
+    Expr, List, Member, Monitor, Name, Param, Place, Routine, RoutineKind, Scalar, Stmt, Var,
+};
+
+/// What stands behind the signature of a routine.
+#[derive(Drop)]
+struct RoutineEnd {
+    vars: List<Var>,
+    body: List<Stmt>,
+    value: Option<Expr>,
+    close: Name,
+    close_place: Place,
+}
 
 impl Parser<'_> {
     /// Statements behind their `begin`.
@@ -18,7 +31,7 @@ impl Parser<'_> {
     pub(crate) fn block(&mut self, alloc: Global) -> Result<List<Stmt>, Refusal>
         ensures { Reads (map placed_stmt) (reading.block MOST_LEVELS self.old) result self.new }
     {
-        self.expect_keyword(keyword::BEGIN)?;
+        tri!(self.expect_keyword(keyword::BEGIN));
         self.stmts(alloc, 64)
     }
 
@@ -27,7 +40,7 @@ impl Parser<'_> {
     pub(crate) fn close(&mut self, alloc: Global) -> Result<(Name, Place), Refusal>
         ensures { Reads (λ n. n) (reading.close self.old) result self.new }
     {
-        self.expect_keyword(keyword::END)?;
+        tri!(self.expect_keyword(keyword::END));
         self.name(alloc)
     }
 
@@ -36,10 +49,10 @@ impl Parser<'_> {
         ensures { Reads placed_routine_kind (reading.routine_kind self.old) result self.new }
     {
         if self.is_keyword(keyword::PROCEDURE) {
-            self.expect_keyword(keyword::PROCEDURE)?;
+            tri!(self.expect_keyword(keyword::PROCEDURE));
             return Ok(RoutineKind::Procedure);
         }
-        self.expect_keyword(keyword::FUNCTION)?;
+        tri!(self.expect_keyword(keyword::FUNCTION));
         Ok(RoutineKind::Function)
     }
 
@@ -52,8 +65,8 @@ impl Parser<'_> {
         match kind {
             RoutineKind::Procedure => Ok(None),
             RoutineKind::Function => {
-                self.expect_keyword(keyword::RETURNS)?;
-                let scalar = self.scalar_type(alloc)?;
+                tri!(self.expect_keyword(keyword::RETURNS));
+                let scalar = tri!(self.scalar_type(alloc));
                 Ok(Some(scalar))
             }
         }
@@ -68,36 +81,64 @@ impl Parser<'_> {
         match kind {
             RoutineKind::Procedure => Ok(None),
             RoutineKind::Function => {
-                self.expect_keyword(keyword::RETURN)?;
-                let value = self.level(alloc, 64, 5)?;
+                tri!(self.expect_keyword(keyword::RETURN));
+                let value = tri!(self.level(alloc, 64, 5));
                 Ok(Some(value))
             }
         }
     }
 
-    #[tactic(auto, unfolding(syntax_reading::specs::Reading::routine_decl))]
+    /// The parameters and the type of the result.
+    #[tactic(auto, unfolding(crate::specs::Parts::signature))]
+    fn signature(
+        &mut self,
+        alloc: Global,
+        kind: RoutineKind,
+    ) -> Result<(List<Param>, Option<Scalar>), Refusal>
+        ensures { Reads placed_signature (signature (placed_routine_kind kind) self.old) result self.new }
+    {
+        let params = tri!(self.params(alloc));
+        let result = tri!(self.result(alloc, kind));
+        Ok((params, result))
+    }
+
+    #[tactic(auto, unfolding(crate::specs::Parts::routine_end))]
+    fn routine_end(&mut self, alloc: Global, kind: RoutineKind) -> Result<RoutineEnd, Refusal>
+        ensures { Reads placed_routine_end
+            (routine_end MOST_LEVELS (placed_routine_kind kind) self.old) result self.new }
+    {
+        let vars = tri!(self.vars(alloc));
+        let body = tri!(self.block(alloc));
+        let value = tri!(self.value(alloc, kind));
+        let (close, close_place) = tri!(self.close(alloc));
+        Ok(RoutineEnd {
+            vars,
+            body,
+            value,
+            close,
+            close_place,
+        })
+    }
+
+    #[tactic(auto, using(crate::proofs::Parts::routine_parts))]
     pub(crate) fn routine(&mut self, alloc: Global) -> Result<Routine, Refusal>
         ensures { Reads placed_routine (reading.routine_decl MOST_LEVELS self.old) result self.new }
     {
-        let kind = self.routine_kind()?;
-        let (name, place) = self.name(alloc)?;
-        let params = self.params(alloc)?;
-        let result = self.result(alloc, kind)?;
-        let vars = self.vars(alloc)?;
-        let body = self.block(alloc)?;
-        let value = self.value(alloc, kind)?;
-        let (close, close_place) = self.close(alloc)?;
+        let kind = tri!(self.routine_kind());
+        let (name, place) = tri!(self.name(alloc));
+        let (params, result) = tri!(self.signature(alloc, kind));
+        let end = tri!(self.routine_end(alloc, kind));
         Ok(Routine {
             kind,
             name,
             place,
             params,
             result,
-            vars,
-            body,
-            value,
-            close,
-            close_place,
+            vars: end.vars,
+            body: end.body,
+            value: end.value,
+            close: end.close,
+            close_place: end.close_place,
         })
     }
 
@@ -119,7 +160,7 @@ impl Parser<'_> {
             if !self.is_routine() {
                 return Ok(routines);
             }
-            let routine = self.routine(alloc)?;
+            let routine = tri!(self.routine(alloc));
             routines.push(routine)?;
         }
         Ok(routines)
@@ -136,11 +177,11 @@ impl Parser<'_> {
         ensures { Reads placed_member (reading.member self.old) result self.new }
     {
         if self.is_keyword(keyword::VAR) {
-            let var = self.var(alloc)?;
+            let var = tri!(self.var(alloc));
             return Ok(Member::Var(var));
         }
-        self.expect_keyword(keyword::CONDITION)?;
-        let (name, place) = self.name(alloc)?;
+        tri!(self.expect_keyword(keyword::CONDITION));
+        let (name, place) = tri!(self.name(alloc));
         Ok(Member::Condition { name, place })
     }
 
@@ -155,7 +196,7 @@ impl Parser<'_> {
             if !self.is_member() {
                 return Ok(members);
             }
-            let member = self.member(alloc)?;
+            let member = tri!(self.member(alloc));
             members.push(member)?;
         }
         Ok(members)
@@ -166,7 +207,7 @@ impl Parser<'_> {
     fn entry_decl(&mut self, alloc: Global) -> Result<Routine, Refusal>
         ensures { Reads placed_routine (reading.entry_decl MOST_LEVELS self.old) result self.new }
     {
-        self.expect_keyword(keyword::ENTRY)?;
+        tri!(self.expect_keyword(keyword::ENTRY));
         self.routine(alloc)
     }
 
@@ -182,7 +223,7 @@ impl Parser<'_> {
             if !self.is_keyword(keyword::ENTRY) {
                 return Ok(entries);
             }
-            let entry = self.entry_decl(alloc)?;
+            let entry = tri!(self.entry_decl(alloc));
             entries.push(entry)?;
         }
         Ok(entries)
@@ -192,11 +233,11 @@ impl Parser<'_> {
     pub(crate) fn monitor(&mut self, alloc: Global) -> Result<Monitor, Refusal>
         ensures { Reads placed_monitor (reading.monitor_decl MOST_LEVELS self.old) result self.new }
     {
-        self.expect_keyword(keyword::MONITOR)?;
-        let (name, place) = self.name(alloc)?;
-        let members = self.members(alloc)?;
-        let entries = self.entries(alloc)?;
-        let (close, close_place) = self.close(alloc)?;
+        tri!(self.expect_keyword(keyword::MONITOR));
+        let (name, place) = tri!(self.name(alloc));
+        let members = tri!(self.members(alloc));
+        let entries = tri!(self.entries(alloc));
+        let (close, close_place) = tri!(self.close(alloc));
         Ok(Monitor {
             name,
             place,

@@ -5,13 +5,14 @@ ghost use Rattle.syntax_tree.specs.Placed.{placed_expr, placed_ref, placed_stmt}
 ghost use Rattle.syntax.specs.Words.{keyword as keyword_word, IF, FOR};
 ghost use Rattle.syntax_reading.specs.StmtReading as reading;
 ghost use Rattle.syntax_reading.specs.ExprReading.{is_entry as is_entry_at};
+ghost use Rattle.syntax_parser.specs.Parts.{placed_bounds, wait_bounds, loop_bounds, loop_body};
 ghost use Rattle.syntax_parser.specs.Reads.{Reads, placed_entry};
 
-use crate::fault::Refusal;
+use crate::fault::{Refusal, tri};
 use crate::parser::Parser;
 use std::alloc::Global;
 use syntax::{TokenKind, keyword, sign};
-use syntax_tree::{Expr, List, Name, Place, Ref, Stmt};
+use syntax_tree::{Constant, Expr, List, Name, Place, Ref, Stmt};
 
 /// The keyword begins a statement.
 fn begins_stmt(at: u8) -> bool
@@ -73,7 +74,7 @@ impl Parser<'_> {
             self.new }
     {
         if self.is_sign(sign::LEFT_BRACKET) {
-            let index = self.index(alloc, depth)?;
+            let index = tri!(self.index(alloc, depth));
             return Ok(Ref {
                 place,
                 name,
@@ -91,7 +92,7 @@ impl Parser<'_> {
     fn reference(&mut self, alloc: Global, depth: usize) -> Result<Ref, Refusal>
         ensures { Reads placed_ref (reading.reference depth self.old) result self.new }
     {
-        let (name, place) = self.name(alloc)?;
+        let (name, place) = tri!(self.name(alloc));
         self.reference_from(alloc, depth, name, place)
     }
 
@@ -111,9 +112,9 @@ impl Parser<'_> {
     fn entry(&mut self, alloc: Global, depth: usize) -> Result<(Name, Place, List<Expr>), Refusal>
         ensures { Reads placed_entry (reading.entry depth self.old) result self.new }
     {
-        self.expect_sign(sign::DOT)?;
-        let (entry, place) = self.name(alloc)?;
-        let args = self.entry_args(alloc, depth)?;
+        tri!(self.expect_sign(sign::DOT));
+        let (entry, place) = tri!(self.name(alloc));
+        let args = tri!(self.entry_args(alloc, depth));
         Ok((entry, place, args))
     }
 
@@ -124,8 +125,8 @@ impl Parser<'_> {
             self.new }
     {
         if self.is_keyword(keyword::EMPTY) {
-            self.expect_keyword(keyword::EMPTY)?;
-            let (cond, cond_place) = self.name(alloc)?;
+            tri!(self.expect_keyword(keyword::EMPTY));
+            let (cond, cond_place) = tri!(self.name(alloc));
             return Ok(Stmt::AssignEmpty {
                 target,
                 cond,
@@ -133,8 +134,8 @@ impl Parser<'_> {
             });
         }
         if self.is_entry() {
-            let (mon, mon_place) = self.name(alloc)?;
-            let (entry, entry_place, args) = self.entry(alloc, depth)?;
+            let (mon, mon_place) = tri!(self.name(alloc));
+            let (entry, entry_place, args) = tri!(self.entry(alloc, depth));
             return Ok(Stmt::AssignEntry {
                 target,
                 mon,
@@ -144,7 +145,7 @@ impl Parser<'_> {
                 args,
             });
         }
-        let value = self.level(alloc, depth, 5)?;
+        let value = tri!(self.level(alloc, depth, 5));
         Ok(Stmt::Assign { target, value })
     }
 
@@ -161,11 +162,11 @@ impl Parser<'_> {
             self.new }
     {
         if self.is_sign(sign::LEFT_PAREN) {
-            let args = self.args(alloc, depth)?;
+            let args = tri!(self.args(alloc, depth));
             return Ok(Stmt::Call { place, name, args });
         }
         if self.is_sign(sign::DOT) {
-            let (entry, entry_place, args) = self.entry(alloc, depth)?;
+            let (entry, entry_place, args) = tri!(self.entry(alloc, depth));
             return Ok(Stmt::CallEntry {
                 place,
                 mon: name,
@@ -174,8 +175,8 @@ impl Parser<'_> {
                 args,
             });
         }
-        let target = self.reference_from(alloc, depth, name, place)?;
-        self.expect_sign(sign::ASSIGN)?;
+        let target = tri!(self.reference_from(alloc, depth, name, place));
+        tri!(self.expect_sign(sign::ASSIGN));
         self.assigned(alloc, depth, target)
     }
 
@@ -183,9 +184,9 @@ impl Parser<'_> {
     fn exit_stmt(&mut self, alloc: Global, depth: usize) -> Result<Stmt, Refusal>
         ensures { Reads placed_stmt (reading.exit_stmt depth self.old) result self.new }
     {
-        let place = self.expect_keyword(keyword::EXIT)?;
-        self.expect_keyword(keyword::WHEN)?;
-        let test = self.level(alloc, depth, 5)?;
+        let place = tri!(self.expect_keyword(keyword::EXIT));
+        tri!(self.expect_keyword(keyword::WHEN));
+        let test = tri!(self.level(alloc, depth, 5));
         Ok(Stmt::ExitWhen { place, test })
     }
 
@@ -193,9 +194,9 @@ impl Parser<'_> {
     fn get_stmt(&mut self, alloc: Global, depth: usize) -> Result<Stmt, Refusal>
         ensures { Reads placed_stmt (reading.get_stmt depth self.old) result self.new }
     {
-        let place = self.expect_keyword(keyword::GET)?;
-        let (device, device_place) = self.name(alloc)?;
-        let target = self.reference(alloc, depth)?;
+        let place = tri!(self.expect_keyword(keyword::GET));
+        let (device, device_place) = tri!(self.name(alloc));
+        let target = tri!(self.reference(alloc, depth));
         Ok(Stmt::Get {
             place,
             device,
@@ -208,9 +209,9 @@ impl Parser<'_> {
     fn put_stmt(&mut self, alloc: Global, depth: usize) -> Result<Stmt, Refusal>
         ensures { Reads placed_stmt (reading.put_stmt depth self.old) result self.new }
     {
-        let place = self.expect_keyword(keyword::PUT)?;
-        let (device, device_place) = self.name(alloc)?;
-        let value = self.level(alloc, depth, 5)?;
+        let place = tri!(self.expect_keyword(keyword::PUT));
+        let (device, device_place) = tri!(self.name(alloc));
+        let value = tri!(self.level(alloc, depth, 5));
         Ok(Stmt::Put {
             place,
             device,
@@ -223,27 +224,36 @@ impl Parser<'_> {
     fn assert_stmt(&mut self, alloc: Global, depth: usize) -> Result<Stmt, Refusal>
         ensures { Reads placed_stmt (reading.assert_stmt depth self.old) result self.new }
     {
-        let place = self.expect_keyword(keyword::ASSERT)?;
-        let test = self.level(alloc, depth, 5)?;
+        let place = tri!(self.expect_keyword(keyword::ASSERT));
+        let test = tri!(self.level(alloc, depth, 5));
         Ok(Stmt::Assert { place, test })
     }
 
-    #[tactic(auto, unfolding(syntax_reading::specs::StmtReading::wait_stmt))]
+    /// How long is waited, behind the condition, and the number of the exception.
+    #[tactic(auto, unfolding(crate::specs::Parts::wait_bounds))]
+    fn wait_bounds(&mut self, alloc: Global) -> Result<(Box<Constant>, Box<Constant>), Refusal>
+        ensures { Reads placed_bounds (wait_bounds self.old) result self.new }
+    {
+        tri!(self.expect_keyword(keyword::NO_LONGER_THAN));
+        let limit = tri!(self.boxed_constant(alloc));
+        tri!(self.expect_sign(sign::COLON));
+        let number = tri!(self.boxed_constant(alloc));
+        Ok((limit, number))
+    }
+
+    #[tactic(auto, using(crate::proofs::Parts::wait_parts))]
     fn wait_stmt(&mut self, alloc: Global) -> Result<Stmt, Refusal>
         ensures { Reads placed_stmt (reading.wait_stmt self.old) result self.new }
     {
-        let place = self.expect_keyword(keyword::WAIT)?;
-        let (cond, cond_place) = self.name(alloc)?;
-        self.expect_keyword(keyword::NO_LONGER_THAN)?;
-        let limit = self.constant(alloc)?;
-        self.expect_sign(sign::COLON)?;
-        let number = self.constant(alloc)?;
+        let place = tri!(self.expect_keyword(keyword::WAIT));
+        let (cond, cond_place) = tri!(self.name(alloc));
+        let (limit, number) = tri!(self.wait_bounds(alloc));
         Ok(Stmt::Wait {
             place,
             cond,
             cond_place,
-            limit: Box::new(alloc, limit)?,
-            number: Box::new(alloc, number)?,
+            limit,
+            number,
         })
     }
 
@@ -251,8 +261,8 @@ impl Parser<'_> {
     fn signal_stmt(&mut self, alloc: Global) -> Result<Stmt, Refusal>
         ensures { Reads placed_stmt (reading.signal_stmt self.old) result self.new }
     {
-        let place = self.expect_keyword(keyword::SIGNAL)?;
-        let (cond, cond_place) = self.name(alloc)?;
+        let place = tri!(self.expect_keyword(keyword::SIGNAL));
+        let (cond, cond_place) = tri!(self.name(alloc));
         Ok(Stmt::Signal {
             place,
             cond,
@@ -264,8 +274,8 @@ impl Parser<'_> {
     fn broadcast_stmt(&mut self, alloc: Global) -> Result<Stmt, Refusal>
         ensures { Reads placed_stmt (reading.broadcast_stmt self.old) result self.new }
     {
-        let place = self.expect_keyword(keyword::BROADCAST)?;
-        let (cond, cond_place) = self.name(alloc)?;
+        let place = tri!(self.expect_keyword(keyword::BROADCAST));
+        let (cond, cond_place) = tri!(self.name(alloc));
         Ok(Stmt::Broadcast {
             place,
             cond,
@@ -277,8 +287,8 @@ impl Parser<'_> {
     fn except_stmt(&mut self, alloc: Global) -> Result<Stmt, Refusal>
         ensures { Reads placed_stmt (reading.except_stmt self.old) result self.new }
     {
-        let place = self.expect_keyword(keyword::EXCEPT)?;
-        let number = self.constant(alloc)?;
+        let place = tri!(self.expect_keyword(keyword::EXCEPT));
+        let number = tri!(self.constant(alloc));
         Ok(Stmt::Except { place, number })
     }
 
@@ -324,7 +334,7 @@ impl Parser<'_> {
     fn closing(&mut self, at: u8) -> Result<Place, Refusal>
         ensures { Reads (λ p. p) (reading.closing (keyword_word at) self.old) result self.new }
     {
-        self.expect_keyword(keyword::END)?;
+        tri!(self.expect_keyword(keyword::END));
         self.expect_keyword(at)
     }
 
@@ -335,15 +345,15 @@ impl Parser<'_> {
         ensures { Reads placed_stmt (reading.stmt depth self.old) result self.new }
     {
         if self.is_name() {
-            let (name, place) = self.name(alloc)?;
+            let (name, place) = tri!(self.name(alloc));
             return self.named_stmt(alloc, depth, name, place);
         }
         if self.is_keyword(keyword::IF) {
-            let inside = self.deeper(depth)?;
+            let inside = tri!(self.deeper(depth));
             return self.choice(alloc, inside);
         }
         if self.is_keyword(keyword::FOR) {
-            let inside = self.deeper(depth)?;
+            let inside = tri!(self.deeper(depth));
             return self.for_stmt(alloc, inside);
         }
         self.simple_stmt(alloc, depth)
@@ -361,7 +371,7 @@ impl Parser<'_> {
             if !self.is_stmt() {
                 return Ok(stmts);
             }
-            let stmt = self.stmt(alloc, depth)?;
+            let stmt = tri!(self.stmt(alloc, depth));
             stmts.push(stmt)?;
         }
         Ok(stmts)
@@ -374,10 +384,10 @@ impl Parser<'_> {
         ensures { Reads placed_stmt (reading.choice depth (reading.stmt depth) self.old) result
             self.new }
     {
-        let place = self.expect_keyword(keyword::IF)?;
-        let test = self.level(alloc, depth, 5)?;
-        self.expect_keyword(keyword::THEN)?;
-        let first = self.stmts(alloc, depth)?;
+        let place = tri!(self.expect_keyword(keyword::IF));
+        let test = tri!(self.level(alloc, depth, 5));
+        tri!(self.expect_keyword(keyword::THEN));
+        let first = tri!(self.stmts(alloc, depth));
         self.choice_from(alloc, depth, place, test, first)
     }
 
@@ -396,9 +406,9 @@ impl Parser<'_> {
             (map placed_stmt first) self.old) result self.new }
     {
         if self.is_keyword(keyword::ELSE) {
-            self.expect_keyword(keyword::ELSE)?;
-            let second = self.stmts(alloc, depth)?;
-            self.closing(keyword::IF)?;
+            tri!(self.expect_keyword(keyword::ELSE));
+            let second = tri!(self.stmts(alloc, depth));
+            tri!(self.closing(keyword::IF));
             return Ok(Stmt::If {
                 place,
                 test,
@@ -406,7 +416,7 @@ impl Parser<'_> {
                 second: Some(second),
             });
         }
-        self.closing(keyword::IF)?;
+        tri!(self.closing(keyword::IF));
         Ok(Stmt::If {
             place,
             test,
@@ -415,28 +425,47 @@ impl Parser<'_> {
         })
     }
 
+    /// The bounds of a loop, behind its name.
+    #[tactic(auto, unfolding(crate::specs::Parts::loop_bounds))]
+    fn loop_bounds(&mut self, alloc: Global) -> Result<(Box<Constant>, Box<Constant>), Refusal>
+        ensures { Reads placed_bounds (loop_bounds self.old) result self.new }
+    {
+        tri!(self.expect_sign(sign::COLON));
+        let low = tri!(self.boxed_constant(alloc));
+        tri!(self.expect_sign(sign::RANGE));
+        let high = tri!(self.boxed_constant(alloc));
+        Ok((low, high))
+    }
+
+    /// The statements of a loop, up to its end.
+    #[cycle(stmt)]
+    #[tactic(auto, unfolding(crate::specs::Parts::loop_body, syntax_reading::specs::StmtReading::stmts))]
+    fn loop_body(&mut self, alloc: Global, depth: usize) -> Result<List<Stmt>, Refusal>
+        ensures { Reads (map placed_stmt) (loop_body (reading.stmt depth) self.old) result self.new }
+    {
+        tri!(self.expect_keyword(keyword::DO));
+        let body = tri!(self.stmts(alloc, depth));
+        tri!(self.closing(keyword::FOR));
+        Ok(body)
+    }
+
     /// A loop, with `depth` levels of nesting left inside it.
     #[cycle(stmt)]
-    #[tactic(auto, unfolding(syntax_reading::specs::StmtReading::loop_stmt, syntax_reading::specs::StmtReading::stmts))]
+    #[tactic(auto, using(crate::proofs::Parts::loop_parts))]
     fn for_stmt(&mut self, alloc: Global, depth: usize) -> Result<Stmt, Refusal>
         ensures { Reads placed_stmt (reading.loop_stmt (reading.stmt depth) self.old) result
             self.new }
     {
-        let place = self.expect_keyword(keyword::FOR)?;
-        let (name, name_place) = self.name(alloc)?;
-        self.expect_sign(sign::COLON)?;
-        let low = self.constant(alloc)?;
-        self.expect_sign(sign::RANGE)?;
-        let high = self.constant(alloc)?;
-        self.expect_keyword(keyword::DO)?;
-        let body = self.stmts(alloc, depth)?;
-        self.closing(keyword::FOR)?;
+        let place = tri!(self.expect_keyword(keyword::FOR));
+        let (name, name_place) = tri!(self.name(alloc));
+        let (low, high) = tri!(self.loop_bounds(alloc));
+        let body = tri!(self.loop_body(alloc, depth));
         Ok(Stmt::For {
             place,
             name,
             name_place,
-            low: Box::new(alloc, low)?,
-            high: Box::new(alloc, high)?,
+            low,
+            high,
             body,
         })
     }

@@ -7,7 +7,7 @@ ghost use Rattle.syntax_reading.specs.ExprReading.{many, is_at, behind_comma, so
 ghost use Rattle.syntax_reading.specs.Reading as reading;
 ghost use Rattle.syntax_parser.specs.Reads.{Reads, with_front, placed_range};
 
-use crate::fault::Refusal;
+use crate::fault::{Refusal, tri};
 use crate::parser::Parser;
 use std::alloc::Global;
 use syntax::{keyword, sign};
@@ -19,9 +19,9 @@ impl Parser<'_> {
     fn range(&mut self, alloc: Global) -> Result<(Constant, Constant), Refusal>
         ensures { Reads placed_range (reading.range self.old) result self.new }
     {
-        let low = self.constant(alloc)?;
-        self.expect_sign(sign::RANGE)?;
-        let high = self.constant(alloc)?;
+        let low = tri!(self.constant(alloc));
+        tri!(self.expect_sign(sign::RANGE));
+        let high = tri!(self.constant(alloc));
         Ok((low, high))
     }
 
@@ -31,14 +31,14 @@ impl Parser<'_> {
         ensures { Reads placed_scalar (reading.scalar_type self.old) result self.new }
     {
         if self.is_keyword(keyword::INT) {
-            self.expect_keyword(keyword::INT)?;
+            tri!(self.expect_keyword(keyword::INT));
             return Ok(Scalar::Int);
         }
         if self.is_keyword(keyword::BOOLEAN) {
-            self.expect_keyword(keyword::BOOLEAN)?;
+            tri!(self.expect_keyword(keyword::BOOLEAN));
             return Ok(Scalar::Boolean);
         }
-        let (low, high) = self.range(alloc)?;
+        let (low, high) = tri!(self.range(alloc));
         Ok(Scalar::Subrange { low, high })
     }
 
@@ -48,13 +48,13 @@ impl Parser<'_> {
         ensures { Reads placed_kind (reading.kind self.old) result self.new }
     {
         if self.is_keyword(keyword::ARRAY) {
-            self.expect_keyword(keyword::ARRAY)?;
-            let (low, high) = self.range(alloc)?;
-            self.expect_keyword(keyword::OF)?;
-            let element = self.scalar_type(alloc)?;
+            tri!(self.expect_keyword(keyword::ARRAY));
+            let (low, high) = tri!(self.range(alloc));
+            tri!(self.expect_keyword(keyword::OF));
+            let element = tri!(self.scalar_type(alloc));
             return Ok(Type::Array { low, high, element });
         }
-        let scalar = self.scalar_type(alloc)?;
+        let scalar = tri!(self.scalar_type(alloc));
         Ok(Type::Scalar(scalar))
     }
 
@@ -62,10 +62,10 @@ impl Parser<'_> {
     pub(crate) fn var(&mut self, alloc: Global) -> Result<Var, Refusal>
         ensures { Reads placed_var (reading.var self.old) result self.new }
     {
-        self.expect_keyword(keyword::VAR)?;
-        let (name, place) = self.name(alloc)?;
-        self.expect_sign(sign::COLON)?;
-        let kind = self.variable_type(alloc)?;
+        tri!(self.expect_keyword(keyword::VAR));
+        let (name, place) = tri!(self.name(alloc));
+        tri!(self.expect_sign(sign::COLON));
+        let kind = tri!(self.variable_type(alloc));
         Ok(Var { name, place, kind })
     }
 
@@ -80,7 +80,7 @@ impl Parser<'_> {
             if !self.is_keyword(keyword::VAR) {
                 return Ok(vars);
             }
-            let var = self.var(alloc)?;
+            let var = tri!(self.var(alloc));
             vars.push(var)?;
         }
         Ok(vars)
@@ -90,9 +90,9 @@ impl Parser<'_> {
     fn param(&mut self, alloc: Global) -> Result<Param, Refusal>
         ensures { Reads placed_param (reading.param self.old) result self.new }
     {
-        let (name, place) = self.name(alloc)?;
-        self.expect_sign(sign::COLON)?;
-        let kind = self.scalar_type(alloc)?;
+        let (name, place) = tri!(self.name(alloc));
+        tri!(self.expect_sign(sign::COLON));
+        let kind = tri!(self.scalar_type(alloc));
         Ok(Param { name, place, kind })
     }
 
@@ -101,9 +101,9 @@ impl Parser<'_> {
     pub(crate) fn params(&mut self, alloc: Global) -> Result<List<Param>, Refusal>
         ensures { Reads (map placed_param) (reading.params self.old) result self.new }
     {
-        self.expect_sign(sign::LEFT_PAREN)?;
-        let params = self.some_params(alloc)?;
-        self.expect_sign(sign::RIGHT_PAREN)?;
+        tri!(self.expect_sign(sign::LEFT_PAREN));
+        let params = tri!(self.some_params(alloc));
+        tri!(self.expect_sign(sign::RIGHT_PAREN));
         Ok(params)
     }
 
@@ -115,7 +115,7 @@ impl Parser<'_> {
         if self.is_sign(sign::RIGHT_PAREN) {
             return Ok(params);
         }
-        let first = self.param(alloc)?;
+        let first = tri!(self.param(alloc));
         params.push(first)?;
         self.more_params(alloc, params)
     }
@@ -135,7 +135,7 @@ impl Parser<'_> {
             if !self.is_sign(sign::COMMA) {
                 return Ok(params);
             }
-            let more = self.next_param(alloc)?;
+            let more = tri!(self.next_param(alloc));
             params.push(more)?;
         }
         Ok(params)
@@ -145,7 +145,7 @@ impl Parser<'_> {
     fn next_param(&mut self, alloc: Global) -> Result<Param, Refusal>
         ensures { Reads placed_param (behind_comma reading.param self.old) result self.new }
     {
-        self.expect_sign(sign::COMMA)?;
+        tri!(self.expect_sign(sign::COMMA));
         self.param(alloc)
     }
 }

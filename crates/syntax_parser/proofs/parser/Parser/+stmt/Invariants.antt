@@ -17,6 +17,9 @@ decreases-choice_from l = 8 * l.depth + 2
 abbrev pub decreases-choice : goal.decreases-choice
 decreases-choice l = 8 * l.depth + 3
 
+abbrev pub decreases-loop_body : goal.decreases-loop_body
+decreases-loop_body l = 8 * l.depth + 2
+
 abbrev pub decreases-for_stmt : goal.decreases-for_stmt
 decreases-for_stmt l = 8 * l.depth + 3
 

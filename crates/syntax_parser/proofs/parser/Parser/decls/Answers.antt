@@ -13,13 +13,13 @@ returns-then-not-is_decl c =
 pub returns : goal.returns
 returns c = sym c.loop-turn.invariant ∙ loop-last placed_decl begins_decl (decl MOST_LEVELS) _ _ c.loop-turn.decls c.loop-turn.self c.loop-turn-test.false
 
-pub returns-in_err-decl : goal.returns-in_err-decl
-returns-in_err-decl c =
+pub returns-in-Err : goal.returns-in-Err
+returns-in-Err c =
     let e = each-turn begins_decl (decl MOST_LEVELS) c.left-turns.result c.loop-turn._turn c.loop-turn.self (sym c.is_decl.ensures ∙ c.if-not-is_decl.false) c.loop-turn-test.true in
     grind (arith, common_steps)
 
 pub loop-turn-preserved : goal.loop-turn-preserved
 loop-turn-preserved c =
     let go = sym c.is_decl.ensures ∙ c.if-not-is_decl.false in
-    let e = loop-turn placed_decl begins_decl (decl MOST_LEVELS) c.left-turns.result c.loop-turn._turn c.loop-turn.decls c.loop-turn.self c.decl.new.self c.in_ok-decl.decl go c.loop-turn-test.true c.in_ok-decl.ensures in
+    let e = loop-turn placed_decl begins_decl (decl MOST_LEVELS) c.left-turns.result c.loop-turn._turn c.loop-turn.decls c.loop-turn.self c.decl.new.self c.in-Ok.it go c.loop-turn-test.true c.in-Ok.ensures in
     grind (arith, common_steps)

@@ -15,13 +15,13 @@ returns-then-not-is_keyword c =
 pub returns : goal.returns
 returns c = sym c.loop-turn.invariant ∙ loop-last placed_routine (is_at ENTRY) (entry_decl MOST_LEVELS) _ _ c.loop-turn.entries c.loop-turn.self c.loop-turn-test.false
 
-pub returns-in_err-entry : goal.returns-in_err-entry
-returns-in_err-entry c =
+pub returns-in-Err : goal.returns-in-Err
+returns-in-Err c =
     let e = each-turn (is_at ENTRY) (entry_decl MOST_LEVELS) c.left-turns.result c.loop-turn._turn c.loop-turn.self (sym c.is_keyword.ensures ∙ c.if-not-is_keyword.false) c.loop-turn-test.true in
     grind (arith, common_steps)
 
 pub loop-turn-preserved : goal.loop-turn-preserved
 loop-turn-preserved c =
     let go = sym c.is_keyword.ensures ∙ c.if-not-is_keyword.false in
-    let e = loop-turn placed_routine (is_at ENTRY) (entry_decl MOST_LEVELS) c.left-turns.result c.loop-turn._turn c.loop-turn.entries c.loop-turn.self c.entry_decl.new.self c.in_ok-entry.entry go c.loop-turn-test.true c.in_ok-entry.ensures in
+    let e = loop-turn placed_routine (is_at ENTRY) (entry_decl MOST_LEVELS) c.left-turns.result c.loop-turn._turn c.loop-turn.entries c.loop-turn.self c.entry_decl.new.self c.in-Ok.it go c.loop-turn-test.true c.in-Ok.ensures in
     grind (arith, common_steps)

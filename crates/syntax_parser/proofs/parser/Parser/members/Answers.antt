@@ -12,13 +12,13 @@ returns-then-not-is_member c =
 pub returns : goal.returns
 returns c = sym c.loop-turn.invariant ∙ loop-last placed_member begins_member member _ _ c.loop-turn.members c.loop-turn.self c.loop-turn-test.false
 
-pub returns-in_err-member : goal.returns-in_err-member
-returns-in_err-member c =
+pub returns-in-Err : goal.returns-in-Err
+returns-in-Err c =
     let e = each-turn begins_member member c.left-turns.result c.loop-turn._turn c.loop-turn.self (sym c.is_member.ensures ∙ c.if-not-is_member.false) c.loop-turn-test.true in
     grind (arith, common_steps)
 
 pub loop-turn-preserved : goal.loop-turn-preserved
 loop-turn-preserved c =
     let go = sym c.is_member.ensures ∙ c.if-not-is_member.false in
-    let e = loop-turn placed_member begins_member member c.left-turns.result c.loop-turn._turn c.loop-turn.members c.loop-turn.self c.member.new.self c.in_ok-member.member go c.loop-turn-test.true c.in_ok-member.ensures in
+    let e = loop-turn placed_member begins_member member c.left-turns.result c.loop-turn._turn c.loop-turn.members c.loop-turn.self c.member.new.self c.in-Ok.it go c.loop-turn-test.true c.in-Ok.ensures in
     grind (arith, common_steps)

@@ -13,13 +13,13 @@ returns-then-not-is_sign c =
 pub returns : goal.returns
 returns c = sym c.loop-turn.invariant ∙ loop-last placed_constant (is_at COMMA) (behind_comma constant) _ _ c.loop-turn.numbers c.loop-turn.self c.loop-turn-test.false
 
-pub returns-in_err-more : goal.returns-in_err-more
-returns-in_err-more c =
+pub returns-in-Err : goal.returns-in-Err
+returns-in-Err c =
     let e = each-turn (is_at COMMA) (behind_comma constant) c.left-turns.result c.loop-turn._turn c.loop-turn.self (sym c.is_sign.ensures ∙ c.if-not-is_sign.false) c.loop-turn-test.true in
     grind (arith, common_steps)
 
 pub loop-turn-preserved : goal.loop-turn-preserved
 loop-turn-preserved c =
     let go = sym c.is_sign.ensures ∙ c.if-not-is_sign.false in
-    let e = loop-turn placed_constant (is_at COMMA) (behind_comma constant) c.left-turns.result c.loop-turn._turn c.loop-turn.numbers c.loop-turn.self c.next_constant.new.self c.in_ok-more.more go c.loop-turn-test.true c.in_ok-more.ensures in
+    let e = loop-turn placed_constant (is_at COMMA) (behind_comma constant) c.left-turns.result c.loop-turn._turn c.loop-turn.numbers c.loop-turn.self c.next_constant.new.self c.in-Ok.it go c.loop-turn-test.true c.in-Ok.ensures in
     grind (arith, common_steps)

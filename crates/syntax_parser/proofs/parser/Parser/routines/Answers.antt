@@ -13,13 +13,13 @@ returns-then-not-is_routine c =
 pub returns : goal.returns
 returns c = sym c.loop-turn.invariant ∙ loop-last placed_routine begins_routine (routine_decl MOST_LEVELS) _ _ c.loop-turn.routines c.loop-turn.self c.loop-turn-test.false
 
-pub returns-in_err-routine : goal.returns-in_err-routine
-returns-in_err-routine c =
+pub returns-in-Err : goal.returns-in-Err
+returns-in-Err c =
     let e = each-turn begins_routine (routine_decl MOST_LEVELS) c.left-turns.result c.loop-turn._turn c.loop-turn.self (sym c.is_routine.ensures ∙ c.if-not-is_routine.false) c.loop-turn-test.true in
     grind (arith, common_steps)
 
 pub loop-turn-preserved : goal.loop-turn-preserved
 loop-turn-preserved c =
     let go = sym c.is_routine.ensures ∙ c.if-not-is_routine.false in
-    let e = loop-turn placed_routine begins_routine (routine_decl MOST_LEVELS) c.left-turns.result c.loop-turn._turn c.loop-turn.routines c.loop-turn.self c.routine.new.self c.in_ok-routine.routine go c.loop-turn-test.true c.in_ok-routine.ensures in
+    let e = loop-turn placed_routine begins_routine (routine_decl MOST_LEVELS) c.left-turns.result c.loop-turn._turn c.loop-turn.routines c.loop-turn.self c.routine.new.self c.in-Ok.it go c.loop-turn-test.true c.in-Ok.ensures in
     grind (arith, common_steps)

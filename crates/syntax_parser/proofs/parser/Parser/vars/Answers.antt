@@ -14,13 +14,13 @@ returns-then-not-is_keyword c =
 pub returns : goal.returns
 returns c = sym c.loop-turn.invariant ∙ loop-last placed_var (is_at VAR) var _ _ c.loop-turn.vars c.loop-turn.self c.loop-turn-test.false
 
-pub returns-in_err-var : goal.returns-in_err-var
-returns-in_err-var c =
+pub returns-in-Err : goal.returns-in-Err
+returns-in-Err c =
     let e = each-turn (is_at VAR) var c.left-turns.result c.loop-turn._turn c.loop-turn.self (sym c.is_keyword.ensures ∙ c.if-not-is_keyword.false) c.loop-turn-test.true in
     grind (arith, common_steps)
 
 pub loop-turn-preserved : goal.loop-turn-preserved
 loop-turn-preserved c =
     let go = sym c.is_keyword.ensures ∙ c.if-not-is_keyword.false in
-    let e = loop-turn placed_var (is_at VAR) var c.left-turns.result c.loop-turn._turn c.loop-turn.vars c.loop-turn.self c.var.new.self c.in_ok-var.var go c.loop-turn-test.true c.in_ok-var.ensures in
+    let e = loop-turn placed_var (is_at VAR) var c.left-turns.result c.loop-turn._turn c.loop-turn.vars c.loop-turn.self c.var.new.self c.in-Ok.it go c.loop-turn-test.true c.in-Ok.ensures in
     grind (arith, common_steps)
