@@ -52,10 +52,9 @@ pub record Made (tells : Bool) (load : Load) (before now : Outside) (status : �
   -- 7: a write or the put failed, and what comes before was done
   pub unwritten : status ≡ 7 → ProgramFailed load before now ⊎ (ScriptFailed load before now ⊎ PutFailed before now)
   pub cut : OnTrue tells (status ≡ 7 → (line : List ℕ) × IsSummary load.key load.count line × IsCutBy load line before now)
-  -- 8, the want of memory: nothing was put, and no file has changed; or memory was wanting for the
-  -- write of the script, and the program is stored
+  -- 8: nothing was put; no file has changed, or that of the program alone, which is stored
   pub nothing : status ≡ 8 → now.out.taken ≡ before.out.taken
   pub kept : OnTrue tells (status ≡ 8 → AllStay before.files.held now.files.held ⊎ HasProgram load before.files.held now.files.held)
-  -- a failed put always gives 7
+  -- with a status but 7 the sink's count of faults is what it was
   pub quiet : status ≢ 7 → now.out.faults ≡ before.out.faults
   pub others : KeepsOthers load before.files.held now.files.held

@@ -57,13 +57,14 @@ use vm_law::suitable_scripts::scripts_suit;
 ///
 /// The answer is the first status that is due in the order of the steps: the words, reading P, I or
 /// A, its faults, its time, reading S, its faults, reading L, its faults and the verdict, storing,
-/// putting. `make` reads nothing, and its texts have no fault.
+/// putting. `make` reads nothing, and its texts have no fault. The want of memory, 8, may come at
+/// any step.
 pub fn rte<F: Files, O: Sink>(alloc: Global, words: &[String], files: &mut F, out: &mut O) -> Status
     // A call of a command went as is due, by what its files hold.
     ensures went { (call : Call) → IsCommand words.now call → Went F.tells call
         (outside (F.state files.old) (O.state out.old))
         (outside (F.state files.new) (O.state out.new)) (number_of result) }
-    // Without a failure, what is due is done whole, or memory was wanting.
+    // Where no failure is counted, what is due is done whole, or the status is 8.
     ensures complete { (call : Call) → IsCommand words.now call → OnTrue F.tells (Completes call
         (outside (F.state files.old) (O.state out.old))
         (outside (F.state files.new) (O.state out.new)) (number_of result)) }
@@ -76,8 +77,8 @@ pub fn rte<F: Files, O: Sink>(alloc: Global, words: &[String], files: &mut F, ou
         ((load : Load) → ¬ IsMake words.now load) → IsUsage
         (outside (F.state files.old) (O.state out.old))
         (outside (F.state files.new) (O.state out.new)) (number_of result) }
-    // With every status but 0 and 7 no file has changed, but where `make` lacks memory between its
-    // two writes; and with these none but those that are written.
+    // Of every call but `make`: with a status but 0 and 7 no file has changed. Of every call: no
+    // file changes but those that are written.
     ensures kept { ((load : Load) → ¬ IsMake words.now load) → 0 < number_of result →
         number_of result ≢ 7 → AllStay (F.state files.old).held (F.state files.new).held }
     ensures others { (name : List ℕ) → IsNoTarget words.now name →
@@ -87,22 +88,25 @@ pub fn rte<F: Files, O: Sink>(alloc: Global, words: &[String], files: &mut F, ou
         OnTrue F.tells ((outcome : Outcome) →
         IsDue call (F.state files.old).held outcome → outcome.image ≡ None →
         AllStay (F.state files.old).held (F.state files.new).held) }
-    // So once a file has changed, the status is 0 or 7.
+    // So once a file has changed, the status is 0 or 7, but of `make`.
     ensures stored { ((load : Load) → ¬ IsMake words.now load) → (name : List ℕ) →
         (F.state files.new).held name ≢ (F.state files.old).held name →
         (number_of result ≡ 0) ⊎ (number_of result ≡ 7) }
-    // A failed put always gives 7.
+    // With a status but 7 the sink's count of faults is what it was.
     ensures quiet { number_of result ≢ 7 → (O.state out.new).faults ≡ (O.state out.old).faults }
     // Status 0: of `go`, the text is that of a timely program and the script one, what is stored is
     // the image of the program, what was put is its report and the log of that image over the
-    // script; and over every script for its names, that log is that of a run of the program, in
-    // time, within its sizes, never stuck. Of the other commands likewise.
+    // script; and over every script for its names, the events of that image are a run of the
+    // program, never stuck, within its sizes, and each activation whose bound is not past the
+    // script's end in time. Of the other commands what `HasDone` has of each.
     ensures done { (call : Call) → IsCommand words.now call →
         OnTrue F.tells (number_of result ≡ 0 → HasDone call
         (outside (F.state files.old) (O.state out.old))
         (outside (F.state files.new) (O.state out.new))) }
-    // Status 3 comes exactly where the recurrence of some process of the program has no solution
-    // within its deadline, and of `edf` where the test does not say that its demand is met.
+    // Below 6, status 3 of `go`, `check`, `compile`, `json` and `slack` comes exactly where the
+    // recurrence of some process of the program has no solution within its deadline; of `edf`
+    // exactly where the program has no wait and the test does not say that its demand is met; of
+    // the others never.
     ensures late { (call : Call) → IsCommand words.now call → OnTrue F.tells (number_of result < 6 →
         (number_of result ≡ 3) ↔ IsRefusedForTime call
         (outside (F.state files.old) (O.state out.old))) }

@@ -42,8 +42,7 @@ fn store_script<F: Files, O: Sink>(
 /// before anything is stored. Where both names are one, the script stands there at the end.
 ///
 /// The answer is `Done`; `Unwritten` where a write or the put failed, and nothing comes after it;
-/// or `Memory` where there is not enough memory, and then nothing was stored or put, unless it was
-/// wanting for the write of the script alone.
+/// or `Memory`, and then nothing was put, and nothing was stored but the program at most.
 pub fn make<F: Files, O: Sink>(alloc: Global, load: &Load<'_>, files: &mut F, out: &mut O) -> Status
     requires some { 1 ≤ load.now.count }
     requires few { load.now.count ≤ 64 }

@@ -72,7 +72,8 @@ pub record HasSpared (over : ℕ) (program : List ℕ) (before now : Outside) : 
 abbrev pub ReadsBack : Prog Place → Type 0
 ReadsBack tree = length (canonical (bare tree)) ≤ longest_text → (toks : List Token) × tokens (canonical (bare tree)) toks × HasTree (canonical (bare tree)) toks tree
 
--- `print`: the canonical text of a program is put, and reads back
+-- `print`: the canonical text of a program is put, and reads back where it is no longer than a text
+-- may be
 pub record HasPrinted (program : List ℕ) (before now : Outside) : Type 0 where
   pub text : List ℕ
   pub held : before.files.held program ≡ Some text
@@ -188,9 +189,9 @@ HasDone (edf program script) before now = HasMetDeadlines program script before 
 abbrev pub IsUnmet : Option (List ℕ) → Type 0
 IsUnmet held = IsSomeAnd held (λ text. (n : NamedImage) × (answer : Judgement) × IsJudgedText text n answer × IsUnfit answer)
 
--- the call answers 3 exactly where the recurrence of some process of the program has no solution
--- within its deadline, and of `edf` where its demand is not met; a call that asks no program for
--- its time never does
+-- among statuses below 6, the call answers 3 exactly where the recurrence of some process of the
+-- program has no solution within its deadline, and of `edf` where its program has no wait and its
+-- demand is not met; a call that asks no program for its time never does
 abbrev pub IsRefusedForTime : Call → Outside → Type 0
 IsRefusedForTime (go program image script over) before = IsUnsolved over (before.files.held program)
 IsRefusedForTime (check program over) before = IsUnsolved over (before.files.held program)

@@ -11,8 +11,8 @@ use Rattle.edf_semantics.specs.Run.{tick, state_at, events}
 use Rattle.edf_timing.specs.InTime.{MeetsDeadlines}
 
 -- No tick is stuck, each process is within its declared stack, and those inside monitors are apart;
--- each activation ends by its deadline; and what is told is a run of the program in which any ready
--- process may act.
+-- each activation ends by its deadline, where that is not past the script's end; and what is told is
+-- a run of the program in which any ready process may act.
 pub record IsEdfRun (g : Program) (image : Image) (script : Script) : Type 0 where
   pub never_stuck : (t : ℕ) → (tick image (script_of script) t (state_at image (script_of script) t)).stuck ≡ false
   pub stacks : (t k : ℕ) (p : Process) (thread : Thread) → slice_get image.processes k ≡ Some p → slice_get (state_at image (script_of script) t).state.threads k ≡ Some thread → StackFits p thread

@@ -1,5 +1,5 @@
--- What a call did, by the status that it answers. What is said of bytes is said where the files
--- tell theirs.
+-- What a call did, by the status that it answers. What is said of bytes is said where the files,
+-- and of what was put where the sink, tell theirs.
 use Rattle.std.specs.Prelude.{◌≡◌, ◌≢◌, ◌<◌, ◌≤◌, ◌⊎◌, ℕ, Bool, List, Option, Some, None, IsSomeAnd, codes}
 use Rattle.std.specs.Bool.{OnTrue}
 use Rattle.outside.specs.Outside.{Outside, Rose, AllStay, Appends, AppendsFront}
@@ -59,7 +59,7 @@ ReadFailed tells call before now =
     ⊎ (ScriptFailed call before now × OnTrue tells (ReachesScript call before.files.held))
     ⊎ (LogFailed call before now × OnTrue tells (ReachesLog call before.files.held))
 
--- no read, no write and no put failed, and memory was not wanting
+-- the status is not 6, 7 or 8
 abbrev pub IsAnswer : ℕ → Type 0
 IsAnswer status = (status ≢ 6) × (status ≢ 7) × (status ≢ 8)
 
@@ -74,21 +74,21 @@ pub record Went (tells : Bool) (call : Call) (before now : Outside) (status : �
   -- 7: the write or a put failed, and what is due was done up to there
   pub unwritten : status ≡ 7 → WriteFailed call before now ⊎ PutFailed before now
   pub cut : OnTrue tells (status ≡ 7 → IsCut call before now)
-  -- 6 and 8, the want of memory: nothing was put
+  -- 6 and 8: nothing was put
   pub nothing : (status ≡ 6) ⊎ (status ≡ 8) → now.out.taken ≡ before.out.taken
-  -- a failed put always gives 7
+  -- with a status but 7 the sink's count of faults is what it was
   pub quiet : status ≢ 7 → now.out.faults ≡ before.out.faults
   -- no file changes but the one that is written, and this only with 0 and 7
   pub others : (name : List ℕ) → target_of call ≢ Some name → now.files.held name ≡ before.files.held name
   pub stays : 0 < status → status ≢ 7 → AllStay before.files.held now.files.held
 
--- without a failure what is due is done whole, or memory was wanting
+-- where no failure is counted, what is due is done whole, or the status is 8
 abbrev pub Completes : Call → (before now : Outside) → (status : ℕ) → Type 0
 Completes call before now status =
     ¬ SourceFailed call before now → ¬ ScriptFailed call before now → ¬ LogFailed call before now → ¬ WriteFailed call before now → ¬ PutFailed before now
     → (status ≡ 8) ⊎ IsWhole call before now status
 
--- words that are no command: the usage is put, and no file changes
+-- words that are no command: the usage is put, or its put failed; no file changes
 pub record IsUsage (before now : Outside) (status : ℕ) : Type 0 where
   pub answer :
       ((status ≡ 1) × Appends before.out.taken now.out.taken (codes "usage\n"))

@@ -19,8 +19,9 @@ use Rattle.command_due.specs.Source.{IsWritten, report_of}
 use Rattle.command_due.specs.Script.{said, run_of}
 use Rattle.command_due.specs.CommandsDue.{stored, log}
 
--- a run is in time and size: each activation ends within its declared bound, which is within its
--- deadline, no release finds its process unfinished, no process passes its sizes, none is stuck
+-- a run is in time and size: each activation ends within its declared bound, where that is not past
+-- the script's end; each bound is within its deadline; no release finds its process unfinished, no
+-- process passes its sizes, none is stuck
 pub record IsKept (image : Image) (lines : List ScriptLine) (end : ℕ) : Type 0 where
   pub in_time : IsInTime image (run_of lines end)
   pub safe : IsSafe image (run_of lines end)

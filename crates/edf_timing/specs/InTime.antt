@@ -65,7 +65,8 @@ pub record MeetsDeadlines (image : Image) (script : Script) : Type 0 where
   -- each activation whose release is due begins, and ends by its deadline, where that is not past
   -- the end
   pub ends : (k t : ℕ) (p : Process) → slice_get image.processes k ≡ Some p → is_due script t p ≡ true → t + p.deadline ≤ script.end_tick → ReleasedAndEnds image script k t p.deadline
-  -- and so it is in the log: each release is followed by an end of the process within its deadline
+  -- and so it is in the log: each release is followed by an end of the process within its deadline,
+  -- where that is not past the end
   pub log : (k : ℕ) (p : Process) → slice_get image.processes k ≡ Some p → EndsWithin k p.deadline script.end_tick (events image script)
 
 -- what the test says of the tasks, for whatever row has to be tested

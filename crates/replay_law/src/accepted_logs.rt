@@ -1,4 +1,4 @@
-//! Law: the log of every accepted program is answered `run`.
+//! Law: of the log of every accepted program, `run` is due of `replay`.
 //!
 //! `command_due` says what is due of `replay`. `specs/ReplayLaws.antt` has that it is the line that
 //! counts the events, wherever the files hold the text of a program that is accepted, a script for
@@ -35,7 +35,7 @@ pub fn logs_of_accepted_programs_are_runs()
     logs_of_runs_are_logs();
 }
 
-/// After a call of `go` that answers 0, the log that it put behind the report is so answered.
+/// After a call of `go` that answers 0, so it is of the log that it put behind the report.
 pub fn logs_of_go_are_runs()
     ensures { LogsOfGoAreRuns }
 {

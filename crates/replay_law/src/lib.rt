@@ -1,7 +1,7 @@
 //! Laws: the log of every accepted program is a run; the verdict is one.
 //!
-//! `accepted_logs`: of each program that `go` accepts, the log over any script for its names is
-//! judged `run`. `one_judgement`: what is due of `replay` is one. The others lead there: names are
+//! `accepted_logs`: of each program that `go` accepts, `run` is due of the log over any script for
+//! its names. `one_judgement`: what is due of `replay` is one. The others lead there: names are
 //! words and tell events without doubt, operands and values of runs have 32 bits. Nothing here can
 //! run.
 #![tactic(auto)]

@@ -96,7 +96,7 @@ pub record IsInTime (image : Image) (script : Script) : Type 0 where
   -- not past the end
   pub ends : (k : ℕ) (p : Process) (t : ℕ) → slice_get image.processes k ≡ Some p → is_due script t p ≡ true → t + p.bound ≤ script.end_tick → ReleasedAndEnds image script k t p.bound
   -- and so it is in the log: each release is followed by an end of the process within its declared
-  -- bound
+  -- bound, where that is not past the end
   pub log : (k : ℕ) (p : Process) → slice_get image.processes k ≡ Some p → EndsWithin k p.bound script.end_tick (events image script)
 
 -- The law: each run of a valid image whose script respects the frames is in time.
