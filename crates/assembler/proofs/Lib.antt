@@ -1,3 +1,4 @@
+pub mod NoMore
 pub mod RowLoop
 pub mod Rows
 pub mod Owners

@@ -23,3 +23,6 @@ returns c =
     let told : c.from.result ≡ from_bool (begins (codes "process ") rest) = c.from.ensures ∙ ap from_bool c.begins_with-2.ensures in
     ends (begins (codes "process ")) c.loop-cut.count (c.loop-cut.count + c.from.result) (owners_in c.args.text.now) rest c.in_default.ensures.none
     (ap (λ n. c.loop-cut.count + n) told) c.loop-cut.invariant.so_far
+
+pub loop-cut-smaller : goal.loop-cut-smaller
+loop-cut-smaller c = shorter c.loop-cut.rest.now c.in-Some.cut.before.now c.in-Some.cut.after.now c.in-Some.ensures.found

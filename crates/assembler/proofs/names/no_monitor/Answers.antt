@@ -1,0 +1,17 @@
+use Rattle.std.proofs.Common.{◌∙◌, codes, sym}
+use Rattle.std.proofs.lemmas.Result.{err_from_is_err_and}
+use Rattle.text_fields.specs.Front.{begins, front}
+use Rattle.asm_lines.specs.Names.{monitor_read}
+use Rattle.assembler.proofs.NoMore.{fault_here, none_here, one_here}
+use Rattle.assembler.proofs.names.no_monitor.Goals as goal
+
+pub returns-then-not-begins_with : goal.returns-then-not-begins_with
+returns-then-not-begins_with c = none_here (begins (codes "monitor ")) (monitor_read c.args.taken.now) (front c.args.at) (sym c.begins_with.ensures ∙ c.if-not-begins_with.true)
+
+pub returns-in_err-monitor_line : goal.returns-in_err-monitor_line
+returns-in_err-monitor_line c =
+    let p = err_from_is_err_and c.from_residual.result c.from_residual.ensures.1 in
+    rw (p.1, p.2) (fault_here (begins (codes "monitor ")) (monitor_read c.args.taken.now) (front c.args.at) c.in_err-monitor_line.field-0.0 (sym c.begins_with.ensures ∙ c.if-not-begins_with.false) c.in_err-monitor_line.ensures)
+
+pub returns : goal.returns
+returns c = one_here (begins (codes "monitor ")) (monitor_read c.args.taken.now) (front c.args.at) _ (sym c.begins_with.ensures ∙ c.if-not-begins_with.false) c.in_ok-monitor_line.ensures
