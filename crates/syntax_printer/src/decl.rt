@@ -8,7 +8,7 @@ ghost use Rattle.syntax.specs.Grammar.{kind_word, way_word};
 ghost use Rattle.syntax_printer.specs.Pages.{ended, put_lines, puts};
 ghost use Rattle.syntax_printer.specs.Canonical.{activation_words, constant_words, deadline_words, decl_lines, end_line as end_words, entry_lines, first_words, handler_lines, handler_words, header as header_words, kind_words, lines_of, listed, member_lines, monitor_lines, param_words, process_lines, process_words, program_lines, rest_of_routine, result_words, return_lines, routine_lines, scalar_words, var_lines};
 
-use crate::page::Page;
+use crate::page::{Page, tri};
 use std::alloc::AllocError;
 use syntax::{keyword, sign};
 use syntax_tree::{
@@ -49,8 +49,8 @@ impl Page {
             (constant_words (placed_constant low.now) ++ w.RANGE ∷
             constant_words (placed_constant high.now))) }
     {
-        self.constant(low)?;
-        self.sign(sign::RANGE)?;
+        tri!(self.constant(low));
+        tri!(self.sign(sign::RANGE));
         self.constant(high)
     }
 
@@ -71,11 +71,11 @@ impl Page {
             (constant_words (placed_constant high.now) ++ w.OF ∷
             scalar_words (placed_scalar element.now))))) }
     {
-        self.keyword(keyword::ARRAY)?;
-        self.constant(low)?;
-        self.sign(sign::RANGE)?;
-        self.constant(high)?;
-        self.keyword(keyword::OF)?;
+        tri!(self.keyword(keyword::ARRAY));
+        tri!(self.constant(low));
+        tri!(self.sign(sign::RANGE));
+        tri!(self.constant(high));
+        tri!(self.keyword(keyword::OF));
         self.scalar(element)
     }
 
@@ -91,10 +91,10 @@ impl Page {
     fn var(&mut self, var: &Var) -> Result<(), AllocError>
         ensures { OnOk result (self.new ≡ put_lines self.old (var_lines (placed_var var.now))) }
     {
-        self.keyword(keyword::VAR)?;
-        self.name(&var.name)?;
-        self.sign(sign::COLON)?;
-        self.kind(&var.kind)?;
+        tri!(self.keyword(keyword::VAR));
+        tri!(self.name(&var.name));
+        tri!(self.sign(sign::COLON));
+        tri!(self.kind(&var.kind));
         self.end_line()
     }
 
@@ -111,8 +111,8 @@ impl Page {
     fn param(&mut self, param: &Param) -> Result<(), AllocError>
         ensures { OnOk result (self.new ≡ puts self.old (param_words (placed_param param.now))) }
     {
-        self.name(&param.name)?;
-        self.sign(sign::COLON)?;
+        tri!(self.name(&param.name));
+        tri!(self.sign(sign::COLON));
         self.scalar(&param.kind)
     }
 
@@ -139,8 +139,8 @@ impl Page {
             (result_words (optional placed_scalar kind.now))) }
     {
         if let Some(scalar) = kind {
-            self.keyword(keyword::RETURNS)?;
-            self.scalar(scalar)?;
+            tri!(self.keyword(keyword::RETURNS));
+            tri!(self.scalar(scalar));
         }
         Ok(())
     }
@@ -151,12 +151,12 @@ impl Page {
         ensures { OnOk result (self.new ≡ ended
             (puts self.old (header_words (placed_routine routine.now)))) }
     {
-        self.keyword(kind_keyword(routine.kind))?;
-        self.name(&routine.name)?;
-        self.sign(sign::LEFT_PAREN)?;
-        self.params(routine.params.as_slice())?;
-        self.sign(sign::RIGHT_PAREN)?;
-        self.result(&routine.result)?;
+        tri!(self.keyword(kind_keyword(routine.kind)));
+        tri!(self.name(&routine.name));
+        tri!(self.sign(sign::LEFT_PAREN));
+        tri!(self.params(routine.params.as_slice()));
+        tri!(self.sign(sign::RIGHT_PAREN));
+        tri!(self.result(&routine.result));
         self.end_line()
     }
 
@@ -166,7 +166,7 @@ impl Page {
             (return_lines (optional placed_expr value.now))) }
     {
         if let Some(expr) = value {
-            self.expr_line(keyword::RETURN, expr)?;
+            tri!(self.expr_line(keyword::RETURN, expr));
         }
         Ok(())
     }
@@ -177,10 +177,10 @@ impl Page {
         ensures { OnOk result (self.new ≡ put_lines self.old
             (rest_of_routine (placed_routine routine.now))) }
     {
-        self.vars(routine.vars.as_slice())?;
-        self.keyword_line(keyword::BEGIN)?;
-        self.stmts(routine.body.as_slice())?;
-        self.value(&routine.value)?;
+        tri!(self.vars(routine.vars.as_slice()));
+        tri!(self.keyword_line(keyword::BEGIN));
+        tri!(self.stmts(routine.body.as_slice()));
+        tri!(self.value(&routine.value));
         self.end_name(&routine.close)
     }
 
@@ -188,7 +188,7 @@ impl Page {
         ensures { OnOk result (self.new ≡ put_lines self.old
             (routine_lines (placed_routine routine.now))) }
     {
-        self.header(routine)?;
+        tri!(self.header(routine));
         self.rest_of(routine)
     }
 
@@ -206,8 +206,8 @@ impl Page {
         ensures { OnOk result (self.new ≡ put_lines self.old
             (entry_lines (placed_routine routine.now))) }
     {
-        self.keyword(keyword::ENTRY)?;
-        self.header(routine)?;
+        tri!(self.keyword(keyword::ENTRY));
+        tri!(self.header(routine));
         self.rest_of(routine)
     }
 
@@ -246,9 +246,9 @@ impl Page {
         ensures { OnOk result (self.new ≡ put_lines self.old
             (monitor_lines (placed_monitor monitor.now))) }
     {
-        self.named_line(keyword::MONITOR, &monitor.name)?;
-        self.members(monitor.members.as_slice())?;
-        self.entries(monitor.entries.as_slice())?;
+        tri!(self.named_line(keyword::MONITOR, &monitor.name));
+        tri!(self.members(monitor.members.as_slice()));
+        tri!(self.entries(monitor.entries.as_slice()));
         self.end_name(&monitor.close)
     }
 
@@ -258,10 +258,10 @@ impl Page {
             (first_words (optional placed_constant first.now))) }
     {
         if let Some(at) = first {
-            self.keyword(keyword::FIRST)?;
-            self.keyword(keyword::ACTIVATION)?;
-            self.keyword(keyword::AT_TIME)?;
-            self.constant(at)?;
+            tri!(self.keyword(keyword::FIRST));
+            tri!(self.keyword(keyword::ACTIVATION));
+            tri!(self.keyword(keyword::AT_TIME));
+            tri!(self.constant(at));
         }
         Ok(())
     }
@@ -272,8 +272,8 @@ impl Page {
             (deadline_words (optional placed_constant deadline.now))) }
     {
         if let Some(ticks) = deadline {
-            self.deadline_word()?;
-            self.constant(ticks)?;
+            tri!(self.deadline_word());
+            tri!(self.constant(ticks));
         }
         Ok(())
     }
@@ -285,8 +285,8 @@ impl Page {
             (w.FRAME ∷ (constant_words (placed_constant frame.now) ++
             deadline_words (optional placed_constant deadline.now)))) }
     {
-        self.keyword(keyword::FRAME)?;
-        self.constant(frame)?;
+        tri!(self.keyword(keyword::FRAME));
+        tri!(self.constant(frame));
         self.deadline(deadline)
     }
 
@@ -301,8 +301,8 @@ impl Page {
                 deadline,
                 first,
             } => {
-                self.keyword(keyword::PERIODIC)?;
-                self.times(frame, deadline)?;
+                tri!(self.keyword(keyword::PERIODIC));
+                tri!(self.times(frame, deadline));
                 self.first(first)
             }
             Trigger::AtEvent {
@@ -311,8 +311,8 @@ impl Page {
                 deadline,
                 ..
             } => {
-                self.keyword(keyword::AT_EVENT)?;
-                self.name(event)?;
+                tri!(self.keyword(keyword::AT_EVENT));
+                tri!(self.name(event));
                 self.times(frame, deadline)
             }
         }
@@ -341,10 +341,10 @@ impl Page {
         ensures { OnOk result (self.new ≡ ended
             (puts self.old (handler_words (map placed_constant numbers.now)))) }
     {
-        self.keyword(keyword::HANDLER)?;
-        self.sign(sign::LEFT_PAREN)?;
-        self.numbers(numbers)?;
-        self.sign(sign::RIGHT_PAREN)?;
+        tri!(self.keyword(keyword::HANDLER));
+        tri!(self.sign(sign::LEFT_PAREN));
+        tri!(self.numbers(numbers));
+        tri!(self.sign(sign::RIGHT_PAREN));
         self.end_line()
     }
 
@@ -353,8 +353,8 @@ impl Page {
             (handler_lines (optional placed_handler handler.now))) }
     {
         if let Some(handler) = handler {
-            self.handler_line(handler.numbers.as_slice())?;
-            self.stmts(handler.body.as_slice())?;
+            tri!(self.handler_line(handler.numbers.as_slice()));
+            tri!(self.stmts(handler.body.as_slice()));
         }
         Ok(())
     }
@@ -364,10 +364,10 @@ impl Page {
         ensures { OnOk result (self.new ≡ ended
             (puts self.old (process_words (placed_process process.now)))) }
     {
-        self.keyword(keyword::PROCESS)?;
-        self.name(&process.name)?;
-        self.sign(sign::COLON)?;
-        self.activation(&process.activation)?;
+        tri!(self.keyword(keyword::PROCESS));
+        tri!(self.name(&process.name));
+        tri!(self.sign(sign::COLON));
+        tri!(self.activation(&process.activation));
         self.end_line()
     }
 
@@ -376,12 +376,12 @@ impl Page {
         ensures { OnOk result (self.new ≡ put_lines self.old
             (process_lines (placed_process process.now))) }
     {
-        self.process_line(process)?;
-        self.vars(process.vars.as_slice())?;
-        self.routines(process.routines.as_slice())?;
-        self.keyword_line(keyword::BEGIN)?;
-        self.stmts(process.body.as_slice())?;
-        self.handler(&process.handler)?;
+        tri!(self.process_line(process));
+        tri!(self.vars(process.vars.as_slice()));
+        tri!(self.routines(process.routines.as_slice()));
+        tri!(self.keyword_line(keyword::BEGIN));
+        tri!(self.stmts(process.body.as_slice()));
+        tri!(self.handler(&process.handler));
         self.end_name(&process.close)
     }
 
@@ -390,16 +390,16 @@ impl Page {
     {
         match decl {
             Declaration::Const { name, value, .. } => {
-                self.keyword(keyword::CONST)?;
-                self.name(name)?;
-                self.sign(sign::ASSIGN)?;
-                self.constant(value)?;
+                tri!(self.keyword(keyword::CONST));
+                tri!(self.name(name));
+                tri!(self.sign(sign::ASSIGN));
+                tri!(self.constant(value));
                 self.end_line()
             }
             Declaration::Device { name, is_out, .. } => {
-                self.keyword(keyword::DEVICE)?;
-                self.name(name)?;
-                self.sign(sign::COLON)?;
+                tri!(self.keyword(keyword::DEVICE));
+                tri!(self.name(name));
+                tri!(self.sign(sign::COLON));
                 self.keyword_line(way(*is_out))
             }
             Declaration::Event { name, .. } => self.named_line(keyword::EVENT, name),
@@ -424,8 +424,8 @@ impl Page {
     pub fn prog(&mut self, prog: &Program) -> Result<(), AllocError>
         ensures { OnOk result (self.new ≡ put_lines self.old (program_lines (placed prog.now))) }
     {
-        self.named_line(keyword::PROGRAM, &prog.name)?;
-        self.decls(prog.decls.as_slice())?;
+        tri!(self.named_line(keyword::PROGRAM, &prog.name));
+        tri!(self.decls(prog.decls.as_slice()));
         self.end_name(&prog.close)
     }
 }

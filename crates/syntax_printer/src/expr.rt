@@ -7,7 +7,7 @@ ghost use Rattle.syntax.specs.Words as w;
 ghost use Rattle.syntax_printer.specs.Pages.{put, puts};
 ghost use Rattle.syntax_printer.specs.Canonical.{constant_words, expr_words, operands_words, in_brackets, in_parens, ref_words};
 
-use crate::page::Page;
+use crate::page::{Page, tri};
 use std::alloc::AllocError;
 use syntax::{keyword, sign};
 use syntax_tree::{Constant, Expr, Op, Ref, Value};
@@ -19,11 +19,11 @@ impl Page {
             (constant_words (placed_constant constant.now))) }
     {
         if constant.minus {
-            self.sign(sign::MINUS)?;
+            tri!(self.sign(sign::MINUS));
         }
         match &constant.value {
-            Value::Literal(value) => self.number(*value)?,
-            Value::Name(name) => self.name(name)?,
+            Value::Literal(value) => tri!(self.number(*value)),
+            Value::Name(name) => tri!(self.name(name)),
         }
         Ok(())
     }
@@ -55,10 +55,9 @@ impl Page {
     fn index(&mut self, index: &Expr) -> Result<(), AllocError>
         ensures { OnOk result (self.new ≡ puts self.old (in_brackets (placed_expr index.now))) }
     {
-        self.sign(sign::LEFT_BRACKET)?;
-        self.expr(index)?;
-        self.sign(sign::RIGHT_BRACKET)?;
-        Ok(())
+        tri!(self.sign(sign::LEFT_BRACKET));
+        tri!(self.expr(index));
+        self.sign(sign::RIGHT_BRACKET)
     }
 
     /// Arguments in parentheses, with commas between them.
@@ -99,10 +98,9 @@ impl Page {
         ensures { OnOk result (self.new ≡ puts self.old
             (w.LEFT_PAREN ∷ (expr_words (placed_expr inner.now) ++ w.RIGHT_PAREN ∷ []))) }
     {
-        self.sign(sign::LEFT_PAREN)?;
-        self.expr(inner)?;
-        self.sign(sign::RIGHT_PAREN)?;
-        Ok(())
+        tri!(self.sign(sign::LEFT_PAREN));
+        tri!(self.expr(inner));
+        self.sign(sign::RIGHT_PAREN)
     }
 
     /// The expression, in its line.
@@ -144,9 +142,9 @@ impl Page {
     pub fn reference(&mut self, target: &Ref) -> Result<(), AllocError>
         ensures { OnOk result (self.new ≡ puts self.old (ref_words (placed_ref target.now))) }
     {
-        self.name(&target.name)?;
+        tri!(self.name(&target.name));
         if let Some(index) = &target.index {
-            self.index(index)?;
+            tri!(self.index(index));
         }
         Ok(())
     }

@@ -11,6 +11,19 @@ use std::marker::Model;
 use syntax::{keyword_spelling, sign_spelling};
 use syntax_tree::{Name, Text};
 
+/// A word that was written; a lack of memory returns from the function. It is `?` with no conversion
+/// of the error, which spares the proof of each function that writes the steps of one.
+macro_rules! tri {
+    ($written:expr) => {
+        match $written {
+            Ok(it) => it,
+            Err(error) => return Err(error),
+        }
+    };
+}
+
+pub(crate) use tri;
+
 /// A text, and whether a line begins at its end.
 #[derive(Drop)]
 pub struct Page {
@@ -50,8 +63,7 @@ impl Page {
     pub fn name(&mut self, name: &Name) -> Result<(), AllocError>
         ensures { OnOk result (self.new ≡ put self.old (w.named name.now)) }
     {
-        self.word(name.as_bytes())?;
-        Ok(())
+        self.word(name.as_bytes())
     }
 
     #[tactic(auto, unfolding(crate::specs::Pages::put))]
@@ -59,8 +71,7 @@ impl Page {
         ensures { OnOk result (self.new ≡ put self.old (w.number value)) }
     {
         let mut digits = Buffer::new();
-        self.word(digits.format(value).as_bytes())?;
-        Ok(())
+        self.word(digits.format(value).as_bytes())
     }
 
     /// The keyword at this place of the list of keywords.
@@ -69,8 +80,7 @@ impl Page {
         requires { at < length keywords }
         ensures { OnOk result (self.new ≡ put self.old (w.keyword at)) }
     {
-        self.word(keyword_spelling(at))?;
-        Ok(())
+        self.word(keyword_spelling(at))
     }
 
     /// The word that begins a deadline, which is a name to the lexer.
@@ -78,8 +88,7 @@ impl Page {
     pub fn deadline_word(&mut self) -> Result<(), AllocError>
         ensures { OnOk result (self.new ≡ put self.old w.DEADLINE) }
     {
-        self.word(b"deadline")?;
-        Ok(())
+        self.word(b"deadline")
     }
 
     /// The sign at this place of the list of signs.
@@ -88,8 +97,7 @@ impl Page {
         requires { at < length signs }
         ensures { OnOk result (self.new ≡ put self.old (w.sign at)) }
     {
-        self.word(sign_spelling(at))?;
-        Ok(())
+        self.word(sign_spelling(at))
     }
 
     /// The end of the line.

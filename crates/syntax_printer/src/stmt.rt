@@ -7,7 +7,7 @@ ghost use Rattle.syntax.specs.Words as w;
 ghost use Rattle.syntax_printer.specs.Pages.{put_lines, puts, ended};
 ghost use Rattle.syntax_printer.specs.Canonical.{constant_words, expr_words, for_line as for_words, if_line as if_words, in_parens, ref_words, stmt_lines, stmts_lines};
 
-use crate::page::Page;
+use crate::page::{Page, tri};
 use std::alloc::AllocError;
 use syntax::{keyword, sign};
 use syntax_tree::{Constant, Expr, List, Name, Ref, Stmt};
@@ -19,8 +19,8 @@ impl Page {
         ensures { OnOk result (self.new ≡ ended
             (puts self.old (w.keyword at ∷ w.named name.now ∷ []))) }
     {
-        self.keyword(at)?;
-        self.name(name)?;
+        tri!(self.keyword(at));
+        tri!(self.name(name));
         self.end_line()
     }
 
@@ -29,7 +29,7 @@ impl Page {
         requires { at < length keywords }
         ensures { OnOk result (self.new ≡ ended (puts self.old (w.keyword at ∷ []))) }
     {
-        self.keyword(at)?;
+        tri!(self.keyword(at));
         self.end_line()
     }
 
@@ -39,8 +39,8 @@ impl Page {
         ensures { OnOk result (self.new ≡ ended
             (puts self.old (w.keyword at ∷ expr_words (placed_expr expr.now)))) }
     {
-        self.keyword(at)?;
-        self.expr(expr)?;
+        tri!(self.keyword(at));
+        tri!(self.expr(expr));
         self.end_line()
     }
 
@@ -49,8 +49,8 @@ impl Page {
         requires { at < length keywords }
         ensures { OnOk result (self.new ≡ ended (puts self.old (w.END ∷ w.keyword at ∷ []))) }
     {
-        self.keyword(keyword::END)?;
-        self.keyword(at)?;
+        tri!(self.keyword(keyword::END));
+        tri!(self.keyword(at));
         self.end_line()
     }
 
@@ -59,9 +59,9 @@ impl Page {
         ensures { OnOk result (self.new ≡ puts self.old
             (w.named mon.now ∷ w.DOT ∷ w.named entry.now ∷ in_parens (placed_exprs args.now))) }
     {
-        self.name(mon)?;
-        self.sign(sign::DOT)?;
-        self.name(entry)?;
+        tri!(self.name(mon));
+        tri!(self.sign(sign::DOT));
+        tri!(self.name(entry));
         self.args(args.as_slice())
     }
 
@@ -71,9 +71,9 @@ impl Page {
             (puts self.old (ref_words (placed_ref target.now) ++ w.ASSIGN ∷
             expr_words (placed_expr value.now)))) }
     {
-        self.reference(target)?;
-        self.sign(sign::ASSIGN)?;
-        self.expr(value)?;
+        tri!(self.reference(target));
+        tri!(self.sign(sign::ASSIGN));
+        tri!(self.expr(value));
         self.end_line()
     }
 
@@ -89,9 +89,9 @@ impl Page {
             (puts self.old (ref_words (placed_ref target.now) ++ w.ASSIGN ∷ w.named mon.now ∷
             w.DOT ∷ w.named entry.now ∷ in_parens (placed_exprs args.now)))) }
     {
-        self.reference(target)?;
-        self.sign(sign::ASSIGN)?;
-        self.entry(mon, entry, args)?;
+        tri!(self.reference(target));
+        tri!(self.sign(sign::ASSIGN));
+        tri!(self.entry(mon, entry, args));
         self.end_line()
     }
 
@@ -101,8 +101,8 @@ impl Page {
             (puts self.old (ref_words (placed_ref target.now) ++ w.ASSIGN ∷ w.EMPTY ∷
             w.named cond.now ∷ []))) }
     {
-        self.reference(target)?;
-        self.sign(sign::ASSIGN)?;
+        tri!(self.reference(target));
+        tri!(self.sign(sign::ASSIGN));
         self.named_line(keyword::EMPTY, cond)
     }
 
@@ -111,9 +111,9 @@ impl Page {
     fn if_line(&mut self, test: &Expr) -> Result<(), AllocError>
         ensures { OnOk result (self.new ≡ ended (puts self.old (if_words (placed_expr test.now)))) }
     {
-        self.keyword(keyword::IF)?;
-        self.expr(test)?;
-        self.keyword(keyword::THEN)?;
+        tri!(self.keyword(keyword::IF));
+        tri!(self.expr(test));
+        tri!(self.keyword(keyword::THEN));
         self.end_line()
     }
 
@@ -124,13 +124,13 @@ impl Page {
             (puts self.old (for_words name.now (placed_constant low.now)
             (placed_constant high.now)))) }
     {
-        self.keyword(keyword::FOR)?;
-        self.name(name)?;
-        self.sign(sign::COLON)?;
-        self.constant(low)?;
-        self.sign(sign::RANGE)?;
-        self.constant(high)?;
-        self.keyword(keyword::DO)?;
+        tri!(self.keyword(keyword::FOR));
+        tri!(self.name(name));
+        tri!(self.sign(sign::COLON));
+        tri!(self.constant(low));
+        tri!(self.sign(sign::RANGE));
+        tri!(self.constant(high));
+        tri!(self.keyword(keyword::DO));
         self.end_line()
     }
 
@@ -141,12 +141,12 @@ impl Page {
             (constant_words (placed_constant limit.now) ++ w.COLON ∷
             constant_words (placed_constant number.now))))) }
     {
-        self.keyword(keyword::WAIT)?;
-        self.name(cond)?;
-        self.keyword(keyword::NO_LONGER_THAN)?;
-        self.constant(limit)?;
-        self.sign(sign::COLON)?;
-        self.constant(number)?;
+        tri!(self.keyword(keyword::WAIT));
+        tri!(self.name(cond));
+        tri!(self.keyword(keyword::NO_LONGER_THAN));
+        tri!(self.constant(limit));
+        tri!(self.sign(sign::COLON));
+        tri!(self.constant(number));
         self.end_line()
     }
 
@@ -154,8 +154,8 @@ impl Page {
         ensures { OnOk result (self.new ≡ ended
             (puts self.old (w.named name.now ∷ in_parens (placed_exprs args.now)))) }
     {
-        self.name(name)?;
-        self.args(args.as_slice())?;
+        tri!(self.name(name));
+        tri!(self.args(args.as_slice()));
         self.end_line()
     }
 
@@ -164,7 +164,7 @@ impl Page {
             (puts self.old (w.named mon.now ∷ w.DOT ∷ w.named entry.now ∷
             in_parens (placed_exprs args.now)))) }
     {
-        self.entry(mon, entry, args)?;
+        tri!(self.entry(mon, entry, args));
         self.end_line()
     }
 
@@ -172,7 +172,7 @@ impl Page {
         ensures { OnOk result (self.new ≡ ended
             (puts self.old (w.EXIT ∷ w.WHEN ∷ expr_words (placed_expr test.now)))) }
     {
-        self.keyword(keyword::EXIT)?;
+        tri!(self.keyword(keyword::EXIT));
         self.expr_line(keyword::WHEN, test)
     }
 
@@ -180,9 +180,9 @@ impl Page {
         ensures { OnOk result (self.new ≡ ended
             (puts self.old (w.GET ∷ w.named device.now ∷ ref_words (placed_ref target.now)))) }
     {
-        self.keyword(keyword::GET)?;
-        self.name(device)?;
-        self.reference(target)?;
+        tri!(self.keyword(keyword::GET));
+        tri!(self.name(device));
+        tri!(self.reference(target));
         self.end_line()
     }
 
@@ -190,9 +190,9 @@ impl Page {
         ensures { OnOk result (self.new ≡ ended
             (puts self.old (w.PUT ∷ w.named device.now ∷ expr_words (placed_expr value.now)))) }
     {
-        self.keyword(keyword::PUT)?;
-        self.name(device)?;
-        self.expr(value)?;
+        tri!(self.keyword(keyword::PUT));
+        tri!(self.name(device));
+        tri!(self.expr(value));
         self.end_line()
     }
 
@@ -200,8 +200,8 @@ impl Page {
         ensures { OnOk result (self.new ≡ ended
             (puts self.old (w.EXCEPT ∷ constant_words (placed_constant number.now)))) }
     {
-        self.keyword(keyword::EXCEPT)?;
-        self.constant(number)?;
+        tri!(self.keyword(keyword::EXCEPT));
+        tri!(self.constant(number));
         self.end_line()
     }
 
