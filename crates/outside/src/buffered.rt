@@ -122,6 +122,17 @@ impl<S: Sink> Buffered<S> {
     }
 }
 
+impl<S: Sink> Buffered<S> {
+    /// Gives the sink below back, and writes nothing: what waits is lost.
+    pub fn into_sink(self) -> S
+        ensures taken { let state = ⟦<Buffered<S> as Sink>⟧.state in
+            (rest : List ℕ) × Appends (S.state result).taken (state self).taken rest }
+        ensures faults { (S.state result).faults ≡ (⟦<Buffered<S> as Sink>⟧.state self).faults }
+    {
+        self.sink
+    }
+}
+
 /// Drops so many first bytes.
 fn drop_front(bytes: &mut Vec<u8>, count: usize)
     requires { count ≤ vec_len bytes.old }

@@ -1,6 +1,6 @@
 //! The calls that reach the system.
 
-use outside::{Buffered, Files, ReadFault, RealFiles, RealSink, Sink, WriteFault};
+use outside::{Buffered, Files, MemorySink, ReadFault, RealFiles, RealSink, Sink, WriteFault};
 use std::fs;
 use std::test::Fail;
 
@@ -12,6 +12,15 @@ fn puts_wait_and_are_written(rt: HostRuntime) -> Result<(), Fail> {
     let (written, mut sink) = out.finish();
     written?;
     sink.put(b"three\n")?;
+    Ok(())
+}
+
+#[test]
+fn what_waits_is_not_below(rt: HostRuntime) -> Result<(), Fail> {
+    let alloc = rt.alloc();
+    let mut out = Buffered::new(alloc, MemorySink::new(alloc, 10, Vec::new(alloc))?);
+    out.put(b"waits")?;
+    assert!(rt; out.into_sink().bytes().is_empty());
     Ok(())
 }
 
