@@ -1,28 +1,25 @@
 //! `main`: the command over the system's files and standard output.
 //!
-//! It lends these to `command::rte`, behind a buffer, passes it the words after the program's name,
-//! writes what waits, and ends with the status.
+//! It is `command_line::call` over these, with the words after the program's name; its status is the
+//! exit code.
 #![tactic(auto)]
 
-use command::{rte, system_words};
+use command::system_words;
 use command_answers::Status;
-use outside::{Buffered, RealFiles, RealSink};
+use command_line::call;
+use outside::{RealFiles, RealSink};
 use std::process::ExitCode;
 
 fn main(rt: HostRuntime) -> ExitCode {
-    let mut out = Buffered::new(rt.alloc(), RealSink::new(&rt));
     let status = match system_words(&rt) {
-        Ok(words) => rte(
+        Ok(words) => call(
             rt.alloc(),
             words.as_slice(),
             &mut RealFiles::new(rt.alloc(), &rt),
-            &mut out,
-        ),
+            RealSink::new(&rt),
+        )
+        .0,
         Err(_) => Status::Memory,
-    };
-    let status = match out.finish().0 {
-        Ok(()) => status,
-        Err(_) => Status::Unwritten,
     };
     ExitCode::from(status.code())
 }

@@ -1,0 +1,214 @@
+-- What a call promises of its buffer, it promises of the sink below, once what waited is written.
+use Rattle.std.proofs.Common.{◌≡◌, ◌≢◌, ◌≤◌, ◌<◌, ◌⊎◌, ◌∙◌, ℕ, List, Option, Bool, true, false, inl, inr, refl, sym, ap, subst, arith}
+use Rattle.std.specs.Prelude.{codes}
+use Rattle.std.specs.Bool.{OnTrue}
+use Rattle.std.proofs.lemmas.Bool.{cases_eq, OnTrue_at, OnTrue_from}
+use Rattle.outside.specs.Outside.{FilesState, SinkState, Outside, outside, Rose, Appends, AppendsFront}
+use Rattle.command_words.specs.Calls.{Call, Load}
+use Rattle.command_answers.specs.Went.{IsWhole, IsCut, WriteFailed, PutFailed, Went, IsUsage}
+use Rattle.command.specs.Due.{IsSummary}
+use Rattle.command.specs.Made as of_make
+use Rattle.command.specs.Made.{Made}
+use Rattle.command_line.specs.Settled.{HasTakenNothing, IsSettled, whole, idle, lost}
+use Rattle.command_line.proofs.Settling.{same_state, none_below, front_below, whole_front, rose_below}
+
+-- the sink below stands as the buffer, with its status; or what waited was not taken whole
+data Ends (m w : SinkState) (s n : ℕ) : Type 0 where
+  same : n ≡ s → w ≡ m → Ends m w s n
+  cut : n ≡ 7 → s ≢ 6 → s ≢ 8 → (rest : List ℕ) → Appends w.taken m.taken rest → Rose m.faults w.faults → Ends m w s n
+
+-- where nothing was put with 6 and 8, nothing waits
+ends : (b m w : SinkState) (s n : ℕ) → HasTakenNothing b.taken → ((s ≡ 6) ⊎ (s ≡ 8) → m.taken ≡ b.taken) → IsSettled m w s n → Ends m w s n
+ends b m w s n none nothing (whole is taken faults) = same is (same_state w m taken faults)
+ends b m w s n none nothing (idle is which rest below faults) =
+    same is (same_state w m (none_below b.taken m.taken w.taken rest none (nothing which) below) faults)
+ends b m w s n none nothing (lost is six eight rest below rose) = cut is six eight rest below rose
+
+-- ---- a command
+
+module _ (call : Call) (f f' : FilesState) (b m w : SinkState) (s : ℕ) (none : HasTakenNothing b.taken) (rest : List ℕ) (below : Appends w.taken m.taken rest) (rose : Rose m.faults w.faults) where
+  put_failed : (m.faults ≡ b.faults) ⊎ Rose b.faults m.faults → PutFailed (outside f b) (outside f' w)
+  put_failed since = rose_below b.faults m.faults w.faults since rose
+
+  cut_whole : (went : IsWhole call (outside f b) (outside f' m) s) → m.faults ≡ b.faults → IsCut call (outside f b) (outside f' w)
+  cut_whole went quiet = record {
+    outcome = went.outcome;
+    due = went.due;
+    front = front_below b.taken m.taken w.taken went.outcome.text rest none (whole_front b.taken m.taken went.outcome.text went.put) below;
+    cause = inr (put_failed (inl quiet), went.stored);
+  }
+
+  cut_front : IsCut call (outside f b) (outside f' m) → IsCut call (outside f b) (outside f' w)
+  cut_front c = record {
+    outcome = c.outcome;
+    due = c.due;
+    front = front_below b.taken m.taken w.taken c.outcome.text rest none c.front below;
+    cause = elim c.cause [
+      | inl write ↦ inl (write.0, write.1.0, none_below b.taken m.taken w.taken rest none write.1.1 below ∙ write.1.1)
+      | inr put ↦ inr (put_failed (inr put.0), put.1)
+    ];
+  }
+
+  cut_told : (tells : Bool) → s ≢ 6 → s ≢ 8 → Went tells call (outside f b) (outside f' m) s → OnTrue tells (IsCut call (outside f b) (outside f' w))
+  cut_told false six eight went = tt
+  cut_told true six eight went = elim (cases_eq s 7) [
+    | inl seven ↦ cut_front (went.cut seven)
+    | inr other ↦ cut_whole (went.whole (six, other, eight)) (went.quiet other)
+  ]
+
+  unwritten : (tells : Bool) → Went tells call (outside f b) (outside f' m) s → WriteFailed call (outside f b) (outside f' w) ⊎ PutFailed (outside f b) (outside f' w)
+  unwritten tells went = elim (cases_eq s 7) [
+    | inl seven ↦ elim (went.unwritten seven) [ inl write ↦ inl write | inr put ↦ inr (put_failed (inr put)) ]
+    | inr other ↦ inr (put_failed (inl (went.quiet other)))
+  ]
+
+  went_lost : (tells : Bool) → s ≢ 6 → s ≢ 8 → Went tells call (outside f b) (outside f' m) s → Went tells call (outside f b) (outside f' w) 7
+  went_lost tells six eight went = record {
+    range = omega arith;
+    is_command = λ e. absurd (omega (arith, e));
+    whole = OnTrue_from tells _ (λ tell answer. absurd (answer.1.0 refl));
+    unread = λ e. absurd (omega (arith, e));
+    unwritten = λ e. unwritten tells went;
+    cut = OnTrue_from tells _ (λ tell e. OnTrue_at tell (cut_told tells six eight went));
+    nothing = λ which. absurd (elim which [ inl e ↦ omega (arith, e) | inr e ↦ omega (arith, e) ]);
+    quiet = λ other. absurd (other refl);
+    others = went.others;
+    stays = λ more other. absurd (other refl);
+  }
+
+pub went_settled : (tells : Bool) (call : Call) (f f' : FilesState) (b m w : SinkState) (s n : ℕ) → HasTakenNothing b.taken
+    → Went tells call (outside f b) (outside f' m) s → IsSettled m w s n → Went tells call (outside f b) (outside f' w) n
+went_settled tells call f f' b m w s n none went settled = by (ends b m w s n none went.nothing settled) where
+  by : Ends m w s n → Went tells call (outside f b) (outside f' w) n
+  by (same is state) = subst (λ (k : ℕ). Went tells call (outside f b) (outside f' w) k) (sym is) (subst (λ (o : SinkState). Went tells call (outside f b) (outside f' o) s) (sym state) went)
+  by (cut is six eight rest below rose) =
+      subst (λ (k : ℕ). Went tells call (outside f b) (outside f' w) k) (sym is) (went_lost call f f' b m w s none rest below rose tells six eight went)
+
+-- ---- make
+
+module _ (load : Load) (f f' : FilesState) (b m w : SinkState) (s : ℕ) (none : HasTakenNothing b.taken) (rest : List ℕ) (below : Appends w.taken m.taken rest) (rose : Rose m.faults w.faults) where
+  line_failed : (m.faults ≡ b.faults) ⊎ Rose b.faults m.faults → of_make.PutFailed (outside f b) (outside f' w)
+  line_failed since = rose_below b.faults m.faults w.faults since rose
+
+  load_cut : (line : List ℕ) → of_make.IsCutBy load line (outside f b) (outside f' m) → of_make.IsCutBy load line (outside f b) (outside f' w)
+  load_cut line (of_make.no_program failed others same) =
+      of_make.no_program failed others (none_below b.taken m.taken w.taken rest none same below ∙ same)
+  load_cut line (of_make.no_script failed stored same) =
+      of_make.no_script failed stored (none_below b.taken m.taken w.taken rest none same below ∙ same)
+  load_cut line (of_make.no_line failed texts front) =
+      of_make.no_line (line_failed (inr failed)) texts (front_below b.taken m.taken w.taken line rest none front below)
+
+  load_told : (tells : Bool) → s ≢ 8 → Made tells load (outside f b) (outside f' m) s
+      → OnTrue tells ((line : List ℕ) × IsSummary load.key load.count line × of_make.IsCutBy load line (outside f b) (outside f' w))
+  load_told false eight made = tt
+  load_told true eight made = elim made.range [
+    | inl zero ↦
+        let put = made.line zero in (
+          put.0,
+          put.1.0,
+          of_make.no_line (line_failed (inl (made.quiet (λ e. absurd (omega (arith, e, zero)))))) (made.stored zero)
+              (front_below b.taken m.taken w.taken put.0 rest none (whole_front b.taken m.taken put.0 put.1.1) below),
+        )
+    | inr later ↦ elim later [
+      | inl seven ↦ let cut_off = made.cut seven in (cut_off.0, cut_off.1.0, load_cut cut_off.0 cut_off.1.1)
+      | inr is ↦ absurd (eight is)
+    ]
+  ]
+
+  load_unwritten : (tells : Bool) → s ≢ 8 → Made tells load (outside f b) (outside f' m) s
+      → of_make.ProgramFailed load (outside f b) (outside f' w) ⊎ (of_make.ScriptFailed load (outside f b) (outside f' w) ⊎ of_make.PutFailed (outside f b) (outside f' w))
+  load_unwritten tells eight made = elim made.range [
+    | inl zero ↦ inr (inr (line_failed (inl (made.quiet (λ e. absurd (omega (arith, e, zero)))))))
+    | inr later ↦ elim later [
+      | inl seven ↦ elim (made.unwritten seven) [
+        | inl program ↦ inl program
+        | inr more ↦ elim more [ inl script ↦ inr (inl script) | inr put ↦ inr (inr (line_failed (inr put))) ]
+      ]
+      | inr is ↦ absurd (eight is)
+    ]
+  ]
+
+  made_lost : (tells : Bool) → s ≢ 8 → Made tells load (outside f b) (outside f' m) s → Made tells load (outside f b) (outside f' w) 7
+  made_lost tells eight made = record {
+    range = inr (inl refl);
+    line = λ e. absurd (omega (arith, e));
+    stored = OnTrue_from tells _ (λ tell e. absurd (omega (arith, e)));
+    unwritten = λ e. load_unwritten tells eight made;
+    cut = OnTrue_from tells _ (λ tell e. OnTrue_at tell (load_told tells eight made));
+    nothing = λ e. absurd (omega (arith, e));
+    kept = OnTrue_from tells _ (λ tell e. absurd (omega (arith, e)));
+    quiet = λ other. absurd (other refl);
+    others = made.others;
+  }
+
+made_nothing : (tells : Bool) (load : Load) (before now : Outside) (s : ℕ) → Made tells load before now s → (s ≡ 6) ⊎ (s ≡ 8) → now.out.taken ≡ before.out.taken
+made_nothing tells load before now s made (inr eight) = made.nothing eight
+made_nothing tells load before now s made (inl six) =
+    absurd (elim made.range [ inl e ↦ omega (arith, e, six) | inr later ↦ elim later [ inl e ↦ omega (arith, e, six) | inr e ↦ omega (arith, e, six) ] ])
+
+pub made_settled : (tells : Bool) (load : Load) (f f' : FilesState) (b m w : SinkState) (s n : ℕ) → HasTakenNothing b.taken
+    → Made tells load (outside f b) (outside f' m) s → IsSettled m w s n → Made tells load (outside f b) (outside f' w) n
+made_settled tells load f f' b m w s n none made settled =
+    by (ends b m w s n none (made_nothing tells load (outside f b) (outside f' m) s made) settled) where
+      by : Ends m w s n → Made tells load (outside f b) (outside f' w) n
+      by (same is state) = subst (λ (k : ℕ). Made tells load (outside f b) (outside f' w) k) (sym is) (subst (λ (o : SinkState). Made tells load (outside f b) (outside f' o) s) (sym state) made)
+      by (cut is six eight rest below rose) =
+          subst (λ (k : ℕ). Made tells load (outside f b) (outside f' w) k) (sym is) (made_lost load f f' b m w s none rest below rose tells eight made)
+
+-- ---- words that are no command
+
+usage_since : (f f' : FilesState) (b m : SinkState) (s : ℕ) → IsUsage (outside f b) (outside f' m) s → (m.faults ≡ b.faults) ⊎ Rose b.faults m.faults
+usage_since f f' b m s usage = elim usage.answer [
+  | inl one ↦ inl (usage.quiet (λ e. absurd (omega (arith, e, one.0))))
+  | inr seven ↦ inr seven.1.0
+]
+
+usage_front : (f f' : FilesState) (b m : SinkState) (s : ℕ) → IsUsage (outside f b) (outside f' m) s → AppendsFront b.taken m.taken (codes "usage\n")
+usage_front f f' b m s usage = elim usage.answer [
+  | inl one ↦ whole_front b.taken m.taken (codes "usage\n") one.1
+  | inr seven ↦ seven.1.1
+]
+
+usage_nothing : (f f' : FilesState) (b m : SinkState) (s : ℕ) → IsUsage (outside f b) (outside f' m) s → (s ≡ 6) ⊎ (s ≡ 8) → m.taken ≡ b.taken
+usage_nothing f f' b m s usage which = absurd (elim usage.answer [
+  | inl one ↦ elim which [ inl e ↦ omega (arith, e, one.0) | inr e ↦ omega (arith, e, one.0) ]
+  | inr seven ↦ elim which [ inl e ↦ omega (arith, e, seven.0) | inr e ↦ omega (arith, e, seven.0) ]
+])
+
+pub usage_settled : (f f' : FilesState) (b m w : SinkState) (s n : ℕ) → HasTakenNothing b.taken
+    → IsUsage (outside f b) (outside f' m) s → IsSettled m w s n → IsUsage (outside f b) (outside f' w) n
+usage_settled f f' b m w s n none usage settled = by (ends b m w s n none (usage_nothing f f' b m s usage) settled) where
+  by : Ends m w s n → IsUsage (outside f b) (outside f' w) n
+  by (same is state) = subst (λ (k : ℕ). IsUsage (outside f b) (outside f' w) k) (sym is) (subst (λ (o : SinkState). IsUsage (outside f b) (outside f' o) s) (sym state) usage)
+  by (cut is six eight rest below rose) = record {
+    answer = inr (is, rose_below b.faults m.faults w.faults (usage_since f f' b m s usage) rose, front_below b.taken m.taken w.taken (codes "usage\n") rest none (usage_front f f' b m s usage) below);
+    quiet = λ other. absurd (other is);
+    stays = usage.stays;
+  }
+
+-- ---- the status
+
+pub status_settled : (m w : SinkState) (s n : ℕ) → IsSettled m w s n → (n ≡ s) ⊎ (n ≡ 7)
+status_settled m w s n (whole is taken faults) = inl is
+status_settled m w s n (idle is which rest below faults) = inl is
+status_settled m w s n (lost is six eight rest below rose) = inr is
+
+pub quiet_settled : (b m w : SinkState) (s n : ℕ) → (s ≢ 7 → m.faults ≡ b.faults) → IsSettled m w s n → n ≢ 7 → w.faults ≡ b.faults
+quiet_settled b m w s n quiet (whole is taken faults) other = faults ∙ quiet (λ e. other (is ∙ e))
+quiet_settled b m w s n quiet (idle is which rest below faults) other = faults ∙ quiet (λ e. other (is ∙ e))
+quiet_settled b m w s n quiet (lost is six eight rest below rose) other = absurd (other is)
+
+-- what holds of a call that answers 0 holds still where the call does now
+pub zero_settled : {P : SinkState → Type 0} (tells : Bool) (call : Call) (f f' : FilesState) (b m w : SinkState) (s n : ℕ) → HasTakenNothing b.taken
+    → Went tells call (outside f b) (outside f' m) s → OnTrue tells (s ≡ 0 → P m) → IsSettled m w s n → OnTrue tells (n ≡ 0 → P w)
+zero_settled {P = P} tells call f f' b m w s n none went done settled = OnTrue_from tells _ (λ tell zero. by tell zero (ends b m w s n none went.nothing settled)) where
+  by : tells ≡ true → n ≡ 0 → Ends m w s n → P w
+  by tell zero (same is state) = subst P (sym state) (OnTrue_at tell done (sym is ∙ zero))
+  by tell zero (cut is six eight rest below rose) = absurd (omega (arith, is, zero))
+
+-- what holds of a status below 6 holds of that now
+pub low_settled : {P : ℕ → Type 0} (tells : Bool) (m w : SinkState) (s n : ℕ) → OnTrue tells (s < 6 → P s) → IsSettled m w s n → OnTrue tells (n < 6 → P n)
+low_settled {P = P} tells m w s n told settled = OnTrue_from tells _ (λ tell low. by tell low (status_settled m w s n settled)) where
+  by : tells ≡ true → n < 6 → (n ≡ s) ⊎ (n ≡ 7) → P n
+  by tell low (inl is) = subst P (sym is) (OnTrue_at tell told (subst (λ k. k < 6) is low))
+  by tell low (inr is) = absurd (omega (arith, is, low))

@@ -1,0 +1,3 @@
+mod Settling
+mod Calls
+mod Whole

@@ -1,0 +1,95 @@
+//! The call.
+
+ghost use Rattle.std.specs.Prelude.{◌≡◌, ◌≢◌, ◌<◌, ◌↔◌, ◌⊎◌, ℕ, List, Some, None};
+ghost use Rattle.std.specs.Bool.{OnTrue};
+ghost use Rattle.outside.specs.Outside.{outside, AllStay};
+ghost use Rattle.command_words.specs.Calls.{Call, Load};
+ghost use Rattle.command_words.specs.Words.{IsCommand, IsMake};
+ghost use Rattle.command_answers.specs.Acts.{number_of};
+ghost use Rattle.command_answers.specs.Files.{IsDue};
+ghost use Rattle.command_answers.specs.Went.{Went, Completes, IsUsage};
+ghost use Rattle.command_answers.specs.Promise.{HasDone, IsRefusedForTime};
+ghost use Rattle.command_due.specs.CommandsDue.{Outcome};
+ghost use Rattle.command.specs.Made.{Made};
+ghost use Rattle.command.specs.Targets.{IsNoTarget};
+ghost use Rattle.command_line.specs.Settled.{HasTakenNothing, IsSettled};
+
+use command::rte;
+use command_answers::Status;
+use outside::{Buffered, Files, Sink};
+use std::alloc::Global;
+
+/// Writes what waits to the sink below, and gives that back with the status that the call then has.
+/// Where nothing was put, nothing waits.
+fn settle<S: Sink>(status: Status, out: Buffered<S>) -> (Status, S)
+    ensures { IsSettled (⟦<Buffered<S> as Sink>⟧.state out) (S.state result.1)
+        (number_of status) (number_of result.0) }
+{
+    if status == Status::Unread || status == Status::Memory {
+        return (status, out.into_sink());
+    }
+    let (written, sink) = out.finish();
+    match written {
+        Ok(()) => (status, sink),
+        Err(_) => (Status::Unwritten, sink),
+    }
+}
+
+/// Does what the words ask, as `command::rte`, and gives the sink back with the status. What is put
+/// waits in a buffer of 65,536 bytes, and is written at the end; where that fails the status is 7.
+/// The sink has taken nothing yet, where it tells.
+pub fn call<F: Files, S: Sink>(
+    alloc: Global,
+    words: &[String],
+    files: &mut F,
+    sink: S,
+) -> (Status, S)
+    requires nothing { HasTakenNothing (S.state sink).taken }
+    // A call of a command went as is due, by what its files hold.
+    ensures went { (call : Call) → IsCommand words.now call → Went F.tells call
+        (outside (F.state files.old) (S.state sink))
+        (outside (F.state files.new) (S.state result.1)) (number_of result.0) }
+    // Where no failure is counted, what is due is done whole, or the status is 8.
+    ensures complete { (call : Call) → IsCommand words.now call → OnTrue F.tells (Completes call
+        (outside (F.state files.old) (S.state sink))
+        (outside (F.state files.new) (S.state result.1)) (number_of result.0)) }
+    // So did `make`: its status is 0, 7 or 8.
+    ensures made { (load : Load) → IsMake words.now load → Made F.tells load
+        (outside (F.state files.old) (S.state sink))
+        (outside (F.state files.new) (S.state result.1)) (number_of result.0) }
+    // All other words are refused.
+    ensures usage { ((call : Call) → ¬ IsCommand words.now call) →
+        ((load : Load) → ¬ IsMake words.now load) → IsUsage
+        (outside (F.state files.old) (S.state sink))
+        (outside (F.state files.new) (S.state result.1)) (number_of result.0) }
+    // Of every call but `make`: with a status but 0 and 7 no file has changed. Of every call: no
+    // file changes but those that are written.
+    ensures kept { ((load : Load) → ¬ IsMake words.now load) → 0 < number_of result.0 →
+        number_of result.0 ≢ 7 → AllStay (F.state files.old).held (F.state files.new).held }
+    ensures others { (name : List ℕ) → IsNoTarget words.now name →
+        (F.state files.new).held name ≡ (F.state files.old).held name }
+    // Where no image is due no file changes.
+    ensures refused { (call : Call) → IsCommand words.now call →
+        OnTrue F.tells ((outcome : Outcome) →
+        IsDue call (F.state files.old).held outcome → outcome.image ≡ None →
+        AllStay (F.state files.old).held (F.state files.new).held) }
+    // So once a file has changed, the status is 0 or 7, but of `make`.
+    ensures stored { ((load : Load) → ¬ IsMake words.now load) → (name : List ℕ) →
+        (F.state files.new).held name ≢ (F.state files.old).held name →
+        (number_of result.0 ≡ 0) ⊎ (number_of result.0 ≡ 7) }
+    // With a status but 7 the sink's count of faults is what it was.
+    ensures quiet { number_of result.0 ≢ 7 → (S.state result.1).faults ≡ (S.state sink).faults }
+    // Status 0: as of `command::rte`, and the sink has taken all that is due.
+    ensures done { (call : Call) → IsCommand words.now call →
+        OnTrue F.tells (number_of result.0 ≡ 0 → HasDone call
+        (outside (F.state files.old) (S.state sink))
+        (outside (F.state files.new) (S.state result.1))) }
+    // Status 3 as of `command::rte`.
+    ensures late { (call : Call) → IsCommand words.now call → OnTrue F.tells (number_of result.0 < 6 →
+        (number_of result.0 ≡ 3) ↔ IsRefusedForTime call
+        (outside (F.state files.old) (S.state sink))) }
+{
+    let mut out = Buffered::new(alloc, sink);
+    let status = rte(alloc, words, files, &mut out);
+    settle(status, out)
+}
