@@ -106,7 +106,8 @@ deep_heard bytes are e h = by (failed (u32.read bytes) (λ count. no_tree (lengt
   by : Failed (u32.read bytes) (λ count. no_tree (length bytes)) e → IsFault tree too_deep bytes e.number e.left
   by (inl first) = s.in_count (field_heard natural u32 4 s.of_four bytes are e first)
   by (inr second) =
-      at_fault tree too_deep bytes (fault 4 (length bytes)) e second.then_is
+      let same = second.then_is in
+      at_fault tree too_deep bytes (fault 4 (length bytes)) e (cc)
       (s.is_deep (read_begins natural u32 (s.a_field s.of_four) bytes are second.x second.was))
 
 pub tree_heard : (monitors depth : ℕ) → Heard tree (tree_format (in_image monitors) depth)
