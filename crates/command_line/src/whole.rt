@@ -1,6 +1,6 @@
 //! The call.
 
-ghost use Rattle.std.specs.Prelude.{◌≡◌, ◌≢◌, ◌<◌, ◌↔◌, ◌⊎◌, ℕ, List, Some, None};
+ghost use Rattle.std.specs.Prelude.{◌≡◌, ◌≢◌, ◌<◌, ◌↔◌, ◌⊎◌, ℕ, List, Some, None, true, false};
 ghost use Rattle.std.specs.Bool.{OnTrue};
 ghost use Rattle.outside.specs.Outside.{outside, AllStay};
 ghost use Rattle.command_words.specs.Calls.{Call, Load};
@@ -19,13 +19,21 @@ use command_answers::Status;
 use outside::{Buffered, Files, Sink};
 use std::alloc::Global;
 
+/// Whether the status says that nothing was put.
+fn puts_nothing(status: Status) -> bool
+    ensures yes { result ≡ true → (number_of status ≡ 6) ⊎ (number_of status ≡ 8) }
+    ensures no { result ≡ false → (number_of status ≢ 6) × (number_of status ≢ 8) }
+{
+    matches!(status, Status::Unread | Status::Memory)
+}
+
 /// Writes what waits to the sink below, and gives that back with the status that the call then has.
 /// Where nothing was put, nothing waits.
 fn settle<S: Sink>(status: Status, out: Buffered<S>) -> (Status, S)
     ensures { IsSettled (⟦<Buffered<S> as Sink>⟧.state out) (S.state result.1)
         (number_of status) (number_of result.0) }
 {
-    if status == Status::Unread || status == Status::Memory {
+    if puts_nothing(status) {
         return (status, out.into_sink());
     }
     let (written, sink) = out.finish();
