@@ -1,3 +1,3 @@
 mod Settling
 mod Calls
-mod Whole
+mod Clauses

@@ -2,7 +2,7 @@ use Rattle.std.proofs.Common.{◌≢◌, inl, inr, ◌∙◌, sym, subst, ◌<�
 use Rattle.command_answers.specs.Acts.{number_of}
 use Rattle.command.proofs.Complete.{completes}
 use Rattle.command_line.proofs.Calls.{status_settled}
-use Rattle.command_line.proofs.Whole.{went_whole, made_whole, usage_whole, quiet_whole, done_whole, late_whole}
+use Rattle.command_line.proofs.Clauses.{went_whole, made_whole, usage_whole, quiet_whole, done_whole, late_whole}
 use Rattle.command_line.proofs.whole.call.Goals as goal
 
 pub returns-clause-went : goal.returns-clause-went
