@@ -14,15 +14,15 @@ use Rattle.command_line.proofs.Settling.{same_state, none_below, front_below, wh
 
 -- the sink below stands as the buffer, with its status; or what waited was not taken whole
 data Ends (m w : SinkState) (s n : ℕ) : Type 0 where
-  same : n ≡ s → w ≡ m → Ends m w s n
-  cut : n ≡ 7 → s ≢ 6 → s ≢ 8 → (rest : List ℕ) → Appends w.taken m.taken rest → Rose m.faults w.faults → Ends m w s n
+  stands : n ≡ s → w ≡ m → Ends m w s n
+  falls : n ≡ 7 → s ≢ 6 → s ≢ 8 → (rest : List ℕ) → Appends w.taken m.taken rest → Rose m.faults w.faults → Ends m w s n
 
 -- where nothing was put with 6 and 8, nothing waits
 ends : (b m w : SinkState) (s n : ℕ) → HasTakenNothing b.taken → ((s ≡ 6) ⊎ (s ≡ 8) → m.taken ≡ b.taken) → IsSettled m w s n → Ends m w s n
-ends b m w s n none nothing (whole is taken faults) = same is (same_state w m taken faults)
+ends b m w s n none nothing (whole is taken faults) = stands is (same_state w m taken faults)
 ends b m w s n none nothing (idle is which rest below faults) =
-    same is (same_state w m (none_below b.taken m.taken w.taken rest none (nothing which) below) faults)
-ends b m w s n none nothing (lost is six eight rest below rose) = cut is six eight rest below rose
+    stands is (same_state w m (none_below b.taken m.taken w.taken rest none (nothing which) below) faults)
+ends b m w s n none nothing (lost is six eight rest below rose) = falls is six eight rest below rose
 
 -- ---- a command
 
@@ -44,7 +44,7 @@ module _ (call : Call) (f f' : FilesState) (b m w : SinkState) (s : ℕ) (none :
     due = c.due;
     front = front_below b.taken m.taken w.taken c.outcome.text rest none c.front below;
     cause = elim c.cause [
-      | inl write ↦ inl (write.0, write.1.0, none_below b.taken m.taken w.taken rest none write.1.1 below ∙ write.1.1)
+      | inl write ↦ inl (write.0, write.1, none_below b.taken m.taken w.taken rest none write.2 below ∙ write.2)
       | inr put ↦ inr (put_failed (inr put.0), put.1)
     ];
   }
@@ -66,7 +66,7 @@ module _ (call : Call) (f f' : FilesState) (b m w : SinkState) (s : ℕ) (none :
   went_lost tells six eight went = record {
     range = omega arith;
     is_command = λ e. absurd (omega (arith, e));
-    whole = OnTrue_from tells _ (λ tell answer. absurd (answer.1.0 refl));
+    whole = OnTrue_from tells _ (λ tell answer. absurd (answer.1 refl));
     unread = λ e. absurd (omega (arith, e));
     unwritten = λ e. unwritten tells went;
     cut = OnTrue_from tells _ (λ tell e. OnTrue_at tell (cut_told tells six eight went));
@@ -80,8 +80,8 @@ pub went_settled : (tells : Bool) (call : Call) (f f' : FilesState) (b m w : Sin
     → Went tells call (outside f b) (outside f' m) s → IsSettled m w s n → Went tells call (outside f b) (outside f' w) n
 went_settled tells call f f' b m w s n none went settled = by (ends b m w s n none went.nothing settled) where
   by : Ends m w s n → Went tells call (outside f b) (outside f' w) n
-  by (same is state) = subst (λ (k : ℕ). Went tells call (outside f b) (outside f' w) k) (sym is) (subst (λ (o : SinkState). Went tells call (outside f b) (outside f' o) s) (sym state) went)
-  by (cut is six eight rest below rose) =
+  by (stands is state) = subst (λ (k : ℕ). Went tells call (outside f b) (outside f' w) k) (sym is) (subst (λ (o : SinkState). Went tells call (outside f b) (outside f' o) s) (sym state) went)
+  by (falls is six eight rest below rose) =
       subst (λ (k : ℕ). Went tells call (outside f b) (outside f' w) k) (sym is) (went_lost call f f' b m w s none rest below rose tells six eight went)
 
 -- ---- make
@@ -105,12 +105,12 @@ module _ (load : Load) (f f' : FilesState) (b m w : SinkState) (s : ℕ) (none :
     | inl zero ↦
         let put = made.line zero in (
           put.0,
-          put.1.0,
+          put.1,
           of_make.no_line (line_failed (inl (made.quiet (λ e. absurd (omega (arith, e, zero)))))) (made.stored zero)
-              (front_below b.taken m.taken w.taken put.0 rest none (whole_front b.taken m.taken put.0 put.1.1) below),
+              (front_below b.taken m.taken w.taken put.0 rest none (whole_front b.taken m.taken put.0 put.2) below),
         )
     | inr later ↦ elim later [
-      | inl seven ↦ let cut_off = made.cut seven in (cut_off.0, cut_off.1.0, load_cut cut_off.0 cut_off.1.1)
+      | inl seven ↦ let told = made.cut seven in (told.0, told.1, load_cut told.0 told.2)
       | inr is ↦ absurd (eight is)
     ]
   ]
@@ -151,8 +151,8 @@ pub made_settled : (tells : Bool) (load : Load) (f f' : FilesState) (b m w : Sin
 made_settled tells load f f' b m w s n none made settled =
     by (ends b m w s n none (made_nothing tells load (outside f b) (outside f' m) s made) settled) where
       by : Ends m w s n → Made tells load (outside f b) (outside f' w) n
-      by (same is state) = subst (λ (k : ℕ). Made tells load (outside f b) (outside f' w) k) (sym is) (subst (λ (o : SinkState). Made tells load (outside f b) (outside f' o) s) (sym state) made)
-      by (cut is six eight rest below rose) =
+      by (stands is state) = subst (λ (k : ℕ). Made tells load (outside f b) (outside f' w) k) (sym is) (subst (λ (o : SinkState). Made tells load (outside f b) (outside f' o) s) (sym state) made)
+      by (falls is six eight rest below rose) =
           subst (λ (k : ℕ). Made tells load (outside f b) (outside f' w) k) (sym is) (made_lost load f f' b m w s none rest below rose tells eight made)
 
 -- ---- words that are no command
@@ -160,13 +160,13 @@ made_settled tells load f f' b m w s n none made settled =
 usage_since : (f f' : FilesState) (b m : SinkState) (s : ℕ) → IsUsage (outside f b) (outside f' m) s → (m.faults ≡ b.faults) ⊎ Rose b.faults m.faults
 usage_since f f' b m s usage = elim usage.answer [
   | inl one ↦ inl (usage.quiet (λ e. absurd (omega (arith, e, one.0))))
-  | inr seven ↦ inr seven.1.0
+  | inr seven ↦ inr seven.1
 ]
 
 usage_front : (f f' : FilesState) (b m : SinkState) (s : ℕ) → IsUsage (outside f b) (outside f' m) s → AppendsFront b.taken m.taken (codes "usage\n")
 usage_front f f' b m s usage = elim usage.answer [
   | inl one ↦ whole_front b.taken m.taken (codes "usage\n") one.1
-  | inr seven ↦ seven.1.1
+  | inr seven ↦ seven.2
 ]
 
 usage_nothing : (f f' : FilesState) (b m : SinkState) (s : ℕ) → IsUsage (outside f b) (outside f' m) s → (s ≡ 6) ⊎ (s ≡ 8) → m.taken ≡ b.taken
@@ -179,8 +179,8 @@ pub usage_settled : (f f' : FilesState) (b m w : SinkState) (s n : ℕ) → HasT
     → IsUsage (outside f b) (outside f' m) s → IsSettled m w s n → IsUsage (outside f b) (outside f' w) n
 usage_settled f f' b m w s n none usage settled = by (ends b m w s n none (usage_nothing f f' b m s usage) settled) where
   by : Ends m w s n → IsUsage (outside f b) (outside f' w) n
-  by (same is state) = subst (λ (k : ℕ). IsUsage (outside f b) (outside f' w) k) (sym is) (subst (λ (o : SinkState). IsUsage (outside f b) (outside f' o) s) (sym state) usage)
-  by (cut is six eight rest below rose) = record {
+  by (stands is state) = subst (λ (k : ℕ). IsUsage (outside f b) (outside f' w) k) (sym is) (subst (λ (o : SinkState). IsUsage (outside f b) (outside f' o) s) (sym state) usage)
+  by (falls is six eight rest below rose) = record {
     answer = inr (is, rose_below b.faults m.faults w.faults (usage_since f f' b m s usage) rose, front_below b.taken m.taken w.taken (codes "usage\n") rest none (usage_front f f' b m s usage) below);
     quiet = λ other. absurd (other is);
     stays = usage.stays;
@@ -199,16 +199,16 @@ quiet_settled b m w s n quiet (idle is which rest below faults) other = faults �
 quiet_settled b m w s n quiet (lost is six eight rest below rose) other = absurd (other is)
 
 -- what holds of a call that answers 0 holds still where the call does now
-pub zero_settled : {P : SinkState → Type 0} (tells : Bool) (call : Call) (f f' : FilesState) (b m w : SinkState) (s n : ℕ) → HasTakenNothing b.taken
+pub zero_settled : (P : SinkState → Type 0) (tells : Bool) (call : Call) (f f' : FilesState) (b m w : SinkState) (s n : ℕ) → HasTakenNothing b.taken
     → Went tells call (outside f b) (outside f' m) s → OnTrue tells (s ≡ 0 → P m) → IsSettled m w s n → OnTrue tells (n ≡ 0 → P w)
-zero_settled {P = P} tells call f f' b m w s n none went done settled = OnTrue_from tells _ (λ tell zero. by tell zero (ends b m w s n none went.nothing settled)) where
+zero_settled P tells call f f' b m w s n none went done settled = OnTrue_from tells _ (λ tell zero. by tell zero (ends b m w s n none went.nothing settled)) where
   by : tells ≡ true → n ≡ 0 → Ends m w s n → P w
-  by tell zero (same is state) = subst P (sym state) (OnTrue_at tell done (sym is ∙ zero))
-  by tell zero (cut is six eight rest below rose) = absurd (omega (arith, is, zero))
+  by tell zero (stands is state) = subst P (sym state) (OnTrue_at tell done (sym is ∙ zero))
+  by tell zero (falls is six eight rest below rose) = absurd (omega (arith, is, zero))
 
 -- what holds of a status below 6 holds of that now
-pub low_settled : {P : ℕ → Type 0} (tells : Bool) (m w : SinkState) (s n : ℕ) → OnTrue tells (s < 6 → P s) → IsSettled m w s n → OnTrue tells (n < 6 → P n)
-low_settled {P = P} tells m w s n told settled = OnTrue_from tells _ (λ tell low. by tell low (status_settled m w s n settled)) where
+pub low_settled : (P : ℕ → Type 0) (tells : Bool) (m w : SinkState) (s n : ℕ) → OnTrue tells (s < 6 → P s) → IsSettled m w s n → OnTrue tells (n < 6 → P n)
+low_settled P tells m w s n told settled = OnTrue_from tells _ (λ tell low. by tell low (status_settled m w s n settled)) where
   by : tells ≡ true → n < 6 → (n ≡ s) ⊎ (n ≡ 7) → P n
   by tell low (inl is) = subst P (sym is) (OnTrue_at tell told (subst (λ k. k < 6) is low))
   by tell low (inr is) = absurd (omega (arith, is, low))

@@ -34,12 +34,12 @@ module _ (f f' : FilesState) (a b m w : SinkState) (s n : ℕ) (taken : a.taken 
   pub done_whole : (tells : Bool) (call : Call) → Went tells call (outside f a) (outside f' m) s
       → OnTrue tells (s ≡ 0 → HasDone call (outside f a) (outside f' m)) → OnTrue tells (n ≡ 0 → HasDone call (outside f b) (outside f' w))
   done_whole tells call went done =
-      zero_settled {P = λ o. HasDone call (outside f b) (outside f' o)} tells call f f' b m w s n none
+      zero_settled (λ o. HasDone call (outside f b) (outside f' o)) tells call f f' b m w s n none
       (subst (λ (o : SinkState). Went tells call (outside f o) (outside f' m) s) begins went)
       (subst (λ (o : SinkState). OnTrue tells (s ≡ 0 → HasDone call (outside f o) (outside f' m))) begins done) settled
 
   pub late_whole : (tells : Bool) (call : Call) → OnTrue tells (s < 6 → (s ≡ 3) ↔ IsRefusedForTime call (outside f a))
       → OnTrue tells (n < 6 → (n ≡ 3) ↔ IsRefusedForTime call (outside f b))
   late_whole tells call late =
-      low_settled {P = λ k. (k ≡ 3) ↔ IsRefusedForTime call (outside f b)} tells m w s n
+      low_settled (λ k. (k ≡ 3) ↔ IsRefusedForTime call (outside f b)) tells m w s n
       (subst (λ (o : SinkState). OnTrue tells (s < 6 → (s ≡ 3) ↔ IsRefusedForTime call (outside f o))) begins late) settled

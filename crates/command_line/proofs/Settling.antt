@@ -1,5 +1,5 @@
 -- What is below a buffer, by what the buffer has taken.
-use Rattle.std.proofs.Common.{◌≡◌, ◌≤◌, ◌⊎◌, ◌∙◌, ◌++◌, ◌+◌, ◌-◌, ◌^◌, ◌∷◌, ℕ, List, [], Option, Some, None, inl, inr, refl, sym, ap, subst, arith, append_assoc, append-nil}
+use Rattle.std.proofs.Common.{◌≡◌, ◌≤◌, ◌⊎◌, ◌∙◌, ◌++◌, ◌+◌, ◌-◌, ◌^◌, ◌∷◌, ℕ, List, [], Option, Some, None, Result, Ok, Err, OnErr, inl, inr, refl, sym, ap, subst, arith, append_assoc, append-nil}
 use Rattle.std.specs.Prelude.{min}
 use Rattle.std.proofs.Math.Nat.{le-min, min-le_right}
 use Rattle.outside.specs.Outside.{SinkState, Rose, Appends, AppendsFront}
@@ -52,3 +52,8 @@ rose_below b m w (inl same) rose = subst (λ k. Rose k w) same rose
 rose_below b m w (inr before) rose =
     let low : min (b + 1) (2 ^ 64 - 1) ≤ min (m + 1) (2 ^ 64 - 1) = le-min (omega (arith, before)) (min-le_right (b + 1) (2 ^ 64 - 1)) in
     omega (arith, low, rose)
+
+-- what is told of an error
+pub err_told : {A E P : Type 0} (r : Result A E) (e : E) → r ≡ Err e → OnErr r P → P
+err_told (Ok x) e is h = absurd cc
+err_told (Err x) e is h = h
