@@ -193,10 +193,10 @@ status_settled m w s n (whole is taken faults) = inl is
 status_settled m w s n (idle is which rest below faults) = inl is
 status_settled m w s n (lost is six eight rest below rose) = inr is
 
-pub quiet_settled : (b m w : SinkState) (s n : ℕ) → (s ≢ 7 → m.faults ≡ b.faults) → IsSettled m w s n → n ≢ 7 → w.faults ≡ b.faults
-quiet_settled b m w s n quiet (whole is taken faults) other = faults ∙ quiet (λ e. other (is ∙ e))
-quiet_settled b m w s n quiet (idle is which rest below faults) other = faults ∙ quiet (λ e. other (is ∙ e))
-quiet_settled b m w s n quiet (lost is six eight rest below rose) other = absurd (other is)
+pub quiet_settled : (before : ℕ) (m w : SinkState) (s n : ℕ) → (s ≢ 7 → m.faults ≡ before) → IsSettled m w s n → n ≢ 7 → w.faults ≡ before
+quiet_settled before m w s n quiet (whole is taken faults) other = faults ∙ quiet (λ e. other (is ∙ e))
+quiet_settled before m w s n quiet (idle is which rest below faults) other = faults ∙ quiet (λ e. other (is ∙ e))
+quiet_settled before m w s n quiet (lost is six eight rest below rose) other = absurd (other is)
 
 -- what holds of a call that answers 0 holds still where the call does now
 pub zero_settled : (P : SinkState → Type 0) (tells : Bool) (call : Call) (f f' : FilesState) (b m w : SinkState) (s n : ℕ) → HasTakenNothing b.taken

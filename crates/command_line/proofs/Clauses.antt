@@ -1,5 +1,5 @@
 -- The clauses of a call over its buffer, said of the sink below.
-use Rattle.std.proofs.Common.{◌≡◌, ◌≢◌, ◌<◌, ◌⊎◌, ◌∙◌, ℕ, Bool, inl, inr, sym, subst}
+use Rattle.std.proofs.Common.{◌≡◌, ◌<◌, ℕ, Bool, subst}
 use Rattle.std.specs.Prelude.{◌↔◌}
 use Rattle.std.specs.Bool.{OnTrue}
 use Rattle.outside.specs.Outside.{FilesState, SinkState, outside}
@@ -9,7 +9,7 @@ use Rattle.command_answers.specs.Went.{Went, IsUsage}
 use Rattle.command.specs.Made.{Made}
 use Rattle.command_line.specs.Settled.{HasTakenNothing, IsSettled}
 use Rattle.command_line.proofs.Settling.{same_state}
-use Rattle.command_line.proofs.Calls.{went_settled, made_settled, usage_settled, quiet_settled, zero_settled, low_settled}
+use Rattle.command_line.proofs.Calls.{went_settled, made_settled, usage_settled, zero_settled, low_settled}
 
 -- The buffer begins as the sink below: `a` is its state at the start, `b` that of the sink.
 module _ (f f' : FilesState) (a b m w : SinkState) (s n : ℕ) (taken : a.taken ≡ b.taken) (faults : a.faults ≡ b.faults) (none : HasTakenNothing b.taken) (settled : IsSettled m w s n) where
@@ -28,9 +28,6 @@ module _ (f f' : FilesState) (a b m w : SinkState) (s n : ℕ) (taken : a.taken 
   usage_whole usage =
       usage_settled f f' b m w s n none (subst (λ (o : SinkState). IsUsage (outside f o) (outside f' m) s) begins usage) settled
 
-  pub quiet_whole : (s ≢ 7 → m.faults ≡ a.faults) → n ≢ 7 → w.faults ≡ b.faults
-  quiet_whole quiet = quiet_settled b m w s n (λ other. quiet other ∙ faults) settled
-
   pub done_whole : (tells : Bool) (call : Call) → Went tells call (outside f a) (outside f' m) s
       → OnTrue tells (s ≡ 0 → HasDone call (outside f a) (outside f' m)) → OnTrue tells (n ≡ 0 → HasDone call (outside f b) (outside f' w))
   done_whole tells call went done =
@@ -38,8 +35,10 @@ module _ (f f' : FilesState) (a b m w : SinkState) (s n : ℕ) (taken : a.taken 
       (subst (λ (o : SinkState). Went tells call (outside f o) (outside f' m) s) begins went)
       (subst (λ (o : SinkState). OnTrue tells (s ≡ 0 → HasDone call (outside f o) (outside f' m))) begins done) settled
 
+-- The status, whatever the files hold then.
+module _ (f : FilesState) (a b m w : SinkState) (s n : ℕ) (taken : a.taken ≡ b.taken) (faults : a.faults ≡ b.faults) (settled : IsSettled m w s n) where
   pub late_whole : (tells : Bool) (call : Call) → OnTrue tells (s < 6 → (s ≡ 3) ↔ IsRefusedForTime call (outside f a))
       → OnTrue tells (n < 6 → (n ≡ 3) ↔ IsRefusedForTime call (outside f b))
   late_whole tells call late =
       low_settled (λ k. (k ≡ 3) ↔ IsRefusedForTime call (outside f b)) tells m w s n
-      (subst (λ (o : SinkState). OnTrue tells (s < 6 → (s ≡ 3) ↔ IsRefusedForTime call (outside f o))) begins late) settled
+      (subst (λ (o : SinkState). OnTrue tells (s < 6 → (s ≡ 3) ↔ IsRefusedForTime call (outside f o))) (same_state a b taken faults) late) settled

@@ -1,47 +1,46 @@
-use Rattle.std.proofs.Common.{◌≢◌, inl, inr, ◌∙◌, sym, subst, ◌<◌}
-use Rattle.command_answers.specs.Acts.{number_of}
+use Rattle.std.proofs.Common.{inl, inr, ◌∙◌, subst, ◌<◌}
 use Rattle.command.proofs.Complete.{completes}
-use Rattle.command_line.proofs.Calls.{status_settled}
-use Rattle.command_line.proofs.Clauses.{went_whole, made_whole, usage_whole, quiet_whole, done_whole, late_whole}
+use Rattle.command_line.proofs.Calls.{quiet_settled, status_settled}
+use Rattle.command_line.proofs.Clauses.{went_whole, made_whole, usage_whole, done_whole, late_whole}
 use Rattle.command_line.proofs.whole.call.Goals as goal
 
 pub returns-clause-went : goal.returns-clause-went
 returns-clause-went g c = λ call is.
-    went_whole _ _ _ _ _ _ _ _ c.new.ensures.taken c.new.ensures.faults c.requires.nothing c.settle.ensures g.F.Files.tells call (c.rte.ensures.went call is)
+    went_whole _ _ _ _ _ _ _ _ c.new-out.ensures.taken c.new-out.ensures.faults c.requires.nothing c.settle.ensures g.F.Files.tells call (c.rte-status.ensures.went call is)
 
 pub returns-clause-complete : goal.returns-clause-complete
 returns-clause-complete g c = λ call is.
     completes g.F.Files.tells call _ _ _
-    (went_whole _ _ _ _ _ _ _ _ c.new.ensures.taken c.new.ensures.faults c.requires.nothing c.settle.ensures g.F.Files.tells call (c.rte.ensures.went call is))
+    (went_whole _ _ _ _ _ _ _ _ c.new-out.ensures.taken c.new-out.ensures.faults c.requires.nothing c.settle.ensures g.F.Files.tells call (c.rte-status.ensures.went call is))
 
 pub returns-clause-made : goal.returns-clause-made
 returns-clause-made g c = λ load is.
-    made_whole _ _ _ _ _ _ _ _ c.new.ensures.taken c.new.ensures.faults c.requires.nothing c.settle.ensures g.F.Files.tells load (c.rte.ensures.made load is)
+    made_whole _ _ _ _ _ _ _ _ c.new-out.ensures.taken c.new-out.ensures.faults c.requires.nothing c.settle.ensures g.F.Files.tells load (c.rte-status.ensures.made load is)
 
 pub returns-clause-usage : goal.returns-clause-usage
 returns-clause-usage g c = λ no_call no_load.
-    usage_whole _ _ _ _ _ _ _ _ c.new.ensures.taken c.new.ensures.faults c.requires.nothing c.settle.ensures (c.rte.ensures.usage no_call no_load)
+    usage_whole _ _ _ _ _ _ _ _ c.new-out.ensures.taken c.new-out.ensures.faults c.requires.nothing c.settle.ensures (c.rte-status.ensures.usage no_call no_load)
 
 pub returns-clause-kept : goal.returns-clause-kept
 returns-clause-kept g c = λ none more other. elim (status_settled _ _ _ _ c.settle.ensures) [
-  | inl is ↦ c.rte.ensures.kept none (subst (λ k. 0 < k) is more) (λ e. other (is ∙ e))
+  | inl is ↦ c.rte-status.ensures.kept none (subst (λ k. 0 < k) is more) (λ e. other (is ∙ e))
   | inr is ↦ absurd (other is)
 ]
 
 pub returns-clause-stored : goal.returns-clause-stored
 returns-clause-stored g c = λ none name changed. elim (status_settled _ _ _ _ c.settle.ensures) [
-  | inl is ↦ elim (c.rte.ensures.stored none name changed) [ inl zero ↦ inl (is ∙ zero) | inr seven ↦ inr (is ∙ seven) ]
+  | inl is ↦ elim (c.rte-status.ensures.stored none name changed) [ inl zero ↦ inl (is ∙ zero) | inr seven ↦ inr (is ∙ seven) ]
   | inr is ↦ inr is
 ]
 
 pub returns-clause-quiet : goal.returns-clause-quiet
 returns-clause-quiet g c =
-    quiet_whole _ _ _ _ _ _ _ _ c.new.ensures.taken c.new.ensures.faults c.requires.nothing c.settle.ensures c.rte.ensures.quiet
+    quiet_settled _ _ _ _ _ (λ other. c.rte-status.ensures.quiet other ∙ c.new-out.ensures.faults) c.settle.ensures
 
 pub returns-clause-done : goal.returns-clause-done
 returns-clause-done g c = λ call is.
-    done_whole _ _ _ _ _ _ _ _ c.new.ensures.taken c.new.ensures.faults c.requires.nothing c.settle.ensures g.F.Files.tells call (c.rte.ensures.went call is) (c.rte.ensures.done call is)
+    done_whole _ _ _ _ _ _ _ _ c.new-out.ensures.taken c.new-out.ensures.faults c.requires.nothing c.settle.ensures g.F.Files.tells call (c.rte-status.ensures.went call is) (c.rte-status.ensures.done call is)
 
 pub returns-clause-late : goal.returns-clause-late
 returns-clause-late g c = λ call is.
-    late_whole _ _ _ _ _ _ _ _ c.new.ensures.taken c.new.ensures.faults c.requires.nothing c.settle.ensures g.F.Files.tells call (c.rte.ensures.late call is)
+    late_whole _ _ _ _ _ _ _ c.new-out.ensures.taken c.new-out.ensures.faults c.settle.ensures g.F.Files.tells call (c.rte-status.ensures.late call is)

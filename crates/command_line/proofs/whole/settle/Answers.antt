@@ -1,0 +1,15 @@
+use Rattle.std.proofs.Common.{refl}
+use Rattle.command_line.specs.Settled.{idle, lost}
+use Rattle.command_line.proofs.Settling.{err_told}
+use Rattle.command_line.proofs.whole.settle.Goals as goal
+
+pub returns-then-puts_nothing : goal.returns-then-puts_nothing
+returns-then-puts_nothing g c =
+    idle refl (c.puts_nothing.ensures.yes c.if-puts_nothing.true) c.into_sink.ensures.taken.0 c.into_sink.ensures.taken.1 c.into_sink.ensures.faults
+
+pub returns-in-Err : goal.returns-in-Err
+returns-in-Err g c =
+    let other = c.puts_nothing.ensures.no c.if-puts_nothing.false in
+    let front = err_told c.finish-written.result.0 c.in-Err.field-0 c.in-Err.is c.finish-written.ensures.front in
+    let rose = err_told c.finish-written.result.0 c.in-Err.field-0 c.in-Err.is c.finish-written.ensures.failed in
+    lost refl other.0 other.1 front.0 front.1 rose
