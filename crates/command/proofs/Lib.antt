@@ -7,3 +7,6 @@ pub mod One
 pub mod Late
 pub mod Done
 pub mod Loads
+mod Settling
+mod Calls
+mod Clauses

@@ -3,3 +3,4 @@ pub mod Made
 pub mod Texts
 pub mod Steps
 pub mod Targets
+pub mod Settled

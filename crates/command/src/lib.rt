@@ -5,6 +5,11 @@
 //! of `command_answers` has. `preparing` reads and judges for each command; `carry` is the call
 //! without what the laws say of it.
 //!
+//! `command::whole_call` is what `main` does, over any files and any sink: it lends `rte` a buffer,
+//! writes what waits at the end, and answers 7 where that fails. All that `rte` promises of its sink,
+//! it promises of the sink below the buffer. `specs/Settled.antt` says what the end of a buffer comes
+//! to.
+//!
 //! `making` is `make`: `specs/Due.antt` says what the line of a load tells, `specs/Made.antt` what
 //! each status says of the call. The texts are those of a timely program and of a script for it
 //! whatever the key (`load_law`), so no status is left but 0, 7 and 8.
@@ -18,8 +23,10 @@ mod preparing;
 mod summing;
 mod system;
 mod texts;
+mod whole;
 
 pub use call::rte;
 pub use making::make;
 pub use preparing::prepare;
 pub use system::system_words;
+pub use whole::whole_call;

@@ -1,18 +1,17 @@
 //! `main`: the command over the system's files and standard output.
 //!
-//! It is `command_line::call` over these, with the words after the program's name; its status is the
+//! It is `command::whole_call` over these, with the words after the program's name; its status is the
 //! exit code.
 #![tactic(auto)]
 
-use command::system_words;
+use command::{system_words, whole_call};
 use command_answers::Status;
-use command_line::call;
 use outside::{RealFiles, RealSink};
 use std::process::ExitCode;
 
 fn main(rt: HostRuntime) -> ExitCode {
     let status = match system_words(&rt) {
-        Ok(words) => call(
+        Ok(words) => whole_call(
             rt.alloc(),
             words.as_slice(),
             &mut RealFiles::new(rt.alloc(), &rt),

@@ -7,9 +7,9 @@ use Rattle.command_words.specs.Calls.{Call, Load}
 use Rattle.command_answers.specs.Promise.{HasDone, IsRefusedForTime}
 use Rattle.command_answers.specs.Went.{Went, IsUsage}
 use Rattle.command.specs.Made.{Made}
-use Rattle.command_line.specs.Settled.{HasTakenNothing, IsSettled}
-use Rattle.command_line.proofs.Settling.{same_state}
-use Rattle.command_line.proofs.Calls.{went_settled, made_settled, usage_settled, zero_settled, low_settled}
+use Rattle.command.specs.Settled.{HasTakenNothing, IsSettled}
+use Rattle.command.proofs.Settling.{same_state}
+use Rattle.command.proofs.Calls.{went_settled, made_settled, usage_settled, zero_settled, low_settled}
 
 -- The buffer begins as the sink below: `a` is its state at the start, `b` that of the sink.
 module _ (f f' : FilesState) (a b m w : SinkState) (s n : ℕ) (taken : a.taken ≡ b.taken) (faults : a.faults ≡ b.faults) (none : HasTakenNothing b.taken) (settled : IsSettled m w s n) where

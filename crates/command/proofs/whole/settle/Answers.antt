@@ -1,7 +1,7 @@
 use Rattle.std.proofs.Common.{refl}
-use Rattle.command_line.specs.Settled.{idle, lost}
-use Rattle.command_line.proofs.Settling.{err_told}
-use Rattle.command_line.proofs.whole.settle.Goals as goal
+use Rattle.command.specs.Settled.{idle, lost}
+use Rattle.command.proofs.Settling.{err_told}
+use Rattle.command.proofs.whole.settle.Goals as goal
 
 pub returns-then-puts_nothing : goal.returns-then-puts_nothing
 returns-then-puts_nothing g c =

@@ -1,4 +1,4 @@
-//! The call.
+//! A call whole, over a sink that is written through a buffer.
 
 ghost use Rattle.std.specs.Prelude.{◌≡◌, ◌≢◌, ◌<◌, ◌↔◌, ◌⊎◌, ℕ, List, Some, None, true, false};
 ghost use Rattle.std.specs.Bool.{OnTrue};
@@ -12,9 +12,9 @@ ghost use Rattle.command_answers.specs.Promise.{HasDone, IsRefusedForTime};
 ghost use Rattle.command_due.specs.CommandsDue.{Outcome};
 ghost use Rattle.command.specs.Made.{Made};
 ghost use Rattle.command.specs.Targets.{IsNoTarget};
-ghost use Rattle.command_line.specs.Settled.{HasTakenNothing, IsSettled};
+ghost use Rattle.command.specs.Settled.{HasTakenNothing, IsSettled};
 
-use command::rte;
+use crate::rte;
 use command_answers::Status;
 use outside::{Buffered, Files, Sink};
 use std::alloc::Global;
@@ -43,10 +43,10 @@ fn settle<S: Sink>(status: Status, out: Buffered<S>) -> (Status, S)
     }
 }
 
-/// Does what the words ask, as `command::rte`, and gives the sink back with the status. What is put
+/// Does what the words ask, as `rte`, and gives the sink back with the status. What is put
 /// waits in a buffer of 65,536 bytes, and is written at the end; where that fails the status is 7.
 /// The sink has taken nothing yet, where it tells.
-pub fn call<F: Files, S: Sink>(
+pub fn whole_call<F: Files, S: Sink>(
     alloc: Global,
     words: &[String],
     files: &mut F,
@@ -87,12 +87,12 @@ pub fn call<F: Files, S: Sink>(
         (number_of result.0 ≡ 0) ⊎ (number_of result.0 ≡ 7) }
     // With a status but 7 the sink's count of faults is what it was.
     ensures quiet { number_of result.0 ≢ 7 → (S.state result.1).faults ≡ (S.state sink).faults }
-    // Status 0: as of `command::rte`, and the sink has taken all that is due.
+    // Status 0: as of `rte`, and the sink has taken all that is due.
     ensures done { (call : Call) → IsCommand words.now call →
         OnTrue F.tells (number_of result.0 ≡ 0 → HasDone call
         (outside (F.state files.old) (S.state sink))
         (outside (F.state files.new) (S.state result.1))) }
-    // Status 3 as of `command::rte`.
+    // Status 3 as of `rte`.
     ensures late { (call : Call) → IsCommand words.now call → OnTrue F.tells (number_of result.0 < 6 →
         (number_of result.0 ≡ 3) ↔ IsRefusedForTime call
         (outside (F.state files.old) (S.state sink))) }

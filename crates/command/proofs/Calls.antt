@@ -9,8 +9,8 @@ use Rattle.command_answers.specs.Went.{IsWhole, IsCut, WriteFailed, PutFailed, W
 use Rattle.command.specs.Due.{IsSummary}
 use Rattle.command.specs.Made as of_make
 use Rattle.command.specs.Made.{Made}
-use Rattle.command_line.specs.Settled.{HasTakenNothing, IsSettled, whole, idle, lost}
-use Rattle.command_line.proofs.Settling.{same_state, none_below, front_below, whole_front, rose_below}
+use Rattle.command.specs.Settled.{HasTakenNothing, IsSettled, whole, idle, lost}
+use Rattle.command.proofs.Settling.{same_state, none_below, front_below, whole_front, rose_below}
 
 -- the sink below stands as the buffer, with its status; or what waited was not taken whole
 data Ends (m w : SinkState) (s n : ℕ) : Type 0 where

@@ -1,8 +1,8 @@
 use Rattle.std.proofs.Common.{inl, inr, ◌∙◌, subst, ◌<◌}
 use Rattle.command.proofs.Complete.{completes}
-use Rattle.command_line.proofs.Calls.{quiet_settled, status_settled}
-use Rattle.command_line.proofs.Clauses.{went_whole, made_whole, usage_whole, done_whole, late_whole}
-use Rattle.command_line.proofs.whole.call.Goals as goal
+use Rattle.command.proofs.Calls.{quiet_settled, status_settled}
+use Rattle.command.proofs.Clauses.{went_whole, made_whole, usage_whole, done_whole, late_whole}
+use Rattle.command.proofs.whole.whole_call.Goals as goal
 
 pub returns-clause-went : goal.returns-clause-went
 returns-clause-went g c = λ call is.

@@ -3,7 +3,7 @@ use Rattle.std.proofs.Common.{◌≡◌, ◌≤◌, ◌⊎◌, ◌∙◌, ◌++�
 use Rattle.std.specs.Prelude.{min}
 use Rattle.std.proofs.Math.Nat.{le-min, min-le_right}
 use Rattle.outside.specs.Outside.{SinkState, Rose, Appends, AppendsFront}
-use Rattle.command_line.specs.Settled.{HasTakenNothing}
+use Rattle.command.specs.Settled.{HasTakenNothing}
 
 -- ---- the states of sinks
 

@@ -1,3 +1,0 @@
-mod Settling
-mod Calls
-mod Clauses
