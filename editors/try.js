@@ -71,6 +71,15 @@ assert.strictEqual(JSON.parse(text("editors", "vscode", "language-configuration.
 const [language] = JSON.parse(text("editors", "vscode", "package.json")).contributes.languages;
 assert.deepStrictEqual(language.extensions, [".rte"]);
 
+
+const [matcher] = JSON.parse(text("editors", "vscode", "package.json")).contributes.problemMatchers;
+const fault = new RegExp(matcher.pattern.regexp).exec("plant/tank.rte: E10 17:3");
+const part = (name) => fault[matcher.pattern[name]];
+assert.deepStrictEqual(["file", "message", "line", "column"].map(part), ["plant/tank.rte", "E10", "17", "3"]);
+const [task] = JSON.parse(text("editors", "vscode", "tasks.json")).tasks;
+assert.strictEqual(task.problemMatcher, `$${matcher.name}`);
+assert.ok(task.command.endsWith('| sed "s|^E[0-9]|${relativeFile}: &|"'), "the task puts the file in front of the fault");
+
 assert.deepStrictEqual(marked("x := end_of mod 10 % mod"), [["mod", "keyword"], ["10", "constant"], ["% mod", "comment"]]);
 let lines = 0;
 const data = path.join("crates", "guide", "data");
