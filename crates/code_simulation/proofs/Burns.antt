@@ -121,7 +121,9 @@ module _ (d : ℕ) where
   leave_burnt (negsuc m) o = refl
 
   waits_burnt : (b : Bool) (c l n : ℤ) (o : Own) → table.waits b c l n (burnt d o) ≡ burnt_outcome d (table.waits b c l n o)
-  waits_burnt true c l n o = refl
+  waits_burnt true c (pos l) (pos n) o = refl
+  waits_burnt true c (pos l) (negsuc n) o = refl
+  waits_burnt true c (negsuc l) n o = refl
   waits_burnt false c l n o = refl
 
   wait_burnt : (m : Option ℕ) (c l n : ℤ) (o : Own) → table.wait m c l n (burnt d o) ≡ burnt_outcome d (table.wait m c l n o)
@@ -147,6 +149,10 @@ module _ (d : ℕ) where
   put_burnt : (v : Option ℤ) (c x : ℤ) (o : Own) → table.put v c x (burnt d o) ≡ burnt_outcome d (table.put v c x o)
   put_burnt None c x o = refl
   put_burnt (Some v) c x o = refl
+
+  raise_burnt : (n : ℤ) → table.raise n ≡ burnt_outcome d (table.raise n)
+  raise_burnt (pos n) = refl
+  raise_burnt (negsuc n) = refl
 
   pub effect_burnt : (image : Image) (s : State) (j : Instr) (o : Own) → effect image s j (burnt d o) ≡ burnt_outcome d (effect image s j o)
   effect_burnt image s (i.Push v) o = refl
@@ -195,5 +201,5 @@ module _ (d : ℕ) where
   effect_burnt image s (i.Empty c) o = empty_burnt (table.queue s c) c o
   effect_burnt image s (i.In x) o = get_burnt (table.word_at s.devices x) x o
   effect_burnt image s (i.Out x) o = one_burnt o _ (λ v p. put_burnt (table.word_at s.devices x) x v p)
-  effect_burnt image s (i.Raise n) o = refl
+  effect_burnt image s (i.Raise n) o = raise_burnt n
   effect_burnt image s i.End o = refl

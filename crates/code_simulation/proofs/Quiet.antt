@@ -131,7 +131,9 @@ module _ (image : Image) (o : Own) where
   leave_quiet (negsuc m) p = tt
 
   waits_quiet : (b : Bool) (c l n : ℤ) (p : Own) → Quiet image o (table.waits b c l n p)
-  waits_quiet true c l n p = tt
+  waits_quiet true c (pos l) (pos n) p = tt
+  waits_quiet true c (pos l) (negsuc n) p = tt
+  waits_quiet true c (negsuc l) n p = tt
   waits_quiet false c l n p = tt
 
   wait_quiet : (m : Option ℕ) (c l n : ℤ) (p : Own) → Quiet image o (table.wait m c l n p)
@@ -157,6 +159,10 @@ module _ (image : Image) (o : Own) where
   put_quiet : (v : Option ℤ) (c x : ℤ) (p : Own) → Quiet image o (table.put v c x p)
   put_quiet None c x p = tt
   put_quiet (Some v) c x p = tt
+
+  raise_quiet : (n : ℤ) → Quiet image o (table.raise n)
+  raise_quiet (pos n) = tt
+  raise_quiet (negsuc n) = tt
 
   given_kept : (x : ℤ) (p : Own) → Kept image o p → Kept image o (table.give x p)
   given_kept x p k = record { inside = k.inside; handling = k.handling; words = k.words }
@@ -209,7 +215,7 @@ module _ (image : Image) (o : Own) where
   effect_quiet s (i.Empty c) p k = empty_quiet (table.queue s c) c p
   effect_quiet s (i.In x) p k = get_quiet (table.word_at s.devices x) x p
   effect_quiet s (i.Out x) p k = one_quiet p _ k (λ v q l. put_quiet (table.word_at s.devices x) x v q)
-  effect_quiet s (i.Raise n) p k = tt
+  effect_quiet s (i.Raise n) p k = raise_quiet n
   effect_quiet s i.End p k = tt
 
 -- what goes on silently has left these as they were

@@ -14,7 +14,7 @@ use Rattle.sched_demand.specs.declared.judging.Judgement.TheVariants as verdict
 use Rattle.sched_demand.specs.Demand.{IsJudged, IsReach}
 use Rattle.sched_demand.proofs.Rising.{one_reach}
 use Rattle.edf_semantics.specs.Safe.{IsWaitless}
-use Rattle.edf_semantics.proofs.Keeping.{every_run_is_safe}
+use Rattle.edf_semantics.proofs.Keeping.{every_run_is_safe, run_keeps_words}
 use Rattle.edf_timing.specs.InTime.{IsJudgedFeasible, MeetsDeadlines}
 use Rattle.edf_timing.proofs.Meeting.{every_run_meets_deadlines}
 use Rattle.edf_admission.specs.Admitted.{IsAdmitted}
@@ -38,7 +38,9 @@ module _ (shape : NamedImage) (is : IsShape shape) (admitted : IsAdmitted shape.
   is_safe script = record {
     never_stuck = λ t. (every_run_is_safe (where_in shape.image no_part) (parts_in shape.image) script t fit still).0;
     stacks = λ t k p thread at there. (every_run_is_safe (where_in shape.image no_part) (parts_in shape.image) script t fit still).1 k p thread at there;
+    words = λ t. run_keeps_words (where_in shape.image no_part) (parts_in shape.image) script t fit still;
     apart = λ t. (every_run_is_safe (where_in shape.image no_part) (parts_in shape.image) script t fit still).2;
+    ready = λ t. (every_run_is_safe (where_in shape.image no_part) (parts_in shape.image) script t fit still).3;
   }
 
   pub is_in_time : (script : Script) → RespectsFrames shape.image script → script.end_tick ≤ 1000000000 → MeetsDeadlines shape.image script

@@ -80,9 +80,10 @@ impl EdfImage {
     }
 
     /// Every run of an admitted image under earliest deadline first is safe: no tick is stuck, each
-    /// process is within its stack, and those inside monitors are apart. Over a script that
-    /// respects the frames and ends by tick 1,000,000,000, no process is released before it has
-    /// ended, and each activation ends by its deadline. The call does nothing.
+    /// process is within its stack and has its words, and those inside monitors are apart and
+    /// ready. Over a script that respects the frames and ends by tick 1,000,000,000, no process is
+    /// released before it has ended, and each activation ends by its deadline. The call does
+    /// nothing.
     pub fn runs_meet_deadlines(&self)
         ensures safe { (script : Script) → IsSafe self.now.image script }
         ensures in_time { (script : Script) → RespectsFrames self.now.image script →

@@ -15,7 +15,7 @@ use Rattle.built_image.specs.Named.{names_of}
 use Rattle.vm_law.specs.ScriptSuits.{ScriptsSuit}
 use Rattle.script.specs.Scripts.{IsScript}
 use Rattle.command_due.specs.Script.{said}
-use Rattle.edf_semantics.proofs.Keeping.{every_run_is_safe}
+use Rattle.edf_semantics.proofs.Keeping.{every_run_is_safe, run_keeps_words}
 use Rattle.edf_timing.specs.InTime.{MeetsDeadlines}
 use Rattle.edf_feasible.specs.Premises.{MeetsPremises, WaitlessImagesMeetPremises}
 use Rattle.edf_feasible.specs.Deadlines.{EdfDeadlinesAreMet}
@@ -38,7 +38,9 @@ edf_runs_are_right ready_law code_law image_law right_law premises_law deadlines
     at_image m is right met = record {
       never_stuck = λ t. (every_run_is_safe m.e m.ps (script_of script) t m.fits m.waitless).0;
       stacks = λ t k p thread at there. (every_run_is_safe m.e m.ps (script_of script) t m.fits m.waitless).1 k p thread at there;
+      words = λ t. run_keeps_words m.e m.ps (script_of script) t m.fits m.waitless;
       apart = λ t. (every_run_is_safe m.e m.ps (script_of script) t m.fits m.waitless).2;
+      ready = λ t. (every_run_is_safe m.e m.ps (script_of script) t m.fits m.waitless).3;
       deadlines = met;
       run = runs_law m.e m.ps (plain g) script m.fits m.waitless is right ordered met.no_overrun;
     }

@@ -17,7 +17,8 @@ use Rattle.machine_safety_spec.specs.Waits.{Suspends, is_waiting}
 use Rattle.machine_safety.proofs.Picked.{ChosenOf}
 use Rattle.machine_safety.proofs.Starting.{starts_pass, release_keeps, starts_keep}
 use Rattle.machine_safety.proofs.Beginning.{begins_pass}
-use Rattle.machine_safety.proofs.Running.{start_fits, stack_fits}
+use Rattle.machine_safety.proofs.Running.{start_fits, stack_fits, inside_is_ready}
+use Rattle.machine_safety.proofs.Keeping.{words_at_start, starts_keep_words, chosen_keeps_words}
 use Rattle.machine_safety.proofs.Suspending.{IsWoken, starts_not_due}
 use Rattle.machine_safety.proofs.Suspending as wait
 use Rattle.sched_theorem.specs.Dispatched.{Stay}
@@ -29,7 +30,7 @@ use Rattle.sched_timing.proofs.Begun.{TimesOut, maybe_released, begun}
 use Rattle.sched_timing.proofs.Turns.{Turn, passes_pick}
 use Rattle.edf_semantics.specs.Choice.{Mark}
 use Rattle.edf_semantics.specs.Run.{Marked, mark_of, begin_some, candidate, marks_during, chosen_at, first_marks, tick, state_at}
-use Rattle.edf_semantics.specs.Safe.{act, inside_of, stay_of, acts, insides, rank_at, deadline_at, rank_of_some, IsWaitless, EveryRunIsSafe}
+use Rattle.edf_semantics.specs.Safe.{act, inside_of, stay_of, acts, insides, rank_at, deadline_at, rank_of_some, IsWaitless, EveryRunIsSafe, RunKeepsWords}
 use Rattle.edf_semantics.proofs.Choosing.{act_active, inside_ready, chooses}
 use Rattle.edf_semantics.proofs.Marking.{marks_at, length_marks, length_begin, begin_at, begin_other, has_mark, Opening, IsNotWaiting, opening, is_new, starts_one, inside_one, opened_calm, starts_at, restacked}
 use Rattle.edf_semantics.proofs.Picking.{run_keeps, may_run}
@@ -358,4 +359,14 @@ every_run_is_safe e ps script t image_fits waitless =
       (tick_keeps e ps image_fits waitless script t (state_at e.image script t) k).0,
       (λ j p th at_p at_t. stack_fits e p (ps j) th (owned_of (slice_get (state_at e.image script t).state.owned j)) (state_at e.image script t).state.shared (image_fits.processes j p at_p) (k.fits.threads j p th at_p at_t)),
       k.fits.apart,
+      inside_is_ready e ps (state_at e.image script t).state k.fits,
     )
+
+pub run_keeps_words : RunKeepsWords
+unfolding tick state_at at_start
+run_keeps_words e ps script zero fits waitless = words_at_start e.image.processes
+run_keeps_words e ps script (suc t) fits waitless =
+    let s : Marked = state_at e.image script t in
+    let k : Kept e ps fits waitless t (state_at e.image script t) = kept e ps fits waitless script t in
+    let words = starts_keep_words e ps fits script t s.state (run_keeps_words e ps script t fits waitless) in
+    chosen_keeps_words e ps fits t (starts e.image script t s.state).state (candidate (chosen_at e.image script t s)) (picked e ps fits waitless script t s k) (fits_during e ps fits waitless script t s k) words

@@ -5,7 +5,7 @@ use Rattle.machine_semantics.specs.Image.{Image, Process, Script}
 use Rattle.machine_semantics.specs.State.{Thread, Idle, Ready, Waiting}
 use Rattle.machine_safety_spec.specs.Walk.{Where}
 use Rattle.machine_safety_spec.specs.Safe.{Parts, ImageFits}
-use Rattle.machine_safety_spec.specs.Whole.{ceiling_of, StackFits, Apart}
+use Rattle.machine_safety_spec.specs.Whole.{ceiling_of, StackFits, WordsFit, Apart, InsideIsReady}
 use Rattle.machine_safety_spec.specs.Waits.{IsRanked}
 use Rattle.sched_theorem.specs.Stretches.{flag}
 use Rattle.sched_theorem.specs.Dispatched.{Stay}
@@ -65,10 +65,15 @@ pub record IsWaitless (e : Where) (ps : ℕ → Parts) : Type 0 where
   pub one_each : (j k : ℕ) (p q : Process) → slice_get e.image.processes j ≡ Some p → slice_get e.image.processes k ≡ Some q → p.rank ≡ q.rank → j ≡ k
   pub no_waits : (k : ℕ) (p : Process) → slice_get e.image.processes k ≡ Some p → (ps k).body_cost.waits ≡ 0
 
--- The law: in a whole run under this choice no tick is stuck, each process is within its stack, and
--- the ceilings keep the processes that are inside monitors apart.
+-- The law: in a whole run under this choice no tick is stuck, each process is within its stack, the
+-- ceilings keep the processes that are inside monitors apart, and each of these is ready.
 abbrev pub EveryRunIsSafe : Type 0
 EveryRunIsSafe = (e : Where) (ps : ℕ → Parts) (script : Script) (t : ℕ) → ImageFits e ps → IsWaitless e ps
     → ((tick e.image script t (state_at e.image script t)).stuck ≡ false)
     × ((k : ℕ) (p : Process) (th : Thread) → slice_get e.image.processes k ≡ Some p → slice_get (state_at e.image script t).state.threads k ≡ Some th → StackFits p th)
     × Apart e.image (state_at e.image script t).state.threads
+    × InsideIsReady (state_at e.image script t).state.threads
+
+-- The law: in such a run each process keeps as many words as it declares.
+abbrev pub RunKeepsWords : Type 0
+RunKeepsWords = (e : Where) (ps : ℕ → Parts) (script : Script) (t : ℕ) → ImageFits e ps → IsWaitless e ps → WordsFit e.image (state_at e.image script t).state

@@ -6,9 +6,10 @@
 //! programs. The test of the demand is in `sched_demand`.
 //!
 //! `specs/Choice.antt` defines the choice, `specs/Run.antt` the machine with it: start events,
-//! instructions and effects are those of `machine_semantics`. The law of `specs/Safe.antt`: in a
+//! instructions and effects are those of `machine_semantics`. The laws of `specs/Safe.antt`: in a
 //! run of an image that fits its trees and waits nowhere, no tick is stuck, each process is within
-//! its stack, and those inside monitors are apart. `batched_ticks` has ticks that pass at once.
+//! its stack and keeps its words, and those inside monitors are apart and ready. `batched_ticks`
+//! has ticks that pass at once.
 //! Nothing here can run.
 #![tactic(auto)]
 

@@ -65,10 +65,10 @@ impl Image {
         &self.shape
     }
 
-    /// Every run of a valid image is safe: it is never stuck, and each process is within its stack
-    /// and its words. Over a script that respects the frames it is in time: no process is released
-    /// before it has ended, and each activation ends within its declared bound. The call does
-    /// nothing.
+    /// Every run of a valid image is safe: it is never stuck, each process is within its stack and
+    /// its words, and those inside monitors are apart and ready. Over a script that respects the
+    /// frames it is in time: no process is released before it has ended, and each activation ends
+    /// within its declared bound. The call does nothing.
     pub fn runs_are_safe(&self)
         ensures safe { (script : Script) → IsSafe self.now.image script }
         ensures in_time { (script : Script) → RespectsFrames self.now.image script →

@@ -53,33 +53,35 @@ module _ (e : Where) (ps : ℕ → Parts) (image_fits : ImageFits e ps) where
     by Ends g = fits
     by Stuck g = absurd g
 
-  run_words : (t : ℕ) (s : State) → StateFits e ps s → WordsFit e.image s → WordsFit e.image (run_picked e.image t s (pick e.image s.threads)).state
-  unfolding pick
-  run_words t s state_fits fits = by_pick (least e.image 0 e.image.processes s.threads) (chosen e.image 0 e.image.processes s.threads) where
-    by_pick : (o : Option Candidate) → ChosenOf e.image 0 e.image.processes s.threads o → WordsFit e.image (run_picked e.image t s o).state
-    by_pick None none = fits
-    by_pick (Some c) ch =
-        let at : ch.index ≡ c.place = omega (arith, ch.place) in
-        let process : slice_get e.image.processes c.place ≡ Some ch.p = ap (λ (x : ℕ). slice_get e.image.processes x) (sym at) ∙ ch.process in
-        let ready : slice_get s.threads c.place ≡ Some (Ready ch.job) = ap (λ (x : ℕ). slice_get s.threads x) (sym at) ∙ ch.ready in
-        let f : ThreadFits e ch.p (ps c.place) (Ready ch.job) (owned_of (slice_get s.owned c.place)) s.shared = state_fits.threads c.place ch.p (Ready ch.job) process ready in
-        let o : (l : Cost) × TickFits e ch.p (ps c.place) ch.job (owned_of (slice_get s.owned c.place)) s.shared l (outcome e.image s ch.job (owned_of (slice_get s.owned c.place)) ch.job.dispatch_ticks) =
-        outcome_fits e ps image_fits s c ch c.place refl process state_fits f.0 f.1 ch.job.dispatch_ticks refl in
-        subst (λ (x : Option Process). WordsFit e.image (run_thread e.image t c.place s x (slice_get s.threads c.place)).state) (sym process)
-        (subst (λ (x : Option Thread). WordsFit e.image (run_thread e.image t c.place s (Some ch.p) x).state) (sym ready)
-        (settle_words t c.place ch.p ch.job s o.0 (outcome e.image s ch.job (owned_of (slice_get s.owned c.place)) ch.job.dispatch_ticks) o.1 fits))
+  -- whoever may run
+  pub chosen_keeps_words : (t : ℕ) (s : State) (o : Option Candidate) → ChosenOf e.image 0 e.image.processes s.threads o → StateFits e ps s → WordsFit e.image s → WordsFit e.image (run_picked e.image t s o).state
+  chosen_keeps_words t s None none state_fits fits = fits
+  chosen_keeps_words t s (Some c) ch state_fits fits =
+      let at : ch.index ≡ c.place = omega (arith, ch.place) in
+      let process : slice_get e.image.processes c.place ≡ Some ch.p = ap (λ (x : ℕ). slice_get e.image.processes x) (sym at) ∙ ch.process in
+      let ready : slice_get s.threads c.place ≡ Some (Ready ch.job) = ap (λ (x : ℕ). slice_get s.threads x) (sym at) ∙ ch.ready in
+      let f : ThreadFits e ch.p (ps c.place) (Ready ch.job) (owned_of (slice_get s.owned c.place)) s.shared = state_fits.threads c.place ch.p (Ready ch.job) process ready in
+      let o : (l : Cost) × TickFits e ch.p (ps c.place) ch.job (owned_of (slice_get s.owned c.place)) s.shared l (outcome e.image s ch.job (owned_of (slice_get s.owned c.place)) ch.job.dispatch_ticks) =
+      outcome_fits e ps image_fits s c ch c.place refl process state_fits f.0 f.1 ch.job.dispatch_ticks refl in
+      subst (λ (x : Option Process). WordsFit e.image (run_thread e.image t c.place s x (slice_get s.threads c.place)).state) (sym process)
+      (subst (λ (x : Option Thread). WordsFit e.image (run_thread e.image t c.place s (Some ch.p) x).state) (sym ready)
+      (settle_words t c.place ch.p ch.job s o.0 (outcome e.image s ch.job (owned_of (slice_get s.owned c.place)) ch.job.dispatch_ticks) o.1 fits))
+
+  pub starts_keep_words : (script : Script) (t : ℕ) (s : State) → WordsFit e.image s → WordsFit e.image (starts e.image script t s).state
+  starts_keep_words script t s fits = starts_pass e (WordsFit e.image) release_words time_out_words (λ d v u now. now) script t s fits
 
   tick_words : (script : Script) (t : ℕ) (s : State) → StateFits e ps s → WordsFit e.image s → WordsFit e.image (tick e.image script t s).state
-  unfolding tick
+  unfolding tick pick
   tick_words script t s state_fits fits =
-      run_words t (starts e.image script t s).state (starts_keep e ps image_fits script t s state_fits) (starts_pass e (WordsFit e.image) release_words time_out_words (λ d v u now. now) script t s fits)
+      let u : State = (starts e.image script t s).state in
+      chosen_keeps_words t u (least e.image 0 e.image.processes u.threads) (chosen e.image 0 e.image.processes u.threads) (starts_keep e ps image_fits script t s state_fits) (starts_keep_words script t s fits)
 
-at_first : (qs : List Process) (k : ℕ) (p : Process) → slice_get qs k ≡ Some p → length (owned_of (slice_get (map (λ (q : Process). zeros q.words) qs) k)) ≡ p.words
-at_first [] k p at = absurd cc
-at_first (q ∷ qs) zero p at = let same : q ≡ p = cc in length-zeros q.words ∙ ap (λ (x : Process). x.words) same
-at_first (q ∷ qs) (suc k) p at = at_first qs k p at
+pub words_at_start : (qs : List Process) (k : ℕ) (p : Process) → slice_get qs k ≡ Some p → length (owned_of (slice_get (map (λ (q : Process). zeros q.words) qs) k)) ≡ p.words
+words_at_start [] k p at = absurd cc
+words_at_start (q ∷ qs) zero p at = let same : q ≡ p = cc in length-zeros q.words ∙ ap (λ (x : Process). x.words) same
+words_at_start (q ∷ qs) (suc k) p at = words_at_start qs k p at
 
 pub run_keeps_words : RunKeepsWords
 unfolding state_at at_start
-run_keeps_words e ps script zero fits = at_first e.image.processes
+run_keeps_words e ps script zero fits = words_at_start e.image.processes
 run_keeps_words e ps script (suc t) fits = tick_words e ps fits script t (state_at e.image script t) (state_fits e ps script t fits) (run_keeps_words e ps script t fits)

@@ -7,7 +7,7 @@ use Rattle.machine_isa.specs.declared.instr.Instr.TheVariants as i
 use Rattle.base.specs.Words.{Answer, word, raised}
 use Rattle.machine_semantics.specs.Image.{Image, Monitor}
 use Rattle.machine_semantics.specs.State.{Operand, Value, Counter, State}
-use Rattle.machine_semantics.specs.Effect.{Own, Outcome, Goes, Raises, Stuck, holding, give, take_one, one, two, answer, word_at, load, store, set_local, set_own, set_shared, is_among_some, is_reached, load_mon, store_mon, element, queue, signal, broadcast, empty, get, put}
+use Rattle.machine_semantics.specs.Effect.{Own, Outcome, Goes, Raises, Stuck, holding, give, take_one, one, two, answer, word_at, load, store, set_local, set_own, set_shared, is_among_some, is_reached, load_mon, store_mon, element, queue, signal, broadcast, empty, get, put, raise}
 use Rattle.machine_safety_spec.specs.Part.{Part, Kind, Plain, kinds, IsSized, IsBelow}
 use Rattle.machine_safety_spec.specs.SafeTerms.{GoesOn, After, IsIn, PlainIsSafe}
 
@@ -180,5 +180,5 @@ plain_is_safe image s part (i.Broadcast c) o ks ok sized here entered is = with_
 plain_is_safe image s part (i.Empty c) o ks ok sized here entered is = with_queue (GoesOn (After o (Plain ∷ ks))) image s c (λ q d. empty q d o) sized.queues ok (λ q j. given o _ o.job.operands ks is)
 plain_is_safe image s part (i.In d) o ks ok sized here entered is = with_device (GoesOn (After o (Plain ∷ ks))) image s d (λ z e. get z e o) sized.devices ok (λ z j. given o z o.job.operands ks is)
 plain_is_safe image s part (i.Out d) o ks ok sized here entered is = one_goes (After o ks) o _ ks is (λ x rest e. with_device (GoesOn (After o ks)) image s d (λ z v. put z v x (holding rest o)) sized.devices ok (λ z j. taken o rest ks e))
-plain_is_safe image s part (i.Raise e) o ks ok sized here entered is = tt
+plain_is_safe image s part (i.Raise e) o ks ok sized here entered is = subst (λ z. GoesOn (After o ks) (raise z)) (sym ok.1) tt
 plain_is_safe image s part instr o ks ok sized here entered is = absurd ok

@@ -1,9 +1,11 @@
 -- Whole runs, and the stack.
 use Rattle.std.proofs.Common.{◌≡◌, ◌≤◌, ◌+◌, inl, inr, ℕ, zero, suc, List, [], ◌∷◌, Option, Some, None, length, map, arith, refl, ap, sym, subst, true, false, Bool}
 use Rattle.std.specs.Prelude.{ℤ, pos, slice_get}
+use Rattle.std.proofs.lemmas.Option.{slice_get_within}
 use Rattle.std.proofs.lemmas.List.{length-map}
+use Rattle.base.proofs.Lists.{some_at}
 use Rattle.machine_semantics.specs.Image.{Process, Script}
-use Rattle.machine_semantics.specs.State.{Operand, Caller, Thread, Idle, Ready, Waiting, zeros, stack_below, stack_of}
+use Rattle.machine_semantics.specs.State.{Operand, Job, Caller, Thread, Idle, Ready, Waiting, State, zeros, stack_below, stack_of}
 use Rattle.machine_semantics.specs.Effect.{Own}
 use Rattle.machine_semantics.specs.Tick.{owned_of}
 use Rattle.machine_semantics.specs.Run.{words_of, at_start, state_at}
@@ -11,7 +13,7 @@ use Rattle.machine_safety_spec.specs.Part.{Part, Kind, kinds}
 use Rattle.machine_safety_spec.specs.Walk.{Where, Cost}
 use Rattle.machine_safety_spec.specs.Job.{Chain, Stands, Comes}
 use Rattle.machine_safety_spec.specs.Safe.{Parts, ProcessFits, ImageFits, own_of, part_of}
-use Rattle.machine_safety_spec.specs.Whole.{ThreadFits, StateFits, StackFits, EveryRunIsSafe}
+use Rattle.machine_safety_spec.specs.Whole.{ThreadFits, StateFits, StackFits, held_by, InsideIsReady, EveryRunIsSafe}
 use Rattle.machine_safety.proofs.Settling.{every_tick_is_safe}
 use Rattle.machine_safety.proofs.Jobs.{length-zeros}
 
@@ -47,6 +49,18 @@ stack_fits e p ps (Ready job) owned shared fits f =
     ]
 stack_fits e p ps (Waiting c due n job) owned shared fits f =
     omega (arith, stack_comes e (part_of ps job.handling) (own_of job owned shared) f.1.cost f.1.fits, own_stack e p ps job.handling fits)
+
+-- ---- who is inside a monitor
+
+ready_inside : (e : Where) (p : Process) (ps : Parts) (t : Thread) (owned shared : List ℤ) (m : ℕ) → ThreadFits e p ps t owned shared → held_by t ≡ Some m → (job : Job) × (t ≡ Ready job)
+ready_inside e p ps Idle owned shared m f inside = absurd cc
+ready_inside e p ps (Ready job) owned shared m f inside = (job, refl)
+ready_inside e p ps (Waiting c due n job) owned shared m f inside = absurd (let outside : job.inside ≡ None = f.1.fits.outside in cc)
+
+pub inside_is_ready : (e : Where) (ps : ℕ → Parts) (s : State) → StateFits e ps s → InsideIsReady s.threads
+inside_is_ready e ps s fits k m t at inside =
+    let p = some_at e.image.processes k (omega (arith, fits.many, slice_get_within s.threads k t at)) in
+    ready_inside e p.0 (ps k) t (owned_of (slice_get s.owned k)) s.shared m (fits.threads k p.0 t p.1 at) inside
 
 -- ---- runs
 
@@ -85,4 +99,5 @@ every_run_is_safe e ps script t fits =
       (every_tick_is_safe e ps script t (state_at e.image script t) fits s).0,
       (λ k p th at_p at_t. stack_fits e p (ps k) th (owned_of (slice_get (state_at e.image script t).owned k)) (state_at e.image script t).shared (fits.processes k p at_p) (s.threads k p th at_p at_t)),
       s.apart,
+      inside_is_ready e ps (state_at e.image script t) s,
     )

@@ -38,7 +38,8 @@ pub fn run_fits()
     ensures { RunFits }
 {}
 
-/// In a whole run of a valid image no tick is stuck, and each process is within its stack.
+/// In a whole run of a valid image no tick is stuck, each process is within its stack, and those
+/// inside monitors are apart and ready.
 pub fn every_run_is_safe()
     ensures { EveryRunIsSafe }
 {}

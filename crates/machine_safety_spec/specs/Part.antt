@@ -52,6 +52,10 @@ plains (suc n) ks = Plain ∷ plains n ks
 
 -- ---- numbers in their range
 
+-- the operand is not negative
+abbrev pub IsNatural : ℤ → Type 0
+IsNatural z = (n : ℕ) × (z ≡ pos n)
+
 -- the operand is a number below n
 abbrev pub IsBelow : ℤ → ℕ → Type 0
 IsBelow z n = (j : ℕ) × (z ≡ pos j) × (j < n)
@@ -79,7 +83,8 @@ pub record IsReached (image : Image) (monitor : Option ℕ) (w len : ℤ) : Type
 
 -- ---- plain instructions: those that stand in a Line
 
--- the instruction may stand in a Line of the part, and its words, condition and device are there
+-- the instruction may stand in a Line of the part, its words, condition and device are there, and
+-- the exception that it raises has a number
 abbrev pub IsPlain : Image → Part → Instr → Type 0
 IsPlain image part (i.Push value) = Unit {0}
 IsPlain image part (i.LoadLocal w) = IsBelow w part.locals
@@ -127,7 +132,7 @@ IsPlain image part (i.Broadcast c) = IsBelow c (length image.conditions)
 IsPlain image part (i.Empty c) = IsBelow c (length image.conditions)
 IsPlain image part (i.In d) = IsBelow d (length image.devices)
 IsPlain image part (i.Out d) = IsBelow d (length image.devices)
-IsPlain image part (i.Raise e) = Unit {0}
+IsPlain image part (i.Raise e) = IsNatural e
 IsPlain image part i.End = ⊥
 
 -- each condition has a queue and each device a word, and the words of each monitor stand in the

@@ -1,5 +1,5 @@
 -- The whole state: what every tick of a valid image keeps.
-use Rattle.std.specs.Prelude.{◌≡◌, ◌≤◌, ◌<◌, ◌⊎◌, ℕ, false, ℤ, List, length, Some, slice_get}
+use Rattle.std.specs.Prelude.{◌≡◌, ◌≤◌, ◌<◌, ◌⊎◌, ℕ, false, ℤ, List, length, Option, Some, None, slice_get}
 use Rattle.machine_semantics.specs.Image.{Image, Process, Script}
 use Rattle.machine_semantics.specs.State.{Job, Thread, Idle, Ready, Waiting, State, stack_of}
 use Rattle.machine_semantics.specs.Tick.{ceiling, owned_of, tick}
@@ -31,6 +31,16 @@ abbrev pub Apart : Image → List Thread → Type 0
 Apart image threads = (j k m n : ℕ) (p q : Process) → (j ≡ k → ⊥) → IsInside image threads j m p → IsInside image threads k n q
     → (p.rank < ceiling_of image n) ⊎ (q.rank < ceiling_of image m)
 
+-- the monitor that a process that stands so is inside, if it is inside one
+abbrev pub held_by : Thread → Option ℕ
+held_by Idle = None
+held_by (Ready job) = job.inside
+held_by (Waiting condition due number job) = job.inside
+
+-- a process that is inside a monitor is ready: it is not idle, and does not wait
+abbrev pub InsideIsReady : List Thread → Type 0
+InsideIsReady threads = (k m : ℕ) (thread : Thread) → slice_get threads k ≡ Some thread → held_by thread ≡ Some m → (job : Job) × (thread ≡ Ready job)
+
 -- The invariant: what each tick keeps. Each process fits its trees, and the ceilings keep processes
 -- apart. Who waits is inside no monitor, so whoever is inside one is ready.
 pub record StateFits (e : Where) (ps : ℕ → Parts) (s : State) : Type 0 where
@@ -59,13 +69,14 @@ EveryTickIsSafe = (e : Where) (ps : ℕ → Parts) (script : Script) (t : ℕ) (
 abbrev pub RunFits : Type 0
 RunFits = (e : Where) (ps : ℕ → Parts) (script : Script) (t : ℕ) → ImageFits e ps → StateFits e ps (state_at e.image script t)
 
--- The law: in a whole run of a valid image no tick is stuck, each process is within its stack, and
--- the ceilings keep the processes that are inside monitors apart.
+-- The law: in a whole run of a valid image no tick is stuck, each process is within its stack, the
+-- ceilings keep the processes that are inside monitors apart, and each of these is ready.
 abbrev pub EveryRunIsSafe : Type 0
 EveryRunIsSafe = (e : Where) (ps : ℕ → Parts) (script : Script) (t : ℕ) → ImageFits e ps
     → ((tick e.image script t (state_at e.image script t)).stuck ≡ false)
     × ((k : ℕ) (p : Process) (th : Thread) → slice_get e.image.processes k ≡ Some p → slice_get (state_at e.image script t).threads k ≡ Some th → StackFits p th)
     × Apart e.image (state_at e.image script t).threads
+    × InsideIsReady (state_at e.image script t).threads
 
 -- each process keeps as many words as it declares
 abbrev pub WordsFit : Image → State → Type 0

@@ -2,10 +2,11 @@
 --
 -- An instruction is stuck where an operand is missing or of the wrong kind (a counter for a value,
 -- or a value for a counter), where there is no such word, routine, condition, device or address (a
--- negative number names nothing, a monitor neither), where there is no call to come back from,
--- where a word of a monitor is touched or a monitor left by a process that is not inside that
--- monitor, and where a monitor is entered that somebody is inside, or by a process that is inside
--- one. In every other case it has the effect that its row says, or raises an exception.
+-- negative number names nothing, a monitor neither), where the limit of a wait or the number of an
+-- exception is negative, where there is no call to come back from, where a word of a monitor is
+-- touched or a monitor left by a process that is not inside that monitor, and where a monitor is
+-- entered that somebody is inside, or by a process that is inside one. In every other case it has
+-- the effect that its row says, or raises an exception.
 use Rattle.std.specs.Prelude.{◌+◌, ◌-◌, ◌++◌, ◌&&◌, ◌||◌, ℕ, zero, suc, Bool, true, false, not, ℤ, pos, negsuc, ◌+ℤ◌, ◌-ℤ◌, int_lt, int_le, nat_lt, nat_le, List, [], ◌∷◌, Option, Some, None, if◌then◌else◌, slice_get, slice_set, unsigned_abs}
 use Rattle.machine_isa.specs.declared.instr.Instr.{Instr}
 use Rattle.machine_isa.specs.declared.instr.Instr.TheVariants as i
@@ -220,10 +221,12 @@ abbrev pub monitor_of : Image → ℤ → Option ℕ
 monitor_of image (pos c) = slice_get image.conditions c
 monitor_of image (negsuc n) = None
 
--- waits outside the condition's monitor, which the process was inside, or was not; limit and number
--- are not negative
+-- waits outside the condition's monitor, which the process was inside, or was not; neither limit
+-- nor number is negative
 abbrev pub waits : Bool → ℤ → ℤ → ℤ → Own → Outcome
-waits true c limit number o = Waits (unsigned_abs c) (unsigned_abs limit) (unsigned_abs number) (record o { job = record (o.job) { inside = None } })
+waits true c (pos limit) (pos number) o = Waits (unsigned_abs c) limit number (record o { job = record (o.job) { inside = None } })
+waits true c (pos limit) (negsuc n) o = Stuck
+waits true c (negsuc n) number o = Stuck
 waits false c limit number o = Stuck
 
 -- leaves the condition's monitor, which the process has to be inside, and waits
@@ -265,6 +268,13 @@ get None device o = Stuck
 abbrev pub put : Option ℤ → ℤ → ℤ → Own → Outcome
 put (Some old) device value o = Does (act.Put (unsigned_abs device) value) o
 put None device value o = Stuck
+
+-- ---- exceptions
+
+-- raises the exception, whose number is not negative
+abbrev pub raise : ℤ → Outcome
+raise (pos number) = Raises number
+raise (negsuc n) = Stuck
 
 -- ---- the table
 
@@ -317,5 +327,5 @@ effect image s (i.Broadcast c) o = broadcast (queue s c) c o
 effect image s (i.Empty c) o = empty (queue s c) c o
 effect image s (i.In d) o = get (word_at s.devices d) d o
 effect image s (i.Out d) o = one o (λ x p. put (word_at s.devices d) d x p)
-effect image s (i.Raise e) o = Raises (unsigned_abs e)
+effect image s (i.Raise e) o = raise e
 effect image s i.End o = Ends

@@ -221,7 +221,9 @@ leave_fits (pos k) o fits = leaves_fits (is_inside k o.job.inside) k o fits
 leave_fits (negsuc k) o fits = tt
 
 waits_fits : (b : Bool) (c limit number : ℤ) (o : Own) → unsigned_abs number < 2 ^ 16 → OwnFits o → Fits (m.waits b c limit number o)
-waits_fits true c limit number o low fits = (low, inside_fits None o fits)
+waits_fits true c (pos limit) (pos number) o low fits = (low, inside_fits None o fits)
+waits_fits true c (pos limit) (negsuc n) o low fits = tt
+waits_fits true c (negsuc n) number o low fits = tt
 waits_fits false c limit number o low fits = tt
 
 wait_fits : (monitor : Option ℕ) (c limit number : ℤ) (o : Own) → unsigned_abs number < 2 ^ 16 → OwnFits o → Fits (m.wait monitor c limit number o)
@@ -250,6 +252,10 @@ put_fits None d value o is fits = tt
 
 number_small : (z : ℤ) → IsBelow z 1000 → unsigned_abs z < 2 ^ 16
 number_small z below = let is : unsigned_abs z ≡ below.0 = ap (λ x. unsigned_abs x) below.1 in omega (arith, is, below.2)
+
+raise_fits : (e : ℤ) → unsigned_abs e < 2 ^ 16 → Fits (m.raise e)
+raise_fits (pos number) low = low
+raise_fits (negsuc n) low = tt
 
 -- ---- the table
 
@@ -301,7 +307,7 @@ effect_fits image s (i.Broadcast c) o there has set fits = broadcast_fits (m.que
 effect_fits image s (i.Empty c) o there has set fits = empty_fits (m.queue s c) c o fits
 effect_fits image s (i.In d) o there has set fits = get_fits (m.word_at s.devices d) d o (word_fits s.devices d set) fits
 effect_fits image s (i.Out d) o there has set fits = one_fits o _ fits (λ x p value own. put_fits (m.word_at s.devices d) d x p value own)
-effect_fits image s (i.Raise e) o there has set fits = number_small e there
+effect_fits image s (i.Raise e) o there has set fits = raise_fits e (number_small e there)
 effect_fits image s i.End o there has set fits = tt
 
 -- ---- a tick of a process

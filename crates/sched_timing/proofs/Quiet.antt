@@ -9,7 +9,7 @@ use Rattle.base.specs.declared.event.Act.TheVariants as act
 use Rattle.base.specs.Words.{Answer, word, raised, sum, difference, product, negated, quotient, remainder, of_bool, is_true, is_zero, same, within}
 use Rattle.machine_semantics.specs.Image.{Image, Routine}
 use Rattle.machine_semantics.specs.State.{Operand, Value, Counter, Caller, Job, State, is_free, is_inside}
-use Rattle.machine_semantics.specs.Effect.{Own, Outcome, Goes, Does, Signals, Broadcasts, Waits, Raises, Ends, Stuck, effect, holding, give, take_one, one, two, answer, word_at, load, set_local, set_own, set_shared, store, is_reached, load_mon, store_mon, element, go_to, count_from, count_down, drop_counter, arguments, called, call, back, routine, enters, enter, leaves, leave, monitor_of, waits, wait, queue, signal, broadcast, empty, get, put}
+use Rattle.machine_semantics.specs.Effect.{Own, Outcome, Goes, Does, Signals, Broadcasts, Waits, Raises, Ends, Stuck, effect, holding, give, take_one, one, two, answer, word_at, load, set_local, set_own, set_shared, store, is_reached, load_mon, store_mon, element, go_to, count_from, count_down, drop_counter, arguments, called, call, back, routine, enters, enter, leaves, leave, monitor_of, waits, wait, queue, signal, broadcast, empty, get, put, raise}
 use Rattle.machine_semantics.specs.Tick.{outcome, outcome_at, at_next}
 
 abbrev pub is_release : Act → Bool
@@ -113,7 +113,9 @@ leave_quiet (pos m) o = leaves_quiet (is_inside m o.job.inside) m o
 leave_quiet (negsuc n) o = tt
 
 waits_quiet : (b : Bool) (c limit number : ℤ) (o : Own) → IsQuiet (waits b c limit number o)
-waits_quiet true c limit number o = tt
+waits_quiet true c (pos limit) (pos number) o = tt
+waits_quiet true c (pos limit) (negsuc n) o = tt
+waits_quiet true c (negsuc n) number o = tt
 waits_quiet false c limit number o = tt
 
 wait_quiet : (m : Option ℕ) (c limit number : ℤ) (o : Own) → IsQuiet (wait m c limit number o)
@@ -139,6 +141,10 @@ get_quiet None d o = tt
 put_quiet : (v : Option ℤ) (d value : ℤ) (o : Own) → IsQuiet (put v d value o)
 put_quiet (Some old) d value o = refl
 put_quiet None d value o = tt
+
+raise_quiet : (e : ℤ) → IsQuiet (raise e)
+raise_quiet (pos number) = tt
+raise_quiet (negsuc n) = tt
 
 effect_quiet : (image : Image) (s : State) (instr : Instr) (o : Own) → IsQuiet (effect image s instr o)
 effect_quiet image s (i.Push value) o = tt
@@ -189,7 +195,7 @@ effect_quiet image s (i.Broadcast c) o = broadcast_quiet (queue s c) c o
 effect_quiet image s (i.Empty c) o = empty_quiet (queue s c) c o
 effect_quiet image s (i.In d) o = get_quiet (word_at s.devices d) d o
 effect_quiet image s (i.Out d) o = one_quiet o (λ x p. put (word_at s.devices d) d x p) (λ x p. put_quiet (word_at s.devices d) d x p)
-effect_quiet image s (i.Raise e) o = tt
+effect_quiet image s (i.Raise e) o = raise_quiet e
 effect_quiet image s i.End o = tt
 
 -- a tick of a process tells no release

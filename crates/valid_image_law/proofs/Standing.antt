@@ -173,4 +173,6 @@ module _ (e : Where) (w : Whose) (suits : Suits e w) where
   may_stand (i.Leave t) is calls reach = λ plain. absurd cc
   may_stand (i.Reenter t) is calls reach = λ plain. absurd cc
   may_stand i.End is calls reach = λ plain. absurd cc
+  may_stand (i.Raise (pos number)) is calls reach = λ plain. (number, refl)
+  may_stand (i.Raise (negsuc n)) is calls reach = λ plain. absurd cc
   may_stand _ is calls reach = λ plain. tt

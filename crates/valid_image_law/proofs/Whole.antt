@@ -34,6 +34,7 @@ safe image m script = subst (λ (x : Image). IsSafe x script) m.of (record {
   stacks = λ t k p thread at there. (every_run_is_safe m.e m.ps script t m.fits).1 k p thread at there;
   words = λ t. run_keeps_words m.e m.ps script t m.fits;
   apart = λ t. (every_run_is_safe m.e m.ps script t m.fits).2;
+  ready = λ t. (every_run_is_safe m.e m.ps script t m.fits).3;
 })
 
 in_time : (image : Image) → MeetsPremises image → (script : Script) → RespectsFrames image script → IsInTime image script

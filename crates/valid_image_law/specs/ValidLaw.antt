@@ -6,18 +6,20 @@ use Rattle.machine_semantics.specs.Tick.{tick}
 use Rattle.machine_semantics.specs.Run.{state_at}
 use Rattle.machine_safety_spec.specs.Walk.{Where}
 use Rattle.machine_safety_spec.specs.Safe.{Parts, ImageFits}
-use Rattle.machine_safety_spec.specs.Whole.{StackFits, WordsFit, Apart}
+use Rattle.machine_safety_spec.specs.Whole.{StackFits, WordsFit, Apart, InsideIsReady}
 use Rattle.sched_timing.specs.Timed.{ImageIsTimed, RespectsFrames, IsInTime}
 use Rattle.valid_image.specs.Valid.{fault_of, IsValid, HasLimits}
 use Rattle.valid_image_examples.specs.Example.{meeting}
 
 -- a run is safe: before each tick every process is within its declared stack and has the words that
--- it declares, the processes that are inside monitors are apart, and no tick is stuck
+-- it declares, the processes that are inside monitors are apart, each of them is ready, and no tick
+-- is stuck
 pub record IsSafe (image : Image) (script : Script) : Type 0 where
   pub never_stuck : (t : ℕ) → (tick image script t (state_at image script t)).stuck ≡ false
   pub stacks : (t k : ℕ) (p : Process) (thread : Thread) → slice_get image.processes k ≡ Some p → slice_get (state_at image script t).threads k ≡ Some thread → StackFits p thread
   pub words : (t : ℕ) → WordsFit image (state_at image script t)
   pub apart : (t : ℕ) → Apart image (state_at image script t).threads
+  pub ready : (t : ℕ) → InsideIsReady (state_at image script t).threads
 
 -- The law: every valid image, whoever made it, is safe over every script, and in time over each
 -- that respects its frames, with each bound within the deadline and each deadline within the frame.

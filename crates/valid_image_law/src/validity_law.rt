@@ -1,5 +1,6 @@
-//! Law: every valid image, whoever made it, is never stuck, within its sizes, keeps apart the
-//! processes that are inside monitors, and over each script that respects its frames is in time.
+//! Law: every valid image, whoever made it, is never stuck, within its sizes, keeps the processes
+//! that are inside monitors apart and ready, and over each script that respects its frames is in
+//! time.
 //!
 //! What a valid image is stands in `valid_image`. Calls of `valid_law` state the laws of `specs/ValidLaw.antt`;
 //! nothing here can run.
@@ -13,7 +14,8 @@ pub fn valid_meets_premises()
     ensures { ValidMeetsPremises }
 {}
 
-/// Every valid image is never stuck, within its sizes, keeps its processes apart, and is in time.
+/// Every valid image is never stuck, within its sizes, keeps the processes that are inside monitors
+/// apart and ready, and is in time.
 pub fn every_valid_image_is_safe_and_in_time()
     ensures { EveryValidImageIsSafeAndInTime }
 {}

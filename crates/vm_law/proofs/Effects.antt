@@ -125,7 +125,9 @@ module _ (names : ImageNames) where
   leave_shows (negsuc k) o below = tt
 
   waits_shows : (b : Bool) (c limit number : ℤ) (o : Own) → unsigned_abs c < length names.conditions → Shows (m.waits b c limit number o)
-  waits_shows true c limit number o low = low
+  waits_shows true c (pos limit) (pos number) o low = low
+  waits_shows true c (pos limit) (negsuc n) o low = tt
+  waits_shows true c (negsuc n) number o low = tt
   waits_shows false c limit number o low = tt
 
   wait_shows : (monitor : Option ℕ) (c limit number : ℤ) (o : Own) → unsigned_abs c < length names.conditions → Shows (m.wait monitor c limit number o)
@@ -151,6 +153,10 @@ module _ (names : ImageNames) where
   put_shows : (w : Option ℤ) (d value : ℤ) (o : Own) → unsigned_abs d < length names.devices → Shows (m.put w d value o)
   put_shows (Some w) d value o low = low
   put_shows None d value o low = tt
+
+  raise_shows : (e : ℤ) → Shows (m.raise e)
+  raise_shows (pos number) = tt
+  raise_shows (negsuc n) = tt
 
   number_below : (z : ℤ) (n : ℕ) → IsBelow z n → unsigned_abs z < n
   number_below z n below = let is : unsigned_abs z ≡ below.0 = ap (λ x. unsigned_abs x) below.1 in omega (arith, is, below.2)
@@ -217,7 +223,7 @@ module _ (names : ImageNames) where
     effect_shows s (i.Empty c) o there = empty_shows (m.queue s c) c o (condition c there)
     effect_shows s (i.In d) o there = get_shows (m.word_at s.devices d) d o (device d there)
     effect_shows s (i.Out d) o there = one_shows o _ (λ x p. put_shows (m.word_at s.devices d) d x p (device d there))
-    effect_shows s (i.Raise e) o there = tt
+    effect_shows s (i.Raise e) o there = raise_shows e
     effect_shows s i.End o there = tt
 
     -- ---- a tick of a process

@@ -129,13 +129,15 @@ get_comes image s given d devices job owned shared act f is does same =
 
 pub waits_is : (image : Image) (c limit number : ℤ) (o : Own) (room : ℕ) → CanCome room (wait (monitor_of image c) c limit number o) → wait (monitor_of image c) c limit number o ≡ Waits (unsigned_abs c) (unsigned_abs limit) (unsigned_abs number) (with_inside None o)
 waits_is image c limit number o room can = by (monitor_of image c) can where
-  now : (b : Bool) → CanCome room (waits b c limit number o) → waits b c limit number o ≡ Waits (unsigned_abs c) (unsigned_abs limit) (unsigned_abs number) (with_inside None o)
-  now true can' = refl
-  now false can' = absurd can'
+  now : (b : Bool) (limit number : ℤ) → CanCome room (waits b c limit number o) → waits b c limit number o ≡ Waits (unsigned_abs c) (unsigned_abs limit) (unsigned_abs number) (with_inside None o)
+  now true (pos l) (pos n) can' = refl
+  now true (pos l) (negsuc n) can' = absurd can'
+  now true (negsuc l) number can' = absurd can'
+  now false limit number can' = absurd can'
 
   by : (m : Option ℕ) → CanCome room (wait m c limit number o) → wait m c limit number o ≡ Waits (unsigned_abs c) (unsigned_abs limit) (unsigned_abs number) (with_inside None o)
   by None can' = absurd can'
-  by (Some m) can' = now (is_inside m o.job.inside) can'
+  by (Some m) can' = now (is_inside m o.job.inside) limit number can'
 
 -- ---- the condition is one that there is
 
