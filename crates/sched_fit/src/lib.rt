@@ -7,6 +7,9 @@
 //! they are, and that it is then the cost and the spare ticks.
 #![tactic(auto)]
 
+pub mod fit_law;
 mod fitting;
+mod uncounted;
 
 pub use fitting::{Number, fit};
+pub use uncounted::fit_of;
