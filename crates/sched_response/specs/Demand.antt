@@ -18,6 +18,10 @@ deadline_at ts level = (task_at ts level).deadline
 abbrev pub with_run : List Task → ℕ → ℕ → List Task
 with_run ts level ticks = slice_set ts level (record (task_at ts level) { run = ticks })
 
+-- the same tasks, but that the one of the level suspends itself for so many ticks
+abbrev pub with_susp : List Task → ℕ → ℕ → List Task
+with_susp ts level ticks = slice_set ts level (record (task_at ts level) { susp = ticks })
+
 -- one activation, where each wait is followed by a blocking of b
 abbrev pub activation : ℕ → Task → ℕ
 activation b t = t.run + t.susp + t.waits * b

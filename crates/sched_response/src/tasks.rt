@@ -4,7 +4,7 @@ ghost use Rattle.std.specs.Prelude.{◌≡◌, ◌+◌, ◌*◌, ◌≤◌, ◌<
 ghost use Rattle.std.specs.Int.{div_ceil};
 ghost use Rattle.std.specs.List.Sorted.{IsNonDecreasingBy};
 ghost use Rattle.base.specs.Capped.{cap};
-ghost use Rattle.sched_response.specs.Demand.{activation, asked, demand_of, demand_at, deadline_at, task_at, with_run, AreTasks, IsTask};
+ghost use Rattle.sched_response.specs.Demand.{activation, asked, demand_of, demand_at, deadline_at, task_at, with_run, with_susp, AreTasks, IsTask};
 
 use crate::steps::Steps;
 use base::{OVER, cap_add, cap_mul, ceil_div};
@@ -123,6 +123,25 @@ impl TaskSet {
         ensures { self.new ≡ with_run self.old level run }
     {
         self.tasks[level].run = run;
+    }
+
+    /// The ticks for which one activation of the level's task suspends itself, at most.
+    pub fn susp(&self, level: usize) -> u64
+        requires { level < length self.now }
+        ensures value { result ≡ (task_at self.now level).susp }
+        ensures range { result ≤ 1000000001 }
+    {
+        self.tasks[level].susp
+    }
+
+    /// Sets the ticks for which one activation of the level's task suspends itself, at most, and
+    /// leaves all else as it is.
+    pub fn set_susp(&mut self, level: usize, susp: u64)
+        requires level { level < length self.old }
+        requires susp { susp ≤ 1000000001 }
+        ensures { self.new ≡ with_susp self.old level susp }
+    {
+        self.tasks[level].susp = susp;
     }
 }
 

@@ -1,0 +1,4 @@
+pub mod Less
+pub mod Changed
+pub mod Judged
+pub mod Laws
