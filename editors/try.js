@@ -71,7 +71,6 @@ assert.strictEqual(JSON.parse(text("editors", "vscode", "language-configuration.
 const [language] = JSON.parse(text("editors", "vscode", "package.json")).contributes.languages;
 assert.deepStrictEqual(language.extensions, [".rte"]);
 
-
 const [matcher] = JSON.parse(text("editors", "vscode", "package.json")).contributes.problemMatchers;
 const fault = new RegExp(matcher.pattern.regexp).exec("plant/tank.rte: E10 17:3");
 const part = (name) => fault[matcher.pattern[name]];
