@@ -1,0 +1,6 @@
+pub mod Searches
+pub mod Coding
+pub mod Fitting
+pub mod Pieces
+pub mod Numbers
+pub mod Whole

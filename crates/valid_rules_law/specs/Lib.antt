@@ -1,0 +1,4 @@
+pub mod Code
+pub mod Operands
+pub mod Rules
+pub mod RulesLaw

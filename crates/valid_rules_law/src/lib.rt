@@ -1,0 +1,25 @@
+//! Law: each of the seven tests of an image passes exactly where a rule in plain words holds.
+//!
+//! `valid_image` says of each test which fault it finds first. `specs/Rules.antt` says of each what
+//! an image has to be, with no order of steps in it: that code is of its tree (`specs/Code.antt`),
+//! that operands fit (`specs/Operands.antt`), and for costs, sizes, ranks, bounds and handlers which
+//! declared number is at least, or equal to, which needed one. `specs/RulesLaw.antt` ties both.
+//! Nothing here can run.
+#![tactic(auto)]
+
+ghost use Rattle.valid_rules_law.specs.RulesLaw.{PartsFailByTheirRules, PartsPassByTheirRules, ValidKeepsAllRules};
+
+/// A part of an image has no fault exactly where its rule holds.
+pub fn parts_pass_by_their_rules()
+    ensures { PartsPassByTheirRules }
+{}
+
+/// A part of an image has a fault exactly where its rule does not hold.
+pub fn parts_fail_by_their_rules()
+    ensures { PartsFailByTheirRules }
+{}
+
+/// An image is valid exactly where it keeps all seven rules.
+pub fn valid_keeps_all_rules()
+    ensures { ValidKeepsAllRules }
+{}
