@@ -1,0 +1,5 @@
+pub mod Table
+pub mod Walks
+pub mod Reading
+pub mod Formats
+pub mod Processes
