@@ -1,32 +1,24 @@
 -- The layout of an image tells what reading by the format of images tells: part by part.
-use Rattle.std.proofs.Common.{◌≡◌, ◌≤◌, ◌<◌, ◌⊎◌, inl, inr, ◌+◌, ◌++◌, ℕ, zero, suc, List, [], ◌∷◌, length, take, drop, map, Result, Ok, Err, Option, Some, None, arith, refl, ap, sym, subst, ◌∙◌, true, false, Bool, append_assoc}
-use Rattle.std.specs.Prelude.{ℤ, pos, ◌&&◌, ◌||◌, ◌==◌, not, flat_map, codes, nat_eq, nat_le, nat_lt, if◌then◌else◌}
-use Rattle.std.specs.Int.{w16, w32, cast_signed, from_be_bytes}
+use Rattle.std.proofs.Common.{◌≡◌, ◌≤◌, ◌+◌, ℕ, zero, suc, List, length, take, drop, Ok, Err, Option, Some, None, arith, refl, ap, sym, ◌∙◌, true, false, Bool}
+use Rattle.std.specs.Prelude.{◌&&◌, ◌||◌, ◌==◌, not, nat_le, nat_lt, if◌then◌else◌}
+use Rattle.std.specs.Int.{w16, w32, from_be_bytes}
 use Rattle.std.specs.Prelude.{slice_index}
-use Rattle.std.specs.Ordering.{int_eq}
-use Rattle.std.specs.Cmp.Lexicographic.{pointwise}
 use Rattle.std.proofs.lemmas.Bool.{le-leb, lt-leb, ne_eqb}
 use Rattle.std.proofs.lemmas.List.{length-take-le}
-use Rattle.machine_isa.specs.declared.instr.Instr.{Instr}
-use Rattle.machine_isa.specs.Bytes.{arity}
-use Rattle.machine_semantics.specs.Image.{Monitor, Routine, Process}
-use Rattle.machine_semantics.specs.Trees.{Seg, Segs, Nil, Cons, Line, Fork, Rep, Call, Stay, Wait, Exit}
+use Rattle.machine_semantics.specs.Trees.{Seg, Segs, Line, Fork, Rep, Call, Stay}
 use Rattle.image.specs.declared.names.ConditionName.{ConditionName}
 use Rattle.image.specs.declared.names.DeviceName.{DeviceName}
-use Rattle.image.specs.Bytes.{Version, First, Second}
 use Rattle.image_reader.specs.declared.counts.Counts.{Counts}
-use Rattle.image_format.specs.declared.fault.ByteFault.{ByteFault}
-use Rattle.image_format.specs.Format.{Format, Read, ◌>>=◌, fault, field_at, passed, checked, both, via, each, u8, u16, u32, bytes_as_are, given, unless}
+use Rattle.image_format.specs.Format.{Format, Read, ◌>>=◌, fault, field_at, passed, checked, both, via, u8, u16, u32, bytes_as_are, unless}
 use Rattle.image_format.specs.TreeFormat as tf
 use Rattle.image_format.specs.TreeFormat.{within, u16_within, u32_within, u16_below, tree_format, row_format, seg_format, in_image, no_tree, tagged}
 use Rattle.image_reader.specs.Grammar as g
-use Rattle.image_reader.specs.File as f
-use Rattle.image_fields_law.specs.Fields.{Field, size_of, letters, version, any, ranged, kind, tag, one_of, none, none_up_to, event, too_deep, handled, no_operand, number, Rule, fresh, own_name, handler}
+use Rattle.image_fields_law.specs.Fields.{Field, size_of, any, ranged, kind, tag, one_of, none, none_up_to, too_deep, number, fresh, own_name}
 use Rattle.image_fields_law.specs.Layout as l
 use Rattle.image_fields_law.specs.Layout.{Layout, field, rule, repeated, many}
-use Rattle.image_fields_law.proofs.Table.{fault_of, fault_of_rule, or_else}
+use Rattle.image_fields_law.proofs.Table.{fault_of, or_else}
 use Rattle.image_fields_law.proofs.Walks.{walk, stopped}
-use Rattle.image_fields_law.proofs.Reading.{follow, Reads, Skips, leaf, skip, leaf_any, skip_any, twice, both_reads, both_first, both_second, both_skip, skip_both, same_after, via_reads, via_skips, Takes, rule_reads, takes_field, repeat_skips, row_as, many_reads}
+use Rattle.image_fields_law.proofs.Reading.{follow, Reads, Skips, leaf, skip, leaf_any, skip_any, twice, both_reads, both_first, both_skip, skip_both, via_reads, via_skips, rule_reads, takes_field, row_as}
 
 -- ---- numbers
 
@@ -226,8 +218,15 @@ module _ (monitors : ℕ) (sub : Format Segs) (l_sub : Layout → Layout) (skips
     over : (t : ℕ) → 8 ≤ t → AsTag t left rest k
     over t high =
         rw (
-          ne_eqb t 1 (λ e. omega (arith, high, e)), ne_eqb t 2 (λ e. omega (arith, high, e)), ne_eqb t 3 (λ e. omega (arith, high, e)), ne_eqb t 4 (λ e. omega (arith, high, e)),
-          ne_eqb t 5 (λ e. omega (arith, high, e)), ne_eqb t 6 (λ e. omega (arith, high, e)), ne_eqb t 7 (λ e. omega (arith, high, e)), le-leb 1 t (omega (arith, high)), lt-leb t 7 (omega (arith, high))
+          ne_eqb t 1 (λ e. omega (arith, high, e)),
+          ne_eqb t 2 (λ e. omega (arith, high, e)),
+          ne_eqb t 3 (λ e. omega (arith, high, e)),
+          ne_eqb t 4 (λ e. omega (arith, high, e)),
+          ne_eqb t 5 (λ e. omega (arith, high, e)),
+          ne_eqb t 6 (λ e. omega (arith, high, e)),
+          ne_eqb t 7 (λ e. omega (arith, high, e)),
+          le-leb 1 t (omega (arith, high)),
+          lt-leb t 7 (omega (arith, high)),
         ) refl
 
   abbrev byte_read : Bool → List ℕ → Read ℕ
@@ -277,6 +276,7 @@ up_to b high = skip (up_to_or_none b high) (from_be_bytes w32) (λ n. or_else (w
   reads : (b : Bool) (bytes : List ℕ) → (checked (u32_within 0 high) (λ n. unless (b || n == 0) 7)).read bytes ≡ (field_at (size_of (up_to_or_none b high)) (from_be_bytes w32) bytes >>= λ x. passed (or_else (within 0 high x.0) (unless (b || x.0 == 0) 7)) (length bytes) x)
   reads true bytes = twice (u32.read bytes) (within 0 high) (λ n. unless (true || n == 0) 7) (length bytes)
   reads false bytes = twice (u32.read bytes) (within 0 high) (λ n. unless (false || n == 0) 7) (length bytes)
+
   same : (b : Bool) (v : List ℕ) → fault_of (up_to_or_none b high) v ≡ or_else (within 0 high (from_be_bytes w32 v)) (unless (b || from_be_bytes w32 v == 0) 7)
   same true v = or_none (within 0 high (from_be_bytes w32 v)) 7
   same false v = refl

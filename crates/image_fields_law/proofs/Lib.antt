@@ -3,3 +3,5 @@ pub mod Walks
 pub mod Reading
 pub mod Formats
 pub mod Processes
+pub mod Image
+pub mod Laws

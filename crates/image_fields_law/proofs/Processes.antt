@@ -1,32 +1,26 @@
 -- The layout of an image tells what reading by the format of images tells: processes, code, and the
 -- whole.
-use Rattle.std.proofs.Common.{◌≡◌, ◌≤◌, ◌<◌, ◌+◌, ◌++◌, ℕ, zero, suc, List, [], ◌∷◌, length, take, drop, map, Result, Ok, Err, Option, Some, None, arith, refl, ap, sym, subst, ◌∙◌, true, false, Bool, append_assoc}
-use Rattle.std.specs.Prelude.{ℤ, pos, ◌&&◌, ◌||◌, ◌==◌, not, flat_map, codes, nat_eq, nat_le, nat_lt, if◌then◌else◌}
-use Rattle.std.specs.List.{list_any}
+use Rattle.std.proofs.Common.{◌≡◌, ◌+◌, ◌++◌, ℕ, zero, suc, List, [], ◌∷◌, length, map, Ok, Err, Option, Some, arith, refl, ap, sym, ◌∙◌, true, false, Bool}
+use Rattle.std.specs.Prelude.{ℤ, pos, ◌&&◌, ◌||◌, ◌==◌, flat_map, nat_le, nat_lt}
 use Rattle.std.specs.Int.{w16, w32, cast_signed, from_be_bytes}
 use Rattle.std.specs.Prelude.{slice_index}
 use Rattle.std.specs.Ordering.{int_eq}
-use Rattle.std.specs.Cmp.Lexicographic.{pointwise}
-use Rattle.machine_isa.specs.declared.instr.Instr.{Instr}
 use Rattle.machine_isa.specs.Bytes.{arity}
-use Rattle.machine_semantics.specs.Image.{Monitor, Routine, Process}
+use Rattle.machine_semantics.specs.Image.{Process}
 use Rattle.machine_semantics.specs.Trees.{Segs}
-use Rattle.image.specs.declared.names.ConditionName.{ConditionName}
-use Rattle.image.specs.declared.names.DeviceName.{DeviceName}
 use Rattle.image.specs.Bytes.{Version, First, Second}
 use Rattle.image_reader.specs.declared.counts.Counts.{Counts}
 use Rattle.image_format.specs.declared.fault.ByteFault.{ByteFault}
-use Rattle.image_format.specs.Format.{Format, Read, ◌>>=◌, fault, field_at, passed, checked, both, via, each, u8, u16, u32, bytes_as_are, given, unless}
-use Rattle.image_format.specs.TreeFormat.{within, u16_within, u32_within, u16_below, tree_format, in_image}
+use Rattle.image_format.specs.Format.{Format, Read, ◌>>=◌, checked, both, u8, u16, u32, unless}
+use Rattle.image_format.specs.TreeFormat.{u32_within, tree_format, in_image}
 use Rattle.image_reader.specs.Grammar as g
 use Rattle.image_reader.specs.File as f
-use Rattle.image_fields_law.specs.Fields.{Field, size_of, letters, version, any, ranged, kind, tag, one_of, none, none_up_to, event, too_deep, handled, no_operand, number, Rule, handler}
+use Rattle.image_fields_law.specs.Fields.{any, ranged, kind, tag, none, event, handled, no_operand, number, handler}
 use Rattle.image_fields_law.specs.Layout as l
 use Rattle.image_fields_law.specs.Layout.{Layout, field, rule, repeated, many}
-use Rattle.image_fields_law.proofs.Table.{fault_of, fault_of_rule, or_else}
-use Rattle.image_fields_law.proofs.Walks.{walk, stopped}
-use Rattle.image_fields_law.proofs.Reading.{follow, Reads, Skips, leaf, skip, leaf_any, skip_any, twice, both_reads, both_first, both_second, both_skip, skip_both, same_after, both_as, via_reads, via_skips, Takes, rule_reads, takes_field, repeat_skips, many_reads}
-use Rattle.image_fields_law.proofs.Formats.{two, four, skip_four, skip_two, any_two, any_four, skip_any_two, skip_any_four, a_kind, up_to, Both, both_read, a_name, a_tree, a_routine}
+use Rattle.image_fields_law.proofs.Walks.{walk}
+use Rattle.image_fields_law.proofs.Reading.{follow, Reads, Skips, leaf, skip, both_reads, both_first, both_second, both_skip, skip_both, same_after, both_as, rule_reads, takes_field, repeat_skips, many_reads}
+use Rattle.image_fields_law.proofs.Formats.{four, skip_four, any_two, any_four, skip_any_two, skip_any_four, a_kind, up_to, both_read, a_name, a_tree, a_routine}
 
 -- ---- releases
 
@@ -191,7 +185,7 @@ used_are : (xs : List (List ℕ × Process)) → flat_map second_told (map told 
 used_are [] = refl
 used_are (x ∷ xs) = ap (λ (ys : List ℕ). g.event_of x.1 ++ ys) (used_are xs)
 
-grows : {A B : Type 0} (t : A → B) (xs : List A) (x : A) → map t (xs ++ x ∷ []) ≡ map t xs ++ t x ∷ []
+pub grows : {A B : Type 0} (t : A → B) (xs : List A) (x : A) → map t (xs ++ x ∷ []) ≡ map t xs ++ t x ∷ []
 grows t [] x = refl
 grows t (y ∷ ys) x = ap (λ zs. t y ∷ zs) (grows t ys x)
 
@@ -250,13 +244,13 @@ an_instruction k bytes =
 abbrev pub Ends : {A : Type 0} → Format A → Layout → Type 0
 Ends form layout = (bytes : List ℕ) → walk layout bytes ≡ follow (form.read bytes) (λ x rest. walk l.done rest)
 
-reads_end : {A B C : Type 0} (f : Format A) (g : A → Format B) (t : A → C) (lf : (C → Layout) → Layout) (m : C → Layout) → Reads f t lf → ((x : A) → Ends (g x) (m (t x))) → Ends (both f g) (lf m)
+pub reads_end : {A B C : Type 0} (f : Format A) (g : A → Format B) (t : A → C) (lf : (C → Layout) → Layout) (m : C → Layout) → Reads f t lf → ((x : A) → Ends (g x) (m (t x))) → Ends (both f g) (lf m)
 reads_end f g t lf m first second bytes = first m bytes ∙ (same_after (f.read bytes) _ _ (λ x rest. second x rest) ∙ sym (both_as f g bytes (λ z more. walk l.done more)))
 
-skips_end : {A B : Type 0} (f : Format A) (g : A → Format B) (lf : Layout → Layout) (m : Layout) → Skips f lf → ((x : A) → Ends (g x) m) → Ends (both f g) (lf m)
+pub skips_end : {A B : Type 0} (f : Format A) (g : A → Format B) (lf : Layout → Layout) (m : Layout) → Skips f lf → ((x : A) → Ends (g x) m) → Ends (both f g) (lf m)
 skips_end f g lf m first second bytes = first m bytes ∙ (same_after (f.read bytes) _ _ (λ x rest. second x rest) ∙ sym (both_as f g bytes (λ z more. walk l.done more)))
 
-view_end : {A B : Type 0} (to : A → B) (r : Read A) → follow r (λ x rest. walk l.done rest) ≡ follow (r >>= λ x. Ok (to x.0, x.1)) (λ x rest. walk l.done rest)
+pub view_end : {A B : Type 0} (to : A → B) (r : Read A) → follow r (λ x rest. walk l.done rest) ≡ follow (r >>= λ x. Ok (to x.0, x.1)) (λ x rest. walk l.done rest)
 view_end to (Ok x) = refl
 view_end to (Err e) = refl
 
@@ -265,7 +259,7 @@ some_code true count bytes = repeat_skips (λ earlier. g.instr_format) l.instruc
 some_code false count bytes = refl
 
 module _ (v : Version) (counts : Counts) where
-  work : (taken : List (List ℕ)) → Ends (f.work_format v counts taken) (l.work v counts taken)
+  pub work : (taken : List (List ℕ)) → Ends (f.work_format v counts taken) (l.work v counts taken)
   work taken =
       skips_end (f.routines_format counts) (λ routines. both (f.processes_format v counts taken) (λ ps. f.code_format (f.all_used (f.used_by ps) 0 counts.events) counts.code)) (repeated (l.routine counts) counts.routines)
       (many (one_process v counts taken) [] counts.processes behind) (repeat_skips (λ earlier. g.routine_format counts) (l.routine counts) (λ earlier. a_routine counts) counts.routines)

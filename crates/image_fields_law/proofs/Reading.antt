@@ -1,12 +1,11 @@
 -- A layout tells of bytes what reading by a format tells.
-use Rattle.std.proofs.Common.{◌≡◌, ◌≤◌, ◌<◌, inl, inr, ◌+◌, ◌++◌, ℕ, zero, suc, List, [], ◌∷◌, length, take, drop, Result, Ok, Err, Option, Some, None, arith, refl, ap, sym, subst, ◌∙◌, true, false, Bool, append_assoc}
+use Rattle.std.proofs.Common.{◌≡◌, ◌≤◌, ◌+◌, ◌++◌, ℕ, zero, suc, List, [], ◌∷◌, length, take, drop, Ok, Err, Option, Some, None, arith, refl, ap, sym, ◌∙◌, true, false, Bool, append_assoc}
 use Rattle.std.specs.Prelude.{nat_lt, if◌then◌else◌}
-use Rattle.std.proofs.lemmas.Bool.{ltb-true, ltb-false}
-use Rattle.std.proofs.lemmas.List.{length-take-le}
+use Rattle.std.proofs.lemmas.Bool.{ltb-false}
 use Rattle.std.proofs.Common.{length-drop, append-nil}
-use Rattle.machine_semantics.specs.Trees.{Seg, Segs, Nil, Cons}
+use Rattle.machine_semantics.specs.Trees.{Seg, Segs, Cons}
 use Rattle.image_format.specs.declared.fault.ByteFault.{ByteFault}
-use Rattle.image_format.specs.Format.{Format, Read, ◌>>=◌, fault, field_at, passed, checked, both, via, each, each_read, bytes_as_are}
+use Rattle.image_format.specs.Format.{Format, Read, ◌>>=◌, fault, field_at, passed, checked, both, via, each, each_read}
 use Rattle.image_format.specs.TreeFormat.{segs_read}
 use Rattle.image_fields_law.specs.Fields.{Field, size_of, any, Rule}
 use Rattle.image_fields_law.specs.Layout.{Layout, field, rule, repeated, many}
@@ -202,7 +201,7 @@ row_as one l skips (suc n) k bytes = skips (repeated l n k) bytes ∙ by (λ res
   by ih (Err e) = refl
 
 module _ {A B : Type 0} (f : List A → Format A) (t : A → B) (told : List A → List B) (l : List B → (B → Layout) → Layout)
-  (grows : (xs : List A) (x : A) → told (xs ++ x ∷ []) ≡ told xs ++ t x ∷ []) (one : (xs : List A) → Reads (f xs) t (l (told xs))) where
+    (grows : (xs : List A) (x : A) → told (xs ++ x ∷ []) ≡ told xs ++ t x ∷ []) (one : (xs : List A) → Reads (f xs) t (l (told xs))) where
   many_as : (n : ℕ) (earlier : List A) (k : List B → Layout) (bytes : List ℕ) → walk (many l (told earlier) n k) bytes ≡ follow (each_read f earlier n bytes) (λ xs rest. walk (k (told (earlier ++ xs))) rest)
   unfolding each_read
   many_as zero earlier k bytes = ap (λ (xs : List A). walk (k (told xs)) bytes) (simp append-nil refl)

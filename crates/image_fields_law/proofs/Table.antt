@@ -1,11 +1,11 @@
 -- The table of fields as a test, as the formats have it.
-use Rattle.std.proofs.Common.{◌≡◌, ◌≤◌, ◌<◌, ◌⊎◌, inl, inr, ℕ, zero, suc, List, Option, Some, None, arith, refl, ap, sym, ◌∙◌, true, false, Bool}
+use Rattle.std.proofs.Common.{◌≡◌, ◌≤◌, ◌<◌, ◌⊎◌, inl, inr, ℕ, List, Option, Some, None, arith, refl, ap, sym, ◌∙◌, true, false, Bool}
 use Rattle.std.specs.Prelude.{ℤ, pos, ◌&&◌, ◌||◌, ◌==◌, not, nat_eq, nat_le, nat_lt, codes}
 use Rattle.std.specs.List.{list_any}
 use Rattle.std.specs.Int.{w32, cast_signed}
 use Rattle.std.specs.Ordering.{int_eq}
 use Rattle.std.specs.Cmp.Lexicographic.{pointwise}
-use Rattle.std.proofs.lemmas.Bool.{cases_Bool, and_from, and_cases, eqb-true, eqb-false, leb-true, leb-false, ltb-true, ltb-false, or_cases, or_parts}
+use Rattle.std.proofs.lemmas.Bool.{cases_Bool, and_cases, eqb-true, eqb-false, leb-true, leb-false, ltb-true, ltb-false, or_parts}
 use Rattle.std.proofs.lemmas.Bool.Decides.{Decides-int_eq}
 use Rattle.syntax.specs.Spellings.{is_identifier, keywords}
 use Rattle.image_format.specs.Format.{unless}
@@ -135,10 +135,14 @@ wrong_is (none_up_to high) v n is = by (within 0 high (number 4 v)) refl is wher
       elim (outside 0 high (number 4 v) t.1) [ inl under ↦ absurd (omega (arith, under)) | inr over ↦ inl (sym same ∙ t.0, over) ]
   by None at is =
       let t = told (number 4 v == 0) 7 n is in
-      inr (t.0, elim (cases_Bool (nat_le (number 4 v) high)) [
-        | inl le ↦ leb-true (number 4 v) high le
-        | inr over ↦ absurd (let e : within 0 high (number 4 v) ≡ Some 4 = tells (nat_le 0 (number 4 v) && nat_le (number 4 v) high) 4 4 refl (right_fails (nat_le 0 (number 4 v)) (nat_le (number 4 v) high) over) in let f : None ≡ Some 4 = sym at ∙ e in cc)
-      ], eqb-false (number 4 v) 0 t.1)
+      inr (
+        t.0,
+        elim (cases_Bool (nat_le (number 4 v) high)) [
+          | inl le ↦ leb-true (number 4 v) high le
+          | inr over ↦ absurd (let e : within 0 high (number 4 v) ≡ Some 4 = tells (nat_le 0 (number 4 v) && nat_le (number 4 v) high) 4 4 refl (right_fails (nat_le 0 (number 4 v)) (nat_le (number 4 v) high) over) in let f : None ≡ Some 4 = sym at ∙ e in cc)
+        ],
+        eqb-false (number 4 v) 0 t.1,
+      )
 wrong_is (event events used) v n is =
     let taken = list_any (λ e. nat_eq e (number 2 v)) used in
     let t = told (nat_lt (number 2 v) events && not taken) 4 n is in
@@ -178,11 +182,13 @@ is_wrong no_operand v n w = tells (int_eq (cast_signed w32 (number 4 v)) (pos 0)
 
 pub breaks_is : (r : Rule) (n : ℕ) → fault_of_rule r ≡ Some n → Breaks r n
 breaks_is (fresh taken name) n is =
-    let t = told (is_identifier name && not (has keywords name) && not (has taken name)) 5 n is in
-    (t.0, elim (and_cases (is_identifier name && not (has keywords name)) (not (has taken name)) t.1) [
-      | inl front ↦ elim (and_cases (is_identifier name) (not (has keywords name)) front) [ inl spelled ↦ inl spelled | inr keyword ↦ inr (inl (not_is (has keywords name) keyword)) ]
-      | inr other ↦ inr (inr (not_is (has taken name) other))
-    ])
+    let t = told (is_identifier name && not (has keywords name) && not (has taken name)) 5 n is in (
+      t.0,
+      elim (and_cases (is_identifier name && not (has keywords name)) (not (has taken name)) t.1) [
+        | inl front ↦ elim (and_cases (is_identifier name) (not (has keywords name)) front) [ inl spelled ↦ inl spelled | inr keyword ↦ inr (inl (not_is (has keywords name) keyword)) ]
+        | inr other ↦ inr (inr (not_is (has taken name) other))
+      ],
+    )
 breaks_is (own_name earlier c) n is = let t = told (not (is_again earlier c)) 5 n is in (t.0, not_is (is_again earlier c) t.1)
 breaks_is (handler address numbers) n is =
     let t = told (nat_lt 0 numbers || address == 0) 7 n is in

@@ -1,6 +1,6 @@
 -- The fields of the bytes of an image: how many bytes each has, and which of its values are wrong,
 -- with the number of the fault. Numbers stand with their highest byte first.
-use Rattle.std.specs.Prelude.{◌≡◌, ◌≤◌, ◌<◌, ◌⊎◌, ℕ, ℤ, pos, zero, suc, Bool, true, false, List, codes, slice_index}
+use Rattle.std.specs.Prelude.{◌≡◌, ◌≤◌, ◌<◌, ◌⊎◌, ℕ, pos, zero, suc, true, false, List, codes, slice_index}
 use Rattle.std.specs.List.{list_any}
 use Rattle.std.specs.Int.{w16, w32, cast_signed, from_be_bytes}
 use Rattle.std.specs.Prelude.{nat_eq}

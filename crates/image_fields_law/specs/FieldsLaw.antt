@@ -1,5 +1,5 @@
 -- The laws: where a file has the faults I2 and I4 to I8.
-use Rattle.std.specs.Prelude.{◌≡◌, ◌≤◌, ◌+◌, ◌-◌, ◌↔◌, ◌⊎◌, ℕ, zero, suc, List, [], ◌∷◌, length}
+use Rattle.std.specs.Prelude.{◌≡◌, ◌≤◌, ◌+◌, ◌-◌, ◌↔◌, ◌⊎◌, ℕ, suc, List, [], ◌∷◌, length}
 use Rattle.image_format.specs.FormatLaw.{AreBytes}
 use Rattle.image_reader_law.specs.Faults.{IsFileFault}
 use Rattle.image_fields_law.specs.Layout.{Layout, lacks_process, image}

@@ -1,8 +1,7 @@
 -- Where the bytes of a file have a fault: behind fields that are in their ranges.
-use Rattle.std.specs.Prelude.{◌≡◌, ◌<◌, ◌+◌, ◌++◌, ℕ, List, [], ◌∷◌, length}
-use Rattle.image_reader.specs.File.{unused_fault}
+use Rattle.std.specs.Prelude.{◌≡◌, ◌<◌, ◌++◌, ℕ, List, length}
 use Rattle.image_fields_law.specs.Fields.{Field, size_of, Right, Wrong, Rule, Keeps, Breaks}
-use Rattle.image_fields_law.specs.Layout.{Layout, done, field, rule, lacks_process}
+use Rattle.image_fields_law.specs.Layout.{Layout, field, rule}
 
 -- Behind some fields of the layout, which are right and whose rules are kept, stand these fields
 -- and these bytes.
