@@ -5,3 +5,4 @@ pub mod Formats
 pub mod Processes
 pub mod Image
 pub mod Laws
+pub mod Single
