@@ -1,10 +1,9 @@
 -- The faults of fields and rules, number by number.
-use Rattle.std.proofs.Common.{◌≡◌, ◌≤◌, ◌⊎◌, inl, inr, ◌+◌, ◌-◌, ℕ, List, length, arith}
+use Rattle.std.proofs.Common.{◌≡◌, ◌≤◌, ◌⊎◌, inl, inr, ℕ, List, arith}
 use Rattle.image_format.specs.FormatLaw.{AreBytes}
 use Rattle.image_reader_law.specs.Faults.{IsFileFault}
 use Rattle.image_fields_law.specs.Fields.{Field, letters, version, any, ranged, kind, tag, one_of, none, none_up_to, event, too_deep, handled, no_operand, Wrong, Rule, fresh, own_name, handler, Breaks}
-use Rattle.image_fields_law.specs.Places.{HasWrong, BreaksRule}
-use Rattle.image_fields_law.specs.FieldsLaw.{IsWrongAt, FieldWrongAt, RuleBrokenAt, ProcessLacksAt, OutOfRangeIsI4, WrongNamesAreI5, WrongKindsAreI6, NumbersForNothingAreI7, WrongHandledNumbersAreI8}
+use Rattle.image_fields_law.specs.FieldsLaw.{FieldWrongAt, RuleBrokenAt, ProcessLacksAt, OutOfRangeIsI4, WrongNamesAreI5, WrongKindsAreI6, NumbersForNothingAreI7, WrongHandledNumbersAreI8}
 use Rattle.image_fields_law.proofs.Laws.{wrong_fields_are_told}
 
 -- no field has I5

@@ -4,3 +4,4 @@ pub mod Fitting
 pub mod Pieces
 pub mod Numbers
 pub mod Whole
+pub mod Reached

@@ -1,7 +1,7 @@
 -- V1, V6 and V7: the tests of code, of operands and of handlers pass exactly where their rules hold.
 use Rattle.std.proofs.Common.{◌≡◌, ◌<◌, inl, inr, ℕ, [], length, Option, Some, None, arith, refl, ap, sym, ◌∙◌, true, false, Bool}
 use Rattle.std.specs.Prelude.{◌&&◌, not, cond, ℤ, nat_eq, take, slice_get}
-use Rattle.std.proofs.lemmas.Bool.{and_from, and_parts, eqb-true, eq-eqb, cases_lt}
+use Rattle.std.proofs.lemmas.Bool.{and_from, and_parts, both_ways, false_from_ne_true, eqb-true, eq-eqb, cases_lt}
 use Rattle.std.proofs.lemmas.Option.{slice_get_within}
 use Rattle.base.proofs.Lists.{some_at, take_get, take_past, one_some}
 use Rattle.machine_isa.specs.declared.instr.Instr.{Instr}
@@ -20,6 +20,7 @@ use Rattle.valid_rules_law.specs.Rules.{HasRoutine, CodeIsOfTrees, PieceFits, Op
 use Rattle.valid_rules_law.proofs.Searches.{passes, both_none, none_from, none_in}
 use Rattle.valid_rules_law.proofs.Coding.{Described, Describe, Gives, routine_is, routine_gives, part_is, part_gives}
 use Rattle.valid_rules_law.proofs.Fitting.{fits, is_good}
+use Rattle.valid_rules_law.proofs.Reached.{waits_are_reached, addresses_belong_to_owners}
 
 -- ---- rows of routines
 
@@ -146,8 +147,8 @@ module _ (image : Image) where
 
   pub operands_are : operand_fault image ≡ None → OperandsFit image
   operands_are none = record {
-    routines = λ r x at a instr own here. fits image (whose_routine r x) instr (p.routine_operands image none r x at a instr own here);
-    processes = λ k q at a instr own here. fits image (whose_process image k q) instr (p.process_operands image none k q at a instr own here);
+    routines = λ r x at a instr own here. fits image (whose_routine r x) instr (p.routine_operands image none r x at a instr ((addresses_belong_to_owners image r a).1 own) here);
+    processes = λ k q at a instr own here. fits image (whose_process image k q) instr (p.process_operands image none k q at a instr ((addresses_belong_to_owners image (piece_number image k) a).1 own) here);
   }
 
   none_shown : (a : ℕ) (o : Option ℤ) → o ≡ None → shown_operand a o ≡ None
@@ -162,7 +163,7 @@ module _ (image : Image) where
   piece_passes : (piece : ℕ) (w : Whose) → PieceFits image piece w → operand_fault_in image piece w ≡ None
   piece_passes piece w h =
       none_from (operand_fault_at image piece w) (length image.code) 0
-      (λ a. at_address w a (belongs image piece a) (slice_get image.code a) (λ instr own here. is_good image w instr (h a instr own here)))
+      (λ a. at_address w a (belongs image piece a) (slice_get image.code a) (λ instr own here. is_good image w instr (h a instr ((addresses_belong_to_owners image piece a).0 own) here)))
 
   pub operands_pass : OperandsFit image → operand_fault image ≡ None
   operands_pass f =
@@ -173,13 +174,13 @@ module _ (image : Image) where
   -- ---- V7
 
   pub handlers_are : handler_fault image ≡ None → HandlersStand image
-  handlers_are none k q tree at is = let h = p.handler_stands image none k q at tree is in record { place = h.place; no_wait = h.silent }
+  handlers_are none k q tree at is = let h = p.handler_stands image none k q at tree is in record { place = h.place; no_wait = λ w. both_ways (tree_waits (reach image) tree) h.silent ((waits_are_reached image tree).1 w) }
 
   stands : (k : ℕ) (q : Process) (o : Option Segs) → ((tree : Segs) → o ≡ Some tree → HandlerStands image q tree) → is_handler image q o ≡ true
   stands k q None h = refl
   stands k q (Some tree) h =
       let s = h tree refl in
-      and_from (nat_eq q.handler (handler_start q)) (not (tree_waits (reach image) tree)) (eq-eqb q.handler (handler_start q) s.place) (ap not s.no_wait)
+      and_from (nat_eq q.handler (handler_start q)) (not (tree_waits (reach image) tree)) (eq-eqb q.handler (handler_start q) s.place) (ap not (false_from_ne_true (tree_waits (reach image) tree) (λ is. s.no_wait ((waits_are_reached image tree).0 is))))
 
   pub handlers_pass : HandlersStand image → handler_fault image ≡ None
   handlers_pass h =

@@ -1,18 +1,19 @@
 -- The seven parts of validity, each as what an image has to be.
-use Rattle.std.specs.Prelude.{◌≡◌, ◌≤◌, ◌<◌, ◌-◌, ◌⊎◌, ℕ, true, false, length, take, Some, slice_get}
+use Rattle.std.specs.Prelude.{◌≡◌, ◌≤◌, ◌<◌, ◌-◌, ◌⊎◌, ℕ, length, take, Some, slice_get}
 use Rattle.base.specs.Capped.{cap}
 use Rattle.machine_isa.specs.declared.instr.Instr.{Instr}
 use Rattle.sched_response.specs.Demand.{demand_at}
 use Rattle.machine_semantics.specs.Trees.{Segs}
 use Rattle.machine_semantics.specs.Image.{Image, Monitor, Routine, Process}
-use Rattle.valid_image.specs.Pieces.{belongs, pieces, due_start, piece_number}
-use Rattle.valid_image.specs.Tables.{handler_start, reach, tree_waits, stay_of_process}
+use Rattle.valid_image.specs.Pieces.{pieces, due_start, piece_number}
+use Rattle.valid_image.specs.Tables.{handler_start, stay_of_process}
 use Rattle.valid_image.specs.Tasks.{tasks_of}
 use Rattle.valid_image.specs.Sizes.{needed_by_routine, needed_stay, needed_by_process, with_dispatch, needed_stack, due_base, words_over_all}
 use Rattle.valid_image.specs.Times.{rank_of}
 use Rattle.valid_image.specs.Operands.{Whose, whose_routine, whose_process}
 use Rattle.valid_rules_law.specs.Code.{IsRoutine, IsPart}
 use Rattle.valid_rules_law.specs.Operands.{Fits}
+use Rattle.valid_rules_law.specs.Reached.{ReachesWait, IsOwner}
 
 -- ---- what an image has, by its number
 
@@ -109,7 +110,7 @@ BoundsHold image = (k : ℕ) (p : Process) → HasProcess image k p → BoundHol
 
 -- the operands of each instruction of a piece fit
 abbrev pub PieceFits : Image → (piece : ℕ) → Whose → Type 0
-PieceFits image piece w = (a : ℕ) (instr : Instr) → belongs image piece a ≡ true → slice_get image.code a ≡ Some instr → Fits image w instr
+PieceFits image piece w = (a : ℕ) (instr : Instr) → IsOwner (pieces image) piece a → slice_get image.code a ≡ Some instr → Fits image w instr
 
 pub record OperandsFit (image : Image) : Type 0 where
   pub routines : (r : ℕ) (x : Routine) → HasRoutine image r x → PieceFits image r (whose_routine r x)
@@ -121,7 +122,7 @@ pub record HandlerStands (image : Image) (p : Process) (tree : Segs) : Type 0 wh
   -- right after the END of the body
   pub place : p.handler ≡ handler_start p
   -- it reaches no WAIT, by itself or through routines that it calls
-  pub no_wait : tree_waits (reach image) tree ≡ false
+  pub no_wait : ReachesWait image (length image.routines) tree → ⊥
 
 abbrev pub HandlersStand : Image → Type 0
 HandlersStand image = (k : ℕ) (p : Process) (tree : Segs) → HasProcess image k p → p.handler_tree ≡ Some tree → HandlerStands image p tree

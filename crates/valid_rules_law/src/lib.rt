@@ -7,6 +7,7 @@
 //! Nothing here can run.
 #![tactic(auto)]
 
+ghost use Rattle.valid_rules_law.specs.Reached.{AddressesBelongToOwners, WaitsAreReached};
 ghost use Rattle.valid_rules_law.specs.RulesLaw.{PartsFailByTheirRules, PartsPassByTheirRules, ValidKeepsAllRules};
 
 /// A part of an image has no fault exactly where its rule holds.
@@ -22,4 +23,15 @@ pub fn parts_fail_by_their_rules()
 /// An image is valid exactly where it keeps all seven rules.
 pub fn valid_keeps_all_rules()
     ensures { ValidKeepsAllRules }
+{}
+
+/// A tree reaches a WAIT by the computation over the routines exactly where one stands in it, or in
+/// a routine that it calls, and so on.
+pub fn waits_are_reached()
+    ensures { WaitsAreReached }
+{}
+
+/// An address belongs to the piece that starts last at it or before it.
+pub fn addresses_belong_to_owners()
+    ensures { AddressesBelongToOwners }
 {}

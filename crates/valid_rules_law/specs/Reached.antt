@@ -1,0 +1,46 @@
+-- What is reached from a tree, and which piece an address belongs to.
+use Rattle.std.specs.Prelude.{◌≡◌, ◌≤◌, ◌<◌, ◌⊎◌, ◌↔◌, ℕ, true, List, length, Some, slice_get}
+use Rattle.machine_semantics.specs.Trees.{Seg, Segs, Line, Fork, Rep, Call, Stay, Wait, Exit, Nil, Cons}
+use Rattle.machine_semantics.specs.Image.{Image, Routine}
+use Rattle.valid_image.specs.Pieces.{Piece, pieces, belongs}
+use Rattle.valid_image.specs.Tables.{reach, tree_waits}
+
+-- ---- waits
+
+-- the segment stands in the tree, at any depth
+abbrev mutual
+  pub IsWithin : Seg → Seg → Type 0
+  IsWithin s (Line n) = s ≡ Line n
+  IsWithin s (Fork first second) = StandsIn s first ⊎ StandsIn s second
+  IsWithin s (Rep turns body) = StandsIn s body
+  IsWithin s (Call r) = s ≡ Call r
+  IsWithin s (Stay monitor body) = StandsIn s body
+  IsWithin s Wait = s ≡ Wait
+  IsWithin s Exit = s ≡ Exit
+
+  pub StandsIn : Seg → Segs → Type 0
+  StandsIn s Nil = ⊥
+  StandsIn s (Cons head rest) = IsWithin s head ⊎ StandsIn s rest
+
+-- a tree reaches a WAIT: one stands in it, or in a routine that it calls; a routine is called from
+-- below this number
+pub data ReachesWait (image : Image) : (below : ℕ) → Segs → Type 0 where
+  waits : (below : ℕ) (tree : Segs) → StandsIn Wait tree → ReachesWait image below tree
+  calls : (below : ℕ) (tree : Segs) (r : ℕ) (x : Routine) → StandsIn (Call r) tree → r < below → slice_get image.routines r ≡ Some x
+      → ReachesWait image r x.tree → ReachesWait image below tree
+
+abbrev pub WaitsAreReached : Type 0
+WaitsAreReached = (image : Image) (tree : Segs) → (tree_waits (reach image) tree ≡ true) ↔ ReachesWait image (length image.routines) tree
+
+-- ---- owners of addresses
+
+-- the piece is the one that starts last at the address or before it, and of those that start there
+-- the last
+pub record IsOwner (ps : List Piece) (k a : ℕ) : Type 0 where
+  pub piece : Piece
+  pub there : slice_get ps k ≡ Some piece
+  pub starts : piece.start ≤ a
+  pub last : (j : ℕ) (y : Piece) → slice_get ps j ≡ Some y → y.start ≤ a → (y.start < piece.start) ⊎ ((y.start ≡ piece.start) × (j ≤ k))
+
+abbrev pub AddressesBelongToOwners : Type 0
+AddressesBelongToOwners = (image : Image) (k a : ℕ) → (belongs image k a ≡ true) ↔ IsOwner (pieces image) k a
