@@ -5,3 +5,4 @@ pub mod Pieces
 pub mod Numbers
 pub mod Whole
 pub mod Reached
+pub mod Staying

@@ -1,9 +1,10 @@
--- What is reached from a tree, and which piece an address belongs to.
-use Rattle.std.specs.Prelude.{◌≡◌, ◌≤◌, ◌<◌, ◌⊎◌, ◌↔◌, ℕ, true, List, length, Some, slice_get}
+-- What is reached from a tree or a piece of code, and which piece an address belongs to.
+use Rattle.std.specs.Prelude.{◌≡◌, ◌≤◌, ◌<◌, ◌⊎◌, ◌↔◌, ℕ, pos, true, List, length, Some, slice_get}
+use Rattle.machine_isa.specs.declared.instr.Instr.TheVariants as i
 use Rattle.machine_semantics.specs.Trees.{Seg, Segs, Line, Fork, Rep, Call, Stay, Wait, Exit, Nil, Cons}
 use Rattle.machine_semantics.specs.Image.{Image, Routine}
-use Rattle.valid_image.specs.Pieces.{Piece, pieces, belongs}
-use Rattle.valid_image.specs.Tables.{reach, tree_waits}
+use Rattle.valid_image.specs.Pieces.{Piece, pieces, belongs, piece_number}
+use Rattle.valid_image.specs.Tables.{reach, tree_waits, stay_of_process}
 
 -- ---- waits
 
@@ -44,3 +45,29 @@ pub record IsOwner (ps : List Piece) (k a : ℕ) : Type 0 where
 
 abbrev pub AddressesBelongToOwners : Type 0
 AddressesBelongToOwners = (image : Image) (k a : ℕ) → (belongs image k a ≡ true) ↔ IsOwner (pieces image) k a
+
+-- ---- entries
+
+-- an instruction of the piece calls the routine
+pub record CallsFrom (image : Image) (piece r : ℕ) : Type 0 where
+  pub address : ℕ
+  pub owned : IsOwner (pieces image) piece address
+  pub is : slice_get image.code address ≡ Some (i.Call (pos r))
+
+-- from the piece an entry of the monitor is reached, which declares this stay: it is called, or a
+-- routine is called that reaches it; a routine is called from below this number
+pub data ReachesStay (image : Image) (m : ℕ) : (piece below stay : ℕ) → Type 0 where
+  enters : (piece below r : ℕ) (x : Routine) → CallsFrom image piece r → r < below → slice_get image.routines r ≡ Some x
+      → x.kind ≡ 2 → x.owner ≡ m → ReachesStay image m piece below x.stay
+  passes : (piece below r stay : ℕ) (x : Routine) → CallsFrom image piece r → r < below → slice_get image.routines r ≡ Some x
+      → ReachesStay image m r r stay → ReachesStay image m piece below stay
+
+-- the longest of such
+pub record IsLongest (S : ℕ → Type 0) (n : ℕ) : Type 0 where
+  pub is_one : S n
+  pub no_longer : (m : ℕ) → S m → m ≤ n
+
+-- what a process is taken to stay in a monitor is the longest stay of an entry that it reaches
+abbrev pub StaysAreReached : Type 0
+StaysAreReached =
+    (image : Image) (k m n : ℕ) → (stay_of_process image k m ≡ Some n) ↔ IsLongest (ReachesStay image m (piece_number image k) (length image.routines)) n

@@ -7,7 +7,7 @@
 //! Nothing here can run.
 #![tactic(auto)]
 
-ghost use Rattle.valid_rules_law.specs.Reached.{AddressesBelongToOwners, WaitsAreReached};
+ghost use Rattle.valid_rules_law.specs.Reached.{AddressesBelongToOwners, StaysAreReached, WaitsAreReached};
 ghost use Rattle.valid_rules_law.specs.RulesLaw.{PartsFailByTheirRules, PartsPassByTheirRules, ValidKeepsAllRules};
 
 /// A part of an image has no fault exactly where its rule holds.
@@ -34,4 +34,10 @@ pub fn waits_are_reached()
 /// An address belongs to the piece that starts last at it or before it.
 pub fn addresses_belong_to_owners()
     ensures { AddressesBelongToOwners }
+{}
+
+/// What a process is taken to stay in a monitor is the longest stay that an entry of it declares
+/// which the process reaches.
+pub fn stays_are_reached()
+    ensures { StaysAreReached }
 {}
