@@ -14,6 +14,7 @@ use Rattle.valid_image.specs.Times.{rank_of, is_some, enters, least_rank, ceilin
 use Rattle.valid_image_law.proofs.Firsts.{neither, passed_test, none_of_all}
 use Rattle.valid_image_law.proofs.Ranking.{stay_blocks, process_blocks}
 use Rattle.valid_rules_law.specs.Rules.{HasProcess, HasMonitor, RoutineCovers, ProcessCovers, CostsCover, SizesSuffice, Enters, IsCeiling, BlocksAtMost, RanksAreDefined, BoundsHold}
+use Rattle.valid_rules_law.proofs.Staying.{is_taken, taken_is}
 use Rattle.valid_rules_law.proofs.Searches.{passes, both_none, is_below, not_below, is_same, not_other, none_in}
 
 module _ (image : Image) where
@@ -97,10 +98,10 @@ module _ (image : Image) where
   some_stay None is = absurd cc
 
   enters_is : (k m : ℕ) → enters image k m ≡ true → Enters image k m
-  enters_is k m is = some_stay (stay_of_process image k m) is
+  enters_is k m is = (let s = some_stay (stay_of_process image k m) is in (s.0, taken_is image k m s.0 s.1))
 
   is_entered : (k m : ℕ) → Enters image k m → enters image k m ≡ true
-  is_entered k m e = ap is_some e.1
+  is_entered k m e = ap is_some (is_taken image k m e.0 e.1).1
 
   one_more : (m n c : ℕ) (b : Bool) → enters image n m ≡ b → IsLeast m n c → IsLeast m (suc n) (min (cond b (rank_of image n) 65535) c)
   one_more m n c true is l = record {
@@ -159,13 +160,15 @@ module _ (image : Image) where
   blocks_are rank ticks le k m stay q x at here lower low stays =
       let one = stay_blocks image rank k (length image.monitors) m x (slice_get_within image.monitors m x here) here low in
       let two = process_blocks image rank (length image.processes) k q (slice_get_within image.processes k q at) at lower in
-      let three : ticks_of (stay_of_process image k m) ≡ stay = ap ticks_of stays in
-      omega (arith, le, one, two, three)
+      let longest = is_taken image k m stay stays in
+      let three : ticks_of (stay_of_process image k m) ≡ longest.0 = ap ticks_of longest.1 in
+      let four = longest.2 in
+      omega (arith, le, one, two, three, four)
 
   module _ (rank ticks : ℕ) (h : BlocksAtMost image rank ticks) where
     stay_within : (k m : ℕ) (q : Process) (x : Monitor) → HasProcess image k q → HasMonitor image m x → rank < q.rank → x.ceiling ≤ rank → (o : Option ℕ) → stay_of_process image k m ≡ o → ticks_of o ≤ ticks
     stay_within k m q x at here lower low None is = omega arith
-    stay_within k m q x at here lower low (Some stay) is = h k m stay q x at here lower low is
+    stay_within k m q x at here lower low (Some stay) is = h k m stay q x at here lower low (taken_is image k m stay is)
 
     monitor_within : (k m : ℕ) (q : Process) → HasProcess image k q → rank < q.rank → (o : Option Monitor) → slice_get image.monitors m ≡ o → blocking_stay image rank k m o ≤ ticks
     monitor_within k m q at lower None is = omega arith

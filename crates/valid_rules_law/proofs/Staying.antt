@@ -1,17 +1,17 @@
 -- What a process is taken to stay in a monitor is the longest stay of an entry that it reaches.
 use Rattle.std.proofs.Common.{◌≡◌, ◌≤◌, ◌<◌, ◌+◌, ◌++◌, ◌⊎◌, inl, inr, ℕ, zero, suc, List, [], ◌∷◌, length, Option, Some, None, arith, refl, ap, sym, subst, ◌∙◌, true, false, Bool}
-use Rattle.std.specs.Prelude.{ℤ, pos, negsuc, ◌&&◌, cond, max, nat_eq, take, slice_get}
-use Rattle.std.proofs.lemmas.Bool.{cases_lt, cases_Bool, and_from, and_parts, eqb-true, eq-eqb}
+use Rattle.std.specs.Prelude.{pos, ◌&&◌, cond, max, nat_eq, take, slice_get}
+use Rattle.std.proofs.lemmas.Bool.{cases_lt, and_from, and_parts, eqb-true, eq-eqb}
 use Rattle.std.proofs.lemmas.List.{take_all}
 use Rattle.std.proofs.lemmas.Option.{slice_get_within}
 use Rattle.base.proofs.Lists.{some_at, take_get, take_past, one_some}
 use Rattle.machine_isa.specs.declared.instr.Instr.{Instr}
 use Rattle.machine_isa.specs.declared.instr.Instr.TheVariants as i
 use Rattle.machine_semantics.specs.Image.{Image, Routine}
-use Rattle.valid_image.specs.Pieces.{pieces, belongs, called_by, called_from, called, piece_number}
+use Rattle.valid_image.specs.Pieces.{belongs, called_by, called_from, called, piece_number}
 use Rattle.valid_image.specs.Tables.{Reach, reach, reach_of, longer_stay, stays_of, stays_at, longest_of, own_stay, stay_of_process}
 use Rattle.valid_image_law.proofs.Firsts.{row_is, rows_before, table_length}
-use Rattle.valid_rules_law.specs.Reached.{IsOwner, CallsFrom, ReachesStay, enters, passes, IsLongest, StaysAreReached}
+use Rattle.valid_rules_law.specs.Reached.{CallsFrom, ReachesStay, enters, passes, IsLongest, StaysAreReached}
 use Rattle.valid_rules_law.proofs.Reached.{addresses_belong_to_owners}
 
 -- ---- the longest of some
@@ -45,6 +45,7 @@ either S T (Some a) (Some b) l k = record { one = one; most = by } where
     | inl less ↦ inr (k.one n (ap Some (omega (arith, less, some_is (max a b) n is))))
     | inr more ↦ inl (l.one n (ap Some (omega (arith, more, some_is (max a b) n is))))
   ]
+
   by : (n : ℕ) → S n ⊎ T n → (m : ℕ) × (Some (max a b) ≡ Some m) × (n ≤ m)
   by n (inl s) = (let x = l.most n s in let le = x.2 in (max a b, refl, omega (arith, le, some_is a x.0 x.1)))
   by n (inr t) = (let x = k.most n t in let le = x.2 in (max a b, refl, omega (arith, le, some_is b x.0 x.1)))
@@ -153,7 +154,7 @@ module _ (image : Image) (m : ℕ) where
       let count : length (take r (reach image)) ≡ r = rows_before (reach_of image) image.routines r within in
       let row : slice_get (take below (reach image)) r ≡ Some (reach_of image (take r (reach image)) x) = take_get below r (reach image) low ∙ row_is (reach_of image) image.routines r x at in
       let told : stays_at (take below (reach image)) m r ≡ longer_stay (own_stay x m) (longest_of (stays_at (take r (reach image)) m) (called image r)) =
-          ap (λ o. stays_of m o) row ∙ ap (λ k. longer_stay (own_stay x m) (longest_of (stays_at (take r (reach image)) m) (called image k))) count in
+      ap (λ o. stays_of m o) row ∙ ap (λ k. longer_stay (own_stay x m) (longest_of (stays_at (take r (reach image)) m) (called image k))) count in
       subst (λ o. Longest (Told below r) o) (sym told)
       (same_as (λ n. ((x.kind ≡ 2) × (x.owner ≡ m) × (x.stay ≡ n)) ⊎ ReachesStay image m r r n) (Told below r) _
       (λ n s. record { low = low; x = x; there = at; told = s })
@@ -211,3 +212,10 @@ stays_are_reached image k m n = (
   longest_is (ReachesStay image m (piece_number image k) (length image.routines)) (stay_of_process image k m) n (of_process image m k),
   is_longest (ReachesStay image m (piece_number image k) (length image.routines)) (stay_of_process image k m) n (of_process image m k),
 )
+
+-- of a stay that is reached, the one that is taken is as long
+pub is_taken : (image : Image) (k m stay : ℕ) → ReachesStay image m (piece_number image k) (length image.routines) stay → (n : ℕ) × (stay_of_process image k m ≡ Some n) × (stay ≤ n)
+is_taken image k m stay s = (of_process image m k).most stay s
+
+pub taken_is : (image : Image) (k m n : ℕ) → stay_of_process image k m ≡ Some n → ReachesStay image m (piece_number image k) (length image.routines) n
+taken_is image k m n is = (of_process image m k).one n is

@@ -6,14 +6,14 @@ use Rattle.sched_response.specs.Demand.{demand_at}
 use Rattle.machine_semantics.specs.Trees.{Segs}
 use Rattle.machine_semantics.specs.Image.{Image, Monitor, Routine, Process}
 use Rattle.valid_image.specs.Pieces.{pieces, due_start, piece_number}
-use Rattle.valid_image.specs.Tables.{handler_start, stay_of_process}
+use Rattle.valid_image.specs.Tables.{handler_start}
 use Rattle.valid_image.specs.Tasks.{tasks_of}
 use Rattle.valid_image.specs.Sizes.{needed_by_routine, needed_stay, needed_by_process, with_dispatch, needed_stack, due_base, words_over_all}
 use Rattle.valid_image.specs.Times.{rank_of}
 use Rattle.valid_image.specs.Operands.{Whose, whose_routine, whose_process}
 use Rattle.valid_rules_law.specs.Code.{IsRoutine, IsPart}
 use Rattle.valid_rules_law.specs.Operands.{Fits}
-use Rattle.valid_rules_law.specs.Reached.{ReachesWait, IsOwner}
+use Rattle.valid_rules_law.specs.Reached.{ReachesStay, ReachesWait, IsOwner}
 
 -- ---- what an image has, by its number
 
@@ -71,9 +71,9 @@ pub record SizesSuffice (image : Image) : Type 0 where
 
 -- ---- V4: ranks, ceilings, blocks
 
--- process k reaches an entry of monitor m: with which longest stay
+-- process k reaches an entry of monitor m that declares this stay
 abbrev pub Stays : Image → (k m stay : ℕ) → Type 0
-Stays image k m stay = stay_of_process image k m ≡ Some stay
+Stays image k m stay = ReachesStay image m (piece_number image k) (length image.routines) stay
 
 abbrev pub Enters : Image → (k m : ℕ) → Type 0
 Enters image k m = (stay : ℕ) × Stays image k m stay
