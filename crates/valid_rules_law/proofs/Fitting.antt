@@ -1,7 +1,7 @@
 -- No operand is bad exactly where the operands fit.
 use Rattle.std.proofs.Common.{◌≡◌, ◌+◌, ◌⊎◌, inl, inr, ℕ, Option, Some, None, arith, refl, ap, sym, ◌∙◌, true, false, Bool}
 use Rattle.std.specs.Prelude.{ℤ, pos, negsuc, ◌&&◌, ◌||◌, ◌+ℤ◌, ◌-ℤ◌, not, nat_eq, nat_le, nat_lt, int_le, slice_get}
-use Rattle.std.proofs.lemmas.Bool.{and_from, and_parts, or_cases, or_left, or_right, eqb-true, eq-eqb, leb-true, le-leb, lt-ltb, ltb-true, cases_Bool}
+use Rattle.std.proofs.lemmas.Bool.{both_ways, false_from_ne_true, and_from, and_parts, or_cases, or_left, or_right, eqb-true, eq-eqb, leb-true, le-leb, lt-ltb, ltb-true, cases_Bool}
 use Rattle.std.proofs.lemmas.Int.{ints}
 use Rattle.machine_isa.specs.declared.instr.Instr.{Instr}
 use Rattle.machine_isa.specs.declared.instr.Instr.TheVariants as i
@@ -13,6 +13,7 @@ use Rattle.valid_image.specs.Operands as o
 use Rattle.valid_image.specs.Operands.{Whose, Area, local_words, own_words, monitor_words, bad, bad_array, bad_operand}
 use Rattle.valid_image_law.proofs.Firsts.{neither}
 use Rattle.valid_rules_law.specs.Operands.{IsBetween, IsIn, IsArray, IsOwnMonitor, IsOwnCondition, IsDevice, MayCall, Fits}
+use Rattle.valid_rules_law.proofs.Binding.{bound_are_reached}
 use Rattle.valid_rules_law.proofs.Searches.{both_none}
 
 -- ---- a test
@@ -162,7 +163,7 @@ call_is image w (pos r) is =
       routine = s.routine;
       there = s.there;
       of_process = open_is w s.routine s.opened;
-      by_entry = λ entry. second_fails (nat_eq w.kind 2) (bound_at (reach image) r) all.1 (eq-eqb w.kind 2 entry);
+      by_entry = λ entry b. both_ways (bound_at (reach image) r) (second_fails (nat_eq w.kind 2) (bound_at (reach image) r) all.1 (eq-eqb w.kind 2 entry)) ((bound_are_reached image r).1 b);
     }
 call_is image w (negsuc r) is = absurd cc
 
@@ -172,7 +173,7 @@ is_call image w z c =
     ∙ and_from (nat_lt c.number w.number && o.is_open_some w (slice_get image.routines c.number)) (o.may_be_inside image w c.number)
     (and_from (nat_lt c.number w.number) (o.is_open_some w (slice_get image.routines c.number)) (lt-ltb c.number w.number c.below)
     (ap (λ x. o.is_open_some w x) c.there ∙ is_open w c.routine c.of_process))
-    (is_not_both (nat_eq w.kind 2) (bound_at (reach image) c.number) (λ is. c.by_entry (eqb-true w.kind 2 is)))
+    (is_not_both (nat_eq w.kind 2) (bound_at (reach image) c.number) (λ is. false_from_ne_true (bound_at (reach image) c.number) (λ b. c.by_entry (eqb-true w.kind 2 is) ((bound_are_reached image c.number).0 b))))
 
 -- ---- raised numbers
 

@@ -6,3 +6,4 @@ pub mod Numbers
 pub mod Whole
 pub mod Reached
 pub mod Staying
+pub mod Binding

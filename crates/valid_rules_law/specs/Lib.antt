@@ -1,5 +1,5 @@
 pub mod Code
-pub mod Operands
 pub mod Reached
+pub mod Operands
 pub mod Rules
 pub mod RulesLaw

@@ -4,8 +4,8 @@ use Rattle.machine_isa.specs.declared.instr.Instr.{Instr}
 use Rattle.machine_isa.specs.declared.instr.Instr.TheVariants as i
 use Rattle.base.specs.Words.{is_word}
 use Rattle.machine_semantics.specs.Image.{Image, Routine}
-use Rattle.valid_image.specs.Tables.{reach, bound_at}
 use Rattle.valid_image.specs.Operands.{Whose, Area, local_words, own_words, monitor_words}
+use Rattle.valid_rules_law.specs.Reached.{ReachesBound}
 
 -- ---- numbers
 
@@ -64,7 +64,7 @@ pub record MayCall (image : Image) (w : Whose) (z : ℤ) : Type 0 where
   pub routine : Routine
   pub there : slice_get image.routines number ≡ Some routine
   pub of_process : routine.kind ≡ 1 → (w.kind ≡ 1) × (routine.owner ≡ w.owner)
-  pub by_entry : w.kind ≡ 2 → bound_at (reach image) number ≡ false
+  pub by_entry : w.kind ≡ 2 → ReachesBound image number → ⊥
 
 -- ---- the rules
 

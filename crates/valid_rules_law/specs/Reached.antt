@@ -4,7 +4,7 @@ use Rattle.machine_isa.specs.declared.instr.Instr.TheVariants as i
 use Rattle.machine_semantics.specs.Trees.{Seg, Segs, Line, Fork, Rep, Call, Stay, Wait, Exit, Nil, Cons}
 use Rattle.machine_semantics.specs.Image.{Image, Routine}
 use Rattle.valid_image.specs.Pieces.{Piece, pieces, belongs, piece_number}
-use Rattle.valid_image.specs.Tables.{reach, tree_waits, stay_of_process}
+use Rattle.valid_image.specs.Tables.{bound_at, reach, tree_waits, stay_of_process}
 
 -- ---- waits
 
@@ -71,3 +71,13 @@ pub record IsLongest (S : ℕ → Type 0) (n : ℕ) : Type 0 where
 abbrev pub StaysAreReached : Type 0
 StaysAreReached =
     (image : Image) (k m n : ℕ) → (stay_of_process image k m ≡ Some n) ↔ IsLongest (ReachesStay image m (piece_number image k) (length image.routines)) n
+
+-- ---- what entries may not call
+
+-- the routine is one of a process or an entry, or it calls one before it that reaches such
+pub data ReachesBound (image : Image) : (r : ℕ) → Type 0 where
+  is_bound : (r : ℕ) (x : Routine) → slice_get image.routines r ≡ Some x → (x.kind ≡ 0 → ⊥) → ReachesBound image r
+  calls_bound : (r q : ℕ) (x : Routine) → slice_get image.routines r ≡ Some x → CallsFrom image r q → q < r → ReachesBound image q → ReachesBound image r
+
+abbrev pub BoundAreReached : Type 0
+BoundAreReached = (image : Image) (r : ℕ) → (bound_at (reach image) r ≡ true) ↔ ReachesBound image r

@@ -7,7 +7,7 @@
 //! Nothing here can run.
 #![tactic(auto)]
 
-ghost use Rattle.valid_rules_law.specs.Reached.{AddressesBelongToOwners, StaysAreReached, WaitsAreReached};
+ghost use Rattle.valid_rules_law.specs.Reached.{AddressesBelongToOwners, BoundAreReached, StaysAreReached, WaitsAreReached};
 ghost use Rattle.valid_rules_law.specs.RulesLaw.{PartsFailByTheirRules, PartsPassByTheirRules, ValidKeepsAllRules};
 
 /// A part of an image has no fault exactly where its rule holds.
@@ -40,4 +40,9 @@ pub fn addresses_belong_to_owners()
 /// which the process reaches.
 pub fn stays_are_reached()
     ensures { StaysAreReached }
+{}
+
+/// A routine counts as bound to a process or a monitor exactly where it is, or calls one that does.
+pub fn bound_are_reached()
+    ensures { BoundAreReached }
 {}
