@@ -59,72 +59,72 @@ module _ (v : Version) (counts : Counts) where
 and_more : {A : Type 0} (low high : ℕ) (form : Format A) (lf : (A → Layout) → Layout) → Reads form (λ x. x) lf → Reads {B = ℕ × A} (both (u16_within low high) (λ n. form)) (λ z. (z.0, z.1)) (λ k. field (ranged 2 low high) (λ v. lf (λ a. k (number 2 v, a))))
 and_more low high form lf reads = both_reads (u16_within low high) (λ n. form) (λ x. x) (λ x. x) (λ k. field (ranged 2 low high) (λ v. k (number 2 v))) (λ n k. lf k) (two low high) (λ n. reads)
 
-abbrev form_0 : Format ℕ
-form_0 = u32_within 0 65535
+abbrev from_code : Format ℕ
+from_code = u32_within 0 65535
 
-abbrev l_0 : (ℕ → Layout) → Layout
-l_0 k = field (ranged 4 0 65535) (λ v. k (number 4 v))
+abbrev layout_from_code : (ℕ → Layout) → Layout
+layout_from_code k = field (ranged 4 0 65535) (λ v. k (number 4 v))
 
-abbrev form_1 : Format (ℕ × ℕ)
-form_1 = both (u16_within 0 512) (λ n. form_0)
+abbrev from_routines : Format (ℕ × ℕ)
+from_routines = both (u16_within 0 512) (λ n. from_code)
 
-abbrev l_1 : (ℕ × ℕ → Layout) → Layout
-l_1 k = field (ranged 2 0 512) (λ v. l_0 (λ a. k (number 2 v, a)))
+abbrev layout_from_routines : (ℕ × ℕ → Layout) → Layout
+layout_from_routines k = field (ranged 2 0 512) (λ v. layout_from_code (λ a. k (number 2 v, a)))
 
-abbrev form_2 : Format (ℕ × (ℕ × ℕ))
-form_2 = both (u16_within 0 64) (λ n. form_1)
+abbrev from_events : Format (ℕ × (ℕ × ℕ))
+from_events = both (u16_within 0 64) (λ n. from_routines)
 
-abbrev l_2 : (ℕ × (ℕ × ℕ) → Layout) → Layout
-l_2 k = field (ranged 2 0 64) (λ v. l_1 (λ a. k (number 2 v, a)))
+abbrev layout_from_events : (ℕ × (ℕ × ℕ) → Layout) → Layout
+layout_from_events k = field (ranged 2 0 64) (λ v. layout_from_routines (λ a. k (number 2 v, a)))
 
-abbrev form_3 : Format (ℕ × (ℕ × (ℕ × ℕ)))
-form_3 = both (u16_within 0 64) (λ n. form_2)
+abbrev from_devices : Format (ℕ × (ℕ × (ℕ × ℕ)))
+from_devices = both (u16_within 0 64) (λ n. from_events)
 
-abbrev l_3 : (ℕ × (ℕ × (ℕ × ℕ)) → Layout) → Layout
-l_3 k = field (ranged 2 0 64) (λ v. l_2 (λ a. k (number 2 v, a)))
+abbrev layout_from_devices : (ℕ × (ℕ × (ℕ × ℕ)) → Layout) → Layout
+layout_from_devices k = field (ranged 2 0 64) (λ v. layout_from_events (λ a. k (number 2 v, a)))
 
-abbrev form_4 : Format (ℕ × (ℕ × (ℕ × (ℕ × ℕ))))
-form_4 = both (u16_within 0 256) (λ n. form_3)
+abbrev from_conditions : Format (ℕ × (ℕ × (ℕ × (ℕ × ℕ))))
+from_conditions = both (u16_within 0 256) (λ n. from_devices)
 
-abbrev l_4 : (ℕ × (ℕ × (ℕ × (ℕ × ℕ))) → Layout) → Layout
-l_4 k = field (ranged 2 0 256) (λ v. l_3 (λ a. k (number 2 v, a)))
+abbrev layout_from_conditions : (ℕ × (ℕ × (ℕ × (ℕ × ℕ))) → Layout) → Layout
+layout_from_conditions k = field (ranged 2 0 256) (λ v. layout_from_devices (λ a. k (number 2 v, a)))
 
-abbrev form_5 : Format (ℕ × (ℕ × (ℕ × (ℕ × (ℕ × ℕ)))))
-form_5 = both (u16_within 0 64) (λ n. form_4)
+abbrev from_monitors : Format (ℕ × (ℕ × (ℕ × (ℕ × (ℕ × ℕ)))))
+from_monitors = both (u16_within 0 64) (λ n. from_conditions)
 
-abbrev l_5 : (ℕ × (ℕ × (ℕ × (ℕ × (ℕ × ℕ)))) → Layout) → Layout
-l_5 k = field (ranged 2 0 64) (λ v. l_4 (λ a. k (number 2 v, a)))
+abbrev layout_from_monitors : (ℕ × (ℕ × (ℕ × (ℕ × (ℕ × ℕ)))) → Layout) → Layout
+layout_from_monitors k = field (ranged 2 0 64) (λ v. layout_from_conditions (λ a. k (number 2 v, a)))
 
-abbrev form_6 : Format (ℕ × (ℕ × (ℕ × (ℕ × (ℕ × (ℕ × ℕ))))))
-form_6 = both (u16_within 1 64) (λ n. form_5)
+abbrev from_processes : Format (ℕ × (ℕ × (ℕ × (ℕ × (ℕ × (ℕ × ℕ))))))
+from_processes = both (u16_within 1 64) (λ n. from_monitors)
 
-abbrev l_6 : (ℕ × (ℕ × (ℕ × (ℕ × (ℕ × (ℕ × ℕ))))) → Layout) → Layout
-l_6 k = field (ranged 2 1 64) (λ v. l_5 (λ a. k (number 2 v, a)))
+abbrev layout_from_processes : (ℕ × (ℕ × (ℕ × (ℕ × (ℕ × (ℕ × ℕ))))) → Layout) → Layout
+layout_from_processes k = field (ranged 2 1 64) (λ v. layout_from_monitors (λ a. k (number 2 v, a)))
 
-reads_1 : Reads {B = ℕ × ℕ} form_1 (λ z. (z.0, z.1)) l_1
-reads_1 = and_more 0 512 form_0 l_0 (four 0 65535)
+reads_from_routines : Reads {B = ℕ × ℕ} from_routines (λ z. (z.0, z.1)) layout_from_routines
+reads_from_routines = and_more 0 512 from_code layout_from_code (four 0 65535)
 
-reads_2 : Reads {B = ℕ × (ℕ × ℕ)} form_2 (λ z. (z.0, z.1)) l_2
-reads_2 = and_more 0 64 form_1 l_1 reads_1
+reads_from_events : Reads {B = ℕ × (ℕ × ℕ)} from_events (λ z. (z.0, z.1)) layout_from_events
+reads_from_events = and_more 0 64 from_routines layout_from_routines reads_from_routines
 
-reads_3 : Reads {B = ℕ × (ℕ × (ℕ × ℕ))} form_3 (λ z. (z.0, z.1)) l_3
-reads_3 = and_more 0 64 form_2 l_2 reads_2
+reads_from_devices : Reads {B = ℕ × (ℕ × (ℕ × ℕ))} from_devices (λ z. (z.0, z.1)) layout_from_devices
+reads_from_devices = and_more 0 64 from_events layout_from_events reads_from_events
 
-reads_4 : Reads {B = ℕ × (ℕ × (ℕ × (ℕ × ℕ)))} form_4 (λ z. (z.0, z.1)) l_4
-reads_4 = and_more 0 256 form_3 l_3 reads_3
+reads_from_conditions : Reads {B = ℕ × (ℕ × (ℕ × (ℕ × ℕ)))} from_conditions (λ z. (z.0, z.1)) layout_from_conditions
+reads_from_conditions = and_more 0 256 from_devices layout_from_devices reads_from_devices
 
-reads_5 : Reads {B = ℕ × (ℕ × (ℕ × (ℕ × (ℕ × ℕ))))} form_5 (λ z. (z.0, z.1)) l_5
-reads_5 = and_more 0 64 form_4 l_4 reads_4
+reads_from_monitors : Reads {B = ℕ × (ℕ × (ℕ × (ℕ × (ℕ × ℕ))))} from_monitors (λ z. (z.0, z.1)) layout_from_monitors
+reads_from_monitors = and_more 0 64 from_conditions layout_from_conditions reads_from_conditions
 
-reads_6 : Reads {B = ℕ × (ℕ × (ℕ × (ℕ × (ℕ × (ℕ × ℕ)))))} form_6 (λ z. (z.0, z.1)) l_6
-reads_6 = and_more 1 64 form_5 l_5 reads_5
+reads_from_processes : Reads {B = ℕ × (ℕ × (ℕ × (ℕ × (ℕ × (ℕ × ℕ)))))} from_processes (λ z. (z.0, z.1)) layout_from_processes
+reads_from_processes = and_more 1 64 from_monitors layout_from_monitors reads_from_monitors
 
 counts : Reads g.counts_format (λ c. c) l.counts_then
 counts k bytes =
-    via_reads form_6 (λ x. record { processes = x.0; monitors = x.1.0; conditions = x.1.1.0; devices = x.1.1.1.0; events = x.1.1.1.1.0; routines = x.1.1.1.1.1.0; code = x.1.1.1.1.1.1 })
+    via_reads from_processes (λ x. record { processes = x.0; monitors = x.1.0; conditions = x.1.1.0; devices = x.1.1.1.0; events = x.1.1.1.1.0; routines = x.1.1.1.1.1.0; code = x.1.1.1.1.1.1 })
     (λ c. (c.processes, (c.monitors, (c.conditions, (c.devices, (c.events, (c.routines, c.code))))))) (λ z. (z.0, z.1))
     (λ (c : Counts). (c.processes, (c.monitors, (c.conditions, (c.devices, (c.events, (c.routines, c.code)))))))
-    l_6 (λ x. refl) reads_6 (λ z. k (record { processes = z.0; monitors = z.1.0; conditions = z.1.1.0; devices = z.1.1.1.0; events = z.1.1.1.1.0; routines = z.1.1.1.1.1.0; code = z.1.1.1.1.1.1 })) bytes
+    layout_from_processes (λ x. refl) reads_from_processes (λ z. k (record { processes = z.0; monitors = z.1.0; conditions = z.1.1.0; devices = z.1.1.1.0; events = z.1.1.1.1.0; routines = z.1.1.1.1.1.0; code = z.1.1.1.1.1.1 })) bytes
 
 -- ---- the whole
 
