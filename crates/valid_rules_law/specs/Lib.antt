@@ -1,0 +1,5 @@
+pub mod Code
+pub mod Reached
+pub mod Operands
+pub mod Rules
+pub mod RulesLaw
