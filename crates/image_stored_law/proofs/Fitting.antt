@@ -1,5 +1,5 @@
 -- The fields of an image are in their ranges where those of each of its parts are.
-use Rattle.std.proofs.Common.{◌≡◌, ◌≤◌, ◌&&◌, ◌++◌, ℕ, Bool, true, List, [], ◌∷◌, length, codes, refl}
+use Rattle.std.proofs.Common.{◌≡◌, ◌≤◌, ◌&&◌, ◌++◌, ℕ, Bool, true, List, [], ◌∷◌, length}
 use Rattle.std.proofs.lemmas.Bool.{and_parts}
 use Rattle.image.specs.Bytes.{Version, First, Second}
 use Rattle.image_format.specs.TreeFormat.{u16_within, u32_within}

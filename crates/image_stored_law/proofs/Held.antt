@@ -1,7 +1,6 @@
 -- The bytes that are stored of a valid image hold it.
-use Rattle.std.proofs.Common.{◌≡◌, ◌≤◌, ◌-◌, ◌∙◌, ℕ, Bool, true, false, List, [], length, Ok, Err, refl, sym, subst, ap}
+use Rattle.std.proofs.Common.{◌≡◌, ◌-◌, ◌∙◌, ℕ, Bool, true, false, List, [], length, Ok, Err, subst, ap}
 use Rattle.std.specs.Prelude.{nat_lt, if◌then◌else◌}
-use Rattle.image.specs.declared.raw.RawImage.{RawImage}
 use Rattle.image.specs.Bytes.{Version, Second, bytes_of}
 use Rattle.image.specs.Named.{NamedImage}
 use Rattle.image_format.specs.Format.{fault}

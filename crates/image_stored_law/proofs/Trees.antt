@@ -1,12 +1,12 @@
 -- A tree has at most nine bytes for each instruction that it covers, and four.
 use Rattle.std.proofs.Common.{◌≡◌, ◌≤◌, ◌+◌, ◌*◌, ◌^◌, ℕ, zero, suc, true, length, arith}
-use Rattle.std.specs.Prelude.{nat_lt, nat_le}
+use Rattle.std.specs.Prelude.{nat_lt}
 use Rattle.std.proofs.lemmas.Bool.{and_parts}
 use Rattle.std.proofs.lemmas.List.{length-append}
 use Rattle.machine_semantics.specs.Trees.{Seg, Line, Fork, Rep, Call, Stay, Wait, Exit, Segs, Nil, Cons, size, size_of}
 use Rattle.image_format.specs.Format.{Format}
 use Rattle.image_format.specs.TreeBytes.{row, seg_bytes, segs_bytes, tree_bytes}
-use Rattle.image_format.specs.TreeFormat.{in_image, line_count, seg_format, seg_is, segs_is, tree_format, turns_count, u16_below}
+use Rattle.image_format.specs.TreeFormat.{in_image, seg_format, seg_is, segs_is, tree_format, turns_count, u16_below}
 use Rattle.image_stored_law.proofs.Ranged.{least_long}
 
 module _ (monitors : ℕ) (sub : Format Segs) (low : (t : Segs) → sub.is t ≡ true → length (tree_bytes t) ≤ 9 * size t + 4) where

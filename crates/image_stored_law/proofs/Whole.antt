@@ -1,7 +1,6 @@
 -- A valid image, its fields in their ranges, has no more bytes than an image may have.
-use Rattle.std.proofs.Common.{◌≡◌, ◌≤◌, ◌+◌, ◌*◌, ◌&&◌, ◌++◌, ℕ, suc, Bool, true, List, [], ◌∷◌, length, map, refl, ap, arith}
+use Rattle.std.proofs.Common.{◌≡◌, ◌≤◌, ◌+◌, ◌*◌, ◌++◌, ℕ, List, [], ◌∷◌, length, map, refl, ap, arith}
 use Rattle.std.specs.Prelude.{flat_map}
-use Rattle.std.proofs.lemmas.Bool.{and_parts}
 use Rattle.std.proofs.lemmas.List.{length-append}
 use Rattle.machine_isa.specs.Bytes.{instr_bytes}
 use Rattle.machine_semantics.specs.Image.{Monitor, Process}
@@ -11,9 +10,9 @@ use Rattle.image.specs.Named.{NamedImage}
 use Rattle.image_format.specs.Numbers.{name_bytes}
 use Rattle.image_reader.specs.Grammar as g
 use Rattle.image_reader.specs.File as f
-use Rattle.valid_image.specs.Valid.{IsValid, Shape}
+use Rattle.valid_image.specs.Valid.{Shape}
 use Rattle.image_stored_law.specs.Stored.{ValidImagesAreShort}
-use Rattle.image_stored_law.proofs.Fitting.{Fits, Few, before_conditions, before_events, before_monitors, fits, few}
+use Rattle.image_stored_law.proofs.Fitting.{Fits, before_conditions, before_events, before_monitors, fits, few}
 use Rattle.image_stored_law.proofs.Parts.{code_long, condition_low, device_low, each_short, event_low, monitor_low, process_low, routine_low}
 use Rattle.image_stored_law.proofs.Ranged.{name_short}
 use Rattle.image_stored_law.proofs.Spans.{covered, span_of_process, span_of_routine, weightless, weights, weights_map}

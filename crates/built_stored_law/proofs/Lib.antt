@@ -1,0 +1,4 @@
+pub mod Numbers
+pub mod Trees
+pub mod Turns
+pub mod Instructions
