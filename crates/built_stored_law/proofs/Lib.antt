@@ -2,3 +2,5 @@ pub mod Numbers
 pub mod Trees
 pub mod Turns
 pub mod Instructions
+pub mod Nesting
+pub mod Levels
