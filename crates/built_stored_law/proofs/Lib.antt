@@ -4,3 +4,4 @@ pub mod Turns
 pub mod Instructions
 pub mod Nesting
 pub mod Levels
+pub mod Routines

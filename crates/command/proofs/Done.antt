@@ -28,6 +28,7 @@ use Rattle.command_due.specs.CommandsDue.{Outcome, stored, log, IsRefused, fault
 use Rattle.command_due.specs.SpareDue.{IsSlackDue, slack_refused, slack_told}
 use Rattle.command_due.specs.AsmDue.{IsAsmDue, asm_faulty, asm_invalid, assembled, IsDisDue, dis_misread, disassembled}
 use Rattle.asm_law.specs.AsmLaws.{ImagesToldAreHeld}
+use Rattle.image_stored_law.specs.Stored.{ImagesReadAreHeldAgain}
 use Rattle.asm_format.specs.Text.{text_of as lines_told}
 use Rattle.command_due.specs.StopDue.{IsWatchDue, watch_refused, watch_bad_script, watched}
 use Rattle.command_words.specs.declared.stop.Breakpoint.{Breakpoint}
@@ -269,15 +270,16 @@ module _ (laws : Printing) (faithful : BuiltImagesAreFaithful) (before now : Out
     keeps = word text n points feasible;
   }
 
-  migrated_whole : (image target : List ℕ) (bytes : List ℕ) → before.files.held image ≡ Some bytes → Stores o.image (Some target) before.files.held now.files.held
+  migrated_whole : ImagesReadAreHeldAgain → (image target : List ℕ) (bytes : List ℕ) → before.files.held image ≡ Some bytes → Stores o.image (Some target) before.files.held now.files.held
       → IsMigrateDue bytes o → HasMigrated image target before now
-  migrated_whole image target bytes is kept (migrate_refused r) = absurd (image_zero bytes o r zero)
-  migrated_whole image target bytes is kept (migrated raw file same) = record {
+  migrated_whole law image target bytes is kept (migrate_refused r) = absurd (image_zero bytes o r zero)
+  migrated_whole law image target bytes is kept (migrated raw file same) = record {
     bytes = bytes;
     held = is;
     raw = raw;
     valid = file;
     is_stored = stored_bytes o.image (stored (named_of raw)) target before.files.held now.files.held (image_is o _ same) kept;
+    again = λ are. let once : IsImageFile (stored (named_of raw)) raw = record { held = law bytes raw are file.held file.valid; valid = file.valid } in once;
   }
 
 -- what is due of what a file holds
@@ -285,7 +287,7 @@ of_held : (Due : List ℕ → Outcome → Type 0) (A : Type 0) (held : Option (L
 of_held Due A None o by due = absurd due
 of_held Due A (Some text) o by due = by text refl due
 
-module _ (laws : Printing) (faithful : BuiltImagesAreFaithful) (held : ImagesToldAreHeld) (limits : ImagesReadHaveLimits) (safe : EveryValidImageIsSafeAndInTime) (suit : ScriptsForImagesReadSuit) (word : FeasibleTextsKeepTheirWord) (before now : Outside) (o : Outcome)
+module _ (laws : Printing) (faithful : BuiltImagesAreFaithful) (held : ImagesToldAreHeld) (again : ImagesReadAreHeldAgain) (limits : ImagesReadHaveLimits) (safe : EveryValidImageIsSafeAndInTime) (suit : ScriptsForImagesReadSuit) (word : FeasibleTextsKeepTheirWord) (before now : Outside) (o : Outcome)
     (zero : o.status ≡ 0) (put : Appends before.out.taken now.out.taken o.text) where
   done : (call : Call) → IsDue call before.files.held o → Stores o.image (target_of call) before.files.held now.files.held → HasDone call before now
   done (go program image script over) due kept = gone laws faithful before now o zero put over program image script kept due
@@ -301,7 +303,7 @@ module _ (laws : Printing) (faithful : BuiltImagesAreFaithful) (held : ImagesTol
       of_held IsPrintDue (HasPrinted program before now) (before.files.held program) o (λ text is d. printed_whole laws faithful before now o zero put program text is d) due
   done (run image script) due kept = run_whole laws faithful before now o zero put limits safe suit image script due
   done (migrate image target) due kept =
-      of_held IsMigrateDue (HasMigrated image target before now) (before.files.held image) o (λ bytes is d. migrated_whole laws faithful before now o zero put image target bytes is kept d) due
+      of_held IsMigrateDue (HasMigrated image target before now) (before.files.held image) o (λ bytes is d. migrated_whole laws faithful before now o zero put again image target bytes is kept d) due
   done (asm text image) due kept =
       of_held IsAsmDue (HasAssembled text image before now) (before.files.held text) o (λ lines is d. asm_whole laws faithful before now o zero put limits safe suit held text image lines is kept d) due
   done (dis image text) due kept =
@@ -310,10 +312,10 @@ module _ (laws : Printing) (faithful : BuiltImagesAreFaithful) (held : ImagesTol
   done (replay program script log) due kept = replay_whole laws faithful before now o zero put program script log due
   done (edf program script) due kept = edf_whole laws faithful before now o zero put word program script due
 
-pub has_done : Printing → BuiltImagesAreFaithful → ImagesToldAreHeld → ImagesReadHaveLimits → EveryValidImageIsSafeAndInTime → ScriptsForImagesReadSuit → FeasibleTextsKeepTheirWord → (tells : Bool) (call : Call) (before now : Outside) (status : ℕ)
+pub has_done : Printing → BuiltImagesAreFaithful → ImagesToldAreHeld → ImagesReadAreHeldAgain → ImagesReadHaveLimits → EveryValidImageIsSafeAndInTime → ScriptsForImagesReadSuit → FeasibleTextsKeepTheirWord → (tells : Bool) (call : Call) (before now : Outside) (status : ℕ)
     → Went tells call before now status → OnTrue tells (status ≡ 0 → HasDone call before now)
-has_done laws faithful held limits safe suit word true call before now status w = λ zero.
+has_done laws faithful held again limits safe suit word true call before now status w = λ zero.
     let whole : IsWhole call before now status =
     w.whole ((λ six. absurd (omega (arith, zero, six))), (λ seven. absurd (omega (arith, zero, seven))), (λ eight. absurd (omega (arith, zero, eight)))) in
-    done laws faithful held limits safe suit word before now whole.outcome (sym whole.is ∙ zero) whole.put call whole.due whole.stored
-has_done laws faithful held limits safe suit word false call before now status w = tt
+    done laws faithful held again limits safe suit word before now whole.outcome (sym whole.is ∙ zero) whole.put call whole.due whole.stored
+has_done laws faithful held again limits safe suit word false call before now status w = tt

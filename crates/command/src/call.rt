@@ -25,6 +25,7 @@ use command_due_law::one_judgement::answers_of_texts_are_one;
 use compiler_correct::faithful_images::built_images_are_faithful;
 use edf_correct::feasible_texts::feasible_texts_keep_their_word;
 use image_reader_law::images_read_are_in_their_ranges;
+use image_stored_law::stored_images::images_read_are_held_again;
 use outside::{Files, Sink};
 use std::alloc::Global;
 use syntax_printer::{reads_back, tokens_are_spelled};
@@ -126,6 +127,7 @@ pub fn rte<F: Files, O: Sink>(alloc: Global, words: &[String], files: &mut F, ou
     dis_is_one();
     watch_is_one();
     images_told_are_held();
+    images_read_are_held_again();
     feasible_texts_keep_their_word();
     answers_of_texts_are_one();
     written_or_faulty();

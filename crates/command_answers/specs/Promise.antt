@@ -21,6 +21,7 @@ use Rattle.command_due.specs.CommandsDue.{IsImageFile, stored, log}
 use Rattle.command_due.specs.Runs.{KeepsItsWord, IsAccepted, IsUnsolved, IsDone}
 use Rattle.command_due.specs.Lines.{IsSlackText}
 use Rattle.image_reader.specs.Answer.{Holds}
+use Rattle.image_format.specs.FormatLaw.{AreBytes}
 use Rattle.asm_format.specs.Text.{text_of}
 use Rattle.command_due.specs.Texts.{IsTextOf}
 use Rattle.command_due.specs.StopDue.{IsStopText}
@@ -97,13 +98,15 @@ pub record HasRun (image script : List ℕ) (before now : Outside) : Type 0 wher
   pub put : Appends before.out.taken now.out.taken (log (named_of raw) lines end)
   pub keeps : KeepsItsWord raw.names (image_of raw)
 
--- `migrate`: an image is valid, and the same image is stored in the present version
+-- `migrate`: an image is valid, and the same image is stored in the present version: what is stored
+-- holds it again
 pub record HasMigrated (image target : List ℕ) (before now : Outside) : Type 0 where
   pub bytes : List ℕ
   pub held : before.files.held image ≡ Some bytes
   pub raw : RawImage
   pub valid : IsImageFile bytes raw
   pub is_stored : now.files.held target ≡ Some (stored (named_of raw))
+  pub again : AreBytes bytes → IsImageFile (stored (named_of raw)) raw
 
 -- `asm`: a text is that of an image, which is valid, and the bytes that hold it are stored; every run
 -- of it over a script for its names is in time and size

@@ -14,7 +14,7 @@ returns-clause-complete g c = λ call is. completes g.F.Files.tells call _ _ _ (
 pub returns-clause-done : goal.returns-clause-done
 returns-clause-done g c = λ call is.
     has_done (record { spelled = c.tokens_are_spelled.ensures; tokens_of = c.reads_back.ensures.tokens; tree_of = c.reads_back.ensures.tree })
-    c.built_images_are_faithful.ensures c.images_told_are_held.ensures c.images_read_are_in_their_ranges.ensures.limits c.every_valid_image_is_safe_and_in_time.ensures c.scripts_suit.ensures.held c.feasible_texts_keep_their_word.ensures
+    c.built_images_are_faithful.ensures c.images_told_are_held.ensures c.images_read_are_held_again.ensures c.images_read_are_in_their_ranges.ensures.limits c.every_valid_image_is_safe_and_in_time.ensures c.scripts_suit.ensures.held c.feasible_texts_keep_their_word.ensures
     g.F.Files.tells call _ _ _ (c.carry_out.ensures.went call is)
 
 -- status 3, by what is due
