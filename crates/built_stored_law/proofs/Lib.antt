@@ -5,3 +5,5 @@ pub mod Instructions
 pub mod Nesting
 pub mod Levels
 pub mod Routines
+pub mod Rising
+pub mod Processes

@@ -66,7 +66,7 @@ record Taken (earlier : List ℕ) (n : ℕ) : Type 0 where
   low : 1 ≤ n
   high : n ≤ 999
 
-in_range : (n : ℕ) → g.is_taken n ≡ true → (1 ≤ n) × (n ≤ 999)
+pub in_range : (n : ℕ) → g.is_taken n ≡ true → (1 ≤ n) × (n ≤ 999)
 in_range n h = (grind (arith, nat_tests, h), grind (arith, nat_tests, h))
 
 is_taken_here : (earlier : List ℕ) (n : ℕ) → (checked u16 (g.wrong_number earlier)).is n ≡ true → Taken earlier n
