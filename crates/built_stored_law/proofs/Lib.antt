@@ -7,3 +7,5 @@ pub mod Levels
 pub mod Routines
 pub mod Rising
 pub mod Processes
+pub mod Fresh
+pub mod Declared
