@@ -9,3 +9,4 @@ pub mod Rising
 pub mod Processes
 pub mod Fresh
 pub mod Declared
+pub mod Events
