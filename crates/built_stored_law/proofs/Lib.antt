@@ -10,3 +10,5 @@ pub mod Processes
 pub mod Fresh
 pub mod Declared
 pub mod Events
+pub mod Lists
+pub mod Named
