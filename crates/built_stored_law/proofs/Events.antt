@@ -48,7 +48,7 @@ declared e (process p ∷ ds) h = elim (front_or_behind (process p) ds (event e)
 declared e (event n ∷ ds) h = elim (front_or_behind (event n) ds (event e) h) [ inl is ↦ (let same : n ≡ e = cc in inl same) | inr more ↦ inr (declared e ds more) ]
 
 -- and what is named among them is declared
-declares : (e : Name) (ds : List Declaration) → In (filter_map event_in ds) e → Contains ds (event e)
+pub declares : (e : Name) (ds : List Declaration) → In (filter_map event_in ds) e → Contains ds (event e)
 declares e [] i = absurd i
 declares e (constant n c ∷ ds) i = behind (constant n c) ds (event e) (declares e ds i)
 declares e (device n o ∷ ds) i = behind (device n o) ds (event e) (declares e ds i)
@@ -58,13 +58,13 @@ declares e (process p ∷ ds) i = behind (process p) ds (event e) (declares e ds
 declares e (event n ∷ ds) (inl same) = subst (λ (x : Name). Contains (event n ∷ ds) (event x)) same (at_front (event n) ds)
 declares e (event n ∷ ds) (inr i) = behind (event n) ds (event e) (declares e ds i)
 
-among : (ns : List Name) (k : ℕ) (e : Name) → slice_get ns k ≡ Some e → In ns e
+pub among : (ns : List Name) (k : ℕ) (e : Name) → slice_get ns k ≡ Some e → In ns e
 among [] k e at = absurd cc
 among (n ∷ ns) zero e at = let same : n ≡ e = cc in inl same
 among (n ∷ ns) (suc k) e at = inr (among ns k e at)
 
 -- where no two are the same, a name has one place
-one_place : (ns : List Name) → Differing ns → (j k : ℕ) (e : Name) → slice_get ns j ≡ Some e → slice_get ns k ≡ Some e → j ≡ k
+pub one_place : (ns : List Name) → Differing ns → (j k : ℕ) (e : Name) → slice_get ns j ≡ Some e → slice_get ns k ≡ Some e → j ≡ k
 one_place [] differ j k e a b = absurd cc
 one_place (n ∷ ns) differ zero zero e a b = refl
 one_place (n ∷ ns) differ zero (suc k) e a b = let same : n ≡ e = cc in absurd (differ.0 e (among ns k e b) same)
@@ -128,7 +128,7 @@ module _ (p : Program) (differ : Differing (filter_map event_in p.decls)) where
   abbrev worth : Bool → ℕ
   worth b = cond b 1 0
 
-  some_hit : (e : Name) (ts : List tree.Process) → count_by (tests e) ts ≡ 1 → (k : ℕ) × (t : tree.Process) × (slice_get ts k ≡ Some t) × (tests e t ≡ true)
+  pub some_hit : (e : Name) (ts : List tree.Process) → count_by (tests e) ts ≡ 1 → (k : ℕ) × (t : tree.Process) × (slice_get ts k ≡ Some t) × (tests e t ≡ true)
   some_hit e [] one = absurd cc
   some_hit e (t ∷ ts) one = elim (cases_Bool (tests e t)) [
     | inl hit ↦ (0, t, refl, hit)

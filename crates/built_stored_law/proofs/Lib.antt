@@ -12,3 +12,5 @@ pub mod Declared
 pub mod Events
 pub mod Lists
 pub mod Named
+pub mod Whole
+pub mod Joined

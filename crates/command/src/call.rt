@@ -16,6 +16,7 @@ ghost use Rattle.command.specs.Targets.{IsNoTarget};
 use crate::carry::carry_out;
 use asm_law::text_and_image::images_told_are_held;
 use built_image_law::one_image::timely_or_late;
+use built_stored_law::stored_programs::built_images_are_held;
 use command_answers::Status;
 use command_due_law::one_answer::{
     asm_is_one, compile_is_one, dis_is_one, go_is_one, migrate_is_one, print_is_one,
@@ -128,6 +129,7 @@ pub fn rte<F: Files, O: Sink>(alloc: Global, words: &[String], files: &mut F, ou
     watch_is_one();
     images_told_are_held();
     images_read_are_held_again();
+    built_images_are_held();
     feasible_texts_keep_their_word();
     answers_of_texts_are_one();
     written_or_faulty();

@@ -38,11 +38,18 @@ use Rattle.command_due.specs.EdfDue.{IsFeasibleText, IsJudgedText, IsUnfit, edf_
 use Rattle.command_due.specs.Report.{edf_report}
 use Rattle.command_answers.specs.Runs.{IsEdfRun}
 
+-- the bytes that are stored of an image hold it, and it is valid
+pub record IsHeld (n : NamedImage) : Type 0 where
+  pub raw : RawImage
+  pub named : named_of raw ≡ n
+  pub valid : IsImageFile (stored n) raw
+
 -- `go`: a program and a script are accepted, the image is stored, the report and the log are put
 pub record HasGone (over : ℕ) (program image script : List ℕ) (before now : Outside) : Type 0 where
   pub text : List ℕ
   pub put : Appends before.out.taken now.out.taken text
   pub done : IsDone over (before.files.held program) (before.files.held script) text (now.files.held image)
+  pub holds : IsHeld done.built
 
 -- `compile`: a program is accepted, its image is stored, its report is put
 pub record HasCompiled (over : ℕ) (program image : List ℕ) (before now : Outside) : Type 0 where
@@ -50,6 +57,7 @@ pub record HasCompiled (over : ℕ) (program image : List ℕ) (before now : Out
   pub built : NamedImage
   pub accepted : IsAccepted over (before.files.held program) tree built
   pub is_stored : now.files.held image ≡ Some (stored built)
+  pub holds : IsHeld built
   pub put : Appends before.out.taken now.out.taken (report_of report_text built)
 
 -- `check` and `json`: a program is accepted, its report is put
