@@ -23,6 +23,7 @@ use command_due_law::one_answer::{
     reports_are_one, run_is_one, slack_is_one, watch_is_one, written_once, written_or_faulty,
 };
 use command_due_law::one_judgement::answers_of_texts_are_one;
+use command_words::words::overheads_are_decimal;
 use compiler_correct::faithful_images::built_images_are_faithful;
 use edf_correct::feasible_texts::feasible_texts_keep_their_word;
 use image_reader_law::images_read_are_in_their_ranges;
@@ -130,6 +131,7 @@ pub fn rte<F: Files, O: Sink>(alloc: Global, words: &[String], files: &mut F, ou
     images_told_are_held();
     images_read_are_held_again();
     built_images_are_held();
+    overheads_are_decimal();
     feasible_texts_keep_their_word();
     answers_of_texts_are_one();
     written_or_faulty();
