@@ -1,4 +1,4 @@
-//! Laws of two calls with their files in between: they fit together.
+//! Laws: two calls with their files in between: they fit together.
 //!
 //! `specs/Calls.antt` says of `go` and of `compile` that have answered 0 what is due of `run` and
 //! of `migrate` on the image that they stored: the log that `go` has put behind its report, and the
