@@ -8,9 +8,9 @@ ghost use Rattle.code_names.specs.First.{index_of, names_of};
 ghost use Rattle.compile_image.specs.Released.{frame_found, released_events, released_frames};
 
 use crate::counts::count;
+use crate::errors::tri;
 use code_layout::ConstantValues;
 use code_names::NameList;
-use crate::errors::tri;
 use std::alloc::{AllocError, Global};
 use syntax_tree::{List, Name, Process, Trigger};
 

@@ -8,8 +8,8 @@ ghost use Rattle.code_names.specs.Parts.{seen_monitors};
 ghost use Rattle.compile_image.specs.Fields.{monitors_words};
 ghost use Rattle.compile_image.specs.Told.{monitor_told, monitors_told};
 
-use code_layout::{ConstantValues, laid_monitor};
 use crate::errors::tri;
+use code_layout::{ConstantValues, laid_monitor};
 use image::RawMonitor;
 use std::alloc::{AllocError, Global};
 use syntax_tree::{List, Monitor};

@@ -9,10 +9,10 @@ ghost use Rattle.code_names.specs.Texts.{owner_of, text_of, texts_of};
 ghost use Rattle.compile_image.specs.Rows.{FitRows, FitsRow};
 ghost use Rattle.compile_image.specs.Told.{routine_told, routines_told};
 
+use crate::errors::tri;
 use code_cost::RoutineMeasure;
 use code_names::{Body, RoutineOwner};
 use codegen_spec::Part;
-use crate::errors::tri;
 use image::RawRoutine;
 use image_format::SegTree;
 use std::alloc::{AllocError, Global};
