@@ -1,16 +1,19 @@
 //! The whole image.
 
-ghost use Rattle.std.specs.Prelude.{◌≡◌, ◌≤◌, IfOk};
+ghost use Rattle.std.specs.Prelude.{◌≡◌, ◌≤◌, IfOk, filter_map, map};
 ghost use Rattle.syntax_tree.specs.Placed.{placed, plain};
-ghost use Rattle.image.specs.Raw.{image_of};
+ghost use Rattle.source_semantics.specs.Names.{event_in, monitors, processes};
+ghost use Rattle.image.specs.Raw.{image_of, monitor_of, process_of, routine_of};
+ghost use Rattle.code_spec.specs.Numbering.{numbered};
 ghost use Rattle.codegen_spec.specs.Held.{Holds};
 ghost use Rattle.code_measures.specs.Declared.{Declares};
 ghost use Rattle.code_cost.specs.Sizes.{AreDefined};
 ghost use Rattle.built_image.specs.Named.{names_of};
 ghost use Rattle.compile_image.specs.Fields.{FitsFields, HasParts};
 ghost use Rattle.compile_image.specs.Rows.{FitAll};
-ghost use Rattle.compile_image.specs.Told.{IsTold};
+ghost use Rattle.compile_image.specs.Told.{monitors_told, processes_told, routines_told};
 
+use crate::errors::tri;
 use crate::image_names;
 use crate::parts::{ImageParts, parts_of};
 use code_cost::Measures;
@@ -27,22 +30,29 @@ fn instructions(code: Code) -> List<Instr>
     code.instrs
 }
 
-/// An image of these parts.
-fn with_parts(
+/// The name of a program, the names in its image, and the parts of the image.
+#[derive(Drop)]
+struct NamedParts {
     program: Name,
     names: ImageNames,
-    over: u16,
     parts: ImageParts,
-    code: Code,
-) -> RawImage
-    ensures program { result.program ≡ program }
-    ensures names { result.names ≡ names }
+}
+
+/// The image of these parts and this code.
+fn with_code(over: u16, named: NamedParts, code: Code) -> RawImage
+    ensures program { result.program ≡ named.program }
+    ensures names { result.names ≡ named.names }
     ensures over { result.overhead ≡ over }
-    ensures monitors { result.monitors ≡ parts.monitors }
-    ensures routines { result.routines ≡ parts.routines }
-    ensures processes { result.processes ≡ parts.processes }
+    ensures monitors { result.monitors ≡ named.parts.monitors }
+    ensures routines { result.routines ≡ named.parts.routines }
+    ensures processes { result.processes ≡ named.parts.processes }
     ensures code { result.code ≡ code.instrs }
 {
+    let NamedParts {
+        program,
+        names,
+        parts,
+    } = named;
     RawImage {
         overhead: over,
         program,
@@ -54,25 +64,36 @@ fn with_parts(
     }
 }
 
-/// The parts of the image, put together, where each fits its fields.
-fn put_together(
+/// The names and the parts of the image, where each part fits its fields.
+fn named_parts(
     alloc: Global,
     program: &Program,
     over: u16,
-    code: Code,
+    code: &Code,
     measures: &Measures,
-) -> Result<RawImage, AllocError>
+) -> Result<NamedParts, AllocError>
     requires over { over ≤ 1000 }
-    requires fits { FitAll (plain (placed program.now)) code measures.now }
-    ensures program { IfOk result (λ raw. raw.program ≡ (placed program.now).name) }
-    ensures names { IfOk result (λ raw. raw.names ≡ names_of (plain (placed program.now))) }
-    ensures told { IfOk result (λ raw. IsTold (plain (placed program.now)) over code measures.now
-        (image_of raw)) }
+    requires fits { FitAll (plain (placed program.now)) code.now measures.now }
+    ensures program { IfOk result (λ named. named.program ≡ (placed program.now).name) }
+    ensures names { IfOk result (λ named. named.names ≡ names_of (plain (placed program.now))) }
+    ensures monitors { IfOk result (λ named. map monitor_of named.parts.monitors ≡
+        monitors_told (plain (placed program.now)) 0 (monitors (plain (placed program.now)))) }
+    ensures routines { IfOk result (λ named. map routine_of named.parts.routines ≡
+        routines_told (numbered (plain (placed program.now))) code.now.routines
+        measures.now.routines) }
+    ensures processes { IfOk result (λ named. map process_of named.parts.processes ≡
+        processes_told (plain (placed program.now)) (filter_map event_in
+        (plain (placed program.now)).decls) over (processes
+        (plain (placed program.now))) code.now.processes measures.now.processes) }
 {
-    let parts = parts_of(alloc, program, over, &code, measures)?;
-    let names = image_names(alloc, program)?;
-    let name = Name::new(alloc, program.name.as_bytes())?;
-    Ok(with_parts(name, names, over, parts, code))
+    let name = tri!(Name::new(alloc, program.name.as_bytes()));
+    let names = tri!(image_names(alloc, program));
+    let parts = tri!(parts_of(alloc, program, over, code, measures));
+    Ok(NamedParts {
+        program: name,
+        names,
+        parts,
+    })
 }
 
 /// The image of a program with an overhead of at most 1,000 ticks, put together from its code and
@@ -95,6 +116,6 @@ pub fn assemble(
     ensures holds { IfOk result (λ raw. Holds (plain (placed program.now)) code (image_of raw)) }
     ensures declares { IfOk result (λ raw. Declares (plain (placed program.now)) (image_of raw)) }
 {
-    let raw = put_together(alloc, program, over, code, measures)?;
-    Ok(raw)
+    let named = tri!(named_parts(alloc, program, over, &code, measures));
+    Ok(with_code(over, named, code))
 }

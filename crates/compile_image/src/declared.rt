@@ -6,6 +6,7 @@ ghost use Rattle.syntax_tree.specs.Placed.{placed_decl, plain_decl};
 ghost use Rattle.built_image.specs.Named.{named_device};
 ghost use Rattle.compile_image.specs.Released.{events_found};
 
+use crate::errors::tri;
 use crate::events::Released;
 use crate::lists::copied;
 use image::{DeviceName, EventName};
@@ -22,8 +23,8 @@ fn list_device(
         devices.old ++ filter_map named_device (plain_decl (placed_decl decl.now) ∷ rest)) }
 {
     if let Declaration::Device { name, is_out, .. } = decl {
-        let name = copied(alloc, name)?;
-        devices.push(DeviceName { name, out: *is_out })?;
+        let name = tri!(copied(alloc, name));
+        tri!(devices.push(DeviceName { name, out: *is_out }));
     }
     Ok(())
 }
@@ -35,7 +36,7 @@ pub fn device_names(alloc: Global, decls: &[Declaration]) -> Result<List<DeviceN
 {
     let mut devices = List::new(alloc);
     for decl in decls {
-        list_device(alloc, &mut devices, decl)?;
+        tri!(list_device(alloc, &mut devices, decl));
     }
     Ok(devices)
 }
@@ -54,8 +55,8 @@ fn list_event(
 {
     if let Declaration::Event { name, .. } = decl {
         let frame = released.frame(name);
-        let name = copied(alloc, name)?;
-        events.push(EventName { name, frame })?;
+        let name = tri!(copied(alloc, name));
+        tri!(events.push(EventName { name, frame }));
     }
     Ok(())
 }
@@ -72,7 +73,7 @@ pub fn event_names(
 {
     let mut events = List::new(alloc);
     for decl in decls {
-        list_event(alloc, released, &mut events, decl)?;
+        tri!(list_event(alloc, released, &mut events, decl));
     }
     Ok(events)
 }

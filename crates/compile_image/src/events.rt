@@ -8,6 +8,7 @@ ghost use Rattle.code_names.specs.First.{index_of, names_of};
 ghost use Rattle.compile_image.specs.Released.{frame_found, released_events, released_frames};
 
 use crate::counts::count;
+use crate::errors::tri;
 use code_layout::ConstantValues;
 use code_names::NameList;
 use std::alloc::{AllocError, Global};
@@ -38,7 +39,7 @@ fn list_event<'a>(
 {
     if let Trigger::AtEvent { event, frame, .. } = &process.activation {
         events.push(event.as_bytes())?;
-        frames.push(count(values, frame))?;
+        tri!(frames.push(count(values, frame)));
     }
     Ok(())
 }
@@ -56,9 +57,9 @@ pub fn released_by_events<'a>(
     let mut events = Vec::new(alloc);
     let mut frames = List::new(alloc);
     for process in processes {
-        list_event(values, &mut events, &mut frames, process)?;
+        tri!(list_event(values, &mut events, &mut frames, process));
     }
-    let events = NameList::new(alloc, events)?;
+    let events = tri!(NameList::new(alloc, events));
     Ok(Released { events, frames })
 }
 

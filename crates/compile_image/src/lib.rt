@@ -10,6 +10,7 @@
 mod assemble_image;
 mod counts;
 mod declared;
+mod errors;
 mod events;
 mod handlers;
 mod lists;

@@ -7,6 +7,7 @@ ghost use Rattle.code_names.specs.Parts.{seen_monitors, seen_processes};
 ghost use Rattle.built_image.specs.Named.{named_conditions};
 ghost use Rattle.compile_image.specs.Released.{conditions_named};
 
+use crate::errors::tri;
 use image::ConditionName;
 use std::alloc::{AllocError, Global};
 use syntax_tree::{List, Member, Monitor, Name, Process};
@@ -24,7 +25,8 @@ pub fn process_names(alloc: Global, processes: &[&Process]) -> Result<List<Name>
 {
     let mut names = List::new(alloc);
     for process in processes {
-        names.push(copied(alloc, &process.name)?)?;
+        let name = tri!(copied(alloc, &process.name));
+        tri!(names.push(name));
     }
     Ok(names)
 }
@@ -35,7 +37,8 @@ pub fn monitor_names(alloc: Global, monitors: &[&Monitor]) -> Result<List<Name>,
 {
     let mut names = List::new(alloc);
     for monitor in monitors {
-        names.push(copied(alloc, &monitor.name)?)?;
+        let name = tri!(copied(alloc, &monitor.name));
+        tri!(names.push(name));
     }
     Ok(names)
 }
@@ -52,8 +55,8 @@ fn list_condition(
         conditions_named monitor (plain_member (placed_member member.now) ∷ rest)) }
 {
     if let Member::Condition { name, .. } = member {
-        let name = copied(alloc, name)?;
-        conditions.push(ConditionName { name, mon: monitor })?;
+        let name = tri!(copied(alloc, name));
+        tri!(conditions.push(ConditionName { name, mon: monitor }));
     }
     Ok(())
 }
@@ -69,7 +72,7 @@ fn list_conditions(
         conditions_named monitor (map plain_member (map placed_member members.now))) }
 {
     for member in members {
-        list_condition(alloc, monitor, conditions, member)?;
+        tri!(list_condition(alloc, monitor, conditions, member));
     }
     Ok(())
 }
@@ -86,7 +89,7 @@ pub fn condition_names(
     let mut conditions = List::new(alloc);
     for (number, monitor) in monitors.iter().enumerate() {
         let members = monitor.members.as_slice();
-        list_conditions(alloc, number as u16, &mut conditions, members)?;
+        tri!(list_conditions(alloc, number as u16, &mut conditions, members));
     }
     Ok(conditions)
 }

@@ -8,6 +8,7 @@ ghost use Rattle.code_names.specs.Parts.{seen_monitors};
 ghost use Rattle.compile_image.specs.Fields.{monitors_words};
 ghost use Rattle.compile_image.specs.Told.{monitor_told, monitors_told};
 
+use crate::errors::tri;
 use code_layout::{ConstantValues, laid_monitor};
 use image::RawMonitor;
 use std::alloc::{AllocError, Global};
@@ -28,7 +29,7 @@ fn raw_monitor(
     ensures words { IfOk result (λ raw. raw.words ≡ words_of (plain (placed values.now))
         (monitor_vars (plain_monitor (placed_monitor monitor.now)))) }
 {
-    let laid = laid_monitor(alloc, values, u64::from(base), monitor)?;
+    let laid = tri!(laid_monitor(alloc, values, u64::from(base), monitor));
     let end = laid.word as u32;
     Ok(RawMonitor {
         base,
@@ -50,9 +51,9 @@ pub fn raw_monitors(
     let mut list = List::new(alloc);
     let mut base = 0;
     for monitor in monitors {
-        let raw = raw_monitor(alloc, values, base, monitor)?;
+        let raw = tri!(raw_monitor(alloc, values, base, monitor));
         base += raw.words;
-        list.push(raw)?;
+        tri!(list.push(raw));
     }
     Ok(list)
 }

@@ -6,6 +6,7 @@ ghost use Rattle.source_semantics.specs.Names.{event_in, monitors as monitors_in
 ghost use Rattle.built_image.specs.Named.{named_conditions, named_event, names_of};
 
 use crate::declared::{device_names, event_names};
+use crate::errors::tri;
 use crate::events::released_by_events;
 use crate::lists::{condition_names, monitor_names, process_names};
 use code_layout::ConstantValues;
@@ -25,10 +26,9 @@ fn all_events(
         map (λ e. named_event (plain (placed program.now)) e)
         (filter_map event_in (plain (placed program.now)).decls)) }
 {
-    let values = ConstantValues::new(alloc, program)?;
-    let released = released_by_events(alloc, &values, directory.processes())?;
-    let events = event_names(alloc, &released, program.decls.as_slice())?;
-    Ok(events)
+    let values = tri!(ConstantValues::new(alloc, program));
+    let released = tri!(released_by_events(alloc, &values, directory.processes()));
+    event_names(alloc, &released, program.decls.as_slice())
 }
 
 /// The names of processes, monitors and conditions, with these devices and events.
@@ -49,9 +49,9 @@ fn with_parts(
     ensures events { IfOk result (λ names. names.events ≡ events) }
 {
     let all = directory.monitors();
-    let processes = process_names(alloc, directory.processes())?;
-    let monitors = monitor_names(alloc, all)?;
-    let conditions = condition_names(alloc, all)?;
+    let processes = tri!(process_names(alloc, directory.processes()));
+    let monitors = tri!(monitor_names(alloc, all));
+    let conditions = tri!(condition_names(alloc, all));
     Ok(ImageNames {
         processes,
         monitors,
@@ -61,6 +61,22 @@ fn with_parts(
     })
 }
 
+/// All names, where these are the parts of the program.
+fn names_of_parts(
+    alloc: Global,
+    program: &Program,
+    directory: &Directory<'_>,
+) -> Result<ImageNames, AllocError>
+    requires directory { directory.now ≡ program.now }
+    requires few { length (monitors_in (plain (placed program.now))) ≤ 64 }
+    ensures { IfOk result (λ names. names ≡ names_of (plain (placed program.now))) }
+{
+    let events = tri!(all_events(alloc, program, directory));
+    let devices = tri!(device_names(alloc, program.decls.as_slice()));
+    let names = tri!(with_parts(alloc, directory, devices, events));
+    Ok(names)
+}
+
 /// The names of a program's parts, as an image has them, each list in the order of the text. There
 /// must be at most 64 monitors, so that the number of each fits its field. It takes time in
 /// proportion to the text, and fails only where memory is wanting.
@@ -68,9 +84,6 @@ pub fn image_names(alloc: Global, program: &Program) -> Result<ImageNames, Alloc
     requires few { length (monitors_in (plain (placed program.now))) ≤ 64 }
     ensures { IfOk result (λ names. names ≡ names_of (plain (placed program.now))) }
 {
-    let directory = Directory::new(alloc, program)?;
-    let events = all_events(alloc, program, &directory)?;
-    let devices = device_names(alloc, program.decls.as_slice())?;
-    let names = with_parts(alloc, &directory, devices, events)?;
-    Ok(names)
+    let directory = tri!(Directory::new(alloc, program));
+    names_of_parts(alloc, program, &directory)
 }

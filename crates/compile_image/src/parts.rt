@@ -11,6 +11,7 @@ ghost use Rattle.compile_image.specs.Fields.{monitors_words};
 ghost use Rattle.compile_image.specs.Rows.{FitAll, FitRows, FitSizes};
 ghost use Rattle.compile_image.specs.Told.{monitors_told, processes_told, routines_told};
 
+use crate::errors::tri;
 use crate::monitors::raw_monitors;
 use crate::processes::raw_processes;
 use crate::routines::raw_routines;
@@ -49,10 +50,9 @@ fn event_names<'a>(alloc: Global, decls: &'a [Declaration]) -> Result<NameList<'
 {
     let mut names = Vec::new(alloc);
     for decl in decls {
-        list_event(&mut names, decl)?;
+        tri!(list_event(&mut names, decl));
     }
-    let list = NameList::new(alloc, names)?;
-    Ok(list)
+    NameList::new(alloc, names)
 }
 
 /// The monitors of a program.
@@ -63,8 +63,7 @@ fn all_monitors(alloc: Global, tables: &Tables<'_>) -> Result<List<RawMonitor>, 
         monitors_told (plain (placed tables.now)) 0 (monitors (plain (placed tables.now)))) }
 {
     let directory = tables.numbering().directory();
-    let list = raw_monitors(alloc, tables.values(), directory.monitors())?;
-    Ok(list)
+    raw_monitors(alloc, tables.values(), directory.monitors())
 }
 
 /// The routines of a program by number.
@@ -82,13 +81,12 @@ fn all_routines(
         routines_told (numbered (plain (placed tables.now))) code.now.routines
         measures.now.routines) }
 {
-    let list = raw_routines(
+    raw_routines(
         alloc,
         tables.numbering().order().as_slice(),
         code.routines.as_slice(),
         measures.routines.as_slice(),
-    )?;
-    Ok(list)
+    )
 }
 
 /// The processes of a program in the order of the text, where these are its events.
@@ -112,7 +110,7 @@ fn all_processes(
         (processes (plain (placed tables.now))) code.now.processes measures.now.processes) }
 {
     let directory = tables.numbering().directory();
-    let list = raw_processes(
+    raw_processes(
         alloc,
         tables.values(),
         events,
@@ -120,8 +118,7 @@ fn all_processes(
         directory.processes(),
         code.processes.as_slice(),
         measures.processes.as_slice(),
-    )?;
-    Ok(list)
+    )
 }
 
 /// All parts, where these are the events of the program.
@@ -145,14 +142,40 @@ fn all_parts(
         processes_told (plain (placed tables.now)) events.now over
         (processes (plain (placed tables.now))) code.now.processes measures.now.processes) }
 {
-    let monitors = all_monitors(alloc, tables)?;
-    let routines = all_routines(alloc, tables, code, measures)?;
-    let processes = all_processes(alloc, tables, events, over, code, measures)?;
+    let monitors = tri!(all_monitors(alloc, tables));
+    let routines = tri!(all_routines(alloc, tables, code, measures));
+    let processes = tri!(all_processes(alloc, tables, events, over, code, measures));
     Ok(ImageParts {
         monitors,
         routines,
         processes,
     })
+}
+
+/// The parts of the image of a program, where these are its tables.
+fn parts_by_tables(
+    alloc: Global,
+    program: &Program,
+    tables: &Tables<'_>,
+    over: u16,
+    code: &Code,
+    measures: &Measures,
+) -> Result<ImageParts, AllocError>
+    requires tables { tables.now ≡ program.now }
+    requires over { over ≤ 1000 }
+    requires fits { FitAll (plain (placed program.now)) code.now measures.now }
+    ensures monitors { IfOk result (λ parts. map monitor_of parts.monitors ≡
+        monitors_told (plain (placed program.now)) 0 (monitors (plain (placed program.now)))) }
+    ensures routines { IfOk result (λ parts. map routine_of parts.routines ≡
+        routines_told (numbered (plain (placed program.now))) code.now.routines
+        measures.now.routines) }
+    ensures processes { IfOk result (λ parts. map process_of parts.processes ≡
+        processes_told (plain (placed program.now)) (filter_map event_in
+        (plain (placed program.now)).decls) over (processes
+        (plain (placed program.now))) code.now.processes measures.now.processes) }
+{
+    let events = tri!(event_names(alloc, program.decls.as_slice()));
+    all_parts(alloc, tables, &events, over, code, measures)
 }
 
 /// The parts of the image of a program.
@@ -175,8 +198,6 @@ pub fn parts_of(
         (plain (placed program.now)).decls) over (processes
         (plain (placed program.now))) code.now.processes measures.now.processes) }
 {
-    let tables = Tables::new(alloc, program)?;
-    let events = event_names(alloc, program.decls.as_slice())?;
-    let parts = all_parts(alloc, &tables, &events, over, code, measures)?;
-    Ok(parts)
+    let tables = tri!(Tables::new(alloc, program));
+    parts_by_tables(alloc, program, &tables, over, code, measures)
 }

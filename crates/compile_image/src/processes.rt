@@ -10,6 +10,7 @@ ghost use Rattle.code_names.specs.Parts.{seen_processes};
 ghost use Rattle.compile_image.specs.Rows.{FitSizes, FitsSize, IsCapped};
 ghost use Rattle.compile_image.specs.Told.{process_told, processes_told};
 
+use crate::errors::tri;
 use crate::handlers::{handler_numbers, handler_start, handler_tree};
 use crate::loops::frame;
 use crate::releases::released;
@@ -46,7 +47,7 @@ fn data_words(
     ensures { IfOk result (λ words. words ≡ words_of (plain (placed values.now))
         (plain_process (placed_process process.now)).vars) }
 {
-    let laid = laid_process(alloc, values, process)?;
+    let laid = tri!(laid_process(alloc, values, process));
     Ok(laid.word as u32)
 }
 
@@ -69,10 +70,10 @@ fn raw_process(
         (placed_process process.now)) parts.now size) }
 {
     let release = released(values, events, &process.activation);
-    let words = data_words(alloc, values, process)?;
-    let numbers = handler_numbers(alloc, values, &process.handler)?;
-    let body = SegTree::of(alloc, parts.body.tree.as_slice())?;
-    let handler_tree = handler_tree(alloc, &parts.handler)?;
+    let words = tri!(data_words(alloc, values, process));
+    let numbers = tri!(handler_numbers(alloc, values, &process.handler));
+    let body = tri!(SegTree::of(alloc, parts.body.tree.as_slice()));
+    let handler_tree = tri!(handler_tree(alloc, &parts.handler));
     Ok(RawProcess {
         kind: release.kind,
         frame: release.frame,
@@ -118,7 +119,7 @@ pub fn raw_processes(
 {
     let mut list = List::new(alloc);
     for (number, process) in processes.iter().enumerate() {
-        let raw = raw_process(
+        let raw = tri!(raw_process(
             alloc,
             values,
             events,
@@ -126,8 +127,8 @@ pub fn raw_processes(
             process,
             &parts[number],
             sizes[number],
-        )?;
-        list.push(raw)?;
+        ));
+        tri!(list.push(raw));
     }
     Ok(list)
 }

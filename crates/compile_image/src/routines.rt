@@ -9,6 +9,7 @@ ghost use Rattle.code_names.specs.Texts.{owner_of, text_of, texts_of};
 ghost use Rattle.compile_image.specs.Rows.{FitRows, FitsRow};
 ghost use Rattle.compile_image.specs.Told.{routine_told, routines_told};
 
+use crate::errors::tri;
 use code_cost::RoutineMeasure;
 use code_names::{Body, RoutineOwner};
 use codegen_spec::Part;
@@ -64,7 +65,7 @@ fn raw_routine(
     requires { FitsRow (text_of text) part.now row }
     ensures { IfOk result (λ raw. routine_of raw ≡ routine_told (text_of text.entry) part.now row) }
 {
-    let tree = SegTree::of(alloc, part.tree.as_slice())?;
+    let tree = tri!(SegTree::of(alloc, part.tree.as_slice()));
     Ok(RawRoutine {
         kind: kind(text.owner),
         owner: owner_index(text.owner),
@@ -95,8 +96,8 @@ pub fn raw_routines(
 {
     let mut list = List::new(alloc);
     for (number, text) in texts.iter().enumerate() {
-        let raw = raw_routine(alloc, *text, &parts[number], rows[number])?;
-        list.push(raw)?;
+        let raw = tri!(raw_routine(alloc, *text, &parts[number], rows[number]));
+        tri!(list.push(raw));
     }
     Ok(list)
 }

@@ -5,6 +5,7 @@ ghost use Rattle.syntax_tree.specs.Placed.{placed_param, placed_var, placed_memb
 ghost use Rattle.static_names.specs.Occurrences.{param_name, var_name, member_name, routine_name as name_of_routine, entry_name as name_of_entry, routine_scope, monitor_scope, process_scope};
 ghost use Rattle.static_names.specs.Seen.{meaning, top_site, outer_site, Scoped};
 
+use crate::errors::tri;
 use crate::findings::Findings;
 use crate::kind::{Declared, Kind};
 use crate::scope::{Scope, add_unless, find};
@@ -45,7 +46,7 @@ fn params<'a>(
             place: param.place,
             kind: Kind::Variable,
         };
-        declare(findings, scope, outer, &param.name, declared)?;
+        tri!(declare(findings, scope, outer, &param.name, declared));
     }
     Ok(())
 }
@@ -65,7 +66,7 @@ fn vars<'a>(
             place: var.place,
             kind: Kind::Variable,
         };
-        declare(findings, scope, outer, &var.name, declared)?;
+        tri!(declare(findings, scope, outer, &var.name, declared));
     }
     Ok(())
 }
@@ -86,14 +87,14 @@ fn member<'a>(
                 place: var.place,
                 kind: Kind::Variable,
             };
-            declare(findings, scope, outer, &var.name, declared)?;
+            tri!(declare(findings, scope, outer, &var.name, declared));
         }
         Member::Condition { name, place } => {
             let declared = Declared {
                 place: *place,
                 kind: Kind::Condition,
             };
-            declare(findings, scope, outer, name, declared)?;
+            tri!(declare(findings, scope, outer, name, declared));
         }
     }
     Ok(())
@@ -110,7 +111,7 @@ fn members<'a>(
         (meaning scope.new.entries) []) }
 {
     for one in list {
-        member(findings, scope, outer, one)?;
+        tri!(member(findings, scope, outer, one));
     }
     Ok(())
 }
@@ -130,7 +131,7 @@ fn entries<'a>(
             place: entry.place,
             kind: Kind::Entry,
         };
-        declare(findings, scope, outer, &entry.name, declared)?;
+        tri!(declare(findings, scope, outer, &entry.name, declared));
     }
     Ok(())
 }
@@ -150,7 +151,7 @@ fn routines<'a>(
             place: routine.place,
             kind: Kind::Routine,
         };
-        declare(findings, scope, outer, &routine.name, declared)?;
+        tri!(declare(findings, scope, outer, &routine.name, declared));
     }
     Ok(())
 }
@@ -166,7 +167,7 @@ pub fn routine<'a>(
         (meaning scope.old.entries) (routine_scope (placed_routine routine.now)) findings.new
         (meaning scope.new.entries) []) }
 {
-    params(findings, scope, outer, routine.params.as_slice())?;
+    tri!(params(findings, scope, outer, routine.params.as_slice()));
     vars(findings, scope, outer, routine.vars.as_slice())
 }
 
@@ -181,7 +182,7 @@ pub fn monitor<'a>(
         (monitor_scope (placed_monitor monitor.now)) findings.new (meaning scope.new.entries) []) }
 {
     let outer = top.outside();
-    members(findings, scope, &outer, monitor.members.as_slice())?;
+    tri!(members(findings, scope, &outer, monitor.members.as_slice()));
     entries(findings, scope, &outer, monitor.entries.as_slice())
 }
 
@@ -196,6 +197,6 @@ pub fn process<'a>(
         (process_scope (placed_process process.now)) findings.new (meaning scope.new.entries) []) }
 {
     let outer = top.outside();
-    vars(findings, scope, &outer, process.vars.as_slice())?;
+    tri!(vars(findings, scope, &outer, process.vars.as_slice()));
     routines(findings, scope, &outer, process.routines.as_slice())
 }

@@ -1,17 +1,18 @@
 //! The names in constants, types and expressions.
 
 ghost use Rattle.std.specs.Prelude.{◌≡◌, OnOk, List};
-ghost use Rattle.syntax_tree.specs.Placed.{placed_constant, placed_scalar, placed_kind, placed_expr, placed_exprs, placed_ref};
-ghost use Rattle.static_names.specs.Occurrences.{Occurrence, constant_names, scalar_names, kind_names, expr_names, exprs_names, ref_names};
+ghost use Rattle.syntax_tree.specs.Placed.{placed_constant, placed_scalar, placed_kind, placed_expr, placed_exprs, placed_operands, placed_ref};
+ghost use Rattle.static_names.specs.Occurrences.{Occurrence, constant_names, scalar_names, kind_names, expr_names, exprs_names, operands_names, ref_names};
 ghost use Rattle.static_names.specs.Findings.{noted};
 ghost use Rattle.static_names.specs.Seen.{site};
 
+use crate::errors::tri;
 use crate::findings::Findings;
 use crate::kind::NameUse;
 use crate::scope::Local;
 use crate::scope_chain::ScopeChain;
 use std::alloc::AllocError;
-use syntax_tree::{Constant, Expr, Ref, Scalar, Type, Value};
+use syntax_tree::{Constant, Expr, Op, Ref, Scalar, Type, Value};
 
 pub fn constant<'a>(
     findings: &mut Findings,
@@ -24,13 +25,13 @@ pub fn constant<'a>(
         (placed_constant constant.now) more)) }
 {
     if let Value::Name(name) = &constant.value {
-        around.use_name(
+        tri!(around.use_name(
             findings,
             loops,
             name,
             constant.value_place,
             NameUse::Constant,
-        )?;
+        ));
     }
     Ok(())
 }
@@ -46,8 +47,8 @@ pub fn scalar<'a>(
         (placed_scalar kind.now) more)) }
 {
     if let Scalar::Subrange { low, high } = kind {
-        constant(findings, around, loops, low)?;
-        constant(findings, around, loops, high)?;
+        tri!(constant(findings, around, loops, low));
+        tri!(constant(findings, around, loops, high));
     }
     Ok(())
 }
@@ -64,14 +65,15 @@ pub fn kind<'a>(
     match kind {
         Type::Scalar(kind) => scalar(findings, around, loops, kind)?,
         Type::Array { low, high, element } => {
-            constant(findings, around, loops, low)?;
-            constant(findings, around, loops, high)?;
-            scalar(findings, around, loops, element)?;
+            tri!(constant(findings, around, loops, low));
+            tri!(constant(findings, around, loops, high));
+            tri!(scalar(findings, around, loops, element));
         }
     }
     Ok(())
 }
 
+#[cycle(expr)]
 pub fn expr<'a>(
     findings: &mut Findings,
     around: &ScopeChain<'_, 'a>,
@@ -91,30 +93,43 @@ pub fn expr<'a>(
             NameUse::Value,
         ),
         Expr::Element { place, name, index } => {
-            around.use_name(findings, loops, name, *place, NameUse::Value)?;
+            tri!(around.use_name(findings, loops, name, *place, NameUse::Value));
             expr(findings, around, loops, index)
         }
         Expr::Call { place, name, args } => {
-            around.use_name(findings, loops, name, *place, NameUse::Routine)?;
-            for arg in args.as_slice() {
-                expr(findings, around, loops, arg)?;
-            }
-            Ok(())
+            tri!(around.use_name(findings, loops, name, *place, NameUse::Routine));
+            exprs(findings, around, loops, args.as_slice())
         }
         Expr::Minus { operand, .. } | Expr::Not { operand, .. } => expr(
             findings, around, loops, operand,
         ),
         Expr::Paren { inner, .. } => expr(findings, around, loops, inner),
         Expr::Chain { first, rest } => {
-            expr(findings, around, loops, first)?;
-            for pair in rest.as_slice() {
-                expr(findings, around, loops, &pair.1)?;
-            }
-            Ok(())
+            tri!(expr(findings, around, loops, first));
+            operands(findings, around, loops, rest.as_slice())
         }
     }
 }
 
+/// The right operands of a row of operators.
+#[cycle(expr)]
+fn operands<'a>(
+    findings: &mut Findings,
+    around: &ScopeChain<'_, 'a>,
+    loops: &[Local<'a>],
+    list: &[(Op, Expr)],
+) -> Result<(), AllocError>
+    ensures { OnOk result ((more : List Occurrence) → noted findings.new more ≡
+        noted findings.old (operands_names (site around.now loops.now)
+        (placed_operands list.now) more)) }
+{
+    for operand in list {
+        tri!(expr(findings, around, loops, &operand.1));
+    }
+    Ok(())
+}
+
+#[cycle(expr)]
 pub fn exprs<'a>(
     findings: &mut Findings,
     around: &ScopeChain<'_, 'a>,
@@ -125,7 +140,7 @@ pub fn exprs<'a>(
         noted findings.old (exprs_names (site around.now loops.now) (placed_exprs list.now) more)) }
 {
     for e in list {
-        expr(findings, around, loops, e)?;
+        tri!(expr(findings, around, loops, e));
     }
     Ok(())
 }
@@ -140,9 +155,9 @@ pub fn target<'a>(
     ensures { OnOk result ((more : List Occurrence) → noted findings.new more ≡
         noted findings.old (ref_names (site around.now loops.now) (placed_ref target.now) more)) }
 {
-    around.use_name(findings, loops, &target.name, target.place, NameUse::Target)?;
+    tri!(around.use_name(findings, loops, &target.name, target.place, NameUse::Target));
     if let Some(index) = &target.index {
-        expr(findings, around, loops, index)?;
+        tri!(expr(findings, around, loops, index));
     }
     Ok(())
 }

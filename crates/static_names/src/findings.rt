@@ -4,6 +4,7 @@ ghost use Rattle.std.specs.Prelude.{◌≡◌, OnOk, [], None};
 ghost use Rattle.static_names.specs.Occurrences.{closes};
 ghost use Rattle.static_names.specs.Findings.{blame as blamed, tie as tied, note, note_use, note_declaration};
 
+use crate::errors::tri;
 use crate::kind::{Declared, NameUse, suits};
 use crate::near_places::PlaceMap;
 use static_rule::{Violation, rule};
@@ -64,7 +65,7 @@ impl Findings {
             None => self.blame(rule::UNDECLARED, place),
             Some(declared) => {
                 if suits(want, declared.kind) {
-                    self.tie(place, declared.place)?;
+                    tri!(self.tie(place, declared.place));
                 } else {
                     self.blame(rule::WRONG_KIND, place);
                 }

@@ -12,6 +12,7 @@
 #![tactic(auto)]
 
 mod declare;
+mod errors;
 mod expr;
 mod findings;
 mod kind;

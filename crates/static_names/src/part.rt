@@ -7,6 +7,7 @@ ghost use Rattle.static_names.specs.Findings.{noted};
 ghost use Rattle.static_names.specs.Seen.{site, outer_site, top_site};
 
 use crate::declare;
+use crate::errors::tri;
 use crate::expr::{constant, expr, kind, scalar};
 use crate::findings::Findings;
 use crate::kind::NameUse;
@@ -28,7 +29,7 @@ fn params<'a>(
         noted findings.old (params_names (site around.now []) (map placed_param list.now) more)) }
 {
     for param in list {
-        scalar(findings, around, &[], &param.kind)?;
+        tri!(scalar(findings, around, &[], &param.kind));
     }
     Ok(())
 }
@@ -42,7 +43,7 @@ fn vars<'a>(
         noted findings.old (vars_names (site around.now []) (map placed_var list.now) more)) }
 {
     for var in list {
-        kind(findings, around, &[], &var.kind)?;
+        tri!(kind(findings, around, &[], &var.kind));
     }
     Ok(())
 }
@@ -56,7 +57,7 @@ fn member<'a>(
         noted findings.old (member_inner (site around.now []) (placed_member member.now) more)) }
 {
     if let Member::Var(var) = member {
-        kind(findings, around, &[], &var.kind)?;
+        tri!(kind(findings, around, &[], &var.kind));
     }
     Ok(())
 }
@@ -70,7 +71,7 @@ fn members<'a>(
         noted findings.old (members_names (site around.now []) (map placed_member list.now) more)) }
 {
     for one in list {
-        member(findings, around, one)?;
+        tri!(member(findings, around, one));
     }
     Ok(())
 }
@@ -85,7 +86,7 @@ fn constants<'a>(
         (map placed_constant list.now) more)) }
 {
     for number in list {
-        constant(findings, around, &[], number)?;
+        tri!(constant(findings, around, &[], number));
     }
     Ok(())
 }
@@ -101,7 +102,7 @@ fn result<'a>(
         (optional placed_scalar kind.now) more)) }
 {
     if let Some(kind) = kind {
-        scalar(findings, around, &[], kind)?;
+        tri!(scalar(findings, around, &[], kind));
     }
     Ok(())
 }
@@ -117,7 +118,7 @@ fn value<'a>(
         (optional placed_expr value.now) more)) }
 {
     if let Some(value) = value {
-        expr(findings, around, &[], value)?;
+        tri!(expr(findings, around, &[], value));
     }
     Ok(())
 }
@@ -133,11 +134,11 @@ fn routine_parts<'a>(
         noted findings.old (routine_inner (site around.now []) (placed_routine routine.now) more)) }
 {
     let mut loops = Vec::new(alloc);
-    params(findings, around, routine.params.as_slice())?;
-    result(findings, around, &routine.result)?;
-    vars(findings, around, routine.vars.as_slice())?;
-    stmts(findings, around, &mut loops, routine.body.as_slice())?;
-    value(findings, around, &routine.value)?;
+    tri!(params(findings, around, routine.params.as_slice()));
+    tri!(result(findings, around, &routine.result));
+    tri!(vars(findings, around, routine.vars.as_slice()));
+    tri!(stmts(findings, around, &mut loops, routine.body.as_slice()));
+    tri!(value(findings, around, &routine.value));
     findings.close(&routine.close, routine.close_place, &routine.name);
     Ok(())
 }
@@ -155,7 +156,7 @@ fn routine_with<'a>(
         noted findings.old (routine_names (outer_site outer.now)
         (placed_routine routine.now) more)) }
 {
-    declare::routine(findings, locals, outer, routine)?;
+    tri!(declare::routine(findings, locals, outer, routine));
     let around = ScopeChain {
         outer: *outer,
         locals: Some(&*locals),
@@ -188,7 +189,7 @@ fn routines<'a>(
         (map placed_routine list.now) more)) }
 {
     for one in list {
-        routine(alloc, findings, outer, one)?;
+        tri!(routine(alloc, findings, outer, one));
     }
     Ok(())
 }
@@ -205,8 +206,8 @@ fn monitor_parts<'a>(
         (placed_monitor monitor.now) more)) }
 {
     let around = outer.around();
-    members(findings, &around, monitor.members.as_slice())?;
-    routines(alloc, findings, outer, monitor.entries.as_slice())?;
+    tri!(members(findings, &around, monitor.members.as_slice()));
+    tri!(routines(alloc, findings, outer, monitor.entries.as_slice()));
     findings.close(&monitor.close, monitor.close_place, &monitor.name);
     Ok(())
 }
@@ -223,7 +224,7 @@ fn monitor_with<'a>(
     ensures { OnOk result ((more : List Occurrence) → noted findings.new more ≡
         noted findings.old (monitor_names (top_site top.now) (placed_monitor monitor.now) more)) }
 {
-    declare::monitor(findings, names, top, monitor)?;
+    tri!(declare::monitor(findings, names, top, monitor));
     let inside = OuterScopes {
         top: *top,
         members: Some(&*names),
@@ -256,7 +257,7 @@ fn limit<'a>(
         (optional placed_constant limit.now) more)) }
 {
     if let Some(limit) = limit {
-        constant(findings, around, &[], limit)?;
+        tri!(constant(findings, around, &[], limit));
     }
     Ok(())
 }
@@ -276,9 +277,9 @@ fn activation<'a>(
             deadline,
             first,
         } => {
-            constant(findings, around, &[], frame)?;
-            limit(findings, around, deadline)?;
-            limit(findings, around, first)?;
+            tri!(constant(findings, around, &[], frame));
+            tri!(limit(findings, around, deadline));
+            tri!(limit(findings, around, first));
         }
         Trigger::AtEvent {
             event,
@@ -286,9 +287,9 @@ fn activation<'a>(
             frame,
             deadline,
         } => {
-            around.use_name(findings, &[], event, *event_place, NameUse::Event)?;
-            constant(findings, around, &[], frame)?;
-            limit(findings, around, deadline)?;
+            tri!(around.use_name(findings, &[], event, *event_place, NameUse::Event));
+            tri!(constant(findings, around, &[], frame));
+            tri!(limit(findings, around, deadline));
         }
     }
     Ok(())
@@ -306,8 +307,8 @@ fn handler<'a>(
 {
     if let Some(handler) = handler {
         let mut loops = Vec::new(alloc);
-        constants(findings, around, handler.numbers.as_slice())?;
-        stmts(findings, around, &mut loops, handler.body.as_slice())?;
+        tri!(constants(findings, around, handler.numbers.as_slice()));
+        tri!(stmts(findings, around, &mut loops, handler.body.as_slice()));
     }
     Ok(())
 }
@@ -325,11 +326,11 @@ fn process_parts<'a>(
 {
     let mut loops = Vec::new(alloc);
     let around = outer.around();
-    activation(findings, &around, &process.activation)?;
-    vars(findings, &around, process.vars.as_slice())?;
-    routines(alloc, findings, outer, process.routines.as_slice())?;
-    stmts(findings, &around, &mut loops, process.body.as_slice())?;
-    handler(alloc, findings, &around, &process.handler)?;
+    tri!(activation(findings, &around, &process.activation));
+    tri!(vars(findings, &around, process.vars.as_slice()));
+    tri!(routines(alloc, findings, outer, process.routines.as_slice()));
+    tri!(stmts(findings, &around, &mut loops, process.body.as_slice()));
+    tri!(handler(alloc, findings, &around, &process.handler));
     findings.close(&process.close, process.close_place, &process.name);
     Ok(())
 }
@@ -346,7 +347,7 @@ fn process_with<'a>(
     ensures { OnOk result ((more : List Occurrence) → noted findings.new more ≡
         noted findings.old (process_names (top_site top.now) (placed_process process.now) more)) }
 {
-    declare::process(findings, names, top, process)?;
+    tri!(declare::process(findings, names, top, process));
     let inside = OuterScopes {
         top: *top,
         members: Some(&*names),

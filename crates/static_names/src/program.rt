@@ -11,6 +11,7 @@ ghost use Rattle.static_names.specs.Reach.{first};
 ghost use Rattle.static_names.specs.Findings.{noted};
 ghost use Rattle.static_names.specs.Seen.{meaning, add as added, add_all, entry_meaning, add_entries, add_monitors, put, IsNext, nothing};
 
+use crate::errors::tri;
 use crate::findings::Findings;
 use crate::kind::{Declared, Kind};
 use crate::part::decl;
@@ -97,7 +98,7 @@ fn others<'a>(scope: &mut Scope<'a>, list: &'a [Declaration]) -> Result<(), Allo
         add_all (meaning scope.old.entries) (others_of (map placed_decl list.now))) }
 {
     for one in list {
-        other(scope, one)?;
+        tri!(other(scope, one));
     }
     Ok(())
 }
@@ -117,7 +118,7 @@ fn entries<'a>(
             place: entry.place,
             kind: Kind::Entry,
         };
-        add_entry(entries, monitor, entry.name.as_bytes(), declared)?;
+        tri!(add_entry(entries, monitor, entry.name.as_bytes(), declared));
     }
     Ok(())
 }
@@ -128,7 +129,7 @@ fn monitor<'a>(all: &mut Entries<'a>, decl: &'a Declaration) -> Result<(), Alloc
         add_monitors (entry_meaning all.old.entries) (placed_decl decl.now ∷ [])) }
 {
     if let Declaration::Monitor(monitor) = decl {
-        entries(all, monitor.place, monitor.entries.as_slice())?;
+        tri!(entries(all, monitor.place, monitor.entries.as_slice()));
     }
     Ok(())
 }
@@ -138,7 +139,7 @@ fn monitors<'a>(all: &mut Entries<'a>, list: &'a [Declaration]) -> Result<(), Al
         add_monitors (entry_meaning all.old.entries) (map placed_decl list.now)) }
 {
     for one in list {
-        monitor(all, one)?;
+        tri!(monitor(all, one));
     }
     Ok(())
 }
@@ -162,7 +163,7 @@ fn reveal<'a>(taken: bool, program: &mut Scope<'a>, decl: &'a Declaration) -> Re
             place: *place,
             kind: Kind::Constant,
         };
-        set(program, name.as_bytes(), declared)?;
+        tri!(set(program, name.as_bytes(), declared));
         return Ok(());
     }
     Ok(())
@@ -188,8 +189,8 @@ fn next<'a>(
     };
     let taken = find(seen, name_of(one)).is_some();
     findings.declare(declared.place, taken);
-    decl(alloc, findings, &TopScope { program, entries }, one)?;
-    reveal(taken, program, one)?;
+    tri!(decl(alloc, findings, &TopScope { program, entries }, one));
+    tri!(reveal(taken, program, one));
     add_unless(taken, seen, name_of(one), declared)
 }
 
@@ -207,7 +208,7 @@ fn decls<'a>(
         (meaning seen.new.entries) []) }
 {
     for one in list {
-        next(alloc, findings, program, seen, entries, one)?;
+        tri!(next(alloc, findings, program, seen, entries, one));
     }
     Ok(())
 }
@@ -228,8 +229,8 @@ fn start<'a>(
         place: program.place,
         kind: Kind::Program,
     };
-    add(seen, program.name.as_bytes(), own)?;
-    add(names, program.name.as_bytes(), own)?;
+    tri!(add(seen, program.name.as_bytes(), own));
+    tri!(add(names, program.name.as_bytes(), own));
     others(names, program.decls.as_slice())
 }
 
@@ -249,7 +250,7 @@ fn body_with<'a>(
         noted findings.old (decls_names (entry_meaning entries.now.entries)
         (program_name g ∷ []) g.decls more)) }
 {
-    start(names, seen, program)?;
+    tri!(start(names, seen, program));
     decls(
         alloc,
         findings,
@@ -273,8 +274,8 @@ fn body<'a>(
         (program_name g ∷ []) g.decls more)) }
 {
     let most = program.decls.len().saturating_add(1);
-    let mut names = Scope::with_capacity(alloc, most)?;
-    let mut seen = Scope::with_capacity(alloc, most)?;
+    let mut names = tri!(Scope::with_capacity(alloc, most));
+    let mut seen = tri!(Scope::with_capacity(alloc, most));
     body_with(alloc, findings, &mut names, &mut seen, entries, program)
 }
 
@@ -286,7 +287,7 @@ fn whole(alloc: Global, findings: &mut Findings, program: &Program) -> Result<()
         (program_name g ∷ []) g.decls more)) }
 {
     let mut entries = Entries::new(alloc);
-    monitors(&mut entries, program.decls.as_slice())?;
+    tri!(monitors(&mut entries, program.decls.as_slice()));
     body(alloc, findings, &entries, program)
 }
 
@@ -295,7 +296,7 @@ pub fn findings(alloc: Global, program: &Program) -> Result<Findings, AllocError
     ensures { IfOk result (λ f. f ≡ noted nothing (names_of (placed program.now))) }
 {
     let mut findings = Findings::new(alloc);
-    whole(alloc, &mut findings, program)?;
+    tri!(whole(alloc, &mut findings, program));
     findings.close(&program.close, program.close_place, &program.name);
     Ok(findings)
 }

@@ -3,6 +3,7 @@
 ghost use Rattle.std.specs.Prelude.{◌≡◌, OnOk, is_some};
 ghost use Rattle.static_names.specs.Seen.{meaning, meaning_in, add as added, in_loops, entry_meaning, add_entry as entry_added};
 
+use crate::errors::tri;
 use crate::kind::Declared;
 use indexmap::IndexMap;
 use std::alloc::AllocError;

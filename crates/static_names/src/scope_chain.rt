@@ -6,6 +6,7 @@ ghost use Rattle.static_names.specs.Occurrences.{Occurrence, uses, entry_names};
 ghost use Rattle.static_names.specs.Findings.{note, noted};
 ghost use Rattle.static_names.specs.Seen.{meaning_in, top_site, outer_site, site};
 
+use crate::errors::tri;
 use crate::findings::Findings;
 use crate::kind::{Declared, Kind, NameUse};
 use crate::scope::{Entries, Local, Scope, find, find_entry, find_in, find_in_loops};
@@ -133,7 +134,7 @@ impl<'s, 'a> ScopeChain<'s, 'a> {
             noted findings.old (entry_names (site self.now loops.now) monitor.entry.0.now
             monitor.entry.1 entry.entry.0.now entry.entry.1 more)) }
     {
-        self.use_name(findings, loops, monitor.0, monitor.1, NameUse::Monitor)?;
+        tri!(self.use_name(findings, loops, monitor.0, monitor.1, NameUse::Monitor));
         let member = self.member(loops, monitor.0.as_bytes(), entry.0.as_bytes());
         findings.use_name(entry.1, NameUse::Entry, member)
     }

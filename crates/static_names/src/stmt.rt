@@ -8,6 +8,7 @@ ghost use Rattle.static_names.specs.Occurrences.{Occurrence, uses, declarations,
 ghost use Rattle.static_names.specs.Findings.{noted};
 ghost use Rattle.static_names.specs.Seen.{site, AroundValue, names_if, is_assignment, is_call, is_transfer, is_condition, is_check, is_plain};
 
+use crate::errors::tri;
 use crate::expr::{constant, expr, exprs, target};
 use crate::findings::Findings;
 use crate::kind::{Declared, Kind, NameUse};
@@ -56,7 +57,7 @@ fn loop_head<'a>(
 {
     let taken = around.means(loops, variable.0.as_bytes()).is_some();
     findings.declare(variable.1, taken);
-    constant(findings, around, loops, bounds.0)?;
+    tri!(constant(findings, around, loops, bounds.0));
     constant(findings, around, loops, bounds.1)
 }
 
@@ -74,7 +75,7 @@ fn call_entry<'a>(
         noted findings.old (entry_names here monitor.entry.0.now monitor.entry.1 entry.entry.0.now
         entry.entry.1 (exprs_names here (placed_exprs args.now) more))) }
 {
-    around.use_entry(findings, loops, monitor, entry)?;
+    tri!(around.use_entry(findings, loops, monitor, entry));
     exprs(findings, around, loops, args)
 }
 
@@ -91,7 +92,7 @@ fn assign_empty<'a>(
         noted findings.old (ref_names here (placed_ref to.now)
         (uses here cond.entry.0.now cond.entry.1 Condition ∷ more))) }
 {
-    target(findings, around, loops, to)?;
+    tri!(target(findings, around, loops, to));
     around.use_name(findings, loops, cond.0, cond.1, NameUse::Condition)
 }
 
@@ -108,7 +109,7 @@ fn assignment<'a>(
 {
     match s {
         Stmt::Assign { target: to, value } => {
-            target(findings, around, loops, to)?;
+            tri!(target(findings, around, loops, to));
             expr(findings, around, loops, value)
         }
         Stmt::AssignEntry {
@@ -119,15 +120,15 @@ fn assignment<'a>(
             entry_place,
             args,
         } => {
-            target(findings, around, loops, to)?;
-            call_entry(
+            tri!(target(findings, around, loops, to));
+            tri!(call_entry(
                 findings,
                 around,
                 loops,
                 (mon, *mon_place),
                 (entry, *entry_place),
                 args.as_slice(),
-            )?;
+            ));
             Ok(())
         }
         Stmt::AssignEmpty {
@@ -152,7 +153,7 @@ fn call<'a>(
 {
     match s {
         Stmt::Call { place, name, args } => {
-            around.use_name(findings, loops, name, *place, NameUse::Routine)?;
+            tri!(around.use_name(findings, loops, name, *place, NameUse::Routine));
             exprs(findings, around, loops, args.as_slice())
         }
         Stmt::CallEntry {
@@ -193,7 +194,7 @@ fn transfer<'a>(
             target: to,
             ..
         } => {
-            around.use_name(findings, loops, device, *device_place, NameUse::Device)?;
+            tri!(around.use_name(findings, loops, device, *device_place, NameUse::Device));
             target(findings, around, loops, to)
         }
         Stmt::Put {
@@ -202,7 +203,7 @@ fn transfer<'a>(
             value,
             ..
         } => {
-            around.use_name(findings, loops, device, *device_place, NameUse::Device)?;
+            tri!(around.use_name(findings, loops, device, *device_place, NameUse::Device));
             expr(findings, around, loops, value)
         }
         _ => Ok(()),
@@ -228,8 +229,8 @@ fn condition<'a>(
             number,
             ..
         } => {
-            around.use_name(findings, loops, cond, *cond_place, NameUse::Condition)?;
-            constant(findings, around, loops, limit)?;
+            tri!(around.use_name(findings, loops, cond, *cond_place, NameUse::Condition));
+            tri!(constant(findings, around, loops, limit));
             constant(findings, around, loops, number)
         }
         Stmt::Signal {
@@ -306,7 +307,7 @@ pub fn stmts<'a>(
     ensures same_loops { OnOk result (loops.new.items ≡ loops.old.items) }
 {
     for s in list {
-        stmt(findings, around, loops, s)?;
+        tri!(stmt(findings, around, loops, s));
     }
     Ok(())
 }
@@ -330,10 +331,10 @@ pub fn stmt<'a>(
             second,
             ..
         } => {
-            expr(findings, around, loops.as_slice(), test)?;
-            stmts(findings, around, loops, first.as_slice())?;
+            tri!(expr(findings, around, loops.as_slice(), test));
+            tri!(stmts(findings, around, loops, first.as_slice()));
             if let Some(second) = second {
-                stmts(findings, around, loops, second.as_slice())?;
+                tri!(stmts(findings, around, loops, second.as_slice()));
             }
             Ok(())
         }
@@ -345,15 +346,15 @@ pub fn stmt<'a>(
             body,
             ..
         } => {
-            loop_head(
+            tri!(loop_head(
                 findings,
                 around,
                 loops.as_slice(),
                 (name, *name_place),
                 (low, high),
-            )?;
-            enter(loops, name, *name_place)?;
-            stmts(findings, around, loops, body.as_slice())?;
+            ));
+            tri!(enter(loops, name, *name_place));
+            tri!(stmts(findings, around, loops, body.as_slice()));
             leave(loops);
             Ok(())
         }

@@ -8,6 +8,6 @@ pub returns : goal.returns
 returns c =
     let m = plain_monitor (placed_monitor c.args.monitor.now) in
     let g = plain (placed c.args.values.now) in
-    let words : c.in_ok-laid.laid.word - c.args.base ≡ words_of g (monitor_vars m) = omega (arith, c.in_ok-laid.ensures.words, c.from.ensures) in
+    let words : c.in-Ok.it.word - c.args.base ≡ words_of g (monitor_vars m) = omega (arith, c.in-Ok.ensures.words, c.from.ensures) in
     let made = λ (n : ℕ). let y : image.Monitor = record { base = c.args.base; words = n; ceiling = 0 } in y in
     record { told = ap made words; words = words }

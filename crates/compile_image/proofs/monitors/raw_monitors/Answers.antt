@@ -21,10 +21,10 @@ loop-monitor-preserved c =
     let g = plain (placed c.args.values.now) in
     let ms = c.args.monitors.now in
     let i = c.loop-monitor.monitor-index in
-    let one = c.in_ok-raw.raw in
+    let one = c.in-Ok.it in
     record {
-      list = monitors-more g ms i c.monitor-item.result c.loop-monitor-test.true c.monitor-item.is c.loop-monitor.base c.loop-monitor.list c.push.new.self one _ c.loop-monitor.invariant.list c.in_ok-push.ensures.ok c.in_ok-raw.ensures.told c.in_ok-raw.ensures.words;
-      words = words-more g ms i c.monitor-item.result c.loop-monitor-test.true c.monitor-item.is c.loop-monitor.base one.words c.loop-monitor.invariant.words c.in_ok-raw.ensures.words;
+      list = monitors-more g ms i c.monitor-item.result c.loop-monitor-test.true c.monitor-item.is c.loop-monitor.base c.loop-monitor.list c.push.new.self one _ c.loop-monitor.invariant.list c.in-Ok-push.ensures.ok c.in-Ok.ensures.told c.in-Ok.ensures.words;
+      words = words-more g ms i c.monitor-item.result c.loop-monitor-test.true c.monitor-item.is c.loop-monitor.base one.words c.loop-monitor.invariant.words c.in-Ok.ensures.words;
     }
 
 pub returns : goal.returns

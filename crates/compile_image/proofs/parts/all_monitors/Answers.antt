@@ -1,4 +1,5 @@
 use Rattle.std.proofs.Common.{◌≡◌, ◌≤◌, ◌∙◌, ap, subst, sym}
+use Rattle.std.proofs.lemmas.Result.{IfOk-weaker}
 use Rattle.syntax_tree.specs.Placed.{placed, plain}
 use Rattle.source_semantics.specs.Names.{monitors}
 use Rattle.code_names.specs.Parts.{seen_monitors}
@@ -15,4 +16,5 @@ raw_monitors-requires c =
 pub returns : goal.returns
 returns c =
     let all : seen_monitors c.monitors.result.now ≡ monitors (plain (placed c.args.tables.now)) = c.monitors.ensures ∙ ap (λ t. monitors (plain (placed t))) (c.directory-directory.ensures ∙ c.numbering.ensures) in
-    c.in_ok-list.ensures ∙ ap (λ t. monitors_told (plain (placed t)) 0 (seen_monitors c.monitors.result.now)) c.values.ensures ∙ ap (λ ms. monitors_told (plain (placed c.args.tables.now)) 0 ms) all
+    IfOk-weaker c.raw_monitors.result _ _ (λ list told.
+    told ∙ ap (λ t. monitors_told (plain (placed t)) 0 (seen_monitors c.monitors.result.now)) c.values.ensures ∙ ap (λ ms. monitors_told (plain (placed c.args.tables.now)) 0 ms) all) c.raw_monitors.ensures

@@ -16,4 +16,4 @@ all_processes-requires c = record {
 }
 
 pub returns : goal.returns
-returns c = record { monitors = c.in_ok-monitors.ensures; routines = c.in_ok-routines.ensures; processes = c.in_ok-processes.ensures }
+returns c = record { monitors = c.in-Ok.ensures; routines = c.in-Ok-all_routines.ensures; processes = c.in-Ok-all_processes.ensures }

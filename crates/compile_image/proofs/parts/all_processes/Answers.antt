@@ -1,4 +1,5 @@
 use Rattle.std.proofs.Common.{◌≡◌, ◌∙◌, ap, length, subst, sym}
+use Rattle.std.proofs.lemmas.Result.{IfOk-weaker}
 use Rattle.std.proofs.lemmas.List.{length-map}
 use Rattle.syntax_tree.specs.Placed.{placed, plain}
 use Rattle.source_semantics.specs.Names.{processes}
@@ -33,8 +34,8 @@ returns c =
     let es = c.args.events.now in
     let over = c.args.over in
     let all : seen_processes ps ≡ processes g = c.processes.ensures ∙ ap (λ t. processes (plain (placed t))) (c.directory-directory.ensures ∙ c.numbering.ensures) in
-    c.in_ok-list.ensures
+    IfOk-weaker c.raw_processes.result _ _ (λ list told. told
     ∙ ap (λ t. processes_told (plain (placed t)) es over (seen_processes ps) xs sizes) c.values.ensures
     ∙ ap (λ z. processes_told g es over z xs sizes) all
     ∙ ap (λ z. processes_told g es over (processes g) z sizes) c.as_slice.ensures
-    ∙ ap (λ z. processes_told g es over (processes g) c.args.code.now.processes z) c.as_slice-2.ensures
+    ∙ ap (λ z. processes_told g es over (processes g) c.args.code.now.processes z) c.as_slice-2.ensures) c.raw_processes.ensures

@@ -1,4 +1,5 @@
 use Rattle.std.proofs.Common.{◌≡◌, ◌∙◌, ap, length, subst, sym}
+use Rattle.std.proofs.lemmas.Result.{IfOk-weaker}
 use Rattle.std.proofs.lemmas.List.{length-map}
 use Rattle.syntax_tree.specs.Placed.{placed, plain}
 use Rattle.code_spec.specs.Numbering.{numbered}
@@ -24,7 +25,7 @@ pub returns : goal.returns
 returns c =
     let ts = c.as_slice.result.now in
     let all : texts_of ts ≡ numbered (plain (placed c.args.tables.now)) = ap texts_of c.as_slice.ensures ∙ c.order.ensures ∙ ap (λ t. numbered (plain (placed t))) c.numbering.ensures in
-    c.in_ok-list.ensures
+    IfOk-weaker c.raw_routines.result _ _ (λ list told. told
     ∙ ap (λ z. routines_told z c.as_slice-2.result.now c.as_slice-3.result.now) all
     ∙ ap (λ z. routines_told (numbered (plain (placed c.args.tables.now))) z c.as_slice-3.result.now) c.as_slice-2.ensures
-    ∙ ap (λ z. routines_told (numbered (plain (placed c.args.tables.now))) c.args.code.now.routines z) c.as_slice-3.ensures
+    ∙ ap (λ z. routines_told (numbered (plain (placed c.args.tables.now))) c.args.code.now.routines z) c.as_slice-3.ensures) c.raw_routines.ensures

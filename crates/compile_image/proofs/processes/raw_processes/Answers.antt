@@ -29,7 +29,7 @@ loop-number-preserved c =
     let g = plain (placed c.args.values.now) in
     record {
       list = processes-more g c.args.processes.now c.args.parts.now c.args.sizes.now c.loop-number.number c.index-processes-number.result c.index-parts-number.result nothing c.loop-number-test.true (omega arith) (omega arith) c.index-processes-number.is c.index-parts-number.is
-          c.args.events.now c.args.over c.loop-number.list c.push.new.self c.in_ok-raw.raw _ c.loop-number.invariant.list c.in_ok-push.ensures.ok c.in_ok-raw.ensures;
+          c.args.events.now c.args.over c.loop-number.list c.push.new.self c.in-Ok.it _ c.loop-number.invariant.list c.in-Ok-push.ensures.ok c.in-Ok.ensures;
       fits = sizes-left g c.args.processes.now c.args.parts.now c.args.sizes.now c.loop-number.number c.loop-number.invariant.fits;
     }
 

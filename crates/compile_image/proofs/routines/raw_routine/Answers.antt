@@ -6,5 +6,5 @@ use Rattle.compile_image.proofs.routines.raw_routine.Goals as goal
 
 pub returns : goal.returns
 returns c =
-    routine-is (text_of c.args.text) c.args.part.now c.args.row c.kind.result c.owner_index.result c.params.result c.answers.result c.in_ok-tree.tree
-    c.kind.ensures c.owner_index.ensures c.params.ensures c.answers.ensures (c.in_ok-tree.ensures ∙ ap (λ segs. views segs) c.as_slice.ensures)
+    routine-is (text_of c.args.text) c.args.part.now c.args.row c.kind.result c.owner_index.result c.params.result c.answers.result c.in-Ok.it
+    c.kind.ensures c.owner_index.ensures c.params.ensures c.answers.ensures (c.in-Ok.ensures ∙ ap (λ segs. views segs) c.as_slice.ensures)

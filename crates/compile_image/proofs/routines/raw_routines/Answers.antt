@@ -22,7 +22,7 @@ raw_routine-requires c =
 pub loop-number-preserved : goal.loop-number-preserved
 loop-number-preserved c = record {
   list = routines-more c.args.texts.now c.args.parts.now c.args.rows.now c.loop-number.number c.index-texts-number.result c.index-parts-number.result nothing c.loop-number-test.true (omega arith) (omega arith) c.index-texts-number.is c.index-parts-number.is
-      c.loop-number.list c.push.new.self c.in_ok-raw.raw _ c.loop-number.invariant.list c.in_ok-push.ensures.ok c.in_ok-raw.ensures;
+      c.loop-number.list c.push.new.self c.in-Ok.it _ c.loop-number.invariant.list c.in-Ok-push.ensures.ok c.in-Ok.ensures;
   fits = rows-left c.args.texts.now c.args.parts.now c.args.rows.now c.loop-number.number c.loop-number.invariant.fits;
 }
 

@@ -8,7 +8,7 @@ use Rattle.static_names.proofs.declare.entries.Goals as goal
 pub loop-entry-preserved : goal.loop-entry-preserved
 loop-entry-preserved c =
     loop-step (outer_site c.args.outer.now).means c.args.findings.now (meaning c.args.scope.now.entries) (map entry_name (map placed_routine c.args.list.now)) (λ xs. map entry_name (map placed_routine xs)) (λ x. entry_name (placed_routine x)) (λ x xs. refl)
-    c.args.list.now c.loop-entry.entry-index c.entry-item.result c.loop-entry.findings c.declare.new.findings (meaning c.loop-entry.scope.entries) (meaning c.declare.new.scope.entries) (omega arith) c.entry-item.is c.loop-entry.invariant c.in_ok-declare.ensures
+    c.args.list.now c.loop-entry.entry-index c.entry-item.result c.loop-entry.findings c.declare.new.findings (meaning c.loop-entry.scope.entries) (meaning c.declare.new.scope.entries) (omega arith) c.entry-item.is c.loop-entry.invariant c.in-Ok.ensures
 
 pub returns : goal.returns
 returns c =

@@ -1,4 +1,5 @@
-use Rattle.std.proofs.Common.{◌≡◌, refl, arith, ap, sym, ◌∙◌}
+use Rattle.std.proofs.Common.{◌≡◌, ◌∙◌, ap, arith, refl, sym}
+use Rattle.std.proofs.lemmas.Result.{on_ok_weaker}
 use Rattle.syntax_tree.specs.Placed.{placed_expr, placed_exprs, placed_operands, row}
 use Rattle.syntax_tree.proofs.Views.{expr-Chain}
 use Rattle.static_names.specs.Occurrences.{expr_names, exprs_names, operands_names}
@@ -7,30 +8,33 @@ use Rattle.static_names.specs.Seen.{site}
 use Rattle.static_names.proofs.Walks.{step, finish}
 use Rattle.static_names.proofs.expr.+expr.Goals as goal
 
-pub loop-arg-preserved : goal.loop-arg-preserved
-loop-arg-preserved t c = let here = site c.args.around.now c.args.loops.now in
-    step (λ es. exprs_names here (placed_exprs es)) c.args.findings.now (expr_names here (placed_expr c.args.e.now)) (λ e. expr_names here (placed_expr e)) (λ e es more. refl)
-    c.as_slice-arg-items.result.now c.loop-arg.arg-index c.arg-item.result c.loop-arg.findings c.expr-in-loop-arg.new.findings (omega arith) c.arg-item.is c.in_ok-expr-in-Call.ensures c.loop-arg.invariant
+pub exprs-loop-e-preserved : goal.exprs-loop-e-preserved
+exprs-loop-e-preserved t c = let here = site c.args.around.now c.args.loops.now in
+    step (λ es. exprs_names here (placed_exprs es)) c.args.findings.now (exprs_names here (placed_exprs c.args.list.now)) (λ e. expr_names here (placed_expr e)) (λ e es more. refl)
+    c.args.list.now c.loop-e.e-index c.e-item.result c.loop-e.findings c.expr.new.findings (omega arith) c.e-item.is c.in-Ok.ensures c.loop-e.invariant
 
-pub returns-after-loop-arg : goal.returns-after-loop-arg
-returns-after-loop-arg t c = let here = site c.args.around.now c.args.loops.now in
-    finish (λ es. exprs_names here (placed_exprs es)) c.args.findings.now (expr_names here (placed_expr c.args.e.now)) (λ more. refl)
-    c.as_slice-arg-items.result.now c.loop-arg.arg-index c.loop-arg.findings (omega arith) c.loop-arg.invariant
+pub exprs-returns : goal.exprs-returns
+exprs-returns t c = let here = site c.args.around.now c.args.loops.now in
+    finish (λ es. exprs_names here (placed_exprs es)) c.args.findings.now (exprs_names here (placed_exprs c.args.list.now)) (λ more. refl)
+    c.args.list.now c.loop-e.e-index c.loop-e.findings (omega arith) c.loop-e.invariant
 
-pub loop-pair-init : goal.loop-pair-init
-loop-pair-init t c more = let here = site c.args.around.now c.args.loops.now in
-    let whole : placed_expr c.args.e.now ≡ row (placed_expr c.in-Chain.first.value) (placed_operands c.in-Chain.rest) = ap placed_expr c.in-Chain.is ∙ expr-Chain c.in-Chain.first c.in-Chain.rest in
-    c.in_ok-expr-in-Chain.ensures (operands_names here (placed_operands c.as_slice-pair-items.result.now) more)
-    ∙ ap (λ e. noted c.args.findings.now (expr_names here (placed_expr e) (operands_names here (placed_operands c.as_slice-pair-items.result.now) more))) c.deref-in-Chain.ensures
-    ∙ ap (λ rs. noted c.args.findings.now (expr_names here (placed_expr c.in-Chain.first.value) (operands_names here (placed_operands rs) more))) c.as_slice-pair-items.ensures
-    ∙ ap (λ e. noted c.args.findings.now (expr_names here e more)) (sym whole)
+pub operands-loop-operand-preserved : goal.operands-loop-operand-preserved
+operands-loop-operand-preserved t c = let here = site c.args.around.now c.args.loops.now in
+    step (λ rs. operands_names here (placed_operands rs)) c.args.findings.now (operands_names here (placed_operands c.args.list.now)) (λ r. expr_names here (placed_expr r.1)) (λ r rs more. refl)
+    c.args.list.now c.loop-operand.operand-index c.operand-item.result c.loop-operand.findings c.expr.new.findings (omega arith) c.operand-item.is c.in-Ok.ensures c.loop-operand.invariant
 
-pub loop-pair-preserved : goal.loop-pair-preserved
-loop-pair-preserved t c = let here = site c.args.around.now c.args.loops.now in
-    step (λ rs. operands_names here (placed_operands rs)) c.args.findings.now (expr_names here (placed_expr c.args.e.now)) (λ r. expr_names here (placed_expr r.1)) (λ r rs more. refl)
-    c.as_slice-pair-items.result.now c.loop-pair.pair-index c.pair-item.result c.loop-pair.findings c.expr-in-loop-pair.new.findings (omega arith) c.pair-item.is c.in_ok-expr-in-Chain-2.ensures c.loop-pair.invariant
+pub operands-returns : goal.operands-returns
+operands-returns t c = let here = site c.args.around.now c.args.loops.now in
+    finish (λ rs. operands_names here (placed_operands rs)) c.args.findings.now (operands_names here (placed_operands c.args.list.now)) (λ more. refl)
+    c.args.list.now c.loop-operand.operand-index c.loop-operand.findings (omega arith) c.loop-operand.invariant
 
-pub returns-after-loop-pair : goal.returns-after-loop-pair
-returns-after-loop-pair t c = let here = site c.args.around.now c.args.loops.now in
-    finish (λ rs. operands_names here (placed_operands rs)) c.args.findings.now (expr_names here (placed_expr c.args.e.now)) (λ more. refl)
-    c.as_slice-pair-items.result.now c.loop-pair.pair-index c.loop-pair.findings (omega arith) c.loop-pair.invariant
+pub expr-returns-in-Ok-expr : goal.expr-returns-in-Ok-expr
+expr-returns-in-Ok-expr t c = let here = site c.args.around.now c.args.loops.now in
+    let old = c.args.findings.now in
+    let rest = placed_operands c.in-Chain.rest in
+    let whole : placed_expr c.args.e.now ≡ row (placed_expr c.in-Chain.first.value) rest = ap placed_expr c.in-Chain.is ∙ expr-Chain c.in-Chain.first c.in-Chain.rest in
+    on_ok_weaker c.operands.result (λ told more.
+    told more ∙ ap (λ rs. noted c.expr-in-Chain.new.findings (operands_names here (placed_operands rs) more)) c.as_slice-in-Chain.ensures
+    ∙ c.in-Ok-expr.ensures (operands_names here rest more)
+    ∙ ap (λ e. noted old (expr_names here (placed_expr e) (operands_names here rest more))) c.deref-in-Chain.ensures
+    ∙ ap (λ e. noted old (expr_names here e more)) (sym whole)) c.operands.ensures

@@ -8,7 +8,7 @@ use Rattle.static_names.proofs.part.members.Goals as goal
 pub loop-one-preserved : goal.loop-one-preserved
 loop-one-preserved c = let here = site c.args.around.now [] in
     step (λ xs. members_names here (map placed_member xs)) c.args.findings.now (members_names here (map placed_member c.args.list.now)) (λ x. member_inner here (placed_member x)) (λ x xs more. refl)
-    c.args.list.now c.loop-one.one-index c.one-item.result c.loop-one.findings c.member.new.findings (omega arith) c.one-item.is c.in_ok-member.ensures c.loop-one.invariant
+    c.args.list.now c.loop-one.one-index c.one-item.result c.loop-one.findings c.member.new.findings (omega arith) c.one-item.is c.in-Ok.ensures c.loop-one.invariant
 
 pub returns : goal.returns
 returns c = let here = site c.args.around.now [] in

@@ -22,5 +22,5 @@ returns c = on_ok c.monitor_parts.result c.monitor_parts.ensures (λ h more.
     let here : Reach → Site = λ m. record { means = within m o.means; members = λ p. if same_place p r.place then m else o.members p } in
     let inner : Reach → List Occurrence = λ m. monitor_inner (here m) r more in
     h more
-    ∙ ap (λ m. noted g (inner m)) (made-means o.means f g start last ds empty c.in_ok-monitor.ensures)
-    ∙ made-notes o.means f g start last ds empty c.in_ok-monitor.ensures (inner (first ds)))
+    ∙ ap (λ m. noted g (inner m)) (made-means o.means f g start last ds empty c.in-Ok.ensures)
+    ∙ made-notes o.means f g start last ds empty c.in-Ok.ensures (inner (first ds)))

@@ -8,7 +8,7 @@ use Rattle.static_names.proofs.part.params.Goals as goal
 pub loop-param-preserved : goal.loop-param-preserved
 loop-param-preserved c = let here = site c.args.around.now [] in
     step (λ xs. params_names here (map placed_param xs)) c.args.findings.now (params_names here (map placed_param c.args.list.now)) (λ x. scalar_names here (placed_scalar x.kind)) (λ x xs more. refl)
-    c.args.list.now c.loop-param.param-index c.param-item.result c.loop-param.findings c.scalar.new.findings (omega arith) c.param-item.is c.in_ok-scalar.ensures c.loop-param.invariant
+    c.args.list.now c.loop-param.param-index c.param-item.result c.loop-param.findings c.scalar.new.findings (omega arith) c.param-item.is c.in-Ok.ensures c.loop-param.invariant
 
 pub returns : goal.returns
 returns c = let here = site c.args.around.now [] in

@@ -17,13 +17,13 @@ returns c more =
     let after_vars : Site → List Occurrence = λ w. routines_names here (map placed_routine p.routines) (after_routines w) in
     let after_activation : Site → List Occurrence = λ w. vars_names w (map placed_var p.vars) (after_vars w) in
     ap (λ f. noted f more) c.close.ensures
-    ∙ c.in_ok-handler.ensures after_handler
-    ∙ c.in_ok-stmts.ensures.names (after_body inner)
+    ∙ c.in-Ok-handler.ensures after_handler
+    ∙ c.in-Ok-stmts.ensures.names (after_body inner)
     ∙ ap (λ l. noted c.routines.new.findings (stmts_names (site c.around-around.result l) (placed_stmts c.as_slice-3.result.now) (after_body inner))) c.new-loops.ensures.items
     ∙ ap (λ l. noted c.routines.new.findings (stmts_names inner (placed_stmts l) (after_body inner))) c.as_slice-3.ensures
-    ∙ c.in_ok-routines.ensures (after_routines inner)
+    ∙ c.in-Ok-routines.ensures (after_routines inner)
     ∙ ap (λ l. noted c.vars.new.findings (routines_names here (map placed_routine l) (after_routines inner))) c.as_slice-2.ensures
-    ∙ c.in_ok-vars.ensures (after_vars inner)
+    ∙ c.in-Ok-vars.ensures (after_vars inner)
     ∙ ap (λ l. noted c.activation.new.findings (vars_names inner (map placed_var l) (after_vars inner))) c.as_slice.ensures
-    ∙ c.in_ok-activation.ensures (after_activation inner)
+    ∙ c.in-Ok.ensures (after_activation inner)
     ∙ ap (λ w. noted c.args.findings.now (activation_names w (placed_activation p.activation) (after_activation w))) c.around-around.ensures

@@ -15,12 +15,12 @@ returns c more =
     let after_result = vars_names here (map placed_var r.vars) after_vars in
     let after_params = optional_names (scalar_names here) (optional placed_scalar r.result) after_result in
     ap (λ f. noted f more) c.close.ensures
-    ∙ c.in_ok-value.ensures after_value
-    ∙ c.in_ok-stmts.ensures.names after_body
+    ∙ c.in-Ok-value.ensures after_value
+    ∙ c.in-Ok-stmts.ensures.names after_body
     ∙ ap (λ l. noted c.vars.new.findings (stmts_names (site c.args.around.now l) (placed_stmts c.as_slice-3.result.now) after_body)) c.new-loops.ensures.items
     ∙ ap (λ l. noted c.vars.new.findings (stmts_names here (placed_stmts l) after_body)) c.as_slice-3.ensures
-    ∙ c.in_ok-vars.ensures after_vars
+    ∙ c.in-Ok-vars.ensures after_vars
     ∙ ap (λ l. noted c.result.new.findings (vars_names here (map placed_var l) after_vars)) c.as_slice-2.ensures
-    ∙ c.in_ok-result.ensures after_result
-    ∙ c.in_ok-params.ensures after_params
+    ∙ c.in-Ok-result.ensures after_result
+    ∙ c.in-Ok.ensures after_params
     ∙ ap (λ l. noted c.args.findings.now (params_names here (map placed_param l) after_params)) c.as_slice.ensures

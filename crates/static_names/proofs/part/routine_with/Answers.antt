@@ -20,5 +20,5 @@ returns c = on_ok c.routine_parts.result c.routine_parts.ensures (λ h more.
     let empty : start ≡ nowhere = ap meaning c.requires in
     let inner : Reach → List Occurrence = λ m. routine_inner (record { means = within m o.means; members = o.members }) r more in
     h more
-    ∙ ap (λ m. noted g (inner m)) (made-means o.means f g start last ds empty c.in_ok-routine.ensures)
-    ∙ made-notes o.means f g start last ds empty c.in_ok-routine.ensures (inner (first ds)))
+    ∙ ap (λ m. noted g (inner m)) (made-means o.means f g start last ds empty c.in-Ok.ensures)
+    ∙ made-notes o.means f g start last ds empty c.in-Ok.ensures (inner (first ds)))

@@ -15,9 +15,9 @@ returns c = on_ok c.decls.result c.decls.ensures (λ h more.
     let own : Names = program_name g ∷ [] in
     let members = entry_meaning c.args.entries.now.entries in
     let earlier = meaning c.start.new.seen.entries in
-    let seen : earlier ≡ first own = c.in_ok-start.ensures.seen ∙ ap (λ es. add (meaning es) (program_name g)) c.requires.seen in
+    let seen : earlier ≡ first own = c.in-Ok.ensures.seen ∙ ap (λ es. add (meaning es) (program_name g)) c.requires.seen in
     let named : meaning c.start.new.names.entries ≡ add_all earlier (others (map placed_decl c.as_slice.result.now)) =
-    c.in_ok-start.ensures.names
+    c.in-Ok.ensures.names
     ∙ ap (λ es. add_all (add (meaning es) (program_name g)) (others g.decls)) c.requires.names
     ∙ ap (λ r. add_all r (others g.decls)) (sym seen)
     ∙ ap (λ l. add_all earlier (others (map placed_decl l))) (sym c.as_slice.ensures) in

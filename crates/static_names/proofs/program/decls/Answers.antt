@@ -14,7 +14,7 @@ loop-one-preserved c h =
     let s = meaning c.loop-one.seen.entries in
     let rest = drop (c.loop-one.one-index + 1) c.args.list.now in
     let split : drop c.loop-one.one-index c.args.list.now ≡ c.one-item.result ∷ rest = drop-item c.args.list.now c.loop-one.one-index c.one-item.result (omega arith) c.one-item.is in
-    let one = c.in_ok-next.ensures (map placed_decl rest) (left.scope ∙ ap (λ l. add_all s (others (map placed_decl l))) split) in
+    let one = c.in-Ok.ensures (map placed_decl rest) (left.scope ∙ ap (λ l. add_all s (others (map placed_decl l))) split) in
     record {
       notes = λ more. one.notes more ∙ ap (λ l. noted c.loop-one.findings (decls_after e s (map placed_decl l) more)) (sym split) ∙ left.notes more;
       scope = one.scope;

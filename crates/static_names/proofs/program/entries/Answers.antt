@@ -11,7 +11,7 @@ pub loop-entry-preserved : goal.loop-entry-preserved
 loop-entry-preserved c =
     let rest = map entry_name (map placed_routine (drop (c.loop-entry.entry-index + 1) c.args.list.now)) in
     let was = entry_meaning c.loop-entry.entries.entries in
-    ap (λ r. add_entries r c.args.monitor rest) c.in_ok-add_entry.ensures
+    ap (λ r. add_entries r c.args.monitor rest) c.in-Ok.ensures
     ∙ ap (λ n. add_entries (add_entry was c.args.monitor (n, record { place = c.entry-item.result.place; kind = Entry })) c.args.monitor rest) c.as_bytes.ensures
     ∙ ap (λ l. add_entries was c.args.monitor (map entry_name (map placed_routine l))) (sym (drop-item c.args.list.now c.loop-entry.entry-index c.entry-item.result (omega arith) c.entry-item.is))
     ∙ c.loop-entry.invariant

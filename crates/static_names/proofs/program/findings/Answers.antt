@@ -12,5 +12,5 @@ returns c =
     let last : List Occurrence = closes g.close g.close_place g.name ∷ [] in
     let start : c.new-findings.result ≡ nothing = λ i. record { first = c.new-findings.ensures.first i; ties = c.new-findings.ensures.ties i } in
     c.close.ensures
-    ∙ c.in_ok-whole.ensures last
+    ∙ c.in-Ok.ensures last
     ∙ ap (λ f. noted f (decls_names (λ place. first (entries_at g.decls place)) (program_name g ∷ []) g.decls last)) start

@@ -22,11 +22,11 @@ returns c = on_ok c.add_unless.result c.add_unless.ensures (λ k rest h.
     record {
       notes = λ more.
           let parts : List Occurrence = inner_names (here (add_all s (others (d ∷ rest)))) d (decls_after e (add s (decl_name d)) rest more) in
-          c.in_ok-decl.ensures (decls_after e (meaning c.add_unless.new.scope.entries) rest more)
+          c.in-Ok.ensures (decls_after e (meaning c.add_unless.new.scope.entries) rest more)
           ∙ ap (λ t. noted c.declare.new.self (inner_names (here (meaning c.args.program.now.entries)) d (decls_after e t rest more))) seen
           ∙ ap (λ r. noted c.declare.new.self (inner_names (here r) d (decls_after e (add s (decl_name d)) rest more))) h
           ∙ ap (λ f. noted f parts) c.declare.ensures
           ∙ ap (λ p. noted (note_declaration c.args.findings.now p c.is_some-taken.result) parts) c.place_of.ensures
           ∙ ap (λ b. noted (note_declaration c.args.findings.now (decl_name d).1.place b) parts) taken;
-      scope = c.in_ok-reveal.ensures c.args.seen.now.entries rest taken h ∙ ap (λ t. add_all t (others rest)) (sym seen);
+      scope = c.in-Ok-reveal.ensures c.args.seen.now.entries rest taken h ∙ ap (λ t. add_all t (others rest)) (sym seen);
     })

@@ -10,7 +10,7 @@ use Rattle.static_names.proofs.program.others.Goals as goal
 pub loop-one-preserved : goal.loop-one-preserved
 loop-one-preserved c =
     let rest = map placed_decl (drop (c.loop-one.one-index + 1) c.args.list.now) in
-    ap (λ r. add_all r (others rest)) c.in_ok-other.ensures
+    ap (λ r. add_all r (others rest)) c.in-Ok.ensures
     ∙ sym (others-cons (meaning c.loop-one.scope.entries) (placed_decl c.one-item.result) rest)
     ∙ ap (λ l. add_all (meaning c.loop-one.scope.entries) (others (map placed_decl l))) (sym (drop-item c.args.list.now c.loop-one.one-index c.one-item.result (omega arith) c.one-item.is))
     ∙ c.loop-one.invariant

@@ -25,7 +25,7 @@ returns-in-Const c seen rest known h =
     let here : Declared = record { place = c.in-Const.place; kind = Constant } in
     let e : placed_decl c.args.decl.now ≡ constant name c.in-Const.place (placed_constant c.in-Const.value) = ap placed_decl c.in-Const.is in
     let unseen : is_some (s name) ≡ false = ap (λ d. is_some (s (decl_name d).0)) (sym e) ∙ sym known ∙ c.if-taken.false in
-    c.in_ok-set.ensures
+    c.in-Ok.ensures
     ∙ ap (λ n. put (meaning c.args.program.now.entries) (n, here)) c.as_bytes.ensures
     ∙ ap (λ r. put r (name, here)) (h ∙ ap (λ d. add_all s (others (d ∷ rest))) e)
     ∙ put-before s (name, here) (others rest) (λ n q. first-same (map entry_of seen) n name q) unseen

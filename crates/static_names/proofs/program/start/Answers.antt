@@ -12,5 +12,5 @@ returns-clause-names c = on_ok c.others.result c.others.ensures (λ h.
     let g = c.args.program.now in
     let own : Declared = record { place = g.place; kind = Program } in
     h
-    ∙ ap (λ r. add_all r (others (map placed_decl c.as_slice.result.now))) (c.in_ok-add-2.ensures ∙ ap (λ n. add (meaning c.args.names.now.entries) (n, own)) c.as_bytes-2.ensures)
+    ∙ ap (λ r. add_all r (others (map placed_decl c.as_slice.result.now))) (c.in-Ok-add.ensures ∙ ap (λ n. add (meaning c.args.names.now.entries) (n, own)) c.as_bytes-2.ensures)
     ∙ ap (λ l. add_all (add (meaning c.args.names.now.entries) (g.name, own)) (others (map placed_decl l))) c.as_slice.ensures)

@@ -12,7 +12,7 @@ pub returns : goal.returns
 returns c = on_ok c.body.result c.body.ensures (λ h more.
     let g = placed c.args.program.now in
     let entries : entry_meaning c.monitors.new.all.entries ≡ (λ place. first (entries_at g.decls place)) =
-    c.in_ok-monitors.ensures
+    c.in-Ok.ensures
     ∙ ap (λ es. add_monitors (entry_meaning es) (map placed_decl c.as_slice.result.now)) c.new-entries.ensures.empty
     ∙ ap (λ l. add_monitors (λ p. nowhere) (map placed_decl l)) c.as_slice.ensures
     ∙ members-are g.decls in

@@ -11,10 +11,10 @@ use Rattle.static_names.proofs.stmt.+stmt.Goals as goal
 
 pub stmts-loop-s-preserved : goal.stmts-loop-s-preserved
 stmts-loop-s-preserved t c = let here = site c.args.around.now c.args.loops.now.items in record {
-  same_loops = c.in_ok-stmt.ensures.same_loops ∙ c.loop-s.invariant.same_loops;
+  same_loops = c.in-Ok.ensures.same_loops ∙ c.loop-s.invariant.same_loops;
   left = step (λ ss. stmts_names here (placed_stmts ss)) c.args.findings.now (stmts_names here (placed_stmts c.args.list.now)) (λ s. stmt_names here (placed_stmt s)) (λ s ss more. refl)
       c.args.list.now c.loop-s.s-index c.s-item.result c.loop-s.findings c.stmt.new.findings (omega arith) c.s-item.is
-      (λ more. c.in_ok-stmt.ensures.names more ∙ ap (λ ls. noted c.loop-s.findings (stmt_names (site c.args.around.now ls) (placed_stmt c.s-item.result) more)) c.loop-s.invariant.same_loops)
+      (λ more. c.in-Ok.ensures.names more ∙ ap (λ ls. noted c.loop-s.findings (stmt_names (site c.args.around.now ls) (placed_stmt c.s-item.result) more)) c.loop-s.invariant.same_loops)
       c.loop-s.invariant.left;
 }
 
@@ -23,8 +23,8 @@ stmts-returns-clause-names t c = let here = site c.args.around.now c.args.loops.
     finish (λ ss. stmts_names here (placed_stmts ss)) c.args.findings.now (stmts_names here (placed_stmts c.args.list.now)) (λ more. refl)
     c.args.list.now c.loop-s.s-index c.loop-s.findings (omega arith) c.loop-s.invariant.left
 
-pub stmt-returns-in_ok-stmts-in-For-clause-names : goal.stmt-returns-in_ok-stmts-in-For-clause-names
-stmt-returns-in_ok-stmts-in-For-clause-names t c more =
+pub stmt-returns-in-Ok-stmts-3-clause-names : goal.stmt-returns-in-Ok-stmts-3-clause-names
+stmt-returns-in-Ok-stmts-3-clause-names t c more =
     let f = c.in-For in
     let here = site c.args.around.now c.args.loops.now.items in
     let scope = loop_name f.name f.name_place ∷ [] in
@@ -32,10 +32,10 @@ stmt-returns-in_ok-stmts-in-For-clause-names t c more =
     let body = placed_stmts f.body in
     let head : Site → Constant → Constant → Found =
     λ w low high. noted c.args.findings.now (declarations w.means [] scope (constant_names w (placed_constant low) (constant_names w (placed_constant high) (stmts_names (inside scope here) body more)))) in
-    c.in_ok-stmts-in-For.ensures.names more
-    ∙ ap (λ w. noted c.loop_head.new.findings (stmts_names w (placed_stmts c.as_slice-in-For-2.result.now) more)) (c.in_ok-enter-in-For.ensures.inner c.args.around.now)
+    c.in-Ok-stmts-3.ensures.names more
+    ∙ ap (λ w. noted c.loop_head.new.findings (stmts_names w (placed_stmts c.as_slice-in-For-2.result.now) more)) (c.in-Ok-enter.ensures.inner c.args.around.now)
     ∙ ap (λ b. noted c.loop_head.new.findings (stmts_names (inside scope here) (placed_stmts b) more)) c.as_slice-in-For-2.ensures
-    ∙ c.in_ok-loop_head-in-For.ensures (stmts_names (inside scope here) body more)
+    ∙ c.in-Ok-loop_head.ensures (stmts_names (inside scope here) body more)
     ∙ ap (λ ls. let w = site c.args.around.now ls in head w c.deref.result.now c.deref-in-For.result.now) c.as_slice-in-For.ensures.value
     ∙ ap (λ low. head here low c.deref-in-For.result.now) c.deref.ensures
     ∙ ap (λ high. head here f.low.value high) c.deref-in-For.ensures

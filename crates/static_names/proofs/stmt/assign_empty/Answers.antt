@@ -9,4 +9,4 @@ use Rattle.static_names.proofs.stmt.assign_empty.Goals as goal
 pub returns : goal.returns
 returns c = on_ok c.use_name.result c.use_name.ensures (λ h more.
     ap (λ f. noted f more) h
-    ∙ c.in_ok-target.ensures (uses (site c.args.around.now c.args.loops.now) c.args.cond.0.now c.args.cond.1 Condition ∷ more))
+    ∙ c.in-Ok.ensures (uses (site c.args.around.now c.args.loops.now) c.args.cond.0.now c.args.cond.1 Condition ∷ more))
