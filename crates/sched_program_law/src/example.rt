@@ -1,0 +1,8 @@
+//! An example.
+
+ghost use Rattle.sched_program_law.specs.Example.{ExampleHasItsTasks};
+
+/// The tasks of a program with a monitor, a wait, a signal and a handler.
+pub fn an_example_has_its_tasks()
+    ensures { ExampleHasItsTasks }
+{}
