@@ -34,10 +34,13 @@ entry_numbers j by_program = refl
 entry_numbers j (by_process k) = refl
 entry_numbers j (by_monitor m) = refl
 
+pub own_is : (g : Program) (j : ℕ) (t : Text) (x : image.Routine) → IsRoutine g t x → own_stay x j ≡ cond (is_entry_of j t.owner) (Some x.stay) None
+own_is g j t x is =
+    ap (λ b. cond b (Some x.stay) None)
+    (ap (λ k. nat_eq k 2 && nat_eq x.owner j) is.kind ∙ (ap (λ k. nat_eq (kind_number t.owner) 2 && nat_eq k j) is.owner ∙ entry_numbers j t.owner))
+
 own_some : (g : Program) (j : ℕ) (t : Text) (x : image.Routine) → IsRoutine g t x → is_some (own_stay x j) ≡ is_entry_of j t.owner
-own_some g j t x is =
-    some_where (nat_eq x.kind 2 && nat_eq x.owner j) x.stay
-    ∙ (ap (λ k. nat_eq k 2 && nat_eq x.owner j) is.kind ∙ (ap (λ k. nat_eq (kind_number t.owner) 2 && nat_eq k j) is.owner ∙ entry_numbers j t.owner))
+own_some g j t x is = ap (λ (o : Option ℕ). is_some o) (own_is g j t x is) ∙ some_where (is_entry_of j t.owner) x.stay
 
 -- A test on stays that is passed by the longer of two where one of them passes it, and a test on
 -- texts that says which entries have such a stay of their own.
