@@ -120,46 +120,51 @@ module _ (g : Program) (m : image.Image) (form : IsWellFormed g) (names : NamesA
   enough : (n : ℕ) → nat_le n n ≡ true
   enough n = le-leb n n (omega arith)
 
+  -- an entry that stays as long as the block at least stays no longer
+  of_entry : (held k : ℕ) (p : Process) → slice_get (processes g) k ≡ Some p → held < rank g k → (j : ℕ) → IsSomeAnd (ceiling g j) (λ c. c ≤ held) → (at : ℕ) (r : Routine)
+      → slice_get (numbered g) at ≡ Some (record { owner = by_monitor j; routine = r })
+      → process_comes_to g (record { owner = by_monitor j; routine = r }) k p ≡ true
+      → needed_block m held ≤ cap (stay_of_entry g (record { owner = by_monitor j; routine = r })) → IsLowerStay g held (needed_block m held)
+  of_entry held k p there lower j reaches at r declared called long =
+      let stay : ℕ = cap (stay_of_entry g (record { owner = by_monitor j; routine = r })) in
+      let own : IsLowerStay g held stay = record {
+        number = k;
+        process = p;
+        there = there;
+        lower = lower;
+        monitor = j;
+        reaches_up = reaches;
+        entry = r;
+        at = at;
+        declared = declared;
+        called = called;
+        stays = refl;
+      } in
+      subst (λ (n : ℕ). IsLowerStay g held n) (omega (arith, no_longer held stay own, long)) own
+
+  of_text : (held k : ℕ) (p : Process) → slice_get (processes g) k ≡ Some p → held < rank g k → (j : ℕ) → IsSomeAnd (ceiling g j) (λ c. c ≤ held) → (goal : Text) → IsText g goal
+      → goal.owner ≡ by_monitor j → process_comes_to g goal k p ≡ true → needed_block m held ≤ cap (stay_of_entry g goal) → IsLowerStay g held (needed_block m held)
+  of_text held k p there lower j reaches goal text owner called long =
+      let same : goal ≡ record { owner = by_monitor j; routine = goal.routine } = ap (λ w. record { owner = w; routine = goal.routine }) owner in
+      of_entry held k p there lower j reaches (number_of g goal) goal.routine
+      (numbers.there goal (text_listed g names.differ goal text) ∙ ap (λ (t : Text). Some t) same)
+      (ap (λ (t : Text). process_comes_to g t k p) (sym same) ∙ called)
+      (omega (arith, long, ap (λ (t : Text). cap (stay_of_entry g t)) same))
+
+  of_goal : (held k : ℕ) (p : Process) → slice_get (processes g) k ≡ Some p → held < rank g k → (j : ℕ) → IsSomeAnd (ceiling g j) (λ c. c ≤ held)
+      → Goal g names (stays_long g j (needed_block m held)) (λ goal. process_comes_to g goal k p ≡ true) → IsLowerStay g held (needed_block m held)
+  of_goal held k p there lower j reaches e =
+      let parts = and_parts (is_entry_of j e.goal.owner) (nat_le (needed_block m held) (cap (stay_of_entry g e.goal))) e.passes in
+      of_text held k p there lower j reaches e.goal e.text (owner_of_entry j e.goal.owner parts.0) e.comes (leb-true (needed_block m held) (cap (stay_of_entry g e.goal)) parts.1)
+
   as_long : (held : ℕ) → held < 65535 → Origin m held (needed_block m held) → IsLowerStay g held (needed_block m held)
   as_long held low o =
       let p = some_at (processes g) o.k (omega (arith, many, slice_get_within m.processes o.k o.x o.at)) in
-      let b : ℕ = needed_block m held in
-      let comes : process_comes_to_one g (stays_long g o.stays.j b) o.k p.0 ≡ true =
-      sym (long_stays b o.stays.j o.k p.0 p.1) ∙ (ap (λ s. at_least b s) o.stays.stay ∙ enough b) in
-      let e = process_goal g names (stays_long g o.stays.j b) o.k p.0 comes in
-      let parts = and_parts (is_entry_of o.stays.j e.goal.owner) (nat_le b (cap (stay_of_entry g e.goal))) e.passes in
-      let owner : e.goal.owner ≡ by_monitor o.stays.j = owner_of_entry o.stays.j e.goal.owner parts.0 in
-      let same : e.goal ≡ record { owner = by_monitor o.stays.j; routine = e.goal.routine } = ap (λ w. record { owner = w; routine = e.goal.routine }) owner in
-      let there : slice_get (numbered g) (number_of g e.goal) ≡ Some e.goal = numbers.there e.goal (text_listed g names.differ e.goal e.text) in
-      let lower : held < rank g o.k = omega (arith, o.lower, rank_same o.k o.x o.at) in
-      let reaches : IsSomeAnd (ceiling g o.stays.j) (λ c. c ≤ held) =
-      down (ceiling g o.stays.j) held low (omega (arith, ceiling_same o.stays.j o.stays.y o.stays.there, o.stays.reaches)) in
-      of_goal held o.k p.0 p.1 lower o.stays.j reaches (number_of g e.goal) e.goal.routine
-      (there ∙ ap (λ t. Some t) same)
-      (ap (λ t. process_comes_to g t o.k p.0) (sym same) ∙ e.comes)
-      (omega (arith, leb-true b (cap (stay_of_entry g e.goal)) parts.1, ap (λ t. cap (stay_of_entry g t)) same))
-    where
-      -- no longer and no shorter than the block
-      of_goal : (held k : ℕ) (p : Process) → slice_get (processes g) k ≡ Some p → held < rank g k → (j : ℕ) → IsSomeAnd (ceiling g j) (λ c. c ≤ held) → (at : ℕ) (r : Routine)
-          → slice_get (numbered g) at ≡ Some (record { owner = by_monitor j; routine = r })
-          → process_comes_to g (record { owner = by_monitor j; routine = r }) k p ≡ true
-          → needed_block m held ≤ cap (stay_of_entry g (record { owner = by_monitor j; routine = r })) → IsLowerStay g held (needed_block m held)
-      of_goal held k p there lower j reaches at r declared called long =
-          let stay : ℕ = cap (stay_of_entry g (record { owner = by_monitor j; routine = r })) in
-          let own : IsLowerStay g held stay = record {
-            number = k;
-            process = p;
-            there = there;
-            lower = lower;
-            monitor = j;
-            reaches_up = reaches;
-            entry = r;
-            at = at;
-            declared = declared;
-            called = called;
-            stays = refl;
-          } in
-          subst (λ (n : ℕ). IsLowerStay g held n) (omega (arith, no_longer held stay own, long)) own
+      let comes : process_comes_to_one g (stays_long g o.stays.j (needed_block m held)) o.k p.0 ≡ true =
+      sym (long_stays (needed_block m held) o.stays.j o.k p.0 p.1) ∙ (ap (λ (s : Option ℕ). at_least (needed_block m held) s) o.stays.stay ∙ enough (needed_block m held)) in
+      of_goal held o.k p.0 p.1 (omega (arith, o.lower, rank_same o.k o.x o.at)) o.stays.j
+      (down (ceiling g o.stays.j) held low (omega (arith, ceiling_same o.stays.j o.stays.y o.stays.there, o.stays.reaches)))
+      (process_goal g names (stays_long g o.stays.j (needed_block m held)) o.k p.0 comes)
 
   block_is : (held : ℕ) → held < 65535 → IsBlock g held (needed_block m held)
   block_is held low = record {

@@ -62,11 +62,11 @@ module _ (g : Program) (over : ℕ) (m : Image) (a : Alike g over m) where
       let r = is.each (x.rank - 1) (omega (arith, level_there k x at, ap (λ (ts : List Task). length ts) same)) in
       (r.0, subst (λ (ts : List Task). Solves ts (x.rank - 1) r.0) same r.1)
 
-  pub record Late : Type 0 where
-    pub number : ℕ
-    pub process : Process
-    pub there : slice_get m.processes number ≡ Some process
-    pub unsolved : (r : ℕ) → ¬ Solves (tasks_of m) (process.rank - 1) r
+  record Late : Type 0 where
+    number : ℕ
+    process : Process
+    there : slice_get m.processes number ≡ Some process
+    unsolved : (r : ℕ) → ¬ Solves (tasks_of m) (process.rank - 1) r
 
   late : TasksAreOne → IsNotInTime g over → Late
   late one is =
