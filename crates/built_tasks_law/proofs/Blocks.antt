@@ -1,20 +1,20 @@
 -- The block of an image is that of the text.
-use Rattle.std.specs.Prelude.{◌≡◌, ◌≤◌, ◌<◌, ◌⊎◌, ◌&&◌, ℕ, Bool, true, false, cond, Option, Some, None, IsSomeAnd, length, nat_eq, nat_le, slice_get, unwrap_or}
+use Rattle.std.specs.Prelude.{◌≡◌, ◌≤◌, ◌<◌, ◌&&◌, ℕ, Bool, true, false, cond, Option, Some, None, IsSomeAnd, length, nat_eq, nat_le, slice_get, unwrap_or}
 use Rattle.std.proofs.Common.{inl, inr, refl, sym, ap, subst, ◌∙◌, arith}
 use Rattle.std.proofs.lemmas.Bool.{false≢true, and_parts, and_from, eqb-true, eq-eqb, leb-true, le-leb}
 use Rattle.std.proofs.lemmas.Option.{slice_get_within, none-some}
 use Rattle.base.proofs.Lists.{some_at}
 use Rattle.base.specs.Capped.{cap}
-use Rattle.syntax_tree.specs.Plain.{Process, Program, Routine, Monitor, Name}
+use Rattle.syntax_tree.specs.Plain.{Process, Program, Routine, Monitor}
 use Rattle.source_semantics.specs.Names.{processes, monitors}
 use Rattle.source_semantics.specs.Ranks.{rank, ceiling}
 use Rattle.machine_semantics.specs.Image as image
-use Rattle.valid_image.specs.Tables.{own_stay, stay_of_process}
+use Rattle.valid_image.specs.Tables.{stay_of_process}
 use Rattle.valid_image.specs.Times.{ticks_of, longest_blocking, needed_block}
 use Rattle.valid_image_law.proofs.Ranking.{stay_blocks, process_blocks}
 use Rattle.code_spec.specs.Layout.{Owner, by_program, by_process, by_monitor}
 use Rattle.code_spec.specs.Numbering.{Text, entry_of, numbered, number_of}
-use Rattle.code_spec.specs.Compiled.{IsRoutine, IsCodeOf}
+use Rattle.code_spec.specs.Compiled.{IsCodeOf}
 use Rattle.code_cost_spec.specs.Levels.{stay_of_entry}
 use Rattle.code_measures.specs.Declared.{Declares}
 use Rattle.code_measures.specs.Whole.{HasRanks}
@@ -25,7 +25,6 @@ use Rattle.code_names_law.specs.Numbered.{AreNumbered}
 use Rattle.code_names_law.proofs.Numbers.{text_named, IsText}
 use Rattle.code_names_law.proofs.NumberedLemmas.{text_listed, listed_text}
 use Rattle.code_names_law.proofs.SoundLemmas.{are_numbered}
-use Rattle.sched_response.specs.Ranked.{IsGreatest}
 use Rattle.sched_program.specs.Tasks.{process_comes_to, IsLowerStay, IsBlock}
 use Rattle.codegen_ranks.specs.Calls.{RoutinesCallTheirTexts, ProcessesCallTheirTexts}
 use Rattle.codegen_ranks.specs.Ranks.{RanksAreOfTheMeaning, CeilingsAreOfTheMeaning}

@@ -1,12 +1,12 @@
 -- The tasks of an image are those of the text.
-use Rattle.std.specs.Prelude.{◌≡◌, ◌≤◌, ◌<◌, ◌+◌, ◌-◌, ℕ, zero, suc, List, Option, Some, None, length, slice_get}
+use Rattle.std.specs.Prelude.{◌≡◌, ◌≤◌, ◌<◌, ◌+◌, ◌-◌, ℕ, zero, suc, Some, None, length, slice_get}
 use Rattle.std.proofs.Common.{refl, sym, ap, subst, ◌∙◌, arith}
 use Rattle.std.proofs.lemmas.Option.{slice_get_within}
 use Rattle.base.proofs.Lists.{some_at}
 use Rattle.base.specs.Capped.{cap}
 use Rattle.syntax_tree.specs.Placed.{plain}
 use Rattle.syntax_tree.specs.Plain.{Process, Program}
-use Rattle.source_semantics.specs.Names.{processes, frame_of, deadline_of}
+use Rattle.source_semantics.specs.Names.{processes}
 use Rattle.source_semantics.specs.Ranks.{rank}
 use Rattle.machine_semantics.specs.Image as image
 use Rattle.sched_response.specs.declared.tasks.Task.{Task}
@@ -25,7 +25,6 @@ use Rattle.code_names_law.proofs.Rows.{process_of}
 use Rattle.wellformed.specs.WellFormed.{IsWellFormed}
 use Rattle.checked_law.specs.Ready.{CheckedProgramsAreReady}
 use Rattle.checked_law.specs.Small.{GeneratedCodeIsCode}
-use Rattle.built_image.specs.Built.{IsShaped}
 use Rattle.sched_program.specs.Tasks.{with_dispatches, IsBlock, IsTaskOf}
 use Rattle.sched_program_law.proofs.Levels.{rank_high}
 use Rattle.codegen_ranks.specs.Ranks.{RanksAreOfTheMeaning}

@@ -1,3 +1,6 @@
 pub mod Levels
 pub mod Once
 pub mod Computed
+pub mod Greatest
+pub mod There
+pub mod Decided

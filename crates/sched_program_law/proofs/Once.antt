@@ -1,5 +1,5 @@
 -- The tasks of a program are one.
-use Rattle.std.proofs.Common.{◌≡◌, ◌≤◌, ◌<◌, ◌-◌, ◌⊎◌, inl, inr, ℕ, List, Some, length, arith, refl, ap, sym, subst, ◌∙◌}
+use Rattle.std.proofs.Common.{◌≡◌, ◌≤◌, ◌<◌, ◌-◌, inl, inr, ℕ, List, Some, length, arith, ap, sym, subst, ◌∙◌}
 use Rattle.std.specs.Prelude.{slice_get}
 use Rattle.std.proofs.lemmas.Option.{slice_get_within, get_or_from_slice_get}
 use Rattle.base.proofs.Lists.{some_at, same_elements}
@@ -9,7 +9,7 @@ use Rattle.source_semantics.specs.Ranks.{rank}
 use Rattle.sched_response.specs.declared.tasks.Task.{Task}
 use Rattle.sched_response.specs.Demand.{task_at, Solves}
 use Rattle.sched_response.specs.Ranked.{IsGreatest}
-use Rattle.sched_program.specs.Tasks.{IsTaskOf, AreTasksOf, IsInTime, IsNotInTime}
+use Rattle.sched_program.specs.Tasks.{IsTaskOf, AreTasksOf}
 use Rattle.sched_program_law.specs.Once.{TasksAreOne, NeverInTimeAndNot}
 use Rattle.sched_program_law.proofs.Levels.{had}
 
