@@ -60,8 +60,8 @@ module _ (g : Program) (m : image.Image) (form : IsWellFormed g) (names : NamesA
     nothing = refl;
     longer = longer_at_least s;
     owns = λ r t x at there own. (
-      ap (λ o. at_least s o) (own_is g j t x own)
-      ∙ by (is_entry_of j t.owner) x.stay (cap (stay_of_entry g t)) (declares.routines r t x at there).stay);
+        ap (λ o. at_least s o) (own_is g j t x own)
+        ∙ by (is_entry_of j t.owner) x.stay (cap (stay_of_entry g t)) (declares.routines r t x at there).stay);
   } where
     by : (b : Bool) (n l : ℕ) → n ≡ l → at_least s (cond b (Some n) None) ≡ (b && nat_le s l)
     by true n l e = ap (λ k. nat_le s k) e

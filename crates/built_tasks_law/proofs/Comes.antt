@@ -77,11 +77,11 @@ module _ (g : Program) (names : NamesApart g) where
   goal_of test zero t text h = record { goal = t; text = text; passes = h; comes = text_is t }
   goal_of test (suc n) t text h = elim (or_cases (test t) (some_called (comes_to_one n g test) (called_text g t.owner) (routine_calls t.routine)) h) [
     | inl here ↦ record {
-        goal = t;
-        text = text;
-        passes = here;
-        comes = ap (λ b. b || some_called (comes_to_one n g (same_text t)) (called_text g t.owner) (routine_calls t.routine)) (text_is t);
-      }
+      goal = t;
+      text = text;
+      passes = here;
+      comes = ap (λ b. b || some_called (comes_to_one n g (same_text t)) (called_text g t.owner) (routine_calls t.routine)) (text_is t);
+    }
     | inr later ↦
         let p = passed (comes_to_one n g test) (called_text g t.owner) (routine_calls t.routine) later in
         let rest = goal_of test n p.text (called_is_text g names.differ t.owner p.call p.text p.is) p.passes in
@@ -115,5 +115,5 @@ module _ (g : Program) (names : NamesApart g) where
       let n = routine_count g in
       let c = passed (comes_to n g goal) (called_text g (by_process k)) (process_calls p) h in
       let there = along (same_text goal) test (λ u is same. ap (λ x. test x) (sym (text_same g goal u text is same)) ∙ passes) n c.text (called_is_text g names.differ (by_process k) c.call c.text c.is)
-          (sym (goal_alike g n goal c.text) ∙ c.passes) in
+      (sym (goal_alike g n goal c.text) ∙ c.passes) in
       passing (comes_to_one n g test) (called_text g (by_process k)) (process_calls p) c.call c.text c.listed c.is there

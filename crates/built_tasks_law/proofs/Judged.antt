@@ -48,9 +48,9 @@ module _ (g : Program) (over : ℕ) (m : Image) (a : Alike g over m) where
     tasks = tasks_of m;
     are = a.tasks;
     each = λ level low. (
-      let p = process_of level low in
-      let r = each p.0 p.1 p.2 in
-      (r.0, subst (λ (n : ℕ). Solves (tasks_of m) n r.0) p.3 r.1));
+        let p = process_of level low in
+        let r = each p.0 p.1 p.2 in
+        (r.0, subst (λ (n : ℕ). Solves (tasks_of m) n r.0) p.3 r.1));
   }
 
   not_in_time : (k : ℕ) (x : Process) → slice_get m.processes k ≡ Some x → ((r : ℕ) → ¬ Solves (tasks_of m) (x.rank - 1) r) → IsNotInTime g over

@@ -98,10 +98,12 @@ module _ (g : Program) (held : ℕ) where
 
   pub block : (b : ℕ) × IsBlock g held b
   block =
-      let all = below_greatest (λ k n. (at : ℕ) × (at < length (numbered g)) × At k at n) (λ k. below_greatest (At k) (λ at. of_process k at (slice_get (processes g) k) refl) (length (numbered g))) (length (processes g)) in
-      (all.0, same_greatest _ (IsLowerStay g held) all.0 (λ n h. h.2.2.0)
-      (λ n l. (l.number, slice_get_within (processes g) l.number l.process l.there, (l.at, slice_get_within (numbered g) l.at _ l.declared, (l, refl, refl))))
-      all.1)
+      let all = below_greatest (λ k n. (at : ℕ) × (at < length (numbered g)) × At k at n) (λ k. below_greatest (At k) (λ at. of_process k at (slice_get (processes g) k) refl) (length (numbered g))) (length (processes g)) in (
+        all.0,
+        same_greatest _ (IsLowerStay g held) all.0 (λ n h. h.2.2.0)
+            (λ n l. (l.number, slice_get_within (processes g) l.number l.process l.there, (l.at, slice_get_within (numbered g) l.at _ l.declared, (l, refl, refl))))
+            all.1,
+      )
 
 -- ---- tasks
 
