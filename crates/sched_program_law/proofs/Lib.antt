@@ -4,3 +4,4 @@ pub mod Computed
 pub mod Greatest
 pub mod There
 pub mod Decided
+pub mod Bounded

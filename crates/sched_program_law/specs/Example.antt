@@ -3,7 +3,7 @@ use Rattle.std.specs.Prelude.{◌+◌, ◌*◌, ℕ, List, [], ◌∷◌}
 use Rattle.base.specs.Capped.{cap}
 use Rattle.source_semantics_law.specs.Example.{signalled_wait}
 use Rattle.sched_response.specs.declared.tasks.Task.{Task}
-use Rattle.sched_program.specs.Tasks.{AreTasksOf}
+use Rattle.sched_program.specs.Tasks.{AreTasksOf, IsBoundOf}
 
 -- The process that waits stays 13 ticks in the monitor, the one that signals stays 8. The first has
 -- the higher rank, so it can be held up 8 ticks, and the other one not at all. With a wait an
@@ -14,6 +14,12 @@ example_tasks over =
     ∷ record { frame = 300; deadline = 300; run = cap (27 + 2 * over * 1); susp = 0; waits = 0; block = 0 }
     ∷ []
 
--- The law.
+-- The law: these are its tasks.
 abbrev pub ExampleHasItsTasks : Type 0
 ExampleHasItsTasks = (over : ℕ) → AreTasksOf signalled_wait over (example_tasks over)
+
+-- The law: without overhead the first ends within 8 + 43 + 30 + 1 * 8 ticks, the second within 27 and
+-- one activation of the first.
+pub record ExampleIsBounded : Type 0 where
+  pub first : IsBoundOf signalled_wait 0 0 89
+  pub second : IsBoundOf signalled_wait 0 1 100
